@@ -1,0 +1,10 @@
+//! Janus cells with undo over a stream of lines.
+#![tactic(auto)]
+
+mod command;
+
+use std::io;
+
+fn main(_rt: HostRuntime) -> io::Result<()> {
+    Ok(())
+}
