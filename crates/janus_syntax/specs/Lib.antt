@@ -1,2 +1,4 @@
+pub mod Spelling
 pub mod Tree
 pub mod View
+pub mod Fault

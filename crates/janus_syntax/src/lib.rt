@@ -3,5 +3,6 @@
 //! Janus is the reversible language of Yokoyama and Glück (2007); cells are the form in which a notebook gives it.
 #![tactic(auto)]
 
+pub mod fault;
 pub mod token;
 pub mod tree;
