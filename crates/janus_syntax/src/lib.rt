@@ -4,5 +4,6 @@
 #![tactic(auto)]
 
 pub mod fault;
+mod problem;
 pub mod token;
 pub mod tree;

@@ -1,0 +1,4 @@
+pub mod Agrees
+pub mod Sound
+pub mod Viable
+pub mod Passing
