@@ -1,6 +1,6 @@
 -- Where the machine fails, the reading cannot go on: what it has taken is the beginning of a cell, since each
 -- state leads to the end by some tokens; and no cell has the token at which it fails.
-use Rattle.std.proofs.Common.{◌≡◌, ℕ, suc, ◌+◌, ◌<◌, ◌≤◌, ◌⊎◌, inl, inr, List, [], ◌∷◌, ◌++◌, length, Option, Some, None, true, false, cond, refl, ap, sym, subst, ◌∙◌, arith, append_assoc}
+use Rattle.std.proofs.Common.{◌≡◌, ℕ, suc, ◌+◌, ◌<◌, ◌≤◌, ◌⊎◌, inl, inr, List, [], ◌∷◌, ◌++◌, length, Option, Some, None, true, false, cond, refl, ap, sym, subst, ◌∙◌, arith, append_assoc, zero-add}
 use Rattle.std.proofs.lemmas.List.{append-nil}
 use Rattle.std.specs.Prelude.{nat_le, nat_lt}
 use Rattle.std.proofs.lemmas.Bool.{leb-true, leb-false, lt-leb}
@@ -247,3 +247,101 @@ module _ {tokens front rest : List Token} where
             stuck q.0 rest c refl q.1;
         wanted = is_wanted s w;
       }
+
+-- An operator past the limit. Only an operator makes an expression's count grow.
+
+low_another : (b : Block) (B : ForBlock) (t : Token) (s : State) → another b B (Some t) ≡ Go s → counted s ≡ 0
+low_another b (Body ds) (Name x at) s e = let same : Target (named x at) (Within b (Body ds)) ≡ s = cc in ap counted (sym same)
+low_another b (Body ds) (Number n at) s e = absurd cc
+low_another b (Body ds) (Sign_of n at) s e = absurd cc
+low_another b (Body ds) (Word_of n at) s e = absurd cc
+
+low_ended : (s : Stm) (A : ForStm) (t : Token) (s' : State) → ended s A (Some t) ≡ Go s' → counted s' ≡ 0
+low_ended s (Within b B) t s' e = low_another (push b s) B t s' e
+
+low_after : (E : ForExp) (e : Exp) (t : Token) (s : State) → operator_at t ≡ None → after E e (Some t) ≡ Go s → counted s ≡ 0
+low_after (Right x u A) e t s n h = low_ended (Assign x u e) A t s (sym (ap (λ o. goes_on o e (Right x u A) (ended (Assign x u e) A (Some t))) n) ∙ h)
+low_after (Pending l op E) e t s n h = low_after E (Bin op l e) t s n (sym (ap (λ o. binds_before o op e (Pending l op E) (after E (Bin op l e) (Some t))) n) ∙ h)
+
+same_state : (s s' : State) → Go s ≡ Go s' → s ≡ s'
+same_state s s' e = cc
+
+low_operand : (t : Token) (E : ForExp) (s : State) → step (Operand E) (Some t) ≡ Go s → counted s ≡ counted (Operand E)
+low_operand (Name x at) E s e = ap counted (sym (same_state _ _ e)) ∙ zero-add (owed E)
+low_operand (Number n at) E s e = ap counted (sym (same_state _ _ e)) ∙ zero-add (owed E)
+low_operand (Sign_of n at) E s e = absurd cc
+low_operand (Word_of n at) E s e = absurd cc
+
+low_target : (o : Option Update) (x : Named) (A : ForStm) (s : State) → target o x A ≡ Go s → counted s ≡ 0
+low_target (Some u) x A s e = ap counted (sym (same_state _ _ e))
+low_target None x A s e = absurd cc
+
+low_declarations : (ds : List Declaration) (t : Token) (s : State) → step (Declarations ds) (Some t) ≡ Go s → counted s ≡ 0
+low_declarations ds (Name x at) s e = ap counted (sym (same_state _ _ e))
+low_declarations ds (Number n at) s e = absurd cc
+low_declarations ds (Sign_of n at) s e = absurd cc
+low_declarations ds (Word_of word.Int at) s e = ap counted (sym (same_state _ _ e))
+low_declarations ds (Word_of _ at) s e = absurd cc
+
+low_declared : (ds : List Declaration) (t : Token) (s : State) → step (Declared ds) (Some t) ≡ Go s → counted s ≡ 0
+low_declared ds (Name x at) s e = ap counted (sym (same_state _ _ e))
+low_declared ds (Number n at) s e = absurd cc
+low_declared ds (Sign_of n at) s e = absurd cc
+low_declared ds (Word_of n at) s e = absurd cc
+
+operator_grows : (limit : ℕ) (s s' : State) (t : Token) → step s (Some t) ≡ Go s' → counted s ≤ limit → limit < counted s' → (op : Operator) × (operator_at t ≡ Some op)
+operator_grows limit (Operand E) s' t e low over = absurd (omega (arith, low_operand t E s' e))
+operator_grows limit (After x E) s' t e low over =
+    elim (operator_at t) as (λ o. operator_at t ≡ o → (op : Operator) × (operator_at t ≡ Some op)) [
+      | Some op ↦ λ is. (op, is)
+      | None ↦ λ is. absurd (omega (arith, low_after E x t s' is e, over))
+    ] refl
+operator_grows limit (Target x A) s' t e low over = absurd (omega (arith, low_target (update_at t) x A s' e))
+operator_grows limit (Another b B) s' t e low over = absurd (omega (arith, low_another b B t s' e))
+operator_grows limit (Declarations ds) s' t e low over = absurd (omega (arith, low_declarations ds t s' e))
+operator_grows limit (Declared ds) s' t e low over = absurd (omega (arith, low_declared ds t s' e))
+
+-- past the limit nothing is read
+limited_read : (limit : ℕ) (t : Token) (rest : List Token) (s s' : State) (c : Cell) → step s (Some t) ≡ Go s' → limit < counted s' → run limit (t ∷ rest) s ≡ Read c → ⊥
+limited_read limit t rest s s' c e over r =
+    let b : nat_le (counted s') limit ≡ false = lt-leb (counted s') limit over in
+    let q = sym r ∙ ap (follow limit (λ n. run limit rest n) (wanted s) (suc (length rest))) e ∙ ap (λ x. cond x (run limit rest s') (Limited (suc (length rest)))) b in
+    absurd cc
+
+module _ {tokens front rest : List Token} {t : Token} where
+  too_nested : (s s' : State) → Walked operator_limit (Declarations []) tokens front (t ∷ rest) s → step s (Some t) ≡ Go s' → operator_limit < counted s' → IsTooNested tokens (t ∷ rest)
+  too_nested s s' w e over =
+      let higher = counted s' + operator_limit in
+      let r = completes higher s' (omega arith) in
+      let d = open_by w higher (t ∷ []) r.0 r.1 (omega arith) (run_goes higher t r.0 s s' e (omega arith) ∙ r.2) in
+      record {
+        front = front;
+        token = t;
+        behind = rest;
+        is_operator = operator_grows operator_limit s s' t e w.low over;
+        begins = refl;
+        whole = w.whole;
+        open_before = open_front w;
+        open_after = (r.0, r.1, d.0);
+        beyond = λ (more, c, is).
+            limited_read operator_limit t more s s' c e over
+            (sym (w.goes operator_limit (omega arith) (t ∷ more))
+            ∙ ap (λ ts. run operator_limit ts (Declarations [])) (sym (append_assoc front (t ∷ []) more))
+            ∙ reads operator_limit c ((front ++ t ∷ []) ++ more) is.spells is.within);
+      }
+
+-- a run that gives no tree
+abbrev IsRefusedOrRead : List Token → Outcome → Type 0
+IsRefusedOrRead tokens (Read c) = Unit {0}
+IsRefusedOrRead tokens out = IsRefused tokens out
+
+refused_or_read : (tokens : List Token) (out : Outcome) → Ends operator_limit (Declarations []) tokens out → IsRefusedOrRead tokens out
+refused_or_read tokens out read = tt
+refused_or_read tokens out (failed {rest = rest} {s' = s} w stuck) = (rest, refl, unexpected s w stuck)
+refused_or_read tokens out (limited {rest = rest} {t = t} {s' = s} {s'' = s'} w e over) = (t ∷ rest, refl, too_nested s s' w e over)
+
+pub refused_expected : (tokens : List Token) (v : What) (left : ℕ) → run operator_limit tokens (Declarations []) ≡ Failed v left → IsRefused tokens (Failed v left)
+refused_expected tokens v left e = refused_or_read tokens (Failed v left) (subst (λ out. Ends operator_limit (Declarations []) tokens out) e (walk operator_limit tokens (Declarations []) (omega arith)))
+
+pub refused_nested : (tokens : List Token) (left : ℕ) → run operator_limit tokens (Declarations []) ≡ Limited left → IsRefused tokens (Limited left)
+refused_nested tokens left e = refused_or_read tokens (Limited left) (subst (λ out. Ends operator_limit (Declarations []) tokens out) e (walk operator_limit tokens (Declarations []) (omega arith)))
