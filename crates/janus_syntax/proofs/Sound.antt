@@ -21,11 +21,11 @@ weaker Grammar.variable high h = Grammar.variable
 weaker (Grammar.binary k dl o b dr) high h = Grammar.binary (omega arith) dl o b dr
 
 -- one more at the end
-block_push : {b : Block} {s : Stm} {from middle rest : List Token} → SpellsBlock b from middle → SpellsStm s middle rest → SpellsBlock (push b s) from rest
+pub block_push : {b : Block} {s : Stm} {from middle rest : List Token} → SpellsBlock b from middle → SpellsStm s middle rest → SpellsBlock (push b s) from rest
 block_push Grammar.none d = Grammar.more d Grammar.none
 block_push (Grammar.more c cs) d = Grammar.more c (block_push cs d)
 
-within_push : (limit : ℕ) (b : Block) (s : Stm) → BlockWithin limit b → StmWithin limit s → BlockWithin limit (push b s)
+pub within_push : (limit : ℕ) (b : Block) (s : Stm) → BlockWithin limit b → StmWithin limit s → BlockWithin limit (push b s)
 within_push limit Empty s h k = (k, tt)
 within_push limit (More t b) s h k = (h.0, within_push limit b s h.1 k)
 

@@ -2,6 +2,7 @@
 use Rattle.std.specs.Prelude.{◌≡◌, ℕ, ◌<◌, ◌≤◌, ◌-◌, ◌+◌, List, [], ◌∷◌, ◌++◌, length, Option, Some, None, Result, Ok, Err}
 use Rattle.std.specs.Borrow.{Bor}
 use Rattle.janus_syntax.specs.declared.token.Span.{Span}
+use Rattle.janus_syntax.specs.declared.token.Word.{Word}
 use Rattle.janus_syntax.specs.declared.token.Word.TheVariants as word
 use Rattle.janus_syntax.specs.declared.token.Token as code_token
 use Rattle.janus_syntax.specs.declared.tree.Stm as code_stm
@@ -104,13 +105,17 @@ pub record IsDeclaration (d : Declaration) (from rest : List Token) : Type 0 whe
   pub is : from ≡ Word_of word.Int word_at ∷ Name text name_at ∷ rest
   pub declares : d ≡ Int (named text name_at)
 
--- no declaration begins at the front
-abbrev pub NoDeclaration : List Token → Type 0
-NoDeclaration from = (at : Span) (rest : List Token) → from ≡ Word_of word.Int at ∷ rest → ⊥
+-- this word at the front
+pub record IsWord (w : Word) (from rest : List Token) : Type 0 where
+  pub at : Span
+  pub is : from ≡ Word_of w at ∷ rest
+
+abbrev pub OtherWord : Word → List Token → Type 0
+OtherWord w from = (at : Span) (rest : List Token) → from ≡ Word_of w at ∷ rest → ⊥
 
 abbrev pub IsDeclarationOrOther : List Token → Option (code_declaration.Declaration × Bor (List code_token.Token)) → Type 0
 IsDeclarationOrOther from (Some (d, rest)) = IsDeclaration (declaration_view d) from (views rest.now)
-IsDeclarationOrOther from None = NoDeclaration from
+IsDeclarationOrOther from None = OtherWord word.Int from
 
 abbrev pub FailsDeclaration : List Token → Outcome → Type 0
 FailsDeclaration from out = (ds : List Declaration) → run operator_limit from (Declarations ds) ≡ out
@@ -123,7 +128,7 @@ pub record AreDeclarations (ds : List Declaration) (from rest : List Token) : Ty
 -- all declarations at the front
 pub record AreAllDeclarations (ds : List Declaration) (from rest : List Token) : Type 0 where
   pub are : AreDeclarations ds from rest
-  pub no_more : NoDeclaration rest
+  pub no_more : OtherWord word.Int rest
 
 -- where the reading stands behind the cell's declarations and these statements
 abbrev pub standing : List Declaration → Block → State
@@ -140,6 +145,10 @@ pub record AreStatements (b : Block) (from rest : List Token) : Type 0 where
 pub record AreAllStatements (b : Block) (from rest : List Token) : Type 0 where
   pub are : AreStatements b from rest
   pub no_more : NoStm rest
+
+-- in each place where the cell's statements may stand
+abbrev pub FailsStatements : List Token → Outcome → Type 0
+FailsStatements from out = (ds : List Declaration) → run operator_limit from (Declarations ds) ≡ out
 
 -- of the whole cell
 abbrev pub FailsCell : List Token → Outcome → Type 0

@@ -3,7 +3,10 @@
 //! Janus is the reversible language of Yokoyama and Glück (2007); cells are the form in which a notebook gives it.
 #![tactic(auto)]
 
+mod cell;
+mod expression;
 pub mod fault;
 mod problem;
+mod statement;
 pub mod token;
 pub mod tree;
