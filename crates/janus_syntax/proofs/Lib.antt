@@ -4,4 +4,8 @@ pub mod Viable
 pub mod Passing
 pub mod Tokens
 pub mod Steps
+pub mod Scanning
+pub mod Fronts
+pub mod OneLexing
+pub mod Lexing
 pub mod Theorems

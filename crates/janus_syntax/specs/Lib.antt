@@ -3,6 +3,8 @@ pub mod Tree
 pub mod View
 pub mod Fault
 pub mod Tokens
+pub mod Lexical
+pub mod Scan
 pub mod Grammar
 pub mod Machine
 pub mod Reading

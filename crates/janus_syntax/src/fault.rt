@@ -1,9 +1,11 @@
 //! Why a text is refused.
 
 ghost use Rattle.std.specs.Prelude.{◌≡◌};
+ghost use Rattle.janus_syntax.specs.declared.fault.SyntaxFault.TheVariants.{Memory};
 ghost use Rattle.janus_syntax.specs.Fault.{what_text, fault_number, fault_name, fault_span};
 
 use crate::token::{Sign, Span, Word};
+use std::alloc::{AllocError, AllocFailed};
 
 
 /// What has to come next where the reading of a cell cannot go on.
@@ -92,5 +94,21 @@ impl SyntaxFault {
             SyntaxFault::TooNested(span) => Some(*span),
             SyntaxFault::Memory => None,
         }
+    }
+}
+
+impl From<AllocError> for SyntaxFault {
+    ghost from_gives = { λ _ e. e ≡ Memory };
+
+    fn from(_e: AllocError) -> SyntaxFault {
+        SyntaxFault::Memory
+    }
+}
+
+impl<T: Drop> From<AllocFailed<T>> for SyntaxFault {
+    ghost from_gives = { λ _ e. e ≡ Memory };
+
+    fn from(_e: AllocFailed<T>) -> SyntaxFault {
+        SyntaxFault::Memory
     }
 }

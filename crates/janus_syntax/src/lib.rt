@@ -6,6 +6,7 @@
 mod cell;
 mod expression;
 pub mod fault;
+mod lexer;
 mod problem;
 mod statement;
 pub mod token;
