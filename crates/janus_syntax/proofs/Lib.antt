@@ -2,10 +2,11 @@ pub mod Agrees
 pub mod Sound
 pub mod Viable
 pub mod Passing
-pub mod Tokens
+pub mod FirstToken
 pub mod Steps
 pub mod Scanning
 pub mod Fronts
 pub mod OneLexing
 pub mod Lexing
+pub mod Places
 pub mod Theorems

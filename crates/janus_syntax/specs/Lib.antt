@@ -8,3 +8,4 @@ pub mod Scan
 pub mod Grammar
 pub mod Machine
 pub mod Reading
+pub mod Text

@@ -4,7 +4,7 @@ use Rattle.janus_syntax.specs.declared.fault.What.TheVariants as what
 use Rattle.janus_syntax.specs.Tokens.{views, token_view}
 use Rattle.janus_syntax.specs.Machine.{Failed}
 use Rattle.janus_syntax.specs.Reading.{FailsCell}
-use Rattle.janus_syntax.proofs.Tokens.{empty_views, nonempty_views}
+use Rattle.janus_syntax.proofs.FirstToken.{empty_views, nonempty_views}
 use Rattle.janus_syntax.proofs.Steps.{cell_is, end_fails}
 use Rattle.janus_syntax.proofs.cell.cell.Goals as goal
 

@@ -1,7 +1,7 @@
 use Rattle.std.proofs.Common.{refl}
 use Rattle.janus_syntax.specs.declared.token.TokenKind.TheVariants as kinds
 use Rattle.janus_syntax.specs.Grammar
-use Rattle.janus_syntax.proofs.Tokens.{first_token}
+use Rattle.janus_syntax.proofs.FirstToken.{first_token}
 use Rattle.janus_syntax.proofs.expression.operand.Goals as goal
 
 pub returns-in-Number : goal.returns-in-Number

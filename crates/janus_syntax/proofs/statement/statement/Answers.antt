@@ -4,7 +4,7 @@ use Rattle.janus_syntax.specs.declared.token.TokenKind.TheVariants as kinds
 use Rattle.janus_syntax.specs.Tokens.{Token, views}
 use Rattle.janus_syntax.specs.Reading.{FailsStm}
 use Rattle.janus_syntax.proofs.Passing.{passes_on}
-use Rattle.janus_syntax.proofs.Tokens.{first_token}
+use Rattle.janus_syntax.proofs.FirstToken.{first_token}
 use Rattle.janus_syntax.proofs.Steps.{update_fails, assign_fails, assign_is}
 use Rattle.janus_syntax.proofs.statement.statement.Goals as goal
 
