@@ -6,8 +6,17 @@
 //! self-interpreter": `+=` and `-=` exchange, `^=` stays, and a block is reversed with each of its statements inverted.
 #![tactic(auto)]
 
+ghost use Rattle.janus_invert.specs.Cells.{InverseCellTwice};
+
 pub mod code;
-
-
+mod flat;
+mod inverse;
 
 pub use crate::code::{Block, Code, Statement};
+pub use crate::flat::flatten;
+pub use crate::inverse::{invert, invert_code, opposite};
+
+/// A law about the definitions of `specs/`: the inverse of a cell's inverse is the cell. It does nothing.
+pub fn inverse_cell_twice_law()
+    ensures { InverseCellTwice }
+{}
