@@ -4,7 +4,7 @@ use Rattle.janus_meaning.specs.Fault.{Fault, Fine}
 use Rattle.janus_meaning.specs.Syntax.{Blk, Proc, inverse_block}
 use Rattle.janus_meaning.specs.Store.{Store, IsGood}
 use Rattle.janus_meaning.specs.Formed.{shape_of}
-use Rattle.janus_meaning.specs.Meaning.{Block, Exec}
+use Rattle.janus_meaning.specs.Meaning.{Block, Exec, Part}
 use Rattle.janus_meaning.specs.World.{World, Cell, entered, left}
 use Rattle.janus_meaning.specs.Cells.{WorldExec, WorldPart, WorldStop, CellRun, world_after, IsGoodWorld}
 
@@ -13,10 +13,10 @@ abbrev pub KeepsShape : Type 0
 KeepsShape =
     (ps : List Proc) (d k n : ℕ) (b : Blk) (s r : Store) → Exec ps d k (Block b) s n r → shape_of r ≡ shape_of s
 
--- It leaves numbers that fit and stacks within their limit.
+-- At its end and on the way, numbers fit and stacks are within their limit.
 abbrev pub KeepsGood : Type 0
 KeepsGood =
-    (ps : List Proc) (d k n : ℕ) (b : Blk) (s r : Store) → IsGood s → Exec ps d k (Block b) s n r → IsGood r
+    (ps : List Proc) (d k n : ℕ) (b : Blk) (s m : Store) → IsGood s → Part ps d k (Block b) s n m → IsGood m
 
 -- The world after some steps is a function of the world before.
 pub record WorldsAreFunctions (w : World) (b : Blk) : Type 0 where
@@ -43,7 +43,17 @@ pub record WorldsGoBack (w : World) (b : Blk) (n : ℕ) (v : World) : Type 0 whe
 abbrev pub WorldsReverse : Type 0
 WorldsReverse = (w : World) (b : Blk) (n : ℕ) (v : World) → IsGoodWorld w → WorldExec w b n v → WorldsGoBack w b n v
 
+-- What a cell declares is good.
+abbrev pub EnteredIsGood : Type 0
+EnteredIsGood = (c : Cell) (w : World) → IsGoodWorld w → IsGoodWorld (entered c w)
+
 -- A cell's run is taken back whole: its inverse, and then its declarations and definitions.
 abbrev pub CellIsTakenBack : Type 0
 CellIsTakenBack =
     (c : Cell) (w : World) (n : ℕ) (v : World) → IsGoodWorld w → CellRun c w n v → WorldExec v (inverse_block c.block) n (entered c w) × (left c (entered c w) ≡ Fine w)
+
+abbrev pub WorldsAreDetermined : Type 0
+WorldsAreDetermined = (w : World) (b : Blk) → WorldsAreFunctions w b
+
+abbrev pub WorldsStartAndEnd : Type 0
+WorldsStartAndEnd = (w : World) (b : Blk) → WorldsBeginAndEnd w b
