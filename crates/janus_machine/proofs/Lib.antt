@@ -1,2 +1,6 @@
 pub mod Variables
 pub mod Indexes
+pub mod Codes
+pub mod Entries
+pub mod Mirrors
+pub mod Sizes

@@ -6,7 +6,15 @@
 //! (2007), "A reversible programming language and its invertible self-interpreter"; `janus_meaning` defines it step by step.
 #![tactic(auto)]
 
+mod book;
+mod cursor;
 mod evaluate;
+mod fault;
+mod machine;
 mod store;
 
+pub use crate::book::{Book, Direction};
+pub use crate::cursor::Cursor;
+pub use crate::fault::Fault;
+pub use crate::machine::{End, Sliced, Stepped, slice, step};
 pub use crate::store::Store;
