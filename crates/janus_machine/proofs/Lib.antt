@@ -4,3 +4,4 @@ pub mod Codes
 pub mod Entries
 pub mod Mirrors
 pub mod Sizes
+pub mod Assigns

@@ -1,6 +1,7 @@
 -- Faults read as those of the meaning, and as programs print them.
-use Rattle.std.specs.Prelude.{ℕ, ℤ, List, Result, Ok, Err, codes}
+use Rattle.std.specs.Prelude.{◌≡◌, ℕ, ℤ, List, Result, Ok, Err, codes}
 use Rattle.janus_meaning.specs.Fault as fault
+use Rattle.janus_meaning.specs.Store.{Store}
 use Rattle.janus_machine.specs.declared.fault.Fault.{Fault}
 use Rattle.janus_machine.specs.declared.fault.Fault.TheVariants.{FiAssertion, EntryAssertion, LoopAssertion, DelocalMismatch, PopNotZero, PopEmpty, TopEmpty, DivisionByZero, IndexRange, StackFull, TooDeep, TooManyStacks, StepLimit}
 
@@ -53,3 +54,8 @@ name_of StepLimit = codes "StepLimit"
 abbrev pub result_of : Result ℤ Fault → fault.Res ℤ
 result_of (Ok n) = fault.Fine n
 result_of (Err f) = fault.Bad (fault_of f)
+
+-- what becomes of a store: it is the new one, or the old one at a fault
+abbrev pub IsDone : fault.Res Store → Store → Store → Result (Unit {0}) Fault → Type 0
+IsDone r s t (Ok u) = r ≡ fault.Fine t
+IsDone r s t (Err f) = (r ≡ fault.Bad (fault_of f)) × (t ≡ s)

@@ -11,6 +11,7 @@ mod cursor;
 mod evaluate;
 mod fault;
 mod machine;
+mod statement;
 mod store;
 
 pub use crate::book::{Book, Direction};
