@@ -1,0 +1,4 @@
+pub mod Laws
+pub mod Trees
+pub mod Standing
+pub mod Runs

@@ -1,0 +1,10 @@
+pub mod Steps
+pub mod Language
+pub mod Text
+pub mod State
+pub mod Legal
+pub mod Slices
+pub mod Begins
+pub mod Runner
+pub mod Kept
+pub mod Runs
