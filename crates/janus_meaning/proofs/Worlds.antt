@@ -1,0 +1,232 @@
+-- The laws of worlds, from those of blocks.
+use Rattle.std.proofs.Common.{◌≡◌, ℕ, zero, suc, ◌+◌, ◌-◌, ◌<◌, ◌≤◌, List, [], ◌∷◌, ◌⊎◌, inl, inr, refl, ap, ◌∙◌, sym, subst, arith, ⊎_elim}
+use Rattle.std.proofs.lemmas.Bool.{cases_lt}
+use Rattle.std.specs.Prelude.{ℤ, pos}
+use Rattle.std.specs.Ordering.{int_eq}
+use Rattle.janus_meaning.specs.Fault.{Fault, Res, Fine, Bad, StepLimit, Broken, DelocalMismatch, and_then, guard}
+use Rattle.janus_meaning.specs.Syntax.{Name, Blk, Proc, Kind, ANumber, AnArray, AStack, Hidden, Absent, inverse_block}
+use Rattle.janus_meaning.specs.Store.{Val, Num, Arr, Stk, Lent, Store, Bare, Slot, same_name, AllFit, IsGood}
+use Rattle.janus_meaning.specs.Formed.{Shape, Nobody, Known, kind_of, shape_of}
+use Rattle.janus_meaning.specs.Meaning.{Run, Done, Going, Stopped, Block, Exec, Part, Stop, block_start}
+use Rattle.janus_meaning.specs.Machine.{BeforeBlock, AfterBlock, Next, To, steps, shown}
+use Rattle.janus_meaning.specs.World.{World, Cell, Declaration, DeclareInt, DeclareArray, DeclareStack, declared_name, zeros, declare_one, declare, define, entered, must_be, must_be_zeros, must_be_first, retire_one, retire, without_newest, undefine, left, stacks_with, stacks_in, size_of, dropped, oldest}
+use Rattle.janus_meaning.specs.Cells.{step_limit, WorldExec, WorldPart, WorldStop, IsUnended, CellRun, store_at, store_after, world_after, IsGoodWorld}
+use Rattle.janus_meaning.specs.WorldLaw.{WorldsAreFunctions, WorldsBeginAndEnd, WorldsGoBack, WorldsReverse, CellIsTakenBack, WorldsAreDetermined, WorldsStartAndEnd, EnteredIsGood}
+use Rattle.janus_meaning.proofs.Changes.{int_eq_self, zero_fits}
+use Rattle.janus_meaning.proofs.Stores.{same_name_self}
+use Rattle.janus_meaning.proofs.Laws.{run_leads, stands, reversal_holds}
+use Rattle.janus_meaning.proofs.Exactly.{AtEnd, AtWork, AtHalt, at_end, at_work, at_halt, kind, determinism}
+use Rattle.janus_meaning.proofs.Shapes.{keeps_shape}
+use Rattle.janus_meaning.proofs.Goodness.{keeps_good}
+
+-- ---- what a shape determines
+
+abbrev stacks_of : Kind → ℕ → ℕ
+stacks_of ANumber k = k
+stacks_of AnArray k = k
+stacks_of AStack k = suc k
+stacks_of Hidden k = k
+stacks_of Absent k = k
+
+abbrev shape_stacks : Shape → ℕ
+shape_stacks Nobody = zero
+shape_stacks (Known x c g) = stacks_of c (shape_stacks g)
+
+abbrev shape_size : Shape → ℕ
+shape_size Nobody = zero
+shape_size (Known x c g) = suc (shape_size g)
+
+kind_stacks : (v : Val) (k : ℕ) → stacks_of (kind_of v) k ≡ stacks_with v k
+kind_stacks (Num n) k = refl
+kind_stacks (Arr l) k = refl
+kind_stacks (Stk l) k = refl
+kind_stacks Lent k = refl
+
+stacks_is : (s : Store) → shape_stacks (shape_of s) ≡ stacks_in s
+stacks_is Bare = refl
+stacks_is (Slot x v s) = kind_stacks v (shape_stacks (shape_of s)) ∙ ap (stacks_with v) (stacks_is s)
+
+size_is : (s : Store) → shape_size (shape_of s) ≡ size_of s
+size_is Bare = refl
+size_is (Slot x v s) = ap suc (size_is s)
+
+pub same_stacks : (r s : Store) → shape_of r ≡ shape_of s → stacks_in r ≡ stacks_in s
+same_stacks r s e = sym (stacks_is r) ∙ ap shape_stacks e ∙ stacks_is s
+
+pub same_size : (r s : Store) → shape_of r ≡ shape_of s → size_of r ≡ size_of s
+same_size r s e = sym (size_is r) ∙ ap shape_size e ∙ size_is s
+
+-- a store with as many names is the oldest part of itself
+pub oldest_whole : (n : ℕ) (s : Store) → size_of s ≡ n → oldest n s ≡ s
+oldest_whole n s e = let z : size_of s - n ≡ 0 = omega arith in ap (λ k. dropped k s) z
+
+-- ---- one block in one world
+
+module _ (w : World) (b : Blk) where
+  world_is : (v : World) (s : Store) → v.store ≡ s → v.procedures ≡ w.procedures → v ≡ record w { store = s }
+  world_is v s e f = ap (λ s. record { store = s; procedures = v.procedures }) e ∙ ap (λ q. record { store = s; procedures = q }) f
+
+  exec_shape : (n : ℕ) (v : World) → WorldExec w b n v → shape_of v.store ≡ shape_of w.store
+  exec_shape n v e = keeps_shape w.procedures 0 (stacks_in w.store) n b w.store v.store e.ran
+
+  part_is : (j : ℕ) (v : World) → WorldPart w b j v → v ≡ world_after w b j
+  unfolding world_after store_after
+  part_is j v p =
+      let q = stands w.procedures 0 (stacks_in w.store) b w.store p.store j p.part in
+      p.shown ∙ ap (λ s. record w { store = oldest (size_of w.store) s }) (sym q.3 ∙ ap (λ x. store_at w.procedures x w.store) (sym q.2))
+
+  exec_last : (n : ℕ) (v : World) → WorldExec w b n v → WorldPart w b n v
+  exec_last n v e =
+      record {
+        limit = e.limit;
+        store = v.store;
+        part = inr e.ran;
+        shown = world_is v (oldest (size_of w.store) v.store) (sym (oldest_whole (size_of w.store) v.store (same_size v.store w.store (exec_shape n v e)))) e.procedures;
+      }
+
+  no_stop_then_end : (n i : ℕ) (f : Fault) (v : World) → WorldStop w b n f → WorldExec w b i v → ⊥
+  no_stop_then_end n i f v h e =
+      ⊎_elim
+      (λ h.
+      let d = at_halt w.procedures 0 (stacks_in w.store) b w.store n (suc (n + i)) f (omega arith) h.1 in
+      let a = at_end w.procedures 0 (stacks_in w.store) b w.store i (suc (n + i)) v.store (omega arith) e.ran in
+      let bad : AtHalt ≡ AtEnd = sym (ap kind d) ∙ a in cc)
+      (λ h.
+      let le : i ≤ n = let z = h.0 in let y = e.limit in omega arith in
+      let c = at_work w.procedures 0 (stacks_in w.store) b w.store n h.2.0 h.2.1 in
+      let a = at_end w.procedures 0 (stacks_in w.store) b w.store i n v.store le e.ran in
+      let bad : AtWork ≡ AtEnd = sym c ∙ a in cc)
+      h
+
+  stop_then_limit : (n i : ℕ) (f g : Fault) → (n < step_limit) × Stop w.procedures 0 (stacks_in w.store) (Block b) w.store n f → (i ≡ step_limit) × (g ≡ StepLimit) × IsUnended w b i → ⊥
+  stop_then_limit n i f g h u =
+      let lt : n < i = let z = u.0 in let y = h.0 in omega arith in
+      let d = at_halt w.procedures 0 (stacks_in w.store) b w.store n i f lt h.1 in
+      let c = at_work w.procedures 0 (stacks_in w.store) b w.store i u.2.0 u.2.1 in
+      let bad : AtHalt ≡ AtWork = sym (ap kind d) ∙ c in cc
+
+  one_stop_only : (n i : ℕ) (f g : Fault) → WorldStop w b n f → WorldStop w b i g → (n ≡ i) × (f ≡ g)
+  one_stop_only n i f g h u =
+      ⊎_elim
+      (λ h. ⊎_elim (λ u. (determinism w.procedures 0 (stacks_in w.store) b w.store).stop n i f g h.1 u.1) (λ u. absurd (stop_then_limit n i f g h u)) u)
+      (λ h. ⊎_elim (λ u. absurd (stop_then_limit i n g f u h)) (λ u. (h.0 ∙ sym u.0, h.1 ∙ sym u.1)) u)
+      h
+
+  pub functions : WorldsAreFunctions w b
+  functions = record {
+    part = part_is;
+    exec = λ n v e. part_is n v (exec_last n v e);
+    one_end = λ n i u v e g. ((determinism w.procedures 0 (stacks_in w.store) b w.store).exec n i u.store v.store e.ran g.ran).0;
+    one_stop = one_stop_only;
+    no_stop_and_end = no_stop_then_end;
+  }
+
+  part_in_time : (n j : ℕ) (v u : World) → WorldExec w b n v → WorldPart w b j u → j ≤ n
+  part_in_time n j v u e p =
+      ⊎_elim
+      (λ lt. ⊎_elim
+      (λ g.
+      let a = at_end w.procedures 0 (stacks_in w.store) b w.store n j v.store (omega arith) e.ran in
+      let c = at_work w.procedures 0 (stacks_in w.store) b w.store j p.store g in
+      let bad : AtEnd ≡ AtWork = sym a ∙ c in cc)
+      (λ g. let z = ((determinism w.procedures 0 (stacks_in w.store) b w.store).exec n j v.store p.store e.ran g).0 in omega arith)
+      p.part)
+      (λ le. le)
+      (cases_lt n j)
+
+  pub begins_and_ends : WorldsBeginAndEnd w b
+  begins_and_ends = record {
+    first = record {
+      limit = omega arith;
+      store = w.store;
+      part = inl block_start;
+      shown = world_is w (oldest (size_of w.store) w.store) (sym (oldest_whole (size_of w.store) w.store refl)) refl;
+    };
+    last = exec_last;
+    in_time = part_in_time;
+  }
+
+  module _ (n : ℕ) (v : World) (g : IsGoodWorld w) (e : WorldExec w b n v) where
+    same : stacks_in v.store ≡ stacks_in w.store
+    same = same_stacks v.store w.store (exec_shape n v e)
+
+    turned_exec : WorldExec v (inverse_block b) n w
+    turned_exec =
+        let both = reversal_holds w.procedures 0 (stacks_in w.store) n 0 b w.store v.store w.store g e.ran (inl block_start) in
+        record {
+          limit = e.limit;
+          ran = subst (λ k. Exec v.procedures 0 k (Block (inverse_block b)) v.store n w.store) (sym same) (subst (λ ps. Exec ps 0 (stacks_in w.store) (Block (inverse_block b)) v.store n w.store) (sym e.procedures) both.0);
+          procedures = sym e.procedures;
+        }
+
+    turned_part : (j : ℕ) (u : World) → WorldPart w b j u → WorldPart v (inverse_block b) (n - j) u
+    turned_part j u p =
+        let both = reversal_holds w.procedures 0 (stacks_in w.store) n j b w.store v.store p.store g e.ran p.part in
+        record {
+          limit = let z = e.limit in omega arith;
+          store = p.store;
+          part = subst (λ k. Part v.procedures 0 k (Block (inverse_block b)) v.store (n - j) p.store) (sym same) (subst (λ ps. Part ps 0 (stacks_in w.store) (Block (inverse_block b)) v.store (n - j) p.store) (sym e.procedures) both.1);
+          shown = p.shown ∙ ap (λ q. record { store = oldest (size_of w.store) p.store; procedures = q }) (sym e.procedures) ∙ ap (λ m. record { store = oldest m p.store; procedures = v.procedures }) (sym (same_size v.store w.store (exec_shape n v e)));
+        }
+
+pub worlds_are_determined : WorldsAreDetermined
+worlds_are_determined w b = functions w b
+
+pub worlds_start_and_end : WorldsStartAndEnd
+worlds_start_and_end w b = begins_and_ends w b
+
+pub worlds_reverse : WorldsReverse
+worlds_reverse w b n v g e =
+    let back = turned_exec w b n v g e in
+    record {
+      back = back;
+      through = turned_part w b n v g e;
+      safe = λ j f h. (functions v (inverse_block b)).no_stop_and_end j n f w h back;
+      good = keeps_good w.procedures 0 (stacks_in w.store) n b w.store v.store g (inr e.ran);
+    }
+
+-- ---- declarations and definitions
+
+zeros_pass : (n : ℕ) → must_be_zeros (zeros n) n ≡ Fine tt
+zeros_pass zero = refl
+zeros_pass (suc n) = ap (λ b. and_then (guard b DelocalMismatch) (λ ok. must_be_zeros (zeros n) n)) (int_eq_self (pos 0)) ∙ zeros_pass n
+
+retire_declared : (d : Declaration) (s : Store) → retire_one d (declare_one d s) ≡ Fine s
+retire_declared (DeclareInt x) s =
+    ap (λ b. and_then (guard b Broken) (λ ok. and_then (must_be_first (DeclareInt x) (Num (pos 0))) (λ ok. Fine s))) (same_name_self x) ∙ ap (λ b. and_then (guard b DelocalMismatch) (λ ok. Fine s)) (int_eq_self (pos 0))
+retire_declared (DeclareArray x n) s =
+    ap (λ b. and_then (guard b Broken) (λ ok. and_then (must_be_first (DeclareArray x n) (Arr (zeros n))) (λ ok. Fine s))) (same_name_self x) ∙ ap (λ r. and_then r (λ ok. Fine s)) (zeros_pass n)
+retire_declared (DeclareStack x) s =
+    ap (λ b. and_then (guard b Broken) (λ ok. Fine s)) (same_name_self x)
+
+retire_all : (ds : List Declaration) (s : Store) → retire ds (declare ds s) ≡ Fine s
+retire_all [] s = refl
+retire_all (d ∷ ds) s = ap (λ r. and_then r (retire_one d)) (retire_all ds (declare_one d s)) ∙ retire_declared d s
+
+undefine_all : (more ps : List Proc) → undefine more (define more ps) ≡ ps
+undefine_all [] ps = refl
+undefine_all (p ∷ more) ps = ap without_newest (undefine_all more (p ∷ ps))
+
+pub entered_left : (c : Cell) (w : World) → left c (entered c w) ≡ Fine w
+entered_left c w =
+    ap (λ r. and_then r (λ s. Fine (record { store = s; procedures = undefine c.procedures (define c.procedures w.procedures) }))) (retire_all c.declarations w.store)
+    ∙ ap (λ q. Fine (record { store = w.store; procedures = q })) (undefine_all c.procedures w.procedures)
+
+zeros_fit : (n : ℕ) → AllFit (zeros n)
+zeros_fit zero = tt
+zeros_fit (suc n) = (zero_fits, zeros_fit n)
+
+declared_good : (d : Declaration) (s : Store) → IsGood s → IsGood (declare_one d s)
+declared_good (DeclareInt x) s g = (zero_fits, g)
+declared_good (DeclareArray x n) s g = (zeros_fit n, g)
+declared_good (DeclareStack x) s g = ((tt, omega arith), g)
+
+declare_good : (ds : List Declaration) (s : Store) → IsGood s → IsGood (declare ds s)
+declare_good [] s g = g
+declare_good (d ∷ ds) s g = declare_good ds (declare_one d s) (declared_good d s g)
+
+pub entered_is_good : EnteredIsGood
+entered_is_good c w g = declare_good c.declarations w.store g
+
+pub cell_is_taken_back : CellIsTakenBack
+cell_is_taken_back c w n v g e = (turned_exec (entered c w) c.block n v (entered_is_good c w g) e, entered_left c w)

@@ -1,0 +1,59 @@
+-- The laws of worlds: what a kernel that keeps one store and a tree of cells stands on.
+use Rattle.std.specs.Prelude.{◌≡◌, ℕ, ◌-◌, ◌≤◌, List}
+use Rattle.janus_meaning.specs.Fault.{Fault, Fine}
+use Rattle.janus_meaning.specs.Syntax.{Blk, Proc, inverse_block}
+use Rattle.janus_meaning.specs.Store.{Store, IsGood}
+use Rattle.janus_meaning.specs.Formed.{shape_of}
+use Rattle.janus_meaning.specs.Meaning.{Block, Exec, Part}
+use Rattle.janus_meaning.specs.World.{World, Cell, entered, left}
+use Rattle.janus_meaning.specs.Cells.{WorldExec, WorldPart, WorldStop, CellRun, world_after, IsGoodWorld}
+
+-- A block leaves the names of its store, their order and their kinds.
+abbrev pub KeepsShape : Type 0
+KeepsShape =
+    (ps : List Proc) (d k n : ℕ) (b : Blk) (s r : Store) → Exec ps d k (Block b) s n r → shape_of r ≡ shape_of s
+
+-- At its end and on the way, numbers fit and stacks are within their limit.
+abbrev pub KeepsGood : Type 0
+KeepsGood =
+    (ps : List Proc) (d k n : ℕ) (b : Blk) (s m : Store) → IsGood s → Part ps d k (Block b) s n m → IsGood m
+
+-- The world after some steps is a function of the world before.
+pub record WorldsAreFunctions (w : World) (b : Blk) : Type 0 where
+  pub part : (j : ℕ) (v : World) → WorldPart w b j v → v ≡ world_after w b j
+  pub exec : (n : ℕ) (v : World) → WorldExec w b n v → v ≡ world_after w b n
+  pub one_end : (n i : ℕ) (u v : World) → WorldExec w b n u → WorldExec w b i v → n ≡ i
+  pub one_stop : (n i : ℕ) (f g : Fault) → WorldStop w b n f → WorldStop w b i g → (n ≡ i) × (f ≡ g)
+  pub no_stop_and_end : (n i : ℕ) (f : Fault) (v : World) → WorldStop w b n f → WorldExec w b i v → ⊥
+
+-- A block begins where it is, and ends where its last part is.
+pub record WorldsBeginAndEnd (w : World) (b : Blk) : Type 0 where
+  pub first : WorldPart w b 0 w
+  pub last : (n : ℕ) (v : World) → WorldExec w b n v → WorldPart w b n v
+  pub in_time : (n j : ℕ) (v u : World) → WorldExec w b n v → WorldPart w b j u → j ≤ n
+
+-- The inverse block leads from the end back to the beginning, in as many steps and through the same worlds, and
+-- meets no fault and no limit.
+pub record WorldsGoBack (w : World) (b : Blk) (n : ℕ) (v : World) : Type 0 where
+  pub back : WorldExec v (inverse_block b) n w
+  pub through : (j : ℕ) (u : World) → WorldPart w b j u → WorldPart v (inverse_block b) (n - j) u
+  pub safe : (j : ℕ) (f : Fault) → WorldStop v (inverse_block b) j f → ⊥
+  pub good : IsGoodWorld v
+
+abbrev pub WorldsReverse : Type 0
+WorldsReverse = (w : World) (b : Blk) (n : ℕ) (v : World) → IsGoodWorld w → WorldExec w b n v → WorldsGoBack w b n v
+
+-- What a cell declares is good.
+abbrev pub EnteredIsGood : Type 0
+EnteredIsGood = (c : Cell) (w : World) → IsGoodWorld w → IsGoodWorld (entered c w)
+
+-- A cell's run is taken back whole: its inverse, and then its declarations and definitions.
+abbrev pub CellIsTakenBack : Type 0
+CellIsTakenBack =
+    (c : Cell) (w : World) (n : ℕ) (v : World) → IsGoodWorld w → CellRun c w n v → WorldExec v (inverse_block c.block) n (entered c w) × (left c (entered c w) ≡ Fine w)
+
+abbrev pub WorldsAreDetermined : Type 0
+WorldsAreDetermined = (w : World) (b : Blk) → WorldsAreFunctions w b
+
+abbrev pub WorldsStartAndEnd : Type 0
+WorldsStartAndEnd = (w : World) (b : Blk) → WorldsBeginAndEnd w b

@@ -1,0 +1,64 @@
+-- Trees with the places of their names and numbers, without where they lie in memory.
+use Rattle.std.specs.Prelude.{ℕ, List, [], ◌∷◌, map, string_bytes}
+use Rattle.janus_syntax.specs.declared.token.Span.{Span}
+use Rattle.janus_syntax.specs.declared.tree.Name as code_name
+use Rattle.janus_syntax.specs.declared.tree.Operator.{Operator}
+use Rattle.janus_syntax.specs.declared.tree.Update.{Update}
+use Rattle.janus_syntax.specs.declared.tree.Exp as code_exp
+use Rattle.janus_syntax.specs.declared.tree.Exp.TheVariants as exps
+use Rattle.janus_syntax.specs.declared.tree.Stm as code_stm
+use Rattle.janus_syntax.specs.declared.tree.Stm.TheVariants as stms
+use Rattle.janus_syntax.specs.declared.tree.Declaration as code_declaration
+use Rattle.janus_syntax.specs.declared.tree.Declaration.TheVariants as declarations
+use Rattle.janus_syntax.specs.declared.tree.Cell as code_cell
+
+-- a name is its octets, and the place where they stand
+pub data Name : Type 0 where
+  named : List ℕ → Span → Name
+
+pub data Exp : Type 0 where
+  Num : ℕ → Span → Exp
+  Var : Name → Exp
+  Bin : Operator → Exp → Exp → Exp
+
+-- a statement, and a block of statements
+mutual
+  pub data Stm : Type 0 where
+    Assign : Name → Update → Exp → Stm
+
+  pub data Block : Type 0 where
+    Empty : Block
+    More : Stm → Block → Block
+
+pub data Declaration : Type 0 where
+  Int : Name → Declaration
+
+-- a cell: the declarations, and the statements
+pub data Cell : Type 0 where
+  cell_of : List Declaration → Block → Cell
+
+-- how the code's values are seen
+
+abbrev pub name_view : code_name.Name → Name
+name_view x = named (string_bytes x.text) x.span
+
+abbrev pub exp_view : code_exp.Exp → Exp
+exp_view (exps.Number n at) = Num n at
+exp_view (exps.Variable x) = Var (name_view x)
+exp_view (exps.Binary' op p l q r) = Bin op (exp_view l) (exp_view r)
+
+abbrev pub stm_view : code_stm.Stm → Stm
+stm_view (stms.Assign x u e) = Assign (name_view x) u (exp_view e)
+
+abbrev pub block_view : List code_stm.Stm → Block
+block_view [] = Empty
+block_view (s ∷ ss) = More (stm_view s) (block_view ss)
+
+abbrev pub declaration_view : code_declaration.Declaration → Declaration
+declaration_view (declarations.Int x) = Int (name_view x)
+
+abbrev pub declarations_view : List code_declaration.Declaration → List Declaration
+declarations_view ds = map declaration_view ds
+
+abbrev pub cell_view : code_cell.Cell → Cell
+cell_view c = cell_of (declarations_view c.declarations.items) (block_view c.statements.items)
