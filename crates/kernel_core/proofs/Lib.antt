@@ -1,4 +1,6 @@
 pub mod Laws
+pub mod Running
 pub mod Trees
+pub mod Nodes
 pub mod Standing
 pub mod Runs

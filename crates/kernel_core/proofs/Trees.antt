@@ -3,18 +3,19 @@ use Rattle.std.proofs.Common.{◌≡◌, ℕ, ◌+◌, ◌-◌, ◌<◌, ◌≤�
 use Rattle.std.proofs.lemmas.List.{get_or_append_left, get_or_at, get_or-set_same, get_or-set_other}
 use Rattle.std.proofs.lemmas.Bool.{cases_eq}
 use Rattle.std.proofs.lemmas.Bool.Decides.{nat_tests}
-use Rattle.kernel_core.specs.Language.{World, empty_world, Cell, Fits, Forward, Backward, Exec, IsFormed, entered, end_of}
-use Rattle.kernel_core.specs.State.{Past, new_state, root, node_at, world_at, here, favourite_of, worlds_from}
+use Rattle.janus_meaning.specs.World.{World, empty_world, Cell, entered}
+use Rattle.janus_meaning.specs.Cells.{IsGoodWorld}
+use Rattle.kernel_core.specs.Language.{Forward, Backward, Exec, IsFormed, end_of}
+use Rattle.kernel_core.specs.State.{Past, Node, new_state, root, node_at, world_at, here, favourite_of, worlds_from}
 use Rattle.kernel_core.specs.Legal.{ancestor, can_undo, can_redo, IsRun, IsChild, IsLegal}
 use Rattle.kernel_core.specs.Slices.{grown}
-use Rattle.kernel_core.specs.declared.tree.Node.{Node}
-use Rattle.kernel_core.proofs.Laws.{part_fits, exec_part, exec_same, exec_inverted, end_of_root, empty_fits}
+use Rattle.kernel_core.proofs.Laws.{exec_good, exec_same, exec_inverted, end_of_root}
 
 pub worlds-more : (worlds : List World) (nodes : List Node) (node : Node) →
-    worlds_from worlds (nodes ++ node ∷ []) ≡ worlds_from worlds nodes ++ end_of node.program (get_or (worlds_from worlds nodes) node.parent empty_world) node.steps ∷ []
+    worlds_from worlds (nodes ++ node ∷ []) ≡ worlds_from worlds nodes ++ end_of node.cell (get_or (worlds_from worlds nodes) node.parent empty_world) node.steps ∷ []
 unfolding worlds_from
 worlds-more worlds [] node = refl
-worlds-more worlds (n ∷ nodes) node = worlds-more (worlds ++ end_of n.program (get_or worlds n.parent empty_world) n.steps ∷ []) nodes node
+worlds-more worlds (n ∷ nodes) node = worlds-more (worlds ++ end_of n.cell (get_or worlds n.parent empty_world) n.steps ∷ []) nodes node
 
 -- ---- above a node
 
@@ -55,7 +56,7 @@ legal_up s g =
       worlds = g.worlds;
       favourites = g.favourites;
       ran = g.ran;
-      fits = g.fits;
+      good = g.good;
       children = g.children;
       position = (let p = g.position in omega arith);
       root_parent = g.root_parent;
@@ -74,7 +75,7 @@ legal_down s g some =
       worlds = g.worlds;
       favourites = g.favourites;
       ran = g.ran;
-      fits = g.fits;
+      good = g.good;
       children = g.children;
       position = child.known;
       root_parent = g.root_parent;
@@ -110,9 +111,9 @@ run_kept s new w i g above l =
     }
 
 run_new : (s : Past) (program : Cell) (n : ℕ) (w : World) (i : ℕ) → IsLegal s → i ≡ length s.nodes → IsFormed program (here s) → Exec (Forward program) (here s) n w →
-    IsRun (s.nodes ++ record { parent = s.position; program = program; steps = n } ∷ []) (s.worlds ++ w ∷ []) i
+    IsRun (s.nodes ++ record { parent = s.position; cell = program; steps = n } ∷ []) (s.worlds ++ w ∷ []) i
 run_new s program n w i g same formed e =
-    let new : Node = record { parent = s.position; program = program; steps = n } in
+    let new : Node = record { parent = s.position; cell = program; steps = n } in
     let node : get_or (s.nodes ++ new ∷ []) i root ≡ new = rw same (get_or_at s.nodes new [] root (length s.nodes) refl) in
     let world : get_or (s.worlds ++ w ∷ []) i empty_world ≡ w = rw same (get_or_at s.worlds w [] empty_world (length s.nodes) g.worlds) in
     let low : s.position < length s.worlds = rw g.worlds g.position in
@@ -194,10 +195,10 @@ position_favourite s g =
 favoured_grown : (s : Past) (program : Cell) (n : ℕ) (w : World) (j : ℕ) → IsLegal s → 0 < ancestor (grown s program n w).nodes (length s.nodes) j →
     get_or (grown s program n w).favourites (ancestor (grown s program n w).nodes (length s.nodes) (suc j)) 0 ≡ ancestor (grown s program n w).nodes (length s.nodes) j
 favoured_grown s program n w zero g above =
-    let new : Node = record { parent = s.position; program = program; steps = n } in
+    let new : Node = record { parent = s.position; cell = program; steps = n } in
     ap (λ (k : ℕ). get_or (set s.favourites s.position (length s.nodes) ++ 0 ∷ []) k 0) (grown_ancestor s new 0 g refl) ∙ position_favourite s g
 favoured_grown s program n w (suc j) g above =
-    let new : Node = record { parent = s.position; program = program; steps = n } in
+    let new : Node = record { parent = s.position; cell = program; steps = n } in
     let here : ancestor (s.nodes ++ new ∷ []) (length s.nodes) (suc j) ≡ ancestor s.nodes s.position j = grown_ancestor s new j g refl in
     let there : ancestor (s.nodes ++ new ∷ []) (length s.nodes) (suc (suc j)) ≡ ancestor s.nodes s.position (suc j) = grown_ancestor s new (suc j) g refl in
     let some : 0 < ancestor s.nodes s.position j = subst (λ (k : ℕ). 0 < k) here above in
@@ -210,7 +211,7 @@ favoured_grown s program n w (suc j) g above =
 -- a cell that ended well is a new node
 pub legal_grown : (s : Past) (program : Cell) (n : ℕ) (w : World) → IsLegal s → IsFormed program (here s) → Exec (Forward program) (here s) n w → IsLegal (grown s program n w)
 legal_grown s program n w g formed e =
-    let new : Node = record { parent = s.position; program = program; steps = n } in
+    let new : Node = record { parent = s.position; cell = program; steps = n } in
     let count : length (s.nodes ++ new ∷ []) ≡ length s.nodes + 1 = length-append s.nodes (new ∷ []) in
     let nodes-old = λ (i : ℕ) (l : i < length s.nodes). get_or_append_left s.nodes (new ∷ []) root i l in
     let worlds-old = λ (i : ℕ) (l : i < length s.nodes). get_or_append_left s.worlds (w ∷ []) empty_world i (rw g.worlds l) in
@@ -225,9 +226,9 @@ legal_grown s program n w g formed e =
         | inl below ↦ run_kept s new w i g above below
         | inr same ↦ run_new s program n w i g same formed e
       ];
-      fits = λ i l. elim (split i (length s.nodes) (omega arith)) [
-        | inl below ↦ rw (worlds-old i below) (g.fits i below)
-        | inr same ↦ rw (same, world-new) (part_fits _ _ _ _ (g.fits s.position g.position) (exec_part _ _ _ _ e))
+      good = λ i l. elim (split i (length s.nodes) (omega arith)) [
+        | inl below ↦ rw (worlds-old i below) (g.good i below)
+        | inr same ↦ rw (same, world-new) (exec_good _ _ _ _ (g.good s.position g.position) e)
       ];
       children = λ i l above. elim (split i (length s.nodes) (omega arith)) [
         | inl below ↦ child_kept s new i g refl below above
@@ -242,37 +243,37 @@ legal_grown s program n w g formed e =
 pub run_here : (s : Past) → IsLegal s → 0 < s.position → IsRun s.nodes s.worlds s.position
 run_here s g l = g.ran s.position l g.position
 
-pub parent_fits : (s : Past) → IsLegal s → 0 < s.position → Fits (world_at s (node_at s s.position).parent)
-parent_fits s g l =
+pub parent_good : (s : Past) → IsLegal s → 0 < s.position → IsGoodWorld (world_at s (node_at s s.position).parent)
+parent_good s g l =
     let run = run_here s g l in
     let above : (node_at s s.position).parent < length s.nodes = let h = run.parent in let k = g.position in omega arith in
-    g.fits (node_at s s.position).parent above
+    g.good (node_at s s.position).parent above
 
 pub child_here : (s : Past) → IsLegal s → 0 < favourite_of s s.position → IsChild s.nodes s.favourites s.position
 child_here s g l = g.children s.position g.position l
 
-pub run_below : (s : Past) → IsLegal s → 0 < favourite_of s s.position → Exec (Forward (node_at s (favourite_of s s.position)).program) (here s) (node_at s (favourite_of s s.position)).steps (world_at s (favourite_of s s.position))
+pub run_below : (s : Past) → IsLegal s → 0 < favourite_of s s.position → Exec (Forward (node_at s (favourite_of s s.position)).cell) (here s) (node_at s (favourite_of s s.position)).steps (world_at s (favourite_of s s.position))
 run_below s g l =
     let child = child_here s g l in
     let run : IsRun s.nodes s.worlds (favourite_of s s.position) = g.ran (favourite_of s s.position) l child.known in
     rw child.parent at run.ran
 
-pub formed_below : (s : Past) → IsLegal s → 0 < favourite_of s s.position → IsFormed (node_at s (favourite_of s s.position)).program (here s)
+pub formed_below : (s : Past) → IsLegal s → 0 < favourite_of s s.position → IsFormed (node_at s (favourite_of s s.position)).cell (here s)
 formed_below s g l =
     let child = child_here s g l in
     let run : IsRun s.nodes s.worlds (favourite_of s s.position) = g.ran (favourite_of s s.position) l child.known in
     rw child.parent at run.formed
 
 -- the inverse of the position's cell leads to where that cell's statements began
-pub run_above : (s : Past) → IsLegal s → 0 < s.position → Exec (Backward (node_at s s.position).program) (here s) (node_at s s.position).steps (entered (node_at s s.position).program (world_at s (node_at s s.position).parent))
-run_above s g l = exec_inverted _ _ _ _ (parent_fits s g l) (run_here s g l).ran
+pub run_above : (s : Past) → IsLegal s → 0 < s.position → Exec (Backward (node_at s s.position).cell) (here s) (node_at s s.position).steps (entered (node_at s s.position).cell (world_at s (node_at s s.position).parent))
+run_above s g l = exec_inverted _ _ _ _ (parent_good s g l) (run_here s g l).ran
 
 -- the world at the end of an undone cell, and of a redone one
-pub undone_world : (s : Past) (n : ℕ) (w : World) → IsLegal s → 0 < s.position → Exec (Backward (node_at s s.position).program) (here s) n w →
-    w ≡ entered (node_at s s.position).program (world_at s (node_at s s.position).parent)
+pub undone_world : (s : Past) (n : ℕ) (w : World) → IsLegal s → 0 < s.position → Exec (Backward (node_at s s.position).cell) (here s) n w →
+    w ≡ entered (node_at s s.position).cell (world_at s (node_at s s.position).parent)
 undone_world s n w g l e = (exec_same _ _ _ _ _ _ e (run_above s g l)).1
 
-pub redone_world : (s : Past) (n : ℕ) (w : World) → IsLegal s → 0 < favourite_of s s.position → Exec (Forward (node_at s (favourite_of s s.position)).program) (here s) n w →
+pub redone_world : (s : Past) (n : ℕ) (w : World) → IsLegal s → 0 < favourite_of s s.position → Exec (Forward (node_at s (favourite_of s s.position)).cell) (here s) n w →
     w ≡ world_at s (favourite_of s s.position)
 redone_world s n w g l e = (exec_same _ _ _ _ _ _ e (run_below s g l)).1
 
@@ -293,7 +294,7 @@ new_legal = record {
   worlds = refl;
   favourites = refl;
   ran = λ n above l. absurd (omega arith);
-  fits = λ n l. (let e : n ≡ 0 = omega arith in rw e empty_fits);
+  good = λ n l. (let e : n ≡ 0 = omega arith in rw e tt);
   children = λ n l above. absurd (let e : n ≡ 0 = omega arith in let h : 0 < get_or (0 ∷ []) 0 0 = rw e at above in omega arith);
   position = omega arith;
   root_parent = refl;

@@ -1,18 +1,14 @@
 -- What the begin of a job or of its next cell does, by cases.
 use Rattle.std.specs.Prelude.{◌≡◌, ◌≢◌, ◌⊎◌, ℕ, Bool, true, false, List, [], zero, suc}
-use Rattle.kernel_core.specs.Language.{Cell, names_of}
-use Rattle.kernel_core.specs.State.{Past, State, node_at, here, favourite_of}
+use Rattle.janus_meaning.specs.World.{Cell}
+use Rattle.kernel_core.specs.State.{Past, State, Work, Posted, Move, Entered, Job, Idle, Border, Inside, node_at, here, favourite_of}
 use Rattle.kernel_core.specs.Slices.{finished}
 use Rattle.kernel_core.specs.Legal.{IsPossible}
 use Rattle.kernel_core.specs.Text.{Accepts, Refuses}
 use Rattle.kernel_core.specs.declared.job.Way.{Way}
 use Rattle.kernel_core.specs.declared.job.Way.TheVariants.{Up, Down}
 use Rattle.kernel_core.specs.declared.job.Travel.{Travel}
-use Rattle.kernel_core.specs.declared.job.Work.TheVariants.{Cell as Posted, Move}
 use Rattle.kernel_core.specs.declared.job.Turn.TheVariants.{Going as GoesOn}
-use Rattle.kernel_core.specs.declared.job.Entered.{Entered}
-use Rattle.kernel_core.specs.declared.job.Open.{Open}
-use Rattle.kernel_core.specs.declared.job.Open.TheVariants.{Idle, Border, Inside}
 use Rattle.kernel_core.specs.declared.job.Phase.{Phase}
 use Rattle.kernel_core.specs.declared.job.Phase.TheVariants as phase
 use Rattle.kernel_core.specs.declared.outcome.End.TheVariants.{All, NoMemory}
@@ -24,7 +20,7 @@ use Rattle.kernel_core.specs.declared.outcome.Begun.TheVariants as begun
 
 -- the next cell of the job declares names: an undone one does not
 abbrev pub Declares : Past → Travel → Type 0
-Declares s travel = elim travel.way [ Up ↦ ⊥ | Down ↦ names_of (node_at s (favourite_of s s.position)).program ≢ [] ]
+Declares s travel = elim travel.way [ Up ↦ ⊥ | Down ↦ (node_at s (favourite_of s s.position)).cell.declarations ≢ [] ]
 
 -- an undo or a redo enters its next cell; one that declares names may find no memory for them
 abbrev pub Enters : Past → Travel → Begun → State → Type 0
@@ -55,7 +51,7 @@ TakesMove s way zero true told new = (told ≡ begun.Ended (finished (record { w
 TakesMove s way (suc k) true told new = Enters s (record { way = way; left = suc k; done = 0 }) told new
 
 -- the job stands in no cell
-abbrev pub IsOutside : Open → Type 0
+abbrev pub IsOutside : Job → Type 0
 IsOutside Idle = Unit {0}
 IsOutside (Border travel) = Unit {0}
 IsOutside (Inside e) = ⊥

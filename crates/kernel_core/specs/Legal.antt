@@ -1,15 +1,12 @@
 -- Legal trees, and what each state of the machine keeps.
 use Rattle.std.specs.Prelude.{◌≡◌, ℕ, ◌+◌, ◌^◌, ◌<◌, ◌==◌, Bool, true, false, IsTrue, List, length, zero, suc, if◌then◌else◌, get_or}
-use Rattle.kernel_core.specs.Language.{World, empty_world, Fits, Forward, Exec, IsFormed}
-use Rattle.kernel_core.specs.State.{Past, root, node_at, world_at, here, favourite_of}
-use Rattle.kernel_core.specs.declared.tree.Node.{Node}
+use Rattle.janus_meaning.specs.World.{World, empty_world}
+use Rattle.janus_meaning.specs.Cells.{IsGoodWorld}
+use Rattle.kernel_core.specs.Language.{Forward, Exec, IsFormed}
+use Rattle.kernel_core.specs.State.{Past, Node, Work, Posted, Move, Job, Idle, Border, Inside, root, node_at, world_at, here, favourite_of}
 use Rattle.kernel_core.specs.declared.job.Way.{Way}
 use Rattle.kernel_core.specs.declared.job.Way.TheVariants.{Up, Down}
 use Rattle.kernel_core.specs.declared.job.Travel.{Travel}
-use Rattle.kernel_core.specs.declared.job.Work.{Work}
-use Rattle.kernel_core.specs.declared.job.Work.TheVariants.{Cell as Posted, Move}
-use Rattle.kernel_core.specs.declared.job.Open.{Open}
-use Rattle.kernel_core.specs.declared.job.Open.TheVariants.{Idle, Border, Inside}
 
 -- the node can go up k times
 abbrev pub can_undo : List Node → ℕ → ℕ → Bool
@@ -28,8 +25,8 @@ can_go nodes favourites n Down k = can_redo favourites n k
 -- the cell of the node n is well formed over its parent's world, and run there it gives the node's world in the node's steps
 pub record IsRun (nodes : List Node) (worlds : List World) (n : ℕ) : Type 0 where
   pub parent : (get_or nodes n root).parent < n
-  pub formed : IsFormed (get_or nodes n root).program (get_or worlds (get_or nodes n root).parent empty_world)
-  pub ran : Exec (Forward (get_or nodes n root).program) (get_or worlds (get_or nodes n root).parent empty_world) (get_or nodes n root).steps (get_or worlds n empty_world)
+  pub formed : IsFormed (get_or nodes n root).cell (get_or worlds (get_or nodes n root).parent empty_world)
+  pub ran : Exec (Forward (get_or nodes n root).cell) (get_or worlds (get_or nodes n root).parent empty_world) (get_or nodes n root).steps (get_or worlds n empty_world)
 
 -- the favourite of the node n is a child of it
 pub record IsChild (nodes : List Node) (favourites : List ℕ) (n : ℕ) : Type 0 where
@@ -48,7 +45,7 @@ pub record IsLegal (s : Past) : Type 0 where
   pub worlds : length s.worlds ≡ length s.nodes
   pub favourites : length s.favourites ≡ length s.nodes
   pub ran : (n : ℕ) → 0 < n → n < length s.nodes → IsRun s.nodes s.worlds n
-  pub fits : (n : ℕ) → n < length s.nodes → Fits (world_at s n)
+  pub good : (n : ℕ) → n < length s.nodes → IsGoodWorld (world_at s n)
   pub children : (n : ℕ) → n < length s.nodes → 0 < favourite_of s n → IsChild s.nodes s.favourites n
   pub position : s.position < length s.nodes
   pub root_parent : (node_at s 0).parent ≡ 0
@@ -66,7 +63,7 @@ abbrev pub IsPossibleWork : Past → Work → Type 0
 IsPossibleWork s (Posted cell) = IsFormed cell (here s)
 IsPossibleWork s (Move travel) = IsPossible s.nodes s.favourites s.position travel
 
-abbrev pub IsPossibleAt : Past → Open → Type 0
+abbrev pub IsPossibleAt : Past → Job → Type 0
 IsPossibleAt s Idle = Unit {0}
 IsPossibleAt s (Border travel) = IsPossible s.nodes s.favourites s.position travel
 IsPossibleAt s (Inside e) = IsPossibleWork s e.work

@@ -1,12 +1,10 @@
 -- The kernel machine: a state with a queue, its step for each event, and its runs.
 use Rattle.std.specs.Prelude.{◌≡◌, ℕ, Bool, ◌+◌, ◌%◌, ◌^◌, ◌<◌, ◌≤◌, List, [], ◌∷◌, ◌++◌, length, Result, Ok, Err, string_bytes}
-use Rattle.kernel_core.specs.State.{Past, State, new_state}
+use Rattle.kernel_core.specs.State.{Past, State, Job as Open, Idle, Border, Inside, new_state}
 use Rattle.kernel_core.specs.Legal.{can_go}
 use Rattle.kernel_core.specs.Slices.{IsSlice}
 use Rattle.kernel_core.specs.Begins.{Enters, TakesCell, TakesMove}
 use Rattle.kernel_core.specs.declared.job.Way.TheVariants.{Up, Down}
-use Rattle.kernel_core.specs.declared.job.Open.{Open}
-use Rattle.kernel_core.specs.declared.job.Open.TheVariants.{Idle, Border, Inside}
 use Rattle.kernel_core.specs.declared.outcome.Begun.{Begun}
 use Rattle.kernel_core.specs.declared.outcome.Begun.TheVariants as begun
 use Rattle.kernel_core.specs.declared.outcome.Sliced.{Sliced}

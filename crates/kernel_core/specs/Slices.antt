@@ -1,20 +1,18 @@
 -- What a slice does, by cases.
 use Rattle.std.specs.Prelude.{◌≡◌, ℕ, ◌+◌, ◌-◌, Bool, true, false, [], ◌∷◌, ◌++◌, length, zero, suc, set}
-use Rattle.kernel_core.specs.Language.{World, Cell, Exec, Reaches}
-use Rattle.kernel_core.specs.State.{Past, State, node_at, here, favourite_of, code_of}
-use Rattle.kernel_core.specs.declared.machine.Ran.{Ran}
-use Rattle.kernel_core.specs.declared.machine.Ran.TheVariants.{Went, Ended, Stopped}
+use Rattle.janus_meaning.specs.World.{World, Cell}
+use Rattle.kernel_core.specs.Language.{Exec}
+use Rattle.kernel_core.specs.Reached.{Reaches}
+use Rattle.kernel_core.specs.State.{Past, State, Work, Posted, Move, Job, Idle, Border, Inside, node_at, here, favourite_of, code_of}
+use Rattle.kernel_core.specs.declared.runner.Ran.{Ran}
+use Rattle.kernel_core.specs.declared.runner.Ran.TheVariants.{Went, Ended, Stopped}
 use Rattle.kernel_core.specs.declared.job.Way.{Way}
 use Rattle.kernel_core.specs.declared.job.Way.TheVariants.{Up, Down}
 use Rattle.kernel_core.specs.declared.job.Travel.{Travel}
-use Rattle.kernel_core.specs.declared.job.Work.{Work}
-use Rattle.kernel_core.specs.declared.job.Work.TheVariants.{Cell as Posted, Move}
 use Rattle.kernel_core.specs.declared.job.Why.{Why}
 use Rattle.kernel_core.specs.declared.job.Why.TheVariants.{Asked as WasAsked, Faulted}
 use Rattle.kernel_core.specs.declared.job.Turn.{Turn}
 use Rattle.kernel_core.specs.declared.job.Turn.TheVariants.{Going as GoesOn, Backing as GoesBack}
-use Rattle.kernel_core.specs.declared.job.Open.{Open}
-use Rattle.kernel_core.specs.declared.job.Open.TheVariants.{Idle, Border, Inside}
 use Rattle.kernel_core.specs.declared.outcome.End.{End}
 use Rattle.kernel_core.specs.declared.outcome.End.TheVariants.{All, Asked}
 use Rattle.kernel_core.specs.declared.outcome.Outcome.{Outcome}
@@ -45,7 +43,7 @@ Arrives s way (suc left) done told new = (told ≡ sliced.Border) × (new ≡ re
 -- the past with a new node below the position, at which it stands
 abbrev pub grown : Past → Cell → ℕ → World → Past
 grown s cell n w = record {
-  nodes = s.nodes ++ record { parent = s.position; program = cell; steps = n } ∷ [];
+  nodes = s.nodes ++ record { parent = s.position; cell = cell; steps = n } ∷ [];
   worlds = s.worlds ++ w ∷ [];
   favourites = set s.favourites s.position (length s.nodes) ++ 0 ∷ [];
   position = length s.nodes;
@@ -83,7 +81,7 @@ SlicesIn s work c GoesOn m true told new = Backs s work (WasAsked c) (c - m) tol
 SlicesIn s work c (GoesBack why) m asked told new = Backs s work why (c - m) told new
 
 -- where no cell is entered, nothing
-abbrev pub SlicesAt : Past → Open → ℕ → Bool → Sliced → State → Type 0
+abbrev pub SlicesAt : Past → Job → ℕ → Bool → Sliced → State → Type 0
 SlicesAt s Idle m asked told new = (told ≡ sliced.Nothing) × (new ≡ record { past = s; job = Idle })
 SlicesAt s (Border travel) m asked told new = (told ≡ sliced.Nothing) × (new ≡ record { past = s; job = Border travel })
 SlicesAt s (Inside e) m asked told new = SlicesIn s e.work e.count e.turn m asked told new

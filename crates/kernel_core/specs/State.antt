@@ -1,14 +1,16 @@
 -- The states of the kernel machine: the tree of cells with the worlds of all its nodes, and the open job. No cursor, no stored inverse, no store.
 use Rattle.std.specs.Prelude.{◌≡◌, ℕ, List, [], ◌∷◌, ◌++◌, get_or}
-use Rattle.kernel_core.specs.Language.{World, empty_world, Cell, empty_cell, Code, Forward, Backward, Part, end_of}
-use Rattle.kernel_core.specs.declared.tree.Node.{Node}
-use Rattle.kernel_core.specs.declared.tree.Tree.{Tree}
+use Rattle.janus_meaning.specs.World.{World, empty_world, Cell}
+use Rattle.kernel_core.specs.Language.{empty_cell, Code, Forward, Backward, Part, end_of}
 use Rattle.kernel_core.specs.declared.job.Way.TheVariants.{Up, Down}
 use Rattle.kernel_core.specs.declared.job.Travel.{Travel}
-use Rattle.kernel_core.specs.declared.job.Work.{Work}
-use Rattle.kernel_core.specs.declared.job.Work.TheVariants.{Cell as Posted, Move}
-use Rattle.kernel_core.specs.declared.job.Open.{Open}
-use Rattle.kernel_core.specs.declared.job.Open.TheVariants.{Idle, Border, Inside}
+use Rattle.kernel_core.specs.declared.job.Turn.{Turn}
+
+-- a cell that ended well, with the steps that it took; or the root
+pub record Node : Type 0 where
+  pub parent : ℕ
+  pub cell : Cell
+  pub steps : ℕ
 
 -- the tree with all its worlds, and where the kernel stands in it
 pub record Past : Type 0 where
@@ -20,12 +22,29 @@ pub record Past : Type 0 where
   pub favourites : List ℕ
   pub position : ℕ
 
+-- what runs inside a cell: a posted cell, or the next cell of an undo or a redo
+pub data Work : Type 0 where
+  Posted : (cell : Cell) → Work
+  Move : (travel : Travel) → Work
+
+-- a job inside a cell, and how many steps of the cell are taken
+pub record Entered : Type 0 where
+  pub work : Work
+  pub count : ℕ
+  pub turn : Turn
+
+-- no open job, or one at a border between two cells, or inside a cell
+pub data Job : Type 0 where
+  Idle : Job
+  Border : (travel : Travel) → Job
+  Inside : (e : Entered) → Job
+
 pub record State : Type 0 where
   pub past : Past
-  pub job : Open
+  pub job : Job
 
 abbrev pub root : Node
-root = record { parent = 0; program = empty_cell; steps = 0 }
+root = record { parent = 0; cell = empty_cell; steps = 0 }
 
 abbrev pub node_at : Past → ℕ → Node
 node_at s n = get_or s.nodes n root
@@ -44,12 +63,12 @@ here s = world_at s s.position
 abbrev pub code_of : Past → Work → Code
 code_of s (Posted cell) = Forward cell
 code_of s (Move travel) = elim travel.way [
-  | Up ↦ Backward (node_at s s.position).program
-  | Down ↦ Forward (node_at s (favourite_of s s.position)).program
+  | Up ↦ Backward (node_at s s.position).cell
+  | Down ↦ Forward (node_at s (favourite_of s s.position)).cell
 ]
 
 -- the world that is shown: at a border or with no job that of the position, else that after the counted steps
-abbrev pub ShownAt : Past → Open → World → Type 0
+abbrev pub ShownAt : Past → Job → World → Type 0
 ShownAt s Idle w = w ≡ here s
 ShownAt s (Border travel) w = w ≡ here s
 ShownAt s (Inside e) w = Part (code_of s e.work) (here s) e.count w
@@ -64,21 +83,10 @@ new_state = record {
   job = Idle;
 }
 
--- ---- how the code's fields are such a state
+-- ---- the worlds of a tree as a function
 
 -- the worlds of the nodes, from first to last
 unfoldable pub worlds_from : List World → List Node → List World
 worlds_from worlds [] = worlds
 worlds_from worlds (node ∷ nodes) =
-    worlds_from (worlds ++ end_of node.program (get_or worlds node.parent empty_world) node.steps ∷ []) nodes
-
-abbrev pub past_of : Tree → Past
-past_of tree = record {
-  nodes = tree.nodes.items;
-  worlds = worlds_from [] tree.nodes.items;
-  favourites = tree.favourites.items;
-  position = tree.position;
-}
-
-abbrev pub state_of : Tree → Open → State
-state_of tree job = record { past = past_of tree; job = job }
+    worlds_from (worlds ++ end_of node.cell (get_or worlds node.parent empty_world) node.steps ∷ []) nodes

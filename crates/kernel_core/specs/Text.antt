@@ -1,17 +1,13 @@
 -- Which cell a text is, in a world, and how it is refused.
-use Rattle.std.specs.Prelude.{◌≡◌, ℕ, List, [], ◌∷◌, map}
-use Rattle.kernel_core.specs.Language.{World, Cell}
-use Rattle.kernel_core.specs.declared.machine.Step.{Step}
-use Rattle.kernel_core.specs.declared.machine.Step.TheVariants.{Skip, Add}
+use Rattle.std.specs.Prelude.{◌≡◌, ℕ, List}
+use Rattle.janus_meaning.specs.World.{World, Cell}
+use Rattle.kernel_core.specs.Language.{IsFormed}
 use Rattle.kernel_core.specs.declared.outcome.Refusal.{Refusal}
 use Rattle.kernel_core.specs.declared.outcome.Refusal.TheVariants.{TooFar, Memory}
 
-abbrev pub added : ℕ → Step
-added octet = Add 97 octet
-
 -- the text is this cell, well formed over the world
 unfoldable pub Accepts : World → List ℕ → Cell → Type 0
-Accepts w text cell = cell ≡ record { names = []; code = Skip ∷ map added text }
+Accepts w text cell = IsFormed cell w
 
 -- the text is refused; want of memory may come at any text
 abbrev pub Refuses : World → List ℕ → Refusal → Type 0

@@ -1,20 +1,20 @@
 //! The history: the tree of cells, the one store, and the open job. It is what a kernel has besides its queue.
 ghost use Rattle.std.specs.Prelude.{◌≡◌, ◌+◌, ◌<◌, ◌^◌, IfOk, OnOk, OnErr, true};
-ghost use Rattle.kernel_core.specs.Language.{Fits, IsFormed, Forward};
-ghost use Rattle.kernel_core.specs.State.{State, past_of, here, Shown, new_state};
+ghost use Rattle.kernel_core.specs.State.{State, Idle, here, Shown, new_state};
+ghost use Rattle.kernel_core.specs.Fields.{past_of, nodes_of};
 ghost use Rattle.kernel_core.specs.Legal.{IsLegal, IsPossible, can_go};
 ghost use Rattle.kernel_core.specs.Slices.{IsSlice};
 ghost use Rattle.kernel_core.specs.Begins.{TakesCell, TakesMove, Enters, Declares, IsOutside, IsPhase};
-ghost use Rattle.kernel_core.specs.Runner.{world_of, Stands};
+ghost use Rattle.kernel_core.specs.Runner.{world_of};
 ghost use Rattle.kernel_core.specs.Kept.{HasRoom, Kept, StandsAt};
 
 use crate::job::{Entered, Open, Phase, Travel, Turn, Way, Why, Work};
-use crate::machine::Slot;
 use crate::outcome::{Begun, End, Outcome, Refusal, Sliced};
 use crate::program::Program;
 use crate::runner::Runner;
 use crate::settle::{finished, go_back, go_on, turn_back};
-use crate::tree::{Node, Tree, can_go};
+use crate::tree::{Tree, can_go};
+use crate::view::View;
 use std::alloc::{AllocError, Global};
 use std::marker::Model;
 use std::mem;
@@ -29,10 +29,15 @@ pub struct History {
 }
 
 impl Model for History {
-    ghost use Rattle.kernel_core.specs.State.{State, state_of};
-    ghost use Rattle.kernel_core.specs.Kept.{Kept};
+    ghost use Rattle.kernel_core.specs.State.{State};
+    ghost use Rattle.kernel_core.specs.StateCode.{state_code};
 
     ghost Value = { State };
+
+    ghost coded = { state_code };
+
+    ghost use Rattle.kernel_core.specs.Fields.{state_of};
+    ghost use Rattle.kernel_core.specs.Kept.{Kept};
 
     ghost view = { λ a. state_of a.tree a.job };
 
@@ -52,18 +57,18 @@ fn make_room(tree: &mut Tree) -> Result<(), AllocError>
 /// Enters the next cell of an undo or a redo: an undone one takes no memory.
 fn enter_next(tree: &Tree, runner: &mut Runner, travel: Travel) -> Result<(), AllocError>
     requires legal { IsLegal (past_of tree.now) }
-    requires possible { IsPossible tree.now.nodes.items tree.now.favourites.items tree.now.position travel }
+    requires possible { IsPossible (nodes_of tree.now) tree.now.favourites.items tree.now.position travel }
     requires shown { world_of runner.old ≡ here (past_of tree.now) }
-    ensures ok { OnOk result (StandsAt (past_of tree.now) (Open.Inside (record { work = Work.Move travel; count = 0; turn = Turn.Going })) runner.new) }
+    ensures ok { OnOk result (StandsAt tree.now (Open.Inside (record { work = Work.Move travel; count = 0; turn = Turn.Going })) runner.new) }
     ensures err { OnErr result (world_of runner.new ≡ world_of runner.old) }
     ensures declares { OnErr result (Declares (past_of tree.now) travel) }
 {
     match travel.way {
         Way::Up => {
-            runner.enter_inverse(&tree.nodes[tree.position].program);
+            runner.enter_inverse(&tree.nodes[tree.position - 1].program);
             Ok(())
         }
-        Way::Down => runner.enter(&tree.nodes[tree.favourites[tree.position]].program),
+        Way::Down => runner.enter(&tree.nodes[tree.favourites[tree.position] - 1].program),
     }
 }
 
@@ -73,12 +78,7 @@ impl History {
         ensures { IfOk result (λ history. history ≡ new_state) }
     {
         let runner = Runner::new(alloc)?;
-        let mut nodes = Vec::new(alloc);
-        nodes.push(Node {
-            parent: 0,
-            program: Program::empty(alloc),
-            steps: 0,
-        })?;
+        let nodes = Vec::new(alloc);
         let mut favourites = Vec::new(alloc);
         favourites.push(0)?;
         Ok(History {
@@ -93,11 +93,11 @@ impl History {
     }
 
     /// The shown world.
-    pub fn world(&self) -> &[Slot]
-        ensures shown { Shown self.now result.now }
+    pub fn world(&self) -> View<'_>
+        ensures shown { Shown self.now result }
         ensures legal { IsLegal self.now.past }
     {
-        self.runner.world()
+        View::of(&self.runner)
     }
 
     /// The number of the node at which the kernel stands.
@@ -109,7 +109,7 @@ impl History {
 
     /// Begins a posted cell: it takes all memory of its run, that of its node included.
     pub fn begin_cell(&mut self, alloc: Global, text: &str) -> Begun
-        requires { self.old.job ≡ Open.Idle }
+        requires { self.old.job ≡ Idle }
         ensures { TakesCell self.old.past text.now result self.new }
     {
         let program = match Program::of_text(alloc, text, &self.runner) {
@@ -129,7 +129,7 @@ impl History {
 
     /// Begins an undo or a redo of `k` cells.
     pub fn begin_move(&mut self, way: Way, k: u32) -> Begun
-        requires { self.old.job ≡ Open.Idle }
+        requires { self.old.job ≡ Idle }
         ensures { TakesMove self.old.past way k (can_go self.old.past.nodes self.old.past.favourites self.old.past.position way k) result self.new }
     {
         if !can_go(&self.tree, way, k) {

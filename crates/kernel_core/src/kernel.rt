@@ -1,13 +1,13 @@
 //! The kernel: its history, and the queue of posted jobs.
 ghost use Rattle.std.specs.Prelude.{◌≡◌, ◌+◌, ◌++◌, ◌∷◌, ◌<◌, IfOk, OnErr, OnOk, string_bytes};
-ghost use Rattle.kernel_core.specs.State.{Shown, here};
+ghost use Rattle.kernel_core.specs.State.{Idle, Shown, here};
 ghost use Rattle.kernel_core.specs.Legal.{IsLegal};
 ghost use Rattle.kernel_core.specs.Runs.{Machine, new_machine, request_of, IsPost, IsBegin, IsSliceOf, Takes};
 
 use crate::history::History;
-use crate::job::{Open, Phase, Way};
-use crate::machine::Slot;
+use crate::job::{Phase, Way};
 use crate::outcome::{Begun, Sliced};
+use crate::view::View;
 use std::alloc::{AllocError, Global};
 use std::collections::VecDeque;
 use std::marker::Model;
@@ -46,9 +46,14 @@ pub struct Kernel {
 
 impl Model for Kernel {
     ghost use Rattle.std.specs.Prelude.{map};
-    ghost use Rattle.kernel_core.specs.Runs.{Machine, request_of};
+    ghost use Rattle.kernel_core.specs.Runs.{Machine};
+    ghost use Rattle.kernel_core.specs.MachineCode.{machine_code};
 
     ghost Value = { Machine };
+
+    ghost coded = { machine_code };
+
+    ghost use Rattle.kernel_core.specs.Runs.{request_of};
 
     ghost view = { λ a. record { state = a.history; queue = map request_of a.queue.items; posted = a.posted } };
 }
@@ -128,10 +133,10 @@ impl Kernel {
     }
 
     /// The shown world; and the history is legal.
-    pub fn world(&self) -> &[Slot]
-        ensures shown { Shown self.now.state result.now }
+    pub fn world(&self) -> View<'_>
+        ensures shown { Shown self.now.state result }
         // With no open job it is the position's.
-        ensures idle { self.now.state.job ≡ Open.Idle → result.now ≡ here self.now.state.past }
+        ensures idle { self.now.state.job ≡ Idle → result ≡ here self.now.state.past }
         ensures legal { IsLegal self.now.state.past }
     {
         self.history.world()
@@ -147,7 +152,7 @@ impl Kernel {
 
 /// Begins a posted job.
 fn take(history: &mut History, alloc: Global, job: Job) -> Begun
-    requires { history.old.job ≡ Open.Idle }
+    requires { history.old.job ≡ Idle }
     ensures { Takes history.old.past (request_of job) result history.new }
 {
     match job {

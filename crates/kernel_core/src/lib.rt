@@ -11,3 +11,4 @@ pub mod program;
 pub mod runner;
 pub mod settle;
 pub mod tree;
+pub mod view;

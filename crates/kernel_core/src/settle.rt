@@ -1,14 +1,15 @@
 //! The parts of a slice: steps onward and back, and what comes at the end of a cell. None of them takes memory.
 ghost use Rattle.std.specs.Prelude.{◌≡◌, ℕ, ◌+◌, ◌-◌, ◌^◌, ◌<◌, ◌≤◌, false, true};
-ghost use Rattle.kernel_core.specs.Language.{Part, Reaches, cell_of as cell_in};
-ghost use Rattle.kernel_core.specs.State.{Past, past_of, state_of, here, code_of};
+ghost use Rattle.kernel_core.specs.Language.{Part};
+ghost use Rattle.kernel_core.specs.State.{Past, here, code_of};
+ghost use Rattle.kernel_core.specs.Fields.{past_of, state_of, work_of, job_of};
 ghost use Rattle.kernel_core.specs.Legal.{IsLegal, IsPossibleWork};
 ghost use Rattle.kernel_core.specs.Slices.{finished as the_finished, turned as the_turned, Backs, Arrives, Settles, Goes, HasEnded};
-ghost use Rattle.kernel_core.specs.Runner.{world_of, Stands, CameTo};
-ghost use Rattle.kernel_core.specs.Kept.{Kept};
+ghost use Rattle.kernel_core.specs.Runner.{world_of};
+ghost use Rattle.kernel_core.specs.Kept.{Kept, IsProgramOf};
 
 use crate::job::{Entered, Open, Travel, Turn, Way, Why, Work};
-use crate::machine::Ran;
+use crate::runner::Ran;
 use crate::outcome::{End, Outcome, Sliced};
 use crate::program::Program;
 use crate::runner::Runner;
@@ -17,14 +18,14 @@ use crate::tree::{Node, Tree};
 /// The program that the work runs: forward, or for an undo backward.
 fn program_of<'a>(tree: &'a Tree, work: &'a Work) -> &'a Program
     requires legal { IsLegal (past_of tree.now) }
-    requires possible { IsPossibleWork (past_of tree.now) work.now }
-    ensures { cell_in (code_of (past_of tree.now) work.now) ≡ result.now }
+    requires possible { IsPossibleWork (past_of tree.now) (work_of work.now) }
+    ensures { IsProgramOf tree.now work.now result.now }
 {
     match work {
         Work::Cell(program) => program,
         Work::Move(travel) => match travel.way {
-            Way::Up => &tree.nodes[tree.position].program,
-            Way::Down => &tree.nodes[tree.favourites[tree.position]].program,
+            Way::Up => &tree.nodes[tree.position - 1].program,
+            Way::Down => &tree.nodes[tree.favourites[tree.position] - 1].program,
         },
     }
 }
@@ -39,7 +40,7 @@ pub fn finished(travel: Travel, end: End) -> Outcome
 }
 
 fn turned(work: &Work, why: Why) -> Outcome
-    ensures { result ≡ the_turned work.now why }
+    ensures { result ≡ the_turned (work_of work.now) why }
 {
     match work {
         Work::Cell(_) => match why {
@@ -53,15 +54,15 @@ fn turned(work: &Work, why: Why) -> Outcome
 /// Back at the count 0: the names that were declared at the begin are taken back.
 fn settle_back(tree: &Tree, runner: &mut Runner, work: &Work)
     requires legal { IsLegal (past_of tree.now) }
-    requires possible { IsPossibleWork (past_of tree.now) work.now }
-    requires back { Part (code_of (past_of tree.now) work.now) (here (past_of tree.now)) 0 (world_of runner.old) }
+    requires possible { IsPossibleWork (past_of tree.now) (work_of work.now) }
+    requires back { Part (code_of (past_of tree.now) (work_of work.now)) (here (past_of tree.now)) 0 (world_of runner.old) }
     ensures { world_of runner.new ≡ here (past_of tree.now) }
 {
     match work {
         Work::Cell(program) => runner.leave(program),
         Work::Move(travel) => match travel.way {
             Way::Up => {}
-            Way::Down => runner.leave(&tree.nodes[tree.favourites[tree.position]].program),
+            Way::Down => runner.leave(&tree.nodes[tree.favourites[tree.position] - 1].program),
         },
     }
 }
@@ -76,10 +77,10 @@ pub fn go_back(
     m: u64,
 ) -> (Open, Sliced)
     requires { Kept tree.now runner.old (Open.Inside (record { work = work; count = count; turn = Turn.Backing why })) }
-    ensures step { Backs (past_of tree.now) work why (count - m) result.1 (state_of tree.now result.0) }
+    ensures step { Backs (past_of tree.now) (work_of work) why (count - m) result.1 (state_of tree.now result.0) }
     ensures kept { Kept tree.now runner.new result.0 }
 {
-    runner.back(program_of(tree, &work), count, m);
+    runner.back(program_of(tree, &work), m);
     let left = count.saturating_sub(m);
     if left == 0 {
         settle_back(tree, runner, &work);
@@ -108,10 +109,10 @@ pub fn turn_back(
     m: u64,
 ) -> (Open, Sliced)
     requires { Kept tree.now runner.old (Open.Inside (record { work = work; count = count; turn = Turn.Going })) }
-    ensures step { Backs (past_of tree.now) work why (count - m) result.1 (state_of tree.now result.0) }
+    ensures step { Backs (past_of tree.now) (work_of work) why (count - m) result.1 (state_of tree.now result.0) }
     ensures kept { Kept tree.now runner.new result.0 }
 {
-    runner.turn(program_of(tree, &work), count);
+    runner.turn(program_of(tree, &work));
     go_back(tree, runner, work, count, why, m)
 }
 
@@ -119,7 +120,7 @@ pub fn turn_back(
 fn arrive(travel: Travel) -> (Open, Sliced)
     requires some { 0 < travel.left }
     requires small { travel.left + travel.done < 2 ^ 32 }
-    ensures { (past : Past) → Arrives past travel.way (travel.left - 1) travel.done result.1 (record { past = past; job = result.0 }) }
+    ensures { (past : Past) → Arrives past travel.way (travel.left - 1) travel.done result.1 (record { past = past; job = job_of result.0 }) }
 {
     let travel = Travel {
         way: travel.way,
@@ -136,11 +137,11 @@ fn arrive(travel: Travel) -> (Open, Sliced)
 /// A posted cell came to its end, in `n` steps: it becomes a node. The room for it was made before.
 fn settle_cell(tree: &mut Tree, runner: &Runner, program: Program, n: u64) -> (Open, Sliced)
     requires kept { Kept tree.old runner.now (Open.Inside (record { work = Work.Cell program; count = n; turn = Turn.Going })) }
-    requires ended { HasEnded (past_of tree.old) (Work.Cell program) n (world_of runner.now) }
-    ensures step { Settles (past_of tree.old) (Work.Cell program) n (world_of runner.now) result.1 (state_of tree.new result.0) }
+    requires ended { HasEnded (past_of tree.old) (work_of (Work.Cell program)) n (world_of runner.now) }
+    ensures step { Settles (past_of tree.old) (work_of (Work.Cell program)) n (world_of runner.now) result.1 (state_of tree.new result.0) }
     ensures kept { Kept tree.new runner.now result.0 }
 {
-    let number = tree.nodes.len();
+    let number = tree.nodes.len() + 1;
     let parent = tree.position;
     tree.favourites[parent] = number;
     tree.favourites.push_reserved(0);
@@ -157,12 +158,12 @@ fn settle_cell(tree: &mut Tree, runner: &Runner, program: Program, n: u64) -> (O
 fn settle_up(tree: &mut Tree, runner: &mut Runner, travel: Travel, n: u64) -> (Open, Sliced)
     requires way { travel.way ≡ Way.Up }
     requires kept { Kept tree.old runner.old (Open.Inside (record { work = Work.Move travel; count = n; turn = Turn.Going })) }
-    requires ended { HasEnded (past_of tree.old) (Work.Move travel) n (world_of runner.old) }
-    ensures step { Settles (past_of tree.old) (Work.Move travel) n (world_of runner.old) result.1 (state_of tree.new result.0) }
+    requires ended { HasEnded (past_of tree.old) (work_of (Work.Move travel)) n (world_of runner.old) }
+    ensures step { Settles (past_of tree.old) (work_of (Work.Move travel)) n (world_of runner.old) result.1 (state_of tree.new result.0) }
     ensures kept { Kept tree.new runner.new result.0 }
 {
     let parent = {
-        let node = &tree.nodes[tree.position];
+        let node = &tree.nodes[tree.position - 1];
         runner.leave(&node.program);
         node.parent
     };
@@ -174,8 +175,8 @@ fn settle_up(tree: &mut Tree, runner: &mut Runner, travel: Travel, n: u64) -> (O
 fn settle_down(tree: &mut Tree, runner: &Runner, travel: Travel, n: u64) -> (Open, Sliced)
     requires way { travel.way ≡ Way.Down }
     requires kept { Kept tree.old runner.now (Open.Inside (record { work = Work.Move travel; count = n; turn = Turn.Going })) }
-    requires ended { HasEnded (past_of tree.old) (Work.Move travel) n (world_of runner.now) }
-    ensures step { Settles (past_of tree.old) (Work.Move travel) n (world_of runner.now) result.1 (state_of tree.new result.0) }
+    requires ended { HasEnded (past_of tree.old) (work_of (Work.Move travel)) n (world_of runner.now) }
+    ensures step { Settles (past_of tree.old) (work_of (Work.Move travel)) n (world_of runner.now) result.1 (state_of tree.new result.0) }
     ensures kept { Kept tree.new runner.now result.0 }
 {
     tree.position = tree.favourites[tree.position];
@@ -185,8 +186,8 @@ fn settle_down(tree: &mut Tree, runner: &Runner, travel: Travel, n: u64) -> (Ope
 /// A cell came to its end, in `n` steps.
 fn settle(tree: &mut Tree, runner: &mut Runner, work: Work, n: u64) -> (Open, Sliced)
     requires kept { Kept tree.old runner.old (Open.Inside (record { work = work; count = n; turn = Turn.Going })) }
-    requires ended { HasEnded (past_of tree.old) work n (world_of runner.old) }
-    ensures step { Settles (past_of tree.old) work n (world_of runner.old) result.1 (state_of tree.new result.0) }
+    requires ended { HasEnded (past_of tree.old) (work_of work) n (world_of runner.old) }
+    ensures step { Settles (past_of tree.old) (work_of work) n (world_of runner.old) result.1 (state_of tree.new result.0) }
     ensures kept { Kept tree.new runner.new result.0 }
 {
     match work {
@@ -201,7 +202,7 @@ fn settle(tree: &mut Tree, runner: &mut Runner, work: Work, n: u64) -> (Open, Sl
 /// Goes on for `m` steps, or to the end of the cell, or to its stop.
 pub fn go_on(tree: &mut Tree, runner: &mut Runner, work: Work, count: u64, m: u64) -> (Open, Sliced)
     requires { Kept tree.old runner.old (Open.Inside (record { work = work; count = count; turn = Turn.Going })) }
-    ensures step { Goes (past_of tree.old) work count m result.1 (state_of tree.new result.0) }
+    ensures step { Goes (past_of tree.old) (work_of work) count m result.1 (state_of tree.new result.0) }
     ensures kept { Kept tree.new runner.new result.0 }
 {
     match runner.run(program_of(tree, &work), count, m) {

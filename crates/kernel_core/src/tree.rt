@@ -1,12 +1,13 @@
 //! The tree of cells that ended well.
-ghost use Rattle.std.specs.Prelude.{◌≡◌, ℕ, ◌<◌, length, get_or};
-ghost use Rattle.kernel_core.specs.State.{root, past_of};
+ghost use Rattle.std.specs.Prelude.{◌≡◌, ℕ, ◌∷◌, ◌≤◌, ◌<◌, length, map, get_or};
+ghost use Rattle.kernel_core.specs.State.{root};
+ghost use Rattle.kernel_core.specs.Fields.{node_of, past_of, nodes_of};
 ghost use Rattle.kernel_core.specs.Legal.{IsLegal, can_undo, can_redo, can_go};
 
 use crate::job::Way;
 use crate::program::Program;
 
-/// A cell that ended well, with the steps that it took; or the root, which is node 0.
+/// A cell that ended well, with the steps that it took, and the number of the node in whose world it ran.
 #[derive(Drop)]
 pub struct Node {
     pub parent: usize,
@@ -14,26 +15,28 @@ pub struct Node {
     pub steps: u64,
 }
 
-/// The nodes, and for each its favourite: the child through which the position last went down from it, or 0.
+/// The tree. Node 0 is the root, which has no cell: the node n stands at `nodes[n - 1]`.
 #[derive(Drop)]
 pub struct Tree {
     pub nodes: Vec<Node>,
+    /// For each node, the root included, the child through which the position last went down from it, or 0.
     pub favourites: Vec<usize>,
+    /// The number of the node at which the kernel stands.
     pub position: usize,
 }
 
 /// Whether `from` can go up `k` times.
 fn can_undo(nodes: &[Node], from: usize, k: u32) -> bool
-    requires from { from < length nodes.now }
-    requires parents { (n : ℕ) → 0 < n → n < length nodes.now → (get_or nodes.now n root).parent < length nodes.now }
-    ensures { result ≡ can_undo nodes.now from k }
+    requires from { from ≤ length nodes.now }
+    requires parents { (n : ℕ) → n < length nodes.now → (get_or (map node_of nodes.now) n root).parent ≤ length nodes.now }
+    ensures { result ≡ can_undo (root ∷ map node_of nodes.now) from k }
 {
     let mut at = from;
     for _i in 0..k {
         if at == 0 {
             return false;
         }
-        at = nodes[at].parent;
+        at = nodes[at - 1].parent;
     }
     true
 }
@@ -57,7 +60,7 @@ fn can_redo(favourites: &[usize], from: usize, k: u32) -> bool
 /// Whether the position can go `k` nodes this way.
 pub fn can_go(tree: &Tree, way: Way, k: u32) -> bool
     requires { IsLegal (past_of tree.now) }
-    ensures { result ≡ can_go tree.now.nodes.items tree.now.favourites.items tree.now.position way k }
+    ensures { result ≡ can_go (nodes_of tree.now) tree.now.favourites.items tree.now.position way k }
 {
     match way {
         Way::Up => can_undo(&tree.nodes, tree.position, k),

@@ -1,6 +1,6 @@
 use Rattle.std.proofs.Common.{◌<◌, length}
 use Rattle.std.proofs.lemmas.List.{get_or_read}
-use Rattle.kernel_core.specs.State.{past_of}
+use Rattle.kernel_core.specs.Fields.{past_of}
 use Rattle.kernel_core.specs.Runner.{world_of}
 use Rattle.kernel_core.proofs.Standing.{kept_down, ended_down}
 use Rattle.kernel_core.proofs.settle.settle_down.Goals as goal
