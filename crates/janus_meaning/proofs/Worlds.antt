@@ -10,12 +10,16 @@ use Rattle.janus_meaning.specs.Formed.{Shape, Nobody, Known, kind_of, shape_of}
 use Rattle.janus_meaning.specs.Meaning.{Run, Done, Going, Stopped, Block, Exec, Part, Stop, block_start}
 use Rattle.janus_meaning.specs.Machine.{BeforeBlock, AfterBlock, Next, To, steps, shown}
 use Rattle.janus_meaning.specs.World.{World, Cell, Declaration, DeclareInt, DeclareArray, DeclareStack, declared_name, zeros, declare_one, declare, define, entered, must_be, must_be_zeros, must_be_first, retire_one, retire, without_newest, undefine, left, stacks_with, stacks_in, size_of, dropped, oldest}
-use Rattle.janus_meaning.specs.Cells.{step_limit, WorldExec, WorldPart, WorldStop, IsUnended, CellRun, store_at, store_after, world_after, IsGoodWorld}
-use Rattle.janus_meaning.specs.WorldLaw.{WorldsAreFunctions, WorldsBeginAndEnd, WorldsGoBack, WorldsReverse, CellIsTakenBack, WorldsAreDetermined, WorldsStartAndEnd, EnteredIsGood}
+use Rattle.janus_meaning.specs.Limit.{step_limit}
+use Rattle.janus_meaning.specs.Cells.{WorldExec, WorldPart, WorldStop, IsUnended, CellRun, store_at, store_after, world_after, IsGoodWorld}
+use Rattle.janus_meaning.specs.WorldLaw.{WorldsAreFunctions, WorldsBeginAndEnd, WorldsGoBack, WorldsReverse, CellIsTakenBack, WorldsAreDetermined, WorldsStartAndEnd, EnteredIsGood, WorldHasEnded, WorldHasStopped, WorldIsUnderWay, WorldExactlyOne, WorldTrichotomy, IsFormedCell, FormedCellIsSafe}
+use Rattle.janus_meaning.specs.Law.{HasEnded, HasStopped, IsUnderWay}
+use Rattle.janus_meaning.specs.Formed.{IsReal}
+use Rattle.janus_meaning.proofs.Safe.{well_formed_is_safe}
 use Rattle.janus_meaning.proofs.Changes.{int_eq_self, zero_fits}
 use Rattle.janus_meaning.proofs.Stores.{same_name_self}
 use Rattle.janus_meaning.proofs.Laws.{run_leads, stands, reversal_holds}
-use Rattle.janus_meaning.proofs.Exactly.{AtEnd, AtWork, AtHalt, at_end, at_work, at_halt, kind, determinism}
+use Rattle.janus_meaning.proofs.Exactly.{AtEnd, AtWork, AtHalt, at_end, at_work, at_halt, kind, determinism, trichotomy}
 use Rattle.janus_meaning.proofs.Shapes.{keeps_shape}
 use Rattle.janus_meaning.proofs.Goodness.{keeps_good}
 
@@ -230,3 +234,77 @@ entered_is_good c w g = declare_good c.declarations w.store g
 
 pub cell_is_taken_back : CellIsTakenBack
 cell_is_taken_back c w n v g e = (turned_exec (entered c w) c.block n v (entered_is_good c w g) e, entered_left c w)
+
+-- ---- exactly one
+
+module _ (w : World) (b : Blk) where
+  -- past the limit there is nothing but the limit
+  under_way_at_limit : (m : ℕ) → step_limit < m → IsUnderWay w.procedures 0 (stacks_in w.store) b w.store step_limit → WorldHasStopped w b m
+  under_way_at_limit m lt u =
+      ⊎_elim
+      (λ g. (step_limit, StepLimit, lt, inr (refl, refl, (u.0, g))))
+      (λ e. absurd (u.2 u.0 e))
+      u.1
+
+  part_of_run : (m : ℕ) (r : Store) → m ≤ step_limit → Part w.procedures 0 (stacks_in w.store) (Block b) w.store m r → WorldPart w b m (record w { store = oldest (size_of w.store) r })
+  part_of_run m r le p = record { limit = le; store = r; part = p; shown = refl }
+
+  exec_of_run : (n : ℕ) (r : Store) → n ≤ step_limit → Exec w.procedures 0 (stacks_in w.store) (Block b) w.store n r → WorldExec w b n (record w { store = r })
+  exec_of_run n r le e = record { limit = le; ran = e; procedures = refl }
+
+  some_within : (m : ℕ) → m ≤ step_limit → HasEnded w.procedures 0 (stacks_in w.store) b w.store m ⊎ (HasStopped w.procedures 0 (stacks_in w.store) b w.store m ⊎ IsUnderWay w.procedures 0 (stacks_in w.store) b w.store m) → WorldHasEnded w b m ⊎ (WorldHasStopped w b m ⊎ WorldIsUnderWay w b m)
+  some_within m le x =
+      ⊎_elim
+      (λ e. inl (e.0, record w { store = e.1 }, e.2, exec_of_run e.0 e.1 (let z = e.2 in omega arith) e.3))
+      (λ y. inr (⊎_elim
+      (λ h. inl (h.0, h.1, h.2, inl (let z = h.2 in omega arith, h.3)))
+      (λ u. inr (record w { store = oldest (size_of w.store) u.0 }, part_of_run m u.0 le u.1, λ v e. u.2 v.store e.ran))
+      y))
+      x
+
+  some_past : (m : ℕ) → step_limit < m → HasEnded w.procedures 0 (stacks_in w.store) b w.store step_limit ⊎ (HasStopped w.procedures 0 (stacks_in w.store) b w.store step_limit ⊎ IsUnderWay w.procedures 0 (stacks_in w.store) b w.store step_limit) → WorldHasEnded w b m ⊎ (WorldHasStopped w b m ⊎ WorldIsUnderWay w b m)
+  some_past m lt x =
+      ⊎_elim
+      (λ e. inl (e.0, record w { store = e.1 }, (let z = e.2 in omega arith), exec_of_run e.0 e.1 e.2 e.3))
+      (λ y. inr (inl (⊎_elim
+      (λ h. (h.0, h.1, (let z = h.2 in omega arith), inl (h.2, h.3)))
+      (λ u. under_way_at_limit m lt u)
+      y)))
+      x
+
+  stop_before_part : (j m : ℕ) (f : Fault) (v : World) → j < m → WorldStop w b j f → WorldPart w b m v → ((u : World) → WorldExec w b m u → ⊥) → ⊥
+  stop_before_part j m f v lt h p unended =
+      ⊎_elim
+      (λ h. ⊎_elim
+      (λ g.
+      let d = at_halt w.procedures 0 (stacks_in w.store) b w.store j m f lt h.1 in
+      let c = at_work w.procedures 0 (stacks_in w.store) b w.store m p.store g in
+      let bad : AtHalt ≡ AtWork = sym (ap kind d) ∙ c in cc)
+      (λ e. unended (record w { store = p.store }) (exec_of_run m p.store p.limit e))
+      p.part)
+      (λ h. let z = h.0 in let y = p.limit in absurd (omega arith))
+      h
+
+  pub exactly_one : (m : ℕ) → WorldExactlyOne w b m
+  exactly_one m = record {
+    some = ⊎_elim
+        (λ lt. some_past m lt (trichotomy w.procedures 0 (stacks_in w.store) step_limit b w.store).some)
+        (λ le. some_within m le (trichotomy w.procedures 0 (stacks_in w.store) m b w.store).some)
+        (cases_lt step_limit m);
+    ended_or_stopped = λ e h. (functions w b).no_stop_and_end h.0 e.0 h.1 e.1 h.3 e.3;
+    ended_or_under_way = λ e u.
+        let le = (begins_and_ends w b).in_time e.0 m e.1 u.0 e.3 u.1 in
+        let same : e.0 ≡ m = let z = e.2 in omega arith in
+        u.2 e.1 (subst (λ n. WorldExec w b n e.1) same e.3);
+    stopped_or_under_way = λ h u. stop_before_part h.0 m h.1 u.0 h.2 h.3 u.1 u.2;
+  }
+
+pub world_trichotomy : WorldTrichotomy
+world_trichotomy w b m = exactly_one w b m
+
+pub formed_cell_is_safe : FormedCellIsSafe
+formed_cell_is_safe c w j f formed h =
+    ⊎_elim
+    (λ h. well_formed_is_safe (entered c w).procedures 0 (stacks_in (entered c w).store) j c.block (entered c w).store f formed.procedures formed.block h.1)
+    (λ h. subst IsReal (sym h.1) tt)
+    h

@@ -1,15 +1,12 @@
 -- Exec, Part and Stop of a block in a world, and the run of a cell.
 use Rattle.std.specs.Prelude.{◌≡◌, ℕ, ◌<◌, ◌≤◌, ◌⊎◌, List, []}
 use Rattle.janus_meaning.specs.Fault.{Fault, StepLimit}
+use Rattle.janus_meaning.specs.Limit.{step_limit}
 use Rattle.janus_meaning.specs.Syntax.{Blk, Proc}
 use Rattle.janus_meaning.specs.Store.{Store, IsGood}
 use Rattle.janus_meaning.specs.Meaning.{Run, Going, Block, Exec, Part, Stop}
 use Rattle.janus_meaning.specs.Machine.{BeforeBlock, Next, To, End, Halt, steps, shown}
 use Rattle.janus_meaning.specs.World.{World, Cell, entered, stacks_in, size_of, oldest}
-
--- how many steps a cell may take
-abbrev pub step_limit : ℕ
-step_limit = 1_000_000_000_000
 
 -- The block b, run in the world w, has ended after n steps, in the world v. Nothing is open round it, and the stacks
 -- of w live.

@@ -1,9 +1,9 @@
 -- The laws of worlds: what a kernel that keeps one store and a tree of cells stands on.
-use Rattle.std.specs.Prelude.{◌≡◌, ℕ, ◌-◌, ◌≤◌, List}
+use Rattle.std.specs.Prelude.{◌≡◌, ℕ, ◌-◌, ◌<◌, ◌≤◌, ◌⊎◌, List}
 use Rattle.janus_meaning.specs.Fault.{Fault, Fine}
 use Rattle.janus_meaning.specs.Syntax.{Blk, Proc, inverse_block}
 use Rattle.janus_meaning.specs.Store.{Store, IsGood}
-use Rattle.janus_meaning.specs.Formed.{shape_of}
+use Rattle.janus_meaning.specs.Formed.{shape_of, IsBlk, AreProcs, IsReal}
 use Rattle.janus_meaning.specs.Meaning.{Block, Exec, Part}
 use Rattle.janus_meaning.specs.World.{World, Cell, entered, left}
 use Rattle.janus_meaning.specs.Cells.{WorldExec, WorldPart, WorldStop, CellRun, world_after, IsGoodWorld}
@@ -57,3 +57,35 @@ WorldsAreDetermined = (w : World) (b : Blk) → WorldsAreFunctions w b
 
 abbrev pub WorldsStartAndEnd : Type 0
 WorldsStartAndEnd = (w : World) (b : Blk) → WorldsBeginAndEnd w b
+
+-- ---- what may have come of a block in a world within m steps
+
+abbrev pub WorldHasEnded : World → Blk → ℕ → Type 0
+WorldHasEnded w b m = (n : ℕ) × (v : World) × (n ≤ m) × WorldExec w b n v
+
+abbrev pub WorldHasStopped : World → Blk → ℕ → Type 0
+WorldHasStopped w b m = (j : ℕ) × (f : Fault) × (j < m) × WorldStop w b j f
+
+abbrev pub WorldIsUnderWay : World → Blk → ℕ → Type 0
+WorldIsUnderWay w b m = (v : World) × WorldPart w b m v × ((u : World) → WorldExec w b m u → ⊥)
+
+-- Exactly one of these, with the limit on steps among the faults.
+pub record WorldExactlyOne (w : World) (b : Blk) (m : ℕ) : Type 0 where
+  pub some : WorldHasEnded w b m ⊎ (WorldHasStopped w b m ⊎ WorldIsUnderWay w b m)
+  pub ended_or_stopped : WorldHasEnded w b m → WorldHasStopped w b m → ⊥
+  pub ended_or_under_way : WorldHasEnded w b m → WorldIsUnderWay w b m → ⊥
+  pub stopped_or_under_way : WorldHasStopped w b m → WorldIsUnderWay w b m → ⊥
+
+abbrev pub WorldTrichotomy : Type 0
+WorldTrichotomy = (w : World) (b : Blk) (m : ℕ) → WorldExactlyOne w b m
+
+-- ---- well-formed cells
+
+-- a cell is well formed over a world: its block, and every procedure in effect
+pub record IsFormedCell (c : Cell) (w : World) : Type 0 where
+  pub procedures : AreProcs (entered c w).procedures
+  pub block : IsBlk (entered c w).procedures (shape_of (entered c w).store) c.block
+
+-- It stops only at the faults of the table.
+abbrev pub FormedCellIsSafe : Type 0
+FormedCellIsSafe = (c : Cell) (w : World) (j : ℕ) (f : Fault) → IsFormedCell c w → WorldStop (entered c w) c.block j f → IsReal f

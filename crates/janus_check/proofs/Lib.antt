@@ -1,0 +1,4 @@
+pub mod LookupLemmas
+pub mod ScopeLemmas
+pub mod FirstLemmas
+pub mod FormedLemmas

@@ -1,0 +1,45 @@
+-- Faults of a cell, and which of several is told.
+use Rattle.std.specs.Prelude.{◌≡◌, ℕ, Bool, false, ◌&&◌, ◌||◌, ◌==◌, nat_lt, Option, Some, None, List, [], ◌∷◌, Contains, All, if◌then◌else◌}
+use Rattle.janus_syntax.specs.declared.token.Span.{Span}
+use Rattle.janus_check.specs.declared.fault.CheckFault.{CheckFault}
+use Rattle.janus_check.specs.declared.fault.CheckFault.TheVariants.{Declared, Unknown, SelfUse, TooMany, Memory}
+
+abbrev pub number_of : CheckFault → ℕ
+number_of Memory = 35
+number_of (Declared at) = 40
+number_of (Unknown at) = 41
+number_of (SelfUse at) = 43
+number_of (TooMany at) = 48
+
+abbrev pub span_of : CheckFault → Option Span
+span_of Memory = None
+span_of (Declared at) = Some at
+span_of (Unknown at) = Some at
+span_of (SelfUse at) = Some at
+span_of (TooMany at) = Some at
+
+abbrev pub start_of : CheckFault → ℕ
+start_of Memory = 0
+start_of (Declared at) = at.start
+start_of (Unknown at) = at.start
+start_of (SelfUse at) = at.start
+start_of (TooMany at) = at.start
+
+-- a fault is told rather than another if it stands earlier, or at the same place under a smaller number
+abbrev pub comes_before : CheckFault → CheckFault → Bool
+comes_before f h = nat_lt (start_of f) (start_of h) || ((start_of f == start_of h) && nat_lt (number_of f) (number_of h))
+
+-- f is one of the faults, and none of them comes before it
+pub record IsFirst (f : CheckFault) (fs : List CheckFault) : Type 0 where
+  pub one : Contains fs f
+  pub least : All (λ h. comes_before h f ≡ false) fs
+
+-- ---- the same as a fold
+
+abbrev pub sooner_of : Option CheckFault → CheckFault → CheckFault
+sooner_of None f = f
+sooner_of (Some found) f = if comes_before f found then f else found
+
+abbrev pub first_from : Option CheckFault → List CheckFault → Option CheckFault
+first_from found [] = found
+first_from found (f ∷ fs) = first_from (Some (sooner_of found f)) fs

@@ -1,0 +1,5 @@
+pub mod Fault
+pub mod Names
+pub mod Check
+pub mod WellFormed
+pub mod Checked

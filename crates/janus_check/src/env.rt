@@ -1,0 +1,77 @@
+//! The names that are declared already.
+ghost use Rattle.std.specs.Prelude.{◌≡◌, ◌↔◌, IsTrue, OnOk, OnErr, [], ◌∷◌, ◌++◌, length, string_bytes, ◌<◌, ◌^◌};
+ghost use Rattle.janus_meaning.specs.Formed.{kind_at};
+ghost use Rattle.janus_meaning.specs.Syntax.{Absent};
+ghost use Rattle.janus_check.specs.Names.{kind_found, shape_of};
+
+use indexmap::IndexMap;
+use std::alloc::{AllocError, Global};
+use std::marker::Model;
+
+/// What a name stands for.
+#[derive(Clone, Copy, Debug, PartialEq, Eq)]
+pub enum Kind {
+    Number,
+}
+
+/// The declared names with their kinds. Contracts see them as a list, in order of declaration.
+#[derive(Drop)]
+pub struct Env {
+    names: IndexMap<String, Kind>,
+}
+
+impl Model for Env {
+    ghost use Rattle.std.specs.Prelude.{List, ℕ, map, string_bytes};
+    ghost use Rattle.janus_meaning.specs.Formed.{Nobody};
+    ghost use Rattle.janus_check.specs.Names.{AreNew};
+    ghost use Rattle.janus_check.specs.declared.env.Kind.{Kind};
+
+    ghost Value = { List (List ℕ × Kind) };
+
+    ghost view = { λ e. map (λ entry. (string_bytes entry.0, entry.1)) e.names.entries };
+
+    ghost invariant = { λ e. AreNew Nobody (map (λ entry. (string_bytes entry.0, entry.1)) e.names.entries) };
+}
+
+impl Env {
+    /// No names.
+    pub fn new(alloc: Global) -> Env
+        ensures { result ≡ [] }
+    {
+        Env {
+            names: IndexMap::new(alloc),
+        }
+    }
+
+    /// Adds a name, which is not there yet; after an error for want of memory nothing is added.
+    pub fn declare(&mut self, name: String, kind: Kind) -> Result<(), AllocError>
+        requires { kind_at (string_bytes name) (shape_of self.old) ≡ Absent }
+        ensures ok { OnOk result (self.new ≡ self.old ++ (string_bytes name, kind) ∷ []) }
+        ensures err { OnErr result (self.new ≡ self.old) }
+    {
+        self.names.insert(name, kind)?;
+        Ok(())
+    }
+
+    /// The kind of a name, if it is there.
+    pub fn kind(&self, name: &str) -> Option<Kind>
+        ensures { kind_found result ≡ kind_at name.now (shape_of self.now) }
+    {
+        self.names.get(name).copied()
+    }
+
+    /// How many names there are.
+    pub fn len(&self) -> usize
+        ensures count { result ≡ length self.now }
+        ensures small { result < 2 ^ 63 }
+    {
+        self.names.len()
+    }
+
+    /// Whether there are none.
+    pub fn is_empty(&self) -> bool
+        ensures { IsTrue result ↔ (self.now ≡ []) }
+    {
+        self.names.is_empty()
+    }
+}

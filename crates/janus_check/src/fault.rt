@@ -1,0 +1,99 @@
+//! Why a cell is refused.
+ghost use Rattle.std.specs.Prelude.{◌≡◌, Some};
+ghost use Rattle.janus_check.specs.Fault.{number_of, span_of, start_of, comes_before, sooner_of};
+
+use janus_syntax::token::Span;
+use std::alloc::AllocError;
+
+/// The first fault of a cell, with the octets of its text where it stands.
+#[derive(Clone, Copy, Debug, PartialEq, Eq)]
+pub enum CheckFault {
+    /// A declared name that is declared already.
+    Declared(Span),
+    /// A name that is not in sight.
+    Unknown(Span),
+    /// The assigned name in its own right side.
+    SelfUse(Span),
+    /// The name past the limit of declared names.
+    TooMany(Span),
+    /// There was no memory for the check.
+    Memory,
+}
+
+impl CheckFault {
+    /// The number under which the fault is told.
+    pub fn number(self) -> u32
+        ensures { result ≡ number_of self }
+    {
+        match self {
+            CheckFault::Memory => 35,
+            CheckFault::Declared(_) => 40,
+            CheckFault::Unknown(_) => 41,
+            CheckFault::SelfUse(_) => 43,
+            CheckFault::TooMany(_) => 48,
+        }
+    }
+
+    /// The word under which the fault is told.
+    pub fn name(self) -> &'static str {
+        match self {
+            CheckFault::Memory => "Memory",
+            CheckFault::Declared(_) => "Declared",
+            CheckFault::Unknown(_) => "Unknown",
+            CheckFault::SelfUse(_) => "SelfUse",
+            CheckFault::TooMany(_) => "TooMany",
+        }
+    }
+
+    /// The octets where the fault stands; none for want of memory.
+    pub fn span(self) -> Option<Span>
+        ensures { result ≡ span_of self }
+    {
+        match self {
+            CheckFault::Memory => None,
+            CheckFault::Declared(at) => Some(at),
+            CheckFault::Unknown(at) => Some(at),
+            CheckFault::SelfUse(at) => Some(at),
+            CheckFault::TooMany(at) => Some(at),
+        }
+    }
+
+    /// Where the fault begins, in octets; 0 for want of memory.
+    fn start(self) -> usize
+        ensures { result ≡ start_of self }
+    {
+        match self.span() {
+            Some(at) => at.start,
+            None => 0,
+        }
+    }
+
+    /// Whether this fault is told rather than the other: it stands earlier, or at the same place under a smaller number.
+    pub fn is_before(self, other: CheckFault) -> bool
+        ensures { result ≡ comes_before self other }
+    {
+        self.start() < other.start()
+            || (self.start() == other.start() && self.number() < other.number())
+    }
+}
+
+/// The fault that is told, of the first one so far and one more.
+pub(crate) fn sooner(first: Option<CheckFault>, fault: CheckFault) -> Option<CheckFault>
+    ensures { result ≡ Some (sooner_of first fault) }
+{
+    match first {
+        Some(found) if !fault.is_before(found) => Some(found),
+        _ => Some(fault),
+    }
+}
+
+impl From<AllocError> for CheckFault {
+    ghost use Rattle.std.specs.Prelude.{◌≡◌};
+    ghost use Rattle.janus_check.specs.declared.fault.CheckFault.TheVariants.{Memory};
+
+    ghost from_gives = { λ _ e. e ≡ Memory };
+
+    fn from(_: AllocError) -> Self {
+        CheckFault::Memory
+    }
+}
