@@ -1,0 +1,25 @@
+-- The inverse of a cell as the parser gives it: its statements inverted, its declarations left.
+use Rattle.std.specs.Prelude.{◌≡◌, List}
+use Rattle.janus_syntax.specs.declared.tree.Update.{Update}
+use Rattle.janus_syntax.specs.declared.tree.Update.TheVariants.{Add, Subtract, Xor}
+use Rattle.janus_syntax.specs.Tree.{Stm, Assign, Block, Empty, More, Cell, cell_of}
+
+abbrev pub opposite_of : Update → Update
+opposite_of Add = Subtract
+opposite_of Subtract = Add
+opposite_of Xor = Xor
+
+-- the inverse of a statement; its names and numbers keep their places
+abbrev pub inverse_stm : Stm → Stm
+inverse_stm (Assign x u e) = Assign x (opposite_of u) e
+
+-- the inverse of a block, and behind it `done`
+abbrev pub turned : Block → Block → Block
+turned Empty done = done
+turned (More s b) done = turned b (More (inverse_stm s) done)
+
+abbrev pub inverse_cell : Cell → Cell
+inverse_cell (cell_of declarations block) = cell_of declarations (turned block Empty)
+
+abbrev pub InverseCellTwice : Type 0
+InverseCellTwice = (c : Cell) → inverse_cell (inverse_cell c) ≡ c

@@ -1,0 +1,4 @@
+pub mod Flat
+pub mod Inverted
+pub mod CodeBlock
+pub mod Cells

@@ -1,0 +1,27 @@
+use Rattle.std.proofs.Common.{◌≡◌, ℕ, ℤ, List, ◌<◌, ◌+◌, length, ap, ◌∙◌, sym, arith, refl, map, to_z, of_z, w32}
+use Rattle.std.specs.Prelude.{slice_get, Some}
+use Rattle.std.proofs.lemmas.Int.{to_z-of_z}
+use Rattle.std.proofs.lemmas.Option.{slice_get_read}
+use Rattle.janus_meaning.specs.Store.{Bare}
+use Rattle.janus_meaning.specs.World.{size_of}
+use Rattle.janus_machine.specs.Stores.{listed}
+use Rattle.janus_machine.proofs.Variables.{size-declared, listed-declared, pair_of}
+use Rattle.janus_machine.proofs.Indexes.{slice_get-map}
+use Rattle.janus_machine.proofs.store.Store.entry.Goals as goal
+
+pub index-variable-requires : goal.index-variable-requires
+index-variable-requires c =
+    let vs = c.self.inside.variables in
+    omega (arith, ap size_of c.self.view_is, size-declared Bare vs.items, vs.ok.0, c.requires)
+
+pub returns : goal.returns
+returns c =
+    let vs = c.self.inside.variables.items in
+    let i = c.args.i in
+    let v = c.index-variable.result.now in
+    let lt : i < length vs = omega (arith, ap size_of c.self.view_is, size-declared Bare vs, c.requires) in
+    let at : slice_get vs i ≡ Some v = slice_get_read vs (length vs) i v refl lt c.index-variable.ensures in
+    let n : ℤ = v.value in
+    let z : to_z w32 (of_z w32 n) ≡ n = grind (arith, to_z-of_z) in
+    ap (λ s. slice_get (listed s) i) (sym c.self.view_is) ∙ ap (λ l. slice_get l i) (listed-declared Bare vs) ∙ slice_get-map pair_of vs i v at
+    ∙ ap (λ t. Some (t, n)) (sym c.as_str.ensures.value) ∙ ap (λ n. Some (c.as_str.result.now, n)) (sym z)

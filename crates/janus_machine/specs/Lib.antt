@@ -1,0 +1,8 @@
+pub mod Stores
+pub mod StoreCode
+pub mod StoreView
+pub mod Faults
+pub mod Statements
+pub mod Places
+pub mod Mirrored
+pub mod Steps

@@ -1,0 +1,137 @@
+//! A place in code.
+
+ghost use Rattle.std.specs.Prelude.{◌≡◌, ℕ, suc, ◌+◌, ◌-◌, ◌<◌, ◌≤◌, List, [], true};
+ghost use Rattle.janus_meaning.specs.Syntax as tree;
+ghost use Rattle.janus_meaning.specs.Store as spec;
+ghost use Rattle.janus_meaning.specs.Machine.{mirror as mirror_of, BeforeBlock as Before};
+ghost use Rattle.janus_machine.specs.Places.{place_of, block_of, has_ended, IsStanding};
+ghost use Rattle.janus_machine.specs.Mirrored.{mirrored_phase};
+ghost use Rattle.janus_machine.specs.Steps.{Leads};
+ghost use Rattle.janus_machine.specs.declared.book.Direction.TheVariants.{Forward, Inverse};
+ghost use Rattle.janus_machine.specs.declared.cursor.Phase.TheVariants.{BeforeBlock, AfterOne};
+
+use crate::book::{Book, Direction};
+use janus_invert::Block;
+
+/// Before or after the block, or a statement of it.
+#[derive(Clone, Copy, PartialEq, Eq, Debug)]
+pub enum Phase {
+    BeforeBlock,
+    AfterBlock,
+    BeforeOne,
+    AfterOne,
+}
+
+impl Phase {
+    /// Before for after.
+    fn mirrored(self) -> Phase
+        ensures { result ≡ mirrored_phase self }
+    {
+        match self {
+            Phase::BeforeBlock => Phase::AfterBlock,
+            Phase::AfterBlock => Phase::BeforeBlock,
+            Phase::BeforeOne => Phase::AfterOne,
+            Phase::AfterOne => Phase::BeforeOne,
+        }
+    }
+}
+
+/// The place as far from the block's end as this one is from its start. Outside the block it is this one.
+fn from_other_end(block: Block, at: usize) -> usize
+    ensures { block.start ≤ at → at < block.end → result ≡ block.start + (block.end - suc at) }
+{
+    if block.start <= at && at < block.end {
+        block.start + (block.end - 1 - at)
+    } else {
+        at
+    }
+}
+
+/// A place in the code of a book.
+#[derive(Drop)]
+pub struct Cursor {
+    pub direction: Direction,
+    pub phase: Phase,
+    /// The statement's place among the members of the code, where the phase is of one.
+    pub at: usize,
+}
+
+impl Cursor {
+    /// A cursor at no place of a book yet. It takes no memory.
+    pub fn new() -> Cursor
+        ensures { has_ended result ≡ true }
+    {
+        Cursor { direction: Direction::Forward, phase: Phase::AfterBlock, at: 0 }
+    }
+
+    /// Goes before the block of a book's code.
+    pub fn enter(&mut self, book: &Book)
+        ensures stands { IsStanding book.now self.new }
+        ensures place { place_of book.now self.new ≡ Before (block_of book.now Forward) [] }
+    {
+        self.direction = Direction::Forward;
+        self.phase = Phase::BeforeBlock;
+    }
+
+    /// Goes before the block of a book's inverse code.
+    pub fn enter_inverse(&mut self, book: &Book)
+        ensures stands { IsStanding book.now self.new }
+        ensures place { place_of book.now self.new ≡ Before (block_of book.now Inverse) [] }
+    {
+        self.direction = Direction::Inverse;
+        self.phase = Phase::BeforeBlock;
+    }
+
+    /// Whether the whole block has been left.
+    pub fn is_ended(&self) -> bool
+        ensures { result ≡ has_ended self.now }
+    {
+        match self.phase {
+            Phase::AfterBlock => true,
+            _ => false,
+        }
+    }
+
+    /// Turns round where it stands: the steps from here go back by the way that the cursor came.
+    pub fn mirror(&mut self, book: &Book)
+        requires { IsStanding book.now self.old }
+        ensures stands { IsStanding book.now self.new }
+        ensures place { place_of book.now self.new ≡ mirror_of (place_of book.now self.old) }
+    {
+        let body = book.code(self.direction).body;
+        self.direction = self.direction.opposite();
+        self.phase = self.phase.mirrored();
+        self.at = from_other_end(body, self.at);
+    }
+
+    /// The step at the entry of the block.
+    pub fn enter_block(&mut self, book: &Book)
+        requires { self.old.phase ≡ BeforeBlock }
+        ensures stands { IsStanding book.now self.new }
+        ensures leads { (ps : List tree.Proc) (k : ℕ) (s : spec.Store) → Leads ps k book.now self.old s self.new s }
+    {
+        let body = book.code(self.direction).body;
+        if body.start == body.end {
+            self.phase = Phase::AfterBlock;
+        } else {
+            self.at = body.start;
+            self.phase = Phase::BeforeOne;
+        }
+    }
+
+    /// The step after a statement.
+    pub fn go_on(&mut self, book: &Book)
+        requires here { self.old.phase ≡ AfterOne }
+        requires standing { IsStanding book.now self.old }
+        ensures stands { IsStanding book.now self.new }
+        ensures leads { (ps : List tree.Proc) (k : ℕ) (s : spec.Store) → Leads ps k book.now self.old s self.new s }
+    {
+        let next = self.at + 1;
+        if next == book.code(self.direction).body.end {
+            self.phase = Phase::AfterBlock;
+        } else {
+            self.at = next;
+            self.phase = Phase::BeforeOne;
+        }
+    }
+}
