@@ -5,3 +5,4 @@ pub mod Entries
 pub mod Mirrors
 pub mod Sizes
 pub mod Assigns
+pub mod Courses

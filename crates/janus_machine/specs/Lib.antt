@@ -6,3 +6,4 @@ pub mod Statements
 pub mod Places
 pub mod Mirrored
 pub mod Steps
+pub mod Law

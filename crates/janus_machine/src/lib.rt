@@ -10,6 +10,7 @@ mod book;
 mod cursor;
 mod evaluate;
 mod fault;
+pub mod laws;
 mod machine;
 mod statement;
 mod store;
