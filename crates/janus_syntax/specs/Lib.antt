@@ -1,2 +1,11 @@
+pub mod Spelling
 pub mod Tree
 pub mod View
+pub mod Fault
+pub mod Tokens
+pub mod Lexical
+pub mod Scan
+pub mod Grammar
+pub mod Machine
+pub mod Reading
+pub mod Text

@@ -1,7 +1,33 @@
-//! The syntax of Janus cells: from a text to its tree.
+//! The syntax of Janus cells: from a text to its tree, or to the place where it is refused.
 //!
-//! Janus is the reversible language of Yokoyama and Glück (2007); cells are the form in which a notebook gives it.
+//! Janus is the reversible language of Yokoyama and Glück (A reversible programming language and its invertible
+//! self-interpreter, 2007) and of Yokoyama, Axelsen and Glück (Principles of a reversible programming language, 2008).
+//! A cell of a notebook is its unit of text: declarations and then statements.
+//!
+//! What the layer above may rely on:
+//! - `tokens`: the tokens are those of the text, the longest item that fits at each place, and there are no others; else the
+//!   first character that begins no token, or the first number past 2147483647, whichever stands first.
+//! - `parse_cell`: the answer is the one tree that the grammar gives the text; else the refusal that the grammar has for it,
+//!   with its place in octets.
+//! - `Exp::copy`, `Stm::copy`, `Name::copy`: the same tree at the same places.
+//!
+//! The definitions are in specs/, to be read in this order: `Spelling`, `Lexical` (tokens of a text), `Tree`, `Grammar`
+//! (tokens of a tree, and where no cell goes on), `Text` (both together), `View` (the trees as trees of the meaning).
+//! `Machine`, `Reading` and `Scan` serve the proofs alone.
+//!
+//! A cell here has `int` declarations and assignments, and expressions have numbers, names, `+`, `-` and `^`.
 #![tactic(auto)]
 
+mod cell;
+mod expression;
+pub mod fault;
+mod lexer;
+mod parser;
+mod problem;
+mod statement;
 pub mod token;
 pub mod tree;
+
+pub use fault::SyntaxFault;
+pub use lexer::tokens;
+pub use parser::parse_cell;

@@ -1,0 +1,12 @@
+pub mod Agrees
+pub mod Sound
+pub mod Viable
+pub mod Passing
+pub mod FirstToken
+pub mod Steps
+pub mod Scanning
+pub mod Fronts
+pub mod OneLexing
+pub mod Lexing
+pub mod Places
+pub mod Theorems

@@ -1,0 +1,276 @@
+-- Words, signs and numbers as the lexer finds them.
+use Rattle.std.proofs.Common.{◌≡◌, ℕ, ◌+◌, ◌*◌, ◌-◌, ◌<◌, ◌≤◌, ◌⊎◌, inl, inr, List, [], ◌∷◌, ◌++◌, length, get_or, drop, drop-cons, suc, Bool, true, false, refl, ap, sym, subst, ◌∙◌, arith}
+use Rattle.std.specs.Prelude.{nat_lt, nat_eq}
+use Rattle.std.proofs.lemmas.Bool.{ltb-true, eqb-true, agree_below_at}
+use Rattle.std.proofs.str.Laws.{order}
+use Rattle.std.specs.List.{starts_with}
+use Rattle.std.proofs.lemmas.Slice.Eq.{starts_is}
+use Rattle.std.proofs.lemmas.Bool.Decides.{Decides-eqb}
+use Rattle.std.proofs.lemmas.List.{get_or_default}
+use Rattle.janus_syntax.specs.declared.token.Sign.{Sign}
+use Rattle.janus_syntax.specs.declared.token.Sign.TheVariants as sign
+use Rattle.janus_syntax.specs.declared.token.Word.{Word}
+use Rattle.janus_syntax.specs.declared.token.Word.TheVariants as word
+use Rattle.janus_syntax.specs.Spelling.{sign_text, word_text}
+use Rattle.janus_syntax.specs.Lexical.{decimal, decimal_behind, NotReserved}
+
+pub decimal_grows : (n : ℕ) (cs : List ℕ) → n ≤ decimal_behind n cs
+decimal_grows n [] = omega arith
+decimal_grows n (c ∷ cs) = omega (arith, decimal_grows (n * 10 + (c - 48)) cs)
+
+abbrev words : List Word
+words = word.Call ∷ word.Delocal ∷ word.Do ∷ word.Else ∷ word.Empty ∷ word.Fi ∷ word.From ∷ word.If ∷ word.Int ∷ word.Local ∷ word.Loop ∷ word.Main ∷ word.Nil ∷ word.Pop ∷ word.Procedure ∷ word.Push ∷ word.Skip ∷ word.Stack ∷ word.Then ∷ word.Top ∷ word.Uncall ∷ word.Until ∷ []
+
+abbrev word_index : Word → ℕ
+word_index word.Call = 0
+word_index word.Delocal = 1
+word_index word.Do = 2
+word_index word.Else = 3
+word_index word.Empty = 4
+word_index word.Fi = 5
+word_index word.From = 6
+word_index word.If = 7
+word_index word.Int = 8
+word_index word.Local = 9
+word_index word.Loop = 10
+word_index word.Main = 11
+word_index word.Nil = 12
+word_index word.Pop = 13
+word_index word.Procedure = 14
+word_index word.Push = 15
+word_index word.Skip = 16
+word_index word.Stack = 17
+word_index word.Then = 18
+word_index word.Top = 19
+word_index word.Uncall = 20
+word_index word.Until = 21
+
+word_listed : (w : Word) → get_or words (word_index w) w ≡ w
+word_listed word.Call = refl
+word_listed word.Delocal = refl
+word_listed word.Do = refl
+word_listed word.Else = refl
+word_listed word.Empty = refl
+word_listed word.Fi = refl
+word_listed word.From = refl
+word_listed word.If = refl
+word_listed word.Int = refl
+word_listed word.Local = refl
+word_listed word.Loop = refl
+word_listed word.Main = refl
+word_listed word.Nil = refl
+word_listed word.Pop = refl
+word_listed word.Procedure = refl
+word_listed word.Push = refl
+word_listed word.Skip = refl
+word_listed word.Stack = refl
+word_listed word.Then = refl
+word_listed word.Top = refl
+word_listed word.Uncall = refl
+word_listed word.Until = refl
+
+word_in_range : (w : Word) → nat_lt (word_index w) 22 ≡ true
+word_in_range word.Call = refl
+word_in_range word.Delocal = refl
+word_in_range word.Do = refl
+word_in_range word.Else = refl
+word_in_range word.Empty = refl
+word_in_range word.Fi = refl
+word_in_range word.From = refl
+word_in_range word.If = refl
+word_in_range word.Int = refl
+word_in_range word.Local = refl
+word_in_range word.Loop = refl
+word_in_range word.Main = refl
+word_in_range word.Nil = refl
+word_in_range word.Pop = refl
+word_in_range word.Procedure = refl
+word_in_range word.Push = refl
+word_in_range word.Skip = refl
+word_in_range word.Stack = refl
+word_in_range word.Then = refl
+word_in_range word.Top = refl
+word_in_range word.Uncall = refl
+word_in_range word.Until = refl
+
+-- a text that is none of the listed words is not reserved
+pub not_reserved : (text : List ℕ) (n : ℕ) → 22 ≤ n → ((k : ℕ) (w : Word) → k < n → text ≡ word_text (get_or words k w) → ⊥) → NotReserved text
+not_reserved text n h none w e =
+    let b = ltb-true (word_index w) 22 (word_in_range w) in
+    none (word_index w) w (omega (arith, b, h)) (e ∙ ap word_text (sym (word_listed w)))
+
+abbrev signs : List Sign
+signs = sign.PlusEquals ∷ sign.MinusEquals ∷ sign.XorEquals ∷ sign.And ∷ sign.Or ∷ sign.Differs ∷ sign.AtMost ∷ sign.AtLeast ∷ sign.Plus ∷ sign.Minus ∷ sign.Times ∷ sign.Divide ∷ sign.Remainder ∷ sign.Xor ∷ sign.BitAnd ∷ sign.BitOr ∷ sign.Equals ∷ sign.Less ∷ sign.Greater ∷ sign.Open ∷ sign.Close ∷ sign.OpenIndex ∷ sign.CloseIndex ∷ sign.Comma ∷ []
+
+abbrev sign_index : Sign → ℕ
+sign_index sign.PlusEquals = 0
+sign_index sign.MinusEquals = 1
+sign_index sign.XorEquals = 2
+sign_index sign.And = 3
+sign_index sign.Or = 4
+sign_index sign.Differs = 5
+sign_index sign.AtMost = 6
+sign_index sign.AtLeast = 7
+sign_index sign.Plus = 8
+sign_index sign.Minus = 9
+sign_index sign.Times = 10
+sign_index sign.Divide = 11
+sign_index sign.Remainder = 12
+sign_index sign.Xor = 13
+sign_index sign.BitAnd = 14
+sign_index sign.BitOr = 15
+sign_index sign.Equals = 16
+sign_index sign.Less = 17
+sign_index sign.Greater = 18
+sign_index sign.Open = 19
+sign_index sign.Close = 20
+sign_index sign.OpenIndex = 21
+sign_index sign.CloseIndex = 22
+sign_index sign.Comma = 23
+
+sign_listed : (s : Sign) → get_or signs (sign_index s) s ≡ s
+sign_listed sign.PlusEquals = refl
+sign_listed sign.MinusEquals = refl
+sign_listed sign.XorEquals = refl
+sign_listed sign.And = refl
+sign_listed sign.Or = refl
+sign_listed sign.Differs = refl
+sign_listed sign.AtMost = refl
+sign_listed sign.AtLeast = refl
+sign_listed sign.Plus = refl
+sign_listed sign.Minus = refl
+sign_listed sign.Times = refl
+sign_listed sign.Divide = refl
+sign_listed sign.Remainder = refl
+sign_listed sign.Xor = refl
+sign_listed sign.BitAnd = refl
+sign_listed sign.BitOr = refl
+sign_listed sign.Equals = refl
+sign_listed sign.Less = refl
+sign_listed sign.Greater = refl
+sign_listed sign.Open = refl
+sign_listed sign.Close = refl
+sign_listed sign.OpenIndex = refl
+sign_listed sign.CloseIndex = refl
+sign_listed sign.Comma = refl
+
+sign_in_range : (s : Sign) → nat_lt (sign_index s) 24 ≡ true
+sign_in_range sign.PlusEquals = refl
+sign_in_range sign.MinusEquals = refl
+sign_in_range sign.XorEquals = refl
+sign_in_range sign.And = refl
+sign_in_range sign.Or = refl
+sign_in_range sign.Differs = refl
+sign_in_range sign.AtMost = refl
+sign_in_range sign.AtLeast = refl
+sign_in_range sign.Plus = refl
+sign_in_range sign.Minus = refl
+sign_in_range sign.Times = refl
+sign_in_range sign.Divide = refl
+sign_in_range sign.Remainder = refl
+sign_in_range sign.Xor = refl
+sign_in_range sign.BitAnd = refl
+sign_in_range sign.BitOr = refl
+sign_in_range sign.Equals = refl
+sign_in_range sign.Less = refl
+sign_in_range sign.Greater = refl
+sign_in_range sign.Open = refl
+sign_in_range sign.Close = refl
+sign_in_range sign.OpenIndex = refl
+sign_in_range sign.CloseIndex = refl
+sign_in_range sign.Comma = refl
+
+-- the signs of two octets come first
+two_first : (s : Sign) → (nat_lt (sign_index s) 8 ≡ true) ⊎ (length (sign_text s) ≡ 1)
+two_first sign.PlusEquals = inl refl
+two_first sign.MinusEquals = inl refl
+two_first sign.XorEquals = inl refl
+two_first sign.And = inl refl
+two_first sign.Or = inl refl
+two_first sign.Differs = inl refl
+two_first sign.AtMost = inl refl
+two_first sign.AtLeast = inl refl
+two_first sign.Plus = inr refl
+two_first sign.Minus = inr refl
+two_first sign.Times = inr refl
+two_first sign.Divide = inr refl
+two_first sign.Remainder = inr refl
+two_first sign.Xor = inr refl
+two_first sign.BitAnd = inr refl
+two_first sign.BitOr = inr refl
+two_first sign.Equals = inr refl
+two_first sign.Less = inr refl
+two_first sign.Greater = inr refl
+two_first sign.Open = inr refl
+two_first sign.Close = inr refl
+two_first sign.OpenIndex = inr refl
+two_first sign.CloseIndex = inr refl
+two_first sign.Comma = inr refl
+
+pub sign_length : (s : Sign) → (length (sign_text s) ≡ 1) ⊎ (length (sign_text s) ≡ 2)
+sign_length sign.PlusEquals = inr refl
+sign_length sign.MinusEquals = inr refl
+sign_length sign.XorEquals = inr refl
+sign_length sign.And = inr refl
+sign_length sign.Or = inr refl
+sign_length sign.Differs = inr refl
+sign_length sign.AtMost = inr refl
+sign_length sign.AtLeast = inr refl
+sign_length sign.Plus = inl refl
+sign_length sign.Minus = inl refl
+sign_length sign.Times = inl refl
+sign_length sign.Divide = inl refl
+sign_length sign.Remainder = inl refl
+sign_length sign.Xor = inl refl
+sign_length sign.BitAnd = inl refl
+sign_length sign.BitOr = inl refl
+sign_length sign.Equals = inl refl
+sign_length sign.Less = inl refl
+sign_length sign.Greater = inl refl
+sign_length sign.Open = inl refl
+sign_length sign.Close = inl refl
+sign_length sign.OpenIndex = inl refl
+sign_length sign.CloseIndex = inl refl
+sign_length sign.Comma = inl refl
+
+sign_nonempty : (s : Sign) → 1 ≤ length (sign_text s)
+sign_nonempty s = elim (sign_length s) [ inl e ↦ omega (arith, e) | inr e ↦ omega (arith, e) ]
+
+-- each sign among the first eight has two octets
+long_before : (k : ℕ) (d : Sign) → k < 8 → length (sign_text (get_or signs k d)) ≡ 2
+long_before k d h =
+    let same : get_or signs k d ≡ get_or signs k sign.Plus = get_or_default signs k d sign.Plus (omega (arith, h)) in
+    ap (λ s. length (sign_text s)) same
+    ∙ eqb-true (length (sign_text (get_or signs k sign.Plus))) 2 (agree_below_at (λ i. nat_eq (length (sign_text (get_or signs i sign.Plus))) 2) (λ i. true) 8 k refl h)
+
+-- the first sign in the list with which the text begins is the longest
+pub first_is_longest : (text : List ℕ) (n k : ℕ) (d : Sign) → n ≡ k → ((j : ℕ) (s : Sign) (rest : List ℕ) → j < k → text ≡ sign_text (get_or signs j s) ++ rest → ⊥) →
+    (t : Sign) (rest : List ℕ) → text ≡ sign_text t ++ rest → length (sign_text t) ≤ length (sign_text (get_or signs n d))
+first_is_longest text n k d same none t rest e =
+    let here = sign_nonempty (get_or signs n d) in
+    elim (two_first t) [
+      | inr short ↦ omega (arith, here, short)
+      | inl long ↦
+          let i = ltb-true (sign_index t) 8 long in
+          elim (order (sign_index t) k) [
+            | inl before ↦ absurd (none (sign_index t) t rest before (e ∙ ap (λ s. sign_text s ++ rest) (sym (sign_listed t))))
+            | inr behind ↦ elim (sign_length t) [ inl a ↦ omega (arith, here, a) | inr a ↦ omega (arith, a, long_before n d (omega (arith, behind, i, same))) ]
+          ]
+    ]
+
+-- a text that begins with none of the listed signs begins with no sign
+pub no_sign : (text : List ℕ) (n : ℕ) → 24 ≤ n → ((j : ℕ) (s : Sign) (rest : List ℕ) → j < n → text ≡ sign_text (get_or signs j s) ++ rest → ⊥) → (s : Sign) (rest : List ℕ) → text ≡ sign_text s ++ rest → ⊥
+no_sign text n h none s rest e =
+    let b = ltb-true (sign_index s) 24 (sign_in_range s) in
+    none (sign_index s) s rest (omega (arith, b, h)) (e ∙ ap (λ t. sign_text t ++ rest) (sym (sign_listed s)))
+
+-- the digits that are left only make a number larger
+pub past_largest : (digits : List ℕ) (n i largest : ℕ) → i < length digits → decimal_behind n (drop i digits) ≡ decimal digits → largest < n * 10 + (get_or digits i 0 - 48) → largest < decimal digits
+past_largest digits n i largest h e over =
+    let next = ap (decimal_behind n) (drop-cons digits i 0 h) in
+    omega (arith, decimal_grows (n * 10 + (get_or digits i 0 - 48)) (drop (suc i) digits), e, next)
+
+pub begins_with : (text needle word : List ℕ) (r : Bool) → needle ≡ word → r ≡ starts_with nat_eq text needle → r ≡ true → (rest : List ℕ) × (text ≡ word ++ rest)
+begins_with text needle word r e is holds =
+    let s = starts_is Decides-eqb text needle r is in
+    (drop (length needle) text, s.0 holds ∙ ap (λ w. w ++ drop (length needle) text) e)

@@ -1,0 +1,25 @@
+use Rattle.std.proofs.Common.{subst, sym, ap, ◌∙◌, refl}
+use Rattle.janus_syntax.specs.declared.token.Span.{Span}
+use Rattle.janus_syntax.specs.Tokens.{Name}
+use Rattle.janus_syntax.specs.Lexical.{A_word, A_name, A_number, A_sign, decimal}
+use Rattle.janus_syntax.specs.Scan.{IsFrontText}
+use Rattle.janus_syntax.proofs.lexer.token_kind.Goals as goal
+
+pub returns-in-Some : goal.returns-in-Some
+returns-in-Some c = (A_word c.in-Some.word, c.in-Some.ensures, refl)
+
+pub returns-in_ok-from_str-in-None : goal.returns-in_ok-from_str-in-None
+returns-in_ok-from_str-in-None c =
+    let is = subst (λ f. IsFrontText f c.args.text.now) c.in-Letters.is c.requires in
+    (A_name c.args.text.now, (refl, is, c.in-None.ensures), ap (λ x. Name x c.args.span) c.in_ok-from_str-in-None.ensures.ok)
+
+pub returns-in-Some-number : goal.returns-in-Some-number
+returns-in-Some-number c =
+    let bytes = c.as_bytes.ensures.value in
+    let is = subst (λ f. IsFrontText f c.args.text.now) c.in-Digits.is c.requires in
+    (A_number c.in-Some-number.number, (c.in-Some-number.ensures.0 ∙ ap decimal bytes, is), (c.in-Some-number.ensures.1, refl))
+
+pub returns-in-Sign : goal.returns-in-Sign
+returns-in-Sign c =
+    let is = subst (λ f. IsFrontText f c.args.text.now) c.in-Sign.is c.requires in
+    (A_sign c.in-Sign.sign, is, refl)

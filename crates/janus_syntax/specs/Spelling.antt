@@ -1,0 +1,56 @@
+-- How signs and reserved words are written.
+use Rattle.std.specs.Prelude.{ℕ, List, codes}
+use Rattle.janus_syntax.specs.declared.token.Sign.{Sign}
+use Rattle.janus_syntax.specs.declared.token.Sign.TheVariants as sign
+use Rattle.janus_syntax.specs.declared.token.Word.{Word}
+use Rattle.janus_syntax.specs.declared.token.Word.TheVariants as word
+
+abbrev pub sign_text : Sign → List ℕ
+sign_text sign.PlusEquals = codes "+="
+sign_text sign.MinusEquals = codes "-="
+sign_text sign.XorEquals = codes "^="
+sign_text sign.Plus = codes "+"
+sign_text sign.Minus = codes "-"
+sign_text sign.Times = codes "*"
+sign_text sign.Divide = codes "/"
+sign_text sign.Remainder = codes "%"
+sign_text sign.Xor = codes "^"
+sign_text sign.BitAnd = codes "&"
+sign_text sign.And = codes "&&"
+sign_text sign.BitOr = codes "|"
+sign_text sign.Or = codes "||"
+sign_text sign.Equals = codes "="
+sign_text sign.Differs = codes "!="
+sign_text sign.Less = codes "<"
+sign_text sign.Greater = codes ">"
+sign_text sign.AtMost = codes "<="
+sign_text sign.AtLeast = codes ">="
+sign_text sign.Open = codes "("
+sign_text sign.Close = codes ")"
+sign_text sign.OpenIndex = codes "["
+sign_text sign.CloseIndex = codes "]"
+sign_text sign.Comma = codes ","
+
+abbrev pub word_text : Word → List ℕ
+word_text word.Call = codes "call"
+word_text word.Delocal = codes "delocal"
+word_text word.Do = codes "do"
+word_text word.Else = codes "else"
+word_text word.Empty = codes "empty"
+word_text word.Fi = codes "fi"
+word_text word.From = codes "from"
+word_text word.If = codes "if"
+word_text word.Int = codes "int"
+word_text word.Local = codes "local"
+word_text word.Loop = codes "loop"
+word_text word.Main = codes "main"
+word_text word.Nil = codes "nil"
+word_text word.Pop = codes "pop"
+word_text word.Procedure = codes "procedure"
+word_text word.Push = codes "push"
+word_text word.Skip = codes "skip"
+word_text word.Stack = codes "stack"
+word_text word.Then = codes "then"
+word_text word.Top = codes "top"
+word_text word.Uncall = codes "uncall"
+word_text word.Until = codes "until"

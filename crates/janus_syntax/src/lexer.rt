@@ -1,0 +1,258 @@
+//! From a text to its tokens.
+
+ghost use Rattle.std.specs.Prelude.{◌≡◌, ◌<◌, ◌≤◌, ℕ, List, length, IfSome, IfNone, MatchOption, take, drop};
+ghost use Rattle.std.specs.List.{prefix_len};
+ghost use Rattle.std.specs.Str.{IsCharBoundary};
+ghost use Rattle.janus_syntax.specs.Spelling.{word_text, sign_text};
+ghost use Rattle.janus_syntax.specs.Lexical.{class_of, in_line, decimal, NotReserved, NoItem, IsNumberText, AreTokens, largest_number};
+ghost use Rattle.janus_syntax.specs.Scan.{goes_on, IsLongestSign, IsFrontText, IsFrontOf, IsFirstChar, IsKindOf, IsLexed, IsOnly};
+ghost use Rattle.janus_syntax.specs.Tokens.{Token as AToken};
+
+use crate::fault::SyntaxFault;
+use crate::token::{Sign, Span, Token, TokenKind, Word};
+use std::alloc::Global;
+
+/// The kinds of octets.
+#[derive(Clone, Copy, PartialEq, Eq, Debug)]
+enum Class {
+    Letter,
+    Digit,
+    Underscore,
+    Space,
+    Other,
+}
+
+/// What stands at the front of a text.
+#[derive(Clone, Copy)]
+enum Front {
+    Gap,
+    Letters,
+    Digits,
+    Sign(Sign),
+}
+
+/// All reserved words.
+const WORDS: [Word; 22] = [
+    Word::Call,
+    Word::Delocal,
+    Word::Do,
+    Word::Else,
+    Word::Empty,
+    Word::Fi,
+    Word::From,
+    Word::If,
+    Word::Int,
+    Word::Local,
+    Word::Loop,
+    Word::Main,
+    Word::Nil,
+    Word::Pop,
+    Word::Procedure,
+    Word::Push,
+    Word::Skip,
+    Word::Stack,
+    Word::Then,
+    Word::Top,
+    Word::Uncall,
+    Word::Until,
+];
+
+/// All signs, those of two octets first.
+const SIGNS: [Sign; 24] = [
+    Sign::PlusEquals,
+    Sign::MinusEquals,
+    Sign::XorEquals,
+    Sign::And,
+    Sign::Or,
+    Sign::Differs,
+    Sign::AtMost,
+    Sign::AtLeast,
+    Sign::Plus,
+    Sign::Minus,
+    Sign::Times,
+    Sign::Divide,
+    Sign::Remainder,
+    Sign::Xor,
+    Sign::BitAnd,
+    Sign::BitOr,
+    Sign::Equals,
+    Sign::Less,
+    Sign::Greater,
+    Sign::Open,
+    Sign::Close,
+    Sign::OpenIndex,
+    Sign::CloseIndex,
+    Sign::Comma,
+];
+
+/// The largest number of a text.
+const LARGEST_NUMBER: u64 = 2147483647;
+
+fn class_of(octet: u8) -> Class
+    ensures { result ≡ class_of octet }
+{
+    match octet {
+        b'A'..=b'Z' | b'a'..=b'z' => Class::Letter,
+        b'0'..=b'9' => Class::Digit,
+        b'_' => Class::Underscore,
+        b' ' | b'\t' | b'\r' | b'\n' => Class::Space,
+        _ => Class::Other,
+    }
+}
+
+/// Whether an octet of this class belongs to a run that begins with one of the first class.
+fn goes_on(first: Class, class: Class) -> bool
+    ensures { result ≡ goes_on first class }
+{
+    match class {
+        Class::Digit => true,
+        Class::Letter | Class::Underscore => first == Class::Letter,
+        Class::Space | Class::Other => false,
+    }
+}
+
+/// How many octets from the front on belong to the run.
+fn run_len(octets: &[u8], first: Class) -> usize
+    ensures { result ≡ prefix_len (λ c. goes_on first (class_of c)) octets.now }
+{
+    let mut n = 0;
+    while n < octets.len() && goes_on(first, class_of(octets[n])) {
+        n += 1;
+    }
+    n
+}
+
+/// How many octets stand before the end of the line.
+fn line_len(octets: &[u8]) -> usize
+    ensures { result ≡ prefix_len in_line octets.now }
+{
+    let mut n = 0;
+    while n < octets.len() && octets[n] != b'\n' {
+        n += 1;
+    }
+    n
+}
+
+/// The reserved word that the text is.
+fn word_at(text: &str) -> Option<Word>
+    ensures { MatchOption result (NotReserved text.now) (λ w. text.now ≡ word_text w) }
+{
+    for word in WORDS {
+        if word.text() == text {
+            return Some(word);
+        }
+    }
+    None
+}
+
+/// The longest sign that the text begins with.
+fn sign_at(octets: &[u8]) -> Option<Sign>
+    ensures { IsLongestSign octets.now result }
+{
+    for sign in SIGNS {
+        if octets.starts_with(sign.text().as_bytes()) {
+            return Some(sign);
+        }
+    }
+    None
+}
+
+/// The number that these digits stand for, if it isn't past the largest.
+fn number(digits: &[u8]) -> Option<u32>
+    requires { IsNumberText digits.now }
+    ensures { MatchOption result (largest_number < decimal digits.now) (λ n. (n ≡ decimal digits.now) × (n ≤ largest_number)) }
+{
+    let mut value = 0;
+    for digit in digits {
+        value = value * 10 + (*digit - b'0') as u64;
+        if value > LARGEST_NUMBER {
+            return None;
+        }
+    }
+    Some(value as u32)
+}
+
+/// What stands at the front of a text, and how many octets it has: the longest item that fits. Nothing, if the first
+/// character begins no item.
+fn front_of(text: &str) -> Option<(Front, usize)>
+    requires { 0 < length text.now }
+    ensures found { IfSome result (λ x. IsFrontOf x.0 x.1 text.now) }
+    ensures cut { IfSome result (λ x. IsCharBoundary text.now x.1) }
+    ensures none { IfNone result (NoItem text.now) }
+{
+    let octets = text.as_bytes();
+    match class_of(octets[0]) {
+        Class::Letter => Some((Front::Letters, run_len(octets, Class::Letter))),
+        Class::Digit => Some((Front::Digits, run_len(octets, Class::Digit))),
+        Class::Space => Some((Front::Gap, 1)),
+        Class::Underscore => None,
+        Class::Other => {
+            if octets.starts_with(b"//") {
+                return Some((Front::Gap, line_len(octets)));
+            }
+            let sign = sign_at(octets)?;
+            Some((Front::Sign(sign), sign.text().len()))
+        }
+    }
+}
+
+/// How many octets the first character has.
+fn first_char_len(text: &str) -> usize
+    requires { 0 < length text.now }
+    ensures char { IsFirstChar result text.now }
+    ensures in_range { result ≤ length text.now }
+{
+    match text.chars().next() {
+        Some(character) => character.len_utf8(),
+        None => 0,
+    }
+}
+
+/// The token of a text's front part, or nothing for a gap.
+fn token_kind(alloc: Global, front: Front, text: &str, span: Span) -> Result<Option<TokenKind>, SyntaxFault>
+    requires { IsFrontText front text.now }
+    ensures { IsKindOf text.now span result }
+{
+    match front {
+        Front::Gap => Ok(None),
+        Front::Letters => match word_at(text) {
+            Some(word) => Ok(Some(TokenKind::Word(word))),
+            None => Ok(Some(TokenKind::Name(String::from_str(alloc, text)?))),
+        },
+        Front::Digits => match number(text.as_bytes()) {
+            Some(number) => Ok(Some(TokenKind::Number(number))),
+            None => Err(SyntaxFault::NumberTooLarge(span)),
+        },
+        Front::Sign(sign) => Ok(Some(TokenKind::Sign(sign))),
+    }
+}
+
+/// The tokens of a text, in their order. The first character that begins no token is a bad token, the first number past
+/// the largest is too large; the one that stands first is answered.
+pub fn tokens(alloc: Global, text: &str) -> Result<Vec<Token>, SyntaxFault>
+    ensures read { IsLexed text.now result }
+
+    // There are no other tokens.
+    ensures only { (ts : List AToken) → AreTokens text.now ts → IsOnly ts result }
+{
+    let mut tokens = Vec::new(alloc);
+    let mut rest = text;
+    let mut start = 0;
+    while !rest.is_empty() {
+        let Some((front, len)) = front_of(rest) else {
+            let end = start + first_char_len(rest);
+            return Err(SyntaxFault::BadToken(Span { start, end }));
+        };
+        let span = Span {
+            start,
+            end: start + len,
+        };
+        let (part, after) = rest.split_at(len);
+        if let Some(kind) = token_kind(alloc, front, part, span)? {
+            tokens.push(Token { kind, span })?;
+        }
+        rest = after;
+        start = span.end;
+    }
+    Ok(tokens)
+}
