@@ -1,11 +1,14 @@
 -- The laws of the language that the kernel rests on, from those of worlds.
-use Rattle.std.proofs.Common.{◌≡◌, ℕ, ◌-◌, ◌≤◌, refl, sym, ◌∙◌}
+use Rattle.std.proofs.Common.{◌≡◌, ℕ, pos, ◌-◌, ◌≤◌, List, [], ◌∷◌, refl, sym, ◌∙◌, subst}
 use Rattle.janus_meaning.specs.Fault.{Fault}
 use Rattle.janus_meaning.specs.Syntax.{Nil}
-use Rattle.janus_meaning.specs.World.{World, empty_world, Cell, entered}
+use Rattle.janus_meaning.specs.Store.{Store, Slot, Num}
+use Rattle.janus_meaning.specs.Formed.{Shape, shape_of}
+use Rattle.janus_meaning.specs.World.{World, empty_world, Cell, Declaration, DeclareInt, DeclareArray, DeclareStack, declare, entered}
 use Rattle.janus_meaning.specs.Cells.{IsGoodWorld, world_after, store_after}
 use Rattle.janus_meaning.proofs.Worlds.{worlds_are_determined, worlds_start_and_end, worlds_reverse, entered_is_good}
-use Rattle.kernel_core.specs.Language.{empty_cell, Code, Forward, Backward, start_of, block_of, Part, Exec, Stop, end_of}
+use Rattle.janus_meaning.proofs.Shapes.{keeps_shape}
+use Rattle.kernel_core.specs.Language.{AreNew, IsFormed, AreDistinct, IsSound, empty_cell, Code, Forward, Backward, start_of, block_of, Part, Exec, Stop, end_of}
 
 -- before the first step of a cell, and of its inverse
 pub part_zero_forward : (cell : Cell) (w : World) → Part (Forward cell) w 0 (entered cell w)
@@ -63,7 +66,28 @@ pub part_inverted : (cell : Cell) (w : World) (n j : ℕ) (u v : World) → IsGo
 unfolding Exec Part
 part_inverted cell w n j u v good e p = (worlds_reverse (entered cell w) cell.block n v (entered_is_good cell w good) e).through j u p
 
--- a world after a cell is good
-pub exec_good : (cell : Cell) (w : World) (n : ℕ) (v : World) → IsGoodWorld w → Exec (Forward cell) w n v → IsGoodWorld v
+-- ---- sound worlds
+
+-- names declared anew leave them distinct
+new_distinct : (ds : List Declaration) (s : Store) → AreNew ds (shape_of s) → AreDistinct (shape_of s) → AreDistinct (shape_of (declare ds s))
+new_distinct [] s new distinct = distinct
+new_distinct (DeclareInt x ∷ ds) s new distinct = new_distinct ds (Slot x (Num (pos 0)) s) new.1 (refl, new.0, distinct)
+new_distinct (DeclareArray x n ∷ ds) s new distinct = absurd new
+new_distinct (DeclareStack x ∷ ds) s new distinct = absurd new
+
+pub empty_sound : IsSound empty_world
+empty_sound = record { good = tt; names = tt; plain = refl }
+
+pub entered_plain : (cell : Cell) (w : World) → IsSound w → IsFormed cell w → (entered cell w).procedures ≡ []
+entered_plain cell w sound formed = rw (formed.plain, sound.plain) refl
+
+-- a world after a cell is sound
+pub exec_sound : (cell : Cell) (w : World) (n : ℕ) (v : World) → IsSound w → IsFormed cell w → Exec (Forward cell) w n v → IsSound v
 unfolding Exec
-exec_good cell w n v good e = (worlds_reverse (entered cell w) cell.block n v (entered_is_good cell w good) e).good
+exec_sound cell w n v sound formed e =
+    let shape : shape_of v.store ≡ shape_of (entered cell w).store = keeps_shape _ _ _ _ _ _ _ e.ran in
+    record {
+      good = (worlds_reverse (entered cell w) cell.block n v (entered_is_good cell w sound.good) e).good;
+      names = subst (λ (g : Shape). AreDistinct g) (sym shape) (new_distinct cell.declarations w.store formed.names sound.names);
+      plain = e.procedures ∙ entered_plain cell w sound formed;
+    }

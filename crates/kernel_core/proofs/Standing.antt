@@ -3,8 +3,7 @@ use Rattle.std.specs.Result.{is_err, IsOk, OnOk, OnErr}
 use Rattle.std.proofs.Common.{Result, Ok, Err, false, true, ◌≡◌, ℕ, ◌+◌, ◌-◌, ◌<◌, ◌≤◌, ◌^◌, IsTrue, Bool, List, [], ◌∷◌, ◌++◌, length, map, set, get_or, zero, suc, refl, sym, ap, ◌∙◌, subst, arith}
 use Rattle.std.proofs.lemmas.List.{get_or_at, get_or_read, map-append}
 use Rattle.janus_meaning.specs.World.{World, empty_world, entered, Cell as ACell}
-use Rattle.janus_meaning.specs.Cells.{IsGoodWorld}
-use Rattle.kernel_core.specs.Language.{IsFormed, Code, Forward, Backward, Part, Exec, end_of, cell_of}
+use Rattle.kernel_core.specs.Language.{IsFormed, IsSound, Code, Forward, Backward, Part, Exec, end_of, cell_of}
 use Rattle.kernel_core.specs.State as state
 use Rattle.kernel_core.specs.State.{State, Past, new_state, root, node_at, world_at, here, favourite_of, code_of, ShownAt, worlds_from}
 use Rattle.kernel_core.specs.Fields.{node_of, nodes_of, work_of, job_of, past_of, state_of}
@@ -31,7 +30,7 @@ use Rattle.kernel_core.specs.declared.job.Open.TheVariants.{Idle, Border, Inside
 use Rattle.kernel_core.proofs.Laws.{part_none_forward, part_none_backward, exec_end}
 use Rattle.kernel_core.proofs.Running.{stands_part}
 use Rattle.kernel_core.proofs.Nodes.{shifted, node_read, count_of_nodes}
-use Rattle.kernel_core.proofs.Trees.{worlds-more, legal_up, legal_down, undo_above, redo_below, legal_grown, undone_world, redone_world, run_here, child_here, parent_good, formed_below, new_legal, new_worlds}
+use Rattle.kernel_core.proofs.Trees.{worlds-more, legal_up, legal_down, undo_above, redo_below, legal_grown, undone_world, redone_world, run_here, child_here, parent_sound, formed_below, new_legal, new_worlds}
 
 -- the shown world is the runner's
 pub shown_by : (tree : Tree) (job : Open) (runner : Runner) → StandsAt tree job runner → ShownAt (past_of tree) (job_of job) (world_of runner)
@@ -330,8 +329,8 @@ arrives_down tree p travel n w told job way to a =
 
 -- ---- the next cell of an undo or a redo, where the runner stands at a border
 
-pub here_good : (tree : Tree) (runner : Runner) → IsLegal (past_of tree) → world_of runner ≡ here (past_of tree) → IsGoodWorld (world_of runner)
-here_good tree runner legal shown = subst (λ (w : World). IsGoodWorld w) (sym shown) (legal.good tree.position legal.position)
+pub here_sound : (tree : Tree) (runner : Runner) → IsLegal (past_of tree) → world_of runner ≡ here (past_of tree) → IsSound (world_of runner)
+here_sound tree runner legal shown = subst (λ (w : World). IsSound w) (sym shown) (legal.sound tree.position legal.position)
 
 pub next_down : (tree : Tree) (travel : Travel) (node : Node) (i : ℕ) → travel.way ≡ Down → IsLegal (past_of tree) → IsPossible (nodes_of tree) tree.favourites.items tree.position travel →
     i ≡ get_or tree.favourites.items tree.position i → node ≡ get_or tree.nodes.items (i - 1) node → IsNodeAt tree (favourite_of (past_of tree) tree.position) node
@@ -363,14 +362,15 @@ next_up tree travel node way legal possible read =
 
 pub ran_above : (tree : Tree) (travel : Travel) (node : Node) (runner : Runner) → travel.way ≡ Up → IsLegal (past_of tree) → IsPossible (nodes_of tree) tree.favourites.items tree.position travel →
     world_of runner ≡ here (past_of tree) → IsNodeAt tree tree.position node →
-    (before : World) × (n : ℕ) × Exec (Forward (cell_of_program node.program)) before n (world_of runner) × IsGoodWorld before
+    (before : World) × (n : ℕ) × Exec (Forward (cell_of_program node.program)) before n (world_of runner) × IsSound before × IsFormed (cell_of_program node.program) before
 ran_above tree travel node runner way legal possible shown at =
     let s : Past = past_of tree in
     let some = (up_possible (nodes_of tree) tree.favourites.items tree.position travel way possible).0 in
     let run = run_here (past_of tree) legal some in
     let ran : Exec (Forward (node_of node).cell) (world_at (past_of tree) (node_at (past_of tree) tree.position).parent) (node_at (past_of tree) tree.position).steps (here (past_of tree)) =
     subst (λ (n : state.Node). Exec (Forward n.cell) (world_at (past_of tree) (node_at (past_of tree) tree.position).parent) (node_at (past_of tree) tree.position).steps (here (past_of tree))) (sym (node_there tree tree.position node at)) run.ran in
-    (_, _, subst (λ (w : World). Exec (Forward (node_of node).cell) (world_at (past_of tree) (node_at (past_of tree) tree.position).parent) (node_at (past_of tree) tree.position).steps w) (sym shown) ran, parent_good (past_of tree) legal some)
+    (_, _, subst (λ (w : World). Exec (Forward (node_of node).cell) (world_at (past_of tree) (node_at (past_of tree) tree.position).parent) (node_at (past_of tree) tree.position).steps w) (sym shown) ran, parent_sound (past_of tree) legal some,
+      subst (λ (n : state.Node). IsFormed n.cell (world_at (past_of tree) (node_at (past_of tree) tree.position).parent)) (sym (node_there tree tree.position node at)) run.formed)
 
 pub stands_next_up : (tree : Tree) (travel : Travel) (node : Node) (runner at : Runner) → travel.way ≡ Up → world_of runner ≡ here (past_of tree) → IsNodeAt tree tree.position node →
     Stands at node.program (Backward (cell_of_program node.program)) (world_of runner) 0 false → StandsIn tree (Move travel) 0 false at
@@ -383,8 +383,8 @@ stands_next_up tree travel node runner at way shown is stands =
       stands = subst (λ (c : Code). Stands at node.program c (here (past_of tree)) 0 false) code (subst (λ (w : World). Stands at node.program (Backward (cell_of_program node.program)) w 0 false) shown stands);
     }
 
-not_ok : {A E : Type 0} (x : E) → IsOk {T = A} (Err x) → ⊥
-not_ok x h = elim h [ ]
+not_ok : (A E : Type 0) (x : E) → IsOk {T = A} {E = E} (Err x) → ⊥
+not_ok A E x h = cc
 
 -- only a cell with declarations may find no memory
 pub declares_next : {A E : Type 0} (tree : Tree) (travel : Travel) (node : Node) (r : Result A E) → travel.way ≡ Down → IsNodeAt tree (favourite_of (past_of tree) tree.position) node →
@@ -392,7 +392,7 @@ pub declares_next : {A E : Type 0} (tree : Tree) (travel : Travel) (node : Node)
 declares_next tree travel node (Ok x) way is none = tt
 declares_next tree travel node (Err x) way is none =
     let same = node_there tree _ node is in
-    rw way (λ (e : (node_at (past_of tree) (favourite_of (past_of tree) tree.position)).cell.declarations ≡ []). not_ok x (none (ap (λ (n : state.Node). n.cell.declarations) same ∙ e)))
+    rw way (λ (e : (node_at (past_of tree) (favourite_of (past_of tree) tree.position)).cell.declarations ≡ []). not_ok _ _ x (none (ap (λ (n : state.Node). n.cell.declarations) same ∙ e)))
 
 pub ok_map : {A E : Type 0} {P Q : Type 0} (r : Result A E) → (P → Q) → OnOk r P → OnOk r Q
 ok_map (Ok x) f h = f h

@@ -4,12 +4,11 @@ use Rattle.std.proofs.lemmas.List.{get_or_append_left, get_or_at, get_or-set_sam
 use Rattle.std.proofs.lemmas.Bool.{cases_eq}
 use Rattle.std.proofs.lemmas.Bool.Decides.{nat_tests}
 use Rattle.janus_meaning.specs.World.{World, empty_world, Cell, entered}
-use Rattle.janus_meaning.specs.Cells.{IsGoodWorld}
-use Rattle.kernel_core.specs.Language.{Forward, Backward, Exec, IsFormed, end_of}
+use Rattle.kernel_core.specs.Language.{Forward, Backward, Exec, IsFormed, IsSound, end_of}
 use Rattle.kernel_core.specs.State.{Past, Node, new_state, root, node_at, world_at, here, favourite_of, worlds_from}
 use Rattle.kernel_core.specs.Legal.{ancestor, can_undo, can_redo, IsRun, IsChild, IsLegal}
 use Rattle.kernel_core.specs.Slices.{grown}
-use Rattle.kernel_core.proofs.Laws.{exec_good, exec_same, exec_inverted, end_of_root}
+use Rattle.kernel_core.proofs.Laws.{exec_sound, exec_same, exec_inverted, end_of_root, empty_sound}
 
 pub worlds-more : (worlds : List World) (nodes : List Node) (node : Node) →
     worlds_from worlds (nodes ++ node ∷ []) ≡ worlds_from worlds nodes ++ end_of node.cell (get_or (worlds_from worlds nodes) node.parent empty_world) node.steps ∷ []
@@ -56,7 +55,7 @@ legal_up s g =
       worlds = g.worlds;
       favourites = g.favourites;
       ran = g.ran;
-      good = g.good;
+      sound = g.sound;
       children = g.children;
       position = (let p = g.position in omega arith);
       root_parent = g.root_parent;
@@ -75,7 +74,7 @@ legal_down s g some =
       worlds = g.worlds;
       favourites = g.favourites;
       ran = g.ran;
-      good = g.good;
+      sound = g.sound;
       children = g.children;
       position = child.known;
       root_parent = g.root_parent;
@@ -226,9 +225,9 @@ legal_grown s program n w g formed e =
         | inl below ↦ run_kept s new w i g above below
         | inr same ↦ run_new s program n w i g same formed e
       ];
-      good = λ i l. elim (split i (length s.nodes) (omega arith)) [
-        | inl below ↦ rw (worlds-old i below) (g.good i below)
-        | inr same ↦ rw (same, world-new) (exec_good _ _ _ _ (g.good s.position g.position) e)
+      sound = λ i l. elim (split i (length s.nodes) (omega arith)) [
+        | inl below ↦ rw (worlds-old i below) (g.sound i below)
+        | inr same ↦ rw (same, world-new) (exec_sound _ _ _ _ (g.sound s.position g.position) formed e)
       ];
       children = λ i l above. elim (split i (length s.nodes) (omega arith)) [
         | inl below ↦ child_kept s new i g refl below above
@@ -243,11 +242,11 @@ legal_grown s program n w g formed e =
 pub run_here : (s : Past) → IsLegal s → 0 < s.position → IsRun s.nodes s.worlds s.position
 run_here s g l = g.ran s.position l g.position
 
-pub parent_good : (s : Past) → IsLegal s → 0 < s.position → IsGoodWorld (world_at s (node_at s s.position).parent)
-parent_good s g l =
+pub parent_sound : (s : Past) → IsLegal s → 0 < s.position → IsSound (world_at s (node_at s s.position).parent)
+parent_sound s g l =
     let run = run_here s g l in
     let above : (node_at s s.position).parent < length s.nodes = let h = run.parent in let k = g.position in omega arith in
-    g.good (node_at s s.position).parent above
+    g.sound (node_at s s.position).parent above
 
 pub child_here : (s : Past) → IsLegal s → 0 < favourite_of s s.position → IsChild s.nodes s.favourites s.position
 child_here s g l = g.children s.position g.position l
@@ -266,7 +265,7 @@ formed_below s g l =
 
 -- the inverse of the position's cell leads to where that cell's statements began
 pub run_above : (s : Past) → IsLegal s → 0 < s.position → Exec (Backward (node_at s s.position).cell) (here s) (node_at s s.position).steps (entered (node_at s s.position).cell (world_at s (node_at s s.position).parent))
-run_above s g l = exec_inverted _ _ _ _ (parent_good s g l) (run_here s g l).ran
+run_above s g l = exec_inverted _ _ _ _ (parent_sound s g l).good (run_here s g l).ran
 
 -- the world at the end of an undone cell, and of a redone one
 pub undone_world : (s : Past) (n : ℕ) (w : World) → IsLegal s → 0 < s.position → Exec (Backward (node_at s s.position).cell) (here s) n w →
@@ -294,7 +293,7 @@ new_legal = record {
   worlds = refl;
   favourites = refl;
   ran = λ n above l. absurd (omega arith);
-  good = λ n l. (let e : n ≡ 0 = omega arith in rw e tt);
+  sound = λ n l. (let e : n ≡ 0 = omega arith in rw e empty_sound);
   children = λ n l above. absurd (let e : n ≡ 0 = omega arith in let h : 0 < get_or (0 ∷ []) 0 0 = rw e at above in omega arith);
   position = omega arith;
   root_parent = refl;

@@ -1,11 +1,10 @@
 -- A cell that runs, and one that is undone, in one form: all that the kernel is told of the language.
 -- Beyond this file nothing of it is used but these words and their laws (`proofs/Laws.antt`).
 use Rattle.std.specs.Prelude.{◌≡◌, ℕ, ◌<◌, ◌≤◌, List, [], ◌∷◌}
-use Rattle.janus_meaning.specs.Fault.{Fault, Bad, Broken}
-use Rattle.janus_meaning.specs.Syntax.{Name, Blk, Nil, inverse_block}
-use Rattle.janus_meaning.specs.Store.{Store, look}
-use Rattle.janus_meaning.specs.Formed.{shape_of, IsBlk}
-use Rattle.janus_meaning.specs.World.{World, empty_world, Cell, Declaration, declared_name, declare_one, entered}
+use Rattle.janus_meaning.specs.Fault.{Fault}
+use Rattle.janus_meaning.specs.Syntax.{Name, Blk, Nil, ANumber, Absent, inverse_block}
+use Rattle.janus_meaning.specs.Formed.{Shape, Nobody, Known, kind_at, shape_of, IsBlk}
+use Rattle.janus_meaning.specs.World.{World, Cell, Declaration, DeclareInt, DeclareArray, DeclareStack, entered}
 use Rattle.janus_meaning.specs.Cells.{WorldExec, WorldPart, WorldStop, world_after, IsGoodWorld}
 
 abbrev pub empty_cell : Cell
@@ -45,12 +44,26 @@ Stop code w j f = WorldStop (start_of code w) (block_of code) j f
 unfoldable pub end_of : Cell → World → ℕ → World
 end_of cell w n = world_after (entered cell w) cell.block n
 
--- each declared name is new where it is declared
-abbrev pub AreNew : List Declaration → Store → Type 0
-AreNew [] s = Unit {0}
-AreNew (d ∷ ds) s = (look (declared_name d) s ≡ Bad Broken) × AreNew ds (declare_one d s)
+-- each declared name is a number's (there are no arrays and stacks yet), and new where it is declared
+abbrev pub AreNew : List Declaration → Shape → Type 0
+AreNew [] g = Unit {0}
+AreNew (DeclareInt x ∷ ds) g = (kind_at x g ≡ Absent) × AreNew ds (Known x ANumber g)
+AreNew (DeclareArray x n ∷ ds) g = ⊥
+AreNew (DeclareStack x ∷ ds) g = ⊥
 
--- the cell is well formed over the names of the world
+-- the cell is well formed over the names of the world (there are no procedures yet)
 pub record IsFormed (cell : Cell) (w : World) : Type 0 where
-  pub names : AreNew cell.declarations w.store
-  pub block : IsBlk (entered cell w).procedures (shape_of (entered cell w).store) cell.block
+  pub names : AreNew cell.declarations (shape_of w.store)
+  pub plain : cell.procedures ≡ []
+  pub block : IsBlk [] (shape_of (entered cell w).store) cell.block
+
+-- the names are numbers', and distinct
+abbrev pub AreDistinct : Shape → Type 0
+AreDistinct Nobody = Unit {0}
+AreDistinct (Known x c g) = (c ≡ ANumber) × (kind_at x g ≡ Absent) × AreDistinct g
+
+-- what each world keeps: its numbers fit 32 bits, its names are distinct
+pub record IsSound (w : World) : Type 0 where
+  pub good : IsGoodWorld w
+  pub names : AreDistinct (shape_of w.store)
+  pub plain : w.procedures ≡ []

@@ -1,8 +1,7 @@
 -- Legal trees, and what each state of the machine keeps.
 use Rattle.std.specs.Prelude.{◌≡◌, ℕ, ◌+◌, ◌^◌, ◌<◌, ◌==◌, Bool, true, false, IsTrue, List, length, zero, suc, if◌then◌else◌, get_or}
 use Rattle.janus_meaning.specs.World.{World, empty_world}
-use Rattle.janus_meaning.specs.Cells.{IsGoodWorld}
-use Rattle.kernel_core.specs.Language.{Forward, Exec, IsFormed}
+use Rattle.kernel_core.specs.Language.{Forward, Exec, IsFormed, IsSound}
 use Rattle.kernel_core.specs.State.{Past, Node, Work, Posted, Move, Job, Idle, Border, Inside, root, node_at, world_at, here, favourite_of}
 use Rattle.kernel_core.specs.declared.job.Way.{Way}
 use Rattle.kernel_core.specs.declared.job.Way.TheVariants.{Up, Down}
@@ -45,7 +44,7 @@ pub record IsLegal (s : Past) : Type 0 where
   pub worlds : length s.worlds ≡ length s.nodes
   pub favourites : length s.favourites ≡ length s.nodes
   pub ran : (n : ℕ) → 0 < n → n < length s.nodes → IsRun s.nodes s.worlds n
-  pub good : (n : ℕ) → n < length s.nodes → IsGoodWorld (world_at s n)
+  pub sound : (n : ℕ) → n < length s.nodes → IsSound (world_at s n)
   pub children : (n : ℕ) → n < length s.nodes → 0 < favourite_of s n → IsChild s.nodes s.favourites n
   pub position : s.position < length s.nodes
   pub root_parent : (node_at s 0).parent ≡ 0

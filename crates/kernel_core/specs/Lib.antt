@@ -2,7 +2,6 @@ pub mod CellCode
 pub mod Language
 pub mod Text
 pub mod Program
-pub mod Faults
 pub mod Reached
 pub mod Runner
 pub mod State

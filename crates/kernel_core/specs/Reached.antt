@@ -2,7 +2,7 @@
 use Rattle.std.specs.Prelude.{ℕ, ◌<◌, ◌≤◌}
 use Rattle.janus_meaning.specs.World.{World}
 use Rattle.kernel_core.specs.Language.{Code, Part, Exec, Stop}
-use Rattle.kernel_core.specs.Faults.{fault_of}
+use Rattle.janus_machine.specs.Faults.{fault_of}
 use Rattle.kernel_core.specs.declared.runner.Ran.{Ran}
 use Rattle.kernel_core.specs.declared.runner.Ran.TheVariants.{Went, Ended, Stopped}
 

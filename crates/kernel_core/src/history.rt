@@ -77,7 +77,7 @@ impl History {
     pub fn new(alloc: Global) -> Result<History, AllocError>
         ensures { IfOk result (λ history. history ≡ new_state) }
     {
-        let runner = Runner::new(alloc)?;
+        let runner = Runner::new(alloc);
         let nodes = Vec::new(alloc);
         let mut favourites = Vec::new(alloc);
         favourites.push(0)?;

@@ -1,5 +1,5 @@
 //! The open job: what it does, and how far it is.
-use crate::machine::Fault;
+use janus_machine::Fault;
 use crate::program::Program;
 
 /// The two ways along the tree.

@@ -5,7 +5,6 @@ pub mod events;
 pub mod history;
 pub mod job;
 pub mod kernel;
-pub mod machine;
 pub mod outcome;
 pub mod program;
 pub mod runner;

@@ -1,5 +1,5 @@
 //! What the calls of a kernel answer.
-use crate::machine::Fault;
+use janus_machine::Fault;
 
 /// How an undo or a redo of several cells ended.
 #[derive(Clone, Copy, Debug, PartialEq, Eq)]

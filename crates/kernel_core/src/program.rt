@@ -6,12 +6,14 @@ ghost use Rattle.kernel_core.specs.Runner.{world_of};
 
 use crate::outcome::Refusal;
 use crate::runner::Runner;
+use janus_machine::Book;
 use std::alloc::Global;
 
 /// A cell's declared names, and its code both ways.
 #[derive(Drop)]
 pub struct Program {
     pub names: Vec<String>,
+    pub book: Book,
 }
 
 impl Program {

@@ -1,4 +1,4 @@
-use Rattle.kernel_core.proofs.Standing.{here_good, next_down, formed_next, stands_next_down, next_up, ran_above, stands_next_up, declares_next, ok_map}
+use Rattle.kernel_core.proofs.Standing.{here_sound, next_down, formed_next, stands_next_down, next_up, ran_above, stands_next_up, declares_next, ok_map}
 use Rattle.kernel_core.proofs.history.enter_next.Goals as goal
 
 pub enter-requires-clause-formed : goal.enter-requires-clause-formed
@@ -6,8 +6,8 @@ enter-requires-clause-formed c =
     formed_next c.args.tree.now c.args.travel c.index-in-Down-2.result.now c.args.runner.now c.in-Down.is c.requires.legal c.requires.possible c.requires.shown
     (next_down c.args.tree.now c.args.travel c.index-in-Down-2.result.now c.index-in-Down.result.now c.in-Down.is c.requires.legal c.requires.possible c.index-in-Down.ensures c.index-in-Down-2.ensures)
 
-pub enter-requires-clause-good : goal.enter-requires-clause-good
-enter-requires-clause-good c = here_good c.args.tree.now c.args.runner.now c.requires.legal c.requires.shown
+pub enter-requires-clause-sound : goal.enter-requires-clause-sound
+enter-requires-clause-sound c = here_sound c.args.tree.now c.args.runner.now c.requires.legal c.requires.shown
 
 pub enter_inverse-requires : goal.enter_inverse-requires
 enter_inverse-requires c =

@@ -14,17 +14,17 @@ use Rattle.kernel_core.specs.Kept.{Kept}
 use Rattle.kernel_core.specs.declared.job.Open.{Open}
 use Rattle.kernel_core.specs.declared.job.Open.TheVariants.{Idle}
 use Rattle.kernel_core.proofs.Running.{accepted_formed}
-use Rattle.kernel_core.proofs.Standing.{ok_fact, kept_begun, here_good, idle_job}
+use Rattle.kernel_core.proofs.Standing.{ok_fact, kept_begun, here_sound, idle_job}
 use Rattle.kernel_core.proofs.history.History.begin_cell.Goals as goal
 
 pub enter-requires-clause-formed : goal.enter-requires-clause-formed
 enter-requires-clause-formed c = accepted_formed _ _ _ c.in-Ok.ensures.accepts
 
-pub enter-requires-clause-good : goal.enter-requires-clause-good
-enter-requires-clause-good c =
+pub enter-requires-clause-sound : goal.enter-requires-clause-sound
+enter-requires-clause-sound c =
     let idle : c.self.inside.job ≡ Idle = idle_job c.self.inside.job (subst (λ (s : State). s.job ≡ state.Idle) (sym c.self.view_is) c.requires) in
     let kept : Kept c.self.inside.tree c.self.inside.runner Idle = subst (λ (j : Open). Kept c.self.inside.tree c.self.inside.runner j) idle c.self.invariant in
-    here_good c.self.inside.tree c.self.inside.runner kept.legal kept.stands
+    here_sound c.self.inside.tree c.self.inside.runner kept.legal kept.stands
 
 pub invariant_of-self-2 : goal.invariant_of-self-2
 invariant_of-self-2 c =

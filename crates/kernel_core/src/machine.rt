@@ -1,5 +1,0 @@
-//! Stand-in.
-#[derive(Clone, Copy, Debug, PartialEq, Eq)]
-pub enum Fault {
-    StepLimit,
-}
