@@ -1,5 +1,5 @@
 -- Faults of a cell, and which of several is told.
-use Rattle.std.specs.Prelude.{◌≡◌, ℕ, Bool, false, ◌&&◌, ◌||◌, ◌==◌, nat_lt, Option, Some, None, List, [], ◌∷◌, Contains, All, if◌then◌else◌}
+use Rattle.std.specs.Prelude.{◌≡◌, ℕ, Bool, false, ◌&&◌, ◌||◌, ◌==◌, nat_lt, Option, Some, None, List, [], ◌∷◌, codes, Contains, All, if◌then◌else◌}
 use Rattle.janus_syntax.specs.declared.token.Span.{Span}
 use Rattle.janus_check.specs.declared.fault.CheckFault.{CheckFault}
 use Rattle.janus_check.specs.declared.fault.CheckFault.TheVariants.{Declared, Unknown, SelfUse, TooMany, Memory}
@@ -10,6 +10,13 @@ number_of (Declared at) = 40
 number_of (Unknown at) = 41
 number_of (SelfUse at) = 43
 number_of (TooMany at) = 48
+
+abbrev pub fault_name : CheckFault → List ℕ
+fault_name Memory = codes "Memory"
+fault_name (Declared at) = codes "Declared"
+fault_name (Unknown at) = codes "Unknown"
+fault_name (SelfUse at) = codes "SelfUse"
+fault_name (TooMany at) = codes "TooMany"
 
 abbrev pub span_of : CheckFault → Option Span
 span_of Memory = None

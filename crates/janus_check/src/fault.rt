@@ -1,6 +1,6 @@
 //! Why a cell is refused.
 ghost use Rattle.std.specs.Prelude.{◌≡◌, Some};
-ghost use Rattle.janus_check.specs.Fault.{number_of, span_of, start_of, comes_before, sooner_of};
+ghost use Rattle.janus_check.specs.Fault.{number_of, fault_name, span_of, start_of, comes_before, sooner_of};
 
 use janus_syntax::token::Span;
 use std::alloc::AllocError;
@@ -22,7 +22,7 @@ pub enum CheckFault {
 
 impl CheckFault {
     /// The number under which the fault is told.
-    pub fn number(self) -> u32
+    pub fn number(self) -> u8
         ensures { result ≡ number_of self }
     {
         match self {
@@ -35,7 +35,9 @@ impl CheckFault {
     }
 
     /// The word under which the fault is told.
-    pub fn name(self) -> &'static str {
+    pub fn name(self) -> &'static str
+        ensures { result.now ≡ fault_name self }
+    {
         match self {
             CheckFault::Memory => "Memory",
             CheckFault::Declared(_) => "Declared",
