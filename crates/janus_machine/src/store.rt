@@ -1,6 +1,7 @@
 //! The declared names with their numbers: an ordered map by name, and the order of declaration.
 
 ghost use Rattle.std.specs.Prelude.{◌≡◌, ℤ, pos, ◌<◌, IsTrue, ◌↔◌, OnOk, OnErr, slice_get, Some, Bool, false, true};
+ghost use Rattle.std.specs.Bool.{OnFalse};
 ghost use Rattle.janus_meaning.specs.Fault.{Fine, Bad, Broken, and_then};
 ghost use Rattle.janus_meaning.specs.Store.{Bare, Slot, Num, look, number};
 ghost use Rattle.janus_meaning.specs.Formed.{shape_of};
@@ -70,7 +71,8 @@ impl Store {
 
     /// Whether a name is declared.
     pub fn contains(&self, name: &str) -> bool
-        ensures { result ≡ is_fine (look name.now self.now) }
+        ensures declared { result ≡ is_fine (look name.now self.now) }
+        ensures absent { OnFalse result (look name.now self.now ≡ Bad Broken) }
     {
         self.places.contains_key(name)
     }
