@@ -1,4 +1,5 @@
 pub mod Laws
+pub mod Declared
 pub mod Running
 pub mod Trees
 pub mod Nodes
