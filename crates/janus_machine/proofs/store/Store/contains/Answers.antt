@@ -1,5 +1,6 @@
 use Rattle.std.proofs.Common.{◌≡◌, ℕ, Bool, false, ap, ◌∙◌, sym, refl}
 use Rattle.std.specs.Prelude.{Option, Some, None, is_some}
+use Rattle.std.proofs.lemmas.Bool.{OnFalse_from}
 use Rattle.std.specs.BTreeMap.{get_by_text}
 use Rattle.janus_meaning.specs.Fault.{Bad, Broken}
 use Rattle.janus_meaning.specs.Syntax.{Name}
@@ -27,4 +28,8 @@ absent_by vs place x None h e f = look_none vs place h x e
 absent_by vs place x (Some i) h e f = cc
 
 pub returns-clause-absent : goal.returns-clause-absent
-returns-clause-absent c = ?
+returns-clause-absent c =
+    let a = c.self.inside in
+    let x = c.args.name.now in
+    OnFalse_from c.contains_key.result (look x c.args.self.now ≡ Bad Broken)
+    (λ no. sym (ap (look x) c.self.view_is) ∙ absent_by a.variables.items (get_by_text a.places) x (get_by_text a.places x) c.self.invariant refl (sym c.contains_key.ensures ∙ no))
