@@ -1,0 +1,15 @@
+pub mod CellCode
+pub mod Language
+pub mod Text
+pub mod Program
+pub mod Reached
+pub mod Runner
+pub mod State
+pub mod StateCode
+pub mod Fields
+pub mod Legal
+pub mod Slices
+pub mod Begins
+pub mod Kept
+pub mod Runs
+pub mod MachineCode

@@ -1,0 +1,63 @@
+//! What the calls of a kernel answer.
+use janus_machine::Fault;
+
+/// How an undo or a redo of several cells ended.
+#[derive(Clone, Copy, Debug, PartialEq, Eq)]
+pub enum End {
+    /// All its cells are done.
+    All,
+    /// It was asked to stop, and went back to the border before the cell in which it stood.
+    Asked,
+    /// There was no memory for the names that the next cell declares.
+    NoMemory,
+}
+
+/// Why a job was not begun. It changed nothing.
+#[derive(Clone, Copy, Debug, PartialEq, Eq)]
+pub enum Refusal {
+    /// There are fewer cells above, or fewer favourites below, than the job would undo or redo.
+    TooFar,
+    Memory,
+}
+
+/// What came of a job.
+#[derive(Clone, Copy, Debug, PartialEq, Eq)]
+pub enum Outcome {
+    /// The cell is a new node: its number, and the steps that it took.
+    Ran(usize, u64),
+    /// The cell met a fault after so many steps, and was taken back.
+    Failed(Fault, u64),
+    /// The cell was asked to stop after so many steps, and was taken back.
+    Interrupted(u64),
+    /// So many cells were undone.
+    Undid(u32, End),
+    /// So many cells were redone.
+    Redid(u32, End),
+    Refused(Refusal),
+}
+
+/// What `begin` answers.
+#[derive(Clone, Copy, Debug, PartialEq, Eq)]
+pub enum Begun {
+    /// There is no job to begin, or the open one stands inside a cell.
+    Nothing,
+    /// The open job stands inside a cell now.
+    Going,
+    /// The job is over, and no job is open.
+    Ended(Outcome),
+}
+
+/// What `slice` answers.
+#[derive(Clone, Copy, Debug, PartialEq, Eq)]
+pub enum Sliced {
+    /// No job stands inside a cell.
+    Nothing,
+    /// Steps of the cell are left.
+    Going,
+    /// A cell is done, and the job has further ones.
+    Border,
+    /// The cell is being taken back, and steps are left.
+    Backing,
+    /// The job is over, and no job is open.
+    Ended(Outcome),
+}
