@@ -2,6 +2,7 @@
 #![tactic(auto)]
 
 mod command;
+mod serve;
 
 use std::io;
 

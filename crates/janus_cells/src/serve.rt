@@ -1,0 +1,44 @@
+//! One request, from its post to its end.
+ghost use Rattle.std.specs.Prelude.{◌≡◌, [], IfOk, IfErr};
+ghost use Rattle.kernel_core.specs.Runs.{request_of};
+ghost use Rattle.kernel_core.specs.State.{Idle, Inside, Entered};
+ghost use Rattle.janus_cells.specs.Served.{Finishes, Serves, NotPosted, Finished};
+
+use kernel_core::{Begun, Job, Kernel, Outcome, PostFault, Sliced};
+
+/// How many steps a slice may take: as many as a cell.
+const STEPS: u64 = 1_000_000_000_000;
+
+/// Slices the job that stands inside a cell to its end, and begins its next cells.
+fn finish(kernel: &mut Kernel) -> Outcome
+    requires { (e : Entered) × (kernel.old.state.job ≡ Inside e) }
+    ensures finishes { Finishes kernel.old result kernel.new }
+    ensures idle { kernel.new.state.job ≡ Idle }
+{
+    loop {
+        match kernel.slice(STEPS, false) {
+            Sliced::Ended(outcome) => return outcome,
+            Sliced::Border => match kernel.begin() {
+                Begun::Ended(outcome) => return outcome,
+                _ => {}
+            },
+            _ => {}
+        }
+    }
+}
+
+/// Posts a job to a kernel without an open job, and brings it to its end.
+pub fn serve(kernel: &mut Kernel, job: Job) -> Result<Outcome, PostFault>
+    requires idle { kernel.old.state.job ≡ Idle }
+    requires alone { kernel.old.queue ≡ [] }
+    ensures ok { IfOk result (λ outcome. Serves kernel.old (request_of job) (Finished outcome) kernel.new) }
+    ensures err { IfErr result (λ fault. Serves kernel.old (request_of job) (NotPosted fault) kernel.new) }
+    ensures idle { kernel.new.state.job ≡ Idle }
+    ensures alone { kernel.new.queue ≡ [] }
+{
+    kernel.post(0, job)?;
+    match kernel.begin() {
+        Begun::Ended(outcome) => Ok(outcome),
+        _ => Ok(finish(kernel)),
+    }
+}
