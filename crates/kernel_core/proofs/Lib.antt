@@ -1,5 +1,7 @@
 pub mod Laws
 pub mod Declared
+pub mod Texts
+pub mod Entries
 pub mod Running
 pub mod Trees
 pub mod Nodes

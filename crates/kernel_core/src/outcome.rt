@@ -1,5 +1,7 @@
 //! What the calls of a kernel answer.
+use janus_check::CheckFault;
 use janus_machine::Fault;
+use janus_syntax::SyntaxFault;
 
 /// How an undo or a redo of several cells ended.
 #[derive(Clone, Copy, Debug, PartialEq, Eq)]
@@ -15,6 +17,10 @@ pub enum End {
 /// Why a job was not begun. It changed nothing.
 #[derive(Clone, Copy, Debug, PartialEq, Eq)]
 pub enum Refusal {
+    /// The text is no cell.
+    Syntax(SyntaxFault),
+    /// The cell is not well formed over the declared names.
+    Check(CheckFault),
     /// There are fewer cells above, or fewer favourites below, than the job would undo or redo.
     TooFar,
     Memory,
