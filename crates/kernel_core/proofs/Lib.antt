@@ -7,3 +7,7 @@ pub mod Trees
 pub mod Nodes
 pub mod Standing
 pub mod Runs
+pub mod Jobs
+pub mod Again
+pub mod OnTime
+pub mod Paths

@@ -13,3 +13,4 @@ pub mod Begins
 pub mod Kept
 pub mod Runs
 pub mod MachineCode
+pub mod Headline

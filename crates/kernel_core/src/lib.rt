@@ -2,6 +2,7 @@
 #![tactic(auto)]
 
 pub mod events;
+pub mod headline;
 pub mod history;
 pub mod job;
 pub mod kernel;
