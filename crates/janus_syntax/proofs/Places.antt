@@ -1,22 +1,12 @@
 -- From places in a list of tokens to places in the text.
-use Rattle.std.proofs.Common.{◌≡◌, ℕ, ◌+◌, ◌-◌, ◌<◌, ◌≤◌, List, [], ◌∷◌, ◌++◌, length, map, get_or, drop, drop-cons, suc, Result, Ok, Err, refl, ap, sym, subst, ◌∙◌, arith, length-append}
-use Rattle.std.proofs.lemmas.List.Prefix.{end_rest}
-use Rattle.std.proofs.lemmas.List.{drop-map, length-map}
+use Rattle.std.proofs.Common.{◌≡◌, ℕ, ◌<◌, List, length, map, get_or, drop, drop-cons, refl, ap, sym, ◌∙◌}
+use Rattle.std.proofs.lemmas.List.{drop-map}
 use Rattle.janus_syntax.specs.declared.token.Span.{Span}
 use Rattle.janus_syntax.specs.declared.token.Token as code_token
 use Rattle.janus_syntax.specs.declared.token.TokenKind.{TokenKind}
 use Rattle.janus_syntax.specs.declared.token.TokenKind.TheVariants as kinds
-use Rattle.janus_syntax.specs.declared.tree.Cell as code_cell
-use Rattle.janus_syntax.specs.declared.fault.What.{What}
-use Rattle.janus_syntax.specs.declared.fault.SyntaxFault.{SyntaxFault}
-use Rattle.janus_syntax.specs.declared.fault.SyntaxFault.TheVariants as fault
-use Rattle.janus_syntax.specs.Tokens.{Token, token_of, token_view, views}
-use Rattle.janus_syntax.specs.Tree.{Cell, cell_view}
-use Rattle.janus_syntax.specs.Lexical.{AreTokens}
-use Rattle.janus_syntax.specs.Grammar.{IsTree, IsUnexpected, IsTooNested}
-use Rattle.janus_syntax.specs.Machine.{Failed, Limited}
-use Rattle.janus_syntax.specs.Reading.{IsRefused}
-use Rattle.janus_syntax.specs.Text.{span_of, place_before, HasTree, IsUnexpectedAt, IsTooNestedAt, IsParsed, IsOnlyTree}
+use Rattle.janus_syntax.specs.Tokens.{token_of, token_view, views}
+use Rattle.janus_syntax.specs.Text.{span_of, place_before}
 
 span_of_kind : (k : TokenKind) (at : Span) → span_of (token_of k at) ≡ at
 span_of_kind (kinds.Name s) at = refl

@@ -1,8 +1,8 @@
 -- Where the machine fails, the reading cannot go on: what it has taken is the beginning of a cell, since each
 -- state leads to the end by some tokens; and no cell has the token at which it fails.
-use Rattle.std.proofs.Common.{◌≡◌, ℕ, suc, ◌+◌, ◌<◌, ◌≤◌, ◌⊎◌, inl, inr, List, [], ◌∷◌, ◌++◌, length, Option, Some, None, true, false, cond, refl, ap, sym, subst, ◌∙◌, arith, append_assoc, zero-add}
+use Rattle.std.proofs.Common.{◌≡◌, ℕ, suc, ◌+◌, ◌<◌, ◌≤◌, List, [], ◌∷◌, ◌++◌, length, Option, Some, None, true, false, cond, refl, ap, sym, subst, ◌∙◌, arith, append_assoc, zero-add}
 use Rattle.std.proofs.lemmas.List.{append-nil}
-use Rattle.std.specs.Prelude.{nat_le, nat_lt}
+use Rattle.std.specs.Prelude.{nat_le}
 use Rattle.std.proofs.lemmas.Bool.{leb-true, leb-false, lt-leb}
 use Rattle.janus_syntax.specs.declared.fault.What.{What}
 use Rattle.janus_syntax.specs.declared.fault.What.TheVariants as what
@@ -16,7 +16,7 @@ use Rattle.janus_syntax.specs.Tokens.{Token, Name, Number, Sign_of, Word_of}
 use Rattle.janus_syntax.specs.Tree.{Name as Named, named, Exp, Num, Bin, Stm, Assign, Block, Empty, More, Declaration, Int, Cell, cell_of}
 use Rattle.janus_syntax.specs.Grammar
 use Rattle.janus_syntax.specs.Grammar.{SpellsCell, operator_at, update_at, operators, operator_limit, BlockWithin, CellWithin, IsTree, IsOpen, IsOpenWithin, IsItem, a_name, an_operator, an_expression, BeginsWith, IsNext, IsWanted, IsUnexpected, IsTooNested}
-use Rattle.janus_syntax.specs.Machine.{ForExp, Pending, Right, ForStm, Within, ForBlock, Body, State, Operand, After, Target, Another, Declarations, Declared, Step, Go, Accept, Stuck, push, binds_before, goes_on, after, ended, another, step, run, follow, at_end, target, seen_operator, next, wanted, wanted_exp, owed, counted, Outcome, Read, Failed, Limited}
+use Rattle.janus_syntax.specs.Machine.{ForExp, Pending, Right, ForStm, Within, ForBlock, Body, State, Operand, After, Target, Another, Declarations, Declared, Step, Go, Accept, Stuck, push, binds_before, goes_on, after, ended, another, step, run, follow, at_end, target, next, wanted, wanted_exp, owed, counted, Outcome, Read, Failed, Limited}
 use Rattle.janus_syntax.specs.Reading.{IsRefused}
 use Rattle.janus_syntax.proofs.Agrees.{run_goes, reads}
 use Rattle.janus_syntax.proofs.Sound.{read_is_tree}

@@ -92,17 +92,22 @@ fn sum(alloc: Global, operators: usize) -> Result<String, AllocError> {
 #[test]
 fn reads_tokens(rt: HostRuntime) {
     let alloc = rt.alloc();
-    let words = "call delocal do else empty fi from if int local loop main nil pop procedure push skip stack then top uncall until";
+    let words =
+        "call delocal do else empty fi from if int local loop main nil pop procedure push skip stack then top uncall until";
     assert_eq!(rt;
         shown_tokens(alloc, words).expect(&rt, "memory").as_str(),
         "'call 'delocal 'do 'else 'empty 'fi 'from 'if 'int 'local 'loop 'main 'nil 'pop 'procedure 'push 'skip 'stack 'then 'top 'uncall 'until "
     );
     assert_eq!(rt;
-        shown_tokens(alloc, "+=-=^=+-*/%^&&&|||=!=<=<>=>()[],").expect(&rt, "memory").as_str(),
+        shown_tokens(alloc, "+=-=^=+-*/%^&&&|||=!=<=<>=>()[],")
+            .expect(&rt, "memory")
+            .as_str(),
         "+= -= ^= + - * / % ^ && & || | = != <= < >= > ( ) [ ] , "
     );
     assert_eq!(rt;
-        shown_tokens(alloc, "ints Int x_1 12a\t007\r\n<=> a//b é += _\n/ c//").expect(&rt, "memory").as_str(),
+        shown_tokens(alloc, "ints Int x_1 12a\t007\r\n<=> a//b é += _\n/ c//")
+            .expect(&rt, "memory")
+            .as_str(),
         "ints Int x_1 12 a 7 <= > a / c "
     );
 }
@@ -111,9 +116,19 @@ fn reads_tokens(rt: HostRuntime) {
 fn reads_cells(rt: HostRuntime) {
     let alloc = rt.alloc();
     assert_eq!(rt; shown(alloc, "").expect(&rt, "memory").as_str(), "");
-    assert_eq!(rt; shown(alloc, " // nothing\n//").expect(&rt, "memory").as_str(), "");
     assert_eq!(rt;
-        shown(alloc, "int x int y x+=2147483647 y -= x ^ 1 - 2 - y ^ 3 x ^= y").expect(&rt, "memory").as_str(),
+        shown(alloc, " // nothing\n//")
+            .expect(&rt, "memory")
+            .as_str(),
+        ""
+    );
+    assert_eq!(rt;
+        shown(
+            alloc,
+            "int x int y x+=2147483647 y -= x ^ 1 - 2 - y ^ 3 x ^= y"
+        )
+        .expect(&rt, "memory")
+        .as_str(),
         "int x;int y;x += 2147483647;y -= (^ (^ x (- (- 1 2) y)) 3);x ^= y;"
     );
 }
@@ -122,16 +137,43 @@ fn reads_cells(rt: HostRuntime) {
 fn refuses_at_the_first_place(rt: HostRuntime) {
     let alloc = rt.alloc();
     for (text, fault) in [
-        ("int a[3]", SyntaxFault::Expected(What::End, Span { start: 5, end: 6 })),
-        ("x += 1 int y", SyntaxFault::Expected(What::End, Span { start: 7, end: 10 })),
-        ("int x += 1", SyntaxFault::Expected(What::End, Span { start: 6, end: 8 })),
-        ("int ", SyntaxFault::Expected(What::Name, Span { start: 4, end: 4 })),
-        ("x x", SyntaxFault::Expected(What::Operator, Span { start: 2, end: 3 })),
-        ("x += 1 - ", SyntaxFault::Expected(What::Expression, Span { start: 9, end: 9 })),
-        ("x += 2147483648", SyntaxFault::NumberTooLarge(Span { start: 5, end: 15 })),
-        ("int int x += é", SyntaxFault::BadToken(Span { start: 13, end: 15 })),
+        (
+            "int a[3]",
+            SyntaxFault::Expected(What::End, Span { start: 5, end: 6 }),
+        ),
+        (
+            "x += 1 int y",
+            SyntaxFault::Expected(What::End, Span { start: 7, end: 10 }),
+        ),
+        (
+            "int x += 1",
+            SyntaxFault::Expected(What::End, Span { start: 6, end: 8 }),
+        ),
+        (
+            "int ",
+            SyntaxFault::Expected(What::Name, Span { start: 4, end: 4 }),
+        ),
+        (
+            "x x",
+            SyntaxFault::Expected(What::Operator, Span { start: 2, end: 3 }),
+        ),
+        (
+            "x += 1 - ",
+            SyntaxFault::Expected(What::Expression, Span { start: 9, end: 9 }),
+        ),
+        (
+            "x += 2147483648",
+            SyntaxFault::NumberTooLarge(Span { start: 5, end: 15 }),
+        ),
+        (
+            "int int x += é",
+            SyntaxFault::BadToken(Span { start: 13, end: 15 }),
+        ),
         ("int x;", SyntaxFault::BadToken(Span { start: 5, end: 6 })),
-        ("!_ 4294967296", SyntaxFault::BadToken(Span { start: 0, end: 1 })),
+        (
+            "!_ 4294967296",
+            SyntaxFault::BadToken(Span { start: 0, end: 1 }),
+        ),
     ] {
         assert_eq!(rt; refusal(alloc, text), Some(fault), "{text}");
     }
@@ -145,8 +187,14 @@ fn limits_operators(rt: HostRuntime) -> Result<(), Fail> {
         start: 518,
         end: 519,
     };
-    assert_eq!(rt; refusal(alloc, &sum(alloc, 257)?), Some(SyntaxFault::TooNested(place)));
-    assert_eq!(rt; refusal(alloc, &sum(alloc, 1000)?), Some(SyntaxFault::TooNested(place)));
+    assert_eq!(rt;
+        refusal(alloc, &sum(alloc, 257)?),
+        Some(SyntaxFault::TooNested(place))
+    );
+    assert_eq!(rt;
+        refusal(alloc, &sum(alloc, 1000)?),
+        Some(SyntaxFault::TooNested(place))
+    );
     Ok(())
 }
 
@@ -154,7 +202,10 @@ fn limits_operators(rt: HostRuntime) -> Result<(), Fail> {
 fn shows_refusals(rt: HostRuntime) {
     let place = Span { start: 5, end: 6 };
     let fault = SyntaxFault::Expected(What::Word(Word::Then), place);
-    assert_eq!(rt; (fault.number(), fault.name(), fault.span()), (31, "Expected", Some(place)));
+    assert_eq!(rt;
+        (fault.number(), fault.name(), fault.span()),
+        (31, "Expected", Some(place))
+    );
     assert_eq!(rt; SyntaxFault::Memory.span(), None);
     assert_eq!(rt; What::Word(Word::Then).text(), "then");
     assert_eq!(rt; What::Sign(Sign::AtMost).text(), "<=");
