@@ -10,6 +10,8 @@ use Rattle.janus_syntax.specs.declared.tree.Exp.TheVariants as exps
 use Rattle.janus_syntax.specs.declared.tree.Stm as code_stm
 use Rattle.janus_syntax.specs.declared.tree.Stm.TheVariants as stms
 use Rattle.janus_syntax.specs.Tree.{Name, named, Exp, Num, Var, Bin, Stm, Assign, Block, Empty, More, Cell, cell_of, exp_view, stm_view, block_view}
+use Rattle.janus_check.specs.Check.{text_of}
+use Rattle.janus_check.specs.WellFormed.{meant_exp, meant_stm, meant_block}
 use Rattle.janus_invert.specs.Cells.{opposite_of, inverse_stm, turned, inverse_cell, InverseCellTwice}
 
 -- ---- twice is the identity
@@ -56,48 +58,33 @@ one_more b xs ys i r d low le h e f =
 
 -- ---- without the places
 
-abbrev plain_name : Name → tree.Name
-plain_name (named x at) = x
+meant_exp_is : (e : code_exp.Exp) → meant_exp (exp_view e) ≡ exp_of e
+meant_exp_is (exps.Number n at) = refl
+meant_exp_is (exps.Variable x) = refl
+meant_exp_is (exps.Binary' o p l q r) =
+    ap (λ l. tree.Binary (operator_of o) l (meant_exp (exp_view r))) (meant_exp_is l) ∙ ap (tree.Binary (operator_of o) (exp_of l)) (meant_exp_is r)
 
-abbrev plain_exp : Exp → tree.Exp
-plain_exp (Num n at) = tree.Number (pos n)
-plain_exp (Var x) = tree.Var (plain_name x)
-plain_exp (Bin o l r) = tree.Binary (operator_of o) (plain_exp l) (plain_exp r)
+meant_stm_is : (s : code_stm.Stm) → meant_stm (stm_view s) ≡ stm_of s
+meant_stm_is (stms.Assign x u e) = ap (tree.Set (name_of x) (sign_of u)) (meant_exp_is e)
 
-abbrev plain_stm : Stm → tree.Stm
-plain_stm (Assign x u e) = tree.Set (plain_name x) (sign_of u) (plain_exp e)
-
-abbrev plain_block : Block → tree.Blk
-plain_block Empty = tree.Nil
-plain_block (More s b) = tree.Cons (plain_stm s) (plain_block b)
-
-plain_exp_is : (e : code_exp.Exp) → plain_exp (exp_view e) ≡ exp_of e
-plain_exp_is (exps.Number n at) = refl
-plain_exp_is (exps.Variable x) = refl
-plain_exp_is (exps.Binary' o p l q r) =
-    ap (λ l. tree.Binary (operator_of o) l (plain_exp (exp_view r))) (plain_exp_is l) ∙ ap (tree.Binary (operator_of o) (exp_of l)) (plain_exp_is r)
-
-plain_stm_is : (s : code_stm.Stm) → plain_stm (stm_view s) ≡ stm_of s
-plain_stm_is (stms.Assign x u e) = ap (tree.Set (name_of x) (sign_of u)) (plain_exp_is e)
-
-plain_block_is : (ss : List code_stm.Stm) → plain_block (block_view ss) ≡ block_of ss
-plain_block_is [] = refl
-plain_block_is (s ∷ ss) = ap (λ s. tree.Cons s (plain_block (block_view ss))) (plain_stm_is s) ∙ ap (tree.Cons (stm_of s)) (plain_block_is ss)
+pub meant_block_is : (ss : List code_stm.Stm) → meant_block (block_view ss) ≡ block_of ss
+meant_block_is [] = refl
+meant_block_is (s ∷ ss) = ap (λ s. tree.Cons s (meant_block (block_view ss))) (meant_stm_is s) ∙ ap (tree.Cons (stm_of s)) (meant_block_is ss)
 
 opposite_plain : (u : Update) → sign_of (opposite_of u) ≡ opposite (sign_of u)
 opposite_plain Add = refl
 opposite_plain Subtract = refl
 opposite_plain Xor = refl
 
-inverse_plain : (s : Stm) → plain_stm (inverse_stm s) ≡ tree.inverse (plain_stm s)
-inverse_plain (Assign x u e) = ap (λ o. tree.Set (plain_name x) o (plain_exp e)) (opposite_plain u)
+inverse_plain : (s : Stm) → meant_stm (inverse_stm s) ≡ tree.inverse (meant_stm s)
+inverse_plain (Assign x u e) = ap (λ o. tree.Set (text_of x) o (meant_exp e)) (opposite_plain u)
 
-turned_plain : (b acc : Block) → plain_block (turned b acc) ≡ tree.turn (plain_block b) (plain_block acc)
+turned_plain : (b acc : Block) → meant_block (turned b acc) ≡ tree.turn (meant_block b) (meant_block acc)
 turned_plain Empty acc = refl
 turned_plain (More s b) acc =
-    turned_plain b (More (inverse_stm s) acc) ∙ ap (λ s. tree.turn (plain_block b) (tree.Cons s (plain_block acc))) (inverse_plain s)
+    turned_plain b (More (inverse_stm s) acc) ∙ ap (λ s. tree.turn (meant_block b) (tree.Cons s (meant_block acc))) (inverse_plain s)
 
 -- what is inverted with its places is inverted without them
 pub inverse_block_is : (rs ss : List code_stm.Stm) → block_view rs ≡ turned (block_view ss) Empty → block_of rs ≡ tree.inverse_block (block_of ss)
 inverse_block_is rs ss h =
-    sym (plain_block_is rs) ∙ ap plain_block h ∙ turned_plain (block_view ss) Empty ∙ ap tree.inverse_block (plain_block_is ss)
+    sym (meant_block_is rs) ∙ ap meant_block h ∙ turned_plain (block_view ss) Empty ∙ ap tree.inverse_block (meant_block_is ss)

@@ -20,3 +20,6 @@ pub use crate::inverse::{invert, invert_code, opposite};
 pub fn inverse_cell_twice_law()
     ensures { InverseCellTwice }
 {}
+
+#[cfg(test)]
+mod tests;

@@ -7,6 +7,8 @@ use Rattle.janus_meaning.specs.Fault.{Res, Fine, Bad, Broken, and_then}
 use Rattle.janus_meaning.specs.Syntax.{Name}
 use Rattle.janus_meaning.specs.Store as spec
 use Rattle.janus_meaning.specs.Store.{Val, Num, Lent, same_name, look, look_at, take, take_at, put, put_at}
+use Rattle.janus_meaning.specs.Syntax.{ANumber}
+use Rattle.janus_meaning.specs.Formed.{shape_of, Known}
 use Rattle.janus_meaning.specs.World.{size_of}
 use Rattle.janus_meaning.proofs.Stores.{same_name_self, same_name_true}
 use Rattle.janus_meaning.proofs.Results.{with_parts}
@@ -99,3 +101,18 @@ pub listed-declared : (s : spec.Store) (vs : List Variable) → listed (declared
 listed-declared s [] = sym (append-nil (listed s))
 listed-declared s (v ∷ vs) =
     listed-declared (spec.Slot (name v) (Num v.value) s) vs ∙ append_assoc (listed s) (pair_of v ∷ []) (map pair_of vs)
+
+-- ---- names and kinds
+
+shape-declared : (s r : spec.Store) (vs : List Variable) → shape_of s ≡ shape_of r → shape_of (declared_over s vs) ≡ shape_of (declared_over r vs)
+shape-declared s r [] e = e
+shape-declared s r (v ∷ vs) e =
+    shape-declared (spec.Slot (name v) (Num v.value) s) (spec.Slot (name v) (Num v.value) r) vs (ap (Known (name v) ANumber) e)
+
+-- another number leaves them
+pub shape-written : (s : spec.Store) (vs : List Variable) (i : ℕ) (v : Variable) (n : ℤ) → slice_get vs i ≡ Some v → shape_of (declared_over s (set vs i (record { name = v.name; value = n }))) ≡ shape_of (declared_over s vs)
+shape-written s [] i v n e = cc
+shape-written s (w ∷ vs) zero v n e =
+    let same : w ≡ v = cc in
+    shape-declared (spec.Slot (name v) (Num n) s) (spec.Slot (name w) (Num w.value) s) vs (ap (λ (w : Variable). Known (name w) ANumber (shape_of s)) (sym same))
+shape-written s (w ∷ vs) (suc i) v n e = shape-written (spec.Slot (name w) (Num w.value) s) vs i v n e

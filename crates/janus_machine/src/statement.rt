@@ -2,6 +2,7 @@
 
 ghost use Rattle.std.specs.Prelude.{◌≡◌, ◌≢◌};
 ghost use Rattle.janus_meaning.specs.Fault.{Bad, Broken};
+ghost use Rattle.janus_meaning.specs.Formed.{shape_of};
 ghost use Rattle.janus_meaning.specs.Moves.{assign as assign_of};
 ghost use Rattle.janus_syntax.specs.View.{name_of, exp_of, sign_of};
 ghost use Rattle.janus_machine.specs.Faults.{IsDone};
@@ -16,7 +17,8 @@ use janus_syntax::tree::{Exp, Name, Update};
 /// Runs a statement, or leaves the store at a fault.
 pub fn run(statement: &Statement, store: &mut Store) -> Result<(), Fault>
     requires { run_of statement.now store.old ≢ Bad Broken }
-    ensures { IsDone (run_of statement.now store.old) store.old store.new result }
+    ensures done { IsDone (run_of statement.now store.old) store.old store.new result }
+    ensures shape { shape_of store.new ≡ shape_of store.old }
 {
     match statement {
         Statement::Assign(name, update, exp) => assign(name, *update, exp, store),
@@ -26,7 +28,8 @@ pub fn run(statement: &Statement, store: &mut Store) -> Result<(), Fault>
 /// An assignment, whose right side may not name what it changes.
 fn assign(name: &Name, update: Update, exp: &Exp, store: &mut Store) -> Result<(), Fault>
     requires { assign_of (name_of name.now) (sign_of update) (exp_of exp.now) store.old ≢ Bad Broken }
-    ensures { IsDone (assign_of (name_of name.now) (sign_of update) (exp_of exp.now) store.old) store.old store.new result }
+    ensures done { IsDone (assign_of (name_of name.now) (sign_of update) (exp_of exp.now) store.old) store.old store.new result }
+    ensures shape { shape_of store.new ≡ shape_of store.old }
 {
     let operand = match value(exp, store) {
         Ok(operand) => operand,

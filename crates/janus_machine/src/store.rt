@@ -1,8 +1,10 @@
 //! The declared names with their numbers: an ordered map by name, and the order of declaration.
 
 ghost use Rattle.std.specs.Prelude.{◌≡◌, ℤ, pos, ◌<◌, IsTrue, ◌↔◌, OnOk, OnErr, slice_get, Some, Bool, false, true};
+ghost use Rattle.std.specs.Bool.{OnFalse};
 ghost use Rattle.janus_meaning.specs.Fault.{Fine, Bad, Broken, and_then};
 ghost use Rattle.janus_meaning.specs.Store.{Bare, Slot, Num, look, number};
+ghost use Rattle.janus_meaning.specs.Formed.{shape_of};
 ghost use Rattle.janus_meaning.specs.World.{size_of};
 ghost use Rattle.janus_meaning.specs.Word.{changed as changed_of};
 ghost use Rattle.janus_syntax.specs.View.{sign_of};
@@ -50,7 +52,10 @@ impl Store {
     pub fn new(alloc: Global) -> Store
         ensures { result ≡ Bare }
     {
-        Store { variables: Vec::new(alloc), places: BTreeMap::new(alloc) }
+        Store {
+            variables: Vec::new(alloc),
+            places: BTreeMap::new(alloc),
+        }
     }
 
     /// How many names are declared.
@@ -69,7 +74,8 @@ impl Store {
 
     /// Whether a name is declared.
     pub fn contains(&self, name: &str) -> bool
-        ensures { result ≡ is_fine (look name.now self.now) }
+        ensures declared { result ≡ is_fine (look name.now self.now) }
+        ensures absent { OnFalse result (look name.now self.now ≡ Bad Broken) }
     {
         self.places.contains_key(name)
     }
@@ -121,7 +127,8 @@ impl Store {
     /// Changes the number of a name in place, by an assignment's operator and the number of its right side.
     pub fn update(&mut self, name: &str, update: Update, operand: i32)
         requires { IsNumber (look name.now self.old) }
-        ensures { (n : ℤ) → look name.now self.old ≡ Fine (Num n) → write name.now (Num (changed_of (sign_of update) n operand)) self.old ≡ Fine self.new }
+        ensures written { (n : ℤ) → look name.now self.old ≡ Fine (Num n) → write name.now (Num (changed_of (sign_of update) n operand)) self.old ≡ Fine self.new }
+        ensures shape { shape_of self.new ≡ shape_of self.old }
     {
         match self.places.get(name) {
             Some(place) => {

@@ -1,55 +1,14 @@
-use Rattle.std.proofs.Common.{◌≡◌, ℕ, List, [], ◌∷◌, refl, ◌+◌, ◌<◌, ◌≤◌, length, get_or, ap, ◌∙◌, sym, subst, arith, length-append}
-use Rattle.std.specs.Prelude.{slice_get, Some}
-use Rattle.std.proofs.lemmas.Option.{slice_get_read}
-use Rattle.janus_syntax.specs.declared.tree.Stm.{Stm}
-use Rattle.janus_invert.specs.CodeBlock.{code_tree, inner_block}
-use Rattle.janus_invert.proofs.Pairs.{ArePairs, no_pairs, pairs_more, each_more}
-use Rattle.janus_invert.proofs.Flattened.{IsFlat, downward, flattened}
+use Rattle.std.proofs.Common.{◌≡◌, IfOk, ap, ◌∙◌, sym, subst}
+use Rattle.janus_meaning.specs.Syntax as tree
+use Rattle.janus_syntax.specs.View.{block_of}
+use Rattle.janus_check.specs.Checked.{cell_in}
+use Rattle.janus_check.specs.WellFormed.{block_of_cell}
+use Rattle.janus_invert.specs.CodeBlock.{code_block}
+use Rattle.janus_invert.proofs.Cells.{meant_block_is}
 use Rattle.janus_invert.proofs.flat.flatten.Goals as goal
 
-pub loop-i-init : goal.loop-i-init
-loop-i-init c = record {
-  statements = ap length c.new-statements.ensures.items;
-  members = ap length c.new-members.ensures.items;
-  counted = λ j lt. absurd (omega arith);
-  flat = no_pairs IsFlat c.args.cell.now.statements.items c.new-statements.result.items c.new-statements.ensures.items;
-}
-
-pub loop-i-preserved : goal.loop-i-preserved
-loop-i-preserved c =
-    let i = c.loop-i.i in
-    let ss = c.loop-i.statements.items in
-    let ms = c.loop-i.members.items in
-    let one = c.in_ok-flat_statement.field-0 in
-    let cs = c.args.cell.now.statements.items in
-    let v = c.loop-i.invariant in
-    let value = c.deref-statement-items.ensures.value in
-    let lt : i < length cs = omega (arith, ap length value) in
-    let read : slice_get cs i ≡ Some c.statement-item.result =
-        slice_get_read cs (length cs) i c.statement-item.result refl lt (c.statement-item.is ∙ ap (λ (l : List Stm). get_or l i c.statement-item.result) value) in
-    let grown = c.in_ok-push.ensures.items in
-    let counted = c.in_ok-push-2.ensures.items in
-    record {
-      statements = omega (arith, ap length grown, length-append ss (one ∷ []), v.statements);
-      members = omega (arith, ap length counted, length-append ms (i ∷ []), v.members);
-      counted = λ j lt. subst (λ (l : List ℕ). get_or l j 0 ≡ j) (sym counted) (each_more (λ j m. m ≡ j) ms i (λ j p. v.counted j (omega (arith, v.members))) (sym v.members) j (omega (arith, v.members)));
-      flat = subst (ArePairs IsFlat cs) (sym grown) (pairs_more IsFlat cs ss c.statement-item.result one v.flat (ap (slice_get cs) v.statements ∙ read) c.in_ok-flat_statement.ensures);
-    }
-
-pub invariant_of-result : goal.invariant_of-result
-invariant_of-result c =
-    let ms = c.loop-i.members in
-    let v = c.loop-i.invariant in
-    let end : c.len-end.result ≡ c.loop-i.i = omega (arith, ms.ok.0) in
-    record {
-      downward = downward ms.items c.loop-i.statements.items c.len-end.result (v.members ∙ sym end) (v.statements ∙ sym end) (subst (λ n. (j : ℕ) → j < n → get_or ms.items j 0 ≡ j) (sym end) v.counted);
-    }
-
 pub returns : goal.returns
-unfolding code_tree inner_block
 returns c =
-    let ms = c.loop-i.members in
-    let v = c.loop-i.invariant in
-    let end : c.len-end.result ≡ c.loop-i.i = omega (arith, ms.ok.0) in
-    let long : length c.args.cell.now.statements.items ≡ c.len-end.result = omega (arith, ap length c.deref-statement-items.ensures.value, ms.ok.0) in
-    flattened ms.items c.loop-i.statements.items c.args.cell.now.statements.items c.len-end.result long (v.members ∙ sym end) (v.statements ∙ sym end) (subst (λ n. (j : ℕ) → j < n → get_or ms.items j 0 ≡ j) (sym end) v.counted) v.flat
+    let block : block_of c.deref.result.now ≡ block_of_cell (cell_in c.args.checked.now) =
+    ap block_of c.deref.ensures.value ∙ sym (meant_block_is c.cell.result.now.statements.items) ∙ ap block_of_cell c.cell.ensures in
+    subst (λ (b : tree.Blk). IfOk c.flat_code.result (λ code. code_block code ≡ b)) block c.flat_code.ensures

@@ -12,8 +12,8 @@ use Rattle.janus_machine.proofs.statement.assign.Goals as goal
 pub value-requires : goal.value-requires
 value-requires c = value_safe (name_of c.args.name.now) (sign_of c.args.update) (exp_of c.args.exp.now) c.args.store.now c.requires
 
-pub returns-in-Err : goal.returns-in-Err
-returns-in-Err c =
+pub returns-in-Err-clause-done : goal.returns-in-Err-clause-done
+returns-in-Err-clause-done c =
     (assign_bad (name_of c.args.name.now) (sign_of c.args.update) (exp_of c.args.exp.now) c.args.store.now (fault_of c.in-Err.fault) c.requires (sym c.in-Err.ensures), refl)
 
 pub update-requires : goal.update-requires
@@ -22,8 +22,8 @@ update-requires c =
     let n = is_number (name_of c.args.name.now) (sign_of c.args.update) (exp_of c.args.exp.now) s c.requires in
     subst (λ x. IsNumber (look x s)) (sym c.as_str.ensures.value) n
 
-pub returns : goal.returns
-returns c =
+pub returns-clause-done : goal.returns-clause-done
+returns-clause-done c =
     let s = c.args.store.now in
     let x = name_of c.args.name.now in
     let o = sign_of c.args.update in
@@ -34,5 +34,5 @@ returns c =
     let named = c.as_str.ensures.value in
     let seen : look c.as_str.result.now s ≡ Fine (Num n.0) = ap (λ x. look x s) named ∙ n.1 in
     let written : write x (Num (changed o n.0 w)) s ≡ Fine c.update.new.self =
-        ap (λ x. write x (Num (changed o n.0 w)) s) (sym named) ∙ ap (λ w. write c.as_str.result.now (Num (changed o n.0 w)) s) (sym z) ∙ c.update.ensures n.0 seen in
+    ap (λ x. write x (Num (changed o n.0 w)) s) (sym named) ∙ ap (λ w. write c.as_str.result.now (Num (changed o n.0 w)) s) (sym z) ∙ c.update.ensures.written n.0 seen in
     assign_fine x o e s n.0 w c.update.new.self c.requires n.1 (sym c.in-Ok.ensures) written

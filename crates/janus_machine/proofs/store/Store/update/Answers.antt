@@ -5,12 +5,13 @@ use Rattle.std.proofs.lemmas.Int.{to_z-of_z}
 use Rattle.std.proofs.lemmas.Option.{slice_get_within, slice_get_read}
 use Rattle.janus_meaning.specs.Fault.{Fine, Bad, Broken}
 use Rattle.janus_meaning.specs.Store.{look, Num, Bare}
+use Rattle.janus_meaning.specs.Formed.{shape_of}
 use Rattle.janus_meaning.specs.Word.{changed}
 use Rattle.janus_syntax.specs.View.{sign_of}
 use Rattle.janus_machine.specs.Stores.{write}
 use Rattle.janus_machine.specs.StoreView.{declared_over}
 use Rattle.janus_machine.specs.declared.store.Variable.{Variable}
-use Rattle.janus_machine.proofs.Variables.{write_here}
+use Rattle.janus_machine.proofs.Variables.{write_here, shape-written}
 use Rattle.janus_machine.proofs.Indexes.{only, look_none, look_some, written}
 use Rattle.janus_machine.proofs.store.Store.update.Goals as goal
 
@@ -30,8 +31,8 @@ invariant_of-self c =
     let at : slice_get a.variables.items i ≡ Some v = slice_get_read a.variables.items (length a.variables.items) i v refl lt c.index_mut-variable.ensures.value in
     written a.variables.items (get_by_text a.places) c.self.invariant i v _ at refl
 
-pub returns-in-Some : goal.returns-in-Some
-returns-in-Some c = λ n e.
+pub returns-in-Some-clause-written : goal.returns-in-Some-clause-written
+returns-in-Some-clause-written c = λ n e.
     let a = c.self.inside in
     let x = c.args.name.now in
     let i = c.in-Some.place.now in
@@ -58,10 +59,20 @@ returns-in-Some c = λ n e.
     ∙ write_here x m Bare a.variables.items i v at named (only a.variables.items (get_by_text a.places) c.self.invariant x i found)
     ∙ ap (λ k. Fine (declared_over Bare (set a.variables.items i (record { name = v.name; value = k })))) (sym z)
 
-pub returns-in-None : goal.returns-in-None
-returns-in-None c = λ n e.
+pub returns-in-None-clause-written : goal.returns-in-None-clause-written
+returns-in-None-clause-written c = λ n e.
     let a = c.self.inside in
     let x = c.args.name.now in
     let none = look_none a.variables.items (get_by_text a.places) c.self.invariant x (sym c.in-None.ensures.value) in
     let bad : Bad Broken ≡ Fine (Num n) = sym none ∙ ap (look x) c.self.view_is ∙ e in
     cc
+
+pub returns-in-Some-clause-shape : goal.returns-in-Some-clause-shape
+returns-in-Some-clause-shape c =
+    let a = c.self.inside in
+    let i = c.in-Some.place.now in
+    let v = c.index_mut-variable.result.now in
+    let s = c.self.invariant.stored c.args.name.now i (sym c.in-Some.ensures.value) in
+    let lt : i < length a.variables.items = slice_get_within a.variables.items i s.0 s.1 in
+    let at : slice_get a.variables.items i ≡ Some v = slice_get_read a.variables.items (length a.variables.items) i v refl lt c.index_mut-variable.ensures.value in
+    shape-written Bare a.variables.items i v _ at ∙ ap shape_of c.self.view_is
