@@ -2,7 +2,7 @@
 use Rattle.std.proofs.Common.{◌≡◌, ℕ, ◌-◌, ◌<◌, IsTrue, List, get_or, zero, suc, refl, ap, ◌∙◌, subst, arith, inl, inr}
 use Rattle.kernel_core.specs.State.{Node, Past, Idle, State, root}
 use Rattle.kernel_core.specs.Legal.{ancestor, can_undo, IsLegal}
-use Rattle.kernel_core.specs.Headline.{next, along, standing, MoveEnds, RedoGivesBack}
+use Rattle.kernel_core.specs.Theorems.{next, along, standing, MoveEnds, RedoGivesBack}
 use Rattle.kernel_core.specs.declared.job.Way.{Way}
 use Rattle.kernel_core.specs.declared.job.Way.TheVariants.{Up, Down}
 use Rattle.kernel_core.specs.declared.outcome.End.TheVariants.{All}

@@ -9,7 +9,7 @@ use Rattle.kernel_core.specs.Legal.{can_go}
 use Rattle.kernel_core.specs.Slices.{finished, turned, grown, Backs, Arrives, Settles, Comes, SlicesIn, SlicesAt}
 use Rattle.kernel_core.specs.Begins.{Enters, TakesMove, TakesCell}
 use Rattle.kernel_core.specs.Runs.{Machine, Request, RunCell, request_of, Step, Run, IsPost, BeginsAt, Takes}
-use Rattle.kernel_core.specs.Headline.{next, along, standing, move_of, EndsAs, MoveEnds, CellEnds, MovesEnd, CellsEnd}
+use Rattle.kernel_core.specs.Theorems.{next, along, standing, move_of, EndsAs, MoveEnds, CellEnds, MovesEnd, CellsEnd}
 use Rattle.kernel_core.specs.declared.runner.Ran.{Ran}
 use Rattle.kernel_core.specs.declared.runner.Ran.TheVariants.{Went, Ended, Stopped}
 use Rattle.kernel_core.specs.declared.job.Way.{Way}

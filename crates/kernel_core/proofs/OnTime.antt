@@ -7,7 +7,7 @@ use Rattle.kernel_core.specs.Reached.{Reaches}
 use Rattle.kernel_core.specs.State.{Past, Move, State, here, code_of}
 use Rattle.kernel_core.specs.Legal.{IsPossible, IsLegal}
 use Rattle.kernel_core.specs.Slices.{Settles, Comes}
-use Rattle.kernel_core.specs.Headline.{steps_of, end_world, IsOnTime, SettlesOnTime, NeverFaults, IsMirrored}
+use Rattle.kernel_core.specs.Theorems.{steps_of, end_world, IsOnTime, SettlesOnTime, NeverFaults, IsMirrored}
 use Rattle.kernel_core.specs.declared.runner.Ran.{Ran}
 use Rattle.kernel_core.specs.declared.runner.Ran.TheVariants.{Went, Ended, Stopped}
 use Rattle.kernel_core.specs.declared.job.Travel.{Travel}

@@ -5,7 +5,7 @@ use Rattle.janus_meaning.specs.World.{World, Cell, empty_world}
 use Rattle.kernel_core.specs.Language.{Forward, Exec}
 use Rattle.kernel_core.specs.State.{Past, root, world_at, node_at}
 use Rattle.kernel_core.specs.Legal.{IsRun, IsLegal}
-use Rattle.kernel_core.specs.Headline.{IsPath, LeadTo, PathGivesWorld}
+use Rattle.kernel_core.specs.Theorems.{IsPath, LeadTo, PathGivesWorld}
 use Rattle.kernel_core.proofs.Laws.{exec_same}
 
 path : (s : Past) (f n : ℕ) → IsLegal s → n ≤ f → n < length s.nodes → (cells : List Cell) × IsPath s.nodes n cells

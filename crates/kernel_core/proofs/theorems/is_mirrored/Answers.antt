@@ -1,5 +1,5 @@
 use Rattle.kernel_core.proofs.OnTime.{is_mirrored}
-use Rattle.kernel_core.proofs.headline.is_mirrored.Goals as goal
+use Rattle.kernel_core.proofs.theorems.is_mirrored.Goals as goal
 
 pub returns : goal.returns
 returns c = is_mirrored

@@ -1,6 +1,6 @@
 //! The main theorem, over every run of the machine. `run_events` gives such runs, and each state of a kernel is legal.
 //! The functions do nothing: their contracts are the laws.
-ghost use Rattle.kernel_core.specs.Headline.{MovesEnd, CellsEnd, RedoGivesBack, SettlesOnTime, NeverFaults, IsMirrored, PathGivesWorld};
+ghost use Rattle.kernel_core.specs.Theorems.{MovesEnd, CellsEnd, RedoGivesBack, SettlesOnTime, NeverFaults, IsMirrored, PathGivesWorld};
 
 /// An undo or a redo of `k` cells is refused whole, or ends after `j` cells with the tree, all its worlds and its
 /// favourites as before, `j` nodes further; where it says `All`, `j` is `k`. Whatever posts, interrupts and slices come.
