@@ -31,7 +31,11 @@ fn flat_code(alloc: Global, block: &[Stm]) -> Result<Code, AllocError>
         members.push(i)?;
     }
     let end = members.len();
-    Ok(Code { statements, members, body: Block { start: 0, end } })
+    Ok(Code {
+        statements,
+        members,
+        body: Block { start: 0, end },
+    })
 }
 
 /// A statement of flat code; an error for want of memory.

@@ -31,7 +31,10 @@ pub fn invert(alloc: Global, cell: &Cell) -> Result<Cell, AllocError>
 {
     let declarations = copies(alloc, &cell.declarations)?;
     let statements = inverse_statements(alloc, &cell.statements)?;
-    Ok(Cell { declarations, statements })
+    Ok(Cell {
+        declarations,
+        statements,
+    })
 }
 
 /// The same declarations in memory of their own.
@@ -85,7 +88,11 @@ pub fn invert_code(alloc: Global, code: &Code) -> Result<Code, AllocError>
 {
     let statements = inverse_flat(alloc, &code.statements)?;
     let members = backward(alloc, &code.members, code.body)?;
-    Ok(Code { statements, members, body: code.body })
+    Ok(Code {
+        statements,
+        members,
+        body: code.body,
+    })
 }
 
 /// The inverses of flat statements, each at its number.
@@ -122,7 +129,11 @@ fn backward(alloc: Global, members: &[usize], block: Block) -> Result<Vec<usize>
 {
     let mut others = Vec::new(alloc);
     for i in 0..members.len() {
-        let from = if block.start <= i && i < block.end { block.start + (block.end - 1 - i) } else { i };
+        let from = if block.start <= i && i < block.end {
+            block.start + (block.end - 1 - i)
+        } else {
+            i
+        };
         others.push(members[from])?;
     }
     Ok(others)

@@ -8,7 +8,10 @@ use std::test::Fail;
 const NOWHERE: Span = Span { start: 0, end: 0 };
 
 fn name(alloc: Global, text: &str) -> Result<Name, AllocError> {
-    Ok(Name { text: String::from_str(alloc, text)?, span: NOWHERE })
+    Ok(Name {
+        text: String::from_str(alloc, text)?,
+        span: NOWHERE,
+    })
 }
 
 /// int x int y x += 5 y ^= x
@@ -18,8 +21,15 @@ fn cell(alloc: Global) -> Result<Cell, AllocError> {
     declarations.push(Declaration::Int(name(alloc, "y")?))?;
     let mut statements = Vec::new(alloc);
     statements.push(Stm::Assign(name(alloc, "x")?, Update::Add, Exp::Number(5, NOWHERE)))?;
-    statements.push(Stm::Assign(name(alloc, "y")?, Update::Xor, Exp::Variable(name(alloc, "x")?)))?;
-    Ok(Cell { declarations, statements })
+    statements.push(Stm::Assign(
+        name(alloc, "y")?,
+        Update::Xor,
+        Exp::Variable(name(alloc, "x")?),
+    ))?;
+    Ok(Cell {
+        declarations,
+        statements,
+    })
 }
 
 fn changed(statement: &Stm) -> &str {

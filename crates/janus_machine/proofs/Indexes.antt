@@ -93,9 +93,9 @@ module _ (vs : List Variable) (place : Name → Option ℕ) (h : AreIndexed vs p
         let here : slice_get vs i ≡ Some v = ap (λ l. slice_get l i) whole ∙ still ws y v i e in
         let lt : i < length ws = slice_get_within ws i v e in
         let far : bytes_eq k (name v) ≡ false = other_bytes k (name v) (λ z.
-            let p : Some (length ws) ≡ Some i = sym newest ∙ ap place (named ∙ z) ∙ h.found i v here in
-            let q : length ws ≡ i = cc in
-            omega arith) in
+        let p : Some (length ws) ≡ Some i = sym newest ∙ ap place (named ∙ z) ∙ h.found i v here in
+        let q : length ws ≡ i = cc in
+        omega arith) in
         by (name v) ∙ ap (λ b. cond b None (place (name v))) far ∙ h.found i v here;
     stored = λ x i e. stored_by x i (bytes_eq k x) refl (sym (by x) ∙ e);
   }

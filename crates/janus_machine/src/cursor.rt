@@ -61,7 +61,11 @@ impl Cursor {
     pub fn new() -> Cursor
         ensures { has_ended result ≡ true }
     {
-        Cursor { direction: Direction::Forward, phase: Phase::AfterBlock, at: 0 }
+        Cursor {
+            direction: Direction::Forward,
+            phase: Phase::AfterBlock,
+            at: 0,
+        }
     }
 
     /// Goes before the block of a book's code.

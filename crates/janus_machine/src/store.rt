@@ -52,7 +52,10 @@ impl Store {
     pub fn new(alloc: Global) -> Store
         ensures { result ≡ Bare }
     {
-        Store { variables: Vec::new(alloc), places: BTreeMap::new(alloc) }
+        Store {
+            variables: Vec::new(alloc),
+            places: BTreeMap::new(alloc),
+        }
     }
 
     /// How many names are declared.

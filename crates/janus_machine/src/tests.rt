@@ -9,7 +9,10 @@ use std::test::Fail;
 const NOWHERE: Span = Span { start: 0, end: 0 };
 
 fn name(alloc: Global, text: &str) -> Result<Name, AllocError> {
-    Ok(Name { text: String::from_str(alloc, text)?, span: NOWHERE })
+    Ok(Name {
+        text: String::from_str(alloc, text)?,
+        span: NOWHERE,
+    })
 }
 
 /// int x x += 5 x += 7
@@ -19,7 +22,10 @@ fn cell(alloc: Global) -> Result<Cell, AllocError> {
     let mut statements = Vec::new(alloc);
     statements.push(Stm::Assign(name(alloc, "x")?, Update::Add, Exp::Number(5, NOWHERE)))?;
     statements.push(Stm::Assign(name(alloc, "x")?, Update::Add, Exp::Number(7, NOWHERE)))?;
-    Ok(Cell { declarations, statements })
+    Ok(Cell {
+        declarations,
+        statements,
+    })
 }
 
 #[test]

@@ -1,7 +1,7 @@
 -- What has a tree is read, and as that tree: the machine goes along each derivation.
-use Rattle.std.proofs.Common.{◌≡◌, ℕ, suc, ◌+◌, ◌<◌, ◌≤◌, List, [], ◌∷◌, ◌++◌, length, Option, Some, None, true, cond, refl, ap, sym, subst, ◌∙◌, arith, append_assoc}
+use Rattle.std.proofs.Common.{◌≡◌, ℕ, suc, ◌+◌, ◌<◌, ◌≤◌, List, [], ◌∷◌, ◌++◌, length, Option, Some, None, true, cond, refl, ap, sym, ◌∙◌, arith, append_assoc}
 use Rattle.std.proofs.lemmas.List.{append-nil}
-use Rattle.std.specs.Prelude.{nat_lt, nat_le}
+use Rattle.std.specs.Prelude.{nat_lt}
 use Rattle.std.proofs.lemmas.Bool.{lt-ltb, le-ltb, le-leb}
 use Rattle.janus_syntax.specs.declared.fault.What.{What}
 use Rattle.janus_syntax.specs.declared.tree.Operator.{Operator}
@@ -12,7 +12,7 @@ use Rattle.janus_syntax.specs.Tokens.{Token, Name, Word_of}
 use Rattle.janus_syntax.specs.Tree.{named, Exp, Num, Var, Bin, Stm, Assign, Block, Empty, More, Declaration, Int, Cell, cell_of}
 use Rattle.janus_syntax.specs.Grammar
 use Rattle.janus_syntax.specs.Grammar.{SpellsExp, SpellsStm, SpellsBlock, SpellsDeclarations, SpellsCell, level_of, operator_at, update_at, operators, StmWithin, BlockWithin, CellWithin}
-use Rattle.janus_syntax.specs.Machine.{ForExp, Pending, Right, ForStm, Within, ForBlock, Body, State, Operand, After, Target, Another, Declarations, Declared, Step, Go, Stuck, push, binds_before, goes_on, after, ended, step, run, follow, at_end, target, begin, seen_operator, next, wanted, owed, counted, Admits, Stops, Outcome, Read, Limited}
+use Rattle.janus_syntax.specs.Machine.{ForExp, Pending, Right, ForStm, Within, Body, State, Operand, After, Target, Another, Declarations, Declared, Step, Go, push, binds_before, goes_on, after, ended, step, run, follow, at_end, target, seen_operator, next, wanted, owed, counted, Admits, Stops, Outcome, Read, Limited}
 use Rattle.janus_syntax.specs.Reading.{standing}
 
 -- a step to a state within the limit goes on
@@ -128,7 +128,7 @@ reads-stm limit (Grammar.assign {x = name} {at} {t} {u} {level} {e = exp} {from}
     ∙ run_goes limit t from (Target (named name at) A) (Operand (Right (named name at) u A)) (ap (λ o. target o (named name at) A) up) (omega arith)
     ∙ reads-exp limit d (Right (named name at) u A) tt (stops_at_none (seen_operator (next rest)) level n) (omega (arith, c))
     ∙ run_alike limit rest (After exp (Right (named name at) u A)) (Another (push b (Assign (named name at) u exp)) (Body ds)) refl
-      (ap (λ o. goes_on o exp (Right (named name at) u A) (ended (Assign (named name at) u exp) A (next rest))) n)
+    (ap (λ o. goes_on o exp (Right (named name at) u A) (ended (Assign (named name at) u exp) A (next rest))) n)
     ∙ ap (run limit rest) (sym (standing_push ds b (Assign (named name at) u exp)))
 
 pub reads-block : (limit : ℕ) {r : Block} {from rest : List Token} → SpellsBlock r from rest → rest ≡ [] → (ds : List Declaration) (b : Block) → BlockWithin limit r → run limit from (standing ds b) ≡ run limit rest (standing ds (append b r))

@@ -1,5 +1,5 @@
 -- What stands at the front of a text, and that no longer item fits there.
-use Rattle.std.proofs.Common.{◌≡◌, ℕ, suc, ◌+◌, ◌*◌, ◌-◌, ◌<◌, ◌≤◌, ◌==◌, ◌⊎◌, inl, inr, List, [], ◌∷◌, ◌++◌, length, get_or, take, drop, Bool, true, false, Option, Some, None, cond, refl, ap, sym, subst, ◌∙◌, arith, append_assoc, IsUtf8, length-append}
+use Rattle.std.proofs.Common.{◌≡◌, ℕ, ◌+◌, ◌-◌, ◌<◌, ◌≤◌, ◌==◌, ◌⊎◌, inl, inr, List, [], ◌∷◌, ◌++◌, length, get_or, take, drop, Bool, true, false, Some, None, cond, refl, ap, sym, subst, ◌∙◌, arith, append_assoc, IsUtf8, length-append}
 use Rattle.std.specs.Prelude.{nat_lt, nat_eq}
 use Rattle.std.specs.List.{prefix_len, starts_with}
 use Rattle.std.proofs.lemmas.Slice.Eq.{starts_is}
@@ -7,7 +7,7 @@ use Rattle.std.proofs.lemmas.Bool.Decides.{Decides-eqb}
 use Rattle.std.specs.Str.{IsCharBoundary}
 use Rattle.std.proofs.Math.Seq.{take-append_seam}
 use Rattle.std.proofs.str.Laws.{order}
-use Rattle.std.proofs.lemmas.Bool.{ltb-true, eqb-true}
+use Rattle.std.proofs.lemmas.Bool.{ltb-true}
 use Rattle.std.proofs.lemmas.Bool.Decides.{nat_tests}
 use Rattle.std.proofs.lemmas.List.Prefix.{front_rest}
 use Rattle.std.proofs.lemmas.List.Sums.{prefix_len_passes, prefix_len_stops, prefix_len-le-length}
@@ -20,8 +20,8 @@ use Rattle.janus_syntax.specs.declared.lexer.Class.{Class}
 use Rattle.janus_syntax.specs.declared.lexer.Class.TheVariants as class
 use Rattle.janus_syntax.specs.declared.lexer.Front.TheVariants as front
 use Rattle.janus_syntax.specs.Spelling.{sign_text, word_text}
-use Rattle.janus_syntax.specs.Lexical.{class_of, goes_on_name, goes_on_number, AllPass, of_name, of_number, in_line, IsNameText, IsNumberText, IsSeparator, IsComment, Item, Gap, A_name, A_number, A_sign, A_word, IsSpelled, NoLonger, NoItem}
-use Rattle.janus_syntax.specs.Scan.{goes_on, IsLongestSign, IsFrontText, IsFrontOf}
+use Rattle.janus_syntax.specs.Lexical.{class_of, goes_on_name, goes_on_number, AllPass, of_name, of_number, in_line, Item, Gap, A_name, A_number, A_sign, A_word, IsSpelled, NoLonger, NoItem}
+use Rattle.janus_syntax.specs.Scan.{IsLongestSign, IsFrontText, IsFrontOf}
 
 -- the first octet
 abbrev pub head : List ℕ → ℕ
@@ -343,7 +343,7 @@ comment_longest : (cs rest : List ℕ) → StopsAt in_line rest → NoLonger (47
 comment_longest cs rest stops i more others e s = run_ends in_line cs rest more others stops e (comment_goes_on i (cs ++ more) s)
 
 letters_of_run : (c : ℕ) (cs run rest : List ℕ) (n : ℕ) → class_of c ≡ class.Letter → c ∷ cs ≡ run ++ rest → n ≡ length run → AllPass of_name run → StopsAt of_name rest → IsFrontOf front.Letters n (c ∷ cs)
-letters_of_run c cs [] rest n k e l h stops = 
+letters_of_run c cs [] rest n k e l h stops =
     let a : of_name c ≡ true = ap goes_on_name k in
     let b : of_name c ≡ false = subst (λ m. StopsAt of_name m) (sym e) stops in
     absurd cc

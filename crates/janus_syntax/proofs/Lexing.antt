@@ -1,13 +1,12 @@
 -- The lexer's steps: one more item, and that a text has one list of tokens.
-use Rattle.std.proofs.Common.{◌≡◌, ℕ, ◌+◌, ◌-◌, ◌<◌, ◌≤◌, ◌⊎◌, inl, inr, List, [], ◌∷◌, ◌++◌, length, take, drop, take-append-drop, Option, Some, None, Result, Ok, Err, Vec, true, ◌==◌, refl, ap, sym, subst, ◌∙◌, arith, append_assoc, IsUtf8, length-append, length-drop}
+use Rattle.std.proofs.Common.{◌≡◌, ℕ, ◌+◌, ◌-◌, ◌<◌, ◌≤◌, List, [], ◌∷◌, ◌++◌, length, take, drop, take-append-drop, Result, Ok, Err, Vec, true, ◌==◌, refl, ap, sym, subst, ◌∙◌, arith, IsUtf8, length-drop}
 use Rattle.std.proofs.lemmas.Str.{IsUtf8-drop}
 use Rattle.std.specs.Str.{IsCharBoundary}
 use Rattle.std.proofs.lemmas.Bool.{eqb-true}
 use Rattle.janus_syntax.specs.declared.token.Span.{Span}
 use Rattle.janus_syntax.specs.declared.token.Token as code_token
-use Rattle.janus_syntax.specs.declared.token.TokenKind.{TokenKind}
 use Rattle.janus_syntax.specs.declared.lexer.Front.{Front}
-use Rattle.janus_syntax.specs.Tokens.{Token, token_of, token_view, views}
+use Rattle.janus_syntax.specs.Tokens.{Token, token_view, views}
 use Rattle.janus_syntax.specs.Lexical.{Item, Gap, IsSpelled, NoLonger, IsFront, IsToken, between, Lexes, none, gap, token, AreTokens, NoItem, IsBadToken, IsTooLarge, A_number, largest_number}
 use Rattle.janus_syntax.specs.Scan.{IsFrontOf, IsFirstChar, IsKindOf, IsLexed, IsOnly}
 use Rattle.janus_syntax.specs.declared.fault.SyntaxFault.{SyntaxFault}
@@ -74,7 +73,7 @@ pub lexed_token : (text : List ℕ) (ts : List code_token.Token) (t : code_token
 lexed_token text ts t rest part after start n f i k h cut p a s is =
     behind text (views ts) (views (ts ++ t ∷ [])) rest part after start n f k h cut a
     (subst (λ us. Lexes text text us after) (sym (views_push ts t))
-      (one_token (token_view t) k.lexes (front_is f i n rest part after h p a s) (subst (λ at. IsToken i at (token_view t)) (place_is text rest after n start k.start_is h.in_range a) is)))
+    (one_token (token_view t) k.lexes (front_is f i n rest part after h p a s) (subst (λ at. IsToken i at (token_view t)) (place_is text rest after n start k.start_is h.in_range a) is)))
 
 pub bad_token : (text : List ℕ) (ts : List Token) (rest : List ℕ) (start n : ℕ) → IsLexedTo text ts rest start → NoItem rest → IsFirstChar n rest → n ≤ length rest → IsBadToken text (place start (start + n))
 bad_token text ts rest start n k nothing c h =

@@ -1,5 +1,5 @@
 -- A text has one list of tokens, and a text with a bad token or a number past the largest has none.
-use Rattle.std.proofs.Common.{◌≡◌, ℕ, ◌+◌, ◌-◌, ◌<◌, ◌≤◌, ◌==◌, ◌&&◌, ◌⊎◌, inl, inr, List, [], ◌∷◌, ◌++◌, length, Bool, true, false, cond, Option, Some, None, Result, Ok, Err, refl, ap, sym, subst, ◌∙◌, arith, append_assoc, length-append}
+use Rattle.std.proofs.Common.{◌≡◌, ℕ, ◌<◌, ◌==◌, ◌⊎◌, inl, inr, List, [], ◌∷◌, ◌++◌, length, cond, refl, ap, sym, subst, ◌∙◌, arith, length-append}
 use Rattle.std.proofs.lemmas.List.{append-nil}
 use Rattle.std.proofs.lemmas.Str.{length-encode, len_utf8_bounds}
 use Rattle.std.specs.Prelude.{encode_utf8}
@@ -9,12 +9,9 @@ use Rattle.janus_syntax.specs.declared.token.Sign.{Sign}
 use Rattle.janus_syntax.specs.declared.token.Sign.TheVariants as sign
 use Rattle.janus_syntax.specs.declared.token.Word.{Word}
 use Rattle.janus_syntax.specs.declared.token.Word.TheVariants as word
-use Rattle.janus_syntax.specs.declared.lexer.Class.TheVariants as class
-use Rattle.janus_syntax.specs.declared.fault.SyntaxFault.{SyntaxFault}
-use Rattle.janus_syntax.specs.declared.fault.SyntaxFault.TheVariants as fault
 use Rattle.janus_syntax.specs.Spelling.{sign_text, word_text}
-use Rattle.janus_syntax.specs.Tokens.{Token, Name, Number, Sign_of, Word_of}
-use Rattle.janus_syntax.specs.Lexical.{class_of, Item, Gap, A_name, A_number, A_sign, A_word, IsSpelled, NoLonger, IsFront, IsToken, between, Lexes, none, gap, token, AreTokens, NoItem, IsBadToken, IsTooLarge, largest_number}
+use Rattle.janus_syntax.specs.Tokens.{Token}
+use Rattle.janus_syntax.specs.Lexical.{class_of, Item, Gap, A_name, A_number, A_sign, A_word, IsSpelled, IsFront, IsToken, between, Lexes, none, gap, token, AreTokens, NoItem, IsBadToken, IsTooLarge, largest_number}
 use Rattle.janus_syntax.proofs.Fronts.{head, second, head_is, some_octets, no_comment}
 
 abbrev word_from : List ℕ → Word

@@ -1,22 +1,12 @@
--- From places in a list of tokens to places in the text, and the theorems on texts.
-use Rattle.std.proofs.Common.{◌≡◌, ℕ, ◌+◌, ◌-◌, ◌<◌, ◌≤◌, List, [], ◌∷◌, ◌++◌, length, map, get_or, drop, drop-cons, suc, Result, Ok, Err, refl, ap, sym, subst, ◌∙◌, arith, length-append}
-use Rattle.std.proofs.lemmas.List.Prefix.{end_rest}
-use Rattle.std.proofs.lemmas.List.{drop-map, length-map}
+-- From places in a list of tokens to places in the text.
+use Rattle.std.proofs.Common.{◌≡◌, ℕ, ◌<◌, List, length, map, get_or, drop, drop-cons, refl, ap, sym, ◌∙◌}
+use Rattle.std.proofs.lemmas.List.{drop-map}
 use Rattle.janus_syntax.specs.declared.token.Span.{Span}
 use Rattle.janus_syntax.specs.declared.token.Token as code_token
 use Rattle.janus_syntax.specs.declared.token.TokenKind.{TokenKind}
 use Rattle.janus_syntax.specs.declared.token.TokenKind.TheVariants as kinds
-use Rattle.janus_syntax.specs.declared.tree.Cell as code_cell
-use Rattle.janus_syntax.specs.declared.fault.What.{What}
-use Rattle.janus_syntax.specs.declared.fault.SyntaxFault.{SyntaxFault}
-use Rattle.janus_syntax.specs.declared.fault.SyntaxFault.TheVariants as fault
-use Rattle.janus_syntax.specs.Tokens.{Token, token_of, token_view, views}
-use Rattle.janus_syntax.specs.Tree.{Cell, cell_view}
-use Rattle.janus_syntax.specs.Lexical.{AreTokens}
-use Rattle.janus_syntax.specs.Grammar.{IsTree, IsUnexpected, IsTooNested}
-use Rattle.janus_syntax.specs.Machine.{Failed, Limited}
-use Rattle.janus_syntax.specs.Reading.{IsRefused}
-use Rattle.janus_syntax.specs.Text.{span_of, place_before, HasTree, IsUnexpectedAt, IsTooNestedAt, IsParsed, IsOnlyTree}
+use Rattle.janus_syntax.specs.Tokens.{token_of, token_view, views}
+use Rattle.janus_syntax.specs.Text.{span_of, place_before}
 
 span_of_kind : (k : TokenKind) (at : Span) → span_of (token_of k at) ≡ at
 span_of_kind (kinds.Name s) at = refl
@@ -30,26 +20,3 @@ place_at tokens i end t h e =
     ∙ ap (λ u. span_of (token_view u)) e
     ∙ sym (ap (λ us. place_before end (map token_view us)) (drop-cons tokens i t h))
     ∙ ap (place_before end) (sym (drop-map token_view i tokens))
-
-left_rest : (tokens : List code_token.Token) (left : ℕ) (front rest : List Token) → views tokens ≡ front ++ rest → left ≡ length rest → drop (length tokens - left) (views tokens) ≡ rest
-left_rest tokens left front rest e k =
-    ap (λ n. drop (n - left) (views tokens)) (sym (length-map tokens token_view))
-    ∙ ap (λ n. drop (length (views tokens) - n) (views tokens)) k
-    ∙ end_rest (views tokens) rest front e
-
-left_fits : (tokens : List code_token.Token) (left : ℕ) (front rest : List Token) → views tokens ≡ front ++ rest → left ≡ length rest → left ≤ length tokens
-left_fits tokens left front rest e k = omega (arith, k, ap length e, length-append front rest, length-map tokens token_view)
-
-pub expected_fits : (tokens : List code_token.Token) (w : What) (left : ℕ) → IsRefused (views tokens) (Failed w left) → left ≤ length tokens
-expected_fits tokens w left (rest, k, u) = left_fits tokens left u.front rest u.whole k
-
-pub nested_fits : (tokens : List code_token.Token) (left : ℕ) → IsRefused (views tokens) (Limited left) → left ≤ length tokens
-nested_fits tokens left (rest, k, u) = left_fits tokens left u.front rest u.whole k
-
-pub unexpected_at : (text : List ℕ) (tokens : List code_token.Token) (w : What) (left : ℕ) (at : Span) → AreTokens text (views tokens) → IsRefused (views tokens) (Failed w left) → at ≡ place_before (length text) (drop (length tokens - left) (views tokens)) → IsUnexpectedAt text w at
-unexpected_at text tokens w left at are (rest, k, u) e =
-    record { tokens = views tokens; rest = rest; are_tokens = are; unexpected = u; place = e ∙ ap (place_before (length text)) (left_rest tokens left u.front rest u.whole k) }
-
-pub too_nested_at : (text : List ℕ) (tokens : List code_token.Token) (left : ℕ) (at : Span) → AreTokens text (views tokens) → IsRefused (views tokens) (Limited left) → at ≡ place_before (length text) (drop (length tokens - left) (views tokens)) → IsTooNestedAt text at
-too_nested_at text tokens left at are (rest, k, u) e =
-    record { tokens = views tokens; rest = rest; are_tokens = are; too_nested = u; place = e ∙ ap (place_before (length text)) (left_rest tokens left u.front rest u.whole k) }

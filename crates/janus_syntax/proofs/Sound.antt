@@ -1,17 +1,17 @@
 -- What the machine reads has that tree: at each state, the tokens taken spell what the state holds.
-use Rattle.std.proofs.Common.{◌≡◌, ℕ, suc, ◌+◌, ◌<◌, ◌≤◌, List, [], ◌∷◌, ◌++◌, length, Option, Some, None, true, false, cond, refl, ap, sym, subst, ◌∙◌, arith, append_assoc}
+use Rattle.std.proofs.Common.{◌≡◌, ℕ, suc, ◌+◌, ◌≤◌, List, [], ◌∷◌, ◌++◌, length, Option, Some, None, true, false, cond, refl, subst, arith}
 use Rattle.std.specs.Prelude.{nat_lt, nat_le}
-use Rattle.std.proofs.lemmas.Bool.{ltb-true, ltb-false, leb-true, leb-false}
+use Rattle.std.proofs.lemmas.Bool.{ltb-true, ltb-false, leb-true}
 use Rattle.janus_syntax.specs.declared.fault.What.{What}
 use Rattle.janus_syntax.specs.declared.token.Span.{Span}
 use Rattle.janus_syntax.specs.declared.token.Word.TheVariants as word
 use Rattle.janus_syntax.specs.declared.tree.Operator.{Operator}
 use Rattle.janus_syntax.specs.declared.tree.Update.{Update}
 use Rattle.janus_syntax.specs.Tokens.{Token, Name, Number, Sign_of, Word_of}
-use Rattle.janus_syntax.specs.Tree.{Name as Named, named, Exp, Num, Var, Bin, Stm, Assign, Block, Empty, More, Declaration, Int, Cell, cell_of}
+use Rattle.janus_syntax.specs.Tree.{Name as Named, named, Exp, Bin, Stm, Assign, Block, Empty, More, Declaration, Int, Cell}
 use Rattle.janus_syntax.specs.Grammar
 use Rattle.janus_syntax.specs.Grammar.{SpellsExp, SpellsStm, SpellsBlock, SpellsDeclarations, SpellsCell, level_of, operator_at, update_at, operators, StmWithin, BlockWithin, CellWithin}
-use Rattle.janus_syntax.specs.Machine.{ForExp, Pending, Right, ForStm, Within, ForBlock, Body, State, Operand, After, Target, Another, Declarations, Declared, Step, Go, Accept, Stuck, push, binds_before, goes_on, after, ended, another, step, run, follow, at_end, target, declaration, begin, or_else, seen_operator, next, wanted, owed, counted, Admits, Stops, Outcome, Read, Failed, Limited}
+use Rattle.janus_syntax.specs.Machine.{ForExp, Pending, Right, ForStm, Within, ForBlock, Body, State, Operand, After, Target, Another, Declarations, Declared, Step, Go, Accept, Stuck, push, binds_before, goes_on, after, ended, another, step, run, follow, at_end, target, seen_operator, next, wanted, owed, counted, Admits, Stops, Read, Limited}
 use Rattle.janus_syntax.proofs.Agrees.{operator_level}
 
 -- an expression of one level is one of each weaker level

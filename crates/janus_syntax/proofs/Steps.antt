@@ -1,5 +1,5 @@
 -- The parser's steps, over plain lists: what each part gives its caller, and where a part fails.
-use Rattle.std.proofs.Common.{◌≡◌, ◌≢◌, ℕ, suc, ◌+◌, ◌<◌, ◌≤◌, ◌-◌, List, [], ◌∷◌, ◌++◌, length, Option, Some, None, false, true, cond, refl, ap, sym, subst, ◌∙◌, arith}
+use Rattle.std.proofs.Common.{◌≡◌, ◌≢◌, ℕ, suc, ◌+◌, ◌<◌, ◌≤◌, ◌-◌, List, [], ◌∷◌, ◌++◌, length, Option, Some, None, false, cond, refl, ap, sym, subst, ◌∙◌, arith}
 use Rattle.std.specs.Prelude.{nat_le}
 use Rattle.std.proofs.lemmas.Bool.{lt-leb}
 use Rattle.janus_syntax.specs.declared.token.Span.{Span}
@@ -10,13 +10,13 @@ use Rattle.janus_syntax.specs.declared.tree.Update.{Update}
 use Rattle.janus_syntax.specs.declared.tree.Stm as code_stm
 use Rattle.janus_syntax.specs.declared.tree.Declaration as code_declaration
 use Rattle.janus_syntax.specs.declared.fault.What.TheVariants as what
-use Rattle.janus_syntax.specs.Tokens.{Token, Name, Number, Sign_of, Word_of}
-use Rattle.janus_syntax.specs.Tree.{named, Exp, Bin, Stm, stm_view, Assign, Block, block_view, Empty, More, Declaration, declaration_view, declarations_view, Int, Cell, cell_of}
+use Rattle.janus_syntax.specs.Tokens.{Token, Name, Word_of}
+use Rattle.janus_syntax.specs.Tree.{named, Exp, Bin, Stm, stm_view, Assign, Block, block_view, Empty, More, Declaration, declaration_view, declarations_view, Int, cell_of}
 use Rattle.janus_syntax.specs.Grammar
 use Rattle.janus_syntax.specs.Grammar.{SpellsExp, SpellsStm, SpellsBlock, SpellsDeclarations, SpellsCell, level_of, operator_at, update_at, operators, operator_limit, StmWithin, BlockWithin, IsTree}
-use Rattle.janus_syntax.specs.Machine.{ForExp, Pending, Right, ForStm, Within, ForBlock, Body, State, Operand, After, Target, Another, Declarations, Declared, Step, Go, Accept, Stuck, push, or_else, begin, close, another, ended, goes_on, declaration, target, step, run, follow, at_end, seen_operator, next, wanted, owed, counted, Admits, Stops, Outcome, Read, Failed, Limited}
-use Rattle.janus_syntax.specs.Reading.{EndsAt, IsExp, FailsExp, IsOperand, FailsOperand, IsOperator, IsSum, IsUpdate, FailsUpdate, IsStm, NoStm, FailsStm, IsDeclaration, IsWord, OtherWord, FailsDeclaration, AreDeclarations, AreAllDeclarations, standing, AreStatements, AreAllStatements, FailsStatements, FailsCell}
-use Rattle.janus_syntax.proofs.Agrees.{run_goes, run_alike, shifts, run_shifts, reads-exp, reads-stm, operator_level}
+use Rattle.janus_syntax.specs.Machine.{ForExp, Pending, Right, ForStm, Within, Body, State, Operand, After, Target, Declarations, Declared, Step, Go, Stuck, push, or_else, begin, close, declaration, target, step, run, follow, at_end, seen_operator, next, wanted, owed, Admits, Stops, Outcome, Failed, Limited}
+use Rattle.janus_syntax.specs.Reading.{EndsAt, IsExp, FailsExp, IsOperand, IsOperator, IsSum, IsUpdate, FailsUpdate, IsStm, NoStm, FailsStm, IsDeclaration, OtherWord, FailsDeclaration, AreDeclarations, AreAllDeclarations, standing, AreStatements, AreAllStatements, FailsStatements, FailsCell}
+use Rattle.janus_syntax.proofs.Agrees.{run_goes, shifts, run_shifts, reads-exp, reads-stm, operator_level}
 use Rattle.janus_syntax.proofs.Sound.{weaker, block_push, within_push, declarations_push}
 
 -- where no step leads on, the reading fails
@@ -135,9 +135,9 @@ pub assign_fails : (x : List ℕ) (at : Span) {u : Update} {from middle : List T
 assign_fails x at {u} {from} {middle} out i f =
     begins_with_name x at from out
     (λ A.
-        ap (λ ts. run operator_limit ts (Target (named x at) A)) i.is
-        ∙ run_goes operator_limit i.token middle (Target (named x at) A) (Operand (Right (named x at) u A)) (ap (λ o. target o (named x at) A) i.update) (omega arith)
-        ∙ f (Right (named x at) u A) tt refl)
+    ap (λ ts. run operator_limit ts (Target (named x at) A)) i.is
+    ∙ run_goes operator_limit i.token middle (Target (named x at) A) (Operand (Right (named x at) u A)) (ap (λ o. target o (named x at) A) i.update) (omega arith)
+    ∙ f (Right (named x at) u A) tt refl)
 
 -- statements in a row
 

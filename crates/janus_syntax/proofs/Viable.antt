@@ -1,6 +1,6 @@
 -- Where the machine fails, the reading cannot go on: what it has taken is the beginning of a cell, since each
 -- state leads to the end by some tokens; and no cell has the token at which it fails.
-use Rattle.std.proofs.Common.{◌≡◌, ℕ, suc, ◌+◌, ◌<◌, ◌≤◌, ◌⊎◌, inl, inr, List, [], ◌∷◌, ◌++◌, length, Option, Some, None, true, false, cond, refl, ap, sym, subst, ◌∙◌, arith, append_assoc, zero-add}
+use Rattle.std.proofs.Common.{◌≡◌, ℕ, suc, ◌+◌, ◌<◌, ◌≤◌, List, [], ◌∷◌, ◌++◌, length, Option, Some, None, true, false, cond, refl, ap, sym, subst, ◌∙◌, arith, append_assoc, zero-add}
 use Rattle.std.proofs.lemmas.List.{append-nil}
 use Rattle.std.specs.Prelude.{nat_le, nat_lt}
 use Rattle.std.proofs.lemmas.Bool.{leb-true, leb-false, lt-leb}
@@ -13,10 +13,10 @@ use Rattle.janus_syntax.specs.declared.tree.Operator.{Operator}
 use Rattle.janus_syntax.specs.declared.tree.Update.{Update}
 use Rattle.janus_syntax.specs.declared.tree.Update.TheVariants as assignment
 use Rattle.janus_syntax.specs.Tokens.{Token, Name, Number, Sign_of, Word_of}
-use Rattle.janus_syntax.specs.Tree.{Name as Named, named, Exp, Num, Bin, Stm, Assign, Block, Empty, More, Declaration, Int, Cell, cell_of}
+use Rattle.janus_syntax.specs.Tree.{Name as Named, named, Exp, Num, Var, Bin, Stm, Assign, Block, Empty, More, Declaration, Int, Cell, cell_of}
 use Rattle.janus_syntax.specs.Grammar
-use Rattle.janus_syntax.specs.Grammar.{SpellsCell, operator_at, update_at, operators, operator_limit, BlockWithin, CellWithin, IsTree, IsOpen, IsOpenWithin, IsItem, a_name, an_operator, an_expression, BeginsWith, IsNext, IsWanted, IsUnexpected, IsTooNested}
-use Rattle.janus_syntax.specs.Machine.{ForExp, Pending, Right, ForStm, Within, ForBlock, Body, State, Operand, After, Target, Another, Declarations, Declared, Step, Go, Accept, Stuck, push, binds_before, goes_on, after, ended, another, step, run, follow, at_end, target, seen_operator, next, wanted, wanted_exp, owed, counted, Outcome, Read, Failed, Limited}
+use Rattle.janus_syntax.specs.Grammar.{SpellsExp, SpellsCell, level_of, operator_at, update_at, operators, operator_limit, BlockWithin, CellWithin, IsTree, IsOpen, IsOpenWithin, IsItem, a_name, an_operator, an_expression, BeginsWith, IsNext, IsWanted, IsUnexpected, IsTooNested}
+use Rattle.janus_syntax.specs.Machine.{ForExp, Pending, Right, ForStm, Within, ForBlock, Body, State, Operand, After, Target, Another, Declarations, Declared, Step, Go, Accept, Stuck, push, binds_before, goes_on, after, ended, another, step, run, follow, at_end, target, next, wanted, wanted_exp, owed, counted, Outcome, Read, Failed, Limited}
 use Rattle.janus_syntax.specs.Reading.{IsRefused}
 use Rattle.janus_syntax.proofs.Agrees.{run_goes, reads}
 use Rattle.janus_syntax.proofs.Sound.{read_is_tree}
@@ -39,21 +39,21 @@ zero_ends limit E h =
     let r = ends_after limit E (Num 0 no_span) in
     (r.0, run_goes limit (Number 0 no_span) [] (Operand E) (After (Num 0 no_span) E) refl (omega arith) ∙ r.1)
 
-plus_zero_ends : (limit : ℕ) (x : Named) (A : ForStm) → (c : Cell) × (run limit (Sign_of sign.PlusEquals no_span ∷ Number 0 no_span ∷ []) (Target x A) ≡ Read c)
-plus_zero_ends limit x A =
-    let r = zero_ends limit (Right x assignment.Add A) (omega arith) in
-    (r.0, run_goes limit (Sign_of sign.PlusEquals no_span) (Number 0 no_span ∷ []) (Target x A) (Operand (Right x assignment.Add A)) refl (omega arith) ∙ r.1)
+update_ends : (limit : ℕ) (t : Token) (u : Update) (x : Named) (A : ForStm) → update_at t ≡ Some u → (c : Cell) × (run limit (t ∷ Number 0 no_span ∷ []) (Target x A) ≡ Read c)
+update_ends limit t u x A is =
+    let r = zero_ends limit (Right x u A) (omega arith) in
+    (r.0, run_goes limit t (Number 0 no_span ∷ []) (Target x A) (Operand (Right x u A)) (ap (λ o. target o x A) is) (omega arith) ∙ r.1)
 
-name_ends : (limit : ℕ) (ds : List Declaration) → (c : Cell) × (run limit (Name (120 ∷ []) no_span ∷ []) (Declared ds) ≡ Read c)
-name_ends limit ds = (cell_of (ds ++ Int (named (120 ∷ []) no_span) ∷ []) Empty, run_goes limit (Name (120 ∷ []) no_span) [] (Declared ds) (Declarations (ds ++ Int (named (120 ∷ []) no_span) ∷ [])) refl (omega arith))
+name_ends : (limit : ℕ) (x : List ℕ) (at : Span) (ds : List Declaration) → (c : Cell) × (run limit (Name x at ∷ []) (Declared ds) ≡ Read c)
+name_ends limit x at ds = (cell_of (ds ++ Int (named x at) ∷ []) Empty, run_goes limit (Name x at) [] (Declared ds) (Declarations (ds ++ Int (named x at) ∷ [])) refl (omega arith))
 
 completes : (limit : ℕ) (s : State) → counted s ≤ limit → (more : List Token) × (c : Cell) × (run limit more s ≡ Read c)
 completes limit (Operand E) h = let r = zero_ends limit E h in (Number 0 no_span ∷ [], r.0, r.1)
 completes limit (After e E) h = let r = ends_after limit E e in ([], r.0, r.1)
-completes limit (Target x A) h = let r = plus_zero_ends limit x A in (Sign_of sign.PlusEquals no_span ∷ Number 0 no_span ∷ [], r.0, r.1)
+completes limit (Target x A) h = let r = update_ends limit (Sign_of sign.PlusEquals no_span) assignment.Add x A refl in (Sign_of sign.PlusEquals no_span ∷ Number 0 no_span ∷ [], r.0, r.1)
 completes limit (Another b (Body ds)) h = ([], cell_of ds b, refl)
 completes limit (Declarations ds) h = ([], cell_of ds Empty, refl)
-completes limit (Declared ds) h = let r = name_ends limit ds in (Name (120 ∷ []) no_span ∷ [], r.0, r.1)
+completes limit (Declared ds) h = let r = name_ends limit (120 ∷ []) no_span ds in (Name (120 ∷ []) no_span ∷ [], r.0, r.1)
 
 -- The machine stands at s' in front of rest, having taken front from s.
 record Walked (limit : ℕ) (s : State) (tokens front rest : List Token) (s' : State) : Type 0 where
@@ -143,11 +143,62 @@ module _ {limit : ℕ} {tokens front rest : List Token} {s : State} (w : Walked 
       read_is_tree higher ((front ++ item) ++ more) c
       (ap (λ ts. run higher ts (Declarations [])) (append_assoc front item more) ∙ w.goes higher h (item ++ more) ∙ e)
 
+  -- the front with an item that completes it
+  open_by_itself : (higher : ℕ) (item : List Token) (c : Cell) → limit ≤ higher → run higher item s ≡ Read c → IsOpen (front ++ item)
+  open_by_itself higher item c h e = ([], c, (open_by higher item [] c h (ap (λ ts. run higher ts s) (append-nil item) ∙ e)).0)
+
   -- what a cell has behind the front is read from the state
   read_behind : (more : List Token) (c : Cell) → SpellsCell c (front ++ more) → (higher : ℕ) × (run higher more s ≡ Read c)
   read_behind more c d =
       let r = reads_high limit c (front ++ more) d in
       (r.0, sym (w.goes r.0 r.1 more) ∙ r.2)
+
+-- an expression goes on with each operator
+shifts_any : (E : ForExp) (e : Exp) (t : Token) (op : Operator) → operator_at t ≡ Some op → (E' : ForExp) × (after E e (Some t) ≡ Go (Operand E'))
+shifts_any (Right x u A) e t op is = (Pending e op (Right x u A), ap (λ o. goes_on o e (Right x u A) (ended (Assign x u e) A (Some t))) is)
+shifts_any (Pending l left E) e t op is =
+    let r = shifts_any E (Bin left l e) t op is in
+    let seen = ap (λ o. binds_before o left e (Pending l left E) (after E (Bin left l e) (Some t))) is in
+    elim (nat_lt (level_of op) (level_of left)) as (λ b. nat_lt (level_of op) (level_of left) ≡ b → (E' : ForExp) × (after (Pending l left E) e (Some t) ≡ Go (Operand E'))) [
+      | true ↦ λ q. (Pending e op (Pending l left E), seen ∙ ap (λ b. cond b (Go (Operand (Pending e op (Pending l left E)))) (after E (Bin left l e) (Some t))) q)
+      | false ↦ λ q. (r.0, seen ∙ ap (λ b. cond b (Go (Operand (Pending e op (Pending l left E)))) (after E (Bin left l e) (Some t))) q ∙ r.1)
+    ] refl
+
+-- the machine takes each expression, within some limit
+record Reaches (E : ForExp) (from rest : List Token) : Type 0 where
+  pub exp : Exp
+  pub waits : ForExp
+  pub bound : ℕ
+  pub goes_far : (higher : ℕ) → bound ≤ higher → run higher from (Operand E) ≡ run higher rest (After exp waits)
+
+reaches : {level : ℕ} {e : Exp} {from rest : List Token} → SpellsExp level e from rest → (E : ForExp) → Reaches E from rest
+reaches (Grammar.number {n = n} {at} {rest}) E = record { exp = Num n at; waits = E; bound = counted (After (Num n at) E); goes_far = λ higher h. run_goes higher (Number n at) rest (Operand E) (After (Num n at) E) refl h }
+reaches (Grammar.variable {x = x} {at} {rest}) E = record { exp = Var (named x at); waits = E; bound = counted (After (Var (named x at)) E); goes_far = λ higher h. run_goes higher (Name x at) rest (Operand E) (After (Var (named x at)) E) refl h }
+reaches (Grammar.binary {op = op} {t} {middle = middle} k dl o b dr) E =
+    let p = reaches dl E in
+    let s = shifts_any p.waits p.exp t op o in
+    let q = reaches dr s.0 in
+    record {
+      exp = q.exp;
+      waits = q.waits;
+      bound = p.bound + owed s.0 + q.bound;
+      goes_far = λ higher h.
+          p.goes_far higher (omega (arith, h))
+          ∙ run_goes higher t middle (After p.exp p.waits) (Operand s.0) s.1 (omega (arith, h))
+          ∙ q.goes_far higher (omega (arith, h));
+    }
+
+expression_ends : (limit : ℕ) (E : ForExp) (other : List Token) → IsItem what.Expression other → (higher : ℕ) × (limit ≤ higher) × (c : Cell) × (run higher other (Operand E) ≡ Read c)
+expression_ends limit E other (an_expression d) =
+    let r = reaches d E in
+    let c = ends_after (r.bound + limit) r.waits r.exp in
+    (r.bound + limit, omega arith, c.0, r.goes_far (r.bound + limit) (omega arith) ∙ c.1)
+
+name_item_ends : (limit : ℕ) (ds : List Declaration) (other : List Token) → IsItem what.Name other → (c : Cell) × (run limit other (Declared ds) ≡ Read c)
+name_item_ends limit ds other (a_name {x} {at}) = name_ends limit x at ds
+
+operator_item_ends : (limit : ℕ) (x : Named) (A : ForStm) (other : List Token) → IsItem what.Operator other → (c : Cell) × (run limit (other ++ Number 0 no_span ∷ []) (Target x A) ≡ Read c)
+operator_item_ends limit x A other (an_operator {t} {u} is) = update_ends limit t u x A is
 
 -- what is wanted
 
@@ -208,27 +259,30 @@ module _ {tokens front rest : List Token} where
         item = Number 0 no_span ∷ [];
         is_item = an_expression {level = 0} Grammar.number;
         may_come = open_item w (Number 0 no_span ∷ []) [] r.0 r.1;
+        each = λ other i. let q = expression_ends operator_limit E other i in open_by_itself w q.0 other q.2 q.1 q.3;
         required = λ more c d. let q = read_behind w more c d in needs_operand q.0 E more c q.1;
       }
   is_wanted (After e E) w =
       let r = ends_after operator_limit E e in
       subst (λ v. IsWanted v front) (sym (wanted_end E)) (whole_front w r.0 r.1)
   is_wanted (Target x A) w =
-      let r = plus_zero_ends operator_limit x A in
+      let r = update_ends operator_limit (Sign_of sign.PlusEquals no_span) assignment.Add x A refl in
       record {
         item = Sign_of sign.PlusEquals no_span ∷ [];
         is_item = an_operator {u = assignment.Add} refl;
         may_come = open_item w (Sign_of sign.PlusEquals no_span ∷ []) (Number 0 no_span ∷ []) r.0 r.1;
+        each = λ other i. let q = operator_item_ends operator_limit x A other i in (Number 0 no_span ∷ [], q.0, (open_by w operator_limit other (Number 0 no_span ∷ []) q.0 (omega arith) q.1).0);
         required = λ more c d. let q = read_behind w more c d in needs_operator q.0 x A more c q.1;
       }
   is_wanted (Another b (Body ds)) w = whole_front w (cell_of ds b) refl
   is_wanted (Declarations ds) w = whole_front w (cell_of ds Empty) refl
   is_wanted (Declared ds) w =
-      let r = name_ends operator_limit ds in
+      let r = name_ends operator_limit (120 ∷ []) no_span ds in
       record {
         item = Name (120 ∷ []) no_span ∷ [];
         is_item = a_name;
         may_come = open_item w (Name (120 ∷ []) no_span ∷ []) [] r.0 r.1;
+        each = λ other i. let q = name_item_ends operator_limit ds other i in open_by_itself w operator_limit other q.0 (omega arith) q.1;
         required = λ more c d. let q = read_behind w more c d in needs_name q.0 ds more c q.1;
       }
 

@@ -119,11 +119,12 @@ pub record BeginsWith (w : What) (tokens : List Token) : Type 0 where
   pub whole : tokens ≡ item ++ rest
   pub is_item : IsItem w item
 
--- behind this front the item may come, and no cell goes on without it
+-- behind this front each such item may come, one of them within the limit, and no cell goes on without one
 pub record IsNext (w : What) (front : List Token) : Type 0 where
   pub item : List Token
   pub is_item : IsItem w item
   pub may_come : IsOpenWithin (front ++ item)
+  pub each : (other : List Token) → IsItem w other → IsOpen (front ++ other)
   pub required : (more : List Token) (c : Cell) → SpellsCell c (front ++ more) → BeginsWith w more
 
 -- What has to come next behind this front. It is the end where the front is a cell already.

@@ -1,11 +1,10 @@
 -- The tokens of a text. At each place stands the longest item that fits: a name, a reserved word, a number, a
 -- sign, or a gap, which is a separator or a comment.
-use Rattle.std.specs.Prelude.{◌≡◌, ℕ, ◌+◌, ◌-◌, ◌*◌, ◌<◌, ◌≤◌, ◌==◌, ◌||◌, ◌⊎◌, List, [], ◌∷◌, ◌++◌, length, Bool, true, false, if◌then◌else◌, Option, Some, None, Result, Ok, Err, encode_utf8}
+use Rattle.std.specs.Prelude.{◌≡◌, ℕ, ◌+◌, ◌-◌, ◌*◌, ◌<◌, ◌≤◌, ◌==◌, ◌||◌, ◌⊎◌, List, [], ◌∷◌, ◌++◌, length, Bool, true, false, if◌then◌else◌, encode_utf8}
 use Rattle.std.specs.Char.{is_ascii_alphabetic, is_ascii_digit}
 use Rattle.janus_syntax.specs.declared.token.Span.{Span}
 use Rattle.janus_syntax.specs.declared.token.Sign.{Sign}
 use Rattle.janus_syntax.specs.declared.token.Word.{Word}
-use Rattle.janus_syntax.specs.declared.token.Token as code_token
 use Rattle.janus_syntax.specs.declared.lexer.Class.{Class}
 use Rattle.janus_syntax.specs.declared.lexer.Class.TheVariants as class
 use Rattle.janus_syntax.specs.Spelling.{sign_text, word_text}

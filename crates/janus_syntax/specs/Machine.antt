@@ -1,7 +1,7 @@
 -- A machine that reads tokens one by one, with one token of look-ahead. It keeps what is still owed as a
 -- stack. It is not part of what the grammar means: proofs/ relates the two. It needs no measure, since
 -- each step takes a token, and its failures depend on the tokens seen alone.
-use Rattle.std.specs.Prelude.{◌≡◌, ℕ, suc, ◌<◌, ◌≤◌, ◌+◌, List, [], ◌∷◌, ◌++◌, length, Option, Some, None, Bool, true, false, nat_lt, nat_le, cond}
+use Rattle.std.specs.Prelude.{ℕ, suc, ◌<◌, ◌≤◌, ◌+◌, List, [], ◌∷◌, ◌++◌, length, Option, Some, None, nat_lt, nat_le, cond}
 use Rattle.janus_syntax.specs.declared.token.Word.TheVariants as word
 use Rattle.janus_syntax.specs.declared.tree.Operator.{Operator}
 use Rattle.janus_syntax.specs.declared.tree.Update.{Update}

@@ -1,5 +1,5 @@
 -- What the parser's functions say of what they return.
-use Rattle.std.specs.Prelude.{◌≡◌, ℕ, ◌<◌, ◌≤◌, ◌-◌, ◌+◌, List, [], ◌∷◌, ◌++◌, length, Option, Some, None, Result, Ok, Err}
+use Rattle.std.specs.Prelude.{◌≡◌, ℕ, ◌<◌, ◌≤◌, ◌-◌, ◌+◌, List, [], ◌∷◌, length, Option, Some, None, Result, Ok, Err}
 use Rattle.std.specs.Borrow.{Bor}
 use Rattle.janus_syntax.specs.declared.token.Span.{Span}
 use Rattle.janus_syntax.specs.declared.token.Word.{Word}
@@ -11,9 +11,9 @@ use Rattle.janus_syntax.specs.declared.tree.Operator.{Operator}
 use Rattle.janus_syntax.specs.declared.tree.Update.{Update}
 use Rattle.janus_syntax.specs.declared.problem.Problem.{Problem}
 use Rattle.janus_syntax.specs.declared.problem.Problem.TheVariants as problem
-use Rattle.janus_syntax.specs.Tokens.{Token, Name, Sign_of, Word_of, views}
-use Rattle.janus_syntax.specs.Tree.{named, Exp, Stm, stm_view, Block, Empty, Declaration, declaration_view, Int, Cell}
-use Rattle.janus_syntax.specs.Grammar.{SpellsExp, SpellsStm, SpellsBlock, SpellsDeclarations, level_of, operator_at, update_at, operators, operator_limit, StmWithin, BlockWithin, IsTree, IsUnexpected, IsTooNested}
+use Rattle.janus_syntax.specs.Tokens.{Token, Name, Word_of, views}
+use Rattle.janus_syntax.specs.Tree.{named, Exp, Stm, stm_view, Block, Empty, Declaration, declaration_view, Int}
+use Rattle.janus_syntax.specs.Grammar.{SpellsExp, SpellsStm, SpellsBlock, SpellsDeclarations, level_of, operator_at, update_at, operators, operator_limit, StmWithin, BlockWithin, IsUnexpected, IsTooNested}
 use Rattle.janus_syntax.specs.Machine.{ForExp, ForStm, ForBlock, Body, State, Operand, Target, Another, Declarations, Go, Stuck, begin, step, run, next, seen_operator, owed, Admits, Outcome, Failed, Limited}
 
 -- how a reading failed, unless memory ran out

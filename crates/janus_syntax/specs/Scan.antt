@@ -1,5 +1,5 @@
 -- What the lexer's functions say of what they return.
-use Rattle.std.specs.Prelude.{◌≡◌, ℕ, ◌+◌, ◌<◌, ◌≤◌, List, [], ◌∷◌, ◌++◌, length, Bool, true, false, Option, Some, None, Result, Ok, Err, take, drop, encode_utf8, Vec}
+use Rattle.std.specs.Prelude.{◌≡◌, ℕ, ◌<◌, ◌≤◌, List, ◌++◌, length, Bool, Option, Some, None, Result, Ok, Err, take, drop, encode_utf8, Vec}
 use Rattle.janus_syntax.specs.declared.token.Sign.{Sign}
 use Rattle.janus_syntax.specs.declared.lexer.Class.{Class}
 use Rattle.janus_syntax.specs.declared.lexer.Class.TheVariants as class
@@ -12,7 +12,7 @@ use Rattle.janus_syntax.specs.declared.fault.SyntaxFault.{SyntaxFault}
 use Rattle.janus_syntax.specs.declared.fault.SyntaxFault.TheVariants as fault
 use Rattle.janus_syntax.specs.Tokens.{Token, token_of, views}
 use Rattle.janus_syntax.specs.Spelling.{sign_text}
-use Rattle.janus_syntax.specs.Lexical.{goes_on_name, goes_on_number, IsNameText, IsNumberText, Item, IsSpelled, Gap, A_number, IsToken, NoLonger, NoItem, AreTokens, IsBadToken, IsTooLarge, largest_number}
+use Rattle.janus_syntax.specs.Lexical.{goes_on_name, goes_on_number, IsNameText, IsNumberText, Item, IsSpelled, Gap, A_number, IsToken, NoLonger, AreTokens, IsBadToken, IsTooLarge, largest_number}
 
 -- how a run goes on that begins with an octet of the first class
 abbrev pub goes_on : Class → Class → Bool

@@ -209,7 +209,12 @@ fn first_char_len(text: &str) -> usize
 }
 
 /// The token of a text's front part, or nothing for a gap.
-fn token_kind(alloc: Global, front: Front, text: &str, span: Span) -> Result<Option<TokenKind>, SyntaxFault>
+fn token_kind(
+    alloc: Global,
+    front: Front,
+    text: &str,
+    span: Span,
+) -> Result<Option<TokenKind>, SyntaxFault>
     requires { IsFrontText front text.now }
     ensures { IsKindOf text.now span result }
 {

@@ -25,6 +25,8 @@ mod lexer;
 mod parser;
 mod problem;
 mod statement;
+#[cfg(test)]
+mod tests;
 pub mod token;
 pub mod tree;
 

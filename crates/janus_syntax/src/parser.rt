@@ -29,8 +29,15 @@ pub fn parse_cell(alloc: Global, text: &str) -> Result<Cell, SyntaxFault>
     let tokens = tokens(alloc, text)?;
     match parse(alloc, &tokens) {
         Ok(cell) => Ok(cell),
-        Err(Problem::Expected { what, left }) => Err(SyntaxFault::Expected(what, place(&tokens, left, text.len()))),
-        Err(Problem::TooNested { left }) => Err(SyntaxFault::TooNested(place(&tokens, left, text.len()))),
+        Err(Problem::Expected { what, left }) => Err(SyntaxFault::Expected(
+            what,
+            place(&tokens, left, text.len()),
+        )),
+        Err(Problem::TooNested { left }) => Err(SyntaxFault::TooNested(place(
+            &tokens,
+            left,
+            text.len(),
+        ))),
         Err(Problem::Memory) => Err(SyntaxFault::Memory),
     }
 }

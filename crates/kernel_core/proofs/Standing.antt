@@ -387,12 +387,12 @@ not_ok : (A E : Type 0) (x : E) → IsOk {T = A} {E = E} (Err x) → ⊥
 not_ok A E x h = cc
 
 -- only a cell with declarations may find no memory
-pub declares_next : {A E : Type 0} (tree : Tree) (travel : Travel) (node : Node) (r : Result A E) → travel.way ≡ Down → IsNodeAt tree (favourite_of (past_of tree) tree.position) node →
+pub declares_next : (A E : Type 0) (tree : Tree) (travel : Travel) (node : Node) (r : Result A E) → travel.way ≡ Down → IsNodeAt tree (favourite_of (past_of tree) tree.position) node →
     ((cell_of_program node.program).declarations ≡ [] → IsOk r) → OnErr r (Declares (past_of tree) travel)
-declares_next tree travel node (Ok x) way is none = tt
-declares_next tree travel node (Err x) way is none =
+declares_next A E tree travel node (Ok x) way is none = tt
+declares_next A E tree travel node (Err x) way is none =
     let same = node_there tree _ node is in
-    rw way (λ (e : (node_at (past_of tree) (favourite_of (past_of tree) tree.position)).cell.declarations ≡ []). not_ok _ _ x (none (ap (λ (n : state.Node). n.cell.declarations) same ∙ e)))
+    rw way (λ (e : (node_at (past_of tree) (favourite_of (past_of tree) tree.position)).cell.declarations ≡ []). not_ok A E x (none (ap (λ (n : state.Node). n.cell.declarations) same ∙ e)))
 
 pub ok_map : {A E : Type 0} {P Q : Type 0} (r : Result A E) → (P → Q) → OnOk r P → OnOk r Q
 ok_map (Ok x) f h = f h

@@ -1,6 +1,7 @@
 pub mod CellCode
 pub mod Language
 pub mod Text
+pub mod Refusal
 pub mod Program
 pub mod Reached
 pub mod Runner
@@ -11,5 +12,7 @@ pub mod Legal
 pub mod Slices
 pub mod Begins
 pub mod Kept
+pub mod PostFault
 pub mod Runs
 pub mod MachineCode
+pub mod Theorems

@@ -35,6 +35,30 @@ pub enum PostFault {
     Memory,
 }
 
+impl PostFault {
+    ghost use Rattle.kernel_core.specs.PostFault.{number_of, name_of};
+
+    /// The number under which the refusal is told.
+    pub fn number(self) -> u8
+        ensures { result ≡ number_of self }
+    {
+        match self {
+            PostFault::QueueFull => 74,
+            PostFault::Memory => 76,
+        }
+    }
+
+    /// The word under which the refusal is told.
+    pub fn name(self) -> &'static str
+        ensures { result.now ≡ name_of self }
+    {
+        match self {
+            PostFault::QueueFull => "QueueFull",
+            PostFault::Memory => "Memory",
+        }
+    }
+}
+
 /// The kernel. Contracts see it as a state of the machine.
 #[derive(Drop)]
 pub struct Kernel {

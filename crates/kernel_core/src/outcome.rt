@@ -1,5 +1,11 @@
 //! What the calls of a kernel answer.
+ghost use Rattle.std.specs.Prelude.{◌≡◌};
+ghost use Rattle.kernel_core.specs.Refusal.{number_of, name_of, span_of};
+
+use janus_check::CheckFault;
 use janus_machine::Fault;
+use janus_syntax::SyntaxFault;
+use janus_syntax::token::Span;
 
 /// How an undo or a redo of several cells ended.
 #[derive(Clone, Copy, Debug, PartialEq, Eq)]
@@ -15,9 +21,51 @@ pub enum End {
 /// Why a job was not begun. It changed nothing.
 #[derive(Clone, Copy, Debug, PartialEq, Eq)]
 pub enum Refusal {
+    /// The text is no cell.
+    Syntax(SyntaxFault),
+    /// The cell is not well formed over the declared names.
+    Check(CheckFault),
     /// There are fewer cells above, or fewer favourites below, than the job would undo or redo.
     TooFar,
     Memory,
+}
+
+impl Refusal {
+    /// The number under which the refusal is told.
+    pub fn number(self) -> u8
+        ensures { result ≡ number_of self }
+    {
+        match self {
+            Refusal::Syntax(fault) => fault.number(),
+            Refusal::Check(fault) => fault.number(),
+            Refusal::TooFar => 73,
+            Refusal::Memory => 76,
+        }
+    }
+
+    /// The word under which the refusal is told.
+    pub fn name(self) -> &'static str
+        ensures { result.now ≡ name_of self }
+    {
+        match self {
+            Refusal::Syntax(fault) => fault.name(),
+            Refusal::Check(fault) => fault.name(),
+            Refusal::TooFar => "TooFar",
+            Refusal::Memory => "Memory",
+        }
+    }
+
+    /// The octets of the text where it is refused, if it is the text that is.
+    pub fn span(self) -> Option<Span>
+        ensures { result ≡ span_of self }
+    {
+        match self {
+            Refusal::Syntax(fault) => fault.span(),
+            Refusal::Check(fault) => fault.span(),
+            Refusal::TooFar => None,
+            Refusal::Memory => None,
+        }
+    }
 }
 
 /// What came of a job.

@@ -25,7 +25,7 @@ loop-i-preserved c =
     let v = c.loop-i.invariant in
     let lt : i < length cs = omega arith in
     let read : slice_get cs i ≡ Some c.index-block-i.result =
-        slice_get_read cs (length cs) i c.index-block-i.result refl lt c.index-block-i.is in
+    slice_get_read cs (length cs) i c.index-block-i.result refl lt c.index-block-i.is in
     let grown = c.in_ok-push.ensures.items in
     let counted = c.in_ok-push-2.ensures.items in
     record {

@@ -10,5 +10,5 @@ use Rattle.janus_invert.proofs.flat.flatten.Goals as goal
 pub returns : goal.returns
 returns c =
     let block : block_of c.deref.result.now ≡ block_of_cell (cell_in c.args.checked.now) =
-        ap block_of c.deref.ensures.value ∙ sym (meant_block_is c.cell.result.now.statements.items) ∙ ap block_of_cell c.cell.ensures in
+    ap block_of c.deref.ensures.value ∙ sym (meant_block_is c.cell.result.now.statements.items) ∙ ap block_of_cell c.cell.ensures in
     subst (λ (b : tree.Blk). IfOk c.flat_code.result (λ code. code_block code ≡ b)) block c.flat_code.ensures

@@ -34,5 +34,5 @@ returns-clause-done c =
     let named = c.as_str.ensures.value in
     let seen : look c.as_str.result.now s ≡ Fine (Num n.0) = ap (λ x. look x s) named ∙ n.1 in
     let written : write x (Num (changed o n.0 w)) s ≡ Fine c.update.new.self =
-        ap (λ x. write x (Num (changed o n.0 w)) s) (sym named) ∙ ap (λ w. write c.as_str.result.now (Num (changed o n.0 w)) s) (sym z) ∙ c.update.ensures.written n.0 seen in
+    ap (λ x. write x (Num (changed o n.0 w)) s) (sym named) ∙ ap (λ w. write c.as_str.result.now (Num (changed o n.0 w)) s) (sym z) ∙ c.update.ensures.written n.0 seen in
     assign_fine x o e s n.0 w c.update.new.self c.requires n.1 (sym c.in-Ok.ensures) written

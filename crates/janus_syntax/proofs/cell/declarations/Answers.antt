@@ -1,9 +1,7 @@
-use Rattle.std.proofs.Common.{arith, subst}
-use Rattle.std.proofs.lemmas.Result.{err_from_is_err_and}
+use Rattle.std.proofs.Common.{subst}
 use Rattle.janus_syntax.specs.Tokens.{views}
 use Rattle.janus_syntax.specs.Reading.{IsDeclarationOrOther}
-use Rattle.janus_syntax.proofs.Passing.{passes_on}
-use Rattle.janus_syntax.proofs.Steps.{declarations_begin, declarations_go_on, declarations_are, declarations_view_push, shorter-declaration}
+use Rattle.janus_syntax.proofs.Steps.{declarations_begin, declarations_go_on, declarations_view_push}
 use Rattle.janus_syntax.proofs.cell.declarations.Goals as goal
 
 pub declarations-init : goal.declarations-init

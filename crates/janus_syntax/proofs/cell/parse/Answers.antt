@@ -1,4 +1,3 @@
-use Rattle.janus_syntax.specs.Tree.{cell_view}
 use Rattle.janus_syntax.specs.Tokens.{views}
 use Rattle.janus_syntax.proofs.Theorems.{refusal, only_answer}
 use Rattle.janus_syntax.proofs.cell.parse.Goals as goal

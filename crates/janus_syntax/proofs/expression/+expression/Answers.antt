@@ -1,4 +1,4 @@
-use Rattle.std.proofs.Common.{arith, subst, ◌∙◌, length, ◌<◌, ◌≢◌}
+use Rattle.std.proofs.Common.{arith, subst, ◌<◌}
 use Rattle.std.proofs.lemmas.Result.{err_from_is_err_and}
 use Rattle.std.proofs.lemmas.List.{length-map}
 use Rattle.janus_syntax.specs.Tokens.{views, token_view}

@@ -1,10 +1,8 @@
-use Rattle.std.proofs.Common.{arith, ap, sym, ◌∙◌, ◌≡◌, ◌<◌, List, ℕ, ◌∷◌, length, get_or, refl, drop, subst, Some}
+use Rattle.std.proofs.Common.{ap, sym, ◌∙◌, length, get_or, refl, drop, subst, Some}
 use Rattle.std.specs.List.{prefix_len}
-use Rattle.janus_syntax.specs.declared.lexer.Class.TheVariants as class
-use Rattle.janus_syntax.specs.Spelling.{sign_text}
 use Rattle.janus_syntax.specs.Lexical.{class_of, of_name, of_number, in_line}
 use Rattle.janus_syntax.specs.Scan.{IsLongestSign}
-use Rattle.janus_syntax.proofs.Fronts.{letters_front, digits_front, comment_front, sign_front, underscore_none, other_none, space_front, letters_cut, digits_cut, space_cut, line_cut, sign_cut, slashes, no_slashes}
+use Rattle.janus_syntax.proofs.Fronts.{letters_front, digits_front, comment_front, sign_front, underscore_none, space_front, letters_cut, digits_cut, space_cut, line_cut, sign_cut, slashes, no_slashes}
 use Rattle.janus_syntax.proofs.lexer.front_of.Goals as goal
 
 pub returns-in-Letter-clause-found : goal.returns-in-Letter-clause-found
@@ -20,7 +18,7 @@ returns-in-Letter-clause-cut c =
     let n = c.run_len.ensures ∙ ap (prefix_len of_name) bytes in
     letters_cut c.args.text.now c.run_len.result c.utf8.text
     (letters_front c.args.text.now c.run_len.result c.requires
-      (ap (λ l. class_of (get_or l 0 0)) (sym bytes) ∙ sym c.class_of.ensures ∙ c.in-Letter.is) n) n
+    (ap (λ l. class_of (get_or l 0 0)) (sym bytes) ∙ sym c.class_of.ensures ∙ c.in-Letter.is) n) n
 
 pub returns-in-Digit-clause-found : goal.returns-in-Digit-clause-found
 returns-in-Digit-clause-found c =
@@ -35,7 +33,7 @@ returns-in-Digit-clause-cut c =
     let n = c.run_len-in-Digit.ensures ∙ ap (prefix_len of_number) bytes in
     digits_cut c.args.text.now c.run_len-in-Digit.result c.utf8.text
     (digits_front c.args.text.now c.run_len-in-Digit.result c.requires
-      (ap (λ l. class_of (get_or l 0 0)) (sym bytes) ∙ sym c.class_of.ensures ∙ c.in-Digit.is) n) n
+    (ap (λ l. class_of (get_or l 0 0)) (sym bytes) ∙ sym c.class_of.ensures ∙ c.in-Digit.is) n) n
 
 pub returns-in-Space-clause-found : goal.returns-in-Space-clause-found
 returns-in-Space-clause-found c =
@@ -74,4 +72,4 @@ returns-in_ok-sign-in-Other-clause-cut c =
     let longest = subst (λ l. IsLongestSign l (Some c.in_ok-sign-in-Other.sign)) bytes c.in_ok-sign-in-Other.ensures in
     sign_cut c.in_ok-sign-in-Other.sign c.args.text.now (length c.text.result.now) c.utf8.text (ap length c.text.ensures) longest
     (sign_front c.in_ok-sign-in-Other.sign c.args.text.now (length c.text.result.now) (ap length c.text.ensures) longest
-      (λ ds e. no_slashes c.as_bytes-octets.result.now _ c.starts_with.result refl c.starts_with.ensures.value c.if-starts_with.false ds (bytes ∙ e)))
+    (λ ds e. no_slashes c.as_bytes-octets.result.now _ c.starts_with.result refl c.starts_with.ensures.value c.if-starts_with.false ds (bytes ∙ e)))

@@ -1,6 +1,5 @@
-use Rattle.std.proofs.Common.{arith, sym, ◌<◌, length}
+use Rattle.std.proofs.Common.{arith, sym}
 use Rattle.std.proofs.lemmas.List.Sums.{prefix_len_is}
-use Rattle.std.proofs.lemmas.Grind.{common_steps}
 use Rattle.std.proofs.lemmas.Bool.Decides.{nat_tests}
 use Rattle.janus_syntax.specs.Lexical.{in_line}
 use Rattle.janus_syntax.proofs.lexer.line_len.Goals as goal

@@ -1,5 +1,4 @@
-use Rattle.std.proofs.Common.{subst, sym, ap, ◌∙◌, refl}
-use Rattle.janus_syntax.specs.declared.token.Span.{Span}
+use Rattle.std.proofs.Common.{subst, ap, ◌∙◌, refl}
 use Rattle.janus_syntax.specs.Tokens.{Name}
 use Rattle.janus_syntax.specs.Lexical.{A_word, A_name, A_number, A_sign, decimal}
 use Rattle.janus_syntax.specs.Scan.{IsFrontText}

@@ -1,4 +1,4 @@
-use Rattle.std.proofs.Common.{refl, ap, sym, subst, ◌∙◌, ◌+◌, Ok, Err, Global}
+use Rattle.std.proofs.Common.{refl, subst, ◌+◌, Ok, Global}
 use Rattle.std.proofs.lemmas.Result.{err_from_is_err_and}
 use Rattle.janus_syntax.specs.Tokens.{views}
 use Rattle.janus_syntax.specs.Scan.{IsKindOf}
@@ -25,7 +25,7 @@ returns-in_err-kind-clause-only c ts q =
     let p = err_from_is_err_and c.from_residual.result c.from_residual.ensures.1 in
     only_lexed c.args.text.now c.from_residual.result
     (rw (p.1, p.2) (part_fails Global c.args.text.now c.split_at.result.0.now _ _ c.in_err-kind.field-0.0 c.in_err-kind.ensures refl
-      (λ k. too_large c.args.text.now (views c.loop-rest.tokens.items) c.loop-rest.rest.now c.split_at.result.0.now c.split_at.result.1.now c.loop-rest.start c.in-Some.len c.in-Some.front _ c.loop-rest.invariant c.in-Some.ensures.found c.split_at.ensures.front c.split_at.ensures.back k)))
+    (λ k. too_large c.args.text.now (views c.loop-rest.tokens.items) c.loop-rest.rest.now c.split_at.result.0.now c.split_at.result.1.now c.loop-rest.start c.in-Some.len c.in-Some.front _ c.loop-rest.invariant c.in-Some.ensures.found c.split_at.ensures.front c.split_at.ensures.back k)))
     ts q
 
 pub loop-rest-preserved-in_ok-push : goal.loop-rest-preserved-in_ok-push
@@ -33,7 +33,7 @@ loop-rest-preserved-in_ok-push c =
     let here = place c.loop-rest.start (c.loop-rest.start + c.in-Some.len) in
     let k = subst (λ f. IsKindOf c.split_at.result.0.now here (Ok f)) c.in-Some-2.is c.in_ok-kind.ensures in
     rw c.in_ok-push.ensures.items (lexed_token c.args.text.now c.loop-rest.tokens.items (record { kind = c.in-Some-2.kind; span = here }) c.loop-rest.rest.now c.split_at.result.0.now c.split_at.result.1.now c.loop-rest.start c.in-Some.len c.in-Some.front k.0
-      c.loop-rest.invariant c.in-Some.ensures.found c.in-Some.ensures.cut c.split_at.ensures.front c.split_at.ensures.back k.1 k.2)
+    c.loop-rest.invariant c.in-Some.ensures.found c.in-Some.ensures.cut c.split_at.ensures.front c.split_at.ensures.back k.1 k.2)
 
 pub loop-rest-preserved : goal.loop-rest-preserved
 loop-rest-preserved c =

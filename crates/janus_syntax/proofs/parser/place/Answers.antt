@@ -1,4 +1,4 @@
-use Rattle.std.proofs.Common.{arith, length, ◌-◌}
+use Rattle.std.proofs.Common.{length, ◌-◌}
 use Rattle.janus_syntax.proofs.Places.{place_at}
 use Rattle.janus_syntax.proofs.parser.place.Goals as goal
 

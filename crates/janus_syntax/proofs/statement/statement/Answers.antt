@@ -1,7 +1,6 @@
 use Rattle.std.proofs.Common.{sym, subst}
 use Rattle.std.proofs.lemmas.Result.{err_from_is_err_and}
 use Rattle.janus_syntax.specs.declared.token.TokenKind.TheVariants as kinds
-use Rattle.janus_syntax.specs.Tokens.{Token, views}
 use Rattle.janus_syntax.specs.Reading.{FailsStm}
 use Rattle.janus_syntax.proofs.Passing.{passes_on}
 use Rattle.janus_syntax.proofs.FirstToken.{first_token}

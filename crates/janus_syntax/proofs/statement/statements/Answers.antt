@@ -3,7 +3,7 @@ use Rattle.std.proofs.lemmas.Result.{err_from_is_err_and}
 use Rattle.janus_syntax.specs.Tokens.{views}
 use Rattle.janus_syntax.specs.Reading.{IsStmOrOther}
 use Rattle.janus_syntax.proofs.Passing.{passes_on}
-use Rattle.janus_syntax.proofs.Steps.{statements_begin, statements_go_on, statements_fail, statements_are, view_push, shorter-stm}
+use Rattle.janus_syntax.proofs.Steps.{statements_begin, statements_go_on, statements_fail, view_push, shorter-stm}
 use Rattle.janus_syntax.proofs.statement.statements.Goals as goal
 
 pub statements-init : goal.statements-init
@@ -23,4 +23,3 @@ pub statements-preserved : goal.statements-preserved
 statements-preserved c =
     let i = subst (IsStmOrOther (views c.statements.rest.now)) c.in-Some.is c.in_ok-next.ensures in
     rw (c.in_ok-push.ensures.items, view_push c.statements.statements.items c.in-Some.next) (statements_go_on c.statements.invariant i)
-

@@ -28,6 +28,6 @@ returns-in-Down-clause-ok c =
 
 pub returns-in-Down-clause-declares : goal.returns-in-Down-clause-declares
 returns-in-Down-clause-declares c =
-    declares_next c.args.tree.now c.args.travel c.index-in-Down-2.result.now c.enter.result c.in-Down.is
+    declares_next _ _ c.args.tree.now c.args.travel c.index-in-Down-2.result.now c.enter.result c.in-Down.is
     (next_down c.args.tree.now c.args.travel c.index-in-Down-2.result.now c.index-in-Down.result.now c.in-Down.is c.requires.legal c.requires.possible c.index-in-Down.ensures c.index-in-Down-2.ensures)
     c.enter.ensures.none

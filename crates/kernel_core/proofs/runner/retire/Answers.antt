@@ -12,7 +12,7 @@ retire-requires c =
     subst (λ (s : Store). IsZeroOnTop s) (sym (c.loop-i.invariant ∙ ap (dropped c.loop-i._i) c.requires.3)) (zero_on_top c.requires.0 c.requires.1 c.loop-i._i low)
 
 pub loop-i-preserved : goal.loop-i-preserved
-loop-i-preserved c = c.retire.ensures ∙ ap rest_of c.loop-i.invariant ∙ sym (dropped_more c.loop-i._i c.args.store.now) ∙ ap (λ (n : ℕ). dropped n c.args.store.now) (sym add-one)
+loop-i-preserved c = c.retire.ensures ∙ ap rest_of c.loop-i.invariant ∙ sym (dropped_more c.loop-i._i c.args.store.now) ∙ ap (λ (n : ℕ). dropped n c.args.store.now) (sym (add-one c.loop-i._i))
 
 pub returns : goal.returns
 returns c = λ names before count old.

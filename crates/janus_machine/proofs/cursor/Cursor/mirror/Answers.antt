@@ -14,7 +14,7 @@ returns-clause-place c =
     let code = code_in b u.direction in
     let to = c.from_other_end-self.result in
     let at : code.body.start ≤ u.at → u.at < code.body.end → to ≡ opposite_place code.body u.at =
-        subst (λ (d : Code). d.body.start ≤ u.at → u.at < d.body.end → to ≡ opposite_place d.body u.at) c.code.ensures c.from_other_end-self.ensures in
+    subst (λ (d : Code). d.body.start ≤ u.at → u.at < d.body.end → to ≡ opposite_place d.body u.at) c.code.ensures c.from_other_end-self.ensures in
     ap (λ (d : Direction). place_in c.mirrored-self.result (code_in b d) to []) c.opposite-self.ensures
     ∙ ap (λ (p : Phase). place_in p (code_in b (opposite_direction u.direction)) to []) c.mirrored-self.ensures
     ∙ place_mirrored code (code_in b (opposite_direction u.direction)) (other_code b u.direction) u.phase u.at to c.requires.within at

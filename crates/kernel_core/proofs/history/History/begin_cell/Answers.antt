@@ -13,7 +13,7 @@ use Rattle.kernel_core.specs.Runner.{Stands}
 use Rattle.kernel_core.specs.Kept.{Kept}
 use Rattle.kernel_core.specs.declared.job.Open.{Open}
 use Rattle.kernel_core.specs.declared.job.Open.TheVariants.{Idle}
-use Rattle.kernel_core.proofs.Running.{accepted_formed}
+use Rattle.kernel_core.proofs.Texts.{accepted_formed}
 use Rattle.kernel_core.proofs.Standing.{ok_fact, kept_begun, here_sound, idle_job}
 use Rattle.kernel_core.proofs.history.History.begin_cell.Goals as goal
 
@@ -45,3 +45,9 @@ returns c =
     subst (λ (s : State). TakesCell s.past c.args.text.now begun.Going (record { past = past_of c.make_room.new.tree; job = job })) c.self.view_is
     (inl (cell_of_program c.in-Ok.program, subst (λ (w : World). Accepts w c.args.text.now (cell_of_program c.in-Ok.program)) kept.stands c.in-Ok.ensures.accepts, refl,
         ap (λ (p : state.Past). record { past = p; job = job }) c.make_room.ensures.same))
+
+pub of_text-requires : goal.of_text-requires
+of_text-requires c =
+    let idle : c.self.inside.job ≡ Idle = idle_job c.self.inside.job (subst (λ (s : State). s.job ≡ state.Idle) (sym c.self.view_is) c.requires) in
+    let kept : Kept c.self.inside.tree c.self.inside.runner Idle = subst (λ (j : Open). Kept c.self.inside.tree c.self.inside.runner j) idle c.self.invariant in
+    here_sound c.self.inside.tree c.self.inside.runner kept.legal kept.stands
