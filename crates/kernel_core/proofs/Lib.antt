@@ -1,0 +1,13 @@
+pub mod Laws
+pub mod Declared
+pub mod Texts
+pub mod Entries
+pub mod Running
+pub mod Trees
+pub mod Nodes
+pub mod Standing
+pub mod Runs
+pub mod Jobs
+pub mod Again
+pub mod OnTime
+pub mod Paths

@@ -1,0 +1,48 @@
+-- Undo and redo of an accepted cell: no fault, and as many steps as the cell took.
+use Rattle.std.proofs.Common.{◌≡◌, ℕ, ◌+◌, ◌≤◌, inl, inr, refl, subst}
+use Rattle.janus_meaning.specs.World.{World}
+use Rattle.kernel_core.specs.Language.{Exec}
+use Rattle.kernel_core.specs.Reached.{Reaches}
+use Rattle.kernel_core.specs.State.{Past, Move, State, here, code_of}
+use Rattle.kernel_core.specs.Legal.{IsPossible, IsLegal}
+use Rattle.kernel_core.specs.Slices.{Settles, Comes}
+use Rattle.kernel_core.specs.Theorems.{steps_of, end_world, IsOnTime, SettlesOnTime, NeverFaults, IsMirrored}
+use Rattle.kernel_core.specs.declared.runner.Ran.{Ran}
+use Rattle.kernel_core.specs.declared.runner.Ran.TheVariants.{Went, Ended, Stopped}
+use Rattle.kernel_core.specs.declared.job.Travel.{Travel}
+use Rattle.kernel_core.specs.declared.job.Way.{Way}
+use Rattle.kernel_core.specs.declared.job.Way.TheVariants.{Up, Down}
+use Rattle.kernel_core.specs.declared.outcome.Sliced.{Sliced}
+use Rattle.kernel_core.proofs.Laws.{exec_inverted, part_inverted, exec_no_stop, exec_same}
+use Rattle.kernel_core.proofs.Trees.{run_above, run_below}
+use Rattle.kernel_core.proofs.Standing.{up_possible, down_possible}
+
+-- the code of an undo or a redo has this run
+ran_by : (s : Past) (travel : Travel) (way : Way) → IsLegal s → IsPossible s.nodes s.favourites s.position travel → travel.way ≡ way → Exec (code_of s (Move travel)) (here s) (steps_of s travel) (end_world s travel)
+ran_by s travel Up g p way = rw way (run_above s g (up_possible s.nodes s.favourites s.position travel way p).0)
+ran_by s travel Down g p way = rw way (run_below s g (down_possible s.nodes s.favourites s.position travel way p).0)
+
+pub ran_to_end : (s : Past) (travel : Travel) → IsLegal s → IsPossible s.nodes s.favourites s.position travel → Exec (code_of s (Move travel)) (here s) (steps_of s travel) (end_world s travel)
+ran_to_end s travel g p = ran_by s travel travel.way g p refl
+
+pub never_faults : NeverFaults
+never_faults s travel m j fault w g p r = exec_no_stop _ _ _ _ _ _ (ran_to_end s travel g p) r.1
+
+comes_on_time : (s : Past) (travel : Travel) (c m : ℕ) (ran : Ran) (w : World) (told : Sliced) (new : State) → IsLegal s → IsPossible s.nodes s.favourites s.position travel →
+    Reaches (code_of s (Move travel)) (here s) (c + m) ran w → Comes s (Move travel) (c + m) ran w told new → IsOnTime s travel c m told new
+comes_on_time s travel c m Went w told new g p r a = inl (r.1 (steps_of s travel) (end_world s travel) (ran_to_end s travel g p), a.0, a.1)
+comes_on_time s travel c m (Ended n) w told new g p r a =
+    let same = exec_same (code_of s (Move travel)) (here s) n (steps_of s travel) w (end_world s travel) r.0 (ran_to_end s travel g p) in
+    let steps : n ≡ steps_of s travel = same.0 in
+    let low : n ≤ c + m = r.1 in
+    inr (
+      subst (λ (x : ℕ). x ≤ c + m) steps low,
+      subst (λ (x : World). Settles s (Move travel) (steps_of s travel) x told new) same.1 (subst (λ (x : ℕ). Settles s (Move travel) x w told new) steps a),
+    )
+comes_on_time s travel c m (Stopped j fault) w told new g p r a = absurd (never_faults s travel (c + m) j fault w g p r)
+
+pub settles_on_time : SettlesOnTime
+settles_on_time s travel c m told new g p goes = comes_on_time s travel c m goes.0 goes.1 told new g p goes.2 goes.3
+
+pub is_mirrored : IsMirrored
+is_mirrored cell w u v n j good e p = (exec_inverted cell w n v good e, part_inverted cell w n j u v good e p)

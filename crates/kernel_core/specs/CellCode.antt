@@ -1,0 +1,317 @@
+-- How worlds and cells are stored as lists, so that contracts can have them as values: trees in postfix form.
+use Rattle.std.specs.Prelude.{◌≡◌, ℕ, zero, suc, ℤ, pos, List, [], ◌∷◌, refl}
+use Rattle.std.specs.Coded.{Coded, code_by, coded×, coded_ℕ, coded_ℤ, coded_list}
+use Rattle.std.proofs.Common.{ap, ◌∙◌}
+use Rattle.janus_meaning.specs.Word.{Plus, Minus, Flip, Add', Sub', Mul', Div', Rem', And', Or', Xor', Less', More', AtMost', AtLeast', Same', Differ'}
+use Rattle.janus_meaning.specs.Syntax.{Name, Exp, Number, Var, At, Empty, Top, Negate, Binary, And, Or, Stm, Blk, Skip, Set, SetAt, Push, Pop, If, From, LocalInt, LocalStack, Call, Uncall, Nil, Cons, Proc, Kind, ANumber, AnArray, AStack, Hidden, Absent}
+use Rattle.janus_meaning.specs.Store.{Val, Num, Arr, Stk, Lent, Store, Bare, Slot}
+use Rattle.janus_meaning.specs.World.{World, Declaration, DeclareInt, DeclareArray, DeclareStack, Cell}
+
+abbrev kind_number : Kind → ℕ
+kind_number ANumber = 0
+kind_number AnArray = 1
+kind_number AStack = 2
+kind_number Hidden = 3
+kind_number Absent = 4
+
+abbrev kind_at : ℕ → Kind
+kind_at zero = ANumber
+kind_at (suc zero) = AnArray
+kind_at (suc (suc zero)) = AStack
+kind_at (suc (suc (suc zero))) = Hidden
+kind_at (suc (suc (suc (suc k)))) = Absent
+
+abbrev kind_back : (x : Kind) → kind_at (kind_number x) ≡ x
+kind_back ANumber = refl
+kind_back AnArray = refl
+kind_back AStack = refl
+kind_back Hidden = refl
+kind_back Absent = refl
+
+abbrev kinds_list : List Kind → List ℕ
+kinds_list [] = []
+kinds_list (k ∷ ks) = kind_number k ∷ kinds_list ks
+
+abbrev list_kinds : List ℕ → List Kind
+list_kinds [] = []
+list_kinds (n ∷ ns) = kind_at n ∷ list_kinds ns
+
+pub kinds_back : (ks : List Kind) → list_kinds (kinds_list ks) ≡ ks
+kinds_back [] = refl
+kinds_back (ANumber ∷ ks) = ap (λ (l : List Kind). ANumber ∷ l) (kinds_back ks)
+kinds_back (AnArray ∷ ks) = ap (λ (l : List Kind). AnArray ∷ l) (kinds_back ks)
+kinds_back (AStack ∷ ks) = ap (λ (l : List Kind). AStack ∷ l) (kinds_back ks)
+kinds_back (Hidden ∷ ks) = ap (λ (l : List Kind). Hidden ∷ l) (kinds_back ks)
+kinds_back (Absent ∷ ks) = ap (λ (l : List Kind). Absent ∷ l) (kinds_back ks)
+
+-- ---- trees
+
+-- what a token does, a number and names; the trees that the tokens before it made, the last one first
+abbrev Token : Type 0
+Token = ℕ × (ℤ × List Name)
+
+record Made : Type 0 where
+  exps : List Exp
+  stms : List Stm
+  blks : List Blk
+
+abbrev first : List Name → Name
+first [] = []
+first (x ∷ xs) = x
+
+abbrev rest : List Name → List Name
+rest [] = []
+rest (x ∷ xs) = xs
+
+abbrev exp : List Exp → Exp
+exp [] = Number (pos 0)
+exp (e ∷ es) = e
+
+abbrev exps : List Exp → List Exp
+exps [] = []
+exps (e ∷ es) = es
+
+abbrev stm : List Stm → Stm
+stm [] = Skip
+stm (c ∷ cs) = c
+
+abbrev stms : List Stm → List Stm
+stms [] = []
+stms (c ∷ cs) = cs
+
+abbrev blk : List Blk → Blk
+blk [] = Nil
+blk (b ∷ bs) = b
+
+abbrev blks : List Blk → List Blk
+blks [] = []
+blks (b ∷ bs) = bs
+
+abbrev with_exp : Exp → List Exp → Made → Made
+with_exp e es m = record m { exps = e ∷ es }
+
+abbrev with_stm : Stm → List Exp → List Blk → Made → Made
+with_stm c es bs m = record { exps = es; stms = c ∷ m.stms; blks = bs }
+
+-- the trees after a token
+abbrev act : ℕ → ℤ → List Name → Made → Made
+act zero n xs m = with_exp (Number n) m.exps m
+act (suc zero) n xs m = with_exp (Var (first xs)) m.exps m
+act (suc (suc zero)) n xs m = with_exp (At (first xs) (exp m.exps)) (exps m.exps) m
+act (suc (suc (suc zero))) n xs m = with_exp (Empty (first xs)) m.exps m
+act (suc (suc (suc (suc zero)))) n xs m = with_exp (Top (first xs)) m.exps m
+act (suc (suc (suc (suc (suc zero))))) n xs m = with_exp (Negate (exp m.exps)) (exps m.exps) m
+act (suc (suc (suc (suc (suc (suc zero)))))) n xs m = with_exp (And (exp (exps m.exps)) (exp m.exps)) (exps (exps m.exps)) m
+act (suc (suc (suc (suc (suc (suc (suc zero))))))) n xs m = with_exp (Or (exp (exps m.exps)) (exp m.exps)) (exps (exps m.exps)) m
+act (suc (suc (suc (suc (suc (suc (suc (suc zero)))))))) n xs m = with_stm Skip m.exps m.blks m
+act (suc (suc (suc (suc (suc (suc (suc (suc (suc zero))))))))) n xs m = with_stm (Push (first xs) (first (rest xs))) m.exps m.blks m
+act (suc (suc (suc (suc (suc (suc (suc (suc (suc (suc zero)))))))))) n xs m = with_stm (Pop (first xs) (first (rest xs))) m.exps m.blks m
+act (suc (suc (suc (suc (suc (suc (suc (suc (suc (suc (suc zero))))))))))) n xs m = with_stm (If (exp (exps m.exps)) (blk (blks m.blks)) (blk m.blks) (exp m.exps)) (exps (exps m.exps)) (blks (blks m.blks)) m
+act (suc (suc (suc (suc (suc (suc (suc (suc (suc (suc (suc (suc zero)))))))))))) n xs m = with_stm (From (exp (exps m.exps)) (blk (blks m.blks)) (blk m.blks) (exp m.exps)) (exps (exps m.exps)) (blks (blks m.blks)) m
+act (suc (suc (suc (suc (suc (suc (suc (suc (suc (suc (suc (suc (suc zero))))))))))))) n xs m = with_stm (LocalInt (first xs) (exp (exps m.exps)) (blk m.blks) (exp m.exps)) (exps (exps m.exps)) (blks m.blks) m
+act (suc (suc (suc (suc (suc (suc (suc (suc (suc (suc (suc (suc (suc (suc zero)))))))))))))) n xs m = with_stm (LocalStack (first xs) (blk m.blks)) m.exps (blks m.blks) m
+act (suc (suc (suc (suc (suc (suc (suc (suc (suc (suc (suc (suc (suc (suc (suc zero))))))))))))))) n xs m = with_stm (Call (first xs) (rest xs)) m.exps m.blks m
+act (suc (suc (suc (suc (suc (suc (suc (suc (suc (suc (suc (suc (suc (suc (suc (suc zero)))))))))))))))) n xs m = with_stm (Uncall (first xs) (rest xs)) m.exps m.blks m
+act (suc (suc (suc (suc (suc (suc (suc (suc (suc (suc (suc (suc (suc (suc (suc (suc (suc zero))))))))))))))))) n xs m = record m { blks = Nil ∷ m.blks }
+act (suc (suc (suc (suc (suc (suc (suc (suc (suc (suc (suc (suc (suc (suc (suc (suc (suc (suc zero)))))))))))))))))) n xs m = record m { stms = stms m.stms; blks = Cons (stm m.stms) (blk m.blks) ∷ blks m.blks }
+act (suc (suc (suc (suc (suc (suc (suc (suc (suc (suc (suc (suc (suc (suc (suc (suc (suc (suc (suc zero))))))))))))))))))) n xs m = with_exp (Binary Add' (exp (exps m.exps)) (exp m.exps)) (exps (exps m.exps)) m
+act (suc (suc (suc (suc (suc (suc (suc (suc (suc (suc (suc (suc (suc (suc (suc (suc (suc (suc (suc (suc zero)))))))))))))))))))) n xs m = with_exp (Binary Sub' (exp (exps m.exps)) (exp m.exps)) (exps (exps m.exps)) m
+act (suc (suc (suc (suc (suc (suc (suc (suc (suc (suc (suc (suc (suc (suc (suc (suc (suc (suc (suc (suc (suc zero))))))))))))))))))))) n xs m = with_exp (Binary Mul' (exp (exps m.exps)) (exp m.exps)) (exps (exps m.exps)) m
+act (suc (suc (suc (suc (suc (suc (suc (suc (suc (suc (suc (suc (suc (suc (suc (suc (suc (suc (suc (suc (suc (suc zero)))))))))))))))))))))) n xs m = with_exp (Binary Div' (exp (exps m.exps)) (exp m.exps)) (exps (exps m.exps)) m
+act (suc (suc (suc (suc (suc (suc (suc (suc (suc (suc (suc (suc (suc (suc (suc (suc (suc (suc (suc (suc (suc (suc (suc zero))))))))))))))))))))))) n xs m = with_exp (Binary Rem' (exp (exps m.exps)) (exp m.exps)) (exps (exps m.exps)) m
+act (suc (suc (suc (suc (suc (suc (suc (suc (suc (suc (suc (suc (suc (suc (suc (suc (suc (suc (suc (suc (suc (suc (suc (suc zero)))))))))))))))))))))))) n xs m = with_exp (Binary And' (exp (exps m.exps)) (exp m.exps)) (exps (exps m.exps)) m
+act (suc (suc (suc (suc (suc (suc (suc (suc (suc (suc (suc (suc (suc (suc (suc (suc (suc (suc (suc (suc (suc (suc (suc (suc (suc zero))))))))))))))))))))))))) n xs m = with_exp (Binary Or' (exp (exps m.exps)) (exp m.exps)) (exps (exps m.exps)) m
+act (suc (suc (suc (suc (suc (suc (suc (suc (suc (suc (suc (suc (suc (suc (suc (suc (suc (suc (suc (suc (suc (suc (suc (suc (suc (suc zero)))))))))))))))))))))))))) n xs m = with_exp (Binary Xor' (exp (exps m.exps)) (exp m.exps)) (exps (exps m.exps)) m
+act (suc (suc (suc (suc (suc (suc (suc (suc (suc (suc (suc (suc (suc (suc (suc (suc (suc (suc (suc (suc (suc (suc (suc (suc (suc (suc (suc zero))))))))))))))))))))))))))) n xs m = with_exp (Binary Less' (exp (exps m.exps)) (exp m.exps)) (exps (exps m.exps)) m
+act (suc (suc (suc (suc (suc (suc (suc (suc (suc (suc (suc (suc (suc (suc (suc (suc (suc (suc (suc (suc (suc (suc (suc (suc (suc (suc (suc (suc zero)))))))))))))))))))))))))))) n xs m = with_exp (Binary More' (exp (exps m.exps)) (exp m.exps)) (exps (exps m.exps)) m
+act (suc (suc (suc (suc (suc (suc (suc (suc (suc (suc (suc (suc (suc (suc (suc (suc (suc (suc (suc (suc (suc (suc (suc (suc (suc (suc (suc (suc (suc zero))))))))))))))))))))))))))))) n xs m = with_exp (Binary AtMost' (exp (exps m.exps)) (exp m.exps)) (exps (exps m.exps)) m
+act (suc (suc (suc (suc (suc (suc (suc (suc (suc (suc (suc (suc (suc (suc (suc (suc (suc (suc (suc (suc (suc (suc (suc (suc (suc (suc (suc (suc (suc (suc zero)))))))))))))))))))))))))))))) n xs m = with_exp (Binary AtLeast' (exp (exps m.exps)) (exp m.exps)) (exps (exps m.exps)) m
+act (suc (suc (suc (suc (suc (suc (suc (suc (suc (suc (suc (suc (suc (suc (suc (suc (suc (suc (suc (suc (suc (suc (suc (suc (suc (suc (suc (suc (suc (suc (suc zero))))))))))))))))))))))))))))))) n xs m = with_exp (Binary Same' (exp (exps m.exps)) (exp m.exps)) (exps (exps m.exps)) m
+act (suc (suc (suc (suc (suc (suc (suc (suc (suc (suc (suc (suc (suc (suc (suc (suc (suc (suc (suc (suc (suc (suc (suc (suc (suc (suc (suc (suc (suc (suc (suc (suc zero)))))))))))))))))))))))))))))))) n xs m = with_exp (Binary Differ' (exp (exps m.exps)) (exp m.exps)) (exps (exps m.exps)) m
+act (suc (suc (suc (suc (suc (suc (suc (suc (suc (suc (suc (suc (suc (suc (suc (suc (suc (suc (suc (suc (suc (suc (suc (suc (suc (suc (suc (suc (suc (suc (suc (suc (suc zero))))))))))))))))))))))))))))))))) n xs m = with_stm (Set (first xs) Plus (exp m.exps)) (exps m.exps) m.blks m
+act (suc (suc (suc (suc (suc (suc (suc (suc (suc (suc (suc (suc (suc (suc (suc (suc (suc (suc (suc (suc (suc (suc (suc (suc (suc (suc (suc (suc (suc (suc (suc (suc (suc (suc zero)))))))))))))))))))))))))))))))))) n xs m = with_stm (Set (first xs) Minus (exp m.exps)) (exps m.exps) m.blks m
+act (suc (suc (suc (suc (suc (suc (suc (suc (suc (suc (suc (suc (suc (suc (suc (suc (suc (suc (suc (suc (suc (suc (suc (suc (suc (suc (suc (suc (suc (suc (suc (suc (suc (suc (suc zero))))))))))))))))))))))))))))))))))) n xs m = with_stm (Set (first xs) Flip (exp m.exps)) (exps m.exps) m.blks m
+act (suc (suc (suc (suc (suc (suc (suc (suc (suc (suc (suc (suc (suc (suc (suc (suc (suc (suc (suc (suc (suc (suc (suc (suc (suc (suc (suc (suc (suc (suc (suc (suc (suc (suc (suc (suc zero)))))))))))))))))))))))))))))))))))) n xs m = with_stm (SetAt (first xs) (exp (exps m.exps)) Plus (exp m.exps)) (exps (exps m.exps)) m.blks m
+act (suc (suc (suc (suc (suc (suc (suc (suc (suc (suc (suc (suc (suc (suc (suc (suc (suc (suc (suc (suc (suc (suc (suc (suc (suc (suc (suc (suc (suc (suc (suc (suc (suc (suc (suc (suc (suc zero))))))))))))))))))))))))))))))))))))) n xs m = with_stm (SetAt (first xs) (exp (exps m.exps)) Minus (exp m.exps)) (exps (exps m.exps)) m.blks m
+act (suc (suc (suc (suc (suc (suc (suc (suc (suc (suc (suc (suc (suc (suc (suc (suc (suc (suc (suc (suc (suc (suc (suc (suc (suc (suc (suc (suc (suc (suc (suc (suc (suc (suc (suc (suc (suc (suc k)))))))))))))))))))))))))))))))))))))) n xs m = with_stm (SetAt (first xs) (exp (exps m.exps)) Flip (exp m.exps)) (exps (exps m.exps)) m.blks m
+
+abbrev make : List Token → Made → Made
+make [] m = m
+make (t ∷ ts) m = make ts (act t.0 t.1.0 t.1.1 m)
+
+-- the tokens of a tree, and behind them others
+abbrev exp_tokens : Exp → List Token → List Token
+exp_tokens (Number n) ts = (0, (n, [])) ∷ ts
+exp_tokens (Var x) ts = (1, (pos 0, x ∷ [])) ∷ ts
+exp_tokens (Empty x) ts = (3, (pos 0, x ∷ [])) ∷ ts
+exp_tokens (Top x) ts = (4, (pos 0, x ∷ [])) ∷ ts
+exp_tokens (At a i) ts = exp_tokens i ((2, (pos 0, a ∷ [])) ∷ ts)
+exp_tokens (Negate e) ts = exp_tokens e ((5, (pos 0, [])) ∷ ts)
+exp_tokens (Binary Add' l r) ts = exp_tokens l (exp_tokens r ((19, (pos 0, [])) ∷ ts))
+exp_tokens (Binary Sub' l r) ts = exp_tokens l (exp_tokens r ((20, (pos 0, [])) ∷ ts))
+exp_tokens (Binary Mul' l r) ts = exp_tokens l (exp_tokens r ((21, (pos 0, [])) ∷ ts))
+exp_tokens (Binary Div' l r) ts = exp_tokens l (exp_tokens r ((22, (pos 0, [])) ∷ ts))
+exp_tokens (Binary Rem' l r) ts = exp_tokens l (exp_tokens r ((23, (pos 0, [])) ∷ ts))
+exp_tokens (Binary And' l r) ts = exp_tokens l (exp_tokens r ((24, (pos 0, [])) ∷ ts))
+exp_tokens (Binary Or' l r) ts = exp_tokens l (exp_tokens r ((25, (pos 0, [])) ∷ ts))
+exp_tokens (Binary Xor' l r) ts = exp_tokens l (exp_tokens r ((26, (pos 0, [])) ∷ ts))
+exp_tokens (Binary Less' l r) ts = exp_tokens l (exp_tokens r ((27, (pos 0, [])) ∷ ts))
+exp_tokens (Binary More' l r) ts = exp_tokens l (exp_tokens r ((28, (pos 0, [])) ∷ ts))
+exp_tokens (Binary AtMost' l r) ts = exp_tokens l (exp_tokens r ((29, (pos 0, [])) ∷ ts))
+exp_tokens (Binary AtLeast' l r) ts = exp_tokens l (exp_tokens r ((30, (pos 0, [])) ∷ ts))
+exp_tokens (Binary Same' l r) ts = exp_tokens l (exp_tokens r ((31, (pos 0, [])) ∷ ts))
+exp_tokens (Binary Differ' l r) ts = exp_tokens l (exp_tokens r ((32, (pos 0, [])) ∷ ts))
+exp_tokens (And l r) ts = exp_tokens l (exp_tokens r ((6, (pos 0, [])) ∷ ts))
+exp_tokens (Or l r) ts = exp_tokens l (exp_tokens r ((7, (pos 0, [])) ∷ ts))
+
+abbrev mutual
+  stm_tokens : Stm → List Token → List Token
+  stm_tokens Skip ts = (8, (pos 0, [])) ∷ ts
+  stm_tokens (Set x Plus e) ts = exp_tokens e ((33, (pos 0, x ∷ [])) ∷ ts)
+  stm_tokens (Set x Minus e) ts = exp_tokens e ((34, (pos 0, x ∷ [])) ∷ ts)
+  stm_tokens (Set x Flip e) ts = exp_tokens e ((35, (pos 0, x ∷ [])) ∷ ts)
+  stm_tokens (SetAt a i Plus e) ts = exp_tokens i (exp_tokens e ((36, (pos 0, a ∷ [])) ∷ ts))
+  stm_tokens (SetAt a i Minus e) ts = exp_tokens i (exp_tokens e ((37, (pos 0, a ∷ [])) ∷ ts))
+  stm_tokens (SetAt a i Flip e) ts = exp_tokens i (exp_tokens e ((38, (pos 0, a ∷ [])) ∷ ts))
+  stm_tokens (Push x y) ts = (9, (pos 0, x ∷ y ∷ [])) ∷ ts
+  stm_tokens (Pop x y) ts = (10, (pos 0, x ∷ y ∷ [])) ∷ ts
+  stm_tokens (If a s t b) ts = exp_tokens a (blk_tokens s (blk_tokens t (exp_tokens b ((11, (pos 0, [])) ∷ ts))))
+  stm_tokens (From a s t b) ts = exp_tokens a (blk_tokens s (blk_tokens t (exp_tokens b ((12, (pos 0, [])) ∷ ts))))
+  stm_tokens (LocalInt x a s b) ts = exp_tokens a (blk_tokens s (exp_tokens b ((13, (pos 0, x ∷ [])) ∷ ts)))
+  stm_tokens (LocalStack x s) ts = blk_tokens s ((14, (pos 0, x ∷ [])) ∷ ts)
+  stm_tokens (Call f xs) ts = (15, (pos 0, f ∷ xs)) ∷ ts
+  stm_tokens (Uncall f xs) ts = (16, (pos 0, f ∷ xs)) ∷ ts
+
+  blk_tokens : Blk → List Token → List Token
+  blk_tokens Nil ts = (17, (pos 0, [])) ∷ ts
+  blk_tokens (Cons c b) ts = stm_tokens c (blk_tokens b ((18, (pos 0, [])) ∷ ts))
+
+made_exp : (e : Exp) (ts : List Token) (es : List Exp) (cs : List Stm) (bs : List Blk) →
+    make (exp_tokens e ts) (record { exps = es; stms = cs; blks = bs }) ≡ make ts (record { exps = e ∷ es; stms = cs; blks = bs })
+made_exp (Number n) ts es cs bs = refl
+made_exp (Var x) ts es cs bs = refl
+made_exp (Empty x) ts es cs bs = refl
+made_exp (Top x) ts es cs bs = refl
+made_exp (At a i) ts es cs bs = made_exp i _ es cs bs
+made_exp (Negate e) ts es cs bs = made_exp e _ es cs bs
+made_exp (Binary Add' l r) ts es cs bs = made_exp l _ es cs bs ∙ made_exp r _ (l ∷ es) cs bs
+made_exp (Binary Sub' l r) ts es cs bs = made_exp l _ es cs bs ∙ made_exp r _ (l ∷ es) cs bs
+made_exp (Binary Mul' l r) ts es cs bs = made_exp l _ es cs bs ∙ made_exp r _ (l ∷ es) cs bs
+made_exp (Binary Div' l r) ts es cs bs = made_exp l _ es cs bs ∙ made_exp r _ (l ∷ es) cs bs
+made_exp (Binary Rem' l r) ts es cs bs = made_exp l _ es cs bs ∙ made_exp r _ (l ∷ es) cs bs
+made_exp (Binary And' l r) ts es cs bs = made_exp l _ es cs bs ∙ made_exp r _ (l ∷ es) cs bs
+made_exp (Binary Or' l r) ts es cs bs = made_exp l _ es cs bs ∙ made_exp r _ (l ∷ es) cs bs
+made_exp (Binary Xor' l r) ts es cs bs = made_exp l _ es cs bs ∙ made_exp r _ (l ∷ es) cs bs
+made_exp (Binary Less' l r) ts es cs bs = made_exp l _ es cs bs ∙ made_exp r _ (l ∷ es) cs bs
+made_exp (Binary More' l r) ts es cs bs = made_exp l _ es cs bs ∙ made_exp r _ (l ∷ es) cs bs
+made_exp (Binary AtMost' l r) ts es cs bs = made_exp l _ es cs bs ∙ made_exp r _ (l ∷ es) cs bs
+made_exp (Binary AtLeast' l r) ts es cs bs = made_exp l _ es cs bs ∙ made_exp r _ (l ∷ es) cs bs
+made_exp (Binary Same' l r) ts es cs bs = made_exp l _ es cs bs ∙ made_exp r _ (l ∷ es) cs bs
+made_exp (Binary Differ' l r) ts es cs bs = made_exp l _ es cs bs ∙ made_exp r _ (l ∷ es) cs bs
+made_exp (And l r) ts es cs bs = made_exp l _ es cs bs ∙ made_exp r _ (l ∷ es) cs bs
+made_exp (Or l r) ts es cs bs = made_exp l _ es cs bs ∙ made_exp r _ (l ∷ es) cs bs
+
+mutual
+  made_stm : (c : Stm) (ts : List Token) (es : List Exp) (cs : List Stm) (bs : List Blk) →
+      make (stm_tokens c ts) (record { exps = es; stms = cs; blks = bs }) ≡ make ts (record { exps = es; stms = c ∷ cs; blks = bs })
+  made_stm Skip ts es cs bs = refl
+  made_stm (Set x Plus e) ts es cs bs = made_exp e _ es cs bs
+  made_stm (Set x Minus e) ts es cs bs = made_exp e _ es cs bs
+  made_stm (Set x Flip e) ts es cs bs = made_exp e _ es cs bs
+  made_stm (SetAt a i Plus e) ts es cs bs = made_exp i _ es cs bs ∙ made_exp e _ (i ∷ es) cs bs
+  made_stm (SetAt a i Minus e) ts es cs bs = made_exp i _ es cs bs ∙ made_exp e _ (i ∷ es) cs bs
+  made_stm (SetAt a i Flip e) ts es cs bs = made_exp i _ es cs bs ∙ made_exp e _ (i ∷ es) cs bs
+  made_stm (Push x y) ts es cs bs = refl
+  made_stm (Pop x y) ts es cs bs = refl
+  made_stm (If a s t b) ts es cs bs = made_exp a _ es cs bs ∙ made_blk s _ (a ∷ es) cs bs ∙ made_blk t _ (a ∷ es) cs (s ∷ bs) ∙ made_exp b _ (a ∷ es) cs (t ∷ s ∷ bs)
+  made_stm (From a s t b) ts es cs bs = made_exp a _ es cs bs ∙ made_blk s _ (a ∷ es) cs bs ∙ made_blk t _ (a ∷ es) cs (s ∷ bs) ∙ made_exp b _ (a ∷ es) cs (t ∷ s ∷ bs)
+  made_stm (LocalInt x a s b) ts es cs bs = made_exp a _ es cs bs ∙ made_blk s _ (a ∷ es) cs bs ∙ made_exp b _ (a ∷ es) cs (s ∷ bs)
+  made_stm (LocalStack x s) ts es cs bs = made_blk s _ es cs bs
+  made_stm (Call f xs) ts es cs bs = refl
+  made_stm (Uncall f xs) ts es cs bs = refl
+
+  made_blk : (b : Blk) (ts : List Token) (es : List Exp) (cs : List Stm) (bs : List Blk) →
+      make (blk_tokens b ts) (record { exps = es; stms = cs; blks = bs }) ≡ make ts (record { exps = es; stms = cs; blks = b ∷ bs })
+  made_blk Nil ts es cs bs = refl
+  made_blk (Cons c b) ts es cs bs = made_stm c _ es cs bs ∙ made_blk b _ es (c ∷ cs) bs
+
+abbrev block_tokens : Blk → List Token
+block_tokens b = blk_tokens b []
+
+abbrev tokens_block : List Token → Blk
+tokens_block ts = blk (make ts (record { exps = []; stms = []; blks = [] })).blks
+
+pub block_back : (b : Blk) → tokens_block (block_tokens b) ≡ b
+block_back b = ap (λ (m : Made). blk m.blks) (made_blk b [] [] [] [])
+
+abbrev name_code : Coded Name
+name_code = coded_list coded_ℕ
+
+abbrev block_code : Coded Blk
+block_code = code_by (List Token) (coded_list (coded× coded_ℕ (coded× coded_ℤ (coded_list name_code)))) block_tokens tokens_block block_back
+
+abbrev kinds_code : Coded (List Kind)
+kinds_code = code_by (List ℕ) (coded_list coded_ℕ) kinds_list list_kinds kinds_back
+
+abbrev proc_code : Coded Proc
+proc_code =
+    code_by (Name × (List Name × (List Kind × Blk))) (coded× name_code (coded× (coded_list name_code) (coded× kinds_code block_code))) (λ p. (p.name, (p.params, (p.kinds, p.body)))) (λ p. record { name = p.0; params = p.1.0; kinds = p.1.1.0; body = p.1.1.1 }) (λ _. refl)
+
+-- ---- cells
+
+abbrev declaration_parts : Declaration → ℕ × (Name × ℕ)
+declaration_parts (DeclareInt x) = (0, (x, 0))
+declaration_parts (DeclareArray x n) = (1, (x, n))
+declaration_parts (DeclareStack x) = (2, (x, 0))
+
+abbrev declaration_of_parts : ℕ → Name → ℕ → Declaration
+declaration_of_parts zero x n = DeclareInt x
+declaration_of_parts (suc zero) x n = DeclareArray x n
+declaration_of_parts (suc (suc k)) x n = DeclareStack x
+
+pub declaration_back : (d : Declaration) → declaration_of_parts (declaration_parts d).0 (declaration_parts d).1.0 (declaration_parts d).1.1 ≡ d
+declaration_back (DeclareInt x) = refl
+declaration_back (DeclareArray x n) = refl
+declaration_back (DeclareStack x) = refl
+
+abbrev declaration_code : Coded Declaration
+declaration_code = code_by (ℕ × (Name × ℕ)) (coded× coded_ℕ (coded× name_code coded_ℕ)) declaration_parts (λ p. declaration_of_parts p.0 p.1.0 p.1.1) declaration_back
+
+abbrev pub cell_code : Coded Cell
+cell_code =
+    code_by (List Declaration × (List Proc × Blk)) (coded× (coded_list declaration_code) (coded× (coded_list proc_code) block_code)) (λ c. (c.declarations, (c.procedures, c.block))) (λ p. record { declarations = p.0; procedures = p.1.0; block = p.1.1 }) (λ _. refl)
+
+-- ---- worlds
+
+abbrev val_parts : Val → ℕ × (ℤ × List ℤ)
+val_parts (Num n) = (0, (n, []))
+val_parts (Arr l) = (1, (pos 0, l))
+val_parts (Stk l) = (2, (pos 0, l))
+val_parts Lent = (3, (pos 0, []))
+
+abbrev val_of_parts : ℕ → ℤ → List ℤ → Val
+val_of_parts zero n l = Num n
+val_of_parts (suc zero) n l = Arr l
+val_of_parts (suc (suc zero)) n l = Stk l
+val_of_parts (suc (suc (suc k))) n l = Lent
+
+abbrev slots_list : Store → List (Name × (ℕ × (ℤ × List ℤ)))
+slots_list Bare = []
+slots_list (Slot x v s) = (x, val_parts v) ∷ slots_list s
+
+abbrev list_slots : List (Name × (ℕ × (ℤ × List ℤ))) → Store
+list_slots [] = Bare
+list_slots (p ∷ l) = Slot p.0 (val_of_parts p.1.0 p.1.1.0 p.1.1.1) (list_slots l)
+
+pub slots_back : (s : Store) → list_slots (slots_list s) ≡ s
+slots_back Bare = refl
+slots_back (Slot x (Num n) s) = ap (Slot x (Num n)) (slots_back s)
+slots_back (Slot x (Arr l) s) = ap (Slot x (Arr l)) (slots_back s)
+slots_back (Slot x (Stk l) s) = ap (Slot x (Stk l)) (slots_back s)
+slots_back (Slot x Lent s) = ap (Slot x Lent) (slots_back s)
+
+abbrev pub store_code : Coded Store
+store_code = code_by (List (Name × (ℕ × (ℤ × List ℤ)))) (coded_list (coded× name_code (coded× coded_ℕ (coded× coded_ℤ (coded_list coded_ℤ))))) slots_list list_slots slots_back
+
+abbrev pub world_code : Coded World
+world_code = code_by (Store × List Proc) (coded× store_code (coded_list proc_code)) (λ w. (w.store, w.procedures)) (λ p. record { store = p.0; procedures = p.1 }) (λ _. refl)

@@ -1,0 +1,65 @@
+-- What a history keeps of its fields: the runner's store is the shown world.
+use Rattle.std.specs.Prelude.{◌≡◌, ℕ, ◌+◌, ◌-◌, ◌<◌, Bool, true, false, get_or, length, vec_len, vec_capacity}
+use Rattle.kernel_core.specs.State.{here, code_of}
+use Rattle.kernel_core.specs.Fields.{past_of, work_of, job_of}
+use Rattle.kernel_core.specs.Legal.{IsLegal, IsPossibleAt}
+use Rattle.kernel_core.specs.Runner.{Stands, world_of}
+use Rattle.kernel_core.specs.declared.program.Program.{Program}
+use Rattle.kernel_core.specs.declared.runner.Runner.{Runner}
+use Rattle.kernel_core.specs.declared.tree.Tree.{Tree}
+use Rattle.kernel_core.specs.declared.tree.Node.{Node}
+use Rattle.kernel_core.specs.declared.job.Way.TheVariants.{Up, Down}
+use Rattle.kernel_core.specs.declared.job.Work.{Work}
+use Rattle.kernel_core.specs.declared.job.Work.TheVariants.{Cell, Move}
+use Rattle.kernel_core.specs.declared.job.Turn.{Turn}
+use Rattle.kernel_core.specs.declared.job.Turn.TheVariants.{Going as GoesOn, Backing as GoesBack}
+use Rattle.kernel_core.specs.declared.job.Open.{Open}
+use Rattle.kernel_core.specs.declared.job.Open.TheVariants.{Idle, Border, Inside}
+
+-- the node that stands at this place
+abbrev pub IsNodeAt : Tree → ℕ → Node → Type 0
+IsNodeAt tree n node = (0 < n) × (n < length tree.nodes.items + 1) × (node ≡ get_or tree.nodes.items (n - 1) node)
+
+-- the program that the work runs, forward or backward
+abbrev pub IsProgramOf : Tree → Work → Program → Type 0
+IsProgramOf tree (Cell program) p = p ≡ program
+IsProgramOf tree (Move travel) p = elim travel.way [
+  | Up ↦ (node : Node) × IsNodeAt tree tree.position node × (p ≡ node.program)
+  | Down ↦ (node : Node) × IsNodeAt tree (get_or tree.favourites.items tree.position 0) node × (p ≡ node.program)
+]
+
+abbrev pub is_back : Turn → Bool
+is_back GoesOn = false
+is_back (GoesBack why) = true
+
+-- the runner stands in the work's program, so many steps from the world of the position
+pub record StandsIn (tree : Tree) (work : Work) (count : ℕ) (back : Bool) (runner : Runner) : Type 0 where
+  pub program : Program
+  pub of_work : IsProgramOf tree work program
+  pub stands : Stands runner program (code_of (past_of tree) (work_of work)) (here (past_of tree)) count back
+
+-- the runner stands where the open job says
+abbrev pub StandsAt : Tree → Open → Runner → Type 0
+StandsAt tree Idle runner = world_of runner ≡ here (past_of tree)
+StandsAt tree (Border travel) runner = world_of runner ≡ here (past_of tree)
+StandsAt tree (Inside e) runner = StandsIn tree e.work e.count (is_back e.turn) runner
+
+-- room for one more node, made when a cell is begun
+pub record HasRoom (tree : Tree) : Type 0 where
+  pub nodes : vec_len tree.nodes < vec_capacity tree.nodes
+  pub favourites : vec_len tree.favourites < vec_capacity tree.favourites
+
+abbrev pub HasRoomFor : Tree → Work → Type 0
+HasRoomFor tree (Cell program) = HasRoom tree
+HasRoomFor tree (Move travel) = Unit {0}
+
+abbrev pub HasRoomAt : Tree → Open → Type 0
+HasRoomAt tree Idle = Unit {0}
+HasRoomAt tree (Border travel) = Unit {0}
+HasRoomAt tree (Inside e) = HasRoomFor tree e.work
+
+pub record Kept (tree : Tree) (runner : Runner) (job : Open) : Type 0 where
+  pub legal : IsLegal (past_of tree)
+  pub possible : IsPossibleAt (past_of tree) (job_of job)
+  pub stands : StandsAt tree job runner
+  pub room : HasRoomAt tree job

@@ -1,0 +1,68 @@
+-- Legal trees, and what each state of the machine keeps.
+use Rattle.std.specs.Prelude.{◌≡◌, ℕ, ◌+◌, ◌^◌, ◌<◌, ◌==◌, Bool, true, false, IsTrue, List, length, zero, suc, if◌then◌else◌, get_or}
+use Rattle.janus_meaning.specs.World.{World, empty_world}
+use Rattle.kernel_core.specs.Language.{Forward, Exec, IsFormed, IsSound}
+use Rattle.kernel_core.specs.State.{Past, Node, Work, Posted, Move, Job, Idle, Border, Inside, root, node_at, world_at, here, favourite_of}
+use Rattle.kernel_core.specs.declared.job.Way.{Way}
+use Rattle.kernel_core.specs.declared.job.Way.TheVariants.{Up, Down}
+use Rattle.kernel_core.specs.declared.job.Travel.{Travel}
+
+-- the node can go up k times
+abbrev pub can_undo : List Node → ℕ → ℕ → Bool
+can_undo nodes n zero = true
+can_undo nodes n (suc k) = (if n == 0 then false else can_undo nodes (get_or nodes n root).parent k)
+
+-- the node can go down k times, along favourites
+abbrev pub can_redo : List ℕ → ℕ → ℕ → Bool
+can_redo favourites n zero = true
+can_redo favourites n (suc k) = (if get_or favourites n 0 == 0 then false else can_redo favourites (get_or favourites n 0) k)
+
+abbrev pub can_go : List Node → List ℕ → ℕ → Way → ℕ → Bool
+can_go nodes favourites n Up k = can_undo nodes n k
+can_go nodes favourites n Down k = can_redo favourites n k
+
+-- the cell of the node n is well formed over its parent's world, and run there it gives the node's world in the node's steps
+pub record IsRun (nodes : List Node) (worlds : List World) (n : ℕ) : Type 0 where
+  pub parent : (get_or nodes n root).parent < n
+  pub formed : IsFormed (get_or nodes n root).cell (get_or worlds (get_or nodes n root).parent empty_world)
+  pub ran : Exec (Forward (get_or nodes n root).cell) (get_or worlds (get_or nodes n root).parent empty_world) (get_or nodes n root).steps (get_or worlds n empty_world)
+
+-- the favourite of the node n is a child of it
+pub record IsChild (nodes : List Node) (favourites : List ℕ) (n : ℕ) : Type 0 where
+  pub known : get_or favourites n 0 < length nodes
+  pub parent : (get_or nodes (get_or favourites n 0) root).parent ≡ n
+
+-- the node j steps above n; the root is its own parent
+abbrev pub ancestor : List Node → ℕ → ℕ → ℕ
+ancestor nodes n zero = n
+ancestor nodes n (suc j) = (get_or nodes (ancestor nodes n j) root).parent
+
+-- The tree is legal: parents stand before their children, the root's world is empty, and each other node's is that of its cell, run in its parent's world.
+pub record IsLegal (s : Past) : Type 0 where
+  pub rooted : 0 < length s.nodes
+  pub nothing_at_root : world_at s 0 ≡ empty_world
+  pub worlds : length s.worlds ≡ length s.nodes
+  pub favourites : length s.favourites ≡ length s.nodes
+  pub ran : (n : ℕ) → 0 < n → n < length s.nodes → IsRun s.nodes s.worlds n
+  pub sound : (n : ℕ) → n < length s.nodes → IsSound (world_at s n)
+  pub children : (n : ℕ) → n < length s.nodes → 0 < favourite_of s n → IsChild s.nodes s.favourites n
+  pub position : s.position < length s.nodes
+  pub root_parent : (node_at s 0).parent ≡ 0
+  -- the favourites lead from each node above the position to it
+  pub favoured : (j : ℕ) → 0 < ancestor s.nodes s.position j → favourite_of s (ancestor s.nodes s.position (suc j)) ≡ ancestor s.nodes s.position j
+
+-- an open undo or redo has a cell to do, and can do all
+pub record IsPossible (nodes : List Node) (favourites : List ℕ) (position : ℕ) (travel : Travel) : Type 0 where
+  pub some : 0 < travel.left
+  pub small : travel.left + travel.done < 2 ^ 32
+  pub way_there : IsTrue (can_go nodes favourites position travel.way travel.left)
+
+-- what runs can run from the position: a posted cell is well formed over its world
+abbrev pub IsPossibleWork : Past → Work → Type 0
+IsPossibleWork s (Posted cell) = IsFormed cell (here s)
+IsPossibleWork s (Move travel) = IsPossible s.nodes s.favourites s.position travel
+
+abbrev pub IsPossibleAt : Past → Job → Type 0
+IsPossibleAt s Idle = Unit {0}
+IsPossibleAt s (Border travel) = IsPossible s.nodes s.favourites s.position travel
+IsPossibleAt s (Inside e) = IsPossibleWork s e.work

@@ -1,0 +1,92 @@
+-- The kernel machine: a state with a queue, its step for each event, and its runs.
+use Rattle.std.specs.Prelude.{◌≡◌, ℕ, Bool, ◌+◌, ◌%◌, ◌^◌, ◌<◌, ◌≤◌, List, [], ◌∷◌, ◌++◌, length, Result, Ok, Err, string_bytes}
+use Rattle.kernel_core.specs.State.{Past, State, Job as Open, Idle, Border, Inside, new_state}
+use Rattle.kernel_core.specs.Legal.{can_go}
+use Rattle.kernel_core.specs.Slices.{IsSlice}
+use Rattle.kernel_core.specs.Begins.{Enters, TakesCell, TakesMove}
+use Rattle.kernel_core.specs.declared.job.Way.TheVariants.{Up, Down}
+use Rattle.kernel_core.specs.declared.outcome.Begun.{Begun}
+use Rattle.kernel_core.specs.declared.outcome.Begun.TheVariants as begun
+use Rattle.kernel_core.specs.declared.outcome.Sliced.{Sliced}
+use Rattle.kernel_core.specs.declared.kernel.Job.{Job}
+use Rattle.kernel_core.specs.declared.kernel.Job.TheVariants as job
+use Rattle.kernel_core.specs.declared.kernel.PostFault.{PostFault}
+use Rattle.kernel_core.specs.declared.kernel.PostFault.TheVariants.{QueueFull, Memory}
+use Rattle.kernel_core.specs.declared.events.Event.{Event}
+use Rattle.kernel_core.specs.declared.events.Event.TheVariants as event
+use Rattle.kernel_core.specs.declared.events.Told.{Told}
+use Rattle.kernel_core.specs.declared.events.Told.TheVariants as told
+
+-- a job, with its text as octets
+pub data Request : Type 0 where
+  RunCell : (text : List ℕ) (silent store : Bool) → Request
+  Undo : (k : ℕ) → Request
+  Redo : (k : ℕ) → Request
+
+abbrev pub request_of : Job → Request
+request_of (job.Cell code silent store) = RunCell (string_bytes code) silent store
+request_of (job.Undo k) = Undo k
+request_of (job.Redo k) = Redo k
+
+pub record Machine : Type 0 where
+  pub state : State
+  -- the posted jobs that are not begun
+  pub queue : List Request
+  -- how many were posted, modulo 2^64
+  pub posted : ℕ
+
+abbrev pub new_machine : Machine
+new_machine = record { state = new_state; queue = []; posted = 0 }
+
+abbrev pub next_number : ℕ → ℕ
+next_number posted = (posted + 1) % 2 ^ 64
+
+-- a post is refused, or queued with the next number; want of memory is free
+abbrev pub IsPost : Machine → Request → Result ℕ PostFault → Machine → Type 0
+IsPost old posted (Ok number) new =
+    (length old.queue < 1024) × (number ≡ next_number old.posted)
+    × (new ≡ record old { queue = old.queue ++ posted ∷ []; posted = next_number old.posted })
+IsPost old posted (Err QueueFull) new = (1024 ≤ length old.queue) × (new ≡ old)
+IsPost old posted (Err Memory) new = new ≡ old
+
+-- a posted job is taken
+abbrev pub Takes : Past → Request → Begun → State → Type 0
+Takes s (RunCell text silent store) answer new = TakesCell s text answer new
+Takes s (Undo k) answer new = TakesMove s Up k (can_go s.nodes s.favourites s.position Up k) answer new
+Takes s (Redo k) answer new = TakesMove s Down k (can_go s.nodes s.favourites s.position Down k) answer new
+
+-- with no open job the earliest posted one is taken; at a border the next cell is entered; inside a cell nothing
+abbrev pub BeginsAt : Machine → Open → List Request → Begun → Machine → Type 0
+BeginsAt old Idle [] answer new = (answer ≡ begun.Nothing) × (new ≡ old)
+BeginsAt old Idle (first ∷ rest) answer new =
+    (state : State) × Takes old.state.past first answer state × (new ≡ record old { state = state; queue = rest })
+BeginsAt old (Border travel) queue answer new =
+    (state : State) × Enters old.state.past travel answer state × (new ≡ record old { state = state })
+BeginsAt old (Inside e) queue answer new = (answer ≡ begun.Nothing) × (new ≡ old)
+
+abbrev pub IsBegin : Machine → Begun → Machine → Type 0
+IsBegin old answer new = BeginsAt old old.state.job old.queue answer new
+
+abbrev pub IsSliceOf : Machine → ℕ → Bool → Sliced → Machine → Type 0
+IsSliceOf old m asked answer new =
+    (state : State) × IsSlice old.state m asked answer state × (new ≡ record old { state = state })
+
+-- One step: the machine may give this answer to the event and go on to new.
+abbrev pub Step : Machine → Event → Told → Machine → Type 0
+Step old (event.Post lane posted) (told.Post answer) new = IsPost old (request_of posted) answer new
+Step old event.Begin (told.Begin answer) new = IsBegin old answer new
+Step old (event.Slice m asked) (told.Slice answer) new = IsSliceOf old m asked answer new
+-- no other answer is given
+Step old (event.Post lane posted) (told.Begin answer) new = ⊥
+Step old (event.Post lane posted) (told.Slice answer) new = ⊥
+Step old event.Begin (told.Post answer) new = ⊥
+Step old event.Begin (told.Slice answer) new = ⊥
+Step old (event.Slice m asked) (told.Post answer) new = ⊥
+Step old (event.Slice m asked) (told.Begin answer) new = ⊥
+
+-- A run: one step after another.
+abbrev pub Run : Machine → List Event → List Told → Machine → Type 0
+Run old [] [] new = new ≡ old
+Run old (e ∷ events) (t ∷ answers) new = (mid : Machine) × Step old e t mid × Run mid events answers new
+Run old [] (t ∷ answers) new = ⊥
+Run old (e ∷ events) [] new = ⊥

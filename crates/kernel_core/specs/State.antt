@@ -1,0 +1,92 @@
+-- The states of the kernel machine: the tree of cells with the worlds of all its nodes, and the open job. No cursor, no stored inverse, no store.
+use Rattle.std.specs.Prelude.{◌≡◌, ℕ, List, [], ◌∷◌, ◌++◌, get_or}
+use Rattle.janus_meaning.specs.World.{World, empty_world, Cell}
+use Rattle.kernel_core.specs.Language.{empty_cell, Code, Forward, Backward, Part, end_of}
+use Rattle.kernel_core.specs.declared.job.Way.TheVariants.{Up, Down}
+use Rattle.kernel_core.specs.declared.job.Travel.{Travel}
+use Rattle.kernel_core.specs.declared.job.Turn.{Turn}
+
+-- a cell that ended well, with the steps that it took; or the root
+pub record Node : Type 0 where
+  pub parent : ℕ
+  pub cell : Cell
+  pub steps : ℕ
+
+-- the tree with all its worlds, and where the kernel stands in it
+pub record Past : Type 0 where
+  -- node 0 is the root
+  pub nodes : List Node
+  -- the world of each node
+  pub worlds : List World
+  -- for each node the child through which the position last went down from it, or 0
+  pub favourites : List ℕ
+  pub position : ℕ
+
+-- what runs inside a cell: a posted cell, or the next cell of an undo or a redo
+pub data Work : Type 0 where
+  Posted : (cell : Cell) → Work
+  Move : (travel : Travel) → Work
+
+-- a job inside a cell, and how many steps of the cell are taken
+pub record Entered : Type 0 where
+  pub work : Work
+  pub count : ℕ
+  pub turn : Turn
+
+-- no open job, or one at a border between two cells, or inside a cell
+pub data Job : Type 0 where
+  Idle : Job
+  Border : (travel : Travel) → Job
+  Inside : (e : Entered) → Job
+
+pub record State : Type 0 where
+  pub past : Past
+  pub job : Job
+
+abbrev pub root : Node
+root = record { parent = 0; cell = empty_cell; steps = 0 }
+
+abbrev pub node_at : Past → ℕ → Node
+node_at s n = get_or s.nodes n root
+
+abbrev pub world_at : Past → ℕ → World
+world_at s n = get_or s.worlds n empty_world
+
+abbrev pub favourite_of : Past → ℕ → ℕ
+favourite_of s n = get_or s.favourites n 0
+
+-- the world of the position
+abbrev pub here : Past → World
+here s = world_at s s.position
+
+-- The code that a job runs inside a cell: a posted cell and a redone one forward, an undone one backward. It begins in the world of the position.
+abbrev pub code_of : Past → Work → Code
+code_of s (Posted cell) = Forward cell
+code_of s (Move travel) = elim travel.way [
+  | Up ↦ Backward (node_at s s.position).cell
+  | Down ↦ Forward (node_at s (favourite_of s s.position)).cell
+]
+
+-- the world that is shown: at a border or with no job that of the position, else that after the counted steps
+abbrev pub ShownAt : Past → Job → World → Type 0
+ShownAt s Idle w = w ≡ here s
+ShownAt s (Border travel) w = w ≡ here s
+ShownAt s (Inside e) w = Part (code_of s e.work) (here s) e.count w
+
+abbrev pub Shown : State → World → Type 0
+Shown s w = ShownAt s.past s.job w
+
+-- the state of a new kernel
+abbrev pub new_state : State
+new_state = record {
+  past = record { nodes = root ∷ []; worlds = empty_world ∷ []; favourites = 0 ∷ []; position = 0 };
+  job = Idle;
+}
+
+-- ---- the worlds of a tree as a function
+
+-- the worlds of the nodes, from first to last
+unfoldable pub worlds_from : List World → List Node → List World
+worlds_from worlds [] = worlds
+worlds_from worlds (node ∷ nodes) =
+    worlds_from (worlds ++ end_of node.cell (get_or worlds node.parent empty_world) node.steps ∷ []) nodes

@@ -1,0 +1,147 @@
+-- The main theorem in the subject's own words, over runs of the machine.
+use Rattle.std.specs.Prelude.{◌≡◌, ℕ, Bool, ◌+◌, ◌-◌, ◌<◌, ◌≤◌, List, [], ◌∷◌, length, get_or, IsTrue, zero, suc, ◌⊎◌}
+use Rattle.janus_meaning.specs.World.{World, empty_world, Cell, entered}
+use Rattle.janus_meaning.specs.Cells.{IsGoodWorld}
+use Rattle.kernel_core.specs.Language.{Forward, Backward, Part, Exec}
+use Rattle.kernel_core.specs.Reached.{Reaches}
+use Rattle.kernel_core.specs.State.{Node, Past, Move, Idle, Inside, State, root, node_at, world_at, here, favourite_of, code_of}
+use Rattle.kernel_core.specs.Legal.{can_go, IsPossible, IsLegal}
+use Rattle.kernel_core.specs.Slices.{finished, grown, Settles, Goes}
+use Rattle.kernel_core.specs.Text.{Accepts}
+use Rattle.kernel_core.specs.Runs.{Machine, Request, RunCell, Undo, Redo, Run}
+use Rattle.kernel_core.specs.declared.runner.Ran.TheVariants.{Stopped}
+use Rattle.kernel_core.specs.declared.job.Travel.{Travel}
+use Rattle.kernel_core.specs.declared.job.Turn.TheVariants.{Going as GoesOn}
+use Rattle.kernel_core.specs.declared.job.Way.{Way}
+use Rattle.kernel_core.specs.declared.job.Way.TheVariants.{Up, Down}
+use Rattle.kernel_core.specs.declared.outcome.End.{End}
+use Rattle.kernel_core.specs.declared.outcome.End.TheVariants.{All}
+use Rattle.kernel_core.specs.declared.outcome.Refusal.TheVariants.{TooFar}
+use Rattle.kernel_core.specs.declared.outcome.Outcome.{Outcome}
+use Rattle.kernel_core.specs.declared.outcome.Outcome.TheVariants as outcome
+use Rattle.kernel_core.specs.declared.outcome.Begun.TheVariants as begun
+use Rattle.kernel_core.specs.declared.outcome.Sliced.{Sliced}
+use Rattle.kernel_core.specs.declared.outcome.Sliced.TheVariants as sliced
+use Rattle.kernel_core.specs.declared.events.Event.{Event}
+use Rattle.kernel_core.specs.declared.events.Event.TheVariants as event
+use Rattle.kernel_core.specs.declared.events.Told.{Told}
+use Rattle.kernel_core.specs.declared.events.Told.TheVariants as told
+use Rattle.janus_machine.specs.declared.fault.Fault.{Fault}
+
+-- ---- jobs, from their begin to their end
+
+abbrev pub move_of : Way → ℕ → Request
+move_of Up k = Undo k
+move_of Down k = Redo k
+
+-- one node up, or down to the favourite; and j of them
+abbrev pub next : List Node → List ℕ → Way → ℕ → ℕ
+next nodes favourites Up n = (get_or nodes n root).parent
+next nodes favourites Down n = get_or favourites n 0
+
+abbrev pub along : List Node → List ℕ → Way → ℕ → ℕ → ℕ
+along nodes favourites way n zero = n
+along nodes favourites way n (suc j) = next nodes favourites way (along nodes favourites way n j)
+
+-- the same tree with all its worlds and favourites, and the position j nodes further
+abbrev pub standing : Past → Way → ℕ → Past
+standing s way j = record s { position = along s.nodes s.favourites way s.position j }
+
+-- the job that was open ends with the last answer, as o, and with no earlier one
+abbrev pub EndsAs : List Told → Outcome → Type 0
+EndsAs [] o = ⊥
+EndsAs (told.Begin (begun.Ended p) ∷ answers) o = (answers ≡ []) × (p ≡ o)
+EndsAs (told.Slice (sliced.Ended p) ∷ answers) o = (answers ≡ []) × (p ≡ o)
+EndsAs (t ∷ answers) o = EndsAs answers o
+
+-- How an undo or a redo of k cells from the past s ends: refused whole, or after j cells, all k where it says All.
+-- The tree, its worlds and its favourites are as they were.
+abbrev pub MoveEnds : Past → Way → ℕ → Outcome → State → Type 0
+MoveEnds s way k o new =
+    ((o ≡ outcome.Refused TooFar) × (new ≡ record { past = s; job = Idle }))
+    ⊎ ((j : ℕ) × (end : End) × (o ≡ finished (record { way = way; left = 0; done = j }) end) × (new ≡ record { past = standing s way j; job = Idle }) × (end ≡ All → j ≡ k) × IsTrue (can_go s.nodes s.favourites s.position way k))
+
+-- the cell of the text ran to its end, and is a new node with the world to which it leads
+abbrev pub BecomesNode : Past → List ℕ → Outcome → State → Type 0
+BecomesNode s text o new =
+    (cell : Cell) × (n : ℕ) × (w : World) × Accepts (here s) text cell × (o ≡ outcome.Ran (length s.nodes) n) × Exec (Forward cell) (here s) n w
+    × (new ≡ record { past = grown s cell n w; job = Idle })
+
+-- How a cell ends: as a new node, or all is as it was.
+abbrev pub CellEnds : Past → List ℕ → Outcome → State → Type 0
+CellEnds s text o new =
+    BecomesNode s text o new ⊎ ((new ≡ record { past = s; job = Idle }) × ((node n : ℕ) → o ≡ outcome.Ran node n → ⊥))
+
+-- Over any events, with posts, interrupts and faults among them, an undo or a redo that is taken ends so.
+abbrev pub MovesEnd : Type 0
+MovesEnd =
+    (old new : Machine) (way : Way) (k : ℕ) (rest : List Request) (events : List Event) (answers : List Told) (o : Outcome) →
+    old.state.job ≡ Idle → old.queue ≡ move_of way k ∷ rest → Run old (event.Begin ∷ events) answers new → EndsAs answers o → MoveEnds old.state.past way k o new.state
+
+abbrev pub CellsEnd : Type 0
+CellsEnd =
+    (old new : Machine) (text : List ℕ) (silent store : Bool) (rest : List Request) (events : List Event) (answers : List Told) (o : Outcome) →
+    old.state.job ≡ Idle → old.queue ≡ RunCell text silent store ∷ rest → Run old (event.Begin ∷ events) answers new → EndsAs answers o → CellEnds old.state.past text o new.state
+
+-- A redo of k cells that follows an undo of k cells, both to the end, is back at the same node, with the same tree and worlds.
+abbrev pub RedoGivesBack : Type 0
+RedoGivesBack =
+    (old mid new : Machine) (k : ℕ) (rest more : List Request) (undo redo : List Event) (told_undo told_redo : List Told) →
+    IsLegal old.state.past → old.state.job ≡ Idle → old.queue ≡ Undo k ∷ rest → Run old (event.Begin ∷ undo) told_undo mid → EndsAs told_undo (outcome.Undid k All) →
+    mid.queue ≡ Redo k ∷ more → Run mid (event.Begin ∷ redo) told_redo new → EndsAs told_redo (outcome.Redid k All) →
+    new.state.past ≡ old.state.past
+
+-- ---- inside a cell of an undo or a redo
+
+-- how many steps the cell took that is undone or redone
+abbrev pub steps_of : Past → Travel → ℕ
+steps_of s travel = elim travel.way [ Up ↦ (node_at s s.position).steps | Down ↦ (node_at s (favourite_of s s.position)).steps ]
+
+-- where it leads: an undone cell to where its statements began, a redone one to its node's world
+abbrev pub end_world : Past → Travel → World
+end_world s travel = elim travel.way [
+  | Up ↦ entered (node_at s s.position).cell (world_at s (node_at s s.position).parent)
+  | Down ↦ world_at s (favourite_of s s.position)
+]
+
+-- A slice before the cell's last step goes on, and the slice with that step settles the cell: not earlier, not later.
+abbrev pub IsOnTime : Past → Travel → ℕ → ℕ → Sliced → State → Type 0
+IsOnTime s travel c m told new =
+    ((c + m < steps_of s travel) × (told ≡ sliced.Going) × (new ≡ record { past = s; job = Inside (record { work = Move travel; count = c + m; turn = GoesOn }) }))
+    ⊎ ((steps_of s travel ≤ c + m) × Settles s (Move travel) (steps_of s travel) (end_world s travel) told new)
+
+-- A cell is undone by its inverted code, and redone by its code, in as many steps as it took.
+abbrev pub SettlesOnTime : Type 0
+SettlesOnTime =
+    (s : Past) (travel : Travel) (c m : ℕ) (told : Sliced) (new : State) →
+    IsLegal s → IsPossible s.nodes s.favourites s.position travel → Goes s (Move travel) c m told new → IsOnTime s travel c m told new
+
+-- Where the tree is legal, the code of an undo or a redo meets no fault.
+abbrev pub NeverFaults : Type 0
+NeverFaults =
+    (s : Past) (travel : Travel) (m j : ℕ) (fault : Fault) (w : World) →
+    IsLegal s → IsPossible s.nodes s.favourites s.position travel → Reaches (code_of s (Move travel)) (here s) m (Stopped j fault) w → ⊥
+
+-- The inverted code leads back, in as many steps and through the same worlds, to the world in which the cell's statements began.
+abbrev pub IsMirrored : Type 0
+IsMirrored =
+    (cell : Cell) (w u v : World) (n j : ℕ) → IsGoodWorld w → Exec (Forward cell) w n v → Part (Forward cell) w j u →
+    Exec (Backward cell) v n (entered cell w) × Part (Backward cell) v (n - j) u
+
+-- ---- worlds are those of paths
+
+-- the cells from the node n up to the root
+abbrev pub IsPath : List Node → ℕ → List Cell → Type 0
+IsPath nodes n [] = n ≡ 0
+IsPath nodes n (cell ∷ above) = (0 < n) × (n < length nodes) × ((get_or nodes n root).cell ≡ cell) × IsPath nodes (get_or nodes n root).parent above
+
+-- run one after another from the empty world, the last first in the list, they lead to w
+abbrev pub LeadTo : List Cell → World → Type 0
+LeadTo [] w = w ≡ empty_world
+LeadTo (cell ∷ above) w = (v : World) × (steps : ℕ) × LeadTo above v × Exec (Forward cell) v steps w
+
+-- The world of a node is the one that the cells on its path give, and no other.
+abbrev pub PathGivesWorld : Type 0
+PathGivesWorld =
+    (s : Past) (n : ℕ) → IsLegal s → n < length s.nodes →
+    (cells : List Cell) × IsPath s.nodes n cells × LeadTo cells (world_at s n) × ((w : World) → LeadTo cells w → w ≡ world_at s n)

@@ -1,0 +1,35 @@
+//! The core of a Janus kernel whose undo is exact: the history tree of cells, the one store, the open job and the queue.
+//!
+//! A kernel keeps the code of each cell both ways, and no earlier store. It goes back by running inverted code, in as many
+//! steps as the cell took; nothing is run again from the root.
+//!
+//! What the layer above may rely on:
+//! - `Kernel::post`, `begin`, `slice`: each call is a step of the kernel machine, which is defined by cases over a tree with the
+//!   worlds of all its nodes (specs/: `State`, `Legal`, `Slices`, `Begins`, `Runs`, in this order). `slice` takes no memory.
+//! - `Kernel::world`: the shown world. With no open job it is that of the position, inside a cell that after the counted steps.
+//! - `run_events`: the answers and the state after any list of events are a run of the machine from the state before.
+//! - `theorems`: what this says of undo and redo over any schedule (specs/Theorems.antt).
+//!
+//! The meaning of a cell is that of `janus_meaning` (Yokoyama and Glück 2007; Yokoyama, Axelsen and Glück 2008), in the form of
+//! specs/Language.antt. A text is a cell by the grammar of `janus_syntax` and the check of `janus_check` (specs/Text.antt).
+//! `runner` alone knows the machine of `janus_machine`.
+#![tactic(auto)]
+
+mod events;
+mod history;
+mod job;
+mod kernel;
+mod outcome;
+mod program;
+mod runner;
+mod settle;
+#[cfg(test)]
+mod tests;
+pub mod theorems;
+mod tree;
+mod view;
+
+pub use crate::events::{Event, Told, run_events};
+pub use crate::kernel::{Job, Kernel, PostFault, QUEUE_LIMIT};
+pub use crate::outcome::{Begun, End, Outcome, Refusal, Sliced};
+pub use crate::view::View;

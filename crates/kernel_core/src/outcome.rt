@@ -1,0 +1,111 @@
+//! What the calls of a kernel answer.
+ghost use Rattle.std.specs.Prelude.{◌≡◌};
+ghost use Rattle.kernel_core.specs.Refusal.{number_of, name_of, span_of};
+
+use janus_check::CheckFault;
+use janus_machine::Fault;
+use janus_syntax::SyntaxFault;
+use janus_syntax::token::Span;
+
+/// How an undo or a redo of several cells ended.
+#[derive(Clone, Copy, Debug, PartialEq, Eq)]
+pub enum End {
+    /// All its cells are done.
+    All,
+    /// It was asked to stop, and went back to the border before the cell in which it stood.
+    Asked,
+    /// There was no memory for the names that the next cell declares.
+    NoMemory,
+}
+
+/// Why a job was not begun. It changed nothing.
+#[derive(Clone, Copy, Debug, PartialEq, Eq)]
+pub enum Refusal {
+    /// The text is no cell.
+    Syntax(SyntaxFault),
+    /// The cell is not well formed over the declared names.
+    Check(CheckFault),
+    /// There are fewer cells above, or fewer favourites below, than the job would undo or redo.
+    TooFar,
+    Memory,
+}
+
+impl Refusal {
+    /// The number under which the refusal is told.
+    pub fn number(self) -> u8
+        ensures { result ≡ number_of self }
+    {
+        match self {
+            Refusal::Syntax(fault) => fault.number(),
+            Refusal::Check(fault) => fault.number(),
+            Refusal::TooFar => 73,
+            Refusal::Memory => 76,
+        }
+    }
+
+    /// The word under which the refusal is told.
+    pub fn name(self) -> &'static str
+        ensures { result.now ≡ name_of self }
+    {
+        match self {
+            Refusal::Syntax(fault) => fault.name(),
+            Refusal::Check(fault) => fault.name(),
+            Refusal::TooFar => "TooFar",
+            Refusal::Memory => "Memory",
+        }
+    }
+
+    /// The octets of the text where it is refused, if it is the text that is.
+    pub fn span(self) -> Option<Span>
+        ensures { result ≡ span_of self }
+    {
+        match self {
+            Refusal::Syntax(fault) => fault.span(),
+            Refusal::Check(fault) => fault.span(),
+            Refusal::TooFar => None,
+            Refusal::Memory => None,
+        }
+    }
+}
+
+/// What came of a job.
+#[derive(Clone, Copy, Debug, PartialEq, Eq)]
+pub enum Outcome {
+    /// The cell is a new node: its number, and the steps that it took.
+    Ran(usize, u64),
+    /// The cell met a fault after so many steps, and was taken back.
+    Failed(Fault, u64),
+    /// The cell was asked to stop after so many steps, and was taken back.
+    Interrupted(u64),
+    /// So many cells were undone.
+    Undid(u32, End),
+    /// So many cells were redone.
+    Redid(u32, End),
+    Refused(Refusal),
+}
+
+/// What `begin` answers.
+#[derive(Clone, Copy, Debug, PartialEq, Eq)]
+pub enum Begun {
+    /// There is no job to begin, or the open one stands inside a cell.
+    Nothing,
+    /// The open job stands inside a cell now.
+    Going,
+    /// The job is over, and no job is open.
+    Ended(Outcome),
+}
+
+/// What `slice` answers.
+#[derive(Clone, Copy, Debug, PartialEq, Eq)]
+pub enum Sliced {
+    /// No job stands inside a cell.
+    Nothing,
+    /// Steps of the cell are left.
+    Going,
+    /// A cell is done, and the job has further ones.
+    Border,
+    /// The cell is being taken back, and steps are left.
+    Backing,
+    /// The job is over, and no job is open.
+    Ended(Outcome),
+}

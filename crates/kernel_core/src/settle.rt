@@ -1,0 +1,219 @@
+//! The parts of a slice: steps onward and back, and what comes at the end of a cell. None of them takes memory.
+ghost use Rattle.std.specs.Prelude.{◌≡◌, ℕ, ◌+◌, ◌-◌, ◌^◌, ◌<◌, ◌≤◌, false, true};
+ghost use Rattle.kernel_core.specs.Language.{Part};
+ghost use Rattle.kernel_core.specs.State.{Past, here, code_of};
+ghost use Rattle.kernel_core.specs.Fields.{past_of, state_of, work_of, job_of};
+ghost use Rattle.kernel_core.specs.Legal.{IsLegal, IsPossibleWork};
+ghost use Rattle.kernel_core.specs.Slices.{finished as the_finished, turned as the_turned, Backs, Arrives, Settles, Goes, HasEnded};
+ghost use Rattle.kernel_core.specs.Runner.{world_of};
+ghost use Rattle.kernel_core.specs.Kept.{Kept, IsProgramOf};
+
+use crate::job::{Entered, Open, Travel, Turn, Way, Why, Work};
+use crate::outcome::{End, Outcome, Sliced};
+use crate::program::Program;
+use crate::runner::{Ran, Runner};
+use crate::tree::{Node, Tree};
+
+/// The program that the work runs: forward, or for an undo backward.
+fn program_of<'a>(tree: &'a Tree, work: &'a Work) -> &'a Program
+    requires legal { IsLegal (past_of tree.now) }
+    requires possible { IsPossibleWork (past_of tree.now) (work_of work.now) }
+    ensures { IsProgramOf tree.now work.now result.now }
+{
+    match work {
+        Work::Cell(program) => program,
+        Work::Move(travel) => match travel.way {
+            Way::Up => &tree.nodes[tree.position - 1].program,
+            Way::Down => &tree.nodes[tree.favourites[tree.position] - 1].program,
+        },
+    }
+}
+
+pub fn finished(travel: Travel, end: End) -> Outcome
+    ensures { result ≡ the_finished travel end }
+{
+    match travel.way {
+        Way::Up => Outcome::Undid(travel.done, end),
+        Way::Down => Outcome::Redid(travel.done, end),
+    }
+}
+
+fn turned(work: &Work, why: Why) -> Outcome
+    ensures { result ≡ the_turned (work_of work.now) why }
+{
+    match work {
+        Work::Cell(_) => match why {
+            Why::Asked(at) => Outcome::Interrupted(at),
+            Why::Faulted(fault, at) => Outcome::Failed(fault, at),
+        },
+        Work::Move(travel) => finished(*travel, End::Asked),
+    }
+}
+
+/// Back at the count 0: the names that were declared at the begin are taken back.
+fn settle_back(tree: &Tree, runner: &mut Runner, work: &Work)
+    requires legal { IsLegal (past_of tree.now) }
+    requires possible { IsPossibleWork (past_of tree.now) (work_of work.now) }
+    requires back { Part (code_of (past_of tree.now) (work_of work.now)) (here (past_of tree.now)) 0 (world_of runner.old) }
+    ensures { world_of runner.new ≡ here (past_of tree.now) }
+{
+    match work {
+        Work::Cell(program) => runner.leave(program),
+        Work::Move(travel) => match travel.way {
+            Way::Up => {}
+            Way::Down => runner.leave(&tree.nodes[tree.favourites[tree.position] - 1].program),
+        },
+    }
+}
+
+/// Goes back `m` steps, and settles as not done at the count 0.
+pub fn go_back(
+    tree: &Tree,
+    runner: &mut Runner,
+    work: Work,
+    count: u64,
+    why: Why,
+    m: u64,
+) -> (Open, Sliced)
+    requires { Kept tree.now runner.old (Open.Inside (record { work = work; count = count; turn = Turn.Backing why })) }
+    ensures step { Backs (past_of tree.now) (work_of work) why (count - m) result.1 (state_of tree.now result.0) }
+    ensures kept { Kept tree.now runner.new result.0 }
+{
+    runner.back(program_of(tree, &work), m);
+    let left = count.saturating_sub(m);
+    if left == 0 {
+        settle_back(tree, runner, &work);
+        let outcome = turned(&work, why);
+        (Open::Idle, Sliced::Ended(outcome))
+    } else {
+        let turn = Turn::Backing(why);
+        (
+            Open::Inside(Entered {
+                work,
+                count: left,
+                turn,
+            }),
+            Sliced::Backing,
+        )
+    }
+}
+
+/// Turns to going back, and goes back `m` steps.
+pub fn turn_back(
+    tree: &Tree,
+    runner: &mut Runner,
+    work: Work,
+    count: u64,
+    why: Why,
+    m: u64,
+) -> (Open, Sliced)
+    requires { Kept tree.now runner.old (Open.Inside (record { work = work; count = count; turn = Turn.Going })) }
+    ensures step { Backs (past_of tree.now) (work_of work) why (count - m) result.1 (state_of tree.now result.0) }
+    ensures kept { Kept tree.now runner.new result.0 }
+{
+    runner.turn(program_of(tree, &work));
+    go_back(tree, runner, work, count, why, m)
+}
+
+/// One cell of an undo or a redo is done.
+fn arrive(travel: Travel) -> (Open, Sliced)
+    requires some { 0 < travel.left }
+    requires small { travel.left + travel.done < 2 ^ 32 }
+    ensures { (past : Past) → Arrives past travel.way (travel.left - 1) travel.done result.1 (record { past = past; job = job_of result.0 }) }
+{
+    let travel = Travel {
+        way: travel.way,
+        left: travel.left - 1,
+        done: travel.done + 1,
+    };
+    if travel.left == 0 {
+        (Open::Idle, Sliced::Ended(finished(travel, End::All)))
+    } else {
+        (Open::Border(travel), Sliced::Border)
+    }
+}
+
+/// A posted cell came to its end, in `n` steps: it becomes a node. The room for it was made before.
+fn settle_cell(tree: &mut Tree, runner: &Runner, program: Program, n: u64) -> (Open, Sliced)
+    requires kept { Kept tree.old runner.now (Open.Inside (record { work = Work.Cell program; count = n; turn = Turn.Going })) }
+    requires ended { HasEnded (past_of tree.old) (work_of (Work.Cell program)) n (world_of runner.now) }
+    ensures step { Settles (past_of tree.old) (work_of (Work.Cell program)) n (world_of runner.now) result.1 (state_of tree.new result.0) }
+    ensures kept { Kept tree.new runner.now result.0 }
+{
+    let number = tree.nodes.len() + 1;
+    let parent = tree.position;
+    tree.favourites[parent] = number;
+    tree.favourites.push_reserved(0);
+    tree.nodes.push_reserved(Node {
+        parent,
+        program,
+        steps: n,
+    });
+    tree.position = number;
+    (Open::Idle, Sliced::Ended(Outcome::Ran(number, n)))
+}
+
+/// One cell of an undo came to the end of its inverse: its names are zero, and are taken back.
+fn settle_up(tree: &mut Tree, runner: &mut Runner, travel: Travel, n: u64) -> (Open, Sliced)
+    requires way { travel.way ≡ Way.Up }
+    requires kept { Kept tree.old runner.old (Open.Inside (record { work = Work.Move travel; count = n; turn = Turn.Going })) }
+    requires ended { HasEnded (past_of tree.old) (work_of (Work.Move travel)) n (world_of runner.old) }
+    ensures step { Settles (past_of tree.old) (work_of (Work.Move travel)) n (world_of runner.old) result.1 (state_of tree.new result.0) }
+    ensures kept { Kept tree.new runner.new result.0 }
+{
+    let parent = {
+        let node = &tree.nodes[tree.position - 1];
+        runner.leave(&node.program);
+        node.parent
+    };
+    tree.position = parent;
+    arrive(travel)
+}
+
+/// One cell of a redo came to its end.
+fn settle_down(tree: &mut Tree, runner: &Runner, travel: Travel, n: u64) -> (Open, Sliced)
+    requires way { travel.way ≡ Way.Down }
+    requires kept { Kept tree.old runner.now (Open.Inside (record { work = Work.Move travel; count = n; turn = Turn.Going })) }
+    requires ended { HasEnded (past_of tree.old) (work_of (Work.Move travel)) n (world_of runner.now) }
+    ensures step { Settles (past_of tree.old) (work_of (Work.Move travel)) n (world_of runner.now) result.1 (state_of tree.new result.0) }
+    ensures kept { Kept tree.new runner.now result.0 }
+{
+    tree.position = tree.favourites[tree.position];
+    arrive(travel)
+}
+
+/// A cell came to its end, in `n` steps.
+fn settle(tree: &mut Tree, runner: &mut Runner, work: Work, n: u64) -> (Open, Sliced)
+    requires kept { Kept tree.old runner.old (Open.Inside (record { work = work; count = n; turn = Turn.Going })) }
+    requires ended { HasEnded (past_of tree.old) (work_of work) n (world_of runner.old) }
+    ensures step { Settles (past_of tree.old) (work_of work) n (world_of runner.old) result.1 (state_of tree.new result.0) }
+    ensures kept { Kept tree.new runner.new result.0 }
+{
+    match work {
+        Work::Cell(program) => settle_cell(tree, runner, program, n),
+        Work::Move(travel) => match travel.way {
+            Way::Up => settle_up(tree, runner, travel, n),
+            Way::Down => settle_down(tree, runner, travel, n),
+        },
+    }
+}
+
+/// Goes on for `m` steps, or to the end of the cell, or to its stop.
+pub fn go_on(tree: &mut Tree, runner: &mut Runner, work: Work, count: u64, m: u64) -> (Open, Sliced)
+    requires { Kept tree.old runner.old (Open.Inside (record { work = work; count = count; turn = Turn.Going })) }
+    ensures step { Goes (past_of tree.old) (work_of work) count m result.1 (state_of tree.new result.0) }
+    ensures kept { Kept tree.new runner.new result.0 }
+{
+    match runner.run(program_of(tree, &work), count, m) {
+        Ran::Went => (
+            Open::Inside(Entered {
+                work,
+                count: count + m,
+                turn: Turn::Going,
+            }),
+            Sliced::Going,
+        ),
+        Ran::Ended(n) => settle(tree, runner, work, n),
+        Ran::Stopped(j, fault) => turn_back(tree, runner, work, j, Why::Faulted(fault, j), 0),
+    }
+}
