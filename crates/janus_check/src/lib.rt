@@ -15,6 +15,8 @@ pub mod cell;
 pub mod checked;
 pub mod env;
 pub mod fault;
+#[cfg(test)]
+mod tests;
 
 pub use cell::check;
 pub use checked::Checked;

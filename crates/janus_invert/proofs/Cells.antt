@@ -1,5 +1,5 @@
 -- The inverse of a parser's block, and of its tree without the places.
-use Rattle.std.proofs.Common.{◌≡◌, ℕ, suc, ◌-◌, ◌<◌, ◌≤◌, List, [], ◌∷◌, ◌++◌, length, get_or, drop, drop-cons, refl, ap, ◌∙◌, sym, arith, map, pos}
+use Rattle.std.proofs.Common.{◌≡◌, ℕ, suc, ◌-◌, ◌<◌, ◌≤◌, List, [], ◌∷◌, ◌++◌, length, get_or, drop, drop-cons, refl, ap, ◌∙◌, sym, arith}
 use Rattle.janus_meaning.specs.Syntax as tree
 use Rattle.janus_meaning.specs.Word.{opposite}
 use Rattle.janus_syntax.specs.View.{name_of, exp_of, stm_of, block_of, sign_of, operator_of}
@@ -9,10 +9,10 @@ use Rattle.janus_syntax.specs.declared.tree.Exp as code_exp
 use Rattle.janus_syntax.specs.declared.tree.Exp.TheVariants as exps
 use Rattle.janus_syntax.specs.declared.tree.Stm as code_stm
 use Rattle.janus_syntax.specs.declared.tree.Stm.TheVariants as stms
-use Rattle.janus_syntax.specs.Tree.{Name, named, Exp, Num, Var, Bin, Stm, Assign, Block, Empty, More, Cell, cell_of, exp_view, stm_view, block_view}
+use Rattle.janus_syntax.specs.Tree.{Stm, Assign, Block, Empty, More, cell_of, exp_view, stm_view, block_view}
 use Rattle.janus_check.specs.Check.{text_of}
 use Rattle.janus_check.specs.WellFormed.{meant_exp, meant_stm, meant_block}
-use Rattle.janus_invert.specs.Cells.{opposite_of, inverse_stm, turned, inverse_cell, InverseCellTwice}
+use Rattle.janus_invert.specs.Cells.{opposite_of, inverse_stm, turned, InverseCellTwice}
 
 -- ---- twice is the identity
 

@@ -1,14 +1,13 @@
 -- Blocks whose members stand backward, and the trees of inverse code.
-use Rattle.std.proofs.Common.{◌≡◌, ℕ, zero, suc, ◌+◌, ◌-◌, ◌<◌, ◌≤◌, List, length, get_or, refl, ap, ◌∙◌, sym, subst, arith, ⊎_elim}
+use Rattle.std.proofs.Common.{◌≡◌, ℕ, zero, suc, ◌+◌, ◌-◌, ◌<◌, ◌≤◌, List, length, get_or, refl, ap, ◌∙◌, sym, arith, ⊎_elim}
 use Rattle.std.specs.Prelude.{slice_get, Some, None}
-use Rattle.std.proofs.lemmas.Bool.{cases_lt}
 use Rattle.std.proofs.lemmas.Option.{slice_get-get_or, slice_get_within, slice_get_cases}
 use Rattle.janus_meaning.specs.Syntax as tree
 use Rattle.janus_meaning.proofs.Inverse.{inverse-zip}
 use Rattle.janus_invert.specs.declared.code.Block.{Block}
 use Rattle.janus_invert.specs.declared.code.Statement.{Statement}
 use Rattle.janus_invert.specs.declared.code.Statement.TheVariants.{Assign}
-use Rattle.janus_invert.specs.Flat.{ahead, back, block_at, tree_at, IsBelow, BlocksAreBelow, IsDownward}
+use Rattle.janus_invert.specs.Flat.{ahead, back, block_at, tree_at, BlocksAreBelow, IsDownward}
 use Rattle.janus_invert.specs.Inverted.{IsBackward, BlocksAreBackward, IsInverse, AreInverse}
 use Rattle.janus_invert.proofs.Blocks.{zip_count}
 use Rattle.janus_invert.proofs.Trees.{tree_is}

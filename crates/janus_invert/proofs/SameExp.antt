@@ -1,12 +1,10 @@
 -- Expressions with the same places are the same.
-use Rattle.std.proofs.Common.{◌≡◌, ℕ, ap, ◌∙◌, sym, subst, refl}
-use Rattle.std.specs.Prelude.{string_bytes}
-use Rattle.janus_syntax.specs.declared.token.Span.{Span}
+use Rattle.std.proofs.Common.{◌≡◌, sym, subst}
 use Rattle.janus_syntax.specs.declared.tree.Operator.{Operator}
 use Rattle.janus_syntax.specs.declared.tree.Operator.TheVariants as operator
 use Rattle.janus_syntax.specs.declared.tree.Exp as code_exp
 use Rattle.janus_syntax.specs.declared.tree.Exp.TheVariants.{Number, Variable, Binary'}
-use Rattle.janus_syntax.specs.Tree.{Name, named, Exp, Num, Var, Bin, exp_view}
+use Rattle.janus_syntax.specs.Tree.{exp_view}
 use Rattle.janus_invert.specs.Inverted.{IsSameOperator, IsSameExp}
 
 same_operator : (o : Operator) → IsSameOperator o o

@@ -1,5 +1,5 @@
 -- The inverse of a cell as the parser gives it: its statements inverted, its declarations left.
-use Rattle.std.specs.Prelude.{◌≡◌, List}
+use Rattle.std.specs.Prelude.{◌≡◌}
 use Rattle.janus_syntax.specs.declared.tree.Update.{Update}
 use Rattle.janus_syntax.specs.declared.tree.Update.TheVariants.{Add, Subtract, Xor}
 use Rattle.janus_syntax.specs.Tree.{Stm, Assign, Block, Empty, More, Cell, cell_of}

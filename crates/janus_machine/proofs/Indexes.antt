@@ -1,5 +1,5 @@
 -- Variables with their places by name, as they are declared, written and retired.
-use Rattle.std.proofs.Common.{◌≡◌, ℕ, zero, suc, ℤ, ◌+◌, ◌<◌, Bool, true, false, List, [], ◌∷◌, ◌++◌, length, set, refl, ap, ◌∙◌, sym, subst, arith, ⊎_elim, ◌⊎◌, inl, inr, cond, map}
+use Rattle.std.proofs.Common.{◌≡◌, ℕ, zero, suc, ◌<◌, Bool, true, false, List, [], ◌∷◌, ◌++◌, length, set, refl, ap, ◌∙◌, sym, subst, arith, ⊎_elim, ◌⊎◌, inl, inr, cond, map}
 use Rattle.std.specs.Prelude.{slice_get, Option, Some, None, string_bytes}
 use Rattle.std.specs.Str.{bytes_eq}
 use Rattle.std.specs.Map.{update}

@@ -1,9 +1,9 @@
 -- The store that variables show: reading, writing and the newest name.
-use Rattle.std.proofs.Common.{◌≡◌, ℕ, zero, suc, ℤ, ◌+◌, Bool, true, false, List, [], ◌∷◌, ◌++◌, length, set, refl, ap, ◌∙◌, sym, subst, arith, append_assoc, map}
-use Rattle.std.specs.Prelude.{slice_get, Some, None, string_bytes}
+use Rattle.std.proofs.Common.{◌≡◌, ℕ, zero, suc, ℤ, ◌+◌, true, false, List, [], ◌∷◌, ◌++◌, length, set, refl, ap, ◌∙◌, sym, subst, arith, append_assoc, map}
+use Rattle.std.specs.Prelude.{slice_get, Some, string_bytes}
 use Rattle.std.proofs.lemmas.Bool.{false_from_ne_true}
 use Rattle.std.proofs.lemmas.List.{append-nil}
-use Rattle.janus_meaning.specs.Fault.{Res, Fine, Bad, Broken, and_then}
+use Rattle.janus_meaning.specs.Fault.{Fine, and_then}
 use Rattle.janus_meaning.specs.Syntax.{Name}
 use Rattle.janus_meaning.specs.Store as spec
 use Rattle.janus_meaning.specs.Store.{Val, Num, Lent, same_name, look, look_at, take, take_at, put, put_at}
@@ -12,7 +12,7 @@ use Rattle.janus_meaning.specs.Formed.{shape_of, Known}
 use Rattle.janus_meaning.specs.World.{size_of}
 use Rattle.janus_meaning.proofs.Stores.{same_name_self, same_name_true}
 use Rattle.janus_meaning.proofs.Results.{with_parts}
-use Rattle.janus_machine.specs.Stores.{write, listed, number_in}
+use Rattle.janus_machine.specs.Stores.{write, listed}
 use Rattle.janus_machine.specs.StoreView.{declared_over}
 use Rattle.janus_machine.specs.declared.store.Variable.{Variable}
 

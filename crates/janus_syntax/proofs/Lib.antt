@@ -9,4 +9,5 @@ pub mod Fronts
 pub mod OneLexing
 pub mod Lexing
 pub mod Places
+pub mod OneRefusal
 pub mod Theorems

@@ -168,7 +168,7 @@ same_token (A_sign s) at t u p q = p ∙ sym q
 same_token (A_word w) at t u p q = p ∙ sym q
 
 -- of two fronts of a list one begins the other
-two_fronts : (a b r s : List ℕ) → a ++ r ≡ b ++ s → ((more : List ℕ) × (b ≡ a ++ more) × (r ≡ more ++ s)) ⊎ ((more : List ℕ) × (a ≡ b ++ more) × (s ≡ more ++ r))
+pub two_fronts : {A : Type 0} (a b r s : List A) → a ++ r ≡ b ++ s → ((more : List A) × (b ≡ a ++ more) × (r ≡ more ++ s)) ⊎ ((more : List A) × (a ≡ b ++ more) × (s ≡ more ++ r))
 two_fronts [] b r s e = inl (b, refl, e)
 two_fronts (x ∷ a) [] r s e = inr (x ∷ a, refl, sym e)
 two_fronts (x ∷ a) (y ∷ b) r s e =
@@ -179,14 +179,14 @@ two_fronts (x ∷ a) (y ∷ b) r s e =
       | inr (more, p, q) ↦ inr (more, cc, q)
     ]
 
-record SameFront (i j : Item) (rest rest' : List ℕ) : Type 0 where
+pub record SameFront (i j : Item) (rest rest' : List ℕ) : Type 0 where
   pub item : i ≡ j
   pub rests : rest ≡ rest'
 
 same_octets : {i j : Item} {from a b rest rest' : List ℕ} → IsFront i from a rest → IsFront j from b rest' → a ≡ b → rest ≡ rest' → SameFront i j rest rest'
 same_octets {i} {j} {b = b} f g e r = record { item = same_item_of i j b (subst (λ l. IsSpelled i l) e f.spelled) g.spelled; rests = r }
 
-same_front : {i j : Item} {from a b rest rest' : List ℕ} → IsFront i from a rest → IsFront j from b rest' → SameFront i j rest rest'
+pub same_front : {i j : Item} {from a b rest rest' : List ℕ} → IsFront i from a rest → IsFront j from b rest' → SameFront i j rest rest'
 same_front {i} {j} {a = a} {b} {rest} {rest'} f g =
     elim (two_fronts a b rest rest' (sym f.whole ∙ g.whole)) [
       | inl (more, p, q) ↦

@@ -57,3 +57,15 @@ abbrev pub IsOnlyTree : Cell → Result code_cell.Cell SyntaxFault → Type 0
 IsOnlyTree tree (Ok cell) = cell_view cell ≡ tree
 IsOnlyTree tree (Err fault.Memory) = Unit {0}
 IsOnlyTree tree (Err e) = ⊥
+
+-- the text's refusal
+abbrev pub IsRefusal : List ℕ → SyntaxFault → Type 0
+IsRefusal text (fault.BadToken at) = IsBadToken text at
+IsRefusal text (fault.Expected w at) = IsUnexpectedAt text w at
+IsRefusal text (fault.NumberTooLarge at) = IsTooLarge text at
+IsRefusal text (fault.TooNested at) = IsTooNestedAt text at
+IsRefusal text fault.Memory = ⊥
+
+-- A text has one refusal at most.
+abbrev pub OneRefusal : Type 0
+OneRefusal = (text : List ℕ) (e f : SyntaxFault) → IsRefusal text e → IsRefusal text f → e ≡ f

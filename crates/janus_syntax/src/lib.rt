@@ -32,4 +32,4 @@ pub mod tree;
 
 pub use fault::SyntaxFault;
 pub use lexer::tokens;
-pub use parser::parse_cell;
+pub use parser::{one_refusal_law, parse_cell};

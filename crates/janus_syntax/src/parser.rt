@@ -3,7 +3,7 @@
 ghost use Rattle.std.specs.Prelude.{◌≡◌, ◌≤◌, ◌-◌, length, drop};
 ghost use Rattle.janus_syntax.specs.Tree.{Cell as Tree};
 ghost use Rattle.janus_syntax.specs.Tokens.{views};
-ghost use Rattle.janus_syntax.specs.Text.{place_before, HasTree, IsParsed, IsOnlyTree};
+ghost use Rattle.janus_syntax.specs.Text.{place_before, HasTree, IsParsed, IsOnlyTree, OneRefusal};
 
 use crate::cell::parse;
 use crate::fault::SyntaxFault;
@@ -52,3 +52,8 @@ fn place(tokens: &[Token], left: usize, end: usize) -> Span
         None => Span { start: end, end },
     }
 }
+
+/// A law about the definitions of `specs/`: a text has one refusal at most. It does nothing.
+pub fn one_refusal_law()
+    ensures { OneRefusal }
+{}

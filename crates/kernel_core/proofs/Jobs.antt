@@ -1,14 +1,14 @@
 -- What a job keeps from its begin to its end, over any events.
 use Rattle.std.proofs.Common.{◌≡◌, ℕ, ◌+◌, ◌-◌, ◌<◌, Bool, true, false, IsTrue, List, [], ◌∷◌, length, zero, suc, refl, sym, ap, subst, arith, inl, inr, Result, Ok, Err, add-one}
 use Rattle.janus_meaning.specs.World.{World, Cell}
-use Rattle.kernel_core.specs.Language.{Forward, Exec}
+use Rattle.kernel_core.specs.Language.{Forward}
 use Rattle.kernel_core.specs.Reached.{Reaches}
 use Rattle.kernel_core.specs.Text.{Accepts}
 use Rattle.kernel_core.specs.State.{Past, Work, Posted, Move, Job as Open, Idle, Border, Inside, State, here}
 use Rattle.kernel_core.specs.Legal.{can_go}
 use Rattle.kernel_core.specs.Slices.{finished, turned, grown, Backs, Arrives, Settles, Comes, SlicesIn, SlicesAt}
 use Rattle.kernel_core.specs.Begins.{Enters, TakesMove, TakesCell}
-use Rattle.kernel_core.specs.Runs.{Machine, Request, RunCell, request_of, Step, Run, IsPost, BeginsAt, Takes}
+use Rattle.kernel_core.specs.Runs.{Machine, Request, request_of, Step, Run, IsPost, BeginsAt, Takes}
 use Rattle.kernel_core.specs.Theorems.{next, along, standing, move_of, EndsAs, MoveEnds, CellEnds, MovesEnd, CellsEnd}
 use Rattle.kernel_core.specs.declared.runner.Ran.{Ran}
 use Rattle.kernel_core.specs.declared.runner.Ran.TheVariants.{Went, Ended, Stopped}

@@ -1,7 +1,6 @@
 -- The laws of the language that the kernel rests on, from those of worlds.
-use Rattle.std.proofs.Common.{◌≡◌, ℕ, pos, ◌-◌, ◌≤◌, List, [], ◌∷◌, refl, sym, ◌∙◌, subst}
+use Rattle.std.proofs.Common.{◌≡◌, ℕ, pos, ◌-◌, List, [], ◌∷◌, refl, sym, ◌∙◌, subst}
 use Rattle.janus_meaning.specs.Fault.{Fault}
-use Rattle.janus_meaning.specs.Syntax.{Nil}
 use Rattle.janus_meaning.specs.Store.{Store, Slot, Num}
 use Rattle.janus_meaning.specs.Formed.{Shape, shape_of}
 use Rattle.janus_meaning.specs.World.{World, empty_world, Cell, Declaration, DeclareInt, DeclareArray, DeclareStack, declare, entered}

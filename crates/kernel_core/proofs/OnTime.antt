@@ -1,8 +1,7 @@
 -- Undo and redo of an accepted cell: no fault, and as many steps as the cell took.
-use Rattle.std.proofs.Common.{◌≡◌, ℕ, ◌+◌, ◌-◌, ◌<◌, ◌≤◌, inl, inr, refl, sym, ap, ◌∙◌, subst, arith}
-use Rattle.janus_meaning.specs.Fault as meaning
+use Rattle.std.proofs.Common.{◌≡◌, ℕ, ◌+◌, ◌≤◌, inl, inr, refl, subst}
 use Rattle.janus_meaning.specs.World.{World}
-use Rattle.kernel_core.specs.Language.{Exec, Stop}
+use Rattle.kernel_core.specs.Language.{Exec}
 use Rattle.kernel_core.specs.Reached.{Reaches}
 use Rattle.kernel_core.specs.State.{Past, Move, State, here, code_of}
 use Rattle.kernel_core.specs.Legal.{IsPossible, IsLegal}
@@ -36,8 +35,10 @@ comes_on_time s travel c m (Ended n) w told new g p r a =
     let same = exec_same (code_of s (Move travel)) (here s) n (steps_of s travel) w (end_world s travel) r.0 (ran_to_end s travel g p) in
     let steps : n ≡ steps_of s travel = same.0 in
     let low : n ≤ c + m = r.1 in
-    inr (subst (λ (x : ℕ). x ≤ c + m) steps low,
-      subst (λ (x : World). Settles s (Move travel) (steps_of s travel) x told new) same.1 (subst (λ (x : ℕ). Settles s (Move travel) x w told new) steps a))
+    inr (
+      subst (λ (x : ℕ). x ≤ c + m) steps low,
+      subst (λ (x : World). Settles s (Move travel) (steps_of s travel) x told new) same.1 (subst (λ (x : ℕ). Settles s (Move travel) x w told new) steps a),
+    )
 comes_on_time s travel c m (Stopped j fault) w told new g p r a = absurd (never_faults s travel (c + m) j fault w g p r)
 
 pub settles_on_time : SettlesOnTime

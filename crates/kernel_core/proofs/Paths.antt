@@ -1,9 +1,9 @@
 -- The worlds are those of the paths.
-use Rattle.std.proofs.Common.{◌≡◌, ℕ, ◌+◌, ◌<◌, ◌≤◌, ◌⊎◌, inl, inr, List, [], ◌∷◌, length, get_or, zero, suc, refl, sym, ap, ◌∙◌, subst, arith}
+use Rattle.std.proofs.Common.{◌≡◌, ℕ, ◌<◌, ◌≤◌, inl, inr, List, [], ◌∷◌, length, zero, suc, refl, sym, ◌∙◌, subst, arith}
 use Rattle.std.proofs.lemmas.Bool.{cases_eq}
 use Rattle.janus_meaning.specs.World.{World, Cell, empty_world}
 use Rattle.kernel_core.specs.Language.{Forward, Exec}
-use Rattle.kernel_core.specs.State.{Past, root, world_at, node_at}
+use Rattle.kernel_core.specs.State.{Past, world_at, node_at}
 use Rattle.kernel_core.specs.Legal.{IsRun, IsLegal}
 use Rattle.kernel_core.specs.Theorems.{IsPath, LeadTo, PathGivesWorld}
 use Rattle.kernel_core.proofs.Laws.{exec_same}

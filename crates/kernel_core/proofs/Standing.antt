@@ -1,13 +1,13 @@
 -- What the answers on slices and begins share: how runner, tree and open job go on together.
 use Rattle.std.specs.Result.{is_err, IsOk, OnOk, OnErr}
-use Rattle.std.proofs.Common.{Result, Ok, Err, false, true, ◌≡◌, ℕ, ◌+◌, ◌-◌, ◌<◌, ◌≤◌, ◌^◌, IsTrue, Bool, List, [], ◌∷◌, ◌++◌, length, map, set, get_or, zero, suc, refl, sym, ap, ◌∙◌, subst, arith}
-use Rattle.std.proofs.lemmas.List.{get_or_at, get_or_read, map-append}
+use Rattle.std.proofs.Common.{Result, Ok, Err, false, ◌≡◌, ℕ, ◌+◌, ◌-◌, ◌<◌, ◌^◌, IsTrue, Bool, List, [], ◌∷◌, ◌++◌, length, map, set, get_or, zero, suc, refl, sym, ap, ◌∙◌, subst, arith}
+use Rattle.std.proofs.lemmas.List.{get_or_at, get_or_read}
 use Rattle.janus_meaning.specs.World.{World, empty_world, entered, Cell as ACell}
-use Rattle.kernel_core.specs.Language.{IsFormed, IsSound, Code, Forward, Backward, Part, Exec, end_of, cell_of}
+use Rattle.kernel_core.specs.Language.{IsFormed, IsSound, Code, Forward, Backward, Part, Exec, end_of}
 use Rattle.kernel_core.specs.State as state
 use Rattle.kernel_core.specs.State.{State, Past, new_state, root, node_at, world_at, here, favourite_of, code_of, ShownAt, worlds_from}
 use Rattle.kernel_core.specs.Fields.{node_of, nodes_of, work_of, job_of, past_of, state_of}
-use Rattle.kernel_core.specs.Legal.{can_undo, can_redo, can_go, IsLegal, IsPossible, IsPossibleWork, IsRun, IsChild}
+use Rattle.kernel_core.specs.Legal.{can_undo, can_redo, can_go, IsLegal, IsPossible, IsPossibleWork}
 use Rattle.kernel_core.specs.Slices.{grown, Arrives, Settles, HasEnded}
 use Rattle.kernel_core.specs.Begins.{IsOutside, Declares}
 use Rattle.kernel_core.specs.Program.{cell_of_program}
@@ -368,9 +368,13 @@ ran_above tree travel node runner way legal possible shown at =
     let some = (up_possible (nodes_of tree) tree.favourites.items tree.position travel way possible).0 in
     let run = run_here (past_of tree) legal some in
     let ran : Exec (Forward (node_of node).cell) (world_at (past_of tree) (node_at (past_of tree) tree.position).parent) (node_at (past_of tree) tree.position).steps (here (past_of tree)) =
-    subst (λ (n : state.Node). Exec (Forward n.cell) (world_at (past_of tree) (node_at (past_of tree) tree.position).parent) (node_at (past_of tree) tree.position).steps (here (past_of tree))) (sym (node_there tree tree.position node at)) run.ran in
-    (_, _, subst (λ (w : World). Exec (Forward (node_of node).cell) (world_at (past_of tree) (node_at (past_of tree) tree.position).parent) (node_at (past_of tree) tree.position).steps w) (sym shown) ran, parent_sound (past_of tree) legal some,
-      subst (λ (n : state.Node). IsFormed n.cell (world_at (past_of tree) (node_at (past_of tree) tree.position).parent)) (sym (node_there tree tree.position node at)) run.formed)
+    subst (λ (n : state.Node). Exec (Forward n.cell) (world_at (past_of tree) (node_at (past_of tree) tree.position).parent) (node_at (past_of tree) tree.position).steps (here (past_of tree))) (sym (node_there tree tree.position node at)) run.ran in (
+      _,
+      _,
+      subst (λ (w : World). Exec (Forward (node_of node).cell) (world_at (past_of tree) (node_at (past_of tree) tree.position).parent) (node_at (past_of tree) tree.position).steps w) (sym shown) ran,
+      parent_sound (past_of tree) legal some,
+      subst (λ (n : state.Node). IsFormed n.cell (world_at (past_of tree) (node_at (past_of tree) tree.position).parent)) (sym (node_there tree tree.position node at)) run.formed,
+    )
 
 pub stands_next_up : (tree : Tree) (travel : Travel) (node : Node) (runner at : Runner) → travel.way ≡ Up → world_of runner ≡ here (past_of tree) → IsNodeAt tree tree.position node →
     Stands at node.program (Backward (cell_of_program node.program)) (world_of runner) 0 false → StandsIn tree (Move travel) 0 false at

@@ -1,5 +1,5 @@
 -- What an accepted text gives, and what a refused one.
-use Rattle.std.proofs.Common.{◌≡◌, ◌≢◌, ℕ, pos, List, [], ◌∷◌, Err, refl, sym, ap, ◌∙◌, subst}
+use Rattle.std.proofs.Common.{◌≡◌, ◌≢◌, ℕ, pos, List, [], ◌∷◌, Err, refl, sym, subst}
 use Rattle.janus_meaning.specs.Syntax.{Name, ANumber}
 use Rattle.janus_meaning.specs.Store.{Store, Slot, Num}
 use Rattle.janus_meaning.specs.Formed.{Shape, Known, shape_of, IsBlk}
@@ -15,7 +15,7 @@ use Rattle.janus_check.specs.declared.fault.CheckFault as check
 use Rattle.janus_check.specs.declared.fault.CheckFault.TheVariants as check_fault
 use Rattle.kernel_core.specs.Language.{AreNew, IsFormed}
 use Rattle.kernel_core.specs.Program.{numbers}
-use Rattle.kernel_core.specs.Text.{IsTheTree, Accepts, HasNoTree, IsUnformed, Refuses, meant_cell, refused_by_syntax, refused_by_check}
+use Rattle.kernel_core.specs.Text.{IsTheTree, Accepts, IsUnformed, Refuses, meant_cell, refused_by_syntax, refused_by_check}
 use Rattle.kernel_core.specs.declared.outcome.Refusal.TheVariants.{Syntax, Check}
 
 fresh_new : (xs : List Name) (g : Shape) → AreFresh g xs → AreNew (numbers xs) g

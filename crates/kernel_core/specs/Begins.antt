@@ -1,7 +1,7 @@
 -- What the begin of a job or of its next cell does, by cases.
 use Rattle.std.specs.Prelude.{◌≡◌, ◌≢◌, ◌⊎◌, ℕ, Bool, true, false, List, [], zero, suc}
 use Rattle.janus_meaning.specs.World.{Cell}
-use Rattle.kernel_core.specs.State.{Past, State, Work, Posted, Move, Entered, Job, Idle, Border, Inside, node_at, here, favourite_of}
+use Rattle.kernel_core.specs.State.{Past, State, Posted, Move, Entered, Job, Idle, Border, Inside, node_at, here, favourite_of}
 use Rattle.kernel_core.specs.Slices.{finished}
 use Rattle.kernel_core.specs.Legal.{IsPossible}
 use Rattle.kernel_core.specs.Text.{Accepts, Refuses}
@@ -13,7 +13,7 @@ use Rattle.kernel_core.specs.declared.job.Phase.{Phase}
 use Rattle.kernel_core.specs.declared.job.Phase.TheVariants as phase
 use Rattle.kernel_core.specs.declared.outcome.End.TheVariants.{All, NoMemory}
 use Rattle.kernel_core.specs.declared.outcome.Refusal.{Refusal}
-use Rattle.kernel_core.specs.declared.outcome.Refusal.TheVariants.{TooFar, Memory}
+use Rattle.kernel_core.specs.declared.outcome.Refusal.TheVariants.{TooFar}
 use Rattle.kernel_core.specs.declared.outcome.Outcome.TheVariants as outcome
 use Rattle.kernel_core.specs.declared.outcome.Begun.{Begun}
 use Rattle.kernel_core.specs.declared.outcome.Begun.TheVariants as begun

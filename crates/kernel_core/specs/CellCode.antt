@@ -1,8 +1,8 @@
 -- How worlds and cells are stored as lists, so that contracts can have them as values: trees in postfix form.
-use Rattle.std.specs.Prelude.{◌≡◌, ℕ, zero, suc, ℤ, pos, List, [], ◌∷◌, get_or, refl}
+use Rattle.std.specs.Prelude.{◌≡◌, ℕ, zero, suc, ℤ, pos, List, [], ◌∷◌, refl}
 use Rattle.std.specs.Coded.{Coded, code_by, coded×, coded_ℕ, coded_ℤ, coded_list}
 use Rattle.std.proofs.Common.{ap, ◌∙◌}
-use Rattle.janus_meaning.specs.Word.{Sign, Plus, Minus, Flip, Operator, Add', Sub', Mul', Div', Rem', And', Or', Xor', Less', More', AtMost', AtLeast', Same', Differ'}
+use Rattle.janus_meaning.specs.Word.{Plus, Minus, Flip, Add', Sub', Mul', Div', Rem', And', Or', Xor', Less', More', AtMost', AtLeast', Same', Differ'}
 use Rattle.janus_meaning.specs.Syntax.{Name, Exp, Number, Var, At, Empty, Top, Negate, Binary, And, Or, Stm, Blk, Skip, Set, SetAt, Push, Pop, If, From, LocalInt, LocalStack, Call, Uncall, Nil, Cons, Proc, Kind, ANumber, AnArray, AStack, Hidden, Absent}
 use Rattle.janus_meaning.specs.Store.{Val, Num, Arr, Stk, Lent, Store, Bare, Slot}
 use Rattle.janus_meaning.specs.World.{World, Declaration, DeclareInt, DeclareArray, DeclareStack, Cell}

@@ -1,8 +1,8 @@
 -- A cell that runs, and one that is undone, in one form: all that the kernel is told of the language.
 -- Beyond this file nothing of it is used but these words and their laws (`proofs/Laws.antt`).
-use Rattle.std.specs.Prelude.{◌≡◌, ℕ, ◌<◌, ◌≤◌, List, [], ◌∷◌}
+use Rattle.std.specs.Prelude.{◌≡◌, ℕ, List, [], ◌∷◌}
 use Rattle.janus_meaning.specs.Fault.{Fault}
-use Rattle.janus_meaning.specs.Syntax.{Name, Blk, Nil, ANumber, Absent, inverse_block}
+use Rattle.janus_meaning.specs.Syntax.{Blk, Nil, ANumber, Absent, inverse_block}
 use Rattle.janus_meaning.specs.Formed.{Shape, Nobody, Known, kind_at, shape_of, IsBlk}
 use Rattle.janus_meaning.specs.World.{World, Cell, Declaration, DeclareInt, DeclareArray, DeclareStack, entered}
 use Rattle.janus_meaning.specs.Cells.{WorldExec, WorldPart, WorldStop, world_after, IsGoodWorld}

@@ -1,5 +1,5 @@
 -- How states are stored, so that contracts can have them as values.
-use Rattle.std.specs.Prelude.{ℕ, ◌⊎◌, List, Bool, refl, ◌≡◌}
+use Rattle.std.specs.Prelude.{ℕ, ◌⊎◌, List, refl, ◌≡◌}
 use Rattle.std.specs.Coded.{Coded, code_by, coded×, coded⊎, coded_ℕ, coded_list}
 use Rattle.std.proofs.Common.{inl, inr}
 use Rattle.janus_meaning.specs.World.{World, Cell}

@@ -4,7 +4,7 @@ use Rattle.janus_meaning.specs.World.{World, empty_world, Cell, entered}
 use Rattle.janus_meaning.specs.Cells.{IsGoodWorld}
 use Rattle.kernel_core.specs.Language.{Forward, Backward, Part, Exec}
 use Rattle.kernel_core.specs.Reached.{Reaches}
-use Rattle.kernel_core.specs.State.{Node, Past, Work, Posted, Move, Idle, Inside, State, root, node_at, world_at, here, favourite_of, code_of}
+use Rattle.kernel_core.specs.State.{Node, Past, Move, Idle, Inside, State, root, node_at, world_at, here, favourite_of, code_of}
 use Rattle.kernel_core.specs.Legal.{can_go, IsPossible, IsLegal}
 use Rattle.kernel_core.specs.Slices.{finished, grown, Settles, Goes}
 use Rattle.kernel_core.specs.Text.{Accepts}

@@ -1,6 +1,6 @@
 //! The open job: what it does, and how far it is.
-use janus_machine::Fault;
 use crate::program::Program;
+use janus_machine::Fault;
 
 /// The two ways along the tree.
 #[derive(Clone, Copy)]

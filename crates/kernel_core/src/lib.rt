@@ -23,12 +23,11 @@ mod outcome;
 mod program;
 mod runner;
 mod settle;
+#[cfg(test)]
+mod tests;
 pub mod theorems;
 mod tree;
 mod view;
-
-#[cfg(test)]
-mod tests;
 
 pub use crate::events::{Event, Told, run_events};
 pub use crate::kernel::{Job, Kernel, PostFault, QUEUE_LIMIT};

@@ -15,9 +15,8 @@ use crate::runner::Runner;
 use janus_check::{CheckFault, Checked, Env, Kind, check};
 use janus_invert::flatten;
 use janus_machine::{Book, Store};
-
-use janus_syntax::{SyntaxFault, parse_cell};
 use janus_syntax::tree::Declaration;
+use janus_syntax::{SyntaxFault, parse_cell};
 use std::alloc::{AllocError, Global};
 
 /// A cell's declared names, and its code both ways.

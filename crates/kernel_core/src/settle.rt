@@ -9,10 +9,9 @@ ghost use Rattle.kernel_core.specs.Runner.{world_of};
 ghost use Rattle.kernel_core.specs.Kept.{Kept, IsProgramOf};
 
 use crate::job::{Entered, Open, Travel, Turn, Way, Why, Work};
-use crate::runner::Ran;
 use crate::outcome::{End, Outcome, Sliced};
 use crate::program::Program;
-use crate::runner::Runner;
+use crate::runner::{Ran, Runner};
 use crate::tree::{Node, Tree};
 
 /// The program that the work runs: forward, or for an undo backward.

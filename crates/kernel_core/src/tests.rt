@@ -1,5 +1,8 @@
 //! Calls with ample memory, and their answers.
-use crate::{Begun, End, Event, Job, Kernel, Outcome, PostFault, QUEUE_LIMIT, Refusal, Sliced, Told, run_events};
+use crate::{
+    Begun, End, Event, Job, Kernel, Outcome, PostFault, QUEUE_LIMIT, Refusal, Sliced, Told,
+    run_events,
+};
 use std::alloc::{AllocError, Global};
 use std::test::Fail;
 
@@ -27,7 +30,10 @@ fn run(alloc: Global, kernel: &mut Kernel, text: &str) -> Result<Option<Outcome>
 #[test]
 fn undo_goes_back_step_by_step(rt: HostRuntime) -> Result<(), Fail> {
     let mut kernel = Kernel::new(rt.alloc())?;
-    assert_eq!(rt; run(rt.alloc(), &mut kernel, "int x")?, Some(Outcome::Ran(1, 1)));
+    assert_eq!(rt;
+        run(rt.alloc(), &mut kernel, "int x")?,
+        Some(Outcome::Ran(1, 1))
+    );
     assert_eq!(rt;
         run(rt.alloc(), &mut kernel, "x += 2147483647 x += 1")?,
         Some(Outcome::Ran(2, 5))
@@ -37,7 +43,10 @@ fn undo_goes_back_step_by_step(rt: HostRuntime) -> Result<(), Fail> {
     assert_eq!(rt; kernel.begin(), Begun::Going);
     assert_eq!(rt; kernel.slice(2, false), Sliced::Going);
     assert_eq!(rt; kernel.world().value("x"), Some(2147483647));
-    assert_eq!(rt; kernel.slice(3, false), Sliced::Ended(Outcome::Undid(1, End::All)));
+    assert_eq!(rt;
+        kernel.slice(3, false),
+        Sliced::Ended(Outcome::Undid(1, End::All))
+    );
     assert_eq!(rt; kernel.world().value("x"), Some(0));
     assert_eq!(rt; kernel.position(), 1);
     Ok(())
@@ -49,7 +58,10 @@ fn undo_of_too_many_is_refused(rt: HostRuntime) -> Result<(), Fail> {
     let mut kernel = Kernel::new(rt.alloc())?;
     kernel.post(1, Job::Undo(1))?;
     kernel.post(1, Job::Undo(0))?;
-    assert_eq!(rt; kernel.begin(), Begun::Ended(Outcome::Refused(Refusal::TooFar)));
+    assert_eq!(rt;
+        kernel.begin(),
+        Begun::Ended(Outcome::Refused(Refusal::TooFar))
+    );
     assert_eq!(rt; kernel.begin(), Begun::Ended(Outcome::Undid(0, End::All)));
     assert_eq!(rt; kernel.begin(), Begun::Nothing);
     assert_eq!(rt; Refusal::TooFar.number(), 73);
@@ -60,14 +72,20 @@ fn undo_of_too_many_is_refused(rt: HostRuntime) -> Result<(), Fail> {
 #[test]
 fn an_interrupted_cell_is_taken_back(rt: HostRuntime) -> Result<(), Fail> {
     let mut kernel = Kernel::new(rt.alloc())?;
-    assert_eq!(rt; run(rt.alloc(), &mut kernel, "int x")?, Some(Outcome::Ran(1, 1)));
+    assert_eq!(rt;
+        run(rt.alloc(), &mut kernel, "int x")?,
+        Some(Outcome::Ran(1, 1))
+    );
     kernel.post(1, cell(rt.alloc(), "x += 5")?)?;
     assert_eq!(rt; kernel.begin(), Begun::Going);
     assert_eq!(rt; kernel.slice(2, false), Sliced::Going);
     assert_eq!(rt; kernel.world().value("x"), Some(5));
     assert_eq!(rt; kernel.slice(1, true), Sliced::Backing);
     assert_eq!(rt; kernel.world().value("x"), Some(0));
-    assert_eq!(rt; kernel.slice(1, false), Sliced::Ended(Outcome::Interrupted(2)));
+    assert_eq!(rt;
+        kernel.slice(1, false),
+        Sliced::Ended(Outcome::Interrupted(2))
+    );
     assert_eq!(rt; kernel.position(), 1);
     Ok(())
 }
@@ -76,19 +94,31 @@ fn an_interrupted_cell_is_taken_back(rt: HostRuntime) -> Result<(), Fail> {
 #[test]
 fn redo_goes_along_favourites(rt: HostRuntime) -> Result<(), Fail> {
     let mut kernel = Kernel::new(rt.alloc())?;
-    assert_eq!(rt; run(rt.alloc(), &mut kernel, "int x")?, Some(Outcome::Ran(1, 1)));
-    assert_eq!(rt; run(rt.alloc(), &mut kernel, "x += 1")?, Some(Outcome::Ran(2, 3)));
+    assert_eq!(rt;
+        run(rt.alloc(), &mut kernel, "int x")?,
+        Some(Outcome::Ran(1, 1))
+    );
+    assert_eq!(rt;
+        run(rt.alloc(), &mut kernel, "x += 1")?,
+        Some(Outcome::Ran(2, 3))
+    );
     kernel.post(1, Job::Undo(2))?;
     kernel.post(1, Job::Redo(2))?;
     assert_eq!(rt; kernel.begin(), Begun::Going);
     assert_eq!(rt; kernel.slice(9, false), Sliced::Border);
     assert_eq!(rt; kernel.begin(), Begun::Going);
-    assert_eq!(rt; kernel.slice(9, false), Sliced::Ended(Outcome::Undid(2, End::All)));
+    assert_eq!(rt;
+        kernel.slice(9, false),
+        Sliced::Ended(Outcome::Undid(2, End::All))
+    );
     assert_eq!(rt; kernel.world().len(), 0);
     assert_eq!(rt; kernel.begin(), Begun::Going);
     assert_eq!(rt; kernel.slice(9, false), Sliced::Border);
     assert_eq!(rt; kernel.begin(), Begun::Going);
-    assert_eq!(rt; kernel.slice(9, false), Sliced::Ended(Outcome::Redid(2, End::All)));
+    assert_eq!(rt;
+        kernel.slice(9, false),
+        Sliced::Ended(Outcome::Redid(2, End::All))
+    );
     assert_eq!(rt; kernel.world().value("x"), Some(1));
     Ok(())
 }

@@ -33,7 +33,9 @@ impl<'a> View<'a> {
     pub(crate) fn of(runner: &'a Runner) -> View<'a>
         ensures { result ≡ world_of runner.now }
     {
-        View { store: &runner.store }
+        View {
+            store: &runner.store,
+        }
     }
 
     /// How many names are declared.

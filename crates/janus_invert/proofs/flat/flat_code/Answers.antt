@@ -1,7 +1,6 @@
-use Rattle.std.proofs.Common.{◌≡◌, ℕ, List, [], ◌∷◌, refl, ◌+◌, ◌<◌, ◌≤◌, length, get_or, ap, ◌∙◌, sym, subst, arith, length-append}
+use Rattle.std.proofs.Common.{◌≡◌, ℕ, List, [], ◌∷◌, refl, ◌<◌, length, get_or, ap, ◌∙◌, sym, subst, arith, length-append}
 use Rattle.std.specs.Prelude.{slice_get, Some}
 use Rattle.std.proofs.lemmas.Option.{slice_get_read}
-use Rattle.janus_syntax.specs.declared.tree.Stm.{Stm}
 use Rattle.janus_invert.specs.CodeBlock.{code_tree, inner_block}
 use Rattle.janus_invert.proofs.Pairs.{ArePairs, no_pairs, pairs_more, each_more}
 use Rattle.janus_invert.proofs.Flattened.{IsFlat, downward, flattened}

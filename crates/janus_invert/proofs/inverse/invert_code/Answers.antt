@@ -1,6 +1,6 @@
 use Rattle.std.proofs.Common.{◌≡◌, ℕ, List, length, ap, ◌∙◌, subst}
 use Rattle.janus_invert.specs.declared.code.Statement.{Statement}
-use Rattle.janus_invert.specs.Inverted.{IsInverse, IsBackward, AreInverse}
+use Rattle.janus_invert.specs.Inverted.{IsInverse, IsBackward}
 use Rattle.janus_invert.specs.CodeBlock.{code_tree, inner_block}
 use Rattle.janus_invert.proofs.Pairs.{ArePairs}
 use Rattle.janus_invert.proofs.Reversed.{body_inverted, inverse_downward, are_inverse}

@@ -23,7 +23,7 @@ pub returns-in-Down-clause-ok : goal.returns-in-Down-clause-ok
 returns-in-Down-clause-ok c =
     ok_map c.enter.result
     (stands_next_down c.args.tree.now c.args.travel c.index-in-Down-2.result.now c.args.runner.now c.enter.new.self c.in-Down.is c.requires.shown
-      (next_down c.args.tree.now c.args.travel c.index-in-Down-2.result.now c.index-in-Down.result.now c.in-Down.is c.requires.legal c.requires.possible c.index-in-Down.ensures c.index-in-Down-2.ensures))
+    (next_down c.args.tree.now c.args.travel c.index-in-Down-2.result.now c.index-in-Down.result.now c.in-Down.is c.requires.legal c.requires.possible c.index-in-Down.ensures c.index-in-Down-2.ensures))
     c.enter.ensures.ok
 
 pub returns-in-Down-clause-declares : goal.returns-in-Down-clause-declares

@@ -1,4 +1,4 @@
-use Rattle.std.proofs.Common.{◌≡◌, ℕ, ◌+◌, [], ◌∷◌, ◌++◌, length, set, ap, sym, ◌∙◌, subst, arith}
+use Rattle.std.proofs.Common.{◌≡◌, ℕ, ◌+◌, [], ◌∷◌, ◌++◌, length, set, ap, subst, arith}
 use Rattle.kernel_core.specs.State.{Past}
 use Rattle.kernel_core.specs.State as state
 use Rattle.kernel_core.specs.Fields.{nodes_of}

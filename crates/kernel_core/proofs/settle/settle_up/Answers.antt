@@ -1,6 +1,6 @@
-use Rattle.std.proofs.Common.{◌≡◌, ap}
+use Rattle.std.proofs.Common.{ap}
 use Rattle.kernel_core.specs.State as state
-use Rattle.kernel_core.specs.Fields.{past_of, nodes_of}
+use Rattle.kernel_core.specs.Fields.{nodes_of}
 use Rattle.kernel_core.specs.Runner.{world_of}
 use Rattle.kernel_core.proofs.Standing.{kept_up, up_names, up_possible, node_here, node_there, arrives_up}
 use Rattle.kernel_core.proofs.settle.settle_up.Goals as goal

@@ -1,8 +1,8 @@
-use Rattle.std.proofs.Common.{◌≡◌, ℕ, suc, ◌+◌, ◌-◌, ◌<◌, ◌≤◌, [], ap, ◌∙◌, subst, sym}
+use Rattle.std.proofs.Common.{◌≡◌, ◌<◌, ◌≤◌, [], ap, ◌∙◌, subst}
 use Rattle.janus_invert.specs.declared.code.Code.{Code}
 use Rattle.janus_machine.specs.declared.book.Direction.{Direction}
 use Rattle.janus_machine.specs.declared.cursor.Phase.{Phase}
-use Rattle.janus_machine.specs.Mirrored.{opposite_direction, mirrored_phase}
+use Rattle.janus_machine.specs.Mirrored.{opposite_direction}
 use Rattle.janus_machine.specs.Places.{place_in, code_in}
 use Rattle.janus_machine.proofs.Mirrors.{opposite_place, other_code, place_mirrored}
 use Rattle.janus_machine.proofs.cursor.Cursor.mirror.Goals as goal

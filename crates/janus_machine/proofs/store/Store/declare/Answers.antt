@@ -1,5 +1,5 @@
-use Rattle.std.proofs.Common.{rules, ◌≡◌, ℕ, List, [], ◌∷◌, ◌++◌, pos, ◌<◌, length, ap, ◌∙◌, sym, subst, arith, refl}
-use Rattle.std.specs.Prelude.{Option, Some, string_bytes}
+use Rattle.std.proofs.Common.{rules, ◌≡◌, List, [], ◌∷◌, ◌++◌, pos, length, ap, ◌∙◌, sym, subst, arith}
+use Rattle.std.specs.Prelude.{Some, string_bytes}
 use Rattle.std.specs.Str.{bytes_eq}
 use Rattle.std.specs.Map.{update, lookup}
 use Rattle.std.specs.BTreeMap.{get_by_text, is_at}

@@ -1,4 +1,4 @@
-use Rattle.std.proofs.Common.{◌≡◌, ℕ, ℤ, List, ◌<◌, ◌+◌, length, ap, ◌∙◌, sym, arith, refl, map, to_z, of_z, w32}
+use Rattle.std.proofs.Common.{◌≡◌, ℤ, ◌<◌, length, ap, ◌∙◌, sym, arith, refl, to_z, of_z, w32}
 use Rattle.std.specs.Prelude.{slice_get, Some}
 use Rattle.std.proofs.lemmas.Int.{to_z-of_z}
 use Rattle.std.proofs.lemmas.Option.{slice_get_read}

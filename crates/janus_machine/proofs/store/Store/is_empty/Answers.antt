@@ -1,4 +1,4 @@
-use Rattle.std.proofs.Common.{◌≡◌, ◌+◌, length, ap, ◌∙◌, sym, arith, vec_len}
+use Rattle.std.proofs.Common.{◌≡◌, length, ap, ◌∙◌, sym, arith, vec_len}
 use Rattle.std.specs.Cmp.{unsigned_Decides}
 use Rattle.janus_meaning.specs.Store.{Bare}
 use Rattle.janus_meaning.specs.World.{size_of}

@@ -1,4 +1,4 @@
-use Rattle.std.proofs.Common.{◌≡◌, ◌+◌, length, ap, ◌∙◌, sym, arith}
+use Rattle.std.proofs.Common.{ap, arith}
 use Rattle.janus_meaning.specs.Store.{Bare}
 use Rattle.janus_meaning.specs.World.{size_of}
 use Rattle.janus_machine.proofs.Variables.{size-declared}

@@ -1,5 +1,5 @@
 use Rattle.std.proofs.Common.{◌≡◌, [], ◌∷◌, refl, ap}
-use Rattle.kernel_core.specs.State.{Past, new_state, Idle}
+use Rattle.kernel_core.specs.State.{Past, Idle}
 use Rattle.kernel_core.proofs.Standing.{new_past, kept_new}
 use Rattle.kernel_core.proofs.history.History.new.Goals as goal
 

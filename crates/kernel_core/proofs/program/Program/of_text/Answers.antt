@@ -1,7 +1,6 @@
-use Rattle.std.proofs.Common.{◌≡◌, refl, sym, ap, ◌∙◌, subst}
-use Rattle.janus_meaning.specs.Formed.{Shape, shape_of}
-use Rattle.janus_meaning.specs.World.{World}
-use Rattle.janus_syntax.specs.Tree.{Cell, cell_view}
+use Rattle.std.proofs.Common.{sym, ap, ◌∙◌, subst}
+use Rattle.janus_meaning.specs.Formed.{Shape}
+use Rattle.janus_syntax.specs.Tree.{cell_view}
 use Rattle.janus_check.specs.WellFormed.{IsWellFormed}
 use Rattle.janus_check.specs.Names as names
 use Rattle.kernel_core.specs.Runner.{world_of}
@@ -14,7 +13,7 @@ pub returns-in-Err : goal.returns-in-Err
 returns-in-Err c = record {
   accepts = tt;
   refuses = subst (λ (r : Refusal). Refuses (world_of c.args.runner.now) c.args.text.now r) (sym c.refusal_of_syntax.ensures)
-  (refuses_syntax (world_of c.args.runner.now) c.args.text.now c.in-Err.fault c.in-Err.ensures.read c.in-Err.ensures.only);
+      (refuses_syntax (world_of c.args.runner.now) c.args.text.now c.in-Err.fault c.in-Err.ensures.read c.in-Err.ensures.only);
 }
 
 pub returns-in-Err-check : goal.returns-in-Err-check
@@ -23,7 +22,7 @@ returns-in-Err-check c =
     record {
       accepts = tt;
       refuses = subst (λ (r : Refusal). Refuses (world_of c.args.runner.now) c.args.text.now r) (sym c.refusal_of_check.ensures)
-      (refuses_check (world_of c.args.runner.now) c.args.text.now c.in-Err-check.fault (cell_view c.in-Ok.cell) (names.shape_of c.in-Ok-names_in_sight.env) is c.in-Ok-names_in_sight.ensures c.in-Err-check.ensures.first);
+          (refuses_check (world_of c.args.runner.now) c.args.text.now c.in-Err-check.fault (cell_view c.in-Ok.cell) (names.shape_of c.in-Ok-names_in_sight.env) is c.in-Ok-names_in_sight.ensures c.in-Err-check.ensures.first);
     }
 
 pub returns-in-Ok-of_checked-clause-accepts : goal.returns-in-Ok-of_checked-clause-accepts
