@@ -20,9 +20,12 @@ fn finish(kernel: &mut Kernel) -> Outcome
             Sliced::Ended(outcome) => return outcome,
             Sliced::Border => match kernel.begin() {
                 Begun::Ended(outcome) => return outcome,
-                _ => {}
+                Begun::Going => {}
+                Begun::Nothing => unreachable!(),
             },
-            _ => {}
+            Sliced::Going => {}
+            Sliced::Backing => {}
+            Sliced::Nothing => unreachable!(),
         }
     }
 }
@@ -39,6 +42,7 @@ pub fn serve(kernel: &mut Kernel, job: Job) -> Result<Outcome, PostFault>
     kernel.post(0, job)?;
     match kernel.begin() {
         Begun::Ended(outcome) => Ok(outcome),
-        _ => Ok(finish(kernel)),
+        Begun::Going => Ok(finish(kernel)),
+        Begun::Nothing => unreachable!(),
     }
 }

@@ -1,0 +1,13 @@
+use Rattle.kernel_core.specs.Runs.{Machine}
+use Rattle.kernel_core.specs.declared.outcome.Outcome.{Outcome}
+use Rattle.janus_cells.specs.Served.{Finishes}
+use Rattle.janus_cells.proofs.Finishing.{left, IsInside}
+use Rattle.janus_cells.proofs.serve.finish.Given as goal
+
+-- the job stands inside a cell, and what it comes to from here it comes to from the beginning
+abbrev pub invariant-loop-outcome : goal.invariant-loop-outcome
+invariant-loop-outcome l =
+    IsInside l.kernel.state.job × ((o : Outcome) (new : Machine) → Finishes l.kernel o new → Finishes l.fn.kernel o new)
+
+abbrev pub decreases-loop-outcome : goal.decreases-loop-outcome
+decreases-loop-outcome l = left l.kernel.state.job
