@@ -14,6 +14,7 @@ fn finish(kernel: &mut Kernel) -> Outcome
     requires { (e : Entered) × (kernel.old.state.job ≡ Inside e) }
     ensures finishes { Finishes kernel.old result kernel.new }
     ensures idle { kernel.new.state.job ≡ Idle }
+    ensures queue { kernel.new.queue ≡ kernel.old.queue }
 {
     loop {
         match kernel.slice(STEPS, false) {
@@ -39,7 +40,10 @@ pub fn serve(kernel: &mut Kernel, job: Job) -> Result<Outcome, PostFault>
     ensures idle { kernel.new.state.job ≡ Idle }
     ensures alone { kernel.new.queue ≡ [] }
 {
-    kernel.post(0, job)?;
+    match kernel.post(0, job) {
+        Err(fault) => return Err(fault),
+        Ok(_) => {}
+    }
     match kernel.begin() {
         Begun::Ended(outcome) => Ok(outcome),
         Begun::Going => Ok(finish(kernel)),

@@ -1,3 +1,4 @@
+use Rattle.std.proofs.Common.{◌≡◌}
 use Rattle.kernel_core.specs.Runs.{Machine}
 use Rattle.kernel_core.specs.declared.outcome.Outcome.{Outcome}
 use Rattle.janus_cells.specs.Served.{Finishes}
@@ -8,6 +9,7 @@ use Rattle.janus_cells.proofs.serve.finish.Given as goal
 abbrev pub invariant-loop-outcome : goal.invariant-loop-outcome
 invariant-loop-outcome l =
     IsInside l.kernel.state.job × ((o : Outcome) (new : Machine) → Finishes l.kernel o new → Finishes l.fn.kernel o new)
+    × (l.kernel.queue ≡ l.fn.kernel.queue)
 
 abbrev pub decreases-loop-outcome : goal.decreases-loop-outcome
 decreases-loop-outcome l = left l.kernel.state.job

@@ -1,0 +1,185 @@
+//! The program over any reader and writer.
+ghost use Rattle.std.specs.Prelude.{◌≡◌, ◌≢◌, [], IfErr};
+ghost use Rattle.std.specs.Io.KnownBytes.{Keeps};
+ghost use Rattle.kernel_core.specs.State.{Idle};
+
+use crate::command::Command;
+use crate::fault::RunFault;
+use crate::input::read_text;
+use crate::output::{WriteFailed, send, send_number, send_outcome, send_signed};
+use crate::serve::serve;
+use kernel_core::{Job, Kernel, PostFault};
+use std::alloc::Global;
+use std::io::{Read, Write};
+
+/// The text of a cell as far as it is gathered.
+#[derive(Drop)]
+struct Gathered {
+    text: String,
+    /// It has an octet that isn't space, tab, CR or LF.
+    some: bool,
+    /// There was no memory for a line of it.
+    lost: bool,
+}
+
+/// Reads all of the input, at most 16 MiB, and then runs it line by line: lines that begin with `%` are commands, all
+/// others gather to the text of a cell. What a command answers is written before the next one is run.
+///
+/// Faults are looked for in this order: no memory for the start; a read that fails, input that is too long, no memory for the
+/// input; input that isn't text. Up to there nothing is written. A write that fails ends the run, and what was written is a
+/// beginning of what would have been.
+pub fn run<R: Read, W: Write>(alloc: Global, reader: &mut R, writer: &mut W) -> Result<(), RunFault>
+    ensures unwritten { IfErr result (λ fault. fault ≢ RunFault.Write → Keeps (W.contents writer.old) (W.contents writer.new)) }
+{
+    let Ok(mut kernel) = Kernel::new(alloc) else {
+        return Err(RunFault::Memory);
+    };
+    let text = read_text(alloc, reader)?;
+    match run_text(alloc, &mut kernel, &text, writer) {
+        Ok(()) => Ok(()),
+        Err(_) => Err(RunFault::Write),
+    }
+}
+
+/// Runs the lines of a text.
+fn run_text<W: Write>(alloc: Global, kernel: &mut Kernel, text: &str, writer: &mut W) -> Result<(), WriteFailed>
+    requires idle { kernel.old.state.job ≡ Idle }
+    requires alone { kernel.old.queue ≡ [] }
+{
+    let mut gathered = Gathered {
+        text: String::new(alloc),
+        some: false,
+        lost: false,
+    };
+    let mut pending: Option<&str> = None;
+    for part in text.split('\n') {
+        if let Some(line) = pending {
+            run_line(alloc, kernel, &mut gathered, line, writer)?;
+        }
+        pending = Some(part);
+    }
+    // Behind the last LF there is no line.
+    if let Some(line) = pending {
+        if !line.is_empty() {
+            run_line(alloc, kernel, &mut gathered, line, writer)?;
+        }
+    }
+    run_rest(alloc, kernel, &mut gathered, writer)?;
+    match writer.flush() {
+        Ok(()) => Ok(()),
+        Err(_) => Err(WriteFailed),
+    }
+}
+
+/// Gathers a line, or does what it commands.
+fn run_line<W: Write>(
+    alloc: Global,
+    kernel: &mut Kernel,
+    gathered: &mut Gathered,
+    line: &str,
+    writer: &mut W,
+) -> Result<(), WriteFailed>
+    requires idle { kernel.old.state.job ≡ Idle }
+    requires alone { kernel.old.queue ≡ [] }
+    ensures idle { kernel.new.state.job ≡ Idle }
+    ensures alone { kernel.new.queue ≡ [] }
+{
+    if !line.starts_with('%') {
+        gathered.add(line);
+        return Ok(());
+    }
+    let command = Command::read(line);
+    if let Command::Run = command {
+        return run_cell(alloc, kernel, gathered, writer);
+    }
+    run_rest(alloc, kernel, gathered, writer)?;
+    match command {
+        Command::Undo(k) => run_job(kernel, Job::Undo(k), writer),
+        Command::Redo(k) => run_job(kernel, Job::Redo(k), writer),
+        Command::Show => show(kernel, writer),
+        _ => send(writer, b"refused 80 BadCommand\n"),
+    }
+}
+
+/// Runs the gathered text as a cell, unless it is blank; it is gathered no longer.
+fn run_rest<W: Write>(alloc: Global, kernel: &mut Kernel, gathered: &mut Gathered, writer: &mut W) -> Result<(), WriteFailed>
+    requires idle { kernel.old.state.job ≡ Idle }
+    requires alone { kernel.old.queue ≡ [] }
+    ensures idle { kernel.new.state.job ≡ Idle }
+    ensures alone { kernel.new.queue ≡ [] }
+{
+    if gathered.some {
+        return run_cell(alloc, kernel, gathered, writer);
+    }
+    let _blank = gathered.take(alloc);
+    Ok(())
+}
+
+/// Runs the gathered text as a cell; it is gathered no longer.
+fn run_cell<W: Write>(alloc: Global, kernel: &mut Kernel, gathered: &mut Gathered, writer: &mut W) -> Result<(), WriteFailed>
+    requires idle { kernel.old.state.job ≡ Idle }
+    requires alone { kernel.old.queue ≡ [] }
+    ensures idle { kernel.new.state.job ≡ Idle }
+    ensures alone { kernel.new.queue ≡ [] }
+{
+    match gathered.take(alloc) {
+        Some(code) => run_job(kernel, Job::Cell { code, silent: false, store: true }, writer),
+        None => send(writer, b"refused 76 Memory\n"),
+    }
+}
+
+/// Brings a job to its end, and writes what came of it.
+fn run_job<W: Write>(kernel: &mut Kernel, job: Job, writer: &mut W) -> Result<(), WriteFailed>
+    requires idle { kernel.old.state.job ≡ Idle }
+    requires alone { kernel.old.queue ≡ [] }
+    ensures idle { kernel.new.state.job ≡ Idle }
+    ensures alone { kernel.new.queue ≡ [] }
+{
+    match serve(kernel, job) {
+        Ok(outcome) => send_outcome(writer, &outcome),
+        Err(PostFault::QueueFull) => send(writer, b"refused 74 QueueFull\n"),
+        Err(PostFault::Memory) => send(writer, b"refused 76 Memory\n"),
+    }
+}
+
+/// Writes the position, and the declared names with their values.
+fn show<W: Write>(kernel: &Kernel, writer: &mut W) -> Result<(), WriteFailed> {
+    send(writer, b"at node ")?;
+    send_number(writer, kernel.position() as u64)?;
+    send(writer, b"\n")?;
+    let world = kernel.world();
+    for i in 0..world.len() {
+        let (name, value) = world.entry(i);
+        send(writer, name.as_bytes())?;
+        send(writer, b" = ")?;
+        send_signed(writer, value)?;
+        send(writer, b"\n")?;
+    }
+    Ok(())
+}
+
+impl Gathered {
+    /// Adds a line and its LF. Where there is no memory for them the text is lost.
+    fn add(&mut self, line: &str) {
+        if !is_blank(line) {
+            self.some = true;
+        }
+        if self.text.push_str(line).is_err() || self.text.push('\n').is_err() {
+            self.lost = true;
+        }
+    }
+
+    /// The text, and none of it is left here; `None` where it was lost.
+    fn take(&mut self, alloc: Global) -> Option<String> {
+        let text = std::mem::replace(&mut self.text, String::new(alloc));
+        let lost = self.lost;
+        self.some = false;
+        self.lost = false;
+        if lost { None } else { Some(text) }
+    }
+}
+
+/// Whether a line has only spaces, tabs and CRs.
+fn is_blank(line: &str) -> bool {
+    line.bytes().all(|c| c == b' ' || c == b'\t' || c == b'\r')
+}
