@@ -7,7 +7,8 @@ ghost use Rattle.janus_syntax.specs.Fault.{what_text, fault_number, fault_name, 
 use crate::token::{Sign, Span, Word};
 use std::alloc::{AllocError, AllocFailed};
 
-/// What has to come next where the reading of a cell cannot go on.
+/// What has to come next where the reading of a cell cannot go on. The forms that are read so far want `Name`,
+/// `Operator` (of an assignment), `Expression` or `End`.
 #[derive(Clone, Copy, PartialEq, Eq, Debug)]
 pub enum What {
     Statement,

@@ -8,7 +8,7 @@
 //! - `tokens`: the tokens are those of the text, the longest item that fits at each place, and there are no others; else the
 //!   first character that begins no token, or the first number past 2147483647, whichever stands first.
 //! - `parse_cell`: the answer is the one tree that the grammar gives the text; else the refusal that the grammar has for it,
-//!   with its place in octets.
+//!   with its place in octets. `one_refusal_law`: a text has one refusal at most, so none is left to choice.
 //! - `Exp::copy`, `Stm::copy`, `Name::copy`: the same tree at the same places.
 //!
 //! The definitions are in specs/, to be read in this order: `Spelling`, `Lexical` (tokens of a text), `Tree`, `Grammar`
