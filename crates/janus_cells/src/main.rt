@@ -22,7 +22,9 @@ use std::process::ExitCode;
 fn main(rt: HostRuntime) -> anyhow::Result<ExitCode> {
     let alloc = rt.alloc();
     let words: Vec<String> = env::args(&rt)?.collect(alloc)?;
-    let command = Command::new(alloc, "janus-cells").about("Runs Janus cells with undo, redo and show, line by line, from standard input.");
+    let command = Command::new(alloc, "janus-cells").about(
+        "Runs Janus cells with undo, redo and show, line by line, from standard input.",
+    );
     match command.try_get_matches_from(words.as_slice()) {
         Ok(_) => {}
         Err(error) => {

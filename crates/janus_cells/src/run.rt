@@ -42,7 +42,12 @@ pub fn run<R: Read, W: Write>(alloc: Global, reader: &mut R, writer: &mut W) -> 
 }
 
 /// Runs the lines of a text.
-fn run_text<W: Write>(alloc: Global, kernel: &mut Kernel, text: &str, writer: &mut W) -> Result<(), WriteFailed>
+fn run_text<W: Write>(
+    alloc: Global,
+    kernel: &mut Kernel,
+    text: &str,
+    writer: &mut W,
+) -> Result<(), WriteFailed>
     requires idle { kernel.old.state.job ≡ Idle }
     requires alone { kernel.old.queue ≡ [] }
 {
@@ -102,7 +107,12 @@ fn run_line<W: Write>(
 }
 
 /// Runs the gathered text as a cell, unless it is blank; it is gathered no longer.
-fn run_rest<W: Write>(alloc: Global, kernel: &mut Kernel, gathered: &mut Gathered, writer: &mut W) -> Result<(), WriteFailed>
+fn run_rest<W: Write>(
+    alloc: Global,
+    kernel: &mut Kernel,
+    gathered: &mut Gathered,
+    writer: &mut W,
+) -> Result<(), WriteFailed>
     requires idle { kernel.old.state.job ≡ Idle }
     requires alone { kernel.old.queue ≡ [] }
     ensures idle { kernel.new.state.job ≡ Idle }
@@ -116,14 +126,27 @@ fn run_rest<W: Write>(alloc: Global, kernel: &mut Kernel, gathered: &mut Gathere
 }
 
 /// Runs the gathered text as a cell; it is gathered no longer.
-fn run_cell<W: Write>(alloc: Global, kernel: &mut Kernel, gathered: &mut Gathered, writer: &mut W) -> Result<(), WriteFailed>
+fn run_cell<W: Write>(
+    alloc: Global,
+    kernel: &mut Kernel,
+    gathered: &mut Gathered,
+    writer: &mut W,
+) -> Result<(), WriteFailed>
     requires idle { kernel.old.state.job ≡ Idle }
     requires alone { kernel.old.queue ≡ [] }
     ensures idle { kernel.new.state.job ≡ Idle }
     ensures alone { kernel.new.queue ≡ [] }
 {
     match gathered.take(alloc) {
-        Some(code) => run_job(kernel, Job::Cell { code, silent: false, store: true }, writer),
+        Some(code) => run_job(
+            kernel,
+            Job::Cell {
+                code,
+                silent: false,
+                store: true,
+            },
+            writer,
+        ),
         None => send(writer, b"refused 76 Memory\n"),
     }
 }
