@@ -11,6 +11,8 @@ mod input;
 mod output;
 mod run;
 mod serve;
+#[cfg(test)]
+mod tests;
 
 use crate::fault::RunFault;
 use crate::run::run;
