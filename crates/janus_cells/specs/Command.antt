@@ -1,15 +1,20 @@
 -- What a command line asks for.
 use Rattle.std.specs.Prelude.{ℕ, Bool, ◌&&◌, nat_le, nat_lt, List, [], ◌∷◌, length, drop, codes, Option, Some, None, if◌then◌else◌}
-use Rattle.std.specs.List.{starts_with}
+use Rattle.std.specs.List.{starts_with, list_all}
 use Rattle.std.specs.Prelude.{nat_eq}
-use Rattle.std.specs.Str.{bytes_eq, all_ascii_digits}
+use Rattle.std.specs.Str.{bytes_eq}
+use Rattle.std.specs.Char.{is_ascii_digit}
 use Rattle.std.specs.Str.Parse.{digits_value}
 use Rattle.janus_cells.specs.declared.command.Command.{Command}
 use Rattle.janus_cells.specs.declared.command.Command.TheVariants.{Run, Undo, Redo, Show, Unknown}
 
+-- 1 to 10 digits
+abbrev pub is_short_number : List ℕ → Bool
+is_short_number ds = nat_le 1 (length ds) && (nat_le (length ds) 10 && list_all is_ascii_digit ds)
+
 -- 1 to 10 digits that write at most 4294967295
 abbrev pub is_count : List ℕ → Bool
-is_count ds = nat_le 1 (length ds) && (nat_le (length ds) 10 && (all_ascii_digits ds && nat_lt (digits_value 10 ds) 4294967296))
+is_count ds = is_short_number ds && nat_lt (digits_value 10 ds) 4294967296
 
 abbrev pub counted : (ℕ → Command) → List ℕ → Command
 counted make ds = if is_count ds then make (digits_value 10 ds) else Unknown
