@@ -1,2 +1,3 @@
 pub mod CommandLemmas
 pub mod Finishing
+pub mod OutputLemmas

@@ -2,6 +2,7 @@
 #![tactic(auto)]
 
 mod command;
+mod output;
 mod serve;
 
 use std::io;
