@@ -1,5 +1,5 @@
 -- What is written: some of the octets, and the line of an outcome.
-use Rattle.std.specs.Prelude.{◌≡◌, ℕ, List, [], ◌∷◌, ◌++◌, Option, Some, None, codes, decimal}
+use Rattle.std.specs.Prelude.{◌≡◌, ℕ, List, [], ◌++◌, Option, Some, None, codes, decimal}
 use Rattle.std.specs.Io.KnownBytes.{Appends}
 use Rattle.janus_machine.specs.Faults as fault
 use Rattle.janus_machine.specs.declared.fault.Fault.{Fault}

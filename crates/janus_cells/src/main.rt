@@ -2,6 +2,8 @@
 #![tactic(auto)]
 
 mod command;
+mod fault;
+mod input;
 mod output;
 mod serve;
 

@@ -14,6 +14,6 @@ returns-in-Some-strip_suffix c =
 pub returns : goal.returns
 returns c =
     last_tried c.args.rest.now c.strip_suffix-3.result
-      (strip_suffix_char 32 c.args.rest.now None c.in_default.ensures.cases (omega arith))
-      (strip_suffix_char 9 c.args.rest.now None c.in_default-strip_suffix.ensures.cases (omega arith))
-      (strip_suffix_char 13 c.args.rest.now c.strip_suffix-3.result c.strip_suffix-3.ensures.cases (omega arith))
+    (strip_suffix_char 32 c.args.rest.now None c.in_default.ensures.cases (omega arith))
+    (strip_suffix_char 9 c.args.rest.now None c.in_default-strip_suffix.ensures.cases (omega arith))
+    (strip_suffix_char 13 c.args.rest.now c.strip_suffix-3.result c.strip_suffix-3.ensures.cases (omega arith))

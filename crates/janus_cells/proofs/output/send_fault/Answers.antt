@@ -1,5 +1,5 @@
-use Rattle.std.proofs.Common.{◌++◌, codes, decimal, refl, sym, ap}
-use Rattle.janus_cells.specs.Output.{counted_text, named_text, numbered_text, place_text, end_text, fault_text, refusal_text, outcome_text, outcome_line}
+use Rattle.std.proofs.Common.{codes, refl}
+use Rattle.janus_cells.specs.Output.{counted_text, numbered_text, fault_text}
 use Rattle.janus_cells.proofs.OutputLemmas.{some_first, some_then}
 use Rattle.janus_cells.proofs.output.send_fault.Goals as goal
 
@@ -10,4 +10,4 @@ returns-in_err-send_numbered-clause-err g c =
 pub returns-clause-err : goal.returns-clause-err
 returns-clause-err g c =
     some_then (g.W.Write.contents c.args.writer.now) (g.W.Write.contents c.send_numbered.new.writer) (g.W.Write.contents c.send_counted.new.writer) (numbered_text (codes "fault ") c.number.result c.name.result.now) (counted_text (codes " after ") c.args.steps) (fault_text c.args.fault c.args.steps) c.send_counted.result (rw (c.number.ensures, c.name.ensures) refl)
-      c.in_ok-send_numbered.ensures.ok c.send_counted.ensures.err
+    c.in_ok-send_numbered.ensures.ok c.send_counted.ensures.err

@@ -1,5 +1,5 @@
-use Rattle.std.proofs.Common.{◌++◌, codes, decimal, refl, sym, ap}
-use Rattle.janus_cells.specs.Output.{counted_text, named_text, numbered_text, place_text, end_text, fault_text, refusal_text, outcome_text, outcome_line}
+use Rattle.std.proofs.Common.{◌++◌, codes, refl, sym, ap}
+use Rattle.janus_cells.specs.Output.{named_text}
 use Rattle.janus_cells.proofs.OutputLemmas.{some_first, some_then}
 use Rattle.janus_cells.proofs.output.send_name.Goals as goal
 
@@ -10,4 +10,4 @@ returns-in_err-send-clause-err g c =
 pub returns-clause-err : goal.returns-clause-err
 returns-clause-err g c =
     some_then (g.W.Write.contents c.args.writer.now) (g.W.Write.contents c.send.new.writer) (g.W.Write.contents c.send-2.new.writer) (codes " ") c.as_bytes.result.now (named_text c.args.name.now) c.send-2.result (ap (λ t. codes " " ++ t) (sym c.as_bytes.ensures.value))
-      c.in_ok-send.ensures.ok c.send-2.ensures.err
+    c.in_ok-send.ensures.ok c.send-2.ensures.err

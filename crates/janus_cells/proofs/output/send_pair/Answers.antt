@@ -1,5 +1,5 @@
-use Rattle.std.proofs.Common.{◌++◌, codes, decimal, refl, sym, ap}
-use Rattle.janus_cells.specs.Output.{counted_text, named_text, numbered_text, place_text, end_text, fault_text, refusal_text, outcome_text, outcome_line}
+use Rattle.std.proofs.Common.{◌++◌, refl}
+use Rattle.janus_cells.specs.Output.{counted_text}
 use Rattle.janus_cells.proofs.OutputLemmas.{some_first, some_then}
 use Rattle.janus_cells.proofs.output.send_pair.Goals as goal
 
@@ -10,4 +10,4 @@ returns-in_err-send_counted-clause-err g c =
 pub returns-clause-err : goal.returns-clause-err
 returns-clause-err g c =
     some_then (g.W.Write.contents c.args.writer.now) (g.W.Write.contents c.send_counted.new.writer) (g.W.Write.contents c.send_counted-2.new.writer) (counted_text c.args.words.now c.args.n) (counted_text c.args.more_words.now c.args.m) (counted_text c.args.words.now c.args.n ++ counted_text c.args.more_words.now c.args.m) c.send_counted-2.result refl
-      c.in_ok-send_counted.ensures.ok c.send_counted-2.ensures.err
+    c.in_ok-send_counted.ensures.ok c.send_counted-2.ensures.err

@@ -1,6 +1,6 @@
-use Rattle.std.proofs.Common.{◌++◌, codes, decimal, refl, sym, ap}
+use Rattle.std.proofs.Common.{codes, refl}
 use Rattle.kernel_core.specs.Refusal.{span_of}
-use Rattle.janus_cells.specs.Output.{counted_text, named_text, numbered_text, place_text, end_text, fault_text, refusal_text, outcome_text, outcome_line}
+use Rattle.janus_cells.specs.Output.{numbered_text, place_text, refusal_text}
 use Rattle.janus_cells.proofs.OutputLemmas.{some_first, some_then}
 use Rattle.janus_cells.proofs.output.send_refusal.Goals as goal
 
@@ -11,4 +11,4 @@ returns-in_err-send_numbered-clause-err g c =
 pub returns-clause-err : goal.returns-clause-err
 returns-clause-err g c =
     some_then (g.W.Write.contents c.args.writer.now) (g.W.Write.contents c.send_numbered.new.writer) (g.W.Write.contents c.send_place.new.writer) (numbered_text (codes "refused ") c.number.result c.name.result.now) (place_text c.span.result) (refusal_text c.args.refusal) c.send_place.result (rw (c.number.ensures, c.name.ensures, c.span.ensures) refl)
-      c.in_ok-send_numbered.ensures.ok c.send_place.ensures.err
+    c.in_ok-send_numbered.ensures.ok c.send_place.ensures.err

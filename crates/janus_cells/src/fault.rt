@@ -1,0 +1,32 @@
+//! Why a run ends before its input is served.
+ghost use Rattle.std.specs.Prelude.{◌≡◌};
+ghost use Rattle.janus_cells.specs.RunFault.{text_of};
+
+/// Why a run ends before its input is served.
+#[derive(Clone, Copy, Debug, PartialEq, Eq)]
+pub enum RunFault {
+    /// The reader failed.
+    Read,
+    /// The input has more octets than are taken.
+    TooLong,
+    /// The input is not UTF-8.
+    NotText,
+    Memory,
+    /// The writer failed.
+    Write,
+}
+
+impl RunFault {
+    /// The line under which the fault is told, without its LF.
+    pub fn text(self) -> &'static str
+        ensures { result.now ≡ text_of self }
+    {
+        match self {
+            RunFault::Read => "cannot read",
+            RunFault::TooLong => "input too long",
+            RunFault::NotText => "input is not text",
+            RunFault::Memory => "no memory",
+            RunFault::Write => "cannot write",
+        }
+    }
+}
