@@ -1,5 +1,5 @@
 -- What a command line says, by its octets.
-use Rattle.std.proofs.Common.{◌≡◌, ◌≢◌, ℕ, ◌<◌, ◌≤◌, ◌^◌, Bool, true, false, ◌&&◌, nat_lt, nat_eq, List, [], ◌∷◌, ◌++◌, length, drop, Option, Some, None, Result, Ok, Err, if◌then◌else◌, refl, sym, ap, ◌∙◌, arith, length-append, Bor, ⊎_elim, true≢false}
+use Rattle.std.proofs.Common.{◌≡◌, ◌≢◌, ℕ, ◌<◌, ◌^◌, Bool, true, false, ◌&&◌, nat_lt, nat_eq, List, [], ◌∷◌, ◌++◌, length, drop, Option, Some, None, Result, Ok, Err, if◌then◌else◌, refl, sym, ap, ◌∙◌, arith, length-append, Bor, ⊎_elim, true≢false}
 use Rattle.std.specs.Char.{is_ascii_digit}
 use Rattle.std.specs.List.{list_all, starts_with}
 use Rattle.std.specs.Option.{MatchOption}

@@ -1,3 +1,4 @@
-pub mod Finishing
-pub mod Serving
 pub mod CommandLemmas
+pub mod Finishing
+pub mod OutputLemmas
+pub mod Serving

@@ -1,3 +1,5 @@
 pub mod Lines
 pub mod Command
+pub mod Output
+pub mod RunFault
 pub mod Served

@@ -1,23 +1,26 @@
-//! How a run ends before its time.
+//! Why a run ends before its input is served.
+ghost use Rattle.std.specs.Prelude.{◌≡◌};
+ghost use Rattle.janus_cells.specs.RunFault.{text_of};
 
-/// Why a run ended.
+/// Why a run ends before its input is served.
 #[derive(Clone, Copy, Debug, PartialEq, Eq)]
 pub enum RunFault {
-    /// The input can't be read.
+    /// The reader failed.
     Read,
-    /// The input is longer than 16 MiB.
+    /// The input has more octets than are taken.
     TooLong,
-    /// The input isn't UTF-8.
+    /// The input is not UTF-8.
     NotText,
-    /// There is no memory for the start or the input.
     Memory,
-    /// The output can't be written.
+    /// The writer failed.
     Write,
 }
 
 impl RunFault {
-    /// What is told of it.
-    pub fn text(self) -> &'static str {
+    /// The line under which the fault is told, without its LF.
+    pub fn text(self) -> &'static str
+        ensures { result.now ≡ text_of self }
+    {
         match self {
             RunFault::Read => "cannot read",
             RunFault::TooLong => "input too long",

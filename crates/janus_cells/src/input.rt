@@ -1,32 +1,52 @@
-//! What comes in.
+//! What is read: all that a reader gives, to its end.
+ghost use Rattle.std.specs.Prelude.{◌≡◌, ◌≤◌, length, IfSome, IfOk, IfErr};
+ghost use Rattle.std.specs.String.{string_bytes};
+ghost use Rattle.std.specs.Vec.{vec_len};
+ghost use Rattle.janus_cells.specs.RunFault.{IsWhyUnread, input_limit};
+
 use crate::fault::RunFault;
 use std::alloc::Global;
 use std::io::Read;
 
-/// The most octets that are read.
-pub const INPUT_LIMIT: usize = 16_777_216;
+/// How many octets of an input are taken.
+const INPUT_LIMIT: usize = 16_777_216;
 
-/// All that the reader gives to its end, as a text.
-pub fn read_text<R: Read>(alloc: Global, reader: &mut R) -> Result<String, RunFault> {
-    let mut octets = Vec::new(alloc);
-    let mut buffer = [0u8; 8192];
-    for _ in 0..u64::MAX {
-        let count = match reader.read(&mut buffer) {
-            Ok(count) => count,
-            Err(_) => return Err(RunFault::Read),
-        };
-        if count == 0 {
-            break;
-        }
-        if octets.extend_from_slice(&buffer[..count]).is_err() {
-            return Err(RunFault::Memory);
-        }
-        if octets.len() > INPUT_LIMIT {
-            return Err(RunFault::TooLong);
-        }
-    }
+/// The text that the reader gives to its end: at most 16,777,216 octets of UTF-8.
+pub fn read_text<R: Read>(alloc: Global, reader: &mut R) -> Result<String, RunFault>
+    ensures ok { IfOk result (λ text. IfSome (R.remaining reader.old) (λ xs. string_bytes text ≡ xs)) }
+    ensures limit { IfOk result (λ text. length (string_bytes text) ≤ input_limit) }
+    ensures err { IfErr result (λ fault. IfSome (R.remaining reader.old) (IsWhyUnread fault)) }
+{
+    let octets = read_octets(alloc, reader)?;
     match String::from_utf8(octets) {
         Ok(text) => Ok(text),
         Err(_) => Err(RunFault::NotText),
     }
+}
+
+/// The octets that the reader gives to its end.
+fn read_octets<R: Read>(alloc: Global, reader: &mut R) -> Result<Vec<u8>, RunFault>
+    ensures ok { IfOk result (λ octets. IfSome (R.remaining reader.old) (λ xs. octets.items ≡ xs)) }
+    ensures limit { IfOk result (λ octets. length octets.items ≤ input_limit) }
+    ensures err { IfErr result (λ fault. IfSome (R.remaining reader.old) (IsWhyUnread fault)) }
+{
+    let mut octets = Vec::new(alloc);
+    let mut room = [0u8; 8192];
+    // Each read but the last gives an octet at least.
+    for _read in 0..u64::MAX {
+        let count = match reader.read(&mut room) {
+            Ok(count) => count,
+            Err(_) => return Err(RunFault::Read),
+        };
+        if count == 0 {
+            return Ok(octets);
+        }
+        if count > INPUT_LIMIT - octets.len() {
+            return Err(RunFault::TooLong);
+        }
+        if octets.extend_from_slice(&room[..count]).is_err() {
+            return Err(RunFault::Memory);
+        }
+    }
+    Err(RunFault::TooLong)
 }
