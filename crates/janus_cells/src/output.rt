@@ -48,8 +48,8 @@ pub fn send_signed<W: Write>(writer: &mut W, n: i32) -> Result<(), WriteFailed>
     ensures ok { OnOk result (Appends (W.contents writer.old) (W.contents writer.new) (signed_decimal n)) }
     ensures err { OnErr result (SentSome (W.contents writer.old) (W.contents writer.new) (signed_decimal n)) }
 {
-    let mut buffer = Buffer::new();
-    send(writer, buffer.format(n).as_bytes())
+    let mut text = Buffer::new();
+    send(writer, text.format(n).as_bytes())
 }
 
 /// Writes words, and then a number.
