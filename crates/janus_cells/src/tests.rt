@@ -27,20 +27,48 @@ fn written(alloc: Global, input: &str) -> Result<String, Fail> {
 #[test]
 fn runs_undoes_and_redoes(rt: HostRuntime) -> Result<(), Fail> {
     let alloc = rt.alloc();
-    assert_eq!(rt; written(alloc, "%%;%undo 1")?.as_str(), "ok node 1 steps 1;undid 1;");
-    assert_eq!(rt; written(alloc, "int x;%%;x += 5;%undo 1;%redo 1;%show")?.as_str(), "ok node 1 steps 1;ok node 2 steps 3;undid 1;redid 1;at node 2;x = 5;");
-    assert_eq!(rt; written(alloc, "int x;%%;x += 2147483647 x += 1;%show")?.as_str(), "ok node 1 steps 1;ok node 2 steps 5;at node 2;x = -2147483648;");
-    assert_eq!(rt; written(alloc, "int x;%%;x += 1;%undo 1;x += 2;%undo 2;%redo 2;%show")?.as_str(), "ok node 1 steps 1;ok node 2 steps 3;undid 1;ok node 3 steps 3;undid 2;redid 2;at node 3;x = 2;");
+    assert_eq!(rt;
+        written(alloc, "%%;%undo 1")?.as_str(),
+        "ok node 1 steps 1;undid 1;"
+    );
+    assert_eq!(rt;
+        written(alloc, "int x;%%;x += 5;%undo 1;%redo 1;%show")?.as_str(),
+        "ok node 1 steps 1;ok node 2 steps 3;undid 1;redid 1;at node 2;x = 5;"
+    );
+    assert_eq!(rt;
+        written(alloc, "int x;%%;x += 2147483647 x += 1;%show")?.as_str(),
+        "ok node 1 steps 1;ok node 2 steps 5;at node 2;x = -2147483648;"
+    );
+    assert_eq!(rt;
+        written(
+            alloc,
+            "int x;%%;x += 1;%undo 1;x += 2;%undo 2;%redo 2;%show"
+        )?
+        .as_str(),
+        "ok node 1 steps 1;ok node 2 steps 3;undid 1;ok node 3 steps 3;undid 2;redid 2;at node 3;x = 2;"
+    );
     Ok(())
 }
 
 #[test]
 fn refuses(rt: HostRuntime) -> Result<(), Fail> {
     let alloc = rt.alloc();
-    assert_eq!(rt; written(alloc, "%undo 1;%goto 1;%undo 0;%undo 4294967296;%redo 1")?.as_str(), "refused 73 TooFar;refused 80 BadCommand;undid 0;refused 80 BadCommand;refused 73 TooFar;");
-    assert_eq!(rt; written(alloc, "int a[3]")?.as_str(), "refused 31 Expected at 5..6;");
-    assert_eq!(rt; written(alloc, "int x;%%;x += 2147483648")?.as_str(), "ok node 1 steps 1;refused 32 NumberTooLarge at 5..15;");
-    assert_eq!(rt; written(alloc, "x ? 1;%%;int x int x;%%;y += 1;%%;int y y += y")?.as_str(), "refused 30 BadToken at 2..3;refused 40 Declared at 10..11;refused 41 Unknown at 0..1;refused 43 SelfUse at 11..12;");
+    assert_eq!(rt;
+        written(alloc, "%undo 1;%goto 1;%undo 0;%undo 4294967296;%redo 1")?.as_str(),
+        "refused 73 TooFar;refused 80 BadCommand;undid 0;refused 80 BadCommand;refused 73 TooFar;"
+    );
+    assert_eq!(rt;
+        written(alloc, "int a[3]")?.as_str(),
+        "refused 31 Expected at 5..6;"
+    );
+    assert_eq!(rt;
+        written(alloc, "int x;%%;x += 2147483648")?.as_str(),
+        "ok node 1 steps 1;refused 32 NumberTooLarge at 5..15;"
+    );
+    assert_eq!(rt;
+        written(alloc, "x ? 1;%%;int x int x;%%;y += 1;%%;int y y += y")?.as_str(),
+        "refused 30 BadToken at 2..3;refused 40 Declared at 10..11;refused 41 Unknown at 0..1;refused 43 SelfUse at 11..12;"
+    );
     Ok(())
 }
 
@@ -48,8 +76,18 @@ fn refuses(rt: HostRuntime) -> Result<(), Fail> {
 fn reads_lines(rt: HostRuntime) -> Result<(), Fail> {
     let alloc = rt.alloc();
     assert_eq!(rt; written(alloc, "")?.as_str(), "");
-    assert_eq!(rt; written(alloc, " \t\r;;%show \t\r;%undo 1 ;")?.as_str(), "at node 0;refused 73 TooFar;");
-    assert_eq!(rt; written(alloc, "int x\r;;%show;%%show;%undo;%undo 01;%undo +1;%undo 12345678901")?.as_str(), "ok node 1 steps 1;at node 1;x = 0;refused 80 BadCommand;refused 80 BadCommand;undid 1;refused 80 BadCommand;refused 80 BadCommand;");
+    assert_eq!(rt;
+        written(alloc, " \t\r;;%show \t\r;%undo 1 ;")?.as_str(),
+        "at node 0;refused 73 TooFar;"
+    );
+    assert_eq!(rt;
+        written(
+            alloc,
+            "int x\r;;%show;%%show;%undo;%undo 01;%undo +1;%undo 12345678901"
+        )?
+        .as_str(),
+        "ok node 1 steps 1;at node 1;x = 0;refused 80 BadCommand;refused 80 BadCommand;undid 1;refused 80 BadCommand;refused 80 BadCommand;"
+    );
     Ok(())
 }
 
@@ -83,7 +121,11 @@ impl Write for Full {
         if self.room == 0 {
             return Err(Error::from(ErrorKind::StorageFull));
         }
-        let taken = if buf.len() < self.room { buf.len() } else { self.room };
+        let taken = if buf.len() < self.room {
+            buf.len()
+        } else {
+            self.room
+        };
         self.room -= taken;
         Ok(taken)
     }
@@ -97,12 +139,30 @@ impl Write for Full {
 fn tells_faults(rt: HostRuntime) -> Result<(), Fail> {
     let alloc = rt.alloc();
     let mut none = Vec::new(alloc);
-    assert_eq!(rt; run(alloc, &mut Broken { octets: b"int x\n%%\n" }, &mut none), Err(RunFault::Read));
-    assert_eq!(rt; run(alloc, &mut b"\xff\n".as_slice(), &mut none), Err(RunFault::NotText));
+    assert_eq!(rt;
+        run(
+            alloc,
+            &mut Broken {
+                octets: b"int x\n%%\n"
+            },
+            &mut none
+        ),
+        Err(RunFault::Read)
+    );
+    assert_eq!(rt;
+        run(alloc, &mut b"\xff\n".as_slice(), &mut none),
+        Err(RunFault::NotText)
+    );
     assert_eq!(rt; none.len(), 0);
     let mut some = Full { room: 20 };
-    assert_eq!(rt; run(alloc, &mut b"%%\n%%\n%show\n".as_slice(), &mut some), Err(RunFault::Write));
+    assert_eq!(rt;
+        run(alloc, &mut b"%%\n%%\n%show\n".as_slice(), &mut some),
+        Err(RunFault::Write)
+    );
     let mut ample = Full { room: 1000 };
-    assert_eq!(rt; run(alloc, &mut b"%%\n%%\n%show\n".as_slice(), &mut ample), Ok(()));
+    assert_eq!(rt;
+        run(alloc, &mut b"%%\n%%\n%show\n".as_slice(), &mut ample),
+        Ok(())
+    );
     Ok(())
 }
