@@ -1,5 +1,8 @@
 //! Calls with ample memory, and their answers. The helpers make each call with its assertion.
-use crate::{Begun, End, Event, Job, Kernel, Outcome, PostFault, QUEUE_LIMIT, Refusal, Sliced, Told, run_events};
+use crate::{
+    Begun, End, Event, Job, Kernel, Outcome, PostFault, QUEUE_LIMIT, Refusal, Sliced, Told,
+    run_events,
+};
 use std::alloc::{AllocError, Global};
 use std::process::Abort;
 use std::test::Fail;
@@ -30,7 +33,13 @@ fn stands(rt: &impl Abort, kernel: &Kernel, position: usize, names: usize) {
 }
 
 /// Posts a cell and runs it to its end.
-fn runs(rt: &impl Abort, alloc: Global, kernel: &mut Kernel, text: &str, want: Outcome) -> Result<(), Fail> {
+fn runs(
+    rt: &impl Abort,
+    alloc: Global,
+    kernel: &mut Kernel,
+    text: &str,
+    want: Outcome,
+) -> Result<(), Fail> {
     kernel.post(1, cell(alloc, text)?)?;
     begins(rt, kernel, Begun::Going);
     slices(rt, kernel, 1_000_000_000_000, false, Sliced::Ended(want));
@@ -38,7 +47,14 @@ fn runs(rt: &impl Abort, alloc: Global, kernel: &mut Kernel, text: &str, want: O
 }
 
 /// Posts a cell whose text is refused.
-fn refuses(rt: &impl Abort, alloc: Global, kernel: &mut Kernel, text: &str, number: u8, start: usize) -> Result<(), Fail> {
+fn refuses(
+    rt: &impl Abort,
+    alloc: Global,
+    kernel: &mut Kernel,
+    text: &str,
+    number: u8,
+    start: usize,
+) -> Result<(), Fail> {
     kernel.post(1, cell(alloc, text)?)?;
     let Begun::Ended(Outcome::Refused(refusal)) = kernel.begin() else {
         return Err(Fail::from("not refused"));
@@ -54,13 +70,25 @@ fn refuses(rt: &impl Abort, alloc: Global, kernel: &mut Kernel, text: &str, numb
 fn undo_goes_back_step_by_step(rt: HostRuntime) -> Result<(), Fail> {
     let mut kernel = Kernel::new(rt.alloc())?;
     runs(&rt, rt.alloc(), &mut kernel, "int x", Outcome::Ran(1, 1))?;
-    runs(&rt, rt.alloc(), &mut kernel, "x += 2147483647 x += 1", Outcome::Ran(2, 5))?;
+    runs(
+        &rt,
+        rt.alloc(),
+        &mut kernel,
+        "x += 2147483647 x += 1",
+        Outcome::Ran(2, 5),
+    )?;
     shows(&rt, &kernel, "x", Some(-2147483648));
     kernel.post(1, Job::Undo(1))?;
     begins(&rt, &mut kernel, Begun::Going);
     slices(&rt, &mut kernel, 2, false, Sliced::Going);
     shows(&rt, &kernel, "x", Some(2147483647));
-    slices(&rt, &mut kernel, 3, false, Sliced::Ended(Outcome::Undid(1, End::All)));
+    slices(
+        &rt,
+        &mut kernel,
+        3,
+        false,
+        Sliced::Ended(Outcome::Undid(1, End::All)),
+    );
     shows(&rt, &kernel, "x", Some(0));
     stands(&rt, &kernel, 1, 1);
     Ok(())
@@ -72,7 +100,11 @@ fn undo_of_too_many_is_refused(rt: HostRuntime) -> Result<(), Fail> {
     let mut kernel = Kernel::new(rt.alloc())?;
     kernel.post(1, Job::Undo(1))?;
     kernel.post(1, Job::Undo(0))?;
-    begins(&rt, &mut kernel, Begun::Ended(Outcome::Refused(Refusal::TooFar)));
+    begins(
+        &rt,
+        &mut kernel,
+        Begun::Ended(Outcome::Refused(Refusal::TooFar)),
+    );
     begins(&rt, &mut kernel, Begun::Ended(Outcome::Undid(0, End::All)));
     begins(&rt, &mut kernel, Begun::Nothing);
     Ok(())
@@ -89,7 +121,13 @@ fn an_interrupted_cell_is_taken_back(rt: HostRuntime) -> Result<(), Fail> {
     shows(&rt, &kernel, "x", Some(5));
     slices(&rt, &mut kernel, 1, true, Sliced::Backing);
     shows(&rt, &kernel, "x", Some(0));
-    slices(&rt, &mut kernel, 1, false, Sliced::Ended(Outcome::Interrupted(2)));
+    slices(
+        &rt,
+        &mut kernel,
+        1,
+        false,
+        Sliced::Ended(Outcome::Interrupted(2)),
+    );
     stands(&rt, &kernel, 1, 1);
     Ok(())
 }
@@ -105,12 +143,24 @@ fn redo_goes_along_favourites(rt: HostRuntime) -> Result<(), Fail> {
     begins(&rt, &mut kernel, Begun::Going);
     slices(&rt, &mut kernel, 9, false, Sliced::Border);
     begins(&rt, &mut kernel, Begun::Going);
-    slices(&rt, &mut kernel, 9, false, Sliced::Ended(Outcome::Undid(2, End::All)));
+    slices(
+        &rt,
+        &mut kernel,
+        9,
+        false,
+        Sliced::Ended(Outcome::Undid(2, End::All)),
+    );
     stands(&rt, &kernel, 0, 0);
     begins(&rt, &mut kernel, Begun::Going);
     slices(&rt, &mut kernel, 9, false, Sliced::Border);
     begins(&rt, &mut kernel, Begun::Going);
-    slices(&rt, &mut kernel, 9, false, Sliced::Ended(Outcome::Redid(2, End::All)));
+    slices(
+        &rt,
+        &mut kernel,
+        9,
+        false,
+        Sliced::Ended(Outcome::Redid(2, End::All)),
+    );
     shows(&rt, &kernel, "x", Some(1));
     Ok(())
 }
