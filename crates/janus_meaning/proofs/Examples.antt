@@ -10,7 +10,8 @@ use Rattle.janus_meaning.specs.Value.{value}
 use Rattle.janus_meaning.specs.Moves.{room, stack_room, stack_has_room}
 use Rattle.janus_meaning.specs.Meaning.{Block, Exec, Part, Stop}
 use Rattle.janus_meaning.specs.Machine.{BeforeBlock, AfterBlock, To, Halt, Place, step, steps, shown}
-use Rattle.janus_meaning.specs.World.{World, Cell, DeclareInt, DeclareArray, DeclareStack, stacks_in, entered, left}
+use Rattle.janus_meaning.specs.World.{World, Cell, DeclareInt, DeclareArray, DeclareStack, stacks_in, entered, left, empty_world}
+use Rattle.janus_meaning.specs.Cells.{world_after, store_after}
 use Rattle.janus_meaning.proofs.Interface.{machine_meaning}
 
 -- ---- how an example is stated
@@ -330,3 +331,28 @@ enters = refl
 -- a name is retired only with the value that it began with
 keeps_a_changed_name : left declaring (record { store = Slot y (Arr (pos 0 ∷ pos 1 ∷ [])) (Slot x (Num (pos 0)) Bare); procedures = increments ∷ [] }) ≡ Bad DelocalMismatch
 keeps_a_changed_name = refl
+
+-- int x with x += 5 behind it, in an empty world: the world after its three steps, and taken back
+abbrev first_cell : Cell
+first_cell = record { declarations = DeclareInt x ∷ []; procedures = []; block = one (Set x Plus (num 5)) }
+
+cell_runs : world_after (entered first_cell empty_world) first_cell.block 3 ≡ record { store = x_is (pos 5); procedures = [] }
+unfolding world_after store_after value wrap changed room int_wrap
+cell_runs = refl
+
+cell_goes_back : world_after (record { store = x_is (pos 5); procedures = [] }) (inverse_block first_cell.block) 3 ≡ entered first_cell empty_world
+unfolding world_after store_after value wrap changed room int_wrap
+cell_goes_back = refl
+
+cell_is_left : left first_cell (entered first_cell empty_world) ≡ Fine empty_world
+cell_is_left = refl
+
+-- midway inside a local the world shows the declared names alone
+no_local_shown : world_after (record { store = x_is (pos 0); procedures = [] }) (one (LocalInt n (num 3) (one (Set x Plus (Var n))) (num 3))) 4 ≡ record { store = x_is (pos 3); procedures = [] }
+unfolding world_after store_after value wrap changed room int_wrap
+no_local_shown = refl
+
+-- midway inside a call the argument shows the parameter's value
+call_shown : world_after (record { store = y_is (pos 0); procedures = increments ∷ [] }) (one (Call f (y ∷ []))) 4 ≡ record { store = y_is (pos 1); procedures = increments ∷ [] }
+unfolding world_after store_after value wrap changed room int_wrap
+call_shown = refl
