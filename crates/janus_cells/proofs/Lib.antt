@@ -2,3 +2,4 @@ pub mod CommandLemmas
 pub mod Finishing
 pub mod OutputLemmas
 pub mod Serving
+pub mod TranscriptLemmas

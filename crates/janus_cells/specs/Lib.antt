@@ -3,3 +3,4 @@ pub mod Command
 pub mod Output
 pub mod RunFault
 pub mod Served
+pub mod Transcript

@@ -1,7 +1,11 @@
 //! The program over any reader and writer.
-ghost use Rattle.std.specs.Prelude.{◌≡◌, ◌≢◌, [], IfErr};
-ghost use Rattle.std.specs.Io.KnownBytes.{Keeps};
+ghost use Rattle.std.specs.Prelude.{◌≡◌, ◌≢◌, [], IfErr, OnOk, OnErr};
+ghost use Rattle.std.specs.Io.KnownBytes.{Appends, Keeps};
+ghost use Rattle.kernel_core.specs.Runs.{request_of};
 ghost use Rattle.kernel_core.specs.State.{Idle};
+ghost use Rattle.janus_cells.specs.Output.{SentSome};
+ghost use Rattle.janus_cells.specs.Served.{Came, Serves};
+ghost use Rattle.janus_cells.specs.Transcript.{came_line};
 
 use crate::command::Command;
 use crate::fault::RunFault;
@@ -155,6 +159,8 @@ fn run_cell<W: Write>(
 fn run_job<W: Write>(kernel: &mut Kernel, job: Job, writer: &mut W) -> Result<(), WriteFailed>
     requires idle { kernel.old.state.job ≡ Idle }
     requires alone { kernel.old.queue ≡ [] }
+    ensures ok { OnOk result ((came : Came) × Serves kernel.old (request_of job) came kernel.new × Appends (W.contents writer.old) (W.contents writer.new) (came_line came)) }
+    ensures err { OnErr result ((came : Came) × Serves kernel.old (request_of job) came kernel.new × SentSome (W.contents writer.old) (W.contents writer.new) (came_line came)) }
     ensures idle { kernel.new.state.job ≡ Idle }
     ensures alone { kernel.new.queue ≡ [] }
 {
