@@ -3,4 +3,5 @@ pub mod Command
 pub mod Output
 pub mod RunFault
 pub mod Served
+pub mod Shown
 pub mod Transcript

@@ -5,12 +5,13 @@ ghost use Rattle.kernel_core.specs.Runs.{request_of};
 ghost use Rattle.kernel_core.specs.State.{Idle};
 ghost use Rattle.janus_cells.specs.Output.{SentSome};
 ghost use Rattle.janus_cells.specs.Served.{Came, Serves};
+ghost use Rattle.janus_cells.specs.Shown.{world_text};
 ghost use Rattle.janus_cells.specs.Transcript.{came_line};
 
 use crate::command::Command;
 use crate::fault::RunFault;
 use crate::input::read_text;
-use crate::output::{WriteFailed, send, send_number, send_outcome, send_signed};
+use crate::output::{WriteFailed, send, send_entry, send_outcome, send_position};
 use crate::serve::serve;
 use kernel_core::{Job, Kernel, PostFault};
 use std::alloc::Global;
@@ -172,17 +173,16 @@ fn run_job<W: Write>(kernel: &mut Kernel, job: Job, writer: &mut W) -> Result<()
 }
 
 /// Writes the position, and the declared names with their values.
-fn show<W: Write>(kernel: &Kernel, writer: &mut W) -> Result<(), WriteFailed> {
-    send(writer, b"at node ")?;
-    send_number(writer, kernel.position() as u64)?;
-    send(writer, b"\n")?;
+fn show<W: Write>(kernel: &Kernel, writer: &mut W) -> Result<(), WriteFailed>
+    requires idle { kernel.now.state.job ≡ Idle }
+    ensures ok { OnOk result (Appends (W.contents writer.old) (W.contents writer.new) (world_text kernel.now.state.past)) }
+    ensures err { OnErr result (SentSome (W.contents writer.old) (W.contents writer.new) (world_text kernel.now.state.past)) }
+{
+    send_position(writer, kernel.position() as u64)?;
     let world = kernel.world();
     for i in 0..world.len() {
         let (name, value) = world.entry(i);
-        send(writer, name.as_bytes())?;
-        send(writer, b" = ")?;
-        send_signed(writer, value)?;
-        send(writer, b"\n")?;
+        send_entry(writer, name, value)?;
     }
     Ok(())
 }
