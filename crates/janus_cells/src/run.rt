@@ -228,6 +228,5 @@ impl Gathered {
 fn is_blank(line: &str) -> bool
     ensures { result ≡ is_blank_text line.now }
 {
-    line.bytes()
-        .all(|c| (c == b' ' || (c == b'\t' || c == b'\r')) || c == b'\n')
+    line.bytes().all(|c| (c == b' ' || (c == b'\t' || c == b'\r')) || c == b'\n')
 }

@@ -2,7 +2,7 @@ use Rattle.std.proofs.Common.{codes, ap}
 use Rattle.kernel_core.specs.Runs.{request_of}
 use Rattle.janus_cells.specs.Served.{NotPosted}
 use Rattle.janus_cells.specs.Transcript.{came_line}
-use Rattle.janus_cells.proofs.TranscriptLemmas.{told_ok, told_err}
+use Rattle.janus_cells.proofs.TranscriptLemmas.{told_ok}
 use Rattle.janus_cells.proofs.run.run_job.Goals as goal
 
 pub returns-in-Err-Memory-clause-ok : goal.returns-in-Err-Memory-clause-ok

@@ -1,4 +1,4 @@
-use Rattle.janus_cells.proofs.TranscriptLemmas.{rest_ok, rest_err}
+use Rattle.janus_cells.proofs.TranscriptLemmas.{rest_err}
 use Rattle.janus_cells.proofs.run.run_rest.Goals as goal
 
 pub returns-then-gathered-clause-err : goal.returns-then-gathered-clause-err

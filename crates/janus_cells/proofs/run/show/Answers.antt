@@ -1,13 +1,13 @@
-use Rattle.std.proofs.Common.{◌≡◌, ◌≤◌, ap, sym, subst, ◌∙◌, arith, ℕ, ℤ, List, Some, refl, to_z, of_z, w32, slice_get}
+use Rattle.std.proofs.Common.{◌≡◌, ◌≤◌, ap, sym, subst, ◌∙◌, arith, Some, refl, to_z, of_z, w32, slice_get}
 use Rattle.std.proofs.lemmas.Int.{to_z-of_z}
 use Rattle.std.specs.Io.KnownBytes.{Appends}
-use Rattle.janus_meaning.specs.World.{World, size_of}
+use Rattle.janus_meaning.specs.World.{size_of}
 use Rattle.janus_machine.specs.Stores.{listed}
 use Rattle.kernel_core.specs.State.{here}
 use Rattle.janus_cells.specs.Output.{SentSome}
 use Rattle.janus_cells.specs.Shown.{entry_line, position_line, entry_lines, world_text}
 use Rattle.janus_cells.proofs.OutputLemmas.{some_first, some_now}
-use Rattle.janus_cells.proofs.ShownLemmas.{entry_then, entry_failed, first_all, first_text}
+use Rattle.janus_cells.proofs.ShownLemmas.{entry_then, entry_failed, first_all}
 use Rattle.janus_cells.proofs.run.show.Goals as goal
 
 pub returns-in_err-send_position-clause-err : goal.returns-in_err-send_position-clause-err

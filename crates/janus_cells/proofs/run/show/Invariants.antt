@@ -1,4 +1,3 @@
-use Rattle.std.proofs.Common.{◌≡◌}
 use Rattle.std.specs.Io.KnownBytes.{Appends}
 use Rattle.janus_machine.specs.Stores.{listed}
 use Rattle.kernel_core.specs.State.{here}
