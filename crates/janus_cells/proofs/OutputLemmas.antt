@@ -51,3 +51,8 @@ some_then a b c xs ys zs (Err f) e p q = subst (SentSome a c) (sym e) (sent_then
 pub some_first : {E : Type 0} (a b : Option (List ℕ)) (xs ys zs : List ℕ) (r : Result (Unit {0}) E) → zs ≡ xs ++ ys → SentSome a b xs → OnErr r (SentSome a b zs)
 some_first a b xs ys zs (Ok x) e p = tt
 some_first a b xs ys zs (Err f) e p = subst (SentSome a b) (sym e) (sent_first a b xs ys p)
+
+-- the same of what is known to have gone out
+pub some_now : {E : Type 0} (a b : Option (List ℕ)) (xs : List ℕ) (r : Result (Unit {0}) E) → SentSome a b xs → OnErr r (SentSome a b xs)
+some_now a b xs (Ok x) p = tt
+some_now a b xs (Err f) p = p

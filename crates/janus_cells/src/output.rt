@@ -2,6 +2,7 @@
 ghost use Rattle.std.specs.Prelude.{◌≡◌, ◌++◌, codes, decimal, OnOk, OnErr};
 ghost use Rattle.std.specs.Fmt.{signed_decimal};
 ghost use Rattle.std.specs.Io.KnownBytes.{Appends};
+ghost use Rattle.janus_cells.specs.Shown.{position_line, value_text, entry_text, entry_line};
 ghost use Rattle.janus_cells.specs.Output.{SentSome, counted_text, named_text, numbered_text, place_text, end_text, fault_text, refusal_text, outcome_text, outcome_line};
 
 use itoa::Buffer;
@@ -174,5 +175,41 @@ pub fn send_outcome<W: Write>(writer: &mut W, outcome: &Outcome) -> Result<(), W
     ensures err { OnErr result (SentSome (W.contents writer.old) (W.contents writer.new) (outcome_line outcome.now)) }
 {
     send_outcome_text(writer, outcome)?;
+    send(writer, b"\n")
+}
+
+/// Writes the line of the position.
+pub fn send_position<W: Write>(writer: &mut W, node: u64) -> Result<(), WriteFailed>
+    ensures ok { OnOk result (Appends (W.contents writer.old) (W.contents writer.new) (position_line node)) }
+    ensures err { OnErr result (SentSome (W.contents writer.old) (W.contents writer.new) (position_line node)) }
+{
+    send_counted(writer, "at node ", node)?;
+    send(writer, b"\n")
+}
+
+/// Writes an equals sign between spaces, and then a number.
+fn send_value<W: Write>(writer: &mut W, value: i32) -> Result<(), WriteFailed>
+    ensures ok { OnOk result (Appends (W.contents writer.old) (W.contents writer.new) (value_text value)) }
+    ensures err { OnErr result (SentSome (W.contents writer.old) (W.contents writer.new) (value_text value)) }
+{
+    send(writer, b" = ")?;
+    send_signed(writer, value)
+}
+
+/// Writes a name with its value.
+fn send_entry_text<W: Write>(writer: &mut W, name: &str, value: i32) -> Result<(), WriteFailed>
+    ensures ok { OnOk result (Appends (W.contents writer.old) (W.contents writer.new) (entry_text (name.now, value))) }
+    ensures err { OnErr result (SentSome (W.contents writer.old) (W.contents writer.new) (entry_text (name.now, value))) }
+{
+    send(writer, name.as_bytes())?;
+    send_value(writer, value)
+}
+
+/// Writes the line of a name with its value.
+pub fn send_entry<W: Write>(writer: &mut W, name: &str, value: i32) -> Result<(), WriteFailed>
+    ensures ok { OnOk result (Appends (W.contents writer.old) (W.contents writer.new) (entry_line (name.now, value))) }
+    ensures err { OnErr result (SentSome (W.contents writer.old) (W.contents writer.new) (entry_line (name.now, value))) }
+{
+    send_entry_text(writer, name, value)?;
     send(writer, b"\n")
 }

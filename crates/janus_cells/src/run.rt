@@ -1,12 +1,19 @@
 //! The program over any reader and writer.
-ghost use Rattle.std.specs.Prelude.{◌≡◌, ◌≢◌, [], IfErr};
-ghost use Rattle.std.specs.Io.KnownBytes.{Keeps};
+ghost use Rattle.std.specs.Prelude.{◌≡◌, ◌≢◌, ◌||◌, not, ℕ, false, true, List, [], ◌∷◌, ◌++◌, IfErr, IfSome, OnOk, OnErr, string_bytes};
+ghost use Rattle.std.specs.Io.KnownBytes.{Appends, Keeps};
+ghost use Rattle.kernel_core.specs.Runs.{request_of, RunCell};
 ghost use Rattle.kernel_core.specs.State.{Idle};
+ghost use Rattle.janus_cells.specs.Gathering.{IsGathered};
+ghost use Rattle.janus_cells.specs.Lines.{is_blank as is_blank_text};
+ghost use Rattle.janus_cells.specs.Output.{SentSome};
+ghost use Rattle.janus_cells.specs.Served.{Came, Serves};
+ghost use Rattle.janus_cells.specs.Shown.{world_text};
+ghost use Rattle.janus_cells.specs.Transcript.{came_line, RunsRest};
 
 use crate::command::Command;
 use crate::fault::RunFault;
 use crate::input::read_text;
-use crate::output::{WriteFailed, send, send_number, send_outcome, send_signed};
+use crate::output::{WriteFailed, send, send_entry, send_outcome, send_position};
 use crate::serve::serve;
 use kernel_core::{Job, Kernel, PostFault};
 use std::alloc::Global;
@@ -117,6 +124,9 @@ fn run_rest<W: Write>(
     requires alone { kernel.old.queue ≡ [] }
     ensures idle { kernel.new.state.job ≡ Idle }
     ensures alone { kernel.new.queue ≡ [] }
+    ensures taken { IsGathered gathered.new [] }
+    ensures ok { OnOk result ((text : List ℕ) → IsGathered gathered.old text → (out : List ℕ) × RunsRest kernel.old text out kernel.new × Appends (W.contents writer.old) (W.contents writer.new) out) }
+    ensures err { OnErr result ((text : List ℕ) → IsGathered gathered.old text → (out : List ℕ) × RunsRest kernel.old text out kernel.new × SentSome (W.contents writer.old) (W.contents writer.new) out) }
 {
     if gathered.some {
         return run_cell(alloc, kernel, gathered, writer);
@@ -136,6 +146,9 @@ fn run_cell<W: Write>(
     requires alone { kernel.old.queue ≡ [] }
     ensures idle { kernel.new.state.job ≡ Idle }
     ensures alone { kernel.new.queue ≡ [] }
+    ensures taken { IsGathered gathered.new [] }
+    ensures ok { OnOk result ((text : List ℕ) → IsGathered gathered.old text → (came : Came) × Serves kernel.old (RunCell text false true) came kernel.new × Appends (W.contents writer.old) (W.contents writer.new) (came_line came)) }
+    ensures err { OnErr result ((text : List ℕ) → IsGathered gathered.old text → (came : Came) × Serves kernel.old (RunCell text false true) came kernel.new × SentSome (W.contents writer.old) (W.contents writer.new) (came_line came)) }
 {
     match gathered.take(alloc) {
         Some(code) => run_job(
@@ -155,6 +168,8 @@ fn run_cell<W: Write>(
 fn run_job<W: Write>(kernel: &mut Kernel, job: Job, writer: &mut W) -> Result<(), WriteFailed>
     requires idle { kernel.old.state.job ≡ Idle }
     requires alone { kernel.old.queue ≡ [] }
+    ensures ok { OnOk result ((came : Came) × Serves kernel.old (request_of job) came kernel.new × Appends (W.contents writer.old) (W.contents writer.new) (came_line came)) }
+    ensures err { OnErr result ((came : Came) × Serves kernel.old (request_of job) came kernel.new × SentSome (W.contents writer.old) (W.contents writer.new) (came_line came)) }
     ensures idle { kernel.new.state.job ≡ Idle }
     ensures alone { kernel.new.queue ≡ [] }
 {
@@ -166,24 +181,27 @@ fn run_job<W: Write>(kernel: &mut Kernel, job: Job, writer: &mut W) -> Result<()
 }
 
 /// Writes the position, and the declared names with their values.
-fn show<W: Write>(kernel: &Kernel, writer: &mut W) -> Result<(), WriteFailed> {
-    send(writer, b"at node ")?;
-    send_number(writer, kernel.position() as u64)?;
-    send(writer, b"\n")?;
+fn show<W: Write>(kernel: &Kernel, writer: &mut W) -> Result<(), WriteFailed>
+    requires idle { kernel.now.state.job ≡ Idle }
+    ensures ok { OnOk result (Appends (W.contents writer.old) (W.contents writer.new) (world_text kernel.now.state.past)) }
+    ensures err { OnErr result (SentSome (W.contents writer.old) (W.contents writer.new) (world_text kernel.now.state.past)) }
+{
+    send_position(writer, kernel.position() as u64)?;
     let world = kernel.world();
     for i in 0..world.len() {
         let (name, value) = world.entry(i);
-        send(writer, name.as_bytes())?;
-        send(writer, b" = ")?;
-        send_signed(writer, value)?;
-        send(writer, b"\n")?;
+        send_entry(writer, name, value)?;
     }
     Ok(())
 }
 
 impl Gathered {
     /// Adds a line and its LF. Where there is no memory for them the text is lost.
-    fn add(&mut self, line: &str) {
+    fn add(&mut self, line: &str)
+        ensures some { self.new.some ≡ (self.old.some || not (is_blank_text line.now)) }
+        ensures kept { self.new.lost ≡ false → self.old.lost ≡ false }
+        ensures text { self.new.lost ≡ false → string_bytes self.new.text ≡ string_bytes self.old.text ++ (line.now ++ 10 ∷ []) }
+    {
         if !is_blank(line) {
             self.some = true;
         }
@@ -193,7 +211,11 @@ impl Gathered {
     }
 
     /// The text, and none of it is left here; `None` where it was lost.
-    fn take(&mut self, alloc: Global) -> Option<String> {
+    fn take(&mut self, alloc: Global) -> Option<String>
+        ensures taken { IsGathered self.new [] }
+        ensures kept { IfSome result (λ text. self.old.lost ≡ false) }
+        ensures text { IfSome result (λ text. string_bytes text ≡ string_bytes self.old.text) }
+    {
         let text = std::mem::replace(&mut self.text, String::new(alloc));
         let lost = self.lost;
         self.some = false;
@@ -202,7 +224,9 @@ impl Gathered {
     }
 }
 
-/// Whether a line has only spaces, tabs and CRs.
-fn is_blank(line: &str) -> bool {
-    line.bytes().all(|c| c == b' ' || c == b'\t' || c == b'\r')
+/// Whether a text has only spaces, tabs, CRs and LFs.
+fn is_blank(line: &str) -> bool
+    ensures { result ≡ is_blank_text line.now }
+{
+    line.bytes().all(|c| (c == b' ' || (c == b'\t' || c == b'\r')) || c == b'\n')
 }

@@ -1,0 +1,10 @@
+use Rattle.std.specs.Io.KnownBytes.{Appends}
+use Rattle.janus_machine.specs.Stores.{listed}
+use Rattle.kernel_core.specs.State.{here}
+use Rattle.janus_cells.proofs.ShownLemmas.{first_text}
+use Rattle.janus_cells.proofs.run.show.Given as goal
+
+-- the first i names are written
+abbrev pub invariant-loop-i : goal.invariant-loop-i
+invariant-loop-i g l =
+    Appends (g.W.Write.contents l.fn.writer) (g.W.Write.contents l.writer) (first_text l.fn.kernel.state.past.position (listed (here l.fn.kernel.state.past).store) l.i)
