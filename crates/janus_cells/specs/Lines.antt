@@ -1,5 +1,5 @@
 -- The lines of an input.
-use Rattle.std.specs.Prelude.{ℕ, Bool, ◌||◌, ◌==◌, List, [], ◌∷◌, if◌then◌else◌}
+use Rattle.std.specs.Prelude.{ℕ, Bool, false, ◌||◌, ◌==◌, List, [], ◌∷◌, if◌then◌else◌}
 use Rattle.std.specs.List.{slice_split, list_all}
 
 -- ---- lines
@@ -13,6 +13,11 @@ lines_of_parts (part ∷ next ∷ more) = part ∷ lines_of_parts (next ∷ more
 
 abbrev pub lines : List ℕ → List (List ℕ)
 lines input = lines_of_parts (slice_split (λ b. b == 10) input)
+
+-- a line that begins with `%`
+abbrev pub is_command_line : List ℕ → Bool
+is_command_line [] = false
+is_command_line (c ∷ line) = c == 37
 
 -- space, tab or CR
 abbrev pub is_trimmed : ℕ → Bool

@@ -17,32 +17,67 @@ mod tests;
 use crate::fault::RunFault;
 use crate::run::run;
 use clap::Command;
+use clap::error::ErrorKind;
 use std::env;
-use std::io::BufWriter;
+use std::io::{self, BufWriter};
 use std::process::ExitCode;
 
 fn main(rt: HostRuntime) -> anyhow::Result<ExitCode> {
-    let alloc = rt.alloc();
-    let words: Vec<String> = env::args(&rt)?.collect(alloc)?;
-    let command = Command::new(alloc, "janus-cells").about(
-        "Runs Janus cells with undo, redo and show, line by line, from standard input.",
-    );
-    match command.try_get_matches_from(words.as_slice()) {
-        Ok(_) => {}
-        Err(error) => {
-            error.print(&rt)?;
-            return Ok(ExitCode::from(error.exit_code() as u8));
-        }
+    if let Some(status) = read_command_line(&rt)? {
+        return Ok(status);
     }
+    let alloc = rt.alloc();
     let result = match BufWriter::new(alloc, rt.stdout()) {
         Ok(mut writer) => run(alloc, &mut rt.stdin(), &mut writer),
         Err(_) => Err(RunFault::Memory),
     };
     match result {
         Ok(()) => Ok(ExitCode::SUCCESS),
-        Err(fault) => {
-            eprintln!(rt; "janus-cells: {}", fault.text())?;
-            Ok(ExitCode::from(1))
-        }
+        Err(fault) => Ok(tell(&rt, fault)?),
     }
+}
+
+/// Reads the command line, which has no word but `--help`. Where nothing is to be run it answers the program's status: 0 for
+/// `--help`, 2 for a wrong command line, 1 where there is no memory for it.
+fn read_command_line(rt: &HostRuntime) -> io::Result<Option<ExitCode>> {
+    let alloc = rt.alloc();
+    let words = match env::args(rt) {
+        Ok(words) => words,
+        Err(error) => return refuse_words(rt, error.kind()),
+    };
+    let Ok(words) = words.collect::<Vec<String>>(alloc) else {
+        return Ok(Some(tell(rt, RunFault::Memory)?));
+    };
+    let command = Command::new(alloc, "janus-cells").about(
+        "Runs Janus cells with undo, redo and show, line by line, from standard input.",
+    );
+    match command.try_get_matches_from(words.as_slice()) {
+        Ok(_) => {}
+        Err(error) => return refuse_command_line(rt, &error),
+    }
+    Ok(None)
+}
+
+/// Tells why the words of the command line could not be had, and answers the program's status.
+fn refuse_words(rt: &HostRuntime, kind: io::ErrorKind) -> io::Result<Option<ExitCode>> {
+    if kind == io::ErrorKind::OutOfMemory {
+        return Ok(Some(tell(rt, RunFault::Memory)?));
+    }
+    eprintln!(rt; "error: invalid UTF-8 was detected in one or more arguments")?;
+    Ok(Some(ExitCode::from(2)))
+}
+
+/// Tells why the command line runs nothing, and answers the program's status.
+fn refuse_command_line(rt: &HostRuntime, error: &clap::Error) -> io::Result<Option<ExitCode>> {
+    if matches!(error.kind(), ErrorKind::OutOfMemory) {
+        return Ok(Some(tell(rt, RunFault::Memory)?));
+    }
+    error.print(rt)?;
+    Ok(Some(ExitCode::from(error.exit_code() as u8)))
+}
+
+/// Tells a fault on standard error, and answers its status.
+fn tell(rt: &HostRuntime, fault: RunFault) -> io::Result<ExitCode> {
+    eprintln!(rt; "janus-cells: {}", fault.text())?;
+    Ok(ExitCode::from(1))
 }

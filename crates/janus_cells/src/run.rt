@@ -1,14 +1,17 @@
 //! The program over any reader and writer.
-ghost use Rattle.std.specs.Prelude.{◌≡◌, ◌≢◌, ◌||◌, not, ℕ, false, true, List, [], ◌∷◌, ◌++◌, IfErr, IfSome, OnOk, OnErr, string_bytes};
+ghost use Rattle.std.specs.Prelude.{◌≡◌, ◌≢◌, ◌||◌, ◌==◌, ◌<◌, ◌≤◌, not, ℕ, false, true, List, [], ◌∷◌, ◌++◌, length, IfErr, IfSome, OnOk, OnErr, string_bytes};
+ghost use Rattle.std.specs.List.{position_or_len, before_first, after_first};
+ghost use Rattle.std.specs.Option.{MatchOption};
 ghost use Rattle.std.specs.Io.KnownBytes.{Appends, Keeps};
-ghost use Rattle.kernel_core.specs.Runs.{request_of, RunCell};
+ghost use Rattle.kernel_core.specs.Runs.{Machine, request_of, RunCell};
 ghost use Rattle.kernel_core.specs.State.{Idle};
 ghost use Rattle.janus_cells.specs.Gathering.{IsGathered};
-ghost use Rattle.janus_cells.specs.Lines.{is_blank as is_blank_text};
+ghost use Rattle.janus_cells.specs.Lines.{is_blank as is_blank_text, is_command_line as is_command_line_text, lines};
 ghost use Rattle.janus_cells.specs.Output.{SentSome};
 ghost use Rattle.janus_cells.specs.Served.{Came, Serves};
 ghost use Rattle.janus_cells.specs.Shown.{world_text};
-ghost use Rattle.janus_cells.specs.Transcript.{came_line, RunsRest};
+ghost use Rattle.janus_cells.specs.RunFault.{IsWhyUnread, input_limit};
+ghost use Rattle.janus_cells.specs.Transcript.{came_line, CommandServes, Does, IsTranscript, LineServes, LinesServe, RunsRest, text_after};
 
 use crate::command::Command;
 use crate::fault::RunFault;
@@ -32,10 +35,16 @@ struct Gathered {
 /// Reads all of the input, at most 16 MiB, and then runs it line by line: lines that begin with `%` are commands, all
 /// others gather to the text of a cell. What a command answers is written before the next one is run.
 ///
-/// Faults are looked for in this order: no memory for the start; a read that fails, input that is too long, no memory for the
-/// input; input that isn't text. Up to there nothing is written. A write that fails ends the run, and what was written is a
-/// beginning of what would have been.
+/// What is written is the transcript of what is read. Faults are looked for in this order: no memory for the start; a read
+/// that fails, input that is too long, no memory for the input; input that isn't text. Up to there nothing is written. A
+/// write that fails ends the run, and what was written is a beginning of the transcript.
 pub fn run<R: Read, W: Write>(alloc: Global, reader: &mut R, writer: &mut W) -> Result<(), RunFault>
+    ensures written { OnOk result (IfSome (R.remaining reader.old) (λ input.
+        (out : List ℕ) × IsTranscript input out × Appends (W.contents writer.old) (W.contents writer.new) out)) }
+    ensures limit { OnOk result (IfSome (R.remaining reader.old) (λ input. length input ≤ input_limit)) }
+    ensures cut { IfErr result (λ fault. fault ≡ RunFault.Write → IfSome (R.remaining reader.old) (λ input.
+        (out : List ℕ) × IsTranscript input out × SentSome (W.contents writer.old) (W.contents writer.new) out)) }
+    ensures unread { IfErr result (λ fault. fault ≢ RunFault.Write → IfSome (R.remaining reader.old) (IsWhyUnread fault)) }
     ensures unwritten { IfErr result (λ fault. fault ≢ RunFault.Write → Keeps (W.contents writer.old) (W.contents writer.new)) }
 {
     let Ok(mut kernel) = Kernel::new(alloc) else {
@@ -48,7 +57,7 @@ pub fn run<R: Read, W: Write>(alloc: Global, reader: &mut R, writer: &mut W) -> 
     }
 }
 
-/// Runs the lines of a text.
+/// Runs the lines of a text, and then what is still gathered.
 fn run_text<W: Write>(
     alloc: Global,
     kernel: &mut Kernel,
@@ -57,30 +66,41 @@ fn run_text<W: Write>(
 ) -> Result<(), WriteFailed>
     requires idle { kernel.old.state.job ≡ Idle }
     requires alone { kernel.old.queue ≡ [] }
+    ensures ok { OnOk result ((out : List ℕ) × (new : Machine) × LinesServe kernel.old [] (lines text.now) out new × Appends (W.contents writer.old) (W.contents writer.new) out) }
+    ensures err { OnErr result ((out : List ℕ) × (new : Machine) × LinesServe kernel.old [] (lines text.now) out new × SentSome (W.contents writer.old) (W.contents writer.new) out) }
 {
-    let mut gathered = Gathered {
-        text: String::new(alloc),
-        some: false,
-        lost: false,
-    };
-    let mut pending: Option<&str> = None;
-    for part in text.split('\n') {
-        if let Some(line) = pending {
-            run_line(alloc, kernel, &mut gathered, line, writer)?;
-        }
-        pending = Some(part);
+    let mut gathered = Gathered::new(alloc);
+    let mut rest = text;
+    while let Some((line, more)) = split_line(rest) {
+        run_line(alloc, kernel, &mut gathered, line, writer)?;
+        rest = more;
     }
-    // Behind the last LF there is no line.
-    if let Some(line) = pending {
-        if !line.is_empty() {
-            run_line(alloc, kernel, &mut gathered, line, writer)?;
-        }
-    }
-    run_rest(alloc, kernel, &mut gathered, writer)?;
+    run_end(alloc, kernel, &mut gathered, rest, writer)?;
     match writer.flush() {
         Ok(()) => Ok(()),
         Err(_) => Err(WriteFailed),
     }
+}
+
+/// Runs what is behind the last LF, a line unless it is empty, and then what is still gathered.
+fn run_end<W: Write>(
+    alloc: Global,
+    kernel: &mut Kernel,
+    gathered: &mut Gathered,
+    rest: &str,
+    writer: &mut W,
+) -> Result<(), WriteFailed>
+    requires idle { kernel.old.state.job ≡ Idle }
+    requires alone { kernel.old.queue ≡ [] }
+    requires last { position_or_len (λ b. b == 10) rest.now ≡ length rest.now }
+    ensures ok { OnOk result ((text : List ℕ) → IsGathered gathered.old text → (out : List ℕ) × LinesServe kernel.old text (lines rest.now) out kernel.new × Appends (W.contents writer.old) (W.contents writer.new) out) }
+    ensures err { OnErr result ((text : List ℕ) → IsGathered gathered.old text → (out : List ℕ) × (new : Machine) × LinesServe kernel.old text (lines rest.now) out new × SentSome (W.contents writer.old) (W.contents writer.new) out) }
+{
+    if rest.is_empty() {
+        return run_rest(alloc, kernel, gathered, writer);
+    }
+    run_line(alloc, kernel, gathered, rest, writer)?;
+    run_rest(alloc, kernel, gathered, writer)
 }
 
 /// Gathers a line, or does what it commands.
@@ -95,21 +115,59 @@ fn run_line<W: Write>(
     requires alone { kernel.old.queue ≡ [] }
     ensures idle { kernel.new.state.job ≡ Idle }
     ensures alone { kernel.new.queue ≡ [] }
+    ensures gathers { (text : List ℕ) → IsGathered gathered.old text → IsGathered gathered.new (text_after text line.now) }
+    ensures ok { OnOk result ((text : List ℕ) → IsGathered gathered.old text → (out : List ℕ) × LineServes kernel.old text line.now out kernel.new × Appends (W.contents writer.old) (W.contents writer.new) out) }
+    ensures err { OnErr result ((text : List ℕ) → IsGathered gathered.old text → (out : List ℕ) × (new : Machine) × LineServes kernel.old text line.now out new × SentSome (W.contents writer.old) (W.contents writer.new) out) }
 {
-    if !line.starts_with('%') {
+    if !is_command_line(line) {
         gathered.add(line);
         return Ok(());
     }
-    let command = Command::read(line);
+    run_command(alloc, kernel, gathered, Command::read(line), writer)
+}
+
+/// Does what a command asks for. Before any but `%%`, which runs the gathered text in any case, that is run unless it is blank.
+fn run_command<W: Write>(
+    alloc: Global,
+    kernel: &mut Kernel,
+    gathered: &mut Gathered,
+    command: Command,
+    writer: &mut W,
+) -> Result<(), WriteFailed>
+    requires idle { kernel.old.state.job ≡ Idle }
+    requires alone { kernel.old.queue ≡ [] }
+    ensures idle { kernel.new.state.job ≡ Idle }
+    ensures alone { kernel.new.queue ≡ [] }
+    ensures taken { IsGathered gathered.new [] }
+    ensures ok { OnOk result ((text : List ℕ) → IsGathered gathered.old text → (out : List ℕ) × CommandServes command kernel.old text out kernel.new × Appends (W.contents writer.old) (W.contents writer.new) out) }
+    ensures err { OnErr result ((text : List ℕ) → IsGathered gathered.old text → (out : List ℕ) × (new : Machine) × CommandServes command kernel.old text out new × SentSome (W.contents writer.old) (W.contents writer.new) out) }
+{
     if let Command::Run = command {
         return run_cell(alloc, kernel, gathered, writer);
     }
     run_rest(alloc, kernel, gathered, writer)?;
+    obey(kernel, command, writer)
+}
+
+/// Does what a command other than `%%` asks for.
+fn obey<W: Write>(
+    kernel: &mut Kernel,
+    command: Command,
+    writer: &mut W,
+) -> Result<(), WriteFailed>
+    requires other { command ≢ Command.Run }
+    requires idle { kernel.old.state.job ≡ Idle }
+    requires alone { kernel.old.queue ≡ [] }
+    ensures idle { kernel.new.state.job ≡ Idle }
+    ensures alone { kernel.new.queue ≡ [] }
+    ensures ok { OnOk result ((out : List ℕ) × Does command kernel.old out kernel.new × Appends (W.contents writer.old) (W.contents writer.new) out) }
+    ensures err { OnErr result ((out : List ℕ) × Does command kernel.old out kernel.new × SentSome (W.contents writer.old) (W.contents writer.new) out) }
+{
     match command {
         Command::Undo(k) => run_job(kernel, Job::Undo(k), writer),
         Command::Redo(k) => run_job(kernel, Job::Redo(k), writer),
         Command::Show => show(kernel, writer),
-        _ => send(writer, b"refused 80 BadCommand\n"),
+        Command::Run | Command::Unknown => send(writer, b"refused 80 BadCommand\n"),
     }
 }
 
@@ -196,6 +254,17 @@ fn show<W: Write>(kernel: &Kernel, writer: &mut W) -> Result<(), WriteFailed>
 }
 
 impl Gathered {
+    /// No text.
+    fn new(alloc: Global) -> Gathered
+        ensures { IsGathered result [] }
+    {
+        Gathered {
+            text: String::new(alloc),
+            some: false,
+            lost: false,
+        }
+    }
+
     /// Adds a line and its LF. Where there is no memory for them the text is lost.
     fn add(&mut self, line: &str)
         ensures some { self.new.some ≡ (self.old.some || not (is_blank_text line.now)) }
@@ -222,6 +291,21 @@ impl Gathered {
         self.lost = false;
         if lost { None } else { Some(text) }
     }
+}
+
+/// The first line of a text, and what is behind its LF; `None` where there is no LF.
+fn split_line(text: &str) -> Option<(&str, &str)>
+    ensures cut { MatchOption result (position_or_len (λ b. b == 10) text.now ≡ length text.now)
+        (λ x. (x.0.now ≡ before_first (λ b. b == 10) text.now) × (x.1.now ≡ after_first (λ b. b == 10) text.now) × (position_or_len (λ b. b == 10) text.now < length text.now)) }
+{
+    text.split_once('\n')
+}
+
+/// Whether a line begins with `%`.
+fn is_command_line(line: &str) -> bool
+    ensures { result ≡ is_command_line_text line.now }
+{
+    line.starts_with('%')
 }
 
 /// Whether a text has only spaces, tabs, CRs and LFs.

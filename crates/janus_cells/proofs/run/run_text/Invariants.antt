@@ -1,7 +1,16 @@
-use Rattle.std.proofs.Common.{◌≡◌, []}
+use Rattle.std.proofs.Common.{◌≡◌, [], length}
+use denote.Text.{Utf8}
+use denote.Shadow.{shadow}
 use Rattle.kernel_core.specs.State.{Idle}
+use Rattle.janus_cells.specs.Lines.{lines}
+use Rattle.janus_cells.proofs.TranscriptLemmas.{Served}
 use Rattle.janus_cells.proofs.run.run_text.Given as goal
 
--- between two lines no job is open and none is posted
-abbrev pub invariant-loop-part : goal.invariant-loop-part
-invariant-loop-part g l = (l.kernel.state.job ≡ Idle) × (l.kernel.queue ≡ [])
+-- between two lines no job is open and none is posted, and what was written is the transcript of the lines so far
+abbrev pub invariant-loop-line : goal.invariant-loop-line
+invariant-loop-line g l =
+    shadow (Utf8 l.rest) × (l.kernel.state.job ≡ Idle) × (l.kernel.queue ≡ [])
+    × Served l.fn.kernel l.fn.text l.kernel l.gathered (lines l.rest) (g.W.Write.contents l.fn.writer) (g.W.Write.contents l.writer)
+
+abbrev pub decreases-loop-line : goal.decreases-loop-line
+decreases-loop-line g l = length l.rest
