@@ -1,11 +1,11 @@
 -- Each slice brings an open job nearer to its end.
-use Rattle.std.proofs.Common.{◌≡◌, ℕ, zero, suc, ◌+◌, ◌-◌, ◌*◌, ◌<◌, ◌≤◌, Bool, false, true, refl, ap, ◌∙◌, sym, subst, arith, ⊎_elim}
+use Rattle.std.proofs.Common.{◌≡◌, ℕ, zero, suc, ◌+◌, ◌-◌, ◌*◌, ◌<◌, ◌≤◌, false, refl, ap, sym, subst, arith, ⊎_elim}
 use Rattle.janus_meaning.specs.World.{World}
 use Rattle.janus_meaning.specs.Limit.{step_limit}
 use Rattle.kernel_core.specs.Language.{Code, Part}
 use Rattle.kernel_core.specs.Reached.{Reaches}
 use Rattle.kernel_core.specs.State.{Past, State, Work, Posted, Move, Entered, Job, Idle, Border, Inside, here, node_at, favourite_of, code_of}
-use Rattle.kernel_core.specs.Slices.{Backs, Arrives, Settles, Comes, Goes, SlicesIn, SlicesAt, IsSlice}
+use Rattle.kernel_core.specs.Slices.{Backs, Arrives, Settles, Comes, SlicesIn, SlicesAt}
 use Rattle.kernel_core.specs.Begins.{Enters}
 use Rattle.kernel_core.specs.Runs.{Machine, IsBegin, BeginsAt, IsSliceOf}
 use Rattle.kernel_core.specs.declared.runner.Ran.{Ran}

@@ -1,8 +1,7 @@
 -- A request that is posted to a kernel without an open job is the one that is begun.
-use Rattle.std.proofs.Common.{◌≡◌, ℕ, zero, suc, Bool, true, false, List, [], ◌∷◌, ◌++◌, Result, Ok, Err, refl, ap, ◌∙◌, sym, subst, ⊎_elim}
+use Rattle.std.proofs.Common.{◌≡◌, ℕ, zero, suc, Bool, true, false, List, [], ◌∷◌, ◌++◌, Ok, Err, ap, ◌∙◌, sym, subst, ⊎_elim}
 use Rattle.janus_meaning.specs.Limit.{step_limit}
-use Rattle.kernel_core.specs.State.{Past, State, Job, Idle, Border, Inside}
-use Rattle.kernel_core.specs.Slices.{finished}
+use Rattle.kernel_core.specs.State.{Past, State, Job, Idle, Border}
 use Rattle.kernel_core.specs.Begins.{Enters, TakesCell, TakesMove}
 use Rattle.kernel_core.specs.Runs.{Machine, Request, RunCell, Undo, Redo, Takes, BeginsAt, IsPost, IsBegin, IsSliceOf}
 use Rattle.kernel_core.specs.declared.job.Way.{Way}

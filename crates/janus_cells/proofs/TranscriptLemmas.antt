@@ -194,10 +194,14 @@ pub served_line : (start : Machine) (input : List ℕ) (now next : Machine) (G H
     → ((text : List ℕ) → IsGathered G text → (out : List ℕ) × LineServes now text line out next × Appends b c out)
     → Served start input next H more a c
 served_line start input now next G H line left more a b c e (text, out, h, p, k) g s =
-    let l = s text h in
-    (text_after text line, out ++ l.0, g text h, appends_join a b c out l.0 p l.2,
-    λ second new m. subst (λ o. LinesServe start [] (lines input) o new) (sym (append_assoc out l.0 second))
-    (k (l.0 ++ second) new (subst (λ ls. LinesServe now text ls (l.0 ++ second) new) (sym e) (next, l.0, second, l.1, m, refl))))
+    let l = s text h in (
+      text_after text line,
+      out ++ l.0,
+      g text h,
+      appends_join a b c out l.0 p l.2,
+      λ second new m. subst (λ o. LinesServe start [] (lines input) o new) (sym (append_assoc out l.0 second))
+          (k (l.0 ++ second) new (subst (λ ls. LinesServe now text ls (l.0 ++ second) new) (sym e) (next, l.0, second, l.1, m, refl))),
+    )
 
 pub line_failed : {E : Type 0} (start : Machine) (input : List ℕ) (now : Machine) (G : Gathered) (line : List ℕ) (left more : List (List ℕ)) (a b c : Option (List ℕ)) (res : Result (Unit {0}) E) → left ≡ line ∷ more
     → Served start input now G left a b
@@ -206,9 +210,12 @@ pub line_failed : {E : Type 0} (start : Machine) (input : List ℕ) (now : Machi
 line_failed start input now G line left more a b c (Ok x) e h s = tt
 line_failed start input now G line left more a b c (Err f) e (text, out, h, p, k) s =
     let l = s text h in
-    let m = any_lines l.1 (text_after text line) more in
-    (out ++ (l.0 ++ m.0), m.1, k (l.0 ++ m.0) m.1 (subst (λ ls. LinesServe now text ls (l.0 ++ m.0) m.1) (sym e) (l.1, l.0, m.0, l.2, m.2, refl)),
-    sent_then a b c out (l.0 ++ m.0) p (sent_first b c l.0 m.0 l.3))
+    let m = any_lines l.1 (text_after text line) more in (
+      out ++ (l.0 ++ m.0),
+      m.1,
+      k (l.0 ++ m.0) m.1 (subst (λ ls. LinesServe now text ls (l.0 ++ m.0) m.1) (sym e) (l.1, l.0, m.0, l.2, m.2, refl)),
+      sent_then a b c out (l.0 ++ m.0) p (sent_first b c l.0 m.0 l.3),
+    )
 
 pub served_all : (start : Machine) (input : List ℕ) (now new : Machine) (G : Gathered) (left : List (List ℕ)) (a b c d : Option (List ℕ))
     → Served start input now G left a b

@@ -1,5 +1,5 @@
 -- The text of a cell as far as it is gathered.
-use Rattle.std.specs.Prelude.{◌≡◌, ℕ, Bool, false, not, List, string_bytes}
+use Rattle.std.specs.Prelude.{◌≡◌, ℕ, false, not, List, string_bytes}
 use Rattle.janus_cells.specs.Lines.{is_blank}
 use Rattle.janus_cells.specs.declared.run.Gathered.{Gathered}
 

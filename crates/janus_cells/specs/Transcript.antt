@@ -1,5 +1,5 @@
 -- What a run writes.
-use Rattle.std.specs.Prelude.{◌≡◌, ℕ, Bool, ◌==◌, true, false, List, [], ◌∷◌, ◌++◌, codes, if◌then◌else◌}
+use Rattle.std.specs.Prelude.{◌≡◌, ℕ, Bool, true, false, List, [], ◌∷◌, ◌++◌, codes, if◌then◌else◌}
 use Rattle.kernel_core.specs.Runs.{Machine, Request, RunCell, new_machine}
 use Rattle.kernel_core.specs.Runs as request
 use Rattle.janus_cells.specs.Command.{command_of}

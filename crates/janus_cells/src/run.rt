@@ -150,11 +150,7 @@ fn run_command<W: Write>(
 }
 
 /// Does what a command other than `%%` asks for.
-fn obey<W: Write>(
-    kernel: &mut Kernel,
-    command: Command,
-    writer: &mut W,
-) -> Result<(), WriteFailed>
+fn obey<W: Write>(kernel: &mut Kernel, command: Command, writer: &mut W) -> Result<(), WriteFailed>
     requires other { command ≢ Command.Run }
     requires idle { kernel.old.state.job ≡ Idle }
     requires alone { kernel.old.queue ≡ [] }

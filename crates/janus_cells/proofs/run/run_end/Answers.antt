@@ -1,4 +1,3 @@
-use Rattle.std.proofs.Common.{sym}
 use Rattle.janus_cells.specs.Lines.{lines}
 use Rattle.janus_cells.proofs.LinesLemmas.{last_line, no_line, some_octets, no_octets}
 use Rattle.janus_cells.proofs.TranscriptLemmas.{empty_ok, empty_err, last_ok, last_err, last_failed}

@@ -22,10 +22,13 @@ pub loop-line-smaller : goal.loop-line-smaller
 loop-line-smaller g c = cut_shorter c.loop-line.rest.now c.in-Some.more.now c.in-Some.ensures.cut.1 c.in-Some.ensures.cut.2
 
 pub loop-line-preserved : goal.loop-line-preserved
-loop-line-preserved g c =
-    (search rules, c.run_line.ensures.idle, c.run_line.ensures.alone,
-    served_line c.args.kernel.now c.args.text.now c.loop-line.kernel c.run_line.new.kernel c.loop-line.gathered c.run_line.new.gathered c.in-Some.line.now (lines c.loop-line.rest.now) (lines c.in-Some.more.now) (g.W.Write.contents c.args.writer.now) (g.W.Write.contents c.loop-line.writer) (g.W.Write.contents c.run_line.new.writer)
-    (cut_lines c.loop-line.rest.now c.in-Some.line.now c.in-Some.more.now c.in-Some.ensures.cut.0 c.in-Some.ensures.cut.1 c.in-Some.ensures.cut.2) c.loop-line.invariant.3 c.run_line.ensures.gathers c.in_ok-run_line.ensures.ok)
+loop-line-preserved g c = (
+  search rules,
+  c.run_line.ensures.idle,
+  c.run_line.ensures.alone,
+  served_line c.args.kernel.now c.args.text.now c.loop-line.kernel c.run_line.new.kernel c.loop-line.gathered c.run_line.new.gathered c.in-Some.line.now (lines c.loop-line.rest.now) (lines c.in-Some.more.now) (g.W.Write.contents c.args.writer.now) (g.W.Write.contents c.loop-line.writer) (g.W.Write.contents c.run_line.new.writer)
+      (cut_lines c.loop-line.rest.now c.in-Some.line.now c.in-Some.more.now c.in-Some.ensures.cut.0 c.in-Some.ensures.cut.1 c.in-Some.ensures.cut.2) c.loop-line.invariant.3 c.run_line.ensures.gathers c.in_ok-run_line.ensures.ok,
+)
 
 pub run_end-requires-clause-idle : goal.run_end-requires-clause-idle
 run_end-requires-clause-idle g c = c.loop-line.invariant.1

@@ -1,14 +1,10 @@
-use Rattle.std.proofs.Common.{◌≡◌, sym, subst, ap, ◌∙◌, false, arith}
-use Rattle.kernel_core.specs.State.{Idle, Inside, Entered}
+use Rattle.std.proofs.Common.{◌≡◌, subst, ◌∙◌, false, arith}
 use Rattle.kernel_core.specs.Runs.{Machine, IsBegin, IsSliceOf}
-use Rattle.kernel_core.specs.declared.outcome.Outcome.{Outcome}
 use Rattle.kernel_core.specs.declared.outcome.Sliced.{Sliced}
-use Rattle.kernel_core.specs.declared.outcome.Sliced.TheVariants as sliced
 use Rattle.kernel_core.specs.declared.outcome.Begun.{Begun}
-use Rattle.kernel_core.specs.declared.outcome.Begun.TheVariants as begun
 use Rattle.janus_meaning.specs.Limit.{step_limit}
-use Rattle.janus_cells.specs.Served.{Finishes, ended, going, backing, next_cell, no_next_cell}
-use Rattle.janus_cells.proofs.Finishing.{left, IsInside, IsBorder, Nearer, Begins, slice_nearer, begin_nearer}
+use Rattle.janus_cells.specs.Served.{ended, going, backing, next_cell, no_next_cell}
+use Rattle.janus_cells.proofs.Finishing.{IsInside, IsBorder, Nearer, Begins, slice_nearer, begin_nearer}
 use Rattle.janus_cells.proofs.Serving.{slice_queue, border_queue}
 use Rattle.janus_cells.proofs.serve.finish.Goals as goal
 

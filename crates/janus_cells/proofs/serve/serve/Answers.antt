@@ -1,8 +1,8 @@
-use Rattle.std.proofs.Common.{◌≡◌, subst, Ok, Err, [], ◌∷◌}
+use Rattle.std.proofs.Common.{◌≡◌, subst, [], ◌∷◌}
 use Rattle.kernel_core.specs.Runs.{Machine, Request, IsPost, IsBegin, request_of}
 use Rattle.kernel_core.specs.State.{Idle}
 use Rattle.kernel_core.specs.declared.outcome.Begun.{Begun}
-use Rattle.janus_cells.specs.Served.{Serves, not_posted, at_once, later}
+use Rattle.janus_cells.specs.Served.{not_posted, at_once, later}
 use Rattle.janus_cells.proofs.Serving.{posted_alone, begun_alone, Took}
 use Rattle.janus_cells.proofs.serve.serve.Goals as goal
 
