@@ -2,17 +2,24 @@
 ghost use Rattle.std.specs.Prelude.{◌≡◌};
 ghost use Rattle.janus_cells.specs.RunFault.{text_of};
 
+use thiserror::Error;
+
 /// Why a run ends before its input is served.
-#[derive(Clone, Copy, Debug, PartialEq, Eq)]
+#[derive(Clone, Copy, Debug, PartialEq, Eq, Error)]
 pub enum RunFault {
     /// The reader failed.
+    #[error("cannot read")]
     Read,
     /// The input has more octets than are taken.
+    #[error("input too long")]
     TooLong,
     /// The input is not UTF-8.
+    #[error("input is not text")]
     NotText,
+    #[error("no memory")]
     Memory,
     /// The writer failed.
+    #[error("cannot write")]
     Write,
 }
 

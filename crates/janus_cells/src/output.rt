@@ -10,9 +10,11 @@ use janus_machine::Fault;
 use janus_syntax::token::Span;
 use kernel_core::{End, Outcome, Refusal};
 use std::io::Write;
+use thiserror::Error;
 
 /// The writer failed.
-#[derive(Clone, Copy, Debug, PartialEq, Eq)]
+#[derive(Clone, Copy, Debug, PartialEq, Eq, Error)]
+#[error("cannot write")]
 pub struct WriteFailed;
 
 /// Writes all the octets, or a beginning of them and then fails. `write_all` doesn't say what went out before it failed.

@@ -4,19 +4,25 @@ ghost use Rattle.janus_check.specs.Fault.{number_of, fault_name, span_of, start_
 
 use janus_syntax::token::Span;
 use std::alloc::AllocError;
+use thiserror::Error;
 
 /// The first fault of a cell, with the octets of its text where it stands.
-#[derive(Clone, Copy, Debug, PartialEq, Eq)]
+#[derive(Clone, Copy, Debug, PartialEq, Eq, Error)]
 pub enum CheckFault {
     /// A declared name that is declared already.
+    #[error("Declared")]
     Declared(Span),
     /// A name that is not in sight.
+    #[error("Unknown")]
     Unknown(Span),
     /// The assigned name in its own right side.
+    #[error("SelfUse")]
     SelfUse(Span),
     /// The name past the limit of declared names.
+    #[error("TooMany")]
     TooMany(Span),
     /// There was no memory for the check.
+    #[error("Memory")]
     Memory,
 }
 

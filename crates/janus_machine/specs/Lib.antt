@@ -1,5 +1,4 @@
 pub mod Stores
-pub mod StoreCode
 pub mod StoreView
 pub mod Faults
 pub mod Statements

@@ -34,7 +34,7 @@ pub struct Store {
 
 impl Model for Store {
     ghost use Rattle.janus_meaning.specs.Store.{Store};
-    ghost use Rattle.janus_machine.specs.StoreCode.{store_code};
+    ghost use Rattle.janus_meaning.specs.Codes.{store_code};
 
     ghost Value = { Store };
 

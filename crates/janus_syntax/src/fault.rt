@@ -6,6 +6,7 @@ ghost use Rattle.janus_syntax.specs.Fault.{what_text, fault_number, fault_name, 
 
 use crate::token::{Sign, Span, Word};
 use std::alloc::{AllocError, AllocFailed};
+use thiserror::Error;
 
 /// What has to come next where the reading of a cell cannot go on. The forms that are read so far want `Name`,
 /// `Operator` (of an assignment), `Expression` or `End`.
@@ -42,17 +43,22 @@ impl What {
 }
 
 /// Why a text is no cell, with the octets where it is refused.
-#[derive(Clone, Copy, PartialEq, Eq, Debug)]
+#[derive(Clone, Copy, PartialEq, Eq, Debug, Error)]
 pub enum SyntaxFault {
     /// A character that begins no token.
+    #[error("BadToken")]
     BadToken(Span),
     /// No cell goes on with this token; at the end of the text the span is empty.
+    #[error("Expected")]
     Expected(What, Span),
     /// A number past 2147483647.
+    #[error("NumberTooLarge")]
     NumberTooLarge(Span),
     /// The 257th operator of one whole expression.
+    #[error("TooNested")]
     TooNested(Span),
     /// There was no memory.
+    #[error("Memory")]
     Memory,
 }
 

@@ -1,15 +1,16 @@
 -- What a job keeps from its begin to its end, over any events.
 use Rattle.std.proofs.Common.{◌≡◌, ℕ, ◌+◌, ◌-◌, ◌<◌, Bool, true, false, IsTrue, List, [], ◌∷◌, length, zero, suc, refl, sym, ap, subst, arith, inl, inr, Result, Ok, Err, add-one}
-use Rattle.janus_meaning.specs.World.{World, Cell}
+use Rattle.janus_meaning.specs.World.{World, Cell, entered}
 use Rattle.kernel_core.specs.Language.{Forward}
 use Rattle.kernel_core.specs.Reached.{Reaches}
 use Rattle.kernel_core.specs.Text.{Accepts}
 use Rattle.kernel_core.specs.State.{Past, Work, Posted, Move, Job as Open, Idle, Border, Inside, State, here}
 use Rattle.kernel_core.specs.Legal.{can_go}
+use Rattle.kernel_core.proofs.Laws.{part_zero_forward, exec_some}
 use Rattle.kernel_core.specs.Slices.{finished, turned, grown, Backs, Arrives, Settles, Comes, SlicesIn, SlicesAt}
 use Rattle.kernel_core.specs.Begins.{Enters, TakesMove, TakesCell}
 use Rattle.kernel_core.specs.Runs.{Machine, Request, request_of, Step, Run, IsPost, BeginsAt, Takes}
-use Rattle.kernel_core.specs.Theorems.{next, along, standing, move_of, EndsAs, MoveEnds, CellEnds, MovesEnd, CellsEnd}
+use Rattle.kernel_core.specs.Theorems.{next, along, standing, move_of, EndsAs, MoveEnds, CellEnds, IsUnderWay, MeetsFault, IsNoNode, MovesEnd, CellsEnd}
 use Rattle.kernel_core.specs.declared.runner.Ran.{Ran}
 use Rattle.kernel_core.specs.declared.runner.Ran.TheVariants.{Went, Ended, Stopped}
 use Rattle.kernel_core.specs.declared.job.Way.{Way}
@@ -203,7 +204,7 @@ move_steps p way k old (event.Slice m asked) (told.Begin answer) new i s = absur
 takes_move : (s : Past) (way : Way) (k : ℕ) (can : Bool) (answer : Begun) (new : State) → can_go s.nodes s.favourites s.position way k ≡ can → TakesMove s way k can answer new →
     ThenBegun (Keeps s way k) (MoveEnds s way k) answer new
 takes_move s way k false answer new c a =
-    begun_at _ _ (begun.Ended (outcome.Refused TooFar)) answer (record { past = s; job = Idle }) new a.0 a.1 (inl (refl, refl))
+    begun_at _ _ (begun.Ended (outcome.Refused TooFar)) answer (record { past = s; job = Idle }) new a.0 a.1 (inl (refl, refl, c))
 takes_move s way zero true answer new c a =
     begun_at _ _ (begun.Ended (finished (record { way = way; left = 0; done = 0 }) All)) answer (record { past = s; job = Idle }) new a.0 a.1 (inr (0, All, refl, refl, (λ _. refl), c))
 takes_move s way (suc k) true answer new c a =
@@ -237,14 +238,23 @@ record IsCell (p : Past) (text : List ℕ) (cell : Cell) (s : Past) : Type 0 whe
   accepted : Accepts (here p) text cell
   same : s ≡ p
 
-abbrev CellIn : Past → List ℕ → Past → Work → Type 0
-CellIn p text s (Posted cell) = IsCell p text cell s
-CellIn p text s (Move t) = ⊥
+-- why a cell that goes back turned
+abbrev IsTurned : Past → Cell → Why → Type 0
+IsTurned p cell (WasAsked at) = IsUnderWay p cell at
+IsTurned p cell (Faulted f at) = MeetsFault p cell f at
+
+abbrev IsAtCount : Past → Cell → ℕ → Turn → Type 0
+IsAtCount p cell c GoesOn = IsUnderWay p cell c
+IsAtCount p cell c (GoesBack why) = IsTurned p cell why
+
+abbrev CellIn : Past → List ℕ → Past → Work → ℕ → Turn → Type 0
+CellIn p text s (Posted cell) c turn = IsCell p text cell s × IsAtCount p cell c turn
+CellIn p text s (Move t) c turn = ⊥
 
 abbrev CellAt : Past → List ℕ → Past → Open → Type 0
 CellAt p text s Idle = ⊥
 CellAt p text s (Border t) = ⊥
-CellAt p text s (Inside e) = CellIn p text s e.work
+CellAt p text s (Inside e) = CellIn p text s e.work e.count e.turn
 
 abbrev CellKeeps : Past → List ℕ → State → Type 0
 CellKeeps p text s = CellAt p text s.past s.job
@@ -252,33 +262,33 @@ CellKeeps p text s = CellAt p text s.past s.job
 abbrev Sliced-cell : Past → List ℕ → Sliced → State → Type 0
 Sliced-cell p text told new = ThenSliced (CellKeeps p text) (CellEnds p text) told new
 
-never_ran : (cell : Cell) (why : Why) (node n : ℕ) → turned (Posted cell) why ≡ outcome.Ran node n → ⊥
-never_ran cell (WasAsked at) node n e = cc
-never_ran cell (Faulted f at) node n e = cc
+no_node : (p : Past) (text : List ℕ) (cell : Cell) (why : Why) → Accepts (here p) text cell → IsTurned p cell why → IsNoNode p text (turned (Posted cell) why)
+no_node p text cell (WasAsked at) a t = (cell, a, t)
+no_node p text cell (Faulted f at) a t = (cell, a, t)
 
-backs_cell : (p : Past) (text : List ℕ) (cell : Cell) (why : Why) (c : ℕ) (told : Sliced) (new : State) → IsCell p text cell p → Backs p (Posted cell) why c told new → Sliced-cell p text told new
-backs_cell p text cell why zero told new i b =
-    sliced_at _ _ (sliced.Ended (turned (Posted cell) why)) told (record { past = p; job = Idle }) new b.0 b.1 (inr (refl, never_ran cell why))
-backs_cell p text cell why (suc c) told new i b =
-    sliced_at _ _ sliced.Backing told (record { past = p; job = Inside (record { work = Posted cell; count = suc c; turn = GoesBack why }) }) new b.0 b.1 i
+backs_cell : (p : Past) (text : List ℕ) (cell : Cell) (why : Why) (c : ℕ) (told : Sliced) (new : State) → IsCell p text cell p → IsTurned p cell why → Backs p (Posted cell) why c told new → Sliced-cell p text told new
+backs_cell p text cell why zero told new i t b =
+    sliced_at _ _ (sliced.Ended (turned (Posted cell) why)) told (record { past = p; job = Idle }) new b.0 b.1 (inr (refl, no_node p text cell why i.accepted t))
+backs_cell p text cell why (suc c) told new i t b =
+    sliced_at _ _ sliced.Backing told (record { past = p; job = Inside (record { work = Posted cell; count = suc c; turn = GoesBack why }) }) new b.0 b.1 (i, t)
 
 comes_cell : (p : Past) (text : List ℕ) (cell : Cell) (c : ℕ) (ran : Ran) (w : World) (told : Sliced) (new : State) → IsCell p text cell p →
     Reaches (Forward cell) (here p) c ran w → Comes p (Posted cell) c ran w told new → Sliced-cell p text told new
-comes_cell p text cell c Went w told new i r a = sliced_at _ _ sliced.Going told (record { past = p; job = Inside (record { work = Posted cell; count = c; turn = GoesOn }) }) new a.0 a.1 i
+comes_cell p text cell c Went w told new i r a = sliced_at _ _ sliced.Going told (record { past = p; job = Inside (record { work = Posted cell; count = c; turn = GoesOn }) }) new a.0 a.1 (i, (w, r.0, r.1))
 comes_cell p text cell c (Ended n) w told new i r a =
     sliced_at _ _ (sliced.Ended (outcome.Ran (length p.nodes) n)) told (record { past = grown p cell n w; job = Idle }) new a.0 a.1
     (inl (cell, n, w, i.accepted, refl, r.0, refl))
-comes_cell p text cell c (Stopped j f) w told new i r a = backs_cell p text cell (Faulted f j) j told new i a
+comes_cell p text cell c (Stopped j f) w told new i r a = backs_cell p text cell (Faulted f j) j told new i (w, r.0, r.1) a
 
-slices_cell : (p : Past) (text : List ℕ) (cell : Cell) (c : ℕ) (turn : Turn) (m : ℕ) (asked : Bool) (told : Sliced) (new : State) → IsCell p text cell p → SlicesIn p (Posted cell) c turn m asked told new → Sliced-cell p text told new
-slices_cell p text cell c GoesOn m false told new i a = comes_cell p text cell (c + m) a.0 a.1 told new i a.2 a.3
-slices_cell p text cell c GoesOn m true told new i a = backs_cell p text cell (WasAsked c) (c - m) told new i a
-slices_cell p text cell c (GoesBack why) m asked told new i a = backs_cell p text cell why (c - m) told new i a
+slices_cell : (p : Past) (text : List ℕ) (cell : Cell) (c : ℕ) (turn : Turn) (m : ℕ) (asked : Bool) (told : Sliced) (new : State) → IsCell p text cell p → IsAtCount p cell c turn → SlicesIn p (Posted cell) c turn m asked told new → Sliced-cell p text told new
+slices_cell p text cell c GoesOn m false told new i t a = comes_cell p text cell (c + m) a.0 a.1 told new i a.2 a.3
+slices_cell p text cell c GoesOn m true told new i t a = backs_cell p text cell (WasAsked c) (c - m) told new i t a
+slices_cell p text cell c (GoesBack why) m asked told new i t a = backs_cell p text cell why (c - m) told new i t a
 
-slice_in_cell : (p : Past) (text : List ℕ) (s : Past) (work : Work) (c : ℕ) (turn : Turn) (m : ℕ) (asked : Bool) (told : Sliced) (new : State) → CellIn p text s work → SlicesIn s work c turn m asked told new → Sliced-cell p text told new
+slice_in_cell : (p : Past) (text : List ℕ) (s : Past) (work : Work) (c : ℕ) (turn : Turn) (m : ℕ) (asked : Bool) (told : Sliced) (new : State) → CellIn p text s work c turn → SlicesIn s work c turn m asked told new → Sliced-cell p text told new
 slice_in_cell p text s (Move t) c turn m asked told new i a = absurd i
 slice_in_cell p text s (Posted cell) c turn m asked told new i a =
-    slices_cell p text cell c turn m asked told new (record { accepted = i.accepted; same = refl }) (subst (λ (x : Past). SlicesIn x (Posted cell) c turn m asked told new) i.same a)
+    slices_cell p text cell c turn m asked told new (record { accepted = i.0.accepted; same = refl }) i.1 (subst (λ (x : Past). SlicesIn x (Posted cell) c turn m asked told new) i.0.same a)
 
 slice_at_cell : (p : Past) (text : List ℕ) (s : Past) (job : Open) (m : ℕ) (asked : Bool) (told : Sliced) (new : State) → CellAt p text s job → SlicesAt s job m asked told new → Sliced-cell p text told new
 slice_at_cell p text s Idle m asked told new i a = absurd i
@@ -306,8 +316,8 @@ cell_steps p text old (event.Slice m asked) (told.Begin answer) new i s = absurd
 
 takes_cell : (s : Past) (text : List ℕ) (answer : Begun) (new : State) → TakesCell s text answer new → ThenBegun (CellKeeps s text) (CellEnds s text) answer new
 takes_cell s text answer new a = elim a [
-  | inl b ↦ begun_at _ _ begun.Going answer (record { past = s; job = Inside (record { work = Posted b.0; count = 0; turn = GoesOn }) }) new b.2 b.3 (record { accepted = b.1; same = refl })
-  | inr b ↦ begun_at _ _ (begun.Ended (outcome.Refused b.0)) answer (record { past = s; job = Idle }) new b.2 b.3 (inr (refl, λ node n e. cc))
+  | inl b ↦ begun_at _ _ begun.Going answer (record { past = s; job = Inside (record { work = Posted b.0; count = 0; turn = GoesOn }) }) new b.2 b.3 (record { accepted = b.1; same = refl }, (entered b.0 (here s), part_zero_forward b.0 (here s), exec_some (Forward b.0) (here s)))
+  | inr b ↦ begun_at _ _ (begun.Ended (outcome.Refused b.0)) answer (record { past = s; job = Idle }) new b.2 b.3 (inr (refl, b.1))
 ]
 
 pub cells_end : CellsEnd

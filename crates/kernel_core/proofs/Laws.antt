@@ -1,7 +1,9 @@
 -- The laws of the language that the kernel rests on, from those of worlds.
-use Rattle.std.proofs.Common.{◌≡◌, ℕ, pos, ◌-◌, List, [], ◌∷◌, refl, sym, ◌∙◌, subst}
+use Rattle.std.proofs.Common.{◌≡◌, ℕ, pos, ◌-◌, ◌<◌, arith, List, [], ◌∷◌, refl, sym, ◌∙◌, subst}
 use Rattle.janus_meaning.specs.Fault.{Fault}
+use Rattle.janus_meaning.specs.Syntax.{Blk, Proc}
 use Rattle.janus_meaning.specs.Store.{Store, Slot, Num}
+use Rattle.janus_meaning.specs.Meaning.{Block, Done, block_run, Run as RunOf}
 use Rattle.janus_meaning.specs.Formed.{Shape, shape_of}
 use Rattle.janus_meaning.specs.World.{World, empty_world, Cell, Declaration, DeclareInt, DeclareArray, DeclareStack, declare, entered}
 use Rattle.janus_meaning.specs.Cells.{IsGoodWorld, world_after, store_after}
@@ -34,6 +36,14 @@ part_none_backward cell w v p = part_same (Backward cell) w 0 v w p (part_zero_b
 pub exec_part : (code : Code) (w : World) (n : ℕ) (v : World) → Exec code w n v → Part code w n v
 unfolding Part Exec
 exec_part code w n v e = (worlds_start_and_end (start_of code w) (block_of code)).last n v e
+
+block_some : {ps : List Proc} {d k n : ℕ} {b : Blk} {s m : Store} → RunOf ps d k (Block b) s n (Done m) → 0 < n
+block_some (block_run r h) = omega arith
+
+-- no cell ends before its first step
+pub exec_some : (code : Code) (w : World) (n : ℕ) (v : World) → Exec code w n v → 0 < n
+unfolding Exec
+exec_some code w n v e = block_some e.ran
 
 pub exec_same : (code : Code) (w : World) (n m : ℕ) (u v : World) → Exec code w n u → Exec code w m v → (n ≡ m) × (u ≡ v)
 unfolding Exec

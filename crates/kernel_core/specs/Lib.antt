@@ -1,4 +1,3 @@
-pub mod CellCode
 pub mod Language
 pub mod Text
 pub mod Refusal

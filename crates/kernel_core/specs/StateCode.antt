@@ -3,7 +3,7 @@ use Rattle.std.specs.Prelude.{ℕ, ◌⊎◌, List, refl, ◌≡◌}
 use Rattle.std.specs.Coded.{Coded, code_by, coded×, coded⊎, coded_ℕ, coded_list}
 use Rattle.std.proofs.Common.{inl, inr}
 use Rattle.janus_meaning.specs.World.{World, Cell}
-use Rattle.kernel_core.specs.CellCode.{cell_code, world_code}
+use Rattle.janus_meaning.specs.Codes.{cell_code, world_code}
 use Rattle.kernel_core.specs.State.{Node, Past, Work, Posted, Move, Entered, Job, Idle, Border, Inside, State}
 use Rattle.kernel_core.specs.declared.job.Travel.{Travel}
 use Rattle.kernel_core.specs.declared.job.Turn.{Turn}

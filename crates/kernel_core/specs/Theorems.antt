@@ -1,13 +1,14 @@
 -- The main theorem in the subject's own words, over runs of the machine.
-use Rattle.std.specs.Prelude.{◌≡◌, ℕ, Bool, ◌+◌, ◌-◌, ◌<◌, ◌≤◌, List, [], ◌∷◌, length, get_or, IsTrue, zero, suc, ◌⊎◌}
+use Rattle.std.specs.Prelude.{◌≡◌, ℕ, Bool, false, ◌+◌, ◌-◌, ◌<◌, ◌≤◌, List, [], ◌∷◌, length, get_or, IsTrue, zero, suc, ◌⊎◌}
 use Rattle.janus_meaning.specs.World.{World, empty_world, Cell, entered}
 use Rattle.janus_meaning.specs.Cells.{IsGoodWorld}
-use Rattle.kernel_core.specs.Language.{Forward, Backward, Part, Exec}
+use Rattle.janus_machine.specs.Faults.{fault_of}
+use Rattle.kernel_core.specs.Language.{Forward, Backward, Part, Exec, Stop}
 use Rattle.kernel_core.specs.Reached.{Reaches}
 use Rattle.kernel_core.specs.State.{Node, Past, Move, Idle, Inside, State, root, node_at, world_at, here, favourite_of, code_of}
 use Rattle.kernel_core.specs.Legal.{can_go, IsPossible, IsLegal}
 use Rattle.kernel_core.specs.Slices.{finished, grown, Settles, Goes}
-use Rattle.kernel_core.specs.Text.{Accepts}
+use Rattle.kernel_core.specs.Text.{Accepts, Refuses}
 use Rattle.kernel_core.specs.Runs.{Machine, Request, RunCell, Undo, Redo, Run}
 use Rattle.kernel_core.specs.declared.runner.Ran.TheVariants.{Stopped}
 use Rattle.kernel_core.specs.declared.job.Travel.{Travel}
@@ -54,11 +55,11 @@ EndsAs (told.Begin (begun.Ended p) ∷ answers) o = (answers ≡ []) × (p ≡ o
 EndsAs (told.Slice (sliced.Ended p) ∷ answers) o = (answers ≡ []) × (p ≡ o)
 EndsAs (t ∷ answers) o = EndsAs answers o
 
--- How an undo or a redo of k cells from the past s ends: refused whole, or after j cells, all k where it says All.
+-- How an undo or a redo of k cells from the past s ends: refused whole where there are fewer, else after j cells, all k where it says All.
 -- The tree, its worlds and its favourites are as they were.
 abbrev pub MoveEnds : Past → Way → ℕ → Outcome → State → Type 0
 MoveEnds s way k o new =
-    ((o ≡ outcome.Refused TooFar) × (new ≡ record { past = s; job = Idle }))
+    ((o ≡ outcome.Refused TooFar) × (new ≡ record { past = s; job = Idle }) × (can_go s.nodes s.favourites s.position way k ≡ false))
     ⊎ ((j : ℕ) × (end : End) × (o ≡ finished (record { way = way; left = 0; done = j }) end) × (new ≡ record { past = standing s way j; job = Idle }) × (end ≡ All → j ≡ k) × IsTrue (can_go s.nodes s.favourites s.position way k))
 
 -- the cell of the text ran to its end, and is a new node with the world to which it leads
@@ -67,10 +68,27 @@ BecomesNode s text o new =
     (cell : Cell) × (n : ℕ) × (w : World) × Accepts (here s) text cell × (o ≡ outcome.Ran (length s.nodes) n) × Exec (Forward cell) (here s) n w
     × (new ≡ record { past = grown s cell n w; job = Idle })
 
--- How a cell ends: as a new node, or all is as it was.
+-- after j steps the cell goes on: the world shown is a part's, and it has not ended
+abbrev pub IsUnderWay : Past → Cell → ℕ → Type 0
+IsUnderWay s cell j = (w : World) × Part (Forward cell) (here s) j w × ((n : ℕ) (v : World) → Exec (Forward cell) (here s) n v → j < n)
+
+-- after j steps the cell meets the fault
+abbrev pub MeetsFault : Past → Cell → Fault → ℕ → Type 0
+MeetsFault s cell fault j = (w : World) × Part (Forward cell) (here s) j w × Stop (Forward cell) (here s) j (fault_of fault)
+
+-- why the text became no node: it is no cell, or its cell met this fault there, or it was asked to stop while it went on
+abbrev pub IsNoNode : Past → List ℕ → Outcome → Type 0
+IsNoNode s text (outcome.Refused refusal) = Refuses (here s) text refusal
+IsNoNode s text (outcome.Failed fault j) = (cell : Cell) × Accepts (here s) text cell × MeetsFault s cell fault j
+IsNoNode s text (outcome.Interrupted j) = (cell : Cell) × Accepts (here s) text cell × IsUnderWay s cell j
+IsNoNode s text (outcome.Ran node n) = ⊥
+IsNoNode s text (outcome.Undid j end) = ⊥
+IsNoNode s text (outcome.Redid j end) = ⊥
+
+-- How a cell ends: as a new node, or all is as it was, and the outcome says why.
 abbrev pub CellEnds : Past → List ℕ → Outcome → State → Type 0
 CellEnds s text o new =
-    BecomesNode s text o new ⊎ ((new ≡ record { past = s; job = Idle }) × ((node n : ℕ) → o ≡ outcome.Ran node n → ⊥))
+    BecomesNode s text o new ⊎ ((new ≡ record { past = s; job = Idle }) × IsNoNode s text o)
 
 -- Over any events, with posts, interrupts and faults among them, an undo or a redo that is taken ends so.
 abbrev pub MovesEnd : Type 0

@@ -11,6 +11,7 @@ use crate::view::View;
 use std::alloc::{AllocError, Global};
 use std::collections::VecDeque;
 use std::marker::Model;
+use thiserror::Error;
 
 /// What a frontend posts.
 #[derive(Drop)]
@@ -28,10 +29,12 @@ pub enum Job {
 }
 
 /// Why a post was refused. It changed nothing.
-#[derive(Clone, Copy, Debug, PartialEq, Eq)]
+#[derive(Clone, Copy, Debug, PartialEq, Eq, Error)]
 pub enum PostFault {
     /// 1,024 jobs are posted and not begun.
+    #[error("QueueFull")]
     QueueFull,
+    #[error("Memory")]
     Memory,
 }
 

@@ -6,6 +6,7 @@ use janus_check::CheckFault;
 use janus_machine::Fault;
 use janus_syntax::SyntaxFault;
 use janus_syntax::token::Span;
+use thiserror::Error;
 
 /// How an undo or a redo of several cells ended.
 #[derive(Clone, Copy, Debug, PartialEq, Eq)]
@@ -19,14 +20,18 @@ pub enum End {
 }
 
 /// Why a job was not begun. It changed nothing.
-#[derive(Clone, Copy, Debug, PartialEq, Eq)]
+#[derive(Clone, Copy, Debug, PartialEq, Eq, Error)]
 pub enum Refusal {
     /// The text is no cell.
+    #[error(transparent)]
     Syntax(SyntaxFault),
     /// The cell is not well formed over the declared names.
+    #[error(transparent)]
     Check(CheckFault),
     /// There are fewer cells above, or fewer favourites below, than the job would undo or redo.
+    #[error("TooFar")]
     TooFar,
+    #[error("Memory")]
     Memory,
 }
 

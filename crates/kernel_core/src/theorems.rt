@@ -8,7 +8,8 @@ pub fn moves_end()
     ensures { MovesEnd }
 {}
 
-/// A cell that ends as `Ran` is a new node with the world to which it leads; any other end leaves all as before it.
+/// A cell that ends as `Ran` is a new node with the world to which it leads; any other end leaves all as before it, and tells
+/// why: the text's refusal, or the fault and the steps at which the cell meets it, or the steps at which it was asked to stop.
 pub fn cells_end()
     ensures { CellsEnd }
 {}
