@@ -1,17 +1,16 @@
 -- Streams: the front of a stream is a frame, a part of one or a fault, and one of these; so a stream has one reading.
-use Rattle.std.proofs.Common.{◌≡◌, ◌≢◌, ℕ, zero, suc, ◌+◌, ◌-◌, ◌^◌, ◌<◌, ◌≤◌, Bool, true, false, ◌&&◌, List, [], ◌∷◌, ◌++◌, length, replicate, All, sym, ap, ◌∙◌, refl, subst, arith, append_assoc, append-nil, length-append}
+use Rattle.std.proofs.Common.{◌≡◌, ℕ, ◌<◌, Bool, List, [], ◌∷◌, ◌++◌, length, sym, ap, ◌∙◌, refl, subst, arith, append_assoc, append-nil, length-append}
 use Rattle.zmtp_wire.specs.declared.header.Header.{Header}
 use Rattle.zmtp_wire.specs.declared.tally.Tally.{Tally}
 use Rattle.zmtp_wire.specs.declared.fault.WireFault.{WireFault}
 use Rattle.zmtp_wire.specs.declared.fault.WireFault.TheVariants.{BadSignature, OldVersion, BadMechanism, ReservedBits, CommandWithMore, TooLong, Memory}
-use Rattle.zmtp_wire.specs.Header.{IsHeader}
-use Rattle.zmtp_wire.specs.Fronts.{HasHeader, IsHeaderBegun, IsBadFlags, HasBadFlags}
+use Rattle.zmtp_wire.specs.Fronts.{HasHeader, HasBadFlags}
 use Rattle.zmtp_wire.specs.Frame.{Frame, header_of, IsFrame}
-use Rattle.zmtp_wire.specs.Tally.{Fits, counted, nothing_counted}
-use Rattle.zmtp_wire.specs.Stream.{Rest, whole, Takes, Leaves, IsTooLong, IsFaultAt, IsPartial, End, Open, Faulty, EndsIn, ReadsFrom, Reads}
-use Rattle.zmtp_wire.specs.Laws.{EveryStreamIsRead, StreamsHaveOneReading, ReadingsGoOn, FaultsStay, FramesAreReadBack, Event, Fed, Given, octets_fed, frames_given, Run, NoCutMatters}
-use Rattle.zmtp_wire.proofs.Octets.{fronts_equal, AreOctets}
-use Rattle.zmtp_wire.proofs.Headers.{one_header, header_longer, begun_or_whole, header_or_fault, fault_longer, one_fault}
+use Rattle.zmtp_wire.specs.Tally.{Fits, counted}
+use Rattle.zmtp_wire.specs.Stream.{Rest, whole, Takes, Leaves, IsTooLong, IsFaultAt, IsPartial, End, Open, Faulty, EndsIn, ReadsFrom}
+use Rattle.zmtp_wire.specs.Laws.{StreamsHaveOneReading, ReadingsGoOn, FaultsStay, FramesAreReadBack, Event, Fed, Given, octets_fed, frames_given, Run, NoCutMatters}
+use Rattle.zmtp_wire.proofs.Octets.{fronts_equal}
+use Rattle.zmtp_wire.proofs.Headers.{one_header, header_longer, header_or_fault, fault_longer, one_fault}
 
 -- a rest with more octets behind it
 abbrev pub longer : Rest → List ℕ → Rest
