@@ -1,4 +1,4 @@
--- The greeting of ZMTP 3.0 (RFC 23, "The Greeting"): signature, version, mechanism, as-server, filler; 64 octets.
+-- The greeting of ZMTP 3.0 (RFC 23, "Formal Grammar"): signature, version, mechanism, as-server, filler; 64 octets.
 use Rattle.std.specs.Prelude.{◌≡◌, ℕ, ◌<◌, ◌≤◌, Bool, not, ◌==◌, List, ◌∷◌, ◌++◌, take, drop, replicate, codes, slice_index, if◌then◌else◌}
 use Rattle.zmtp_wire.specs.declared.greeting.Greeting.{Greeting}
 use Rattle.zmtp_wire.specs.declared.fault.WireFault.{WireFault}

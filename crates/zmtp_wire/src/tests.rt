@@ -232,7 +232,7 @@ fn takes_back_a_piece(rt: HostRuntime) -> Result<(), Fail> {
     Ok(())
 }
 
-/// The greeting that libzmq-like peers send, in the layout of RFC 23.
+/// The octets of greetings, in the layout of RFC 23.
 #[test]
 fn greets(rt: HostRuntime) -> Result<(), Fail> {
     let greeting = Greeting {
