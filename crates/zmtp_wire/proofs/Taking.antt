@@ -48,7 +48,7 @@ header_begun octets t begun =
     }
 
 -- a header within the limits has no size that passes them
-fits_alone : (octets : List ℕ) (t : Tally) (h : Header) (behind : List ℕ) → HasHeader octets h behind → Fits t h → ¬ (IsTooLong (record { octets = octets; tally = t }))
+pub fits_alone : (octets : List ℕ) (t : Tally) (h : Header) (behind : List ℕ) → HasHeader octets h behind → Fits t h → ¬ (IsTooLong (record { octets = octets; tally = t }))
 fits_alone octets t h behind has fits long =
     let heads = one_header octets h long.0 behind long.1 has long.2 in
     long.3 (subst (λ (k : Header). Fits t k) heads.0 fits)
