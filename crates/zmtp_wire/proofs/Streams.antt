@@ -187,7 +187,7 @@ readings_go_on stream more fs gs end other p q =
     let on = reading_behind fs gs (whole (stream ++ more)) (longer p.0 more) other (leaves_longer fs (whole stream) p.0 more p.1) q in
     (on.0, on.1)
 
-fault_stays : (fault : WireFault) (rest : Rest) (more : List ℕ) → IsFaultAt rest fault → IsFaultAt (longer rest more) fault
+pub fault_stays : (fault : WireFault) (rest : Rest) (more : List ℕ) → IsFaultAt rest fault → IsFaultAt (longer rest more) fault
 fault_stays ReservedBits rest more fault = fault_longer rest.octets more ReservedBits fault
 fault_stays CommandWithMore rest more fault = fault_longer rest.octets more CommandWithMore fault
 fault_stays TooLong rest more fault = (fault.0, fault.1 ++ more, header_longer rest.octets fault.0 fault.1 more fault.2, fault.3)
