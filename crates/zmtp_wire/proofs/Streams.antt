@@ -7,8 +7,8 @@ use Rattle.zmtp_wire.specs.declared.fault.WireFault.TheVariants.{BadSignature, O
 use Rattle.zmtp_wire.specs.Fronts.{HasHeader, HasBadFlags}
 use Rattle.zmtp_wire.specs.Frame.{Frame, header_of, IsFrame}
 use Rattle.zmtp_wire.specs.Tally.{Fits, counted}
-use Rattle.zmtp_wire.specs.Stream.{Rest, whole, Takes, Leaves, IsTooLong, IsFaultAt, IsPartial, End, Open, Faulty, EndsIn, ReadsFrom}
-use Rattle.zmtp_wire.specs.Laws.{StreamsHaveOneReading, ReadingsGoOn, FaultsStay, FramesAreReadBack, Event, Fed, Given, octets_fed, frames_given, Run, NoCutMatters}
+use Rattle.zmtp_wire.specs.Stream.{Rest, whole, Takes, Leaves, IsTooLong, IsFaultAt, IsPartial, End, Open, Faulty, EndsIn, ReadsFrom, Reads}
+use Rattle.zmtp_wire.specs.Laws.{StreamsHaveOneReading, ReadingsGoOn, FaultsStay, FramesAreReadBack, Event, Fed, Given, octets_fed, frames_given, Run, NoCutMatters, CutsAgree}
 use Rattle.zmtp_wire.proofs.Octets.{fronts_equal}
 use Rattle.zmtp_wire.proofs.Headers.{one_header, header_longer, header_or_fault, fault_longer, one_fault}
 
@@ -218,3 +218,9 @@ runs_join (Given f ∷ es) rest after run =
 
 pub no_cut_matters : NoCutMatters
 no_cut_matters es after run = runs_join es (whole []) after run
+
+pub cuts_agree : CutsAgree
+cuts_agree es fs a b end other run another same ends finishes =
+    let first : Reads (octets_fed es) (frames_given es) end = (a, no_cut_matters es a run, ends) in
+    let second : Reads (octets_fed fs) (frames_given fs) other = (b, no_cut_matters fs b another, finishes) in
+    one_reading (octets_fed fs) (frames_given es) (frames_given fs) end other (subst (λ (s : List ℕ). Reads s (frames_given es) end) same first) second
