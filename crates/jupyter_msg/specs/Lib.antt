@@ -1,0 +1,3 @@
+pub mod Fault
+pub mod Hmac
+pub mod Signature
