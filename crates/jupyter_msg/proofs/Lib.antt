@@ -1,0 +1,3 @@
+pub mod ObjectLemmas
+pub mod CutLemmas
+pub mod OpenLemmas

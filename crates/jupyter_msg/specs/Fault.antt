@@ -1,5 +1,5 @@
 -- The numbers and the words under which refusals are told, and the names of parts and fields.
-use Rattle.std.specs.Prelude.{ℕ, List, codes}
+use Rattle.std.specs.Prelude.{◌≡◌, ◌⊎◌, ℕ, List, codes, Option, Some, None, Result, Ok, Err}
 use Rattle.jupyter_msg.specs.declared.fault.MsgFault.{MsgFault}
 use Rattle.jupyter_msg.specs.declared.fault.MsgFault.TheVariants.{NoDelimiter, ShortMessage, BadSignature, NotJson, BadField, UnknownType, Memory, BadConnection}
 use Rattle.jupyter_msg.specs.declared.fault.Part.{Part}
@@ -69,3 +69,8 @@ setting_name setting.ControlPort = codes "control_port"
 setting_name setting.HbPort = codes "hb_port"
 setting_name setting.Key = codes "key"
 setting_name setting.SignatureScheme = codes "signature_scheme"
+
+-- There is an answer exactly where there is no refusal; else that refusal is told, or there was no memory.
+abbrev pub Refuses : {A : Type 0} → Result A MsgFault → Option MsgFault → Type 0
+Refuses (Ok x) refusal = refusal ≡ None
+Refuses (Err fault) refusal = (fault ≡ Memory) ⊎ (refusal ≡ Some fault)

@@ -3,8 +3,11 @@
 
 pub mod fault;
 pub mod keyed_hash;
+pub mod message;
+mod object;
 pub mod signature;
 
 pub use fault::{Field, MsgFault, Part, Setting};
 pub use keyed_hash::hmac;
+pub use message::{Message, open, seal};
 pub use signature::{Parts, sign};

@@ -1,7 +1,7 @@
 //! The signature of a message (wire protocol of the Jupyter messaging page).
-ghost use Rattle.std.specs.Prelude.{◌≡◌, ◌↔◌, IfOk, IfErr, IsTrue, string_bytes};
+ghost use Rattle.std.specs.Prelude.{◌≡◌, IfOk, IfErr, string_bytes};
 ghost use Rattle.jupyter_msg.specs.Hmac.{hmac_of};
-ghost use Rattle.jupyter_msg.specs.Signature.{signed_text, signature_of, Fits};
+ghost use Rattle.jupyter_msg.specs.Signature.{signed_text, signature_of, fits};
 
 use crate::fault::MsgFault;
 use crate::keyed_hash::{begun, finished};
@@ -9,6 +9,7 @@ use sha2::Digest;
 use std::alloc::Global;
 
 /// The four parts that are signed, as octets.
+#[derive(Clone, Copy, Debug)]
 pub struct Parts<'a> {
     pub header: &'a [u8],
     pub parent: &'a [u8],
@@ -46,7 +47,7 @@ pub fn sign(alloc: Global, key: &[u8], parts: &Parts<'_>) -> Result<String, MsgF
 
 /// Whether the signature is the one of the parts under the key; under an empty key any is. It takes no memory.
 pub(crate) fn is_signed(key: &[u8], signature: &[u8], parts: &Parts<'_>) -> bool
-    ensures { IsTrue result ↔ Fits key.now signature.now (signed_text parts.now) }
+    ensures { result ≡ fits key.now signature.now (signed_text parts.now) }
 {
     if key.is_empty() {
         return true;
