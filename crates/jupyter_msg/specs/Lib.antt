@@ -4,3 +4,4 @@ pub mod Signature
 pub mod Object
 pub mod Octets
 pub mod Message
+pub mod Connection
