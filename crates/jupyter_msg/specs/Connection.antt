@@ -4,7 +4,6 @@ use Rattle.std.specs.Str.{bytes_eq}
 use Rattle.serde_json.specs.Data.{Data}
 use Rattle.serde_json.specs.Find.{get, as_str, as_number, as_u64}
 use Rattle.jupyter_msg.specs.Fault.{setting_name}
-use Rattle.jupyter_msg.specs.Object.{object_of}
 use Rattle.jupyter_msg.specs.declared.connection.Connection.{Connection}
 use Rattle.jupyter_msg.specs.declared.fault.MsgFault.{MsgFault}
 use Rattle.jupyter_msg.specs.declared.fault.MsgFault.TheVariants.{BadConnection}

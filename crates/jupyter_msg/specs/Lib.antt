@@ -5,3 +5,7 @@ pub mod Object
 pub mod Octets
 pub mod Message
 pub mod Connection
+pub mod Fields
+pub mod RequestType
+pub mod Requests
+pub mod Asked

@@ -1,11 +1,13 @@
 //! Messages, and the frames in which they travel.
-ghost use Rattle.std.specs.Prelude.{◌≡◌, ℕ, List, [], ◌∷◌, ◌+◌, ◌++◌, ◌≤◌, ◌<◌, ◌⊎◌, Some, None, IfOk, IfErr, OnOk, IfNone, IfSome, IsTrue, MatchOption, MatchResult, length, vec_len, drop, take, position};
+ghost use Rattle.std.specs.Prelude.{◌≡◌, ℕ, List, [], ◌∷◌, ◌+◌, ◌++◌, ◌≤◌, ◌<◌, ◌⊎◌, Some, None, IfOk, IfErr, OnOk, IfNone, IfSome, IsTrue, MatchOption, MatchResult, length, vec_len, drop, take, position, string_bytes};
 ghost use Rattle.std.specs.Str.{bytes_eq};
+ghost use Rattle.jupyter_msg.specs.Asked.{Gives, header_text};
 ghost use Rattle.jupyter_msg.specs.Fault.{Refuses};
 ghost use Rattle.jupyter_msg.specs.Octets.{Octets, octets, octets_of};
 ghost use Rattle.jupyter_msg.specs.Message.{IsCut, AreObjects, IsMessage, IsRefused, refusal_after, after_delimiter, no_object, NoneIsDelimiter, delimiter, sealed};
 
-use crate::fault::{MsgFault, Part};
+use crate::fault::{Field, MsgFault, Part};
+use crate::fields::text;
 use crate::object::object_of;
 use crate::signature::{Parts, is_signed, sign};
 use std::alloc::Global;
@@ -25,6 +27,42 @@ pub struct Message {
     pub content: Vec<u8>,
     /// Frames after the content, kept as they are.
     pub buffers: Vec<Vec<u8>>,
+}
+
+/// The text of a field of a header.
+fn header_text(alloc: Global, header: &[u8], field: Field) -> Result<String, MsgFault>
+    ensures { Gives string_bytes result (header_text field header.now) }
+{
+    let header = object_of(alloc, header, Part::Header)?;
+    text(alloc, &header, field)
+}
+
+impl Message {
+    /// The name of the message, as its header's `msg_id` has it.
+    ///
+    /// # Errors
+    ///
+    /// `NotJson` with the header where that is no JSON object, `BadField` where it has no such text, or `Memory`. The other
+    /// readers of a header have the same.
+    pub fn msg_id(&self, alloc: Global) -> Result<String, MsgFault>
+        ensures { Gives string_bytes result (header_text Field.MsgId self.now.header.items) }
+    {
+        header_text(alloc, &self.header, Field::MsgId)
+    }
+
+    /// The session of who sent the message, as its header's `session` has it.
+    pub fn session(&self, alloc: Global) -> Result<String, MsgFault>
+        ensures { Gives string_bytes result (header_text Field.Session self.now.header.items) }
+    {
+        header_text(alloc, &self.header, Field::Session)
+    }
+
+    /// What the message is, as its header's `msg_type` has it.
+    pub fn msg_type(&self, alloc: Global) -> Result<String, MsgFault>
+        ensures { Gives string_bytes result (header_text Field.MsgType self.now.header.items) }
+    {
+        header_text(alloc, &self.header, Field::MsgType)
+    }
 }
 
 /// Where the first delimiter stands.
