@@ -11,9 +11,13 @@ pub mod introspection;
 pub mod keyed_hash;
 pub mod message;
 mod object;
+#[cfg(test)]
+mod recorded;
 pub mod request;
 pub mod request_type;
 pub mod signature;
+#[cfg(test)]
+mod tests;
 
 pub use comm::{CommAsk, CommClose, CommInfoRequest, CommMessage, CommOpen};
 pub use connection::Connection;
