@@ -36,20 +36,25 @@ pub struct CommInfoRequest {
 /// The opening of a comm. Its data is an object, and is not kept.
 #[derive(Debug, Drop)]
 pub struct CommOpen {
+    /// The name of the comm.
     pub comm_id: String,
+    /// The name of what answers on it.
     pub target_name: String,
 }
 
 /// A message on a comm.
 #[derive(Debug, Drop)]
 pub struct CommMessage {
+    /// The name of the comm.
     pub comm_id: String,
+    /// What its data asks.
     pub ask: CommAsk,
 }
 
 /// The closing of a comm.
 #[derive(Debug, Drop)]
 pub struct CommClose {
+    /// The name of the comm.
     pub comm_id: String,
 }
 

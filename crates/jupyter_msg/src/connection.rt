@@ -6,7 +6,7 @@ ghost use Rattle.jupyter_msg.specs.Object.{object_of};
 ghost use Rattle.jupyter_msg.specs.Fault.{Refuses};
 ghost use Rattle.jupyter_msg.specs.Connection.{setting, text, port, is_word, is_word_if_there, file_refusal, IsConnection};
 
-use crate::fault::{MsgFault, Part, Setting};
+use crate::fault::{MsgFault, Setting};
 use crate::object::object_of;
 use serde_json::Value;
 use std::alloc::Global;
@@ -14,13 +14,19 @@ use std::alloc::Global;
 /// Where a kernel listens, and the key under which messages are signed.
 #[derive(Debug, Drop)]
 pub struct Connection {
+    /// The address.
     pub ip: String,
+    /// The port for requests.
     pub shell_port: u16,
+    /// The port for broadcasts.
     pub iopub_port: u16,
+    /// The port on which input would be asked for.
     pub stdin_port: u16,
+    /// The port for requests that go past those on the shell port.
     pub control_port: u16,
+    /// The port of the heartbeat.
     pub hb_port: u16,
-    /// Its octets are the key.
+    /// The text whose octets are the key; empty where nothing is signed.
     pub key: String,
 }
 
@@ -86,10 +92,9 @@ fn file_of(alloc: Global, octets: &[u8]) -> Result<Value, MsgFault>
     ensures refused { IfErr result (λ e. (e ≡ MsgFault.Memory)
         ⊎ ((e ≡ MsgFault.BadConnection Setting.File) × (object_of octets.now ≡ None))) }
 {
-    match object_of(alloc, octets, Part::Content) {
-        Ok(file) => Ok(file),
-        Err(MsgFault::Memory) => Err(MsgFault::Memory),
-        Err(_) => Err(MsgFault::BadConnection(Setting::File)),
+    match object_of(alloc, octets)? {
+        Some(file) => Ok(file),
+        None => Err(MsgFault::BadConnection(Setting::File)),
     }
 }
 

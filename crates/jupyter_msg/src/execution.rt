@@ -15,7 +15,9 @@ use std::alloc::Global;
 /// An expression whose value the frontend asks for beside the cell, under a name of its own.
 #[derive(Debug, Drop)]
 pub struct UserExpression {
+    /// The name under which it is answered.
     pub name: String,
+    /// The text of the expression.
     pub expression: String,
 }
 
@@ -24,12 +26,12 @@ pub struct UserExpression {
 pub struct ExecuteRequest {
     /// The text of the cell.
     pub code: String,
-    /// Nothing is broadcast but the status.
+    /// Nothing is broadcast but the status; `false` where the field is missing.
     pub silent: bool,
     /// The cell is counted and kept in the input history. Where the field is missing it is `true`, and `false` for a
     /// silent cell.
     pub store_history: bool,
-    /// In the order of their names' octets.
+    /// The expressions, in the order of their names' octets; none where the field is missing.
     pub user_expressions: Vec<UserExpression>,
 }
 

@@ -8,9 +8,13 @@ use thiserror::Error;
 /// One of the four parts of a message that are signed.
 #[derive(Clone, Copy, Debug, PartialEq, Eq)]
 pub enum Part {
+    /// The header.
     Header,
+    /// The header of the message that is answered.
     Parent,
+    /// The metadata.
     Metadata,
+    /// The content.
     Content,
 }
 
@@ -31,23 +35,41 @@ impl Part {
 /// A field of a header or of a request's content.
 #[derive(Clone, Copy, Debug, PartialEq, Eq)]
 pub enum Field {
+    /// `msg_id` of a header.
     MsgId,
+    /// `session` of a header and of a history request.
     Session,
+    /// `msg_type` of a header.
     MsgType,
+    /// `code` of the requests to execute, complete, inspect and judge code.
     Code,
+    /// `silent` of a request to execute.
     Silent,
+    /// `store_history` of a request to execute.
     StoreHistory,
+    /// `user_expressions` of a request to execute.
     UserExpressions,
+    /// `cursor_pos` of the requests to complete and to inspect.
     CursorPos,
+    /// `hist_access_type` of a history request.
     HistAccessType,
+    /// `output` of a history request.
     Output,
+    /// `start` of a history request.
     Start,
+    /// `stop` of a history request.
     Stop,
+    /// `n` of a history request, and of what a comm message asks.
     N,
+    /// `target_name` of a comm's opening and of the request for open comms.
     TargetName,
+    /// `restart` of a request to shut down.
     Restart,
+    /// `comm_id` of what is sent on a comm.
     CommId,
+    /// `data` of what is sent on a comm.
     Data,
+    /// `op` of what a comm message asks.
     Op,
 }
 
@@ -82,15 +104,25 @@ impl Field {
 /// A field of a connection file, or the file as a whole.
 #[derive(Clone, Copy, Debug, PartialEq, Eq)]
 pub enum Setting {
+    /// The file as a whole.
     File,
+    /// `transport`.
     Transport,
+    /// `ip`.
     Ip,
+    /// `shell_port`.
     ShellPort,
+    /// `iopub_port`.
     IopubPort,
+    /// `stdin_port`.
     StdinPort,
+    /// `control_port`.
     ControlPort,
+    /// `hb_port`.
     HbPort,
+    /// `key`.
     Key,
+    /// `signature_scheme`.
     SignatureScheme,
 }
 

@@ -41,6 +41,7 @@ impl HistoryAccess {
 /// The request for the input history. A field that is missing has the value in parentheses.
 #[derive(Debug, Drop)]
 pub struct HistoryRequest {
+    /// How the history is asked for.
     pub access: HistoryAccess,
     /// With the output (`false`).
     pub output: bool,

@@ -14,6 +14,7 @@ use std::alloc::Global;
 /// The request for completions.
 #[derive(Debug, Drop)]
 pub struct CompleteRequest {
+    /// The text of the code.
     pub code: String,
     /// Where the cursor stands, in Unicode code points; `None` is the end of the code, and so is a place past it.
     pub cursor: Option<u64>,
@@ -22,6 +23,7 @@ pub struct CompleteRequest {
 /// The request for what is known of a name.
 #[derive(Debug, Drop)]
 pub struct InspectRequest {
+    /// The text of the code.
     pub code: String,
     /// Where the cursor stands, in Unicode code points; `None` is the end of the code, and so is a place past it.
     pub cursor: Option<u64>,
@@ -30,6 +32,7 @@ pub struct InspectRequest {
 /// The question whether code can be executed as it stands.
 #[derive(Debug, Drop)]
 pub struct IsCompleteRequest {
+    /// The text of the code.
     pub code: String,
 }
 

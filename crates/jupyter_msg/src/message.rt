@@ -8,7 +8,7 @@ ghost use Rattle.jupyter_msg.specs.Message.{IsCut, AreObjects, IsMessage, IsRefu
 
 use crate::fault::{Field, MsgFault, Part};
 use crate::fields::text;
-use crate::object::object_of;
+use crate::object::part_object;
 use crate::signature::{Parts, is_signed, sign};
 use std::alloc::Global;
 
@@ -20,10 +20,13 @@ const DELIMITER: &[u8] = b"<IDS|MSG>";
 pub struct Message {
     /// The routing frames before the delimiter, sent back unchanged with a reply.
     pub identities: Vec<Vec<u8>>,
+    /// What the message is and who sent it, as JSON.
     pub header: Vec<u8>,
-    /// The header of the message that this one answers.
+    /// The header of the message that this one answers, as JSON.
     pub parent: Vec<u8>,
+    /// What is said beside the content, as JSON.
     pub metadata: Vec<u8>,
+    /// What the message says, as JSON.
     pub content: Vec<u8>,
     /// Frames after the content, kept as they are.
     pub buffers: Vec<Vec<u8>>,
@@ -33,7 +36,7 @@ pub struct Message {
 fn header_text(alloc: Global, header: &[u8], field: Field) -> Result<String, MsgFault>
     ensures { Gives string_bytes result (header_text field header.now) }
 {
-    let header = object_of(alloc, header, Part::Header)?;
+    let header = part_object(alloc, header, Part::Header)?;
     text(alloc, &header, field)
 }
 
@@ -78,10 +81,10 @@ fn find_delimiter(frames: &[Vec<u8>]) -> Option<usize>
 fn check_objects(alloc: Global, parts: &Parts<'_>) -> Result<(), MsgFault>
     ensures { Refuses result (no_object parts.now.header.now parts.now.parent.now parts.now.metadata.now parts.now.content.now) }
 {
-    object_of(alloc, parts.header, Part::Header)?;
-    object_of(alloc, parts.parent, Part::Parent)?;
-    object_of(alloc, parts.metadata, Part::Metadata)?;
-    object_of(alloc, parts.content, Part::Content)?;
+    part_object(alloc, parts.header, Part::Header)?;
+    part_object(alloc, parts.parent, Part::Parent)?;
+    part_object(alloc, parts.metadata, Part::Metadata)?;
+    part_object(alloc, parts.content, Part::Content)?;
     Ok(())
 }
 

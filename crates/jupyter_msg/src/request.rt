@@ -14,7 +14,7 @@ use crate::fields::{flag, text_in};
 use crate::history::HistoryRequest;
 use crate::introspection::{CompleteRequest, InspectRequest, IsCompleteRequest};
 use crate::message::Message;
-use crate::object::object_of;
+use crate::object::part_object;
 use crate::request_type::RequestType;
 use serde_json::Value;
 use std::alloc::Global;
@@ -29,17 +29,29 @@ pub struct ShutdownRequest {
 /// What a message asks.
 #[derive(Debug, Drop)]
 pub enum Request {
+    /// What the kernel is.
     KernelInfo,
+    /// Execute a cell.
     Execute(ExecuteRequest),
+    /// Complete a name.
     Complete(CompleteRequest),
+    /// Tell what is known of a name.
     Inspect(InspectRequest),
+    /// Judge whether code can be executed as it stands.
     IsComplete(IsCompleteRequest),
+    /// Tell the input history.
     History(HistoryRequest),
+    /// Tell the open comms.
     CommInfo(CommInfoRequest),
+    /// Interrupt what runs.
     Interrupt,
+    /// End the kernel.
     Shutdown(ShutdownRequest),
+    /// Open a comm.
     CommOpen(CommOpen),
+    /// Say something on a comm.
     CommMessage(CommMessage),
+    /// Close a comm.
     CommClose(CommClose),
 }
 
@@ -131,9 +143,9 @@ impl Request {
         ensures refused { IfErr result (λ e. (e ≡ MsgFault.Memory)
             ⊎ (asked (octets_of message.now) ≡ Err e)) }
     {
-        let header = object_of(alloc, &message.header, Part::Header)?;
+        let header = part_object(alloc, &message.header, Part::Header)?;
         let request_type = type_in(&header)?;
-        let content = object_of(alloc, &message.content, Part::Content)?;
+        let content = part_object(alloc, &message.content, Part::Content)?;
         Request::read_content(alloc, request_type, &content)
     }
 }

@@ -5,17 +5,29 @@ ghost use Rattle.jupyter_msg.specs.RequestType.{type_name, type_named, all_types
 /// What a request is, as its header's `msg_type` says.
 #[derive(Clone, Copy, Debug, PartialEq, Eq)]
 pub enum RequestType {
+    /// `kernel_info_request`.
     KernelInfo,
+    /// `execute_request`.
     Execute,
+    /// `complete_request`.
     Complete,
+    /// `inspect_request`.
     Inspect,
+    /// `is_complete_request`.
     IsComplete,
+    /// `history_request`.
     History,
+    /// `comm_info_request`.
     CommInfo,
+    /// `interrupt_request`.
     Interrupt,
+    /// `shutdown_request`.
     Shutdown,
+    /// `comm_open`.
     CommOpen,
+    /// `comm_msg`.
     CommMessage,
+    /// `comm_close`.
     CommClose,
 }
 

@@ -11,9 +11,13 @@ use std::alloc::Global;
 /// The four parts that are signed, as octets.
 #[derive(Clone, Copy, Debug)]
 pub struct Parts<'a> {
+    /// The header.
     pub header: &'a [u8],
+    /// The header of the message that is answered.
     pub parent: &'a [u8],
+    /// The metadata.
     pub metadata: &'a [u8],
+    /// The content.
     pub content: &'a [u8],
 }
 

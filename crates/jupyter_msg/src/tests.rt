@@ -272,8 +272,8 @@ fn refused(
     Ok(())
 }
 
-/// Requests by type and content, and the field that is refused.
-const FIELDS: [(&str, &str, Option<Field>); 40] = [
+/// Requests to execute, by their content, and the field that is refused.
+const EXECUTIONS: [(&str, &str, Option<Field>); 11] = [
     ("execute_request", "{}", Some(Field::Code)),
     ("execute_request", r#"{"code":null}"#, Some(Field::Code)),
     ("execute_request", r#"{"code":5}"#, Some(Field::Code)),
@@ -313,6 +313,10 @@ const FIELDS: [(&str, &str, Option<Field>); 40] = [
         r#"{"code":"","allow_stdin":5,"stop_on_error":"x"}"#,
         None,
     ),
+];
+
+/// Requests about code, and the field that is refused.
+const CURSORS: [(&str, &str, Option<Field>); 9] = [
     ("complete_request", r#"{"cursor_pos":0}"#, Some(Field::Code)),
     (
         "complete_request",
@@ -354,6 +358,10 @@ const FIELDS: [(&str, &str, Option<Field>); 40] = [
         r#"{"code":["x"]}"#,
         Some(Field::Code),
     ),
+];
+
+/// Requests for the history, and the field that is refused.
+const HISTORIES: [(&str, &str, Option<Field>); 9] = [
     ("history_request", "{}", Some(Field::HistAccessType)),
     (
         "history_request",
@@ -391,6 +399,10 @@ const FIELDS: [(&str, &str, Option<Field>); 40] = [
         r#"{"hist_access_type":"tail","n":-1,"raw":5}"#,
         Some(Field::N),
     ),
+];
+
+/// Other requests, and the field that is refused.
+const OTHERS: [(&str, &str, Option<Field>); 11] = [
     (
         "comm_info_request",
         r#"{"target_name":5}"#,
@@ -429,8 +441,32 @@ const FIELDS: [(&str, &str, Option<Field>); 40] = [
 ];
 
 #[test]
-fn refuses_the_first_wrong_field(rt: HostRuntime) -> Result<(), Fail> {
-    for (msg_type, content, want) in FIELDS {
+fn refuses_a_wrong_field_of_an_execution(rt: HostRuntime) -> Result<(), Fail> {
+    for (msg_type, content, want) in EXECUTIONS {
+        refused(&rt, rt.alloc(), msg_type, content, want)?;
+    }
+    Ok(())
+}
+
+#[test]
+fn refuses_a_wrong_cursor(rt: HostRuntime) -> Result<(), Fail> {
+    for (msg_type, content, want) in CURSORS {
+        refused(&rt, rt.alloc(), msg_type, content, want)?;
+    }
+    Ok(())
+}
+
+#[test]
+fn refuses_a_wrong_field_of_a_history(rt: HostRuntime) -> Result<(), Fail> {
+    for (msg_type, content, want) in HISTORIES {
+        refused(&rt, rt.alloc(), msg_type, content, want)?;
+    }
+    Ok(())
+}
+
+#[test]
+fn refuses_a_wrong_field_of_a_comm(rt: HostRuntime) -> Result<(), Fail> {
+    for (msg_type, content, want) in OTHERS {
         refused(&rt, rt.alloc(), msg_type, content, want)?;
     }
     Ok(())
