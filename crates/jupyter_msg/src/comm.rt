@@ -1,9 +1,9 @@
 //! Comms: channels of a frontend to a target in the kernel (Jupyter messaging page, "Custom Messages").
-ghost use Rattle.std.specs.Prelude.{◌≡◌, ◌^◌, ℕ, true, false, Some, None, IfOk, IfErr, option_and_then, option_map, string_bytes};
+ghost use Rattle.std.specs.Prelude.{◌≡◌, Some, option_and_then, option_map, string_bytes};
 ghost use Rattle.serde_json.specs.View.{view};
 ghost use Rattle.jupyter_msg.specs.Asked.{Reads};
-ghost use Rattle.jupyter_msg.specs.Fields.{first_wrong, text_at, count_at, given};
-ghost use Rattle.jupyter_msg.specs.Requests.{IsCommOpen, IsCommMessage, ask_of, asks_number, operation_asks, in_32_bits, fields_of};
+ghost use Rattle.jupyter_msg.specs.Fields.{first_wrong, text_at, count_at};
+ghost use Rattle.jupyter_msg.specs.Requests.{IsCommOpen, IsCommMessage, ask_of, operation_asks, in_32_bits, fields_of};
 
 use crate::fault::{Field, MsgFault};
 use crate::fields::{count, maybe_text, object_in, text, text_in};

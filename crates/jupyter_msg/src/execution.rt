@@ -1,5 +1,5 @@
 //! The request to execute a cell (Jupyter messaging page, "Execute").
-ghost use Rattle.std.specs.Prelude.{◌≡◌, ◌⊎◌, ℕ, List, [], true, false, Some, None, IfOk, IfErr, option_and_then, unwrap_or, string_bytes};
+ghost use Rattle.std.specs.Prelude.{◌≡◌, ◌⊎◌, [], true, false, Some, None, IfOk, IfErr, option_and_then, unwrap_or, string_bytes};
 ghost use Rattle.serde_json.specs.Find.{as_str};
 ghost use Rattle.serde_json.specs.View.{view, members_view};
 ghost use Rattle.jupyter_msg.specs.Asked.{Reads};

@@ -1,5 +1,5 @@
 //! The fields of a JSON object, as requests have them: a field that is null counts as missing.
-ghost use Rattle.std.specs.Prelude.{◌≡◌, ◌⊎◌, ℕ, ℤ, true, false, Some, None, IfOk, IfErr, option_map, option_and_then, string_bytes};
+ghost use Rattle.std.specs.Prelude.{◌≡◌, ◌⊎◌, true, false, Some, None, IfOk, IfErr, option_map, option_and_then, string_bytes};
 ghost use Rattle.serde_json.specs.View.{view};
 ghost use Rattle.serde_json.specs.Find.{as_bool, as_str, as_object};
 ghost use Rattle.jupyter_msg.specs.Fields.{given, needed, allowed, as_count, as_whole, text_at};

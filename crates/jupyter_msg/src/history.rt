@@ -1,5 +1,5 @@
 //! The request for the input history (Jupyter messaging page, "History").
-ghost use Rattle.std.specs.Prelude.{◌≡◌, true, false, Some, None, IfOk, IfErr, option_and_then};
+ghost use Rattle.std.specs.Prelude.{◌≡◌, Some, None, IfOk, IfErr, option_and_then};
 ghost use Rattle.serde_json.specs.View.{view};
 ghost use Rattle.jupyter_msg.specs.Asked.{Reads};
 ghost use Rattle.jupyter_msg.specs.Fields.{first_wrong, given};

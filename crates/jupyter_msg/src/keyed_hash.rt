@@ -1,5 +1,5 @@
 //! HMAC with SHA-256 (RFC 2104, FIPS 180-4).
-ghost use Rattle.std.specs.Prelude.{◌≡◌, ◌++◌, ◌≤◌, ◌*◌, length, List, ℕ};
+ghost use Rattle.std.specs.Prelude.{◌≡◌, ◌++◌, ◌≤◌, length, List, ℕ};
 ghost use Rattle.sha2.specs.Hashers.{Holds256};
 ghost use Rattle.sha2.specs.Sha256.{sha256};
 ghost use Rattle.jupyter_msg.specs.Hmac.{filled, block_of, padded, hmac_of};

@@ -1,10 +1,10 @@
 //! Messages, and the frames in which they travel.
-ghost use Rattle.std.specs.Prelude.{◌≡◌, ℕ, List, [], ◌∷◌, ◌+◌, ◌++◌, ◌≤◌, ◌<◌, ◌⊎◌, Some, None, IfOk, IfErr, OnOk, IfNone, IfSome, IsTrue, MatchOption, MatchResult, length, vec_len, drop, take, position, string_bytes};
+ghost use Rattle.std.specs.Prelude.{◌≡◌, ℕ, List, [], ◌∷◌, ◌+◌, ◌++◌, ◌≤◌, ◌⊎◌, IfOk, IfErr, OnOk, MatchResult, vec_len, drop, take, position, string_bytes};
 ghost use Rattle.std.specs.Str.{bytes_eq};
 ghost use Rattle.jupyter_msg.specs.Asked.{Gives, header_text};
 ghost use Rattle.jupyter_msg.specs.Fault.{Refuses};
 ghost use Rattle.jupyter_msg.specs.Octets.{Octets, octets, octets_of};
-ghost use Rattle.jupyter_msg.specs.Message.{IsCut, AreObjects, IsMessage, IsRefused, refusal_after, after_delimiter, no_object, NoneIsDelimiter, delimiter, sealed};
+ghost use Rattle.jupyter_msg.specs.Message.{AreObjects, IsMessage, IsRefused, refusal_after, after_delimiter, no_object, NoneIsDelimiter, delimiter, sealed};
 
 use crate::fault::{Field, MsgFault, Part};
 use crate::fields::text;

@@ -1,8 +1,8 @@
 //! Requests: what a message on the shell or control socket asks.
-ghost use Rattle.std.specs.Prelude.{◌≡◌, ◌⊎◌, true, false, Some, None, Ok, Err, IfOk, IfErr, string_bytes};
+ghost use Rattle.std.specs.Prelude.{◌≡◌, ◌⊎◌, false, Ok, Err, IfOk, IfErr};
 ghost use Rattle.serde_json.specs.Data.{Data};
 ghost use Rattle.serde_json.specs.View.{view};
-ghost use Rattle.jupyter_msg.specs.Asked.{Reads, Gives, asked, type_in, header_text};
+ghost use Rattle.jupyter_msg.specs.Asked.{Reads, Gives, asked, type_in};
 ghost use Rattle.jupyter_msg.specs.Fields.{first_wrong, flag_at};
 ghost use Rattle.jupyter_msg.specs.Octets.{octets_of};
 ghost use Rattle.jupyter_msg.specs.Requests.{IsRequest, type_of, fields_of};

@@ -1,6 +1,6 @@
 //! The types of requests (Jupyter messaging page).
 ghost use Rattle.std.specs.Prelude.{◌≡◌};
-ghost use Rattle.jupyter_msg.specs.RequestType.{type_name, type_named, all_types};
+ghost use Rattle.jupyter_msg.specs.RequestType.{type_name, type_named};
 
 /// What a request is, as its header's `msg_type` says.
 #[derive(Clone, Copy, Debug, PartialEq, Eq)]
