@@ -57,7 +57,8 @@ pub struct HistoryRequest {
 
 /// The access of the field `hist_access_type`.
 fn access_in(content: &Value) -> Result<HistoryAccess, MsgFault>
-    ensures value { IfOk result (λ a. option_and_then as_access (given Field.HistAccessType (view content.now)) ≡ Some a) }
+    ensures value { IfOk result (λ a. option_and_then as_access
+        (given Field.HistAccessType (view content.now)) ≡ Some a) }
     ensures refused { IfErr result (λ e. (e ≡ MsgFault.BadField Field.HistAccessType)
         × (option_and_then as_access (given Field.HistAccessType (view content.now)) ≡ None)) }
 {

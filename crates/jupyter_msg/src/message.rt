@@ -79,7 +79,8 @@ fn find_delimiter(frames: &[Vec<u8>]) -> Option<usize>
 
 /// Passes four parts that are each the text of a JSON object.
 fn check_objects(alloc: Global, parts: &Parts<'_>) -> Result<(), MsgFault>
-    ensures { Refuses result (no_object parts.now.header.now parts.now.parent.now parts.now.metadata.now parts.now.content.now) }
+    ensures { Refuses result (no_object parts.now.header.now parts.now.parent.now
+        parts.now.metadata.now parts.now.content.now) }
 {
     part_object(alloc, parts.header, Part::Header)?;
     part_object(alloc, parts.parent, Part::Parent)?;
