@@ -1,0 +1,5 @@
+pub mod ObjectLemmas
+pub mod CutLemmas
+pub mod OpenLemmas
+pub mod TextsLemmas
+pub mod AskedLemmas

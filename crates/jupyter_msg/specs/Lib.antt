@@ -1,0 +1,11 @@
+pub mod Fault
+pub mod Hmac
+pub mod Signature
+pub mod Object
+pub mod Octets
+pub mod Message
+pub mod Connection
+pub mod Fields
+pub mod RequestType
+pub mod Requests
+pub mod Asked

@@ -1,0 +1,105 @@
+//! The request to execute a cell (Jupyter messaging page, "Execute").
+ghost use Rattle.std.specs.Prelude.{◌≡◌, ◌⊎◌, [], true, false, Some, None, IfOk, IfErr, option_and_then, unwrap_or, string_bytes};
+ghost use Rattle.serde_json.specs.Find.{as_str};
+ghost use Rattle.serde_json.specs.View.{view, members_view};
+ghost use Rattle.jupyter_msg.specs.Asked.{Reads};
+ghost use Rattle.jupyter_msg.specs.Fields.{given, allowed, as_texts, first_wrong, texts_in};
+ghost use Rattle.jupyter_msg.specs.Requests.{IsExecute, expressions_of, fields_of};
+
+use crate::fault::{Field, MsgFault};
+use crate::fields::{flag, given, text};
+use crate::request_type::RequestType;
+use serde_json::{Map, Value};
+use std::alloc::Global;
+
+/// An expression whose value the frontend asks for beside the cell, under a name of its own.
+#[derive(Debug, Drop)]
+pub struct UserExpression {
+    /// The name under which it is answered.
+    pub name: String,
+    /// The text of the expression.
+    pub expression: String,
+}
+
+/// The request to execute a cell.
+#[derive(Debug, Drop)]
+pub struct ExecuteRequest {
+    /// The text of the cell.
+    pub code: String,
+    /// Nothing is broadcast but the status; `false` where the field is missing.
+    pub silent: bool,
+    /// The cell is counted and kept in the input history. Where the field is missing it is `true`, and `false` for a
+    /// silent cell.
+    pub store_history: bool,
+    /// The expressions, in the order of their names' octets; none where the field is missing.
+    pub user_expressions: Vec<UserExpression>,
+}
+
+/// The expression of one member.
+fn expression_of(alloc: Global, name: &String, value: &Value) -> Result<UserExpression, MsgFault>
+    ensures name { IfOk result (λ e. string_bytes e.name ≡ string_bytes name.now) }
+    ensures text { IfOk result (λ e. as_str (view value.now) ≡ Some (string_bytes e.expression)) }
+    ensures refused { IfErr result (λ e. (e ≡ MsgFault.Memory)
+        ⊎ ((e ≡ MsgFault.BadField Field.UserExpressions) × (as_str (view value.now) ≡ None))) }
+{
+    match value.as_str() {
+        Some(text) => Ok(UserExpression {
+            name: String::from_str(alloc, name.as_str())?,
+            expression: String::from_str(alloc, text)?,
+        }),
+        None => Err(MsgFault::BadField(Field::UserExpressions)),
+    }
+}
+
+/// The expressions of an object whose members are all texts.
+fn expressions_in(alloc: Global, map: &Map<String, Value>) -> Result<Vec<UserExpression>, MsgFault>
+    ensures value { IfOk result (λ v. texts_in (members_view map.now.entries)
+        ≡ Some (expressions_of v.items)) }
+    ensures refused { IfErr result (λ e. (e ≡ MsgFault.Memory)
+        ⊎ ((e ≡ MsgFault.BadField Field.UserExpressions)
+        × (texts_in (members_view map.now.entries) ≡ None))) }
+{
+    let mut expressions = Vec::new(alloc);
+    for (name, value) in map.iter() {
+        expressions.push(expression_of(alloc, name, value)?)?;
+    }
+    Ok(expressions)
+}
+
+/// The expressions of the field `user_expressions`, none where it is missing.
+fn expressions(alloc: Global, content: &Value) -> Result<Vec<UserExpression>, MsgFault>
+    ensures value { IfOk result (λ v. expressions_of v.items
+        ≡ unwrap_or (option_and_then as_texts (given Field.UserExpressions (view content.now))) []) }
+    ensures fits { IfOk result (λ v. allowed as_texts (given Field.UserExpressions (view content.now))
+        ≡ true) }
+    ensures refused { IfErr result (λ e. (e ≡ MsgFault.Memory)
+        ⊎ ((e ≡ MsgFault.BadField Field.UserExpressions)
+        × (allowed as_texts (given Field.UserExpressions (view content.now)) ≡ false))) }
+{
+    match given(content, Field::UserExpressions) {
+        None => Ok(Vec::new(alloc)),
+        Some(value) => match value.as_object() {
+            Some(map) => expressions_in(alloc, map),
+            None => Err(MsgFault::BadField(Field::UserExpressions)),
+        },
+    }
+}
+
+impl ExecuteRequest {
+    /// Reads the content of an `execute_request`.
+    pub(crate) fn read(alloc: Global, content: &Value) -> Result<ExecuteRequest, MsgFault>
+        ensures { Reads (IsExecute (view content.now)) result
+            (first_wrong (fields_of RequestType.Execute) (view content.now)) }
+    {
+        let code = text(alloc, content, Field::Code)?;
+        let silent = flag(content, Field::Silent)?.unwrap_or(false);
+        let store_history = flag(content, Field::StoreHistory)?.unwrap_or(!silent);
+        let user_expressions = expressions(alloc, content)?;
+        Ok(ExecuteRequest {
+            code,
+            silent,
+            store_history,
+            user_expressions,
+        })
+    }
+}

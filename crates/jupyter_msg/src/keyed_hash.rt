@@ -1,0 +1,77 @@
+//! HMAC with SHA-256 (RFC 2104, FIPS 180-4).
+ghost use Rattle.std.specs.Prelude.{◌≡◌, ◌++◌, ◌≤◌, length, List, ℕ};
+ghost use Rattle.sha2.specs.Hashers.{Holds256};
+ghost use Rattle.sha2.specs.Sha256.{sha256};
+ghost use Rattle.jupyter_msg.specs.Hmac.{filled, block_of, padded, hmac_of};
+
+use sha2::{Digest, Sha256};
+
+/// The octets of one block of SHA-256.
+const BLOCK: usize = 64;
+
+/// The pad of the inner hash.
+const INNER: u8 = 0x36;
+
+/// The pad of the outer hash.
+const OUTER: u8 = 0x5C;
+
+/// The octets, with zeros after them up to one block.
+fn filled(octets: &[u8]) -> [u8; BLOCK]
+    requires { length octets.now ≤ 64 }
+    ensures { result ≡ filled octets.now }
+{
+    let mut block = [0; BLOCK];
+    block[..octets.len()].copy_from_slice(octets);
+    block
+}
+
+/// The key as one block: a key longer than a block is hashed first.
+fn block_of(key: &[u8]) -> [u8; BLOCK]
+    ensures { result ≡ block_of key.now }
+{
+    if key.len() > BLOCK {
+        filled(&Sha256::digest(key))
+    } else {
+        filled(key)
+    }
+}
+
+/// The block, each of its octets xored with the pad.
+fn padded(mut block: [u8; BLOCK], pad: u8) -> [u8; BLOCK]
+    ensures { result ≡ padded pad block }
+{
+    for octet in block.iter_mut() {
+        *octet ^= pad;
+    }
+    block
+}
+
+/// A hasher that has taken the inner block of the key, and the key's block. It is fed the text, and then `finished`.
+pub(crate) fn begun(key: &[u8]) -> (Sha256, [u8; BLOCK])
+    ensures block { result.1 ≡ block_of key.now }
+    ensures begun { Holds256 result.0 (padded 0x36 (block_of key.now)) }
+{
+    let block = block_of(key);
+    let mut inner = Sha256::new();
+    inner.update(padded(block, INNER));
+    (inner, block)
+}
+
+/// The keyed hash, once the inner hasher has taken the text.
+pub(crate) fn finished(inner: Sha256, block: [u8; BLOCK]) -> [u8; 32]
+    ensures { (taken : List ℕ) → Holds256 inner taken → result ≡ sha256 (padded 0x5C block ++ sha256 taken) }
+{
+    let mut outer = Sha256::new();
+    outer.update(padded(block, OUTER));
+    outer.update(inner.finalize());
+    outer.finalize()
+}
+
+/// The keyed hash of the text, under a key of any length; it takes no memory (RFC 2104, section 2, with SHA-256).
+pub fn hmac(key: &[u8], text: &[u8]) -> [u8; 32]
+    ensures { result ≡ hmac_of key.now text.now }
+{
+    let (mut inner, block) = begun(key);
+    inner.update(text);
+    finished(inner, block)
+}

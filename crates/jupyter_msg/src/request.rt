@@ -1,0 +1,151 @@
+//! Requests: what a message on the shell or control socket asks.
+ghost use Rattle.std.specs.Prelude.{◌≡◌, ◌⊎◌, false, Ok, Err, IfOk, IfErr};
+ghost use Rattle.serde_json.specs.Data.{Data};
+ghost use Rattle.serde_json.specs.View.{view};
+ghost use Rattle.jupyter_msg.specs.Asked.{Reads, Gives, asked, type_in};
+ghost use Rattle.jupyter_msg.specs.Fields.{first_wrong, flag_at};
+ghost use Rattle.jupyter_msg.specs.Octets.{octets_of};
+ghost use Rattle.jupyter_msg.specs.Requests.{IsRequest, type_of, fields_of};
+
+use crate::comm::{CommClose, CommInfoRequest, CommMessage, CommOpen};
+use crate::execution::ExecuteRequest;
+use crate::fault::{Field, MsgFault, Part};
+use crate::fields::{flag, text_in};
+use crate::history::HistoryRequest;
+use crate::introspection::{CompleteRequest, InspectRequest, IsCompleteRequest};
+use crate::message::Message;
+use crate::object::part_object;
+use crate::request_type::RequestType;
+use serde_json::Value;
+use std::alloc::Global;
+
+/// The request to end the kernel.
+#[derive(Debug, Drop)]
+pub struct ShutdownRequest {
+    /// A new kernel will be started in its place; `false` where the field is missing.
+    pub restart: bool,
+}
+
+/// What a message asks.
+#[derive(Debug, Drop)]
+pub enum Request {
+    /// What the kernel is.
+    KernelInfo,
+    /// Execute a cell.
+    Execute(ExecuteRequest),
+    /// Complete a name.
+    Complete(CompleteRequest),
+    /// Tell what is known of a name.
+    Inspect(InspectRequest),
+    /// Judge whether code can be executed as it stands.
+    IsComplete(IsCompleteRequest),
+    /// Tell the input history.
+    History(HistoryRequest),
+    /// Tell the open comms.
+    CommInfo(CommInfoRequest),
+    /// Interrupt what runs.
+    Interrupt,
+    /// End the kernel.
+    Shutdown(ShutdownRequest),
+    /// Open a comm.
+    CommOpen(CommOpen),
+    /// Say something on a comm.
+    CommMessage(CommMessage),
+    /// Close a comm.
+    CommClose(CommClose),
+}
+
+impl ShutdownRequest {
+    /// Reads the content of a `shutdown_request`.
+    fn read(content: &Value) -> Result<ShutdownRequest, MsgFault>
+        ensures { Reads (λ r. r.restart ≡ flag_at Field.Restart false (view content.now)) result
+            (first_wrong (fields_of RequestType.Shutdown) (view content.now)) }
+    {
+        let restart = flag(content, Field::Restart)?.unwrap_or(false);
+        Ok(ShutdownRequest { restart })
+    }
+}
+
+/// The type that a header names. Its fields `msg_id`, `session` and `msg_type` are texts.
+#[tactic(auto, unfolding(crate::specs::Asked::type_in))]
+fn type_in(header: &Value) -> Result<RequestType, MsgFault>
+    ensures { Gives (λ t. t) result (type_in (view header.now)) }
+{
+    text_in(header, Field::MsgId)?;
+    text_in(header, Field::Session)?;
+    match RequestType::named(text_in(header, Field::MsgType)?) {
+        Some(request_type) => Ok(request_type),
+        None => Err(MsgFault::UnknownType),
+    }
+}
+
+impl Request {
+    /// The type of the request.
+    pub fn request_type(&self) -> RequestType
+        ensures { result ≡ type_of self.now }
+    {
+        match self {
+            Request::KernelInfo => RequestType::KernelInfo,
+            Request::Execute(_) => RequestType::Execute,
+            Request::Complete(_) => RequestType::Complete,
+            Request::Inspect(_) => RequestType::Inspect,
+            Request::IsComplete(_) => RequestType::IsComplete,
+            Request::History(_) => RequestType::History,
+            Request::CommInfo(_) => RequestType::CommInfo,
+            Request::Interrupt => RequestType::Interrupt,
+            Request::Shutdown(_) => RequestType::Shutdown,
+            Request::CommOpen(_) => RequestType::CommOpen,
+            Request::CommMessage(_) => RequestType::CommMessage,
+            Request::CommClose(_) => RequestType::CommClose,
+        }
+    }
+
+    /// Reads the content of a request of this type.
+    fn read_content(
+        alloc: Global,
+        request_type: RequestType,
+        content: &Value,
+    ) -> Result<Request, MsgFault>
+        ensures { Reads (λ r. (type_of r ≡ request_type) × IsRequest (view content.now) r) result
+            (first_wrong (fields_of request_type) (view content.now)) }
+    {
+        Ok(match request_type {
+            RequestType::KernelInfo => Request::KernelInfo,
+            RequestType::Execute => Request::Execute(ExecuteRequest::read(alloc, content)?),
+            RequestType::Complete => Request::Complete(CompleteRequest::read(alloc, content)?),
+            RequestType::Inspect => Request::Inspect(InspectRequest::read(alloc, content)?),
+            RequestType::IsComplete => Request::IsComplete(IsCompleteRequest::read(
+                alloc, content,
+            )?),
+            RequestType::History => Request::History(HistoryRequest::read(content)?),
+            RequestType::CommInfo => Request::CommInfo(CommInfoRequest::read(alloc, content)?),
+            RequestType::Interrupt => Request::Interrupt,
+            RequestType::Shutdown => Request::Shutdown(ShutdownRequest::read(content)?),
+            RequestType::CommOpen => Request::CommOpen(CommOpen::read(alloc, content)?),
+            RequestType::CommMessage => Request::CommMessage(CommMessage::read(alloc, content)?),
+            RequestType::CommClose => Request::CommClose(CommClose::read(alloc, content)?),
+        })
+    }
+
+    /// Reads what a message asks, as on the shell socket. A field that is null counts as missing; fields that the request
+    /// does not have are passed over, and of one given twice the last value counts. A whole number is one that is written
+    /// with neither a fraction nor an exponent.
+    ///
+    /// # Errors
+    ///
+    /// The first that holds of: `BadField` with the first of the header's `msg_id`, `session` and `msg_type` that is no
+    /// text; `UnknownType`; `BadField` with the first wrong field of the content. For a message that was not opened also
+    /// `NotJson`, with the header before its fields and with the content after the type. `Memory` may stand in the place
+    /// of any other answer.
+    pub fn read(alloc: Global, message: &Message) -> Result<Request, MsgFault>
+        ensures request { IfOk result (λ r. (content : Data)
+            × (asked (octets_of message.now) ≡ Ok (type_of r, content)) × IsRequest content r) }
+        ensures refused { IfErr result (λ e. (e ≡ MsgFault.Memory)
+            ⊎ (asked (octets_of message.now) ≡ Err e)) }
+    {
+        let header = part_object(alloc, &message.header, Part::Header)?;
+        let request_type = type_in(&header)?;
+        let content = part_object(alloc, &message.content, Part::Content)?;
+        Request::read_content(alloc, request_type, &content)
+    }
+}
