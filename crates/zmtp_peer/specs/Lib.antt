@@ -1,0 +1,4 @@
+pub mod Roles
+pub mod Commands
+pub mod Faults
+pub mod Handshake
