@@ -1,0 +1,59 @@
+-- Laws of the reading of streams.
+use Rattle.std.specs.Prelude.{◌≡◌, ℕ, ◌<◌, List, [], ◌∷◌, ◌++◌, All}
+use Rattle.zmtp_wire.specs.declared.fault.WireFault.{WireFault}
+use Rattle.zmtp_wire.specs.Frame.{Frame, IsFrame, header_of}
+use Rattle.zmtp_wire.specs.Tally.{Fits, counted}
+use Rattle.zmtp_wire.specs.Stream.{Rest, whole, Takes, Leaves, End, Open, Faulty, ReadsFrom, Reads}
+
+-- each list of octets has a reading
+abbrev pub EveryStreamIsRead : Type 0
+EveryStreamIsRead = (stream : List ℕ) → All (λ octet. octet < 256) stream → (fs : List Frame) × (end : End) × Reads stream fs end
+
+-- and one only
+abbrev pub StreamsHaveOneReading : Type 0
+StreamsHaveOneReading =
+    (stream : List ℕ) (fs gs : List Frame) (end other : End) → Reads stream fs end → Reads stream gs other → (fs ≡ gs) × (end ≡ other)
+
+-- with more octets behind them, the octets are read as the same frames, and maybe more
+abbrev pub ReadingsGoOn : Type 0
+ReadingsGoOn =
+    (stream more : List ℕ) (fs gs : List Frame) (end other : End) → Reads stream fs end → Reads (stream ++ more) gs other
+    → (hs : List Frame) × (gs ≡ fs ++ hs)
+
+-- a fault is the same whatever follows
+abbrev pub FaultsStay : Type 0
+FaultsStay =
+    (stream more : List ℕ) (fs : List Frame) (fault : WireFault) → Reads stream fs (Faulty fault) → Reads (stream ++ more) fs (Faulty fault)
+
+-- the octets of a frame within the limits are read as this frame, and what follows as if it stood alone
+abbrev pub FramesAreReadBack : Type 0
+FramesAreReadBack =
+    (rest : Rest) (octets : List ℕ) (f : Frame) → IsFrame octets f → Fits rest.tally (header_of f)
+    → (fs : List Frame) (end : End) → ReadsFrom (record rest { octets = octets ++ rest.octets }) fs end
+    → (gs : List Frame) × (fs ≡ f ∷ gs) × ReadsFrom (record rest { tally = counted rest.tally (header_of f) }) gs end
+
+-- what happens to a stream that is read: a piece comes, or a frame is given
+pub data Event : Type 0 where
+  Fed : List ℕ → Event
+  Given : Frame → Event
+
+-- all octets that came, and all frames that were given
+abbrev pub octets_fed : List Event → List ℕ
+octets_fed [] = []
+octets_fed (Fed piece ∷ es) = piece ++ octets_fed es
+octets_fed (Given f ∷ es) = octets_fed es
+
+abbrev pub frames_given : List Event → List Frame
+frames_given [] = []
+frames_given (Fed piece ∷ es) = frames_given es
+frames_given (Given f ∷ es) = f ∷ frames_given es
+
+-- the events, one after another, lead from one rest of the stream to another
+abbrev pub Run : Rest → List Event → Rest → Type 0
+Run rest [] after = after ≡ rest
+Run rest (Fed piece ∷ es) after = Run (record rest { octets = rest.octets ++ piece }) es after
+Run rest (Given f ∷ es) after = (next : Rest) × Takes rest f next × Run next es after
+
+-- However the octets were cut and whenever frames were taken, the frames are those at the front of all octets joined.
+abbrev pub NoCutMatters : Type 0
+NoCutMatters = (es : List Event) (after : Rest) → Run (whole []) es after → Leaves (whole (octets_fed es)) (frames_given es) after

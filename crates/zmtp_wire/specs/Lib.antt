@@ -1,0 +1,9 @@
+pub mod Fault
+pub mod Greeting
+pub mod Header
+pub mod Tally
+pub mod Frame
+pub mod Fronts
+pub mod Stream
+pub mod Decoding
+pub mod Laws

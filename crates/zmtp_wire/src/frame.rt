@@ -1,0 +1,52 @@
+//! Frames (RFC 23, "Framing").
+ghost use Rattle.std.specs.Prelude.{◌≡◌, ◌≤◌, length, IfErr, IfOk, OnOk};
+
+use crate::fault::WireFault;
+use crate::header::Header;
+use crate::tally::OCTET_LIMIT;
+use std::alloc::Global;
+
+/// A frame: a part of a message, or a command.
+#[derive(Debug, Drop, PartialEq, Eq)]
+pub struct Frame {
+    /// Whether more frames of the same message follow.
+    pub more: bool,
+    /// Whether the frame is a command, and no part of a message.
+    pub command: bool,
+    /// The octets.
+    pub body: Vec<u8>,
+}
+
+impl Frame {
+    ghost use Rattle.zmtp_wire.specs.Tally.{octet_limit};
+    ghost use Rattle.zmtp_wire.specs.Frame.{frame_of, written, IsFrame, IsWriteFault};
+
+    /// The octets of the frame: its size in one octet up to 255, and in eight octets above.
+    ///
+    /// # Errors
+    /// `CommandWithMore` for a command with `more`, else `TooLong` for a body of more than 16,777,216 octets: no reader
+    /// takes such a frame. `Memory` for other frames alone.
+    pub fn write(&self, alloc: Global) -> Result<Vec<u8>, WireFault>
+        ensures written { IfOk result (λ octets. octets.items ≡ written (frame_of self.now)) }
+        ensures frame { IfOk result (λ octets. IsFrame octets.items (frame_of self.now)) }
+        ensures size { OnOk result (length self.now.body.items ≤ octet_limit) }
+        ensures fault { IfErr result (IsWriteFault (frame_of self.now)) }
+    {
+        if self.command && self.more {
+            return Err(WireFault::CommandWithMore);
+        }
+        let size = self.body.len() as u64;
+        if size > OCTET_LIMIT {
+            return Err(WireFault::TooLong);
+        }
+        let header = Header {
+            more: self.more,
+            command: self.command,
+            size,
+        };
+        let mut octets = Vec::new(alloc);
+        header.write(&mut octets)?;
+        octets.extend_from_slice(&self.body)?;
+        Ok(octets)
+    }
+}

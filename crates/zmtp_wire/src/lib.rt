@@ -1,0 +1,55 @@
+//! The wire of ZMTP 3.0: the greeting, frames, and the reading of a stream that comes in any pieces.
+//!
+//! To the layer above this crate promises that the frames which a `Decoder` gives are those of the whole list of octets
+//! fed to it, whatever the cut; that it tells the fault of that list where there is one, and for good; and that what
+//! `Greeting::write` and `Frame::write` give is read again, whatever follows.
+//!
+//! The definitions, in specs/, are those of RFC 23 (ZMTP 3.0), sections "Framing", "The Greeting", "Version Negotiation"
+//! and "The NULL Security Mechanism", with this project's limits on the size of a message.
+#![tactic(auto)]
+
+ghost use Rattle.zmtp_wire.specs.Laws.{EveryStreamIsRead, StreamsHaveOneReading, ReadingsGoOn, FaultsStay, FramesAreReadBack, NoCutMatters};
+
+pub mod decoder;
+pub mod fault;
+pub mod frame;
+pub mod greeting;
+mod header;
+mod tally;
+#[cfg(test)]
+mod tests;
+
+pub use decoder::Decoder;
+pub use fault::WireFault;
+pub use frame::Frame;
+pub use greeting::Greeting;
+
+/// Law: each list of octets has a reading.
+pub fn every_stream_is_read_law()
+    ensures { EveryStreamIsRead }
+{}
+
+/// Law: no list of octets has two readings.
+pub fn streams_have_one_reading_law()
+    ensures { StreamsHaveOneReading }
+{}
+
+/// Law: with more octets behind them the octets have the same frames, and maybe more.
+pub fn readings_go_on_law()
+    ensures { ReadingsGoOn }
+{}
+
+/// Law: a fault is the same whatever follows.
+pub fn faults_stay_law()
+    ensures { FaultsStay }
+{}
+
+/// Law: the octets of a frame that keeps the limits are read as this frame, whatever follows, in either form.
+pub fn frames_are_read_back_law()
+    ensures { FramesAreReadBack }
+{}
+
+/// Law: for each list of pieces, and whenever frames are asked for in between, the frames are those of all octets joined.
+pub fn no_cut_matters_law()
+    ensures { NoCutMatters }
+{}
