@@ -1,5 +1,5 @@
 -- Commands and the metadata of READY (RFC 23, sections 2 and 2.4).
-use Rattle.std.specs.Prelude.{◌≡◌, ℕ, ◌<◌, Option, Some, None, option_and_then, List, [], ◌∷◌, ◌++◌, length, take, drop, codes, nat_lt, nat_le, if◌then◌else◌, zero, suc}
+use Rattle.std.specs.Prelude.{◌≡◌, ℕ, ◌<◌, Option, Some, None, option_and_then, option_map, List, [], ◌∷◌, ◌++◌, length, take, drop, codes, nat_lt, nat_le, if◌then◌else◌, zero, suc}
 use Rattle.std.specs.List.{flat_map}
 use Rattle.std.specs.Int.{w32, to_be_bytes, from_be_bytes}
 use Rattle.std.specs.Str.{str_eq_ignore_ascii_case}
@@ -58,3 +58,7 @@ metadata_of octets = metadata_within (length octets) octets
 abbrev pub value_of : List ℕ → List Property → Option (List ℕ)
 value_of name [] = None
 value_of name (p ∷ ps) = if str_eq_ignore_ascii_case p.name name then Some p.value else value_of name ps
+
+-- the socket type that the octets of a READY announce, if any; none at all if they don't fit their lengths
+unfoldable pub announced : List ℕ → Option (Option (List ℕ))
+announced octets = option_map (value_of (codes "Socket-Type")) (metadata_of octets)

@@ -3,7 +3,7 @@ ghost use Rattle.std.specs.Prelude.{◌≡◌, ◌<◌, Option, option_map, leng
 ghost use Rattle.std.specs.Option.{option_or, option_copied};
 ghost use Rattle.std.specs.Result.{result_ok};
 ghost use Rattle.std.specs.Str.{str_eq_ignore_ascii_case};
-ghost use Rattle.zmtp_peer.specs.Commands.{command_of, reason_of, property_at, sized, cut, metadata_of, value_of};
+ghost use Rattle.zmtp_peer.specs.Commands.{command_of, reason_of, property_at, sized, cut, announced};
 
 /// The data of a READY doesn't fit its lengths.
 #[derive(Clone, Copy, Debug, PartialEq, Eq)]
@@ -62,8 +62,9 @@ fn first_of<'a>(found: Option<&'a [u8]>, name: &[u8], value: &'a [u8]) -> Option
 }
 
 /// The socket type that the data of a READY announces, if any: the value of the first property of that name.
+#[tactic(auto, unfolding(crate::specs::Commands::announced))]
 pub(crate) fn socket_type(octets: &[u8]) -> Result<Option<&[u8]>, Misfit>
-    ensures { option_map (λ x. option_copied x) (result_ok result) ≡ option_map (value_of (codes "Socket-Type")) (metadata_of octets.now) }
+    ensures { option_map (λ x. option_copied x) (result_ok result) ≡ announced octets.now }
 {
     let mut rest = octets;
     let mut found = None;

@@ -2,8 +2,12 @@
 #![tactic(auto)]
 
 pub mod command;
+pub mod event;
 pub mod fault;
+mod handshake;
 pub mod role;
+pub mod subscriptions;
 
+pub use event::PeerEvent;
 pub use fault::{PeerFault, Reason};
 pub use role::Role;

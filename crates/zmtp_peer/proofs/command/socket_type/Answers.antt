@@ -1,11 +1,12 @@
 use Rattle.std.proofs.Common.{◌≡◌, ℕ, ◌<◌, List, Option, codes, length, arith, ap, sym, ◌∙◌, rules}
 use Rattle.std.specs.Option.{option_map, option_or, option_copied}
 use Rattle.std.proofs.lemmas.Bool.Decides.{nat_tests}
-use Rattle.zmtp_peer.specs.Commands.{Property, metadata_of, value_of}
+use Rattle.zmtp_peer.specs.Commands.{Property, metadata_of, value_of, announced}
 use Rattle.zmtp_peer.proofs.CommandLemmas.{announced-more, announced-none, announced-end}
 use Rattle.zmtp_peer.proofs.command.socket_type.Goals as goal
 
 pub returns-in_default : goal.returns-in_default
+unfolding announced
 returns-in_default c =
     sym (announced-none (codes "Socket-Type") c.loop-rest.rest.now (option_copied c.loop-rest.found) (grind (arith, nat_tests)) (sym c.in_default.ensures.read))
     ∙ c.loop-rest.invariant
@@ -19,6 +20,7 @@ loop-rest-preserved c =
     ∙ c.loop-rest.invariant
 
 pub returns : goal.returns
+unfolding announced
 returns c =
     sym (announced-end (codes "Socket-Type") c.loop-rest.rest.now (option_copied c.loop-rest.found) (grind (arith, nat_tests)))
     ∙ c.loop-rest.invariant
