@@ -54,6 +54,16 @@ impl Flags {
         }
         Ok(flags)
     }
+
+    /// The octet of the flags.
+    fn octet(self) -> u8
+        ensures { result ≡ flags self.more self.long self.command }
+    {
+        let more = if self.more { MORE } else { 0 };
+        let long = if self.long { LONG } else { 0 };
+        let command = if self.command { COMMAND } else { 0 };
+        more | long | command
+    }
 }
 
 impl Header {
@@ -88,18 +98,15 @@ impl Header {
     pub(crate) fn write(self, octets: &mut Vec<u8>) -> Result<(), AllocError>
         ensures { OnOk result (octets.new.items ≡ octets.old.items ++ header_octets (nat_lt 255 self.size) self) }
     {
-        let mut flags = 0;
-        if self.more {
-            flags |= MORE;
-        }
-        if self.command {
-            flags |= COMMAND;
-        }
-        if self.size > SHORT_SIZE {
-            octets.push(flags | LONG)?;
+        let flags = Flags {
+            more: self.more,
+            long: self.size > SHORT_SIZE,
+            command: self.command,
+        };
+        octets.push(flags.octet())?;
+        if flags.long {
             return octets.extend_from_slice(&self.size.to_be_bytes());
         }
-        octets.push(flags)?;
         octets.push(self.size as u8)?;
         Ok(())
     }

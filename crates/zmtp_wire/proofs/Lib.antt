@@ -1,0 +1,4 @@
+pub mod Octets
+pub mod Sizes
+pub mod Headers
+pub mod Streams
