@@ -154,8 +154,8 @@ begun-read octets first behind m l c e each bits allowed few =
 
 -- flags and a size are a header
 pub header-read : (octets : List ℕ) (first : ℕ) (behind : List ℕ) (m l c : Bool) (size : ℕ) (body : List ℕ)
-  → octets ≡ first ∷ behind → first ≡ flags m l c → (c && m) ≡ false → behind ≡ size_octets l size ++ body → size < size_bound l
-  → HasHeader octets (record { more = m; command = c; size = size }) body
+    → octets ≡ first ∷ behind → first ≡ flags m l c → (c && m) ≡ false → behind ≡ size_octets l size ++ body → size < size_bound l
+    → HasHeader octets (record { more = m; command = c; size = size }) body
 header-read octets first behind m l c size body e bits allowed sized small = record {
   head = header_octets l (record { more = m; command = c; size = size });
   front = e ∙ ap (λ o. o ∷ behind) bits ∙ ap (λ s. flags m l c ∷ s) sized;

@@ -51,10 +51,11 @@ command_in-flags true true true = refl
 
 -- one octet has one set of flags
 pub flags_tell : (m l c m' l' c' : Bool) → flags m l c ≡ flags m' l' c' → (m ≡ m') × (l ≡ l') × (c ≡ c')
-flags_tell m l c m' l' c' e =
-    (sym (more_in-flags m l c) ∙ ap more_in e ∙ more_in-flags m' l' c',
-     sym (long_in-flags m l c) ∙ ap long_in e ∙ long_in-flags m' l' c',
-     sym (command_in-flags m l c) ∙ ap command_in e ∙ command_in-flags m' l' c')
+flags_tell m l c m' l' c' e = (
+  sym (more_in-flags m l c) ∙ ap more_in e ∙ more_in-flags m' l' c',
+  sym (long_in-flags m l c) ∙ ap long_in e ∙ long_in-flags m' l' c',
+  sym (command_in-flags m l c) ∙ ap command_in e ∙ command_in-flags m' l' c',
+)
 
 -- flags leave the reserved bits alone
 pub flags_below : (m l c : Bool) → flags m l c < 8

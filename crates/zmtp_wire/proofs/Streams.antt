@@ -69,7 +69,7 @@ partial_or_frame rest f behind partial takes =
     let missing = partial.missing in
     let g = partial.frame in
     let all : HasHeader (rest.octets ++ missing) (header_of g) (g.body ++ []) =
-        subst (λ o. HasHeader o (header_of g) (g.body ++ [])) (append-nil (rest.octets ++ missing)) (frame_header (rest.octets ++ missing) [] g partial.begun) in
+    subst (λ o. HasHeader o (header_of g) (g.body ++ [])) (append-nil (rest.octets ++ missing)) (frame_header (rest.octets ++ missing) [] g partial.begun) in
     let front = header_longer rest.octets (header_of f) (f.body ++ behind.octets) missing (taken_header rest f behind takes) in
     let heads = one_header (rest.octets ++ missing) (header_of f) (header_of g) ((f.body ++ behind.octets) ++ missing) (g.body ++ []) front all in
     let sizes : length f.body ≡ length g.body = ap (λ (h : Header). h.size) heads.0 in
@@ -160,7 +160,7 @@ leaves_more (g ∷ fs) f rest behind next steps takes = (steps.0, steps.1, leave
 
 -- a reading of a stream goes on with each list of frames that stands at its front
 pub reading_behind : (fs gs : List Frame) (rest behind : Rest) (end : End) → Leaves rest fs behind → ReadsFrom rest gs end
-  → (hs : List Frame) × (gs ≡ fs ++ hs) × ReadsFrom behind hs end
+    → (hs : List Frame) × (gs ≡ fs ++ hs) × ReadsFrom behind hs end
 reading_behind [] gs rest behind end e reads = (gs, refl, subst (λ r. ReadsFrom r gs end) (sym e) reads)
 reading_behind (f ∷ fs) [] rest behind end steps reads =
     absurd (end_or_frame end rest f steps.0 (subst (λ r. EndsIn r end) reads.1 reads.2) steps.1)

@@ -66,7 +66,7 @@ impl Decoder {
         }
     }
 
-    /// Takes the next piece of the stream. What was given is forgotten where it is at least half of what is kept.
+    /// Takes the next piece of the stream.
     ///
     /// # Errors
     /// `Memory` alone. Then nothing came: all is as after an empty piece.
@@ -76,16 +76,23 @@ impl Decoder {
         ensures nothing { OnErr result (self.new ≡ fed self.old []) }
         ensures given { (octets : List ℕ) (given : List FrameSeen) → HasGiven self.old octets given → OnOk result (HasGiven self.new (octets ++ piece.now) given) }
     {
+        self.begin_piece();
+        match self.buffer.extend_from_slice(piece) {
+            Ok(()) => Ok(()),
+            Err(_) => Err(WireFault::Memory),
+        }
+    }
+
+    /// Notes what is left before the next piece. What was given is dropped where it is at least half of what is kept.
+    fn begin_piece(&mut self)
+        ensures { self.new ≡ fed self.old [] }
+    {
         if self.position.at >= self.buffer.len() - self.position.at {
             drop_front(&mut self.buffer, self.position.at);
             self.position.at = 0;
         }
         self.length_before = self.buffer.len();
         self.position_before = self.position;
-        match self.buffer.extend_from_slice(piece) {
-            Ok(()) => Ok(()),
-            Err(_) => Err(WireFault::Memory),
-        }
     }
 
     /// The next frame, or `None` where less than a whole frame is left.

@@ -1,0 +1,32 @@
+-- What a decoder was fed and gave, through its calls.
+use Rattle.std.proofs.Common.{◌≡◌, ◌≢◌, ℕ, List, [], ◌∷◌, ◌++◌, Result, Err, Ok, OnOk, sym, ap, ◌∙◌, refl, subst}
+use Rattle.zmtp_wire.specs.declared.fault.WireFault.{WireFault}
+use Rattle.zmtp_wire.specs.declared.fault.WireFault.TheVariants.{BadSignature, OldVersion, BadMechanism, ReservedBits, CommandWithMore, TooLong, Memory}
+use Rattle.zmtp_wire.specs.Frame.{Frame}
+use Rattle.zmtp_wire.specs.Stream.{Rest, whole, Takes, IsFaultAt, IsPartial}
+use Rattle.zmtp_wire.specs.Decoding.{Decoding, fed, HasGiven, Tells}
+use Rattle.zmtp_wire.proofs.Streams.{leaves_longer, leaves_more}
+
+-- a piece more
+pub given_fed : (d : Decoding) (octets piece : List ℕ) (given : List Frame) → HasGiven d octets given → HasGiven (fed d piece) (octets ++ piece) given
+given_fed d octets piece given has = leaves_longer given (whole octets) d.rest piece has
+
+-- a frame more
+pub given_more : (d : Decoding) (octets : List ℕ) (given : List Frame) (f : Frame) (next : Rest) → HasGiven d octets given → Takes d.rest f next → HasGiven (record { rest = next; before = d.before }) octets (given ++ f ∷ [])
+given_more d octets given f next has takes = leaves_more given f (whole octets) d.rest next has takes
+
+-- a fault
+pub tells_fault : (fault : WireFault) (d : Decoding) (octets : List ℕ) (given : List Frame) → HasGiven d octets given → (fault ≢ Memory → IsFaultAt d.rest fault) → Tells octets given (Err fault) d
+tells_fault Memory d octets given has at = has
+tells_fault BadSignature d octets given has at = (d.rest, has, at (λ e. cc))
+tells_fault OldVersion d octets given has at = (d.rest, has, at (λ e. cc))
+tells_fault BadMechanism d octets given has at = (d.rest, has, at (λ e. cc))
+tells_fault ReservedBits d octets given has at = (d.rest, has, at (λ e. cc))
+tells_fault CommandWithMore d octets given has at = (d.rest, has, at (λ e. cc))
+tells_fault TooLong d octets given has at = (d.rest, has, at (λ e. cc))
+
+-- on success, a piece more
+pub given_on_ok : {T E : Type 0} (r : Result T E) (old new : Decoding) (piece : List ℕ) → OnOk r (new ≡ fed old piece)
+  → (octets : List ℕ) (given : List Frame) → HasGiven old octets given → OnOk r (HasGiven new (octets ++ piece) given)
+given_on_ok (Ok x) old new piece e octets given has = subst (λ (d : Decoding). HasGiven d (octets ++ piece) given) (sym e) (given_fed old octets piece given has)
+given_on_ok (Err x) old new piece e octets given has = tt
