@@ -5,3 +5,4 @@ pub mod Handshake
 pub mod Events
 pub mod Subscriptions
 pub mod Table
+pub mod Intake

@@ -1,5 +1,6 @@
 -- The subscriptions of a peer: how often it has subscribed to each prefix, less how often it took that back.
-use Rattle.std.specs.Prelude.{◌≡◌, ℕ, ◌+◌, ◌-◌, ◌<◌, Bool, true, false, List, [], ◌∷◌, ◌++◌, if◌then◌else◌}
+use Rattle.std.specs.Prelude.{◌≡◌, ℕ, ◌+◌, ◌-◌, ◌<◌, List, [], ◌∷◌, ◌++◌, Option, unwrap_or, is_some, true, ◌^◌, if◌then◌else◌}
+use Rattle.std.specs.Map.{lookup}
 use Rattle.std.specs.Str.{bytes_eq}
 use Rattle.zmtp_peer.specs.Events.{Event, Ready, Message, Subscribe, Cancel}
 
@@ -23,12 +24,26 @@ subscriptions es prefix = counted_all prefix 0 es
 abbrev pub IsWanted : List Event → List ℕ → Type 0
 IsWanted es topic = (prefix : List ℕ) × (rest : List ℕ) × (topic ≡ prefix ++ rest) × (0 < subscriptions es prefix)
 
+-- the place of a prefix in a table of counts, if it has one
+abbrev pub place_of : List (List ℕ × ℕ) → List ℕ → Option ℕ
+place_of table prefix = lookup (bytes_eq prefix) table
+
 -- how often a prefix is counted in a table
 abbrev pub count_in : List (List ℕ × ℕ) → List ℕ → ℕ
-count_in [] prefix = 0
-count_in (e ∷ es) prefix = if bytes_eq prefix e.0 then e.1 else count_in es prefix
+count_in table prefix = unwrap_or (place_of table prefix) 0
 
--- whether a table has a place for a prefix
-abbrev pub has_place : List (List ℕ × ℕ) → List ℕ → Bool
-has_place [] prefix = false
-has_place (e ∷ es) prefix = if bytes_eq prefix e.0 then true else has_place es prefix
+-- a prefix that is counted stands at the front of the topic
+abbrev pub HasWanted : List (List ℕ × ℕ) → List ℕ → Type 0
+HasWanted table topic = (prefix : List ℕ) × (rest : List ℕ) × (topic ≡ prefix ++ rest) × (0 < count_in table prefix)
+
+-- A subscription has a place in the table, and can be counted n more times.
+abbrev pub IsRoomFor : ℕ → List (List ℕ × ℕ) → Event → Type 0
+IsRoomFor n table (Subscribe prefix) = (is_some (place_of table prefix) ≡ true) × (count_in table prefix + n < 2 ^ 64)
+IsRoomFor n table (Cancel prefix) = Unit {0}
+IsRoomFor n table Ready = Unit {0}
+IsRoomFor n table (Message frames) = Unit {0}
+
+-- each subscription among the events has one
+abbrev pub HasRoom : ℕ → List (List ℕ × ℕ) → List Event → Type 0
+HasRoom n table [] = Unit {0}
+HasRoom n table (e ∷ es) = IsRoomFor n table e × HasRoom n table es

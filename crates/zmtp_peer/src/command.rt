@@ -1,5 +1,5 @@
 //! What stands in the body of a command: its name and data, the properties of READY, the reason of ERROR (RFC 23).
-ghost use Rattle.std.specs.Prelude.{◌≡◌, ◌<◌, Option, option_map, length, IfSome, codes, None, Some, if◌then◌else◌};
+ghost use Rattle.std.specs.Prelude.{◌≡◌, ◌<◌, ◌≤◌, Option, option_map, length, IfSome, codes, None, Some, if◌then◌else◌};
 ghost use Rattle.std.specs.Option.{option_or, option_copied};
 ghost use Rattle.std.specs.Result.{result_ok};
 ghost use Rattle.std.specs.Str.{str_eq_ignore_ascii_case};
@@ -11,7 +11,8 @@ pub(crate) struct Misfit;
 
 /// An octet with a length, so many octets, and those behind them.
 fn sized(octets: &[u8]) -> Option<(&[u8], &[u8])>
-    ensures { option_map (λ x. (x.0.now, x.1.now)) result ≡ sized octets.now }
+    ensures read { option_map (λ x. (x.0.now, x.1.now)) result ≡ sized octets.now }
+    ensures short { IfSome result (λ x. length x.0.now ≤ 255) }
 {
     let (length, octets) = octets.split_first()?;
     octets.split_at_checked(*length as usize)
@@ -28,7 +29,8 @@ pub(crate) fn command(body: &[u8]) -> Option<(&[u8], &[u8])>
 /// The reason that the data of an ERROR gives; none if it doesn't fit its length.
 #[tactic(auto, unfolding(crate::specs::Commands::reason_of))]
 pub(crate) fn reason(octets: &[u8]) -> Option<&[u8]>
-    ensures { option_copied result ≡ reason_of octets.now }
+    ensures read { option_copied result ≡ reason_of octets.now }
+    ensures short { IfSome result (λ x. length x.now ≤ 255) }
 {
     let (reason, rest) = sized(octets)?;
     if rest.is_empty() { Some(reason) } else { None }

@@ -10,6 +10,7 @@ use crate::fault::{PeerFault, Reason};
 use crate::role::Role;
 
 const READY: &[u8] = b"READY";
+
 const ERROR: &[u8] = b"ERROR";
 
 /// Why a role refuses a command as the first frame; none if it is a READY that it takes.

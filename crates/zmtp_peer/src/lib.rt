@@ -5,6 +5,7 @@ pub mod command;
 pub mod event;
 pub mod fault;
 mod handshake;
+mod intake;
 pub mod role;
 pub mod subscriptions;
 
