@@ -1,2 +1,3 @@
 pub mod CommandLemmas
 pub mod TableLemmas
+pub mod FrameLemmas

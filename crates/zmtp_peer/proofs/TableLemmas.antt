@@ -1,6 +1,9 @@
 -- The table of subscriptions, as the map that keeps it changes.
-use Rattle.std.proofs.Common.{◌≡◌, ℕ, ◌+◌, ◌-◌, ◌<◌, ◌≤◌, is_some, arith, Bool, true, false, List, [], ◌∷◌, Option, Some, None, refl, ap, sym, subst, ◌∙◌, cond, unwrap_or, if◌then◌else◌, length, take, drop, get_or, ◌++◌, length-append}
-use Rattle.std.proofs.lemmas.List.{drop_more}
+use Rattle.std.proofs.Common.{◌≡◌, ℕ, ◌+◌, ◌-◌, ◌<◌, ◌≤◌, is_some, arith, Bool, true, false, List, [], ◌∷◌, Option, Some, None, refl, ap, sym, subst, ◌∙◌, cond, unwrap_or, if◌then◌else◌, length, take, drop, get_or, ◌++◌, map, append-nil, length-append}
+use Rattle.std.specs.List.{flat_map}
+use Rattle.std.proofs.lemmas.List.{drop_more, take_more, map-append}
+use Rattle.std.proofs.lemmas.List.Concat.{flat_map-append}
+use Rattle.zmtp_peer.specs.declared.role.Role.{Role}
 use Rattle.std.proofs.Math.Seq.{take-append_seam}
 use Rattle.zmtp_peer.specs.declared.event.PeerEvent.{PeerEvent}
 use Rattle.std.proofs.lemmas.Bool.{cases_Bool, cond-true, cond-false, false≢true}
@@ -16,7 +19,7 @@ use Rattle.std.specs.declared.alloc.Global.{Global}
 use Rattle.std.specs.declared.vec.Vec.{Vec}
 use Rattle.std.proofs.lemmas.Map.Text.{is_eq-slice_cmp}
 use Rattle.std.proofs.lemmas.Slice.Eq.{bytes_eq-Decides}
-use Rattle.zmtp_peer.specs.Events.{Event, Ready, Message, Subscribe, Cancel, event_of, events_of}
+use Rattle.zmtp_peer.specs.Events.{Event, Ready, Message, Subscribe, Cancel, event_of, events_of, bodies, message_told}
 use Rattle.zmtp_peer.specs.Subscriptions.{place_of, count_in, counted, counted_all, IsRoomFor, HasRoom, HasWanted}
 use Rattle.zmtp_peer.specs.Table.{table_of, is_key}
 
@@ -173,14 +176,14 @@ cancelled p es q = ap (λ o. unwrap_or o 0) (place_of-set_value p (count_in (tab
 
 -- less room is needed of a table that counts no more
 pub room-less : (n m : ℕ) (t u : List (List ℕ × ℕ)) (e : Event) → IsRoomFor n t e
-    → ((q : List ℕ) → is_some (place_of u q) ≡ is_some (place_of t q)) → ((q : List ℕ) → count_in u q + m ≤ count_in t q + n) → IsRoomFor m u e
-room-less n m t u (Subscribe p) h places counts = (places p ∙ h.0, omega (arith, h.1, counts p))
+    → ((q : List ℕ) → is_some (place_of t q) ≡ true → is_some (place_of u q) ≡ true) → ((q : List ℕ) → count_in u q + m ≤ count_in t q + n) → IsRoomFor m u e
+room-less n m t u (Subscribe p) h places counts = (places p h.0, omega (arith, h.1, counts p))
 room-less n m t u (Cancel p) h places counts = tt
 room-less n m t u Ready h places counts = tt
 room-less n m t u (Message frames) h places counts = tt
 
 pub rooms-less : (n m : ℕ) (t u : List (List ℕ × ℕ)) (es : List Event) → HasRoom n t es
-    → ((q : List ℕ) → is_some (place_of u q) ≡ is_some (place_of t q)) → ((q : List ℕ) → count_in u q + m ≤ count_in t q + n) → HasRoom m u es
+    → ((q : List ℕ) → is_some (place_of t q) ≡ true → is_some (place_of u q) ≡ true) → ((q : List ℕ) → count_in u q + m ≤ count_in t q + n) → HasRoom m u es
 rooms-less n m t u [] h places counts = tt
 rooms-less n m t u (e ∷ es) h places counts = (room-less n m t u e h.0 places counts, rooms-less n m t u es h.1 places counts)
 
@@ -206,13 +209,13 @@ pub rooms-step : (es : List PeerEvent) (i : ℕ) (e : PeerEvent) (t u : List (Li
     → HasRoom (length es - (i + 1)) u (events_of (drop (i + 1) es))
 rooms-step es i e t u h is room counts places =
     let parts = subst (λ (xs : List PeerEvent). HasRoom (length es - i) t (events_of xs)) (drop_more es i e h) room in
-    rooms-less (length es - i) (length es - (i + 1)) t u (events_of (drop (i + 1) es)) parts.1 places (λ q. omega (arith, counts q, counted-most q (count_in t q) (event_of e)))
+    rooms-less (length es - i) (length es - (i + 1)) t u (events_of (drop (i + 1) es)) parts.1 (λ q h. places q ∙ h) (λ q. omega (arith, counts q, counted-most q (count_in t q) (event_of e)))
 
 pub room-now : (es : List PeerEvent) (i : ℕ) (e : PeerEvent) (t : List (List ℕ × ℕ)) → i < length es → e ≡ get_or es i e
     → HasRoom (length es - i) t (events_of (drop i es)) → IsRoomFor 1 t (event_of e)
 room-now es i e t h is room =
     let parts = subst (λ (xs : List PeerEvent). HasRoom (length es - i) t (events_of xs)) (drop_more es i e h) room in
-    room-less (length es - i) 1 t t (event_of e) (subst (λ (x : PeerEvent). IsRoomFor (length es - i) t (event_of x)) (sym is) parts.0) (λ q. refl) (λ q. omega arith)
+    room-less (length es - i) 1 t t (event_of e) (subst (λ (x : PeerEvent). IsRoomFor (length es - i) t (event_of x)) (sym is) parts.0) (λ q h. h) (λ q. omega arith)
 
 pub counted-step : (es : List PeerEvent) (i : ℕ) (e : PeerEvent) (t u : List (List ℕ × ℕ)) → i < length es → e ≡ get_or es i e
     → ((q : List ℕ) → count_in u q ≡ counted q (count_in t q) (event_of e)) → (q : List ℕ)
@@ -229,3 +232,49 @@ none_wanted t topic n none all w =
     let short : length w.0 ≤ length topic = omega (arith, ap length w.2, length-append w.0 w.1) in
     let zero : count_in t w.0 ≡ 0 = ap (count_in t) (sym front) ∙ none (length w.0) (omega arith) in
     omega (arith, w.3, zero)
+
+pub rooms-append : (n : ℕ) (t : List (List ℕ × ℕ)) (es fs : List Event) → HasRoom n t es → HasRoom n t fs → HasRoom n t (es ++ fs)
+rooms-append n t [] fs h k = k
+rooms-append n t (e ∷ es) fs h k = (h.0, rooms-append n t es fs h.1 k)
+
+-- a place that is added leaves all counts, and all other places
+pub added-places : (p : List ℕ) (t u : List (List ℕ × ℕ)) → ((q : List ℕ) → place_of u q ≡ option_or (place_of t q) (if bytes_eq q p then Some 0 else None))
+  → (q : List ℕ) → is_some (place_of t q) ≡ true → is_some (place_of u q) ≡ true
+added-places p t u h q some = ap is_some (h q) ∙ by_place (place_of t q) some
+  where
+    by_place : (o : Option ℕ) → is_some o ≡ true → is_some (option_or o (cond (bytes_eq q p) (Some 0) None)) ≡ true
+    by_place None h = cc
+    by_place (Some n) h = refl
+
+pub added-counts : (p : List ℕ) (t u : List (List ℕ × ℕ)) → ((q : List ℕ) → place_of u q ≡ option_or (place_of t q) (if bytes_eq q p then Some 0 else None))
+  → (q : List ℕ) → count_in u q ≡ count_in t q
+added-counts p t u h q = ap (λ o. unwrap_or o 0) (h q) ∙ by_place (place_of t q) (bytes_eq q p)
+  where
+    by_place : (o : Option ℕ) (b : Bool) → unwrap_or (option_or o (cond b (Some 0) None)) 0 ≡ unwrap_or o 0
+    by_place None true = refl
+    by_place None false = refl
+    by_place (Some n) b = refl
+
+pub added-here : (p : List ℕ) (t u : List (List ℕ × ℕ)) → ((q : List ℕ) → place_of u q ≡ option_or (place_of t q) (if bytes_eq q p then Some 0 else None))
+  → is_some (place_of u p) ≡ true
+added-here p t u h = ap is_some (h p) ∙ by_place (place_of t p) (bytes_eq p p) ((bytes_eq-Decides p p).1 refl)
+  where
+    by_place : (o : Option ℕ) (b : Bool) → b ≡ true → is_some (option_or o (cond b (Some 0) None)) ≡ true
+    by_place None true h = refl
+    by_place None false h = cc
+    by_place (Some n) b h = refl
+
+-- one message further on in a list of them
+pub reserved-step : (role : Role) (ms : List (Vec (Vec ℕ Global) Global)) (i n : ℕ) (m : Vec (Vec ℕ Global) Global) (t u : List (List ℕ × ℕ)) → i < length ms → m ≡ get_or ms i m
+  → HasRoom n t (flat_map (message_told role) (map (λ message. bodies message.items) (take i ms)))
+  → ((q : List ℕ) → is_some (place_of t q) ≡ true → is_some (place_of u q) ≡ true) → ((q : List ℕ) → count_in u q ≡ count_in t q)
+  → HasRoom n u (message_told role (bodies m.items))
+  → HasRoom n u (flat_map (message_told role) (map (λ message. bodies message.items) (take (i + 1) ms)))
+reserved-step role ms i n m t u h is room places counts now =
+    let told : List (Vec (Vec ℕ Global) Global) → List Event = λ xs. flat_map (message_told role) (map (λ message. bodies message.items) xs) in
+    let before : HasRoom n u (told (take i ms)) = rooms-less n n t u (told (take i ms)) room places (λ q. omega (arith, counts q)) in
+    let joined : told (take (i + 1) ms) ≡ told (take i ms) ++ message_told role (bodies m.items) =
+      ap told (take_more ms i m h ∙ ap (λ x. take i ms ++ x ∷ []) (sym is)) ∙ ap (flat_map (message_told role)) (map-append (λ (message : Vec (Vec ℕ Global) Global). bodies message.items) (take i ms) (m ∷ []))
+      ∙ flat_map-append (message_told role) (map (λ (message : Vec (Vec ℕ Global) Global). bodies message.items) (take i ms)) (bodies m.items ∷ [])
+      ∙ ap (λ es. told (take i ms) ++ es) (append-nil (message_told role (bodies m.items))) in
+    subst (HasRoom n u) (sym joined) (rooms-append n u (told (take i ms)) (message_told role (bodies m.items)) before now)

@@ -56,3 +56,17 @@ abbrev pub IsRefusal : State → Type 0
 IsRefusal Opening = ⊥
 IsRefusal (Open held) = ⊥
 IsRefusal (Refused fault) = Unit {0}
+
+-- how frames end: the rest is less than a whole one, or the frames refuse the peer, or the rest has a fault
+abbrev pub EndsFrames : State → State → Rest → Type 0
+EndsFrames behind state rest =
+    (IsPartial rest × (state ≡ behind) × (¬ (IsRefusal state)))
+    ⊎ (((state ≡ behind) × IsRefusal state)
+    ⊎ ((fault : WireFault) × IsFaultAt rest fault × (¬ (IsRefusal behind)) × (state ≡ Refused (Wire fault))))
+
+-- the frames at the front of the old rest are taken, up to the new rest, and what they bring is added
+pub record TakesFrames (role : Role) (rest : Rest) (old : Intake) (behind : Rest) (new : Intake) : Type 0 where
+  pub frames : List Frame
+  pub left : Leaves rest frames behind
+  pub events : told_by role new ≡ told_by role old ++ told role (state_of old) frames
+  pub ends : EndsFrames (after role (state_of old) frames) (state_of new) behind

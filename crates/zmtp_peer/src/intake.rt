@@ -1,16 +1,16 @@
 //! What the frames of one piece bring. The peer keeps none of it until all memory is there.
-ghost use Rattle.std.specs.Prelude.{◌≡◌, ◌++◌, ◌∷◌, [], ℕ, ◌≤◌, OnOk, OnErr, true, false};
+ghost use Rattle.std.specs.Prelude.{◌≡◌, ◌++◌, ◌∷◌, [], ℕ, ◌≤◌, ◌≢◌, OnOk, OnErr, true, false};
 ghost use Rattle.zmtp_peer.specs.declared.role.Role.{Role};
 ghost use Rattle.zmtp_wire.specs.Frame.{frame_of};
 ghost use Rattle.zmtp_peer.specs.Events.{after_frame, frame_told, bodies};
-ghost use Rattle.zmtp_peer.specs.Intake.{state_of, told_by, front_of, messages_of, Keeps, IsFresh};
+ghost use Rattle.zmtp_peer.specs.Intake.{state_of, told_by, front_of, messages_of, Keeps, IsFresh, TakesFrames};
 
 use crate::fault::PeerFault;
 use crate::handshake::{first_refusal, later_refusal};
 use crate::role::Role;
 use std::alloc::{AllocError, Global};
 use std::mem;
-use zmtp_wire::Frame;
+use zmtp_wire::{Decoder, Frame, WireFault};
 
 /// How far a connection is.
 #[derive(Clone, Copy)]
@@ -122,4 +122,41 @@ fn hold(alloc: Global, intake: &mut Intake, more: bool, body: Vec<u8>) -> Result
             Err(AllocError)
         }
     }
+}
+
+/// Takes frames until no whole one is left or the peer is refused.
+pub(crate) fn take_frames(
+    alloc: Global,
+    role: Role,
+    decoder: &mut Decoder,
+    intake: &mut Intake,
+) -> Result<(), AllocError>
+    requires { IsFresh intake.old }
+    ensures taken { OnOk result (TakesFrames role decoder.old.rest intake.old decoder.new.rest intake.new) }
+    ensures before { decoder.new.before ≡ decoder.old.before }
+    ensures kept { Keeps (front_of intake.old) (front_of intake.new) }
+    ensures fresh { IsFresh intake.new }
+{
+    loop {
+        if let Stage::Refused(_) = intake.stage {
+            return Ok(());
+        }
+        match decoder.next() {
+            Ok(Some(frame)) => take_frame(alloc, role, intake, frame)?,
+            Ok(None) => return Ok(()),
+            Err(fault) => return refuse(intake, fault),
+        }
+    }
+}
+
+/// Refuses the peer for a fault of its frames; want of memory is none.
+fn refuse(intake: &mut Intake, fault: WireFault) -> Result<(), AllocError>
+    ensures stage { OnOk result ((fault ≢ WireFault.Memory) × (intake.new ≡ record intake.old { stage = Stage.Refused (PeerFault.Wire fault) })) }
+    ensures err { OnErr result (intake.new ≡ intake.old) }
+{
+    if fault == WireFault::Memory {
+        return Err(AllocError);
+    }
+    intake.stage = Stage::Refused(PeerFault::Wire(fault));
+    Ok(())
 }

@@ -1,13 +1,14 @@
 //! One end of a ZMTP 3.0 connection.
 #![tactic(auto)]
 
-pub mod command;
+mod command;
 pub mod event;
 pub mod fault;
 mod handshake;
 mod intake;
 pub mod role;
-pub mod subscriptions;
+mod subscriptions;
+mod told;
 
 pub use event::PeerEvent;
 pub use fault::{PeerFault, Reason};

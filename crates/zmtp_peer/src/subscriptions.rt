@@ -1,13 +1,15 @@
 //! The prefixes to which a peer has subscribed, and how often.
-ghost use Rattle.std.specs.Prelude.{◌≡◌, ℕ, ◌+◌, ◌-◌, ◌<◌, ◌≤◌, List, OnOk, OnErr, Option, None, Some, if◌then◌else◌, is_some, IsTrue, ◌↔◌, [], length, ◌^◌};
+ghost use Rattle.std.specs.Prelude.{◌≡◌, ℕ, ◌+◌, ◌-◌, ◌<◌, ◌≤◌, List, OnOk, OnErr, Option, None, Some, if◌then◌else◌, is_some, IsTrue, ◌↔◌, [], ◌∷◌, length, map, true, IfSome, IfNone};
+ghost use Rattle.std.specs.List.{flat_map};
 ghost use Rattle.std.specs.Option.{option_or};
 ghost use Rattle.std.specs.Map.{set_value};
 ghost use Rattle.std.specs.Str.{bytes_eq};
-ghost use Rattle.zmtp_peer.specs.Events.{event_of, events_of};
+ghost use Rattle.zmtp_peer.specs.Events.{Subscribe, event_of, events_of, bodies, message_told, told_to_publisher};
 ghost use Rattle.zmtp_peer.specs.Subscriptions.{place_of, count_in, counted, counted_all, HasWanted, IsRoomFor, HasRoom};
 ghost use Rattle.zmtp_peer.specs.Table.{table_of, is_key};
 
 use crate::event::PeerEvent;
+use crate::role::Role;
 use std::alloc::{AllocError, Global};
 use std::collections::BTreeMap;
 
@@ -113,4 +115,74 @@ fn is_wanted(counts: &BTreeMap<Vec<u8>, u64>, topic: &[u8]) -> bool
         }
     }
     false
+}
+
+/// The prefix to which a message subscribes, if any.
+fn subscribed(role: Role, message: &[Vec<u8>]) -> Option<&[u8]>
+    ensures some { IfSome result (λ prefix. message_told role (bodies message.now) ≡ Subscribe prefix.now ∷ []) }
+    ensures none { IfNone result ((n : ℕ) → (table : List (List ℕ × ℕ)) → HasRoom n table (message_told role (bodies message.now))) }
+{
+    match role {
+        Role::Pub => subscribed_by(message),
+        Role::Router => None,
+        Role::Rep => None,
+        Role::Dealer => None,
+        Role::Sub => None,
+    }
+}
+
+/// The prefix to which a message to a publisher subscribes: it has one frame, which begins with 1.
+fn subscribed_by(message: &[Vec<u8>]) -> Option<&[u8]>
+    ensures some { IfSome result (λ prefix. told_to_publisher (bodies message.now) ≡ Subscribe prefix.now ∷ []) }
+    ensures none { IfNone result ((n : ℕ) → (table : List (List ℕ × ℕ)) → HasRoom n table (told_to_publisher (bodies message.now))) }
+{
+    let (frame, others) = message.split_first()?;
+    if !others.is_empty() {
+        return None;
+    }
+    let (first, prefix) = frame.split_first()?;
+    if *first == 1 { Some(prefix) } else { None }
+}
+
+/// Makes a place for what a message subscribes to, if it does, so that it can be counted `more` times.
+fn reserve_message(
+    alloc: Global,
+    counts: &mut BTreeMap<Vec<u8>, u64>,
+    role: Role,
+    message: &[Vec<u8>],
+    more: usize,
+) -> Result<(), AllocError>
+    ensures same { (q : List ℕ) → count_in (table_of counts.new.entries) q ≡ count_in (table_of counts.old.entries) q }
+    ensures places { (q : List ℕ) → is_some (place_of (table_of counts.old.entries) q) ≡ true → is_some (place_of (table_of counts.new.entries) q) ≡ true }
+    ensures room { OnOk result (HasRoom more (table_of counts.new.entries) (message_told role (bodies message.now))) }
+{
+    let Some(prefix) = subscribed(role, message) else {
+        return Ok(());
+    };
+    match add_place(alloc, counts, prefix) {
+        Err(_) => Err(AllocError),
+        Ok(()) => {
+            if count_of(counts, prefix) > u64::MAX - more as u64 {
+                return Err(AllocError);
+            }
+            Ok(())
+        }
+    }
+}
+
+/// Makes places for all that messages subscribe to.
+pub(crate) fn reserve(
+    alloc: Global,
+    counts: &mut BTreeMap<Vec<u8>, u64>,
+    role: Role,
+    messages: &[Vec<Vec<u8>>],
+    more: usize,
+) -> Result<(), AllocError>
+    ensures same { (q : List ℕ) → count_in (table_of counts.new.entries) q ≡ count_in (table_of counts.old.entries) q }
+    ensures room { OnOk result (HasRoom more (table_of counts.new.entries) (flat_map (message_told role) (map (λ message. bodies message.items) messages.now))) }
+{
+    for message in messages {
+        reserve_message(alloc, counts, role, message, more)?;
+    }
+    Ok(())
 }
