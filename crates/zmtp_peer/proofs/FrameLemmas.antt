@@ -1,12 +1,15 @@
 -- One more frame of a stream, and what frames tell.
 use Rattle.std.proofs.Common.{◌≡◌, ℕ, ◌+◌, ◌<◌, ◌≤◌, List, [], ◌∷◌, ◌++◌, length, take, refl, ap, sym, subst, ◌∙◌, arith, append_assoc, append-nil, length-append, inl, inr}
+use Rattle.std.proofs.Common.{Result, Ok, Err, OnOk, map, get_or}
+use Rattle.std.specs.declared.alloc.Global.{Global}
+use Rattle.std.specs.declared.vec.Vec.{Vec}
 use Rattle.zmtp_wire.specs.Frame.{Frame}
 use Rattle.zmtp_wire.specs.Stream.{Rest, Takes, Leaves}
 use Rattle.zmtp_wire.proofs.Streams.{leaves_more}
 use Rattle.zmtp_peer.specs.declared.role.Role.{Role}
 use Rattle.zmtp_peer.specs.declared.intake.Intake.{Intake}
-use Rattle.zmtp_peer.specs.Events.{Event, State, after_frame, frame_told, after, told}
-use Rattle.zmtp_peer.specs.Intake.{state_of, told_by, Keeps, EndsFrames, TakesFrames, IsRefusal}
+use Rattle.zmtp_peer.specs.Events.{Event, State, after_frame, frame_told, after, told, bodies}
+use Rattle.zmtp_peer.specs.Intake.{first_of, state_of, told_by, Keeps, EndsFrames, TakesFrames, IsRefusal}
 
 -- frames are taken, and nothing ends them yet
 pub record Taken (role : Role) (rest : Rest) (old : Intake) (behind : Rest) (new : Intake) : Type 0 where
@@ -63,3 +66,18 @@ taken-more role rest old behind next new last f t takes state events = record {
   events = events-more role (state_of old) t.frames f (told_by role old) (told_by role new) (told_by role last) t.events (events ∙ ap (λ s. told_by role new ++ frame_told role s f) t.state);
   state = state ∙ ap (λ s. after_frame role s f) t.state ∙ sym (after-append role (state_of old) t.frames (f ∷ []));
 }
+
+-- what holds anyway holds at Ok
+pub on_ok : {T E P : Type 0} (r : Result T E) → P → OnOk r P
+on_ok (Ok x) p = p
+on_ok (Err e) p = tt
+
+-- the front where no message became whole, and where one did
+pub front-none : (ws : List (Vec (Vec ℕ Global) Global)) (held : List (List ℕ)) → length ws ≡ 0 → first_of (map (λ message. bodies message.items) ws) held ≡ held
+front-none [] held h = refl
+front-none (w ∷ ws) held h = absurd (omega arith)
+
+pub front-some : (ws : List (Vec (Vec ℕ Global) Global)) (w : Vec (Vec ℕ Global) Global) (held : List (List ℕ)) → 0 < length ws → w ≡ get_or ws 0 w
+  → first_of (map (λ message. bodies message.items) ws) held ≡ bodies w.items
+front-some [] w held h is = absurd (omega arith)
+front-some (v ∷ ws) w held h is = ap (λ (x : Vec (Vec ℕ Global) Global). bodies x.items) (sym is)

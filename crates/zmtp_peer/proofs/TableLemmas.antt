@@ -278,3 +278,8 @@ reserved-step role ms i n m t u h is room places counts now =
       ∙ flat_map-append (message_told role) (map (λ (message : Vec (Vec ℕ Global) Global). bodies message.items) (take i ms)) (bodies m.items ∷ [])
       ∙ ap (λ es. told (take i ms) ++ es) (append-nil (message_told role (bodies m.items))) in
     subst (HasRoom n u) (sym joined) (rooms-append n u (told (take i ms)) (message_told role (bodies m.items)) before now)
+
+-- READY needs no room
+pub told-room : (n m : ℕ) (t : List (List ℕ × ℕ)) (ready : Bool) (es : List Event) → HasRoom n t es → m ≤ n → HasRoom m t ((if ready then Ready ∷ [] else []) ++ es)
+told-room n m t true es h less = (tt, rooms-less n m t t es h (λ q k. k) (λ q. omega arith))
+told-room n m t false es h less = rooms-less n m t t es h (λ q k. k) (λ q. omega arith)

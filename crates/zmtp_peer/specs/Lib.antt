@@ -6,3 +6,5 @@ pub mod Events
 pub mod Subscriptions
 pub mod Table
 pub mod Intake
+pub mod Connection
+pub mod Reading

@@ -160,3 +160,28 @@ fn refuse(intake: &mut Intake, fault: WireFault) -> Result<(), AllocError>
     intake.stage = Stage::Refused(PeerFault::Wire(fault));
     Ok(())
 }
+
+impl Intake {
+    ghost use Rattle.std.specs.Prelude.{take, length};
+    ghost use Rattle.zmtp_peer.specs.Events.{bodies};
+    ghost use Rattle.zmtp_peer.specs.Intake.{front_of};
+
+    /// The first `kept` frames at the front: what was held before the frames of this piece.
+    pub(crate) fn taken_back(self, kept: usize) -> Vec<Vec<u8>>
+        ensures { bodies result.items ≡ take kept (front_of self) }
+    {
+        let Intake {
+            stage: _,
+            ready: _,
+            mut whole,
+            mut held,
+        } = self;
+        if whole.is_empty() {
+            held.truncate(kept);
+            return held;
+        }
+        let mut first = whole.swap_remove(0);
+        first.truncate(kept);
+        first
+    }
+}

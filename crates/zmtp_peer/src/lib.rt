@@ -2,14 +2,17 @@
 #![tactic(auto)]
 
 mod command;
+mod connection;
 pub mod event;
 pub mod fault;
 mod handshake;
 mod intake;
+pub mod peer;
 pub mod role;
 mod subscriptions;
 mod told;
 
 pub use event::PeerEvent;
 pub use fault::{PeerFault, Reason};
+pub use peer::Peer;
 pub use role::Role;

@@ -82,7 +82,7 @@ fn count_event(counts: &mut BTreeMap<Vec<u8>, u64>, event: &PeerEvent)
 }
 
 /// Counts what events change, in their order.
-fn count_events(counts: &mut BTreeMap<Vec<u8>, u64>, events: &[PeerEvent])
+pub(crate) fn count_events(counts: &mut BTreeMap<Vec<u8>, u64>, events: &[PeerEvent])
     requires { HasRoom (length events.now) (table_of counts.old.entries) (events_of events.now) }
     ensures { (q : List ℕ) → count_in (table_of counts.new.entries) q ≡ counted_all q (count_in (table_of counts.old.entries) q) (events_of events.now) }
 {
@@ -92,7 +92,7 @@ fn count_events(counts: &mut BTreeMap<Vec<u8>, u64>, events: &[PeerEvent])
 }
 
 /// Gives up the places of prefixes that are no longer counted, among those that the events name.
-fn drop_places(counts: &mut BTreeMap<Vec<u8>, u64>, events: &[PeerEvent])
+pub(crate) fn drop_places(counts: &mut BTreeMap<Vec<u8>, u64>, events: &[PeerEvent])
     ensures { (q : List ℕ) → count_in (table_of counts.new.entries) q ≡ count_in (table_of counts.old.entries) q }
 {
     for event in events {
@@ -106,7 +106,7 @@ fn drop_places(counts: &mut BTreeMap<Vec<u8>, u64>, events: &[PeerEvent])
 }
 
 /// Whether a counted prefix stands at the front of a topic.
-fn is_wanted(counts: &BTreeMap<Vec<u8>, u64>, topic: &[u8]) -> bool
+pub(crate) fn is_wanted(counts: &BTreeMap<Vec<u8>, u64>, topic: &[u8]) -> bool
     ensures { IsTrue result ↔ HasWanted (table_of counts.now.entries) topic.now }
 {
     for length in 0..topic.len() + 1 {
