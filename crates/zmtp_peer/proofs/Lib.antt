@@ -1,3 +1,4 @@
 pub mod CommandLemmas
 pub mod TableLemmas
 pub mod FrameLemmas
+pub mod ReadingLemmas

@@ -1,5 +1,5 @@
 //! A peer: one end of a connection, in one role.
-ghost use Rattle.std.specs.Prelude.{◌≡◌, ◌≢◌, ◌+◌, ◌-◌, ◌≤◌, ◌<◌, ◌↔◌, min, [], ◌++◌, ¬◌, IfOk, IfErr, IsErrAnd, IsTrue, take, length};
+ghost use Rattle.std.specs.Prelude.{◌≡◌, ◌≢◌, ◌+◌, ◌-◌, ◌≤◌, ◌<◌, ◌↔◌, min, [], ◌++◌, IfOk, IfErr, IsErrAnd, IsTrue, take, length};
 ghost use Rattle.zmtp_peer.specs.Faults.{Wire, fault_of};
 ghost use Rattle.zmtp_peer.specs.Events.{events_of, Opening, Refused};
 ghost use Rattle.zmtp_peer.specs.Intake.{IsRefusal};
