@@ -1,6 +1,7 @@
 -- Why a peer is refused.
 use Rattle.std.specs.Prelude.{ℕ, List, take, codes}
 use Rattle.zmtp_wire.specs.declared.fault.WireFault.{WireFault}
+use Rattle.zmtp_wire.specs.declared.fault.WireFault.TheVariants.{Memory}
 use Rattle.zmtp_wire.specs.Fault as wire
 use Rattle.zmtp_peer.specs.declared.fault.Reason.{Reason}
 use Rattle.zmtp_peer.specs.declared.fault.PeerFault.{PeerFault}
@@ -42,3 +43,6 @@ name_of WrongPair = codes "WrongPair"
 name_of BadMetadata = codes "BadMetadata"
 name_of (PeerError reason) = codes "PeerError"
 name_of NotReady = codes "NotReady"
+
+abbrev pub want_of_memory : Fault
+want_of_memory = Wire Memory

@@ -1,8 +1,8 @@
 //! A peer: one end of a connection, in one role.
 ghost use Rattle.std.specs.Prelude.{◌≡◌, ◌≢◌, ◌+◌, ◌-◌, ◌≤◌, ◌<◌, ◌↔◌, min, [], ◌++◌, IfOk, IfErr, IsErrAnd, IsTrue, take, length};
-ghost use Rattle.zmtp_peer.specs.Faults.{Wire, fault_of};
+ghost use Rattle.zmtp_peer.specs.Faults.{Fault, Wire, fault_of, want_of_memory};
 ghost use Rattle.zmtp_peer.specs.Events.{events_of, Opening, Refused};
-ghost use Rattle.zmtp_peer.specs.Intake.{IsRefusal};
+ghost use Rattle.zmtp_peer.specs.Intake.{IsRefusal, state_at};
 ghost use Rattle.zmtp_peer.specs.Reading.{Stands, Brings};
 ghost use Rattle.zmtp_peer.specs.Subscriptions.{IsWanted};
 
@@ -70,5 +70,66 @@ impl Peer {
                 counts: BTreeMap::new(alloc),
             },
         }
+    }
+
+    /// Takes the next octets, and answers the events that they bring.
+    ///
+    /// # Errors
+    /// The fault for which the peer is refused, where no event stands before it: it is told again at each further call,
+    /// whatever is fed. Want of memory, which leaves the peer as if it had not been fed.
+    pub fn feed(&mut self, piece: &[u8]) -> Result<Vec<PeerEvent>, PeerFault>
+        ensures role { self.new.role ≡ self.old.role }
+        // The events answered are the next ones of all octets so far.
+        ensures events { IfOk result (λ events. Brings self.old piece.now (events_of events.items) self.new) }
+        // Where there are none, the peer isn't refused.
+        ensures quiet { IfOk result (λ events. events_of events.items ≡ [] → ¬ (IsRefusal self.new.state)) }
+        ensures fault { IfErr result (λ fault. fault_of fault ≢ want_of_memory → Brings self.old piece.now [] self.new × (self.new.state ≡ Refused (fault_of fault))) }
+        ensures memory { IfErr result (λ fault. fault_of fault ≡ want_of_memory → Brings self.old [] [] self.new) }
+        // A refusal is final.
+        ensures stays { (fault : Fault) → self.old.state ≡ Refused fault → IsErrAnd result (λ told. fault_of told ≡ fault) × (self.new ≡ self.old) }
+    {
+        if let Stage::Refused(fault) = self.connection.stage {
+            return Err(fault);
+        }
+        let missing = GREETING_LENGTH - self.greeted;
+        if piece.len() < missing {
+            write_at(&mut self.greeting, self.greeted, piece);
+            self.greeted += piece.len();
+            return Ok(Vec::new(self.alloc));
+        }
+        let (front, stream) = piece.split_at(missing);
+        write_at(&mut self.greeting, self.greeted, front);
+        if let Err(fault) = Greeting::read(&self.greeting) {
+            self.greeted = GREETING_LENGTH;
+            self.connection.stage = Stage::Refused(PeerFault::Wire(fault));
+            return Err(PeerFault::Wire(fault));
+        }
+        match self.connection.read(self.alloc, self.role, stream) {
+            Err(_) => Err(PeerFault::MEMORY),
+            Ok(events) => {
+                self.greeted = GREETING_LENGTH;
+                answer(events, self.connection.stage)
+            }
+        }
+    }
+}
+
+/// Writes octets of the greeting behind those that came before.
+fn write_at(greeting: &mut [u8; 64], at: usize, octets: &[u8])
+    requires { at + length octets.now ≤ 64 }
+    ensures { take (at + length octets.now) greeting.new ≡ take at greeting.old ++ octets.now }
+{
+    greeting[at..at + octets.len()].copy_from_slice(octets);
+}
+
+/// The events, or where there are none the fault for which the peer is refused.
+fn answer(events: Vec<PeerEvent>, stage: Stage) -> Result<Vec<PeerEvent>, PeerFault>
+    ensures events { IfOk result (λ told. told ≡ events) }
+    ensures quiet { IfOk result (λ told. events_of told.items ≡ [] → ¬ (IsRefusal (state_at stage []))) }
+    ensures fault { IfErr result (λ fault. (events.items ≡ []) × (stage ≡ Stage.Refused fault)) }
+{
+    match stage {
+        Stage::Refused(fault) if events.is_empty() => Err(fault),
+        _ => Ok(events),
     }
 }
