@@ -117,7 +117,9 @@ impl Peer {
 /// Writes octets of the greeting behind those that came before.
 fn write_at(greeting: &mut [u8; 64], at: usize, octets: &[u8])
     requires { at + length octets.now ≤ 64 }
-    ensures { take (at + length octets.now) greeting.new ≡ take at greeting.old ++ octets.now }
+    ensures written { take (at + length octets.now) greeting.new ≡ take at greeting.old ++ octets.now }
+    ensures before { take at greeting.new ≡ take at greeting.old }
+    ensures size { length greeting.new ≡ 64 }
 {
     greeting[at..at + octets.len()].copy_from_slice(octets);
 }
