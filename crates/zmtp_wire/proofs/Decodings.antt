@@ -1,9 +1,9 @@
 -- What a decoder was fed and gave, through its calls.
-use Rattle.std.proofs.Common.{◌≡◌, ◌≢◌, ℕ, List, [], ◌∷◌, ◌++◌, Result, Err, Ok, OnOk, sym, ap, ◌∙◌, refl, subst}
+use Rattle.std.proofs.Common.{◌≡◌, ◌≢◌, ℕ, List, [], ◌∷◌, ◌++◌, Result, Err, Ok, OnOk, sym, subst}
 use Rattle.zmtp_wire.specs.declared.fault.WireFault.{WireFault}
 use Rattle.zmtp_wire.specs.declared.fault.WireFault.TheVariants.{BadSignature, OldVersion, BadMechanism, ReservedBits, CommandWithMore, TooLong, Memory}
 use Rattle.zmtp_wire.specs.Frame.{Frame}
-use Rattle.zmtp_wire.specs.Stream.{Rest, whole, Takes, IsFaultAt, IsPartial}
+use Rattle.zmtp_wire.specs.Stream.{Rest, whole, Takes, IsFaultAt}
 use Rattle.zmtp_wire.specs.Decoding.{Decoding, fed, HasGiven, Tells}
 use Rattle.zmtp_wire.proofs.Streams.{leaves_longer, leaves_more}
 
@@ -27,6 +27,6 @@ tells_fault TooLong d octets given has at = (d.rest, has, at (λ e. cc))
 
 -- on success, a piece more
 pub given_on_ok : {T E : Type 0} (r : Result T E) (old new : Decoding) (piece : List ℕ) → OnOk r (new ≡ fed old piece)
-  → (octets : List ℕ) (given : List Frame) → HasGiven old octets given → OnOk r (HasGiven new (octets ++ piece) given)
+    → (octets : List ℕ) (given : List Frame) → HasGiven old octets given → OnOk r (HasGiven new (octets ++ piece) given)
 given_on_ok (Ok x) old new piece e octets given has = subst (λ (d : Decoding). HasGiven d (octets ++ piece) given) (sym e) (given_fed old octets piece given has)
 given_on_ok (Err x) old new piece e octets given has = tt

@@ -1,11 +1,11 @@
 -- Headers at the front of octets: octets have one header at most, and no fault in it.
-use Rattle.std.proofs.Common.{◌≡◌, ℕ, zero, suc, ◌+◌, ◌-◌, ◌^◌, ◌<◌, ◌≤◌, Bool, true, false, ◌&&◌, List, [], ◌∷◌, ◌++◌, length, replicate, sym, ap, ◌∙◌, refl, subst, arith, append_assoc, append-nil, length-append}
+use Rattle.std.proofs.Common.{◌≡◌, ℕ, suc, ◌-◌, ◌<◌, Bool, true, false, ◌&&◌, List, [], ◌∷◌, ◌++◌, length, replicate, sym, ap, ◌∙◌, refl, subst, arith, append_assoc, append-nil, length-append}
 use Rattle.std.proofs.lemmas.List.{length-replicate}
 use Rattle.std.specs.Int.{w64, from_be_bytes}
 use Rattle.zmtp_wire.specs.declared.header.Header.{Header}
 use Rattle.zmtp_wire.specs.declared.fault.WireFault.{WireFault}
 use Rattle.zmtp_wire.specs.declared.fault.WireFault.TheVariants.{BadSignature, OldVersion, BadMechanism, ReservedBits, CommandWithMore, TooLong, Memory}
-use Rattle.zmtp_wire.specs.Header.{flags, eight_octets, size_octets, size_bound, header_octets, IsHeader}
+use Rattle.zmtp_wire.specs.Header.{flags, size_octets, size_bound, header_octets}
 use Rattle.zmtp_wire.specs.Fronts.{HasHeader, IsHeaderBegun, IsBadFlags, HasBadFlags}
 use Rattle.zmtp_wire.proofs.Octets.{flags_tell, flags_below, length-eight_octets, eight_octets-read, size_bounded, length-size_octets, size_octets_tell, fronts_equal, AreOctets, are_octets_append, are_octets_zeros}
 

@@ -23,7 +23,7 @@ long_front true octets size behind n long front rest whole each read =
 
 -- a header that was written in the long form
 pub long_written : {T E : Type 0} (r : Result T E) (h : Header) (l : Bool) (first : ℕ) (old mid new size : List ℕ) → l ≡ true → first ≡ flags h.more l h.command
-  → mid ≡ old ++ first ∷ [] → size ≡ eight_octets h.size → new ≡ (if is_ok r then mid ++ size else mid) → OnOk r (new ≡ old ++ header_octets l h)
+    → mid ≡ old ++ first ∷ [] → size ≡ eight_octets h.size → new ≡ (if is_ok r then mid ++ size else mid) → OnOk r (new ≡ old ++ header_octets l h)
 long_written (Ok x) h true first old mid new size long bits begun sized all =
     all ∙ ap (λ s. s ++ size) begun ∙ append_assoc old (first ∷ []) size ∙ ap (λ o. old ++ o ∷ size) bits ∙ ap (λ s. old ++ flags h.more true h.command ∷ s) sized
 long_written (Ok x) h false first old mid new size long bits begun sized all = cc

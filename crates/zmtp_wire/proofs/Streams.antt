@@ -1,17 +1,16 @@
 -- Streams: the front of a stream is a frame, a part of one or a fault, and one of these; so a stream has one reading.
-use Rattle.std.proofs.Common.{◌≡◌, ◌≢◌, ℕ, zero, suc, ◌+◌, ◌-◌, ◌^◌, ◌<◌, ◌≤◌, Bool, true, false, ◌&&◌, List, [], ◌∷◌, ◌++◌, length, replicate, All, sym, ap, ◌∙◌, refl, subst, arith, append_assoc, append-nil, length-append}
+use Rattle.std.proofs.Common.{◌≡◌, ℕ, ◌<◌, Bool, List, [], ◌∷◌, ◌++◌, length, sym, ap, ◌∙◌, refl, subst, arith, append_assoc, append-nil, length-append}
 use Rattle.zmtp_wire.specs.declared.header.Header.{Header}
 use Rattle.zmtp_wire.specs.declared.tally.Tally.{Tally}
 use Rattle.zmtp_wire.specs.declared.fault.WireFault.{WireFault}
 use Rattle.zmtp_wire.specs.declared.fault.WireFault.TheVariants.{BadSignature, OldVersion, BadMechanism, ReservedBits, CommandWithMore, TooLong, Memory}
-use Rattle.zmtp_wire.specs.Header.{IsHeader}
-use Rattle.zmtp_wire.specs.Fronts.{HasHeader, IsHeaderBegun, IsBadFlags, HasBadFlags}
+use Rattle.zmtp_wire.specs.Fronts.{HasHeader, HasBadFlags}
 use Rattle.zmtp_wire.specs.Frame.{Frame, header_of, IsFrame}
-use Rattle.zmtp_wire.specs.Tally.{Fits, counted, nothing_counted}
-use Rattle.zmtp_wire.specs.Stream.{Rest, whole, Takes, Leaves, IsTooLong, IsFaultAt, IsPartial, End, Open, Faulty, EndsIn, ReadsFrom, Reads}
-use Rattle.zmtp_wire.specs.Laws.{EveryStreamIsRead, StreamsHaveOneReading, ReadingsGoOn, FaultsStay, FramesAreReadBack, Event, Fed, Given, octets_fed, frames_given, Run, NoCutMatters}
-use Rattle.zmtp_wire.proofs.Octets.{fronts_equal, AreOctets}
-use Rattle.zmtp_wire.proofs.Headers.{one_header, header_longer, begun_or_whole, header_or_fault, fault_longer, one_fault}
+use Rattle.zmtp_wire.specs.Tally.{Fits, counted}
+use Rattle.zmtp_wire.specs.Stream.{Rest, whole, Takes, Leaves, IsTooLong, IsFaultAt, IsPartial, End, Open, Faulty, EndsIn, ReadsFrom}
+use Rattle.zmtp_wire.specs.Laws.{StreamsHaveOneReading, ReadingsGoOn, FaultsStay, FramesAreReadBack, Event, Fed, Given, octets_fed, frames_given, Run, NoCutMatters}
+use Rattle.zmtp_wire.proofs.Octets.{fronts_equal}
+use Rattle.zmtp_wire.proofs.Headers.{one_header, header_longer, header_or_fault, fault_longer, one_fault}
 
 -- a rest with more octets behind it
 abbrev pub longer : Rest → List ℕ → Rest
@@ -64,7 +63,7 @@ takes_longer rest f behind more takes = record {
 }
 
 -- a frame is no part of a frame
-partial_or_frame : (rest : Rest) (f : Frame) (behind : Rest) → IsPartial rest → Takes rest f behind → ⊥
+pub partial_or_frame : (rest : Rest) (f : Frame) (behind : Rest) → IsPartial rest → Takes rest f behind → ⊥
 partial_or_frame rest f behind partial takes =
     let missing = partial.missing in
     let g = partial.frame in
@@ -92,7 +91,7 @@ too_long_or_frame rest f behind long takes =
     long.3 (subst (λ h. Fits rest.tally h) heads.0 takes.fits)
 
 -- a fault is no frame
-fault_or_frame : (fault : WireFault) (rest : Rest) (f : Frame) (behind : Rest) → IsFaultAt rest fault → Takes rest f behind → ⊥
+pub fault_or_frame : (fault : WireFault) (rest : Rest) (f : Frame) (behind : Rest) → IsFaultAt rest fault → Takes rest f behind → ⊥
 fault_or_frame ReservedBits rest f behind fault takes = flags_or_taken rest f behind ReservedBits fault takes
 fault_or_frame CommandWithMore rest f behind fault takes = flags_or_taken rest f behind CommandWithMore fault takes
 fault_or_frame TooLong rest f behind fault takes = too_long_or_frame rest f behind fault takes
@@ -102,7 +101,7 @@ fault_or_frame BadMechanism rest f behind fault takes = fault
 fault_or_frame Memory rest f behind fault takes = fault
 
 -- a fault is no part of a frame
-fault_or_partial : (fault : WireFault) (rest : Rest) → IsFaultAt rest fault → IsPartial rest → ⊥
+pub fault_or_partial : (fault : WireFault) (rest : Rest) → IsFaultAt rest fault → IsPartial rest → ⊥
 fault_or_partial ReservedBits rest fault partial = flags_or_frame rest.octets partial.missing partial.frame ReservedBits fault partial.begun
 fault_or_partial CommandWithMore rest fault partial = flags_or_frame rest.octets partial.missing partial.frame CommandWithMore fault partial.begun
 fault_or_partial TooLong rest fault partial = partial.fits fault
@@ -112,7 +111,7 @@ fault_or_partial BadMechanism rest fault partial = fault
 fault_or_partial Memory rest fault partial = fault
 
 -- an end is no frame
-end_or_frame : (end : End) (rest : Rest) (f : Frame) (behind : Rest) → EndsIn rest end → Takes rest f behind → ⊥
+pub end_or_frame : (end : End) (rest : Rest) (f : Frame) (behind : Rest) → EndsIn rest end → Takes rest f behind → ⊥
 end_or_frame (Open octets) rest f behind ends takes = partial_or_frame rest f behind ends.1 takes
 end_or_frame (Faulty fault) rest f behind ends takes = fault_or_frame fault rest f behind ends takes
 
@@ -120,7 +119,7 @@ flags_or_long : (rest : Rest) (fault : WireFault) → HasBadFlags rest.octets fa
 flags_or_long rest fault bad long = header_or_fault rest.octets long.0 long.1 fault long.2 bad
 
 -- a rest has one fault
-one_fault_at : (f g : WireFault) (rest : Rest) → IsFaultAt rest f → IsFaultAt rest g → f ≡ g
+pub one_fault_at : (f g : WireFault) (rest : Rest) → IsFaultAt rest f → IsFaultAt rest g → f ≡ g
 one_fault_at ReservedBits ReservedBits rest p q = refl
 one_fault_at CommandWithMore CommandWithMore rest p q = refl
 one_fault_at TooLong TooLong rest p q = refl
@@ -140,7 +139,7 @@ one_fault_at f BadMechanism rest p q = absurd q
 one_fault_at f Memory rest p q = absurd q
 
 -- a rest has one end
-one_end : (end other : End) (rest : Rest) → EndsIn rest end → EndsIn rest other → end ≡ other
+pub one_end : (end other : End) (rest : Rest) → EndsIn rest end → EndsIn rest other → end ≡ other
 one_end (Open xs) (Open ys) rest p q = ap Open (sym p.0 ∙ q.0)
 one_end (Faulty f) (Faulty g) rest p q = ap Faulty (one_fault_at f g rest p q)
 one_end (Open xs) (Faulty g) rest p q = absurd (fault_or_partial g rest q p.1)
@@ -171,7 +170,7 @@ reading_behind (f ∷ fs) (g ∷ gs) rest behind end steps reads =
     (on.0, (ap (λ x. x ∷ gs) (sym same.0) ∙ ap (λ xs. f ∷ xs) on.1), on.2)
 
 -- at an end nothing more is read
-ends_there : (hs : List Frame) (rest : Rest) (end other : End) → EndsIn rest end → ReadsFrom rest hs other → (hs ≡ []) × (end ≡ other)
+pub ends_there : (hs : List Frame) (rest : Rest) (end other : End) → EndsIn rest end → ReadsFrom rest hs other → (hs ≡ []) × (end ≡ other)
 ends_there [] rest end other ends reads = (refl, one_end end other rest ends (subst (λ r. EndsIn r other) reads.1 reads.2))
 ends_there (h ∷ hs) rest end other ends reads = absurd (end_or_frame end rest h reads.1.0 ends reads.1.1)
 

@@ -1,5 +1,5 @@
 -- What the code finds at the front of a rest: a frame, a part of one, or a fault.
-use Rattle.std.proofs.Common.{◌≡◌, ◌≢◌, ◌⊎◌, inl, inr, ℕ, zero, suc, ◌+◌, ◌-◌, ◌^◌, ◌<◌, ◌≤◌, Bool, true, false, ◌&&◌, List, [], ◌∷◌, ◌++◌, length, replicate, take, drop, All, sym, ap, ◌∙◌, refl, subst, arith, append_assoc, append-nil, length-append, take-append-drop, length-take-le, length-drop, take_all, drop-drop}
+use Rattle.std.proofs.Common.{◌≡◌, ◌≢◌, ℕ, ◌+◌, ◌-◌, ◌<◌, ◌≤◌, List, ◌++◌, length, replicate, take, drop, sym, ap, ◌∙◌, refl, subst, arith, append_assoc, length-append, take-append-drop, length-take-le, length-drop, take_all, drop-drop}
 use Rattle.std.proofs.Math.Seq.{drop-append-add}
 use Rattle.std.proofs.lemmas.List.{length-replicate}
 use Rattle.zmtp_wire.specs.declared.header.Header.{Header}
@@ -7,8 +7,8 @@ use Rattle.zmtp_wire.specs.declared.tally.Tally.{Tally}
 use Rattle.zmtp_wire.specs.declared.fault.WireFault.{WireFault}
 use Rattle.zmtp_wire.specs.declared.fault.WireFault.TheVariants.{BadSignature, OldVersion, BadMechanism, ReservedBits, CommandWithMore, TooLong, Memory}
 use Rattle.zmtp_wire.specs.Header.{IsHeader}
-use Rattle.zmtp_wire.specs.Fronts.{HasHeader, IsHeaderBegun, IsBadFlags, HasBadFlags}
-use Rattle.zmtp_wire.specs.Frame.{Frame, header_of, IsFrame}
+use Rattle.zmtp_wire.specs.Fronts.{HasHeader, IsHeaderBegun, HasBadFlags}
+use Rattle.zmtp_wire.specs.Frame.{Frame}
 use Rattle.zmtp_wire.specs.Tally.{Fits, counted}
 use Rattle.zmtp_wire.specs.Stream.{Rest, Takes, IsTooLong, IsFaultAt, IsPartial}
 use Rattle.zmtp_wire.proofs.Headers.{one_header, begun_or_whole}
@@ -48,7 +48,7 @@ header_begun octets t begun =
     }
 
 -- a header within the limits has no size that passes them
-fits_alone : (octets : List ℕ) (t : Tally) (h : Header) (behind : List ℕ) → HasHeader octets h behind → Fits t h → ¬ (IsTooLong (record { octets = octets; tally = t }))
+pub fits_alone : (octets : List ℕ) (t : Tally) (h : Header) (behind : List ℕ) → HasHeader octets h behind → Fits t h → ¬ (IsTooLong (record { octets = octets; tally = t }))
 fits_alone octets t h behind has fits long =
     let heads = one_header octets h long.0 behind long.1 has long.2 in
     long.3 (subst (λ (k : Header). Fits t k) heads.0 fits)
@@ -96,15 +96,15 @@ rest_at items slice at same = take_all (length slice - at) (drop at slice) (omeg
 
 -- a fault from a place of the buffer on is one of what is left
 pub fault_at : (fault : WireFault) (items slice : List ℕ) (at : ℕ) (t : Tally) (rest : Rest) → slice ≡ items → record { octets = drop at items; tally = t } ≡ rest
-  → (fault ≢ Memory → IsFaultAt (record { octets = take (length slice - at) (drop at slice); tally = t }) fault) → fault ≢ Memory → IsFaultAt rest fault
+    → (fault ≢ Memory → IsFaultAt (record { octets = take (length slice - at) (drop at slice); tally = t }) fault) → fault ≢ Memory → IsFaultAt rest fault
 fault_at fault items slice at t rest same is given unlike =
     let P : List ℕ → Type 0 = λ o. IsFaultAt (record { octets = o; tally = t }) fault in
     subst (λ (r : Rest). IsFaultAt r fault) is (subst P (rest_at items slice at same) (given unlike))
 
 -- and a frame from there on is a frame of it
 pub frame_at : (f : Frame) (items slice : List ℕ) (at n : ℕ) (t u : Tally) (rest : Rest) → slice ≡ items → record { octets = drop at items; tally = t } ≡ rest
-  → Takes (record { octets = take (length slice - at) (drop at slice); tally = t }) f (record { octets = drop n (take (length slice - at) (drop at slice)); tally = u })
-  → Takes rest f (record { octets = drop (at + n) items; tally = u })
+    → Takes (record { octets = take (length slice - at) (drop at slice); tally = t }) f (record { octets = drop n (take (length slice - at) (drop at slice)); tally = u })
+    → Takes rest f (record { octets = drop (at + n) items; tally = u })
 frame_at f items slice at n t u rest same is takes =
     let P : List ℕ → Type 0 = λ o. Takes (record { octets = o; tally = t }) f (record { octets = drop n o; tally = u }) in
     let there = subst P (rest_at items slice at same) takes in

@@ -1,7 +1,7 @@
 -- What a decoder is seen as, and what it means that it was fed octets and gave frames.
-use Rattle.std.specs.Prelude.{◌≡◌, ℕ, List, [], ◌∷◌, ◌++◌, Option, Some, None, Result, Ok, Err}
+use Rattle.std.specs.Prelude.{ℕ, List, [], ◌∷◌, ◌++◌, Option, Some, None, Result, Ok, Err}
 use Rattle.zmtp_wire.specs.declared.fault.WireFault.{WireFault}
-use Rattle.zmtp_wire.specs.declared.fault.WireFault.TheVariants.{BadSignature, OldVersion, BadMechanism, ReservedBits, CommandWithMore, TooLong, Memory}
+use Rattle.zmtp_wire.specs.declared.fault.WireFault.TheVariants.{Memory}
 use Rattle.zmtp_wire.specs.declared.frame.Frame as code
 use Rattle.zmtp_wire.specs.Frame.{Frame, frame_of}
 use Rattle.zmtp_wire.specs.Stream.{Rest, whole, Leaves, Open, Faulty, Reads}

@@ -1,4 +1,4 @@
--- Frames (RFC 23, "Framing"): a header and a body.
+-- Frames (RFC 23, "Formal Grammar": command and message): a header and a body.
 use Rattle.std.specs.Prelude.{◌≡◌, ℕ, ◌<◌, ◌≤◌, Bool, true, false, ◌&&◌, List, ◌++◌, length, nat_lt}
 use Rattle.zmtp_wire.specs.declared.frame.Frame as code
 use Rattle.zmtp_wire.specs.declared.header.Header.{Header}

@@ -1,5 +1,5 @@
--- The greeting of ZMTP 3.0 (RFC 23, "The Greeting"): signature, version, mechanism, as-server, filler; 64 octets.
-use Rattle.std.specs.Prelude.{◌≡◌, ℕ, ◌<◌, ◌≤◌, Bool, not, ◌==◌, List, [], ◌∷◌, ◌++◌, length, take, drop, replicate, codes, slice_index, if◌then◌else◌}
+-- The greeting of ZMTP 3.0 (RFC 23, "Formal Grammar"): signature, version, mechanism, as-server, filler; 64 octets.
+use Rattle.std.specs.Prelude.{◌≡◌, ℕ, ◌<◌, ◌≤◌, Bool, not, ◌==◌, List, ◌∷◌, ◌++◌, take, drop, replicate, codes, slice_index, if◌then◌else◌}
 use Rattle.zmtp_wire.specs.declared.greeting.Greeting.{Greeting}
 use Rattle.zmtp_wire.specs.declared.fault.WireFault.{WireFault}
 use Rattle.zmtp_wire.specs.declared.fault.WireFault.TheVariants.{BadSignature, OldVersion, BadMechanism, ReservedBits, CommandWithMore, TooLong, Memory}

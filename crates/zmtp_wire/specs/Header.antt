@@ -1,4 +1,4 @@
--- What stands before a frame's body (RFC 23, "Framing"): the flags, and the body's size in one octet or in eight.
+-- What stands before a frame's body (RFC 23, "Formal Grammar": command and message): the flags, and the body's size in one octet or in eight.
 use Rattle.std.specs.Prelude.{◌≡◌, ℕ, ◌+◌, ◌^◌, ◌<◌, Bool, true, false, ◌&&◌, List, [], ◌∷◌, if◌then◌else◌}
 use Rattle.std.specs.Int.{w64, to_be_bytes}
 use Rattle.zmtp_wire.specs.declared.header.Header.{Header}

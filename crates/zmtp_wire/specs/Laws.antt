@@ -3,7 +3,7 @@ use Rattle.std.specs.Prelude.{◌≡◌, ℕ, ◌<◌, List, [], ◌∷◌, ◌+
 use Rattle.zmtp_wire.specs.declared.fault.WireFault.{WireFault}
 use Rattle.zmtp_wire.specs.Frame.{Frame, IsFrame, header_of}
 use Rattle.zmtp_wire.specs.Tally.{Fits, counted}
-use Rattle.zmtp_wire.specs.Stream.{Rest, whole, Takes, Leaves, End, Open, Faulty, ReadsFrom, Reads}
+use Rattle.zmtp_wire.specs.Stream.{Rest, whole, Takes, Leaves, End, Faulty, ReadsFrom, Reads}
 
 -- each list of octets has a reading
 abbrev pub EveryStreamIsRead : Type 0

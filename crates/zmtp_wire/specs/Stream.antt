@@ -25,6 +25,10 @@ pub record Takes (rest : Rest) (f : Frame) (behind : Rest) : Type 0 where
   pub fits : Fits rest.tally (header_of f)
   pub tally : behind.tally ≡ counted rest.tally (header_of f)
 
+-- a whole frame within the limits stands at the front
+abbrev pub HasFrame : Rest → Type 0
+HasFrame rest = (f : Frame) × (behind : Rest) × Takes rest f behind
+
 -- the frames stand one behind another, and this is the rest behind them
 abbrev pub Leaves : Rest → List Frame → Rest → Type 0
 Leaves rest [] behind = behind ≡ rest

@@ -1,7 +1,7 @@
 //! The reading of a stream of frames that comes in pieces.
-ghost use Rattle.std.specs.Prelude.{◌≡◌, ◌≢◌, ◌≤◌, ◌++◌, [], List, ℕ, drop, length, IfErr, IfNone, IfOk, IfSome, IsOkUnless, OnErr, OnOk, vec_len};
+ghost use Rattle.std.specs.Prelude.{◌≡◌, ◌≢◌, ◌≤◌, ◌++◌, [], List, ℕ, drop, length, IfErr, IfNone, IfOk, IfSome, IsErrOf, IsOkUnless, OnErr, OnOk, vec_len};
 ghost use Rattle.zmtp_wire.specs.Frame.{Frame as FrameSeen, frame_of};
-ghost use Rattle.zmtp_wire.specs.Stream.{Takes, IsPartial, IsFaultAt};
+ghost use Rattle.zmtp_wire.specs.Stream.{Takes, HasFrame, IsPartial, IsFaultAt};
 ghost use Rattle.zmtp_wire.specs.Decoding.{new_decoding, fed, unfed, HasGiven, Tells};
 
 use crate::fault::WireFault;
@@ -23,7 +23,9 @@ struct Position {
 /// Reads a stream of frames, whatever the pieces in which it comes. Contracts see the rest of the stream that isn't given
 /// yet, and what the rest was before the last piece.
 ///
-/// It holds no more than the octets that came and aren't given yet, and as many again.
+/// It keeps what came and isn't given. What was given is dropped as the next piece comes, once it is at least half of what
+/// is kept; so each octet is moved a bounded number of times, and memory grows with what comes, never with a size that was
+/// told.
 #[derive(Drop)]
 pub struct Decoder {
     alloc: Global,
@@ -99,11 +101,13 @@ impl Decoder {
     ///
     /// # Errors
     /// `ReservedBits`, `CommandWithMore` or `TooLong` where this fault comes next in the stream; it is told again at each
-    /// further call. `Memory` where there was none for the body. After an error the decoder is as before.
+    /// further call. `Memory` where a frame comes next and there was none for its body. After an error the decoder is as
+    /// before.
     pub fn next(&mut self) -> Result<Option<Frame>, WireFault>
         ensures frame { IfOk result (λ found. IfSome found (λ f. Takes self.old.rest (frame_of f) self.new.rest)) }
         ensures partial { IfOk result (λ found. IfNone found (IsPartial self.old.rest)) }
         ensures fault { IfErr result (λ fault. fault ≢ WireFault.Memory → IsFaultAt self.old.rest fault) }
+        ensures memory { IsErrOf result WireFault.Memory → HasFrame self.old.rest }
 
         // Without a frame it stays as it is, and with one it can still be taken back with the last piece.
         ensures none { IfOk result (λ found. IfNone found (self.new ≡ self.old)) }
@@ -163,6 +167,7 @@ fn front(alloc: Global, octets: &[u8], tally: Tally) -> Result<Option<Taken>, Wi
         Takes (record { octets = octets.now; tally = tally }) (frame_of t.frame) (record { octets = drop t.length octets.now; tally = t.tally }))) }
     ensures partial { IfOk result (λ found. IfNone found (IsPartial (record { octets = octets.now; tally = tally }))) }
     ensures fault { IfErr result (λ fault. fault ≢ WireFault.Memory → IsFaultAt (record { octets = octets.now; tally = tally }) fault) }
+    ensures memory { IsErrOf result WireFault.Memory → HasFrame (record { octets = octets.now; tally = tally }) }
 {
     let (header, behind) = match Header::read(octets) {
         Ok(Some(found)) => found,

@@ -1,4 +1,4 @@
-//! Frames (RFC 23, "Framing").
+//! Frames (RFC 23, "Formal Grammar": command and message).
 ghost use Rattle.std.specs.Prelude.{◌≡◌, ◌≤◌, length, IfErr, IfOk, OnOk};
 
 use crate::fault::WireFault;

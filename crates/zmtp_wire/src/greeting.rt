@@ -1,4 +1,4 @@
-//! The greeting (RFC 23, "The Greeting").
+//! The greeting (RFC 23, "Formal Grammar": greeting).
 ghost use Rattle.std.specs.Prelude.{◌≡◌, ◌≤◌, IfErr, IfOk};
 
 use crate::fault::WireFault;
@@ -18,8 +18,11 @@ const MECHANISM: [u8; 20] = *b"NULL\0\0\0\0\0\0\0\0\0\0\0\0\0\0\0\0";
 /// What a peer says first: its version, and whether it is the server. The mechanism is always NULL.
 #[derive(Clone, Copy, Debug, PartialEq, Eq)]
 pub struct Greeting {
+    /// The major version; 3 or later in a greeting that was read.
     pub major: u8,
+    /// The minor version.
     pub minor: u8,
+    /// Whether the peer is the server; the mechanism NULL makes no use of it.
     pub as_server: bool,
 }
 

@@ -1,4 +1,4 @@
-//! What stands before a frame's body: the flags and the size (RFC 23, "Framing").
+//! What stands before a frame's body: the flags and the size (RFC 23, "Formal Grammar": command and message).
 ghost use Rattle.std.specs.Prelude.{◌≡◌, ◌&&◌, ◌++◌, ◌<◌, false, length, nat_lt, IfErr, IfNone, IfOk, IfSome, OnOk};
 ghost use Rattle.zmtp_wire.specs.Header.{flags, size_octets, size_bound, header_octets};
 ghost use Rattle.zmtp_wire.specs.Fronts.{HasHeader, IsHeaderBegun, HasBadFlags, IsBadFlags};

@@ -4,8 +4,8 @@
 //! fed to it, whatever the cut; that it tells the fault of that list where there is one, and for good; and that what
 //! `Greeting::write` and `Frame::write` give is read again, whatever follows.
 //!
-//! The definitions, in specs/, are those of RFC 23 (ZMTP 3.0), sections "Framing", "The Greeting", "Version Negotiation"
-//! and "The NULL Security Mechanism", with this project's limits on the size of a message.
+//! The definitions, in specs/, are those of RFC 23 (ZMTP 3.0), "Formal Grammar" (greeting, command, message), with the
+//! mechanism NULL and with this project's limits on the size of a message.
 #![tactic(auto)]
 
 ghost use Rattle.zmtp_wire.specs.Laws.{EveryStreamIsRead, StreamsHaveOneReading, ReadingsGoOn, FaultsStay, FramesAreReadBack, NoCutMatters};

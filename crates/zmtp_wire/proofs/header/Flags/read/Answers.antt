@@ -1,5 +1,3 @@
-use Rattle.std.proofs.Common.{◌≡◌, true, ◌∙◌, ap, arith}
-use Rattle.zmtp_wire.specs.Header.{flags}
 use Rattle.zmtp_wire.proofs.Octets.{flags_read, flags_with}
 use Rattle.zmtp_wire.proofs.header.Flags.read.Goals as goal
 
