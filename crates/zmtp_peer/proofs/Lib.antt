@@ -3,3 +3,5 @@ pub mod TableLemmas
 pub mod FrameLemmas
 pub mod ReadingLemmas
 pub mod RefusalLemmas
+pub mod LawLemmas
+pub mod OpeningLemmas

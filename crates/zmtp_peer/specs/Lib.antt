@@ -8,3 +8,5 @@ pub mod Table
 pub mod Intake
 pub mod Connection
 pub mod Reading
+pub mod Opening
+pub mod Laws

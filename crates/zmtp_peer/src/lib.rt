@@ -1,5 +1,7 @@
-//! One end of a ZMTP 3.0 connection.
+//! One end of a ZMTP 3.0 connection: the handshake, and what messages tell a role.
 #![tactic(auto)]
+
+ghost use Rattle.zmtp_peer.specs.Laws.{OctetsHaveOneReading, RefusalsStay, NoCutMatters, FoldsGoOn, PartnersAreReady};
 
 mod command;
 mod connection;
@@ -7,6 +9,7 @@ pub mod event;
 pub mod fault;
 mod handshake;
 mod intake;
+mod opening;
 pub mod peer;
 pub mod role;
 mod subscriptions;
@@ -16,3 +19,28 @@ pub use event::PeerEvent;
 pub use fault::{PeerFault, Reason};
 pub use peer::Peer;
 pub use role::Role;
+
+/// Law: octets tell a role one list of events, and one ending.
+pub fn octets_have_one_reading_law()
+    ensures { OctetsHaveOneReading }
+{}
+
+/// Law: a refusal is the same whatever follows.
+pub fn refusals_stay_law()
+    ensures { RefusalsStay }
+{}
+
+/// Law: however the octets are cut, a peer tells the events of all octets joined.
+pub fn no_cut_matters_law()
+    ensures { NoCutMatters }
+{}
+
+/// Law: what frames tell, and how often a prefix is subscribed to, goes on from frame to frame and event to event.
+pub fn folds_go_on_law()
+    ensures { FoldsGoOn }
+{}
+
+/// Law: a role that is fed the opening of a partner is told that it is ready.
+pub fn partners_are_ready_law()
+    ensures { PartnersAreReady }
+{}

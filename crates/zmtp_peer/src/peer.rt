@@ -1,18 +1,20 @@
 //! A peer: one end of a connection, in one role.
-ghost use Rattle.std.specs.Prelude.{◌≡◌, ◌≢◌, ◌+◌, ◌-◌, ◌≤◌, ◌<◌, ◌↔◌, min, [], ◌++◌, IfOk, IfErr, IsErrAnd, IsTrue, take, length};
+ghost use Rattle.std.specs.Prelude.{◌≡◌, ◌≢◌, ℕ, List, ◌+◌, ◌≤◌, ◌↔◌, [], ◌++◌, IfOk, IfErr, IsErrAnd, IsTrue, take, length};
 ghost use Rattle.zmtp_peer.specs.Faults.{Fault, Wire, fault_of, want_of_memory};
-ghost use Rattle.zmtp_peer.specs.Events.{events_of, Opening, Refused};
+ghost use Rattle.zmtp_peer.specs.Events.{Event, Refused, events_of};
 ghost use Rattle.zmtp_peer.specs.Intake.{IsRefusal, state_at};
 ghost use Rattle.zmtp_peer.specs.Reading.{Stands, Brings};
 ghost use Rattle.zmtp_peer.specs.Subscriptions.{IsWanted};
+ghost use Rattle.zmtp_peer.specs.Opening.{opening_of};
 
 use crate::connection::Connection;
 use crate::event::PeerEvent;
 use crate::fault::PeerFault;
 use crate::intake::Stage;
+use crate::opening::opening_octets;
 use crate::role::Role;
 use crate::subscriptions::is_wanted;
-use std::alloc::Global;
+use std::alloc::{AllocError, Global};
 use std::collections::BTreeMap;
 use std::marker::Model;
 use zmtp_wire::{Decoder, Greeting};
@@ -70,6 +72,24 @@ impl Peer {
                 counts: BTreeMap::new(alloc),
             },
         }
+    }
+
+    /// What this end sends first, without waiting for the peer: its greeting, and a READY with its socket type alone.
+    ///
+    /// # Errors
+    /// Want of memory alone.
+    pub fn opening(&self, alloc: Global) -> Result<Vec<u8>, AllocError>
+        ensures { IfOk result (λ octets. octets.items ≡ opening_of self.now.role) }
+    {
+        opening_octets(alloc, self.role)
+    }
+
+    /// Whether the peer has subscribed to a topic: a prefix to which it subscribes, and has not taken that back as often,
+    /// stands at its front. It takes no memory, and as many look-ups as the topic has octets.
+    pub fn wants(&self, topic: &[u8]) -> bool
+        ensures { (fed : List ℕ) → (given : List Event) → Stands fed given self.now → (IsTrue result ↔ IsWanted given topic.now) }
+    {
+        is_wanted(&self.connection.counts, topic)
     }
 
     /// Takes the next octets, and answers the events that they bring.
