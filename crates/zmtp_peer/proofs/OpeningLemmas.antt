@@ -1,5 +1,6 @@
 -- A role that is fed the opening of a partner is ready.
 use Rattle.std.proofs.Common.{◌≡◌, ℕ, ◌+◌, ◌<◌, ◌≤◌, Bool, true, false, cond, List, [], ◌∷◌, ◌++◌, Option, Some, None, length, take, drop, refl, ap, sym, subst, ◌∙◌, arith, append-nil, length-append, inl, inr, lit<, lit≤, codes}
+use Rattle.std.specs.Str.{bytes_eq}
 use Rattle.zmtp_wire.specs.Greeting as greeting
 use Rattle.zmtp_wire.specs.Greeting.{IsGreeting}
 use Rattle.zmtp_wire.specs.Frame as frame
@@ -10,8 +11,8 @@ use Rattle.zmtp_peer.specs.declared.role.Role.{Role}
 use Rattle.zmtp_peer.specs.declared.role.Role.TheVariants.{Router, Pub, Rep, Dealer, Sub}
 use Rattle.zmtp_peer.specs.Roles.{socket_type_of, is_partner}
 use Rattle.zmtp_peer.specs.Commands.{command_of, metadata_of, property_at, announced}
-use Rattle.zmtp_peer.specs.Faults.{Fault, WrongPair}
-use Rattle.zmtp_peer.specs.Handshake.{refusal_of, first_refusal}
+use Rattle.zmtp_peer.specs.Faults.{Fault, WrongPair, BadMetadata, NotReady}
+use Rattle.zmtp_peer.specs.Handshake.{error_of, refusal_of, first_refusal}
 use Rattle.zmtp_peer.specs.Events.{Event, Ready, State, Opening, Open, unless, ready_told, after, told}
 use Rattle.zmtp_peer.specs.Reading.{Awaiting, EndsIn, PeerReads}
 use Rattle.zmtp_peer.specs.Opening.{own_greeting, ready_of, opening_of}
@@ -70,11 +71,17 @@ ready-command Rep = (_, refl, refl)
 ready-command Dealer = (_, refl, refl)
 ready-command Sub = (_, refl, refl)
 
-ready-welcome : (role other : Role) → is_partner role (socket_type_of other) ≡ true → first_refusal role (ready_of other) ≡ None
+-- the answer to a READY is that to its content
+first-refusal-of : (role : Role) (body content : List ℕ) → command_of body ≡ Some (codes "READY", content) → first_refusal role body ≡ refusal_of role (announced content)
 unfolding first_refusal
+first-refusal-of role body content h = ap (λ (o : Option (List ℕ × List ℕ)). elim o [
+      None ↦ Some BadMetadata
+    | Some command ↦ cond (bytes_eq command.0 (codes "READY")) (refusal_of role (announced command.1)) (cond (bytes_eq command.0 (codes "ERROR")) (Some (error_of command.1)) (Some NotReady)) ]) h
+
+ready-welcome : (role other : Role) → is_partner role (socket_type_of other) ≡ true → first_refusal role (ready_of other) ≡ None
 ready-welcome role other fits =
     let command = ready-command other in
-    rw command.1 (rw command.2 (ap (λ (b : Bool). cond b None (Some WrongPair)) fits))
+    first-refusal-of role (ready_of other) command.0 command.1 ∙ ap (refusal_of role) command.2 ∙ ap (λ (b : Bool). cond b None (Some WrongPair)) fits
 
 pub partners_are_ready : PartnersAreReady
 partners_are_ready role other fits =
