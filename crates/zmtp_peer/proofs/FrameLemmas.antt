@@ -38,7 +38,7 @@ told-append role state (f ∷ fs) gs =
 
 -- what was told, and what one more frame tells
 events-more : (role : Role) (state : State) (fs : List Frame) (f : Frame) (xs ys zs : List Event) → ys ≡ xs ++ told role state fs
-  → zs ≡ ys ++ frame_told role (after role state fs) f → zs ≡ xs ++ told role state (fs ++ f ∷ [])
+    → zs ≡ ys ++ frame_told role (after role state fs) f → zs ≡ xs ++ told role state (fs ++ f ∷ [])
 events-more role state fs f xs ys zs before now =
     now ∙ ap (λ es. es ++ frame_told role (after role state fs) f) before
     ∙ append_assoc xs (told role state fs) (frame_told role (after role state fs) f)
@@ -57,9 +57,9 @@ taken-none role rest intake = record { frames = []; left = refl; events = sym (a
 
 -- one more frame is taken
 pub taken-more : (role : Role) (rest : Rest) (old : Intake) (behind next : Rest) (new last : Intake) (f : Frame)
-  → Taken role rest old behind new → Takes behind f next
-  → state_of last ≡ after_frame role (state_of new) f → told_by role last ≡ told_by role new ++ frame_told role (state_of new) f
-  → Taken role rest old next last
+    → Taken role rest old behind new → Takes behind f next
+    → state_of last ≡ after_frame role (state_of new) f → told_by role last ≡ told_by role new ++ frame_told role (state_of new) f
+    → Taken role rest old next last
 taken-more role rest old behind next new last f t takes state events = record {
   frames = t.frames ++ f ∷ [];
   left = leaves_more t.frames f rest behind next t.left takes;
@@ -78,6 +78,6 @@ front-none [] held h = refl
 front-none (w ∷ ws) held h = absurd (omega arith)
 
 pub front-some : (ws : List (Vec (Vec ℕ Global) Global)) (w : Vec (Vec ℕ Global) Global) (held : List (List ℕ)) → 0 < length ws → w ≡ get_or ws 0 w
-  → first_of (map (λ message. bodies message.items) ws) held ≡ bodies w.items
+    → first_of (map (λ message. bodies message.items) ws) held ≡ bodies w.items
 front-some [] w held h is = absurd (omega arith)
 front-some (v ∷ ws) w held h is = ap (λ (x : Vec (Vec ℕ Global) Global). bodies x.items) (sym is)

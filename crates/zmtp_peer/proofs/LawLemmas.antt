@@ -23,21 +23,21 @@ refusals_stay role octets more es fault h = failing-stays role octets more es fa
 
 -- pieces behind what was fed and given
 cuts-from : (s t : Standing) (ps : List (List ℕ × List Event)) (fed : List ℕ) (given : List Event) → Stands fed given s → Run s ps t
-  → Stands (fed ++ flat_map (λ p. p.0) ps) (given ++ flat_map (λ p. p.1) ps) t
+    → Stands (fed ++ flat_map (λ p. p.0) ps) (given ++ flat_map (λ p. p.1) ps) t
 cuts-from s t [] fed given h run =
     subst (λ (u : Standing). Stands (fed ++ []) (given ++ []) u) (sym run)
-      (subst (λ (o : List ℕ). Stands o (given ++ []) s) (sym (append-nil fed)) (subst (λ (es : List Event). Stands fed es s) (sym (append-nil given)) h))
+    (subst (λ (o : List ℕ). Stands o (given ++ []) s) (sym (append-nil fed)) (subst (λ (es : List Event). Stands fed es s) (sym (append-nil given)) h))
 cuts-from s t (p ∷ ps) fed given h run =
     let on = cuts-from run.0 t ps (fed ++ p.0) (given ++ p.1) (run.1 fed given h) run.2 in
     subst (λ (o : List ℕ). Stands o (given ++ flat_map (λ (q : List ℕ × List Event). q.1) (p ∷ ps)) t) (append_assoc fed p.0 (flat_map (λ (q : List ℕ × List Event). q.0) ps))
-      (subst (λ (es : List Event). Stands ((fed ++ p.0) ++ flat_map (λ (q : List ℕ × List Event). q.0) ps) es t) (append_assoc given p.1 (flat_map (λ (q : List ℕ × List Event). q.1) ps)) on)
+    (subst (λ (es : List Event). Stands ((fed ++ p.0) ++ flat_map (λ (q : List ℕ × List Event). q.0) ps) es t) (append_assoc given p.1 (flat_map (λ (q : List ℕ × List Event). q.1) ps)) on)
 
 pub no_cut_matters : NoCutMatters
 no_cut_matters s t ps h run = (cuts-from s t ps [] [] h run).reads
 
 -- two lists of frames at one front: one begins the other
 leaves-compare : (fs gs : List Frame) (rest a b : Rest) → Leaves rest fs a → Leaves rest gs b
-  → ((hs : List Frame) × (gs ≡ fs ++ hs) × Leaves a hs b) ⊎ ((hs : List Frame) × (fs ≡ gs ++ hs) × Leaves b hs a)
+    → ((hs : List Frame) × (gs ≡ fs ++ hs) × Leaves a hs b) ⊎ ((hs : List Frame) × (fs ≡ gs ++ hs) × Leaves b hs a)
 leaves-compare [] gs rest a b h k = inl (gs, refl, subst (λ (r : Rest). Leaves r gs b) (sym h) k)
 leaves-compare (f ∷ fs) [] rest a b h k = inr (f ∷ fs, refl, subst (λ (r : Rest). Leaves r (f ∷ fs) a) (sym k) h)
 leaves-compare (f ∷ fs) (g ∷ gs) rest a b h k =
@@ -45,7 +45,7 @@ leaves-compare (f ∷ fs) (g ∷ gs) rest a b h k =
     longer_by f g same.0 (leaves-compare fs gs h.0 a b h.2 (subst (λ (r : Rest). Leaves r gs b) (sym same.1) k.2))
   where
     longer_by : (f g : Frame) → f ≡ g → ((hs : List Frame) × (gs ≡ fs ++ hs) × Leaves a hs b) ⊎ ((hs : List Frame) × (fs ≡ gs ++ hs) × Leaves b hs a)
-      → ((hs : List Frame) × (g ∷ gs ≡ (f ∷ fs) ++ hs) × Leaves a hs b) ⊎ ((hs : List Frame) × (f ∷ fs ≡ (g ∷ gs) ++ hs) × Leaves b hs a)
+        → ((hs : List Frame) × (g ∷ gs ≡ (f ∷ fs) ++ hs) × Leaves a hs b) ⊎ ((hs : List Frame) × (f ∷ fs ≡ (g ∷ gs) ++ hs) × Leaves b hs a)
     longer_by f g same (inl (hs, e, l)) = inl (hs, ap (λ (x : Frame). x ∷ gs) (sym same) ∙ ap (λ (xs : List Frame). f ∷ xs) e, l)
     longer_by f g same (inr (hs, e, l)) = inr (hs, ap (λ (x : Frame). x ∷ fs) same ∙ ap (λ (xs : List Frame). g ∷ xs) e, l)
 
@@ -76,14 +76,15 @@ nothing-behind rest b e (h ∷ hs) (inr (fault, p, a)) l = absurd (fault_or_fram
 
 -- frames behind those that end a reading tell nothing more
 going : (role : Role) (hs : List Frame) (a b : Rest) (e d : Ending) (s : State) → Leaves a hs b → EndsAt a e → EndsIn s a e → EndsIn (after role s hs) b d
-  → (told role s hs ≡ []) × (e ≡ d)
+    → (told role s hs ≡ []) × (e ≡ d)
 going role hs a b e d s l at h k =
-    let none = nothing-behind a b e hs at l in
-    (ap (told role s) none.0,
-     one-end-in s a e d h (subst (λ (r : Rest). EndsIn s r d) none.1 (subst (λ (xs : List Frame). EndsIn (after role s xs) b d) none.0 k)))
+    let none = nothing-behind a b e hs at l in (
+      ap (told role s) none.0,
+      one-end-in s a e d h (subst (λ (r : Rest). EndsIn s r d) none.1 (subst (λ (xs : List Frame). EndsIn (after role s xs) b d) none.0 k)),
+    )
 
 ends-first : (role : Role) (hs : List Frame) (a b : Rest) (e d : Ending) (s : State) → Leaves a hs b → EndsIn s a e → EndsIn (after role s hs) b d
-  → (told role s hs ≡ []) × (e ≡ d)
+    → (told role s hs ≡ []) × (e ≡ d)
 ends-first role hs a b e d Opening l h k = going role hs a b e d Opening l h h k
 ends-first role hs a b e d (Open held) l h k = going role hs a b e d (Open held) l h h k
 ends-first role hs a b e d (Refused fault) l h k =
@@ -91,7 +92,7 @@ ends-first role hs a b e d (Refused fault) l h k =
 
 -- two readings of one stream, where the frames of the second go on
 one-way : (role : Role) (fs gs hs : List Frame) (a b : Rest) (e d : Ending) → gs ≡ fs ++ hs → Leaves a hs b → EndsIn (after role Opening fs) a e → EndsIn (after role Opening gs) b d
-  → (told role Opening fs ≡ told role Opening gs) × (e ≡ d)
+    → (told role Opening fs ≡ told role Opening gs) × (e ≡ d)
 one-way role fs gs hs a b e d same l h k =
     let k2 : EndsIn (after role (after role Opening fs) hs) b d = subst (λ (s : State). EndsIn s b d) (ap (after role Opening) same ∙ after-append role Opening fs hs) k in
     let first = ends-first role hs a b e d (after role Opening fs) l h k2 in
@@ -130,8 +131,8 @@ one_reading role octets es fs e d (inr (inr h)) (inr (inr k)) = compared (leaves
   where
     compared : ((hs : List Frame) × (k.frames ≡ h.frames ++ hs) × Leaves h.behind hs k.behind) ⊎ ((hs : List Frame) × (h.frames ≡ k.frames ++ hs) × Leaves k.behind hs h.behind) → (es ≡ fs) × (e ≡ d)
     compared (inl (hs, same, l)) =
-      let both = one-way role h.frames k.frames hs h.behind k.behind e d same l h.ends k.ends in
-      (h.tells ∙ both.0 ∙ sym k.tells, both.1)
+        let both = one-way role h.frames k.frames hs h.behind k.behind e d same l h.ends k.ends in
+        (h.tells ∙ both.0 ∙ sym k.tells, both.1)
     compared (inr (hs, same, l)) =
-      let both = one-way role k.frames h.frames hs k.behind h.behind d e same l k.ends h.ends in
-      (h.tells ∙ sym both.0 ∙ sym k.tells, sym both.1)
+        let both = one-way role k.frames h.frames hs k.behind h.behind d e same l k.ends h.ends in
+        (h.tells ∙ sym both.0 ∙ sym k.tells, sym both.1)

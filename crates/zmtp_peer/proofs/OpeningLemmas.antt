@@ -41,26 +41,30 @@ ready-fits Dealer = record { octets = lit≤ tt; frames = lit< tt }
 ready-fits Sub = record { octets = lit≤ tt; frames = lit< tt }
 
 ready-taken : (role : Role) → Leaves (whole (frame.written (ready_frame role))) (ready_frame role ∷ []) (whole [])
-ready-taken role = (whole [], record {
+ready-taken role = (
+  whole [],
+  record {
     taken = frame.written (ready_frame role);
     front = sym (append-nil (frame.written (ready_frame role)));
     frame = ready-is-frame role;
     fits = ready-fits role;
     tally = refl;
-  }, refl)
+  },
+  refl,
+)
 
 -- nothing is less than a frame
 nothing-partial : IsPartial (whole [])
 nothing-partial = record {
-    missing = 0 ∷ 0 ∷ [];
-    some = lit< tt;
-    frame = record { more = false; command = false; body = [] };
-    begun = record { head = 0 ∷ 0 ∷ []; spelled = refl; header = record { long = false; spelled = refl; bounded = lit< tt; allowed = refl } };
-    fits = λ long.
+  missing = 0 ∷ 0 ∷ [];
+  some = lit< tt;
+  frame = record { more = false; command = false; body = [] };
+  begun = record { head = 0 ∷ 0 ∷ []; spelled = refl; header = record { long = false; spelled = refl; bounded = lit< tt; allowed = refl } };
+  fits = λ long.
       let front = ap length long.2.front ∙ length-append long.2.head long.1 in
       let head = ap length long.2.header.spelled in
       omega (arith, front, head);
-  }
+}
 
 -- the command of READY, and what it announces
 ready-command : (role : Role) → (content : List ℕ) × (command_of (ready_of role) ≡ Some (codes "READY", content)) × (announced content ≡ Some (Some (socket_type_of role)))
@@ -75,8 +79,9 @@ ready-command Sub = (_, refl, refl)
 first-refusal-of : (role : Role) (body content : List ℕ) → command_of body ≡ Some (codes "READY", content) → first_refusal role body ≡ refusal_of role (announced content)
 unfolding first_refusal
 first-refusal-of role body content h = ap (λ (o : Option (List ℕ × List ℕ)). elim o [
-      None ↦ Some BadMetadata
-    | Some command ↦ cond (bytes_eq command.0 (codes "READY")) (refusal_of role (announced command.1)) (cond (bytes_eq command.0 (codes "ERROR")) (Some (error_of command.1)) (Some NotReady)) ]) h
+  | None ↦ Some BadMetadata
+  | Some command ↦ cond (bytes_eq command.0 (codes "READY")) (refusal_of role (announced command.1)) (cond (bytes_eq command.0 (codes "ERROR")) (Some (error_of command.1)) (Some NotReady))
+]) h
 
 ready-welcome : (role other : Role) → is_partner role (socket_type_of other) ≡ true → first_refusal role (ready_of other) ≡ None
 ready-welcome role other fits =

@@ -64,11 +64,12 @@ unfolding first_refusal
 own-first role body = by_command (command_of body)
   where
     by_command : (o : Option (List ℕ × List ℕ)) → IsOwn (elim o [
-        None ↦ Some BadMetadata
-      | Some command ↦ cond (bytes_eq command.0 (codes "READY")) (refusal_of role (announced command.1)) (cond (bytes_eq command.0 (codes "ERROR")) (Some (error_of command.1)) (Some NotReady)) ])
+      | None ↦ Some BadMetadata
+      | Some command ↦ cond (bytes_eq command.0 (codes "READY")) (refusal_of role (announced command.1)) (cond (bytes_eq command.0 (codes "ERROR")) (Some (error_of command.1)) (Some NotReady))
+    ])
     by_command None = tt
     by_command (Some command) =
-      own-either (bytes_eq command.0 (codes "READY")) (refusal_of role (announced command.1)) (cond (bytes_eq command.0 (codes "ERROR")) (Some (error_of command.1)) (Some NotReady))
+        own-either (bytes_eq command.0 (codes "READY")) (refusal_of role (announced command.1)) (cond (bytes_eq command.0 (codes "ERROR")) (Some (error_of command.1)) (Some NotReady))
         (own-refusal role (announced command.1))
         (own-either (bytes_eq command.0 (codes "ERROR")) (Some (error_of command.1)) (Some NotReady) (own-error command.1) tt)
 
@@ -77,8 +78,9 @@ unfolding later_refusal
 own-later body = by_command (command_of body)
   where
     by_command : (o : Option (List ℕ × List ℕ)) → IsOwn (elim o [
-        None ↦ None
-      | Some command ↦ cond (bytes_eq command.0 (codes "ERROR")) (Some (error_of command.1)) None ])
+      | None ↦ None
+      | Some command ↦ cond (bytes_eq command.0 (codes "ERROR")) (Some (error_of command.1)) None
+    ])
     by_command None = tt
     by_command (Some command) = own-either (bytes_eq command.0 (codes "ERROR")) (Some (error_of command.1)) None (own-error command.1) tt
 
@@ -94,8 +96,8 @@ own-frame : (role : Role) (s : State) (f : Frame) → IsOwnState s → IsOwnStat
 own-frame role Opening f h = own-state-either f.command (unless (first_refusal role f.body) (Open [])) (Refused NotReady) (own-unless (first_refusal role f.body) (Open []) (own-first role f.body) tt) tt
 own-frame role (Open held) f h =
     own-state-either f.command (unless (later_refusal f.body) (Open held)) (cond f.more (Open (held ++ f.body ∷ [])) (Open []))
-      (own-unless (later_refusal f.body) (Open held) (own-later f.body) tt)
-      (own-state-either f.more (Open (held ++ f.body ∷ [])) (Open []) tt tt)
+    (own-unless (later_refusal f.body) (Open held) (own-later f.body) tt)
+    (own-state-either f.more (Open (held ++ f.body ∷ [])) (Open []) tt tt)
 own-frame role (Refused fault) f h = h
 
 pub own-after : (role : Role) (s : State) (fs : List Frame) → IsOwnState s → IsOwnState (after role s fs)
@@ -118,6 +120,7 @@ never-memory role rest behind old new events r going same = by_end r.ends
   where
     own : IsOwnState (after role old r.frames)
     own = own-after role old r.frames (own-going old going)
+
     by_end : EndsFrames (after role old r.frames) new behind → ⊥
     by_end (inl (partial, is, not)) = not (subst IsRefusal (sym same) tt)
     by_end (inr (inl (is, refusal))) = subst IsOwnState (sym is ∙ same) own

@@ -239,7 +239,7 @@ rooms-append n t (e ∷ es) fs h k = (h.0, rooms-append n t es fs h.1 k)
 
 -- a place that is added leaves all counts, and all other places
 pub added-places : (p : List ℕ) (t u : List (List ℕ × ℕ)) → ((q : List ℕ) → place_of u q ≡ option_or (place_of t q) (if bytes_eq q p then Some 0 else None))
-  → (q : List ℕ) → is_some (place_of t q) ≡ true → is_some (place_of u q) ≡ true
+    → (q : List ℕ) → is_some (place_of t q) ≡ true → is_some (place_of u q) ≡ true
 added-places p t u h q some = ap is_some (h q) ∙ by_place (place_of t q) some
   where
     by_place : (o : Option ℕ) → is_some o ≡ true → is_some (option_or o (cond (bytes_eq q p) (Some 0) None)) ≡ true
@@ -247,7 +247,7 @@ added-places p t u h q some = ap is_some (h q) ∙ by_place (place_of t q) some
     by_place (Some n) h = refl
 
 pub added-counts : (p : List ℕ) (t u : List (List ℕ × ℕ)) → ((q : List ℕ) → place_of u q ≡ option_or (place_of t q) (if bytes_eq q p then Some 0 else None))
-  → (q : List ℕ) → count_in u q ≡ count_in t q
+    → (q : List ℕ) → count_in u q ≡ count_in t q
 added-counts p t u h q = ap (λ o. unwrap_or o 0) (h q) ∙ by_place (place_of t q) (bytes_eq q p)
   where
     by_place : (o : Option ℕ) (b : Bool) → unwrap_or (option_or o (cond b (Some 0) None)) 0 ≡ unwrap_or o 0
@@ -256,7 +256,7 @@ added-counts p t u h q = ap (λ o. unwrap_or o 0) (h q) ∙ by_place (place_of t
     by_place (Some n) b = refl
 
 pub added-here : (p : List ℕ) (t u : List (List ℕ × ℕ)) → ((q : List ℕ) → place_of u q ≡ option_or (place_of t q) (if bytes_eq q p then Some 0 else None))
-  → is_some (place_of u p) ≡ true
+    → is_some (place_of u p) ≡ true
 added-here p t u h = ap is_some (h p) ∙ by_place (place_of t p) (bytes_eq p p) ((bytes_eq-Decides p p).1 refl)
   where
     by_place : (o : Option ℕ) (b : Bool) → b ≡ true → is_some (option_or o (cond b (Some 0) None)) ≡ true
@@ -266,17 +266,17 @@ added-here p t u h = ap is_some (h p) ∙ by_place (place_of t p) (bytes_eq p p)
 
 -- one message further on in a list of them
 pub reserved-step : (role : Role) (ms : List (Vec (Vec ℕ Global) Global)) (i n : ℕ) (m : Vec (Vec ℕ Global) Global) (t u : List (List ℕ × ℕ)) → i < length ms → m ≡ get_or ms i m
-  → HasRoom n t (flat_map (message_told role) (map (λ message. bodies message.items) (take i ms)))
-  → ((q : List ℕ) → is_some (place_of t q) ≡ true → is_some (place_of u q) ≡ true) → ((q : List ℕ) → count_in u q ≡ count_in t q)
-  → HasRoom n u (message_told role (bodies m.items))
-  → HasRoom n u (flat_map (message_told role) (map (λ message. bodies message.items) (take (i + 1) ms)))
+    → HasRoom n t (flat_map (message_told role) (map (λ message. bodies message.items) (take i ms)))
+    → ((q : List ℕ) → is_some (place_of t q) ≡ true → is_some (place_of u q) ≡ true) → ((q : List ℕ) → count_in u q ≡ count_in t q)
+    → HasRoom n u (message_told role (bodies m.items))
+    → HasRoom n u (flat_map (message_told role) (map (λ message. bodies message.items) (take (i + 1) ms)))
 reserved-step role ms i n m t u h is room places counts now =
     let told : List (Vec (Vec ℕ Global) Global) → List Event = λ xs. flat_map (message_told role) (map (λ message. bodies message.items) xs) in
     let before : HasRoom n u (told (take i ms)) = rooms-less n n t u (told (take i ms)) room places (λ q. omega (arith, counts q)) in
     let joined : told (take (i + 1) ms) ≡ told (take i ms) ++ message_told role (bodies m.items) =
-      ap told (take_more ms i m h ∙ ap (λ x. take i ms ++ x ∷ []) (sym is)) ∙ ap (flat_map (message_told role)) (map-append (λ (message : Vec (Vec ℕ Global) Global). bodies message.items) (take i ms) (m ∷ []))
-      ∙ flat_map-append (message_told role) (map (λ (message : Vec (Vec ℕ Global) Global). bodies message.items) (take i ms)) (bodies m.items ∷ [])
-      ∙ ap (λ es. told (take i ms) ++ es) (append-nil (message_told role (bodies m.items))) in
+    ap told (take_more ms i m h ∙ ap (λ x. take i ms ++ x ∷ []) (sym is)) ∙ ap (flat_map (message_told role)) (map-append (λ (message : Vec (Vec ℕ Global) Global). bodies message.items) (take i ms) (m ∷ []))
+    ∙ flat_map-append (message_told role) (map (λ (message : Vec (Vec ℕ Global) Global). bodies message.items) (take i ms)) (bodies m.items ∷ [])
+    ∙ ap (λ es. told (take i ms) ++ es) (append-nil (message_told role (bodies m.items))) in
     subst (HasRoom n u) (sym joined) (rooms-append n u (told (take i ms)) (message_told role (bodies m.items)) before now)
 
 -- READY needs no room

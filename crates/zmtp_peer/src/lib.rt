@@ -13,6 +13,8 @@ mod opening;
 pub mod peer;
 pub mod role;
 mod subscriptions;
+#[cfg(test)]
+mod tests;
 mod told;
 
 pub use event::PeerEvent;

@@ -7,4 +7,4 @@ use Rattle.zmtp_peer.proofs.connection.gather.Goals as goal
 pub returns-clause-taken : goal.returns-clause-taken
 returns-clause-taken c =
     on_ok c.with_capacity.result
-      (subst (λ (d : Decoding). TakesFrames c.args.role d.rest c.args.intake.now c.take_frames.new.decoder.rest c.take_frames.new.intake) c.in-Ok.ensures.fed c.in_ok-take_frames.ensures.taken)
+    (subst (λ (d : Decoding). TakesFrames c.args.role d.rest c.args.intake.now c.take_frames.new.decoder.rest c.take_frames.new.intake) c.in-Ok.ensures.fed c.in_ok-take_frames.ensures.taken)

@@ -10,5 +10,5 @@ loop-message-preserved c =
     record {
       same = λ q. c.reserve_message.ensures.same q ∙ c.loop-message.invariant.same q;
       room = reserved-step c.args.role c.args.messages.now c.loop-message.message-index c.args.more c.message-item.result t u c.loop-message-test.true c.message-item.is c.loop-message.invariant.room
-        c.reserve_message.ensures.places c.reserve_message.ensures.same (rw c.deref.ensures.value at c.in_ok-reserve_message.ensures.room);
+          c.reserve_message.ensures.places c.reserve_message.ensures.same (rw c.deref.ensures.value at c.in_ok-reserve_message.ensures.room);
     }

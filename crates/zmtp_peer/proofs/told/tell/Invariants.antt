@@ -8,7 +8,7 @@ use Rattle.zmtp_peer.proofs.told.tell.Given as goal
 abbrev pub invariant-loop-i : goal.invariant-loop-i
 invariant-loop-i l = record {
   told : events_of l.events.items ++ flat_map (message_told l.role) (map (λ message. bodies message.items) (drop l.i l.messages.items))
-    ≡ (if l.ready then Ready ∷ [] else []) ++ flat_map (message_told l.role) (map (λ message. bodies message.items) l.fn.messages.items);
+      ≡ (if l.ready then Ready ∷ [] else []) ++ flat_map (message_told l.role) (map (λ message. bodies message.items) l.fn.messages.items);
   same : vec_len l.messages ≡ vec_len l.fn.messages;
   few : vec_len l.events ≤ l.i + 1;
   room : vec_len l.messages + 1 ≤ vec_capacity l.events;

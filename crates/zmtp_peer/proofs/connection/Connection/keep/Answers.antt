@@ -14,6 +14,6 @@ count_events-requires c =
     let table = table_of c.args.self.now.counts.entries in
     let intake = c.args.intake in
     let here : HasRoom (length events.items) table (events_of events.items) =
-      subst (λ (es : List Event). HasRoom (length events.items) table es) (sym c.tell-events.ensures.told)
-        (told-room (vec_len intake.whole + 1) (length events.items) table intake.ready (flat_map (message_told c.args.role) (messages_of intake)) c.requires.room (omega (arith, c.tell-events.ensures.few, events.ok.0))) in
+    subst (λ (es : List Event). HasRoom (length events.items) table es) (sym c.tell-events.ensures.told)
+    (told-room (vec_len intake.whole + 1) (length events.items) table intake.ready (flat_map (message_told c.args.role) (messages_of intake)) c.requires.room (omega (arith, c.tell-events.ensures.few, events.ok.0))) in
     subst (λ (es : List PeerEvent). HasRoom (length es) table (events_of es)) (sym c.deref.ensures.value) here
