@@ -1,9 +1,17 @@
 -- The laws of what octets tell a peer.
-use Rattle.std.proofs.Common.{◌≡◌, ℕ, ◌+◌, ◌<◌, ◌≤◌, Bool, true, false, cond, List, [], ◌∷◌, ◌++◌, length, take, drop, refl, ap, sym, subst, ◌∙◌, arith, append_assoc, append-nil, inl, inr, ◌⊎◌}
+use Rattle.std.proofs.Common.{◌≡◌, ℕ, ◌+◌, ◌<◌, ◌≤◌, Bool, true, false, cond, List, [], ◌∷◌, ◌++◌, length, take, drop, refl, ap, sym, subst, ◌∙◌, arith, append_assoc, append-nil, inl, inr, ◌⊎◌, slice_index}
+use Rattle.std.specs.Str.{bytes_eq}
+use Rattle.std.proofs.lemmas.Bool.{cases_eq, cases_lt, false≢true}
+use Rattle.std.proofs.lemmas.List.Elements.{All-drop}
+use Rattle.std.proofs.lemmas.Slice.Eq.{bytes_eq-Decides}
 use Rattle.std.specs.List.{flat_map}
 use Rattle.zmtp_wire.specs.declared.fault.WireFault.{WireFault}
 use Rattle.zmtp_wire.specs.declared.fault.WireFault.TheVariants.{BadSignature, OldVersion, BadMechanism, ReservedBits, CommandWithMore, TooLong, Memory}
-use Rattle.zmtp_wire.specs.Greeting.{IsGreeting, IsGreetingFault}
+use Rattle.zmtp_wire.specs.declared.greeting.Greeting.{Greeting}
+use Rattle.zmtp_wire.specs.Greeting.{HasSignature, major_in, minor_in, mechanism_in, as_server_in, null_mechanism, IsGreeting, IsGreetingFault}
+use Rattle.zmtp_wire.specs.Stream as stream
+use Rattle.zmtp_wire.specs.Stream.{End}
+use Rattle.zmtp_wire.proofs.Readings.{every_stream_is_read}
 use Rattle.zmtp_wire.specs.Frame.{Frame}
 use Rattle.zmtp_wire.specs.Stream.{Rest, whole, Takes, Leaves, IsPartial, IsFaultAt}
 use Rattle.zmtp_wire.proofs.Streams.{one_frame, one_fault_at, partial_or_frame, fault_or_frame, fault_or_partial}
@@ -11,7 +19,7 @@ use Rattle.zmtp_peer.specs.declared.role.Role.{Role}
 use Rattle.zmtp_peer.specs.Faults.{Fault, Wire}
 use Rattle.zmtp_peer.specs.Events.{Event, State, Opening, Open, Refused, after, told}
 use Rattle.zmtp_peer.specs.Reading.{Ending, Awaiting, Failing, IsShort, IsUnwelcome, EndsAt, EndsIn, IsGreeted, PeerReads, Standing, ending_of, Stands, Brings}
-use Rattle.zmtp_peer.specs.Laws.{OctetsHaveOneReading, RefusalsStay, Run, NoCutMatters, FoldsGoOn}
+use Rattle.zmtp_peer.specs.Laws.{OctetsAreRead, OctetsHaveOneReading, RefusalsStay, Run, NoCutMatters, FoldsGoOn}
 use Rattle.zmtp_peer.proofs.FrameLemmas.{after-append, told-append}
 use Rattle.zmtp_peer.proofs.ReadingLemmas.{failing-stays, counted_all-append, welcome_or_refused}
 
@@ -136,3 +144,57 @@ one_reading role octets es fs e d (inr (inr h)) (inr (inr k)) = compared (leaves
     compared (inr (hs, same, l)) =
         let both = one-way role k.frames h.frames hs k.behind h.behind d e same l k.ends h.ends in
         (h.tells ∙ sym both.0 ∙ sym k.tells, sym both.1)
+
+-- a greeting is welcome or refused
+welcome-or-refused : (octets : List ℕ) → ((g : Greeting) × IsGreeting octets g) ⊎ ((fault : WireFault) × IsGreetingFault octets fault)
+welcome-or-refused octets = by_first (cases_eq (slice_index octets 0) 255)
+  where
+    by_mechanism : HasSignature octets → 3 ≤ major_in octets → (b : Bool) → bytes_eq (mechanism_in octets) null_mechanism ≡ b → ((g : Greeting) × IsGreeting octets g) ⊎ ((fault : WireFault) × IsGreetingFault octets fault)
+    by_mechanism signature new true h =
+        inl (
+          record { major = major_in octets; minor = minor_in octets; as_server = as_server_in octets },
+          record { signature = signature; major = refl; minor = refl; new_enough = new; mechanism = (bytes_eq-Decides (mechanism_in octets) null_mechanism).0 h; as_server = refl },
+        )
+    by_mechanism signature new false h =
+        inr (BadMechanism, (signature, new, λ same. false≢true (sym h ∙ (bytes_eq-Decides (mechanism_in octets) null_mechanism).1 same)))
+
+    by_version : HasSignature octets → (major_in octets < 3) ⊎ (3 ≤ major_in octets) → ((g : Greeting) × IsGreeting octets g) ⊎ ((fault : WireFault) × IsGreetingFault octets fault)
+    by_version signature (inl old) = inr (OldVersion, (signature, old))
+    by_version signature (inr new) = by_mechanism signature new (bytes_eq (mechanism_in octets) null_mechanism) refl
+
+    by_last : slice_index octets 0 ≡ 255 → (slice_index octets 9 ≡ 127) ⊎ (slice_index octets 9 ≡ 127 → ⊥) → ((g : Greeting) × IsGreeting octets g) ⊎ ((fault : WireFault) × IsGreetingFault octets fault)
+    by_last first (inl last) = by_version (record { first = first; last = last }) (cases_lt (major_in octets) 3)
+    by_last first (inr not) = inr (BadSignature, λ signature. not signature.last)
+
+    by_first : (slice_index octets 0 ≡ 255) ⊎ (slice_index octets 0 ≡ 255 → ⊥) → ((g : Greeting) × IsGreeting octets g) ⊎ ((fault : WireFault) × IsGreetingFault octets fault)
+    by_first (inl first) = by_last first (cases_eq (slice_index octets 9) 127)
+    by_first (inr not) = inr (BadSignature, λ signature. not signature.first)
+
+-- the end of the frames gives the end of the reading
+ending-at : (rest : Rest) (end : End) → stream.EndsIn rest end → (e : Ending) × EndsAt rest e
+ending-at rest (stream.Open octets) ends = (Awaiting, inl (ends.1, refl))
+ending-at rest (stream.Faulty fault) ends = (Failing (Wire fault), inr (fault, ends, refl))
+
+ending-in : (s : State) (rest : Rest) (end : End) → stream.EndsIn rest end → (e : Ending) × EndsIn s rest e
+ending-in Opening rest end ends = ending-at rest end ends
+ending-in (Open held) rest end ends = ending-at rest end ends
+ending-in (Refused fault) rest end ends = (Failing fault, refl)
+
+pub octets_are_read : OctetsAreRead
+octets_are_read role octets each = by_length (cases_lt (length octets) 64)
+  where
+    greeted : 64 ≤ length octets → (g : Greeting) → IsGreeting (take 64 octets) g → (fs : List Frame) (end : End) → stream.Reads (drop 64 octets) fs end → (es : List Event) × (e : Ending) × PeerReads role octets es e
+    greeted long g welcome fs end reads =
+        let ending = ending-in (after role Opening fs) reads.0 end reads.2 in
+        (told role Opening fs, ending.0, inr (inr (record { complete = long; greeting = g; welcome = welcome; frames = fs; behind = reads.0; left = reads.1; tells = refl; ends = ending.1 })))
+
+    by_greeting : 64 ≤ length octets → ((g : Greeting) × IsGreeting (take 64 octets) g) ⊎ ((fault : WireFault) × IsGreetingFault (take 64 octets) fault) → (es : List Event) × (e : Ending) × PeerReads role octets es e
+    by_greeting long (inl (g, welcome)) =
+        let all = every_stream_is_read (drop 64 octets) (All-drop (λ octet. octet < 256) 64 octets each) in
+        greeted long g welcome all.0 all.1 all.2
+    by_greeting long (inr (fault, refused)) =
+        ([], Failing (Wire fault), inr (inl (record { complete = long; fault = fault; refused = refused; quiet = refl; fails = refl })))
+
+    by_length : (length octets < 64) ⊎ (64 ≤ length octets) → (es : List Event) × (e : Ending) × PeerReads role octets es e
+    by_length (inl short) = ([], Awaiting, inl (record { short = short; quiet = refl; awaits = refl }))
+    by_length (inr long) = by_greeting long (welcome-or-refused (take 64 octets))

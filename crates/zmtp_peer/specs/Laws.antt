@@ -1,5 +1,5 @@
 -- Laws of what octets tell a peer.
-use Rattle.std.specs.Prelude.{◌≡◌, ℕ, Bool, true, List, [], ◌∷◌, ◌++◌}
+use Rattle.std.specs.Prelude.{◌≡◌, ℕ, ◌<◌, true, All, List, [], ◌∷◌, ◌++◌}
 use Rattle.std.specs.List.{flat_map}
 use Rattle.zmtp_wire.specs.Frame.{Frame}
 use Rattle.zmtp_peer.specs.declared.role.Role.{Role}
@@ -9,6 +9,10 @@ use Rattle.zmtp_peer.specs.Events.{Event, Ready, State, after, told}
 use Rattle.zmtp_peer.specs.Subscriptions.{counted_all}
 use Rattle.zmtp_peer.specs.Reading.{Ending, Awaiting, Failing, PeerReads, Standing, ending_of, Stands, Brings}
 use Rattle.zmtp_peer.specs.Opening.{opening_of}
+
+-- all octets tell a role something
+abbrev pub OctetsAreRead : Type 0
+OctetsAreRead = (role : Role) (octets : List ℕ) → All (λ octet. octet < 256) octets → (es : List Event) × (e : Ending) × PeerReads role octets es e
 
 -- octets tell a role one list of events, and one ending
 abbrev pub OctetsHaveOneReading : Type 0

@@ -11,7 +11,7 @@ ghost use Rattle.zmtp_peer.specs.Connection.{ReadsPiece, IsUnread, IsConnection,
 use crate::event::PeerEvent;
 use crate::intake::{Intake, Stage, take_frames};
 use crate::role::Role;
-use crate::subscriptions::{count_events, drop_places, reserve};
+use crate::subscriptions::{count_events, drop_places, release, reserve};
 use crate::told::tell;
 use std::alloc::{AllocError, Global};
 use std::collections::BTreeMap;
@@ -96,6 +96,7 @@ impl Connection {
         match gathered {
             Err(_) => {
                 self.decoder.unfeed();
+                release(&mut self.counts, role, &intake.whole);
                 self.held = intake.taken_back(kept);
                 Err(AllocError)
             }

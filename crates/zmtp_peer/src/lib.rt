@@ -1,7 +1,7 @@
 //! One end of a ZMTP 3.0 connection: the handshake, and what messages tell a role.
 #![tactic(auto)]
 
-ghost use Rattle.zmtp_peer.specs.Laws.{OctetsHaveOneReading, RefusalsStay, NoCutMatters, FoldsGoOn, PartnersAreReady};
+ghost use Rattle.zmtp_peer.specs.Laws.{OctetsAreRead, OctetsHaveOneReading, RefusalsStay, NoCutMatters, FoldsGoOn, PartnersAreReady};
 
 mod command;
 mod connection;
@@ -21,6 +21,11 @@ pub use event::PeerEvent;
 pub use fault::{PeerFault, Reason};
 pub use peer::Peer;
 pub use role::Role;
+
+/// Law: all octets tell a role something.
+pub fn octets_are_read_law()
+    ensures { OctetsAreRead }
+{}
 
 /// Law: octets tell a role one list of events, and one ending.
 pub fn octets_have_one_reading_law()

@@ -4,6 +4,7 @@ ghost use Rattle.zmtp_peer.specs.Opening.{opening_of, ready_of, property_octets}
 
 use crate::role::Role;
 use std::alloc::{AllocError, Global};
+use zmtp_wire::greeting::{MAJOR, MINOR};
 use zmtp_wire::{Frame, Greeting};
 
 /// The greeting and the READY of a role.
@@ -11,8 +12,8 @@ pub(crate) fn opening_octets(alloc: Global, role: Role) -> Result<Vec<u8>, Alloc
     ensures { IfOk result (λ octets. octets.items ≡ opening_of role) }
 {
     let greeting = Greeting {
-        major: 3,
-        minor: 0,
+        major: MAJOR,
+        minor: MINOR,
         as_server: false,
     };
     let ready = Frame {

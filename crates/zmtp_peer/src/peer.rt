@@ -17,10 +17,8 @@ use crate::subscriptions::is_wanted;
 use std::alloc::{AllocError, Global};
 use std::collections::BTreeMap;
 use std::marker::Model;
+use zmtp_wire::greeting::GREETING_LENGTH;
 use zmtp_wire::{Decoder, Greeting};
-
-/// How many octets a greeting has.
-const GREETING_LENGTH: usize = 64;
 
 /// One end of a ZMTP 3.0 connection in one role. It is fed the octets that come, in any pieces, and answers the events
 /// that they bring.

@@ -186,3 +186,14 @@ pub(crate) fn reserve(
     }
     Ok(())
 }
+
+/// Gives up the places that were made for messages, where nothing is counted there.
+pub(crate) fn release(counts: &mut BTreeMap<Vec<u8>, u64>, role: Role, messages: &[Vec<Vec<u8>>])
+    ensures { (q : List ℕ) → count_in (table_of counts.new.entries) q ≡ count_in (table_of counts.old.entries) q }
+{
+    for message in messages {
+        if let Some(prefix) = subscribed(role, message) {
+            drop_place(counts, prefix);
+        }
+    }
+}
