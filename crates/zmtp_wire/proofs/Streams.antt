@@ -7,8 +7,8 @@ use Rattle.zmtp_wire.specs.declared.fault.WireFault.TheVariants.{BadSignature, O
 use Rattle.zmtp_wire.specs.Fronts.{HasHeader, HasBadFlags}
 use Rattle.zmtp_wire.specs.Frame.{Frame, header_of, IsFrame}
 use Rattle.zmtp_wire.specs.Tally.{Fits, counted}
-use Rattle.zmtp_wire.specs.Stream.{Rest, whole, Takes, Leaves, IsTooLong, IsFaultAt, IsPartial, End, Open, Faulty, EndsIn, ReadsFrom}
-use Rattle.zmtp_wire.specs.Laws.{StreamsHaveOneReading, ReadingsGoOn, FaultsStay, FramesAreReadBack, Event, Fed, Given, octets_fed, frames_given, Run, NoCutMatters}
+use Rattle.zmtp_wire.specs.Stream.{Rest, whole, Takes, Leaves, IsTooLong, IsFaultAt, IsPartial, End, Open, Faulty, EndsIn, ReadsFrom, Reads}
+use Rattle.zmtp_wire.specs.Laws.{StreamsHaveOneReading, ReadingsGoOn, FaultsStay, FramesAreReadBack, Event, Fed, Given, octets_fed, frames_given, Run, NoCutMatters, CutsAgree}
 use Rattle.zmtp_wire.proofs.Octets.{fronts_equal}
 use Rattle.zmtp_wire.proofs.Headers.{one_header, header_longer, header_or_fault, fault_longer, one_fault}
 
@@ -187,7 +187,7 @@ readings_go_on stream more fs gs end other p q =
     let on = reading_behind fs gs (whole (stream ++ more)) (longer p.0 more) other (leaves_longer fs (whole stream) p.0 more p.1) q in
     (on.0, on.1)
 
-fault_stays : (fault : WireFault) (rest : Rest) (more : List ℕ) → IsFaultAt rest fault → IsFaultAt (longer rest more) fault
+pub fault_stays : (fault : WireFault) (rest : Rest) (more : List ℕ) → IsFaultAt rest fault → IsFaultAt (longer rest more) fault
 fault_stays ReservedBits rest more fault = fault_longer rest.octets more ReservedBits fault
 fault_stays CommandWithMore rest more fault = fault_longer rest.octets more CommandWithMore fault
 fault_stays TooLong rest more fault = (fault.0, fault.1 ++ more, header_longer rest.octets fault.0 fault.1 more fault.2, fault.3)
@@ -218,3 +218,9 @@ runs_join (Given f ∷ es) rest after run =
 
 pub no_cut_matters : NoCutMatters
 no_cut_matters es after run = runs_join es (whole []) after run
+
+pub cuts_agree : CutsAgree
+cuts_agree es fs a b end other run another same ends finishes =
+    let first : Reads (octets_fed es) (frames_given es) end = (a, no_cut_matters es a run, ends) in
+    let second : Reads (octets_fed fs) (frames_given fs) other = (b, no_cut_matters fs b another, finishes) in
+    one_reading (octets_fed fs) (frames_given es) (frames_given fs) end other (subst (λ (s : List ℕ). Reads s (frames_given es) end) same first) second

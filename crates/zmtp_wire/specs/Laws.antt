@@ -3,7 +3,7 @@ use Rattle.std.specs.Prelude.{◌≡◌, ℕ, ◌<◌, List, [], ◌∷◌, ◌+
 use Rattle.zmtp_wire.specs.declared.fault.WireFault.{WireFault}
 use Rattle.zmtp_wire.specs.Frame.{Frame, IsFrame, header_of}
 use Rattle.zmtp_wire.specs.Tally.{Fits, counted}
-use Rattle.zmtp_wire.specs.Stream.{Rest, whole, Takes, Leaves, End, Faulty, ReadsFrom, Reads}
+use Rattle.zmtp_wire.specs.Stream.{Rest, whole, Takes, Leaves, End, Faulty, EndsIn, ReadsFrom, Reads}
 
 -- each list of octets has a reading
 abbrev pub EveryStreamIsRead : Type 0
@@ -57,3 +57,9 @@ Run rest (Given f ∷ es) after = (next : Rest) × Takes rest f next × Run next
 -- However the octets were cut and whenever frames were taken, the frames are those at the front of all octets joined.
 abbrev pub NoCutMatters : Type 0
 NoCutMatters = (es : List Event) (after : Rest) → Run (whole []) es after → Leaves (whole (octets_fed es)) (frames_given es) after
+
+-- So two ways to cut one stream, each followed to the end of what came, give the same frames and the same end.
+abbrev pub CutsAgree : Type 0
+CutsAgree =
+    (es fs : List Event) (a b : Rest) (end other : End) → Run (whole []) es a → Run (whole []) fs b → octets_fed es ≡ octets_fed fs
+    → EndsIn a end → EndsIn b other → (frames_given es ≡ frames_given fs) × (end ≡ other)

@@ -8,7 +8,7 @@
 //! mechanism NULL and with this project's limits on the size of a message.
 #![tactic(auto)]
 
-ghost use Rattle.zmtp_wire.specs.Laws.{EveryStreamIsRead, StreamsHaveOneReading, ReadingsGoOn, FaultsStay, FramesAreReadBack, NoCutMatters};
+ghost use Rattle.zmtp_wire.specs.Laws.{EveryStreamIsRead, StreamsHaveOneReading, ReadingsGoOn, FaultsStay, FramesAreReadBack, NoCutMatters, CutsAgree};
 
 pub mod decoder;
 pub mod fault;
@@ -52,4 +52,9 @@ pub fn frames_are_read_back_law()
 /// Law: for each list of pieces, and whenever frames are asked for in between, the frames are those of all octets joined.
 pub fn no_cut_matters_law()
     ensures { NoCutMatters }
+{}
+
+/// Law: two ways to cut one stream, each followed to its end, give the same frames and the same end.
+pub fn cuts_agree_law()
+    ensures { CutsAgree }
 {}
