@@ -1,4 +1,4 @@
--- What the frames of a peer bring, by role.
+-- What the frames of a peer bring, by role: events are a fold over the frames.
 use Rattle.std.specs.Prelude.{ℕ, ◌==◌, Option, Some, None, List, [], ◌∷◌, ◌++◌, map, if◌then◌else◌}
 use Rattle.std.specs.declared.alloc.Global.{Global}
 use Rattle.std.specs.declared.vec.Vec.{Vec}
@@ -31,6 +31,7 @@ abbrev pub events_of : List PeerEvent → List Event
 events_of events = map event_of events
 
 -- a frame that subscribes begins with 1, and one that cancels a subscription with 0; the prefix stands behind it
+-- (RFC 23, its grammar of `subscribe` and `cancel`)
 abbrev pub subscription_told : List ℕ → List Event
 subscription_told [] = []
 subscription_told (first ∷ prefix) = if first == 1 then Subscribe prefix ∷ [] else (if first == 0 then Cancel prefix ∷ [] else [])

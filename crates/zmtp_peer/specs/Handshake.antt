@@ -1,4 +1,5 @@
--- What the commands of a peer are answered with, before its READY and after it.
+-- What the commands of a peer are answered with, before its READY and after it (RFC 23, "The NULL Security Mechanism").
+-- Of several faults the first of these counts: data that doesn't fit its lengths, no socket type, a wrong pair.
 use Rattle.std.specs.Prelude.{ℕ, Option, Some, None, List, codes, if◌then◌else◌}
 use Rattle.std.specs.Str.{bytes_eq}
 use Rattle.zmtp_peer.specs.declared.role.Role.{Role}

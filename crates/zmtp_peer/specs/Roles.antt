@@ -1,5 +1,5 @@
--- The five roles: the socket type that each announces, and those of the peers that it takes (RFC 23, section 3.2: valid
--- combinations of sockets).
+-- The five roles: the socket type that each announces, and those of the peers that it takes (RFC 23, "The NULL Security
+-- Mechanism": the property Socket-Type).
 use Rattle.std.specs.Prelude.{ℕ, Bool, List, [], ◌∷◌, codes}
 use Rattle.std.specs.List.{list_any}
 use Rattle.std.specs.Str.{bytes_eq}

@@ -1,4 +1,12 @@
-//! One end of a ZMTP 3.0 connection: the handshake, and what messages tell a role.
+//! One end of a ZMTP 3.0 connection in one of five roles: from the octets that come to events.
+//!
+//! To the layer above this crate promises that the events which `Peer::feed` answers are those that all octets fed so
+//! far tell the role, as `specs/Reading.antt` defines them, however the octets were cut; that events which stand before
+//! a fault are answered before it; that each fault but want of memory is final, and want of memory leaves the peer as it
+//! was; and that `Peer::wants` knows the subscriptions behind the events.
+//!
+//! The definitions, in specs/, are those of RFC 23 (ZMTP 3.0): its grammar of commands and metadata, "The NULL Security
+//! Mechanism", and its rules for publishers and subscribers. Greetings, frames and their limits are those of `zmtp_wire`.
 #![tactic(auto)]
 
 ghost use Rattle.zmtp_peer.specs.Laws.{OctetsAreRead, OctetsHaveOneReading, RefusalsStay, NoCutMatters, FoldsGoOn, PartnersAreReady};
