@@ -1,5 +1,5 @@
 -- One more frame of a stream, and what frames tell.
-use Rattle.std.proofs.Common.{◌≡◌, ℕ, ◌+◌, ◌<◌, ◌≤◌, List, [], ◌∷◌, ◌++◌, length, take, refl, ap, sym, subst, ◌∙◌, arith, append_assoc, append-nil, length-append, inl, inr}
+use Rattle.std.proofs.Common.{◌≡◌, ℕ, ◌<◌, List, [], ◌∷◌, ◌++◌, length, refl, ap, sym, ◌∙◌, arith, append_assoc, append-nil, length-append}
 use Rattle.std.proofs.Common.{Result, Ok, Err, OnOk, map, get_or}
 use Rattle.std.specs.declared.alloc.Global.{Global}
 use Rattle.std.specs.declared.vec.Vec.{Vec}
@@ -9,7 +9,7 @@ use Rattle.zmtp_wire.proofs.Streams.{leaves_more}
 use Rattle.zmtp_peer.specs.declared.role.Role.{Role}
 use Rattle.zmtp_peer.specs.declared.intake.Intake.{Intake}
 use Rattle.zmtp_peer.specs.Events.{Event, State, after_frame, frame_told, after, told, bodies}
-use Rattle.zmtp_peer.specs.Intake.{first_of, state_of, told_by, Keeps, EndsFrames, TakesFrames, IsRefusal}
+use Rattle.zmtp_peer.specs.Intake.{first_of, state_of, told_by, Keeps}
 
 -- frames are taken, and nothing ends them yet
 pub record Taken (role : Role) (rest : Rest) (old : Intake) (behind : Rest) (new : Intake) : Type 0 where

@@ -1,5 +1,5 @@
 -- The laws of what octets tell a peer.
-use Rattle.std.proofs.Common.{◌≡◌, ℕ, ◌+◌, ◌<◌, ◌≤◌, Bool, true, false, cond, List, [], ◌∷◌, ◌++◌, length, take, drop, refl, ap, sym, subst, ◌∙◌, arith, append_assoc, append-nil, inl, inr, ◌⊎◌, slice_index}
+use Rattle.std.proofs.Common.{◌≡◌, ℕ, ◌<◌, ◌≤◌, Bool, true, false, List, [], ◌∷◌, ◌++◌, length, take, drop, refl, ap, sym, subst, ◌∙◌, arith, append_assoc, append-nil, inl, inr, ◌⊎◌, slice_index}
 use Rattle.std.specs.Str.{bytes_eq}
 use Rattle.std.proofs.lemmas.Bool.{cases_eq, cases_lt, false≢true}
 use Rattle.std.proofs.lemmas.List.Elements.{All-drop}
@@ -18,7 +18,7 @@ use Rattle.zmtp_wire.proofs.Streams.{one_frame, one_fault_at, partial_or_frame, 
 use Rattle.zmtp_peer.specs.declared.role.Role.{Role}
 use Rattle.zmtp_peer.specs.Faults.{Fault, Wire}
 use Rattle.zmtp_peer.specs.Events.{Event, State, Opening, Open, Refused, after, told}
-use Rattle.zmtp_peer.specs.Reading.{Ending, Awaiting, Failing, IsShort, IsUnwelcome, EndsAt, EndsIn, IsGreeted, PeerReads, Standing, ending_of, Stands, Brings}
+use Rattle.zmtp_peer.specs.Reading.{Ending, Awaiting, Failing, EndsAt, EndsIn, PeerReads, Standing, Stands}
 use Rattle.zmtp_peer.specs.Laws.{OctetsAreRead, OctetsHaveOneReading, RefusalsStay, Run, NoCutMatters, FoldsGoOn}
 use Rattle.zmtp_peer.proofs.FrameLemmas.{after-append, told-append}
 use Rattle.zmtp_peer.proofs.ReadingLemmas.{failing-stays, counted_all-append, welcome_or_refused}

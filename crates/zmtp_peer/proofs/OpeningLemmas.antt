@@ -1,21 +1,21 @@
 -- A role that is fed the opening of a partner is ready.
-use Rattle.std.proofs.Common.{◌≡◌, ℕ, ◌+◌, ◌<◌, ◌≤◌, Bool, true, false, cond, List, [], ◌∷◌, ◌++◌, Option, Some, None, length, take, drop, refl, ap, sym, subst, ◌∙◌, arith, append-nil, length-append, inl, inr, lit<, lit≤, codes}
+use Rattle.std.proofs.Common.{◌≡◌, ℕ, Bool, true, false, cond, List, [], ◌∷◌, ◌++◌, Option, Some, None, length, refl, ap, sym, subst, ◌∙◌, arith, append-nil, length-append, inl, inr, lit<, lit≤, codes}
 use Rattle.std.specs.Str.{bytes_eq}
 use Rattle.zmtp_wire.specs.Greeting as greeting
 use Rattle.zmtp_wire.specs.Greeting.{IsGreeting}
 use Rattle.zmtp_wire.specs.Frame as frame
 use Rattle.zmtp_wire.specs.Frame.{Frame, IsFrame}
 use Rattle.zmtp_wire.specs.Tally.{Fits, nothing_counted}
-use Rattle.zmtp_wire.specs.Stream.{Rest, whole, Takes, Leaves, IsPartial, IsTooLong}
+use Rattle.zmtp_wire.specs.Stream.{whole, Leaves, IsPartial}
 use Rattle.zmtp_peer.specs.declared.role.Role.{Role}
 use Rattle.zmtp_peer.specs.declared.role.Role.TheVariants.{Router, Pub, Rep, Dealer, Sub}
 use Rattle.zmtp_peer.specs.Roles.{socket_type_of, is_partner}
 use Rattle.zmtp_peer.specs.Commands.{command_of, metadata_of, property_at, announced}
 use Rattle.zmtp_peer.specs.Faults.{Fault, WrongPair, BadMetadata, NotReady}
 use Rattle.zmtp_peer.specs.Handshake.{error_of, refusal_of, first_refusal}
-use Rattle.zmtp_peer.specs.Events.{Event, Ready, State, Opening, Open, unless, ready_told, after, told}
-use Rattle.zmtp_peer.specs.Reading.{Awaiting, EndsIn, PeerReads}
-use Rattle.zmtp_peer.specs.Opening.{own_greeting, ready_of, opening_of}
+use Rattle.zmtp_peer.specs.Events.{State, Open, unless, ready_told}
+use Rattle.zmtp_peer.specs.Reading.{Awaiting, EndsIn}
+use Rattle.zmtp_peer.specs.Opening.{own_greeting, ready_of}
 use Rattle.zmtp_peer.specs.Laws.{PartnersAreReady}
 use Rattle.zmtp_peer.proofs.ReadingLemmas.{take-front, drop-front}
 

@@ -1,12 +1,12 @@
 -- How a peer stands behind one more piece.
-use Rattle.std.proofs.Common.{◌≡◌, ℕ, ◌+◌, ◌<◌, ◌≤◌, List, [], ◌∷◌, ◌++◌, length, take, drop, refl, ap, sym, subst, ◌∙◌, arith, append_assoc, append-nil, length-append, inl, inr, ◌⊎◌}
+use Rattle.std.proofs.Common.{◌≡◌, ℕ, ◌<◌, ◌≤◌, List, [], ◌∷◌, ◌++◌, length, take, drop, refl, ap, sym, subst, ◌∙◌, arith, append_assoc, append-nil, length-append, inl, inr, ◌⊎◌}
 use Rattle.std.proofs.Math.Seq.{take-append_seam, drop-append_seam}
 use Rattle.zmtp_wire.specs.declared.fault.WireFault.{WireFault}
 use Rattle.zmtp_wire.specs.declared.fault.WireFault.TheVariants.{BadSignature, OldVersion, BadMechanism, ReservedBits, CommandWithMore, TooLong, Memory}
 use Rattle.zmtp_wire.specs.declared.greeting.Greeting.{Greeting}
 use Rattle.zmtp_wire.specs.Greeting.{IsGreeting, IsGreetingFault}
 use Rattle.zmtp_wire.specs.Frame.{Frame}
-use Rattle.zmtp_wire.specs.Stream.{Rest, whole, Takes, Leaves, IsPartial, IsFaultAt}
+use Rattle.zmtp_wire.specs.Stream.{Rest, whole, Leaves}
 use Rattle.zmtp_wire.proofs.Streams.{longer, leaves_longer, faults_stay}
 use Rattle.std.proofs.lemmas.List.{take-append-le, drop-append-le}
 use Rattle.zmtp_peer.specs.declared.role.Role.{Role}
@@ -15,7 +15,7 @@ use Rattle.zmtp_peer.specs.Events.{Event, State, Opening, Open, Refused, after, 
 use Rattle.zmtp_peer.specs.Intake.{IsRefusal, EndsFrames}
 use Rattle.zmtp_peer.specs.Connection.{ReadsPiece}
 use Rattle.zmtp_peer.specs.Subscriptions.{subscriptions, count_in, counted, counted_all}
-use Rattle.zmtp_peer.specs.Reading.{Ending, Awaiting, Failing, IsShort, IsUnwelcome, EndsAt, EndsIn, IsGreeted, PeerReads, Standing, ending_of, IsGreetingBegun, IsStreaming, IsAt, Stands, Brings}
+use Rattle.zmtp_peer.specs.Reading.{Awaiting, Failing, EndsAt, EndsIn, PeerReads, Standing, ending_of, IsGreetingBegun, IsStreaming, IsAt, Stands, Brings}
 use Rattle.zmtp_peer.proofs.FrameLemmas.{after-append, told-append}
 
 -- frames behind frames

@@ -1,5 +1,5 @@
 -- Which faults refuse a peer, and that want of memory is none of them.
-use Rattle.std.proofs.Common.{◌≡◌, ℕ, ◌+◌, ◌≤◌, Bool, true, false, cond, List, [], ◌∷◌, ◌++◌, Option, Some, None, Result, Ok, Err, IfOk, IfErr, length, take, refl, ap, sym, subst, ◌∙◌, arith, inl, inr, ◌⊎◌}
+use Rattle.std.proofs.Common.{◌≡◌, ℕ, ◌+◌, Bool, true, false, cond, List, [], ◌∷◌, ◌++◌, Option, Some, None, Result, Ok, Err, IfOk, IfErr, length, take, refl, sym, subst, ◌∙◌, arith, inl, inr}
 use Rattle.std.proofs.lemmas.List.{take_all}
 use Rattle.std.specs.Str.{bytes_eq}
 use Rattle.std.proofs.Common.{codes}
@@ -14,7 +14,7 @@ use Rattle.zmtp_peer.specs.declared.intake.Stage.{Stage}
 use Rattle.zmtp_peer.specs.declared.intake.Stage.TheVariants as stage
 use Rattle.zmtp_peer.specs.Roles.{is_partner}
 use Rattle.zmtp_peer.specs.Commands.{command_of, reason_of, announced}
-use Rattle.zmtp_peer.specs.Faults.{Fault, Wire, NoSocketType, WrongPair, BadMetadata, PeerError, NotReady, fault_of, want_of_memory}
+use Rattle.zmtp_peer.specs.Faults.{Fault, Wire, NoSocketType, WrongPair, BadMetadata, PeerError, NotReady, want_of_memory}
 use Rattle.zmtp_peer.specs.Handshake.{error_of, refusal_of, first_refusal, later_refusal}
 use Rattle.zmtp_peer.specs.Events.{Event, State, Opening, Open, Refused, unless, after_frame, after}
 use Rattle.zmtp_peer.specs.Intake.{IsRefusal, EndsFrames, state_at}

@@ -1,7 +1,6 @@
 -- Commands, the metadata of READY and the reason of ERROR (RFC 23, its grammar of `command`, `metadata` and `error`).
-use Rattle.std.specs.Prelude.{◌≡◌, ℕ, ◌<◌, Option, Some, None, option_and_then, option_map, List, [], ◌∷◌, ◌++◌, length, take, drop, codes, nat_lt, nat_le, if◌then◌else◌, zero, suc}
-use Rattle.std.specs.List.{flat_map}
-use Rattle.std.specs.Int.{w32, to_be_bytes, from_be_bytes}
+use Rattle.std.specs.Prelude.{ℕ, Option, Some, None, option_and_then, option_map, List, [], ◌∷◌, length, take, drop, codes, nat_lt, nat_le, if◌then◌else◌, zero, suc}
+use Rattle.std.specs.Int.{w32, from_be_bytes}
 use Rattle.std.specs.Str.{str_eq_ignore_ascii_case}
 
 infixl 10 ◌>>=◌

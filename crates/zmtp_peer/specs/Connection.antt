@@ -1,5 +1,5 @@
 -- The stream behind the greeting, and what one piece of it brings.
-use Rattle.std.specs.Prelude.{◌≡◌, ℕ, List, [], ◌∷◌, ◌++◌}
+use Rattle.std.specs.Prelude.{◌≡◌, ℕ, List, []}
 use Rattle.zmtp_wire.specs.Frame.{Frame}
 use Rattle.zmtp_wire.specs.Stream.{Rest, Leaves}
 use Rattle.zmtp_peer.specs.declared.role.Role.{Role}

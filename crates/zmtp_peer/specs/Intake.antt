@@ -1,8 +1,6 @@
 -- What the frames of a piece have brought, before the peer keeps it.
-use Rattle.std.specs.Prelude.{◌≡◌, ℕ, ◌≤◌, Bool, false, List, [], ◌∷◌, ◌++◌, length, map, take, if◌then◌else◌, ◌⊎◌}
+use Rattle.std.specs.Prelude.{◌≡◌, ℕ, ◌≤◌, false, List, [], ◌∷◌, ◌++◌, length, map, take, if◌then◌else◌, ◌⊎◌}
 use Rattle.std.specs.List.{flat_map}
-use Rattle.std.specs.declared.alloc.Global.{Global}
-use Rattle.std.specs.declared.vec.Vec.{Vec}
 use Rattle.zmtp_wire.specs.declared.fault.WireFault.{WireFault}
 use Rattle.zmtp_wire.specs.Frame.{Frame}
 use Rattle.zmtp_wire.specs.Stream.{Rest, Leaves, IsPartial, IsFaultAt}
@@ -10,7 +8,7 @@ use Rattle.zmtp_peer.specs.declared.role.Role.{Role}
 use Rattle.zmtp_peer.specs.declared.intake.Stage.{Stage}
 use Rattle.zmtp_peer.specs.declared.intake.Stage.TheVariants as stage
 use Rattle.zmtp_peer.specs.declared.intake.Intake.{Intake}
-use Rattle.zmtp_peer.specs.Faults.{Fault, Wire, fault_of}
+use Rattle.zmtp_peer.specs.Faults.{Wire, fault_of}
 use Rattle.zmtp_peer.specs.Events.{Event, Ready, State, Opening, Open, Refused, bodies, message_told, after, told}
 
 -- the state at a stage, with these frames held

@@ -1,5 +1,5 @@
 -- What all octets of a connection tell, from its first octet on.
-use Rattle.std.specs.Prelude.{◌≡◌, ℕ, ◌<◌, ◌≤◌, List, [], ◌∷◌, ◌++◌, length, take, drop, ◌⊎◌}
+use Rattle.std.specs.Prelude.{◌≡◌, ℕ, ◌<◌, ◌≤◌, List, [], ◌++◌, length, take, drop, ◌⊎◌}
 use Rattle.zmtp_wire.specs.declared.fault.WireFault.{WireFault}
 use Rattle.zmtp_wire.specs.declared.greeting.Greeting.{Greeting}
 use Rattle.zmtp_wire.specs.Greeting.{IsGreeting, IsGreetingFault}

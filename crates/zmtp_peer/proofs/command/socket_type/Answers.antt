@@ -1,4 +1,4 @@
-use Rattle.std.proofs.Common.{◌≡◌, ℕ, ◌<◌, List, Option, codes, length, arith, ap, sym, ◌∙◌, rules}
+use Rattle.std.proofs.Common.{ℕ, List, Option, codes, arith, ap, sym, ◌∙◌}
 use Rattle.std.specs.Option.{option_map, option_or, option_copied}
 use Rattle.std.proofs.lemmas.Bool.Decides.{nat_tests}
 use Rattle.zmtp_peer.specs.Commands.{Property, metadata_of, value_of, announced}

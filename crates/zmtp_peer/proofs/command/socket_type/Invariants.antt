@@ -1,4 +1,4 @@
-use Rattle.std.proofs.Common.{◌≡◌, ℕ, List, Option, length, codes}
+use Rattle.std.proofs.Common.{◌≡◌, length, codes}
 use Rattle.std.specs.Option.{option_map, option_or, option_copied}
 use Rattle.zmtp_peer.specs.Commands.{metadata_of, value_of}
 use Rattle.zmtp_peer.proofs.command.socket_type.Given as goal

@@ -1,4 +1,4 @@
-use Rattle.std.proofs.Common.{◌≡◌, subst}
+use Rattle.std.proofs.Common.{subst}
 use Rattle.zmtp_wire.specs.Decoding.{Decoding}
 use Rattle.zmtp_peer.specs.Intake.{TakesFrames}
 use Rattle.zmtp_peer.proofs.FrameLemmas.{on_ok}

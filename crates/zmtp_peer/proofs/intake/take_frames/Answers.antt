@@ -1,4 +1,4 @@
-use Rattle.std.proofs.Common.{◌≡◌, ℕ, ◌∙◌}
+use Rattle.std.proofs.Common.{◌∙◌}
 use Rattle.zmtp_wire.specs.Frame.{frame_of}
 use Rattle.zmtp_peer.specs.Intake.{front_of}
 use Rattle.zmtp_peer.proofs.FrameLemmas.{taken-more, keeps-then}

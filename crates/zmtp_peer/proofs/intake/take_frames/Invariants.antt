@@ -1,4 +1,4 @@
-use Rattle.std.proofs.Common.{◌≡◌, ℕ, List, length}
+use Rattle.std.proofs.Common.{◌≡◌, length}
 use Rattle.zmtp_peer.specs.Intake.{front_of, Keeps, IsFresh}
 use Rattle.zmtp_peer.proofs.FrameLemmas.{Taken}
 use Rattle.zmtp_peer.proofs.intake.take_frames.Given as goal

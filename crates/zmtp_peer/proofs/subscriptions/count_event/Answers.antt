@@ -1,4 +1,3 @@
-use Rattle.std.proofs.Common.{◌≡◌, ℕ, List}
 use Rattle.zmtp_peer.proofs.TableLemmas.{subscribed, cancelled, places-set_value}
 use Rattle.zmtp_peer.proofs.subscriptions.count_event.Goals as goal
 

@@ -1,4 +1,4 @@
-use Rattle.std.proofs.Common.{◌≡◌, ℕ, Option, ap, sym, ◌∙◌, unwrap_or}
+use Rattle.std.proofs.Common.{ℕ, Option, ap, sym, ◌∙◌, unwrap_or}
 use Rattle.zmtp_peer.proofs.TableLemmas.{count_in-table_of}
 use Rattle.zmtp_peer.proofs.subscriptions.count_of.Goals as goal
 

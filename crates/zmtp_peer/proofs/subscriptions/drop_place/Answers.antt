@@ -1,4 +1,4 @@
-use Rattle.std.proofs.Common.{◌≡◌, ℕ, sym, ◌∙◌, arith}
+use Rattle.std.proofs.Common.{sym, ◌∙◌}
 use Rattle.zmtp_peer.proofs.TableLemmas.{dropped}
 use Rattle.zmtp_peer.proofs.subscriptions.drop_place.Goals as goal
 

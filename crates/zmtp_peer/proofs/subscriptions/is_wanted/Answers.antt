@@ -1,4 +1,4 @@
-use Rattle.std.proofs.Common.{◌≡◌, ℕ, List, take, drop, sym, refl, arith}
+use Rattle.std.proofs.Common.{take, drop, sym, refl, arith}
 use Rattle.std.proofs.lemmas.List.{take-append-drop}
 use Rattle.zmtp_peer.specs.Table.{table_of}
 use Rattle.zmtp_peer.proofs.TableLemmas.{none_wanted}

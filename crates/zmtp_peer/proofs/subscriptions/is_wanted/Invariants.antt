@@ -1,4 +1,4 @@
-use Rattle.std.proofs.Common.{◌≡◌, ℕ, ◌<◌, List, take}
+use Rattle.std.proofs.Common.{◌≡◌, ℕ, ◌<◌, take}
 use Rattle.zmtp_peer.specs.Subscriptions.{count_in}
 use Rattle.zmtp_peer.specs.Table.{table_of}
 use Rattle.zmtp_peer.proofs.subscriptions.is_wanted.Given as goal

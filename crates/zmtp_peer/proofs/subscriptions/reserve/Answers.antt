@@ -1,4 +1,4 @@
-use Rattle.std.proofs.Common.{◌≡◌, ℕ, List, ◌∙◌}
+use Rattle.std.proofs.Common.{◌∙◌}
 use Rattle.zmtp_peer.specs.Table.{table_of}
 use Rattle.zmtp_peer.proofs.TableLemmas.{reserved-step}
 use Rattle.zmtp_peer.proofs.subscriptions.reserve.Goals as goal

@@ -1,4 +1,4 @@
-use Rattle.std.proofs.Common.{◌≡◌, ap, sym, ◌∙◌}
+use Rattle.std.proofs.Common.{ap, sym, ◌∙◌}
 use Rattle.zmtp_peer.specs.Table.{is_key}
 use Rattle.zmtp_peer.proofs.TableLemmas.{set_value-absent}
 use Rattle.zmtp_peer.proofs.subscriptions.set_count.Goals as goal

@@ -1,7 +1,7 @@
-use Rattle.std.proofs.Common.{◌≡◌, ℕ, ◌+◌, List, ◌∷◌, length, subst, sym, arith, map, vec_len}
+use Rattle.std.proofs.Common.{◌+◌, List, length, subst, sym, arith, vec_len}
 use Rattle.std.specs.List.{flat_map}
 use Rattle.zmtp_peer.specs.declared.event.PeerEvent.{PeerEvent}
-use Rattle.zmtp_peer.specs.Events.{Event, events_of, bodies, message_told}
+use Rattle.zmtp_peer.specs.Events.{Event, events_of, message_told}
 use Rattle.zmtp_peer.specs.Subscriptions.{HasRoom}
 use Rattle.zmtp_peer.specs.Table.{table_of}
 use Rattle.zmtp_peer.specs.Intake.{messages_of}

@@ -9,7 +9,7 @@ use Rattle.zmtp_peer.specs.declared.fault.PeerFault.{PeerFault}
 use Rattle.zmtp_peer.specs.declared.intake.Stage.TheVariants as stage
 use Rattle.zmtp_peer.specs.declared.intake.Stage.{Stage}
 use Rattle.zmtp_peer.specs.Faults.{fault_of, Wire, want_of_memory}
-use Rattle.zmtp_peer.specs.Events.{Event, State, Refused, bodies, events_of}
+use Rattle.zmtp_peer.specs.Events.{Event, Refused, bodies, events_of}
 use Rattle.zmtp_peer.specs.Intake.{IsRefusal, state_at}
 use Rattle.zmtp_peer.specs.Connection.{state_in}
 use Rattle.zmtp_peer.specs.Table.{table_of}

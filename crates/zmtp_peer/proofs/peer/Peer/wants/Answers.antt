@@ -1,4 +1,4 @@
-use Rattle.std.proofs.Common.{◌≡◌, ℕ, ◌<◌, List, sym, subst}
+use Rattle.std.proofs.Common.{ℕ, ◌<◌, sym, subst}
 use Rattle.zmtp_peer.specs.Reading.{Standing, Stands}
 use Rattle.zmtp_peer.proofs.peer.Peer.wants.Goals as goal
 
