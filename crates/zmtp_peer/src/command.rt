@@ -39,7 +39,8 @@ pub(crate) fn reason(octets: &[u8]) -> Option<&[u8]>
 /// The property at the front: its name, its value, and the octets behind it.
 #[tactic(auto, unfolding(crate::specs::Commands::property_at))]
 fn property(octets: &[u8]) -> Option<(&[u8], &[u8], &[u8])>
-    ensures read { option_map (λ x. (record { name = x.0.now; value = x.1.now }, x.2.now)) result ≡ property_at octets.now }
+    ensures read { option_map (λ x. (record { name = x.0.now; value = x.1.now }, x.2.now)) result
+        ≡ property_at octets.now }
     ensures less { IfSome result (λ x. length x.2.now < length octets.now) }
 {
     let (name, octets) = sized(octets)?;

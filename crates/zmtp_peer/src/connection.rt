@@ -41,11 +41,14 @@ fn gather(
     piece: &[u8],
 ) -> Result<Vec<PeerEvent>, AllocError>
     requires { IsFresh intake.old }
-    ensures taken { OnOk result (TakesFrames role (fed decoder.old piece.now).rest intake.old decoder.new.rest intake.new) }
+    ensures taken { OnOk result (TakesFrames role (fed decoder.old piece.now).rest intake.old decoder.new.rest
+        intake.new) }
     ensures empty { IfOk result (λ events. events.items ≡ []) }
     ensures space { IfOk result (λ events. vec_len intake.new.whole + 1 ≤ vec_capacity events) }
-    ensures room { OnOk result (HasRoom (vec_len intake.new.whole + 1) (table_of counts.new.entries) (flat_map (message_told role) (map (λ message. bodies message.items) intake.new.whole.items))) }
-    ensures same { (q : List ℕ) → count_in (table_of counts.new.entries) q ≡ count_in (table_of counts.old.entries) q }
+    ensures room { OnOk result (HasRoom (vec_len intake.new.whole + 1) (table_of counts.new.entries)
+        (flat_map (message_told role) (map (λ message. bodies message.items) intake.new.whole.items))) }
+    ensures same { (q : List ℕ) → count_in (table_of counts.new.entries) q
+        ≡ count_in (table_of counts.old.entries) q }
     ensures before { decoder.new.before ≡ decoder.old.rest }
     ensures kept { Keeps (front_of intake.old) (front_of intake.new) }
     ensures fresh { IsFresh intake.new }
@@ -72,10 +75,13 @@ impl Connection {
         piece: &[u8],
     ) -> Result<Vec<PeerEvent>, AllocError>
         requires { IsConnection self.old }
-        ensures read { IfOk result (λ events. ReadsPiece role (fed self.old.decoder piece.now).rest (state_in self.old) self.new.decoder.rest (state_in self.new) (events_of events.items)) }
-        ensures counted { IfOk result (λ events. (q : List ℕ) → count_in (table_of self.new.counts.entries) q ≡ counted_all q (count_in (table_of self.old.counts.entries) q) (events_of events.items)) }
+        ensures read { IfOk result (λ events. ReadsPiece role (fed self.old.decoder piece.now).rest
+            (state_in self.old) self.new.decoder.rest (state_in self.new) (events_of events.items)) }
+        ensures counted { IfOk result (λ events. (q : List ℕ) → count_in (table_of self.new.counts.entries) q
+            ≡ counted_all q (count_in (table_of self.old.counts.entries) q) (events_of events.items)) }
         ensures unread { OnErr result (IsUnread self.old self.new) }
-        ensures uncounted { OnErr result ((q : List ℕ) → count_in (table_of self.new.counts.entries) q ≡ count_in (table_of self.old.counts.entries) q) }
+        ensures uncounted { OnErr result ((q : List ℕ) → count_in (table_of self.new.counts.entries) q
+            ≡ count_in (table_of self.old.counts.entries) q) }
         ensures connection { IsConnection self.new }
     {
         let kept = self.held.len();
@@ -114,12 +120,14 @@ impl Connection {
     ) -> Vec<PeerEvent>
         requires empty { room.items ≡ [] }
         requires space { vec_len intake.whole + 1 ≤ vec_capacity room }
-        requires room { HasRoom (vec_len intake.whole + 1) (table_of self.old.counts.entries) (flat_map (message_told role) (map (λ message. bodies message.items) intake.whole.items)) }
+        requires room { HasRoom (vec_len intake.whole + 1) (table_of self.old.counts.entries)
+            (flat_map (message_told role) (map (λ message. bodies message.items) intake.whole.items)) }
         ensures told { events_of result.items ≡ told_by role intake }
         ensures state { self.new.stage ≡ intake.stage }
         ensures held { self.new.held ≡ intake.held }
         ensures decoder { self.new.decoder ≡ self.old.decoder }
-        ensures counted { (q : List ℕ) → count_in (table_of self.new.counts.entries) q ≡ counted_all q (count_in (table_of self.old.counts.entries) q) (events_of result.items) }
+        ensures counted { (q : List ℕ) → count_in (table_of self.new.counts.entries) q
+            ≡ counted_all q (count_in (table_of self.old.counts.entries) q) (events_of result.items) }
     {
         let Intake {
             stage,

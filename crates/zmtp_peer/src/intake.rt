@@ -45,7 +45,8 @@ pub(crate) fn take_frame(
 ) -> Result<(), AllocError>
     requires { IsFresh intake.old }
     ensures state { OnOk result (state_of intake.new ≡ after_frame role (state_of intake.old) (frame_of frame)) }
-    ensures told { OnOk result (told_by role intake.new ≡ told_by role intake.old ++ frame_told role (state_of intake.old) (frame_of frame)) }
+    ensures told { OnOk result (told_by role intake.new
+        ≡ told_by role intake.old ++ frame_told role (state_of intake.old) (frame_of frame)) }
     ensures kept { Keeps (front_of intake.old) (front_of intake.new) }
     ensures fresh { IsFresh intake.new }
 {
@@ -71,7 +72,8 @@ fn take_first(role: Role, intake: &mut Intake, frame: &Frame)
     requires fresh { IsFresh intake.old }
     requires opening { intake.old.stage ≡ Stage.Opening }
     ensures state { state_of intake.new ≡ after_frame role (state_of intake.old) (frame_of frame.now) }
-    ensures told { told_by role intake.new ≡ told_by role intake.old ++ frame_told role (state_of intake.old) (frame_of frame.now) }
+    ensures told { told_by role intake.new
+        ≡ told_by role intake.old ++ frame_told role (state_of intake.old) (frame_of frame.now) }
     ensures kept { front_of intake.new ≡ front_of intake.old }
     ensures fresh { IsFresh intake.new }
 {
@@ -92,7 +94,8 @@ fn take_first(role: Role, intake: &mut Intake, frame: &Frame)
 fn take_command(intake: &mut Intake, frame: &Frame)
     requires open { intake.old.stage ≡ Stage.Open }
     requires command { frame.now.command ≡ true }
-    ensures state { (role : Role) → state_of intake.new ≡ after_frame role (state_of intake.old) (frame_of frame.now) }
+    ensures state { (role : Role) → state_of intake.new
+        ≡ after_frame role (state_of intake.old) (frame_of frame.now) }
     ensures same { record intake.old { stage = intake.new.stage } ≡ intake.new }
     ensures fresh { IsFresh intake.new }
 {
@@ -107,8 +110,10 @@ fn hold(alloc: Global, intake: &mut Intake, more: bool, body: Vec<u8>) -> Result
     ensures stage { intake.new.stage ≡ Stage.Open }
     ensures ready { intake.new.ready ≡ intake.old.ready }
     ensures kept { Keeps (front_of intake.old) (front_of intake.new) }
-    ensures more { OnOk result (more ≡ true → (intake.new.whole.items ≡ intake.old.whole.items) × (intake.new.held.items ≡ intake.old.held.items ++ body ∷ [])) }
-    ensures last { OnOk result (more ≡ false → (messages_of intake.new ≡ messages_of intake.old ++ (bodies intake.old.held.items ++ body.items ∷ []) ∷ []) × (intake.new.held.items ≡ [])) }
+    ensures more { OnOk result (more ≡ true → (intake.new.whole.items ≡ intake.old.whole.items)
+        × (intake.new.held.items ≡ intake.old.held.items ++ body ∷ [])) }
+    ensures last { OnOk result (more ≡ false → (messages_of intake.new ≡ messages_of intake.old ++
+        (bodies intake.old.held.items ++ body.items ∷ []) ∷ []) × (intake.new.held.items ≡ [])) }
 {
     intake.held.push(body)?;
     if more {
@@ -151,7 +156,8 @@ pub(crate) fn take_frames(
 
 /// Refuses the peer for a fault of its frames; want of memory is none.
 fn refuse(intake: &mut Intake, fault: WireFault) -> Result<(), AllocError>
-    ensures stage { OnOk result ((fault ≢ WireFault.Memory) × (intake.new ≡ record intake.old { stage = Stage.Refused (PeerFault.Wire fault) })) }
+    ensures stage { OnOk result ((fault ≢ WireFault.Memory) × (intake.new
+        ≡ record intake.old { stage = Stage.Refused (PeerFault.Wire fault) })) }
     ensures err { OnErr result (intake.new ≡ intake.old) }
 {
     if fault == WireFault::Memory {

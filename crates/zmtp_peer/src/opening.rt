@@ -42,7 +42,8 @@ fn ready_body(alloc: Global, role: Role) -> Result<Vec<u8>, AllocError>
 fn push_property(body: &mut Vec<u8>, name: &[u8], value: &[u8]) -> Result<(), AllocError>
     requires name { length name.now < 256 }
     requires value { length value.now < 2 ^ 32 }
-    ensures { OnOk result (body.new.items ≡ body.old.items ++ property_octets (record { name = name.now; value = value.now })) }
+    ensures { OnOk result (body.new.items ≡ body.old.items
+        ++ property_octets (record { name = name.now; value = value.now })) }
 {
     body.push(name.len() as u8)?;
     body.extend_from_slice(name)?;

@@ -85,7 +85,8 @@ impl Peer {
     /// Whether the peer has subscribed to a topic: a prefix to which it subscribes, and has not taken that back as often,
     /// stands at its front. It takes no memory, and as many look-ups as the topic has octets.
     pub fn wants(&self, topic: &[u8]) -> bool
-        ensures { (fed : List ℕ) → (given : List Event) → Stands fed given self.now → (IsTrue result ↔ IsWanted given topic.now) }
+        ensures { (fed : List ℕ) → (given : List Event) → Stands fed given self.now →
+            (IsTrue result ↔ IsWanted given topic.now) }
     {
         is_wanted(&self.connection.counts, topic)
     }
@@ -101,10 +102,12 @@ impl Peer {
         ensures events { IfOk result (λ events. Brings self.old piece.now (events_of events.items) self.new) }
         // Where there are none, the peer isn't refused.
         ensures quiet { IfOk result (λ events. events_of events.items ≡ [] → ¬ (IsRefusal self.new.state)) }
-        ensures fault { IfErr result (λ fault. fault_of fault ≢ want_of_memory → Brings self.old piece.now [] self.new × (self.new.state ≡ Refused (fault_of fault))) }
+        ensures fault { IfErr result (λ fault. fault_of fault ≢ want_of_memory
+            → Brings self.old piece.now [] self.new × (self.new.state ≡ Refused (fault_of fault))) }
         ensures memory { IfErr result (λ fault. fault_of fault ≡ want_of_memory → Brings self.old [] [] self.new) }
         // A refusal is final.
-        ensures stays { (fault : Fault) → self.old.state ≡ Refused fault → IsErrAnd result (λ told. fault_of told ≡ fault) × (self.new ≡ self.old) }
+        ensures stays { (fault : Fault) → self.old.state ≡ Refused fault
+            → IsErrAnd result (λ told. fault_of told ≡ fault) × (self.new ≡ self.old) }
     {
         if let Stage::Refused(fault) = self.connection.stage {
             return Err(fault);

@@ -62,8 +62,10 @@ fn drop_place(counts: &mut BTreeMap<Vec<u8>, u64>, prefix: &[u8])
 /// Counts what an event changes.
 fn count_event(counts: &mut BTreeMap<Vec<u8>, u64>, event: &PeerEvent)
     requires { IsRoomFor 1 (table_of counts.old.entries) (event_of event.now) }
-    ensures counted { (q : List ℕ) → count_in (table_of counts.new.entries) q ≡ counted q (count_in (table_of counts.old.entries) q) (event_of event.now) }
-    ensures places { (q : List ℕ) → is_some (place_of (table_of counts.new.entries) q) ≡ is_some (place_of (table_of counts.old.entries) q) }
+    ensures counted { (q : List ℕ) → count_in (table_of counts.new.entries) q
+        ≡ counted q (count_in (table_of counts.old.entries) q) (event_of event.now) }
+    ensures places { (q : List ℕ) → is_some (place_of (table_of counts.new.entries) q)
+        ≡ is_some (place_of (table_of counts.old.entries) q) }
 {
     match event {
         PeerEvent::Subscribe(prefix) => {
@@ -84,7 +86,8 @@ fn count_event(counts: &mut BTreeMap<Vec<u8>, u64>, event: &PeerEvent)
 /// Counts what events change, in their order.
 pub(crate) fn count_events(counts: &mut BTreeMap<Vec<u8>, u64>, events: &[PeerEvent])
     requires { HasRoom (length events.now) (table_of counts.old.entries) (events_of events.now) }
-    ensures { (q : List ℕ) → count_in (table_of counts.new.entries) q ≡ counted_all q (count_in (table_of counts.old.entries) q) (events_of events.now) }
+    ensures { (q : List ℕ) → count_in (table_of counts.new.entries) q
+        ≡ counted_all q (count_in (table_of counts.old.entries) q) (events_of events.now) }
 {
     for event in events {
         count_event(counts, event);
@@ -120,7 +123,8 @@ pub(crate) fn is_wanted(counts: &BTreeMap<Vec<u8>, u64>, topic: &[u8]) -> bool
 /// The prefix to which a message subscribes, if any.
 fn subscribed(role: Role, message: &[Vec<u8>]) -> Option<&[u8]>
     ensures some { IfSome result (λ prefix. message_told role (bodies message.now) ≡ Subscribe prefix.now ∷ []) }
-    ensures none { IfNone result ((n : ℕ) → (table : List (List ℕ × ℕ)) → HasRoom n table (message_told role (bodies message.now))) }
+    ensures none { IfNone result ((n : ℕ) → (table : List (List ℕ × ℕ)) →
+        HasRoom n table (message_told role (bodies message.now))) }
 {
     match role {
         Role::Pub => subscribed_by(message),
@@ -134,7 +138,8 @@ fn subscribed(role: Role, message: &[Vec<u8>]) -> Option<&[u8]>
 /// The prefix to which a message to a publisher subscribes: it has one frame, which begins with 1.
 fn subscribed_by(message: &[Vec<u8>]) -> Option<&[u8]>
     ensures some { IfSome result (λ prefix. told_to_publisher (bodies message.now) ≡ Subscribe prefix.now ∷ []) }
-    ensures none { IfNone result ((n : ℕ) → (table : List (List ℕ × ℕ)) → HasRoom n table (told_to_publisher (bodies message.now))) }
+    ensures none { IfNone result ((n : ℕ) → (table : List (List ℕ × ℕ)) →
+        HasRoom n table (told_to_publisher (bodies message.now))) }
 {
     let (frame, others) = message.split_first()?;
     if !others.is_empty() {
@@ -152,8 +157,10 @@ fn reserve_message(
     message: &[Vec<u8>],
     more: usize,
 ) -> Result<(), AllocError>
-    ensures same { (q : List ℕ) → count_in (table_of counts.new.entries) q ≡ count_in (table_of counts.old.entries) q }
-    ensures places { (q : List ℕ) → is_some (place_of (table_of counts.old.entries) q) ≡ true → is_some (place_of (table_of counts.new.entries) q) ≡ true }
+    ensures same { (q : List ℕ) → count_in (table_of counts.new.entries) q
+        ≡ count_in (table_of counts.old.entries) q }
+    ensures places { (q : List ℕ) → is_some (place_of (table_of counts.old.entries) q) ≡ true
+        → is_some (place_of (table_of counts.new.entries) q) ≡ true }
     ensures room { OnOk result (HasRoom more (table_of counts.new.entries) (message_told role (bodies message.now))) }
 {
     let Some(prefix) = subscribed(role, message) else {
@@ -178,8 +185,10 @@ pub(crate) fn reserve(
     messages: &[Vec<Vec<u8>>],
     more: usize,
 ) -> Result<(), AllocError>
-    ensures same { (q : List ℕ) → count_in (table_of counts.new.entries) q ≡ count_in (table_of counts.old.entries) q }
-    ensures room { OnOk result (HasRoom more (table_of counts.new.entries) (flat_map (message_told role) (map (λ message. bodies message.items) messages.now))) }
+    ensures same { (q : List ℕ) → count_in (table_of counts.new.entries) q
+        ≡ count_in (table_of counts.old.entries) q }
+    ensures room { OnOk result (HasRoom more (table_of counts.new.entries)
+        (flat_map (message_told role) (map (λ message. bodies message.items) messages.now))) }
 {
     for message in messages {
         reserve_message(alloc, counts, role, message, more)?;

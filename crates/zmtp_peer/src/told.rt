@@ -49,7 +49,9 @@ pub(crate) fn tell(
 ) -> Vec<PeerEvent>
     requires empty { events.items ≡ [] }
     requires room { vec_len messages + 1 ≤ vec_capacity events }
-    ensures told { events_of result.items ≡ (if ready then Ready ∷ [] else []) ++ flat_map (message_told role) (map (λ message. bodies message.items) messages.items) }
+    ensures told { events_of result.items
+        ≡ (if ready then Ready ∷ [] else []) ++ flat_map (message_told role) (map (λ message. bodies
+        message.items) messages.items) }
     ensures few { vec_len result ≤ vec_len messages + 1 }
 {
     if ready {
