@@ -136,7 +136,28 @@ const RECORDED: [Row; 9] = [
 ];
 
 /// Lists of octets by hand, from RFC 23.
-const ROWS: [Row; 24] = [
+const ROWS: [Row; 26] = [
+    // subscriptions to one prefix, and one taken back
+    Row {
+        role: Role::Pub,
+        greeting: &GREETING,
+        octets: b"\x04\x19\x05READY\x0BSocket-Type\0\0\0\x03SUB\0\x03\x01st\0\x03\x01st\0\x03\0st",
+        events: &[
+            Expected::Ready,
+            Expected::Subscribe(b"st"),
+            Expected::Subscribe(b"st"),
+            Expected::Cancel(b"st"),
+        ],
+        fault: None,
+    },
+    // the READY of a router
+    Row {
+        role: Role::Dealer,
+        greeting: &GREETING,
+        octets: b"\x04\x1C\x05READY\x0BSocket-Type\0\0\0\x06ROUTER",
+        events: &[Expected::Ready],
+        fault: None,
+    },
     // a socket type that doesn't fit
     Row {
         role: Role::Router,
