@@ -1,0 +1,7 @@
+pub mod CommandLemmas
+pub mod TableLemmas
+pub mod FrameLemmas
+pub mod ReadingLemmas
+pub mod RefusalLemmas
+pub mod LawLemmas
+pub mod OpeningLemmas

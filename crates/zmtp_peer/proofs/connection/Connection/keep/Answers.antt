@@ -1,0 +1,19 @@
+use Rattle.std.proofs.Common.{◌+◌, List, length, subst, sym, arith, vec_len}
+use Rattle.std.specs.List.{flat_map}
+use Rattle.zmtp_peer.specs.declared.event.PeerEvent.{PeerEvent}
+use Rattle.zmtp_peer.specs.Events.{Event, events_of, message_told}
+use Rattle.zmtp_peer.specs.Subscriptions.{HasRoom}
+use Rattle.zmtp_peer.specs.Table.{table_of}
+use Rattle.zmtp_peer.specs.Intake.{messages_of}
+use Rattle.zmtp_peer.proofs.TableLemmas.{told-room}
+use Rattle.zmtp_peer.proofs.connection.Connection.keep.Goals as goal
+
+pub count_events-requires : goal.count_events-requires
+count_events-requires c =
+    let events = c.tell-events.result in
+    let table = table_of c.args.self.now.counts.entries in
+    let intake = c.args.intake in
+    let here : HasRoom (length events.items) table (events_of events.items) =
+    subst (λ (es : List Event). HasRoom (length events.items) table es) (sym c.tell-events.ensures.told)
+    (told-room (vec_len intake.whole + 1) (length events.items) table intake.ready (flat_map (message_told c.args.role) (messages_of intake)) c.requires.room (omega (arith, c.tell-events.ensures.few, events.ok.0))) in
+    subst (λ (es : List PeerEvent). HasRoom (length es) table (events_of es)) (sym c.deref.ensures.value) here

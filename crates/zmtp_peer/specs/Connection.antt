@@ -1,0 +1,36 @@
+-- The stream behind the greeting, and what one piece of it brings.
+use Rattle.std.specs.Prelude.{◌≡◌, ℕ, List, []}
+use Rattle.zmtp_wire.specs.Frame.{Frame}
+use Rattle.zmtp_wire.specs.Stream.{Rest, Leaves}
+use Rattle.zmtp_peer.specs.declared.role.Role.{Role}
+use Rattle.zmtp_peer.specs.declared.intake.Stage.{Stage}
+use Rattle.zmtp_peer.specs.declared.intake.Stage.TheVariants as stage
+use Rattle.zmtp_peer.specs.declared.connection.Connection.{Connection}
+use Rattle.zmtp_peer.specs.Events.{Event, State, bodies, after, told}
+use Rattle.zmtp_peer.specs.Intake.{EndsFrames, state_at}
+
+-- the frames at the front of the rest are taken, and these are the events that they tell
+pub record ReadsPiece (role : Role) (rest : Rest) (old : State) (behind : Rest) (new : State) (events : List Event) : Type 0 where
+  pub frames : List Frame
+  pub left : Leaves rest frames behind
+  pub told : events ≡ told role old frames
+  pub ends : EndsFrames (after role old frames) new behind
+
+-- before READY no frames are held
+abbrev pub IsOpeningEmpty : Stage → List (List ℕ) → Type 0
+IsOpeningEmpty stage.Opening held = held ≡ []
+IsOpeningEmpty stage.Open held = Unit {0}
+IsOpeningEmpty (stage.Refused fault) held = Unit {0}
+
+-- how far a connection is
+abbrev pub state_in : Connection → State
+state_in connection = state_at connection.stage (bodies connection.held.items)
+
+abbrev pub IsConnection : Connection → Type 0
+IsConnection connection = IsOpeningEmpty connection.stage (bodies connection.held.items)
+
+-- nothing of the connection is changed, but memory may be laid out anew
+pub record IsUnread (old new : Connection) : Type 0 where
+  pub rest : new.decoder.rest ≡ old.decoder.rest
+  pub stage : new.stage ≡ old.stage
+  pub held : bodies new.held.items ≡ bodies old.held.items

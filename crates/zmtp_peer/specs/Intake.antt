@@ -1,0 +1,70 @@
+-- What the frames of a piece have brought, before the peer keeps it.
+use Rattle.std.specs.Prelude.{◌≡◌, ℕ, ◌≤◌, false, List, [], ◌∷◌, ◌++◌, length, map, take, if◌then◌else◌, ◌⊎◌}
+use Rattle.std.specs.List.{flat_map}
+use Rattle.zmtp_wire.specs.declared.fault.WireFault.{WireFault}
+use Rattle.zmtp_wire.specs.Frame.{Frame}
+use Rattle.zmtp_wire.specs.Stream.{Rest, Leaves, IsPartial, IsFaultAt}
+use Rattle.zmtp_peer.specs.declared.role.Role.{Role}
+use Rattle.zmtp_peer.specs.declared.intake.Stage.{Stage}
+use Rattle.zmtp_peer.specs.declared.intake.Stage.TheVariants as stage
+use Rattle.zmtp_peer.specs.declared.intake.Intake.{Intake}
+use Rattle.zmtp_peer.specs.Faults.{Wire, fault_of}
+use Rattle.zmtp_peer.specs.Events.{Event, Ready, State, Opening, Open, Refused, bodies, message_told, after, told}
+
+-- the state at a stage, with these frames held
+abbrev pub state_at : Stage → List (List ℕ) → State
+state_at stage.Opening held = Opening
+state_at stage.Open held = Open held
+state_at (stage.Refused fault) held = Refused (fault_of fault)
+
+abbrev pub state_of : Intake → State
+state_of intake = state_at intake.stage (bodies intake.held.items)
+
+-- the frames of each message that became whole
+abbrev pub messages_of : Intake → List (List (List ℕ))
+messages_of intake = map (λ message. bodies message.items) intake.whole.items
+
+-- what was brought is told as these events
+abbrev pub told_by : Role → Intake → List Event
+told_by role intake = (if intake.ready then Ready ∷ [] else []) ++ flat_map (message_told role) (messages_of intake)
+
+-- the message that goes on with what was held before: the first that became whole, or else the one that isn't yet
+abbrev pub first_of : List (List (List ℕ)) → List (List ℕ) → List (List ℕ)
+first_of [] held = held
+first_of (message ∷ messages) held = message
+
+abbrev pub front_of : Intake → List (List ℕ)
+front_of intake = first_of (messages_of intake) (bodies intake.held.items)
+
+-- a list still begins as another did
+abbrev pub Keeps : List (List ℕ) → List (List ℕ) → Type 0
+Keeps old new = (n : ℕ) → n ≤ length old → (n ≤ length new) × (take n new ≡ take n old)
+
+-- before READY nothing else was brought
+abbrev pub IsFreshAt : Stage → Intake → Type 0
+IsFreshAt stage.Opening intake = (bodies intake.held.items ≡ []) × (messages_of intake ≡ []) × (intake.ready ≡ false)
+IsFreshAt stage.Open intake = Unit {0}
+IsFreshAt (stage.Refused fault) intake = Unit {0}
+
+abbrev pub IsFresh : Intake → Type 0
+IsFresh intake = IsFreshAt intake.stage intake
+
+-- whether a state is a refusal
+abbrev pub IsRefusal : State → Type 0
+IsRefusal Opening = ⊥
+IsRefusal (Open held) = ⊥
+IsRefusal (Refused fault) = Unit {0}
+
+-- how frames end: the rest is less than a whole one, or the frames refuse the peer, or the rest has a fault
+abbrev pub EndsFrames : State → State → Rest → Type 0
+EndsFrames behind state rest =
+    (IsPartial rest × (state ≡ behind) × (¬ (IsRefusal state)))
+    ⊎ (((state ≡ behind) × IsRefusal state)
+    ⊎ ((fault : WireFault) × IsFaultAt rest fault × (¬ (IsRefusal behind)) × (state ≡ Refused (Wire fault))))
+
+-- the frames at the front of the old rest are taken, up to the new rest, and what they bring is added
+pub record TakesFrames (role : Role) (rest : Rest) (old : Intake) (behind : Rest) (new : Intake) : Type 0 where
+  pub frames : List Frame
+  pub left : Leaves rest frames behind
+  pub events : told_by role new ≡ told_by role old ++ told role (state_of old) frames
+  pub ends : EndsFrames (after role (state_of old) frames) (state_of new) behind

@@ -1,0 +1,47 @@
+-- Laws of what octets tell a peer.
+use Rattle.std.specs.Prelude.{◌≡◌, ℕ, ◌<◌, true, All, List, [], ◌∷◌, ◌++◌}
+use Rattle.std.specs.List.{flat_map}
+use Rattle.zmtp_wire.specs.Frame.{Frame}
+use Rattle.zmtp_peer.specs.declared.role.Role.{Role}
+use Rattle.zmtp_peer.specs.Roles.{socket_type_of, is_partner}
+use Rattle.zmtp_peer.specs.Faults.{Fault}
+use Rattle.zmtp_peer.specs.Events.{Event, Ready, State, after, told}
+use Rattle.zmtp_peer.specs.Subscriptions.{counted_all}
+use Rattle.zmtp_peer.specs.Reading.{Ending, Awaiting, Failing, PeerReads, Standing, ending_of, Stands, Brings}
+use Rattle.zmtp_peer.specs.Opening.{opening_of}
+
+-- all octets tell a role something
+abbrev pub OctetsAreRead : Type 0
+OctetsAreRead = (role : Role) (octets : List ℕ) → All (λ octet. octet < 256) octets → (es : List Event) × (e : Ending) × PeerReads role octets es e
+
+-- octets tell a role one list of events, and one ending
+abbrev pub OctetsHaveOneReading : Type 0
+OctetsHaveOneReading =
+    (role : Role) (octets : List ℕ) (es fs : List Event) (e d : Ending) → PeerReads role octets es e → PeerReads role octets fs d → (es ≡ fs) × (e ≡ d)
+
+-- a refusal is the same whatever follows
+abbrev pub RefusalsStay : Type 0
+RefusalsStay =
+    (role : Role) (octets more : List ℕ) (es : List Event) (fault : Fault) → PeerReads role octets es (Failing fault) → PeerReads role (octets ++ more) es (Failing fault)
+
+-- pieces are fed one after another, each with the events that it brings
+abbrev pub Run : Standing → List (List ℕ × List Event) → Standing → Type 0
+Run s [] t = t ≡ s
+Run s (p ∷ ps) t = (u : Standing) × Brings s p.0 p.1 u × Run u ps t
+
+-- However the octets were cut, a new peer has told the events of all octets joined, and those alone.
+abbrev pub NoCutMatters : Type 0
+NoCutMatters =
+    (s t : Standing) (ps : List (List ℕ × List Event)) → Stands [] [] s → Run s ps t
+    → PeerReads t.role (flat_map (λ p. p.0) ps) (flat_map (λ p. p.1) ps) (ending_of t.state)
+
+-- what frames tell is told frame by frame, and so are subscriptions event by event
+abbrev pub FoldsGoOn : Type 0
+FoldsGoOn =
+    ((role : Role) (s : State) (fs gs : List Frame) → after role s (fs ++ gs) ≡ after role (after role s fs) gs)
+    × ((role : Role) (s : State) (fs gs : List Frame) → told role s (fs ++ gs) ≡ told role s fs ++ told role (after role s fs) gs)
+    × ((prefix : List ℕ) (n : ℕ) (es fs : List Event) → counted_all prefix n (es ++ fs) ≡ counted_all prefix (counted_all prefix n es) fs)
+
+-- a role that is fed the opening of a partner is told that it is ready, and nothing else
+abbrev pub PartnersAreReady : Type 0
+PartnersAreReady = (role other : Role) → is_partner role (socket_type_of other) ≡ true → PeerReads role (opening_of other) (Ready ∷ []) Awaiting

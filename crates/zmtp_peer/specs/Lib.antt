@@ -1,0 +1,12 @@
+pub mod Roles
+pub mod Commands
+pub mod Faults
+pub mod Handshake
+pub mod Events
+pub mod Subscriptions
+pub mod Table
+pub mod Intake
+pub mod Connection
+pub mod Reading
+pub mod Opening
+pub mod Laws

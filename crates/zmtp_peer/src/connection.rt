@@ -1,0 +1,145 @@
+//! The stream behind the greeting. A piece of it is read whole, or not at all where memory runs out.
+ghost use Rattle.std.specs.Prelude.{◌≡◌, ℕ, ◌+◌, ◌≤◌, List, [], OnOk, OnErr, IfOk, vec_len, vec_capacity, length, map};
+ghost use Rattle.std.specs.List.{flat_map};
+ghost use Rattle.zmtp_wire.specs.Decoding.{fed};
+ghost use Rattle.zmtp_peer.specs.Events.{bodies, events_of, message_told};
+ghost use Rattle.zmtp_peer.specs.Subscriptions.{count_in, counted_all, HasRoom};
+ghost use Rattle.zmtp_peer.specs.Table.{table_of};
+ghost use Rattle.zmtp_peer.specs.Intake.{front_of, told_by, Keeps, IsFresh, TakesFrames};
+ghost use Rattle.zmtp_peer.specs.Connection.{ReadsPiece, IsUnread, IsConnection, state_in};
+
+use crate::event::PeerEvent;
+use crate::intake::{Intake, Stage, take_frames};
+use crate::role::Role;
+use crate::subscriptions::{count_events, drop_places, release, reserve};
+use crate::told::tell;
+use std::alloc::{AllocError, Global};
+use std::collections::BTreeMap;
+use std::mem;
+use zmtp_wire::Decoder;
+
+/// How far the stream is read, and what is kept of it.
+#[derive(Drop)]
+pub(crate) struct Connection {
+    /// How far the connection is.
+    pub(crate) stage: Stage,
+    /// The frames of the message that isn't whole yet.
+    pub(crate) held: Vec<Vec<u8>>,
+    /// What came and isn't a whole frame yet.
+    pub(crate) decoder: Decoder,
+    /// How often the peer has subscribed to each prefix.
+    pub(crate) counts: BTreeMap<Vec<u8>, u64>,
+}
+
+/// Takes the frames of a piece, and all memory that is needed to tell them. The answer is room for the events.
+fn gather(
+    alloc: Global,
+    role: Role,
+    decoder: &mut Decoder,
+    counts: &mut BTreeMap<Vec<u8>, u64>,
+    intake: &mut Intake,
+    piece: &[u8],
+) -> Result<Vec<PeerEvent>, AllocError>
+    requires { IsFresh intake.old }
+    ensures taken { OnOk result (TakesFrames role (fed decoder.old piece.now).rest intake.old decoder.new.rest
+        intake.new) }
+    ensures empty { IfOk result (λ events. events.items ≡ []) }
+    ensures space { IfOk result (λ events. vec_len intake.new.whole + 1 ≤ vec_capacity events) }
+    ensures room { OnOk result (HasRoom (vec_len intake.new.whole + 1) (table_of counts.new.entries)
+        (flat_map (message_told role) (map (λ message. bodies message.items) intake.new.whole.items))) }
+    ensures same { (q : List ℕ) → count_in (table_of counts.new.entries) q
+        ≡ count_in (table_of counts.old.entries) q }
+    ensures before { decoder.new.before ≡ decoder.old.rest }
+    ensures kept { Keeps (front_of intake.old) (front_of intake.new) }
+    ensures fresh { IsFresh intake.new }
+{
+    match decoder.feed(piece) {
+        Err(_) => return Err(AllocError),
+        Ok(()) => {}
+    }
+    take_frames(alloc, role, decoder, intake)?;
+    let most = intake.whole.len() + 1;
+    reserve(alloc, counts, role, &intake.whole, most)?;
+    Vec::with_capacity(alloc, most)
+}
+
+impl Connection {
+    /// Reads the next piece of the stream, and answers the events that it brings.
+    ///
+    /// # Errors
+    /// Want of memory. Then nothing was read.
+    pub(crate) fn read(
+        &mut self,
+        alloc: Global,
+        role: Role,
+        piece: &[u8],
+    ) -> Result<Vec<PeerEvent>, AllocError>
+        requires { IsConnection self.old }
+        ensures read { IfOk result (λ events. ReadsPiece role (fed self.old.decoder piece.now).rest
+            (state_in self.old) self.new.decoder.rest (state_in self.new) (events_of events.items)) }
+        ensures counted { IfOk result (λ events. (q : List ℕ) → count_in (table_of self.new.counts.entries) q
+            ≡ counted_all q (count_in (table_of self.old.counts.entries) q) (events_of events.items)) }
+        ensures unread { OnErr result (IsUnread self.old self.new) }
+        ensures uncounted { OnErr result ((q : List ℕ) → count_in (table_of self.new.counts.entries) q
+            ≡ count_in (table_of self.old.counts.entries) q) }
+        ensures connection { IsConnection self.new }
+    {
+        let kept = self.held.len();
+        let mut intake = Intake {
+            stage: self.stage,
+            ready: false,
+            whole: Vec::new(alloc),
+            held: mem::replace(&mut self.held, Vec::new(alloc)),
+        };
+        let gathered = gather(
+            alloc,
+            role,
+            &mut self.decoder,
+            &mut self.counts,
+            &mut intake,
+            piece,
+        );
+        match gathered {
+            Err(_) => {
+                self.decoder.unfeed();
+                release(&mut self.counts, role, &intake.whole);
+                self.held = intake.taken_back(kept);
+                Err(AllocError)
+            }
+            Ok(room) => Ok(self.keep(alloc, role, intake, room)),
+        }
+    }
+
+    /// Keeps what was brought, and tells it.
+    fn keep(
+        &mut self,
+        alloc: Global,
+        role: Role,
+        intake: Intake,
+        room: Vec<PeerEvent>,
+    ) -> Vec<PeerEvent>
+        requires empty { room.items ≡ [] }
+        requires space { vec_len intake.whole + 1 ≤ vec_capacity room }
+        requires room { HasRoom (vec_len intake.whole + 1) (table_of self.old.counts.entries)
+            (flat_map (message_told role) (map (λ message. bodies message.items) intake.whole.items)) }
+        ensures told { events_of result.items ≡ told_by role intake }
+        ensures state { self.new.stage ≡ intake.stage }
+        ensures held { self.new.held ≡ intake.held }
+        ensures decoder { self.new.decoder ≡ self.old.decoder }
+        ensures counted { (q : List ℕ) → count_in (table_of self.new.counts.entries) q
+            ≡ counted_all q (count_in (table_of self.old.counts.entries) q) (events_of result.items) }
+    {
+        let Intake {
+            stage,
+            ready,
+            whole,
+            held,
+        } = intake;
+        let events = tell(alloc, role, ready, whole, room);
+        count_events(&mut self.counts, &events);
+        drop_places(&mut self.counts, &events);
+        self.stage = stage;
+        self.held = held;
+        events
+    }
+}

@@ -1,0 +1,14 @@
+//! What a peer is told of the octets that came.
+
+/// An event of a connection.
+#[derive(Debug, Drop, PartialEq, Eq)]
+pub enum PeerEvent {
+    /// The peer's READY came, and it fits. It is the first event.
+    Ready,
+    /// A whole message, as the bodies of its frames.
+    Message(Vec<Vec<u8>>),
+    /// The peer subscribes to what begins with this prefix. A publisher alone is told it.
+    Subscribe(Vec<u8>),
+    /// The peer takes one subscription to this prefix back. A publisher alone is told it.
+    Cancel(Vec<u8>),
+}

@@ -1,0 +1,94 @@
+//! Why a connection is refused.
+ghost use Rattle.std.specs.Prelude.{◌≡◌, ◌≤◌, length};
+
+use thiserror::Error;
+use zmtp_wire::WireFault;
+
+/// The reason that a peer gave in its ERROR: up to 255 octets.
+#[derive(Clone, Copy, Debug, PartialEq, Eq)]
+pub struct Reason {
+    length: u8,
+    octets: [u8; 255],
+}
+
+impl Reason {
+    ghost use Rattle.zmtp_peer.specs.Faults.{octets_of};
+
+    /// The reason with these octets.
+    pub(crate) fn new(octets: &[u8]) -> Reason
+        requires { length octets.now ≤ 255 }
+        ensures { octets_of result ≡ octets.now }
+    {
+        let mut kept = [0; 255];
+        kept[..octets.len()].copy_from_slice(octets);
+        Reason {
+            length: octets.len() as u8,
+            octets: kept,
+        }
+    }
+
+    /// The octets of the reason, as the peer sent them.
+    pub fn as_octets(&self) -> &[u8]
+        ensures { result.now ≡ octets_of self.now }
+    {
+        &self.octets[..self.length as usize]
+    }
+}
+
+/// Why a peer is refused. Each but want of memory is final: the connection is closed without a word.
+#[derive(Clone, Copy, Debug, PartialEq, Eq, Error)]
+pub enum PeerFault {
+    /// The greeting or the frames are wrong, or there was no memory. Want of memory changes nothing.
+    #[error("{0}")]
+    Wire(WireFault),
+    /// READY has no `Socket-Type`.
+    #[error("NoSocketType")]
+    NoSocketType,
+    /// The peer's socket type doesn't fit the role.
+    #[error("WrongPair")]
+    WrongPair,
+    /// The data of READY or of ERROR doesn't fit its lengths, or the name of the first command is cut.
+    #[error("BadMetadata")]
+    BadMetadata,
+    /// The peer refused the connection by ERROR.
+    #[error("PeerError")]
+    PeerError(Reason),
+    /// A message, or a command other than READY, came before READY.
+    #[error("NotReady")]
+    NotReady,
+}
+
+impl PeerFault {
+    ghost use Rattle.zmtp_peer.specs.Faults.{fault_of, number_of, name_of};
+
+    /// Want of memory. It changes nothing.
+    pub const MEMORY: PeerFault = PeerFault::Wire(WireFault::Memory);
+
+    /// The number under which the fault is told.
+    pub fn number(&self) -> u8
+        ensures { result ≡ number_of (fault_of self.now) }
+    {
+        match self {
+            PeerFault::Wire(fault) => fault.number(),
+            PeerFault::NoSocketType => 8,
+            PeerFault::WrongPair => 9,
+            PeerFault::BadMetadata => 10,
+            PeerFault::PeerError(_) => 11,
+            PeerFault::NotReady => 12,
+        }
+    }
+
+    /// The word under which the fault is told.
+    pub fn name(&self) -> &'static str
+        ensures { result.now ≡ name_of (fault_of self.now) }
+    {
+        match self {
+            PeerFault::Wire(fault) => fault.name(),
+            PeerFault::NoSocketType => "NoSocketType",
+            PeerFault::WrongPair => "WrongPair",
+            PeerFault::BadMetadata => "BadMetadata",
+            PeerFault::PeerError(_) => "PeerError",
+            PeerFault::NotReady => "NotReady",
+        }
+    }
+}

@@ -1,0 +1,193 @@
+//! What the frames of one piece bring. The peer keeps none of it until all memory is there.
+ghost use Rattle.std.specs.Prelude.{◌≡◌, ◌++◌, ◌∷◌, [], ℕ, ◌≤◌, ◌≢◌, OnOk, OnErr, true, false};
+ghost use Rattle.zmtp_peer.specs.declared.role.Role.{Role};
+ghost use Rattle.zmtp_wire.specs.Frame.{frame_of};
+ghost use Rattle.zmtp_peer.specs.Events.{after_frame, frame_told, bodies};
+ghost use Rattle.zmtp_peer.specs.Intake.{state_of, told_by, front_of, messages_of, Keeps, IsFresh, TakesFrames};
+
+use crate::fault::PeerFault;
+use crate::handshake::{first_refusal, later_refusal};
+use crate::role::Role;
+use std::alloc::{AllocError, Global};
+use std::mem;
+use zmtp_wire::{Decoder, Frame, WireFault};
+
+/// How far a connection is.
+#[derive(Clone, Copy)]
+pub(crate) enum Stage {
+    /// READY didn't come yet.
+    Opening,
+    /// READY came.
+    Open,
+    /// The peer is refused, for good.
+    Refused(PeerFault),
+}
+
+/// What frames bring.
+#[derive(Drop)]
+pub(crate) struct Intake {
+    /// How far the connection is behind them.
+    pub(crate) stage: Stage,
+    /// Whether READY is among them.
+    pub(crate) ready: bool,
+    /// The messages that became whole.
+    pub(crate) whole: Vec<Vec<Vec<u8>>>,
+    /// The frames of the message that isn't whole yet.
+    pub(crate) held: Vec<Vec<u8>>,
+}
+
+/// Takes the next frame.
+pub(crate) fn take_frame(
+    alloc: Global,
+    role: Role,
+    intake: &mut Intake,
+    frame: Frame,
+) -> Result<(), AllocError>
+    requires { IsFresh intake.old }
+    ensures state { OnOk result (state_of intake.new ≡ after_frame role (state_of intake.old) (frame_of frame)) }
+    ensures told { OnOk result (told_by role intake.new
+        ≡ told_by role intake.old ++ frame_told role (state_of intake.old) (frame_of frame)) }
+    ensures kept { Keeps (front_of intake.old) (front_of intake.new) }
+    ensures fresh { IsFresh intake.new }
+{
+    match intake.stage {
+        Stage::Opening => {
+            take_first(role, intake, &frame);
+            Ok(())
+        }
+        Stage::Open => {
+            if frame.command {
+                take_command(intake, &frame);
+                Ok(())
+            } else {
+                hold(alloc, intake, frame.more, frame.body)
+            }
+        }
+        Stage::Refused(_) => Ok(()),
+    }
+}
+
+/// Takes the first frame, which has to be a READY that the role takes.
+fn take_first(role: Role, intake: &mut Intake, frame: &Frame)
+    requires fresh { IsFresh intake.old }
+    requires opening { intake.old.stage ≡ Stage.Opening }
+    ensures state { state_of intake.new ≡ after_frame role (state_of intake.old) (frame_of frame.now) }
+    ensures told { told_by role intake.new
+        ≡ told_by role intake.old ++ frame_told role (state_of intake.old) (frame_of frame.now) }
+    ensures kept { front_of intake.new ≡ front_of intake.old }
+    ensures fresh { IsFresh intake.new }
+{
+    if !frame.command {
+        intake.stage = Stage::Refused(PeerFault::NotReady);
+        return;
+    }
+    match first_refusal(role, &frame.body) {
+        None => {
+            intake.stage = Stage::Open;
+            intake.ready = true;
+        }
+        Some(fault) => intake.stage = Stage::Refused(fault),
+    }
+}
+
+/// Takes a command behind READY.
+fn take_command(intake: &mut Intake, frame: &Frame)
+    requires open { intake.old.stage ≡ Stage.Open }
+    requires command { frame.now.command ≡ true }
+    ensures state { (role : Role) → state_of intake.new
+        ≡ after_frame role (state_of intake.old) (frame_of frame.now) }
+    ensures same { record intake.old { stage = intake.new.stage } ≡ intake.new }
+    ensures fresh { IsFresh intake.new }
+{
+    if let Some(fault) = later_refusal(&frame.body) {
+        intake.stage = Stage::Refused(fault);
+    }
+}
+
+/// Holds one more frame of a message, which is the last one unless more follow.
+fn hold(alloc: Global, intake: &mut Intake, more: bool, body: Vec<u8>) -> Result<(), AllocError>
+    requires { intake.old.stage ≡ Stage.Open }
+    ensures stage { intake.new.stage ≡ Stage.Open }
+    ensures ready { intake.new.ready ≡ intake.old.ready }
+    ensures kept { Keeps (front_of intake.old) (front_of intake.new) }
+    ensures more { OnOk result (more ≡ true → (intake.new.whole.items ≡ intake.old.whole.items)
+        × (intake.new.held.items ≡ intake.old.held.items ++ body ∷ [])) }
+    ensures last { OnOk result (more ≡ false → (messages_of intake.new ≡ messages_of intake.old ++
+        (bodies intake.old.held.items ++ body.items ∷ []) ∷ []) × (intake.new.held.items ≡ [])) }
+{
+    intake.held.push(body)?;
+    if more {
+        return Ok(());
+    }
+    let message = mem::replace(&mut intake.held, Vec::new(alloc));
+    match intake.whole.push(message) {
+        Ok(()) => Ok(()),
+        Err(failed) => {
+            intake.held = failed.value;
+            Err(AllocError)
+        }
+    }
+}
+
+/// Takes frames until no whole one is left or the peer is refused.
+pub(crate) fn take_frames(
+    alloc: Global,
+    role: Role,
+    decoder: &mut Decoder,
+    intake: &mut Intake,
+) -> Result<(), AllocError>
+    requires { IsFresh intake.old }
+    ensures taken { OnOk result (TakesFrames role decoder.old.rest intake.old decoder.new.rest intake.new) }
+    ensures before { decoder.new.before ≡ decoder.old.before }
+    ensures kept { Keeps (front_of intake.old) (front_of intake.new) }
+    ensures fresh { IsFresh intake.new }
+{
+    loop {
+        if let Stage::Refused(_) = intake.stage {
+            return Ok(());
+        }
+        match decoder.next() {
+            Ok(Some(frame)) => take_frame(alloc, role, intake, frame)?,
+            Ok(None) => return Ok(()),
+            Err(fault) => return refuse(intake, fault),
+        }
+    }
+}
+
+/// Refuses the peer for a fault of its frames; want of memory is none.
+fn refuse(intake: &mut Intake, fault: WireFault) -> Result<(), AllocError>
+    ensures stage { OnOk result ((fault ≢ WireFault.Memory) × (intake.new
+        ≡ record intake.old { stage = Stage.Refused (PeerFault.Wire fault) })) }
+    ensures err { OnErr result (intake.new ≡ intake.old) }
+{
+    if fault == WireFault::Memory {
+        return Err(AllocError);
+    }
+    intake.stage = Stage::Refused(PeerFault::Wire(fault));
+    Ok(())
+}
+
+impl Intake {
+    ghost use Rattle.std.specs.Prelude.{take, length};
+    ghost use Rattle.zmtp_peer.specs.Events.{bodies};
+    ghost use Rattle.zmtp_peer.specs.Intake.{front_of};
+
+    /// The first `kept` frames at the front: what was held before the frames of this piece.
+    pub(crate) fn taken_back(self, kept: usize) -> Vec<Vec<u8>>
+        ensures { bodies result.items ≡ take kept (front_of self) }
+    {
+        let Intake {
+            stage: _,
+            ready: _,
+            mut whole,
+            mut held,
+        } = self;
+        if whole.is_empty() {
+            held.truncate(kept);
+            return held;
+        }
+        let mut first = whole.swap_remove(0);
+        first.truncate(kept);
+        first
+    }
+}

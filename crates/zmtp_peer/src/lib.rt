@@ -1,0 +1,61 @@
+//! One end of a ZMTP 3.0 connection in one of five roles: from the octets that come to events.
+//!
+//! To the layer above this crate promises that the events which `Peer::feed` answers are those that all octets fed so
+//! far tell the role, as `specs/Reading.antt` defines them, however the octets were cut; that events which stand before
+//! a fault are answered before it; that each fault but want of memory is final, and want of memory leaves the peer as it
+//! was; and that `Peer::wants` knows the subscriptions behind the events.
+//!
+//! The definitions, in specs/, are those of RFC 23 (ZMTP 3.0): its grammar of commands and metadata, "The NULL Security
+//! Mechanism", and its rules for publishers and subscribers. Greetings, frames and their limits are those of `zmtp_wire`.
+#![tactic(auto)]
+
+ghost use Rattle.zmtp_peer.specs.Laws.{OctetsAreRead, OctetsHaveOneReading, RefusalsStay, NoCutMatters, FoldsGoOn, PartnersAreReady};
+
+mod command;
+mod connection;
+pub mod event;
+pub mod fault;
+mod handshake;
+mod intake;
+mod opening;
+pub mod peer;
+pub mod role;
+mod subscriptions;
+#[cfg(test)]
+mod tests;
+mod told;
+
+pub use event::PeerEvent;
+pub use fault::{PeerFault, Reason};
+pub use peer::Peer;
+pub use role::Role;
+
+/// Law: all octets tell a role something.
+pub fn octets_are_read_law()
+    ensures { OctetsAreRead }
+{}
+
+/// Law: octets tell a role one list of events, and one ending.
+pub fn octets_have_one_reading_law()
+    ensures { OctetsHaveOneReading }
+{}
+
+/// Law: a refusal is the same whatever follows.
+pub fn refusals_stay_law()
+    ensures { RefusalsStay }
+{}
+
+/// Law: however the octets are cut, a peer tells the events of all octets joined.
+pub fn no_cut_matters_law()
+    ensures { NoCutMatters }
+{}
+
+/// Law: what frames tell, and how often a prefix is subscribed to, goes on from frame to frame and event to event.
+pub fn folds_go_on_law()
+    ensures { FoldsGoOn }
+{}
+
+/// Law: a role that is fed the opening of a partner is told that it is ready.
+pub fn partners_are_ready_law()
+    ensures { PartnersAreReady }
+{}

@@ -1,0 +1,158 @@
+//! A peer: one end of a connection, in one role.
+ghost use Rattle.std.specs.Prelude.{◌≡◌, ◌≢◌, ℕ, List, ◌+◌, ◌≤◌, ◌↔◌, [], ◌++◌, IfOk, IfErr, IsErrAnd, IsTrue, take, length};
+ghost use Rattle.zmtp_peer.specs.Faults.{Fault, Wire, fault_of, want_of_memory};
+ghost use Rattle.zmtp_peer.specs.Events.{Event, Refused, events_of};
+ghost use Rattle.zmtp_peer.specs.Intake.{IsRefusal, state_at};
+ghost use Rattle.zmtp_peer.specs.Reading.{Stands, Brings};
+ghost use Rattle.zmtp_peer.specs.Subscriptions.{IsWanted};
+ghost use Rattle.zmtp_peer.specs.Opening.{opening_of};
+
+use crate::connection::Connection;
+use crate::event::PeerEvent;
+use crate::fault::PeerFault;
+use crate::intake::Stage;
+use crate::opening::opening_octets;
+use crate::role::Role;
+use crate::subscriptions::is_wanted;
+use std::alloc::{AllocError, Global};
+use std::collections::BTreeMap;
+use std::marker::Model;
+use zmtp_wire::greeting::GREETING_LENGTH;
+use zmtp_wire::{Decoder, Greeting};
+
+/// One end of a ZMTP 3.0 connection in one role. It is fed the octets that come, in any pieces, and answers the events
+/// that they bring.
+#[derive(Drop)]
+pub struct Peer {
+    alloc: Global,
+    role: Role,
+    /// The octets of the greeting, and how many of them came.
+    greeting: [u8; 64],
+    greeted: usize,
+    connection: Connection,
+}
+
+impl Model for Peer {
+    ghost use Rattle.std.specs.Prelude.{take, ◌≤◌};
+    ghost use Rattle.zmtp_peer.specs.Reading.{Standing};
+
+    ghost Value = { Standing };
+
+    ghost use Rattle.zmtp_peer.specs.Connection.{state_in, IsConnection};
+    ghost use Rattle.zmtp_peer.specs.Table.{table_of};
+
+    ghost view = { λ p. record {
+      role = p.role;
+      greeting = take p.greeted p.greeting;
+      state = state_in p.connection;
+      rest = p.connection.decoder.rest;
+      table = table_of p.connection.counts.entries;
+    } };
+
+    ghost invariant = { λ p. (p.greeted ≤ 64) × IsConnection p.connection };
+}
+
+impl Peer {
+    /// A peer that was fed nothing.
+    pub fn new(alloc: Global, role: Role) -> Peer
+        ensures role { result.role ≡ role }
+        ensures stands { Stands [] [] result }
+    {
+        Peer {
+            alloc,
+            role,
+            greeting: [0; GREETING_LENGTH],
+            greeted: 0,
+            connection: Connection {
+                stage: Stage::Opening,
+                held: Vec::new(alloc),
+                decoder: Decoder::new(alloc),
+                counts: BTreeMap::new(alloc),
+            },
+        }
+    }
+
+    /// What this end sends first, without waiting for the peer: its greeting, and a READY with its socket type alone.
+    ///
+    /// # Errors
+    /// Want of memory alone.
+    pub fn opening(&self, alloc: Global) -> Result<Vec<u8>, AllocError>
+        ensures { IfOk result (λ octets. octets.items ≡ opening_of self.now.role) }
+    {
+        opening_octets(alloc, self.role)
+    }
+
+    /// Whether the peer has subscribed to a topic: a prefix to which it subscribes, and has not taken that back as often,
+    /// stands at its front. It takes no memory, and as many look-ups as the topic has octets.
+    pub fn wants(&self, topic: &[u8]) -> bool
+        ensures { (fed : List ℕ) → (given : List Event) → Stands fed given self.now →
+            (IsTrue result ↔ IsWanted given topic.now) }
+    {
+        is_wanted(&self.connection.counts, topic)
+    }
+
+    /// Takes the next octets, and answers the events that they bring.
+    ///
+    /// # Errors
+    /// The fault for which the peer is refused, where no event stands before it: it is told again at each further call,
+    /// whatever is fed. Want of memory, which leaves the peer as if it had not been fed.
+    pub fn feed(&mut self, piece: &[u8]) -> Result<Vec<PeerEvent>, PeerFault>
+        ensures role { self.new.role ≡ self.old.role }
+        // The events answered are the next ones of all octets so far.
+        ensures events { IfOk result (λ events. Brings self.old piece.now (events_of events.items) self.new) }
+        // Where there are none, the peer isn't refused.
+        ensures quiet { IfOk result (λ events. events_of events.items ≡ [] → ¬ (IsRefusal self.new.state)) }
+        ensures fault { IfErr result (λ fault. fault_of fault ≢ want_of_memory
+            → Brings self.old piece.now [] self.new × (self.new.state ≡ Refused (fault_of fault))) }
+        ensures memory { IfErr result (λ fault. fault_of fault ≡ want_of_memory → Brings self.old [] [] self.new) }
+        // A refusal is final.
+        ensures stays { (fault : Fault) → self.old.state ≡ Refused fault
+            → IsErrAnd result (λ told. fault_of told ≡ fault) × (self.new ≡ self.old) }
+    {
+        if let Stage::Refused(fault) = self.connection.stage {
+            return Err(fault);
+        }
+        let missing = GREETING_LENGTH - self.greeted;
+        if piece.len() < missing {
+            write_at(&mut self.greeting, self.greeted, piece);
+            self.greeted += piece.len();
+            return Ok(Vec::new(self.alloc));
+        }
+        let (front, stream) = piece.split_at(missing);
+        write_at(&mut self.greeting, self.greeted, front);
+        if let Err(fault) = Greeting::read(&self.greeting) {
+            self.greeted = GREETING_LENGTH;
+            self.connection.stage = Stage::Refused(PeerFault::Wire(fault));
+            return Err(PeerFault::Wire(fault));
+        }
+        match self.connection.read(self.alloc, self.role, stream) {
+            Err(_) => Err(PeerFault::MEMORY),
+            Ok(events) => {
+                self.greeted = GREETING_LENGTH;
+                answer(events, self.connection.stage)
+            }
+        }
+    }
+}
+
+/// Writes octets of the greeting behind those that came before.
+fn write_at(greeting: &mut [u8; 64], at: usize, octets: &[u8])
+    requires { at + length octets.now ≤ 64 }
+    ensures written { take (at + length octets.now) greeting.new ≡ take at greeting.old ++ octets.now }
+    ensures before { take at greeting.new ≡ take at greeting.old }
+    ensures size { length greeting.new ≡ 64 }
+{
+    greeting[at..at + octets.len()].copy_from_slice(octets);
+}
+
+/// The events, or where there are none the fault for which the peer is refused.
+fn answer(events: Vec<PeerEvent>, stage: Stage) -> Result<Vec<PeerEvent>, PeerFault>
+    ensures events { IfOk result (λ told. told ≡ events) }
+    ensures quiet { IfOk result (λ told. events_of told.items ≡ [] → ¬ (IsRefusal (state_at stage []))) }
+    ensures fault { IfErr result (λ fault. (events.items ≡ []) × (stage ≡ Stage.Refused fault)) }
+{
+    match stage {
+        Stage::Refused(fault) if events.is_empty() => Err(fault),
+        _ => Ok(events),
+    }
+}

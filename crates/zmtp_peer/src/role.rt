@@ -1,0 +1,60 @@
+//! The roles in which a peer can stand, by the socket type that it announces.
+ghost use Rattle.std.specs.Prelude.{◌≡◌};
+ghost use Rattle.zmtp_peer.specs.Roles.{socket_type_of, is_partner};
+
+const ROUTER: &[u8] = b"ROUTER";
+
+const DEALER: &[u8] = b"DEALER";
+
+const REQ: &[u8] = b"REQ";
+
+const REP: &[u8] = b"REP";
+
+const PUB: &[u8] = b"PUB";
+
+const SUB: &[u8] = b"SUB";
+
+const XSUB: &[u8] = b"XSUB";
+
+/// The side that this end of the connection takes.
+#[derive(Clone, Copy, Debug, PartialEq, Eq)]
+pub enum Role {
+    /// Takes requests of any number of peers, and answers them.
+    Router,
+    /// Sends what its peers have subscribed to.
+    Pub,
+    /// Answers each request with one reply.
+    Rep,
+    /// Sends requests and takes the answers.
+    Dealer,
+    /// Subscribes, and takes what it has subscribed to.
+    Sub,
+}
+
+impl Role {
+    /// The socket type that this role announces in its READY.
+    pub fn socket_type(self) -> &'static [u8]
+        ensures { result.now ≡ socket_type_of self }
+    {
+        match self {
+            Role::Router => ROUTER,
+            Role::Pub => PUB,
+            Role::Rep => REP,
+            Role::Dealer => DEALER,
+            Role::Sub => SUB,
+        }
+    }
+
+    /// Whether this role takes a peer of a socket type, which is told as it stands in READY: in upper case.
+    pub fn fits(self, socket_type: &[u8]) -> bool
+        ensures { result ≡ is_partner self socket_type.now }
+    {
+        match self {
+            Role::Router => { socket_type == ROUTER || socket_type == DEALER || socket_type == REQ }
+            Role::Pub => socket_type == SUB || socket_type == XSUB,
+            Role::Rep => socket_type == REQ || socket_type == DEALER,
+            Role::Dealer => socket_type == ROUTER,
+            Role::Sub => socket_type == PUB,
+        }
+    }
+}

@@ -1,0 +1,68 @@
+//! What whole messages are told as, by role.
+ghost use Rattle.std.specs.Prelude.{◌≡◌, ◌++◌, ◌∷◌, [], ◌+◌, ◌≤◌, map, option_map, option_to_list, length, vec_len, vec_capacity, if◌then◌else◌};
+ghost use Rattle.std.specs.List.{flat_map};
+ghost use Rattle.zmtp_peer.specs.Events.{Ready, event_of, events_of, bodies, message_told, told_to_publisher};
+
+use crate::event::PeerEvent;
+use crate::role::Role;
+use std::alloc::Global;
+use std::mem;
+
+/// What a whole message is told as, if at all.
+fn told_as(role: Role, message: Vec<Vec<u8>>) -> Option<PeerEvent>
+    ensures { option_to_list (option_map event_of result) ≡ message_told role (bodies message.items) }
+{
+    match role {
+        Role::Pub => subscription(message),
+        Role::Router => Some(PeerEvent::Message(message)),
+        Role::Rep => Some(PeerEvent::Message(message)),
+        Role::Dealer => Some(PeerEvent::Message(message)),
+        Role::Sub => Some(PeerEvent::Message(message)),
+    }
+}
+
+/// The subscription that a message makes or takes back, if it does.
+fn subscription(mut message: Vec<Vec<u8>>) -> Option<PeerEvent>
+    ensures { option_to_list (option_map event_of result) ≡ told_to_publisher (bodies message.items) }
+{
+    if message.len() != 1 {
+        return None;
+    }
+    let mut frame = message.pop()?;
+    if frame.is_empty() {
+        return None;
+    }
+    match frame.remove(0) {
+        1 => Some(PeerEvent::Subscribe(frame)),
+        0 => Some(PeerEvent::Cancel(frame)),
+        _ => None,
+    }
+}
+
+/// The events of messages, behind READY where it came. They go into the room that was made for them.
+pub(crate) fn tell(
+    alloc: Global,
+    role: Role,
+    ready: bool,
+    mut messages: Vec<Vec<Vec<u8>>>,
+    mut events: Vec<PeerEvent>,
+) -> Vec<PeerEvent>
+    requires empty { events.items ≡ [] }
+    requires room { vec_len messages + 1 ≤ vec_capacity events }
+    ensures told { events_of result.items
+        ≡ (if ready then Ready ∷ [] else []) ++ flat_map (message_told role) (map (λ message. bodies
+        message.items) messages.items) }
+    ensures few { vec_len result ≤ vec_len messages + 1 }
+{
+    if ready {
+        events.push_reserved(PeerEvent::Ready);
+    }
+    for i in 0..messages.len() {
+        let slot = &mut messages[i];
+        let message = mem::replace(slot, Vec::new(alloc));
+        if let Some(event) = told_as(role, message) {
+            events.push_reserved(event);
+        }
+    }
+    events
+}
