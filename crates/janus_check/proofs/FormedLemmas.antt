@@ -14,7 +14,7 @@ use Rattle.janus_check.specs.declared.fault.CheckFault.TheVariants.{Declared, Un
 use Rattle.janus_check.specs.declared.env.Kind.{Kind}
 use Rattle.janus_check.specs.Names.{is_known, is_in, size, shape_of}
 use Rattle.janus_check.specs.Check.{name_limit, fault_if, extended, name_faults, declarations_faults, after_declarations, exp_faults, stm_faults, block_faults, cell_faults}
-use Rattle.janus_check.specs.WellFormed.{meant_exp, meant_stm, meant_block, meant_name, with_numbers, AreFresh, IsWellFormed, IsUsual, AreUsual, FaultsAreExact}
+use Rattle.janus_check.specs.WellFormed.{meant_exp, meant_stm, meant_block, meant_name, with_numbers, AreFresh, IsWellFormed, IsUsual, AreUsual, FaultsAreExact, IsWithinLimit}
 use Rattle.janus_check.proofs.ScopeLemmas.{usual_pick_number, usual_over}
 
 -- ---- lists of faults
@@ -89,14 +89,18 @@ usual_number_more g x u y = usual_pick_number (same_name y x) (kind_at y g) (u y
 record Declares (g : Shape) (ds : List Declaration) : Type 0 where
   fresh : AreFresh g (map meant_name ds)
   names : after_declarations g ds ≡ with_numbers g (map meant_name ds)
-  few : size g ≤ name_limit → size (with_numbers g (map meant_name ds)) ≤ name_limit
+  few : IsWithinLimit g (map meant_name ds)
   usual : AreUsual (with_numbers g (map meant_name ds))
 
 room_for : (n : ℕ) → nat_le name_limit n ≡ false → suc n ≤ name_limit
 room_for n h = grind (arith, nat_tests)
 
+within : (g : Shape) (xs : List tree.Name) → size g ≤ name_limit → IsWithinLimit g xs → size (with_numbers g xs) ≤ name_limit
+within g [] le h = le
+within g (x ∷ xs) le h = h
+
 declares : (g : Shape) (ds : List Declaration) → AreUsual g → declarations_faults g ds ≡ [] → Declares g ds
-declares g [] u h = record { fresh = tt; names = refl; few = λ le. le; usual = u }
+declares g [] u h = record { fresh = tt; names = refl; few = tt; usual = u }
 declares g (Int (named x at) ∷ ds) u h =
     let here = left_nil (name_faults g x at) _ h in
     let out = no_fault (is_in x g) _ (left_nil _ _ here) in
@@ -107,7 +111,7 @@ declares g (Int (named x at) ∷ ds) u h =
     record {
       fresh = (usual_absent (kind_at x g) (u x) out, d.fresh);
       names = ap (λ n. after_declarations n ds) next ∙ d.names;
-      few = λ le. d.few room;
+      few = within (Known x tree.ANumber g) (map meant_name ds) room d.few;
       usual = d.usual;
     }
 
@@ -160,10 +164,14 @@ declares_no_faults g (Int (named x at) ∷ ds) h le =
     let here = both_nil _ _ (fault_if_false (is_in x g) (Declared at) out) (fault_if_false (nat_le name_limit (size g)) (TooMany at) (no_limit (size g) (omega arith))) in
     (both_nil _ _ here (ap (λ n. declarations_faults n ds) next ∙ rest.0), ap (λ n. after_declarations n ds) next ∙ rest.1)
 
-pub formed_no_faults : (g : Shape) (c : Cell) → size g ≤ name_limit → IsWellFormed g c → cell_faults g c ≡ []
-formed_no_faults g (cell_of ds b) le w =
-    let d = declares_no_faults g ds w.fresh (w.few le) in
+declares_within : (g : Shape) (ds : List Declaration) → AreFresh g (map meant_name ds) → IsWithinLimit g (map meant_name ds) → (declarations_faults g ds ≡ []) × (after_declarations g ds ≡ with_numbers g (map meant_name ds))
+declares_within g [] h w = (refl, refl)
+declares_within g (Int (named x at) ∷ ds) h w = declares_no_faults g (Int (named x at) ∷ ds) h w
+
+pub formed_no_faults : (g : Shape) (c : Cell) → IsWellFormed g c → cell_faults g c ≡ []
+formed_no_faults g (cell_of ds b) w =
+    let d = declares_within g ds w.fresh w.few in
     both_nil _ _ d.0 (ap (λ n. block_faults n b) d.1 ∙ block_no_faults _ b w.block)
 
 pub faults_are_exact : FaultsAreExact
-faults_are_exact g c u le = (no_faults_formed g c u, formed_no_faults g c le)
+faults_are_exact g c u = (no_faults_formed g c u, formed_no_faults g c)

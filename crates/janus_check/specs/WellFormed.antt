@@ -3,7 +3,7 @@ use Rattle.std.specs.Prelude.{◌≡◌, ◌↔◌, ◌≤◌, List, [], ◌∷�
 use Rattle.janus_meaning.specs.Syntax as tree
 use Rattle.janus_meaning.specs.Formed.{Shape, Known, kind_at, IsBlk}
 use Rattle.janus_syntax.specs.Tree.{Exp, Num, Var, Bin, Stm, Assign, Block, Empty, More, Declaration, Int, Cell, cell_of}
-use Rattle.janus_syntax.specs.View.{operator_of, sign_of}
+use Rattle.janus_syntax.specs.View.{operator_of, update_of}
 use Rattle.janus_check.specs.Check.{name_limit, text_of, cell_faults}
 use Rattle.janus_check.specs.Names.{size}
 
@@ -15,7 +15,7 @@ meant_exp (Var x) = tree.Var (text_of x)
 meant_exp (Bin op l r) = tree.Binary (operator_of op) (meant_exp l) (meant_exp r)
 
 abbrev pub meant_stm : Stm → tree.Stm
-meant_stm (Assign x u e) = tree.Set (text_of x) (sign_of u) (meant_exp e)
+meant_stm (Assign x u e) = tree.Set (text_of x) (update_of u) (meant_exp e)
 
 abbrev pub meant_block : Block → tree.Blk
 meant_block Empty = tree.Nil
@@ -54,18 +54,22 @@ IsUsual tree.Absent = Unit {0}
 abbrev pub AreUsual : Shape → Type 0
 AreUsual g = (x : tree.Name) → IsUsual (kind_at x g)
 
--- A cell is well formed over the names in sight: what it declares is new, no more than the limit
--- allows where the names in sight are not, and its block is well
+-- names that are declared are, with those in sight, within the limit
+abbrev pub IsWithinLimit : Shape → List tree.Name → Type 0
+IsWithinLimit g [] = Unit {0}
+IsWithinLimit g (x ∷ xs) = size (with_numbers g (x ∷ xs)) ≤ name_limit
+
+-- A cell is well formed over the names in sight: what it declares is new and within the limit, and its block is well
 -- formed over all names.
 pub record IsWellFormed (g : Shape) (c : Cell) : Type 0 where
   pub fresh : AreFresh g (declared_names c)
-  pub few : size g ≤ name_limit → size (with_numbers g (declared_names c)) ≤ name_limit
+  pub few : IsWithinLimit g (declared_names c)
   pub block : IsBlk [] (with_numbers g (declared_names c)) (block_of_cell c)
 
 -- there are names over which it is
 abbrev pub IsSomewhereWellFormed : Cell → Type 0
 IsSomewhereWellFormed c = ∥ ((names : Shape) × IsWellFormed names c) ∥₁
 
--- Over numbers within the limit a cell has no faults exactly where it is well formed.
+-- Over numbers a cell has no faults exactly where it is well formed.
 abbrev pub FaultsAreExact : Type 0
-FaultsAreExact = (g : Shape) (c : Cell) → AreUsual g → size g ≤ name_limit → (cell_faults g c ≡ []) ↔ IsWellFormed g c
+FaultsAreExact = (g : Shape) (c : Cell) → AreUsual g → (cell_faults g c ≡ []) ↔ IsWellFormed g c

@@ -17,7 +17,7 @@ use janus_syntax::tree::{Cell, Declaration, Exp, Name, Stm};
 use std::alloc::{AllocError, Global};
 
 /// How many names may be declared.
-pub const NAME_LIMIT: usize = 256;
+const NAME_LIMIT: usize = 256;
 
 /// Checks a cell over the names that are declared already. What passes is well formed; else the answer is the fault
 /// that stands first in the text, and at one place the one with the smaller number, or want of memory.

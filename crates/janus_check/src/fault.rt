@@ -77,7 +77,7 @@ impl CheckFault {
     }
 
     /// Whether this fault is told rather than the other: it stands earlier, or at the same place under a smaller number.
-    pub fn is_before(self, other: CheckFault) -> bool
+    pub(crate) fn is_before(self, other: CheckFault) -> bool
         ensures { result ≡ comes_before self other }
     {
         self.start() < other.start()

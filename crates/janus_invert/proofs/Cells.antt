@@ -2,7 +2,7 @@
 use Rattle.std.proofs.Common.{◌≡◌, ℕ, suc, ◌-◌, ◌<◌, ◌≤◌, List, [], ◌∷◌, ◌++◌, length, get_or, drop, drop-cons, refl, ap, ◌∙◌, sym, arith}
 use Rattle.janus_meaning.specs.Syntax as tree
 use Rattle.janus_meaning.specs.Word.{opposite}
-use Rattle.janus_syntax.specs.View.{name_of, exp_of, stm_of, block_of, sign_of, operator_of}
+use Rattle.janus_syntax.specs.View.{name_of, exp_of, stm_of, block_of, update_of, operator_of}
 use Rattle.janus_syntax.specs.declared.tree.Update.{Update}
 use Rattle.janus_syntax.specs.declared.tree.Update.TheVariants.{Add, Subtract, Xor}
 use Rattle.janus_syntax.specs.declared.tree.Exp as code_exp
@@ -65,13 +65,13 @@ meant_exp_is (exps.Binary' o p l q r) =
     ap (λ l. tree.Binary (operator_of o) l (meant_exp (exp_view r))) (meant_exp_is l) ∙ ap (tree.Binary (operator_of o) (exp_of l)) (meant_exp_is r)
 
 meant_stm_is : (s : code_stm.Stm) → meant_stm (stm_view s) ≡ stm_of s
-meant_stm_is (stms.Assign x u e) = ap (tree.Set (name_of x) (sign_of u)) (meant_exp_is e)
+meant_stm_is (stms.Assign x u e) = ap (tree.Set (name_of x) (update_of u)) (meant_exp_is e)
 
 pub meant_block_is : (ss : List code_stm.Stm) → meant_block (block_view ss) ≡ block_of ss
 meant_block_is [] = refl
 meant_block_is (s ∷ ss) = ap (λ s. tree.Cons s (meant_block (block_view ss))) (meant_stm_is s) ∙ ap (tree.Cons (stm_of s)) (meant_block_is ss)
 
-opposite_plain : (u : Update) → sign_of (opposite_of u) ≡ opposite (sign_of u)
+opposite_plain : (u : Update) → update_of (opposite_of u) ≡ opposite (update_of u)
 opposite_plain Add = refl
 opposite_plain Subtract = refl
 opposite_plain Xor = refl

@@ -3,7 +3,7 @@ use Rattle.std.proofs.Common.{◌≡◌, ℕ, List, refl, ap, ◌∙◌, sym, po
 use Rattle.std.specs.Prelude.{string_bytes}
 use Rattle.janus_meaning.specs.Word.{opposite}
 use Rattle.janus_meaning.specs.Syntax as tree
-use Rattle.janus_syntax.specs.View.{exp_of, sign_of, operator_of}
+use Rattle.janus_syntax.specs.View.{exp_of, update_of, operator_of}
 use Rattle.janus_syntax.specs.declared.tree.Exp.{Exp}
 use Rattle.janus_syntax.specs.declared.tree.Exp.TheVariants.{Number, Variable, Binary'}
 use Rattle.janus_syntax.specs.declared.tree.Operator.{Operator}
@@ -30,7 +30,7 @@ same_exp (Binary' o a l b r) (Binary' p c s d t) h =
     ∙ ap (tree.Binary (operator_of o) (exp_of l)) (same_exp r t h.2)
 same_exp _ _ h = absurd h
 
-pub opposite_sign : (u v : Update) → IsOpposite u v → sign_of v ≡ opposite (sign_of u)
+pub opposite_sign : (u v : Update) → IsOpposite u v → update_of v ≡ opposite (update_of u)
 opposite_sign update.Add update.Subtract h = refl
 opposite_sign update.Subtract update.Add h = refl
 opposite_sign update.Xor update.Xor h = refl
@@ -38,9 +38,9 @@ opposite_sign _ _ h = absurd h
 
 pub inverse_built : (t u : ℕ → tree.Stm) (members others : List ℕ) (s r : Statement) → IsInverse s r → built u others r ≡ tree.inverse (built t members s)
 inverse_built t u members others (Assign x o e) (Assign y p f) h =
-    ap (λ z. tree.Set z (sign_of p) (exp_of f)) h.0
+    ap (λ z. tree.Set z (update_of p) (exp_of f)) h.0
     ∙ ap (λ o. tree.Set (string_bytes x.text) o (exp_of f)) (opposite_sign o p h.1)
-    ∙ ap (tree.Set (string_bytes x.text) (opposite (sign_of o))) (same_exp e f h.2)
+    ∙ ap (tree.Set (string_bytes x.text) (opposite (update_of o))) (same_exp e f h.2)
 
 -- ---- the other way round
 

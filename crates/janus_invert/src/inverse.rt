@@ -13,7 +13,7 @@ use janus_syntax::tree::{Cell, Declaration, Stm, Update};
 use std::alloc::{AllocError, Global};
 
 /// The operator that takes an assignment back.
-pub fn opposite(update: Update) -> Update
+fn opposite(update: Update) -> Update
     ensures operator { result ≡ opposite_of update }
     ensures exchanged { IsOpposite update result }
 {

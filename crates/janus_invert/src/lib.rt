@@ -1,7 +1,8 @@
 //! Inverse cells, and the flat code that the machine runs.
 //!
 //! To the layer above it promises that `invert` gives the inverse of a cell's statements, that flat code stands for one
-//! block, that `flatten` gives code that stands for the cell's block, and that `invert_code` gives code that stands for the inverse of that block.
+//! block, that `flatten` gives code that stands for the cell's block, and that `invert_code` gives code that stands for the
+//! inverse of that block.
 //! The inverse of a statement is that of Yokoyama and Glück (2007), "A reversible programming language and its invertible
 //! self-interpreter": `+=` and `-=` exchange, `^=` stays, and a block is reversed with each of its statements inverted.
 #![tactic(auto)]
@@ -14,7 +15,7 @@ mod inverse;
 
 pub use crate::code::{Block, Code, Statement};
 pub use crate::flat::flatten;
-pub use crate::inverse::{invert, invert_code, opposite};
+pub use crate::inverse::{invert, invert_code};
 
 /// A law about the definitions of `specs/`: the inverse of a cell's inverse is the cell. It does nothing.
 pub fn inverse_cell_twice_law()

@@ -15,10 +15,14 @@ use janus_invert::Block;
 
 /// Before or after the block, or a statement of it.
 #[derive(Clone, Copy, PartialEq, Eq, Debug)]
-pub enum Phase {
+pub(crate) enum Phase {
+    /// Before the first step of the block.
     BeforeBlock,
+    /// After its last step.
     AfterBlock,
+    /// Before the first step of a statement.
     BeforeOne,
+    /// After its last step.
     AfterOne,
 }
 
@@ -50,10 +54,10 @@ fn from_other_end(block: Block, at: usize) -> usize
 /// A place in the code of a book.
 #[derive(Drop)]
 pub struct Cursor {
-    pub direction: Direction,
-    pub phase: Phase,
+    pub(crate) direction: Direction,
+    pub(crate) phase: Phase,
     /// The statement's place among the members of the code, where the phase is of one.
-    pub at: usize,
+    pub(crate) at: usize,
 }
 
 impl Cursor {
@@ -109,7 +113,7 @@ impl Cursor {
     }
 
     /// The step at the entry of the block.
-    pub fn enter_block(&mut self, book: &Book)
+    pub(crate) fn enter_block(&mut self, book: &Book)
         requires { self.old.phase ≡ BeforeBlock }
         ensures stands { IsStanding book.now self.new }
         ensures leads { (ps : List tree.Proc) (k : ℕ) (s : spec.Store) → Leads ps k book.now self.old s self.new s }
@@ -124,7 +128,7 @@ impl Cursor {
     }
 
     /// The step after a statement.
-    pub fn go_on(&mut self, book: &Book)
+    pub(crate) fn go_on(&mut self, book: &Book)
         requires here { self.old.phase ≡ AfterOne }
         requires standing { IsStanding book.now self.old }
         ensures stands { IsStanding book.now self.new }

@@ -15,7 +15,7 @@ mod machine;
 mod statement;
 mod store;
 
-pub use crate::book::{Book, Direction};
+pub use crate::book::Book;
 pub use crate::cursor::Cursor;
 pub use crate::fault::Fault;
 pub use crate::machine::{End, Sliced, Stepped, slice, step};

@@ -4,7 +4,7 @@ ghost use Rattle.std.specs.Prelude.{◌≡◌, ◌≢◌};
 ghost use Rattle.janus_meaning.specs.Fault.{Bad, Broken};
 ghost use Rattle.janus_meaning.specs.Formed.{shape_of};
 ghost use Rattle.janus_meaning.specs.Moves.{assign as assign_of};
-ghost use Rattle.janus_syntax.specs.View.{name_of, exp_of, sign_of};
+ghost use Rattle.janus_syntax.specs.View.{name_of, exp_of, update_of};
 ghost use Rattle.janus_machine.specs.Faults.{IsDone};
 ghost use Rattle.janus_machine.specs.Statements.{run_of};
 
@@ -15,7 +15,7 @@ use janus_invert::Statement;
 use janus_syntax::tree::{Exp, Name, Update};
 
 /// Runs a statement, or leaves the store at a fault.
-pub fn run(statement: &Statement, store: &mut Store) -> Result<(), Fault>
+pub(crate) fn run(statement: &Statement, store: &mut Store) -> Result<(), Fault>
     requires { run_of statement.now store.old ≢ Bad Broken }
     ensures done { IsDone (run_of statement.now store.old) store.old store.new result }
     ensures shape { shape_of store.new ≡ shape_of store.old }
@@ -27,8 +27,8 @@ pub fn run(statement: &Statement, store: &mut Store) -> Result<(), Fault>
 
 /// An assignment, whose right side may not name what it changes.
 fn assign(name: &Name, update: Update, exp: &Exp, store: &mut Store) -> Result<(), Fault>
-    requires { assign_of (name_of name.now) (sign_of update) (exp_of exp.now) store.old ≢ Bad Broken }
-    ensures done { IsDone (assign_of (name_of name.now) (sign_of update) (exp_of exp.now) store.old) store.old store.new result }
+    requires { assign_of (name_of name.now) (update_of update) (exp_of exp.now) store.old ≢ Bad Broken }
+    ensures done { IsDone (assign_of (name_of name.now) (update_of update) (exp_of exp.now) store.old) store.old store.new result }
     ensures shape { shape_of store.new ≡ shape_of store.old }
 {
     let operand = match value(exp, store) {

@@ -7,7 +7,7 @@ ghost use Rattle.janus_meaning.specs.Store.{Bare, Slot, Num, look, number};
 ghost use Rattle.janus_meaning.specs.Formed.{shape_of};
 ghost use Rattle.janus_meaning.specs.World.{size_of};
 ghost use Rattle.janus_meaning.specs.Word.{changed as changed_of};
-ghost use Rattle.janus_syntax.specs.View.{sign_of};
+ghost use Rattle.janus_syntax.specs.View.{update_of};
 ghost use Rattle.janus_machine.specs.Stores.{IsZeroOnTop, IsNumber, rest_of, res_of, is_fine, write, listed};
 
 use crate::evaluate::changed;
@@ -127,7 +127,7 @@ impl Store {
     /// Changes the number of a name in place, by an assignment's operator and the number of its right side.
     pub fn update(&mut self, name: &str, update: Update, operand: i32)
         requires { IsNumber (look name.now self.old) }
-        ensures written { (n : ℤ) → look name.now self.old ≡ Fine (Num n) → write name.now (Num (changed_of (sign_of update) n operand)) self.old ≡ Fine self.new }
+        ensures written { (n : ℤ) → look name.now self.old ≡ Fine (Num n) → write name.now (Num (changed_of (update_of update) n operand)) self.old ≡ Fine self.new }
         ensures shape { shape_of self.new ≡ shape_of self.old }
     {
         match self.places.get(name) {
@@ -135,7 +135,7 @@ impl Store {
                 let variable = &mut self.variables[*place];
                 variable.value = changed(update, variable.value, operand);
             }
-            None => {}
+            None => unreachable!(),
         }
     }
 }

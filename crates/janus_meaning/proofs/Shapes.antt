@@ -3,7 +3,7 @@ use Rattle.std.proofs.Common.{◌≡◌, ℕ, List, [], ◌∷◌, Bool, true, f
 use Rattle.std.specs.Prelude.{ℤ, pos}
 use Rattle.std.specs.Ordering.{int_eq}
 use Rattle.janus_meaning.specs.Fault.{Res, Fine, guard, and_then, Broken, DelocalMismatch}
-use Rattle.janus_meaning.specs.Word.{Sign, changed}
+use Rattle.janus_meaning.specs.Word.{Update, changed}
 use Rattle.janus_meaning.specs.Syntax.{Name, Exp, Stm, Blk, Skip, Set, SetAt, Push, Pop, If, From, LocalInt, LocalStack, Call, Uncall, Proc, Kind, ANumber, AnArray, AStack, Hidden}
 use Rattle.janus_meaning.specs.Store.{Val, Num, Arr, Stk, Lent, Store, Bare, Slot, same_name, take, take_at, take_slot, put, put_at, put_slot, number, array, stack, element, set_element, pull, fill, bind, unbind, find}
 use Rattle.janus_meaning.specs.Value.{value, test}
@@ -62,12 +62,12 @@ put_kept x g t v s r w k e h =
 
 -- ---- assignment, push and pop
 
-assign_shape : (x : Name) (o : Sign) (e : Exp) (s r : Store) → assign x o e s ≡ Fine r → shape_of r ≡ shape_of s
+assign_shape : (x : Name) (o : Update) (e : Exp) (s r : Store) → assign x o e s ≡ Fine r → shape_of r ≡ shape_of s
 assign_shape x o e s r h =
     with_parts _ _ _ h (λ t ht h1. with_parts _ _ _ h1 (λ n hn h2. with_parts _ _ _ h2 (λ w hw h3.
     put_kept x (shape_of s) t (Num (changed o n w)) t.1 r (took x s t ht) (sym (ap kind_of (number_is t.0 n hn))) refl h3)))
 
-assign_at_shape : (a : Name) (i : Exp) (o : Sign) (e : Exp) (s r : Store) → assign_at a i o e s ≡ Fine r → shape_of r ≡ shape_of s
+assign_at_shape : (a : Name) (i : Exp) (o : Update) (e : Exp) (s r : Store) → assign_at a i o e s ≡ Fine r → shape_of r ≡ shape_of s
 assign_at_shape a i o e s r h =
     with_parts (take a s) _ r h (λ t ht h1. with_parts (array t.0) _ r h1 (λ l hl h2. with_parts (value i t.1) _ r h2 (λ k hk h3. with_parts (element l k) (λ n. and_then (value e t.1) (λ w. put a (Arr (set_element l k (changed o n w))) t.1)) r h3 (λ n hn h4. with_parts (value e t.1) _ r h4 (λ w hw h5.
     put_kept a (shape_of s) t (Arr (set_element l k (changed o n w))) t.1 r (took a s t ht) (sym (ap kind_of (array_is t.0 l hl))) refl h5)))))

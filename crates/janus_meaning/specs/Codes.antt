@@ -1,8 +1,8 @@
 -- How worlds and cells are stored as lists, so that contracts can have them as values: trees in postfix form.
-use Rattle.std.specs.Prelude.{◌≡◌, ℕ, zero, suc, ℤ, pos, List, [], ◌∷◌, refl}
+use Rattle.std.specs.Prelude.{◌≡◌, ℕ, zero, suc, ℤ, pos, negsuc, List, [], ◌∷◌, ◌++◌, get_or, refl}
 use Rattle.std.specs.Coded.{Coded, code_by, coded×, coded_ℕ, coded_ℤ, coded_list}
 use Rattle.std.proofs.Common.{ap, ◌∙◌}
-use Rattle.janus_meaning.specs.Word.{Plus, Minus, Flip, Add', Sub', Mul', Div', Rem', And', Or', Xor', Less', More', AtMost', AtLeast', Same', Differ'}
+use Rattle.janus_meaning.specs.Word.{Update, Operator, Plus, Minus, Flip, Add', Sub', Mul', Div', Rem', And', Or', Xor', Less', More', AtMost', AtLeast', Same', Differ'}
 use Rattle.janus_meaning.specs.Syntax.{Name, Exp, Number, Var, At, Empty, Top, Negate, Binary, And, Or, Stm, Blk, Skip, Set, SetAt, Push, Pop, If, From, LocalInt, LocalStack, Call, Uncall, Nil, Cons, Proc, Kind, ANumber, AnArray, AStack, Hidden, Absent}
 use Rattle.janus_meaning.specs.Store.{Val, Num, Arr, Stk, Lent, Store, Bare, Slot}
 use Rattle.janus_meaning.specs.World.{World, Declaration, DeclareInt, DeclareArray, DeclareStack, Cell}
@@ -15,11 +15,7 @@ kind_number Hidden = 3
 kind_number Absent = 4
 
 abbrev kind_at : ℕ → Kind
-kind_at zero = ANumber
-kind_at (suc zero) = AnArray
-kind_at (suc (suc zero)) = AStack
-kind_at (suc (suc (suc zero))) = Hidden
-kind_at (suc (suc (suc (suc k)))) = Absent
+kind_at n = get_or (ANumber ∷ AnArray ∷ AStack ∷ Hidden ∷ Absent ∷ []) n Absent
 
 abbrev kind_back : (x : Kind) → kind_at (kind_number x) ≡ x
 kind_back ANumber = refl
@@ -43,6 +39,62 @@ kinds_back (AnArray ∷ ks) = ap (λ (l : List Kind). AnArray ∷ l) (kinds_back
 kinds_back (AStack ∷ ks) = ap (λ (l : List Kind). AStack ∷ l) (kinds_back ks)
 kinds_back (Hidden ∷ ks) = ap (λ (l : List Kind). Hidden ∷ l) (kinds_back ks)
 kinds_back (Absent ∷ ks) = ap (λ (l : List Kind). Absent ∷ l) (kinds_back ks)
+
+-- ---- operators and updates
+
+abbrev operator_number : Operator → ℕ
+operator_number Add' = 0
+operator_number Sub' = 1
+operator_number Mul' = 2
+operator_number Div' = 3
+operator_number Rem' = 4
+operator_number And' = 5
+operator_number Or' = 6
+operator_number Xor' = 7
+operator_number Less' = 8
+operator_number More' = 9
+operator_number AtMost' = 10
+operator_number AtLeast' = 11
+operator_number Same' = 12
+operator_number Differ' = 13
+
+-- in the order of their numbers
+abbrev operators : List Operator
+operators = Add' ∷ Sub' ∷ Mul' ∷ Div' ∷ Rem' ∷ And' ∷ Or' ∷ Xor' ∷ Less' ∷ More' ∷ AtMost' ∷ AtLeast' ∷ Same' ∷ Differ' ∷ []
+
+abbrev operator_at : ℤ → Operator
+operator_at (pos n) = get_or operators n Add'
+operator_at (negsuc n) = Add'
+
+operator_back : (o : Operator) → operator_at (pos (operator_number o)) ≡ o
+operator_back Add' = refl
+operator_back Sub' = refl
+operator_back Mul' = refl
+operator_back Div' = refl
+operator_back Rem' = refl
+operator_back And' = refl
+operator_back Or' = refl
+operator_back Xor' = refl
+operator_back Less' = refl
+operator_back More' = refl
+operator_back AtMost' = refl
+operator_back AtLeast' = refl
+operator_back Same' = refl
+operator_back Differ' = refl
+
+abbrev update_number : Update → ℕ
+update_number Plus = 0
+update_number Minus = 1
+update_number Flip = 2
+
+abbrev update_at : ℤ → Update
+update_at (pos n) = get_or (Plus ∷ Minus ∷ Flip ∷ []) n Plus
+update_at (negsuc n) = Plus
+
+update_back : (o : Update) → update_at (pos (update_number o)) ≡ o
+update_back Plus = refl
+update_back Minus = refl
+update_back Flip = refl
 
 -- ---- trees
 
@@ -93,121 +145,103 @@ with_exp e es m = record m { exps = e ∷ es }
 abbrev with_stm : Stm → List Exp → List Blk → Made → Made
 with_stm c es bs m = record { exps = es; stms = c ∷ m.stms; blks = bs }
 
+-- what a token does with the trees so far, by its number and names
+abbrev Action : Type 0
+Action = ℤ → List Name → Made → Made
+
+-- the tokens 0 to 8
+abbrev expression_actions : List Action
+expression_actions =
+    (λ n xs m. with_exp (Number n) m.exps m)
+    ∷ (λ n xs m. with_exp (Var (first xs)) m.exps m)
+    ∷ (λ n xs m. with_exp (At (first xs) (exp m.exps)) (exps m.exps) m)
+    ∷ (λ n xs m. with_exp (Empty (first xs)) m.exps m)
+    ∷ (λ n xs m. with_exp (Top (first xs)) m.exps m)
+    ∷ (λ n xs m. with_exp (Negate (exp m.exps)) (exps m.exps) m)
+    ∷ (λ n xs m. with_exp (Binary (operator_at n) (exp (exps m.exps)) (exp m.exps)) (exps (exps m.exps)) m)
+    ∷ (λ n xs m. with_exp (And (exp (exps m.exps)) (exp m.exps)) (exps (exps m.exps)) m)
+    ∷ (λ n xs m. with_exp (Or (exp (exps m.exps)) (exp m.exps)) (exps (exps m.exps)) m)
+    ∷ []
+
+-- the tokens 9 to 19
+abbrev statement_actions : List Action
+statement_actions =
+    (λ n xs m. with_stm Skip m.exps m.blks m)
+    ∷ (λ n xs m. with_stm (Set (first xs) (update_at n) (exp m.exps)) (exps m.exps) m.blks m)
+    ∷ (λ n xs m. with_stm (SetAt (first xs) (exp (exps m.exps)) (update_at n) (exp m.exps)) (exps (exps m.exps)) m.blks m)
+    ∷ (λ n xs m. with_stm (Push (first xs) (first (rest xs))) m.exps m.blks m)
+    ∷ (λ n xs m. with_stm (Pop (first xs) (first (rest xs))) m.exps m.blks m)
+    ∷ (λ n xs m. with_stm (If (exp (exps m.exps)) (blk (blks m.blks)) (blk m.blks) (exp m.exps)) (exps (exps m.exps)) (blks (blks m.blks)) m)
+    ∷ (λ n xs m. with_stm (From (exp (exps m.exps)) (blk (blks m.blks)) (blk m.blks) (exp m.exps)) (exps (exps m.exps)) (blks (blks m.blks)) m)
+    ∷ (λ n xs m. with_stm (LocalInt (first xs) (exp (exps m.exps)) (blk m.blks) (exp m.exps)) (exps (exps m.exps)) (blks m.blks) m)
+    ∷ (λ n xs m. with_stm (LocalStack (first xs) (blk m.blks)) m.exps (blks m.blks) m)
+    ∷ (λ n xs m. with_stm (Call (first xs) (rest xs)) m.exps m.blks m)
+    ∷ (λ n xs m. with_stm (Uncall (first xs) (rest xs)) m.exps m.blks m)
+    ∷ []
+
+-- the tokens 20 and 21
+abbrev block_actions : List Action
+block_actions =
+    (λ n xs m. record m { blks = Nil ∷ m.blks })
+    ∷ (λ n xs m. record m { stms = stms m.stms; blks = Cons (stm m.stms) (blk m.blks) ∷ blks m.blks })
+    ∷ []
+
+abbrev actions : List Action
+actions = expression_actions ++ statement_actions ++ block_actions
+
 -- the trees after a token
-abbrev act : ℕ → ℤ → List Name → Made → Made
-act zero n xs m = with_exp (Number n) m.exps m
-act (suc zero) n xs m = with_exp (Var (first xs)) m.exps m
-act (suc (suc zero)) n xs m = with_exp (At (first xs) (exp m.exps)) (exps m.exps) m
-act (suc (suc (suc zero))) n xs m = with_exp (Empty (first xs)) m.exps m
-act (suc (suc (suc (suc zero)))) n xs m = with_exp (Top (first xs)) m.exps m
-act (suc (suc (suc (suc (suc zero))))) n xs m = with_exp (Negate (exp m.exps)) (exps m.exps) m
-act (suc (suc (suc (suc (suc (suc zero)))))) n xs m = with_exp (And (exp (exps m.exps)) (exp m.exps)) (exps (exps m.exps)) m
-act (suc (suc (suc (suc (suc (suc (suc zero))))))) n xs m = with_exp (Or (exp (exps m.exps)) (exp m.exps)) (exps (exps m.exps)) m
-act (suc (suc (suc (suc (suc (suc (suc (suc zero)))))))) n xs m = with_stm Skip m.exps m.blks m
-act (suc (suc (suc (suc (suc (suc (suc (suc (suc zero))))))))) n xs m = with_stm (Push (first xs) (first (rest xs))) m.exps m.blks m
-act (suc (suc (suc (suc (suc (suc (suc (suc (suc (suc zero)))))))))) n xs m = with_stm (Pop (first xs) (first (rest xs))) m.exps m.blks m
-act (suc (suc (suc (suc (suc (suc (suc (suc (suc (suc (suc zero))))))))))) n xs m = with_stm (If (exp (exps m.exps)) (blk (blks m.blks)) (blk m.blks) (exp m.exps)) (exps (exps m.exps)) (blks (blks m.blks)) m
-act (suc (suc (suc (suc (suc (suc (suc (suc (suc (suc (suc (suc zero)))))))))))) n xs m = with_stm (From (exp (exps m.exps)) (blk (blks m.blks)) (blk m.blks) (exp m.exps)) (exps (exps m.exps)) (blks (blks m.blks)) m
-act (suc (suc (suc (suc (suc (suc (suc (suc (suc (suc (suc (suc (suc zero))))))))))))) n xs m = with_stm (LocalInt (first xs) (exp (exps m.exps)) (blk m.blks) (exp m.exps)) (exps (exps m.exps)) (blks m.blks) m
-act (suc (suc (suc (suc (suc (suc (suc (suc (suc (suc (suc (suc (suc (suc zero)))))))))))))) n xs m = with_stm (LocalStack (first xs) (blk m.blks)) m.exps (blks m.blks) m
-act (suc (suc (suc (suc (suc (suc (suc (suc (suc (suc (suc (suc (suc (suc (suc zero))))))))))))))) n xs m = with_stm (Call (first xs) (rest xs)) m.exps m.blks m
-act (suc (suc (suc (suc (suc (suc (suc (suc (suc (suc (suc (suc (suc (suc (suc (suc zero)))))))))))))))) n xs m = with_stm (Uncall (first xs) (rest xs)) m.exps m.blks m
-act (suc (suc (suc (suc (suc (suc (suc (suc (suc (suc (suc (suc (suc (suc (suc (suc (suc zero))))))))))))))))) n xs m = record m { blks = Nil ∷ m.blks }
-act (suc (suc (suc (suc (suc (suc (suc (suc (suc (suc (suc (suc (suc (suc (suc (suc (suc (suc zero)))))))))))))))))) n xs m = record m { stms = stms m.stms; blks = Cons (stm m.stms) (blk m.blks) ∷ blks m.blks }
-act (suc (suc (suc (suc (suc (suc (suc (suc (suc (suc (suc (suc (suc (suc (suc (suc (suc (suc (suc zero))))))))))))))))))) n xs m = with_exp (Binary Add' (exp (exps m.exps)) (exp m.exps)) (exps (exps m.exps)) m
-act (suc (suc (suc (suc (suc (suc (suc (suc (suc (suc (suc (suc (suc (suc (suc (suc (suc (suc (suc (suc zero)))))))))))))))))))) n xs m = with_exp (Binary Sub' (exp (exps m.exps)) (exp m.exps)) (exps (exps m.exps)) m
-act (suc (suc (suc (suc (suc (suc (suc (suc (suc (suc (suc (suc (suc (suc (suc (suc (suc (suc (suc (suc (suc zero))))))))))))))))))))) n xs m = with_exp (Binary Mul' (exp (exps m.exps)) (exp m.exps)) (exps (exps m.exps)) m
-act (suc (suc (suc (suc (suc (suc (suc (suc (suc (suc (suc (suc (suc (suc (suc (suc (suc (suc (suc (suc (suc (suc zero)))))))))))))))))))))) n xs m = with_exp (Binary Div' (exp (exps m.exps)) (exp m.exps)) (exps (exps m.exps)) m
-act (suc (suc (suc (suc (suc (suc (suc (suc (suc (suc (suc (suc (suc (suc (suc (suc (suc (suc (suc (suc (suc (suc (suc zero))))))))))))))))))))))) n xs m = with_exp (Binary Rem' (exp (exps m.exps)) (exp m.exps)) (exps (exps m.exps)) m
-act (suc (suc (suc (suc (suc (suc (suc (suc (suc (suc (suc (suc (suc (suc (suc (suc (suc (suc (suc (suc (suc (suc (suc (suc zero)))))))))))))))))))))))) n xs m = with_exp (Binary And' (exp (exps m.exps)) (exp m.exps)) (exps (exps m.exps)) m
-act (suc (suc (suc (suc (suc (suc (suc (suc (suc (suc (suc (suc (suc (suc (suc (suc (suc (suc (suc (suc (suc (suc (suc (suc (suc zero))))))))))))))))))))))))) n xs m = with_exp (Binary Or' (exp (exps m.exps)) (exp m.exps)) (exps (exps m.exps)) m
-act (suc (suc (suc (suc (suc (suc (suc (suc (suc (suc (suc (suc (suc (suc (suc (suc (suc (suc (suc (suc (suc (suc (suc (suc (suc (suc zero)))))))))))))))))))))))))) n xs m = with_exp (Binary Xor' (exp (exps m.exps)) (exp m.exps)) (exps (exps m.exps)) m
-act (suc (suc (suc (suc (suc (suc (suc (suc (suc (suc (suc (suc (suc (suc (suc (suc (suc (suc (suc (suc (suc (suc (suc (suc (suc (suc (suc zero))))))))))))))))))))))))))) n xs m = with_exp (Binary Less' (exp (exps m.exps)) (exp m.exps)) (exps (exps m.exps)) m
-act (suc (suc (suc (suc (suc (suc (suc (suc (suc (suc (suc (suc (suc (suc (suc (suc (suc (suc (suc (suc (suc (suc (suc (suc (suc (suc (suc (suc zero)))))))))))))))))))))))))))) n xs m = with_exp (Binary More' (exp (exps m.exps)) (exp m.exps)) (exps (exps m.exps)) m
-act (suc (suc (suc (suc (suc (suc (suc (suc (suc (suc (suc (suc (suc (suc (suc (suc (suc (suc (suc (suc (suc (suc (suc (suc (suc (suc (suc (suc (suc zero))))))))))))))))))))))))))))) n xs m = with_exp (Binary AtMost' (exp (exps m.exps)) (exp m.exps)) (exps (exps m.exps)) m
-act (suc (suc (suc (suc (suc (suc (suc (suc (suc (suc (suc (suc (suc (suc (suc (suc (suc (suc (suc (suc (suc (suc (suc (suc (suc (suc (suc (suc (suc (suc zero)))))))))))))))))))))))))))))) n xs m = with_exp (Binary AtLeast' (exp (exps m.exps)) (exp m.exps)) (exps (exps m.exps)) m
-act (suc (suc (suc (suc (suc (suc (suc (suc (suc (suc (suc (suc (suc (suc (suc (suc (suc (suc (suc (suc (suc (suc (suc (suc (suc (suc (suc (suc (suc (suc (suc zero))))))))))))))))))))))))))))))) n xs m = with_exp (Binary Same' (exp (exps m.exps)) (exp m.exps)) (exps (exps m.exps)) m
-act (suc (suc (suc (suc (suc (suc (suc (suc (suc (suc (suc (suc (suc (suc (suc (suc (suc (suc (suc (suc (suc (suc (suc (suc (suc (suc (suc (suc (suc (suc (suc (suc zero)))))))))))))))))))))))))))))))) n xs m = with_exp (Binary Differ' (exp (exps m.exps)) (exp m.exps)) (exps (exps m.exps)) m
-act (suc (suc (suc (suc (suc (suc (suc (suc (suc (suc (suc (suc (suc (suc (suc (suc (suc (suc (suc (suc (suc (suc (suc (suc (suc (suc (suc (suc (suc (suc (suc (suc (suc zero))))))))))))))))))))))))))))))))) n xs m = with_stm (Set (first xs) Plus (exp m.exps)) (exps m.exps) m.blks m
-act (suc (suc (suc (suc (suc (suc (suc (suc (suc (suc (suc (suc (suc (suc (suc (suc (suc (suc (suc (suc (suc (suc (suc (suc (suc (suc (suc (suc (suc (suc (suc (suc (suc (suc zero)))))))))))))))))))))))))))))))))) n xs m = with_stm (Set (first xs) Minus (exp m.exps)) (exps m.exps) m.blks m
-act (suc (suc (suc (suc (suc (suc (suc (suc (suc (suc (suc (suc (suc (suc (suc (suc (suc (suc (suc (suc (suc (suc (suc (suc (suc (suc (suc (suc (suc (suc (suc (suc (suc (suc (suc zero))))))))))))))))))))))))))))))))))) n xs m = with_stm (Set (first xs) Flip (exp m.exps)) (exps m.exps) m.blks m
-act (suc (suc (suc (suc (suc (suc (suc (suc (suc (suc (suc (suc (suc (suc (suc (suc (suc (suc (suc (suc (suc (suc (suc (suc (suc (suc (suc (suc (suc (suc (suc (suc (suc (suc (suc (suc zero)))))))))))))))))))))))))))))))))))) n xs m = with_stm (SetAt (first xs) (exp (exps m.exps)) Plus (exp m.exps)) (exps (exps m.exps)) m.blks m
-act (suc (suc (suc (suc (suc (suc (suc (suc (suc (suc (suc (suc (suc (suc (suc (suc (suc (suc (suc (suc (suc (suc (suc (suc (suc (suc (suc (suc (suc (suc (suc (suc (suc (suc (suc (suc (suc zero))))))))))))))))))))))))))))))))))))) n xs m = with_stm (SetAt (first xs) (exp (exps m.exps)) Minus (exp m.exps)) (exps (exps m.exps)) m.blks m
-act (suc (suc (suc (suc (suc (suc (suc (suc (suc (suc (suc (suc (suc (suc (suc (suc (suc (suc (suc (suc (suc (suc (suc (suc (suc (suc (suc (suc (suc (suc (suc (suc (suc (suc (suc (suc (suc (suc k)))))))))))))))))))))))))))))))))))))) n xs m = with_stm (SetAt (first xs) (exp (exps m.exps)) Flip (exp m.exps)) (exps (exps m.exps)) m.blks m
+abbrev act : Token → Made → Made
+act t m = get_or actions t.0 (λ n xs made. made) t.1.0 t.1.1 m
 
 abbrev make : List Token → Made → Made
 make [] m = m
-make (t ∷ ts) m = make ts (act t.0 t.1.0 t.1.1 m)
+make (t ∷ ts) m = make ts (act t m)
+
+-- a token with this number, and a number and names
+abbrev token : ℕ → ℕ → List Name → Token
+token k n xs = (k, (pos n, xs))
 
 -- the tokens of a tree, and behind them others
 abbrev exp_tokens : Exp → List Token → List Token
 exp_tokens (Number n) ts = (0, (n, [])) ∷ ts
-exp_tokens (Var x) ts = (1, (pos 0, x ∷ [])) ∷ ts
-exp_tokens (Empty x) ts = (3, (pos 0, x ∷ [])) ∷ ts
-exp_tokens (Top x) ts = (4, (pos 0, x ∷ [])) ∷ ts
-exp_tokens (At a i) ts = exp_tokens i ((2, (pos 0, a ∷ [])) ∷ ts)
-exp_tokens (Negate e) ts = exp_tokens e ((5, (pos 0, [])) ∷ ts)
-exp_tokens (Binary Add' l r) ts = exp_tokens l (exp_tokens r ((19, (pos 0, [])) ∷ ts))
-exp_tokens (Binary Sub' l r) ts = exp_tokens l (exp_tokens r ((20, (pos 0, [])) ∷ ts))
-exp_tokens (Binary Mul' l r) ts = exp_tokens l (exp_tokens r ((21, (pos 0, [])) ∷ ts))
-exp_tokens (Binary Div' l r) ts = exp_tokens l (exp_tokens r ((22, (pos 0, [])) ∷ ts))
-exp_tokens (Binary Rem' l r) ts = exp_tokens l (exp_tokens r ((23, (pos 0, [])) ∷ ts))
-exp_tokens (Binary And' l r) ts = exp_tokens l (exp_tokens r ((24, (pos 0, [])) ∷ ts))
-exp_tokens (Binary Or' l r) ts = exp_tokens l (exp_tokens r ((25, (pos 0, [])) ∷ ts))
-exp_tokens (Binary Xor' l r) ts = exp_tokens l (exp_tokens r ((26, (pos 0, [])) ∷ ts))
-exp_tokens (Binary Less' l r) ts = exp_tokens l (exp_tokens r ((27, (pos 0, [])) ∷ ts))
-exp_tokens (Binary More' l r) ts = exp_tokens l (exp_tokens r ((28, (pos 0, [])) ∷ ts))
-exp_tokens (Binary AtMost' l r) ts = exp_tokens l (exp_tokens r ((29, (pos 0, [])) ∷ ts))
-exp_tokens (Binary AtLeast' l r) ts = exp_tokens l (exp_tokens r ((30, (pos 0, [])) ∷ ts))
-exp_tokens (Binary Same' l r) ts = exp_tokens l (exp_tokens r ((31, (pos 0, [])) ∷ ts))
-exp_tokens (Binary Differ' l r) ts = exp_tokens l (exp_tokens r ((32, (pos 0, [])) ∷ ts))
-exp_tokens (And l r) ts = exp_tokens l (exp_tokens r ((6, (pos 0, [])) ∷ ts))
-exp_tokens (Or l r) ts = exp_tokens l (exp_tokens r ((7, (pos 0, [])) ∷ ts))
+exp_tokens (Var x) ts = token 1 0 (x ∷ []) ∷ ts
+exp_tokens (At a i) ts = exp_tokens i (token 2 0 (a ∷ []) ∷ ts)
+exp_tokens (Empty x) ts = token 3 0 (x ∷ []) ∷ ts
+exp_tokens (Top x) ts = token 4 0 (x ∷ []) ∷ ts
+exp_tokens (Negate e) ts = exp_tokens e (token 5 0 [] ∷ ts)
+exp_tokens (Binary o l r) ts = exp_tokens l (exp_tokens r (token 6 (operator_number o) [] ∷ ts))
+exp_tokens (And l r) ts = exp_tokens l (exp_tokens r (token 7 0 [] ∷ ts))
+exp_tokens (Or l r) ts = exp_tokens l (exp_tokens r (token 8 0 [] ∷ ts))
 
 abbrev mutual
   stm_tokens : Stm → List Token → List Token
-  stm_tokens Skip ts = (8, (pos 0, [])) ∷ ts
-  stm_tokens (Set x Plus e) ts = exp_tokens e ((33, (pos 0, x ∷ [])) ∷ ts)
-  stm_tokens (Set x Minus e) ts = exp_tokens e ((34, (pos 0, x ∷ [])) ∷ ts)
-  stm_tokens (Set x Flip e) ts = exp_tokens e ((35, (pos 0, x ∷ [])) ∷ ts)
-  stm_tokens (SetAt a i Plus e) ts = exp_tokens i (exp_tokens e ((36, (pos 0, a ∷ [])) ∷ ts))
-  stm_tokens (SetAt a i Minus e) ts = exp_tokens i (exp_tokens e ((37, (pos 0, a ∷ [])) ∷ ts))
-  stm_tokens (SetAt a i Flip e) ts = exp_tokens i (exp_tokens e ((38, (pos 0, a ∷ [])) ∷ ts))
-  stm_tokens (Push x y) ts = (9, (pos 0, x ∷ y ∷ [])) ∷ ts
-  stm_tokens (Pop x y) ts = (10, (pos 0, x ∷ y ∷ [])) ∷ ts
-  stm_tokens (If a s t b) ts = exp_tokens a (blk_tokens s (blk_tokens t (exp_tokens b ((11, (pos 0, [])) ∷ ts))))
-  stm_tokens (From a s t b) ts = exp_tokens a (blk_tokens s (blk_tokens t (exp_tokens b ((12, (pos 0, [])) ∷ ts))))
-  stm_tokens (LocalInt x a s b) ts = exp_tokens a (blk_tokens s (exp_tokens b ((13, (pos 0, x ∷ [])) ∷ ts)))
-  stm_tokens (LocalStack x s) ts = blk_tokens s ((14, (pos 0, x ∷ [])) ∷ ts)
-  stm_tokens (Call f xs) ts = (15, (pos 0, f ∷ xs)) ∷ ts
-  stm_tokens (Uncall f xs) ts = (16, (pos 0, f ∷ xs)) ∷ ts
+  stm_tokens Skip ts = token 9 0 [] ∷ ts
+  stm_tokens (Set x o e) ts = exp_tokens e (token 10 (update_number o) (x ∷ []) ∷ ts)
+  stm_tokens (SetAt a i o e) ts = exp_tokens i (exp_tokens e (token 11 (update_number o) (a ∷ []) ∷ ts))
+  stm_tokens (Push x y) ts = token 12 0 (x ∷ y ∷ []) ∷ ts
+  stm_tokens (Pop x y) ts = token 13 0 (x ∷ y ∷ []) ∷ ts
+  stm_tokens (If a s t b) ts = exp_tokens a (blk_tokens s (blk_tokens t (exp_tokens b (token 14 0 [] ∷ ts))))
+  stm_tokens (From a s t b) ts = exp_tokens a (blk_tokens s (blk_tokens t (exp_tokens b (token 15 0 [] ∷ ts))))
+  stm_tokens (LocalInt x a s b) ts = exp_tokens a (blk_tokens s (exp_tokens b (token 16 0 (x ∷ []) ∷ ts)))
+  stm_tokens (LocalStack x s) ts = blk_tokens s (token 17 0 (x ∷ []) ∷ ts)
+  stm_tokens (Call f xs) ts = token 18 0 (f ∷ xs) ∷ ts
+  stm_tokens (Uncall f xs) ts = token 19 0 (f ∷ xs) ∷ ts
 
   blk_tokens : Blk → List Token → List Token
-  blk_tokens Nil ts = (17, (pos 0, [])) ∷ ts
-  blk_tokens (Cons c b) ts = stm_tokens c (blk_tokens b ((18, (pos 0, [])) ∷ ts))
+  blk_tokens Nil ts = token 20 0 [] ∷ ts
+  blk_tokens (Cons c b) ts = stm_tokens c (blk_tokens b (token 21 0 [] ∷ ts))
 
 made_exp : (e : Exp) (ts : List Token) (es : List Exp) (cs : List Stm) (bs : List Blk) →
     make (exp_tokens e ts) (record { exps = es; stms = cs; blks = bs }) ≡ make ts (record { exps = e ∷ es; stms = cs; blks = bs })
 made_exp (Number n) ts es cs bs = refl
 made_exp (Var x) ts es cs bs = refl
+made_exp (At a i) ts es cs bs = made_exp i _ es cs bs
 made_exp (Empty x) ts es cs bs = refl
 made_exp (Top x) ts es cs bs = refl
-made_exp (At a i) ts es cs bs = made_exp i _ es cs bs
 made_exp (Negate e) ts es cs bs = made_exp e _ es cs bs
-made_exp (Binary Add' l r) ts es cs bs = made_exp l _ es cs bs ∙ made_exp r _ (l ∷ es) cs bs
-made_exp (Binary Sub' l r) ts es cs bs = made_exp l _ es cs bs ∙ made_exp r _ (l ∷ es) cs bs
-made_exp (Binary Mul' l r) ts es cs bs = made_exp l _ es cs bs ∙ made_exp r _ (l ∷ es) cs bs
-made_exp (Binary Div' l r) ts es cs bs = made_exp l _ es cs bs ∙ made_exp r _ (l ∷ es) cs bs
-made_exp (Binary Rem' l r) ts es cs bs = made_exp l _ es cs bs ∙ made_exp r _ (l ∷ es) cs bs
-made_exp (Binary And' l r) ts es cs bs = made_exp l _ es cs bs ∙ made_exp r _ (l ∷ es) cs bs
-made_exp (Binary Or' l r) ts es cs bs = made_exp l _ es cs bs ∙ made_exp r _ (l ∷ es) cs bs
-made_exp (Binary Xor' l r) ts es cs bs = made_exp l _ es cs bs ∙ made_exp r _ (l ∷ es) cs bs
-made_exp (Binary Less' l r) ts es cs bs = made_exp l _ es cs bs ∙ made_exp r _ (l ∷ es) cs bs
-made_exp (Binary More' l r) ts es cs bs = made_exp l _ es cs bs ∙ made_exp r _ (l ∷ es) cs bs
-made_exp (Binary AtMost' l r) ts es cs bs = made_exp l _ es cs bs ∙ made_exp r _ (l ∷ es) cs bs
-made_exp (Binary AtLeast' l r) ts es cs bs = made_exp l _ es cs bs ∙ made_exp r _ (l ∷ es) cs bs
-made_exp (Binary Same' l r) ts es cs bs = made_exp l _ es cs bs ∙ made_exp r _ (l ∷ es) cs bs
-made_exp (Binary Differ' l r) ts es cs bs = made_exp l _ es cs bs ∙ made_exp r _ (l ∷ es) cs bs
+made_exp (Binary o l r) ts es cs bs =
+    made_exp l _ es cs bs ∙ made_exp r _ (l ∷ es) cs bs
+    ∙ ap (λ (p : Operator). make ts (record { exps = Binary p l r ∷ es; stms = cs; blks = bs })) (operator_back o)
 made_exp (And l r) ts es cs bs = made_exp l _ es cs bs ∙ made_exp r _ (l ∷ es) cs bs
 made_exp (Or l r) ts es cs bs = made_exp l _ es cs bs ∙ made_exp r _ (l ∷ es) cs bs
 
@@ -215,17 +249,22 @@ mutual
   made_stm : (c : Stm) (ts : List Token) (es : List Exp) (cs : List Stm) (bs : List Blk) →
       make (stm_tokens c ts) (record { exps = es; stms = cs; blks = bs }) ≡ make ts (record { exps = es; stms = c ∷ cs; blks = bs })
   made_stm Skip ts es cs bs = refl
-  made_stm (Set x Plus e) ts es cs bs = made_exp e _ es cs bs
-  made_stm (Set x Minus e) ts es cs bs = made_exp e _ es cs bs
-  made_stm (Set x Flip e) ts es cs bs = made_exp e _ es cs bs
-  made_stm (SetAt a i Plus e) ts es cs bs = made_exp i _ es cs bs ∙ made_exp e _ (i ∷ es) cs bs
-  made_stm (SetAt a i Minus e) ts es cs bs = made_exp i _ es cs bs ∙ made_exp e _ (i ∷ es) cs bs
-  made_stm (SetAt a i Flip e) ts es cs bs = made_exp i _ es cs bs ∙ made_exp e _ (i ∷ es) cs bs
+  made_stm (Set x o e) ts es cs bs =
+      made_exp e _ es cs bs
+      ∙ ap (λ (p : Update). make ts (record { exps = es; stms = Set x p e ∷ cs; blks = bs })) (update_back o)
+  made_stm (SetAt a i o e) ts es cs bs =
+      made_exp i _ es cs bs ∙ made_exp e _ (i ∷ es) cs bs
+      ∙ ap (λ (p : Update). make ts (record { exps = es; stms = SetAt a i p e ∷ cs; blks = bs })) (update_back o)
   made_stm (Push x y) ts es cs bs = refl
   made_stm (Pop x y) ts es cs bs = refl
-  made_stm (If a s t b) ts es cs bs = made_exp a _ es cs bs ∙ made_blk s _ (a ∷ es) cs bs ∙ made_blk t _ (a ∷ es) cs (s ∷ bs) ∙ made_exp b _ (a ∷ es) cs (t ∷ s ∷ bs)
-  made_stm (From a s t b) ts es cs bs = made_exp a _ es cs bs ∙ made_blk s _ (a ∷ es) cs bs ∙ made_blk t _ (a ∷ es) cs (s ∷ bs) ∙ made_exp b _ (a ∷ es) cs (t ∷ s ∷ bs)
-  made_stm (LocalInt x a s b) ts es cs bs = made_exp a _ es cs bs ∙ made_blk s _ (a ∷ es) cs bs ∙ made_exp b _ (a ∷ es) cs (s ∷ bs)
+  made_stm (If a s t b) ts es cs bs =
+      made_exp a _ es cs bs ∙ made_blk s _ (a ∷ es) cs bs ∙ made_blk t _ (a ∷ es) cs (s ∷ bs)
+      ∙ made_exp b _ (a ∷ es) cs (t ∷ s ∷ bs)
+  made_stm (From a s t b) ts es cs bs =
+      made_exp a _ es cs bs ∙ made_blk s _ (a ∷ es) cs bs ∙ made_blk t _ (a ∷ es) cs (s ∷ bs)
+      ∙ made_exp b _ (a ∷ es) cs (t ∷ s ∷ bs)
+  made_stm (LocalInt x a s b) ts es cs bs =
+      made_exp a _ es cs bs ∙ made_blk s _ (a ∷ es) cs bs ∙ made_exp b _ (a ∷ es) cs (s ∷ bs)
   made_stm (LocalStack x s) ts es cs bs = made_blk s _ es cs bs
   made_stm (Call f xs) ts es cs bs = refl
   made_stm (Uncall f xs) ts es cs bs = refl
@@ -290,10 +329,7 @@ val_parts (Stk l) = (2, (pos 0, l))
 val_parts Lent = (3, (pos 0, []))
 
 abbrev val_of_parts : ℕ → ℤ → List ℤ → Val
-val_of_parts zero n l = Num n
-val_of_parts (suc zero) n l = Arr l
-val_of_parts (suc (suc zero)) n l = Stk l
-val_of_parts (suc (suc (suc k))) n l = Lent
+val_of_parts k n l = get_or (Num n ∷ Arr l ∷ Stk l ∷ Lent ∷ []) k Lent
 
 abbrev slots_list : Store → List (Name × (ℕ × (ℤ × List ℤ)))
 slots_list Bare = []

@@ -27,13 +27,13 @@ exp_of (exps.Number n at) = tree.Number (pos n)
 exp_of (exps.Variable x) = tree.Var (name_of x)
 exp_of (exps.Binary' op p l q r) = tree.Binary (operator_of op) (exp_of l) (exp_of r)
 
-abbrev pub sign_of : Update → word.Sign
-sign_of updates.Add = word.Plus
-sign_of updates.Subtract = word.Minus
-sign_of updates.Xor = word.Flip
+abbrev pub update_of : Update → word.Update
+update_of updates.Add = word.Plus
+update_of updates.Subtract = word.Minus
+update_of updates.Xor = word.Flip
 
 abbrev pub stm_of : Stm → tree.Stm
-stm_of (stms.Assign x u e) = tree.Set (name_of x) (sign_of u) (exp_of e)
+stm_of (stms.Assign x u e) = tree.Set (name_of x) (update_of u) (exp_of e)
 
 -- the block of a slice or a Vec
 abbrev pub block_of : List Stm → tree.Blk

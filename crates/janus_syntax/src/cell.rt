@@ -14,7 +14,7 @@ use crate::tree::{Cell, Declaration, Name};
 use std::alloc::Global;
 
 /// The cell that the tokens spell.
-pub fn parse(alloc: Global, tokens: &[Token]) -> Result<Cell, Problem>
+pub(crate) fn parse(alloc: Global, tokens: &[Token]) -> Result<Cell, Problem>
     // What is read is the tokens' tree, and a refusal is the one that the grammar has.
     ensures read { Reads (λ cell. IsTree (cell_view cell) (views tokens.now)) (IsRefused (views tokens.now)) result }
 

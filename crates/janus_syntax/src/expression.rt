@@ -14,10 +14,10 @@ use crate::tree::{Exp, Name, Operator};
 use std::alloc::Global;
 
 /// The level of the operators that bind weakest.
-pub const WEAKEST: u8 = 8;
+pub(crate) const WEAKEST: u8 = 8;
 
 /// How many operators one whole expression has at most.
-pub const OPERATOR_LIMIT: usize = 256;
+pub(crate) const OPERATOR_LIMIT: usize = 256;
 
 /// The operator of this level that the tokens begin with, and the tokens behind it.
 fn operator_at(tokens: &[Token], level: u8) -> Option<(Operator, &[Token])>
@@ -83,7 +83,7 @@ fn operand(tokens: &[Token]) -> Result<(Exp, &[Token]), Problem>
 
 /// The longest expression at the front whose operators have at most this level. `used` operators of its whole expression
 /// stand before it. Gives the expression, how many operators the whole expression has behind it, and the tokens behind it.
-pub fn expression(
+pub(crate) fn expression(
     alloc: Global,
     tokens: &[Token],
     level: u8,

@@ -7,7 +7,7 @@ use crate::fault::What;
 use std::alloc::{AllocError, AllocFailed};
 
 #[derive(Drop)]
-pub enum Problem {
+pub(crate) enum Problem {
     Memory,
     /// The reading cannot go on in front of the last `left` tokens.
     Expected { what: What, left: usize },

@@ -67,7 +67,7 @@ fn statement(alloc: Global, tokens: &[Token]) -> Result<Option<(Stm, &[Token])>,
 }
 
 /// All statements that stand here, and the tokens behind them.
-pub fn statements(alloc: Global, tokens: &[Token]) -> Result<(Vec<Stm>, &[Token]), Problem>
+pub(crate) fn statements(alloc: Global, tokens: &[Token]) -> Result<(Vec<Stm>, &[Token]), Problem>
     ensures { Reads (λ x. AreAllStatements (block_view x.0.items) (views tokens.now) (views x.1.now)) (FailsStatements (views tokens.now)) result }
 {
     let mut statements = Vec::new(alloc);

@@ -1,5 +1,6 @@
 pub mod CommandLemmas
 pub mod TableLemmas
+pub mod TidyLemmas
 pub mod FrameLemmas
 pub mod ReadingLemmas
 pub mod RefusalLemmas

@@ -1,5 +1,5 @@
 -- How a peer stands behind one more piece.
-use Rattle.std.proofs.Common.{◌≡◌, ℕ, ◌<◌, ◌≤◌, List, [], ◌∷◌, ◌++◌, length, take, drop, refl, ap, sym, subst, ◌∙◌, arith, append_assoc, append-nil, length-append, inl, inr, ◌⊎◌}
+use Rattle.std.proofs.Common.{◌≡◌, ℕ, ◌<◌, ◌≤◌, List, [], ◌∷◌, ◌++◌, length, take, drop, refl, ap, sym, subst, ◌∙◌, arith, append_assoc, append-nil, length-append, inl, inr, ◌⊎◌, ⊎_elim}
 use Rattle.std.proofs.Math.Seq.{take-append_seam, drop-append_seam}
 use Rattle.zmtp_wire.specs.declared.fault.WireFault.{WireFault}
 use Rattle.zmtp_wire.specs.declared.fault.WireFault.TheVariants.{BadSignature, OldVersion, BadMechanism, ReservedBits, CommandWithMore, TooLong, Memory}
@@ -48,17 +48,20 @@ reached b new rest (inl (partial, same, not)) going = same
 reached b new rest (inr (inl (same, is))) going = same
 reached b new rest (inr (inr (fault, is, not, same))) going = absurd (going (subst IsRefusal (sym same) tt))
 
+open-not-opening : (held : List (List ℕ)) → Open held ≡ Opening → ⊥
+open-not-opening held h = cc
+
 -- what is left where more is awaited
 pub at-make : (role : Role) (octets : List ℕ) (given : List Event) (greeting : List ℕ) (state : State) (rest : Rest)
     → (¬ (IsRefusal state) → IsGreetingBegun octets given greeting state rest ⊎ IsStreaming role octets given greeting state rest) → IsAt role octets given greeting state rest
 at-make role octets given greeting Opening rest h = h (λ k. k)
-at-make role octets given greeting (Open held) rest h = h (λ k. k)
+at-make role octets given greeting (Open held) rest h = ⊎_elim (λ begun. absurd (open-not-opening held begun.opening)) (λ streaming. streaming) (h (λ k. k))
 at-make role octets given greeting (Refused fault) rest h = tt
 
 pub at-parts : (role : Role) (octets : List ℕ) (given : List Event) (greeting : List ℕ) (state : State) (rest : Rest)
     → ¬ (IsRefusal state) → IsAt role octets given greeting state rest → IsGreetingBegun octets given greeting state rest ⊎ IsStreaming role octets given greeting state rest
 at-parts role octets given greeting Opening rest going h = h
-at-parts role octets given greeting (Open held) rest going h = h
+at-parts role octets given greeting (Open held) rest going h = inr h
 at-parts role octets given greeting (Refused fault) rest going h = absurd (going tt)
 
 -- one more piece of a stream, behind a greeting and frames

@@ -64,6 +64,7 @@ pub record Standing : Type 0 where
   pub rest : Rest
   pub table : List (List ℕ × ℕ)
 
+-- what such a standing awaits
 abbrev pub ending_of : State → Ending
 ending_of Opening = Awaiting
 ending_of (Open held) = Awaiting
@@ -93,7 +94,7 @@ pub record IsStreaming (role : Role) (octets : List ℕ) (given : List Event) (g
 abbrev pub IsAt : Role → List ℕ → List Event → List ℕ → State → Rest → Type 0
 IsAt role octets given greeting (Refused fault) rest = Unit {0}
 IsAt role octets given greeting Opening rest = IsGreetingBegun octets given greeting Opening rest ⊎ IsStreaming role octets given greeting Opening rest
-IsAt role octets given greeting (Open held) rest = IsGreetingBegun octets given greeting (Open held) rest ⊎ IsStreaming role octets given greeting (Open held) rest
+IsAt role octets given greeting (Open held) rest = IsStreaming role octets given greeting (Open held) rest
 
 -- A peer that was fed these octets in all, and gave these events, stands so: the events are all that the octets tell.
 pub record Stands (octets : List ℕ) (given : List Event) (s : Standing) : Type 0 where

@@ -1,8 +1,13 @@
 -- The subscriptions of a peer: how often it has subscribed to each prefix, less how often it took that back.
-use Rattle.std.specs.Prelude.{◌≡◌, ℕ, ◌+◌, ◌-◌, ◌<◌, List, [], ◌∷◌, ◌++◌, Option, unwrap_or, is_some, true, ◌^◌, if◌then◌else◌}
+use Rattle.std.specs.Prelude.{◌≡◌, ℕ, ◌+◌, ◌-◌, ◌<◌, ◌⊎◌, List, [], ◌∷◌, ◌++◌, Option, Some, unwrap_or, is_some, Bool, true, false, ◌^◌, if◌then◌else◌}
+use Rattle.std.specs.List.{list_any}
 use Rattle.std.specs.Map.{lookup}
 use Rattle.std.specs.Str.{bytes_eq}
-use Rattle.zmtp_peer.specs.Events.{Event, Ready, Message, Subscribe, Cancel}
+use Rattle.std.specs.declared.alloc.Global.{Global}
+use Rattle.std.specs.declared.vec.Vec.{Vec}
+use Rattle.zmtp_peer.specs.declared.event.PeerEvent.{PeerEvent}
+use Rattle.zmtp_peer.specs.declared.role.Role.{Role}
+use Rattle.zmtp_peer.specs.Events.{Event, Ready, Message, Subscribe, Cancel, bodies, event_of, message_told}
 
 -- how often a prefix is subscribed to behind an event, where it was n times before
 abbrev pub counted : List ℕ → ℕ → Event → ℕ
@@ -47,3 +52,46 @@ IsRoomFor n table (Message frames) = Unit {0}
 abbrev pub HasRoom : ℕ → List (List ℕ × ℕ) → List Event → Type 0
 HasRoom n table [] = Unit {0}
 HasRoom n table (e ∷ es) = IsRoomFor n table e × HasRoom n table es
+
+-- ---- places at which nothing is counted
+
+abbrev pub IsIdle : List (List ℕ × ℕ) → List ℕ → Type 0
+IsIdle table prefix = place_of table prefix ≡ Some 0
+
+-- there are none, so the table has a place for each subscription and no more
+abbrev pub IsTidy : List (List ℕ × ℕ) → Type 0
+IsTidy table = (prefix : List ℕ) → ¬ (IsIdle table prefix)
+
+-- new ones are those of these prefixes alone
+abbrev pub AddsIdle : (List ℕ → Bool) → List (List ℕ × ℕ) → List (List ℕ × ℕ) → Type 0
+AddsIdle among old new = (prefix : List ℕ) → IsIdle new prefix → IsIdle old prefix ⊎ (among prefix ≡ true)
+
+-- there are no new ones, and those of these prefixes are given up
+abbrev pub DropsIdle : (List ℕ → Bool) → List (List ℕ × ℕ) → List (List ℕ × ℕ) → Type 0
+DropsIdle among old new = (prefix : List ℕ) → IsIdle new prefix → IsIdle old prefix × (among prefix ≡ false)
+
+-- an event subscribes to a prefix
+abbrev pub subscribes : List ℕ → Event → Bool
+subscribes prefix (Subscribe p) = bytes_eq prefix p
+subscribes prefix (Cancel p) = false
+subscribes prefix Ready = false
+subscribes prefix (Message frames) = false
+
+-- an event subscribes to a prefix, or takes that back
+abbrev pub names : List ℕ → Event → Bool
+names prefix (Subscribe p) = bytes_eq prefix p
+names prefix (Cancel p) = bytes_eq prefix p
+names prefix Ready = false
+names prefix (Message frames) = false
+
+-- one of the events does
+abbrev pub is_named : List PeerEvent → List ℕ → Bool
+is_named events prefix = list_any (λ event. names prefix (event_of event)) events
+
+-- a message subscribes to a prefix
+abbrev pub asks : Role → List (Vec ℕ Global) → List ℕ → Bool
+asks role message prefix = list_any (subscribes prefix) (message_told role (bodies message))
+
+-- one of the messages does
+abbrev pub is_asked : Role → List (Vec (Vec ℕ Global) Global) → List ℕ → Bool
+is_asked role messages prefix = list_any (λ message. asks role message.items prefix) messages

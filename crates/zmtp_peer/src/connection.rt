@@ -1,12 +1,12 @@
 //! The stream behind the greeting. A piece of it is read whole, or not at all where memory runs out.
-ghost use Rattle.std.specs.Prelude.{◌≡◌, ℕ, ◌+◌, ◌≤◌, List, [], OnOk, OnErr, IfOk, vec_len, vec_capacity, length, map};
+ghost use Rattle.std.specs.Prelude.{◌≡◌, ℕ, ◌+◌, ◌≤◌, List, [], OnOk, OnErr, IfOk, vec_len, vec_capacity, length, map, true};
 ghost use Rattle.std.specs.List.{flat_map};
 ghost use Rattle.zmtp_wire.specs.Decoding.{fed};
 ghost use Rattle.zmtp_peer.specs.Events.{bodies, events_of, message_told};
-ghost use Rattle.zmtp_peer.specs.Subscriptions.{count_in, counted_all, HasRoom};
+ghost use Rattle.zmtp_peer.specs.Subscriptions.{count_in, counted_all, HasRoom, AddsIdle, IsIdle, IsTidy, is_asked};
 ghost use Rattle.zmtp_peer.specs.Table.{table_of};
 ghost use Rattle.zmtp_peer.specs.Intake.{front_of, told_by, Keeps, IsFresh, TakesFrames};
-ghost use Rattle.zmtp_peer.specs.Connection.{ReadsPiece, IsUnread, IsConnection, state_in};
+ghost use Rattle.zmtp_peer.specs.Connection.{ReadsPiece, IsUnread, IsConnection, IsOpeningEmpty, state_in};
 
 use crate::event::PeerEvent;
 use crate::intake::{Intake, Stage, take_frames};
@@ -27,7 +27,7 @@ pub(crate) struct Connection {
     pub(crate) held: Vec<Vec<u8>>,
     /// What came and isn't a whole frame yet.
     pub(crate) decoder: Decoder,
-    /// How often the peer has subscribed to each prefix.
+    /// How often the peer has subscribed to each prefix. One to which it no longer does has no place.
     pub(crate) counts: BTreeMap<Vec<u8>, u64>,
 }
 
@@ -49,6 +49,7 @@ fn gather(
         (flat_map (message_told role) (map (λ message. bodies message.items) intake.new.whole.items))) }
     ensures same { (q : List ℕ) → count_in (table_of counts.new.entries) q
         ≡ count_in (table_of counts.old.entries) q }
+    ensures idle { AddsIdle (is_asked role intake.new.whole.items) (table_of counts.old.entries) (table_of counts.new.entries) }
     ensures before { decoder.new.before ≡ decoder.old.rest }
     ensures kept { Keeps (front_of intake.old) (front_of intake.new) }
     ensures fresh { IsFresh intake.new }
@@ -82,7 +83,8 @@ impl Connection {
         ensures unread { OnErr result (IsUnread self.old self.new) }
         ensures uncounted { OnErr result ((q : List ℕ) → count_in (table_of self.new.counts.entries) q
             ≡ count_in (table_of self.old.counts.entries) q) }
-        ensures connection { IsConnection self.new }
+        ensures opening { IsOpeningEmpty self.new.stage (bodies self.new.held.items) }
+        ensures tidy { IsTidy (table_of self.new.counts.entries) }
     {
         let kept = self.held.len();
         let mut intake = Intake {
@@ -122,10 +124,12 @@ impl Connection {
         requires space { vec_len intake.whole + 1 ≤ vec_capacity room }
         requires room { HasRoom (vec_len intake.whole + 1) (table_of self.old.counts.entries)
             (flat_map (message_told role) (map (λ message. bodies message.items) intake.whole.items)) }
+        requires idle { (q : List ℕ) → IsIdle (table_of self.old.counts.entries) q → is_asked role intake.whole.items q ≡ true }
         ensures told { events_of result.items ≡ told_by role intake }
         ensures state { self.new.stage ≡ intake.stage }
         ensures held { self.new.held ≡ intake.held }
         ensures decoder { self.new.decoder ≡ self.old.decoder }
+        ensures tidy { IsTidy (table_of self.new.counts.entries) }
         ensures counted { (q : List ℕ) → count_in (table_of self.new.counts.entries) q
             ≡ counted_all q (count_in (table_of self.old.counts.entries) q) (events_of result.items) }
     {

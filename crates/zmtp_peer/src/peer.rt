@@ -27,7 +27,7 @@ pub struct Peer {
     alloc: Global,
     role: Role,
     /// The octets of the greeting, and how many of them came.
-    greeting: [u8; 64],
+    greeting: [u8; GREETING_LENGTH],
     greeted: usize,
     connection: Connection,
 }
@@ -76,14 +76,15 @@ impl Peer {
     ///
     /// # Errors
     /// Want of memory alone.
-    pub fn opening(&self, alloc: Global) -> Result<Vec<u8>, AllocError>
+    pub fn opening(&self) -> Result<Vec<u8>, AllocError>
         ensures { IfOk result (λ octets. octets.items ≡ opening_of self.now.role) }
     {
-        opening_octets(alloc, self.role)
+        opening_octets(self.alloc, self.role)
     }
 
     /// Whether the peer has subscribed to a topic: a prefix to which it subscribes, and has not taken that back as often,
-    /// stands at its front. It takes no memory, and as many look-ups as the topic has octets.
+    /// stands at its front. It takes no memory, and one look-up for each beginning
+    /// of the topic.
     pub fn wants(&self, topic: &[u8]) -> bool
         ensures { (fed : List ℕ) → (given : List Event) → Stands fed given self.now →
             (IsTrue result ↔ IsWanted given topic.now) }

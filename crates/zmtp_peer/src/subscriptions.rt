@@ -5,7 +5,7 @@ ghost use Rattle.std.specs.Option.{option_or};
 ghost use Rattle.std.specs.Map.{set_value};
 ghost use Rattle.std.specs.Str.{bytes_eq};
 ghost use Rattle.zmtp_peer.specs.Events.{Subscribe, event_of, events_of, bodies, message_told, told_to_publisher};
-ghost use Rattle.zmtp_peer.specs.Subscriptions.{place_of, count_in, counted, counted_all, HasWanted, IsRoomFor, HasRoom};
+ghost use Rattle.zmtp_peer.specs.Subscriptions.{place_of, count_in, counted, counted_all, HasWanted, IsRoomFor, HasRoom, AddsIdle, DropsIdle, names, is_named, asks, is_asked};
 ghost use Rattle.zmtp_peer.specs.Table.{table_of, is_key};
 
 use crate::event::PeerEvent;
@@ -52,7 +52,8 @@ fn add_place(
 
 /// Gives the place of a prefix up where its count is 0.
 fn drop_place(counts: &mut BTreeMap<Vec<u8>, u64>, prefix: &[u8])
-    ensures { (q : List ℕ) → count_in (table_of counts.new.entries) q ≡ count_in (table_of counts.old.entries) q }
+    ensures same { (q : List ℕ) → count_in (table_of counts.new.entries) q ≡ count_in (table_of counts.old.entries) q }
+    ensures idle { DropsIdle (λ q. bytes_eq q prefix.now) (table_of counts.old.entries) (table_of counts.new.entries) }
 {
     if count_of(counts, prefix) == 0 {
         counts.remove(prefix);
@@ -66,6 +67,7 @@ fn count_event(counts: &mut BTreeMap<Vec<u8>, u64>, event: &PeerEvent)
         ≡ counted q (count_in (table_of counts.old.entries) q) (event_of event.now) }
     ensures places { (q : List ℕ) → is_some (place_of (table_of counts.new.entries) q)
         ≡ is_some (place_of (table_of counts.old.entries) q) }
+    ensures idle { AddsIdle (λ q. names q (event_of event.now)) (table_of counts.old.entries) (table_of counts.new.entries) }
 {
     match event {
         PeerEvent::Subscribe(prefix) => {
@@ -86,25 +88,35 @@ fn count_event(counts: &mut BTreeMap<Vec<u8>, u64>, event: &PeerEvent)
 /// Counts what events change, in their order.
 pub(crate) fn count_events(counts: &mut BTreeMap<Vec<u8>, u64>, events: &[PeerEvent])
     requires { HasRoom (length events.now) (table_of counts.old.entries) (events_of events.now) }
-    ensures { (q : List ℕ) → count_in (table_of counts.new.entries) q
+    ensures counted { (q : List ℕ) → count_in (table_of counts.new.entries) q
         ≡ counted_all q (count_in (table_of counts.old.entries) q) (events_of events.now) }
+    ensures idle { AddsIdle (is_named events.now) (table_of counts.old.entries) (table_of counts.new.entries) }
 {
     for event in events {
         count_event(counts, event);
     }
 }
 
+/// Gives up the place of the prefix that an event names, where it is no longer counted.
+fn drop_named(counts: &mut BTreeMap<Vec<u8>, u64>, event: &PeerEvent)
+    ensures same { (q : List ℕ) → count_in (table_of counts.new.entries) q ≡ count_in (table_of counts.old.entries) q }
+    ensures idle { DropsIdle (λ q. names q (event_of event.now)) (table_of counts.old.entries) (table_of counts.new.entries) }
+{
+    match event {
+        PeerEvent::Subscribe(prefix) => drop_place(counts, prefix.as_slice()),
+        PeerEvent::Cancel(prefix) => drop_place(counts, prefix.as_slice()),
+        PeerEvent::Ready => {}
+        PeerEvent::Message(_) => {}
+    }
+}
+
 /// Gives up the places of prefixes that are no longer counted, among those that the events name.
 pub(crate) fn drop_places(counts: &mut BTreeMap<Vec<u8>, u64>, events: &[PeerEvent])
-    ensures { (q : List ℕ) → count_in (table_of counts.new.entries) q ≡ count_in (table_of counts.old.entries) q }
+    ensures same { (q : List ℕ) → count_in (table_of counts.new.entries) q ≡ count_in (table_of counts.old.entries) q }
+    ensures idle { DropsIdle (is_named events.now) (table_of counts.old.entries) (table_of counts.new.entries) }
 {
     for event in events {
-        match event {
-            PeerEvent::Subscribe(prefix) => drop_place(counts, prefix),
-            PeerEvent::Cancel(prefix) => drop_place(counts, prefix),
-            PeerEvent::Ready => {}
-            PeerEvent::Message(_) => {}
-        }
+        drop_named(counts, event);
     }
 }
 
@@ -161,6 +173,7 @@ fn reserve_message(
         ≡ count_in (table_of counts.old.entries) q }
     ensures places { (q : List ℕ) → is_some (place_of (table_of counts.old.entries) q) ≡ true
         → is_some (place_of (table_of counts.new.entries) q) ≡ true }
+    ensures idle { AddsIdle (asks role message.now) (table_of counts.old.entries) (table_of counts.new.entries) }
     ensures room { OnOk result (HasRoom more (table_of counts.new.entries) (message_told role (bodies message.now))) }
 {
     let Some(prefix) = subscribed(role, message) else {
@@ -187,6 +200,7 @@ pub(crate) fn reserve(
 ) -> Result<(), AllocError>
     ensures same { (q : List ℕ) → count_in (table_of counts.new.entries) q
         ≡ count_in (table_of counts.old.entries) q }
+    ensures idle { AddsIdle (is_asked role messages.now) (table_of counts.old.entries) (table_of counts.new.entries) }
     ensures room { OnOk result (HasRoom more (table_of counts.new.entries)
         (flat_map (message_told role) (map (λ message. bodies message.items) messages.now))) }
 {
@@ -196,13 +210,22 @@ pub(crate) fn reserve(
     Ok(())
 }
 
+/// Gives up the place that was made for a message, where nothing is counted there.
+fn release_message(counts: &mut BTreeMap<Vec<u8>, u64>, role: Role, message: &[Vec<u8>])
+    ensures same { (q : List ℕ) → count_in (table_of counts.new.entries) q ≡ count_in (table_of counts.old.entries) q }
+    ensures idle { DropsIdle (asks role message.now) (table_of counts.old.entries) (table_of counts.new.entries) }
+{
+    if let Some(prefix) = subscribed(role, message) {
+        drop_place(counts, prefix);
+    }
+}
+
 /// Gives up the places that were made for messages, where nothing is counted there.
 pub(crate) fn release(counts: &mut BTreeMap<Vec<u8>, u64>, role: Role, messages: &[Vec<Vec<u8>>])
-    ensures { (q : List ℕ) → count_in (table_of counts.new.entries) q ≡ count_in (table_of counts.old.entries) q }
+    ensures same { (q : List ℕ) → count_in (table_of counts.new.entries) q ≡ count_in (table_of counts.old.entries) q }
+    ensures idle { DropsIdle (is_asked role messages.now) (table_of counts.old.entries) (table_of counts.new.entries) }
 {
     for message in messages {
-        if let Some(prefix) = subscribed(role, message) {
-            drop_place(counts, prefix);
-        }
+        release_message(counts, role, message);
     }
 }

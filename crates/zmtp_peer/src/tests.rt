@@ -467,7 +467,7 @@ fn tells_rows_whatever_the_cut(rt: HostRuntime) -> Result<(), Fail> {
 #[test]
 fn opens(rt: HostRuntime) -> Result<(), Fail> {
     let alloc = rt.alloc();
-    let opening = Peer::new(alloc, Role::Router).opening(alloc)?;
+    let opening = Peer::new(alloc, Role::Router).opening()?;
     assert_eq!(rt; opening.get(..64), Some(GREETING.as_slice()));
     let ready: &[u8] = b"\x04\x1C\x05READY\x0BSocket-Type\0\0\0\x06ROUTER";
     assert_eq!(rt; opening.get(64..), Some(ready));

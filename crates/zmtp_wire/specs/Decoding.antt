@@ -1,5 +1,5 @@
 -- What a decoder is seen as, and what it means that it was fed octets and gave frames.
-use Rattle.std.specs.Prelude.{ℕ, List, [], ◌∷◌, ◌++◌, Option, Some, None, Result, Ok, Err}
+use Rattle.std.specs.Prelude.{◌≡◌, ◌<◌, ◌+◌, ◌⊎◌, ℕ, List, [], ◌∷◌, ◌++◌, Option, Some, None, Result, Ok, Err}
 use Rattle.zmtp_wire.specs.declared.fault.WireFault.{WireFault}
 use Rattle.zmtp_wire.specs.declared.fault.WireFault.TheVariants.{Memory}
 use Rattle.zmtp_wire.specs.declared.frame.Frame as code
@@ -10,6 +10,10 @@ use Rattle.zmtp_wire.specs.Stream.{Rest, whole, Leaves, Open, Faulty, Reads}
 pub record Decoding : Type 0 where
   pub rest : Rest
   pub before : Rest
+
+-- of so many octets that are kept nothing was given yet, or less than half
+abbrev pub IsMostlyLeft : ℕ → ℕ → Type 0
+IsMostlyLeft given kept = (given ≡ 0) ⊎ (given + given < kept)
 
 -- a decoder that was fed nothing
 abbrev pub new_decoding : Decoding

@@ -38,7 +38,7 @@ pub struct Decoder {
 
 impl Model for Decoder {
     ghost use Rattle.std.specs.Prelude.{◌≤◌, drop, take, vec_len};
-    ghost use Rattle.zmtp_wire.specs.Decoding.{Decoding};
+    ghost use Rattle.zmtp_wire.specs.Decoding.{Decoding, IsMostlyLeft};
 
     ghost Value = { Decoding };
 
@@ -47,7 +47,11 @@ impl Model for Decoder {
       before = record { octets = drop d.position_before.at (take d.length_before d.buffer.items); tally = d.position_before.tally };
     } };
 
-    ghost invariant = { λ d. (d.position.at ≤ vec_len d.buffer) × (d.position_before.at ≤ d.length_before) × (d.length_before ≤ vec_len d.buffer) };
+    // Of what was kept when the last piece came, less than half was given, or nothing.
+    ghost invariant = { λ d. (d.position.at ≤ vec_len d.buffer)
+        × (d.position_before.at ≤ d.length_before)
+        × (d.length_before ≤ vec_len d.buffer)
+        × IsMostlyLeft d.position_before.at d.length_before };
 }
 
 impl Decoder {

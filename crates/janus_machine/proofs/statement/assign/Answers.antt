@@ -3,30 +3,30 @@ use Rattle.std.proofs.lemmas.Int.{to_z-of_z}
 use Rattle.janus_meaning.specs.Fault.{Fine}
 use Rattle.janus_meaning.specs.Store.{look, Num}
 use Rattle.janus_meaning.specs.Word.{changed}
-use Rattle.janus_syntax.specs.View.{name_of, exp_of, sign_of}
+use Rattle.janus_syntax.specs.View.{name_of, exp_of, update_of}
 use Rattle.janus_machine.specs.Faults.{fault_of}
 use Rattle.janus_machine.specs.Stores.{IsNumber, write}
 use Rattle.janus_machine.proofs.Assigns.{is_number, value_safe, assign_bad, assign_fine}
 use Rattle.janus_machine.proofs.statement.assign.Goals as goal
 
 pub value-requires : goal.value-requires
-value-requires c = value_safe (name_of c.args.name.now) (sign_of c.args.update) (exp_of c.args.exp.now) c.args.store.now c.requires
+value-requires c = value_safe (name_of c.args.name.now) (update_of c.args.update) (exp_of c.args.exp.now) c.args.store.now c.requires
 
 pub returns-in-Err-clause-done : goal.returns-in-Err-clause-done
 returns-in-Err-clause-done c =
-    (assign_bad (name_of c.args.name.now) (sign_of c.args.update) (exp_of c.args.exp.now) c.args.store.now (fault_of c.in-Err.fault) c.requires (sym c.in-Err.ensures), refl)
+    (assign_bad (name_of c.args.name.now) (update_of c.args.update) (exp_of c.args.exp.now) c.args.store.now (fault_of c.in-Err.fault) c.requires (sym c.in-Err.ensures), refl)
 
 pub update-requires : goal.update-requires
 update-requires c =
     let s = c.args.store.now in
-    let n = is_number (name_of c.args.name.now) (sign_of c.args.update) (exp_of c.args.exp.now) s c.requires in
+    let n = is_number (name_of c.args.name.now) (update_of c.args.update) (exp_of c.args.exp.now) s c.requires in
     subst (λ x. IsNumber (look x s)) (sym c.as_str.ensures.value) n
 
 pub returns-clause-done : goal.returns-clause-done
 returns-clause-done c =
     let s = c.args.store.now in
     let x = name_of c.args.name.now in
-    let o = sign_of c.args.update in
+    let o = update_of c.args.update in
     let e = exp_of c.args.exp.now in
     let n = is_number x o e s c.requires in
     let w : ℤ = c.in-Ok.operand in

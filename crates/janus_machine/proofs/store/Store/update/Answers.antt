@@ -7,7 +7,7 @@ use Rattle.janus_meaning.specs.Fault.{Fine, Bad, Broken}
 use Rattle.janus_meaning.specs.Store.{look, Num, Bare}
 use Rattle.janus_meaning.specs.Formed.{shape_of}
 use Rattle.janus_meaning.specs.Word.{changed}
-use Rattle.janus_syntax.specs.View.{sign_of}
+use Rattle.janus_syntax.specs.View.{update_of}
 use Rattle.janus_machine.specs.Stores.{write}
 use Rattle.janus_machine.specs.StoreView.{declared_over}
 use Rattle.janus_machine.specs.declared.store.Variable.{Variable}
@@ -31,8 +31,8 @@ invariant_of-self c =
     let at : slice_get a.variables.items i ≡ Some v = slice_get_read a.variables.items (length a.variables.items) i v refl lt c.index_mut-variable.ensures.value in
     written a.variables.items (get_by_text a.places) c.self.invariant i v _ at refl
 
-pub returns-in-Some-clause-written : goal.returns-in-Some-clause-written
-returns-in-Some-clause-written c = λ n e.
+pub returns-clause-written : goal.returns-clause-written
+returns-clause-written c = λ n e.
     let a = c.self.inside in
     let x = c.args.name.now in
     let i = c.in-Some.place.now in
@@ -44,7 +44,7 @@ returns-in-Some-clause-written c = λ n e.
     let seen = look_some a.variables.items (get_by_text a.places) c.self.invariant x i v found at in
     let both : Fine (Num v.value) ≡ Fine (Num n) = sym seen ∙ ap (look x) c.self.view_is ∙ e in
     let same : v.value ≡ n = cc in
-    let o = sign_of c.args.update in
+    let o = update_of c.args.update in
     let w : ℤ = c.args.operand in
     let m : ℤ = c.changed-variable.result in
     let z : to_z w32 (of_z w32 m) ≡ m = grind (arith, to_z-of_z) in
@@ -59,16 +59,16 @@ returns-in-Some-clause-written c = λ n e.
     ∙ write_here x m Bare a.variables.items i v at named (only a.variables.items (get_by_text a.places) c.self.invariant x i found)
     ∙ ap (λ k. Fine (declared_over Bare (set a.variables.items i (record { name = v.name; value = k })))) (sym z)
 
-pub returns-in-None-clause-written : goal.returns-in-None-clause-written
-returns-in-None-clause-written c = λ n e.
+pub unreachable-requires : goal.unreachable-requires
+unreachable-requires c =
     let a = c.self.inside in
     let x = c.args.name.now in
     let none = look_none a.variables.items (get_by_text a.places) c.self.invariant x (sym c.in-None.ensures.value) in
-    let bad : Bad Broken ≡ Fine (Num n) = sym none ∙ ap (look x) c.self.view_is ∙ e in
+    let bad : Bad Broken ≡ Fine (Num c.requires.0) = sym none ∙ ap (look x) c.self.view_is ∙ c.requires.1 in
     cc
 
-pub returns-in-Some-clause-shape : goal.returns-in-Some-clause-shape
-returns-in-Some-clause-shape c =
+pub returns-clause-shape : goal.returns-clause-shape
+returns-clause-shape c =
     let a = c.self.inside in
     let i = c.in-Some.place.now in
     let v = c.index_mut-variable.result.now in
