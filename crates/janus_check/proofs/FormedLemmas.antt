@@ -95,7 +95,7 @@ record Declares (g : Shape) (ds : List Declaration) : Type 0 where
 room_for : (n : ℕ) → nat_le name_limit n ≡ false → suc n ≤ name_limit
 room_for n h = grind (arith, nat_tests)
 
-within : (g : Shape) (xs : List tree.Name) → size g ≤ name_limit → IsWithinLimit g xs → size (with_numbers g xs) ≤ name_limit
+pub within : (g : Shape) (xs : List tree.Name) → size g ≤ name_limit → IsWithinLimit g xs → size (with_numbers g xs) ≤ name_limit
 within g [] le h = le
 within g (x ∷ xs) le h = h
 
