@@ -3,3 +3,4 @@ pub mod CutLemmas
 pub mod OpenLemmas
 pub mod TextsLemmas
 pub mod AskedLemmas
+pub mod TypeLemmas

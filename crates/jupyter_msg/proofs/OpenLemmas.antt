@@ -5,7 +5,7 @@ use Rattle.std.proofs.lemmas.List.Elements.{recursion_from_All}
 use Rattle.jupyter_msg.specs.Object.{is_object}
 use Rattle.jupyter_msg.specs.Octets.{Octets, octets, octets_of}
 use Rattle.jupyter_msg.specs.Signature.{fits, signature_of}
-use Rattle.jupyter_msg.specs.Message.{delimiter, NoneIsDelimiter, IsCut, AreObjects, IsMessage, IsRefused, after_delimiter, refusal_after, text_of, sealed}
+use Rattle.jupyter_msg.specs.Message.{delimiter, NoneIsDelimiter, IsCut, AreObjects, IsMessage, IsRefused, after_delimiter, refusal_after, text_of, frames_of}
 use Rattle.std.proofs.lemmas.Slice.Eq.{bytes_eq-Decides}
 use Rattle.jupyter_msg.specs.declared.message.Message.{Message}
 use Rattle.jupyter_msg.specs.declared.fault.Part.TheVariants.{Header, Parent, Metadata, Content}
@@ -173,6 +173,14 @@ same_refusal key frames e fault p q =
       ]
     ]
 
+-- what a refusal is, once the frames are cut
+refusal_at : (key : List ℕ) (frames identities after : List (List ℕ)) (fault : MsgFault) → IsCut frames identities after → IsRefused key frames fault → refusal_after key after ≡ Some fault
+refusal_at key frames identities after fault cut q =
+    elim (by_place key frames fault q) [
+      | inl h ↦ absurd (no_cut frames identities after h.1 cut)
+      | inr h ↦ ap (refusal_after key) (cut_once frames identities after h.identities h.after cut h.cut).1 ∙ h.refusal
+    ]
+
 -- ---- what the answer of `open` says of every message and of every refusal
 
 pub every_message : (key : List ℕ) (frames : List (List ℕ)) (r : Result Message MsgFault) → IfOk r (λ m. IsMessage key frames (octets_of m)) → IfErr r (λ e. (e ≡ Memory) ⊎ IsRefused key frames e)
@@ -184,6 +192,17 @@ pub exactly_refused : (key : List ℕ) (frames : List (List ℕ)) (r : Result Me
     → (fault : MsgFault) → IsRefused key frames fault → MatchResult r (λ _. ⊥) (λ e. (e ≡ Memory) ⊎ (e ≡ fault))
 exactly_refused key frames (Ok x) ok err fault q = message_not_refused key frames (octets_of x) fault ok q
 exactly_refused key frames (Err e) ok err fault q = elim err [ inl h ↦ inl h | inr h ↦ inr (same_refusal key frames e fault h q) ]
+
+pub no_delimiter_early : (key : List ℕ) (frames : List (List ℕ)) → NoneIsDelimiter frames → (fault : MsgFault) → IsRefused key frames fault → NoDelimiter ≡ fault
+no_delimiter_early key frames none fault q = same_refusal key frames NoDelimiter fault none q
+
+pub passed_early : (key : List ℕ) (frames identities after : List (List ℕ)) (r : Result Message MsgFault) → IsCut frames identities after → refusal_after key after ≡ None
+    → (fault : MsgFault) → IsRefused key frames fault → r ≡ Err fault
+passed_early key frames identities after r cut passed fault q = absurd (none_some (sym passed ∙ refusal_at key frames identities after fault cut q))
+
+pub refused_early : (key : List ℕ) (frames identities after : List (List ℕ)) (r : Result Message MsgFault) (checked : Result (Unit {0}) MsgFault) (e fault : MsgFault) → IsCut frames identities after → r ≡ Err e
+    → checked ≡ Err e → (refusal_after key after ≡ Some fault → checked ≡ Err fault) → IsRefused key frames fault → r ≡ Err fault
+refused_early key frames identities after r checked e fault cut s at early q = let t = early (refusal_at key frames identities after fault cut q) in let u : e ≡ fault = cc in s ∙ ap Err u
 
 -- ---- what is taken apart
 
@@ -211,7 +230,7 @@ fits_itself : (key text : List ℕ) → fits key (signature_of key text) text �
 fits_itself [] text = refl
 fits_itself (k ∷ ks) text = (bytes_eq-Decides (signature_of (k ∷ ks) text) (signature_of (k ∷ ks) text)).1 refl
 
-pub sealed_is_message : (key : List ℕ) (m : Octets) (frames : List (List ℕ)) → frames ≡ sealed key m → AreObjects m → NoneIsDelimiter m.identities → IsMessage key frames m
+pub sealed_is_message : (key : List ℕ) (m : Octets) (frames : List (List ℕ)) → frames ≡ frames_of key m → AreObjects m → NoneIsDelimiter m.identities → IsMessage key frames m
 sealed_is_message key m frames e objects none = record {
   signature = signature_of key (text_of m);
   cut = record { frames_are = e; first = none };

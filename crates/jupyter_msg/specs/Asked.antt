@@ -57,3 +57,8 @@ Gives view (Err e) asked = (e ≡ Memory) ⊎ (asked ≡ Err e)
 abbrev pub Reads : {A : Type 0} → (A → Type 0) → Result A MsgFault → Option Field → Type 0
 Reads P (Ok x) wrong = (wrong ≡ None) × P x
 Reads P (Err e) wrong = (e ≡ Memory) ⊎ (option_map BadField wrong ≡ Some e)
+
+-- the same where no memory is taken
+abbrev pub Tells : {A : Type 0} → (A → Type 0) → Result A MsgFault → Option Field → Type 0
+Tells P (Ok x) wrong = (wrong ≡ None) × P x
+Tells P (Err e) wrong = option_map BadField wrong ≡ Some e

@@ -4,6 +4,7 @@ use Rattle.std.specs.Str.{bytes_eq}
 use Rattle.serde_json.specs.Data.{Data}
 use Rattle.serde_json.specs.Find.{get, as_str, as_number, as_u64}
 use Rattle.jupyter_msg.specs.Fault.{setting_name}
+use Rattle.jupyter_msg.specs.Table.{first_failing}
 use Rattle.jupyter_msg.specs.declared.connection.Connection.{Connection}
 use Rattle.jupyter_msg.specs.declared.fault.MsgFault.{MsgFault}
 use Rattle.jupyter_msg.specs.declared.fault.MsgFault.TheVariants.{BadConnection}
@@ -33,32 +34,23 @@ abbrev pub is_word_if_there : List ℕ → Option Data → Bool
 is_word_if_there word None = true
 is_word_if_there word (Some value) = is_word word (Some value)
 
--- what each field may be
-abbrev pub may_be : Setting → Option Data → Bool
-may_be File value = true
-may_be Transport value = is_word (codes "tcp") value
-may_be Ip value = is_some (text value)
-may_be ShellPort value = is_some (port value)
-may_be IopubPort value = is_some (port value)
-may_be StdinPort value = is_some (port value)
-may_be ControlPort value = is_some (port value)
-may_be HbPort value = is_some (port value)
-may_be Key value = is_some (text value)
-may_be SignatureScheme value = is_word_if_there (codes "hmac-sha256") value
+abbrev pub is_text : Option Data → Bool
+is_text value = is_some (text value)
 
--- the order in which fields are looked at
-abbrev pub settings : List Setting
-settings = Transport ∷ Ip ∷ ShellPort ∷ IopubPort ∷ StdinPort ∷ ControlPort ∷ HbPort ∷ Key ∷ SignatureScheme ∷ []
+abbrev pub is_port : Option Data → Bool
+is_port value = is_some (port value)
 
--- the first field that has no value that it may have
-abbrev pub first_wrong : List Setting → Data → Option Setting
-first_wrong [] file = None
-first_wrong (s ∷ rest) file = if may_be s (setting s file) then first_wrong rest file else Some s
+-- the fields in the order in which they are looked at, and what each may be
+abbrev pub settings : List (Setting × (Option Data → Bool))
+settings =
+    (Transport, is_word (codes "tcp")) ∷ (Ip, is_text)
+    ∷ (ShellPort, is_port) ∷ (IopubPort, is_port) ∷ (StdinPort, is_port) ∷ (ControlPort, is_port) ∷ (HbPort, is_port)
+    ∷ (Key, is_text) ∷ (SignatureScheme, is_word_if_there (codes "hmac-sha256")) ∷ []
 
 -- why octets are refused as a connection file: they are no JSON object, or the first wrong field
 abbrev pub file_refusal : Option Data → Option MsgFault
 file_refusal None = Some (BadConnection File)
-file_refusal (Some file) = option_map BadConnection (first_wrong settings file)
+file_refusal (Some file) = option_map BadConnection (first_failing (λ s. setting s file) settings)
 
 -- the connection has the file's fields
 pub record IsConnection (file : Data) (c : Connection) : Type 0 where

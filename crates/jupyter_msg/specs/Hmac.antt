@@ -3,17 +3,17 @@ use Rattle.std.specs.Prelude.{ℕ, ◌-◌, List, ◌++◌, length, map, replica
 use Rattle.sha2.specs.Sha256.{sha256}
 
 -- the octets, with zeros after them up to one block
-abbrev pub filled : List ℕ → List ℕ
-filled octets = octets ++ replicate (64 - length octets) 0
+abbrev pub full_block : List ℕ → List ℕ
+full_block octets = octets ++ replicate (64 - length octets) 0
 
 -- the key as one block: a key longer than a block is hashed first
 abbrev pub block_of : List ℕ → List ℕ
-block_of key = if nat_lt 64 (length key) then filled (sha256 key) else filled key
+block_of key = if nat_lt 64 (length key) then full_block (sha256 key) else full_block key
 
 -- the block, each of its octets xored with the pad
-abbrev pub padded : ℕ → List ℕ → List ℕ
-padded pad block = map (λ octet. bit_xor octet pad) block
+abbrev pub xor_pad : ℕ → List ℕ → List ℕ
+xor_pad pad block = map (λ octet. bit_xor octet pad) block
 
 -- H(k xor 5C.., H(k xor 36.., text))
 abbrev pub hmac_of : List ℕ → List ℕ → List ℕ
-hmac_of key text = sha256 (padded 0x5C (block_of key) ++ sha256 (padded 0x36 (block_of key) ++ text))
+hmac_of key text = sha256 (xor_pad 0x5C (block_of key) ++ sha256 (xor_pad 0x36 (block_of key) ++ text))

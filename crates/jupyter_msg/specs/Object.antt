@@ -13,7 +13,8 @@ only_object (string s) = None
 only_object (array ds) = None
 only_object (object ms) = Some (object ms)
 
--- the object that the octets are the text of, as `serde_json` reads UTF-8 text: of a key that is given twice the last value counts
+-- the object that the octets are the text of, as `serde_json` reads UTF-8 text: of a key that is given twice the last
+-- value counts
 unfoldable pub object_of : List ℕ → Option Data
 object_of octets = if is_utf8 octets then option_and_then only_object (read octets) else None
 

@@ -1,4 +1,5 @@
-//! The connection file, by which a kernel and its frontends find one another.
+//! The connection file, by which a kernel and its frontends find one another (Jupyter's page on kernels, "Connection
+//! files").
 ghost use Rattle.std.specs.Prelude.{◌≡◌, ◌⊎◌, true, false, Some, None, IfOk, IfErr, OnOk, option_map, string_bytes};
 ghost use Rattle.serde_json.specs.View.{view};
 ghost use Rattle.serde_json.specs.Data.{Data};
@@ -92,10 +93,7 @@ fn file_of(alloc: Global, octets: &[u8]) -> Result<Value, MsgFault>
     ensures refused { IfErr result (λ e. (e ≡ MsgFault.Memory)
         ⊎ ((e ≡ MsgFault.BadConnection Setting.File) × (object_of octets.now ≡ None))) }
 {
-    match object_of(alloc, octets)? {
-        Some(file) => Ok(file),
-        None => Err(MsgFault::BadConnection(Setting::File)),
-    }
+    object_of(alloc, octets)?.ok_or(MsgFault::BadConnection(Setting::File))
 }
 
 impl Connection {

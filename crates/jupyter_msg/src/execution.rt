@@ -3,11 +3,11 @@ ghost use Rattle.std.specs.Prelude.{◌≡◌, ◌⊎◌, [], true, false, Some,
 ghost use Rattle.serde_json.specs.Find.{as_str};
 ghost use Rattle.serde_json.specs.View.{view, members_view};
 ghost use Rattle.jupyter_msg.specs.Asked.{Reads};
-ghost use Rattle.jupyter_msg.specs.Fields.{given, allowed, as_texts, first_wrong, texts_in};
+ghost use Rattle.jupyter_msg.specs.Fields.{value_at, allowed, as_texts, first_wrong, texts_in};
 ghost use Rattle.jupyter_msg.specs.Requests.{IsExecute, expressions_of, fields_of};
 
 use crate::fault::{Field, MsgFault};
-use crate::fields::{flag, given, text};
+use crate::fields::{flag, text, value_at};
 use crate::request_type::RequestType;
 use serde_json::{Map, Value};
 use std::alloc::Global;
@@ -36,15 +36,15 @@ pub struct ExecuteRequest {
 }
 
 /// The expression of one member.
-fn expression_of(alloc: Global, name: &String, value: &Value) -> Result<UserExpression, MsgFault>
-    ensures name { IfOk result (λ e. string_bytes e.name ≡ string_bytes name.now) }
+fn expression_of(alloc: Global, name: &str, value: &Value) -> Result<UserExpression, MsgFault>
+    ensures name { IfOk result (λ e. string_bytes e.name ≡ name.now) }
     ensures text { IfOk result (λ e. as_str (view value.now) ≡ Some (string_bytes e.expression)) }
     ensures refused { IfErr result (λ e. (e ≡ MsgFault.Memory)
         ⊎ ((e ≡ MsgFault.BadField Field.UserExpressions) × (as_str (view value.now) ≡ None))) }
 {
     match value.as_str() {
         Some(text) => Ok(UserExpression {
-            name: String::from_str(alloc, name.as_str())?,
+            name: String::from_str(alloc, name)?,
             expression: String::from_str(alloc, text)?,
         }),
         None => Err(MsgFault::BadField(Field::UserExpressions)),
@@ -59,7 +59,7 @@ fn expressions_in(alloc: Global, map: &Map<String, Value>) -> Result<Vec<UserExp
         ⊎ ((e ≡ MsgFault.BadField Field.UserExpressions)
         × (texts_in (members_view map.now.entries) ≡ None))) }
 {
-    let mut expressions = Vec::new(alloc);
+    let mut expressions = Vec::with_capacity(alloc, map.len())?;
     for (name, value) in map.iter() {
         expressions.push(expression_of(alloc, name, value)?)?;
     }
@@ -69,14 +69,14 @@ fn expressions_in(alloc: Global, map: &Map<String, Value>) -> Result<Vec<UserExp
 /// The expressions of the field `user_expressions`, none where it is missing.
 fn expressions(alloc: Global, content: &Value) -> Result<Vec<UserExpression>, MsgFault>
     ensures value { IfOk result (λ v. expressions_of v.items
-        ≡ unwrap_or (option_and_then as_texts (given Field.UserExpressions (view content.now))) []) }
-    ensures fits { IfOk result (λ v. allowed as_texts (given Field.UserExpressions (view content.now))
+        ≡ unwrap_or (option_and_then as_texts (value_at Field.UserExpressions (view content.now))) []) }
+    ensures fits { IfOk result (λ v. allowed as_texts (value_at Field.UserExpressions (view content.now))
         ≡ true) }
     ensures refused { IfErr result (λ e. (e ≡ MsgFault.Memory)
         ⊎ ((e ≡ MsgFault.BadField Field.UserExpressions)
-        × (allowed as_texts (given Field.UserExpressions (view content.now)) ≡ false))) }
+        × (allowed as_texts (value_at Field.UserExpressions (view content.now)) ≡ false))) }
 {
-    match given(content, Field::UserExpressions) {
+    match value_at(content, Field::UserExpressions) {
         None => Ok(Vec::new(alloc)),
         Some(value) => match value.as_object() {
             Some(map) => expressions_in(alloc, map),

@@ -1,9 +1,9 @@
 //! The request for the input history (Jupyter messaging page, "History").
-ghost use Rattle.std.specs.Prelude.{◌≡◌, Some, None, IfOk, IfErr, option_and_then};
+ghost use Rattle.std.specs.Prelude.{◌≡◌, Some, None, IfSome, IfOk, IfErr, option_and_then};
 ghost use Rattle.serde_json.specs.View.{view};
-ghost use Rattle.jupyter_msg.specs.Asked.{Reads};
-ghost use Rattle.jupyter_msg.specs.Fields.{first_wrong, given};
-ghost use Rattle.jupyter_msg.specs.Requests.{IsHistory, access_named, as_access, fields_of};
+ghost use Rattle.jupyter_msg.specs.Asked.{Tells};
+ghost use Rattle.jupyter_msg.specs.Fields.{first_wrong, value_at};
+ghost use Rattle.jupyter_msg.specs.Requests.{IsHistory, access_name, access_named, as_access, fields_of};
 
 use crate::fault::{Field, MsgFault};
 use crate::fields::{count, flag, text_in, whole};
@@ -23,8 +23,13 @@ pub enum HistoryAccess {
 
 impl HistoryAccess {
     /// The access of this name: `range`, `tail` or `search`.
+    #[tactic(auto, unfolding(crate::specs::Requests::access_named))]
     pub fn named(name: &str) -> Option<HistoryAccess>
-        ensures { result ≡ access_named name.now }
+        ensures access { result ≡ access_named name.now }
+
+        // It is the one access that has the name.
+        ensures has_name { IfSome result (λ a. access_name a ≡ name.now) }
+        ensures every { (a : HistoryAccess) → access_name a ≡ name.now → result ≡ Some a }
     {
         if name == "range" {
             Some(HistoryAccess::Range)
@@ -45,7 +50,8 @@ pub struct HistoryRequest {
     pub access: HistoryAccess,
     /// With the output (`false`).
     pub output: bool,
-    /// The session: 0 is the present one, and below it are those before (0).
+    /// The session: 0 is the present one, a number below 0 counts back from it, and one above 0 is the number of a
+    /// session (0).
     pub session: i64,
     /// The first number of a range (1).
     pub start: u64,
@@ -58,20 +64,19 @@ pub struct HistoryRequest {
 /// The access of the field `hist_access_type`.
 fn access_in(content: &Value) -> Result<HistoryAccess, MsgFault>
     ensures value { IfOk result (λ a. option_and_then as_access
-        (given Field.HistAccessType (view content.now)) ≡ Some a) }
+        (value_at Field.HistAccessType (view content.now)) ≡ Some a) }
     ensures refused { IfErr result (λ e. (e ≡ MsgFault.BadField Field.HistAccessType)
-        × (option_and_then as_access (given Field.HistAccessType (view content.now)) ≡ None)) }
+        × (option_and_then as_access (value_at Field.HistAccessType (view content.now)) ≡ None)) }
 {
-    match HistoryAccess::named(text_in(content, Field::HistAccessType)?) {
-        Some(access) => Ok(access),
-        None => Err(MsgFault::BadField(Field::HistAccessType)),
-    }
+    HistoryAccess::named(text_in(content, Field::HistAccessType)?).ok_or(MsgFault::BadField(
+        Field::HistAccessType,
+    ))
 }
 
 impl HistoryRequest {
     /// Reads the content of a `history_request`.
     pub(crate) fn read(content: &Value) -> Result<HistoryRequest, MsgFault>
-        ensures { Reads (IsHistory (view content.now)) result
+        ensures { Tells (IsHistory (view content.now)) result
             (first_wrong (fields_of RequestType.History) (view content.now)) }
     {
         let access = access_in(content)?;

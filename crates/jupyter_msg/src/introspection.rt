@@ -3,7 +3,7 @@ ghost use Rattle.std.specs.Prelude.{◌≡◌, Some, string_bytes};
 ghost use Rattle.serde_json.specs.View.{view};
 ghost use Rattle.jupyter_msg.specs.Asked.{Reads};
 ghost use Rattle.jupyter_msg.specs.Fields.{first_wrong, text_at};
-ghost use Rattle.jupyter_msg.specs.Requests.{IsComplete, IsInspect, fields_of};
+ghost use Rattle.jupyter_msg.specs.Requests.{IsCompletion, IsInspection, fields_of};
 
 use crate::fault::{Field, MsgFault};
 use crate::fields::{count, text};
@@ -39,7 +39,7 @@ pub struct IsCompleteRequest {
 impl CompleteRequest {
     /// Reads the content of a `complete_request`.
     pub(crate) fn read(alloc: Global, content: &Value) -> Result<CompleteRequest, MsgFault>
-        ensures { Reads (IsComplete (view content.now)) result
+        ensures { Reads (IsCompletion (view content.now)) result
             (first_wrong (fields_of RequestType.Complete) (view content.now)) }
     {
         let code = text(alloc, content, Field::Code)?;
@@ -51,7 +51,7 @@ impl CompleteRequest {
 impl InspectRequest {
     /// Reads the content of an `inspect_request`.
     pub(crate) fn read(alloc: Global, content: &Value) -> Result<InspectRequest, MsgFault>
-        ensures { Reads (IsInspect (view content.now)) result
+        ensures { Reads (IsInspection (view content.now)) result
             (first_wrong (fields_of RequestType.Inspect) (view content.now)) }
     {
         let code = text(alloc, content, Field::Code)?;

@@ -2,7 +2,7 @@
 ghost use Rattle.std.specs.Prelude.{◌≡◌, ◌++◌, ◌≤◌, length, List, ℕ};
 ghost use Rattle.sha2.specs.Hashers.{Holds256};
 ghost use Rattle.sha2.specs.Sha256.{sha256};
-ghost use Rattle.jupyter_msg.specs.Hmac.{filled, block_of, padded, hmac_of};
+ghost use Rattle.jupyter_msg.specs.Hmac.{full_block, block_of, xor_pad, hmac_of};
 
 use sha2::{Digest, Sha256};
 
@@ -16,9 +16,9 @@ const INNER: u8 = 0x36;
 const OUTER: u8 = 0x5C;
 
 /// The octets, with zeros after them up to one block.
-fn filled(octets: &[u8]) -> [u8; BLOCK]
+fn full_block(octets: &[u8]) -> [u8; BLOCK]
     requires { length octets.now ≤ 64 }
-    ensures { result ≡ filled octets.now }
+    ensures { result ≡ full_block octets.now }
 {
     let mut block = [0; BLOCK];
     block[..octets.len()].copy_from_slice(octets);
@@ -30,15 +30,15 @@ fn block_of(key: &[u8]) -> [u8; BLOCK]
     ensures { result ≡ block_of key.now }
 {
     if key.len() > BLOCK {
-        filled(&Sha256::digest(key))
+        full_block(&Sha256::digest(key))
     } else {
-        filled(key)
+        full_block(key)
     }
 }
 
 /// The block, each of its octets xored with the pad.
-fn padded(mut block: [u8; BLOCK], pad: u8) -> [u8; BLOCK]
-    ensures { result ≡ padded pad block }
+fn xor_pad(mut block: [u8; BLOCK], pad: u8) -> [u8; BLOCK]
+    ensures { result ≡ xor_pad pad block }
 {
     for octet in block.iter_mut() {
         *octet ^= pad;
@@ -46,23 +46,24 @@ fn padded(mut block: [u8; BLOCK], pad: u8) -> [u8; BLOCK]
     block
 }
 
-/// A hasher that has taken the inner block of the key, and the key's block. It is fed the text, and then `finished`.
-pub(crate) fn begun(key: &[u8]) -> (Sha256, [u8; BLOCK])
+/// A hasher that has taken the inner block of the key, and the key's block. It is fed the text, and then given to
+/// `finish_hash`.
+pub(crate) fn begin_hash(key: &[u8]) -> (Sha256, [u8; BLOCK])
     ensures block { result.1 ≡ block_of key.now }
-    ensures begun { Holds256 result.0 (padded 0x36 (block_of key.now)) }
+    ensures inner { Holds256 result.0 (xor_pad 0x36 (block_of key.now)) }
 {
     let block = block_of(key);
     let mut inner = Sha256::new();
-    inner.update(padded(block, INNER));
+    inner.update(xor_pad(block, INNER));
     (inner, block)
 }
 
 /// The keyed hash, once the inner hasher has taken the text.
-pub(crate) fn finished(inner: Sha256, block: [u8; BLOCK]) -> [u8; 32]
-    ensures { (taken : List ℕ) → Holds256 inner taken → result ≡ sha256 (padded 0x5C block ++ sha256 taken) }
+pub(crate) fn finish_hash(inner: Sha256, block: [u8; BLOCK]) -> [u8; 32]
+    ensures { (taken : List ℕ) → Holds256 inner taken → result ≡ sha256 (xor_pad 0x5C block ++ sha256 taken) }
 {
     let mut outer = Sha256::new();
-    outer.update(padded(block, OUTER));
+    outer.update(xor_pad(block, OUTER));
     outer.update(inner.finalize());
     outer.finalize()
 }
@@ -71,7 +72,7 @@ pub(crate) fn finished(inner: Sha256, block: [u8; BLOCK]) -> [u8; 32]
 pub fn hmac(key: &[u8], text: &[u8]) -> [u8; 32]
     ensures { result ≡ hmac_of key.now text.now }
 {
-    let (mut inner, block) = begun(key);
+    let (mut inner, block) = begin_hash(key);
     inner.update(text);
-    finished(inner, block)
+    finish_hash(inner, block)
 }

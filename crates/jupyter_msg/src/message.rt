@@ -1,10 +1,10 @@
-//! Messages, and the frames in which they travel.
-ghost use Rattle.std.specs.Prelude.{◌≡◌, ℕ, List, [], ◌∷◌, ◌+◌, ◌++◌, ◌≤◌, ◌⊎◌, IfOk, IfErr, OnOk, MatchResult, vec_len, drop, take, position, string_bytes};
+//! Messages, and the frames in which they travel (Jupyter messaging page, "The Wire Protocol").
+ghost use Rattle.std.specs.Prelude.{◌≡◌, ℕ, List, [], ◌∷◌, ◌+◌, ◌++◌, ◌≤◌, ◌⊎◌, Some, Err, IsTrue, IfOk, IfErr, OnOk, MatchResult, vec_len, drop, take, position, string_bytes};
 ghost use Rattle.std.specs.Str.{bytes_eq};
 ghost use Rattle.jupyter_msg.specs.Asked.{Gives, header_text};
 ghost use Rattle.jupyter_msg.specs.Fault.{Refuses};
 ghost use Rattle.jupyter_msg.specs.Octets.{Octets, octets, octets_of};
-ghost use Rattle.jupyter_msg.specs.Message.{AreObjects, IsMessage, IsRefused, refusal_after, after_delimiter, no_object, NoneIsDelimiter, delimiter, sealed};
+ghost use Rattle.jupyter_msg.specs.Message.{AreObjects, IsMessage, IsRefused, refusal_after, after_delimiter, no_object, comes_before_parts, NoneIsDelimiter, delimiter, frames_of};
 
 use crate::fault::{Field, MsgFault, Part};
 use crate::fields::text;
@@ -45,8 +45,8 @@ impl Message {
     ///
     /// # Errors
     ///
-    /// `NotJson` with the header where that is no JSON object, `BadField` where it has no such text, or `Memory`. The other
-    /// readers of a header have the same.
+    /// `NotJson` with the header where that is no JSON object; `BadField` with `msg_id` where that is missing or no text;
+    /// `Memory`.
     pub fn msg_id(&self, alloc: Global) -> Result<String, MsgFault>
         ensures { Gives string_bytes result (header_text Field.MsgId self.now.header.items) }
     {
@@ -54,6 +54,10 @@ impl Message {
     }
 
     /// The session of who sent the message, as its header's `session` has it.
+    ///
+    /// # Errors
+    ///
+    /// Those of `msg_id`, with the field `session`.
     pub fn session(&self, alloc: Global) -> Result<String, MsgFault>
         ensures { Gives string_bytes result (header_text Field.Session self.now.header.items) }
     {
@@ -61,6 +65,10 @@ impl Message {
     }
 
     /// What the message is, as its header's `msg_type` has it.
+    ///
+    /// # Errors
+    ///
+    /// Those of `msg_id`, with the field `msg_type`.
     pub fn msg_type(&self, alloc: Global) -> Result<String, MsgFault>
         ensures { Gives string_bytes result (header_text Field.MsgType self.now.header.items) }
     {
@@ -91,7 +99,9 @@ fn check_objects(alloc: Global, parts: &Parts<'_>) -> Result<(), MsgFault>
 
 /// Passes frames after a delimiter that are a signed message's.
 fn check_after(alloc: Global, after: &[Vec<u8>], key: &[u8]) -> Result<(), MsgFault>
-    ensures { Refuses result (refusal_after key.now (octets after.now)) }
+    ensures refused { Refuses result (refusal_after key.now (octets after.now)) }
+    ensures early { (fault : MsgFault) → IsTrue (comes_before_parts fault)
+        → refusal_after key.now (octets after.now) ≡ Some fault → result ≡ Err fault }
 {
     let [signature, header, parent, metadata, content, ..] = after else {
         return Err(MsgFault::ShortMessage);
@@ -109,7 +119,7 @@ fn check_after(alloc: Global, after: &[Vec<u8>], key: &[u8]) -> Result<(), MsgFa
 }
 
 /// The message of frames that have the delimiter at the place and at least five frames after it.
-fn taken_apart(mut frames: Vec<Vec<u8>>, at: usize) -> Result<Message, MsgFault>
+fn take_apart(mut frames: Vec<Vec<u8>>, at: usize) -> Result<Message, MsgFault>
     requires { at + 6 ≤ vec_len frames }
     ensures identities { IfOk result (λ m. octets m.identities.items ≡ octets (take at frames.items)) }
     ensures after { IfOk result (λ m. (signature : List ℕ)
@@ -139,7 +149,8 @@ fn taken_apart(mut frames: Vec<Vec<u8>>, at: usize) -> Result<Message, MsgFault>
 /// # Errors
 ///
 /// The first that holds of: `NoDelimiter`; `ShortMessage` for fewer than five frames after the delimiter; `BadSignature`;
-/// `NotJson` with the first part that is no JSON object. `Memory` may stand in the place of any other answer.
+/// `NotJson` with the first part that is no JSON object. `Memory` may stand in the place of a message and of `NotJson`, and of no
+/// other: nothing is allocated before the signature fits. With each of them the frames are dropped.
 pub fn open(alloc: Global, frames: Vec<Vec<u8>>, key: &[u8]) -> Result<Message, MsgFault>
     ensures message { IfOk result (λ m. IsMessage key.now (octets frames.items) (octets_of m)) }
     ensures refused { IfErr result (λ e. (e ≡ MsgFault.Memory) ⊎ IsRefused key.now (octets frames.items) e) }
@@ -149,12 +160,16 @@ pub fn open(alloc: Global, frames: Vec<Vec<u8>>, key: &[u8]) -> Result<Message, 
         → MatchResult result (λ x. octets_of x ≡ m) (λ e. e ≡ MsgFault.Memory) }
     ensures exactly { (fault : MsgFault) → IsRefused key.now (octets frames.items) fault
         → MatchResult result (λ _. ⊥) (λ e. (e ≡ MsgFault.Memory) ⊎ (e ≡ fault)) }
+
+    // Memory is asked for only once the signature fits.
+    ensures early { (fault : MsgFault) → IsTrue (comes_before_parts fault)
+        → IsRefused key.now (octets frames.items) fault → result ≡ Err fault }
 {
     let Some(at) = find_delimiter(&frames) else {
         return Err(MsgFault::NoDelimiter);
     };
     check_after(alloc, &frames[at + 1..], key)?;
-    taken_apart(frames, at)
+    take_apart(frames, at)
 }
 
 /// Adds a copy of the frame.
@@ -185,7 +200,7 @@ fn push_copies(alloc: Global, frames: &mut Vec<Vec<u8>>, more: &[Vec<u8>]) -> Re
 ///
 /// `Memory` where there is none for the frames.
 pub fn seal(alloc: Global, message: &Message, key: &[u8]) -> Result<Vec<Vec<u8>>, MsgFault>
-    ensures frames { IfOk result (λ frames. octets frames.items ≡ sealed key.now (octets_of message.now)) }
+    ensures frames { IfOk result (λ frames. octets frames.items ≡ frames_of key.now (octets_of message.now)) }
     ensures opens { IfOk result (λ frames. AreObjects (octets_of message.now)
         → NoneIsDelimiter (octets message.now.identities.items)
         → IsMessage key.now (octets frames.items) (octets_of message.now)) }

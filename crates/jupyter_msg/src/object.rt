@@ -32,8 +32,5 @@ pub(crate) fn part_object(alloc: Global, octets: &[u8], part: Part) -> Result<Va
     ensures refused { IfErr result (λ e. (e ≡ MsgFault.Memory)
         ⊎ ((e ≡ MsgFault.NotJson part) × (object_of octets.now ≡ None))) }
 {
-    match object_of(alloc, octets)? {
-        Some(object) => Ok(object),
-        None => Err(MsgFault::NotJson(part)),
-    }
+    object_of(alloc, octets)?.ok_or(MsgFault::NotJson(part))
 }

@@ -1,8 +1,31 @@
-//! Requests: what a message on the shell or control socket asks.
+//! Requests: what a message asks on the shell or the control socket (Jupyter messaging page, "Messages on the shell
+//! (ROUTER/DEALER) channel", "Messages on the Control (ROUTER/DEALER) channel" and "Custom Messages").
+//!
+//! The fields of each request stand here in the order in which they are looked at: the first that is missing without a
+//! default, or whose value is of another kind, is the one that is told. A value in parentheses stands where the field is
+//! missing or null.
+//!
+//! | Request | Fields | Not looked at |
+//! |---|---|---|
+//! | `kernel_info_request` | none | |
+//! | `execute_request` | `code`: text; `silent`: truth value (false); `store_history`: truth value (true, false if silent); `user_expressions`: object of texts (none) | `allow_stdin`, `stop_on_error` |
+//! | `complete_request` | `code`: text; `cursor_pos`: count (the end) | |
+//! | `inspect_request` | `code`: text; `cursor_pos`: count (the end) | `detail_level` |
+//! | `is_complete_request` | `code`: text | |
+//! | `history_request` | `hist_access_type`: `range`, `tail` or `search`; `output`: truth value (false); `session`: whole number (0); `start`: count (1); `stop`: count (none); `n`: count (10) | `raw`, `pattern`, `unique` |
+//! | `comm_info_request` | `target_name`: text (all) | |
+//! | `interrupt_request` | none | |
+//! | `shutdown_request` | `restart`: truth value (false) | |
+//! | `comm_open` | `comm_id`: text; `target_name`: text; `data`: object | |
+//! | `comm_msg` | `comm_id`: text; `data`: object, in which `op`: `undo`, `redo` or `goto` with `n`: count below 2^32, or `state`; other data asks nothing | |
+//! | `comm_close` | `comm_id`: text | `data` |
+//!
+//! A count is a whole number from 0 to 2^64 - 1, and a whole number one of 64 bits with its sign. Neither is written with a
+//! fraction or an exponent.
 ghost use Rattle.std.specs.Prelude.{◌≡◌, ◌⊎◌, false, Ok, Err, IfOk, IfErr};
 ghost use Rattle.serde_json.specs.Data.{Data};
 ghost use Rattle.serde_json.specs.View.{view};
-ghost use Rattle.jupyter_msg.specs.Asked.{Reads, Gives, asked, type_in};
+ghost use Rattle.jupyter_msg.specs.Asked.{Reads, Tells, asked, type_in};
 ghost use Rattle.jupyter_msg.specs.Fields.{first_wrong, flag_at};
 ghost use Rattle.jupyter_msg.specs.Octets.{octets_of};
 ghost use Rattle.jupyter_msg.specs.Requests.{IsRequest, type_of, fields_of};
@@ -58,7 +81,7 @@ pub enum Request {
 impl ShutdownRequest {
     /// Reads the content of a `shutdown_request`.
     fn read(content: &Value) -> Result<ShutdownRequest, MsgFault>
-        ensures { Reads (λ r. r.restart ≡ flag_at Field.Restart false (view content.now)) result
+        ensures { Tells (λ r. r.restart ≡ flag_at Field.Restart false (view content.now)) result
             (first_wrong (fields_of RequestType.Shutdown) (view content.now)) }
     {
         let restart = flag(content, Field::Restart)?.unwrap_or(false);
@@ -69,14 +92,11 @@ impl ShutdownRequest {
 /// The type that a header names. Its fields `msg_id`, `session` and `msg_type` are texts.
 #[tactic(auto, unfolding(crate::specs::Asked::type_in))]
 fn type_in(header: &Value) -> Result<RequestType, MsgFault>
-    ensures { Gives (λ t. t) result (type_in (view header.now)) }
+    ensures { result ≡ type_in (view header.now) }
 {
     text_in(header, Field::MsgId)?;
     text_in(header, Field::Session)?;
-    match RequestType::named(text_in(header, Field::MsgType)?) {
-        Some(request_type) => Ok(request_type),
-        None => Err(MsgFault::UnknownType),
-    }
+    RequestType::named(text_in(header, Field::MsgType)?).ok_or(MsgFault::UnknownType)
 }
 
 impl Request {

@@ -1,5 +1,5 @@
 //! The types of requests (Jupyter messaging page).
-ghost use Rattle.std.specs.Prelude.{◌≡◌};
+ghost use Rattle.std.specs.Prelude.{◌≡◌, Some, IfSome};
 ghost use Rattle.jupyter_msg.specs.RequestType.{type_name, type_named};
 
 /// What a request is, as its header's `msg_type` says.
@@ -68,14 +68,25 @@ impl RequestType {
         }
     }
 
-    /// The type of this name, if there is one.
+    /// The first type of this name.
     #[tactic(auto, unfolding(crate::specs::RequestType::type_named))]
-    pub fn named(name: &str) -> Option<RequestType>
+    fn first_named(name: &str) -> Option<RequestType>
         ensures { result ≡ type_named name.now }
     {
         RequestType::ALL
             .iter()
             .copied()
             .find(|request_type| request_type.name() == name)
+    }
+
+    /// The type of this name, if there is one.
+    pub fn named(name: &str) -> Option<RequestType>
+        ensures request_type { result ≡ type_named name.now }
+
+        // It is the one type that has the name.
+        ensures has_name { IfSome result (λ t. type_name t ≡ name.now) }
+        ensures every { (t : RequestType) → type_name t ≡ name.now → result ≡ Some t }
+    {
+        RequestType::first_named(name)
     }
 }

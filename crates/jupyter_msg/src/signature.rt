@@ -4,7 +4,7 @@ ghost use Rattle.jupyter_msg.specs.Hmac.{hmac_of};
 ghost use Rattle.jupyter_msg.specs.Signature.{signed_text, signature_of, fits};
 
 use crate::fault::MsgFault;
-use crate::keyed_hash::{begun, finished};
+use crate::keyed_hash::{begin_hash, finish_hash};
 use sha2::Digest;
 use std::alloc::Global;
 
@@ -25,12 +25,12 @@ pub struct Parts<'a> {
 fn hash_of(key: &[u8], parts: &Parts<'_>) -> [u8; 32]
     ensures { result ≡ hmac_of key.now (signed_text parts.now) }
 {
-    let (mut inner, block) = begun(key);
+    let (mut inner, block) = begin_hash(key);
     inner.update(parts.header);
     inner.update(parts.parent);
     inner.update(parts.metadata);
     inner.update(parts.content);
-    finished(inner, block)
+    finish_hash(inner, block)
 }
 
 /// The signature that is written for the parts under the key: the lower-case hex of HMAC with SHA-256 over header,

@@ -1,8 +1,8 @@
 //! Vectors of RFC 4231, messages that a real client wrote, and the table of requests, with values from outside.
 use crate::recorded::{COMM_OPEN, COMPLETE, EXECUTE, KERNEL_INFO, KEY};
 use crate::{
-    CommAsk, Connection, Field, HistoryAccess, Message, MsgFault, Part, Parts, Request, Setting,
-    hmac, open, seal, sign,
+    CommAsk, Connection, Field, Message, MsgFault, Part, Parts, Request, Setting, hmac, open, seal,
+    sign,
 };
 use std::alloc::{AllocError, Global};
 use std::process::Abort;
@@ -48,7 +48,7 @@ const VECTORS: [(&[u8], &[u8], &str); 7] = [
 ];
 
 /// The frames, copied.
-fn copied(alloc: Global, frames: &[&[u8]]) -> Result<Vec<Vec<u8>>, AllocError> {
+fn copy_frames(alloc: Global, frames: &[&[u8]]) -> Result<Vec<Vec<u8>>, AllocError> {
     let mut copies = Vec::new(alloc);
     for frame in frames {
         copies.push(frame.to_vec(alloc)?)?;
@@ -56,11 +56,13 @@ fn copied(alloc: Global, frames: &[&[u8]]) -> Result<Vec<Vec<u8>>, AllocError> {
     Ok(copies)
 }
 
-/// A message with this type and content.
-fn message_of(alloc: Global, msg_type: &str, content: &str) -> Result<Message, Fail> {
-    let header = format!(in alloc;
-        "{{\"msg_id\":\"a\",\"msg_type\":\"{msg_type}\",\"session\":\"s\"}}"
-    )?;
+/// The header of a message of this type.
+fn header_of(alloc: Global, msg_type: &str) -> Result<String, AllocError> {
+    format!(in alloc; "{{\"msg_id\":\"a\",\"msg_type\":\"{msg_type}\",\"session\":\"s\"}}")
+}
+
+/// A message with this header and content, under an empty key.
+fn message_of(alloc: Global, header: &str, content: &str) -> Result<Message, Fail> {
     let frames = [
         b"<IDS|MSG>".as_slice(),
         b"",
@@ -69,12 +71,12 @@ fn message_of(alloc: Global, msg_type: &str, content: &str) -> Result<Message, F
         b"{}",
         content.as_bytes(),
     ];
-    Ok(open(alloc, copied(alloc, &frames)?, b"")?)
+    Ok(open(alloc, copy_frames(alloc, &frames)?, b"")?)
 }
 
-/// Why a request of this type and content is refused.
-fn refusal_of(alloc: Global, msg_type: &str, content: &str) -> Result<Option<MsgFault>, Fail> {
-    match Request::read(alloc, &message_of(alloc, msg_type, content)?) {
+/// Why a message with this header and content is no request.
+fn refusal_of(alloc: Global, header: &str, content: &str) -> Result<Option<MsgFault>, Fail> {
+    match Request::read(alloc, &message_of(alloc, header, content)?) {
         Ok(_) => Ok(None),
         Err(fault) => Ok(Some(fault)),
     }
@@ -96,7 +98,7 @@ fn opens(
     frames: &[&[u8]],
     identities: usize,
 ) -> Result<Message, Fail> {
-    let message = open(alloc, copied(alloc, frames)?, KEY)?;
+    let message = open(alloc, copy_frames(alloc, frames)?, KEY)?;
     assert_eq!(rt; message.identities.len(), identities);
     let sealed = seal(alloc, &message, KEY)?;
     assert_eq!(rt; sealed.len(), frames.len());
@@ -158,7 +160,7 @@ fn refuses_each_changed_octet(rt: HostRuntime) -> Result<(), Fail> {
     let alloc = rt.alloc();
     for (place, frame) in EXECUTE.iter().enumerate().skip(1) {
         for at in 0..frame.len() {
-            let mut frames = copied(alloc, &EXECUTE)?;
+            let mut frames = copy_frames(alloc, &EXECUTE)?;
             if let Some(octet) = frames.get_mut(place).and_then(|frame| frame.get_mut(at)) {
                 *octet ^= 1;
             }
@@ -188,7 +190,7 @@ fn signs_as_the_client_did(rt: HostRuntime) -> Result<(), Fail> {
 }
 
 /// Frames under an empty key, and the first refusal.
-const REFUSED: [(&[&[u8]], MsgFault); 9] = [
+const REFUSED: [(&[&[u8]], MsgFault); 10] = [
     (&[], MsgFault::NoDelimiter),
     (
         &[b"<IDS|MSG", b"", b"{}", b"{}", b"{}", b"{}"],
@@ -222,20 +224,31 @@ const REFUSED: [(&[&[u8]], MsgFault); 9] = [
         &[b"<IDS|MSG>", b"", b"{}", b"{}", b"{}", b"{\"a\":\"\xff\"}"],
         MsgFault::NotJson(Part::Content),
     ),
+    (
+        &[
+            b"<IDS|MSG>",
+            b"",
+            b"{}",
+            b"{}",
+            b"{}",
+            b"{\"a\":\"\\ud800\"}",
+        ],
+        MsgFault::NotJson(Part::Content),
+    ),
 ];
 
 #[test]
 fn names_the_first_refusal(rt: HostRuntime) -> Result<(), Fail> {
     let alloc = rt.alloc();
     for (frames, want) in REFUSED {
-        let fault = open(alloc, copied(alloc, frames)?, b"").err();
+        let fault = open(alloc, copy_frames(alloc, frames)?, b"").err();
         assert_eq!(rt; fault, Some(want));
     }
     Ok(())
 }
 
 /// A content that nests so many lists.
-fn nested(alloc: Global, lists: usize) -> Result<String, AllocError> {
+fn nested_lists(alloc: Global, lists: usize) -> Result<String, AllocError> {
     let open = "[".repeat(alloc, lists)?;
     let closed = "]".repeat(alloc, lists)?;
     format!(in alloc; "{{\"a\":{open}{closed}}}")
@@ -244,8 +257,8 @@ fn nested(alloc: Global, lists: usize) -> Result<String, AllocError> {
 #[test]
 fn refuses_what_nests_too_deep(rt: HostRuntime) -> Result<(), Fail> {
     let alloc = rt.alloc();
-    message_of(alloc, "comm_close", &nested(alloc, 100)?)?;
-    let content = nested(alloc, 200)?;
+    message_of(alloc, "{}", &nested_lists(alloc, 100)?)?;
+    let content = nested_lists(alloc, 200)?;
     let frames = [
         b"<IDS|MSG>".as_slice(),
         b"",
@@ -254,49 +267,193 @@ fn refuses_what_nests_too_deep(rt: HostRuntime) -> Result<(), Fail> {
         b"{}",
         content.as_bytes(),
     ];
-    let fault = open(alloc, copied(alloc, &frames)?, b"").err();
+    let fault = open(alloc, copy_frames(alloc, &frames)?, b"").err();
     assert_eq!(rt; fault, Some(MsgFault::NotJson(Part::Content)));
     Ok(())
 }
 
-/// The field that is refused in a request of this type and content, by its name.
-fn refused(
-    rt: &impl Abort,
+/// What each field is tried with, as JSON: values of each kind, and the edges of the whole numbers.
+const VALUES: [&str; 14] = [
+    "null",
+    "true",
+    "false",
+    "0",
+    "-1",
+    "-0",
+    "1.0",
+    "1e3",
+    "18446744073709551615",
+    "18446744073709551616",
+    r#""x""#,
+    r#""tail""#,
+    "[]",
+    "{}",
+];
+
+/// Which of the values are of a kind.
+const TEXTS: &[&str] = &[r#""x""#, r#""tail""#];
+
+const FLAGS: &[&str] = &["true", "false"];
+
+const COUNTS: &[&str] = &["0", "18446744073709551615"];
+
+const WHOLES: &[&str] = &["0", "-1"];
+
+const ACCESSES: &[&str] = &[r#""tail""#];
+
+const OBJECTS: &[&str] = &["{}"];
+
+/// Members that other fields are tried beside.
+const CODE: &str = r#""code":"","#;
+
+const TAIL: &str = r#""hist_access_type":"tail","#;
+
+const COMM: &str = r#""comm_id":"c","#;
+
+/// The fields of all requests: the members beside one, whether it may be missing, and which of the values it may have.
+const FIELDS: [(&str, &str, Field, bool, &[&str]); 23] = [
+    ("execute_request", "", Field::Code, false, TEXTS),
+    ("execute_request", CODE, Field::Silent, true, FLAGS),
+    ("execute_request", CODE, Field::StoreHistory, true, FLAGS),
+    (
+        "execute_request",
+        CODE,
+        Field::UserExpressions,
+        true,
+        OBJECTS,
+    ),
+    ("complete_request", "", Field::Code, false, TEXTS),
+    ("complete_request", CODE, Field::CursorPos, true, COUNTS),
+    ("inspect_request", "", Field::Code, false, TEXTS),
+    ("inspect_request", CODE, Field::CursorPos, true, COUNTS),
+    ("is_complete_request", "", Field::Code, false, TEXTS),
+    (
+        "history_request",
+        "",
+        Field::HistAccessType,
+        false,
+        ACCESSES,
+    ),
+    ("history_request", TAIL, Field::Output, true, FLAGS),
+    ("history_request", TAIL, Field::Session, true, WHOLES),
+    ("history_request", TAIL, Field::Start, true, COUNTS),
+    ("history_request", TAIL, Field::Stop, true, COUNTS),
+    ("history_request", TAIL, Field::N, true, COUNTS),
+    ("comm_info_request", "", Field::TargetName, true, TEXTS),
+    ("shutdown_request", "", Field::Restart, true, FLAGS),
+    (
+        "comm_open",
+        r#""target_name":"t","data":{},"#,
+        Field::CommId,
+        false,
+        TEXTS,
+    ),
+    (
+        "comm_open",
+        r#""comm_id":"c","data":{},"#,
+        Field::TargetName,
+        false,
+        TEXTS,
+    ),
+    (
+        "comm_open",
+        r#""comm_id":"c","target_name":"t","#,
+        Field::Data,
+        false,
+        OBJECTS,
+    ),
+    ("comm_msg", r#""data":{},"#, Field::CommId, false, TEXTS),
+    ("comm_msg", COMM, Field::Data, false, OBJECTS),
+    ("comm_close", "", Field::CommId, false, TEXTS),
+];
+
+/// The members and a last one, as an object.
+fn object_with(
     alloc: Global,
-    msg_type: &str,
-    content: &str,
-    want: Option<Field>,
-) -> Result<(), Fail> {
-    let fault = refusal_of(alloc, msg_type, content)?;
-    assert_eq!(rt; fault, want.map(MsgFault::BadField), "{msg_type} {content}");
+    members: &str,
+    name: &str,
+    value: &str,
+) -> Result<String, AllocError> {
+    format!(in alloc; "{{{members}\"{name}\":{value}}}")
+}
+
+#[test]
+fn looks_at_each_field_of_a_request(rt: HostRuntime) -> Result<(), Fail> {
+    let alloc = rt.alloc();
+    for (msg_type, members, field, may_miss, kind) in FIELDS {
+        let header = header_of(alloc, msg_type)?;
+        let wrong = Some(MsgFault::BadField(field));
+        let content = object_with(alloc, members, "other", "0")?;
+        let want = if may_miss { None } else { wrong };
+        assert_eq!(rt;
+            refusal_of(alloc, &header, &content)?,
+            want,
+            "{msg_type} {content}"
+        );
+        for value in VALUES {
+            let content = object_with(alloc, members, field.name(), value)?;
+            let passes = kind.contains(&value) || may_miss && value == "null";
+            let want = if passes { None } else { wrong };
+            assert_eq!(rt;
+                refusal_of(alloc, &header, &content)?,
+                want,
+                "{msg_type} {content}"
+            );
+        }
+    }
     Ok(())
 }
 
-/// Requests to execute, by their content, and the field that is refused.
-const EXECUTIONS: [(&str, &str, Option<Field>); 11] = [
-    ("execute_request", "{}", Some(Field::Code)),
-    ("execute_request", r#"{"code":null}"#, Some(Field::Code)),
-    ("execute_request", r#"{"code":5}"#, Some(Field::Code)),
-    ("execute_request", r#"{"code":""}"#, None),
+/// The fields of a header: the members beside one, and what is told of one that is a text.
+const HEADER_FIELDS: [(&str, Field, Option<MsgFault>); 3] = [
     (
-        "execute_request",
-        r#"{"code":"","silent":null,"store_history":null,"user_expressions":null}"#,
+        r#""session":"s","msg_type":"interrupt_request","#,
+        Field::MsgId,
         None,
     ),
     (
+        r#""msg_id":"a","msg_type":"interrupt_request","#,
+        Field::Session,
+        None,
+    ),
+    (
+        r#""msg_id":"a","session":"s","#,
+        Field::MsgType,
+        Some(MsgFault::UnknownType),
+    ),
+];
+
+#[test]
+fn looks_at_each_field_of_a_header(rt: HostRuntime) -> Result<(), Fail> {
+    let alloc = rt.alloc();
+    for (members, field, of_text) in HEADER_FIELDS {
+        let wrong = Some(MsgFault::BadField(field));
+        let header = object_with(alloc, members, "other", "0")?;
+        assert_eq!(rt; refusal_of(alloc, &header, "{}")?, wrong, "{header}");
+        for value in VALUES {
+            let header = object_with(alloc, members, field.name(), value)?;
+            let want = if TEXTS.contains(&value) {
+                of_text
+            } else {
+                wrong
+            };
+            assert_eq!(rt; refusal_of(alloc, &header, "{}")?, want, "{header}");
+        }
+    }
+    Ok(())
+}
+
+/// Contents that say more than one thing, and the field that is refused.
+const CONTENTS: [(&str, &str, Option<Field>); 14] = [
+    (
         "execute_request",
-        r#"{"code":"","silent":0}"#,
+        r#"{"user_expressions":5,"silent":5,"code":5}"#,
+        Some(Field::Code),
+    ),
+    (
+        "execute_request",
+        r#"{"user_expressions":5,"silent":5,"code":""}"#,
         Some(Field::Silent),
-    ),
-    (
-        "execute_request",
-        r#"{"code":"","store_history":"true"}"#,
-        Some(Field::StoreHistory),
-    ),
-    (
-        "execute_request",
-        r#"{"code":"","user_expressions":[]}"#,
-        Some(Field::UserExpressions),
     ),
     (
         "execute_request",
@@ -305,250 +462,161 @@ const EXECUTIONS: [(&str, &str, Option<Field>); 11] = [
     ),
     (
         "execute_request",
-        r#"{"code":"","user_expressions":5,"silent":5}"#,
-        Some(Field::Silent),
+        r#"{"code":"","user_expressions":{"a":null}}"#,
+        Some(Field::UserExpressions),
     ),
     (
         "execute_request",
         r#"{"code":"","allow_stdin":5,"stop_on_error":"x"}"#,
         None,
     ),
-];
-
-/// Requests about code, and the field that is refused.
-const CURSORS: [(&str, &str, Option<Field>); 9] = [
-    ("complete_request", r#"{"cursor_pos":0}"#, Some(Field::Code)),
-    (
-        "complete_request",
-        r#"{"code":"x","cursor_pos":-1}"#,
-        Some(Field::CursorPos),
-    ),
-    (
-        "complete_request",
-        r#"{"code":"x","cursor_pos":1.0}"#,
-        Some(Field::CursorPos),
-    ),
-    (
-        "complete_request",
-        r#"{"code":"x","cursor_pos":1e3}"#,
-        Some(Field::CursorPos),
-    ),
-    (
-        "complete_request",
-        r#"{"code":"x","cursor_pos":18446744073709551616}"#,
-        Some(Field::CursorPos),
-    ),
-    (
-        "complete_request",
-        r#"{"code":"x","cursor_pos":18446744073709551615}"#,
-        None,
-    ),
-    (
-        "inspect_request",
-        r#"{"code":"x","cursor_pos":"1"}"#,
-        Some(Field::CursorPos),
-    ),
-    (
-        "inspect_request",
-        r#"{"code":"x","cursor_pos":null,"detail_level":"no"}"#,
-        None,
-    ),
-    (
-        "is_complete_request",
-        r#"{"code":["x"]}"#,
-        Some(Field::Code),
-    ),
-];
-
-/// Requests for the history, and the field that is refused.
-const HISTORIES: [(&str, &str, Option<Field>); 9] = [
-    ("history_request", "{}", Some(Field::HistAccessType)),
+    ("inspect_request", r#"{"code":"","detail_level":"x"}"#, None),
     (
         "history_request",
-        r#"{"hist_access_type":"all"}"#,
-        Some(Field::HistAccessType),
-    ),
-    ("history_request", r#"{"hist_access_type":"search"}"#, None),
-    (
-        "history_request",
-        r#"{"hist_access_type":"tail","output":1}"#,
-        Some(Field::Output),
-    ),
-    (
-        "history_request",
-        r#"{"hist_access_type":"tail","session":-9223372036854775808}"#,
-        None,
-    ),
-    (
-        "history_request",
-        r#"{"hist_access_type":"tail","session":9223372036854775808}"#,
-        Some(Field::Session),
-    ),
-    (
-        "history_request",
-        r#"{"hist_access_type":"range","start":-1,"stop":-1}"#,
-        Some(Field::Start),
-    ),
-    (
-        "history_request",
-        r#"{"hist_access_type":"range","stop":-1,"n":-1}"#,
+        r#"{"hist_access_type":"tail","n":-1,"stop":-1,"raw":5}"#,
         Some(Field::Stop),
     ),
     (
         "history_request",
-        r#"{"hist_access_type":"tail","n":-1,"raw":5}"#,
-        Some(Field::N),
+        r#"{"hist_access_type":"range","session":-9223372036854775808}"#,
+        None,
     ),
-];
-
-/// Other requests, and the field that is refused.
-const OTHERS: [(&str, &str, Option<Field>); 11] = [
     (
-        "comm_info_request",
-        r#"{"target_name":5}"#,
-        Some(Field::TargetName),
+        "history_request",
+        r#"{"hist_access_type":"range","session":9223372036854775807}"#,
+        None,
     ),
-    ("comm_info_request", "{}", None),
+    (
+        "history_request",
+        r#"{"hist_access_type":"range","session":9223372036854775808}"#,
+        Some(Field::Session),
+    ),
     ("interrupt_request", r#"{"restart":5}"#, None),
     (
-        "shutdown_request",
-        r#"{"restart":"yes"}"#,
-        Some(Field::Restart),
-    ),
-    (
         "comm_open",
-        r#"{"target_name":"t","data":{}}"#,
+        r#"{"data":5,"comm_id":5}"#,
         Some(Field::CommId),
     ),
     (
-        "comm_open",
-        r#"{"comm_id":"c","data":{}}"#,
-        Some(Field::TargetName),
+        "comm_close",
+        r#"{"comm_id":"c","comm_id":5}"#,
+        Some(Field::CommId),
+    ),
+    (
+        "comm_close",
+        r#"{"comm_id":5,"comm_id":"c","data":5}"#,
+        None,
+    ),
+];
+
+#[test]
+fn tells_the_first_wrong_field(rt: HostRuntime) -> Result<(), Fail> {
+    let alloc = rt.alloc();
+    for (msg_type, content, field) in CONTENTS {
+        let fault = refusal_of(alloc, &header_of(alloc, msg_type)?, content)?;
+        assert_eq!(rt;
+            fault,
+            field.map(MsgFault::BadField),
+            "{msg_type} {content}"
+        );
+    }
+    Ok(())
+}
+
+/// Requests, and what is read of them, as `Debug` writes it.
+const REQUESTS: [(&str, &str, &str); 18] = [
+    ("kernel_info_request", "{}", "KernelInfo"),
+    (
+        "execute_request",
+        r#"{"code":"old","code":"\ud83d\ude00\u0041","silent":true,"user_expressions":{"b":"2","a":"1"}}"#,
+        r#"Execute(ExecuteRequest { code: "😀A", silent: true, store_history: false, user_expressions: [UserExpression { name: "a", expression: "1" }, UserExpression { name: "b", expression: "2" }] })"#,
+    ),
+    (
+        "execute_request",
+        r#"{"code":"","silent":true,"store_history":true}"#,
+        r#"Execute(ExecuteRequest { code: "", silent: true, store_history: true, user_expressions: [] })"#,
+    ),
+    (
+        "execute_request",
+        r#"{"code":"x","silent":null,"store_history":null,"user_expressions":null}"#,
+        r#"Execute(ExecuteRequest { code: "x", silent: false, store_history: true, user_expressions: [] })"#,
+    ),
+    (
+        "complete_request",
+        r#"{"code":"x"}"#,
+        r#"Complete(CompleteRequest { code: "x", cursor: None })"#,
+    ),
+    (
+        "complete_request",
+        r#"{"code":"x","cursor_pos":0}"#,
+        r#"Complete(CompleteRequest { code: "x", cursor: Some(0) })"#,
+    ),
+    (
+        "inspect_request",
+        r#"{"code":"x","cursor_pos":7}"#,
+        r#"Inspect(InspectRequest { code: "x", cursor: Some(7) })"#,
+    ),
+    (
+        "is_complete_request",
+        r#"{"code":"if x"}"#,
+        r#"IsComplete(IsCompleteRequest { code: "if x" })"#,
+    ),
+    (
+        "history_request",
+        r#"{"hist_access_type":"search","output":true,"session":-1,"start":2,"stop":9,"n":3}"#,
+        "History(HistoryRequest { access: Search, output: true, session: -1, start: 2, stop: Some(9), n: 3 })",
+    ),
+    (
+        "history_request",
+        r#"{"hist_access_type":"range"}"#,
+        "History(HistoryRequest { access: Range, output: false, session: 0, start: 1, stop: None, n: 10 })",
+    ),
+    (
+        "comm_info_request",
+        r#"{"target_name":"t"}"#,
+        r#"CommInfo(CommInfoRequest { target_name: Some("t") })"#,
+    ),
+    (
+        "comm_info_request",
+        "{}",
+        "CommInfo(CommInfoRequest { target_name: None })",
+    ),
+    ("interrupt_request", "{}", "Interrupt"),
+    (
+        "shutdown_request",
+        "{}",
+        "Shutdown(ShutdownRequest { restart: false })",
+    ),
+    (
+        "shutdown_request",
+        r#"{"restart":true}"#,
+        "Shutdown(ShutdownRequest { restart: true })",
     ),
     (
         "comm_open",
-        r#"{"comm_id":"c","target_name":"t","data":null}"#,
-        Some(Field::Data),
+        r#"{"comm_id":"c","target_name":"t","data":{}}"#,
+        r#"CommOpen(CommOpen { comm_id: "c", target_name: "t" })"#,
     ),
-    ("comm_msg", r#"{"comm_id":"c"}"#, Some(Field::Data)),
     (
         "comm_msg",
-        r#"{"comm_id":"c","data":"undo"}"#,
-        Some(Field::Data),
-    ),
-    ("comm_close", r#"{"comm_id":null}"#, Some(Field::CommId)),
-    ("comm_close", r#"{"comm_id":"c"}"#, None),
-];
-
-#[test]
-fn refuses_a_wrong_field_of_an_execution(rt: HostRuntime) -> Result<(), Fail> {
-    for (msg_type, content, want) in EXECUTIONS {
-        refused(&rt, rt.alloc(), msg_type, content, want)?;
-    }
-    Ok(())
-}
-
-#[test]
-fn refuses_a_wrong_cursor(rt: HostRuntime) -> Result<(), Fail> {
-    for (msg_type, content, want) in CURSORS {
-        refused(&rt, rt.alloc(), msg_type, content, want)?;
-    }
-    Ok(())
-}
-
-#[test]
-fn refuses_a_wrong_field_of_a_history(rt: HostRuntime) -> Result<(), Fail> {
-    for (msg_type, content, want) in HISTORIES {
-        refused(&rt, rt.alloc(), msg_type, content, want)?;
-    }
-    Ok(())
-}
-
-#[test]
-fn refuses_a_wrong_field_of_a_comm(rt: HostRuntime) -> Result<(), Fail> {
-    for (msg_type, content, want) in OTHERS {
-        refused(&rt, rt.alloc(), msg_type, content, want)?;
-    }
-    Ok(())
-}
-
-/// Headers, and why they are refused.
-const HEADERS: [(&[u8], MsgFault); 5] = [
-    (
-        b"{\"session\":\"s\",\"msg_type\":5}",
-        MsgFault::BadField(Field::MsgId),
+        r#"{"comm_id":"c","data":{"op":"undo","n":1}}"#,
+        r#"CommMessage(CommMessage { comm_id: "c", ask: Undo(1) })"#,
     ),
     (
-        b"{\"msg_id\":\"a\",\"msg_type\":5}",
-        MsgFault::BadField(Field::Session),
-    ),
-    (
-        b"{\"msg_id\":\"a\",\"session\":\"s\",\"msg_type\":null}",
-        MsgFault::BadField(Field::MsgType),
-    ),
-    (
-        b"{\"msg_id\":\"a\",\"session\":\"s\",\"msg_type\":\"input_reply\"}",
-        MsgFault::UnknownType,
-    ),
-    (
-        b"{\"msg_id\":\"a\",\"session\":\"s\",\"msg_type\":\"comm_msg\",\"msg_type\":\"x\"}",
-        MsgFault::UnknownType,
+        "comm_close",
+        r#"{"comm_id":"c"}"#,
+        r#"CommClose(CommClose { comm_id: "c" })"#,
     ),
 ];
 
 #[test]
-fn wants_three_texts_of_a_header(rt: HostRuntime) -> Result<(), Fail> {
+fn reads_each_request(rt: HostRuntime) -> Result<(), Fail> {
     let alloc = rt.alloc();
-    for (header, want) in HEADERS {
-        let frames = [b"<IDS|MSG>".as_slice(), b"", header, b"{}", b"{}", b"{}"];
-        let message = open(alloc, copied(alloc, &frames)?, b"")?;
-        assert_eq!(rt; Request::read(alloc, &message).err(), Some(want));
+    for (msg_type, content, want) in REQUESTS {
+        let message = message_of(alloc, &header_of(alloc, msg_type)?, content)?;
+        let request = Request::read(alloc, &message)?;
+        assert_eq!(rt; format!(in alloc; "{request:?}")?.as_str(), want);
     }
-    Ok(())
-}
-
-#[test]
-fn reads_the_values_of_fields(rt: HostRuntime) -> Result<(), Fail> {
-    let alloc = rt.alloc();
-    let message = message_of(
-        alloc,
-        "execute_request",
-        r#"{"code":"old","code":"\ud83d\ude00\u0041\n","silent":true,"user_expressions":{"b":"2","a":"1"}}"#,
-    )?;
-    let Request::Execute(request) = Request::read(alloc, &message)? else {
-        return Err(Fail::from("no execute_request"));
-    };
-    assert_eq!(rt; request.code.as_str(), "😀A\n");
-    assert!(rt; request.silent && !request.store_history);
-    assert_eq!(rt; request.user_expressions.len(), 2);
-    assert_eq!(rt; request.user_expressions[0].name.as_str(), "a");
-    assert_eq!(rt; request.user_expressions[1].expression.as_str(), "2");
-
-    let message = message_of(
-        alloc,
-        "history_request",
-        r#"{"hist_access_type":"range","session":-1,"stop":7}"#,
-    )?;
-    let Request::History(request) = Request::read(alloc, &message)? else {
-        return Err(Fail::from("no history_request"));
-    };
-    assert_eq!(rt; request.access, HistoryAccess::Range);
-    assert!(rt; !request.output);
-    assert_eq!(rt; request.session, -1);
-    assert_eq!(rt; (request.start, request.n), (1, 10));
-    assert_eq!(rt; request.stop, Some(7));
-
-    let message = message_of(alloc, "is_complete_request", r#"{"code":"if x"}"#)?;
-    let Request::IsComplete(request) = Request::read(alloc, &message)? else {
-        return Err(Fail::from("no is_complete_request"));
-    };
-    assert_eq!(rt; request.code.as_str(), "if x");
-
-    let message = message_of(alloc, "shutdown_request", r#"{"restart":true}"#)?;
-    let Request::Shutdown(request) = Request::read(alloc, &message)? else {
-        return Err(Fail::from("no shutdown_request"));
-    };
-    assert!(rt; request.restart);
     Ok(())
 }
 
@@ -570,7 +638,7 @@ fn reads_what_a_comm_asks(rt: HostRuntime) -> Result<(), Fail> {
     let alloc = rt.alloc();
     for (data, want) in ASKS {
         let content = format!(in alloc; "{{\"comm_id\":\"c\",\"data\":{data}}}")?;
-        let message = message_of(alloc, "comm_msg", &content)?;
+        let message = message_of(alloc, &header_of(alloc, "comm_msg")?, &content)?;
         let Request::CommMessage(request) = Request::read(alloc, &message)? else {
             return Err(Fail::from("no comm_msg"));
         };

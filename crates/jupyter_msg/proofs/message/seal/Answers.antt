@@ -1,11 +1,11 @@
 use Rattle.std.proofs.Common.{arith, ◌≡◌}
 use Rattle.std.proofs.lemmas.Grind.{common_steps}
 use Rattle.jupyter_msg.specs.Octets.{octets, octets_of}
-use Rattle.jupyter_msg.specs.Message.{sealed}
+use Rattle.jupyter_msg.specs.Message.{frames_of}
 use Rattle.jupyter_msg.proofs.OpenLemmas.{sealed_is_message}
 use Rattle.jupyter_msg.proofs.message.seal.Goals as goal
 
 pub returns-clause-opens : goal.returns-clause-opens
 returns-clause-opens c =
-    let e : octets c.push_copies-2.new.frames.items ≡ sealed c.args.key.now (octets_of c.args.message.now) = grind (arith, common_steps) in
+    let e : octets c.push_copies-2.new.frames.items ≡ frames_of c.args.key.now (octets_of c.args.message.now) = grind (arith, common_steps) in
     sealed_is_message c.args.key.now (octets_of c.args.message.now) _ e

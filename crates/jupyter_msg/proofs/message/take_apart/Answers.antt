@@ -1,6 +1,6 @@
 use Rattle.std.proofs.Common.{arith}
 use Rattle.jupyter_msg.proofs.CutLemmas.{popped, after_apart}
-use Rattle.jupyter_msg.proofs.message.taken_apart.Goals as goal
+use Rattle.jupyter_msg.proofs.message.take_apart.Goals as goal
 
 pub returns-clause-after : goal.returns-clause-after
 returns-clause-after c =

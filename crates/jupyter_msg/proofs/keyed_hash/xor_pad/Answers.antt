@@ -1,7 +1,7 @@
 use Rattle.std.proofs.Common.{arith, bit_xor, get_or, ◌<◌, length}
 use Rattle.std.proofs.lemmas.List.{get_or_default}
 use Rattle.std.proofs.lemmas.List.Edits.{map_over_more}
-use Rattle.jupyter_msg.proofs.keyed_hash.padded.Goals as goal
+use Rattle.jupyter_msg.proofs.keyed_hash.xor_pad.Goals as goal
 
 pub loop-octet-preserved : goal.loop-octet-preserved
 loop-octet-preserved c =
