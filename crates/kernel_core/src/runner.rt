@@ -1,6 +1,6 @@
 //! The one store, and the place in the code of the open cell.
 //!
-//! All that stands above knows the machine of Janus by these contracts alone.
+//! It alone runs the machine of Janus: what stands above runs cells by these contracts.
 ghost use Rattle.std.specs.Prelude.{◌≡◌, ℕ, ◌+◌, ◌-◌, ◌^◌, ◌<◌, [], List, length, map, string_bytes, IfOk, OnOk, OnErr, IsOk, true, false};
 ghost use Rattle.janus_meaning.specs.Store.{Store as TheStore};
 ghost use Rattle.janus_meaning.specs.Formed.{shape_of};
