@@ -1,5 +1,5 @@
 //! The history: the tree of cells, the one store, and the open job. It is what a kernel has besides its queue.
-ghost use Rattle.std.specs.Prelude.{◌≡◌, ◌+◌, ◌<◌, ◌^◌, IfOk, OnOk, OnErr, true};
+ghost use Rattle.std.specs.Prelude.{◌≡◌, IfOk, OnOk, OnErr};
 ghost use Rattle.kernel_core.specs.State.{State, Idle, here, Shown, new_state};
 ghost use Rattle.kernel_core.specs.Fields.{past_of, nodes_of};
 ghost use Rattle.kernel_core.specs.Legal.{IsLegal, IsPossible, IsPossibleAt, IsCounted, can_go};

@@ -1,5 +1,5 @@
 //! The kernel: its history, and the queue of posted jobs.
-ghost use Rattle.std.specs.Prelude.{◌≡◌, ◌+◌, ◌++◌, ◌∷◌, ◌<◌, IfOk, OnErr, OnOk, string_bytes};
+ghost use Rattle.std.specs.Prelude.{◌≡◌, IfOk};
 ghost use Rattle.kernel_core.specs.State.{Idle, Shown, here};
 ghost use Rattle.kernel_core.specs.Legal.{IsLegal, IsPossibleAt};
 ghost use Rattle.kernel_core.specs.Runs.{Machine, new_machine, request_of, IsPost, IsBegin, IsSliceOf, Takes};
