@@ -150,14 +150,17 @@ end_world s travel = elim travel.way [
   | Down ↦ world_at s (favourite_of s s.position)
 ]
 
--- The code leads there in those steps. A slice before the last of them goes on, and the slice with it settles the cell: not earlier, not
--- later.
+-- A slice before the cell's last step goes on, and the slice with that step settles the cell: not earlier, not later.
+abbrev pub SettlesAtLastStep : Past → Travel → ℕ → ℕ → Sliced → State → Type 0
+SettlesAtLastStep s travel c m told new =
+    ((c + m < steps_of s travel) × (told ≡ sliced.Going)
+    × (new ≡ record { past = s; job = Inside (record { work = Move travel; count = c + m; turn = GoesOn }) }))
+    ⊎ ((steps_of s travel ≤ c + m) × Settles s (Move travel) (steps_of s travel) (end_world s travel) told new)
+
+-- The code leads there in those steps, and the cell settles with the last of them.
 abbrev pub IsOnTime : Past → Travel → ℕ → ℕ → Sliced → State → Type 0
 IsOnTime s travel c m told new =
-    Exec (code_of s (Move travel)) (here s) (steps_of s travel) (end_world s travel)
-    × ((c + m < steps_of s travel) × (told ≡ sliced.Going)
-    × (new ≡ record { past = s; job = Inside (record { work = Move travel; count = c + m; turn = GoesOn }) })
-    ⊎ (steps_of s travel ≤ c + m) × Settles s (Move travel) (steps_of s travel) (end_world s travel) told new)
+    Exec (code_of s (Move travel)) (here s) (steps_of s travel) (end_world s travel) × SettlesAtLastStep s travel c m told new
 
 -- A cell is undone by its inverted code, and redone by its code, in as many steps as it took.
 abbrev pub SettlesOnTime : Type 0
