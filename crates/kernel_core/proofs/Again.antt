@@ -2,21 +2,16 @@
 use Rattle.std.proofs.Common.{◌≡◌, ℕ, ◌-◌, ◌<◌, IsTrue, List, get_or, zero, suc, refl, ap, ◌∙◌, subst, arith, inl, inr}
 use Rattle.kernel_core.specs.State.{Node, Past, Idle, State, root}
 use Rattle.kernel_core.specs.Legal.{ancestor, can_undo, IsLegal}
-use Rattle.kernel_core.specs.Theorems.{next, along, standing, MoveEnds, RedoGivesBack}
-use Rattle.kernel_core.specs.declared.job.Way.{Way}
+use Rattle.kernel_core.specs.Theorems.{descendant, standing, MoveEnds, RedoGivesBack}
 use Rattle.kernel_core.specs.declared.job.Way.TheVariants.{Up, Down}
 use Rattle.kernel_core.specs.declared.outcome.End.TheVariants.{All}
 use Rattle.kernel_core.specs.declared.outcome.Outcome.TheVariants as outcome
 use Rattle.kernel_core.proofs.Trees.{undo_above, ancestor_of_parent}
 use Rattle.kernel_core.proofs.Jobs.{moves_end}
 
-along_up : (nodes : List Node) (favourites : List ℕ) (n j : ℕ) → along nodes favourites Up n j ≡ ancestor nodes n j
-along_up nodes favourites n zero = refl
-along_up nodes favourites n (suc j) = ap (λ (k : ℕ). (get_or nodes k root).parent) (along_up nodes favourites n j)
-
-along_first : (nodes : List Node) (favourites : List ℕ) (way : Way) (n j : ℕ) → along nodes favourites way n (suc j) ≡ along nodes favourites way (next nodes favourites way n) j
-along_first nodes favourites way n zero = refl
-along_first nodes favourites way n (suc j) = ap (λ (k : ℕ). next nodes favourites way k) (along_first nodes favourites way n j)
+descendant_first : (favourites : List ℕ) (n j : ℕ) → descendant favourites n (suc j) ≡ descendant favourites (get_or favourites n 0) j
+descendant_first favourites n zero = refl
+descendant_first favourites n (suc j) = ap (λ (k : ℕ). get_or favourites k 0) (descendant_first favourites n j)
 
 -- an undo that can be done stays above the root
 all_above : (nodes : List Node) (n k j : ℕ) → IsTrue (can_undo nodes n k) → j < k → 0 < ancestor nodes n j
@@ -29,34 +24,31 @@ all_above nodes n (suc k) (suc j) h l =
     subst (λ (x : ℕ). 0 < x) (ancestor_of_parent nodes n j) (all_above nodes (get_or nodes n root).parent k j rest (omega arith))
 
 -- along the favourites back down
-back_down : (s : Past) (k : ℕ) → IsLegal s → ((j : ℕ) → j < k → 0 < ancestor s.nodes s.position j) → along s.nodes s.favourites Down (ancestor s.nodes s.position k) k ≡ s.position
+back_down : (s : Past) (k : ℕ) → IsLegal s → ((j : ℕ) → j < k → 0 < ancestor s.nodes s.position j) → descendant s.favourites (ancestor s.nodes s.position k) k ≡ s.position
 back_down s zero g above = refl
 back_down s (suc k) g above =
-    along_first s.nodes s.favourites Down (ancestor s.nodes s.position (suc k)) k
-    ∙ ap (λ (n : ℕ). along s.nodes s.favourites Down n k) (g.favoured k (above k (omega arith)))
+    descendant_first s.favourites (ancestor s.nodes s.position (suc k)) k
+    ∙ ap (λ (n : ℕ). descendant s.favourites n k) (g.favoured k (above k (omega arith)))
     ∙ back_down s k g (λ j l. above j (omega arith))
 
 there_and_back : (s : Past) (k : ℕ) → IsLegal s → IsTrue (can_undo s.nodes s.position k) → standing (standing s Up k) Down k ≡ s
 there_and_back s k g can =
-    let up : along s.nodes s.favourites Up s.position k ≡ ancestor s.nodes s.position k = along_up s.nodes s.favourites s.position k in
-    let down : along s.nodes s.favourites Down (along s.nodes s.favourites Up s.position k) k ≡ s.position =
-    ap (λ (n : ℕ). along s.nodes s.favourites Down n k) up ∙ back_down s k g (λ j l. all_above s.nodes s.position k j can l) in
-    ap (λ (n : ℕ). record s { position = n }) down
+    ap (λ (n : ℕ). record s { position = n }) (back_down s k g (λ j l. all_above s.nodes s.position k j can l))
 
 undid : (s : Past) (k : ℕ) (new : State) → MoveEnds s Up k (outcome.Undid k All) new → (new ≡ record { past = standing s Up k; job = Idle }) × IsTrue (can_undo s.nodes s.position k)
 undid s k new m = elim m [
   | inl r ↦ absurd (let e = r.0 in cc)
-  | inr r ↦ (let e : outcome.Undid k All ≡ outcome.Undid r.0 r.1 = r.2 in
+  | inr r ↦ (let e : outcome.Undid k All ≡ outcome.Undid r.0 r.1 = r.2.tells in
       let j : r.0 ≡ k = cc in
-      (r.3 ∙ ap (λ (n : ℕ). record { past = standing s Up n; job = Idle }) j, r.5))
+      (r.2.stands ∙ ap (λ (n : ℕ). record { past = standing s Up n; job = Idle }) j, r.2.can))
 ]
 
 redid : (s : Past) (k : ℕ) (new : State) → MoveEnds s Down k (outcome.Redid k All) new → new ≡ record { past = standing s Down k; job = Idle }
 redid s k new m = elim m [
   | inl r ↦ absurd (let e = r.0 in cc)
-  | inr r ↦ (let e : outcome.Redid k All ≡ outcome.Redid r.0 r.1 = r.2 in
+  | inr r ↦ (let e : outcome.Redid k All ≡ outcome.Redid r.0 r.1 = r.2.tells in
       let j : r.0 ≡ k = cc in
-      r.3 ∙ ap (λ (n : ℕ). record { past = standing s Down n; job = Idle }) j)
+      r.2.stands ∙ ap (λ (n : ℕ). record { past = standing s Down n; job = Idle }) j)
 ]
 
 pub redo_gives_back : RedoGivesBack

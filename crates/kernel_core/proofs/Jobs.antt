@@ -1,16 +1,16 @@
 -- What a job keeps from its begin to its end, over any events.
-use Rattle.std.proofs.Common.{◌≡◌, ℕ, ◌+◌, ◌-◌, ◌<◌, Bool, true, false, IsTrue, List, [], ◌∷◌, length, zero, suc, refl, sym, ap, subst, arith, inl, inr, Result, Ok, Err, add-one}
+use Rattle.std.proofs.Common.{◌≡◌, ℕ, ◌+◌, ◌-◌, ◌<◌, Bool, true, false, IsTrue, List, [], ◌∷◌, length, get_or, zero, suc, refl, sym, ap, subst, arith, inl, inr, Result, Ok, Err, add-one}
 use Rattle.janus_meaning.specs.World.{World, Cell, entered}
 use Rattle.kernel_core.specs.Language.{Forward}
 use Rattle.kernel_core.specs.Reached.{Reaches}
 use Rattle.kernel_core.specs.Text.{Accepts}
-use Rattle.kernel_core.specs.State.{Past, Work, Posted, Move, Job as Open, Idle, Border, Inside, State, here}
+use Rattle.kernel_core.specs.State.{Past, Work, Posted, Move, Job as Open, Idle, Border, Inside, State, Node, root, here}
 use Rattle.kernel_core.specs.Legal.{can_go}
-use Rattle.kernel_core.proofs.Laws.{part_zero_forward, exec_some}
+use Rattle.kernel_core.proofs.LanguageLaws.{part_zero_forward, exec_some}
 use Rattle.kernel_core.specs.Slices.{finished, turned, grown, Backs, Arrives, Settles, Comes, SlicesIn, SlicesAt}
-use Rattle.kernel_core.specs.Begins.{Enters, TakesMove, TakesCell}
+use Rattle.kernel_core.specs.Begins.{Declares, Enters, TakesMove, TakesCell}
 use Rattle.kernel_core.specs.Runs.{Machine, Request, request_of, Step, Run, IsPost, BeginsAt, Takes}
-use Rattle.kernel_core.specs.Theorems.{next, along, standing, move_of, EndsAs, MoveEnds, CellEnds, IsUnderWay, MeetsFault, IsNoNode, MovesEnd, CellsEnd}
+use Rattle.kernel_core.specs.Theorems.{along, standing, move_of, EndsAs, MoveEnds, CellEnds, IsUnderWay, MeetsFault, IsNoNode, MovesEnd, CellsEnd}
 use Rattle.kernel_core.specs.declared.runner.Ran.{Ran}
 use Rattle.kernel_core.specs.declared.runner.Ran.TheVariants.{Went, Ended, Stopped}
 use Rattle.kernel_core.specs.declared.job.Way.{Way}
@@ -80,12 +80,21 @@ to_end keeps ends step old (d ∷ events) (told.Slice sliced.Backing ∷ answers
 to_end keeps ends step old (d ∷ events) (told.Slice (sliced.Ended p) ∷ answers) new o k r e = at_end ends r.0 events answers new p o (step old d (told.Slice (sliced.Ended p)) r.0 k r.1) r.2 e.0 e.1
 
 -- a post changes the queue alone
-post_keeps : (old : Machine) (posted : Request) (answer : Result ℕ PostFault) (new : Machine) → IsPost old posted answer new → new.state ≡ old.state
+pub post_keeps : (old : Machine) (posted : Request) (answer : Result ℕ PostFault) (new : Machine) → IsPost old posted answer new → new.state ≡ old.state
 post_keeps old posted (Ok n) new s = ap (λ (m : Machine). m.state) s.2
 post_keeps old posted (Err QueueFull) new s = ap (λ (m : Machine). m.state) s.1
 post_keeps old posted (Err NoRoom) new s = ap (λ (m : Machine). m.state) s
 
 -- ---- an undo or a redo
+
+-- one node up, or down to the favourite
+abbrev pub next : List Node → List ℕ → Way → ℕ → ℕ
+next nodes favourites Up n = (get_or nodes n root).parent
+next nodes favourites Down n = get_or favourites n 0
+
+standing_start : (s : Past) (way : Way) → s ≡ standing s way 0
+standing_start s Up = refl
+standing_start s Down = refl
 
 record IsStage (p : Past) (way : Way) (k : ℕ) (s : Past) (t : Travel) : Type 0 where
   same_way : t.way ≡ way
@@ -119,14 +128,31 @@ begun_at keeps ends a told s new e f h = rw (e, f) h
 finished_same : (t : Travel) (way : Way) (end : End) → t.way ≡ way → finished t end ≡ finished (record { way = way; left = 0; done = t.done }) end
 finished_same t way end e = rw e refl
 
+declares_same : (s : Past) (t : Travel) (way : Way) → t.way ≡ way → Declares s t → Declares s (record { way = way; left = 0; done = t.done })
+declares_same s t way e d = rw e at d
+
 -- a job that ends at this border, not having done all
-ends_here : (p : Past) (way : Way) (k : ℕ) (s : Past) (t : Travel) (end : End) → IsStage p way k s t → (end ≡ All → ⊥) → MoveEnds p way k (finished t end) (record { past = s; job = Idle })
-ends_here p way k s t end i not_all =
-    inr (t.done, end, finished_same t way end i.same_way, ap (λ (x : Past). record { past = x; job = Idle }) i.stands, (λ e. absurd (not_all e)), i.can)
+ends_here : (p : Past) (way : Way) (k : ℕ) (s : Past) (t : Travel) (end : End) → IsStage p way k s t → (end ≡ All → ⊥) → (end ≡ NoMemory → Declares s t) →
+    MoveEnds p way k (finished t end) (record { past = s; job = Idle })
+ends_here p way k s t end i not_all short =
+    let count = i.count in
+    let some = i.some in
+    inr (
+      t.done,
+      end,
+      record {
+        tells = finished_same t way end i.same_way;
+        stands = ap (λ (x : Past). record { past = x; job = Idle }) i.stands;
+        within = omega arith;
+        all = ((λ e. absurd (not_all e)), (λ e. absurd (omega arith)));
+        no_memory = λ e. subst (λ (x : Past). Declares x (record { way = way; left = 0; done = t.done })) i.stands (declares_same s t way i.same_way (short e));
+        can = i.can;
+      },
+    )
 
 backs_move : (p : Past) (way : Way) (k : ℕ) (s : Past) (t : Travel) (why : Why) (c : ℕ) (told : Sliced) (new : State) → IsStage p way k s t → Backs s (Move t) why c told new → Sliced-move p way k told new
 backs_move p way k s t why zero told new i b =
-    sliced_at _ _ (sliced.Ended (finished t Asked)) told (record { past = s; job = Idle }) new b.0 b.1 (ends_here p way k s t Asked i (λ e. cc))
+    sliced_at _ _ (sliced.Ended (finished t Asked)) told (record { past = s; job = Idle }) new b.0 b.1 (ends_here p way k s t Asked i (λ e. cc) (λ e. absurd (cc)))
 backs_move p way k s t why (suc c) told new i b =
     sliced_at _ _ sliced.Backing told (record { past = s; job = Inside (record { work = Move t; count = suc c; turn = GoesBack why }) }) new b.0 b.1 i
 
@@ -145,7 +171,18 @@ arrives_move p way k s t zero told new i l a =
     let some = i.some in
     let done : t.done + 1 ≡ k = omega arith in
     sliced_at _ _ (sliced.Ended (finished (record { way = way; left = 0; done = t.done + 1 }) All)) told (record { past = record s { position = next s.nodes s.favourites way s.position }; job = Idle }) new a.0 a.1
-    (inr (t.done + 1, All, refl, ap (λ (x : Past). record { past = x; job = Idle }) (further p way t.done s i.stands), (λ _. done), i.can))
+    (inr (
+      t.done + 1,
+      All,
+      record {
+        tells = refl;
+        stands = ap (λ (x : Past). record { past = x; job = Idle }) (further p way t.done s i.stands);
+        within = omega arith;
+        all = ((λ _. done), (λ _. refl));
+        no_memory = λ e. absurd (cc);
+        can = i.can;
+      },
+    ))
 arrives_move p way k s t (suc left) told new i l a =
     let count = i.count in
     let some = i.some in
@@ -178,7 +215,7 @@ slice_at_move p way k s (Inside e) m asked told new i a = slice_in_move p way k 
 enters_move : (p : Past) (way : Way) (k : ℕ) (s : Past) (t : Travel) (answer : Begun) (new : State) → IsStage p way k s t → Enters s t answer new → ThenBegun (Keeps p way k) (MoveEnds p way k) answer new
 enters_move p way k s t answer new i a = elim a [
   | inl b ↦ begun_at _ _ begun.Going answer (record { past = s; job = Inside (record { work = Move t; count = 0; turn = GoesOn }) }) new b.0 b.1 i
-  | inr b ↦ begun_at _ _ (begun.Ended (finished t NoMemory)) answer (record { past = s; job = Idle }) new b.0 b.2 (ends_here p way k s t NoMemory i (λ e. cc))
+  | inr b ↦ begun_at _ _ (begun.Ended (finished t NoMemory)) answer (record { past = s; job = Idle }) new b.0 b.2 (ends_here p way k s t NoMemory i (λ e. cc) (λ e. b.1))
 ]
 
 begins_at_move : (p : Past) (way : Way) (k : ℕ) (old : Machine) (job : Open) (queue : List Request) (answer : Begun) (new : Machine) → KeepsAt p way k old.state.past job → BeginsAt old job queue answer new →
@@ -206,9 +243,10 @@ takes_move : (s : Past) (way : Way) (k : ℕ) (can : Bool) (answer : Begun) (new
 takes_move s way k false answer new c a =
     begun_at _ _ (begun.Ended (outcome.Refused TooFar)) answer (record { past = s; job = Idle }) new a.0 a.1 (inl (refl, refl, c))
 takes_move s way zero true answer new c a =
-    begun_at _ _ (begun.Ended (finished (record { way = way; left = 0; done = 0 }) All)) answer (record { past = s; job = Idle }) new a.0 a.1 (inr (0, All, refl, refl, (λ _. refl), c))
+    begun_at _ _ (begun.Ended (finished (record { way = way; left = 0; done = 0 }) All)) answer (record { past = s; job = Idle }) new a.0 a.1
+    (inr (0, All, record { tells = refl; stands = ap (λ (x : Past). record { past = x; job = Idle }) (standing_start s way); within = omega arith; all = ((λ _. refl), (λ _. refl)); no_memory = λ e. absurd (cc); can = c }))
 takes_move s way (suc k) true answer new c a =
-    enters_move s way (suc k) s (record { way = way; left = suc k; done = 0 }) answer new (record { same_way = refl; count = omega arith; some = omega arith; stands = refl; can = c }) a
+    enters_move s way (suc k) s (record { way = way; left = suc k; done = 0 }) answer new (record { same_way = refl; count = omega arith; some = omega arith; stands = standing_start s way; can = c }) a
 
 takes_job : (s : Past) (way : Way) (k : ℕ) (answer : Begun) (new : State) → Takes s (move_of way k) answer new → ThenBegun (Keeps s way k) (MoveEnds s way k) answer new
 takes_job s Up k answer new a = takes_move s Up k _ answer new refl a

@@ -1,4 +1,4 @@
-pub mod Laws
+pub mod LanguageLaws
 pub mod Declared
 pub mod Texts
 pub mod Entries
@@ -11,3 +11,8 @@ pub mod Jobs
 pub mod Again
 pub mod OnTime
 pub mod Paths
+pub mod Stays
+pub mod Reach
+pub mod Places
+pub mod Refusals
+pub mod Determined

@@ -13,7 +13,7 @@ use Rattle.kernel_core.specs.declared.job.Travel.{Travel}
 use Rattle.kernel_core.specs.declared.job.Way.{Way}
 use Rattle.kernel_core.specs.declared.job.Way.TheVariants.{Up, Down}
 use Rattle.kernel_core.specs.declared.outcome.Sliced.{Sliced}
-use Rattle.kernel_core.proofs.Laws.{exec_inverted, part_inverted, exec_no_stop, exec_same}
+use Rattle.kernel_core.proofs.LanguageLaws.{exec_inverted, part_inverted, exec_no_stop, exec_same}
 use Rattle.kernel_core.proofs.Trees.{run_above, run_below}
 use Rattle.kernel_core.proofs.Standing.{up_possible, down_possible}
 
@@ -30,14 +30,18 @@ never_faults s travel m j fault w g p r = exec_no_stop _ _ _ _ _ _ (ran_to_end s
 
 comes_on_time : (s : Past) (travel : Travel) (c m : ℕ) (ran : Ran) (w : World) (told : Sliced) (new : State) → IsLegal s → IsPossible s.nodes s.favourites s.position travel →
     Reaches (code_of s (Move travel)) (here s) (c + m) ran w → Comes s (Move travel) (c + m) ran w told new → IsOnTime s travel c m told new
-comes_on_time s travel c m Went w told new g p r a = inl (r.1 (steps_of s travel) (end_world s travel) (ran_to_end s travel g p), a.0, a.1)
+comes_on_time s travel c m Went w told new g p r a =
+    let ran = ran_to_end s travel g p in
+    (ran, inl (r.1 (steps_of s travel) (end_world s travel) ran, a.0, a.1))
 comes_on_time s travel c m (Ended n) w told new g p r a =
     let same = exec_same (code_of s (Move travel)) (here s) n (steps_of s travel) w (end_world s travel) r.0 (ran_to_end s travel g p) in
     let steps : n ≡ steps_of s travel = same.0 in
-    let low : n ≤ c + m = r.1 in
-    inr (
-      subst (λ (x : ℕ). x ≤ c + m) steps low,
-      subst (λ (x : World). Settles s (Move travel) (steps_of s travel) x told new) same.1 (subst (λ (x : ℕ). Settles s (Move travel) x w told new) steps a),
+    let low : n ≤ c + m = r.1 in (
+      ran_to_end s travel g p,
+      inr (
+        subst (λ (x : ℕ). x ≤ c + m) steps low,
+        subst (λ (x : World). Settles s (Move travel) (steps_of s travel) x told new) same.1 (subst (λ (x : ℕ). Settles s (Move travel) x w told new) steps a),
+      ),
     )
 comes_on_time s travel c m (Stopped j fault) w told new g p r a = absurd (never_faults s travel (c + m) j fault w g p r)
 

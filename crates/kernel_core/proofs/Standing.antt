@@ -7,7 +7,7 @@ use Rattle.kernel_core.specs.Language.{IsFormed, IsSound, Code, Forward, Backwar
 use Rattle.kernel_core.specs.State as state
 use Rattle.kernel_core.specs.State.{State, Past, new_state, root, node_at, world_at, here, favourite_of, code_of, ShownAt, worlds_from}
 use Rattle.kernel_core.specs.Fields.{node_of, nodes_of, work_of, job_of, past_of, state_of}
-use Rattle.kernel_core.specs.Legal.{can_undo, can_redo, can_go, IsLegal, IsPossible, IsPossibleWork}
+use Rattle.kernel_core.specs.Legal.{can_undo, can_redo, can_go, IsLegal, IsPossible, IsPossibleWork, IsCounted}
 use Rattle.kernel_core.specs.Slices.{grown, Arrives, Settles, HasEnded}
 use Rattle.kernel_core.specs.Begins.{IsOutside, Declares}
 use Rattle.kernel_core.specs.Program.{cell_of_program}
@@ -27,7 +27,7 @@ use Rattle.kernel_core.specs.declared.job.Turn.{Turn}
 use Rattle.kernel_core.specs.declared.job.Turn.TheVariants.{Going as GoesOn}
 use Rattle.kernel_core.specs.declared.job.Open.{Open}
 use Rattle.kernel_core.specs.declared.job.Open.TheVariants.{Idle, Border, Inside}
-use Rattle.kernel_core.proofs.Laws.{part_none_forward, part_none_backward, exec_end}
+use Rattle.kernel_core.proofs.LanguageLaws.{part_none_forward, part_none_backward, exec_end}
 use Rattle.kernel_core.proofs.Running.{stands_part}
 use Rattle.kernel_core.proofs.Nodes.{shifted, node_read, count_of_nodes}
 use Rattle.kernel_core.proofs.Trees.{worlds-more, legal_up, legal_down, undo_above, redo_below, legal_grown, undone_world, redone_world, run_here, child_here, parent_sound, formed_below, new_legal, new_worlds}
@@ -43,6 +43,7 @@ pub kept_inside : (tree : Tree) (work : Work) (count c : ℕ) (turn to : Turn) (
 kept_inside tree work count c turn to runner at k p = record {
   legal = k.legal;
   possible = k.possible;
+  counted = k.counted;
   stands = p;
   room = k.room;
 }
@@ -51,6 +52,7 @@ pub kept_idle : (tree : Tree) (job : Open) (runner at : Runner) → Kept tree ru
 kept_idle tree job runner at k e = record {
   legal = k.legal;
   possible = tt;
+  counted = tt;
   stands = e;
   room = tt;
 }
@@ -83,6 +85,7 @@ kept_grown tree larger program n runner nodes favourites position legal formed r
       legal = subst (λ (s : Past). IsLegal s) (sym e) (legal_grown (past_of tree) program n (world_of runner) legal formed ran);
       stands = subst (λ (s : Past). world_of runner ≡ here s) (sym e) (sym last);
       possible = tt;
+      counted = tt;
       room = tt;
     }
 
@@ -112,27 +115,25 @@ pub kept_arrived : (moved : Tree) (way : Way) (left done : ℕ) (told : Sliced) 
     Arrives (past_of moved) way left done told (state_of moved job) → Kept moved runner job
 kept_arrived moved way zero done told job runner legal shown can small a =
     let e : job ≡ Idle = idle_job job (ap (λ (s : State). s.job) a.1) in
-    rw e (record { legal = legal; possible = tt; stands = shown; room = tt })
+    rw e (record { legal = legal; possible = tt; counted = tt; stands = shown; room = tt })
 kept_arrived moved way (suc left) done told job runner legal shown can small a =
     let e : job ≡ Border (record { way = way; left = suc left; done = done + 1 }) = border_job job _ (ap (λ (s : State). s.job) a.1) in
-    rw e (record { legal = legal; possible = record { some = omega arith; small = small; way_there = can }; stands = shown; room = tt })
+    rw e (record { legal = legal; possible = record { some = omega arith; way_there = can }; counted = small; stands = shown; room = tt })
 
 pub kept_up : (tree : Tree) (p : ℕ) (travel : Travel) (runner : Runner) (told : Sliced) (job : Open) → travel.way ≡ Up → IsLegal (past_of tree) →
-    IsPossible (nodes_of tree) tree.favourites.items tree.position travel → p ≡ (node_at (past_of tree) tree.position).parent → world_of runner ≡ world_at (past_of tree) (node_at (past_of tree) tree.position).parent →
+    IsPossible (nodes_of tree) tree.favourites.items tree.position travel → IsCounted travel → p ≡ (node_at (past_of tree) tree.position).parent → world_of runner ≡ world_at (past_of tree) (node_at (past_of tree) tree.position).parent →
     Arrives (past_of (record tree { position = p })) travel.way (travel.left - 1) travel.done told (state_of (record tree { position = p }) job) → Kept (record tree { position = p }) runner job
-kept_up tree p travel runner told job way legal possible to world a =
+kept_up tree p travel runner told job way legal possible small to world a =
     let can = up_possible (nodes_of tree) tree.favourites.items tree.position travel way possible in
     let some = possible.some in
-    let small = possible.small in
     kept_arrived (record tree { position = p }) travel.way (travel.left - 1) travel.done told job runner (rw to (legal_up (past_of tree) legal)) (rw to world) (rw (way, to) can.1) (omega arith) a
 
 pub kept_down : (tree : Tree) (p : ℕ) (travel : Travel) (runner : Runner) (told : Sliced) (job : Open) → travel.way ≡ Down → IsLegal (past_of tree) →
-    IsPossible (nodes_of tree) tree.favourites.items tree.position travel → p ≡ favourite_of (past_of tree) tree.position → world_of runner ≡ world_at (past_of tree) (favourite_of (past_of tree) tree.position) →
+    IsPossible (nodes_of tree) tree.favourites.items tree.position travel → IsCounted travel → p ≡ favourite_of (past_of tree) tree.position → world_of runner ≡ world_at (past_of tree) (favourite_of (past_of tree) tree.position) →
     Arrives (past_of (record tree { position = p })) travel.way (travel.left - 1) travel.done told (state_of (record tree { position = p }) job) → Kept (record tree { position = p }) runner job
-kept_down tree p travel runner told job way legal possible to world a =
+kept_down tree p travel runner told job way legal possible small to world a =
     let can = down_possible (nodes_of tree) tree.favourites.items tree.position travel way possible in
     let some = possible.some in
-    let small = possible.small in
     kept_arrived (record tree { position = p }) travel.way (travel.left - 1) travel.done told job runner (rw to (legal_down (past_of tree) legal can.0)) (rw to world) (rw (way, to) can.1) (omega arith) a
 
 -- the world at the end of an undone cell, and of a redone one
@@ -191,11 +192,12 @@ outside_stands tree (Border travel) runner o p = p
 outside_stands tree (Inside e) runner o p = absurd o
 
 pub kept_entered : (tree : Tree) (job : Open) (runner at : Runner) (travel : Travel) → Kept tree runner job →
-    IsPossible (nodes_of tree) tree.favourites.items tree.position travel → StandsIn tree (Move travel) 0 false at →
+    IsPossible (nodes_of tree) tree.favourites.items tree.position travel → IsCounted travel → StandsIn tree (Move travel) 0 false at →
     Kept tree at (Inside (record { work = Move travel; count = 0; turn = GoesOn }))
-kept_entered tree job runner at travel k possible stands = record {
+kept_entered tree job runner at travel k possible counted stands = record {
   legal = k.legal;
   possible = possible;
+  counted = counted;
   stands = stands;
   room = tt;
 }
@@ -205,6 +207,7 @@ pub kept_begun : (tree made : Tree) (runner at : Runner) (program : Program) →
 kept_begun tree made runner at program k same room formed stands = record {
   legal = subst (λ (s : Past). IsLegal s) (sym same) k.legal;
   possible = subst (λ (s : Past). IsFormed (cell_of_program program) (here s)) (sym same) formed;
+  counted = tt;
   stands = record {
     program = program;
     of_work = refl;
@@ -277,6 +280,7 @@ pub kept_new : (tree : Tree) (runner : Runner) → past_of tree ≡ new_state.pa
 kept_new tree runner e shown = record {
   legal = subst (λ (s : Past). IsLegal s) (sym e) new_legal;
   possible = tt;
+  counted = tt;
   stands = subst (λ (s : Past). world_of runner ≡ here s) (sym e) shown;
   room = tt;
 }

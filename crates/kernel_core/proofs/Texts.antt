@@ -1,5 +1,5 @@
 -- What an accepted text gives, and what a refused one.
-use Rattle.std.proofs.Common.{◌≡◌, ◌≢◌, ℕ, pos, List, [], ◌∷◌, Err, refl, sym, subst}
+use Rattle.std.proofs.Common.{◌≡◌, ◌≢◌, ℕ, ◌≤◌, pos, List, [], ◌∷◌, Err, refl, sym, ap, ◌∙◌, subst}
 use Rattle.janus_meaning.specs.Syntax.{Name, ANumber}
 use Rattle.janus_meaning.specs.Store.{Store, Slot, Num}
 use Rattle.janus_meaning.specs.Formed.{Shape, Known, shape_of, IsBlk}
@@ -8,7 +8,8 @@ use Rattle.janus_syntax.specs.Tree as tree
 use Rattle.janus_syntax.specs.Text.{HasTree, IsParsed, IsOnlyTree}
 use Rattle.janus_syntax.specs.declared.fault.SyntaxFault as syntax
 use Rattle.janus_syntax.specs.declared.fault.SyntaxFault.TheVariants as syntax_fault
-use Rattle.janus_check.specs.Check.{cell_faults}
+use Rattle.janus_check.specs.Check.{name_limit, cell_faults}
+use Rattle.janus_check.specs.Names.{size}
 use Rattle.janus_check.specs.Fault.{IsFirst}
 use Rattle.janus_check.specs.WellFormed.{with_numbers, AreFresh, declared_names, block_of_cell}
 use Rattle.janus_check.specs.declared.fault.CheckFault as check
@@ -17,6 +18,8 @@ use Rattle.kernel_core.specs.Language.{AreNew, IsFormed}
 use Rattle.kernel_core.specs.Program.{numbers}
 use Rattle.kernel_core.specs.Text.{IsTheTree, Accepts, IsUnformed, Refuses, meant_cell, refused_by_syntax, refused_by_check}
 use Rattle.kernel_core.specs.declared.outcome.Refusal.TheVariants.{Syntax, Check}
+use Rattle.janus_check.proofs.FormedLemmas.{within}
+use Rattle.kernel_core.proofs.LanguageLaws.{shape_size}
 
 fresh_new : (xs : List Name) (g : Shape) → AreFresh g xs → AreNew (numbers xs) g
 fresh_new [] g f = tt
@@ -32,6 +35,8 @@ accepted_formed w text cell a =
     let formed : IsFormed (meant_cell a.tree) w = record {
       names = fresh_new (declared_names a.tree) (shape_of w.store) a.formed.fresh;
       plain = refl;
+      few = λ l. (subst (λ (n : ℕ). n ≤ name_limit) (ap size (sym (shape_declared (declared_names a.tree) w.store)) ∙ shape_size (declare (numbers (declared_names a.tree)) w.store))
+          (within (shape_of w.store) (declared_names a.tree) (subst (λ (n : ℕ). n ≤ name_limit) (sym (shape_size w.store)) l) a.formed.few));
       block = subst (λ (g : Shape). IsBlk [] g (block_of_cell a.tree)) (sym (shape_declared (declared_names a.tree) w.store)) a.formed.block;
     } in
     subst (λ (c : Cell). IsFormed c w) (sym a.meant) formed

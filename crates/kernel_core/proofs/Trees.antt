@@ -8,7 +8,7 @@ use Rattle.kernel_core.specs.Language.{Forward, Backward, Exec, IsFormed, IsSoun
 use Rattle.kernel_core.specs.State.{Past, Node, new_state, root, node_at, world_at, here, favourite_of, worlds_from}
 use Rattle.kernel_core.specs.Legal.{ancestor, can_undo, can_redo, IsRun, IsChild, IsLegal}
 use Rattle.kernel_core.specs.Slices.{grown}
-use Rattle.kernel_core.proofs.Laws.{exec_sound, exec_same, exec_inverted, end_of_root, empty_sound}
+use Rattle.kernel_core.proofs.LanguageLaws.{exec_sound, exec_same, exec_inverted, end_of_root, empty_sound}
 
 pub worlds-more : (worlds : List World) (nodes : List Node) (node : Node) →
     worlds_from worlds (nodes ++ node ∷ []) ≡ worlds_from worlds nodes ++ end_of node.cell (get_or (worlds_from worlds nodes) node.parent empty_world) node.steps ∷ []
@@ -145,7 +145,7 @@ child_kept s new i g from l above =
           record { known = (let k = child.known in omega arith); parent = rw (it, node) child.parent })
     ]
 
-not_zero_is : (n : ℕ) (b : Bool) → (n ≡ 0 → ⊥) → (if n == 0 then false else b) ≡ b
+pub not_zero_is : (n : ℕ) (b : Bool) → (n ≡ 0 → ⊥) → (if n == 0 then false else b) ≡ b
 not_zero_is n b h = grind (arith, nat_tests)
 
 -- one step of the walks up and down

@@ -3,7 +3,7 @@ use Rattle.std.specs.Prelude.{◌≡◌, ◌≢◌, ◌⊎◌, ℕ, Bool, true, 
 use Rattle.janus_meaning.specs.World.{Cell}
 use Rattle.kernel_core.specs.State.{Past, State, Posted, Move, Entered, Job, Idle, Border, Inside, node_at, here, favourite_of}
 use Rattle.kernel_core.specs.Slices.{finished}
-use Rattle.kernel_core.specs.Legal.{IsPossible}
+use Rattle.kernel_core.specs.Legal.{IsPossible, IsCounted}
 use Rattle.kernel_core.specs.Text.{Accepts, Refuses}
 use Rattle.kernel_core.specs.declared.job.Way.{Way}
 use Rattle.kernel_core.specs.declared.job.Way.TheVariants.{Up, Down}
@@ -47,7 +47,8 @@ TakesCell s text told new = EntersCell s text told new ⊎ RefusesCell s text to
 -- an undo or a redo of k cells is refused whole, or ends at once, or enters its first cell
 abbrev pub TakesMove : Past → Way → ℕ → Bool → Begun → State → Type 0
 TakesMove s way k false told new = (told ≡ begun.Ended (outcome.Refused TooFar)) × (new ≡ record { past = s; job = Idle })
-TakesMove s way zero true told new = (told ≡ begun.Ended (finished (record { way = way; left = 0; done = 0 }) All)) × (new ≡ record { past = s; job = Idle })
+TakesMove s way zero true told new =
+    (told ≡ begun.Ended (finished (record { way = way; left = 0; done = 0 }) All)) × (new ≡ record { past = s; job = Idle })
 TakesMove s way (suc k) true told new = Enters s (record { way = way; left = suc k; done = 0 }) told new
 
 -- the job stands in no cell
@@ -59,5 +60,6 @@ IsOutside (Inside e) = ⊥
 -- where the job stands, and what is then known of it
 abbrev pub IsPhase : State → Phase → Type 0
 IsPhase s phase.Idle = s.job ≡ Idle
-IsPhase s (phase.Border travel) = (s.job ≡ Border travel) × IsPossible s.past.nodes s.past.favourites s.past.position travel
+IsPhase s (phase.Border travel) =
+    (s.job ≡ Border travel) × IsPossible s.past.nodes s.past.favourites s.past.position travel × IsCounted travel
 IsPhase s phase.Inside = (e : Entered) × (s.job ≡ Inside e)

@@ -2,7 +2,7 @@
 use Rattle.std.specs.Prelude.{◌≡◌, ℕ, ◌+◌, ◌-◌, ◌<◌, Bool, true, false, get_or, length, vec_len, vec_capacity}
 use Rattle.kernel_core.specs.State.{here, code_of}
 use Rattle.kernel_core.specs.Fields.{past_of, work_of, job_of}
-use Rattle.kernel_core.specs.Legal.{IsLegal, IsPossibleAt}
+use Rattle.kernel_core.specs.Legal.{IsLegal, IsPossibleAt, IsCountedAt}
 use Rattle.kernel_core.specs.Runner.{Stands, world_of}
 use Rattle.kernel_core.specs.declared.program.Program.{Program}
 use Rattle.kernel_core.specs.declared.runner.Runner.{Runner}
@@ -61,5 +61,6 @@ HasRoomAt tree (Inside e) = HasRoomFor tree e.work
 pub record Kept (tree : Tree) (runner : Runner) (job : Open) : Type 0 where
   pub legal : IsLegal (past_of tree)
   pub possible : IsPossibleAt (past_of tree) (job_of job)
+  pub counted : IsCountedAt (job_of job)
   pub stands : StandsAt tree job runner
   pub room : HasRoomAt tree job

@@ -2,7 +2,7 @@
 use Rattle.std.specs.Prelude.{◌≡◌, ℕ, ◌+◌, ◌^◌, ◌<◌, ◌==◌, Bool, true, false, IsTrue, List, length, zero, suc, if◌then◌else◌, get_or}
 use Rattle.janus_meaning.specs.World.{World, empty_world}
 use Rattle.kernel_core.specs.Language.{Forward, Exec, IsFormed, IsSound}
-use Rattle.kernel_core.specs.State.{Past, Node, Work, Posted, Move, Job, Idle, Border, Inside, root, node_at, world_at, here, favourite_of}
+use Rattle.kernel_core.specs.State.{Past, Node, Work, Posted, Move, Job, Idle, Border, Inside, State, root, node_at, world_at, here, favourite_of}
 use Rattle.kernel_core.specs.declared.job.Way.{Way}
 use Rattle.kernel_core.specs.declared.job.Way.TheVariants.{Up, Down}
 use Rattle.kernel_core.specs.declared.job.Travel.{Travel}
@@ -25,7 +25,9 @@ can_go nodes favourites n Down k = can_redo favourites n k
 pub record IsRun (nodes : List Node) (worlds : List World) (n : ℕ) : Type 0 where
   pub parent : (get_or nodes n root).parent < n
   pub formed : IsFormed (get_or nodes n root).cell (get_or worlds (get_or nodes n root).parent empty_world)
-  pub ran : Exec (Forward (get_or nodes n root).cell) (get_or worlds (get_or nodes n root).parent empty_world) (get_or nodes n root).steps (get_or worlds n empty_world)
+  pub ran :
+      Exec (Forward (get_or nodes n root).cell) (get_or worlds (get_or nodes n root).parent empty_world) (get_or nodes n root).steps
+      (get_or worlds n empty_world)
 
 -- the favourite of the node n is a child of it
 pub record IsChild (nodes : List Node) (favourites : List ℕ) (n : ℕ) : Type 0 where
@@ -37,7 +39,8 @@ abbrev pub ancestor : List Node → ℕ → ℕ → ℕ
 ancestor nodes n zero = n
 ancestor nodes n (suc j) = (get_or nodes (ancestor nodes n j) root).parent
 
--- The tree is legal: parents stand before their children, the root's world is empty, and each other node's is that of its cell, run in its parent's world.
+-- The tree is legal: parents stand before their children, the root's world is empty, and each other node's is that of its cell, run in
+-- its parent's world.
 pub record IsLegal (s : Past) : Type 0 where
   pub rooted : 0 < length s.nodes
   pub nothing_at_root : world_at s 0 ≡ empty_world
@@ -49,12 +52,13 @@ pub record IsLegal (s : Past) : Type 0 where
   pub position : s.position < length s.nodes
   pub root_parent : (node_at s 0).parent ≡ 0
   -- the favourites lead from each node above the position to it
-  pub favoured : (j : ℕ) → 0 < ancestor s.nodes s.position j → favourite_of s (ancestor s.nodes s.position (suc j)) ≡ ancestor s.nodes s.position j
+  pub favoured :
+      (j : ℕ) → 0 < ancestor s.nodes s.position j →
+      favourite_of s (ancestor s.nodes s.position (suc j)) ≡ ancestor s.nodes s.position j
 
 -- an open undo or redo has a cell to do, and can do all
 pub record IsPossible (nodes : List Node) (favourites : List ℕ) (position : ℕ) (travel : Travel) : Type 0 where
   pub some : 0 < travel.left
-  pub small : travel.left + travel.done < 2 ^ 32
   pub way_there : IsTrue (can_go nodes favourites position travel.way travel.left)
 
 -- what runs can run from the position: a posted cell is well formed over its world
@@ -66,3 +70,22 @@ abbrev pub IsPossibleAt : Past → Job → Type 0
 IsPossibleAt s Idle = Unit {0}
 IsPossibleAt s (Border travel) = IsPossible s.nodes s.favourites s.position travel
 IsPossibleAt s (Inside e) = IsPossibleWork s e.work
+
+-- the state is legal: its tree, and its open job, which can do what it has to do
+pub record IsLegalState (s : State) : Type 0 where
+  pub legal : IsLegal s.past
+  pub possible : IsPossibleAt s.past s.job
+
+-- ---- what the code keeps of the open job beside this: its cells are counted in 32 bits
+
+abbrev pub IsCounted : Travel → Type 0
+IsCounted travel = travel.left + travel.done < 2 ^ 32
+
+abbrev pub IsCountedIn : Work → Type 0
+IsCountedIn (Posted cell) = Unit {0}
+IsCountedIn (Move travel) = IsCounted travel
+
+abbrev pub IsCountedAt : Job → Type 0
+IsCountedAt Idle = Unit {0}
+IsCountedAt (Border travel) = IsCounted travel
+IsCountedAt (Inside e) = IsCountedIn e.work

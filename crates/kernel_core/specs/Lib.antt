@@ -15,3 +15,4 @@ pub mod PostFault
 pub mod Runs
 pub mod MachineCode
 pub mod Theorems
+pub mod Determined

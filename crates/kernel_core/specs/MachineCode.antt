@@ -22,7 +22,12 @@ request_back (Undo k) = refl
 request_back (Redo k) = refl
 
 abbrev request_code : Coded Request
-request_code = code_by ((List ℕ × (Bool × Bool)) ⊎ (ℕ ⊎ ℕ)) (coded⊎ (coded× (coded_list coded_ℕ) (coded× coded_bool coded_bool)) (coded⊎ coded_ℕ coded_ℕ)) request_parts parts_request request_back
+request_code =
+    code_by ((List ℕ × (Bool × Bool)) ⊎ (ℕ ⊎ ℕ))
+    (coded⊎ (coded× (coded_list coded_ℕ) (coded× coded_bool coded_bool)) (coded⊎ coded_ℕ coded_ℕ))
+    request_parts parts_request request_back
 
 abbrev pub machine_code : Coded Machine
-machine_code = code_by (State × (List Request × ℕ)) (coded× state_code (coded× (coded_list request_code) coded_ℕ)) (λ m. (m.state, (m.queue, m.posted))) (λ p. record { state = p.0; queue = p.1.0; posted = p.1.1 }) (λ _. refl)
+machine_code =
+    code_by (State × (List Request × ℕ)) (coded× state_code (coded× (coded_list request_code) coded_ℕ))
+    (λ m. (m.state, (m.queue, m.posted))) (λ p. record { state = p.0; queue = p.1.0; posted = p.1.1 }) (λ _. refl)

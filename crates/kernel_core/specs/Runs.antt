@@ -41,12 +41,16 @@ new_machine = record { state = new_state; queue = []; posted = 0 }
 abbrev pub next_number : ℕ → ℕ
 next_number posted = (posted + 1) % 2 ^ 64
 
+-- how many posted jobs may wait to be begun
+abbrev pub queue_limit : ℕ
+queue_limit = 1024
+
 -- a post is refused, or queued with the next number; want of memory is free
 abbrev pub IsPost : Machine → Request → Result ℕ PostFault → Machine → Type 0
 IsPost old posted (Ok number) new =
-    (length old.queue < 1024) × (number ≡ next_number old.posted)
+    (length old.queue < queue_limit) × (number ≡ next_number old.posted)
     × (new ≡ record old { queue = old.queue ++ posted ∷ []; posted = next_number old.posted })
-IsPost old posted (Err QueueFull) new = (1024 ≤ length old.queue) × (new ≡ old)
+IsPost old posted (Err QueueFull) new = (queue_limit ≤ length old.queue) × (new ≡ old)
 IsPost old posted (Err Memory) new = new ≡ old
 
 -- a posted job is taken

@@ -33,12 +33,15 @@ turned (Move travel) why = finished travel Asked
 -- back at the count c: at 0 the cell settles as not done, and the job ends
 abbrev pub Backs : Past → Work → Why → ℕ → Sliced → State → Type 0
 Backs s work why zero told new = (told ≡ sliced.Ended (turned work why)) × (new ≡ record { past = s; job = Idle })
-Backs s work why (suc c) told new = (told ≡ sliced.Backing) × (new ≡ record { past = s; job = Inside (record { work = work; count = suc c; turn = GoesBack why }) })
+Backs s work why (suc c) told new =
+    (told ≡ sliced.Backing) × (new ≡ record { past = s; job = Inside (record { work = work; count = suc c; turn = GoesBack why }) })
 
 -- one cell of an undo or a redo is done, and the position is that of s
 abbrev pub Arrives : Past → Way → ℕ → ℕ → Sliced → State → Type 0
-Arrives s way zero done told new = (told ≡ sliced.Ended (finished (record { way = way; left = 0; done = done + 1 }) All)) × (new ≡ record { past = s; job = Idle })
-Arrives s way (suc left) done told new = (told ≡ sliced.Border) × (new ≡ record { past = s; job = Border (record { way = way; left = suc left; done = done + 1 }) })
+Arrives s way zero done told new =
+    (told ≡ sliced.Ended (finished (record { way = way; left = 0; done = done + 1 }) All)) × (new ≡ record { past = s; job = Idle })
+Arrives s way (suc left) done told new =
+    (told ≡ sliced.Border) × (new ≡ record { past = s; job = Border (record { way = way; left = suc left; done = done + 1 }) })
 
 -- the past with a new node below the position, at which it stands
 abbrev pub grown : Past → Cell → ℕ → World → Past
@@ -65,7 +68,8 @@ HasEnded s work n w = Exec (code_of s work) (here s) n w
 
 -- what follows where the code came thus far
 abbrev pub Comes : Past → Work → ℕ → Ran → World → Sliced → State → Type 0
-Comes s work c Went w told new = (told ≡ sliced.Going) × (new ≡ record { past = s; job = Inside (record { work = work; count = c; turn = GoesOn }) })
+Comes s work c Went w told new =
+    (told ≡ sliced.Going) × (new ≡ record { past = s; job = Inside (record { work = work; count = c; turn = GoesOn }) })
 Comes s work c (Ended n) w told new = Settles s work n w told new
 Comes s work c (Stopped j fault) w told new = Backs s work (Faulted fault j) j told new
 

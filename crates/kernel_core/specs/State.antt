@@ -1,4 +1,5 @@
--- The states of the kernel machine: the tree of cells with the worlds of all its nodes, and the open job. No cursor, no stored inverse, no store.
+-- The states of the kernel machine: the tree of cells with the worlds of all its nodes, and the open job. No cursor, no stored inverse, no
+-- store.
 use Rattle.std.specs.Prelude.{◌≡◌, ℕ, List, [], ◌∷◌, ◌++◌, get_or}
 use Rattle.janus_meaning.specs.World.{World, empty_world, Cell}
 use Rattle.kernel_core.specs.Language.{empty_cell, Code, Forward, Backward, Part, end_of}
@@ -59,7 +60,8 @@ favourite_of s n = get_or s.favourites n 0
 abbrev pub here : Past → World
 here s = world_at s s.position
 
--- The code that a job runs inside a cell: a posted cell and a redone one forward, an undone one backward. It begins in the world of the position.
+-- The code that a job runs inside a cell: a posted cell and a redone one forward, an undone one backward. It begins in the world of the
+-- position.
 abbrev pub code_of : Past → Work → Code
 code_of s (Posted cell) = Forward cell
 code_of s (Move travel) = elim travel.way [

@@ -1,22 +1,23 @@
 -- The main theorem in the subject's own words, over runs of the machine.
-use Rattle.std.specs.Prelude.{◌≡◌, ℕ, Bool, false, ◌+◌, ◌-◌, ◌<◌, ◌≤◌, List, [], ◌∷◌, length, get_or, IsTrue, zero, suc, ◌⊎◌}
+use Rattle.std.specs.Prelude.{◌≡◌, ℕ, Bool, false, ◌+◌, ◌-◌, ◌<◌, ◌≤◌, List, [], ◌∷◌, length, get_or, IsTrue, zero, suc, ◌⊎◌, ◌↔◌}
 use Rattle.janus_meaning.specs.World.{World, empty_world, Cell, entered}
 use Rattle.janus_meaning.specs.Cells.{IsGoodWorld}
 use Rattle.janus_machine.specs.Faults.{fault_of}
 use Rattle.kernel_core.specs.Language.{Forward, Backward, Part, Exec, Stop}
 use Rattle.kernel_core.specs.Reached.{Reaches}
 use Rattle.kernel_core.specs.State.{Node, Past, Move, Idle, Inside, State, root, node_at, world_at, here, favourite_of, code_of}
-use Rattle.kernel_core.specs.Legal.{can_go, IsPossible, IsLegal}
+use Rattle.kernel_core.specs.Legal.{ancestor, can_go, IsPossible, IsLegal, IsLegalState}
 use Rattle.kernel_core.specs.Slices.{finished, grown, Settles, Goes}
 use Rattle.kernel_core.specs.Text.{Accepts, Refuses}
-use Rattle.kernel_core.specs.Runs.{Machine, Request, RunCell, Undo, Redo, Run}
+use Rattle.kernel_core.specs.Begins.{Declares}
+use Rattle.kernel_core.specs.Runs.{Machine, Request, RunCell, Undo, Redo, new_machine, Run}
 use Rattle.kernel_core.specs.declared.runner.Ran.TheVariants.{Stopped}
 use Rattle.kernel_core.specs.declared.job.Travel.{Travel}
 use Rattle.kernel_core.specs.declared.job.Turn.TheVariants.{Going as GoesOn}
 use Rattle.kernel_core.specs.declared.job.Way.{Way}
 use Rattle.kernel_core.specs.declared.job.Way.TheVariants.{Up, Down}
 use Rattle.kernel_core.specs.declared.outcome.End.{End}
-use Rattle.kernel_core.specs.declared.outcome.End.TheVariants.{All}
+use Rattle.kernel_core.specs.declared.outcome.End.TheVariants.{All, NoMemory}
 use Rattle.kernel_core.specs.declared.outcome.Refusal.TheVariants.{TooFar}
 use Rattle.kernel_core.specs.declared.outcome.Outcome.{Outcome}
 use Rattle.kernel_core.specs.declared.outcome.Outcome.TheVariants as outcome
@@ -29,20 +30,33 @@ use Rattle.kernel_core.specs.declared.events.Told.{Told}
 use Rattle.kernel_core.specs.declared.events.Told.TheVariants as told
 use Rattle.janus_machine.specs.declared.fault.Fault.{Fault}
 
+-- ---- every state that is reached
+
+-- A new machine is legal, and without an open job.
+abbrev pub NewIsLegal : Type 0
+NewIsLegal = IsLegalState new_machine.state × (new_machine.state.job ≡ Idle)
+
+-- Each run from a legal state leads to one.
+abbrev pub StaysLegal : Type 0
+StaysLegal =
+    (old new : Machine) (events : List Event) (answers : List Told) →
+    IsLegalState old.state → Run old events answers new → IsLegalState new.state
+
 -- ---- jobs, from their begin to their end
 
 abbrev pub move_of : Way → ℕ → Request
 move_of Up k = Undo k
 move_of Down k = Redo k
 
--- one node up, or down to the favourite; and j of them
-abbrev pub next : List Node → List ℕ → Way → ℕ → ℕ
-next nodes favourites Up n = (get_or nodes n root).parent
-next nodes favourites Down n = get_or favourites n 0
+-- the node j favourites below n
+abbrev pub descendant : List ℕ → ℕ → ℕ → ℕ
+descendant favourites n zero = n
+descendant favourites n (suc j) = get_or favourites (descendant favourites n j) 0
 
+-- the node j further this way
 abbrev pub along : List Node → List ℕ → Way → ℕ → ℕ → ℕ
-along nodes favourites way n zero = n
-along nodes favourites way n (suc j) = next nodes favourites way (along nodes favourites way n j)
+along nodes favourites Up n j = ancestor nodes n j
+along nodes favourites Down n j = descendant favourites n j
 
 -- the same tree with all its worlds and favourites, and the position j nodes further
 abbrev pub standing : Past → Way → ℕ → Past
@@ -55,18 +69,28 @@ EndsAs (told.Begin (begun.Ended p) ∷ answers) o = (answers ≡ []) × (p ≡ o
 EndsAs (told.Slice (sliced.Ended p) ∷ answers) o = (answers ≡ []) × (p ≡ o)
 EndsAs (t ∷ answers) o = EndsAs answers o
 
--- How an undo or a redo of k cells from the past s ends: refused whole where there are fewer, else after j cells, all k where it says All.
--- The tree, its worlds and its favourites are as they were.
+-- An undo or a redo of k cells ends after j of them, for this reason: the tree, its worlds and its favourites are as they were, and the
+-- position is j nodes further. It tells All exactly where j is k, and want of memory only in front of a cell that declares names, so on
+-- the way down.
+pub record EndsAfter (s : Past) (way : Way) (k j : ℕ) (end : End) (o : Outcome) (new : State) : Type 0 where
+  pub tells : o ≡ finished (record { way = way; left = 0; done = j }) end
+  pub stands : new ≡ record { past = standing s way j; job = Idle }
+  pub within : j ≤ k
+  pub all : (end ≡ All) ↔ (j ≡ k)
+  pub no_memory : end ≡ NoMemory → Declares (standing s way j) (record { way = way; left = 0; done = j })
+  pub can : IsTrue (can_go s.nodes s.favourites s.position way k)
+
+-- How an undo or a redo of k cells from the past s ends: refused whole where there are fewer, else after some of them.
 abbrev pub MoveEnds : Past → Way → ℕ → Outcome → State → Type 0
 MoveEnds s way k o new =
     ((o ≡ outcome.Refused TooFar) × (new ≡ record { past = s; job = Idle }) × (can_go s.nodes s.favourites s.position way k ≡ false))
-    ⊎ ((j : ℕ) × (end : End) × (o ≡ finished (record { way = way; left = 0; done = j }) end) × (new ≡ record { past = standing s way j; job = Idle }) × (end ≡ All → j ≡ k) × IsTrue (can_go s.nodes s.favourites s.position way k))
+    ⊎ ((j : ℕ) × (end : End) × EndsAfter s way k j end o new)
 
 -- the cell of the text ran to its end, and is a new node with the world to which it leads
 abbrev pub BecomesNode : Past → List ℕ → Outcome → State → Type 0
 BecomesNode s text o new =
-    (cell : Cell) × (n : ℕ) × (w : World) × Accepts (here s) text cell × (o ≡ outcome.Ran (length s.nodes) n) × Exec (Forward cell) (here s) n w
-    × (new ≡ record { past = grown s cell n w; job = Idle })
+    (cell : Cell) × (n : ℕ) × (w : World) × Accepts (here s) text cell × (o ≡ outcome.Ran (length s.nodes) n)
+    × Exec (Forward cell) (here s) n w × (new ≡ record { past = grown s cell n w; job = Idle })
 
 -- after j steps the cell goes on: the world shown is a part's, and it has not ended
 abbrev pub IsUnderWay : Past → Cell → ℕ → Type 0
@@ -94,18 +118,22 @@ CellEnds s text o new =
 abbrev pub MovesEnd : Type 0
 MovesEnd =
     (old new : Machine) (way : Way) (k : ℕ) (rest : List Request) (events : List Event) (answers : List Told) (o : Outcome) →
-    old.state.job ≡ Idle → old.queue ≡ move_of way k ∷ rest → Run old (event.Begin ∷ events) answers new → EndsAs answers o → MoveEnds old.state.past way k o new.state
+    old.state.job ≡ Idle → old.queue ≡ move_of way k ∷ rest →
+    Run old (event.Begin ∷ events) answers new → EndsAs answers o → MoveEnds old.state.past way k o new.state
 
 abbrev pub CellsEnd : Type 0
 CellsEnd =
-    (old new : Machine) (text : List ℕ) (silent store : Bool) (rest : List Request) (events : List Event) (answers : List Told) (o : Outcome) →
-    old.state.job ≡ Idle → old.queue ≡ RunCell text silent store ∷ rest → Run old (event.Begin ∷ events) answers new → EndsAs answers o → CellEnds old.state.past text o new.state
+    (old new : Machine) (text : List ℕ) (silent store : Bool) (rest : List Request)
+    (events : List Event) (answers : List Told) (o : Outcome) →
+    old.state.job ≡ Idle → old.queue ≡ RunCell text silent store ∷ rest →
+    Run old (event.Begin ∷ events) answers new → EndsAs answers o → CellEnds old.state.past text o new.state
 
 -- A redo of k cells that follows an undo of k cells, both to the end, is back at the same node, with the same tree and worlds.
 abbrev pub RedoGivesBack : Type 0
 RedoGivesBack =
     (old mid new : Machine) (k : ℕ) (rest more : List Request) (undo redo : List Event) (told_undo told_redo : List Told) →
-    IsLegal old.state.past → old.state.job ≡ Idle → old.queue ≡ Undo k ∷ rest → Run old (event.Begin ∷ undo) told_undo mid → EndsAs told_undo (outcome.Undid k All) →
+    IsLegal old.state.past → old.state.job ≡ Idle →
+    old.queue ≡ Undo k ∷ rest → Run old (event.Begin ∷ undo) told_undo mid → EndsAs told_undo (outcome.Undid k All) →
     mid.queue ≡ Redo k ∷ more → Run mid (event.Begin ∷ redo) told_redo new → EndsAs told_redo (outcome.Redid k All) →
     new.state.past ≡ old.state.past
 
@@ -123,22 +151,30 @@ end_world s travel = elim travel.way [
 ]
 
 -- A slice before the cell's last step goes on, and the slice with that step settles the cell: not earlier, not later.
+abbrev pub SettlesAtLastStep : Past → Travel → ℕ → ℕ → Sliced → State → Type 0
+SettlesAtLastStep s travel c m told new =
+    ((c + m < steps_of s travel) × (told ≡ sliced.Going)
+    × (new ≡ record { past = s; job = Inside (record { work = Move travel; count = c + m; turn = GoesOn }) }))
+    ⊎ ((steps_of s travel ≤ c + m) × Settles s (Move travel) (steps_of s travel) (end_world s travel) told new)
+
+-- The code leads there in those steps, and the cell settles with the last of them.
 abbrev pub IsOnTime : Past → Travel → ℕ → ℕ → Sliced → State → Type 0
 IsOnTime s travel c m told new =
-    ((c + m < steps_of s travel) × (told ≡ sliced.Going) × (new ≡ record { past = s; job = Inside (record { work = Move travel; count = c + m; turn = GoesOn }) }))
-    ⊎ ((steps_of s travel ≤ c + m) × Settles s (Move travel) (steps_of s travel) (end_world s travel) told new)
+    Exec (code_of s (Move travel)) (here s) (steps_of s travel) (end_world s travel) × SettlesAtLastStep s travel c m told new
 
 -- A cell is undone by its inverted code, and redone by its code, in as many steps as it took.
 abbrev pub SettlesOnTime : Type 0
 SettlesOnTime =
     (s : Past) (travel : Travel) (c m : ℕ) (told : Sliced) (new : State) →
-    IsLegal s → IsPossible s.nodes s.favourites s.position travel → Goes s (Move travel) c m told new → IsOnTime s travel c m told new
+    IsLegal s → IsPossible s.nodes s.favourites s.position travel →
+    Goes s (Move travel) c m told new → IsOnTime s travel c m told new
 
 -- Where the tree is legal, the code of an undo or a redo meets no fault.
 abbrev pub NeverFaults : Type 0
 NeverFaults =
     (s : Past) (travel : Travel) (m j : ℕ) (fault : Fault) (w : World) →
-    IsLegal s → IsPossible s.nodes s.favourites s.position travel → Reaches (code_of s (Move travel)) (here s) m (Stopped j fault) w → ⊥
+    IsLegal s → IsPossible s.nodes s.favourites s.position travel →
+    Reaches (code_of s (Move travel)) (here s) m (Stopped j fault) w → ⊥
 
 -- The inverted code leads back, in as many steps and through the same worlds, to the world in which the cell's statements began.
 abbrev pub IsMirrored : Type 0
@@ -151,7 +187,8 @@ IsMirrored =
 -- the cells from the node n up to the root
 abbrev pub IsPath : List Node → ℕ → List Cell → Type 0
 IsPath nodes n [] = n ≡ 0
-IsPath nodes n (cell ∷ above) = (0 < n) × (n < length nodes) × ((get_or nodes n root).cell ≡ cell) × IsPath nodes (get_or nodes n root).parent above
+IsPath nodes n (cell ∷ above) =
+    (0 < n) × (n < length nodes) × ((get_or nodes n root).cell ≡ cell) × IsPath nodes (get_or nodes n root).parent above
 
 -- run one after another from the empty world, the last first in the list, they lead to w
 abbrev pub LeadTo : List Cell → World → Type 0
@@ -163,3 +200,23 @@ abbrev pub PathGivesWorld : Type 0
 PathGivesWorld =
     (s : Past) (n : ℕ) → IsLegal s → n < length s.nodes →
     (cells : List Cell) × IsPath s.nodes n cells × LeadTo cells (world_at s n) × ((w : World) → LeadTo cells w → w ≡ world_at s n)
+
+-- ---- how far an undo and a redo can go
+
+-- An undo of k cells can go exactly where at least k cells stand on the path from the root to the position.
+abbrev pub UndoGoesUpThePath : Type 0
+UndoGoesUpThePath =
+    (s : Past) (k : ℕ) (cells : List Cell) → IsLegal s → IsPath s.nodes s.position cells →
+    IsTrue (can_go s.nodes s.favourites s.position Up k) ↔ (k ≤ length cells)
+
+-- the nodes below n: its favourite, the favourite of that one, and so on to one that has none
+abbrev pub AreFavourites : List ℕ → ℕ → List ℕ → Type 0
+AreFavourites favourites n [] = get_or favourites n 0 ≡ 0
+AreFavourites favourites n (m ∷ below) = (0 < m) × (get_or favourites n 0 ≡ m) × AreFavourites favourites m below
+
+-- There is an end to the favourites below the position, and a redo of k cells can go exactly where there are at least k of them.
+abbrev pub RedoGoesDownFavourites : Type 0
+RedoGoesDownFavourites =
+    (s : Past) → IsLegal s →
+    (below : List ℕ) × AreFavourites s.favourites s.position below
+    × ((k : ℕ) → IsTrue (can_go s.nodes s.favourites s.position Down k) ↔ (k ≤ length below))

@@ -29,7 +29,7 @@ fn apply(kernel: &mut Kernel, event: &Event) -> Told
     ensures { Step kernel.old event.now result kernel.new }
 {
     match event {
-        Event::Post(lane, job) => match job.copy() {
+        Event::Post(lane, job) => match job.try_clone() {
             Ok(job) => Told::Post(kernel.post(*lane, job)),
             Err(_) => Told::Post(Err(PostFault::Memory)),
         },

@@ -1,8 +1,8 @@
 //! The history: the tree of cells, the one store, and the open job. It is what a kernel has besides its queue.
-ghost use Rattle.std.specs.Prelude.{◌≡◌, ◌+◌, ◌<◌, ◌^◌, IfOk, OnOk, OnErr, true};
+ghost use Rattle.std.specs.Prelude.{◌≡◌, IfOk, OnOk, OnErr};
 ghost use Rattle.kernel_core.specs.State.{State, Idle, here, Shown, new_state};
 ghost use Rattle.kernel_core.specs.Fields.{past_of, nodes_of};
-ghost use Rattle.kernel_core.specs.Legal.{IsLegal, IsPossible, can_go};
+ghost use Rattle.kernel_core.specs.Legal.{IsLegal, IsPossible, IsPossibleAt, IsCounted, can_go};
 ghost use Rattle.kernel_core.specs.Slices.{IsSlice};
 ghost use Rattle.kernel_core.specs.Begins.{TakesCell, TakesMove, Enters, Declares, IsOutside, IsPhase};
 ghost use Rattle.kernel_core.specs.Runner.{world_of};
@@ -96,6 +96,7 @@ impl History {
     pub fn world(&self) -> View<'_>
         ensures shown { Shown self.now result }
         ensures legal { IsLegal self.now.past }
+        ensures possible { IsPossibleAt self.now.past self.now.job }
     {
         View::of(&self.runner)
     }
@@ -150,6 +151,7 @@ impl History {
     pub fn enter(&mut self, travel: Travel) -> Begun
         requires outside { IsOutside self.old.job }
         requires possible { IsPossible self.old.past.nodes self.old.past.favourites self.old.past.position travel }
+        requires counted { IsCounted travel }
         ensures { Enters self.old.past travel result self.new }
     {
         if enter_next(&self.tree, &mut self.runner, travel).is_err() {

@@ -1,7 +1,7 @@
 //! The kernel: its history, and the queue of posted jobs.
-ghost use Rattle.std.specs.Prelude.{◌≡◌, ◌+◌, ◌++◌, ◌∷◌, ◌<◌, IfOk, OnErr, OnOk, string_bytes};
+ghost use Rattle.std.specs.Prelude.{◌≡◌, IfOk};
 ghost use Rattle.kernel_core.specs.State.{Idle, Shown, here};
-ghost use Rattle.kernel_core.specs.Legal.{IsLegal};
+ghost use Rattle.kernel_core.specs.Legal.{IsLegal, IsPossibleAt};
 ghost use Rattle.kernel_core.specs.Runs.{Machine, new_machine, request_of, IsPost, IsBegin, IsSliceOf, Takes};
 
 use crate::history::History;
@@ -31,9 +31,10 @@ pub enum Job {
 /// Why a post was refused. It changed nothing.
 #[derive(Clone, Copy, Debug, PartialEq, Eq, Error)]
 pub enum PostFault {
-    /// 1,024 jobs are posted and not begun.
+    /// As many jobs as may wait are posted and not begun.
     #[error("QueueFull")]
     QueueFull,
+    /// There was no memory for the queue, or for a copy of the job.
     #[error("Memory")]
     Memory,
 }
@@ -89,8 +90,8 @@ impl Model for Kernel {
 pub const QUEUE_LIMIT: usize = 1024;
 
 impl Job {
-    /// The same job, in memory of its own.
-    pub fn copy(&self) -> Result<Job, AllocError>
+    /// The same job, in memory of its own. The only error is want of memory.
+    pub fn try_clone(&self) -> Result<Job, AllocError>
         ensures { IfOk result (λ job. request_of job ≡ request_of self.now) }
     {
         match self {
@@ -110,7 +111,7 @@ impl Job {
 }
 
 impl Kernel {
-    /// A kernel with an empty history and nothing posted.
+    /// A kernel with an empty history and nothing posted. The only error is want of memory.
     pub fn new(alloc: Global) -> Result<Kernel, AllocError>
         ensures { IfOk result (λ kernel. kernel ≡ new_machine) }
     {
@@ -125,6 +126,9 @@ impl Kernel {
 
     /// Queues a job of the frontend with this lane, and gives the number of the post: 1 for the first one, and one more
     /// for each further one (after 2^64 - 1 comes 0).
+    ///
+    /// It is refused as `QueueFull` where [`QUEUE_LIMIT`] jobs wait, else as `Memory` where there is none for the queue. A
+    /// refused post changes nothing.
     pub fn post(&mut self, _lane: u32, job: Job) -> Result<u64, PostFault>
         ensures { IsPost self.old (request_of job) result self.new }
     {
@@ -139,6 +143,13 @@ impl Kernel {
     }
 
     /// Begins the earliest posted job, or the open one's next cell. All memory of a cell's run is taken here.
+    ///
+    /// A cell is refused for the fault of its text, else for the first fault of the check over the declared names, else as
+    /// `Memory` where there is none for its run; want of memory may come before any of these is found. An undo or a redo of
+    /// more cells than there are is refused whole as `TooFar`. What is refused changes nothing but the queue.
+    ///
+    /// A redo that finds no memory for the names that its next cell declares ends as `NoMemory` in front of that cell, with
+    /// the cells before it done. An undone cell, or one without declarations, takes none.
     pub fn begin(&mut self) -> Begun
         ensures { IsBegin self.old result self.new }
     {
@@ -159,12 +170,14 @@ impl Kernel {
         self.history.slice(m, asked)
     }
 
-    /// The shown world; and the history is legal.
+    /// The shown world; and the history and its open job are legal.
     pub fn world(&self) -> View<'_>
         ensures shown { Shown self.now.state result }
         // With no open job it is the position's.
         ensures idle { self.now.state.job ≡ Idle → result ≡ here self.now.state.past }
         ensures legal { IsLegal self.now.state.past }
+        // The open job can do all that it has to do.
+        ensures possible { IsPossibleAt self.now.state.past self.now.state.job }
     {
         self.history.world()
     }

@@ -6,30 +6,37 @@
 //! What the layer above may rely on:
 //! - `Kernel::post`, `begin`, `slice`: each call is a step of the kernel machine, which is defined by cases over a tree with the
 //!   worlds of all its nodes (specs/: `State`, `Legal`, `Slices`, `Begins`, `Runs`, in this order). `slice` takes no memory.
-//! - `Kernel::world`: the shown world. With no open job it is that of the position, inside a cell that after the counted steps.
+//! - `Kernel::world`: the shown world. With no open job it is that of the position, inside a cell that after the counted steps
+//!   (specs/Reached.antt says how far a cell's code comes in a slice). The tree and the open job are legal.
 //! - `run_events`: the answers and the state after any list of events are a run of the machine from the state before.
-//! - `theorems`: what this says of undo and redo over any schedule (specs/Theorems.antt).
+//! - `laws`: what this says of undo and redo over any schedule (specs/Theorems.antt), and that want of memory aside each answer
+//!   is the only one (specs/Determined.antt).
 //!
 //! The meaning of a cell is that of `janus_meaning` (Yokoyama and Glück 2007; Yokoyama, Axelsen and Glück 2008), in the form of
 //! specs/Language.antt. A text is a cell by the grammar of `janus_syntax` and the check of `janus_check` (specs/Text.antt).
-//! `runner` alone knows the machine of `janus_machine`.
+//! `runner` alone runs the machine of `janus_machine`.
 #![tactic(auto)]
 
 mod events;
 mod history;
 mod job;
 mod kernel;
+pub mod laws;
 mod outcome;
 mod program;
 mod runner;
 mod settle;
 #[cfg(test)]
 mod tests;
-pub mod theorems;
 mod tree;
 mod view;
 
 pub use crate::events::{Event, Told, run_events};
 pub use crate::kernel::{Job, Kernel, PostFault, QUEUE_LIMIT};
 pub use crate::outcome::{Begun, End, Outcome, Refusal, Sliced};
+pub use crate::runner::STEP_LIMIT;
 pub use crate::view::View;
+pub use janus_check::CheckFault;
+pub use janus_machine::Fault;
+pub use janus_syntax::SyntaxFault;
+pub use janus_syntax::token::Span;

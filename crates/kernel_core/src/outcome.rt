@@ -31,6 +31,7 @@ pub enum Refusal {
     /// There are fewer cells above, or fewer favourites below, than the job would undo or redo.
     #[error("TooFar")]
     TooFar,
+    /// There was no memory for a cell's code, names or node.
     #[error("Memory")]
     Memory,
 }
@@ -105,11 +106,11 @@ pub enum Begun {
 pub enum Sliced {
     /// No job stands inside a cell.
     Nothing,
-    /// Steps of the cell are left.
+    /// The cell goes on.
     Going,
     /// A cell is done, and the job has further ones.
     Border,
-    /// The cell is being taken back, and steps are left.
+    /// The cell is being taken back, and steps of that are left.
     Backing,
     /// The job is over, and no job is open.
     Ended(Outcome),

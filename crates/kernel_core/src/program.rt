@@ -1,5 +1,5 @@
 //! A cell that can be run both ways: what a node of the history keeps, and no earlier store.
-ghost use Rattle.std.specs.Prelude.{◌≡◌, IfOk, IfErr, List, map, string_bytes};
+ghost use Rattle.std.specs.Prelude.{◌≡◌, IfOk, IfErr, map, string_bytes};
 ghost use Rattle.janus_meaning.specs.Formed.{shape_of};
 ghost use Rattle.janus_syntax.specs.Tree.{declaration_view, declarations_view};
 ghost use Rattle.janus_check.specs.Names.{shape_of as shape_in};

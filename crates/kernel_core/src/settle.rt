@@ -1,5 +1,5 @@
 //! The parts of a slice: steps onward and back, and what comes at the end of a cell. None of them takes memory.
-ghost use Rattle.std.specs.Prelude.{◌≡◌, ℕ, ◌+◌, ◌-◌, ◌^◌, ◌<◌, ◌≤◌, false, true};
+ghost use Rattle.std.specs.Prelude.{◌≡◌, ◌+◌, ◌-◌, ◌^◌, ◌<◌};
 ghost use Rattle.kernel_core.specs.Language.{Part};
 ghost use Rattle.kernel_core.specs.State.{Past, here, code_of};
 ghost use Rattle.kernel_core.specs.Fields.{past_of, state_of, work_of, job_of};

@@ -23,5 +23,5 @@ returns-clause-kept c =
     let some = (up_possible (nodes_of c.args.tree.now) c.args.tree.now.favourites.items c.args.tree.now.position c.args.travel c.requires.way c.requires.kept.possible).0 in
     let at = node_here c.args.tree.now c.index-node.result.now c.requires.kept.legal some c.index-node.ensures in
     let names = up_names c.args.tree.now c.args.travel c.args.n (world_of c.args.runner.now) c.index-node.result.now c.requires.way c.requires.kept.legal c.requires.kept.possible c.requires.ended at in
-    kept_up c.args.tree.now c.index-node.result.now.parent c.args.travel c.leave.new.self c.arrive.result.1 c.arrive.result.0 c.requires.way c.requires.kept.legal c.requires.kept.possible
+    kept_up c.args.tree.now c.index-node.result.now.parent c.args.travel c.leave.new.self c.arrive.result.1 c.arrive.result.0 c.requires.way c.requires.kept.legal c.requires.kept.possible c.requires.kept.counted
     (ap (λ (n : state.Node). n.parent) (node_there c.args.tree.now c.args.tree.now.position c.index-node.result.now at)) (c.leave.ensures _ names) (c.arrive.ensures _)

@@ -1,0 +1,234 @@
+-- Where memory is ample, each step of the machine is determined, and so is each run.
+use Rattle.std.proofs.Common.{◌≡◌, ℕ, ◌+◌, ◌-◌, ◌<◌, ◌≤◌, Bool, true, false, List, [], ◌∷◌, zero, suc, refl, sym, ap, ◌∙◌, subst, arith, inl, inr, Result, Ok, Err}
+use Rattle.janus_meaning.specs.Fault as meaning
+use Rattle.janus_meaning.specs.World.{World, Cell}
+use Rattle.janus_machine.specs.Faults.{fault_of}
+use Rattle.janus_machine.specs.declared.fault.Fault.{Fault}
+use Rattle.janus_machine.specs.declared.fault.Fault.TheVariants as fault
+use Rattle.kernel_core.specs.Language.{Code, Part}
+use Rattle.kernel_core.specs.Reached.{Reaches}
+use Rattle.kernel_core.specs.State.{Past, Work, Posted, Move, Job as Open, Idle, Border, Inside, State, here, code_of, node_at, favourite_of}
+use Rattle.kernel_core.specs.Legal.{can_go, IsLegal}
+use Rattle.kernel_core.specs.Slices.{finished, Backs, Arrives, Settles, Comes, Goes, SlicesIn, SlicesAt}
+use Rattle.kernel_core.specs.Begins.{Declares, Enters, TakesMove, TakesCell}
+use Rattle.kernel_core.specs.Runs.{Machine, Request, RunCell, Undo, Redo, request_of, IsPost, Run, BeginsAt, Takes}
+use Rattle.kernel_core.specs.Determined.{TellsWant, StepIsDetermined, RunIsDetermined}
+use Rattle.kernel_core.specs.declared.runner.Ran.{Ran}
+use Rattle.kernel_core.specs.declared.runner.Ran.TheVariants.{Went, Ended, Stopped}
+use Rattle.kernel_core.specs.declared.job.Way.{Way}
+use Rattle.kernel_core.specs.declared.job.Way.TheVariants.{Up, Down}
+use Rattle.kernel_core.specs.declared.job.Travel.{Travel}
+use Rattle.kernel_core.specs.declared.job.Why.{Why}
+use Rattle.kernel_core.specs.declared.job.Why.TheVariants.{Asked as WasAsked, Faulted}
+use Rattle.kernel_core.specs.declared.job.Turn.{Turn}
+use Rattle.kernel_core.specs.declared.job.Turn.TheVariants.{Going as GoesOn, Backing as GoesBack}
+use Rattle.kernel_core.specs.declared.outcome.End.TheVariants.{NoMemory}
+use Rattle.kernel_core.specs.declared.outcome.Refusal.{Refusal}
+use Rattle.kernel_core.specs.declared.outcome.Refusal.TheVariants.{Memory}
+use Rattle.kernel_core.specs.declared.outcome.Outcome.TheVariants as outcome
+use Rattle.kernel_core.specs.declared.outcome.Begun.{Begun}
+use Rattle.kernel_core.specs.declared.outcome.Begun.TheVariants as begun
+use Rattle.kernel_core.specs.declared.outcome.Sliced.{Sliced}
+use Rattle.kernel_core.specs.declared.kernel.PostFault.{PostFault}
+use Rattle.kernel_core.specs.declared.kernel.PostFault.TheVariants.{QueueFull, Memory as NoRoom}
+use Rattle.kernel_core.specs.declared.events.Event.TheVariants as event
+use Rattle.kernel_core.specs.declared.events.Told.{Told}
+use Rattle.kernel_core.specs.declared.events.Told.TheVariants as told
+use Rattle.kernel_core.proofs.LanguageLaws.{part_same, exec_same, exec_no_stop, stop_same, stop_no_part}
+use Rattle.kernel_core.proofs.Refusals.{one_cell, one_answer, not_both}
+use Rattle.kernel_core.proofs.Stays.{step_legal}
+
+-- ---- how far code comes
+
+code_fault : meaning.Fault → Fault
+code_fault meaning.FiAssertion = fault.FiAssertion
+code_fault meaning.EntryAssertion = fault.EntryAssertion
+code_fault meaning.LoopAssertion = fault.LoopAssertion
+code_fault meaning.DelocalMismatch = fault.DelocalMismatch
+code_fault meaning.PopNotZero = fault.PopNotZero
+code_fault meaning.PopEmpty = fault.PopEmpty
+code_fault meaning.TopEmpty = fault.TopEmpty
+code_fault meaning.DivisionByZero = fault.DivisionByZero
+code_fault meaning.IndexRange = fault.IndexRange
+code_fault meaning.StackFull = fault.StackFull
+code_fault meaning.TooDeep = fault.TooDeep
+code_fault meaning.TooManyStacks = fault.TooManyStacks
+code_fault meaning.StepLimit = fault.StepLimit
+code_fault meaning.Broken = fault.StepLimit
+
+fault_back : (f : Fault) → code_fault (fault_of f) ≡ f
+unfolding code_fault
+fault_back fault.FiAssertion = refl
+fault_back fault.EntryAssertion = refl
+fault_back fault.LoopAssertion = refl
+fault_back fault.DelocalMismatch = refl
+fault_back fault.PopNotZero = refl
+fault_back fault.PopEmpty = refl
+fault_back fault.TopEmpty = refl
+fault_back fault.DivisionByZero = refl
+fault_back fault.IndexRange = refl
+fault_back fault.StackFull = refl
+fault_back fault.TooDeep = refl
+fault_back fault.TooManyStacks = refl
+fault_back fault.StepLimit = refl
+
+fault_same : (f g : Fault) → fault_of f ≡ fault_of g → f ≡ g
+fault_same f g e = sym (fault_back f) ∙ ap code_fault e ∙ fault_back g
+
+reach_same : (code : Code) (w : World) (m : ℕ) (a b : Ran) (u v : World) → Reaches code w m a u → Reaches code w m b v → (a ≡ b) × (u ≡ v)
+reach_same code w m Went Went u v p q = (refl, part_same code w m u v p.0 q.0)
+reach_same code w m Went (Ended n) u v p q = absurd (let l : m < n = p.1 n v q.0 in let h : n ≤ m = q.1 in omega arith)
+reach_same code w m (Ended n) Went u v p q = absurd (let l : m < n = q.1 n u p.0 in let h : n ≤ m = p.1 in omega arith)
+reach_same code w m Went (Stopped j f) u v p q = absurd (stop_no_part code w j m u (fault_of f) q.1 q.2 p.0 (λ x e. (let l : m < m = p.1 m x e in omega arith)))
+reach_same code w m (Stopped j f) Went u v p q = absurd (stop_no_part code w j m v (fault_of f) p.1 p.2 q.0 (λ x e. (let l : m < m = q.1 m x e in omega arith)))
+reach_same code w m (Ended n) (Ended i) u v p q = let same = exec_same code w n i u v p.0 q.0 in (ap Ended same.0, same.1)
+reach_same code w m (Ended n) (Stopped j f) u v p q = absurd (exec_no_stop code w n j u (fault_of f) p.0 q.1)
+reach_same code w m (Stopped j f) (Ended n) u v p q = absurd (exec_no_stop code w n j v (fault_of f) q.0 p.1)
+reach_same code w m (Stopped i f) (Stopped j g) u v p q =
+    let same = stop_same code w i j (fault_of f) (fault_of g) p.1 q.1 in (
+      ap (λ (n : ℕ). Stopped n f) same.0 ∙ ap (λ (x : Fault). Stopped j x) (fault_same f g same.1),
+      part_same code w j u v (subst (λ (n : ℕ). Part code w n u) same.0 p.0) q.0,
+    )
+
+-- ---- slices
+
+backs_same : (s : Past) (work : Work) (why : Why) (c : ℕ) (t u : Sliced) (new other : State) → Backs s work why c t new → Backs s work why c u other → (t ≡ u) × (new ≡ other)
+backs_same s work why zero t u new other a b = (a.0 ∙ sym b.0, a.1 ∙ sym b.1)
+backs_same s work why (suc c) t u new other a b = (a.0 ∙ sym b.0, a.1 ∙ sym b.1)
+
+arrives_same : (s : Past) (way : Way) (left done : ℕ) (t u : Sliced) (new other : State) → Arrives s way left done t new → Arrives s way left done u other → (t ≡ u) × (new ≡ other)
+arrives_same s way zero done t u new other a b = (a.0 ∙ sym b.0, a.1 ∙ sym b.1)
+arrives_same s way (suc left) done t u new other a b = (a.0 ∙ sym b.0, a.1 ∙ sym b.1)
+
+move_same : (s : Past) (travel : Travel) (way : Way) (n : ℕ) (w : World) (t u : Sliced) (new other : State) → travel.way ≡ way → Settles s (Move travel) n w t new → Settles s (Move travel) n w u other → (t ≡ u) × (new ≡ other)
+move_same s travel Up n w t u new other way a b =
+    arrives_same (record s { position = (node_at s s.position).parent }) Up (travel.left - 1) travel.done t u new other (rw way at a) (rw way at b)
+move_same s travel Down n w t u new other way a b =
+    arrives_same (record s { position = favourite_of s s.position }) Down (travel.left - 1) travel.done t u new other (rw way at a) (rw way at b)
+
+settles_same : (s : Past) (work : Work) (n : ℕ) (w : World) (t u : Sliced) (new other : State) → Settles s work n w t new → Settles s work n w u other → (t ≡ u) × (new ≡ other)
+settles_same s (Posted cell) n w t u new other a b = (a.0 ∙ sym b.0, a.1 ∙ sym b.1)
+settles_same s (Move travel) n w t u new other a b = move_same s travel travel.way n w t u new other refl a b
+
+comes_same : (s : Past) (work : Work) (c : ℕ) (ran : Ran) (w : World) (t u : Sliced) (new other : State) → Comes s work c ran w t new → Comes s work c ran w u other → (t ≡ u) × (new ≡ other)
+comes_same s work c Went w t u new other a b = (a.0 ∙ sym b.0, a.1 ∙ sym b.1)
+comes_same s work c (Ended n) w t u new other a b = settles_same s work n w t u new other a b
+comes_same s work c (Stopped j f) w t u new other a b = backs_same s work (Faulted f j) j t u new other a b
+
+goes_same : (s : Past) (work : Work) (c m : ℕ) (t u : Sliced) (new other : State) → Goes s work c m t new → Goes s work c m u other → (t ≡ u) × (new ≡ other)
+goes_same s work c m t u new other a b =
+    let same = reach_same (code_of s work) (here s) (c + m) a.0 b.0 a.1 b.1 a.2 b.2 in
+    comes_same s work (c + m) a.0 a.1 t u new other a.3
+    (subst (λ (x : Ran). Comes s work (c + m) x a.1 u other) (sym same.0) (subst (λ (x : World). Comes s work (c + m) b.0 x u other) (sym same.1) b.3))
+
+slice_in_same : (s : Past) (work : Work) (c : ℕ) (turn : Turn) (m : ℕ) (asked : Bool) (t u : Sliced) (new other : State) → SlicesIn s work c turn m asked t new → SlicesIn s work c turn m asked u other → (t ≡ u) × (new ≡ other)
+slice_in_same s work c GoesOn m false t u new other a b = goes_same s work c m t u new other a b
+slice_in_same s work c GoesOn m true t u new other a b = backs_same s work (WasAsked c) (c - m) t u new other a b
+slice_in_same s work c (GoesBack why) m asked t u new other a b = backs_same s work why (c - m) t u new other a b
+
+slice_same : (s : Past) (job : Open) (m : ℕ) (asked : Bool) (t u : Sliced) (new other : State) → SlicesAt s job m asked t new → SlicesAt s job m asked u other → (t ≡ u) × (new ≡ other)
+slice_same s Idle m asked t u new other a b = (a.0 ∙ sym b.0, a.1 ∙ sym b.1)
+slice_same s (Border travel) m asked t u new other a b = (a.0 ∙ sym b.0, a.1 ∙ sym b.1)
+slice_same s (Inside e) m asked t u new other a b = slice_in_same s e.work e.count e.turn m asked t u new other a b
+
+-- ---- begins
+
+abbrev IsAmple : Begun → Type 0
+IsAmple answer = TellsWant (told.Begin answer) → ⊥
+
+short : (s : Past) (travel : Travel) (way : Way) (answer : Begun) → travel.way ≡ way → answer ≡ begun.Ended (finished travel NoMemory) → Declares s travel → TellsWant (told.Begin answer)
+short s travel Up answer way e d = absurd (rw way at d)
+short s travel Down answer way e d = inr (travel.done, rw way at e)
+
+enters_same : (s : Past) (travel : Travel) (t u : Begun) (new other : State) → Enters s travel t new → IsAmple t → Enters s travel u other → IsAmple u → (t ≡ u) × (new ≡ other)
+enters_same s travel t u new other a ample b enough = elim a [
+  | inl x ↦ elim b [
+    | inl y ↦ (x.0 ∙ sym y.0, x.1 ∙ sym y.1)
+    | inr y ↦ absurd (enough (short s travel travel.way u refl y.0 y.1))
+  ]
+  | inr x ↦ absurd (ample (short s travel travel.way t refl x.0 x.1))
+]
+
+takes_move_same : (s : Past) (way : Way) (k : ℕ) (can : Bool) (t u : Begun) (new other : State) → TakesMove s way k can t new → IsAmple t → TakesMove s way k can u other → IsAmple u → (t ≡ u) × (new ≡ other)
+takes_move_same s way k false t u new other a ample b enough = (a.0 ∙ sym b.0, a.1 ∙ sym b.1)
+takes_move_same s way zero true t u new other a ample b enough = (a.0 ∙ sym b.0, a.1 ∙ sym b.1)
+takes_move_same s way (suc k) true t u new other a ample b enough = enters_same s (record { way = way; left = suc k; done = 0 }) t u new other a ample b enough
+
+real : (answer : Begun) (r : Refusal) → IsAmple answer → answer ≡ begun.Ended (outcome.Refused r) → r ≡ Memory → ⊥
+real answer r ample e same = ample (inl (e ∙ ap (λ (x : Refusal). begun.Ended (outcome.Refused x)) same))
+
+takes_cell_same : (s : Past) (text : List ℕ) (t u : Begun) (new other : State) → IsLegal s → TakesCell s text t new → IsAmple t → TakesCell s text u other → IsAmple u → (t ≡ u) × (new ≡ other)
+takes_cell_same s text t u new other g a ample b enough = elim a [
+  | inl x ↦ elim b [
+    | inl y ↦
+        (let same : x.0 ≡ y.0 = one_cell (here s) text x.0 y.0 x.1 y.1 in
+        (x.2 ∙ sym y.2, x.3 ∙ ap (λ (c : Cell). record { past = s; job = Inside (record { work = Posted c; count = 0; turn = GoesOn }) }) same ∙ sym y.3))
+    | inr y ↦ absurd (not_both (here s) text x.0 y.0 (g.sound s.position g.position) x.1 y.1 (real u y.0 enough y.2))
+  ]
+  | inr x ↦ elim b [
+    | inl y ↦ absurd (not_both (here s) text y.0 x.0 (g.sound s.position g.position) y.1 x.1 (real t x.0 ample x.2))
+    | inr y ↦
+        (let same : x.0 ≡ y.0 = one_answer (here s) text x.0 y.0 x.1 (real t x.0 ample x.2) y.1 (real u y.0 enough y.2) in
+        (x.2 ∙ ap (λ (r : Refusal). begun.Ended (outcome.Refused r)) same ∙ sym y.2, x.3 ∙ sym y.3))
+  ]
+]
+
+takes_same : (s : Past) (r : Request) (t u : Begun) (new other : State) → IsLegal s → Takes s r t new → IsAmple t → Takes s r u other → IsAmple u → (t ≡ u) × (new ≡ other)
+takes_same s (RunCell text silent store) t u new other g a ample b enough = takes_cell_same s text t u new other g a ample b enough
+takes_same s (Undo k) t u new other g a ample b enough = takes_move_same s Up k (can_go s.nodes s.favourites s.position Up k) t u new other a ample b enough
+takes_same s (Redo k) t u new other g a ample b enough = takes_move_same s Down k (can_go s.nodes s.favourites s.position Down k) t u new other a ample b enough
+
+begins_same : (old : Machine) (job : Open) (queue : List Request) (t u : Begun) (new other : Machine) → IsLegal old.state.past → BeginsAt old job queue t new → IsAmple t → BeginsAt old job queue u other → IsAmple u →
+    (t ≡ u) × (new ≡ other)
+begins_same old Idle [] t u new other g a ample b enough = (a.0 ∙ sym b.0, a.1 ∙ sym b.1)
+begins_same old Idle (r ∷ rest) t u new other g a ample b enough =
+    let same = takes_same old.state.past r t u a.0 b.0 g a.1 ample b.1 enough in
+    (same.0, a.2 ∙ ap (λ (x : State). record old { state = x; queue = rest }) same.1 ∙ sym b.2)
+begins_same old (Border travel) queue t u new other g a ample b enough =
+    let same = enters_same old.state.past travel t u a.0 b.0 a.1 ample b.1 enough in
+    (same.0, a.2 ∙ ap (λ (x : State). record old { state = x }) same.1 ∙ sym b.2)
+begins_same old (Inside e) queue t u new other g a ample b enough = (a.0 ∙ sym b.0, a.1 ∙ sym b.1)
+
+-- ---- posts, steps and runs
+
+post_same : (old : Machine) (r : Request) (t u : Result ℕ PostFault) (new other : Machine) → IsPost old r t new → (t ≡ Err NoRoom → ⊥) → IsPost old r u other → (u ≡ Err NoRoom → ⊥) → (t ≡ u) × (new ≡ other)
+post_same old r (Err NoRoom) u new other a ample b enough = absurd (ample refl)
+post_same old r t (Err NoRoom) new other a ample b enough = absurd (enough refl)
+post_same old r (Ok n) (Ok i) new other a ample b enough = (ap (λ (k : ℕ). Ok k) (a.1 ∙ sym b.1), a.2 ∙ sym b.2)
+post_same old r (Ok n) (Err QueueFull) new other a ample b enough = absurd (let l = a.0 in let h = b.0 in omega arith)
+post_same old r (Err QueueFull) (Ok n) new other a ample b enough = absurd (let l = a.0 in let h = b.0 in omega arith)
+post_same old r (Err QueueFull) (Err QueueFull) new other a ample b enough = (refl, a.1 ∙ sym b.1)
+
+pub step_is_determined : StepIsDetermined
+step_is_determined old new other (event.Post lane posted) (told.Post t) (told.Post u) g a ample b enough =
+    let same = post_same old (request_of posted) t u new other a ample b enough in
+    (ap (λ (x : Result ℕ PostFault). told.Post x) same.0, same.1)
+step_is_determined old new other event.Begin (told.Begin t) (told.Begin u) g a ample b enough =
+    let same = begins_same old old.state.job old.queue t u new other g.legal a ample b enough in
+    (ap (λ (x : Begun). told.Begin x) same.0, same.1)
+step_is_determined old new other (event.Slice m asked) (told.Slice t) (told.Slice u) g a ample b enough =
+    let same = slice_same old.state.past old.state.job m asked t u a.0 b.0 a.1 b.1 in
+    (ap (λ (x : Sliced). told.Slice x) same.0, a.2 ∙ ap (λ (x : State). record old { state = x }) same.1 ∙ sym b.2)
+step_is_determined old new other (event.Post lane posted) (told.Begin t) u g a ample b enough = absurd a
+step_is_determined old new other (event.Post lane posted) (told.Slice t) u g a ample b enough = absurd a
+step_is_determined old new other (event.Post lane posted) (told.Post t) (told.Begin u) g a ample b enough = absurd b
+step_is_determined old new other (event.Post lane posted) (told.Post t) (told.Slice u) g a ample b enough = absurd b
+step_is_determined old new other event.Begin (told.Post t) u g a ample b enough = absurd a
+step_is_determined old new other event.Begin (told.Slice t) u g a ample b enough = absurd a
+step_is_determined old new other event.Begin (told.Begin t) (told.Post u) g a ample b enough = absurd b
+step_is_determined old new other event.Begin (told.Begin t) (told.Slice u) g a ample b enough = absurd b
+step_is_determined old new other (event.Slice m asked) (told.Post t) u g a ample b enough = absurd a
+step_is_determined old new other (event.Slice m asked) (told.Begin t) u g a ample b enough = absurd a
+step_is_determined old new other (event.Slice m asked) (told.Slice t) (told.Post u) g a ample b enough = absurd b
+step_is_determined old new other (event.Slice m asked) (told.Slice t) (told.Begin u) g a ample b enough = absurd b
+
+pub run_is_determined : RunIsDetermined
+run_is_determined old new other [] [] [] g r a q b = (refl, r ∙ sym q)
+run_is_determined old new other [] (t ∷ answers) others g r a q b = absurd r
+run_is_determined old new other [] [] (u ∷ others) g r a q b = absurd q
+run_is_determined old new other (e ∷ events) [] others g r a q b = absurd r
+run_is_determined old new other (e ∷ events) (t ∷ answers) [] g r a q b = absurd q
+run_is_determined old new other (e ∷ events) (t ∷ answers) (u ∷ others) g r a q b =
+    let one = step_is_determined old r.0 q.0 e t u g r.1 a.0 q.1 b.0 in
+    let rest = run_is_determined r.0 new other events answers others (step_legal old e t r.0 g r.1) r.2 a.1 (subst (λ (m : Machine). Run m events others other) (sym one.1) q.2) b.1 in
+    (ap (λ (x : Told). x ∷ answers) one.0 ∙ ap (λ (xs : List Told). u ∷ xs) rest.0, rest.1)

@@ -1,0 +1,131 @@
+-- Each state that is reached is legal.
+use Rattle.std.proofs.Common.{◌≡◌, ℕ, ◌+◌, ◌-◌, Bool, true, false, IsTrue, List, [], ◌∷◌, zero, suc, refl, sym, ap, subst, arith, inl, inr}
+use Rattle.janus_meaning.specs.World.{World}
+use Rattle.kernel_core.specs.Language.{Exec}
+use Rattle.kernel_core.specs.Reached.{Reaches}
+use Rattle.kernel_core.specs.State.{Past, Work, Posted, Move, Job as Open, Idle, Border, Inside, State, here, code_of, node_at, favourite_of}
+use Rattle.kernel_core.specs.Legal.{can_go, IsLegal, IsPossible, IsPossibleWork, IsPossibleAt, IsLegalState}
+use Rattle.kernel_core.specs.Slices.{Backs, Arrives, Settles, Comes, SlicesIn, SlicesAt}
+use Rattle.kernel_core.specs.Begins.{Enters, TakesMove, TakesCell}
+use Rattle.kernel_core.specs.Runs.{Machine, Request, RunCell, Undo, Redo, request_of, Step, BeginsAt, Takes}
+use Rattle.kernel_core.specs.Theorems.{NewIsLegal, StaysLegal}
+use Rattle.kernel_core.specs.declared.runner.Ran.{Ran}
+use Rattle.kernel_core.specs.declared.runner.Ran.TheVariants.{Went, Ended, Stopped}
+use Rattle.kernel_core.specs.declared.job.Way.{Way}
+use Rattle.kernel_core.specs.declared.job.Way.TheVariants.{Up, Down}
+use Rattle.kernel_core.specs.declared.job.Travel.{Travel}
+use Rattle.kernel_core.specs.declared.job.Why.{Why}
+use Rattle.kernel_core.specs.declared.job.Why.TheVariants.{Asked as WasAsked, Faulted}
+use Rattle.kernel_core.specs.declared.job.Turn.{Turn}
+use Rattle.kernel_core.specs.declared.job.Turn.TheVariants.{Going as GoesOn, Backing as GoesBack}
+use Rattle.kernel_core.specs.declared.outcome.Begun.{Begun}
+use Rattle.kernel_core.specs.declared.outcome.Sliced.{Sliced}
+use Rattle.kernel_core.specs.declared.events.Event.{Event}
+use Rattle.kernel_core.specs.declared.events.Event.TheVariants as event
+use Rattle.kernel_core.specs.declared.events.Told.{Told}
+use Rattle.kernel_core.specs.declared.events.Told.TheVariants as told
+use Rattle.kernel_core.proofs.Texts.{accepted_formed}
+use Rattle.kernel_core.proofs.Trees.{legal_grown, legal_up, legal_down, new_legal}
+use Rattle.kernel_core.proofs.Standing.{up_possible, down_possible}
+use Rattle.kernel_core.proofs.Jobs.{post_keeps}
+
+pub new_is_legal : NewIsLegal
+new_is_legal = (record { legal = new_legal; possible = tt }, refl)
+
+-- the state that is known
+legal_at : (s new : State) → new ≡ s → IsLegalState s → IsLegalState new
+legal_at s new e g = subst (λ (x : State). IsLegalState x) (sym e) g
+
+legal_idle : (s : Past) (new : State) → IsLegal s → new ≡ record { past = s; job = Idle } → IsLegalState new
+legal_idle s new g e = legal_at (record { past = s; job = Idle }) new e (record { legal = g; possible = tt })
+
+legal_inside : (s : Past) (work : Work) (c : ℕ) (turn : Turn) (new : State) → IsLegal s → IsPossibleWork s work → new ≡ record { past = s; job = Inside (record { work = work; count = c; turn = turn }) } → IsLegalState new
+legal_inside s work c turn new g p e = legal_at (record { past = s; job = Inside (record { work = work; count = c; turn = turn }) }) new e (record { legal = g; possible = p })
+
+-- ---- slices
+
+backs_legal : (s : Past) (work : Work) (why : Why) (c : ℕ) (told : Sliced) (new : State) → IsLegal s → IsPossibleWork s work → Backs s work why c told new → IsLegalState new
+backs_legal s work why zero told new g p b = legal_idle s new g b.1
+backs_legal s work why (suc c) told new g p b = legal_inside s work (suc c) (GoesBack why) new g p b.1
+
+arrives_legal : (s : Past) (way : Way) (left done : ℕ) (told : Sliced) (new : State) → IsLegal s → IsTrue (can_go s.nodes s.favourites s.position way left) → Arrives s way left done told new → IsLegalState new
+arrives_legal s way zero done told new g can a = legal_idle s new g a.1
+arrives_legal s way (suc left) done told new g can a =
+    legal_at (record { past = s; job = Border (record { way = way; left = suc left; done = done + 1 }) }) new a.1 (record { legal = g; possible = record { some = omega arith; way_there = can } })
+
+move_legal : (s : Past) (travel : Travel) (way : Way) (n : ℕ) (w : World) (told : Sliced) (new : State) → travel.way ≡ way → IsLegal s → IsPossible s.nodes s.favourites s.position travel → Settles s (Move travel) n w told new → IsLegalState new
+move_legal s travel Up n w told new way g p a =
+    let can = up_possible s.nodes s.favourites s.position travel way p in
+    arrives_legal (record s { position = (node_at s s.position).parent }) Up (travel.left - 1) travel.done told new (legal_up s g) can.1 (rw way at a)
+move_legal s travel Down n w told new way g p a =
+    let can = down_possible s.nodes s.favourites s.position travel way p in
+    arrives_legal (record s { position = favourite_of s s.position }) Down (travel.left - 1) travel.done told new (legal_down s g can.0) can.1 (rw way at a)
+
+settles_legal : (s : Past) (work : Work) (n : ℕ) (w : World) (told : Sliced) (new : State) → IsLegal s → IsPossibleWork s work → Exec (code_of s work) (here s) n w → Settles s work n w told new → IsLegalState new
+settles_legal s (Posted cell) n w told new g p e a = legal_idle _ new (legal_grown s cell n w g p e) a.1
+settles_legal s (Move travel) n w told new g p e a = move_legal s travel travel.way n w told new refl g p a
+
+comes_legal : (s : Past) (work : Work) (c m : ℕ) (ran : Ran) (w : World) (told : Sliced) (new : State) → IsLegal s → IsPossibleWork s work → Reaches (code_of s work) (here s) m ran w → Comes s work c ran w told new → IsLegalState new
+comes_legal s work c m Went w told new g p r a = legal_inside s work c GoesOn new g p a.1
+comes_legal s work c m (Ended n) w told new g p r a = settles_legal s work n w told new g p r.0 a
+comes_legal s work c m (Stopped j f) w told new g p r a = backs_legal s work (Faulted f j) j told new g p a
+
+slices_legal : (s : Past) (work : Work) (c : ℕ) (turn : Turn) (m : ℕ) (asked : Bool) (told : Sliced) (new : State) → IsLegal s → IsPossibleWork s work → SlicesIn s work c turn m asked told new → IsLegalState new
+slices_legal s work c GoesOn m false told new g p a = comes_legal s work (c + m) (c + m) a.0 a.1 told new g p a.2 a.3
+slices_legal s work c GoesOn m true told new g p a = backs_legal s work (WasAsked c) (c - m) told new g p a
+slices_legal s work c (GoesBack why) m asked told new g p a = backs_legal s work why (c - m) told new g p a
+
+slice_legal : (s : Past) (job : Open) (m : ℕ) (asked : Bool) (told : Sliced) (new : State) → IsLegal s → IsPossibleAt s job → SlicesAt s job m asked told new → IsLegalState new
+slice_legal s Idle m asked told new g p a = legal_idle s new g a.1
+slice_legal s (Border t) m asked told new g p a = legal_at (record { past = s; job = Border t }) new a.1 (record { legal = g; possible = p })
+slice_legal s (Inside e) m asked told new g p a = slices_legal s e.work e.count e.turn m asked told new g p a
+
+-- ---- begins
+
+enters_legal : (s : Past) (t : Travel) (answer : Begun) (new : State) → IsLegal s → IsPossible s.nodes s.favourites s.position t → Enters s t answer new → IsLegalState new
+enters_legal s t answer new g p a = elim a [
+  | inl b ↦ legal_inside s (Move t) 0 GoesOn new g p b.1
+  | inr b ↦ legal_idle s new g b.2
+]
+
+takes_move_legal : (s : Past) (way : Way) (k : ℕ) (can : Bool) (answer : Begun) (new : State) → IsLegal s → can_go s.nodes s.favourites s.position way k ≡ can → TakesMove s way k can answer new → IsLegalState new
+takes_move_legal s way k false answer new g e a = legal_idle s new g a.1
+takes_move_legal s way zero true answer new g e a = legal_idle s new g a.1
+takes_move_legal s way (suc k) true answer new g e a = enters_legal s (record { way = way; left = suc k; done = 0 }) answer new g (record { some = omega arith; way_there = e }) a
+
+takes_cell_legal : (s : Past) (text : List ℕ) (answer : Begun) (new : State) → IsLegal s → TakesCell s text answer new → IsLegalState new
+takes_cell_legal s text answer new g a = elim a [
+  | inl b ↦ legal_inside s (Posted b.0) 0 GoesOn new g (accepted_formed (here s) text b.0 b.1) b.3
+  | inr b ↦ legal_idle s new g b.3
+]
+
+takes_legal : (s : Past) (r : Request) (answer : Begun) (new : State) → IsLegal s → Takes s r answer new → IsLegalState new
+takes_legal s (RunCell text silent store) answer new g a = takes_cell_legal s text answer new g a
+takes_legal s (Undo k) answer new g a = takes_move_legal s Up k _ answer new g refl a
+takes_legal s (Redo k) answer new g a = takes_move_legal s Down k _ answer new g refl a
+
+begins_legal : (old : Machine) (job : Open) (queue : List Request) (answer : Begun) (new : Machine) → IsLegalState old.state → IsPossibleAt old.state.past job → BeginsAt old job queue answer new → IsLegalState new.state
+begins_legal old Idle [] answer new g p a = legal_at old.state new.state (ap (λ (m : Machine). m.state) a.1) g
+begins_legal old Idle (r ∷ rest) answer new g p a = legal_at a.0 new.state (ap (λ (m : Machine). m.state) a.2) (takes_legal old.state.past r answer a.0 g.legal a.1)
+begins_legal old (Border t) queue answer new g p a = legal_at a.0 new.state (ap (λ (m : Machine). m.state) a.2) (enters_legal old.state.past t answer a.0 g.legal p a.1)
+begins_legal old (Inside e) queue answer new g p a = legal_at old.state new.state (ap (λ (m : Machine). m.state) a.1) g
+
+-- ---- runs
+
+pub step_legal : (old : Machine) (e : Event) (t : Told) (new : Machine) → IsLegalState old.state → Step old e t new → IsLegalState new.state
+step_legal old (event.Post lane posted) (told.Post answer) new g s = legal_at old.state new.state (post_keeps old (request_of posted) answer new s) g
+step_legal old event.Begin (told.Begin answer) new g s = begins_legal old old.state.job old.queue answer new g g.possible s
+step_legal old (event.Slice m asked) (told.Slice answer) new g s =
+    legal_at s.0 new.state (ap (λ (x : Machine). x.state) s.2) (slice_legal old.state.past old.state.job m asked answer s.0 g.legal g.possible s.1)
+step_legal old (event.Post lane posted) (told.Begin answer) new g s = absurd s
+step_legal old (event.Post lane posted) (told.Slice answer) new g s = absurd s
+step_legal old event.Begin (told.Post answer) new g s = absurd s
+step_legal old event.Begin (told.Slice answer) new g s = absurd s
+step_legal old (event.Slice m asked) (told.Post answer) new g s = absurd s
+step_legal old (event.Slice m asked) (told.Begin answer) new g s = absurd s
+
+pub stays_legal : StaysLegal
+stays_legal old new [] [] g r = legal_at old.state new.state (ap (λ (m : Machine). m.state) r) g
+stays_legal old new [] (t ∷ answers) g r = absurd r
+stays_legal old new (e ∷ events) [] g r = absurd r
+stays_legal old new (e ∷ events) (t ∷ answers) g r = stays_legal r.0 new events answers (step_legal old e t r.0 g r.1) r.2

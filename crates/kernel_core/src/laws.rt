@@ -1,0 +1,74 @@
+//! The main theorem, over every run of the machine. `run_events` gives such runs, and each state of a kernel is legal.
+//! The functions do nothing: their contracts are the laws.
+ghost use Rattle.kernel_core.specs.Determined.{StepIsDetermined, RunIsDetermined};
+ghost use Rattle.kernel_core.specs.Theorems.{NewIsLegal, StaysLegal, MovesEnd, CellsEnd, RedoGivesBack, SettlesOnTime, NeverFaults, IsMirrored, PathGivesWorld, UndoGoesUpThePath, RedoGoesDownFavourites};
+
+/// A new machine is legal: its tree is, and no job is open.
+pub fn new_is_legal_law()
+    ensures { NewIsLegal }
+{}
+
+/// Each run from a legal state leads to a legal state. So the laws below hold at every state of a kernel.
+pub fn stays_legal_law()
+    ensures { StaysLegal }
+{}
+
+/// An undo or a redo of `k` cells is refused whole, or ends after `j` cells with the tree, all its worlds and its
+/// favourites as before, `j` nodes further. It says `All` exactly where `j` is `k`, and `NoMemory` only on the way down,
+/// in front of a cell that declares names. Whatever posts, interrupts and slices come.
+pub fn moves_end_law()
+    ensures { MovesEnd }
+{}
+
+/// A cell that ends as `Ran` is a new node with the world to which it leads; any other end leaves all as before it, and tells
+/// why: the text's refusal, or the fault and the steps at which the cell meets it, or the steps at which it was asked to stop.
+pub fn cells_end_law()
+    ensures { CellsEnd }
+{}
+
+/// A redo of `k` cells that follows an undo of `k` cells, both to the end, gives all back.
+pub fn redo_gives_back_law()
+    ensures { RedoGivesBack }
+{}
+
+/// The code of an undo or a redo leads to the world due, and the cell settles in the slice that takes the last of exactly as
+/// many steps as it took.
+pub fn settles_on_time_law()
+    ensures { SettlesOnTime }
+{}
+
+/// Undo and redo of an accepted cell never meet a fault.
+pub fn never_faults_law()
+    ensures { NeverFaults }
+{}
+
+/// The inverted code leads back through the same worlds, in as many steps.
+pub fn is_mirrored_law()
+    ensures { IsMirrored }
+{}
+
+/// The world of a node is the one that the cells on its path from the root give, and no other.
+pub fn path_gives_world_law()
+    ensures { PathGivesWorld }
+{}
+
+/// An undo of `k` cells can go exactly where at least `k` cells stand on the path from the root to the position.
+pub fn undo_goes_up_the_path_law()
+    ensures { UndoGoesUpThePath }
+{}
+
+/// A redo of `k` cells can go exactly where at least `k` favourites stand below the position, each below the one before.
+pub fn redo_goes_down_favourites_law()
+    ensures { RedoGoesDownFavourites }
+{}
+
+/// Where neither tells want of memory, two steps for one event from one legal machine give the same answer, and lead to the
+/// same machine.
+pub fn step_is_determined_law()
+    ensures { StepIsDetermined }
+{}
+
+/// Where no answer tells want of memory, the answers to a list of events and the machine after it are the only ones.
+pub fn run_is_determined_law()
+    ensures { RunIsDetermined }
+{}
