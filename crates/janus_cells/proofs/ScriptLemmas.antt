@@ -6,10 +6,10 @@ use Rattle.kernel_core.specs.Runs.{Machine}
 use Rattle.janus_cells.specs.declared.command.Command.{Command}
 use Rattle.janus_cells.specs.declared.command.Command.TheVariants.{Run, Undo, Redo, Show, Unknown}
 use Rattle.janus_cells.specs.Command.{command_of}
-use Rattle.janus_cells.specs.Lines.{ended_line, is_blank, is_command_line, lines, trimmed}
-use Rattle.janus_cells.specs.Loop.{RestAt, RunsRest, Does, DoesAfterRest, CommandServes, LineAt, LineServes, text_after, LinesServe}
+use Rattle.janus_cells.specs.Lines.{is_blank, is_command_line, lines, trimmed}
+use Rattle.janus_cells.specs.Loop.{RestAt, RunsRest, Does, DoesAfterRest, CommandServes, LineAt, text_after, LinesServe}
 use Rattle.janus_cells.specs.Script.{Action, RunText, UndoCells, RedoCells, ShowWorld, BadCommand, text_of, run_unless_blank, asked, texts, commands, actions, script}
-use Rattle.janus_cells.specs.Transcript.{Answers, ActionServes, ActionsServe}
+use Rattle.janus_cells.specs.Transcript.{ActionServes, ActionsServe}
 use Rattle.janus_cells.proofs.LinesLemmas.{some_part}
 
 -- ---- actions one after the other

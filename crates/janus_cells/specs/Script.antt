@@ -6,7 +6,8 @@ use Rattle.janus_cells.specs.Lines.{ended_line, is_blank, is_command_line, lines
 use Rattle.janus_cells.specs.declared.command.Command.{Command}
 use Rattle.janus_cells.specs.declared.command.Command.TheVariants.{Run, Undo, Redo, Show, Unknown}
 
--- one thing that an input asks for: to run a text as a cell, to undo or redo so many cells, to show the world, or what nobody knows
+-- one thing that an input asks for: to run a text as a cell, to undo or redo so many cells, to show the world, or what
+-- nobody knows
 pub data Action : Type 0 where
   RunText : (text : List ℕ) → Action
   UndoCells : (k : ℕ) → Action

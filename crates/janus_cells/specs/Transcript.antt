@@ -43,6 +43,7 @@ ActionsServe (action ∷ more) old out new =
     (mid : Machine) × (first : List ℕ) × (second : List ℕ)
     × ActionServes action old first mid × ActionsServe more mid second new × (out ≡ first ++ second)
 
--- A transcript of an input: a new kernel serves the actions that the input asks for, and this is all that is written of them.
+-- A transcript of an input: a new kernel serves the actions that the input asks for, and all that is written of them is
+-- the transcript.
 abbrev pub IsTranscript : List ℕ → List ℕ → Type 0
 IsTranscript input out = (new : Machine) × ActionsServe (script input) new_machine out new
