@@ -1,7 +1,10 @@
 pub mod CommandLemmas
 pub mod Finishing
+pub mod InputLemmas
 pub mod LinesLemmas
 pub mod OutputLemmas
+pub mod ScriptLemmas
 pub mod Serving
 pub mod ShownLemmas
+pub mod TextLemmas
 pub mod TranscriptLemmas

@@ -8,24 +8,21 @@ use Rattle.std.proofs.lemmas.List.Folds.{list_all-append}
 use Rattle.std.specs.Prelude.{◌||◌, ◌&&◌, slice_index}
 use Rattle.janus_cells.specs.Lines.{lines, lines_of_parts, is_blank, is_trimmed, is_command_line}
 
-is_line_feed : ℕ → Bool
-is_line_feed b = b == 10
-
 -- a part with another behind it is a line
 line_then : (part next : List ℕ) (more : List (List ℕ)) → lines_of_parts (part ∷ next ∷ more) ≡ part ∷ lines_of_parts (next ∷ more)
 line_then [] next more = refl
 line_then (c ∷ part) next more = refl
 
-onto_some : (c : ℕ) (parts : List (List ℕ)) → (first : List ℕ) × (rest : List (List ℕ)) × (onto_first c parts ≡ first ∷ rest)
-onto_some c [] = (c ∷ [], [], refl)
-onto_some c (part ∷ parts) = (c ∷ part, parts, refl)
+onto_some : {A : Type 0} (x : A) (parts : List (List A)) → (first : List A) × (rest : List (List A)) × (onto_first x parts ≡ first ∷ rest)
+onto_some x [] = (x ∷ [], [], refl)
+onto_some x (part ∷ parts) = (x ∷ part, parts, refl)
 
-some_by : (b : Bool) (c : ℕ) (parts : List (List ℕ)) → (first : List ℕ) × (rest : List (List ℕ)) × (cond b ([] ∷ parts) (onto_first c parts) ≡ first ∷ rest)
-some_by true c parts = ([], parts, refl)
-some_by false c parts = onto_some c parts
+some_by : {A : Type 0} (b : Bool) (x : A) (parts : List (List A)) → (first : List A) × (rest : List (List A)) × (cond b ([] ∷ parts) (onto_first x parts) ≡ first ∷ rest)
+some_by true x parts = ([], parts, refl)
+some_by false x parts = onto_some x parts
 
 -- there is a part always
-some_part : (p : ℕ → Bool) (xs : List ℕ) → (first : List ℕ) × (rest : List (List ℕ)) × (slice_split p xs ≡ first ∷ rest)
+pub some_part : {A : Type 0} (p : A → Bool) (xs : List A) → (first : List A) × (rest : List (List A)) × (slice_split p xs ≡ first ∷ rest)
 some_part p [] = ([], [], refl)
 some_part p (x ∷ xs) = some_by (p x) x (slice_split p xs)
 

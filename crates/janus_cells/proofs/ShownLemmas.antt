@@ -7,8 +7,9 @@ use Rattle.janus_meaning.specs.Syntax.{Name}
 use Rattle.janus_meaning.specs.Store.{Store, Bare, Slot}
 use Rattle.janus_meaning.specs.World.{size_of}
 use Rattle.janus_machine.specs.Stores.{listed, number_in}
+use Rattle.janus_cells.specs.Lines.{ended_line}
 use Rattle.janus_cells.specs.Output.{SentSome}
-use Rattle.janus_cells.specs.Shown.{position_line, entry_line, entry_lines, show_text}
+use Rattle.janus_cells.specs.Shown.{position_line, value_text, value_lines, show_text}
 use Rattle.janus_cells.proofs.OutputLemmas.{appends_join, sent_then, sent_first}
 
 Some_inj : {A : Type 0} {x y : A} → Some x ≡ Some y → x ≡ y
@@ -23,37 +24,37 @@ length_listed Bare = refl
 length_listed (Slot x v r) = length_more (listed r) (x, number_in v) ∙ ap suc (length_listed r)
 
 -- the lines of one more name
-pub lines_next : (es : List (Name × ℤ)) (i : ℕ) (e : Name × ℤ) → slice_get es i ≡ Some e → entry_lines (take (suc i) es) ≡ entry_lines (take i es) ++ entry_line e
+pub lines_next : (es : List (Name × ℤ)) (i : ℕ) (e : Name × ℤ) → slice_get es i ≡ Some e → value_lines (take (suc i) es) ≡ value_lines (take i es) ++ ended_line (value_text e)
 lines_next [] i e h = absurd (cc h)
-lines_next (d ∷ es) zero e h = ap (λ x. entry_line x ++ []) (Some_inj h) ∙ append-nil (entry_line e)
-lines_next (d ∷ es) (suc i) e h = ap (λ t. entry_line d ++ t) (lines_next es i e h) ∙ sym (append_assoc (entry_line d) (entry_lines (take i es)) (entry_line e))
+lines_next (d ∷ es) zero e h = ap (λ x. ended_line (value_text x) ++ []) (Some_inj h) ∙ append-nil (ended_line (value_text e))
+lines_next (d ∷ es) (suc i) e h = ap (λ t. ended_line (value_text d) ++ t) (lines_next es i e h) ∙ sym (append_assoc (ended_line (value_text d)) (value_lines (take i es)) (ended_line (value_text e)))
 
-pub lines_split : (xs ys : List (Name × ℤ)) → entry_lines (xs ++ ys) ≡ entry_lines xs ++ entry_lines ys
+pub lines_split : (xs ys : List (Name × ℤ)) → value_lines (xs ++ ys) ≡ value_lines xs ++ value_lines ys
 lines_split [] ys = refl
-lines_split (x ∷ xs) ys = ap (λ t. entry_line x ++ t) (lines_split xs ys) ∙ sym (append_assoc (entry_line x) (entry_lines xs) (entry_lines ys))
+lines_split (x ∷ xs) ys = ap (λ t. ended_line (value_text x) ++ t) (lines_split xs ys) ∙ sym (append_assoc (ended_line (value_text x)) (value_lines xs) (value_lines ys))
 
 -- the text of the first so many names
 abbrev pub first_text : ℕ → List (Name × ℤ) → ℕ → List ℕ
-first_text position es i = position_line position ++ entry_lines (take i es)
+first_text position es i = ended_line (position_line position) ++ value_lines (take i es)
 
-pub first_next : (position : ℕ) (es : List (Name × ℤ)) (i : ℕ) (e : Name × ℤ) → slice_get es i ≡ Some e → first_text position es (suc i) ≡ first_text position es i ++ entry_line e
-first_next position es i e h = ap (λ t. position_line position ++ t) (lines_next es i e h) ∙ sym (append_assoc (position_line position) (entry_lines (take i es)) (entry_line e))
+pub first_next : (position : ℕ) (es : List (Name × ℤ)) (i : ℕ) (e : Name × ℤ) → slice_get es i ≡ Some e → first_text position es (suc i) ≡ first_text position es i ++ ended_line (value_text e)
+first_next position es i e h = ap (λ t. ended_line (position_line position) ++ t) (lines_next es i e h) ∙ sym (append_assoc (ended_line (position_line position)) (value_lines (take i es)) (ended_line (value_text e)))
 
-pub first_rest : (position : ℕ) (es : List (Name × ℤ)) (i : ℕ) → show_text position es ≡ first_text position es i ++ entry_lines (drop i es)
+pub first_rest : (position : ℕ) (es : List (Name × ℤ)) (i : ℕ) → show_text position es ≡ first_text position es i ++ value_lines (drop i es)
 first_rest position es i =
-    ap (λ l. position_line position ++ entry_lines l) (sym (take-append-drop i es))
-    ∙ ap (λ t. position_line position ++ t) (lines_split (take i es) (drop i es))
-    ∙ sym (append_assoc (position_line position) (entry_lines (take i es)) (entry_lines (drop i es)))
+    ap (λ l. ended_line (position_line position) ++ value_lines l) (sym (take-append-drop i es))
+    ∙ ap (λ t. ended_line (position_line position) ++ t) (lines_split (take i es) (drop i es))
+    ∙ sym (append_assoc (ended_line (position_line position)) (value_lines (take i es)) (value_lines (drop i es)))
 
-pub entry_then : (a b c : Option (List ℕ)) (position : ℕ) (es : List (Name × ℤ)) (i : ℕ) (e : Name × ℤ) → slice_get es i ≡ Some e → Appends a b (first_text position es i) → Appends b c (entry_line e) → Appends a c (first_text position es (i + 1))
+pub entry_then : (a b c : Option (List ℕ)) (position : ℕ) (es : List (Name × ℤ)) (i : ℕ) (e : Name × ℤ) → slice_get es i ≡ Some e → Appends a b (first_text position es i) → Appends b c (ended_line (value_text e)) → Appends a c (first_text position es (i + 1))
 entry_then a b c position es i e h p q =
     subst (Appends a c) (sym (first_next position es i e h) ∙ ap (first_text position es) (sym (add-one i))) (appends_join a b c _ _ p q)
 
-pub entry_failed : (a b c : Option (List ℕ)) (position : ℕ) (es : List (Name × ℤ)) (i : ℕ) (e : Name × ℤ) → slice_get es i ≡ Some e → Appends a b (first_text position es i) → SentSome b c (entry_line e) → SentSome a c (show_text position es)
+pub entry_failed : (a b c : Option (List ℕ)) (position : ℕ) (es : List (Name × ℤ)) (i : ℕ) (e : Name × ℤ) → slice_get es i ≡ Some e → Appends a b (first_text position es i) → SentSome b c (ended_line (value_text e)) → SentSome a c (show_text position es)
 entry_failed a b c position es i e h p q =
     subst (SentSome a c) (sym (first_rest position es (suc i)))
-    (sent_first a c (first_text position es (suc i)) (entry_lines (drop (suc i) es))
+    (sent_first a c (first_text position es (suc i)) (value_lines (drop (suc i) es))
     (subst (SentSome a c) (sym (first_next position es i e h)) (sent_then a b c _ _ p q)))
 
 pub first_all : (position : ℕ) (s : Store) (i : ℕ) → size_of s ≤ i → first_text position (listed s) i ≡ show_text position (listed s)
-first_all position s i h = ap (λ l. position_line position ++ entry_lines l) (take_all i (listed s) (subst (λ n. n ≤ i) (sym (length_listed s)) h))
+first_all position s i h = ap (λ l. ended_line (position_line position) ++ value_lines l) (take_all i (listed s) (subst (λ n. n ≤ i) (sym (length_listed s)) h))

@@ -1,5 +1,5 @@
--- What a request came to is written as its line.
-use Rattle.std.proofs.Common.{◌≡◌, ◌∙◌, ℕ, Bool, true, false, not, List, [], ◌∷◌, ◌++◌, Option, refl, sym, ap, subst, codes, append_assoc, append-nil, ◌⊎◌, inl, inr}
+-- What the program's loop writes, line by line.
+use Rattle.std.proofs.Common.{◌≡◌, ◌∙◌, ℕ, Bool, true, false, not, List, [], ◌∷◌, ◌++◌, Option, refl, sym, ap, subst, append_assoc, append-nil, ◌⊎◌, inl, inr}
 use Rattle.std.specs.Prelude.{Result, Ok, Err, OnOk, OnErr, ◌||◌, string_bytes, if◌then◌else◌}
 use Rattle.std.specs.Io.KnownBytes.{Appends, Keeps}
 use Rattle.kernel_core.specs.Runs.{Machine, Request, RunCell}
@@ -9,42 +9,40 @@ use Rattle.janus_cells.specs.declared.command.Command.TheVariants.{Run, Undo, Re
 use Rattle.janus_cells.specs.declared.run.Gathered.{Gathered}
 use Rattle.janus_cells.specs.Command.{command_of}
 use Rattle.janus_cells.specs.Gathering.{IsGathered}
-use Rattle.janus_cells.specs.Lines.{is_blank, is_command_line, lines, trimmed}
+use Rattle.janus_cells.specs.Lines.{ended_line, is_blank, is_command_line, lines, trimmed}
 use Rattle.janus_cells.specs.Output.{SentSome}
 use Rattle.janus_cells.specs.Served.{Came, Serves, NotPosted, not_posted}
 use Rattle.janus_cells.specs.Shown.{world_text}
-use Rattle.janus_cells.specs.Transcript.{came_line, Answers, RestAt, RunsRest, Does, DoesAfterRest, CommandServes, LineAt, LineServes, text_after, LinesServe}
+use Rattle.janus_cells.specs.Script.{script}
+use Rattle.janus_cells.specs.Transcript.{ActionsServe, came_line, Answers, bad_command_line, post_fault_line}
+use Rattle.janus_cells.specs.Loop.{RestAt, RunsRest, Does, DoesAfterRest, CommandServes, LineAt, LineServes, text_after, LinesServe}
 use Rattle.janus_cells.proofs.LinesLemmas.{blank_more}
 use Rattle.janus_cells.proofs.OutputLemmas.{appends_none, appends_join, appends_kept, sent_first, sent_then}
-
-pub told_ok : {E : Type 0} (a b : Option (List ℕ)) (old new : Machine) (r : Request) (came : Came) (xs : List ℕ) (res : Result (Unit {0}) E) → came_line came ≡ xs → Serves old r came new → OnOk res (Appends a b xs)
-    → OnOk res ((came : Came) × Serves old r came new × Appends a b (came_line came))
-told_ok a b old new r came xs (Ok x) e s p = (came, s, subst (Appends a b) (sym e) p)
-told_ok a b old new r came xs (Err f) e s p = tt
+use Rattle.janus_cells.proofs.ScriptLemmas.{script_serves}
 
 not_true : (b : Bool) → not b ≡ true → b ≡ false
 not_true true h = sym h
 not_true false h = refl
 
 -- there was no memory for the text
-pub lost_ok : {E : Type 0} (a b : Option (List ℕ)) (old : Machine) (G : Gathered) (res : Result (Unit {0}) E) → OnOk res (Appends a b (codes "refused 76 Memory\n"))
-    → OnOk res ((text : List ℕ) → IsGathered G text → (came : Came) × Serves old (RunCell text false true) came old × Appends a b (came_line came))
+pub lost_ok : {E : Type 0} (a b : Option (List ℕ)) (old : Machine) (G : Gathered) (res : Result (Unit {0}) E) → OnOk res (Appends a b (ended_line (post_fault_line Memory)))
+    → OnOk res ((text : List ℕ) → IsGathered G text → (came : Came) × Serves old (RunCell text false true) came old × Appends a b (ended_line (came_line came)))
 lost_ok a b old G (Ok x) p = λ text h. (NotPosted Memory, not_posted {f = Memory} refl, p)
 lost_ok a b old G (Err f) p = tt
 
 -- there was no memory for the text
-pub lost_err : {E : Type 0} (a b : Option (List ℕ)) (old : Machine) (G : Gathered) (res : Result (Unit {0}) E) → OnErr res (SentSome a b (codes "refused 76 Memory\n"))
-    → OnErr res ((text : List ℕ) → IsGathered G text → (came : Came) × Serves old (RunCell text false true) came old × SentSome a b (came_line came))
+pub lost_err : {E : Type 0} (a b : Option (List ℕ)) (old : Machine) (G : Gathered) (res : Result (Unit {0}) E) → OnErr res (SentSome a b (ended_line (post_fault_line Memory)))
+    → OnErr res ((text : List ℕ) → IsGathered G text → (came : Came) × Serves old (RunCell text false true) came old × SentSome a b (ended_line (came_line came)))
 lost_err a b old G (Ok x) p = tt
 lost_err a b old G (Err f) p = λ text h. (NotPosted Memory, not_posted {f = Memory} refl, p)
 
-rest_err_gathered : (a b : Option (List ℕ)) (old new : Machine) (G : Gathered) (text : List ℕ) → G.some ≡ true → IsGathered G text
-    → (came : Came) × Serves old (RunCell text false true) came new × SentSome a b (came_line came)
+rest_err_gathered : (a b : Option (List ℕ)) (old new : Machine) (G : Gathered) (text : List ℕ) → G.has_text ≡ true → IsGathered G text
+    → (came : Came) × Serves old (RunCell text false true) came new × SentSome a b (ended_line (came_line came))
     → (out : List ℕ) × RunsRest old text out new × SentSome a b out
-rest_err_gathered a b old new G text e h (came, s, p) = (came_line came, subst (λ k. RestAt k old text (came_line came) new) (sym (not_true (is_blank text) (sym h.0 ∙ e))) (came, s, refl), p)
+rest_err_gathered a b old new G text e h (came, s, p) = (ended_line (came_line came), subst (λ k. RestAt k old text (ended_line (came_line came)) new) (sym (not_true (is_blank text) (sym h.0 ∙ e))) (came, s, refl), p)
 
-pub rest_err : {E : Type 0} (a b : Option (List ℕ)) (old new : Machine) (G : Gathered) (res : Result (Unit {0}) E) → G.some ≡ true
-    → OnErr res ((text : List ℕ) → IsGathered G text → (came : Came) × Serves old (RunCell text false true) came new × SentSome a b (came_line came))
+pub rest_err : {E : Type 0} (a b : Option (List ℕ)) (old new : Machine) (G : Gathered) (res : Result (Unit {0}) E) → G.has_text ≡ true
+    → OnErr res ((text : List ℕ) → IsGathered G text → (came : Came) × Serves old (RunCell text false true) came new × SentSome a b (ended_line (came_line came)))
     → OnErr res ((text : List ℕ) → IsGathered G text → (out : List ℕ) × RunsRest old text out new × SentSome a b out)
 rest_err a b old new G (Ok x) e p = tt
 rest_err a b old new G (Err f) e p = λ text h. rest_err_gathered a b old new G text e h (p text h)
@@ -53,17 +51,17 @@ rest_err a b old new G (Err f) e p = λ text h. rest_err_gathered a b old new G 
 
 any_rest_at : (b : Bool) (old : Machine) (text : List ℕ) → (out : List ℕ) × (new : Machine) × RestAt b old text out new
 any_rest_at true old text = ([], old, (refl, refl))
-any_rest_at false old text = (codes "refused 76 Memory\n", old, (NotPosted Memory, not_posted {f = Memory} refl, refl))
+any_rest_at false old text = (ended_line (post_fault_line Memory), old, (NotPosted Memory, not_posted {f = Memory} refl, refl))
 
 pub any_rest : (old : Machine) (text : List ℕ) → (out : List ℕ) × (new : Machine) × RunsRest old text out new
 any_rest old text = any_rest_at (is_blank text) old text
 
 any_does : (command : Command) (old : Machine) → (command ≡ Run → ⊥) → (out : List ℕ) × (new : Machine) × Does command old out new
 any_does Run old other = absurd (other refl)
-any_does (Undo k) old other = (codes "refused 76 Memory\n", old, (NotPosted Memory, not_posted {f = Memory} refl, refl))
-any_does (Redo k) old other = (codes "refused 76 Memory\n", old, (NotPosted Memory, not_posted {f = Memory} refl, refl))
+any_does (Undo k) old other = (ended_line (post_fault_line Memory), old, (NotPosted Memory, not_posted {f = Memory} refl, refl))
+any_does (Redo k) old other = (ended_line (post_fault_line Memory), old, (NotPosted Memory, not_posted {f = Memory} refl, refl))
 any_does Show old other = (world_text old.state.past, old, (refl, refl))
-any_does Unknown old other = (codes "refused 80 BadCommand\n", old, (refl, refl))
+any_does Unknown old other = (bad_command_line, old, (refl, refl))
 
 after_rest : (command : Command) (old : Machine) (text : List ℕ) → (command ≡ Run → ⊥) → (out : List ℕ) × (new : Machine) × DoesAfterRest command old text out new
 after_rest command old text other =
@@ -72,7 +70,7 @@ after_rest command old text other =
     (r.0 ++ d.0, d.1, (r.1, r.0, d.0, r.2, d.2, refl))
 
 any_command : (command : Command) (old : Machine) (text : List ℕ) → (out : List ℕ) × (new : Machine) × CommandServes command old text out new
-any_command Run old text = (codes "refused 76 Memory\n", old, (NotPosted Memory, not_posted {f = Memory} refl, refl))
+any_command Run old text = (ended_line (post_fault_line Memory), old, (NotPosted Memory, not_posted {f = Memory} refl, refl))
 any_command (Undo k) old text = after_rest (Undo k) old text (λ e. cc e)
 any_command (Redo k) old text = after_rest (Redo k) old text (λ e. cc e)
 any_command Show old text = after_rest Show old text (λ e. cc e)
@@ -98,21 +96,21 @@ other_serves (Redo k) old new text out other h = h
 other_serves Show old new text out other h = h
 other_serves Unknown old new text out other h = h
 
-run_serves : (command : Command) (old new : Machine) (text : List ℕ) (came : Came) → command ≡ Run → Serves old (RunCell text false true) came new → CommandServes command old text (came_line came) new
-run_serves command old new text came run s = subst (λ k. CommandServes k old text (came_line came) new) (sym run) (came, s, refl)
+run_serves : (command : Command) (old new : Machine) (text : List ℕ) (came : Came) → command ≡ Run → Serves old (RunCell text false true) came new → CommandServes command old text (ended_line (came_line came)) new
+run_serves command old new text came run s = subst (λ k. CommandServes k old text (ended_line (came_line came)) new) (sym run) (came, s, refl)
 
 -- `%%`
 pub ran_ok : {E : Type 0} (a b : Option (List ℕ)) (command : Command) (old new : Machine) (G : Gathered) (res : Result (Unit {0}) E) → command ≡ Run
-    → OnOk res ((text : List ℕ) → IsGathered G text → (came : Came) × Serves old (RunCell text false true) came new × Appends a b (came_line came))
+    → OnOk res ((text : List ℕ) → IsGathered G text → (came : Came) × Serves old (RunCell text false true) came new × Appends a b (ended_line (came_line came)))
     → OnOk res ((text : List ℕ) → IsGathered G text → (out : List ℕ) × CommandServes command old text out new × Appends a b out)
-ran_ok a b command old new G (Ok x) run p = λ text h. let s = p text h in (came_line s.0, run_serves command old new text s.0 run s.1, s.2)
+ran_ok a b command old new G (Ok x) run p = λ text h. let s = p text h in (ended_line (came_line s.0), run_serves command old new text s.0 run s.1, s.2)
 ran_ok a b command old new G (Err f) run p = tt
 
 pub ran_err : {E : Type 0} (a b : Option (List ℕ)) (command : Command) (old new : Machine) (G : Gathered) (res : Result (Unit {0}) E) → command ≡ Run
-    → OnErr res ((text : List ℕ) → IsGathered G text → (came : Came) × Serves old (RunCell text false true) came new × SentSome a b (came_line came))
+    → OnErr res ((text : List ℕ) → IsGathered G text → (came : Came) × Serves old (RunCell text false true) came new × SentSome a b (ended_line (came_line came)))
     → OnErr res ((text : List ℕ) → IsGathered G text → (out : List ℕ) × (new : Machine) × CommandServes command old text out new × SentSome a b out)
 ran_err a b command old new G (Ok x) run p = tt
-ran_err a b command old new G (Err f) run p = λ text h. let s = p text h in (came_line s.0, new, run_serves command old new text s.0 run s.1, s.2)
+ran_err a b command old new G (Err f) run p = λ text h. let s = p text h in (ended_line (came_line s.0), new, run_serves command old new text s.0 run s.1, s.2)
 
 -- another command
 pub obeyed_ok : {E : Type 0} (a b c : Option (List ℕ)) (command : Command) (old mid new : Machine) (G : Gathered) (res : Result (Unit {0}) E) → (command ≡ Run → ⊥)
@@ -167,7 +165,7 @@ gathered_line a old G line e text h = ([], subst (λ b. LineAt b old text line [
 pub gathers_none : (G H : Gathered) (line : List ℕ) → is_command_line line ≡ true → IsGathered H [] → (text : List ℕ) → IsGathered G text → IsGathered H (text_after text line)
 gathers_none G H line e h text g = subst (λ b. IsGathered H (if b then [] else text ++ (line ++ 10 ∷ []))) (sym e) h
 
-pub gathers_line : (G H : Gathered) (line : List ℕ) → is_command_line line ≡ false → H.some ≡ (G.some || not (is_blank line)) → (H.lost ≡ false → G.lost ≡ false)
+pub gathers_line : (G H : Gathered) (line : List ℕ) → is_command_line line ≡ false → H.has_text ≡ (G.has_text || not (is_blank line)) → (H.lost ≡ false → G.lost ≡ false)
     → (H.lost ≡ false → string_bytes H.text ≡ string_bytes G.text ++ (line ++ 10 ∷ [])) → (text : List ℕ) → IsGathered G text → IsGathered H (text_after text line)
 gathers_line G H line e some kept more text g =
     subst (λ b. IsGathered H (if b then [] else text ++ (line ++ 10 ∷ []))) (sym e)
@@ -183,10 +181,10 @@ all_some a b xs p = (xs, [], sym (append-nil xs), p)
 abbrev pub Served : Machine → List ℕ → Machine → Gathered → List (List ℕ) → Option (List ℕ) → Option (List ℕ) → Type 0
 Served start input now G left a b =
     (text : List ℕ) × (out : List ℕ) × IsGathered G text × Appends a b out
-    × ((second : List ℕ) (new : Machine) → LinesServe now text left second new → LinesServe start [] (lines input) (out ++ second) new)
+    × ((second : List ℕ) (new : Machine) → LinesServe now text left second new → ActionsServe (script input) start (out ++ second) new)
 
 pub served_none : (start : Machine) (input : List ℕ) (G : Gathered) (a : Option (List ℕ)) → IsGathered G [] → Served start input start G (lines input) a a
-served_none start input G a h = ([], [], h, appends_none a, λ second new s. s)
+served_none start input G a h = ([], [], h, appends_none a, λ second new s. script_serves input start new second s)
 
 pub served_line : (start : Machine) (input : List ℕ) (now next : Machine) (G H : Gathered) (line : List ℕ) (left more : List (List ℕ)) (a b c : Option (List ℕ)) → left ≡ line ∷ more
     → Served start input now G left a b
@@ -199,14 +197,14 @@ served_line start input now next G H line left more a b c e (text, out, h, p, k)
       out ++ l.0,
       g text h,
       appends_join a b c out l.0 p l.2,
-      λ second new m. subst (λ o. LinesServe start [] (lines input) o new) (sym (append_assoc out l.0 second))
+      λ second new m. subst (λ o. ActionsServe (script input) start o new) (sym (append_assoc out l.0 second))
           (k (l.0 ++ second) new (subst (λ ls. LinesServe now text ls (l.0 ++ second) new) (sym e) (next, l.0, second, l.1, m, refl))),
     )
 
 pub line_failed : {E : Type 0} (start : Machine) (input : List ℕ) (now : Machine) (G : Gathered) (line : List ℕ) (left more : List (List ℕ)) (a b c : Option (List ℕ)) (res : Result (Unit {0}) E) → left ≡ line ∷ more
     → Served start input now G left a b
     → ((text : List ℕ) → IsGathered G text → (out : List ℕ) × (new : Machine) × LineServes now text line out new × SentSome b c out)
-    → OnErr res ((out : List ℕ) × (new : Machine) × LinesServe start [] (lines input) out new × SentSome a c out)
+    → OnErr res ((out : List ℕ) × (new : Machine) × ActionsServe (script input) start out new × SentSome a c out)
 line_failed start input now G line left more a b c (Ok x) e h s = tt
 line_failed start input now G line left more a b c (Err f) e (text, out, h, p, k) s =
     let l = s text h in
@@ -220,7 +218,7 @@ line_failed start input now G line left more a b c (Err f) e (text, out, h, p, k
 pub served_all : (start : Machine) (input : List ℕ) (now new : Machine) (G : Gathered) (left : List (List ℕ)) (a b c d : Option (List ℕ))
     → Served start input now G left a b
     → ((text : List ℕ) → IsGathered G text → (out : List ℕ) × LinesServe now text left out new × Appends b c out) → Keeps c d
-    → (out : List ℕ) × (new : Machine) × LinesServe start [] (lines input) out new × Appends a d out
+    → (out : List ℕ) × (new : Machine) × ActionsServe (script input) start out new × Appends a d out
 served_all start input now new G left a b c d (text, out, h, p, k) s kept =
     let l = s text h in
     (out ++ l.0, new, k l.0 new l.1, appends_kept a c d (out ++ l.0) (appends_join a b c out l.0 p l.2) kept)
@@ -228,7 +226,7 @@ served_all start input now new G left a b c d (text, out, h, p, k) s kept =
 pub served_some : (start : Machine) (input : List ℕ) (now new : Machine) (G : Gathered) (left : List (List ℕ)) (a b c d : Option (List ℕ))
     → Served start input now G left a b
     → ((text : List ℕ) → IsGathered G text → (out : List ℕ) × LinesServe now text left out new × Appends b c out) → Keeps c d
-    → (out : List ℕ) × (new : Machine) × LinesServe start [] (lines input) out new × SentSome a d out
+    → (out : List ℕ) × (new : Machine) × ActionsServe (script input) start out new × SentSome a d out
 served_some start input now new G left a b c d h s kept =
     let w = served_all start input now new G left a b c d h s kept in
     (w.0, w.1, w.2, all_some a d w.0 w.3)
@@ -236,7 +234,7 @@ served_some start input now new G left a b c d h s kept =
 pub end_failed : {E : Type 0} (start : Machine) (input : List ℕ) (now : Machine) (G : Gathered) (left : List (List ℕ)) (a b c : Option (List ℕ)) (res : Result (Unit {0}) E)
     → Served start input now G left a b
     → ((text : List ℕ) → IsGathered G text → (out : List ℕ) × (new : Machine) × LinesServe now text left out new × SentSome b c out)
-    → OnErr res ((out : List ℕ) × (new : Machine) × LinesServe start [] (lines input) out new × SentSome a c out)
+    → OnErr res ((out : List ℕ) × (new : Machine) × ActionsServe (script input) start out new × SentSome a c out)
 end_failed start input now G left a b c (Ok x) h s = tt
 end_failed start input now G left a b c (Err f) (text, out, h, p, k) s =
     let l = s text h in
@@ -296,9 +294,9 @@ last_failed old G line left a b (Err f) e s = λ text h.
 
 -- one that makes a request
 pub does_err : {E : Type 0} (a b : Option (List ℕ)) (old new : Machine) (command : Command) (r : Request) (res : Result (Unit {0}) E) → ((out : List ℕ) → Answers old r out new → Does command old out new)
-    → OnErr res ((came : Came) × Serves old r came new × SentSome a b (came_line came)) → OnErr res ((out : List ℕ) × Does command old out new × SentSome a b out)
+    → OnErr res ((came : Came) × Serves old r came new × SentSome a b (ended_line (came_line came))) → OnErr res ((out : List ℕ) × Does command old out new × SentSome a b out)
 does_err a b old new command r (Ok x) d p = tt
-does_err a b old new command r (Err f) d (came, s, p) = (came_line came, d (came_line came) (came, s, refl), p)
+does_err a b old new command r (Err f) d (came, s, p) = (ended_line (came_line came), d (ended_line (came_line came)) (came, s, refl), p)
 
 -- one that writes the same always
 pub does_same_err : {E : Type 0} (a b : Option (List ℕ)) (old new : Machine) (command : Command) (xs : List ℕ) (res : Result (Unit {0}) E) → Does command old xs new
@@ -306,6 +304,6 @@ pub does_same_err : {E : Type 0} (a b : Option (List ℕ)) (old new : Machine) (
 does_same_err a b old new command xs (Ok x) d p = tt
 does_same_err a b old new command xs (Err f) d p = (xs, d, p)
 
-pub unknown_does : (command : Command) (old : Machine) → (command ≡ Run) ⊎ (command ≡ Unknown) → (command ≡ Run → ⊥) → Does command old (codes "refused 80 BadCommand\n") old
+pub unknown_does : (command : Command) (old : Machine) → (command ≡ Run) ⊎ (command ≡ Unknown) → (command ≡ Run → ⊥) → Does command old bad_command_line old
 unknown_does command old (inl e) other = absurd (other e)
-unknown_does command old (inr e) other = subst (λ k. Does k old (codes "refused 80 BadCommand\n") old) (sym e) (refl, refl)
+unknown_does command old (inr e) other = subst (λ k. Does k old bad_command_line old) (sym e) (refl, refl)

@@ -6,4 +6,4 @@ use Rattle.janus_cells.specs.declared.run.Gathered.{Gathered}
 -- what is gathered is this text, unless it was lost; and whether it is blank is known even then
 abbrev pub IsGathered : Gathered → List ℕ → Type 0
 IsGathered gathered text =
-    (gathered.some ≡ not (is_blank text)) × (gathered.lost ≡ false → string_bytes gathered.text ≡ text)
+    (gathered.has_text ≡ not (is_blank text)) × (gathered.lost ≡ false → string_bytes gathered.text ≡ text)

@@ -3,6 +3,8 @@ pub mod Command
 pub mod Output
 pub mod RunFault
 pub mod Served
-pub mod Gathering
 pub mod Shown
+pub mod Script
 pub mod Transcript
+pub mod Loop
+pub mod Gathering

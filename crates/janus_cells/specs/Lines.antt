@@ -1,5 +1,5 @@
 -- The lines of an input.
-use Rattle.std.specs.Prelude.{ℕ, Bool, false, ◌||◌, ◌==◌, List, [], ◌∷◌, if◌then◌else◌}
+use Rattle.std.specs.Prelude.{ℕ, Bool, false, ◌||◌, ◌==◌, List, [], ◌∷◌, ◌++◌, if◌then◌else◌}
 use Rattle.std.specs.List.{slice_split, list_all}
 
 -- ---- lines
@@ -11,8 +11,13 @@ lines_of_parts ([] ∷ []) = []
 lines_of_parts ((c ∷ part) ∷ []) = (c ∷ part) ∷ []
 lines_of_parts (part ∷ next ∷ more) = part ∷ lines_of_parts (next ∷ more)
 
+-- the lines of an input, without their LFs
 abbrev pub lines : List ℕ → List (List ℕ)
 lines input = lines_of_parts (slice_split (λ b. b == 10) input)
+
+-- a line with its LF
+abbrev pub ended_line : List ℕ → List ℕ
+ended_line line = line ++ 10 ∷ []
 
 -- a line that begins with `%`
 abbrev pub is_command_line : List ℕ → Bool

@@ -40,21 +40,19 @@ end_text NoMemory = codes " then no memory"
 
 -- which fault a cell met, and after how many steps
 abbrev pub fault_text : Fault → ℕ → List ℕ
-fault_text f steps = numbered_text (codes "fault ") (fault.number_of f) (fault.name_of f) ++ counted_text (codes " after ") steps
+fault_text f steps =
+    numbered_text (codes "fault ") (fault.number_of f) (fault.name_of f) ++ counted_text (codes " after ") steps
 
 -- why a job was refused, and where
 abbrev pub refusal_text : Refusal → List ℕ
-refusal_text r = numbered_text (codes "refused ") (refusal.number_of r) (refusal.name_of r) ++ place_text (refusal.span_of r)
+refusal_text r =
+    numbered_text (codes "refused ") (refusal.number_of r) (refusal.name_of r) ++ place_text (refusal.span_of r)
 
--- an outcome, without an LF
-abbrev pub outcome_text : Outcome → List ℕ
-outcome_text (Ran node steps) = counted_text (codes "ok node ") node ++ counted_text (codes " steps ") steps
-outcome_text (Failed f steps) = fault_text f steps
-outcome_text (Interrupted steps) = counted_text (codes "interrupted after ") steps
-outcome_text (Undid cells end) = counted_text (codes "undid ") cells ++ end_text end
-outcome_text (Redid cells end) = counted_text (codes "redid ") cells ++ end_text end
-outcome_text (Refused r) = refusal_text r
-
--- the line of an outcome
+-- the line of an outcome, without an LF
 abbrev pub outcome_line : Outcome → List ℕ
-outcome_line o = outcome_text o ++ codes "\n"
+outcome_line (Ran node steps) = counted_text (codes "ok node ") node ++ counted_text (codes " steps ") steps
+outcome_line (Failed f steps) = fault_text f steps
+outcome_line (Interrupted steps) = counted_text (codes "interrupted after ") steps
+outcome_line (Undid cells end) = counted_text (codes "undid ") cells ++ end_text end
+outcome_line (Redid cells end) = counted_text (codes "redid ") cells ++ end_text end
+outcome_line (Refused r) = refusal_text r

@@ -1,5 +1,6 @@
 -- Why a run ends before its input is served.
-use Rattle.std.specs.Prelude.{ℕ, ◌<◌, ⊤, List, length, codes}
+use Rattle.std.specs.Prelude.{ℕ, ◌<◌, ◌≤◌, ⊤, List, Option, length, codes}
+use Rattle.std.specs.Io.KnownBytes.{Consumes}
 use Rattle.std.specs.Str.{IsUtf8}
 use Rattle.janus_cells.specs.declared.fault.RunFault.{RunFault}
 use Rattle.janus_cells.specs.declared.fault.RunFault.TheVariants.{Read, TooLong, NotText, Memory, Write}
@@ -15,10 +16,14 @@ text_of Write = codes "cannot write"
 abbrev pub input_limit : ℕ
 input_limit = 16777216
 
+-- so many octets at most were taken from what a reader has left
+abbrev pub TakesAtMost : ℕ → Option (List ℕ) → Option (List ℕ) → Type 0
+TakesAtMost n old new = (octets : List ℕ) × Consumes old new octets × (length octets ≤ n)
+
 -- what an input is that could not be read for this reason
 abbrev pub IsWhyUnread : RunFault → List ℕ → Type 0
 IsWhyUnread Read input = ⊤
 IsWhyUnread TooLong input = input_limit < length input
-IsWhyUnread NotText input = IsUtf8 input → ⊥
+IsWhyUnread NotText input = (IsUtf8 input → ⊥) × (length input ≤ input_limit)
 IsWhyUnread Memory input = ⊤
 IsWhyUnread Write input = ⊥

@@ -16,9 +16,10 @@ pub enum RunFault {
     /// The input is not UTF-8.
     #[error("input is not text")]
     NotText,
+    /// There was no memory for the start or for the input.
     #[error("no memory")]
     Memory,
-    /// The writer failed.
+    /// The writer failed, or took nothing of what it was given.
     #[error("cannot write")]
     Write,
 }

@@ -13,6 +13,7 @@ mod run;
 mod serve;
 #[cfg(test)]
 mod tests;
+mod text;
 
 use crate::fault::RunFault;
 use crate::run::run;
@@ -38,7 +39,7 @@ fn main(rt: HostRuntime) -> anyhow::Result<ExitCode> {
 }
 
 /// Reads the command line, which has no word but `--help`. Where nothing is to be run it answers the program's status: 0 for
-/// `--help`, 2 for a wrong command line, 1 where there is no memory for it.
+/// `--help`, 2 for a wrong command line, 1 where there is no memory for it or the help can't be written.
 fn read_command_line(rt: &HostRuntime) -> io::Result<Option<ExitCode>> {
     let alloc = rt.alloc();
     let words = match env::args(rt) {
@@ -67,13 +68,16 @@ fn refuse_words(rt: &HostRuntime, kind: io::ErrorKind) -> io::Result<Option<Exit
     Ok(Some(ExitCode::from(2)))
 }
 
-/// Tells why the command line runs nothing, and answers the program's status.
+/// Tells why the command line runs nothing, and answers the program's status. A help text that can't be written is a fault.
 fn refuse_command_line(rt: &HostRuntime, error: &clap::Error) -> io::Result<Option<ExitCode>> {
     if matches!(error.kind(), ErrorKind::OutOfMemory) {
         return Ok(Some(tell(rt, RunFault::Memory)?));
     }
-    error.print(rt)?;
-    Ok(Some(ExitCode::from(error.exit_code() as u8)))
+    let status = error.exit_code();
+    if error.print(rt).is_err() && status == 0 {
+        return Ok(Some(tell(rt, RunFault::Write)?));
+    }
+    Ok(Some(ExitCode::from(status as u8)))
 }
 
 /// Tells a fault on standard error, and answers its status.

@@ -1,14 +1,16 @@
 //! What is written, and what has gone out where the writer fails.
-ghost use Rattle.std.specs.Prelude.{◌≡◌, ◌++◌, codes, decimal, OnOk, OnErr};
+ghost use Rattle.std.specs.Prelude.{◌++◌, decimal, OnOk, OnErr};
 ghost use Rattle.std.specs.Fmt.{signed_decimal};
 ghost use Rattle.std.specs.Io.KnownBytes.{Appends};
-ghost use Rattle.janus_cells.specs.Shown.{position_line, value_text, entry_text, entry_line};
-ghost use Rattle.janus_cells.specs.Output.{SentSome, counted_text, named_text, numbered_text, place_text, end_text, fault_text, refusal_text, outcome_text, outcome_line};
+ghost use Rattle.janus_cells.specs.Lines.{ended_line};
+ghost use Rattle.janus_cells.specs.Shown.{equated_text, position_line, value_text};
+ghost use Rattle.janus_cells.specs.Output.{SentSome, counted_text, end_text, fault_text, named_text, numbered_text, outcome_line, place_text, refusal_text};
+ghost use Rattle.janus_cells.specs.Transcript.{post_fault_line};
 
 use itoa::Buffer;
 use janus_machine::Fault;
 use janus_syntax::token::Span;
-use kernel_core::{End, Outcome, Refusal};
+use kernel_core::{End, Outcome, PostFault, Refusal};
 use std::io::Write;
 use thiserror::Error;
 
@@ -95,8 +97,10 @@ fn send_pair<W: Write>(
     more_words: &str,
     m: u64,
 ) -> Result<(), WriteFailed>
-    ensures ok { OnOk result (Appends (W.contents writer.old) (W.contents writer.new) (counted_text words.now n ++ counted_text more_words.now m)) }
-    ensures err { OnErr result (SentSome (W.contents writer.old) (W.contents writer.new) (counted_text words.now n ++ counted_text more_words.now m)) }
+    ensures ok { OnOk result (Appends (W.contents writer.old) (W.contents writer.new)
+        (counted_text words.now n ++ counted_text more_words.now m)) }
+    ensures err { OnErr result (SentSome (W.contents writer.old) (W.contents writer.new)
+        (counted_text words.now n ++ counted_text more_words.now m)) }
 {
     send_counted(writer, words, n)?;
     send_counted(writer, more_words, m)
@@ -156,10 +160,10 @@ fn send_refusal<W: Write>(writer: &mut W, refusal: Refusal) -> Result<(), WriteF
     send_place(writer, refusal.span())
 }
 
-/// Writes an outcome, without an LF.
-fn send_outcome_text<W: Write>(writer: &mut W, outcome: &Outcome) -> Result<(), WriteFailed>
-    ensures ok { OnOk result (Appends (W.contents writer.old) (W.contents writer.new) (outcome_text outcome.now)) }
-    ensures err { OnErr result (SentSome (W.contents writer.old) (W.contents writer.new) (outcome_text outcome.now)) }
+/// Writes the line of an outcome, without its LF.
+pub fn send_outcome_text<W: Write>(writer: &mut W, outcome: &Outcome) -> Result<(), WriteFailed>
+    ensures ok { OnOk result (Appends (W.contents writer.old) (W.contents writer.new) (outcome_line outcome.now)) }
+    ensures err { OnErr result (SentSome (W.contents writer.old) (W.contents writer.new) (outcome_line outcome.now)) }
 {
     match *outcome {
         Outcome::Ran(node, steps) => send_pair(writer, "ok node ", node as u64, " steps ", steps),
@@ -173,45 +177,54 @@ fn send_outcome_text<W: Write>(writer: &mut W, outcome: &Outcome) -> Result<(), 
 
 /// Writes the line of an outcome.
 pub fn send_outcome<W: Write>(writer: &mut W, outcome: &Outcome) -> Result<(), WriteFailed>
-    ensures ok { OnOk result (Appends (W.contents writer.old) (W.contents writer.new) (outcome_line outcome.now)) }
-    ensures err { OnErr result (SentSome (W.contents writer.old) (W.contents writer.new) (outcome_line outcome.now)) }
+    ensures ok { OnOk result (Appends (W.contents writer.old) (W.contents writer.new) (ended_line (outcome_line outcome.now))) }
+    ensures err { OnErr result (SentSome (W.contents writer.old) (W.contents writer.new) (ended_line (outcome_line outcome.now))) }
 {
     send_outcome_text(writer, outcome)?;
     send(writer, b"\n")
 }
 
+/// Writes the line of a job that could not be posted.
+pub fn send_post_fault<W: Write>(writer: &mut W, fault: PostFault) -> Result<(), WriteFailed>
+    ensures ok { OnOk result (Appends (W.contents writer.old) (W.contents writer.new) (ended_line (post_fault_line fault))) }
+    ensures err { OnErr result (SentSome (W.contents writer.old) (W.contents writer.new) (ended_line (post_fault_line fault))) }
+{
+    send_numbered(writer, "refused ", fault.number(), fault.name())?;
+    send(writer, b"\n")
+}
+
 /// Writes the line of the position.
 pub fn send_position<W: Write>(writer: &mut W, node: u64) -> Result<(), WriteFailed>
-    ensures ok { OnOk result (Appends (W.contents writer.old) (W.contents writer.new) (position_line node)) }
-    ensures err { OnErr result (SentSome (W.contents writer.old) (W.contents writer.new) (position_line node)) }
+    ensures ok { OnOk result (Appends (W.contents writer.old) (W.contents writer.new) (ended_line (position_line node))) }
+    ensures err { OnErr result (SentSome (W.contents writer.old) (W.contents writer.new) (ended_line (position_line node))) }
 {
     send_counted(writer, "at node ", node)?;
     send(writer, b"\n")
 }
 
 /// Writes an equals sign between spaces, and then a number.
-fn send_value<W: Write>(writer: &mut W, value: i32) -> Result<(), WriteFailed>
-    ensures ok { OnOk result (Appends (W.contents writer.old) (W.contents writer.new) (value_text value)) }
-    ensures err { OnErr result (SentSome (W.contents writer.old) (W.contents writer.new) (value_text value)) }
+fn send_equated<W: Write>(writer: &mut W, value: i32) -> Result<(), WriteFailed>
+    ensures ok { OnOk result (Appends (W.contents writer.old) (W.contents writer.new) (equated_text value)) }
+    ensures err { OnErr result (SentSome (W.contents writer.old) (W.contents writer.new) (equated_text value)) }
 {
     send(writer, b" = ")?;
     send_signed(writer, value)
 }
 
-/// Writes a name with its value.
-fn send_entry_text<W: Write>(writer: &mut W, name: &str, value: i32) -> Result<(), WriteFailed>
-    ensures ok { OnOk result (Appends (W.contents writer.old) (W.contents writer.new) (entry_text (name.now, value))) }
-    ensures err { OnErr result (SentSome (W.contents writer.old) (W.contents writer.new) (entry_text (name.now, value))) }
+/// Writes the value text of a name and its value.
+pub fn send_value_text<W: Write>(writer: &mut W, name: &str, value: i32) -> Result<(), WriteFailed>
+    ensures ok { OnOk result (Appends (W.contents writer.old) (W.contents writer.new) (value_text (name.now, value))) }
+    ensures err { OnErr result (SentSome (W.contents writer.old) (W.contents writer.new) (value_text (name.now, value))) }
 {
     send(writer, name.as_bytes())?;
-    send_value(writer, value)
+    send_equated(writer, value)
 }
 
 /// Writes the line of a name with its value.
-pub fn send_entry<W: Write>(writer: &mut W, name: &str, value: i32) -> Result<(), WriteFailed>
-    ensures ok { OnOk result (Appends (W.contents writer.old) (W.contents writer.new) (entry_line (name.now, value))) }
-    ensures err { OnErr result (SentSome (W.contents writer.old) (W.contents writer.new) (entry_line (name.now, value))) }
+pub fn send_value<W: Write>(writer: &mut W, name: &str, value: i32) -> Result<(), WriteFailed>
+    ensures ok { OnOk result (Appends (W.contents writer.old) (W.contents writer.new) (ended_line (value_text (name.now, value)))) }
+    ensures err { OnErr result (SentSome (W.contents writer.old) (W.contents writer.new) (ended_line (value_text (name.now, value)))) }
 {
-    send_entry_text(writer, name, value)?;
+    send_value_text(writer, name, value)?;
     send(writer, b"\n")
 }

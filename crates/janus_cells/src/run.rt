@@ -1,22 +1,24 @@
 //! The program over any reader and writer.
-ghost use Rattle.std.specs.Prelude.{◌≡◌, ◌≢◌, ◌||◌, ◌==◌, ◌<◌, ◌≤◌, not, ℕ, false, true, List, [], ◌∷◌, ◌++◌, length, IfErr, IfSome, OnOk, OnErr, string_bytes};
+ghost use Rattle.std.specs.Prelude.{◌≡◌, ◌≢◌, ◌||◌, ◌==◌, ◌<◌, ◌≤◌, ◌+◌, not, ℕ, false, true, List, [], ◌∷◌, ◌++◌, length, IfErr, IfSome, MatchResult, OnOk, OnErr, string_bytes};
 ghost use Rattle.std.specs.List.{position_or_len, before_first, after_first};
 ghost use Rattle.std.specs.Option.{MatchOption};
 ghost use Rattle.std.specs.Io.KnownBytes.{Appends, Keeps};
 ghost use Rattle.kernel_core.specs.Runs.{Machine, request_of, RunCell};
 ghost use Rattle.kernel_core.specs.State.{Idle};
 ghost use Rattle.janus_cells.specs.Gathering.{IsGathered};
-ghost use Rattle.janus_cells.specs.Lines.{is_blank as is_blank_text, is_command_line as is_command_line_text, lines};
+ghost use Rattle.janus_cells.specs.Lines.{ended_line, is_blank as is_blank_text, is_command_line as is_command_line_text, lines};
+ghost use Rattle.janus_cells.specs.Loop.{CommandServes, Does, LineServes, LinesServe, RunsRest, text_after};
 ghost use Rattle.janus_cells.specs.Output.{SentSome};
+ghost use Rattle.janus_cells.specs.RunFault.{IsWhyUnread, TakesAtMost, input_limit};
+ghost use Rattle.janus_cells.specs.Script.{script};
 ghost use Rattle.janus_cells.specs.Served.{Came, Serves};
 ghost use Rattle.janus_cells.specs.Shown.{world_text};
-ghost use Rattle.janus_cells.specs.RunFault.{IsWhyUnread, input_limit};
-ghost use Rattle.janus_cells.specs.Transcript.{came_line, CommandServes, Does, IsTranscript, LineServes, LinesServe, RunsRest, text_after};
+ghost use Rattle.janus_cells.specs.Transcript.{ActionsServe, IsTranscript, came_line};
 
 use crate::command::Command;
 use crate::fault::RunFault;
 use crate::input::read_text;
-use crate::output::{WriteFailed, send, send_entry, send_outcome, send_position};
+use crate::output::{WriteFailed, send, send_outcome, send_position, send_post_fault, send_value};
 use crate::serve::serve;
 use kernel_core::{Job, Kernel, PostFault};
 use std::alloc::Global;
@@ -27,7 +29,7 @@ use std::io::{Read, Write};
 struct Gathered {
     text: String,
     /// It has an octet that isn't space, tab, CR or LF.
-    some: bool,
+    has_text: bool,
     /// There was no memory for a line of it.
     lost: bool,
 }
@@ -36,8 +38,9 @@ struct Gathered {
 /// others gather to the text of a cell. What a command answers is written before the next one is run.
 ///
 /// What is written is the transcript of what is read. Faults are looked for in this order: no memory for the start; a read
-/// that fails, input that is too long, no memory for the input; input that isn't text. Up to there nothing is written. A
-/// write that fails ends the run, and what was written is a beginning of the transcript.
+/// that fails, input that is too long, no memory for the input; input that isn't text. Up to there nothing is written. No more
+/// is read than 16 MiB and one octet, and that one only to tell that the input is too long. A write that fails ends the run,
+/// and what was written is a beginning of the transcript.
 pub fn run<R: Read, W: Write>(alloc: Global, reader: &mut R, writer: &mut W) -> Result<(), RunFault>
     ensures written { OnOk result (IfSome (R.remaining reader.old) (λ input.
         (out : List ℕ) × IsTranscript input out × Appends (W.contents writer.old) (W.contents writer.new) out)) }
@@ -46,6 +49,9 @@ pub fn run<R: Read, W: Write>(alloc: Global, reader: &mut R, writer: &mut W) -> 
         (out : List ℕ) × IsTranscript input out × SentSome (W.contents writer.old) (W.contents writer.new) out)) }
     ensures unread { IfErr result (λ fault. fault ≢ RunFault.Write → IfSome (R.remaining reader.old) (IsWhyUnread fault)) }
     ensures unwritten { IfErr result (λ fault. fault ≢ RunFault.Write → Keeps (W.contents writer.old) (W.contents writer.new)) }
+    ensures taken { TakesAtMost (input_limit + 1) (R.remaining reader.old) (R.remaining reader.new) }
+    ensures within { MatchResult result (λ _. TakesAtMost input_limit (R.remaining reader.old) (R.remaining reader.new))
+        (λ fault. fault ≢ RunFault.TooLong → TakesAtMost input_limit (R.remaining reader.old) (R.remaining reader.new)) }
 {
     let Ok(mut kernel) = Kernel::new(alloc) else {
         return Err(RunFault::Memory);
@@ -66,8 +72,10 @@ fn run_text<W: Write>(
 ) -> Result<(), WriteFailed>
     requires idle { kernel.old.state.job ≡ Idle }
     requires alone { kernel.old.queue ≡ [] }
-    ensures ok { OnOk result ((out : List ℕ) × (new : Machine) × LinesServe kernel.old [] (lines text.now) out new × Appends (W.contents writer.old) (W.contents writer.new) out) }
-    ensures err { OnErr result ((out : List ℕ) × (new : Machine) × LinesServe kernel.old [] (lines text.now) out new × SentSome (W.contents writer.old) (W.contents writer.new) out) }
+    ensures ok { OnOk result ((out : List ℕ) × (new : Machine) × ActionsServe (script text.now) kernel.old out new
+        × Appends (W.contents writer.old) (W.contents writer.new) out) }
+    ensures err { OnErr result ((out : List ℕ) × (new : Machine) × ActionsServe (script text.now) kernel.old out new
+        × SentSome (W.contents writer.old) (W.contents writer.new) out) }
 {
     let mut gathered = Gathered::new(alloc);
     let mut rest = text;
@@ -93,8 +101,12 @@ fn run_end<W: Write>(
     requires idle { kernel.old.state.job ≡ Idle }
     requires alone { kernel.old.queue ≡ [] }
     requires last { position_or_len (λ b. b == 10) rest.now ≡ length rest.now }
-    ensures ok { OnOk result ((text : List ℕ) → IsGathered gathered.old text → (out : List ℕ) × LinesServe kernel.old text (lines rest.now) out kernel.new × Appends (W.contents writer.old) (W.contents writer.new) out) }
-    ensures err { OnErr result ((text : List ℕ) → IsGathered gathered.old text → (out : List ℕ) × (new : Machine) × LinesServe kernel.old text (lines rest.now) out new × SentSome (W.contents writer.old) (W.contents writer.new) out) }
+    ensures ok { OnOk result ((text : List ℕ) → IsGathered gathered.old text →
+        (out : List ℕ) × LinesServe kernel.old text (lines rest.now) out kernel.new
+        × Appends (W.contents writer.old) (W.contents writer.new) out) }
+    ensures err { OnErr result ((text : List ℕ) → IsGathered gathered.old text →
+        (out : List ℕ) × (new : Machine) × LinesServe kernel.old text (lines rest.now) out new
+        × SentSome (W.contents writer.old) (W.contents writer.new) out) }
 {
     if rest.is_empty() {
         return run_rest(alloc, kernel, gathered, writer);
@@ -115,9 +127,14 @@ fn run_line<W: Write>(
     requires alone { kernel.old.queue ≡ [] }
     ensures idle { kernel.new.state.job ≡ Idle }
     ensures alone { kernel.new.queue ≡ [] }
-    ensures gathers { (text : List ℕ) → IsGathered gathered.old text → IsGathered gathered.new (text_after text line.now) }
-    ensures ok { OnOk result ((text : List ℕ) → IsGathered gathered.old text → (out : List ℕ) × LineServes kernel.old text line.now out kernel.new × Appends (W.contents writer.old) (W.contents writer.new) out) }
-    ensures err { OnErr result ((text : List ℕ) → IsGathered gathered.old text → (out : List ℕ) × (new : Machine) × LineServes kernel.old text line.now out new × SentSome (W.contents writer.old) (W.contents writer.new) out) }
+    ensures gathers { (text : List ℕ) → IsGathered gathered.old text →
+        IsGathered gathered.new (text_after text line.now) }
+    ensures ok { OnOk result ((text : List ℕ) → IsGathered gathered.old text →
+        (out : List ℕ) × LineServes kernel.old text line.now out kernel.new
+        × Appends (W.contents writer.old) (W.contents writer.new) out) }
+    ensures err { OnErr result ((text : List ℕ) → IsGathered gathered.old text →
+        (out : List ℕ) × (new : Machine) × LineServes kernel.old text line.now out new
+        × SentSome (W.contents writer.old) (W.contents writer.new) out) }
 {
     if !is_command_line(line) {
         gathered.add(line);
@@ -139,8 +156,12 @@ fn run_command<W: Write>(
     ensures idle { kernel.new.state.job ≡ Idle }
     ensures alone { kernel.new.queue ≡ [] }
     ensures taken { IsGathered gathered.new [] }
-    ensures ok { OnOk result ((text : List ℕ) → IsGathered gathered.old text → (out : List ℕ) × CommandServes command kernel.old text out kernel.new × Appends (W.contents writer.old) (W.contents writer.new) out) }
-    ensures err { OnErr result ((text : List ℕ) → IsGathered gathered.old text → (out : List ℕ) × (new : Machine) × CommandServes command kernel.old text out new × SentSome (W.contents writer.old) (W.contents writer.new) out) }
+    ensures ok { OnOk result ((text : List ℕ) → IsGathered gathered.old text →
+        (out : List ℕ) × CommandServes command kernel.old text out kernel.new
+        × Appends (W.contents writer.old) (W.contents writer.new) out) }
+    ensures err { OnErr result ((text : List ℕ) → IsGathered gathered.old text →
+        (out : List ℕ) × (new : Machine) × CommandServes command kernel.old text out new
+        × SentSome (W.contents writer.old) (W.contents writer.new) out) }
 {
     if let Command::Run = command {
         return run_cell(alloc, kernel, gathered, writer);
@@ -156,8 +177,10 @@ fn obey<W: Write>(kernel: &mut Kernel, command: Command, writer: &mut W) -> Resu
     requires alone { kernel.old.queue ≡ [] }
     ensures idle { kernel.new.state.job ≡ Idle }
     ensures alone { kernel.new.queue ≡ [] }
-    ensures ok { OnOk result ((out : List ℕ) × Does command kernel.old out kernel.new × Appends (W.contents writer.old) (W.contents writer.new) out) }
-    ensures err { OnErr result ((out : List ℕ) × Does command kernel.old out kernel.new × SentSome (W.contents writer.old) (W.contents writer.new) out) }
+    ensures ok { OnOk result ((out : List ℕ) × Does command kernel.old out kernel.new
+        × Appends (W.contents writer.old) (W.contents writer.new) out) }
+    ensures err { OnErr result ((out : List ℕ) × Does command kernel.old out kernel.new
+        × SentSome (W.contents writer.old) (W.contents writer.new) out) }
 {
     match command {
         Command::Undo(k) => run_job(kernel, Job::Undo(k), writer),
@@ -179,10 +202,14 @@ fn run_rest<W: Write>(
     ensures idle { kernel.new.state.job ≡ Idle }
     ensures alone { kernel.new.queue ≡ [] }
     ensures taken { IsGathered gathered.new [] }
-    ensures ok { OnOk result ((text : List ℕ) → IsGathered gathered.old text → (out : List ℕ) × RunsRest kernel.old text out kernel.new × Appends (W.contents writer.old) (W.contents writer.new) out) }
-    ensures err { OnErr result ((text : List ℕ) → IsGathered gathered.old text → (out : List ℕ) × RunsRest kernel.old text out kernel.new × SentSome (W.contents writer.old) (W.contents writer.new) out) }
+    ensures ok { OnOk result ((text : List ℕ) → IsGathered gathered.old text →
+        (out : List ℕ) × RunsRest kernel.old text out kernel.new
+        × Appends (W.contents writer.old) (W.contents writer.new) out) }
+    ensures err { OnErr result ((text : List ℕ) → IsGathered gathered.old text →
+        (out : List ℕ) × RunsRest kernel.old text out kernel.new
+        × SentSome (W.contents writer.old) (W.contents writer.new) out) }
 {
-    if gathered.some {
+    if gathered.has_text {
         return run_cell(alloc, kernel, gathered, writer);
     }
     let _blank = gathered.take(alloc);
@@ -201,8 +228,12 @@ fn run_cell<W: Write>(
     ensures idle { kernel.new.state.job ≡ Idle }
     ensures alone { kernel.new.queue ≡ [] }
     ensures taken { IsGathered gathered.new [] }
-    ensures ok { OnOk result ((text : List ℕ) → IsGathered gathered.old text → (came : Came) × Serves kernel.old (RunCell text false true) came kernel.new × Appends (W.contents writer.old) (W.contents writer.new) (came_line came)) }
-    ensures err { OnErr result ((text : List ℕ) → IsGathered gathered.old text → (came : Came) × Serves kernel.old (RunCell text false true) came kernel.new × SentSome (W.contents writer.old) (W.contents writer.new) (came_line came)) }
+    ensures ok { OnOk result ((text : List ℕ) → IsGathered gathered.old text →
+        (came : Came) × Serves kernel.old (RunCell text false true) came kernel.new
+        × Appends (W.contents writer.old) (W.contents writer.new) (ended_line (came_line came))) }
+    ensures err { OnErr result ((text : List ℕ) → IsGathered gathered.old text →
+        (came : Came) × Serves kernel.old (RunCell text false true) came kernel.new
+        × SentSome (W.contents writer.old) (W.contents writer.new) (ended_line (came_line came))) }
 {
     match gathered.take(alloc) {
         Some(code) => run_job(
@@ -214,7 +245,7 @@ fn run_cell<W: Write>(
             },
             writer,
         ),
-        None => send(writer, b"refused 76 Memory\n"),
+        None => send_post_fault(writer, PostFault::Memory),
     }
 }
 
@@ -222,15 +253,16 @@ fn run_cell<W: Write>(
 fn run_job<W: Write>(kernel: &mut Kernel, job: Job, writer: &mut W) -> Result<(), WriteFailed>
     requires idle { kernel.old.state.job ≡ Idle }
     requires alone { kernel.old.queue ≡ [] }
-    ensures ok { OnOk result ((came : Came) × Serves kernel.old (request_of job) came kernel.new × Appends (W.contents writer.old) (W.contents writer.new) (came_line came)) }
-    ensures err { OnErr result ((came : Came) × Serves kernel.old (request_of job) came kernel.new × SentSome (W.contents writer.old) (W.contents writer.new) (came_line came)) }
+    ensures ok { OnOk result ((came : Came) × Serves kernel.old (request_of job) came kernel.new
+        × Appends (W.contents writer.old) (W.contents writer.new) (ended_line (came_line came))) }
+    ensures err { OnErr result ((came : Came) × Serves kernel.old (request_of job) came kernel.new
+        × SentSome (W.contents writer.old) (W.contents writer.new) (ended_line (came_line came))) }
     ensures idle { kernel.new.state.job ≡ Idle }
     ensures alone { kernel.new.queue ≡ [] }
 {
     match serve(kernel, job) {
         Ok(outcome) => send_outcome(writer, &outcome),
-        Err(PostFault::QueueFull) => send(writer, b"refused 74 QueueFull\n"),
-        Err(PostFault::Memory) => send(writer, b"refused 76 Memory\n"),
+        Err(fault) => send_post_fault(writer, fault),
     }
 }
 
@@ -244,7 +276,7 @@ fn show<W: Write>(kernel: &Kernel, writer: &mut W) -> Result<(), WriteFailed>
     let world = kernel.world();
     for i in 0..world.len() {
         let (name, value) = world.entry(i);
-        send_entry(writer, name, value)?;
+        send_value(writer, name, value)?;
     }
     Ok(())
 }
@@ -256,19 +288,20 @@ impl Gathered {
     {
         Gathered {
             text: String::new(alloc),
-            some: false,
+            has_text: false,
             lost: false,
         }
     }
 
     /// Adds a line and its LF. Where there is no memory for them the text is lost.
     fn add(&mut self, line: &str)
-        ensures some { self.new.some ≡ (self.old.some || not (is_blank_text line.now)) }
+        ensures has_text { self.new.has_text ≡ (self.old.has_text || not (is_blank_text line.now)) }
         ensures kept { self.new.lost ≡ false → self.old.lost ≡ false }
-        ensures text { self.new.lost ≡ false → string_bytes self.new.text ≡ string_bytes self.old.text ++ (line.now ++ 10 ∷ []) }
+        ensures text { self.new.lost ≡ false →
+            string_bytes self.new.text ≡ string_bytes self.old.text ++ ended_line line.now }
     {
         if !is_blank(line) {
-            self.some = true;
+            self.has_text = true;
         }
         if self.text.push_str(line).is_err() || self.text.push('\n').is_err() {
             self.lost = true;
@@ -283,7 +316,7 @@ impl Gathered {
     {
         let text = std::mem::replace(&mut self.text, String::new(alloc));
         let lost = self.lost;
-        self.some = false;
+        self.has_text = false;
         self.lost = false;
         if lost { None } else { Some(text) }
     }
@@ -292,7 +325,8 @@ impl Gathered {
 /// The first line of a text, and what is behind its LF; `None` where there is no LF.
 fn split_line(text: &str) -> Option<(&str, &str)>
     ensures cut { MatchOption result (position_or_len (λ b. b == 10) text.now ≡ length text.now)
-        (λ x. (x.0.now ≡ before_first (λ b. b == 10) text.now) × (x.1.now ≡ after_first (λ b. b == 10) text.now) × (position_or_len (λ b. b == 10) text.now < length text.now)) }
+        (λ x. (x.0.now ≡ before_first (λ b. b == 10) text.now) × (x.1.now ≡ after_first (λ b. b == 10) text.now)
+        × (position_or_len (λ b. b == 10) text.now < length text.now)) }
 {
     text.split_once('\n')
 }

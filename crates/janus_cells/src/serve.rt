@@ -40,10 +40,7 @@ pub fn serve(kernel: &mut Kernel, job: Job) -> Result<Outcome, PostFault>
     ensures idle { kernel.new.state.job ≡ Idle }
     ensures alone { kernel.new.queue ≡ [] }
 {
-    match kernel.post(0, job) {
-        Err(fault) => return Err(fault),
-        Ok(_) => {}
-    }
+    kernel.post(0, job)?;
     match kernel.begin() {
         Begun::Ended(outcome) => Ok(outcome),
         Begun::Going => Ok(finish(kernel)),

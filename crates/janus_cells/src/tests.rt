@@ -1,6 +1,11 @@
 use crate::fault::RunFault;
 use crate::run::run;
-use std::alloc::{AllocError, Global};
+use crate::text::{outcome_line, value_text};
+use janus_check::CheckFault;
+use janus_machine::Fault;
+use janus_syntax::token::Span;
+use kernel_core::{End, Outcome, Refusal};
+use std::alloc::Global;
 use std::io;
 use std::io::{Error, ErrorKind, Read, Write};
 use std::test::Fail;
@@ -110,6 +115,20 @@ impl Read for Broken<'_> {
     }
 }
 
+/// Takes all, and then can't be flushed.
+#[derive(Drop)]
+struct Unflushed {}
+
+impl Write for Unflushed {
+    fn write(&mut self, buf: &[u8]) -> io::Result<usize> {
+        Ok(buf.len())
+    }
+
+    fn flush(&mut self) -> io::Result<()> {
+        Err(Error::from(ErrorKind::StorageFull))
+    }
+}
+
 /// Takes so many octets, and then fails.
 #[derive(Drop)]
 struct Full {
@@ -153,7 +172,15 @@ fn tells_faults(rt: HostRuntime) -> Result<(), Fail> {
         run(alloc, &mut b"\xff\n".as_slice(), &mut none),
         Err(RunFault::NotText)
     );
+    assert_eq!(rt;
+        run(alloc, &mut io::repeat(b' '), &mut none),
+        Err(RunFault::TooLong)
+    );
     assert_eq!(rt; none.len(), 0);
+    assert_eq!(rt;
+        run(alloc, &mut b"%%\n".as_slice(), &mut Unflushed {}),
+        Err(RunFault::Write)
+    );
     let mut some = Full { room: 20 };
     assert_eq!(rt;
         run(alloc, &mut b"%%\n%%\n%show\n".as_slice(), &mut some),
@@ -163,6 +190,50 @@ fn tells_faults(rt: HostRuntime) -> Result<(), Fail> {
     assert_eq!(rt;
         run(alloc, &mut b"%%\n%%\n%show\n".as_slice(), &mut ample),
         Ok(())
+    );
+    Ok(())
+}
+
+#[test]
+fn gives_texts(rt: HostRuntime) -> Result<(), Fail> {
+    let alloc = rt.alloc();
+    assert_eq!(rt; value_text(alloc, "x", 5)?.as_str(), "x = 5");
+    assert_eq!(rt;
+        value_text(alloc, "y_1", -2147483648)?.as_str(),
+        "y_1 = -2147483648"
+    );
+    assert_eq!(rt;
+        outcome_line(alloc, &Outcome::Ran(2, 3))?.as_str(),
+        "ok node 2 steps 3"
+    );
+    assert_eq!(rt;
+        outcome_line(alloc, &Outcome::Failed(Fault::DivisionByZero, 1))?.as_str(),
+        "fault 57 DivisionByZero after 1"
+    );
+    assert_eq!(rt;
+        outcome_line(alloc, &Outcome::Interrupted(4096))?.as_str(),
+        "interrupted after 4096"
+    );
+    assert_eq!(rt;
+        outcome_line(alloc, &Outcome::Undid(1, End::All))?.as_str(),
+        "undid 1"
+    );
+    assert_eq!(rt;
+        outcome_line(alloc, &Outcome::Redid(2, End::NoMemory))?.as_str(),
+        "redid 2 then no memory"
+    );
+    let at = Span { start: 5, end: 6 };
+    assert_eq!(rt;
+        outcome_line(
+            alloc,
+            &Outcome::Refused(Refusal::Check(CheckFault::SelfUse(at)))
+        )?
+        .as_str(),
+        "refused 43 SelfUse at 5..6"
+    );
+    assert_eq!(rt;
+        outcome_line(alloc, &Outcome::Refused(Refusal::TooFar))?.as_str(),
+        "refused 73 TooFar"
     );
     Ok(())
 }

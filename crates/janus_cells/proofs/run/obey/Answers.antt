@@ -1,7 +1,8 @@
-use Rattle.std.proofs.Common.{codes, sym, subst, refl}
+use Rattle.std.proofs.Common.{sym, subst, refl}
 use Rattle.kernel_core.specs.Runs.{Undo, Redo}
+use Rattle.janus_cells.specs.Loop.{Does}
 use Rattle.janus_cells.specs.Shown.{world_text}
-use Rattle.janus_cells.specs.Transcript.{Does}
+use Rattle.janus_cells.specs.Transcript.{bad_command_line}
 use Rattle.janus_cells.proofs.TranscriptLemmas.{does_err, does_same_err, unknown_does}
 use Rattle.janus_cells.proofs.run.obey.Goals as goal
 
@@ -22,5 +23,5 @@ returns-in-Show-clause-err g c =
 
 pub returns-in-Run-clause-err : goal.returns-in-Run-clause-err
 returns-in-Run-clause-err g c =
-    does_same_err (g.W.Write.contents c.args.writer.now) (g.W.Write.contents c.send.new.writer) c.args.kernel.now c.args.kernel.now c.args.command (codes "refused 80 BadCommand\n") c.send.result
+    does_same_err (g.W.Write.contents c.args.writer.now) (g.W.Write.contents c.send.new.writer) c.args.kernel.now c.args.kernel.now c.args.command bad_command_line c.send.result
     (unknown_does c.args.command c.args.kernel.now c.in-Run.is c.requires.other) c.send.ensures.err

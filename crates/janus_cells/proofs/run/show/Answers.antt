@@ -1,11 +1,12 @@
-use Rattle.std.proofs.Common.{◌≡◌, ◌≤◌, ap, sym, subst, ◌∙◌, arith, Some, refl, to_z, of_z, w32, slice_get}
+use Rattle.std.proofs.Common.{◌≡◌, ◌≤◌, ap, subst, ◌∙◌, arith, Some, refl, to_z, of_z, w32, slice_get}
 use Rattle.std.proofs.lemmas.Int.{to_z-of_z}
 use Rattle.std.specs.Io.KnownBytes.{Appends}
 use Rattle.janus_meaning.specs.World.{size_of}
 use Rattle.janus_machine.specs.Stores.{listed}
 use Rattle.kernel_core.specs.State.{here}
+use Rattle.janus_cells.specs.Lines.{ended_line}
 use Rattle.janus_cells.specs.Output.{SentSome}
-use Rattle.janus_cells.specs.Shown.{entry_line, position_line, entry_lines, world_text}
+use Rattle.janus_cells.specs.Shown.{position_line, value_lines, value_text, world_text}
 use Rattle.janus_cells.proofs.OutputLemmas.{some_first, some_now}
 use Rattle.janus_cells.proofs.ShownLemmas.{entry_then, entry_failed, first_all}
 use Rattle.janus_cells.proofs.run.show.Goals as goal
@@ -13,8 +14,7 @@ use Rattle.janus_cells.proofs.run.show.Goals as goal
 pub returns-in_err-send_position-clause-err : goal.returns-in_err-send_position-clause-err
 returns-in_err-send_position-clause-err g c =
     let past = c.args.kernel.now.state.past in
-    let e : position_line past.position ≡ position_line c.position.result = ap (λ n. position_line n) (sym c.position.ensures) in
-    some_first (g.W.Write.contents c.args.writer.now) (g.W.Write.contents c.send_position.new.writer) (position_line c.position.result) (entry_lines (listed (here past).store)) (world_text past) c.from_residual.result (rw c.position.ensures refl) c.in_err-send_position.ensures.err
+    some_first (g.W.Write.contents c.args.writer.now) (g.W.Write.contents c.send_position.new.writer) (ended_line (position_line c.position.result)) (value_lines (listed (here past).store)) (world_text past) c.from_residual.result (rw c.position.ensures refl) c.in_err-send_position.ensures.err
 
 pub returns-clause-ok : goal.returns-clause-ok
 returns-clause-ok g c =
@@ -24,8 +24,8 @@ returns-clause-ok g c =
     let l : size_of (here past).store ≤ c.loop-i.i = omega (arith, n, c.loop-i-test.false) in
     subst (Appends (g.W.Write.contents c.args.writer.now) (g.W.Write.contents c.loop-i.writer)) (first_all past.position (here past).store c.loop-i.i l) c.loop-i.invariant
 
-pub returns-in_err-send_entry-clause-err : goal.returns-in_err-send_entry-clause-err
-returns-in_err-send_entry-clause-err g c =
+pub returns-in_err-send_value-clause-err : goal.returns-in_err-send_value-clause-err
+returns-in_err-send_value-clause-err g c =
     let past = c.args.kernel.now.state.past in
     let name = c.entry-value.result.0.now in
     let v = c.entry-value.result.1 in
@@ -33,9 +33,9 @@ returns-in_err-send_entry-clause-err g c =
     let w : c.world-world.result ≡ here past = c.world-world.ensures.idle c.requires.idle in
     let at : slice_get es c.loop-i.i ≡ Some (name, v) = subst (λ w. slice_get (listed w.store) c.loop-i.i ≡ Some (name, v)) w c.entry-value.ensures in
     let z : to_z w32 (of_z w32 v) ≡ v = grind (arith, to_z-of_z) in
-    let sent = subst (λ v. SentSome (g.W.Write.contents c.loop-i.writer) (g.W.Write.contents c.send_entry.new.writer) (entry_line (name, v))) z c.in_err-send_entry.ensures.err in
-    some_now (g.W.Write.contents c.args.writer.now) (g.W.Write.contents c.send_entry.new.writer) (world_text past) c.from_residual-in_err-send_entry.result
-    (entry_failed (g.W.Write.contents c.args.writer.now) (g.W.Write.contents c.loop-i.writer) (g.W.Write.contents c.send_entry.new.writer) past.position es c.loop-i.i (name, v) at c.loop-i.invariant sent)
+    let sent = subst (λ v. SentSome (g.W.Write.contents c.loop-i.writer) (g.W.Write.contents c.send_value.new.writer) (ended_line (value_text (name, v)))) z c.in_err-send_value.ensures.err in
+    some_now (g.W.Write.contents c.args.writer.now) (g.W.Write.contents c.send_value.new.writer) (world_text past) c.from_residual-in_err-send_value.result
+    (entry_failed (g.W.Write.contents c.args.writer.now) (g.W.Write.contents c.loop-i.writer) (g.W.Write.contents c.send_value.new.writer) past.position es c.loop-i.i (name, v) at c.loop-i.invariant sent)
 
 pub loop-i-preserved : goal.loop-i-preserved
 loop-i-preserved g c =
@@ -46,5 +46,5 @@ loop-i-preserved g c =
     let w : c.world-world.result ≡ here past = c.world-world.ensures.idle c.requires.idle in
     let at : slice_get es c.loop-i.i ≡ Some (name, v) = subst (λ w. slice_get (listed w.store) c.loop-i.i ≡ Some (name, v)) w c.entry-value.ensures in
     let z : to_z w32 (of_z w32 v) ≡ v = grind (arith, to_z-of_z) in
-    let sent = subst (λ v. Appends (g.W.Write.contents c.loop-i.writer) (g.W.Write.contents c.send_entry.new.writer) (entry_line (name, v))) z c.in_ok-send_entry.ensures.ok in
-    entry_then (g.W.Write.contents c.args.writer.now) (g.W.Write.contents c.loop-i.writer) (g.W.Write.contents c.send_entry.new.writer) past.position es c.loop-i.i (name, v) at c.loop-i.invariant sent
+    let sent = subst (λ v. Appends (g.W.Write.contents c.loop-i.writer) (g.W.Write.contents c.send_value.new.writer) (ended_line (value_text (name, v)))) z c.in_ok-send_value.ensures.ok in
+    entry_then (g.W.Write.contents c.args.writer.now) (g.W.Write.contents c.loop-i.writer) (g.W.Write.contents c.send_value.new.writer) past.position es c.loop-i.i (name, v) at c.loop-i.invariant sent
