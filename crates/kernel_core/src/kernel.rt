@@ -125,7 +125,7 @@ impl Kernel {
     }
 
     /// Queues a job of the frontend with this lane, and gives the number of the post: 1 for the first one, and one more
-    /// for each further one (after 2^64 - 1 comes 0).
+    /// for each further one (after 2^64 - 1 comes 0). The lane has no effect yet.
     ///
     /// It is refused as `QueueFull` where [`QUEUE_LIMIT`] jobs wait, else as `Memory` where there is none for the queue. A
     /// refused post changes nothing.
