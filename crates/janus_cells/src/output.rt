@@ -8,9 +8,7 @@ ghost use Rattle.janus_cells.specs.Output.{SentSome, counted_text, end_text, fau
 ghost use Rattle.janus_cells.specs.Transcript.{post_fault_line};
 
 use itoa::Buffer;
-use janus_machine::Fault;
-use janus_syntax::token::Span;
-use kernel_core::{End, Outcome, PostFault, Refusal};
+use kernel_core::{End, Fault, Outcome, PostFault, Refusal, Span};
 use std::io::Write;
 use thiserror::Error;
 

@@ -4,10 +4,7 @@ ghost use Rattle.kernel_core.specs.Runs.{request_of};
 ghost use Rattle.kernel_core.specs.State.{Idle, Inside, Entered};
 ghost use Rattle.janus_cells.specs.Served.{Finishes, Serves, NotPosted, Finished};
 
-use kernel_core::{Begun, Job, Kernel, Outcome, PostFault, Sliced};
-
-/// How many steps a slice may take: as many as a cell.
-const STEPS: u64 = 1_000_000_000_000;
+use kernel_core::{Begun, Job, Kernel, Outcome, PostFault, STEP_LIMIT, Sliced};
 
 /// Slices the job that stands inside a cell to its end, and begins its next cells.
 fn finish(kernel: &mut Kernel) -> Outcome
@@ -17,7 +14,7 @@ fn finish(kernel: &mut Kernel) -> Outcome
     ensures queue { kernel.new.queue ≡ kernel.old.queue }
 {
     loop {
-        match kernel.slice(STEPS, false) {
+        match kernel.slice(STEP_LIMIT, false) {
             Sliced::Ended(outcome) => return outcome,
             Sliced::Border => match kernel.begin() {
                 Begun::Ended(outcome) => return outcome,

@@ -1,10 +1,7 @@
 use crate::fault::RunFault;
 use crate::run::run;
 use crate::text::{outcome_line, value_text};
-use janus_check::CheckFault;
-use janus_machine::Fault;
-use janus_syntax::token::Span;
-use kernel_core::{End, Outcome, Refusal};
+use kernel_core::{CheckFault, End, Fault, Outcome, Refusal, Span};
 use std::alloc::Global;
 use std::io;
 use std::io::{Error, ErrorKind, Read, Write};

@@ -60,5 +60,4 @@ not_both w text c (Syntax f) sound a b real = b.none a.tree a.is_tree.has
 not_both w text c (Check f) sound a b real =
     let same : b.tree ≡ a.tree = b.is_tree.only a.tree a.is_tree.has in
     let first : IsFirst f (cell_faults (shape_of w.store) a.tree) = subst (λ (t : tree.Cell). IsFirst f (cell_faults (shape_of w.store) t)) same b.first in
-    let few : size (shape_of w.store) ≤ name_limit = subst (λ (n : ℕ). n ≤ name_limit) (sym (shape_size w.store)) sound.few in
-    nothing_there f (cell_faults (shape_of w.store) a.tree) (formed_no_faults (shape_of w.store) a.tree few a.formed) first.one
+    nothing_there f (cell_faults (shape_of w.store) a.tree) (formed_no_faults (shape_of w.store) a.tree a.formed) first.one
