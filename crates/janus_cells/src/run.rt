@@ -1,5 +1,5 @@
 //! The program over any reader and writer.
-ghost use Rattle.std.specs.Prelude.{◌≡◌, ◌≢◌, ◌||◌, ◌==◌, ◌<◌, ◌≤◌, ◌+◌, not, ℕ, false, true, List, [], ◌∷◌, ◌++◌, length, IfErr, IfSome, MatchResult, OnOk, OnErr, string_bytes};
+ghost use Rattle.std.specs.Prelude.{◌≡◌, ◌≢◌, ◌||◌, ◌==◌, ◌<◌, ◌≤◌, ◌+◌, not, ℕ, false, true, List, [], ◌∷◌, ◌++◌, length, IfErr, IfNone, IfSome, MatchResult, OnOk, OnErr, string_bytes};
 ghost use Rattle.std.specs.List.{position_or_len, before_first, after_first};
 ghost use Rattle.std.specs.Option.{MatchOption};
 ghost use Rattle.std.specs.Io.KnownBytes.{Appends, Keeps};
@@ -312,6 +312,7 @@ impl Gathered {
     fn take(&mut self, alloc: Global) -> Option<String>
         ensures taken { IsGathered self.new [] }
         ensures kept { IfSome result (λ text. self.old.lost ≡ false) }
+        ensures lost { IfNone result (self.old.lost ≡ true) }
         ensures text { IfSome result (λ text. string_bytes text ≡ string_bytes self.old.text) }
     {
         let text = std::mem::replace(&mut self.text, String::new(alloc));
