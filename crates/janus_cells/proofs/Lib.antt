@@ -1,4 +1,5 @@
 pub mod CommandLemmas
+pub mod Determined
 pub mod Finishing
 pub mod InputLemmas
 pub mod LinesLemmas

@@ -8,3 +8,4 @@ pub mod Script
 pub mod Transcript
 pub mod Loop
 pub mod Gathering
+pub mod Determined

@@ -2,12 +2,14 @@
 //!
 //! It reads all standard input, at most 16 MiB, and then runs it line by line. Lines that begin with `%` are commands; all
 //! others gather to the text of a cell. What it promises is said of `run`, over any reader and writer; `serve` brings one
-//! request of a kernel to its end. The language is Janus (Yokoyama and Glück 2007).
+//! request of a kernel to its end; `laws` says that an input has one transcript where memory is ample. The language is Janus
+//! (Yokoyama and Glück 2007).
 #![tactic(auto)]
 
 mod command;
 mod fault;
 mod input;
+mod laws;
 mod output;
 mod run;
 mod serve;
