@@ -1,15 +1,17 @@
 -- Undo and redo of an accepted cell: no fault, and as many steps as the cell took.
-use Rattle.std.proofs.Common.{◌≡◌, ℕ, ◌+◌, ◌≤◌, inl, inr, refl, subst}
+use Rattle.std.proofs.Common.{◌≡◌, ℕ, ◌+◌, ◌<◌, ◌≤◌, false, inl, inr, refl, sym, ap, subst}
 use Rattle.janus_meaning.specs.World.{World}
 use Rattle.kernel_core.specs.Language.{Exec}
 use Rattle.kernel_core.specs.Reached.{Reaches}
-use Rattle.kernel_core.specs.State.{Past, Move, State, here, code_of}
-use Rattle.kernel_core.specs.Legal.{IsPossible, IsLegal}
-use Rattle.kernel_core.specs.Slices.{Settles, Comes}
+use Rattle.kernel_core.specs.State.{Past, Move, State, Job as Open, Entered, Inside, here, code_of}
+use Rattle.kernel_core.specs.Legal.{IsPossible, IsPossibleAt, IsInTimeAt, IsLegal}
+use Rattle.kernel_core.specs.Slices.{Settles, Comes, SlicesAt}
+use Rattle.kernel_core.specs.Runs.{Machine}
 use Rattle.kernel_core.specs.Theorems.{steps_of, end_world, IsOnTime, SettlesOnTime, NeverFaults, IsMirrored}
 use Rattle.kernel_core.specs.declared.runner.Ran.{Ran}
 use Rattle.kernel_core.specs.declared.runner.Ran.TheVariants.{Went, Ended, Stopped}
 use Rattle.kernel_core.specs.declared.job.Travel.{Travel}
+use Rattle.kernel_core.specs.declared.job.Turn.TheVariants.{Going as GoesOn}
 use Rattle.kernel_core.specs.declared.job.Way.{Way}
 use Rattle.kernel_core.specs.declared.job.Way.TheVariants.{Up, Down}
 use Rattle.kernel_core.specs.declared.outcome.Sliced.{Sliced}
@@ -45,8 +47,19 @@ comes_on_time s travel c m (Ended n) w told new g p r a =
     )
 comes_on_time s travel c m (Stopped j fault) w told new g p r a = absurd (never_faults s travel (c + m) j fault w g p r)
 
+slice_on_time : (s : State) (travel : Travel) (c m : ℕ) (job : Open) (told : Sliced) (new : State) → job ≡ Inside (record { work = Move travel; count = c; turn = GoesOn }) → IsLegal s.past → IsPossibleAt s.past job → IsInTimeAt s.past job →
+    SlicesAt s.past job m false told new → (c < steps_of s.past travel) × IsOnTime s.past travel c m told new
+slice_on_time s travel c m job told new e g p t a =
+    let inside : Entered = record { work = Move travel; count = c; turn = GoesOn } in
+    let goes : SlicesAt s.past (Inside inside) m false told new = subst (λ (j : Open). SlicesAt s.past j m false told new) e a in
+    let possible : IsPossibleAt s.past (Inside inside) = subst (λ (j : Open). IsPossibleAt s.past j) e p in
+    let in_time : IsInTimeAt s.past (Inside inside) = subst (λ (j : Open). IsInTimeAt s.past j) e t in
+    (in_time (steps_of s.past travel) (end_world s.past travel) (ran_to_end s.past travel g possible), comes_on_time s.past travel c m goes.0 goes.1 told new g possible goes.2 goes.3)
+
 pub settles_on_time : SettlesOnTime
-settles_on_time s travel c m told new g p goes = comes_on_time s travel c m goes.0 goes.1 told new g p goes.2 goes.3
+settles_on_time old new travel c m answer g e a =
+    subst (λ (x : State). (c < steps_of old.state.past travel) × IsOnTime old.state.past travel c m answer x) (sym (ap (λ (x : Machine). x.state) a.2))
+    (slice_on_time old.state travel c m old.state.job answer a.0 e g.legal g.possible g.in_time a.1)
 
 pub is_mirrored : IsMirrored
 is_mirrored cell w u v n j good e p = (exec_inverted cell w n v good e, part_inverted cell w n j u v good e p)

@@ -4,7 +4,7 @@ use Rattle.janus_meaning.specs.World.{World}
 use Rattle.kernel_core.specs.Language.{Exec}
 use Rattle.kernel_core.specs.Reached.{Reaches}
 use Rattle.kernel_core.specs.State.{Past, Work, Posted, Move, Job as Open, Idle, Border, Inside, State, here, code_of, node_at, favourite_of}
-use Rattle.kernel_core.specs.Legal.{can_go, IsLegal, IsPossible, IsPossibleWork, IsPossibleAt, IsLegalState}
+use Rattle.kernel_core.specs.Legal.{can_go, IsLegal, IsPossible, IsPossibleWork, IsPossibleAt, IsInTime, IsLegalState}
 use Rattle.kernel_core.specs.Slices.{Backs, Arrives, Settles, Comes, SlicesIn, SlicesAt}
 use Rattle.kernel_core.specs.Begins.{Enters, TakesMove, TakesCell}
 use Rattle.kernel_core.specs.Runs.{Machine, Request, RunCell, Undo, Redo, request_of, Step, BeginsAt, Takes}
@@ -24,34 +24,35 @@ use Rattle.kernel_core.specs.declared.events.Event.{Event}
 use Rattle.kernel_core.specs.declared.events.Event.TheVariants as event
 use Rattle.kernel_core.specs.declared.events.Told.{Told}
 use Rattle.kernel_core.specs.declared.events.Told.TheVariants as told
+use Rattle.kernel_core.proofs.LanguageLaws.{exec_some}
 use Rattle.kernel_core.proofs.Texts.{accepted_formed}
 use Rattle.kernel_core.proofs.Trees.{legal_grown, legal_up, legal_down, new_legal}
 use Rattle.kernel_core.proofs.Standing.{up_possible, down_possible}
 use Rattle.kernel_core.proofs.Jobs.{post_keeps}
 
 pub new_is_legal : NewIsLegal
-new_is_legal = (record { legal = new_legal; possible = tt }, refl)
+new_is_legal = (record { legal = new_legal; possible = tt; in_time = tt }, refl)
 
 -- the state that is known
 legal_at : (s new : State) → new ≡ s → IsLegalState s → IsLegalState new
 legal_at s new e g = subst (λ (x : State). IsLegalState x) (sym e) g
 
 legal_idle : (s : Past) (new : State) → IsLegal s → new ≡ record { past = s; job = Idle } → IsLegalState new
-legal_idle s new g e = legal_at (record { past = s; job = Idle }) new e (record { legal = g; possible = tt })
+legal_idle s new g e = legal_at (record { past = s; job = Idle }) new e (record { legal = g; possible = tt; in_time = tt })
 
-legal_inside : (s : Past) (work : Work) (c : ℕ) (turn : Turn) (new : State) → IsLegal s → IsPossibleWork s work → new ≡ record { past = s; job = Inside (record { work = work; count = c; turn = turn }) } → IsLegalState new
-legal_inside s work c turn new g p e = legal_at (record { past = s; job = Inside (record { work = work; count = c; turn = turn }) }) new e (record { legal = g; possible = p })
+legal_inside : (s : Past) (work : Work) (c : ℕ) (turn : Turn) (new : State) → IsLegal s → IsPossibleWork s work → IsInTime s work c turn → new ≡ record { past = s; job = Inside (record { work = work; count = c; turn = turn }) } → IsLegalState new
+legal_inside s work c turn new g p t e = legal_at (record { past = s; job = Inside (record { work = work; count = c; turn = turn }) }) new e (record { legal = g; possible = p; in_time = t })
 
 -- ---- slices
 
 backs_legal : (s : Past) (work : Work) (why : Why) (c : ℕ) (told : Sliced) (new : State) → IsLegal s → IsPossibleWork s work → Backs s work why c told new → IsLegalState new
 backs_legal s work why zero told new g p b = legal_idle s new g b.1
-backs_legal s work why (suc c) told new g p b = legal_inside s work (suc c) (GoesBack why) new g p b.1
+backs_legal s work why (suc c) told new g p b = legal_inside s work (suc c) (GoesBack why) new g p (omega arith) b.1
 
 arrives_legal : (s : Past) (way : Way) (left done : ℕ) (told : Sliced) (new : State) → IsLegal s → IsTrue (can_go s.nodes s.favourites s.position way left) → Arrives s way left done told new → IsLegalState new
 arrives_legal s way zero done told new g can a = legal_idle s new g a.1
 arrives_legal s way (suc left) done told new g can a =
-    legal_at (record { past = s; job = Border (record { way = way; left = suc left; done = done + 1 }) }) new a.1 (record { legal = g; possible = record { some = omega arith; way_there = can } })
+    legal_at (record { past = s; job = Border (record { way = way; left = suc left; done = done + 1 }) }) new a.1 (record { legal = g; possible = record { some = omega arith; way_there = can }; in_time = tt })
 
 move_legal : (s : Past) (travel : Travel) (way : Way) (n : ℕ) (w : World) (told : Sliced) (new : State) → travel.way ≡ way → IsLegal s → IsPossible s.nodes s.favourites s.position travel → Settles s (Move travel) n w told new → IsLegalState new
 move_legal s travel Up n w told new way g p a =
@@ -65,26 +66,26 @@ settles_legal : (s : Past) (work : Work) (n : ℕ) (w : World) (told : Sliced) (
 settles_legal s (Posted cell) n w told new g p e a = legal_idle _ new (legal_grown s cell n w g p e) a.1
 settles_legal s (Move travel) n w told new g p e a = move_legal s travel travel.way n w told new refl g p a
 
-comes_legal : (s : Past) (work : Work) (c m : ℕ) (ran : Ran) (w : World) (told : Sliced) (new : State) → IsLegal s → IsPossibleWork s work → Reaches (code_of s work) (here s) m ran w → Comes s work c ran w told new → IsLegalState new
-comes_legal s work c m Went w told new g p r a = legal_inside s work c GoesOn new g p a.1
-comes_legal s work c m (Ended n) w told new g p r a = settles_legal s work n w told new g p r.0 a
-comes_legal s work c m (Stopped j f) w told new g p r a = backs_legal s work (Faulted f j) j told new g p a
+comes_legal : (s : Past) (work : Work) (c : ℕ) (ran : Ran) (w : World) (told : Sliced) (new : State) → IsLegal s → IsPossibleWork s work → Reaches (code_of s work) (here s) c ran w → Comes s work c ran w told new → IsLegalState new
+comes_legal s work c Went w told new g p r a = legal_inside s work c GoesOn new g p r.1 a.1
+comes_legal s work c (Ended n) w told new g p r a = settles_legal s work n w told new g p r.0 a
+comes_legal s work c (Stopped j f) w told new g p r a = backs_legal s work (Faulted f j) j told new g p a
 
 slices_legal : (s : Past) (work : Work) (c : ℕ) (turn : Turn) (m : ℕ) (asked : Bool) (told : Sliced) (new : State) → IsLegal s → IsPossibleWork s work → SlicesIn s work c turn m asked told new → IsLegalState new
-slices_legal s work c GoesOn m false told new g p a = comes_legal s work (c + m) (c + m) a.0 a.1 told new g p a.2 a.3
+slices_legal s work c GoesOn m false told new g p a = comes_legal s work (c + m) a.0 a.1 told new g p a.2 a.3
 slices_legal s work c GoesOn m true told new g p a = backs_legal s work (WasAsked c) (c - m) told new g p a
 slices_legal s work c (GoesBack why) m asked told new g p a = backs_legal s work why (c - m) told new g p a
 
 slice_legal : (s : Past) (job : Open) (m : ℕ) (asked : Bool) (told : Sliced) (new : State) → IsLegal s → IsPossibleAt s job → SlicesAt s job m asked told new → IsLegalState new
 slice_legal s Idle m asked told new g p a = legal_idle s new g a.1
-slice_legal s (Border t) m asked told new g p a = legal_at (record { past = s; job = Border t }) new a.1 (record { legal = g; possible = p })
+slice_legal s (Border t) m asked told new g p a = legal_at (record { past = s; job = Border t }) new a.1 (record { legal = g; possible = p; in_time = tt })
 slice_legal s (Inside e) m asked told new g p a = slices_legal s e.work e.count e.turn m asked told new g p a
 
 -- ---- begins
 
 enters_legal : (s : Past) (t : Travel) (answer : Begun) (new : State) → IsLegal s → IsPossible s.nodes s.favourites s.position t → Enters s t answer new → IsLegalState new
 enters_legal s t answer new g p a = elim a [
-  | inl b ↦ legal_inside s (Move t) 0 GoesOn new g p b.1
+  | inl b ↦ legal_inside s (Move t) 0 GoesOn new g p (exec_some (code_of s (Move t)) (here s)) b.1
   | inr b ↦ legal_idle s new g b.2
 ]
 
@@ -95,7 +96,7 @@ takes_move_legal s way (suc k) true answer new g e a = enters_legal s (record { 
 
 takes_cell_legal : (s : Past) (text : List ℕ) (answer : Begun) (new : State) → IsLegal s → TakesCell s text answer new → IsLegalState new
 takes_cell_legal s text answer new g a = elim a [
-  | inl b ↦ legal_inside s (Posted b.0) 0 GoesOn new g (accepted_formed (here s) text b.0 b.1) b.3
+  | inl b ↦ legal_inside s (Posted b.0) 0 GoesOn new g (accepted_formed (here s) text b.0 b.1) (exec_some (code_of s (Posted b.0)) (here s)) b.3
   | inr b ↦ legal_idle s new g b.3
 ]
 

@@ -2,10 +2,12 @@
 use Rattle.std.specs.Prelude.{◌≡◌, ℕ, ◌+◌, ◌^◌, ◌<◌, ◌==◌, Bool, true, false, IsTrue, List, length, zero, suc, if◌then◌else◌, get_or}
 use Rattle.janus_meaning.specs.World.{World, empty_world}
 use Rattle.kernel_core.specs.Language.{Forward, Exec, IsFormed, IsSound}
-use Rattle.kernel_core.specs.State.{Past, Node, Work, Posted, Move, Job, Idle, Border, Inside, State, root, node_at, world_at, here, favourite_of}
+use Rattle.kernel_core.specs.State.{Past, Node, Work, Posted, Move, Job, Idle, Border, Inside, State, root, node_at, world_at, here, favourite_of, code_of}
 use Rattle.kernel_core.specs.declared.job.Way.{Way}
 use Rattle.kernel_core.specs.declared.job.Way.TheVariants.{Up, Down}
 use Rattle.kernel_core.specs.declared.job.Travel.{Travel}
+use Rattle.kernel_core.specs.declared.job.Turn.{Turn}
+use Rattle.kernel_core.specs.declared.job.Turn.TheVariants.{Going, Backing}
 
 -- the node can go up k times
 abbrev pub can_undo : List Node → ℕ → ℕ → Bool
@@ -71,10 +73,21 @@ IsPossibleAt s Idle = Unit {0}
 IsPossibleAt s (Border travel) = IsPossible s.nodes s.favourites s.position travel
 IsPossibleAt s (Inside e) = IsPossibleWork s e.work
 
--- the state is legal: its tree, and its open job, which can do what it has to do
+-- a job inside a cell has steps to take: while it goes on, the end of the code is ahead; while it goes back, the count is not 0 yet
+abbrev pub IsInTime : Past → Work → ℕ → Turn → Type 0
+IsInTime s work count Going = (n : ℕ) (w : World) → Exec (code_of s work) (here s) n w → count < n
+IsInTime s work count (Backing why) = 0 < count
+
+abbrev pub IsInTimeAt : Past → Job → Type 0
+IsInTimeAt s Idle = Unit {0}
+IsInTimeAt s (Border travel) = Unit {0}
+IsInTimeAt s (Inside e) = IsInTime s e.work e.count e.turn
+
+-- the state is legal: its tree, and its open job, which can do what it has to do and has not stood longer than it had to
 pub record IsLegalState (s : State) : Type 0 where
   pub legal : IsLegal s.past
   pub possible : IsPossibleAt s.past s.job
+  pub in_time : IsInTimeAt s.past s.job
 
 -- ---- what the code keeps of the open job beside this: its cells are counted in 32 bits
 

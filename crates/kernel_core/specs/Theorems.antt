@@ -7,10 +7,10 @@ use Rattle.kernel_core.specs.Language.{Forward, Backward, Part, Exec, Stop}
 use Rattle.kernel_core.specs.Reached.{Reaches}
 use Rattle.kernel_core.specs.State.{Node, Past, Move, Idle, Inside, State, root, node_at, world_at, here, favourite_of, code_of}
 use Rattle.kernel_core.specs.Legal.{ancestor, can_go, IsPossible, IsLegal, IsLegalState}
-use Rattle.kernel_core.specs.Slices.{finished, grown, Settles, Goes}
+use Rattle.kernel_core.specs.Slices.{finished, grown, Settles}
 use Rattle.kernel_core.specs.Text.{Accepts, Refuses}
 use Rattle.kernel_core.specs.Begins.{Declares}
-use Rattle.kernel_core.specs.Runs.{Machine, Request, RunCell, Undo, Redo, new_machine, Run}
+use Rattle.kernel_core.specs.Runs.{Machine, Request, RunCell, Undo, Redo, new_machine, Step, Run}
 use Rattle.kernel_core.specs.declared.runner.Ran.TheVariants.{Stopped}
 use Rattle.kernel_core.specs.declared.job.Travel.{Travel}
 use Rattle.kernel_core.specs.declared.job.Turn.TheVariants.{Going as GoesOn}
@@ -162,12 +162,14 @@ abbrev pub IsOnTime : Past → Travel → ℕ → ℕ → Sliced → State → T
 IsOnTime s travel c m told new =
     Exec (code_of s (Move travel)) (here s) (steps_of s travel) (end_world s travel) × SettlesAtLastStep s travel c m told new
 
--- A cell is undone by its inverted code, and redone by its code, in as many steps as it took.
+-- A cell is undone by its inverted code, and redone by its code, in as many steps as it took: in each slice that goes on its last
+-- step was still to be taken, and the cell settles exactly where the slice takes it.
 abbrev pub SettlesOnTime : Type 0
 SettlesOnTime =
-    (s : Past) (travel : Travel) (c m : ℕ) (told : Sliced) (new : State) →
-    IsLegal s → IsPossible s.nodes s.favourites s.position travel →
-    Goes s (Move travel) c m told new → IsOnTime s travel c m told new
+    (old new : Machine) (travel : Travel) (c m : ℕ) (answer : Sliced) →
+    IsLegalState old.state → old.state.job ≡ Inside (record { work = Move travel; count = c; turn = GoesOn }) →
+    Step old (event.Slice m false) (told.Slice answer) new →
+    (c < steps_of old.state.past travel) × IsOnTime old.state.past travel c m answer new.state
 
 -- Where the tree is legal, the code of an undo or a redo meets no fault.
 abbrev pub NeverFaults : Type 0

@@ -31,8 +31,8 @@ pub fn redo_gives_back_law()
     ensures { RedoGivesBack }
 {}
 
-/// The code of an undo or a redo leads to the world due, and the cell settles in the slice that takes the last of exactly as
-/// many steps as it took.
+/// The code of an undo or a redo leads to the world due, in exactly as many steps as the cell took. In every legal state in
+/// which it goes on the last of them is still to be taken, and the cell settles in the slice that takes it.
 pub fn settles_on_time_law()
     ensures { SettlesOnTime }
 {}
