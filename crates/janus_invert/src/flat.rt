@@ -9,15 +9,16 @@ ghost use Rattle.janus_invert.specs.Flat.{built};
 ghost use Rattle.janus_invert.specs.CodeBlock.{code_block};
 
 use crate::code::{Block, Code, Statement};
+use crate::fault::InvertFault;
 use janus_check::Checked;
 use janus_syntax::tree::Stm;
 use std::alloc::{AllocError, Global};
 
-/// The flat code of a checked cell's statements; an error for want of memory.
-pub fn flatten(alloc: Global, checked: &Checked) -> Result<Code, AllocError>
+/// The flat code of a checked cell's statements; or want of memory.
+pub fn flatten(alloc: Global, checked: &Checked) -> Result<Code, InvertFault>
     ensures { IfOk result (λ code. code_block code ≡ block_of_cell (cell_in checked.now)) }
 {
-    flat_code(alloc, &checked.cell().statements)
+    Ok(flat_code(alloc, &checked.cell().statements)?)
 }
 
 /// The flat code of a block.

@@ -9,6 +9,7 @@ ghost use Rattle.janus_invert.specs.Inverted.{IsOpposite, IsInverse, IsBackward,
 ghost use Rattle.janus_invert.specs.CodeBlock.{code_block};
 
 use crate::code::{Block, Code, Statement};
+use crate::fault::InvertFault;
 use janus_syntax::tree::{Cell, Declaration, Stm, Update};
 use std::alloc::{AllocError, Global};
 
@@ -24,8 +25,8 @@ fn opposite(update: Update) -> Update
     }
 }
 
-/// The cell whose statements are inverted, with the same declarations; an error for want of memory.
-pub fn invert(alloc: Global, cell: &Cell) -> Result<Cell, AllocError>
+/// The cell whose statements are inverted, with the same declarations; or want of memory.
+pub fn invert(alloc: Global, cell: &Cell) -> Result<Cell, InvertFault>
     ensures block { IfOk result (λ inverse. block_of inverse.statements.items ≡ inverse_block (block_of cell.now.statements.items)) }
     ensures places { IfOk result (λ inverse. cell_view inverse ≡ inverse_cell (cell_view cell.now)) }
 {
@@ -80,8 +81,8 @@ fn inverse_statement(alloc: Global, statement: &Stm) -> Result<Stm, AllocError>
     }
 }
 
-/// The code whose block is the inverse of this one's: its statements keep their numbers. An error for want of memory.
-pub fn invert_code(alloc: Global, code: &Code) -> Result<Code, AllocError>
+/// The code whose block is the inverse of this one's: its statements keep their numbers. Or want of memory.
+pub fn invert_code(alloc: Global, code: &Code) -> Result<Code, InvertFault>
     ensures block { IfOk result (λ inverse. code_block inverse ≡ inverse_block (code_block code.now)) }
     ensures body { IfOk result (λ inverse. inverse.body ≡ code.now.body) }
     ensures parts { IfOk result (λ inverse. AreInverse code.now.members.items code.now.statements.items inverse.members.items inverse.statements.items code.now.body) }

@@ -10,10 +10,12 @@
 ghost use Rattle.janus_invert.specs.Cells.{InverseCellTwice};
 
 pub mod code;
+mod fault;
 mod flat;
 mod inverse;
 
 pub use crate::code::{Block, Code, Statement};
+pub use crate::fault::InvertFault;
 pub use crate::flat::flatten;
 pub use crate::inverse::{invert, invert_code};
 

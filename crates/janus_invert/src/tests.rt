@@ -1,4 +1,4 @@
-use crate::{Code, Statement, flatten, invert, invert_code};
+use crate::{Code, InvertFault, Statement, flatten, invert, invert_code};
 use janus_check::{Env, check};
 use janus_syntax::token::Span;
 use janus_syntax::tree::{Cell, Declaration, Exp, Name, Stm, Update};
@@ -94,5 +94,12 @@ fn inverts_code(rt: HostRuntime) -> Result<(), Fail> {
     assert_eq!(rt; inverse.statements.len(), 2);
     assert_eq!(rt; flat_changed(&inverse.statements[0]), "x");
     assert!(rt; flat_update(&inverse.statements[0]) == Update::Subtract);
+    Ok(())
+}
+
+#[test]
+fn tells_its_refusal(rt: HostRuntime) -> Result<(), Fail> {
+    assert_eq!(rt; InvertFault::Memory.number(), 35);
+    assert_eq!(rt; InvertFault::Memory.name(), "Memory");
     Ok(())
 }
