@@ -11,3 +11,4 @@ pub mod Lexing
 pub mod Places
 pub mod OneRefusal
 pub mod Theorems
+pub mod OneTree

@@ -69,3 +69,15 @@ IsRefusal text fault.Memory = ⊥
 -- A text has one refusal at most.
 abbrev pub OneRefusal : Type 0
 OneRefusal = (text : List ℕ) (e f : SyntaxFault) → IsRefusal text e → IsRefusal text f → e ≡ f
+
+-- A text has one list of tokens at most.
+abbrev pub OneTokens : Type 0
+OneTokens = (text : List ℕ) (ts us : List Token) → AreTokens text ts → AreTokens text us → ts ≡ us
+
+-- A text has one tree at most.
+abbrev pub OneTree : Type 0
+OneTree = (text : List ℕ) (c d : Cell) → HasTree text c → HasTree text d → c ≡ d
+
+-- A text with a tree has no refusal.
+abbrev pub TreeOrRefusal : Type 0
+TreeOrRefusal = (text : List ℕ) (c : Cell) (e : SyntaxFault) → HasTree text c → IsRefusal text e → ⊥

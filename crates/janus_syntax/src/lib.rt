@@ -8,7 +8,9 @@
 //! - `tokens`: the tokens are those of the text, the longest item that fits at each place, and there are no others; else the
 //!   first character that begins no token, or the first number past 2147483647, whichever stands first.
 //! - `parse_cell`: the answer is the one tree that the grammar gives the text; else the refusal that the grammar has for it,
-//!   with its place in octets. `one_refusal_law`: a text has one refusal at most, so none is left to choice.
+//!   with its place in octets.
+//! - `one_tokens_law`, `one_tree_law`, `one_refusal_law`: a text has one list of tokens at most, one tree at most and one
+//!   refusal at most. `tree_or_refusal_law`: it never has a tree and a refusal. So no answer is left to choice.
 //! - `Exp::copy`, `Stm::copy`, `Name::copy`: the same tree at the same places.
 //!
 //! The definitions are in specs/, to be read in this order: `Spelling`, `Lexical` (tokens of a text), `Tree`, `Grammar`
@@ -32,4 +34,4 @@ pub mod tree;
 
 pub use fault::SyntaxFault;
 pub use lexer::tokens;
-pub use parser::{one_refusal_law, parse_cell};
+pub use parser::{one_refusal_law, one_tokens_law, one_tree_law, parse_cell, tree_or_refusal_law};
