@@ -8,7 +8,8 @@ use Rattle.janus_syntax.specs.declared.token.Token as code_token
 use Rattle.janus_syntax.specs.declared.lexer.Front.{Front}
 use Rattle.janus_syntax.specs.Tokens.{Token, token_view, views}
 use Rattle.janus_syntax.specs.Lexical.{Item, Gap, IsSpelled, NoLonger, IsFront, IsToken, between, Lexes, none, gap, token, AreTokens, NoItem, IsBadToken, IsTooLarge, A_number, largest_number}
-use Rattle.janus_syntax.specs.Scan.{IsFrontOf, IsFirstChar, IsKindOf, IsLexed, IsOnly}
+use Rattle.janus_syntax.specs.Scan.{IsFrontOf, IsFirstChar, IsKindOf}
+use Rattle.janus_syntax.specs.Text.{IsLexed, IsOnly}
 use Rattle.janus_syntax.specs.declared.fault.SyntaxFault.{SyntaxFault}
 use Rattle.janus_syntax.specs.declared.fault.SyntaxFault.TheVariants as fault
 use Rattle.janus_syntax.proofs.OneLexing.{only_tokens, not_bad, not_large}

@@ -14,8 +14,9 @@
 //! - `Exp::copy`, `Stm::copy`, `Name::copy`: the same tree at the same places.
 //!
 //! The definitions are in specs/, to be read in this order: `Spelling`, `Lexical` (tokens of a text), `Tree`, `Grammar`
-//! (tokens of a tree, and where no cell goes on), `Text` (both together), `View` (the trees as trees of the meaning).
-//! `Machine`, `Reading` and `Scan` serve the proofs alone.
+//! (tokens of a tree, and where no cell goes on), `Text` (both together), `View` (the trees as trees of the meaning), and
+//! `Fault` (what is shown of a refusal). No contract of a public function names `Machine`, `Reading` or `Scan`: they serve
+//! the proofs.
 //!
 //! A cell here has `int` declarations and assignments, and expressions have numbers, names, `+`, `-` and `^`.
 #![tactic(auto)]
