@@ -12,3 +12,4 @@ pub mod Places
 pub mod OneRefusal
 pub mod Theorems
 pub mod OneTree
+pub mod EveryText

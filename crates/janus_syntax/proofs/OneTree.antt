@@ -4,7 +4,7 @@ use Rattle.janus_syntax.specs.declared.fault.SyntaxFault.TheVariants as fault
 use Rattle.janus_syntax.specs.Tokens.{Token}
 use Rattle.janus_syntax.specs.Tree.{Cell}
 use Rattle.janus_syntax.specs.Grammar.{IsTree, IsTooNested}
-use Rattle.janus_syntax.specs.Text.{OneTree, TreeOrRefusal}
+use Rattle.janus_syntax.specs.Text.{OneTree, NotBoth}
 use Rattle.janus_syntax.proofs.OneLexing.{only_tokens, not_bad, not_large}
 use Rattle.janus_syntax.proofs.Theorems.{only_tree}
 
@@ -17,11 +17,11 @@ not_too_nested {c} t x =
     let whole = x.whole ∙ ap (λ r. x.front ++ r) x.begins ∙ sym (append_assoc x.front (x.token ∷ []) x.behind) in
     x.beyond (x.behind, c, subst (λ ts. IsTree c ts) whole t)
 
-pub tree_or_refusal : TreeOrRefusal
-tree_or_refusal text c (fault.BadToken at) p q = not_bad text at p.tokens q p.are_tokens
-tree_or_refusal text c (fault.NumberTooLarge at) p q = not_large text at p.tokens q p.are_tokens
-tree_or_refusal text c (fault.Expected w at) p q =
+pub not_both : NotBoth
+not_both text c (fault.BadToken at) p q = not_bad text at p.tokens q p.are_tokens
+not_both text c (fault.NumberTooLarge at) p q = not_large text at p.tokens q p.are_tokens
+not_both text c (fault.Expected w at) p q =
     q.unexpected.not_whole c (subst (λ ts. IsTree c ts) (only_tokens text p.tokens q.tokens p.are_tokens q.are_tokens) p.is_tree).spells
-tree_or_refusal text c (fault.TooNested at) p q =
+not_both text c (fault.TooNested at) p q =
     not_too_nested (subst (λ ts. IsTree c ts) (only_tokens text p.tokens q.tokens p.are_tokens q.are_tokens) p.is_tree) q.too_nested
-tree_or_refusal text c fault.Memory p q = absurd q
+not_both text c fault.Memory p q = absurd q

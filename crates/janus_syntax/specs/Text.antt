@@ -1,5 +1,5 @@
 -- The tokens and the tree of a text, and why a text has none.
-use Rattle.std.specs.Prelude.{◌≡◌, ℕ, List, [], ◌∷◌, length, Result, Ok, Err, Vec}
+use Rattle.std.specs.Prelude.{◌≡◌, ℕ, List, [], ◌∷◌, length, ◌⊎◌, IsUtf8, Result, Ok, Err, Vec}
 use Rattle.janus_syntax.specs.declared.token.Span.{Span}
 use Rattle.janus_syntax.specs.declared.token.Token as code_token
 use Rattle.janus_syntax.specs.declared.tree.Cell as code_cell
@@ -93,6 +93,10 @@ OneTokens = (text : List ℕ) (ts us : List Token) → AreTokens text ts → Are
 abbrev pub OneTree : Type 0
 OneTree = (text : List ℕ) (c d : Cell) → HasTree text c → HasTree text d → c ≡ d
 
--- A text with a tree has no refusal.
+-- A text of characters has a tree or a refusal.
 abbrev pub TreeOrRefusal : Type 0
-TreeOrRefusal = (text : List ℕ) (c : Cell) (e : SyntaxFault) → HasTree text c → IsRefusal text e → ⊥
+TreeOrRefusal = (text : List ℕ) → IsUtf8 text → ((c : Cell) × HasTree text c) ⊎ ((e : SyntaxFault) × IsRefusal text e)
+
+-- It does not have both.
+abbrev pub NotBoth : Type 0
+NotBoth = (text : List ℕ) (c : Cell) (e : SyntaxFault) → HasTree text c → IsRefusal text e → ⊥

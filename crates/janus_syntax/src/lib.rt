@@ -10,7 +10,7 @@
 //! - `parse_cell`: the answer is the one tree that the grammar gives the text; else the refusal that the grammar has for it,
 //!   with its place in octets.
 //! - `one_tokens_law`, `one_tree_law`, `one_refusal_law`: a text has one list of tokens at most, one tree at most and one
-//!   refusal at most. `tree_or_refusal_law`: it never has a tree and a refusal. So no answer is left to choice.
+//!   refusal at most. `tree_or_refusal_law`: it has a tree or a refusal, and not both. So no answer is left to choice.
 //! - `Exp::copy`, `Stm::copy`, `Name::copy`: the same tree at the same places.
 //!
 //! The definitions are in specs/, to be read in this order: `Spelling`, `Lexical` (tokens of a text), `Tree`, `Grammar`

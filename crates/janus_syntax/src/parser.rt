@@ -3,7 +3,7 @@
 ghost use Rattle.std.specs.Prelude.{◌≡◌, ◌≤◌, ◌-◌, length, drop};
 ghost use Rattle.janus_syntax.specs.Tree.{Cell as Tree};
 ghost use Rattle.janus_syntax.specs.Tokens.{views};
-ghost use Rattle.janus_syntax.specs.Text.{place_before, HasTree, IsParsed, IsOnlyTree, OneRefusal, OneTokens, OneTree, TreeOrRefusal};
+ghost use Rattle.janus_syntax.specs.Text.{place_before, HasTree, IsParsed, IsOnlyTree, OneRefusal, OneTokens, OneTree, TreeOrRefusal, NotBoth};
 
 use crate::cell::parse;
 use crate::fault::SyntaxFault;
@@ -68,7 +68,9 @@ pub fn one_tree_law()
     ensures { OneTree }
 {}
 
-/// A law about the definitions of `specs/`: a text with a tree has no refusal. It does nothing.
+/// A law about the definitions of `specs/`: a text of characters has a tree or a refusal, and not
+/// both. It does nothing.
 pub fn tree_or_refusal_law()
-    ensures { TreeOrRefusal }
+    ensures one { TreeOrRefusal }
+    ensures not_both { NotBoth }
 {}
