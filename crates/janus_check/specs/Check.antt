@@ -27,8 +27,8 @@ fault_if false f = []
 abbrev pub is_full : Shape → Bool
 is_full g = nat_le name_limit (size g)
 
--- The names in sight with one more. One that is there already stays as it is; one past the limit is left out, and its
--- own fault stands before all of its uses.
+-- The names in sight with one more. One that is there already stays as it is. One past the limit is left out: its own
+-- fault stands in the text before all of its uses.
 abbrev pub extended : Shape → tree.Name → Shape
 extended g x = if is_in x g || is_full g then g else Known x tree.ANumber g
 
