@@ -1,6 +1,6 @@
 -- A cell has no faults exactly where it is well formed.
 use Rattle.std.proofs.Common.{◌≡◌, ℕ, suc, ◌≤◌, Bool, true, false, not, List, [], ◌∷◌, ◌++◌, map, refl, ap, ◌∙◌, sym, subst, arith, if◌then◌else◌}
-use Rattle.std.specs.Prelude.{nat_le}
+use Rattle.std.specs.Prelude.{nat_le, ◌||◌}
 use Rattle.std.proofs.lemmas.Bool.Decides.{nat_tests}
 use Rattle.janus_meaning.specs.Syntax as tree
 use Rattle.janus_meaning.specs.Store.{same_name}
@@ -13,7 +13,7 @@ use Rattle.janus_check.specs.declared.fault.CheckFault.{CheckFault}
 use Rattle.janus_check.specs.declared.fault.CheckFault.TheVariants.{Declared, Unknown, SelfUse, TooMany}
 use Rattle.janus_check.specs.declared.env.Kind.{Kind}
 use Rattle.janus_check.specs.Names.{is_known, is_in, size, shape_of}
-use Rattle.janus_check.specs.Check.{name_limit, fault_if, extended, name_faults, declarations_faults, after_declarations, exp_faults, stm_faults, block_faults, cell_faults}
+use Rattle.janus_check.specs.Check.{name_limit, fault_if, is_full, extended, name_faults, declarations_faults, after_declarations, exp_faults, stm_faults, block_faults, cell_faults}
 use Rattle.janus_check.specs.WellFormed.{meant_exp, meant_stm, meant_block, meant_name, with_numbers, AreFresh, IsWellFormed, IsUsual, AreUsual, FaultsAreExact, IsWithinLimit}
 use Rattle.janus_check.proofs.ScopeLemmas.{usual_pick_number, usual_over}
 
@@ -95,6 +95,10 @@ record Declares (g : Shape) (ds : List Declaration) : Type 0 where
 room_for : (n : ℕ) → nat_le name_limit n ≡ false → suc n ≤ name_limit
 room_for n h = grind (arith, nat_tests)
 
+-- a new name with room for it is added
+added : (g : Shape) (x : tree.Name) → is_in x g ≡ false → is_full g ≡ false → extended g x ≡ Known x tree.ANumber g
+added g x out room = ap (λ b. if b || is_full g then g else Known x tree.ANumber g) out ∙ ap (λ b. if b then g else Known x tree.ANumber g) room
+
 pub within : (g : Shape) (xs : List tree.Name) → size g ≤ name_limit → IsWithinLimit g xs → size (with_numbers g xs) ≤ name_limit
 within g [] le h = le
 within g (x ∷ xs) le h = h
@@ -104,8 +108,9 @@ declares g [] u h = record { fresh = tt; names = refl; few = tt; usual = u }
 declares g (Int (named x at) ∷ ds) u h =
     let here = left_nil (name_faults g x at) _ h in
     let out = no_fault (is_in x g) _ (left_nil _ _ here) in
-    let room = room_for (size g) (no_fault (nat_le name_limit (size g)) _ (right_nil _ _ here)) in
-    let next : extended g x ≡ Known x tree.ANumber g = ap (λ b. if b then g else Known x tree.ANumber g) out in
+    let space = no_fault (is_full g) _ (right_nil _ _ here) in
+    let room = room_for (size g) space in
+    let next = added g x out space in
     let rest = subst (λ n. declarations_faults n ds ≡ []) next (right_nil (name_faults g x at) _ h) in
     let d = declares (Known x tree.ANumber g) ds (usual_number_more g x u) rest in
     record {
@@ -160,8 +165,9 @@ declares_no_faults g (Int (named x at) ∷ ds) h le =
     let rest = declares_no_faults (Known x tree.ANumber g) ds h.1 le in
     let out : is_in x g ≡ false = ap is_known h.0 in
     let grows = size_grows (Known x tree.ANumber g) (map meant_name ds) in
-    let next : extended g x ≡ Known x tree.ANumber g = ap (λ b. if b then g else Known x tree.ANumber g) out in
-    let here = both_nil _ _ (fault_if_false (is_in x g) (Declared at) out) (fault_if_false (nat_le name_limit (size g)) (TooMany at) (no_limit (size g) (omega arith))) in
+    let space = no_limit (size g) (omega arith) in
+    let next = added g x out space in
+    let here = both_nil _ _ (fault_if_false (is_in x g) (Declared at) out) (fault_if_false (is_full g) (TooMany at) space) in
     (both_nil _ _ here (ap (λ n. declarations_faults n ds) next ∙ rest.0), ap (λ n. after_declarations n ds) next ∙ rest.1)
 
 declares_within : (g : Shape) (ds : List Declaration) → AreFresh g (map meant_name ds) → IsWithinLimit g (map meant_name ds) → (declarations_faults g ds ≡ []) × (after_declarations g ds ≡ with_numbers g (map meant_name ds))

@@ -77,10 +77,11 @@ new_more g [] x k new h = (h, tt)
 new_more g (e ∷ es) x k new h = (new.0, new_more (Known e.0 (kind_of e.1) g) es x k new.1 h)
 
 -- where a new name goes in the map
-pub inserted_last : {Y S : Type 0} (m : IndexMap (String Y) Kind S) (x : String Y) (k : Kind) → AreNew Nobody (map seen m.entries) → kind_at (string_bytes x) (shape_of (map seen m.entries)) ≡ tree.Absent → insert_entry string_eq m.entries x k ≡ m.entries ++ (x, k) ∷ []
+inserted_last : {Y S : Type 0} (m : IndexMap (String Y) Kind S) (x : String Y) (k : Kind) → AreNew Nobody (map seen m.entries) → kind_at (string_bytes x) (shape_of (map seen m.entries)) ≡ tree.Absent → insert_entry string_eq m.entries x k ≡ m.entries ++ (x, k) ∷ []
 inserted_last m x k new absent =
     insert_entry-new string_eq m x k (absent_is_none (lookup (λ k. bytes_eq (string_bytes x) (string_bytes k)) m.entries) (kind_looked_up (string_bytes x) m.entries new ∙ absent))
 
 -- what contracts see of the entries with a new one
-pub seen_more : {Y : Type 0} (es more : List (String Y × Kind)) (x : String Y) (k : Kind) → more ≡ es ++ (x, k) ∷ [] → map seen more ≡ map seen es ++ (string_bytes x, k) ∷ []
-seen_more es more x k e = ap (map seen) e ∙ map-append seen es ((x, k) ∷ [])
+pub seen_last : {Y S : Type 0} (m : IndexMap (String Y) Kind S) (more : List (String Y × Kind)) (x : String Y) (k : Kind) → AreNew Nobody (map seen m.entries) → kind_at (string_bytes x) (shape_of (map seen m.entries)) ≡ tree.Absent →
+    more ≡ insert_entry string_eq m.entries x k → map seen more ≡ map seen m.entries ++ (string_bytes x, k) ∷ []
+seen_last m more x k new absent e = ap (map seen) (e ∙ inserted_last m x k new absent) ∙ map-append seen m.entries ((x, k) ∷ [])

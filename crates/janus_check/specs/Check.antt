@@ -1,5 +1,5 @@
 -- Which cells are well formed over the names in sight, by the faults that a cell has.
-use Rattle.std.specs.Prelude.{ℕ, Bool, true, false, not, nat_le, List, [], ◌∷◌, ◌++◌, if◌then◌else◌}
+use Rattle.std.specs.Prelude.{ℕ, Bool, true, false, not, ◌||◌, nat_le, List, [], ◌∷◌, ◌++◌, if◌then◌else◌}
 use Rattle.janus_meaning.specs.Syntax as tree
 use Rattle.janus_meaning.specs.Store.{same_name}
 use Rattle.janus_meaning.specs.Formed.{Shape, Known}
@@ -23,13 +23,18 @@ fault_if false f = []
 
 -- ---- the faults
 
--- the names in sight with one more; one that is there already stays as it is
+-- no more names may be declared
+abbrev pub is_full : Shape → Bool
+is_full g = nat_le name_limit (size g)
+
+-- The names in sight with one more. One that is there already stays as it is. One past the limit is left out: its own
+-- fault stands in the text before all of its uses.
 abbrev pub extended : Shape → tree.Name → Shape
-extended g x = if is_in x g then g else Known x tree.ANumber g
+extended g x = if is_in x g || is_full g then g else Known x tree.ANumber g
 
 -- the faults of the declaration of a name at a place
 abbrev pub name_faults : Shape → tree.Name → Span → List CheckFault
-name_faults g x at = fault_if (is_in x g) (Declared at) ++ fault_if (nat_le name_limit (size g)) (TooMany at)
+name_faults g x at = fault_if (is_in x g) (Declared at) ++ fault_if (is_full g) (TooMany at)
 
 abbrev pub declaration_faults : Shape → Declaration → List CheckFault
 declaration_faults g (Int (named x at)) = name_faults g x at

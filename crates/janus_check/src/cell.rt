@@ -1,10 +1,10 @@
 //! The check of a cell.
-ghost use Rattle.std.specs.Prelude.{◌≡◌, ◌≢◌, [], OnOk, IfOk, IfErr, nat_le, ◌++◌};
+ghost use Rattle.std.specs.Prelude.{◌≡◌, ◌≢◌, [], OnOk, IfOk, IfErr, ◌++◌};
 ghost use Rattle.janus_syntax.specs.Tree.{cell_view, exp_view, stm_view, block_view, declaration_view, declarations_view};
 ghost use Rattle.janus_syntax.specs.View.{name_of};
-ghost use Rattle.janus_check.specs.Names.{shape_of, over, is_in, size};
+ghost use Rattle.janus_check.specs.Names.{shape_of, over, is_in};
 ghost use Rattle.janus_check.specs.Fault.{IsFirst, first_from};
-ghost use Rattle.janus_check.specs.Check.{name_limit, fault_if, name_faults, extended, cell_faults, declaration_faults, declarations_faults, after_declaration, after_declarations, exp_faults, stm_faults, block_faults};
+ghost use Rattle.janus_check.specs.Check.{is_full, fault_if, name_faults, extended, cell_faults, declaration_faults, declarations_faults, after_declaration, after_declarations, exp_faults, stm_faults, block_faults};
 ghost use Rattle.janus_check.specs.WellFormed.{IsWellFormed};
 ghost use Rattle.janus_check.specs.Checked.{cell_in};
 ghost use Rattle.janus_check.specs.declared.fault.CheckFault.TheVariants.{Declared, TooMany, Memory as NoMemory};
@@ -49,7 +49,7 @@ fn is_declared(env: &Env, own: &Env, name: &Name) -> bool
     own.kind(&name.text).is_some() || env.kind(&name.text).is_some()
 }
 
-/// The first fault after one more declaration, whose name is then declared.
+/// The first fault after one more declaration, whose name is then declared if there is room for it.
 fn declare(
     env: &Env,
     own: &mut Env,
@@ -64,7 +64,8 @@ fn declare(
     }
 }
 
-/// The first fault after the declaration of a name, which is then declared.
+/// The first fault after the declaration of a name, which is then declared if there is room for it. So no more
+/// names of a cell are kept than may be declared.
 fn declare_name(
     env: &Env,
     own: &mut Env,
@@ -75,8 +76,9 @@ fn declare_name(
     ensures names { OnOk result (over (shape_of env.now) own.new ≡ extended (over (shape_of env.now) own.old) (name_of name.now)) }
 {
     let known = is_declared(env, own, name);
-    let next = declaration_fault(known, is_full(env, own), name.span, first);
-    if !known {
+    let full = is_full(env, own);
+    let next = declaration_fault(known, full, name.span, first);
+    if !known && !full {
         own.declare(name.text.clone()?, Kind::Number)?;
     }
     Ok(next)
@@ -104,12 +106,12 @@ fn declaration_fault(
 
 /// Whether no more names may be declared.
 fn is_full(env: &Env, own: &Env) -> bool
-    ensures { result ≡ nat_le name_limit (size (over (shape_of env.now) own.now)) }
+    ensures { result ≡ is_full (over (shape_of env.now) own.now) }
 {
     env.len() + own.len() >= NAME_LIMIT
 }
 
-/// The first fault after the declarations, whose names are then declared.
+/// The first fault after the declarations, whose names are then declared as far as there is room for them.
 fn declare_all(
     env: &Env,
     own: &mut Env,

@@ -64,9 +64,9 @@ fn counts_the_names(rt: HostRuntime) -> Result<(), Fail> {
     assert_eq!(rt; fault_of(alloc, &[], &text)?, None);
     let start = text.len();
     text.push_str("int y")?;
-    assert_eq!(rt;
-        fault_of(alloc, &[], &text)?,
-        Some(CheckFault::TooMany(at(start + 4, start + 5)))
-    );
+    let too_many = Some(CheckFault::TooMany(at(start + 4, start + 5)));
+    assert_eq!(rt; fault_of(alloc, &[], &text)?, too_many);
+    text.push_str(" int y int x0 y += y + z")?;
+    assert_eq!(rt; fault_of(alloc, &[], &text)?, too_many);
     Ok(())
 }

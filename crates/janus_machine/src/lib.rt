@@ -1,9 +1,10 @@
 //! The machine of Janus: one step at a time over flat code.
 //!
 //! To the layer above it promises that its steps are those of the meaning: `slice` takes as many steps as it is asked, or
-//! all that are left to the end of the block, and leaves the place and the store to which that many steps of the meaning lead; a
-//! mirrored cursor goes back through the places that it came by. The meaning of statements is that of Yokoyama and Glück
-//! (2007), "A reversible programming language and its invertible self-interpreter"; `janus_meaning` defines it step by step.
+//! all that are left to the end of the block or to a fault, and leaves the place and the store to which that many steps of
+//! the meaning lead; a mirrored cursor goes back through the places that it came by. The meaning of statements is that of
+//! Yokoyama and Glück (2007), "A reversible programming language and its invertible self-interpreter"; `janus_meaning`
+//! defines it step by step.
 #![tactic(auto)]
 
 mod book;

@@ -8,7 +8,8 @@ use Rattle.janus_syntax.specs.declared.token.Token as code_token
 use Rattle.janus_syntax.specs.declared.lexer.Front.{Front}
 use Rattle.janus_syntax.specs.Tokens.{Token, token_view, views}
 use Rattle.janus_syntax.specs.Lexical.{Item, Gap, IsSpelled, NoLonger, IsFront, IsToken, between, Lexes, none, gap, token, AreTokens, NoItem, IsBadToken, IsTooLarge, A_number, largest_number}
-use Rattle.janus_syntax.specs.Scan.{IsFrontOf, IsFirstChar, IsKindOf, IsLexed, IsOnly}
+use Rattle.janus_syntax.specs.Scan.{IsFrontOf, IsFirstChar, IsKindOf}
+use Rattle.janus_syntax.specs.Text.{IsLexed, IsOnly}
 use Rattle.janus_syntax.specs.declared.fault.SyntaxFault.{SyntaxFault}
 use Rattle.janus_syntax.specs.declared.fault.SyntaxFault.TheVariants as fault
 use Rattle.janus_syntax.proofs.OneLexing.{only_tokens, not_bad, not_large}
@@ -68,12 +69,16 @@ pub lexed_gap : (text : List ℕ) (ts : List Token) (rest part after : List ℕ)
 lexed_gap text ts rest part after start n f k h cut p a s =
     behind text ts ts rest part after start n f k h cut a (one_gap k.lexes (front_is f Gap n rest part after h p a s))
 
+pub lexed_one : (text : List ℕ) (ts : List Token) (t : Token) (rest part after : List ℕ) (start n : ℕ) (f : Front) (i : Item) → IsLexedTo text ts rest start → IsFrontOf f n rest → IsCharBoundary rest n → part ≡ take n rest → after ≡ drop n rest →
+    IsSpelled i part → IsToken i (place start (start + n)) t → IsLexedTo text (ts ++ t ∷ []) after (start + n)
+lexed_one text ts t rest part after start n f i k h cut p a s is =
+    behind text ts (ts ++ t ∷ []) rest part after start n f k h cut a
+    (one_token t k.lexes (front_is f i n rest part after h p a s) (subst (λ at. IsToken i at t) (place_is text rest after n start k.start_is h.in_range a) is))
+
 pub lexed_token : (text : List ℕ) (ts : List code_token.Token) (t : code_token.Token) (rest part after : List ℕ) (start n : ℕ) (f : Front) (i : Item) → IsLexedTo text (views ts) rest start → IsFrontOf f n rest → IsCharBoundary rest n → part ≡ take n rest → after ≡ drop n rest →
     IsSpelled i part → IsToken i (place start (start + n)) (token_view t) → IsLexedTo text (views (ts ++ t ∷ [])) after (start + n)
 lexed_token text ts t rest part after start n f i k h cut p a s is =
-    behind text (views ts) (views (ts ++ t ∷ [])) rest part after start n f k h cut a
-    (subst (λ us. Lexes text text us after) (sym (views_push ts t))
-    (one_token (token_view t) k.lexes (front_is f i n rest part after h p a s) (subst (λ at. IsToken i at (token_view t)) (place_is text rest after n start k.start_is h.in_range a) is)))
+    subst (λ us. IsLexedTo text us after (start + n)) (sym (views_push ts t)) (lexed_one text (views ts) (token_view t) rest part after start n f i k h cut p a s is)
 
 pub bad_token : (text : List ℕ) (ts : List Token) (rest : List ℕ) (start n : ℕ) → IsLexedTo text ts rest start → NoItem rest → IsFirstChar n rest → n ≤ length rest → IsBadToken text (place start (start + n))
 bad_token text ts rest start n k nothing c h =

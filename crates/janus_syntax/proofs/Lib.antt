@@ -11,3 +11,5 @@ pub mod Lexing
 pub mod Places
 pub mod OneRefusal
 pub mod Theorems
+pub mod OneTree
+pub mod EveryText

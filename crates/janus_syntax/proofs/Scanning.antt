@@ -18,7 +18,7 @@ pub decimal_grows : (n : ℕ) (cs : List ℕ) → n ≤ decimal_behind n cs
 decimal_grows n [] = omega arith
 decimal_grows n (c ∷ cs) = omega (arith, decimal_grows (n * 10 + (c - 48)) cs)
 
-abbrev words : List Word
+abbrev pub words : List Word
 words = word.Call ∷ word.Delocal ∷ word.Do ∷ word.Else ∷ word.Empty ∷ word.Fi ∷ word.From ∷ word.If ∷ word.Int ∷ word.Local ∷ word.Loop ∷ word.Main ∷ word.Nil ∷ word.Pop ∷ word.Procedure ∷ word.Push ∷ word.Skip ∷ word.Stack ∷ word.Then ∷ word.Top ∷ word.Uncall ∷ word.Until ∷ []
 
 abbrev word_index : Word → ℕ
@@ -99,7 +99,7 @@ not_reserved text n h none w e =
     let b = ltb-true (word_index w) 22 (word_in_range w) in
     none (word_index w) w (omega (arith, b, h)) (e ∙ ap word_text (sym (word_listed w)))
 
-abbrev signs : List Sign
+abbrev pub signs : List Sign
 signs = sign.PlusEquals ∷ sign.MinusEquals ∷ sign.XorEquals ∷ sign.And ∷ sign.Or ∷ sign.Differs ∷ sign.AtMost ∷ sign.AtLeast ∷ sign.Plus ∷ sign.Minus ∷ sign.Times ∷ sign.Divide ∷ sign.Remainder ∷ sign.Xor ∷ sign.BitAnd ∷ sign.BitOr ∷ sign.Equals ∷ sign.Less ∷ sign.Greater ∷ sign.Open ∷ sign.Close ∷ sign.OpenIndex ∷ sign.CloseIndex ∷ sign.Comma ∷ []
 
 abbrev sign_index : Sign → ℕ

@@ -1,18 +1,17 @@
--- What the lexer's functions say of what they return.
-use Rattle.std.specs.Prelude.{◌≡◌, ℕ, ◌<◌, ◌≤◌, List, ◌++◌, length, Bool, Option, Some, None, Result, Ok, Err, take, drop, encode_utf8, Vec}
+-- What the lexer's inner functions say of what they return.
+use Rattle.std.specs.Prelude.{◌≡◌, ℕ, ◌<◌, ◌≤◌, List, ◌++◌, length, Bool, Option, Some, None, Result, Ok, Err, take, drop, encode_utf8}
 use Rattle.janus_syntax.specs.declared.token.Sign.{Sign}
 use Rattle.janus_syntax.specs.declared.lexer.Class.{Class}
 use Rattle.janus_syntax.specs.declared.lexer.Class.TheVariants as class
 use Rattle.janus_syntax.specs.declared.lexer.Front.{Front}
 use Rattle.janus_syntax.specs.declared.lexer.Front.TheVariants as front
 use Rattle.janus_syntax.specs.declared.token.Span.{Span}
-use Rattle.janus_syntax.specs.declared.token.Token as code_token
 use Rattle.janus_syntax.specs.declared.token.TokenKind.{TokenKind}
 use Rattle.janus_syntax.specs.declared.fault.SyntaxFault.{SyntaxFault}
 use Rattle.janus_syntax.specs.declared.fault.SyntaxFault.TheVariants as fault
-use Rattle.janus_syntax.specs.Tokens.{Token, token_of, views}
+use Rattle.janus_syntax.specs.Tokens.{token_of}
 use Rattle.janus_syntax.specs.Spelling.{sign_text}
-use Rattle.janus_syntax.specs.Lexical.{goes_on_name, goes_on_number, IsNameText, IsNumberText, Item, IsSpelled, Gap, A_number, IsToken, NoLonger, AreTokens, IsBadToken, IsTooLarge, largest_number}
+use Rattle.janus_syntax.specs.Lexical.{goes_on_name, goes_on_number, IsNameText, IsNumberText, Item, IsSpelled, Gap, A_number, IsToken, NoLonger, largest_number}
 
 -- how a run goes on that begins with an octet of the first class
 abbrev pub goes_on : Class → Class → Bool
@@ -50,17 +49,3 @@ IsKindOf text at (Ok (Some kind)) = (i : Item) × IsSpelled i text × IsToken i 
 IsKindOf text at (Err (fault.NumberTooLarge place)) = (number : ℕ) × IsSpelled (A_number number) text × (largest_number < number) × (place ≡ at)
 IsKindOf text at (Err fault.Memory) = Unit {0}
 IsKindOf text at (Err e) = ⊥
-
--- the text's tokens, or why it has none
-abbrev pub IsLexed : {Z : Type 0} → List ℕ → Result (Vec code_token.Token Z) SyntaxFault → Type 0
-IsLexed text (Ok ts) = AreTokens text (views ts.items)
-IsLexed text (Err (fault.BadToken at)) = IsBadToken text at
-IsLexed text (Err (fault.NumberTooLarge at)) = IsTooLarge text at
-IsLexed text (Err fault.Memory) = Unit {0}
-IsLexed text (Err e) = ⊥
-
--- these tokens, unless memory runs out
-abbrev pub IsOnly : {Z : Type 0} → List Token → Result (Vec code_token.Token Z) SyntaxFault → Type 0
-IsOnly ts (Ok found) = views found.items ≡ ts
-IsOnly ts (Err fault.Memory) = Unit {0}
-IsOnly ts (Err e) = ⊥

@@ -18,7 +18,7 @@ pub(crate) fn parse(alloc: Global, tokens: &[Token]) -> Result<Cell, Problem>
     // What is read is the tokens' tree, and a refusal is the one that the grammar has.
     ensures read { Reads (λ cell. IsTree (cell_view cell) (views tokens.now)) (IsRefused (views tokens.now)) result }
 
-    // What has a tree is read as that tree, unless memory runs out. So there is at most one.
+    // What has a tree is read as that tree, unless memory runs out.
     ensures only { (tree : Tree) → IsTree tree (views tokens.now) → Reads (λ cell. cell_view cell ≡ tree) (λ out. ⊥) result }
 {
     cell(alloc, tokens)

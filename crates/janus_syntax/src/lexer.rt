@@ -5,7 +5,8 @@ ghost use Rattle.std.specs.List.{prefix_len};
 ghost use Rattle.std.specs.Str.{IsCharBoundary};
 ghost use Rattle.janus_syntax.specs.Spelling.{word_text, sign_text};
 ghost use Rattle.janus_syntax.specs.Lexical.{class_of, in_line, decimal, NotReserved, NoItem, IsNumberText, AreTokens, largest_number};
-ghost use Rattle.janus_syntax.specs.Scan.{goes_on, IsLongestSign, IsFrontText, IsFrontOf, IsFirstChar, IsKindOf, IsLexed, IsOnly};
+ghost use Rattle.janus_syntax.specs.Scan.{goes_on, IsLongestSign, IsFrontText, IsFrontOf, IsFirstChar, IsKindOf};
+ghost use Rattle.janus_syntax.specs.Text.{IsLexed, IsOnly};
 ghost use Rattle.janus_syntax.specs.Tokens.{Token as AToken};
 
 use crate::fault::SyntaxFault;
@@ -233,7 +234,7 @@ fn token_kind(
 }
 
 /// The tokens of a text, in their order. The first character that begins no token is a bad token, the first number past
-/// the largest is too large; the one that stands first is answered.
+/// the largest is too large; the one that stands first is answered. `Memory` promises nothing.
 pub fn tokens(alloc: Global, text: &str) -> Result<Vec<Token>, SyntaxFault>
     ensures read { IsLexed text.now result }
 

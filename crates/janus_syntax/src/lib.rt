@@ -8,12 +8,15 @@
 //! - `tokens`: the tokens are those of the text, the longest item that fits at each place, and there are no others; else the
 //!   first character that begins no token, or the first number past 2147483647, whichever stands first.
 //! - `parse_cell`: the answer is the one tree that the grammar gives the text; else the refusal that the grammar has for it,
-//!   with its place in octets. `one_refusal_law`: a text has one refusal at most, so none is left to choice.
+//!   with its place in octets.
+//! - `one_tokens_law`, `one_tree_law`, `one_refusal_law`: a text has one list of tokens at most, one tree at most and one
+//!   refusal at most. `tree_or_refusal_law`: it has a tree or a refusal, and not both. So no answer is left to choice.
 //! - `Exp::copy`, `Stm::copy`, `Name::copy`: the same tree at the same places.
 //!
 //! The definitions are in specs/, to be read in this order: `Spelling`, `Lexical` (tokens of a text), `Tree`, `Grammar`
-//! (tokens of a tree, and where no cell goes on), `Text` (both together), `View` (the trees as trees of the meaning).
-//! `Machine`, `Reading` and `Scan` serve the proofs alone.
+//! (tokens of a tree, and where no cell goes on), `Text` (both together), `View` (the trees as trees of the meaning), and
+//! `Fault` (what is shown of a refusal). No contract of a public function names `Machine`, `Reading` or `Scan`: they serve
+//! the proofs.
 //!
 //! A cell here has `int` declarations and assignments, and expressions have numbers, names, `+`, `-` and `^`.
 #![tactic(auto)]
@@ -32,4 +35,4 @@ pub mod tree;
 
 pub use fault::SyntaxFault;
 pub use lexer::tokens;
-pub use parser::{one_refusal_law, parse_cell};
+pub use parser::{one_refusal_law, one_tokens_law, one_tree_law, parse_cell, tree_or_refusal_law};

@@ -3,7 +3,7 @@
 ghost use Rattle.std.specs.Prelude.{◌≡◌, ◌≤◌, ◌-◌, length, drop};
 ghost use Rattle.janus_syntax.specs.Tree.{Cell as Tree};
 ghost use Rattle.janus_syntax.specs.Tokens.{views};
-ghost use Rattle.janus_syntax.specs.Text.{place_before, HasTree, IsParsed, IsOnlyTree, OneRefusal};
+ghost use Rattle.janus_syntax.specs.Text.{place_before, HasTree, IsParsed, IsOnlyTree, OneRefusal, OneTokens, OneTree, TreeOrRefusal, NotBoth};
 
 use crate::cell::parse;
 use crate::fault::SyntaxFault;
@@ -23,7 +23,7 @@ pub fn parse_cell(alloc: Global, text: &str) -> Result<Cell, SyntaxFault>
     // What is read is the text's tree, and a refusal is the one that the text has.
     ensures read { IsParsed text.now result }
 
-    // What has a tree is read as that tree, unless memory runs out. So a text has at most one.
+    // What has a tree is read as that tree, unless memory runs out.
     ensures only { (tree : Tree) → HasTree text.now tree → IsOnlyTree tree result }
 {
     let tokens = tokens(alloc, text)?;
@@ -56,4 +56,21 @@ fn place(tokens: &[Token], left: usize, end: usize) -> Span
 /// A law about the definitions of `specs/`: a text has one refusal at most. It does nothing.
 pub fn one_refusal_law()
     ensures { OneRefusal }
+{}
+
+/// A law about the definitions of `specs/`: a text has one list of tokens at most. It does nothing.
+pub fn one_tokens_law()
+    ensures { OneTokens }
+{}
+
+/// A law about the definitions of `specs/`: a text has one tree at most. It does nothing.
+pub fn one_tree_law()
+    ensures { OneTree }
+{}
+
+/// A law about the definitions of `specs/`: a text of characters has a tree or a refusal, and not
+/// both. It does nothing.
+pub fn tree_or_refusal_law()
+    ensures one { TreeOrRefusal }
+    ensures not_both { NotBoth }
 {}

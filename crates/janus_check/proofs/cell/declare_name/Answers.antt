@@ -1,4 +1,4 @@
-use Rattle.std.proofs.Common.{◌∷◌, ◌++◌, [], sym, ap, ◌∙◌, if◌then◌else◌}
+use Rattle.std.proofs.Common.{◌||◌, ◌∷◌, ◌++◌, [], sym, ap, ◌∙◌, if◌then◌else◌}
 use Rattle.janus_meaning.specs.Syntax.{ANumber}
 use Rattle.janus_meaning.specs.Formed.{Known, kind_at}
 use Rattle.janus_syntax.specs.View.{name_of}
@@ -18,4 +18,5 @@ returns-in_ok-declare-clause-names c =
     let x = name_of c.args.name.now in
     ap (over (shape_of c.args.env.now)) (c.in_ok-declare.ensures.ok ∙ ap (λ t. c.args.own.now ++ (t, Number) ∷ []) c.in_ok-clone.ensures.cases)
     ∙ over-append (shape_of c.args.env.now) c.args.own.now ((x, Number) ∷ [])
-    ∙ ap (λ b. if b then g else Known x ANumber g) (sym c.if-not-known.true ∙ c.is_declared-known.ensures)
+    ∙ ap (λ b. if b then g else Known x ANumber g)
+    ((λ i. sym c.if-not-known.true i || sym c.if-not-full.true i) ∙ (λ i. c.is_declared-known.ensures i || c.is_full-full.ensures i))
