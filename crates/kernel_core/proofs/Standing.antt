@@ -255,15 +255,13 @@ node_here tree node g some read =
     let low : tree.position < length (nodes_of tree) = g.position in
     (some, omega arith, read)
 
-pub node_below : (tree : Tree) (node : Node) (i : ℕ) → IsLegal (past_of tree) → 0 < favourite_of (past_of tree) tree.position → i ≡ get_or tree.favourites.items tree.position i → node ≡ get_or tree.nodes.items (i - 1) node →
+pub node_below : (tree : Tree) (node : Node) (i : ℕ) → IsLegal (past_of tree) → 0 < favourite_of (past_of tree) tree.position → i ≡ favourite_of (past_of tree) tree.position → node ≡ get_or tree.nodes.items (i - 1) node →
     IsNodeAt tree (favourite_of (past_of tree) tree.position) node
 node_below tree node i g some e read =
     let size = count_of_nodes tree in
     let child = child_here (past_of tree) g some in
     let known : favourite_of (past_of tree) tree.position < length (nodes_of tree) = child.known in
-    let at : tree.position < length tree.favourites.items = rw g.favourites g.position in
-    let same : i ≡ favourite_of (past_of tree) tree.position = get_or_read tree.favourites.items tree.position i at e 0 in
-    (some, omega arith, rw same at read)
+    (some, omega arith, rw e at read)
 
 -- at the end of an undo, its names are the newest
 pub up_names : (tree : Tree) (travel : Travel) (n : ℕ) (v : World) (node : Node) → travel.way ≡ Up → IsLegal (past_of tree) → IsPossible (nodes_of tree) tree.favourites.items tree.position travel → HasEnded (past_of tree) (state.Move travel) n v →
@@ -298,7 +296,7 @@ node_of_up tree work travel node legal possible e way read =
     node_here tree node legal (up_work (past_of tree) (work_of work) travel (ap work_of e) way possible) read
 
 pub node_of_down : (tree : Tree) (work : Work) (travel : Travel) (node : Node) (i : ℕ) → IsLegal (past_of tree) → IsPossibleWork (past_of tree) (work_of work) → work ≡ Move travel → travel.way ≡ Down →
-    i ≡ get_or tree.favourites.items tree.position i → node ≡ get_or tree.nodes.items (i - 1) node → IsNodeAt tree (favourite_of (past_of tree) tree.position) node
+    i ≡ favourite_of (past_of tree) tree.position → node ≡ get_or tree.nodes.items (i - 1) node → IsNodeAt tree (favourite_of (past_of tree) tree.position) node
 node_of_down tree work travel node i legal possible e way at read =
     node_below tree node i legal (down_work (past_of tree) (work_of work) travel (ap work_of e) way possible) at read
 
@@ -337,7 +335,7 @@ pub here_sound : (tree : Tree) (runner : Runner) → IsLegal (past_of tree) → 
 here_sound tree runner legal shown = subst (λ (w : World). IsSound w) (sym shown) (legal.sound tree.position legal.position)
 
 pub next_down : (tree : Tree) (travel : Travel) (node : Node) (i : ℕ) → travel.way ≡ Down → IsLegal (past_of tree) → IsPossible (nodes_of tree) tree.favourites.items tree.position travel →
-    i ≡ get_or tree.favourites.items tree.position i → node ≡ get_or tree.nodes.items (i - 1) node → IsNodeAt tree (favourite_of (past_of tree) tree.position) node
+    i ≡ favourite_of (past_of tree) tree.position → node ≡ get_or tree.nodes.items (i - 1) node → IsNodeAt tree (favourite_of (past_of tree) tree.position) node
 next_down tree travel node i way legal possible at read =
     node_below tree node i legal (down_possible (nodes_of tree) tree.favourites.items tree.position travel way possible).0 at read
 

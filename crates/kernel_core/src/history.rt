@@ -13,7 +13,7 @@ use crate::outcome::{Begun, End, Outcome, Refusal, Sliced};
 use crate::program::Program;
 use crate::runner::Runner;
 use crate::settle::{finished, go_back, go_on, turn_back};
-use crate::tree::{Tree, can_go};
+use crate::tree::{Tree, can_go, favourite_of};
 use crate::view::View;
 use std::alloc::{AllocError, Global};
 use std::marker::Model;
@@ -68,7 +68,7 @@ fn enter_next(tree: &Tree, runner: &mut Runner, travel: Travel) -> Result<(), Al
             runner.enter_inverse(&tree.nodes[tree.position - 1].program);
             Ok(())
         }
-        Way::Down => runner.enter(&tree.nodes[tree.favourites[tree.position] - 1].program),
+        Way::Down => runner.enter(&tree.nodes[favourite_of(tree) - 1].program),
     }
 }
 

@@ -1,8 +1,8 @@
 //! The kernel: its history, and the queue of posted jobs.
-ghost use Rattle.std.specs.Prelude.{◌≡◌, IfOk};
+ghost use Rattle.std.specs.Prelude.{◌≡◌, ◌<◌, IfOk, IfErr, length};
 ghost use Rattle.kernel_core.specs.State.{Idle, Shown, here};
 ghost use Rattle.kernel_core.specs.Legal.{IsLegal, IsPossibleAt};
-ghost use Rattle.kernel_core.specs.Runs.{Machine, new_machine, request_of, IsPost, IsBegin, IsSliceOf, Takes};
+ghost use Rattle.kernel_core.specs.Runs.{Machine, new_machine, request_of, queue_limit, IsPost, IsBegin, IsSliceOf, Takes};
 
 use crate::history::History;
 use crate::job::{Phase, Way};
@@ -130,7 +130,9 @@ impl Kernel {
     /// It is refused as `QueueFull` where [`QUEUE_LIMIT`] jobs wait, else as `Memory` where there is none for the queue. A
     /// refused post changes nothing.
     pub fn post(&mut self, _lane: u32, job: Job) -> Result<u64, PostFault>
-        ensures { IsPost self.old (request_of job) result self.new }
+        ensures post { IsPost self.old (request_of job) result self.new }
+        // A full queue is told as such.
+        ensures room { IfErr result (λ fault. fault ≡ PostFault.Memory → length self.old.queue < queue_limit) }
     {
         if self.queue.len() >= QUEUE_LIMIT {
             return Err(PostFault::QueueFull);

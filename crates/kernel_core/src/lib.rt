@@ -1,7 +1,7 @@
 //! The core of a Janus kernel whose undo is exact: the history tree of cells, the one store, the open job and the queue.
 //!
 //! A kernel keeps the code of each cell both ways, and no earlier store. It goes back by running inverted code, in as many
-//! steps as the cell took; nothing is run again from the root.
+//! steps as the cell took.
 //!
 //! What the layer above may rely on:
 //! - `Kernel::post`, `begin`, `slice`: each call is a step of the kernel machine, which is defined by cases over a tree with the

@@ -12,7 +12,7 @@ use crate::job::{Entered, Open, Travel, Turn, Way, Why, Work};
 use crate::outcome::{End, Outcome, Sliced};
 use crate::program::Program;
 use crate::runner::{Ran, Runner};
-use crate::tree::{Node, Tree};
+use crate::tree::{Node, Tree, favourite_of};
 
 /// The program that the work runs: forward, or for an undo backward.
 fn program_of<'a>(tree: &'a Tree, work: &'a Work) -> &'a Program
@@ -24,7 +24,7 @@ fn program_of<'a>(tree: &'a Tree, work: &'a Work) -> &'a Program
         Work::Cell(program) => program,
         Work::Move(travel) => match travel.way {
             Way::Up => &tree.nodes[tree.position - 1].program,
-            Way::Down => &tree.nodes[tree.favourites[tree.position] - 1].program,
+            Way::Down => &tree.nodes[favourite_of(tree) - 1].program,
         },
     }
 }
@@ -61,7 +61,7 @@ fn settle_back(tree: &Tree, runner: &mut Runner, work: &Work)
         Work::Cell(program) => runner.leave(program),
         Work::Move(travel) => match travel.way {
             Way::Up => {}
-            Way::Down => runner.leave(&tree.nodes[tree.favourites[tree.position] - 1].program),
+            Way::Down => runner.leave(&tree.nodes[favourite_of(tree) - 1].program),
         },
     }
 }
@@ -178,7 +178,7 @@ fn settle_down(tree: &mut Tree, runner: &Runner, travel: Travel, n: u64) -> (Ope
     ensures step { Settles (past_of tree.old) (work_of (Work.Move travel)) n (world_of runner.now) result.1 (state_of tree.new result.0) }
     ensures kept { Kept tree.new runner.now result.0 }
 {
-    tree.position = tree.favourites[tree.position];
+    tree.position = favourite_of(tree);
     arrive(travel)
 }
 

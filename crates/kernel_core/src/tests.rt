@@ -185,7 +185,7 @@ fn runs_a_schedule(rt: HostRuntime) -> Result<(), Fail> {
     events.push(Event::Slice(9, false))?;
     events.push(Event::Post(2, Job::Redo(1)))?;
     events.push(Event::Begin)?;
-    let told = run_events(&mut kernel, rt.alloc(), &events)?;
+    let told = run_events(rt.alloc(), &mut kernel, &events)?;
     let want = [
         Told::Post(Ok(1)),
         Told::Begin(Begun::Going),

@@ -1,6 +1,6 @@
 //! The tree of cells that ended well.
 ghost use Rattle.std.specs.Prelude.{◌≡◌, ℕ, ◌∷◌, ◌≤◌, ◌<◌, length, map, get_or};
-ghost use Rattle.kernel_core.specs.State.{root};
+ghost use Rattle.kernel_core.specs.State.{root, favourite_of};
 ghost use Rattle.kernel_core.specs.Fields.{node_of, past_of, nodes_of};
 ghost use Rattle.kernel_core.specs.Legal.{IsLegal, can_undo, can_redo, can_go};
 
@@ -55,6 +55,14 @@ fn can_redo(favourites: &[usize], from: usize, k: u32) -> bool
         }
     }
     true
+}
+
+/// The child of the position to which a redo goes, or 0.
+pub fn favourite_of(tree: &Tree) -> usize
+    requires { IsLegal (past_of tree.now) }
+    ensures { result ≡ favourite_of (past_of tree.now) tree.now.position }
+{
+    tree.favourites[tree.position]
 }
 
 /// Whether the position can go `k` nodes this way.

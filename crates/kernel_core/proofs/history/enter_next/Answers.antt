@@ -3,8 +3,8 @@ use Rattle.kernel_core.proofs.history.enter_next.Goals as goal
 
 pub enter-requires-clause-formed : goal.enter-requires-clause-formed
 enter-requires-clause-formed c =
-    formed_next c.args.tree.now c.args.travel c.index-in-Down-2.result.now c.args.runner.now c.in-Down.is c.requires.legal c.requires.possible c.requires.shown
-    (next_down c.args.tree.now c.args.travel c.index-in-Down-2.result.now c.index-in-Down.result.now c.in-Down.is c.requires.legal c.requires.possible c.index-in-Down.ensures c.index-in-Down-2.ensures)
+    formed_next c.args.tree.now c.args.travel c.index-in-Down.result.now c.args.runner.now c.in-Down.is c.requires.legal c.requires.possible c.requires.shown
+    (next_down c.args.tree.now c.args.travel c.index-in-Down.result.now c.favourite_of.result c.in-Down.is c.requires.legal c.requires.possible c.favourite_of.ensures c.index-in-Down.ensures)
 
 pub enter-requires-clause-sound : goal.enter-requires-clause-sound
 enter-requires-clause-sound c = here_sound c.args.tree.now c.args.runner.now c.requires.legal c.requires.shown
@@ -22,12 +22,12 @@ returns-in-Up-clause-ok c =
 pub returns-in-Down-clause-ok : goal.returns-in-Down-clause-ok
 returns-in-Down-clause-ok c =
     ok_map c.enter.result
-    (stands_next_down c.args.tree.now c.args.travel c.index-in-Down-2.result.now c.args.runner.now c.enter.new.self c.in-Down.is c.requires.shown
-    (next_down c.args.tree.now c.args.travel c.index-in-Down-2.result.now c.index-in-Down.result.now c.in-Down.is c.requires.legal c.requires.possible c.index-in-Down.ensures c.index-in-Down-2.ensures))
+    (stands_next_down c.args.tree.now c.args.travel c.index-in-Down.result.now c.args.runner.now c.enter.new.self c.in-Down.is c.requires.shown
+    (next_down c.args.tree.now c.args.travel c.index-in-Down.result.now c.favourite_of.result c.in-Down.is c.requires.legal c.requires.possible c.favourite_of.ensures c.index-in-Down.ensures))
     c.enter.ensures.ok
 
 pub returns-in-Down-clause-declares : goal.returns-in-Down-clause-declares
 returns-in-Down-clause-declares c =
-    declares_next _ _ c.args.tree.now c.args.travel c.index-in-Down-2.result.now c.enter.result c.in-Down.is
-    (next_down c.args.tree.now c.args.travel c.index-in-Down-2.result.now c.index-in-Down.result.now c.in-Down.is c.requires.legal c.requires.possible c.index-in-Down.ensures c.index-in-Down-2.ensures)
+    declares_next _ _ c.args.tree.now c.args.travel c.index-in-Down.result.now c.enter.result c.in-Down.is
+    (next_down c.args.tree.now c.args.travel c.index-in-Down.result.now c.favourite_of.result c.in-Down.is c.requires.legal c.requires.possible c.favourite_of.ensures c.index-in-Down.ensures)
     c.enter.ensures.none

@@ -8,5 +8,5 @@ returns-in-Up c =
 
 pub returns-in-Down : goal.returns-in-Down
 returns-in-Down c =
-    program_down c.args.tree.now c.args.work.now c.in-Move.travel c.index-in-Down-2.result.now c.in-Move.is c.in-Down.is
-    (node_of_down c.args.tree.now c.args.work.now c.in-Move.travel c.index-in-Down-2.result.now c.index-in-Down.result.now c.requires.legal c.requires.possible c.in-Move.is c.in-Down.is c.index-in-Down.ensures c.index-in-Down-2.ensures)
+    program_down c.args.tree.now c.args.work.now c.in-Move.travel c.index-in-Down.result.now c.in-Move.is c.in-Down.is
+    (node_of_down c.args.tree.now c.args.work.now c.in-Move.travel c.index-in-Down.result.now c.favourite_of.result c.requires.legal c.requires.possible c.in-Move.is c.in-Down.is c.favourite_of.ensures c.index-in-Down.ensures)
