@@ -9,7 +9,7 @@ ghost use Rattle.janus_cells.specs.Gathering.{IsGathered};
 ghost use Rattle.janus_cells.specs.Lines.{ended_line, is_blank as is_blank_text, is_command_line as is_command_line_text, lines};
 ghost use Rattle.janus_cells.specs.Loop.{CommandServes, Does, LineServes, LinesServe, RunsRest, text_after};
 ghost use Rattle.janus_cells.specs.Output.{SentSome};
-ghost use Rattle.janus_cells.specs.RunFault.{IsWhyUnread, TakesAtMost, input_limit};
+ghost use Rattle.janus_cells.specs.RunFault.{IsServed, IsWhyUnread, TakesAtMost, input_limit};
 ghost use Rattle.janus_cells.specs.Script.{script};
 ghost use Rattle.janus_cells.specs.Served.{Came, Serves};
 ghost use Rattle.janus_cells.specs.Shown.{world_text};
@@ -44,7 +44,8 @@ struct Gathered {
 pub fn run<R: Read, W: Write>(alloc: Global, reader: &mut R, writer: &mut W) -> Result<(), RunFault>
     ensures written { OnOk result (IfSome (R.remaining reader.old) (λ input.
         (out : List ℕ) × IsTranscript input out × Appends (W.contents writer.old) (W.contents writer.new) out)) }
-    ensures limit { OnOk result (IfSome (R.remaining reader.old) (λ input. length input ≤ input_limit)) }
+    ensures served { MatchResult result (λ _. IfSome (R.remaining reader.old) IsServed)
+        (λ fault. fault ≡ RunFault.Write → IfSome (R.remaining reader.old) IsServed) }
     ensures cut { IfErr result (λ fault. fault ≡ RunFault.Write → IfSome (R.remaining reader.old) (λ input.
         (out : List ℕ) × IsTranscript input out × SentSome (W.contents writer.old) (W.contents writer.new) out)) }
     ensures unread { IfErr result (λ fault. fault ≢ RunFault.Write → IfSome (R.remaining reader.old) (IsWhyUnread fault)) }
