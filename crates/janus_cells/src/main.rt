@@ -1,9 +1,10 @@
 //! `janus-cells`: Janus cells with undo, redo and show over a stream of lines.
 //!
 //! It reads all standard input, at most 16 MiB, and then runs it line by line. Lines that begin with `%` are commands; all
-//! others gather to the text of a cell. What it promises is said of `run`, over any reader and writer; `serve` brings one
-//! request of a kernel to its end; `laws` says that an input has one transcript where memory is ample. The language is Janus
-//! (Yokoyama and Glück 2007).
+//! others gather to the text of a cell. What it promises is said of `run`, over any reader and writer; its clauses speak of
+//! those whose octets are known, as over memory, and std's `Stdin` and `Stdout` tell none. `serve` brings one request of a
+//! kernel to its end; `laws` says that an input has at most one transcript that nowhere tells want of memory; `fault` and
+//! `words` say with which status and line the program ends. The language is Janus (Yokoyama and Glück 2007).
 #![tactic(auto)]
 
 mod command;
