@@ -37,10 +37,10 @@ struct Gathered {
 /// Reads all of the input, at most 16 MiB, and then runs it line by line: lines that begin with `%` are commands, all
 /// others gather to the text of a cell. What a command answers is written before the next one is run.
 ///
-/// What is written is the transcript of what is read, which is at most 16 MiB of UTF-8. Faults are looked for in this order: no memory for the start; a read
-/// that fails, input that is too long, no memory for the input; input that isn't text. Up to there nothing is written. No more
-/// is read than 16 MiB and one octet, and that one only to tell that the input is too long. A write that fails ends the run,
-/// and what was written is a beginning of the transcript.
+/// What is written is the transcript of what is read, which is at most 16 MiB of UTF-8. Faults are looked for in this order:
+/// no memory for the start; a read that fails, input that is too long, no memory for the input; input that isn't text. Up to
+/// there nothing is written. No more is read than 16 MiB and one octet, and that one only to tell that the input is too long.
+/// A write that fails ends the run, and what was written is a beginning of the transcript.
 ///
 /// The clauses speak of a reader and a writer whose octets are known, as those over memory; of others, as std's `Stdin` and
 /// `Stdout`, which tell none, they say nothing.
