@@ -251,6 +251,7 @@ fn takes_words(rt: HostRuntime) -> Result<(), Fail> {
     let alloc = rt.alloc();
     assert_eq!(rt; refused(alloc, &["janus-cells"]), None);
     assert_eq!(rt; refused(alloc, &[]), None);
+    assert_eq!(rt; refused(alloc, &["janus-cells", "--"]), None);
     assert_eq!(rt;
         refused(alloc, &["janus-cells", "--help"]),
         Some((0, false))

@@ -1,5 +1,6 @@
 //! The words of the command line.
-ghost use Rattle.std.specs.Prelude.{◌≡◌, ◌≢◌};
+ghost use Rattle.std.specs.Prelude.{◌≡◌, ◌≢◌, ◌≤◌, length, IfErr};
+ghost use Rattle.clap.specs.Values.{kind_of};
 ghost use Rattle.janus_cells.specs.Ending.{words_status as words_status_of};
 
 use clap::error::ErrorKind;
@@ -9,7 +10,9 @@ use std::convert::AsStr;
 use std::io::ErrorKind as ReadErrorKind;
 
 /// Takes the words of a command line: the program's name, and behind it none. `--help` and `-h` are refused with the help.
-pub fn take_words<'a, S: AsStr>(alloc: Global, words: &'a [S]) -> Result<(), Error> {
+pub fn take_words<'a, S: AsStr>(alloc: Global, words: &'a [S]) -> Result<(), Error>
+    ensures { IfErr result (λ error. length words.now ≤ 1 → kind_of error ≡ ErrorKind.OutOfMemory) }
+{
     let command = Command::new(alloc, "janus-cells").about(
         "Runs Janus cells with undo, redo and show, line by line, from standard input.",
     );
