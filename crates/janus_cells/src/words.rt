@@ -9,7 +9,8 @@ use std::alloc::Global;
 use std::convert::AsStr;
 use std::io::ErrorKind as ReadErrorKind;
 
-/// Takes the words of a command line: the program's name, and behind it none. `--help` and `-h` are refused with the help.
+/// Takes the words of a command line: the program's name, and behind it none, or `--` alone. `--help` and `-h` are refused
+/// with the help.
 pub fn take_words<'a, S: AsStr>(alloc: Global, words: &'a [S]) -> Result<(), Error>
     ensures { IfErr result (λ error. length words.now ≤ 1 → kind_of error ≡ ErrorKind.OutOfMemory) }
 {
