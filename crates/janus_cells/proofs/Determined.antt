@@ -1,5 +1,5 @@
 -- Where memory is ample, each request is served in one way, and so is a list of actions.
-use Rattle.std.proofs.Common.{◌≡◌, ◌∙◌, ℕ, List, [], ◌∷◌, ◌++◌, ◌⊎◌, inl, inr, refl, sym, ap, subst, append_assoc, Result, Ok, Err, false, arith, ◌<◌, ◌≤◌}
+use Rattle.std.proofs.Common.{◌≡◌, ◌∙◌, ℕ, List, [], ◌∷◌, ◌++◌, inl, inr, refl, sym, ap, subst, append_assoc, Result, Ok, Err, false, arith}
 use Rattle.std.specs.Prelude.{codes}
 use Rattle.std.specs.Fmt.{digits}
 use Rattle.janus_meaning.specs.Limit.{step_limit}
@@ -8,8 +8,6 @@ use Rattle.kernel_core.specs.Determined.{StepIsDetermined}
 use Rattle.kernel_core.specs.Legal.{IsLegalState}
 use Rattle.kernel_core.specs.Theorems.{StaysLegal}
 use Rattle.kernel_core.specs.Runs.{Machine, Request, IsPost, IsBegin, IsSliceOf}
-use Rattle.kernel_core.specs.Runs as request
-use Rattle.kernel_core.specs.declared.events.Event.{Event}
 use Rattle.kernel_core.specs.declared.events.Event.TheVariants as event
 use Rattle.kernel_core.specs.declared.events.Told.{Told}
 use Rattle.kernel_core.specs.declared.events.Told.TheVariants as told

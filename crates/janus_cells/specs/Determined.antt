@@ -1,4 +1,4 @@
--- Where memory is ample, an input has one transcript.
+-- An input has at most one transcript that nowhere tells want of memory.
 use Rattle.std.specs.Prelude.{◌≡◌, ℕ, ◌⊎◌, List, ◌++◌, codes}
 use Rattle.janus_cells.specs.Transcript.{IsTranscript}
 

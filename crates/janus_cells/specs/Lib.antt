@@ -2,6 +2,7 @@ pub mod Lines
 pub mod Command
 pub mod Output
 pub mod RunFault
+pub mod Ending
 pub mod Served
 pub mod Shown
 pub mod Script

@@ -20,6 +20,10 @@ input_limit = 16777216
 abbrev pub TakesAtMost : ℕ → Option (List ℕ) → Option (List ℕ) → Type 0
 TakesAtMost n old new = (octets : List ℕ) × Consumes old new octets × (length octets ≤ n)
 
+-- an input that is served: within the limit, and UTF-8
+abbrev pub IsServed : List ℕ → Type 0
+IsServed input = (length input ≤ input_limit) × IsUtf8 input
+
 -- what an input is that could not be read for this reason
 abbrev pub IsWhyUnread : RunFault → List ℕ → Type 0
 IsWhyUnread Read input = ⊤

@@ -1,6 +1,6 @@
 //! Why a run ends before its input is served.
 ghost use Rattle.std.specs.Prelude.{◌≡◌};
-ghost use Rattle.janus_cells.specs.RunFault.{text_of};
+ghost use Rattle.janus_cells.specs.Ending.{fault_line, run_status};
 
 use thiserror::Error;
 
@@ -25,16 +25,26 @@ pub enum RunFault {
 }
 
 impl RunFault {
-    /// The line under which the fault is told, without its LF.
-    pub fn text(self) -> &'static str
-        ensures { result.now ≡ text_of self }
+    /// The line that tells the fault on standard error.
+    pub fn line(self) -> &'static str
+        ensures { result.now ≡ fault_line self }
     {
         match self {
-            RunFault::Read => "cannot read",
-            RunFault::TooLong => "input too long",
-            RunFault::NotText => "input is not text",
-            RunFault::Memory => "no memory",
-            RunFault::Write => "cannot write",
+            RunFault::Read => "janus-cells: cannot read\n",
+            RunFault::TooLong => "janus-cells: input too long\n",
+            RunFault::NotText => "janus-cells: input is not text\n",
+            RunFault::Memory => "janus-cells: no memory\n",
+            RunFault::Write => "janus-cells: cannot write\n",
         }
+    }
+}
+
+/// The exit status of a run: 0 where its input was served, 1 where a fault ended it.
+pub fn status(ended: Result<(), RunFault>) -> u8
+    ensures { result ≡ run_status ended }
+{
+    match ended {
+        Ok(()) => 0,
+        Err(_) => 1,
     }
 }

@@ -1,7 +1,7 @@
 //! What is read: all that a reader gives, to its end.
-ghost use Rattle.std.specs.Prelude.{◌≡◌, ◌≢◌, ◌+◌, ◌≤◌, length, IfSome, IfOk, IfErr, MatchResult};
+ghost use Rattle.std.specs.Prelude.{◌≡◌, ◌≢◌, ◌+◌, ◌≤◌, length, IfSome, IfOk, IfErr, MatchResult, OnOk};
 ghost use Rattle.std.specs.String.{string_bytes};
-ghost use Rattle.janus_cells.specs.RunFault.{IsWhyUnread, TakesAtMost, input_limit};
+ghost use Rattle.janus_cells.specs.RunFault.{IsServed, IsWhyUnread, TakesAtMost, input_limit};
 
 use crate::fault::RunFault;
 use std::alloc::Global;
@@ -14,7 +14,7 @@ const INPUT_LIMIT: usize = 16_777_216;
 /// and that one only to tell that the input is too long.
 pub fn read_text<R: Read>(alloc: Global, reader: &mut R) -> Result<String, RunFault>
     ensures ok { IfOk result (λ text. IfSome (R.remaining reader.old) (λ xs. string_bytes text ≡ xs)) }
-    ensures limit { IfOk result (λ text. length (string_bytes text) ≤ input_limit) }
+    ensures served { OnOk result (IfSome (R.remaining reader.old) IsServed) }
     ensures err { IfErr result (λ fault. IfSome (R.remaining reader.old) (IsWhyUnread fault)) }
     ensures taken { TakesAtMost (input_limit + 1) (R.remaining reader.old) (R.remaining reader.new) }
     ensures within { MatchResult result (λ _. TakesAtMost input_limit (R.remaining reader.old) (R.remaining reader.new))

@@ -3,7 +3,7 @@ ghost use Rattle.janus_cells.specs.Determined.{TranscriptIsDetermined};
 
 use kernel_core::laws::{new_is_legal_law, stays_legal_law, step_is_determined_law};
 
-/// Two transcripts of one input, neither of which tells want of memory, are the same.
+/// An input has at most one transcript that nowhere tells want of memory: two such are the same.
 pub fn transcript_is_determined_law()
     ensures { TranscriptIsDetermined }
 {

@@ -1,9 +1,10 @@
 //! `janus-cells`: Janus cells with undo, redo and show over a stream of lines.
 //!
 //! It reads all standard input, at most 16 MiB, and then runs it line by line. Lines that begin with `%` are commands; all
-//! others gather to the text of a cell. What it promises is said of `run`, over any reader and writer; `serve` brings one
-//! request of a kernel to its end; `laws` says that an input has one transcript where memory is ample. The language is Janus
-//! (Yokoyama and Glück 2007).
+//! others gather to the text of a cell. What it promises is said of `run`, over any reader and writer; its clauses speak of
+//! those whose octets are known, as over memory, and std's `Stdin` and `Stdout` tell none. `serve` brings one request of a
+//! kernel to its end; `laws` says that an input has at most one transcript that nowhere tells want of memory; `fault` and
+//! `words` say with which status and line the program ends. The language is Janus (Yokoyama and Glück 2007).
 #![tactic(auto)]
 
 mod command;
@@ -16,10 +17,12 @@ mod serve;
 #[cfg(test)]
 mod tests;
 mod text;
+mod words;
 
-use crate::fault::RunFault;
+use crate::fault::{RunFault, status};
+use crate::output::{WriteFailed, send_run_fault};
 use crate::run::run;
-use clap::Command;
+use crate::words::{take_words, unread_words_status, words_status};
 use clap::error::ErrorKind;
 use std::env;
 use std::io::{self, BufWriter};
@@ -30,60 +33,56 @@ fn main(rt: HostRuntime) -> anyhow::Result<ExitCode> {
         return Ok(status);
     }
     let alloc = rt.alloc();
-    let result = match BufWriter::new(alloc, rt.stdout()) {
+    let ended = match BufWriter::new(alloc, rt.stdout()) {
         Ok(mut writer) => run(alloc, &mut rt.stdin(), &mut writer),
         Err(_) => Err(RunFault::Memory),
     };
-    match result {
-        Ok(()) => Ok(ExitCode::SUCCESS),
-        Err(fault) => Ok(tell(&rt, fault)?),
+    if let Err(fault) = ended {
+        tell(&rt, fault)?;
     }
+    Ok(ExitCode::from(status(ended)))
 }
 
-/// Reads the command line, which has no word but `--help`. Where nothing is to be run it answers the program's status: 0 for
-/// `--help`, 2 for a wrong command line, 1 where there is no memory for it or the help can't be written.
-fn read_command_line(rt: &HostRuntime) -> io::Result<Option<ExitCode>> {
+/// Reads the command line, which has no word but `--help`. Where nothing is to be run it answers the program's status.
+fn read_command_line(rt: &HostRuntime) -> anyhow::Result<Option<ExitCode>> {
     let alloc = rt.alloc();
     let words = match env::args(rt) {
         Ok(words) => words,
-        Err(error) => return refuse_words(rt, error.kind()),
+        Err(error) => return refuse_unread_words(rt, error.kind()),
     };
     let Ok(words) = words.collect::<Vec<String>>(alloc) else {
-        return Ok(Some(tell(rt, RunFault::Memory)?));
+        return refuse_unread_words(rt, io::ErrorKind::OutOfMemory);
     };
-    let command = Command::new(alloc, "janus-cells").about(
-        "Runs Janus cells with undo, redo and show, line by line, from standard input.",
-    );
-    match command.try_get_matches_from(words.as_slice()) {
-        Ok(_) => {}
-        Err(error) => return refuse_command_line(rt, &error),
+    match take_words(alloc, words.as_slice()) {
+        Ok(()) => Ok(None),
+        Err(error) => refuse_words(rt, &error),
     }
-    Ok(None)
 }
 
 /// Tells why the words of the command line could not be had, and answers the program's status.
-fn refuse_words(rt: &HostRuntime, kind: io::ErrorKind) -> io::Result<Option<ExitCode>> {
+fn refuse_unread_words(rt: &HostRuntime, kind: io::ErrorKind) -> anyhow::Result<Option<ExitCode>> {
     if kind == io::ErrorKind::OutOfMemory {
-        return Ok(Some(tell(rt, RunFault::Memory)?));
+        tell(rt, RunFault::Memory)?;
+    } else {
+        eprintln!(rt; "error: invalid UTF-8 was detected in one or more arguments")?;
     }
-    eprintln!(rt; "error: invalid UTF-8 was detected in one or more arguments")?;
-    Ok(Some(ExitCode::from(2)))
+    Ok(Some(ExitCode::from(unread_words_status(kind))))
 }
 
-/// Tells why the command line runs nothing, and answers the program's status. A help text that can't be written is a fault.
-fn refuse_command_line(rt: &HostRuntime, error: &clap::Error) -> io::Result<Option<ExitCode>> {
-    if matches!(error.kind(), ErrorKind::OutOfMemory) {
-        return Ok(Some(tell(rt, RunFault::Memory)?));
+/// Tells why the words of the command line run nothing, and answers the program's status. A help text that can't be written
+/// is a fault.
+fn refuse_words(rt: &HostRuntime, error: &clap::Error) -> anyhow::Result<Option<ExitCode>> {
+    let kind = error.kind();
+    if kind == ErrorKind::OutOfMemory {
+        tell(rt, RunFault::Memory)?;
+    } else if error.print(rt).is_err() && !error.use_stderr() {
+        tell(rt, RunFault::Write)?;
+        return Ok(Some(ExitCode::from(status(Err(RunFault::Write)))));
     }
-    let status = error.exit_code();
-    if error.print(rt).is_err() && status == 0 {
-        return Ok(Some(tell(rt, RunFault::Write)?));
-    }
-    Ok(Some(ExitCode::from(status as u8)))
+    Ok(Some(ExitCode::from(words_status(kind))))
 }
 
-/// Tells a fault on standard error, and answers its status.
-fn tell(rt: &HostRuntime, fault: RunFault) -> io::Result<ExitCode> {
-    eprintln!(rt; "janus-cells: {}", fault.text())?;
-    Ok(ExitCode::from(1))
+/// Tells a fault on standard error.
+fn tell(rt: &HostRuntime, fault: RunFault) -> Result<(), WriteFailed> {
+    send_run_fault(&mut rt.stderr(), fault)
 }

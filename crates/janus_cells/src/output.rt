@@ -2,11 +2,13 @@
 ghost use Rattle.std.specs.Prelude.{◌++◌, decimal, OnOk, OnErr};
 ghost use Rattle.std.specs.Fmt.{signed_decimal};
 ghost use Rattle.std.specs.Io.KnownBytes.{Appends};
+ghost use Rattle.janus_cells.specs.Ending.{fault_line};
 ghost use Rattle.janus_cells.specs.Lines.{ended_line};
 ghost use Rattle.janus_cells.specs.Shown.{equated_text, position_line, value_text};
 ghost use Rattle.janus_cells.specs.Output.{SentSome, counted_text, end_text, fault_text, named_text, numbered_text, outcome_line, place_text, refusal_text};
 ghost use Rattle.janus_cells.specs.Transcript.{post_fault_line};
 
+use crate::fault::RunFault;
 use itoa::Buffer;
 use kernel_core::{End, Fault, Outcome, PostFault, Refusal, Span};
 use std::io::Write;
@@ -189,6 +191,14 @@ pub fn send_post_fault<W: Write>(writer: &mut W, fault: PostFault) -> Result<(),
 {
     send_numbered(writer, "refused ", fault.number(), fault.name())?;
     send(writer, b"\n")
+}
+
+/// Writes the line of a fault that ended a run.
+pub fn send_run_fault<W: Write>(writer: &mut W, fault: RunFault) -> Result<(), WriteFailed>
+    ensures ok { OnOk result (Appends (W.contents writer.old) (W.contents writer.new) (fault_line fault)) }
+    ensures err { OnErr result (SentSome (W.contents writer.old) (W.contents writer.new) (fault_line fault)) }
+{
+    send(writer, fault.line().as_bytes())
 }
 
 /// Writes the line of the position.

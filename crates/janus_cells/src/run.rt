@@ -9,7 +9,7 @@ ghost use Rattle.janus_cells.specs.Gathering.{IsGathered};
 ghost use Rattle.janus_cells.specs.Lines.{ended_line, is_blank as is_blank_text, is_command_line as is_command_line_text, lines};
 ghost use Rattle.janus_cells.specs.Loop.{CommandServes, Does, LineServes, LinesServe, RunsRest, text_after};
 ghost use Rattle.janus_cells.specs.Output.{SentSome};
-ghost use Rattle.janus_cells.specs.RunFault.{IsWhyUnread, TakesAtMost, input_limit};
+ghost use Rattle.janus_cells.specs.RunFault.{IsServed, IsWhyUnread, TakesAtMost, input_limit};
 ghost use Rattle.janus_cells.specs.Script.{script};
 ghost use Rattle.janus_cells.specs.Served.{Came, Serves};
 ghost use Rattle.janus_cells.specs.Shown.{world_text};
@@ -37,14 +37,18 @@ struct Gathered {
 /// Reads all of the input, at most 16 MiB, and then runs it line by line: lines that begin with `%` are commands, all
 /// others gather to the text of a cell. What a command answers is written before the next one is run.
 ///
-/// What is written is the transcript of what is read. Faults are looked for in this order: no memory for the start; a read
-/// that fails, input that is too long, no memory for the input; input that isn't text. Up to there nothing is written. No more
-/// is read than 16 MiB and one octet, and that one only to tell that the input is too long. A write that fails ends the run,
-/// and what was written is a beginning of the transcript.
+/// What is written is the transcript of what is read, which is at most 16 MiB of UTF-8. Faults are looked for in this order:
+/// no memory for the start; a read that fails, input that is too long, no memory for the input; input that isn't text. Up to
+/// there nothing is written. No more is read than 16 MiB and one octet, and that one only to tell that the input is too long.
+/// A write that fails ends the run, and what was written is a beginning of the transcript.
+///
+/// The clauses speak of a reader and a writer whose octets are known, as those over memory; of others, as std's `Stdin` and
+/// `Stdout`, which tell none, they say nothing.
 pub fn run<R: Read, W: Write>(alloc: Global, reader: &mut R, writer: &mut W) -> Result<(), RunFault>
     ensures written { OnOk result (IfSome (R.remaining reader.old) (λ input.
         (out : List ℕ) × IsTranscript input out × Appends (W.contents writer.old) (W.contents writer.new) out)) }
-    ensures limit { OnOk result (IfSome (R.remaining reader.old) (λ input. length input ≤ input_limit)) }
+    ensures served { MatchResult result (λ _. IfSome (R.remaining reader.old) IsServed)
+        (λ fault. fault ≡ RunFault.Write → IfSome (R.remaining reader.old) IsServed) }
     ensures cut { IfErr result (λ fault. fault ≡ RunFault.Write → IfSome (R.remaining reader.old) (λ input.
         (out : List ℕ) × IsTranscript input out × SentSome (W.contents writer.old) (W.contents writer.new) out)) }
     ensures unread { IfErr result (λ fault. fault ≢ RunFault.Write → IfSome (R.remaining reader.old) (IsWhyUnread fault)) }

@@ -1,6 +1,8 @@
-use crate::fault::RunFault;
+use crate::fault::{RunFault, status};
+use crate::output::send_run_fault;
 use crate::run::run;
 use crate::text::{outcome_line, value_text};
+use crate::words::{take_words, unread_words_status, words_status};
 use kernel_core::{CheckFault, End, Fault, Outcome, Refusal, Span};
 use std::alloc::Global;
 use std::io;
@@ -232,5 +234,49 @@ fn gives_texts(rt: HostRuntime) -> Result<(), Fail> {
         outcome_line(alloc, &Outcome::Refused(Refusal::TooFar))?.as_str(),
         "refused 73 TooFar"
     );
+    Ok(())
+}
+
+/// The exit status of words that run nothing, and whether what is told of them goes to standard error; `None` for words that
+/// run.
+fn refused(alloc: Global, words: &[&str]) -> Option<(u8, bool)> {
+    match take_words(alloc, words) {
+        Ok(()) => None,
+        Err(error) => Some((words_status(error.kind()), error.use_stderr())),
+    }
+}
+
+#[test]
+fn takes_words(rt: HostRuntime) -> Result<(), Fail> {
+    let alloc = rt.alloc();
+    assert_eq!(rt; refused(alloc, &["janus-cells"]), None);
+    assert_eq!(rt; refused(alloc, &[]), None);
+    assert_eq!(rt; refused(alloc, &["janus-cells", "--"]), None);
+    assert_eq!(rt;
+        refused(alloc, &["janus-cells", "--help"]),
+        Some((0, false))
+    );
+    assert_eq!(rt; refused(alloc, &["janus-cells", "-h"]), Some((0, false)));
+    assert_eq!(rt;
+        refused(alloc, &["janus-cells", "--steps"]),
+        Some((2, true))
+    );
+    assert_eq!(rt; refused(alloc, &["janus-cells", "x"]), Some((2, true)));
+    assert_eq!(rt; unread_words_status(ErrorKind::InvalidData), 2);
+    assert_eq!(rt; unread_words_status(ErrorKind::OutOfMemory), 1);
+    Ok(())
+}
+
+#[test]
+fn tells_how_a_run_ended(rt: HostRuntime) -> Result<(), Fail> {
+    let alloc = rt.alloc();
+    let mut told = Vec::new(alloc);
+    assert!(rt; send_run_fault(&mut told, RunFault::NotText).is_ok());
+    assert_eq!(rt;
+        String::from_utf8(told)?.as_str(),
+        "janus-cells: input is not text\n"
+    );
+    assert_eq!(rt; status(Ok(())), 0);
+    assert_eq!(rt; status(Err(RunFault::Write)), 1);
     Ok(())
 }
