@@ -15,20 +15,20 @@ begun_as old new r told as_told e alone h =
 pub returns-in_err-post-clause-err : goal.returns-in_err-post-clause-err
 returns-in_err-post-clause-err c =
     let p = err_from_is_err_and c.from_residual.result c.from_residual.ensures.1 in
-    rw (p.1, p.2) (not_posted (subst (λ r. IsPost c.args.kernel.now (request_of c.args.job) r c.post.new.self) c.in_err-post.was c.post.ensures))
+    rw (p.1, p.2) (not_posted (subst (λ r. IsPost c.args.kernel.now (request_of c.args.job) r c.post.new.self) c.in_err-post.was c.post.ensures.post))
 
 pub finish-requires : goal.finish-requires
 finish-requires c =
-    let p = subst (λ r. IsPost c.args.kernel.now (request_of c.args.job) r c.post.new.self) c.in_ok-post.was c.post.ensures in
+    let p = subst (λ r. IsPost c.args.kernel.now (request_of c.args.job) r c.post.new.self) c.in_ok-post.was c.post.ensures.post in
     let alone = posted_alone c.args.kernel.now c.post.new.self (request_of c.args.job) _ c.requires.idle c.requires.alone p in
     (begun_as c.post.new.self c.begin.new.self (request_of c.args.job) c.begin.result _ c.in-Going.is alone c.begin.ensures).1
 
 pub returns-in-Ended-clause-ok : goal.returns-in-Ended-clause-ok
 returns-in-Ended-clause-ok c =
-    let p = subst (λ r. IsPost c.args.kernel.now (request_of c.args.job) r c.post.new.self) c.in_ok-post.was c.post.ensures in
+    let p = subst (λ r. IsPost c.args.kernel.now (request_of c.args.job) r c.post.new.self) c.in_ok-post.was c.post.ensures.post in
     at_once p (subst (λ t. IsBegin c.post.new.self t c.begin.new.self) c.in-Ended.is c.begin.ensures)
 
 pub returns-in-Going-clause-ok : goal.returns-in-Going-clause-ok
 returns-in-Going-clause-ok c =
-    let p = subst (λ r. IsPost c.args.kernel.now (request_of c.args.job) r c.post.new.self) c.in_ok-post.was c.post.ensures in
+    let p = subst (λ r. IsPost c.args.kernel.now (request_of c.args.job) r c.post.new.self) c.in_ok-post.was c.post.ensures.post in
     later p (subst (λ t. IsBegin c.post.new.self t c.begin.new.self) c.in-Going.is c.begin.ensures) c.finish.ensures.finishes
