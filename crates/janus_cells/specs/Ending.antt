@@ -19,8 +19,8 @@ run_status (Err fault) = 1
 abbrev pub AsksForHelp : List (List ℕ) → Type 0
 AsksForHelp words = (name : List ℕ) × (words ≡ name ∷ codes "--help" ∷ [])
 
--- the exit status of words that run nothing: 0 where they ask for help, 1 where there was no memory for them, 2 where they
--- are wrong
+-- the exit status of words that run nothing: 0 where they ask for help or the version, 1 where there was no memory for
+-- them, 2 where they are wrong
 abbrev pub words_status : ErrorKind → ℕ
 words_status DisplayHelp = 0
 words_status DisplayVersion = 0
