@@ -1,5 +1,5 @@
 -- How the program ends: its exit status, and the line of a fault.
-use Rattle.std.specs.Prelude.{ℕ, List, ◌++◌, codes, Result, Ok, Err}
+use Rattle.std.specs.Prelude.{◌≡◌, ℕ, List, [], ◌∷◌, ◌++◌, codes, Result, Ok, Err}
 use Rattle.clap.specs.declared.error.kind.ErrorKind.{ErrorKind}
 use Rattle.clap.specs.declared.error.kind.ErrorKind.TheVariants.{DisplayHelp, DisplayVersion, OutOfMemory}
 use Rattle.janus_cells.specs.Lines.{ended_line}
@@ -15,8 +15,12 @@ abbrev pub run_status : Result (Unit {0}) RunFault → ℕ
 run_status (Ok served) = 0
 run_status (Err fault) = 1
 
--- the exit status of words that run nothing: 0 where they ask for help, 1 where there was no memory for them, 2 where they
--- are wrong
+-- the words of a command line that asks for help: the name of the program, and `--help`
+abbrev pub AsksForHelp : List (List ℕ) → Type 0
+AsksForHelp words = (name : List ℕ) × (words ≡ name ∷ codes "--help" ∷ [])
+
+-- the exit status of words that run nothing: 0 where they ask for help or the version, 1 where there was no memory for
+-- them, 2 where they are wrong
 abbrev pub words_status : ErrorKind → ℕ
 words_status DisplayHelp = 0
 words_status DisplayVersion = 0

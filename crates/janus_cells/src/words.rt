@@ -1,7 +1,7 @@
 //! The words of the command line.
-ghost use Rattle.std.specs.Prelude.{◌≡◌, ◌≢◌, ◌≤◌, length, IfErr};
+ghost use Rattle.std.specs.Prelude.{◌≡◌, ◌≢◌, ◌⊎◌, ◌≤◌, length, map, IfErr, IsErrAnd};
 ghost use Rattle.clap.specs.Values.{kind_of};
-ghost use Rattle.janus_cells.specs.Ending.{words_status as words_status_of};
+ghost use Rattle.janus_cells.specs.Ending.{AsksForHelp, words_status as words_status_of};
 
 use clap::error::ErrorKind;
 use clap::{Command, Error};
@@ -12,7 +12,9 @@ use std::io::ErrorKind as ReadErrorKind;
 /// Takes the words of a command line: the program's name, and behind it none, or `--` alone. `--help` and `-h` are refused
 /// with the help.
 pub fn take_words<'a, S: AsStr>(alloc: Global, words: &'a [S]) -> Result<(), Error>
-    ensures { IfErr result (λ error. length words.now ≤ 1 → kind_of error ≡ ErrorKind.OutOfMemory) }
+    ensures name { IfErr result (λ error. length words.now ≤ 1 → kind_of error ≡ ErrorKind.OutOfMemory) }
+    ensures help { AsksForHelp (map S.text words.now) → IsErrAnd result (λ error.
+        (kind_of error ≡ ErrorKind.OutOfMemory) ⊎ (kind_of error ≡ ErrorKind.DisplayHelp)) }
 {
     let command = Command::new(alloc, "janus-cells").about(
         "Runs Janus cells with undo, redo and show, line by line, from standard input.",
