@@ -76,6 +76,21 @@ fn refuses(rt: HostRuntime) -> Result<(), Fail> {
     Ok(())
 }
 
+/// The program of examples/first.janus-cells writes what the README says.
+#[test]
+fn runs_the_first_example(rt: HostRuntime) -> Result<(), Fail> {
+    let alloc = rt.alloc();
+    assert_eq!(rt;
+        written(
+            alloc,
+            "int x int y;%%;x += 5;y ^= x + 3;%%;%show;%undo 1;%show;%redo 1;x -= y;%show"
+        )?
+        .as_str(),
+        "ok node 1 steps 1;ok node 2 steps 5;at node 2;x = 5;y = 8;undid 1;at node 1;x = 0;y = 0;redid 1;ok node 3 steps 3;at node 3;x = -3;y = 8;"
+    );
+    Ok(())
+}
+
 #[test]
 fn reads_lines(rt: HostRuntime) -> Result<(), Fail> {
     let alloc = rt.alloc();
