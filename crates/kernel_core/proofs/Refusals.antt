@@ -1,42 +1,30 @@
 -- A text has one answer in a world, want of memory aside: the one cell that it is, or its one refusal.
-use Rattle.std.proofs.Common.{◌≡◌, ℕ, ◌<◌, ◌≤◌, List, [], length, refl, sym, ap, ◌∙◌, subst, arith}
+use Rattle.std.proofs.Common.{◌≡◌, ℕ, ◌<◌, List, [], length, refl, sym, ap, ◌∙◌, subst, arith}
 use Rattle.std.specs.Prelude.{Contains}
 use Rattle.janus_meaning.specs.Formed.{shape_of}
 use Rattle.janus_meaning.specs.World.{World, Cell}
 use Rattle.janus_syntax.specs.Tree as tree
-use Rattle.janus_syntax.specs.Text.{IsRefusal}
-use Rattle.janus_syntax.specs.declared.fault.SyntaxFault as syntax
-use Rattle.janus_syntax.specs.declared.fault.SyntaxFault.TheVariants as syntax_fault
 use Rattle.janus_syntax.proofs.OneRefusal.{one_refusal}
-use Rattle.janus_check.specs.Names.{size}
-use Rattle.janus_check.specs.Check.{name_limit, cell_faults}
+use Rattle.janus_syntax.proofs.OneTree.{one_tree, not_both as tree_or_refusal}
+use Rattle.janus_check.specs.Check.{cell_faults}
 use Rattle.janus_check.specs.Fault.{IsFirst}
 use Rattle.janus_check.specs.declared.fault.CheckFault as check
 use Rattle.janus_check.proofs.FormedLemmas.{formed_no_faults}
 use Rattle.kernel_core.specs.Language.{IsSound}
-use Rattle.kernel_core.specs.Text.{meant_cell, Accepts, HasNoTree, IsUnformed, Refuses}
+use Rattle.kernel_core.specs.Text.{meant_cell, Accepts, IsUnformed, Refuses}
 use Rattle.kernel_core.specs.declared.outcome.Refusal.{Refusal}
 use Rattle.kernel_core.specs.declared.outcome.Refusal.TheVariants.{Syntax, Check, TooFar, Memory}
-use Rattle.kernel_core.proofs.LanguageLaws.{shape_size}
 use Rattle.kernel_core.proofs.Places.{faults_at, one_first}
 
 pub one_cell : (w : World) (text : List ℕ) (c d : Cell) → Accepts w text c → Accepts w text d → c ≡ d
-one_cell w text c d p q = p.meant ∙ ap meant_cell (p.is_tree.only q.tree q.is_tree.has) ∙ sym q.meant
-
--- a fault of the text itself
-refusal_of : (text : List ℕ) (f : syntax.SyntaxFault) → HasNoTree text f → IsRefusal text f
-refusal_of text (syntax_fault.BadToken at) h = h.found
-refusal_of text (syntax_fault.Expected what at) h = h.found
-refusal_of text (syntax_fault.NumberTooLarge at) h = h.found
-refusal_of text (syntax_fault.TooNested at) h = h.found
-refusal_of text syntax_fault.Memory h = absurd (h.real refl)
+one_cell w text c d p q = p.meant ∙ ap meant_cell (one_tree text p.tree q.tree p.is_tree q.is_tree) ∙ sym q.meant
 
 -- the first fault of the check
 one_check : (w : World) (text : List ℕ) (f h : check.CheckFault) → IsUnformed w text f → IsUnformed w text h → f ≡ h
 one_check w text f h p q =
-    let same : q.tree ≡ p.tree = q.is_tree.only p.tree p.is_tree.has in
+    let same : q.tree ≡ p.tree = one_tree text q.tree p.tree q.is_tree p.is_tree in
     let first : IsFirst h (cell_faults (shape_of w.store) p.tree) = subst (λ (t : tree.Cell). IsFirst h (cell_faults (shape_of w.store) t)) same q.first in
-    let has = p.is_tree.has in
+    let has = p.is_tree in
     one_first text (cell_faults (shape_of w.store) p.tree) f h (faults_at text (shape_of w.store) p.tree has.tokens has.are_tokens has.is_tree.spells) p.first first
 
 pub one_answer : (w : World) (text : List ℕ) (r q : Refusal) → Refuses w text r → (r ≡ Memory → ⊥) → Refuses w text q → (q ≡ Memory → ⊥) → r ≡ q
@@ -44,10 +32,10 @@ one_answer w text Memory q a real b other = absurd (real refl)
 one_answer w text r Memory a real b other = absurd (other refl)
 one_answer w text TooFar q a real b other = absurd a
 one_answer w text r TooFar a real b other = absurd b
-one_answer w text (Syntax f) (Syntax h) a real b other = ap Syntax (one_refusal text f h (refusal_of text f a) (refusal_of text h b))
+one_answer w text (Syntax f) (Syntax h) a real b other = ap Syntax (one_refusal text f h a b)
 one_answer w text (Check f) (Check h) a real b other = ap Check (one_check w text f h a b)
-one_answer w text (Syntax f) (Check h) a real b other = absurd (a.none b.tree b.is_tree.has)
-one_answer w text (Check f) (Syntax h) a real b other = absurd (b.none a.tree a.is_tree.has)
+one_answer w text (Syntax f) (Check h) a real b other = absurd (tree_or_refusal text b.tree f b.is_tree a)
+one_answer w text (Check f) (Syntax h) a real b other = absurd (tree_or_refusal text a.tree h a.is_tree b)
 
 nothing_there : (f : check.CheckFault) (fs : List check.CheckFault) → fs ≡ [] → Contains fs f → ⊥
 nothing_there f fs e c = let l = subst (λ (xs : List check.CheckFault). c.0 < length xs) e c.1 in absurd (omega arith)
@@ -56,8 +44,8 @@ nothing_there f fs e c = let l = subst (λ (xs : List check.CheckFault). c.0 < l
 pub not_both : (w : World) (text : List ℕ) (c : Cell) (r : Refusal) → IsSound w → Accepts w text c → Refuses w text r → (r ≡ Memory → ⊥) → ⊥
 not_both w text c Memory sound a b real = real refl
 not_both w text c TooFar sound a b real = b
-not_both w text c (Syntax f) sound a b real = b.none a.tree a.is_tree.has
+not_both w text c (Syntax f) sound a b real = tree_or_refusal text a.tree f a.is_tree b
 not_both w text c (Check f) sound a b real =
-    let same : b.tree ≡ a.tree = b.is_tree.only a.tree a.is_tree.has in
+    let same : b.tree ≡ a.tree = one_tree text b.tree a.tree b.is_tree a.is_tree in
     let first : IsFirst f (cell_faults (shape_of w.store) a.tree) = subst (λ (t : tree.Cell). IsFirst f (cell_faults (shape_of w.store) t)) same b.first in
     nothing_there f (cell_faults (shape_of w.store) a.tree) (formed_no_faults (shape_of w.store) a.tree a.formed) first.one

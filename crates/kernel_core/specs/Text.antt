@@ -1,10 +1,10 @@
 -- Which cell a text is, in a world, and how it is refused there.
-use Rattle.std.specs.Prelude.{◌≡◌, ◌≢◌, ℕ, List, [], Err}
+use Rattle.std.specs.Prelude.{◌≡◌, ◌≢◌, ℕ, List, []}
 use Rattle.janus_meaning.specs.Formed.{shape_of}
 use Rattle.janus_meaning.specs.World as world
 use Rattle.janus_meaning.specs.World.{World}
 use Rattle.janus_syntax.specs.Tree.{Cell}
-use Rattle.janus_syntax.specs.Text.{HasTree, IsParsed}
+use Rattle.janus_syntax.specs.Text.{HasTree, IsRefusal}
 use Rattle.janus_syntax.specs.declared.fault.SyntaxFault as syntax
 use Rattle.janus_syntax.specs.declared.fault.SyntaxFault.TheVariants as syntax_fault
 use Rattle.janus_check.specs.Check.{cell_faults}
@@ -20,34 +20,23 @@ use Rattle.kernel_core.specs.declared.outcome.Refusal.TheVariants.{Syntax, Check
 abbrev pub meant_cell : Cell → world.Cell
 meant_cell tree = record { declarations = numbers (declared_names tree); procedures = []; block = block_of_cell tree }
 
--- the text has this tree, and no other
-pub record IsTheTree (text : List ℕ) (tree : Cell) : Type 0 where
-  pub has : HasTree text tree
-  pub only : (other : Cell) → HasTree text other → tree ≡ other
-
 -- the text has a tree that is well formed over the names of the world, and this is the cell
 pub record Accepts (w : World) (text : List ℕ) (cell : world.Cell) : Type 0 where
   pub tree : Cell
-  pub is_tree : IsTheTree text tree
+  pub is_tree : HasTree text tree
   pub formed : IsWellFormed (shape_of w.store) tree
   pub meant : cell ≡ meant_cell tree
-
--- the text has no tree, for this fault
-pub record HasNoTree (text : List ℕ) (fault : syntax.SyntaxFault) : Type 0 where
-  pub real : fault ≢ syntax_fault.Memory
-  pub found : IsParsed text (Err fault)
-  pub none : (tree : Cell) → HasTree text tree → ⊥
 
 -- the text's tree has faults over the names of the world, and this is the first one
 pub record IsUnformed (w : World) (text : List ℕ) (fault : check.CheckFault) : Type 0 where
   pub tree : Cell
-  pub is_tree : IsTheTree text tree
+  pub is_tree : HasTree text tree
   pub real : fault ≢ check_fault.Memory
   pub first : IsFirst fault (cell_faults (shape_of w.store) tree)
 
--- the text is refused; want of memory may come at any text
+-- the text is refused: it is no cell, or its cell is not well formed; want of memory may come at any text
 abbrev pub Refuses : World → List ℕ → Refusal → Type 0
-Refuses w text (Syntax fault) = HasNoTree text fault
+Refuses w text (Syntax fault) = IsRefusal text fault
 Refuses w text (Check fault) = IsUnformed w text fault
 Refuses w text TooFar = ⊥
 Refuses w text Memory = Unit {0}
