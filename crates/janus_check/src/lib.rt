@@ -15,8 +15,6 @@ pub mod cell;
 pub mod checked;
 pub mod env;
 pub mod fault;
-#[cfg(test)]
-mod tests;
 
 pub use cell::check;
 pub use checked::Checked;

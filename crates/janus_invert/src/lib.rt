@@ -23,6 +23,3 @@ pub use crate::inverse::{invert, invert_code};
 pub fn inverse_cell_twice_law()
     ensures { InverseCellTwice }
 {}
-
-#[cfg(test)]
-mod tests;

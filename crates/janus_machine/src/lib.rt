@@ -21,6 +21,3 @@ pub use crate::cursor::Cursor;
 pub use crate::fault::Fault;
 pub use crate::machine::{End, Sliced, Stepped, slice, step};
 pub use crate::store::Store;
-
-#[cfg(test)]
-mod tests;

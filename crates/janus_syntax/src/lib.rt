@@ -28,8 +28,6 @@ mod lexer;
 mod parser;
 mod problem;
 mod statement;
-#[cfg(test)]
-mod tests;
 pub mod token;
 pub mod tree;
 

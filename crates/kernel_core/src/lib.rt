@@ -26,8 +26,6 @@ mod outcome;
 mod program;
 mod runner;
 mod settle;
-#[cfg(test)]
-mod tests;
 mod tree;
 mod view;
 
