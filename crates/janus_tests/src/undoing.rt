@@ -193,3 +193,52 @@ fn runs_a_schedule(rt: HostRuntime) -> Result<(), Fail> {
     assert_eq!(rt; told.as_slice(), want.as_slice());
     Ok(())
 }
+
+/// A goto that is interrupted on its way up leaves the favourite of the meeting node as it was.
+#[test]
+fn an_interrupted_goto_leaves_the_favourite(rt: HostRuntime) -> Result<(), Fail> {
+    let mut kernel = Kernel::new(rt.alloc())?;
+    runs(&rt, rt.alloc(), &mut kernel, "int x", Outcome::Ran(1, 1))?;
+    runs(&rt, rt.alloc(), &mut kernel, "x += 1", Outcome::Ran(2, 3))?;
+    kernel.post(1, Job::Undo(1))?;
+    begins(&rt, &mut kernel, Begun::Going);
+    slices(
+        &rt,
+        &mut kernel,
+        9,
+        false,
+        Sliced::Ended(Outcome::Undid(1, End::All)),
+    );
+    runs(&rt, rt.alloc(), &mut kernel, "x += 2", Outcome::Ran(3, 3))?;
+    kernel.post(1, Job::Goto(2))?;
+    begins(&rt, &mut kernel, Begun::Going);
+    slices(&rt, &mut kernel, 3, false, Sliced::Border);
+    begins(&rt, &mut kernel, Begun::Going);
+    slices(&rt, &mut kernel, 1, false, Sliced::Going);
+    slices(
+        &rt,
+        &mut kernel,
+        9,
+        true,
+        Sliced::Ended(Outcome::Went(1, 0, End::Asked)),
+    );
+    stands(&rt, &kernel, 1, 1);
+    shows(&rt, &kernel, "x", Some(0));
+    kernel.post(1, Job::Redo(1))?;
+    begins(&rt, &mut kernel, Begun::Going);
+    slices(
+        &rt,
+        &mut kernel,
+        9,
+        false,
+        Sliced::Ended(Outcome::Redid(1, End::All)),
+    );
+    shows(&rt, &kernel, "x", Some(2));
+    kernel.post(1, Job::Goto(9))?;
+    begins(
+        &rt,
+        &mut kernel,
+        Begun::Ended(Outcome::Refused(Refusal::NoNode)),
+    );
+    Ok(())
+}

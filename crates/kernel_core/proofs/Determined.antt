@@ -1,4 +1,5 @@
 -- Where memory is ample, each step of the machine is determined, and so is each run.
+use Rattle.std.specs.Prelude.{nat_lt, length}
 use Rattle.std.proofs.Common.{◌≡◌, ℕ, ◌+◌, ◌-◌, ◌<◌, ◌≤◌, Bool, true, false, List, [], ◌∷◌, zero, suc, refl, sym, ap, ◌∙◌, subst, arith, inl, inr, Result, Ok, Err}
 use Rattle.janus_meaning.specs.Fault as meaning
 use Rattle.janus_meaning.specs.World.{World, Cell}
@@ -6,23 +7,17 @@ use Rattle.janus_machine.specs.Faults.{fault_of}
 use Rattle.janus_machine.specs.declared.fault.Fault.{Fault}
 use Rattle.janus_machine.specs.declared.fault.Fault.TheVariants as fault
 use Rattle.kernel_core.specs.Language.{Code, Part}
-use Rattle.kernel_core.specs.Reached.{Reaches}
-use Rattle.kernel_core.specs.State.{Past, Work, Posted, Move, Job as Open, Idle, Border, Inside, State, here, code_of, node_at, favourite_of}
-use Rattle.kernel_core.specs.Legal.{can_go, IsLegal}
-use Rattle.kernel_core.specs.Slices.{finished, Backs, Arrives, Settles, Comes, Goes, SlicesIn, SlicesAt}
-use Rattle.kernel_core.specs.Begins.{Declares, Enters, TakesMove, TakesCell}
-use Rattle.kernel_core.specs.Runs.{Machine, Request, RunCell, Undo, Redo, request_of, IsPost, Run, BeginsAt, Takes}
+use Rattle.kernel_core.specs.Reached.{Reaches, Progress, Went, Ended, Stopped}
+use Rattle.kernel_core.specs.State.{Past, Work, Posted, Move, Job as Open, Idle, Border, Inside, State, here, code_of}
+use Rattle.kernel_core.specs.Legal.{can_undo, can_redo, IsLegal}
+use Rattle.kernel_core.specs.Slices.{cells, stepped, moved, Backs, Arrives, Settles, Comes, Goes, SlicesIn, SlicesAt}
+use Rattle.kernel_core.specs.Begins.{travel_to, Departs, Enters, TakesMove, TakesGoto, TakesCell}
+use Rattle.kernel_core.specs.Runs.{Machine, Request, RunCell, Undo, Redo, Goto, request_of, IsPost, Run, BeginsAt, Takes}
 use Rattle.kernel_core.specs.Determined.{TellsWant, StepIsDetermined, RunIsDetermined}
-use Rattle.kernel_core.specs.declared.runner.Ran.{Ran}
-use Rattle.kernel_core.specs.declared.runner.Ran.TheVariants.{Went, Ended, Stopped}
-use Rattle.kernel_core.specs.declared.job.Way.{Way}
-use Rattle.kernel_core.specs.declared.job.Way.TheVariants.{Up, Down}
-use Rattle.kernel_core.specs.declared.job.Travel.{Travel}
-use Rattle.kernel_core.specs.declared.job.Why.{Why}
-use Rattle.kernel_core.specs.declared.job.Why.TheVariants.{Asked as WasAsked, Faulted}
-use Rattle.kernel_core.specs.declared.job.Turn.{Turn}
-use Rattle.kernel_core.specs.declared.job.Turn.TheVariants.{Going as GoesOn, Backing as GoesBack}
-use Rattle.kernel_core.specs.declared.outcome.End.TheVariants.{NoMemory}
+use Rattle.kernel_core.specs.Travel as aim
+use Rattle.kernel_core.proofs.Trees.{meeting_same}
+use Rattle.kernel_core.specs.Travel.{Travel}
+use Rattle.kernel_core.specs.Turn.{Why, WasAsked, Faulted, Turn, GoesOn, GoesBack}
 use Rattle.kernel_core.specs.declared.outcome.Refusal.{Refusal}
 use Rattle.kernel_core.specs.declared.outcome.Refusal.TheVariants.{Memory}
 use Rattle.kernel_core.specs.declared.outcome.Outcome.TheVariants as outcome
@@ -75,7 +70,7 @@ fault_back fault.StepLimit = refl
 fault_same : (f g : Fault) → fault_of f ≡ fault_of g → f ≡ g
 fault_same f g e = sym (fault_back f) ∙ ap code_fault e ∙ fault_back g
 
-reach_same : (code : Code) (w : World) (m : ℕ) (a b : Ran) (u v : World) → Reaches code w m a u → Reaches code w m b v → (a ≡ b) × (u ≡ v)
+reach_same : (code : Code) (w : World) (m : ℕ) (a b : Progress) (u v : World) → Reaches code w m a u → Reaches code w m b v → (a ≡ b) × (u ≡ v)
 reach_same code w m Went Went u v p q = (refl, part_same code w m u v p.0 q.0)
 reach_same code w m Went (Ended n) u v p q = absurd (let l : m < n = p.1 n v q.0 in let h : n ≤ m = q.1 in omega arith)
 reach_same code w m (Ended n) Went u v p q = absurd (let l : m < n = q.1 n u p.0 in let h : n ≤ m = p.1 in omega arith)
@@ -96,21 +91,15 @@ backs_same : (s : Past) (work : Work) (why : Why) (c : ℕ) (t u : Sliced) (new 
 backs_same s work why zero t u new other a b = (a.0 ∙ sym b.0, a.1 ∙ sym b.1)
 backs_same s work why (suc c) t u new other a b = (a.0 ∙ sym b.0, a.1 ∙ sym b.1)
 
-arrives_same : (s : Past) (way : Way) (left done : ℕ) (t u : Sliced) (new other : State) → Arrives s way left done t new → Arrives s way left done u other → (t ≡ u) × (new ≡ other)
-arrives_same s way zero done t u new other a b = (a.0 ∙ sym b.0, a.1 ∙ sym b.1)
-arrives_same s way (suc left) done t u new other a b = (a.0 ∙ sym b.0, a.1 ∙ sym b.1)
-
-move_same : (s : Past) (travel : Travel) (way : Way) (n : ℕ) (w : World) (t u : Sliced) (new other : State) → travel.way ≡ way → Settles s (Move travel) n w t new → Settles s (Move travel) n w u other → (t ≡ u) × (new ≡ other)
-move_same s travel Up n w t u new other way a b =
-    arrives_same (record s { position = (node_at s s.position).parent }) Up (travel.left - 1) travel.done t u new other (rw way at a) (rw way at b)
-move_same s travel Down n w t u new other way a b =
-    arrives_same (record s { position = favourite_of s s.position }) Down (travel.left - 1) travel.done t u new other (rw way at a) (rw way at b)
+arrives_same : (left : ℕ) (s : Past) (travel : Travel) (t u : Sliced) (new other : State) → Arrives left s travel t new → Arrives left s travel u other → (t ≡ u) × (new ≡ other)
+arrives_same zero s travel t u new other a b = (a.0 ∙ sym b.0, a.1 ∙ sym b.1)
+arrives_same (suc left) s travel t u new other a b = (a.0 ∙ sym b.0, a.1 ∙ sym b.1)
 
 settles_same : (s : Past) (work : Work) (n : ℕ) (w : World) (t u : Sliced) (new other : State) → Settles s work n w t new → Settles s work n w u other → (t ≡ u) × (new ≡ other)
 settles_same s (Posted cell) n w t u new other a b = (a.0 ∙ sym b.0, a.1 ∙ sym b.1)
-settles_same s (Move travel) n w t u new other a b = move_same s travel travel.way n w t u new other refl a b
+settles_same s (Move travel) n w t u new other a b = arrives_same (cells (stepped travel)) (moved s travel) (stepped travel) t u new other a b
 
-comes_same : (s : Past) (work : Work) (c : ℕ) (ran : Ran) (w : World) (t u : Sliced) (new other : State) → Comes s work c ran w t new → Comes s work c ran w u other → (t ≡ u) × (new ≡ other)
+comes_same : (s : Past) (work : Work) (c : ℕ) (ran : Progress) (w : World) (t u : Sliced) (new other : State) → Comes s work c ran w t new → Comes s work c ran w u other → (t ≡ u) × (new ≡ other)
 comes_same s work c Went w t u new other a b = (a.0 ∙ sym b.0, a.1 ∙ sym b.1)
 comes_same s work c (Ended n) w t u new other a b = settles_same s work n w t u new other a b
 comes_same s work c (Stopped j f) w t u new other a b = backs_same s work (Faulted f j) j t u new other a b
@@ -119,7 +108,7 @@ goes_same : (s : Past) (work : Work) (c m : ℕ) (t u : Sliced) (new other : Sta
 goes_same s work c m t u new other a b =
     let same = reach_same (code_of s work) (here s) (c + m) a.0 b.0 a.1 b.1 a.2 b.2 in
     comes_same s work (c + m) a.0 a.1 t u new other a.3
-    (subst (λ (x : Ran). Comes s work (c + m) x a.1 u other) (sym same.0) (subst (λ (x : World). Comes s work (c + m) b.0 x u other) (sym same.1) b.3))
+    (subst (λ (x : Progress). Comes s work (c + m) x a.1 u other) (sym same.0) (subst (λ (x : World). Comes s work (c + m) b.0 x u other) (sym same.1) b.3))
 
 slice_in_same : (s : Past) (work : Work) (c : ℕ) (turn : Turn) (m : ℕ) (asked : Bool) (t u : Sliced) (new other : State) → SlicesIn s work c turn m asked t new → SlicesIn s work c turn m asked u other → (t ≡ u) × (new ≡ other)
 slice_in_same s work c GoesOn m false t u new other a b = goes_same s work c m t u new other a b
@@ -136,23 +125,29 @@ slice_same s (Inside e) m asked t u new other a b = slice_in_same s e.work e.cou
 abbrev IsAmple : Begun → Type 0
 IsAmple answer = TellsWant (told.Begin answer) → ⊥
 
-short : (s : Past) (travel : Travel) (way : Way) (answer : Begun) → travel.way ≡ way → answer ≡ begun.Ended (finished travel NoMemory) → Declares s travel → TellsWant (told.Begin answer)
-short s travel Up answer way e d = absurd (rw way at d)
-short s travel Down answer way e d = inr (travel.done, rw way at e)
-
 enters_same : (s : Past) (travel : Travel) (t u : Begun) (new other : State) → Enters s travel t new → IsAmple t → Enters s travel u other → IsAmple u → (t ≡ u) × (new ≡ other)
 enters_same s travel t u new other a ample b enough = elim a [
   | inl x ↦ elim b [
     | inl y ↦ (x.0 ∙ sym y.0, x.1 ∙ sym y.1)
-    | inr y ↦ absurd (enough (short s travel travel.way u refl y.0 y.1))
+    | inr y ↦ absurd (enough (inr (travel, y.0)))
   ]
-  | inr x ↦ absurd (ample (short s travel travel.way t refl x.0 x.1))
+  | inr x ↦ absurd (ample (inr (travel, x.0)))
 ]
 
-takes_move_same : (s : Past) (way : Way) (k : ℕ) (can : Bool) (t u : Begun) (new other : State) → TakesMove s way k can t new → IsAmple t → TakesMove s way k can u other → IsAmple u → (t ≡ u) × (new ≡ other)
-takes_move_same s way k false t u new other a ample b enough = (a.0 ∙ sym b.0, a.1 ∙ sym b.1)
-takes_move_same s way zero true t u new other a ample b enough = (a.0 ∙ sym b.0, a.1 ∙ sym b.1)
-takes_move_same s way (suc k) true t u new other a ample b enough = enters_same s (record { way = way; left = suc k; done = 0 }) t u new other a ample b enough
+departs_same : (left : ℕ) (s : Past) (travel : Travel) (t u : Begun) (new other : State) → Departs left s travel t new → IsAmple t → Departs left s travel u other → IsAmple u → (t ≡ u) × (new ≡ other)
+departs_same zero s travel t u new other a ample b enough = (a.0 ∙ sym b.0, a.1 ∙ sym b.1)
+departs_same (suc left) s travel t u new other a ample b enough = enters_same s travel t u new other a ample b enough
+
+takes_move_same : (s : Past) (travel : Travel) (can : Bool) (t u : Begun) (new other : State) → TakesMove s travel can t new → IsAmple t → TakesMove s travel can u other → IsAmple u → (t ≡ u) × (new ≡ other)
+takes_move_same s travel false t u new other a ample b enough = (a.0 ∙ sym b.0, a.1 ∙ sym b.1)
+takes_move_same s travel true t u new other a ample b enough = departs_same (cells travel) s travel t u new other a ample b enough
+
+takes_goto_same : (s : Past) (n : ℕ) (known : Bool) (t u : Begun) (new other : State) → TakesGoto s n known t new → IsAmple t → TakesGoto s n known u other → IsAmple u → (t ≡ u) × (new ≡ other)
+takes_goto_same s n false t u new other a ample b enough = (a.0 ∙ sym b.0, a.1 ∙ sym b.1)
+takes_goto_same s n true t u new other a ample b enough =
+    let same = meeting_same s.nodes s.position n a.0 a.1 b.0 b.1 a.2 b.2 in
+    departs_same (a.0 + a.1) s (travel_to (aim.Goto n) a.0 a.1) t u new other a.3 ample
+    (subst (λ (j : ℕ). Departs (a.0 + j) s (travel_to (aim.Goto n) a.0 j) u other) (sym same.1) (subst (λ (i : ℕ). Departs (i + b.1) s (travel_to (aim.Goto n) i b.1) u other) (sym same.0) b.3)) enough
 
 real : (answer : Begun) (r : Refusal) → IsAmple answer → answer ≡ begun.Ended (outcome.Refused r) → r ≡ Memory → ⊥
 real answer r ample e same = ample (inl (e ∙ ap (λ (x : Refusal). begun.Ended (outcome.Refused x)) same))
@@ -175,8 +170,9 @@ takes_cell_same s text t u new other g a ample b enough = elim a [
 
 takes_same : (s : Past) (r : Request) (t u : Begun) (new other : State) → IsLegal s → Takes s r t new → IsAmple t → Takes s r u other → IsAmple u → (t ≡ u) × (new ≡ other)
 takes_same s (RunCell text silent store) t u new other g a ample b enough = takes_cell_same s text t u new other g a ample b enough
-takes_same s (Undo k) t u new other g a ample b enough = takes_move_same s Up k (can_go s.nodes s.favourites s.position Up k) t u new other a ample b enough
-takes_same s (Redo k) t u new other g a ample b enough = takes_move_same s Down k (can_go s.nodes s.favourites s.position Down k) t u new other a ample b enough
+takes_same s (Undo k) t u new other g a ample b enough = takes_move_same s (travel_to aim.Undo k 0) (can_undo s.nodes s.position k) t u new other a ample b enough
+takes_same s (Redo k) t u new other g a ample b enough = takes_move_same s (travel_to aim.Redo 0 k) (can_redo s.favourites s.position k) t u new other a ample b enough
+takes_same s (Goto n) t u new other g a ample b enough = takes_goto_same s n (nat_lt n (length s.nodes)) t u new other a ample b enough
 
 begins_same : (old : Machine) (job : Open) (queue : List Request) (t u : Begun) (new other : Machine) → IsLegal old.state.past → BeginsAt old job queue t new → IsAmple t → BeginsAt old job queue u other → IsAmple u →
     (t ≡ u) × (new ≡ other)

@@ -16,3 +16,4 @@ pub mod Reach
 pub mod Places
 pub mod Refusals
 pub mod Determined
+pub mod Ways

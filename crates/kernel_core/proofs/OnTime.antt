@@ -1,36 +1,31 @@
 -- Undo and redo of an accepted cell: no fault, and as many steps as the cell took.
 use Rattle.std.proofs.Common.{◌≡◌, ℕ, ◌+◌, ◌<◌, ◌≤◌, false, inl, inr, refl, sym, ap, subst}
 use Rattle.janus_meaning.specs.World.{World}
+use Rattle.kernel_core.specs.Travel.{next_way, Travel, Way, Up, Down}
 use Rattle.kernel_core.specs.Language.{Exec}
-use Rattle.kernel_core.specs.Reached.{Reaches}
-use Rattle.kernel_core.specs.State.{Past, Move, State, Job as Open, Entered, Inside, here, code_of}
+use Rattle.kernel_core.specs.Reached.{Reaches, Progress, Went, Ended, Stopped}
+use Rattle.kernel_core.specs.State.{Past, Move, State, Job as Open, Entered, Inside, here, below, code_of}
 use Rattle.kernel_core.specs.Legal.{IsPossible, IsPossibleAt, IsInTimeAt, IsLegal}
 use Rattle.kernel_core.specs.Slices.{Settles, Comes, SlicesAt}
 use Rattle.kernel_core.specs.Runs.{Machine}
 use Rattle.kernel_core.specs.Theorems.{steps_of, end_world, IsOnTime, SettlesOnTime, NeverFaults, IsMirrored}
-use Rattle.kernel_core.specs.declared.runner.Ran.{Ran}
-use Rattle.kernel_core.specs.declared.runner.Ran.TheVariants.{Went, Ended, Stopped}
-use Rattle.kernel_core.specs.declared.job.Travel.{Travel}
-use Rattle.kernel_core.specs.declared.job.Turn.TheVariants.{Going as GoesOn}
-use Rattle.kernel_core.specs.declared.job.Way.{Way}
-use Rattle.kernel_core.specs.declared.job.Way.TheVariants.{Up, Down}
+use Rattle.kernel_core.specs.Turn.{GoesOn}
 use Rattle.kernel_core.specs.declared.outcome.Sliced.{Sliced}
 use Rattle.kernel_core.proofs.LanguageLaws.{exec_inverted, part_inverted, exec_no_stop, exec_same}
-use Rattle.kernel_core.proofs.Trees.{run_above, run_below}
-use Rattle.kernel_core.proofs.Standing.{up_possible, down_possible}
+use Rattle.kernel_core.proofs.Trees.{run_above, run_below, up_possible, next_below}
 
 -- the code of an undo or a redo has this run
-ran_by : (s : Past) (travel : Travel) (way : Way) → IsLegal s → IsPossible s.nodes s.favourites s.position travel → travel.way ≡ way → Exec (code_of s (Move travel)) (here s) (steps_of s travel) (end_world s travel)
-ran_by s travel Up g p way = rw way (run_above s g (up_possible s.nodes s.favourites s.position travel way p).0)
-ran_by s travel Down g p way = rw way (run_below s g (down_possible s.nodes s.favourites s.position travel way p).0)
+ran_by : (s : Past) (travel : Travel) (way : Way) → IsLegal s → IsPossible s.nodes s.favourites s.position travel → next_way travel ≡ way → Exec (code_of s (Move travel)) (here s) (steps_of s travel) (end_world s travel)
+ran_by s travel Up g p way = rw (way, code_of, steps_of, end_world) (run_above s g (up_possible s travel way p).0)
+ran_by s travel Down g p way = rw (way, code_of, steps_of, end_world) (run_below s (below s travel) g (next_below s travel g way p))
 
 pub ran_to_end : (s : Past) (travel : Travel) → IsLegal s → IsPossible s.nodes s.favourites s.position travel → Exec (code_of s (Move travel)) (here s) (steps_of s travel) (end_world s travel)
-ran_to_end s travel g p = ran_by s travel travel.way g p refl
+ran_to_end s travel g p = ran_by s travel (next_way travel) g p refl
 
 pub never_faults : NeverFaults
 never_faults s travel m j fault w g p r = exec_no_stop _ _ _ _ _ _ (ran_to_end s travel g p) r.1
 
-comes_on_time : (s : Past) (travel : Travel) (c m : ℕ) (ran : Ran) (w : World) (told : Sliced) (new : State) → IsLegal s → IsPossible s.nodes s.favourites s.position travel →
+comes_on_time : (s : Past) (travel : Travel) (c m : ℕ) (ran : Progress) (w : World) (told : Sliced) (new : State) → IsLegal s → IsPossible s.nodes s.favourites s.position travel →
     Reaches (code_of s (Move travel)) (here s) (c + m) ran w → Comes s (Move travel) (c + m) ran w told new → IsOnTime s travel c m told new
 comes_on_time s travel c m Went w told new g p r a =
     let ran = ran_to_end s travel g p in

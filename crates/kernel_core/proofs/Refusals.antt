@@ -13,7 +13,7 @@ use Rattle.janus_check.proofs.FormedLemmas.{formed_no_faults}
 use Rattle.kernel_core.specs.Language.{IsSound}
 use Rattle.kernel_core.specs.Text.{meant_cell, Accepts, IsUnformed, Refuses}
 use Rattle.kernel_core.specs.declared.outcome.Refusal.{Refusal}
-use Rattle.kernel_core.specs.declared.outcome.Refusal.TheVariants.{Syntax, Check, TooFar, Memory}
+use Rattle.kernel_core.specs.declared.outcome.Refusal.TheVariants.{Syntax, Check, TooFar, NoNode, Memory}
 use Rattle.kernel_core.proofs.Places.{faults_at, one_first}
 
 pub one_cell : (w : World) (text : List ℕ) (c d : Cell) → Accepts w text c → Accepts w text d → c ≡ d
@@ -31,7 +31,9 @@ pub one_answer : (w : World) (text : List ℕ) (r q : Refusal) → Refuses w tex
 one_answer w text Memory q a real b other = absurd (real refl)
 one_answer w text r Memory a real b other = absurd (other refl)
 one_answer w text TooFar q a real b other = absurd a
+one_answer w text NoNode q a real b other = absurd a
 one_answer w text r TooFar a real b other = absurd b
+one_answer w text r NoNode a real b other = absurd b
 one_answer w text (Syntax f) (Syntax h) a real b other = ap Syntax (one_refusal text f h a b)
 one_answer w text (Check f) (Check h) a real b other = ap Check (one_check w text f h a b)
 one_answer w text (Syntax f) (Check h) a real b other = absurd (tree_or_refusal text b.tree f b.is_tree a)
@@ -44,6 +46,7 @@ nothing_there f fs e c = let l = subst (λ (xs : List check.CheckFault). c.0 < l
 pub not_both : (w : World) (text : List ℕ) (c : Cell) (r : Refusal) → IsSound w → Accepts w text c → Refuses w text r → (r ≡ Memory → ⊥) → ⊥
 not_both w text c Memory sound a b real = real refl
 not_both w text c TooFar sound a b real = b
+not_both w text c NoNode sound a b real = b
 not_both w text c (Syntax f) sound a b real = tree_or_refusal text a.tree f a.is_tree b
 not_both w text c (Check f) sound a b real =
     let same : b.tree ≡ a.tree = one_tree text b.tree a.tree b.is_tree a.is_tree in

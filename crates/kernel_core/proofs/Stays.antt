@@ -1,23 +1,19 @@
 -- Each state that is reached is legal.
-use Rattle.std.proofs.Common.{◌≡◌, ℕ, ◌+◌, ◌-◌, Bool, true, false, IsTrue, List, [], ◌∷◌, zero, suc, refl, sym, ap, subst, arith, inl, inr}
+use Rattle.std.proofs.lemmas.Bool.Decides.{nat_tests}
+use Rattle.std.specs.Prelude.{nat_lt, length}
+use Rattle.std.proofs.Common.{◌≡◌, ℕ, ◌+◌, ◌-◌, ◌<◌, Bool, true, false, List, [], ◌∷◌, zero, suc, refl, sym, ap, subst, arith, inl, inr}
 use Rattle.janus_meaning.specs.World.{World}
 use Rattle.kernel_core.specs.Language.{Exec}
-use Rattle.kernel_core.specs.Reached.{Reaches}
-use Rattle.kernel_core.specs.State.{Past, Work, Posted, Move, Job as Open, Idle, Border, Inside, State, here, code_of, node_at, favourite_of}
-use Rattle.kernel_core.specs.Legal.{can_go, IsLegal, IsPossible, IsPossibleWork, IsPossibleAt, IsInTime, IsLegalState}
-use Rattle.kernel_core.specs.Slices.{Backs, Arrives, Settles, Comes, SlicesIn, SlicesAt}
-use Rattle.kernel_core.specs.Begins.{Enters, TakesMove, TakesCell}
-use Rattle.kernel_core.specs.Runs.{Machine, Request, RunCell, Undo, Redo, request_of, Step, BeginsAt, Takes}
+use Rattle.kernel_core.specs.Reached.{Reaches, Progress, Went, Ended, Stopped}
+use Rattle.kernel_core.specs.State.{Past, Work, Posted, Move, Job as Open, Idle, Border, Inside, State, here, code_of}
+use Rattle.kernel_core.specs.Legal.{CanGo, IsLegal, IsPossible, IsPossibleWork, IsPossibleAt, IsInTime, IsLegalState}
+use Rattle.kernel_core.specs.Slices.{cells, stepped, moved, Backs, Arrives, Settles, Comes, SlicesIn, SlicesAt}
+use Rattle.kernel_core.specs.Begins.{travel_to, Enters, Departs, TakesMove, TakesGoto, TakesCell}
+use Rattle.kernel_core.specs.Runs.{Machine, Request, RunCell, Undo, Redo, Goto, request_of, Step, BeginsAt, Takes}
 use Rattle.kernel_core.specs.Theorems.{NewIsLegal, StaysLegal}
-use Rattle.kernel_core.specs.declared.runner.Ran.{Ran}
-use Rattle.kernel_core.specs.declared.runner.Ran.TheVariants.{Went, Ended, Stopped}
-use Rattle.kernel_core.specs.declared.job.Way.{Way}
-use Rattle.kernel_core.specs.declared.job.Way.TheVariants.{Up, Down}
-use Rattle.kernel_core.specs.declared.job.Travel.{Travel}
-use Rattle.kernel_core.specs.declared.job.Why.{Why}
-use Rattle.kernel_core.specs.declared.job.Why.TheVariants.{Asked as WasAsked, Faulted}
-use Rattle.kernel_core.specs.declared.job.Turn.{Turn}
-use Rattle.kernel_core.specs.declared.job.Turn.TheVariants.{Going as GoesOn, Backing as GoesBack}
+use Rattle.kernel_core.specs.Travel as aim
+use Rattle.kernel_core.specs.Travel.{Travel}
+use Rattle.kernel_core.specs.Turn.{Why, WasAsked, Faulted, Turn, GoesOn, GoesBack}
 use Rattle.kernel_core.specs.declared.outcome.Begun.{Begun}
 use Rattle.kernel_core.specs.declared.outcome.Sliced.{Sliced}
 use Rattle.kernel_core.specs.declared.events.Event.{Event}
@@ -26,18 +22,17 @@ use Rattle.kernel_core.specs.declared.events.Told.{Told}
 use Rattle.kernel_core.specs.declared.events.Told.TheVariants as told
 use Rattle.kernel_core.proofs.LanguageLaws.{exec_some}
 use Rattle.kernel_core.proofs.Texts.{accepted_formed}
-use Rattle.kernel_core.proofs.Trees.{legal_grown, legal_up, legal_down, new_legal}
-use Rattle.kernel_core.proofs.Standing.{up_possible, down_possible}
+use Rattle.kernel_core.proofs.Trees.{legal_grown, moved_legal, meeting_way, new_legal}
 use Rattle.kernel_core.proofs.Jobs.{post_keeps}
 
 pub new_is_legal : NewIsLegal
 new_is_legal = (record { legal = new_legal; possible = tt; in_time = tt }, refl)
 
 -- the state that is known
-legal_at : (s new : State) → new ≡ s → IsLegalState s → IsLegalState new
+pub legal_at : (s new : State) → new ≡ s → IsLegalState s → IsLegalState new
 legal_at s new e g = subst (λ (x : State). IsLegalState x) (sym e) g
 
-legal_idle : (s : Past) (new : State) → IsLegal s → new ≡ record { past = s; job = Idle } → IsLegalState new
+pub legal_idle : (s : Past) (new : State) → IsLegal s → new ≡ record { past = s; job = Idle } → IsLegalState new
 legal_idle s new g e = legal_at (record { past = s; job = Idle }) new e (record { legal = g; possible = tt; in_time = tt })
 
 legal_inside : (s : Past) (work : Work) (c : ℕ) (turn : Turn) (new : State) → IsLegal s → IsPossibleWork s work → IsInTime s work c turn → new ≡ record { past = s; job = Inside (record { work = work; count = c; turn = turn }) } → IsLegalState new
@@ -49,24 +44,18 @@ backs_legal : (s : Past) (work : Work) (why : Why) (c : ℕ) (told : Sliced) (ne
 backs_legal s work why zero told new g p b = legal_idle s new g b.1
 backs_legal s work why (suc c) told new g p b = legal_inside s work (suc c) (GoesBack why) new g p (omega arith) b.1
 
-arrives_legal : (s : Past) (way : Way) (left done : ℕ) (told : Sliced) (new : State) → IsLegal s → IsTrue (can_go s.nodes s.favourites s.position way left) → Arrives s way left done told new → IsLegalState new
-arrives_legal s way zero done told new g can a = legal_idle s new g a.1
-arrives_legal s way (suc left) done told new g can a =
-    legal_at (record { past = s; job = Border (record { way = way; left = suc left; done = done + 1 }) }) new a.1 (record { legal = g; possible = record { some = omega arith; way_there = can }; in_time = tt })
-
-move_legal : (s : Past) (travel : Travel) (way : Way) (n : ℕ) (w : World) (told : Sliced) (new : State) → travel.way ≡ way → IsLegal s → IsPossible s.nodes s.favourites s.position travel → Settles s (Move travel) n w told new → IsLegalState new
-move_legal s travel Up n w told new way g p a =
-    let can = up_possible s.nodes s.favourites s.position travel way p in
-    arrives_legal (record s { position = (node_at s s.position).parent }) Up (travel.left - 1) travel.done told new (legal_up s g) can.1 (rw way at a)
-move_legal s travel Down n w told new way g p a =
-    let can = down_possible s.nodes s.favourites s.position travel way p in
-    arrives_legal (record s { position = favourite_of s s.position }) Down (travel.left - 1) travel.done told new (legal_down s g can.0) can.1 (rw way at a)
+arrives_legal : (left : ℕ) (s : Past) (t : Travel) (told : Sliced) (new : State) → left ≡ cells t → IsLegal s → CanGo t.aim s.nodes s.favourites s.position t.up t.down → Arrives left s t told new → IsLegalState new
+arrives_legal zero s t told new e g can a = legal_idle s new g a.1
+arrives_legal (suc left) s t told new e g can a =
+    legal_at (record { past = s; job = Border t }) new a.1 (record { legal = g; possible = record { some = omega arith; way_there = can }; in_time = tt })
 
 settles_legal : (s : Past) (work : Work) (n : ℕ) (w : World) (told : Sliced) (new : State) → IsLegal s → IsPossibleWork s work → Exec (code_of s work) (here s) n w → Settles s work n w told new → IsLegalState new
 settles_legal s (Posted cell) n w told new g p e a = legal_idle _ new (legal_grown s cell n w g p e) a.1
-settles_legal s (Move travel) n w told new g p e a = move_legal s travel travel.way n w told new refl g p a
+settles_legal s (Move travel) n w told new g p e a =
+    let on = moved_legal s travel g p in
+    arrives_legal (cells (stepped travel)) (moved s travel) (stepped travel) told new refl on.0 on.1 a
 
-comes_legal : (s : Past) (work : Work) (c : ℕ) (ran : Ran) (w : World) (told : Sliced) (new : State) → IsLegal s → IsPossibleWork s work → Reaches (code_of s work) (here s) c ran w → Comes s work c ran w told new → IsLegalState new
+comes_legal : (s : Past) (work : Work) (c : ℕ) (ran : Progress) (w : World) (told : Sliced) (new : State) → IsLegal s → IsPossibleWork s work → Reaches (code_of s work) (here s) c ran w → Comes s work c ran w told new → IsLegalState new
 comes_legal s work c Went w told new g p r a = legal_inside s work c GoesOn new g p r.1 a.1
 comes_legal s work c (Ended n) w told new g p r a = settles_legal s work n w told new g p r.0 a
 comes_legal s work c (Stopped j f) w told new g p r a = backs_legal s work (Faulted f j) j told new g p a
@@ -76,23 +65,34 @@ slices_legal s work c GoesOn m false told new g p a = comes_legal s work (c + m)
 slices_legal s work c GoesOn m true told new g p a = backs_legal s work (WasAsked c) (c - m) told new g p a
 slices_legal s work c (GoesBack why) m asked told new g p a = backs_legal s work why (c - m) told new g p a
 
-slice_legal : (s : Past) (job : Open) (m : ℕ) (asked : Bool) (told : Sliced) (new : State) → IsLegal s → IsPossibleAt s job → SlicesAt s job m asked told new → IsLegalState new
+pub slice_legal : (s : Past) (job : Open) (m : ℕ) (asked : Bool) (told : Sliced) (new : State) → IsLegal s → IsPossibleAt s job → SlicesAt s job m asked told new → IsLegalState new
 slice_legal s Idle m asked told new g p a = legal_idle s new g a.1
 slice_legal s (Border t) m asked told new g p a = legal_at (record { past = s; job = Border t }) new a.1 (record { legal = g; possible = p; in_time = tt })
 slice_legal s (Inside e) m asked told new g p a = slices_legal s e.work e.count e.turn m asked told new g p a
 
 -- ---- begins
 
-enters_legal : (s : Past) (t : Travel) (answer : Begun) (new : State) → IsLegal s → IsPossible s.nodes s.favourites s.position t → Enters s t answer new → IsLegalState new
+pub enters_legal : (s : Past) (t : Travel) (answer : Begun) (new : State) → IsLegal s → IsPossible s.nodes s.favourites s.position t → Enters s t answer new → IsLegalState new
 enters_legal s t answer new g p a = elim a [
   | inl b ↦ legal_inside s (Move t) 0 GoesOn new g p (exec_some (code_of s (Move t)) (here s)) b.1
   | inr b ↦ legal_idle s new g b.2
 ]
 
-takes_move_legal : (s : Past) (way : Way) (k : ℕ) (can : Bool) (answer : Begun) (new : State) → IsLegal s → can_go s.nodes s.favourites s.position way k ≡ can → TakesMove s way k can answer new → IsLegalState new
-takes_move_legal s way k false answer new g e a = legal_idle s new g a.1
-takes_move_legal s way zero true answer new g e a = legal_idle s new g a.1
-takes_move_legal s way (suc k) true answer new g e a = enters_legal s (record { way = way; left = suc k; done = 0 }) answer new g (record { some = omega arith; way_there = e }) a
+departs_legal : (left : ℕ) (s : Past) (t : Travel) (answer : Begun) (new : State) → left ≡ cells t → IsLegal s → CanGo t.aim s.nodes s.favourites s.position t.up t.down → Departs left s t answer new → IsLegalState new
+departs_legal zero s t answer new e g can a = legal_idle s new g a.1
+departs_legal (suc left) s t answer new e g can a = enters_legal s t answer new g (record { some = omega arith; way_there = can }) a
+
+takes_move_legal : (s : Past) (t : Travel) (can : Bool) (answer : Begun) (new : State) → IsLegal s → (can ≡ true → CanGo t.aim s.nodes s.favourites s.position t.up t.down) → TakesMove s t can answer new → IsLegalState new
+takes_move_legal s t false answer new g e a = legal_idle s new g a.1
+takes_move_legal s t true answer new g e a = departs_legal (cells t) s t answer new refl g (e refl) a
+
+takes_goto_legal : (s : Past) (n : ℕ) (known : Bool) (answer : Begun) (new : State) → IsLegal s → (known ≡ true → n < length s.nodes) → TakesGoto s n known answer new → IsLegalState new
+takes_goto_legal s n false answer new g e a = legal_idle s new g a.1
+takes_goto_legal s n true answer new g e a =
+    departs_legal (a.0 + a.1) s (travel_to (aim.Goto n) a.0 a.1) answer new refl g (meeting_way s n a.0 a.1 g (e refl) a.2) a.3
+
+lt_is : (a b : ℕ) → nat_lt a b ≡ true → a < b
+lt_is a b e = grind (arith, nat_tests)
 
 takes_cell_legal : (s : Past) (text : List ℕ) (answer : Begun) (new : State) → IsLegal s → TakesCell s text answer new → IsLegalState new
 takes_cell_legal s text answer new g a = elim a [
@@ -100,10 +100,11 @@ takes_cell_legal s text answer new g a = elim a [
   | inr b ↦ legal_idle s new g b.3
 ]
 
-takes_legal : (s : Past) (r : Request) (answer : Begun) (new : State) → IsLegal s → Takes s r answer new → IsLegalState new
+pub takes_legal : (s : Past) (r : Request) (answer : Begun) (new : State) → IsLegal s → Takes s r answer new → IsLegalState new
 takes_legal s (RunCell text silent store) answer new g a = takes_cell_legal s text answer new g a
-takes_legal s (Undo k) answer new g a = takes_move_legal s Up k _ answer new g refl a
-takes_legal s (Redo k) answer new g a = takes_move_legal s Down k _ answer new g refl a
+takes_legal s (Undo k) answer new g a = takes_move_legal s (travel_to aim.Undo k 0) _ answer new g (λ e. (refl, e)) a
+takes_legal s (Redo k) answer new g a = takes_move_legal s (travel_to aim.Redo 0 k) _ answer new g (λ e. (refl, e)) a
+takes_legal s (Goto n) answer new g a = takes_goto_legal s n _ answer new g (λ e. lt_is n (length s.nodes) e) a
 
 begins_legal : (old : Machine) (job : Open) (queue : List Request) (answer : Begun) (new : Machine) → IsLegalState old.state → IsPossibleAt old.state.past job → BeginsAt old job queue answer new → IsLegalState new.state
 begins_legal old Idle [] answer new g p a = legal_at old.state new.state (ap (λ (m : Machine). m.state) a.1) g

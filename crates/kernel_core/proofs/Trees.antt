@@ -4,10 +4,11 @@ use Rattle.std.proofs.lemmas.List.{get_or_append_left, get_or_at, get_or-set_sam
 use Rattle.std.proofs.lemmas.Bool.{cases_eq}
 use Rattle.std.proofs.lemmas.Bool.Decides.{nat_tests}
 use Rattle.janus_meaning.specs.World.{World, empty_world, Cell, entered}
+use Rattle.kernel_core.specs.Travel.{way_from, next_way, Way, Up, Down, Aim, Undo, Redo, Goto, Travel}
 use Rattle.kernel_core.specs.Language.{Forward, Backward, Exec, IsFormed, IsSound, end_of}
-use Rattle.kernel_core.specs.State.{Past, Node, new_state, root, node_at, world_at, here, favourite_of, worlds_from}
-use Rattle.kernel_core.specs.Legal.{ancestor, can_undo, can_redo, IsRun, IsChild, IsLegal}
-use Rattle.kernel_core.specs.Slices.{grown}
+use Rattle.kernel_core.specs.State.{Past, Node, new_state, root, ancestor, node_at, world_at, here, favourite_of, below_by, below, worlds_from}
+use Rattle.kernel_core.specs.Legal.{can_undo, can_redo, IsRun, IsChild, IsLegal, IsWayTo, CanGo, IsPossible, IsMeeting}
+use Rattle.kernel_core.specs.Slices.{cells, stepped, moved, grown}
 use Rattle.kernel_core.proofs.LanguageLaws.{exec_sound, exec_same, exec_inverted, end_of_root, empty_sound}
 
 pub worlds-more : (worlds : List World) (nodes : List Node) (node : Node) →
@@ -29,22 +30,42 @@ parent_below s (suc n) g l =
     let low = run.parent in
     omega arith
 
-pub ancestor_below : (s : Past) (j : ℕ) → IsLegal s → ancestor s.nodes s.position j ≤ s.position
-ancestor_below s zero g = omega arith
-ancestor_below s (suc j) g =
-    let low = ancestor_below s j g in
-    let within : ancestor s.nodes s.position j < length s.nodes = let p = g.position in omega arith in
-    let step = parent_below s (ancestor s.nodes s.position j) g within in
+pub ancestors_below : (s : Past) (n j : ℕ) → IsLegal s → n < length s.nodes → ancestor s.nodes n j ≤ n
+ancestors_below s n zero g l = omega arith
+ancestors_below s n (suc j) g l =
+    let low = ancestors_below s n j g l in
+    let within : ancestor s.nodes n j < length s.nodes = omega arith in
+    let step = parent_below s (ancestor s.nodes n j) g within in
     omega arith
 
-favoured_down : (s : Past) (j : ℕ) → IsLegal s → (node_at s (favourite_of s s.position)).parent ≡ s.position → 0 < ancestor s.nodes (favourite_of s s.position) j →
-    favourite_of s (ancestor s.nodes (favourite_of s s.position) (suc j)) ≡ ancestor s.nodes (favourite_of s s.position) j
-favoured_down s zero g parent above = ap (λ (n : ℕ). favourite_of s n) parent
-favoured_down s (suc j) g parent above =
-    let same : ancestor s.nodes (favourite_of s s.position) (suc j) ≡ ancestor s.nodes s.position j = sym (ancestor_of_parent s.nodes (favourite_of s s.position) j) ∙ ap (λ (n : ℕ). ancestor s.nodes n j) parent in
-    let here : 0 < ancestor s.nodes s.position j = subst (λ (n : ℕ). 0 < n) same above in
-    let one : (node_at s (ancestor s.nodes (favourite_of s s.position) (suc j))).parent ≡ (node_at s (ancestor s.nodes s.position j)).parent = ap (λ (n : ℕ). (node_at s n).parent) same in
-    ap (λ (n : ℕ). favourite_of s n) one ∙ g.favoured j here ∙ sym same
+pub ancestor_below : (s : Past) (j : ℕ) → IsLegal s → ancestor s.nodes s.position j ≤ s.position
+ancestor_below s j g = ancestors_below s s.position j g g.position
+
+-- above a child stand the position and what is above it
+child_ancestor : (s : Past) (c j : ℕ) → (node_at s c).parent ≡ s.position → ancestor s.nodes c (suc j) ≡ ancestor s.nodes s.position j
+child_ancestor s c j parent = sym (ancestor_of_parent s.nodes c j) ∙ ap (λ (n : ℕ). ancestor s.nodes n j) parent
+
+-- the position goes down to this child
+pub record IsNext (s : Past) (c : ℕ) : Type 0 where
+  pub some : 0 < c
+  pub known : c < length s.nodes
+  pub parent : (node_at s c).parent ≡ s.position
+
+favoured_down : (s : Past) (c j : ℕ) → IsLegal s → IsNext s c → 0 < ancestor s.nodes c j →
+    get_or (set s.favourites s.position c) (ancestor s.nodes c (suc j)) 0 ≡ ancestor s.nodes c j
+favoured_down s c zero g next above =
+    ap (λ (n : ℕ). get_or (set s.favourites s.position c) n 0) next.parent ∙ get_or-set_same s.favourites s.position c 0 (rw g.favourites g.position)
+favoured_down s c (suc j) g next above =
+    let same = child_ancestor s c j next.parent in
+    let more = child_ancestor s c (suc j) next.parent in
+    let some : 0 < ancestor s.nodes s.position j = subst (λ (n : ℕ). 0 < n) same above in
+    let low = ancestor_below s j g in
+    let within : ancestor s.nodes s.position j < length s.nodes = let p = g.position in omega arith in
+    let run : IsRun s.nodes s.worlds (ancestor s.nodes s.position j) = g.ran (ancestor s.nodes s.position j) some within in
+    let less : ancestor s.nodes s.position (suc j) < s.position = let h = run.parent in omega arith in
+    ap (λ (n : ℕ). get_or (set s.favourites s.position c) n 0) more
+    ∙ get_or-set_other s.favourites s.position (ancestor s.nodes s.position (suc j)) c 0 (λ e. absurd (omega arith))
+    ∙ g.favoured j some ∙ sym same
 
 pub legal_up : (s : Past) → IsLegal s → IsLegal (record s { position = (node_at s s.position).parent })
 legal_up s g =
@@ -65,21 +86,31 @@ legal_up s g =
           ∙ sym (ancestor_of_parent s.nodes s.position j);
     }
 
-pub legal_down : (s : Past) → IsLegal s → 0 < favourite_of s s.position → IsLegal (record s { position = favourite_of s s.position })
-legal_down s g some =
-    let child : IsChild s.nodes s.favourites s.position = g.children s.position g.position some in
-    record {
-      rooted = g.rooted;
-      nothing_at_root = g.nothing_at_root;
-      worlds = g.worlds;
-      favourites = g.favourites;
-      ran = g.ran;
-      sound = g.sound;
-      children = g.children;
-      position = child.known;
-      root_parent = g.root_parent;
-      favoured = λ j above. favoured_down s j g child.parent above;
-    }
+child_set : (s : Past) (c i : ℕ) → IsLegal s → IsNext s c → i < length s.nodes → 0 < get_or (set s.favourites s.position c) i 0 → IsChild s.nodes (set s.favourites s.position c) i
+child_set s c i g next l above = elim (cases_eq i s.position) [
+  | inl same ↦
+      (let it : get_or (set s.favourites s.position c) i 0 ≡ c = rw same (get_or-set_same s.favourites s.position c 0 (rw g.favourites g.position)) in
+      record { known = rw it next.known; parent = rw it (next.parent ∙ sym same) })
+  | inr other ↦
+      (let it : get_or (set s.favourites s.position c) i 0 ≡ get_or s.favourites i 0 = get_or-set_other s.favourites s.position i c 0 other in
+      let child : IsChild s.nodes s.favourites i = g.children i l (omega arith) in
+      record { known = rw it child.known; parent = rw it child.parent })
+]
+
+-- a step down to a child, which is the favourite then
+pub legal_down : (s : Past) (c : ℕ) → IsLegal s → IsNext s c → IsLegal (record s { favourites = set s.favourites s.position c; position = c })
+legal_down s c g next = record {
+  rooted = g.rooted;
+  nothing_at_root = g.nothing_at_root;
+  worlds = g.worlds;
+  favourites = length-set s.favourites s.position c ∙ g.favourites;
+  ran = g.ran;
+  sound = g.sound;
+  children = λ i l above. child_set s c i g next l above;
+  position = next.known;
+  root_parent = g.root_parent;
+  favoured = λ j above. favoured_down s c j g next above;
+}
 
 -- an undo that is open stands above the root, and can go on from the parent
 not_zero : (n : ℕ) (b : Bool) → IsTrue (if n == 0 then false else b) → (0 < n) × IsTrue b
@@ -248,20 +279,21 @@ parent_sound s g l =
     let above : (node_at s s.position).parent < length s.nodes = let h = run.parent in let k = g.position in omega arith in
     g.sound (node_at s s.position).parent above
 
-pub child_here : (s : Past) → IsLegal s → 0 < favourite_of s s.position → IsChild s.nodes s.favourites s.position
-child_here s g l = g.children s.position g.position l
+-- the favourite of the position is a child of it
+pub favourite_next : (s : Past) → IsLegal s → 0 < favourite_of s s.position → IsNext s (favourite_of s s.position)
+favourite_next s g l =
+    let child = g.children s.position g.position l in
+    record { some = l; known = child.known; parent = child.parent }
 
-pub run_below : (s : Past) → IsLegal s → 0 < favourite_of s s.position → Exec (Forward (node_at s (favourite_of s s.position)).cell) (here s) (node_at s (favourite_of s s.position)).steps (world_at s (favourite_of s s.position))
-run_below s g l =
-    let child = child_here s g l in
-    let run : IsRun s.nodes s.worlds (favourite_of s s.position) = g.ran (favourite_of s s.position) l child.known in
-    rw child.parent at run.ran
+pub run_below : (s : Past) (c : ℕ) → IsLegal s → IsNext s c → Exec (Forward (node_at s c).cell) (here s) (node_at s c).steps (world_at s c)
+run_below s c g next =
+    let run : IsRun s.nodes s.worlds c = g.ran c next.some next.known in
+    rw next.parent at run.ran
 
-pub formed_below : (s : Past) → IsLegal s → 0 < favourite_of s s.position → IsFormed (node_at s (favourite_of s s.position)).cell (here s)
-formed_below s g l =
-    let child = child_here s g l in
-    let run : IsRun s.nodes s.worlds (favourite_of s s.position) = g.ran (favourite_of s s.position) l child.known in
-    rw child.parent at run.formed
+pub formed_below : (s : Past) (c : ℕ) → IsLegal s → IsNext s c → IsFormed (node_at s c).cell (here s)
+formed_below s c g next =
+    let run : IsRun s.nodes s.worlds c = g.ran c next.some next.known in
+    rw next.parent at run.formed
 
 -- the inverse of the position's cell leads to where that cell's statements began
 pub run_above : (s : Past) → IsLegal s → 0 < s.position → Exec (Backward (node_at s s.position).cell) (here s) (node_at s s.position).steps (entered (node_at s s.position).cell (world_at s (node_at s s.position).parent))
@@ -272,9 +304,170 @@ pub undone_world : (s : Past) (n : ℕ) (w : World) → IsLegal s → 0 < s.posi
     w ≡ entered (node_at s s.position).cell (world_at s (node_at s s.position).parent)
 undone_world s n w g l e = (exec_same _ _ _ _ _ _ e (run_above s g l)).1
 
-pub redone_world : (s : Past) (n : ℕ) (w : World) → IsLegal s → 0 < favourite_of s s.position → Exec (Forward (node_at s (favourite_of s s.position)).cell) (here s) n w →
-    w ≡ world_at s (favourite_of s s.position)
-redone_world s n w g l e = (exec_same _ _ _ _ _ _ e (run_below s g l)).1
+pub redone_world : (s : Past) (c n : ℕ) (w : World) → IsLegal s → IsNext s c → Exec (Forward (node_at s c).cell) (here s) n w → w ≡ world_at s c
+redone_world s c n w g next e = (exec_same _ _ _ _ _ _ e (run_below s c g next)).1
+
+-- ---- travels
+
+pub way_up : (up : ℕ) → way_from up ≡ Up → 0 < up
+way_up zero e = absurd (cc)
+way_up (suc up) e = omega arith
+
+pub way_down : (up : ℕ) → way_from up ≡ Down → up ≡ 0
+way_down zero e = refl
+way_down (suc up) e = absurd (cc)
+
+pub set_back : (xs : List ℕ) (i : ℕ) → set xs i (get_or xs i 0) ≡ xs
+set_back [] zero = refl
+set_back [] (suc i) = refl
+set_back (x ∷ xs) zero = refl
+set_back (x ∷ xs) (suc i) = ap (λ (ys : List ℕ). x ∷ ys) (set_back xs i)
+
+-- who can go up stays above the root on the way
+pub all_above : (nodes : List Node) (n k j : ℕ) → IsTrue (can_undo nodes n k) → j < k → 0 < ancestor nodes n j
+all_above nodes n zero j h l = absurd (omega arith)
+all_above nodes n (suc k) zero h l = (undo_above nodes n (suc k) (omega arith) h).0
+all_above nodes n (suc k) (suc j) h l =
+    let above = undo_above nodes n (suc k) (omega arith) h in
+    let e : suc k - 1 ≡ k = omega arith in
+    let rest : IsTrue (can_undo nodes (get_or nodes n root).parent k) = rw e at above.1 in
+    subst (λ (x : ℕ). 0 < x) (ancestor_of_parent nodes n j) (all_above nodes (get_or nodes n root).parent k j rest (omega arith))
+
+-- and who stays above it can
+pub above_all : (nodes : List Node) (n k : ℕ) → ((j : ℕ) → j < k → 0 < ancestor nodes n j) → IsTrue (can_undo nodes n k)
+above_all nodes n zero h = refl
+above_all nodes n (suc k) h =
+    let some = h 0 (omega arith) in
+    not_zero_is n _ (λ e. absurd (omega arith))
+    ∙ above_all nodes (get_or nodes n root).parent k (λ j l. subst (λ (x : ℕ). 0 < x) (sym (ancestor_of_parent nodes n j)) (h (suc j) (omega arith)))
+
+-- a travel by its aim goes down next to a child
+goto_next : (s : Past) (n down : ℕ) → IsLegal s → 0 < down → IsWayTo s.nodes s.position n 0 down → IsNext s (ancestor s.nodes n (down - 1))
+goto_next s n down g l w =
+    let low = ancestors_below s n (down - 1) g w.known in
+    let known = w.known in
+    let e : suc (down - 1) ≡ down = omega arith in
+    record {
+      some = all_above s.nodes n down (down - 1) w.above_to (omega arith);
+      known = omega arith;
+      parent = ap (λ (k : ℕ). ancestor s.nodes n k) e ∙ sym w.meet;
+    }
+
+next_by : (aim : Aim) (s : Past) (down : ℕ) → IsLegal s → 0 < down → CanGo aim s.nodes s.favourites s.position 0 down → IsNext s (below_by aim s down)
+next_by Undo s down g l w = absurd (let e = w.0 in omega arith)
+next_by Redo s down g l w = favourite_next s g (redo_below s.favourites s.position down l w.1).0
+next_by (Goto n) s down g l w = goto_next s n down g l w
+
+pub next_below : (s : Past) (travel : Travel) → IsLegal s → next_way travel ≡ Down → IsPossible s.nodes s.favourites s.position travel → IsNext s (below s travel)
+next_below s travel g way p =
+    let none : travel.up ≡ 0 = way_down travel.up way in
+    let some = p.some in
+    next_by travel.aim s travel.down g (omega arith) (subst (λ (up : ℕ). CanGo travel.aim s.nodes s.favourites s.position up travel.down) none p.way_there)
+
+above_by : (aim : Aim) (s : Past) (up down : ℕ) → 0 < up → CanGo aim s.nodes s.favourites s.position up down →
+    (0 < s.position) × CanGo aim s.nodes s.favourites (node_at s s.position).parent (up - 1) down
+above_by Undo s up down l w =
+    let above = undo_above s.nodes s.position up l w.1 in
+    (above.0, (w.0, above.1))
+above_by Redo s up down l w = absurd (let e = w.0 in omega arith)
+above_by (Goto n) s up down l w =
+    let above = undo_above s.nodes s.position up l w.above_from in
+    let e : suc (up - 1) ≡ up = omega arith in (
+      above.0,
+      record {
+        known = w.known;
+        above_from = above.1;
+        above_to = w.above_to;
+        meet = ancestor_of_parent s.nodes s.position (up - 1) ∙ ap (λ (k : ℕ). ancestor s.nodes s.position k) e ∙ w.meet;
+      },
+    )
+
+-- a travel that goes up next stands above the root, and can go on from the parent
+pub up_possible : (s : Past) (travel : Travel) → next_way travel ≡ Up → IsPossible s.nodes s.favourites s.position travel →
+    (0 < s.position) × CanGo travel.aim s.nodes s.favourites (node_at s s.position).parent (travel.up - 1) travel.down
+up_possible s travel way p = above_by travel.aim s travel.up travel.down (way_up travel.up way) p.way_there
+
+down_by : (aim : Aim) (s : Past) (down : ℕ) → IsLegal s → 0 < down → CanGo aim s.nodes s.favourites s.position 0 down →
+    CanGo aim s.nodes (set s.favourites s.position (below_by aim s down)) (below_by aim s down) 0 (down - 1)
+down_by Undo s down g l w = absurd (let e = w.0 in omega arith)
+down_by Redo s down g l w =
+    let rest = redo_below s.favourites s.position down l w.1 in
+    (refl, subst (λ (f : List ℕ). IsTrue (can_redo f (favourite_of s s.position) (down - 1))) (sym (set_back s.favourites s.position)) rest.1)
+down_by (Goto n) s down g l w = record {
+  known = w.known;
+  above_from = refl;
+  above_to = above_all s.nodes n (down - 1) (λ j h. all_above s.nodes n down j w.above_to (omega arith));
+  meet = refl;
+}
+
+pub down_possible : (s : Past) (travel : Travel) → IsLegal s → next_way travel ≡ Down → IsPossible s.nodes s.favourites s.position travel →
+    CanGo travel.aim s.nodes (set s.favourites s.position (below s travel)) (below s travel) 0 (travel.down - 1)
+down_possible s travel g way p =
+    let none : travel.up ≡ 0 = way_down travel.up way in
+    let some = p.some in
+    down_by travel.aim s travel.down g (omega arith) (subst (λ (up : ℕ). CanGo travel.aim s.nodes s.favourites s.position up travel.down) none p.way_there)
+
+-- after a cell the tree is legal, and the rest of the travel can be gone
+moved_by : (s : Past) (travel : Travel) (way : Way) → next_way travel ≡ way → IsLegal s → IsPossible s.nodes s.favourites s.position travel →
+    IsLegal (moved s travel) × CanGo (stepped travel).aim (moved s travel).nodes (moved s travel).favourites (moved s travel).position (stepped travel).up (stepped travel).down
+moved_by s travel Up way g p = rw (way, moved, stepped) (legal_up s g, (up_possible s travel way p).1)
+moved_by s travel Down way g p =
+    let none : travel.up ≡ 0 = way_down travel.up way in
+    rw (way, moved, stepped) (legal_down s (below s travel) g (next_below s travel g way p), subst (λ (up : ℕ). CanGo travel.aim s.nodes (set s.favourites s.position (below s travel)) (below s travel) up (travel.down - 1)) (sym none) (down_possible s travel g way p))
+
+pub moved_legal : (s : Past) (travel : Travel) → IsLegal s → IsPossible s.nodes s.favourites s.position travel →
+    IsLegal (moved s travel) × CanGo (stepped travel).aim (moved s travel).nodes (moved s travel).favourites (moved s travel).position (stepped travel).up (stepped travel).down
+moved_legal s travel g p = moved_by s travel (next_way travel) refl g p
+
+stays_at_root : (s : Past) (n i j : ℕ) → IsLegal s → ancestor s.nodes n i ≡ 0 → ancestor s.nodes n (i + j) ≡ 0
+stays_at_root s n i zero g e = (let h : i + 0 ≡ i = omega arith in rw h e)
+stays_at_root s n i (suc j) g e =
+    let h : i + suc j ≡ suc (i + j) = omega arith in
+    rw h (ap (λ (k : ℕ). (node_at s k).parent) (stays_at_root s n i j g e) ∙ g.root_parent)
+
+-- where two paths meet, there is a way
+pub meeting_way : (s : Past) (n up down : ℕ) → IsLegal s → n < length s.nodes → IsMeeting s.nodes s.position n up down → IsWayTo s.nodes s.position n up down
+meeting_way s n up down g l m = record {
+  known = l;
+  above_from = above_all s.nodes s.position up (λ j h. elim (cases_eq (ancestor s.nodes s.position j) 0) [
+    | inl at ↦ absurd (
+        let far : j + (up - j) ≡ up = omega arith in
+        let root : ancestor s.nodes s.position up ≡ 0 = subst (λ (k : ℕ). ancestor s.nodes s.position k ≡ 0) far (stays_at_root s s.position j (up - j) g at) in
+        let least = (m.least j down (at ∙ sym root ∙ m.same)).0 in
+        omega arith)
+    | inr other ↦ omega (arith, other)
+  ]);
+  above_to = above_all s.nodes n down (λ j h. elim (cases_eq (ancestor s.nodes n j) 0) [
+    | inl at ↦ absurd (
+        let far : j + (down - j) ≡ down = omega arith in
+        let root : ancestor s.nodes n down ≡ 0 = subst (λ (k : ℕ). ancestor s.nodes n k ≡ 0) far (stays_at_root s n j (down - j) g at) in
+        let least = (m.least up j (m.same ∙ root ∙ sym at)).1 in
+        omega arith)
+    | inr other ↦ omega (arith, other)
+  ]);
+  meet = m.same;
+}
+
+pub meeting_same : (nodes : List Node) (a b up down i j : ℕ) → IsMeeting nodes a b up down → IsMeeting nodes a b i j → (up ≡ i) × (down ≡ j)
+meeting_same nodes a b up down i j m h =
+    let one = m.least i j h.same in
+    let other = h.least up down m.same in
+    let p = one.0 in
+    let q = other.0 in
+    let r = one.1 in
+    let t = other.1 in
+    (omega arith, omega arith)
+
+pub stepped_cells : (travel : Travel) → 0 < cells travel → cells (stepped travel) + 1 ≡ cells travel
+stepped_cells travel l = stepped_by travel (next_way travel) refl l
+  where
+    stepped_by : (travel : Travel) (way : Way) → next_way travel ≡ way → 0 < cells travel → cells (stepped travel) + 1 ≡ cells travel
+    stepped_by travel Up way l =
+        let some = way_up travel.up way in
+        rw (way, stepped) (omega arith)
+    stepped_by travel Down way l =
+        let none = way_down travel.up way in
+        rw (way, stepped) (omega arith)
 
 -- ---- a new kernel's tree
 

@@ -1,28 +1,24 @@
 -- What the begin of a job or of its next cell does, by cases.
-use Rattle.std.specs.Prelude.{◌≡◌, ◌≢◌, ◌⊎◌, ℕ, Bool, true, false, List, [], zero, suc}
+use Rattle.std.specs.Prelude.{◌≡◌, ◌≢◌, ◌⊎◌, ℕ, ◌+◌, Bool, true, false, List, [], zero, suc}
 use Rattle.janus_meaning.specs.World.{Cell}
-use Rattle.kernel_core.specs.State.{Past, State, Posted, Move, Entered, Job, Idle, Border, Inside, node_at, here, favourite_of}
-use Rattle.kernel_core.specs.Slices.{finished}
-use Rattle.kernel_core.specs.Legal.{IsPossible, IsCounted}
+use Rattle.kernel_core.specs.Travel.{next_way, Up, Down, Aim, Goto, Travel}
+use Rattle.kernel_core.specs.State.{Past, State, Posted, Move, Entered, Idle, Border, Inside, node_at, here, below}
+use Rattle.kernel_core.specs.Slices.{finished, cells}
+use Rattle.kernel_core.specs.Legal.{IsMeeting}
 use Rattle.kernel_core.specs.Text.{Accepts, Refuses}
-use Rattle.kernel_core.specs.declared.job.Way.{Way}
-use Rattle.kernel_core.specs.declared.job.Way.TheVariants.{Up, Down}
-use Rattle.kernel_core.specs.declared.job.Travel.{Travel}
-use Rattle.kernel_core.specs.declared.job.Turn.TheVariants.{Going as GoesOn}
-use Rattle.kernel_core.specs.declared.job.Phase.{Phase}
-use Rattle.kernel_core.specs.declared.job.Phase.TheVariants as phase
+use Rattle.kernel_core.specs.Turn.{GoesOn}
 use Rattle.kernel_core.specs.declared.outcome.End.TheVariants.{All, NoMemory}
 use Rattle.kernel_core.specs.declared.outcome.Refusal.{Refusal}
-use Rattle.kernel_core.specs.declared.outcome.Refusal.TheVariants.{TooFar}
+use Rattle.kernel_core.specs.declared.outcome.Refusal.TheVariants.{TooFar, NoNode}
 use Rattle.kernel_core.specs.declared.outcome.Outcome.TheVariants as outcome
 use Rattle.kernel_core.specs.declared.outcome.Begun.{Begun}
 use Rattle.kernel_core.specs.declared.outcome.Begun.TheVariants as begun
 
--- the next cell of the job declares names: an undone one does not
+-- the next cell of the travel declares names: an undone one does not
 abbrev pub Declares : Past → Travel → Type 0
-Declares s travel = elim travel.way [ Up ↦ ⊥ | Down ↦ (node_at s (favourite_of s s.position)).cell.declarations ≢ [] ]
+Declares s travel = elim (next_way travel) [ Up ↦ ⊥ | Down ↦ (node_at s (below s travel)).cell.declarations ≢ [] ]
 
--- an undo or a redo enters its next cell; one that declares names may find no memory for them
+-- a travel enters its next cell; one that declares names may find no memory for them
 abbrev pub Enters : Past → Travel → Begun → State → Type 0
 Enters s travel told new =
     ((told ≡ begun.Going) × (new ≡ record { past = s; job = Inside (record { work = Move travel; count = 0; turn = GoesOn }) }))
@@ -44,22 +40,26 @@ RefusesCell s text told new =
 abbrev pub TakesCell : Past → List ℕ → Begun → State → Type 0
 TakesCell s text told new = EntersCell s text told new ⊎ RefusesCell s text told new
 
--- an undo or a redo of k cells is refused whole, or ends at once, or enters its first cell
-abbrev pub TakesMove : Past → Way → ℕ → Bool → Begun → State → Type 0
-TakesMove s way k false told new = (told ≡ begun.Ended (outcome.Refused TooFar)) × (new ≡ record { past = s; job = Idle })
-TakesMove s way zero true told new =
-    (told ≡ begun.Ended (finished (record { way = way; left = 0; done = 0 }) All)) × (new ≡ record { past = s; job = Idle })
-TakesMove s way (suc k) true told new = Enters s (record { way = way; left = suc k; done = 0 }) told new
+-- a travel of so many cells ends at once, or enters its first cell
+abbrev pub Departs : ℕ → Past → Travel → Begun → State → Type 0
+Departs zero s travel told new = (told ≡ begun.Ended (finished travel All)) × (new ≡ record { past = s; job = Idle })
+Departs (suc left) s travel told new = Enters s travel told new
 
--- the job stands in no cell
-abbrev pub IsOutside : Job → Type 0
-IsOutside Idle = Unit {0}
-IsOutside (Border travel) = Unit {0}
-IsOutside (Inside e) = ⊥
+-- a new travel: so many cells up, and then so many down
+abbrev pub travel_to : Aim → ℕ → ℕ → Travel
+travel_to aim up down = record { aim = aim; up = up; down = down; went_up = 0; went_down = 0 }
 
--- where the job stands, and what is then known of it
-abbrev pub IsPhase : State → Phase → Type 0
-IsPhase s phase.Idle = s.job ≡ Idle
-IsPhase s (phase.Border travel) =
-    (s.job ≡ Border travel) × IsPossible s.past.nodes s.past.favourites s.past.position travel × IsCounted travel
-IsPhase s phase.Inside = (e : Entered) × (s.job ≡ Inside e)
+-- a move is refused whole
+abbrev pub RefusesMove : Past → Refusal → Begun → State → Type 0
+RefusesMove s refusal told new = (told ≡ begun.Ended (outcome.Refused refusal)) × (new ≡ record { past = s; job = Idle })
+
+-- an undo or a redo is refused where there are fewer cells than it should go
+abbrev pub TakesMove : Past → Travel → Bool → Begun → State → Type 0
+TakesMove s travel false told new = RefusesMove s TooFar told new
+TakesMove s travel true told new = Departs (cells travel) s travel told new
+
+-- a goto is refused where there is no such node, else it goes up to where the paths meet, and then down
+abbrev pub TakesGoto : Past → ℕ → Bool → Begun → State → Type 0
+TakesGoto s n false told new = RefusesMove s NoNode told new
+TakesGoto s n true told new =
+    (up : ℕ) × (down : ℕ) × IsMeeting s.nodes s.position n up down × Departs (up + down) s (travel_to (Goto n) up down) told new

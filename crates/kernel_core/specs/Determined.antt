@@ -1,20 +1,22 @@
 -- Where memory is ample, the machine gives one answer to each event, and goes on to one state.
-use Rattle.std.specs.Prelude.{◌≡◌, ℕ, ◌⊎◌, List, [], ◌∷◌, Err}
+use Rattle.std.specs.Prelude.{◌≡◌, ◌⊎◌, List, [], ◌∷◌, Err}
 use Rattle.kernel_core.specs.Legal.{IsLegalState}
 use Rattle.kernel_core.specs.Runs.{Machine, Step, Run}
+use Rattle.kernel_core.specs.Slices.{finished}
+use Rattle.kernel_core.specs.Travel.{Travel}
 use Rattle.kernel_core.specs.declared.outcome.End.TheVariants.{NoMemory}
 use Rattle.kernel_core.specs.declared.outcome.Refusal.TheVariants.{Memory}
-use Rattle.kernel_core.specs.declared.outcome.Outcome.TheVariants.{Redid, Refused}
+use Rattle.kernel_core.specs.declared.outcome.Outcome.TheVariants.{Refused}
 use Rattle.kernel_core.specs.declared.outcome.Begun.TheVariants.{Ended}
 use Rattle.kernel_core.specs.declared.kernel.PostFault.TheVariants.{Memory as NoRoom}
 use Rattle.kernel_core.specs.declared.events.Event.{Event}
 use Rattle.kernel_core.specs.declared.events.Told.{Told}
 use Rattle.kernel_core.specs.declared.events.Told.TheVariants as told
 
--- the answer tells want of memory: a refused post, a refused cell, or a redo that ended at a border for it
+-- the answer tells want of memory: a refused post, a refused cell, or a travel that ended at a border for it
 abbrev pub TellsWant : Told → Type 0
 TellsWant (told.Post answer) = answer ≡ Err NoRoom
-TellsWant (told.Begin answer) = (answer ≡ Ended (Refused Memory)) ⊎ ((j : ℕ) × (answer ≡ Ended (Redid j NoMemory)))
+TellsWant (told.Begin answer) = (answer ≡ Ended (Refused Memory)) ⊎ ((travel : Travel) × (answer ≡ Ended (finished travel NoMemory)))
 TellsWant (told.Slice answer) = ⊥
 
 -- none of the answers does

@@ -1,14 +1,14 @@
 -- What a history keeps of its fields: the runner's store is the shown world.
-use Rattle.std.specs.Prelude.{◌≡◌, ℕ, ◌+◌, ◌-◌, ◌<◌, Bool, true, false, get_or, length, vec_len, vec_capacity}
-use Rattle.kernel_core.specs.State.{here, code_of}
-use Rattle.kernel_core.specs.Fields.{past_of, work_of, job_of}
+use Rattle.std.specs.Prelude.{◌≡◌, ℕ, ◌+◌, ◌-◌, ◌<◌, ◌≤◌, Bool, true, false, get_or, length, vec_len, vec_capacity}
+use Rattle.kernel_core.specs.State.{here, ancestor, below, code_of}
+use Rattle.kernel_core.specs.Travel.{Up, Down, Aim, Undo, Redo, Goto, next_way}
+use Rattle.kernel_core.specs.Fields.{nodes_of, past_of, aim_of, travel_of, work_of, job_of}
 use Rattle.kernel_core.specs.Legal.{IsLegal, IsPossibleAt, IsCountedAt}
 use Rattle.kernel_core.specs.Runner.{Stands, world_of}
 use Rattle.kernel_core.specs.declared.program.Program.{Program}
 use Rattle.kernel_core.specs.declared.runner.Runner.{Runner}
 use Rattle.kernel_core.specs.declared.tree.Tree.{Tree}
 use Rattle.kernel_core.specs.declared.tree.Node.{Node}
-use Rattle.kernel_core.specs.declared.job.Way.TheVariants.{Up, Down}
 use Rattle.kernel_core.specs.declared.job.Work.{Work}
 use Rattle.kernel_core.specs.declared.job.Work.TheVariants.{Cell, Move}
 use Rattle.kernel_core.specs.declared.job.Turn.{Turn}
@@ -23,9 +23,9 @@ IsNodeAt tree n node = (0 < n) × (n < length tree.nodes.items + 1) × (node ≡
 -- the program that the work runs, forward or backward
 abbrev pub IsProgramOf : Tree → Work → Program → Type 0
 IsProgramOf tree (Cell program) p = p ≡ program
-IsProgramOf tree (Move travel) p = elim travel.way [
+IsProgramOf tree (Move travel) p = elim (next_way (travel_of travel)) [
   | Up ↦ (node : Node) × IsNodeAt tree tree.position node × (p ≡ node.program)
-  | Down ↦ (node : Node) × IsNodeAt tree (get_or tree.favourites.items tree.position 0) node × (p ≡ node.program)
+  | Down ↦ (node : Node) × IsNodeAt tree (below (past_of tree) (travel_of travel)) node × (p ≡ node.program)
 ]
 
 abbrev pub is_back : Turn → Bool
@@ -48,6 +48,7 @@ StandsAt tree (Inside e) runner = StandsIn tree e.work e.count (is_back e.turn) 
 pub record HasRoom (tree : Tree) : Type 0 where
   pub nodes : vec_len tree.nodes < vec_capacity tree.nodes
   pub favourites : vec_len tree.favourites < vec_capacity tree.favourites
+  pub path : length tree.nodes.items + 1 ≤ vec_capacity tree.path
 
 abbrev pub HasRoomFor : Tree → Work → Type 0
 HasRoomFor tree (Cell program) = HasRoom tree
@@ -58,9 +59,28 @@ HasRoomAt tree Idle = Unit {0}
 HasRoomAt tree (Border travel) = Unit {0}
 HasRoomAt tree (Inside e) = HasRoomFor tree e.work
 
+-- the path of a goto is kept: at each place i its node's ancestor i steps above, for all that are still to be gone down to
+abbrev pub HasPath : Aim → Tree → ℕ → Type 0
+HasPath Undo tree down = Unit {0}
+HasPath Redo tree down = Unit {0}
+HasPath (Goto n) tree down =
+    (down ≤ length tree.path.items) × ((i : ℕ) → i < down → get_or tree.path.items i 0 ≡ ancestor (nodes_of tree) n i)
+
+abbrev pub HasPathFor : Tree → Work → Type 0
+HasPathFor tree (Cell program) = Unit {0}
+HasPathFor tree (Move travel) = HasPath (aim_of travel.aim) tree travel.down
+
+abbrev pub HasPathAt : Tree → Open → Type 0
+HasPathAt tree Idle = Unit {0}
+HasPathAt tree (Border travel) = HasPath (aim_of travel.aim) tree travel.down
+HasPathAt tree (Inside e) = HasPathFor tree e.work
+
 pub record Kept (tree : Tree) (runner : Runner) (job : Open) : Type 0 where
   pub legal : IsLegal (past_of tree)
   pub possible : IsPossibleAt (past_of tree) (job_of job)
   pub counted : IsCountedAt (job_of job)
   pub stands : StandsAt tree job runner
   pub room : HasRoomAt tree job
+  pub path : HasPathAt tree job
+  -- room for a path of all nodes
+  pub path_room : length tree.nodes.items ≤ vec_capacity tree.path

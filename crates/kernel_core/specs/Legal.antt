@@ -1,13 +1,10 @@
 -- Legal trees, and what each state of the machine keeps.
-use Rattle.std.specs.Prelude.{◌≡◌, ℕ, ◌+◌, ◌^◌, ◌<◌, ◌==◌, Bool, true, false, IsTrue, List, length, zero, suc, if◌then◌else◌, get_or}
+use Rattle.std.specs.Prelude.{◌≡◌, ℕ, ◌+◌, ◌^◌, ◌<◌, ◌≤◌, ◌==◌, Bool, true, false, IsTrue, List, length, zero, suc, if◌then◌else◌, get_or}
 use Rattle.janus_meaning.specs.World.{World, empty_world}
 use Rattle.kernel_core.specs.Language.{Forward, Exec, IsFormed, IsSound}
-use Rattle.kernel_core.specs.State.{Past, Node, Work, Posted, Move, Job, Idle, Border, Inside, State, root, node_at, world_at, here, favourite_of, code_of}
-use Rattle.kernel_core.specs.declared.job.Way.{Way}
-use Rattle.kernel_core.specs.declared.job.Way.TheVariants.{Up, Down}
-use Rattle.kernel_core.specs.declared.job.Travel.{Travel}
-use Rattle.kernel_core.specs.declared.job.Turn.{Turn}
-use Rattle.kernel_core.specs.declared.job.Turn.TheVariants.{Going, Backing}
+use Rattle.kernel_core.specs.State.{Past, Node, Work, Posted, Move, Job, Idle, Border, Inside, State, root, ancestor, node_at, world_at, here, favourite_of, code_of}
+use Rattle.kernel_core.specs.Travel.{Aim, Undo, Redo, Goto, Travel}
+use Rattle.kernel_core.specs.Turn.{Turn, GoesOn, GoesBack}
 
 -- the node can go up k times
 abbrev pub can_undo : List Node → ℕ → ℕ → Bool
@@ -18,10 +15,6 @@ can_undo nodes n (suc k) = (if n == 0 then false else can_undo nodes (get_or nod
 abbrev pub can_redo : List ℕ → ℕ → ℕ → Bool
 can_redo favourites n zero = true
 can_redo favourites n (suc k) = (if get_or favourites n 0 == 0 then false else can_redo favourites (get_or favourites n 0) k)
-
-abbrev pub can_go : List Node → List ℕ → ℕ → Way → ℕ → Bool
-can_go nodes favourites n Up k = can_undo nodes n k
-can_go nodes favourites n Down k = can_redo favourites n k
 
 -- the cell of the node n is well formed over its parent's world, and run there it gives the node's world in the node's steps
 pub record IsRun (nodes : List Node) (worlds : List World) (n : ℕ) : Type 0 where
@@ -35,11 +28,6 @@ pub record IsRun (nodes : List Node) (worlds : List World) (n : ℕ) : Type 0 wh
 pub record IsChild (nodes : List Node) (favourites : List ℕ) (n : ℕ) : Type 0 where
   pub known : get_or favourites n 0 < length nodes
   pub parent : (get_or nodes (get_or favourites n 0) root).parent ≡ n
-
--- the node j steps above n; the root is its own parent
-abbrev pub ancestor : List Node → ℕ → ℕ → ℕ
-ancestor nodes n zero = n
-ancestor nodes n (suc j) = (get_or nodes (ancestor nodes n j) root).parent
 
 -- The tree is legal: parents stand before their children, the root's world is empty, and each other node's is that of its cell, run in
 -- its parent's world.
@@ -58,10 +46,23 @@ pub record IsLegal (s : Past) : Type 0 where
       (j : ℕ) → 0 < ancestor s.nodes s.position j →
       favourite_of s (ancestor s.nodes s.position (suc j)) ≡ ancestor s.nodes s.position j
 
--- an open undo or redo has a cell to do, and can do all
+-- up steps above the one and down steps above the other stands the same node: from the one to the other there is a way through it
+pub record IsWayTo (nodes : List Node) (from to up down : ℕ) : Type 0 where
+  pub known : to < length nodes
+  pub above_from : IsTrue (can_undo nodes from up)
+  pub above_to : IsTrue (can_undo nodes to down)
+  pub meet : ancestor nodes from up ≡ ancestor nodes to down
+
+-- all that a travel has still to go can be gone
+abbrev pub CanGo : Aim → List Node → List ℕ → ℕ → ℕ → ℕ → Type 0
+CanGo Undo nodes favourites position up down = (down ≡ 0) × IsTrue (can_undo nodes position up)
+CanGo Redo nodes favourites position up down = (up ≡ 0) × IsTrue (can_redo favourites position down)
+CanGo (Goto n) nodes favourites position up down = IsWayTo nodes position n up down
+
+-- an open travel has a cell to do, and can do all
 pub record IsPossible (nodes : List Node) (favourites : List ℕ) (position : ℕ) (travel : Travel) : Type 0 where
-  pub some : 0 < travel.left
-  pub way_there : IsTrue (can_go nodes favourites position travel.way travel.left)
+  pub some : 0 < travel.up + travel.down
+  pub way_there : CanGo travel.aim nodes favourites position travel.up travel.down
 
 -- what runs can run from the position: a posted cell is well formed over its world
 abbrev pub IsPossibleWork : Past → Work → Type 0
@@ -75,8 +76,8 @@ IsPossibleAt s (Inside e) = IsPossibleWork s e.work
 
 -- a job inside a cell has steps to take: while it goes on, the end of the code is ahead; while it goes back, the count is not 0 yet
 abbrev pub IsInTime : Past → Work → ℕ → Turn → Type 0
-IsInTime s work count Going = (n : ℕ) (w : World) → Exec (code_of s work) (here s) n w → count < n
-IsInTime s work count (Backing why) = 0 < count
+IsInTime s work count GoesOn = (n : ℕ) (w : World) → Exec (code_of s work) (here s) n w → count < n
+IsInTime s work count (GoesBack why) = 0 < count
 
 abbrev pub IsInTimeAt : Past → Job → Type 0
 IsInTimeAt s Idle = Unit {0}
@@ -89,10 +90,17 @@ pub record IsLegalState (s : State) : Type 0 where
   pub possible : IsPossibleAt s.past s.job
   pub in_time : IsInTimeAt s.past s.job
 
--- ---- what the code keeps of the open job beside this: its cells are counted in 32 bits
+-- ---- the way to a node
+
+-- up steps above the one and down steps above the other their paths to the root meet: they have no common node nearer to either
+pub record IsMeeting (nodes : List Node) (from to up down : ℕ) : Type 0 where
+  pub same : ancestor nodes from up ≡ ancestor nodes to down
+  pub least : (i j : ℕ) → ancestor nodes from i ≡ ancestor nodes to j → (up ≤ i) × (down ≤ j)
+
+-- ---- what the code keeps of the open job beside this: its cells are counted in 64 bits
 
 abbrev pub IsCounted : Travel → Type 0
-IsCounted travel = travel.left + travel.done < 2 ^ 32
+IsCounted travel = (travel.up + travel.went_up < 2 ^ 64) × (travel.down + travel.went_down < 2 ^ 64)
 
 abbrev pub IsCountedIn : Work → Type 0
 IsCountedIn (Posted cell) = Unit {0}

@@ -3,6 +3,8 @@ pub mod Text
 pub mod Refusal
 pub mod Program
 pub mod Reached
+pub mod Travel
+pub mod Turn
 pub mod Runner
 pub mod State
 pub mod StateCode

@@ -1,10 +1,10 @@
 -- The kernel machine: a state with a queue, its step for each event, and its runs.
-use Rattle.std.specs.Prelude.{◌≡◌, ℕ, Bool, ◌+◌, ◌%◌, ◌^◌, ◌<◌, ◌≤◌, List, [], ◌∷◌, ◌++◌, length, Result, Ok, Err, string_bytes}
+use Rattle.std.specs.Prelude.{◌≡◌, ℕ, Bool, ◌+◌, ◌%◌, ◌^◌, ◌<◌, ◌≤◌, List, [], ◌∷◌, ◌++◌, length, nat_lt, Result, Ok, Err, string_bytes}
 use Rattle.kernel_core.specs.State.{Past, State, Job as Open, Idle, Border, Inside, new_state}
-use Rattle.kernel_core.specs.Legal.{can_go}
+use Rattle.kernel_core.specs.Legal.{can_undo, can_redo}
 use Rattle.kernel_core.specs.Slices.{IsSlice}
-use Rattle.kernel_core.specs.Begins.{Enters, TakesCell, TakesMove}
-use Rattle.kernel_core.specs.declared.job.Way.TheVariants.{Up, Down}
+use Rattle.kernel_core.specs.Begins.{Enters, TakesCell, TakesMove, TakesGoto, travel_to}
+use Rattle.kernel_core.specs.Travel as aim
 use Rattle.kernel_core.specs.declared.outcome.Begun.{Begun}
 use Rattle.kernel_core.specs.declared.outcome.Begun.TheVariants as begun
 use Rattle.kernel_core.specs.declared.outcome.Sliced.{Sliced}
@@ -22,11 +22,13 @@ pub data Request : Type 0 where
   RunCell : (text : List ℕ) (silent store : Bool) → Request
   Undo : (k : ℕ) → Request
   Redo : (k : ℕ) → Request
+  Goto : (n : ℕ) → Request
 
 abbrev pub request_of : Job → Request
 request_of (job.Cell code silent store) = RunCell (string_bytes code) silent store
 request_of (job.Undo k) = Undo k
 request_of (job.Redo k) = Redo k
+request_of (job.Goto n) = Goto n
 
 pub record Machine : Type 0 where
   pub state : State
@@ -56,8 +58,9 @@ IsPost old posted (Err Memory) new = new ≡ old
 -- a posted job is taken
 abbrev pub Takes : Past → Request → Begun → State → Type 0
 Takes s (RunCell text silent store) answer new = TakesCell s text answer new
-Takes s (Undo k) answer new = TakesMove s Up k (can_go s.nodes s.favourites s.position Up k) answer new
-Takes s (Redo k) answer new = TakesMove s Down k (can_go s.nodes s.favourites s.position Down k) answer new
+Takes s (Undo k) answer new = TakesMove s (travel_to aim.Undo k 0) (can_undo s.nodes s.position k) answer new
+Takes s (Redo k) answer new = TakesMove s (travel_to aim.Redo 0 k) (can_redo s.favourites s.position k) answer new
+Takes s (Goto n) answer new = TakesGoto s n (nat_lt n (length s.nodes)) answer new
 
 -- with no open job the earliest posted one is taken; at a border the next cell is entered; inside a cell nothing
 abbrev pub BeginsAt : Machine → Open → List Request → Begun → Machine → Type 0

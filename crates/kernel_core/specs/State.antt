@@ -1,11 +1,10 @@
 -- The states of the kernel machine: the tree of cells with the worlds of all its nodes, and the open job. No cursor, no stored inverse, no
 -- store.
-use Rattle.std.specs.Prelude.{◌≡◌, ℕ, List, [], ◌∷◌, ◌++◌, get_or}
+use Rattle.std.specs.Prelude.{◌≡◌, ℕ, ◌-◌, List, [], ◌∷◌, ◌++◌, get_or, zero, suc}
 use Rattle.janus_meaning.specs.World.{World, empty_world, Cell}
 use Rattle.kernel_core.specs.Language.{empty_cell, Code, Forward, Backward, Part, end_of}
-use Rattle.kernel_core.specs.declared.job.Way.TheVariants.{Up, Down}
-use Rattle.kernel_core.specs.declared.job.Travel.{Travel}
-use Rattle.kernel_core.specs.declared.job.Turn.{Turn}
+use Rattle.kernel_core.specs.Travel.{Way, Up, Down, Aim, Undo, Redo, Goto, Travel, next_way}
+use Rattle.kernel_core.specs.Turn.{Turn}
 
 -- a cell that ended well, with the steps that it took; or the root
 pub record Node : Type 0 where
@@ -23,7 +22,7 @@ pub record Past : Type 0 where
   pub favourites : List ℕ
   pub position : ℕ
 
--- what runs inside a cell: a posted cell, or the next cell of an undo or a redo
+-- what runs inside a cell: a posted cell, or the next cell of a travel
 pub data Work : Type 0 where
   Posted : (cell : Cell) → Work
   Move : (travel : Travel) → Work
@@ -60,13 +59,27 @@ favourite_of s n = get_or s.favourites n 0
 abbrev pub here : Past → World
 here s = world_at s s.position
 
--- The code that a job runs inside a cell: a posted cell and a redone one forward, an undone one backward. It begins in the world of the
--- position.
+-- the node j steps above n; the root is its own parent
+abbrev pub ancestor : List Node → ℕ → ℕ → ℕ
+ancestor nodes n zero = n
+ancestor nodes n (suc j) = (get_or nodes (ancestor nodes n j) root).parent
+
+-- the node to which a travel goes down next, with so many cells down still to go: towards a node the one so far above it, else the favourite
+abbrev pub below_by : Aim → Past → ℕ → ℕ
+below_by Undo s down = favourite_of s s.position
+below_by Redo s down = favourite_of s s.position
+below_by (Goto n) s down = ancestor s.nodes n (down - 1)
+
+abbrev pub below : Past → Travel → ℕ
+below s travel = below_by travel.aim s travel.down
+
+-- The code that a job runs inside a cell: a posted cell and the one below forward, that of the position backward. It begins in the world of
+-- the position.
 abbrev pub code_of : Past → Work → Code
 code_of s (Posted cell) = Forward cell
-code_of s (Move travel) = elim travel.way [
+code_of s (Move travel) = elim (next_way travel) [
   | Up ↦ Backward (node_at s s.position).cell
-  | Down ↦ Forward (node_at s (favourite_of s s.position)).cell
+  | Down ↦ Forward (node_at s (below s travel)).cell
 ]
 
 -- the world that is shown: at a border or with no job that of the position, else that after the counted steps

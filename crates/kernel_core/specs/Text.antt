@@ -14,7 +14,7 @@ use Rattle.janus_check.specs.declared.fault.CheckFault as check
 use Rattle.janus_check.specs.declared.fault.CheckFault.TheVariants as check_fault
 use Rattle.kernel_core.specs.Program.{numbers}
 use Rattle.kernel_core.specs.declared.outcome.Refusal.{Refusal}
-use Rattle.kernel_core.specs.declared.outcome.Refusal.TheVariants.{Syntax, Check, TooFar, Memory}
+use Rattle.kernel_core.specs.declared.outcome.Refusal.TheVariants.{Syntax, Check, TooFar, NoNode, Memory}
 
 -- a tree read as a cell of the meaning
 abbrev pub meant_cell : Cell → world.Cell
@@ -39,6 +39,7 @@ abbrev pub Refuses : World → List ℕ → Refusal → Type 0
 Refuses w text (Syntax fault) = IsRefusal text fault
 Refuses w text (Check fault) = IsUnformed w text fault
 Refuses w text TooFar = ⊥
+Refuses w text NoNode = ⊥
 Refuses w text Memory = Unit {0}
 
 -- the refusal that a fault is told as: want of memory is one of its own

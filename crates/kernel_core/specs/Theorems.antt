@@ -1,24 +1,23 @@
 -- The main theorem in the subject's own words, over runs of the machine.
-use Rattle.std.specs.Prelude.{◌≡◌, ℕ, Bool, false, ◌+◌, ◌-◌, ◌<◌, ◌≤◌, List, [], ◌∷◌, length, get_or, IsTrue, zero, suc, ◌⊎◌, ◌↔◌}
+use Rattle.std.specs.Prelude.{◌≡◌, ℕ, Bool, true, false, ◌+◌, ◌-◌, ◌<◌, ◌≤◌, List, [], ◌∷◌, length, nat_lt, get_or, IsTrue, zero, suc, ◌⊎◌, ◌↔◌}
 use Rattle.janus_meaning.specs.World.{World, empty_world, Cell, entered}
 use Rattle.janus_meaning.specs.Cells.{IsGoodWorld}
 use Rattle.janus_machine.specs.Faults.{fault_of}
+use Rattle.kernel_core.specs.Travel.{next_way, Travel, Up, Down}
 use Rattle.kernel_core.specs.Language.{Forward, Backward, Part, Exec, Stop}
-use Rattle.kernel_core.specs.Reached.{Reaches}
-use Rattle.kernel_core.specs.State.{Node, Past, Move, Idle, Inside, State, root, node_at, world_at, here, favourite_of, code_of}
-use Rattle.kernel_core.specs.Legal.{ancestor, can_go, IsPossible, IsLegal, IsLegalState}
-use Rattle.kernel_core.specs.Slices.{finished, grown, Settles}
+use Rattle.kernel_core.specs.Reached.{Reaches, Stopped}
+use Rattle.kernel_core.specs.State.{Node, Past, Move, Idle, Inside, State, root, node_at, world_at, here, ancestor, below, code_of}
+use Rattle.kernel_core.specs.Legal.{can_undo, can_redo, IsPossible, IsLegal, IsLegalState, IsMeeting}
+use Rattle.kernel_core.specs.Slices.{finished, cells, stepped, moved, grown, Settles}
 use Rattle.kernel_core.specs.Text.{Accepts, Refuses}
-use Rattle.kernel_core.specs.Begins.{Declares}
-use Rattle.kernel_core.specs.Runs.{Machine, Request, RunCell, Undo, Redo, new_machine, Step, Run}
-use Rattle.kernel_core.specs.declared.runner.Ran.TheVariants.{Stopped}
-use Rattle.kernel_core.specs.declared.job.Travel.{Travel}
-use Rattle.kernel_core.specs.declared.job.Turn.TheVariants.{Going as GoesOn}
-use Rattle.kernel_core.specs.declared.job.Way.{Way}
-use Rattle.kernel_core.specs.declared.job.Way.TheVariants.{Up, Down}
+use Rattle.kernel_core.specs.Begins.{Declares, travel_to}
+use Rattle.kernel_core.specs.Runs.{Machine, Request, RunCell, Undo, Redo, Goto, new_machine, Step, Run}
+use Rattle.kernel_core.specs.Turn.{GoesOn}
+use Rattle.kernel_core.specs.Travel as aim
 use Rattle.kernel_core.specs.declared.outcome.End.{End}
 use Rattle.kernel_core.specs.declared.outcome.End.TheVariants.{All, NoMemory}
-use Rattle.kernel_core.specs.declared.outcome.Refusal.TheVariants.{TooFar}
+use Rattle.kernel_core.specs.declared.outcome.Refusal.{Refusal}
+use Rattle.kernel_core.specs.declared.outcome.Refusal.TheVariants.{TooFar, NoNode}
 use Rattle.kernel_core.specs.declared.outcome.Outcome.{Outcome}
 use Rattle.kernel_core.specs.declared.outcome.Outcome.TheVariants as outcome
 use Rattle.kernel_core.specs.declared.outcome.Begun.TheVariants as begun
@@ -44,23 +43,15 @@ StaysLegal =
 
 -- ---- jobs, from their begin to their end
 
-abbrev pub move_of : Way → ℕ → Request
-move_of Up k = Undo k
-move_of Down k = Redo k
+-- what is left of a travel after j cells
+abbrev pub after : Travel → ℕ → Travel
+after travel zero = travel
+after travel (suc j) = stepped (after travel j)
 
--- the node j favourites below n
-abbrev pub descendant : List ℕ → ℕ → ℕ → ℕ
-descendant favourites n zero = n
-descendant favourites n (suc j) = get_or favourites (descendant favourites n j) 0
-
--- the node j further this way
-abbrev pub along : List Node → List ℕ → Way → ℕ → ℕ → ℕ
-along nodes favourites Up n j = ancestor nodes n j
-along nodes favourites Down n j = descendant favourites n j
-
--- the same tree with all its worlds and favourites, and the position j nodes further
-abbrev pub standing : Past → Way → ℕ → Past
-standing s way j = record s { position = along s.nodes s.favourites way s.position j }
+-- the past after j cells of it
+abbrev pub gone : Past → Travel → ℕ → Past
+gone s travel zero = s
+gone s travel (suc j) = moved (gone s travel j) (after travel j)
 
 -- the job that was open ends with the last answer, as o, and with no earlier one
 abbrev pub EndsAs : List Told → Outcome → Type 0
@@ -69,22 +60,32 @@ EndsAs (told.Begin (begun.Ended p) ∷ answers) o = (answers ≡ []) × (p ≡ o
 EndsAs (told.Slice (sliced.Ended p) ∷ answers) o = (answers ≡ []) × (p ≡ o)
 EndsAs (t ∷ answers) o = EndsAs answers o
 
--- An undo or a redo of k cells ends after j of them, for this reason: the tree, its worlds and its favourites are as they were, and the
--- position is j nodes further. It tells All exactly where j is k, and want of memory only in front of a cell that declares names, so on
--- the way down.
-pub record EndsAfter (s : Past) (way : Way) (k j : ℕ) (end : End) (o : Outcome) (new : State) : Type 0 where
-  pub tells : o ≡ finished (record { way = way; left = 0; done = j }) end
-  pub stands : new ≡ record { past = standing s way j; job = Idle }
-  pub within : j ≤ k
-  pub all : (end ≡ All) ↔ (j ≡ k)
-  pub no_memory : end ≡ NoMemory → Declares (standing s way j) (record { way = way; left = 0; done = j })
-  pub can : IsTrue (can_go s.nodes s.favourites s.position way k)
+-- A travel ends after j of its cells, for this reason. It tells All exactly where these are all, and want of memory only in front of a cell
+-- that declares names, so on the way down.
+pub record EndsAfter (s : Past) (travel : Travel) (j : ℕ) (end : End) (o : Outcome) (new : State) : Type 0 where
+  pub tells : o ≡ finished (after travel j) end
+  pub stands : new ≡ record { past = gone s travel j; job = Idle }
+  pub within : j ≤ cells travel
+  pub all : (end ≡ All) ↔ (j ≡ cells travel)
+  pub no_memory : end ≡ NoMemory → Declares (gone s travel j) (after travel j)
 
--- How an undo or a redo of k cells from the past s ends: refused whole where there are fewer, else after some of them.
-abbrev pub MoveEnds : Past → Way → ℕ → Outcome → State → Type 0
-MoveEnds s way k o new =
-    ((o ≡ outcome.Refused TooFar) × (new ≡ record { past = s; job = Idle }) × (can_go s.nodes s.favourites s.position way k ≡ false))
-    ⊎ ((j : ℕ) × (end : End) × EndsAfter s way k j end o new)
+abbrev pub TravelEnds : Past → Travel → Outcome → State → Type 0
+TravelEnds s travel o new = (j : ℕ) × (end : End) × EndsAfter s travel j end o new
+
+-- refused, and all is as before
+abbrev pub IsRefused : Past → Refusal → Outcome → State → Type 0
+IsRefused s refusal o new = (o ≡ outcome.Refused refusal) × (new ≡ record { past = s; job = Idle })
+
+-- an undo or a redo is refused whole where there are fewer cells, else it ends after some of them
+abbrev pub MoveEnds : Past → Travel → Bool → Outcome → State → Type 0
+MoveEnds s travel false o new = IsRefused s TooFar o new
+MoveEnds s travel true o new = TravelEnds s travel o new
+
+-- a goto is refused where there is no such node, else it ends on the way over the node where the paths meet
+abbrev pub GotoEnds : Past → ℕ → Bool → Outcome → State → Type 0
+GotoEnds s n false o new = IsRefused s NoNode o new
+GotoEnds s n true o new =
+    (up : ℕ) × (down : ℕ) × IsMeeting s.nodes s.position n up down × TravelEnds s (travel_to (aim.Goto n) up down) o new
 
 -- the cell of the text ran to its end, and is a new node with the world to which it leads
 abbrev pub BecomesNode : Past → List ℕ → Outcome → State → Type 0
@@ -108,25 +109,52 @@ IsNoNode s text (outcome.Interrupted j) = (cell : Cell) × Accepts (here s) text
 IsNoNode s text (outcome.Ran node n) = ⊥
 IsNoNode s text (outcome.Undid j end) = ⊥
 IsNoNode s text (outcome.Redid j end) = ⊥
+IsNoNode s text (outcome.Went i j end) = ⊥
 
 -- How a cell ends: as a new node, or all is as it was, and the outcome says why.
 abbrev pub CellEnds : Past → List ℕ → Outcome → State → Type 0
 CellEnds s text o new =
     BecomesNode s text o new ⊎ ((new ≡ record { past = s; job = Idle }) × IsNoNode s text o)
 
--- Over any events, with posts, interrupts and faults among them, an undo or a redo that is taken ends so.
-abbrev pub MovesEnd : Type 0
-MovesEnd =
-    (old new : Machine) (way : Way) (k : ℕ) (rest : List Request) (events : List Event) (answers : List Told) (o : Outcome) →
-    old.state.job ≡ Idle → old.queue ≡ move_of way k ∷ rest →
-    Run old (event.Begin ∷ events) answers new → EndsAs answers o → MoveEnds old.state.past way k o new.state
+-- How a job ends that is taken in the past s.
+abbrev pub JobEnds : Past → Request → Outcome → State → Type 0
+JobEnds s (RunCell text silent store) o new = CellEnds s text o new
+JobEnds s (Undo k) o new = MoveEnds s (travel_to aim.Undo k 0) (can_undo s.nodes s.position k) o new
+JobEnds s (Redo k) o new = MoveEnds s (travel_to aim.Redo 0 k) (can_redo s.favourites s.position k) o new
+JobEnds s (Goto n) o new = GotoEnds s n (nat_lt n (length s.nodes)) o new
 
-abbrev pub CellsEnd : Type 0
-CellsEnd =
-    (old new : Machine) (text : List ℕ) (silent store : Bool) (rest : List Request)
-    (events : List Event) (answers : List Told) (o : Outcome) →
-    old.state.job ≡ Idle → old.queue ≡ RunCell text silent store ∷ rest →
-    Run old (event.Begin ∷ events) answers new → EndsAs answers o → CellEnds old.state.past text o new.state
+-- Over any events, with posts, interrupts and faults among them, a job that is taken ends so.
+abbrev pub JobsEnd : Type 0
+JobsEnd =
+    (old new : Machine) (job : Request) (rest : List Request) (events : List Event) (answers : List Told) (o : Outcome) →
+    old.state.job ≡ Idle → old.queue ≡ job ∷ rest →
+    Run old (event.Begin ∷ events) answers new → EndsAs answers o → JobEnds old.state.past job o new.state
+
+-- ---- where a travel leads
+
+-- the node j favourites below n
+abbrev pub descendant : List ℕ → ℕ → ℕ → ℕ
+descendant favourites n zero = n
+descendant favourites n (suc j) = get_or favourites (descendant favourites n j) 0
+
+-- j cells of an undo change the position alone: it is j nodes above
+abbrev pub UndoGoesUp : Type 0
+UndoGoesUp =
+    (s : Past) (k j : ℕ) → j ≤ k → gone s (travel_to aim.Undo k 0) j ≡ record s { position = ancestor s.nodes s.position j }
+
+-- j cells of a redo change the position alone: it is j favourites below
+abbrev pub RedoGoesDown : Type 0
+RedoGoesDown =
+    (s : Past) (k j : ℕ) → gone s (travel_to aim.Redo 0 k) j ≡ record s { position = descendant s.favourites s.position j }
+
+-- a goto goes up with no favourite changed, and then down to its node, on its path
+abbrev pub GotoGoesThere : Type 0
+GotoGoesThere =
+    (s : Past) (n up down j : ℕ) →
+    (j ≤ up → gone s (travel_to (aim.Goto n) up down) j ≡ record s { position = ancestor s.nodes s.position j })
+    × (0 < j → j ≤ down → (gone s (travel_to (aim.Goto n) up down) (up + j)).position ≡ ancestor s.nodes n (down - j))
+    × ((gone s (travel_to (aim.Goto n) up down) j).nodes ≡ s.nodes)
+    × ((gone s (travel_to (aim.Goto n) up down) j).worlds ≡ s.worlds)
 
 -- A redo of k cells that follows an undo of k cells, both to the end, is back at the same node, with the same tree and worlds.
 abbrev pub RedoGivesBack : Type 0
@@ -137,17 +165,17 @@ RedoGivesBack =
     mid.queue ≡ Redo k ∷ more → Run mid (event.Begin ∷ redo) told_redo new → EndsAs told_redo (outcome.Redid k All) →
     new.state.past ≡ old.state.past
 
--- ---- inside a cell of an undo or a redo
+-- ---- inside a cell of a travel
 
 -- how many steps the cell took that is undone or redone
 abbrev pub steps_of : Past → Travel → ℕ
-steps_of s travel = elim travel.way [ Up ↦ (node_at s s.position).steps | Down ↦ (node_at s (favourite_of s s.position)).steps ]
+steps_of s travel = elim (next_way travel) [ Up ↦ (node_at s s.position).steps | Down ↦ (node_at s (below s travel)).steps ]
 
 -- where it leads: an undone cell to where its statements began, a redone one to its node's world
 abbrev pub end_world : Past → Travel → World
-end_world s travel = elim travel.way [
+end_world s travel = elim (next_way travel) [
   | Up ↦ entered (node_at s s.position).cell (world_at s (node_at s s.position).parent)
-  | Down ↦ world_at s (favourite_of s s.position)
+  | Down ↦ world_at s (below s travel)
 ]
 
 -- A slice before the cell's last step goes on, and the slice with that step settles the cell: not earlier, not later.
@@ -209,7 +237,7 @@ PathGivesWorld =
 abbrev pub UndoGoesUpThePath : Type 0
 UndoGoesUpThePath =
     (s : Past) (k : ℕ) (cells : List Cell) → IsLegal s → IsPath s.nodes s.position cells →
-    IsTrue (can_go s.nodes s.favourites s.position Up k) ↔ (k ≤ length cells)
+    IsTrue (can_undo s.nodes s.position k) ↔ (k ≤ length cells)
 
 -- the nodes below n: its favourite, the favourite of that one, and so on to one that has none
 abbrev pub AreFavourites : List ℕ → ℕ → List ℕ → Type 0
@@ -221,4 +249,4 @@ abbrev pub RedoGoesDownFavourites : Type 0
 RedoGoesDownFavourites =
     (s : Past) → IsLegal s →
     (below : List ℕ) × AreFavourites s.favourites s.position below
-    × ((k : ℕ) → IsTrue (can_go s.nodes s.favourites s.position Down k) ↔ (k ≤ length below))
+    × ((k : ℕ) → IsTrue (can_redo s.favourites s.position k) ↔ (k ≤ length below))

@@ -1,19 +1,20 @@
 //! The history: the tree of cells, the one store, and the open job. It is what a kernel has besides its queue.
-ghost use Rattle.std.specs.Prelude.{◌≡◌, IfOk, OnOk, OnErr};
-ghost use Rattle.kernel_core.specs.State.{State, Idle, here, Shown, new_state};
-ghost use Rattle.kernel_core.specs.Fields.{past_of, nodes_of};
-ghost use Rattle.kernel_core.specs.Legal.{IsLegal, IsPossible, IsPossibleAt, IsCounted, can_go};
-ghost use Rattle.kernel_core.specs.Slices.{IsSlice};
-ghost use Rattle.kernel_core.specs.Begins.{TakesCell, TakesMove, Enters, Declares, IsOutside, IsPhase};
+ghost use Rattle.std.specs.Prelude.{◌≡◌, ◌≤◌, IfOk, OnOk, OnErr, length, nat_lt, vec_capacity};
+ghost use Rattle.kernel_core.specs.State.{State, Idle, Border, here, Shown, new_state};
+ghost use Rattle.kernel_core.specs.Fields.{past_of, nodes_of, aim_of, travel_of, state_of, IsPhase};
+ghost use Rattle.kernel_core.specs.Travel.{Undo, Redo};
+ghost use Rattle.kernel_core.specs.Legal.{IsLegal, IsPossible, IsPossibleAt, IsCounted, CanGo, can_undo, can_redo};
+ghost use Rattle.kernel_core.specs.Slices.{IsSlice, cells};
+ghost use Rattle.kernel_core.specs.Begins.{TakesCell, TakesMove, TakesGoto, Departs, Enters, Declares, travel_to};
 ghost use Rattle.kernel_core.specs.Runner.{world_of};
-ghost use Rattle.kernel_core.specs.Kept.{HasRoom, Kept, StandsAt};
+ghost use Rattle.kernel_core.specs.Kept.{HasRoom, HasPath, Kept, StandsAt};
 
-use crate::job::{Entered, Open, Phase, Travel, Turn, Way, Why, Work};
+use crate::job::{Aim, Entered, Open, Phase, Travel, Turn, Way, Why, Work};
 use crate::outcome::{Begun, End, Outcome, Refusal, Sliced};
 use crate::program::Program;
 use crate::runner::Runner;
 use crate::settle::{finished, go_back, go_on, turn_back};
-use crate::tree::{Tree, can_go, favourite_of};
+use crate::tree::{Tree, below, can_go_down, can_go_up, find_way};
 use crate::view::View;
 use std::alloc::{AllocError, Global};
 use std::marker::Model;
@@ -44,32 +45,69 @@ impl Model for History {
     ghost invariant = { λ a. Kept a.tree a.runner a.job };
 }
 
-/// Makes room for one node and its favourite.
+/// Makes room for one node, its favourite, and a path down to it.
 fn make_room(tree: &mut Tree) -> Result<(), AllocError>
+    requires { length tree.old.nodes.items ≤ vec_capacity tree.old.path }
     ensures same { past_of tree.new ≡ past_of tree.old }
+    ensures room { length tree.new.nodes.items ≤ vec_capacity tree.new.path }
     ensures ok { OnOk result (HasRoom tree.new) }
 {
     tree.nodes.reserve(1)?;
     tree.favourites.reserve(1)?;
+    tree.path.clear();
+    tree.path.reserve(tree.nodes.len() + 1)?;
     Ok(())
 }
 
-/// Enters the next cell of an undo or a redo: an undone one takes no memory.
+/// Enters the next cell of a travel: an undone one takes no memory.
 fn enter_next(tree: &Tree, runner: &mut Runner, travel: Travel) -> Result<(), AllocError>
     requires legal { IsLegal (past_of tree.now) }
-    requires possible { IsPossible (nodes_of tree.now) tree.now.favourites.items tree.now.position travel }
+    requires possible { IsPossible (nodes_of tree.now) tree.now.favourites.items tree.now.position (travel_of travel) }
+    requires path { HasPath (aim_of travel.aim) tree.now travel.down }
     requires shown { world_of runner.old ≡ here (past_of tree.now) }
     ensures ok { OnOk result (StandsAt tree.now (Open.Inside (record { work = Work.Move travel; count = 0; turn = Turn.Going })) runner.new) }
     ensures err { OnErr result (world_of runner.new ≡ world_of runner.old) }
-    ensures declares { OnErr result (Declares (past_of tree.now) travel) }
+    ensures declares { OnErr result (Declares (past_of tree.now) (travel_of travel)) }
 {
-    match travel.way {
+    match travel.way() {
         Way::Up => {
             runner.enter_inverse(&tree.nodes[tree.position - 1].program);
             Ok(())
         }
-        Way::Down => runner.enter(&tree.nodes[favourite_of(tree) - 1].program),
+        Way::Down => runner.enter(&tree.nodes[below(tree, travel) - 1].program),
     }
+}
+
+/// Enters the next cell of a travel, or ends it for want of memory.
+fn enter(tree: &Tree, runner: &mut Runner, travel: Travel) -> (Open, Begun)
+    requires { Kept tree.now runner.old (Open.Border travel) }
+    ensures step { Enters (past_of tree.now) (travel_of travel) result.1 (state_of tree.now result.0) }
+    ensures kept { Kept tree.now runner.new result.0 }
+{
+    if enter_next(tree, runner, travel).is_err() {
+        return (Open::Idle, Begun::Ended(finished(travel, End::NoMemory)));
+    }
+    let entered = Entered {
+        work: Work::Move(travel),
+        count: 0,
+        turn: Turn::Going,
+    };
+    (Open::Inside(entered), Begun::Going)
+}
+
+/// Ends a travel without cells at once, or enters its first cell.
+fn depart(tree: &Tree, runner: &mut Runner, travel: Travel) -> (Open, Begun)
+    requires idle { Kept tree.now runner.old Open.Idle }
+    requires way { CanGo (aim_of travel.aim) (nodes_of tree.now) tree.now.favourites.items tree.now.position travel.up travel.down }
+    requires counted { IsCounted (travel_of travel) }
+    requires path { HasPath (aim_of travel.aim) tree.now travel.down }
+    ensures step { Departs (cells (travel_of travel)) (past_of tree.now) (travel_of travel) result.1 (state_of tree.now result.0) }
+    ensures kept { Kept tree.now runner.new result.0 }
+{
+    if travel.is_over() {
+        return (Open::Idle, Begun::Ended(finished(travel, End::All)));
+    }
+    enter(tree, runner, travel)
 }
 
 impl History {
@@ -86,6 +124,7 @@ impl History {
                 nodes,
                 favourites,
                 position: 0,
+                path: Vec::new(alloc),
             },
             runner,
             job: Open::Idle,
@@ -128,42 +167,58 @@ impl History {
         Begun::Going
     }
 
-    /// Begins an undo or a redo of `k` cells.
-    pub fn begin_move(&mut self, way: Way, k: u32) -> Begun
+    /// Begins an undo of `k` cells.
+    pub fn begin_undo(&mut self, k: u32) -> Begun
         requires { self.old.job ≡ Idle }
-        ensures { TakesMove self.old.past way k (can_go self.old.past.nodes self.old.past.favourites self.old.past.position way k) result self.new }
+        ensures { TakesMove self.old.past (travel_to Undo k 0) (can_undo self.old.past.nodes self.old.past.position k) result self.new }
     {
-        if !can_go(&self.tree, way, k) {
+        if !can_go_up(&self.tree, k) {
             return Begun::Ended(Outcome::Refused(Refusal::TooFar));
         }
-        let travel = Travel {
-            way,
-            left: k,
-            done: 0,
-        };
-        if k == 0 {
-            return Begun::Ended(finished(travel, End::All));
-        }
-        self.enter(travel)
+        let travel = Travel::new(Aim::Undo, k as usize, 0);
+        let (job, told) = depart(&self.tree, &mut self.runner, travel);
+        self.job = job;
+        told
     }
 
-    /// Enters the next cell of an undo or a redo.
-    pub fn enter(&mut self, travel: Travel) -> Begun
-        requires outside { IsOutside self.old.job }
-        requires possible { IsPossible self.old.past.nodes self.old.past.favourites self.old.past.position travel }
-        requires counted { IsCounted travel }
-        ensures { Enters self.old.past travel result self.new }
+    /// Begins a redo of `k` cells.
+    pub fn begin_redo(&mut self, k: u32) -> Begun
+        requires { self.old.job ≡ Idle }
+        ensures { TakesMove self.old.past (travel_to Redo 0 k) (can_redo self.old.past.favourites self.old.past.position k) result self.new }
     {
-        if enter_next(&self.tree, &mut self.runner, travel).is_err() {
-            self.job = Open::Idle;
-            return Begun::Ended(finished(travel, End::NoMemory));
+        if !can_go_down(&self.tree, k) {
+            return Begun::Ended(Outcome::Refused(Refusal::TooFar));
         }
-        self.job = Open::Inside(Entered {
-            work: Work::Move(travel),
-            count: 0,
-            turn: Turn::Going,
-        });
-        Begun::Going
+        let travel = Travel::new(Aim::Redo, 0, k as usize);
+        let (job, told) = depart(&self.tree, &mut self.runner, travel);
+        self.job = job;
+        told
+    }
+
+    /// Begins a goto to the node `n`.
+    pub fn begin_goto(&mut self, n: u32) -> Begun
+        requires { self.old.job ≡ Idle }
+        ensures { TakesGoto self.old.past n (nat_lt n (length self.old.past.nodes)) result self.new }
+    {
+        let n = n as usize;
+        if n > self.tree.nodes.len() {
+            return Begun::Ended(Outcome::Refused(Refusal::NoNode));
+        }
+        let (up, down) = find_way(&mut self.tree, n);
+        let travel = Travel::new(Aim::Goto(n), up, down);
+        let (job, told) = depart(&self.tree, &mut self.runner, travel);
+        self.job = job;
+        told
+    }
+
+    /// Enters the next cell of a travel.
+    pub fn enter(&mut self, travel: Travel) -> Begun
+        requires { self.old.job ≡ Border (travel_of travel) }
+        ensures { Enters self.old.past (travel_of travel) result self.new }
+    {
+        let (job, told) = enter(&self.tree, &mut self.runner, travel);
+        self.job = job;
+        told
     }
 
     /// Where the open job stands.

@@ -1,7 +1,7 @@
 //! The main theorem, over every run of the machine. `run_events` gives such runs, and each state of a kernel is legal.
 //! The functions do nothing: their contracts are the laws.
 ghost use Rattle.kernel_core.specs.Determined.{StepIsDetermined, RunIsDetermined};
-ghost use Rattle.kernel_core.specs.Theorems.{NewIsLegal, StaysLegal, MovesEnd, CellsEnd, RedoGivesBack, SettlesOnTime, NeverFaults, IsMirrored, PathGivesWorld, UndoGoesUpThePath, RedoGoesDownFavourites};
+ghost use Rattle.kernel_core.specs.Theorems.{NewIsLegal, StaysLegal, JobsEnd, UndoGoesUp, RedoGoesDown, GotoGoesThere, RedoGivesBack, SettlesOnTime, NeverFaults, IsMirrored, PathGivesWorld, UndoGoesUpThePath, RedoGoesDownFavourites};
 
 /// A new machine is legal: its tree is, and no job is open.
 pub fn new_is_legal_law()
@@ -13,17 +13,26 @@ pub fn stays_legal_law()
     ensures { StaysLegal }
 {}
 
-/// An undo or a redo of `k` cells is refused whole, or ends after `j` cells with the tree, all its worlds and its
-/// favourites as before, `j` nodes further. It says `All` exactly where `j` is `k`, and `NoMemory` only on the way down,
-/// in front of a cell that declares names. Whatever posts, interrupts and slices come.
-pub fn moves_end_law()
-    ensures { MovesEnd }
+/// A job that is taken ends so, whatever posts, interrupts and slices come. A cell that ends as `Ran` is a new node with the
+/// world to which it leads; any other end leaves all as before it, and tells why. A travel is refused whole, or ends after `j`
+/// cells: it says `All` exactly where these are all, and `NoMemory` only on the way down, in front of a cell that declares names.
+pub fn jobs_end_law()
+    ensures { JobsEnd }
 {}
 
-/// A cell that ends as `Ran` is a new node with the world to which it leads; any other end leaves all as before it, and tells
-/// why: the text's refusal, or the fault and the steps at which the cell meets it, or the steps at which it was asked to stop.
-pub fn cells_end_law()
-    ensures { CellsEnd }
+/// `j` cells of an undo lead `j` nodes up, and change the position alone.
+pub fn undo_goes_up_law()
+    ensures { UndoGoesUp }
+{}
+
+/// `j` cells of a redo lead `j` favourites down, and change the position alone.
+pub fn redo_goes_down_law()
+    ensures { RedoGoesDown }
+{}
+
+/// A goto goes up with no favourite changed, and then down the path to its node.
+pub fn goto_goes_there_law()
+    ensures { GotoGoesThere }
 {}
 
 /// A redo of `k` cells that follows an undo of `k` cells, both to the end, gives all back.

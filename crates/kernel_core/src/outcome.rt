@@ -8,7 +8,7 @@ use janus_syntax::SyntaxFault;
 use janus_syntax::token::Span;
 use thiserror::Error;
 
-/// How an undo or a redo of several cells ended.
+/// How a travel ended.
 #[derive(Clone, Copy, Debug, PartialEq, Eq)]
 pub enum End {
     /// All its cells are done.
@@ -31,6 +31,9 @@ pub enum Refusal {
     /// There are fewer cells above, or fewer favourites below, than the job would undo or redo.
     #[error("TooFar")]
     TooFar,
+    /// There is no node of this number.
+    #[error("NoNode")]
+    NoNode,
     /// There was no memory for a cell's code, names or node.
     #[error("Memory")]
     Memory,
@@ -44,6 +47,7 @@ impl Refusal {
         match self {
             Refusal::Syntax(fault) => fault.number(),
             Refusal::Check(fault) => fault.number(),
+            Refusal::NoNode => 71,
             Refusal::TooFar => 73,
             Refusal::Memory => 76,
         }
@@ -56,6 +60,7 @@ impl Refusal {
         match self {
             Refusal::Syntax(fault) => fault.name(),
             Refusal::Check(fault) => fault.name(),
+            Refusal::NoNode => "NoNode",
             Refusal::TooFar => "TooFar",
             Refusal::Memory => "Memory",
         }
@@ -68,6 +73,7 @@ impl Refusal {
         match self {
             Refusal::Syntax(fault) => fault.span(),
             Refusal::Check(fault) => fault.span(),
+            Refusal::NoNode => None,
             Refusal::TooFar => None,
             Refusal::Memory => None,
         }
@@ -84,9 +90,11 @@ pub enum Outcome {
     /// The cell was asked to stop after so many steps, and was taken back.
     Interrupted(u64),
     /// So many cells were undone.
-    Undid(u32, End),
+    Undid(usize, End),
     /// So many cells were redone.
-    Redid(u32, End),
+    Redid(usize, End),
+    /// So many cells were undone, and then so many redone.
+    Went(usize, usize, End),
     Refused(Refusal),
 }
 

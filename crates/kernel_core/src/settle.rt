@@ -1,45 +1,48 @@
 //! The parts of a slice: steps onward and back, and what comes at the end of a cell. None of them takes memory.
-ghost use Rattle.std.specs.Prelude.{◌≡◌, ◌+◌, ◌-◌, ◌^◌, ◌<◌};
+ghost use Rattle.std.specs.Prelude.{◌≡◌, ◌-◌};
 ghost use Rattle.kernel_core.specs.Language.{Part};
 ghost use Rattle.kernel_core.specs.State.{Past, here, code_of};
-ghost use Rattle.kernel_core.specs.Fields.{past_of, state_of, work_of, job_of};
+ghost use Rattle.kernel_core.specs.Travel.{Up, Down, next_way};
+ghost use Rattle.kernel_core.specs.Fields.{past_of, state_of, travel_of, why_of, work_of, job_of};
 ghost use Rattle.kernel_core.specs.Legal.{IsLegal, IsPossibleWork};
-ghost use Rattle.kernel_core.specs.Slices.{finished as the_finished, turned as the_turned, Backs, Arrives, Settles, Goes, HasEnded};
+ghost use Rattle.kernel_core.specs.Slices.{finished as the_finished, turned as the_turned, Backs, cells, Arrives, Settles, Goes, HasEnded};
 ghost use Rattle.kernel_core.specs.Runner.{world_of};
-ghost use Rattle.kernel_core.specs.Kept.{Kept, IsProgramOf};
+ghost use Rattle.kernel_core.specs.Kept.{Kept, IsProgramOf, HasPathFor};
 
-use crate::job::{Entered, Open, Travel, Turn, Way, Why, Work};
+use crate::job::{Aim, Entered, Open, Travel, Turn, Way, Why, Work};
 use crate::outcome::{End, Outcome, Sliced};
 use crate::program::Program;
 use crate::runner::{Ran, Runner};
-use crate::tree::{Node, Tree, favourite_of};
+use crate::tree::{Node, Tree, below};
 
 /// The program that the work runs: forward, or for an undo backward.
 fn program_of<'a>(tree: &'a Tree, work: &'a Work) -> &'a Program
     requires legal { IsLegal (past_of tree.now) }
     requires possible { IsPossibleWork (past_of tree.now) (work_of work.now) }
+    requires path { HasPathFor tree.now work.now }
     ensures { IsProgramOf tree.now work.now result.now }
 {
     match work {
         Work::Cell(program) => program,
-        Work::Move(travel) => match travel.way {
+        Work::Move(travel) => match travel.way() {
             Way::Up => &tree.nodes[tree.position - 1].program,
-            Way::Down => &tree.nodes[favourite_of(tree) - 1].program,
+            Way::Down => &tree.nodes[below(tree, *travel) - 1].program,
         },
     }
 }
 
 pub fn finished(travel: Travel, end: End) -> Outcome
-    ensures { result ≡ the_finished travel end }
+    ensures { result ≡ the_finished (travel_of travel) end }
 {
-    match travel.way {
-        Way::Up => Outcome::Undid(travel.done, end),
-        Way::Down => Outcome::Redid(travel.done, end),
+    match travel.aim {
+        Aim::Undo => Outcome::Undid(travel.went_up, end),
+        Aim::Redo => Outcome::Redid(travel.went_down, end),
+        Aim::Goto(_) => Outcome::Went(travel.went_up, travel.went_down, end),
     }
 }
 
 fn turned(work: &Work, why: Why) -> Outcome
-    ensures { result ≡ the_turned (work_of work.now) why }
+    ensures { result ≡ the_turned (work_of work.now) (why_of why) }
 {
     match work {
         Work::Cell(_) => match why {
@@ -54,14 +57,15 @@ fn turned(work: &Work, why: Why) -> Outcome
 fn settle_back(tree: &Tree, runner: &mut Runner, work: &Work)
     requires legal { IsLegal (past_of tree.now) }
     requires possible { IsPossibleWork (past_of tree.now) (work_of work.now) }
+    requires path { HasPathFor tree.now work.now }
     requires back { Part (code_of (past_of tree.now) (work_of work.now)) (here (past_of tree.now)) 0 (world_of runner.old) }
     ensures { world_of runner.new ≡ here (past_of tree.now) }
 {
     match work {
         Work::Cell(program) => runner.leave(program),
-        Work::Move(travel) => match travel.way {
+        Work::Move(travel) => match travel.way() {
             Way::Up => {}
-            Way::Down => runner.leave(&tree.nodes[favourite_of(tree) - 1].program),
+            Way::Down => runner.leave(&tree.nodes[below(tree, *travel) - 1].program),
         },
     }
 }
@@ -76,7 +80,7 @@ pub fn go_back(
     m: u64,
 ) -> (Open, Sliced)
     requires { Kept tree.now runner.old (Open.Inside (record { work = work; count = count; turn = Turn.Backing why })) }
-    ensures step { Backs (past_of tree.now) (work_of work) why (count - m) result.1 (state_of tree.now result.0) }
+    ensures step { Backs (past_of tree.now) (work_of work) (why_of why) (count - m) result.1 (state_of tree.now result.0) }
     ensures kept { Kept tree.now runner.new result.0 }
 {
     runner.back(program_of(tree, &work), m);
@@ -108,25 +112,18 @@ pub fn turn_back(
     m: u64,
 ) -> (Open, Sliced)
     requires { Kept tree.now runner.old (Open.Inside (record { work = work; count = count; turn = Turn.Going })) }
-    ensures step { Backs (past_of tree.now) (work_of work) why (count - m) result.1 (state_of tree.now result.0) }
+    ensures step { Backs (past_of tree.now) (work_of work) (why_of why) (count - m) result.1 (state_of tree.now result.0) }
     ensures kept { Kept tree.now runner.new result.0 }
 {
     runner.turn(program_of(tree, &work));
     go_back(tree, runner, work, count, why, m)
 }
 
-/// One cell of an undo or a redo is done.
+/// A cell of the travel is done, which has so many left.
 fn arrive(travel: Travel) -> (Open, Sliced)
-    requires some { 0 < travel.left }
-    requires small { travel.left + travel.done < 2 ^ 32 }
-    ensures { (past : Past) → Arrives past travel.way (travel.left - 1) travel.done result.1 (record { past = past; job = job_of result.0 }) }
+    ensures { (past : Past) → Arrives (cells (travel_of travel)) past (travel_of travel) result.1 (record { past = past; job = job_of result.0 }) }
 {
-    let travel = Travel {
-        way: travel.way,
-        left: travel.left - 1,
-        done: travel.done + 1,
-    };
-    if travel.left == 0 {
+    if travel.is_over() {
         (Open::Idle, Sliced::Ended(finished(travel, End::All)))
     } else {
         (Open::Border(travel), Sliced::Border)
@@ -153,9 +150,9 @@ fn settle_cell(tree: &mut Tree, runner: &Runner, program: Program, n: u64) -> (O
     (Open::Idle, Sliced::Ended(Outcome::Ran(number, n)))
 }
 
-/// One cell of an undo came to the end of its inverse: its names are zero, and are taken back.
+/// A cell on the way up came to the end of its inverse: its names are zero, and are taken back.
 fn settle_up(tree: &mut Tree, runner: &mut Runner, travel: Travel, n: u64) -> (Open, Sliced)
-    requires way { travel.way ≡ Way.Up }
+    requires way { next_way (travel_of travel) ≡ Up }
     requires kept { Kept tree.old runner.old (Open.Inside (record { work = Work.Move travel; count = n; turn = Turn.Going })) }
     requires ended { HasEnded (past_of tree.old) (work_of (Work.Move travel)) n (world_of runner.old) }
     ensures step { Settles (past_of tree.old) (work_of (Work.Move travel)) n (world_of runner.old) result.1 (state_of tree.new result.0) }
@@ -167,19 +164,21 @@ fn settle_up(tree: &mut Tree, runner: &mut Runner, travel: Travel, n: u64) -> (O
         node.parent
     };
     tree.position = parent;
-    arrive(travel)
+    arrive(travel.stepped())
 }
 
-/// One cell of a redo came to its end.
+/// A cell on the way down came to its end: it is the favourite of the one above it.
 fn settle_down(tree: &mut Tree, runner: &Runner, travel: Travel, n: u64) -> (Open, Sliced)
-    requires way { travel.way ≡ Way.Down }
+    requires way { next_way (travel_of travel) ≡ Down }
     requires kept { Kept tree.old runner.now (Open.Inside (record { work = Work.Move travel; count = n; turn = Turn.Going })) }
     requires ended { HasEnded (past_of tree.old) (work_of (Work.Move travel)) n (world_of runner.now) }
     ensures step { Settles (past_of tree.old) (work_of (Work.Move travel)) n (world_of runner.now) result.1 (state_of tree.new result.0) }
     ensures kept { Kept tree.new runner.now result.0 }
 {
-    tree.position = favourite_of(tree);
-    arrive(travel)
+    let child = below(tree, travel);
+    tree.favourites[tree.position] = child;
+    tree.position = child;
+    arrive(travel.stepped())
 }
 
 /// A cell came to its end, in `n` steps.
@@ -191,7 +190,7 @@ fn settle(tree: &mut Tree, runner: &mut Runner, work: Work, n: u64) -> (Open, Sl
 {
     match work {
         Work::Cell(program) => settle_cell(tree, runner, program, n),
-        Work::Move(travel) => match travel.way {
+        Work::Move(travel) => match travel.way() {
             Way::Up => settle_up(tree, runner, travel, n),
             Way::Down => settle_down(tree, runner, travel, n),
         },
