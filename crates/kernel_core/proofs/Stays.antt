@@ -1,11 +1,15 @@
 -- Each state that is reached is legal.
 use Rattle.std.proofs.lemmas.Bool.Decides.{nat_tests}
 use Rattle.std.specs.Prelude.{nat_lt, length}
-use Rattle.std.proofs.Common.{◌≡◌, ℕ, ◌+◌, ◌-◌, ◌<◌, Bool, true, false, List, [], ◌∷◌, zero, suc, refl, sym, ap, subst, arith, inl, inr}
+use Rattle.std.proofs.Common.{◌≡◌, ℕ, ◌+◌, ◌-◌, ◌<◌, ◌≤◌, Bool, true, false, List, [], ◌∷◌, zero, suc, refl, sym, ap, subst, arith, inl, inr}
 use Rattle.janus_meaning.specs.World.{World}
-use Rattle.kernel_core.specs.Language.{Exec}
+use Rattle.janus_meaning.specs.Syntax.{Blk}
+use Rattle.janus_meaning.specs.World.{entered}
+use Rattle.janus_meaning.specs.Cells.{WorldPart}
+use Rattle.janus_meaning.proofs.Worlds.{worlds_are_determined, world_trichotomy, worlds_start_and_end}
+use Rattle.kernel_core.specs.Language.{Code, Forward, Backward, start_of, block_of, Part, Exec}
 use Rattle.kernel_core.specs.Reached.{Reaches, Progress, Went, Ended, Stopped}
-use Rattle.kernel_core.specs.State.{Past, Work, Posted, Move, Job as Open, Idle, Border, Inside, State, here, code_of}
+use Rattle.kernel_core.specs.State.{Past, Work, Posted, Move, Job as Open, Idle, Border, Inside, State, ShownAt, here, code_of}
 use Rattle.kernel_core.specs.Legal.{CanGo, IsLegal, IsPossible, IsPossibleWork, IsPossibleAt, IsInTime, IsLegalState}
 use Rattle.kernel_core.specs.Slices.{cells, stepped, moved, Backs, Arrives, Settles, Comes, SlicesIn, SlicesAt}
 use Rattle.kernel_core.specs.Begins.{travel_to, Enters, Departs, TakesMove, TakesGoto, TakesCell}
@@ -20,34 +24,69 @@ use Rattle.kernel_core.specs.declared.events.Event.{Event}
 use Rattle.kernel_core.specs.declared.events.Event.TheVariants as event
 use Rattle.kernel_core.specs.declared.events.Told.{Told}
 use Rattle.kernel_core.specs.declared.events.Told.TheVariants as told
-use Rattle.kernel_core.proofs.LanguageLaws.{exec_some}
+use Rattle.kernel_core.proofs.LanguageLaws.{exec_some, part_zero_forward, part_zero_backward}
 use Rattle.kernel_core.proofs.Texts.{accepted_formed}
 use Rattle.kernel_core.proofs.Trees.{legal_grown, moved_legal, meeting_way, new_legal}
 use Rattle.kernel_core.proofs.Jobs.{post_keeps}
 
 pub new_is_legal : NewIsLegal
-new_is_legal = (record { legal = new_legal; possible = tt; in_time = tt }, refl)
+new_is_legal = (record { legal = new_legal; possible = tt; in_time = tt; shown = (_, refl) }, refl)
+
+-- ---- the worlds that are shown
+
+-- before the first step
+part_none : (code : Code) (w : World) → (v : World) × Part code w 0 v
+part_none (Forward cell) w = (entered cell w, part_zero_forward cell w)
+part_none (Backward cell) w = (w, part_zero_backward cell w)
+
+-- where a world is shown after some steps, one is after fewer
+part_sooner : (code : Code) (w : World) (j i : ℕ) (v : World) → Part code w j v → i ≤ j → (u : World) × Part code w i u
+unfolding Part
+part_sooner code w j i v p l =
+    let a : World = start_of code w in
+    let b : Blk = block_of code in
+    elim (world_trichotomy (start_of code w) (block_of code) i).some [
+      | inl ended ↦
+          let late : j ≤ ended.0 = (worlds_start_and_end (start_of code w) (block_of code)).in_time ended.0 j ended.1 v ended.3 p in
+          let within = ended.2 in
+          (v, subst (λ (n : ℕ). WorldPart (start_of code w) (block_of code) n v) (omega arith) p)
+      | inr other ↦ elim other [
+        | inl stopped ↦ absurd (
+            (world_trichotomy (start_of code w) (block_of code) j).stopped_or_under_way
+            (stopped.0, stopped.1, (let early = stopped.2 in omega arith), stopped.3)
+            (v, p, λ u e. (worlds_are_determined (start_of code w) (block_of code)).no_stop_and_end stopped.0 j stopped.1 u stopped.3 e)
+          )
+        | inr on ↦ (on.0, on.1)
+      ]
+    ]
+
+-- a world is shown after so many steps of the work
+abbrev IsShownIn : Past → Work → ℕ → Type 0
+IsShownIn s work c = (w : World) × Part (code_of s work) (here s) c w
+
+-- ---- states
 
 -- the state that is known
 pub legal_at : (s new : State) → new ≡ s → IsLegalState s → IsLegalState new
 legal_at s new e g = subst (λ (x : State). IsLegalState x) (sym e) g
 
 pub legal_idle : (s : Past) (new : State) → IsLegal s → new ≡ record { past = s; job = Idle } → IsLegalState new
-legal_idle s new g e = legal_at (record { past = s; job = Idle }) new e (record { legal = g; possible = tt; in_time = tt })
+legal_idle s new g e = legal_at (record { past = s; job = Idle }) new e (record { legal = g; possible = tt; in_time = tt; shown = (here s, refl) })
 
-legal_inside : (s : Past) (work : Work) (c : ℕ) (turn : Turn) (new : State) → IsLegal s → IsPossibleWork s work → IsInTime s work c turn → new ≡ record { past = s; job = Inside (record { work = work; count = c; turn = turn }) } → IsLegalState new
-legal_inside s work c turn new g p t e = legal_at (record { past = s; job = Inside (record { work = work; count = c; turn = turn }) }) new e (record { legal = g; possible = p; in_time = t })
+legal_inside : (s : Past) (work : Work) (c : ℕ) (turn : Turn) (new : State) → IsLegal s → IsPossibleWork s work → IsInTime s work c turn → IsShownIn s work c → new ≡ record { past = s; job = Inside (record { work = work; count = c; turn = turn }) } → IsLegalState new
+legal_inside s work c turn new g p t w e = legal_at (record { past = s; job = Inside (record { work = work; count = c; turn = turn }) }) new e (record { legal = g; possible = p; in_time = t; shown = w })
 
 -- ---- slices
 
-backs_legal : (s : Past) (work : Work) (why : Why) (c : ℕ) (told : Sliced) (new : State) → IsLegal s → IsPossibleWork s work → Backs s work why c told new → IsLegalState new
-backs_legal s work why zero told new g p b = legal_idle s new g b.1
-backs_legal s work why (suc c) told new g p b = legal_inside s work (suc c) (GoesBack why) new g p (omega arith) b.1
+backs_legal : (s : Past) (work : Work) (why : Why) (c top : ℕ) (told : Sliced) (new : State) → IsLegal s → IsPossibleWork s work → IsShownIn s work top → c ≤ top → Backs s work why c told new → IsLegalState new
+backs_legal s work why zero top told new g p w l b = legal_idle s new g b.1
+backs_legal s work why (suc c) top told new g p w l b =
+    legal_inside s work (suc c) (GoesBack why) new g p (omega arith) (part_sooner (code_of s work) (here s) top (suc c) w.0 w.1 l) b.1
 
 arrives_legal : (left : ℕ) (s : Past) (t : Travel) (told : Sliced) (new : State) → left ≡ cells t → IsLegal s → CanGo t.aim s.nodes s.favourites s.position t.up t.down → Arrives left s t told new → IsLegalState new
 arrives_legal zero s t told new e g can a = legal_idle s new g a.1
 arrives_legal (suc left) s t told new e g can a =
-    legal_at (record { past = s; job = Border t }) new a.1 (record { legal = g; possible = record { some = omega arith; way_there = can }; in_time = tt })
+    legal_at (record { past = s; job = Border t }) new a.1 (record { legal = g; possible = record { some = omega arith; way_there = can }; in_time = tt; shown = (here s, refl) })
 
 settles_legal : (s : Past) (work : Work) (n : ℕ) (w : World) (told : Sliced) (new : State) → IsLegal s → IsPossibleWork s work → Exec (code_of s work) (here s) n w → Settles s work n w told new → IsLegalState new
 settles_legal s (Posted cell) n w told new g p e a = legal_idle _ new (legal_grown s cell n w g p e) a.1
@@ -56,25 +95,25 @@ settles_legal s (Move travel) n w told new g p e a =
     arrives_legal (cells (stepped travel)) (moved s travel) (stepped travel) told new refl on.0 on.1 a
 
 comes_legal : (s : Past) (work : Work) (c : ℕ) (ran : Progress) (w : World) (told : Sliced) (new : State) → IsLegal s → IsPossibleWork s work → Reaches (code_of s work) (here s) c ran w → Comes s work c ran w told new → IsLegalState new
-comes_legal s work c Went w told new g p r a = legal_inside s work c GoesOn new g p r.1 a.1
+comes_legal s work c Went w told new g p r a = legal_inside s work c GoesOn new g p r.1 (w, r.0) a.1
 comes_legal s work c (Ended n) w told new g p r a = settles_legal s work n w told new g p r.0 a
-comes_legal s work c (Stopped j f) w told new g p r a = backs_legal s work (Faulted f j) j told new g p a
+comes_legal s work c (Stopped j f) w told new g p r a = backs_legal s work (Faulted f j) j j told new g p (w, r.0) (omega arith) a
 
-slices_legal : (s : Past) (work : Work) (c : ℕ) (turn : Turn) (m : ℕ) (asked : Bool) (told : Sliced) (new : State) → IsLegal s → IsPossibleWork s work → SlicesIn s work c turn m asked told new → IsLegalState new
-slices_legal s work c GoesOn m false told new g p a = comes_legal s work (c + m) a.0 a.1 told new g p a.2 a.3
-slices_legal s work c GoesOn m true told new g p a = backs_legal s work (WasAsked c) (c - m) told new g p a
-slices_legal s work c (GoesBack why) m asked told new g p a = backs_legal s work why (c - m) told new g p a
+slices_legal : (s : Past) (work : Work) (c : ℕ) (turn : Turn) (m : ℕ) (asked : Bool) (told : Sliced) (new : State) → IsLegal s → IsPossibleWork s work → IsShownIn s work c → SlicesIn s work c turn m asked told new → IsLegalState new
+slices_legal s work c GoesOn m false told new g p w a = comes_legal s work (c + m) a.0 a.1 told new g p a.2 a.3
+slices_legal s work c GoesOn m true told new g p w a = backs_legal s work (WasAsked c) (c - m) c told new g p w (omega arith) a
+slices_legal s work c (GoesBack why) m asked told new g p w a = backs_legal s work why (c - m) c told new g p w (omega arith) a
 
-pub slice_legal : (s : Past) (job : Open) (m : ℕ) (asked : Bool) (told : Sliced) (new : State) → IsLegal s → IsPossibleAt s job → SlicesAt s job m asked told new → IsLegalState new
-slice_legal s Idle m asked told new g p a = legal_idle s new g a.1
-slice_legal s (Border t) m asked told new g p a = legal_at (record { past = s; job = Border t }) new a.1 (record { legal = g; possible = p; in_time = tt })
-slice_legal s (Inside e) m asked told new g p a = slices_legal s e.work e.count e.turn m asked told new g p a
+pub slice_legal : (s : Past) (job : Open) (m : ℕ) (asked : Bool) (told : Sliced) (new : State) → IsLegal s → IsPossibleAt s job → (w : World) × ShownAt s job w → SlicesAt s job m asked told new → IsLegalState new
+slice_legal s Idle m asked told new g p w a = legal_idle s new g a.1
+slice_legal s (Border t) m asked told new g p w a = legal_at (record { past = s; job = Border t }) new a.1 (record { legal = g; possible = p; in_time = tt; shown = (here s, refl) })
+slice_legal s (Inside e) m asked told new g p w a = slices_legal s e.work e.count e.turn m asked told new g p w a
 
 -- ---- begins
 
 pub enters_legal : (s : Past) (t : Travel) (answer : Begun) (new : State) → IsLegal s → IsPossible s.nodes s.favourites s.position t → Enters s t answer new → IsLegalState new
 enters_legal s t answer new g p a = elim a [
-  | inl b ↦ legal_inside s (Move t) 0 GoesOn new g p (exec_some (code_of s (Move t)) (here s)) b.1
+  | inl b ↦ legal_inside s (Move t) 0 GoesOn new g p (exec_some (code_of s (Move t)) (here s)) (part_none (code_of s (Move t)) (here s)) b.1
   | inr b ↦ legal_idle s new g b.2
 ]
 
@@ -96,7 +135,7 @@ lt_is a b e = grind (arith, nat_tests)
 
 takes_cell_legal : (s : Past) (text : List ℕ) (answer : Begun) (new : State) → IsLegal s → TakesCell s text answer new → IsLegalState new
 takes_cell_legal s text answer new g a = elim a [
-  | inl b ↦ legal_inside s (Posted b.0) 0 GoesOn new g (accepted_formed (here s) text b.0 b.1) (exec_some (code_of s (Posted b.0)) (here s)) b.3
+  | inl b ↦ legal_inside s (Posted b.0) 0 GoesOn new g (accepted_formed (here s) text b.0 b.1) (exec_some (code_of s (Posted b.0)) (here s)) (part_none (code_of s (Posted b.0)) (here s)) b.3
   | inr b ↦ legal_idle s new g b.3
 ]
 
@@ -118,7 +157,7 @@ pub step_legal : (old : Machine) (e : Event) (t : Told) (new : Machine) → IsLe
 step_legal old (event.Post lane posted) (told.Post answer) new g s = legal_at old.state new.state (post_keeps old (request_of posted) answer new s) g
 step_legal old event.Begin (told.Begin answer) new g s = begins_legal old old.state.job old.queue answer new g g.possible s
 step_legal old (event.Slice m asked) (told.Slice answer) new g s =
-    legal_at s.0 new.state (ap (λ (x : Machine). x.state) s.2) (slice_legal old.state.past old.state.job m asked answer s.0 g.legal g.possible s.1)
+    legal_at s.0 new.state (ap (λ (x : Machine). x.state) s.2) (slice_legal old.state.past old.state.job m asked answer s.0 g.legal g.possible g.shown s.1)
 step_legal old (event.Post lane posted) (told.Begin answer) new g s = absurd s
 step_legal old (event.Post lane posted) (told.Slice answer) new g s = absurd s
 step_legal old event.Begin (told.Post answer) new g s = absurd s

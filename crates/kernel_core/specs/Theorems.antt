@@ -156,13 +156,14 @@ GotoGoesThere =
     × ((gone s (travel_to (aim.Goto n) up down) j).nodes ≡ s.nodes)
     × ((gone s (travel_to (aim.Goto n) up down) j).worlds ≡ s.worlds)
 
--- A redo of k cells that follows an undo of k cells, both to the end, is back at the same node, with the same tree and worlds.
+-- A redo of k cells that is taken where an undo of k cells has led, both to the end, is back at the same node, with the same tree and
+-- worlds. It may have been posted before the undo ended, or later.
 abbrev pub RedoGivesBack : Type 0
 RedoGivesBack =
-    (old mid new : Machine) (k : ℕ) (rest more : List Request) (undo redo : List Event) (told_undo told_redo : List Told) →
+    (old mid later new : Machine) (k : ℕ) (rest more : List Request) (undo redo : List Event) (told_undo told_redo : List Told) →
     IsLegal old.state.past → old.state.job ≡ Idle →
     old.queue ≡ Undo k ∷ rest → Run old (event.Begin ∷ undo) told_undo mid → EndsAs told_undo (outcome.Undid k All) →
-    mid.queue ≡ Redo k ∷ more → Run mid (event.Begin ∷ redo) told_redo new → EndsAs told_redo (outcome.Redid k All) →
+    later.state ≡ mid.state → later.queue ≡ Redo k ∷ more → Run later (event.Begin ∷ redo) told_redo new → EndsAs told_redo (outcome.Redid k All) →
     new.state.past ≡ old.state.past
 
 -- ---- inside a cell of a travel
