@@ -12,6 +12,7 @@ pub mod Again
 pub mod OnTime
 pub mod Paths
 pub mod Stays
+pub mod InTime
 pub mod Reach
 pub mod Places
 pub mod Refusals

@@ -14,7 +14,7 @@ use Rattle.kernel_core.specs.Slices.{cells, stepped, moved, grown, Arrives, Sett
 use Rattle.kernel_core.specs.Begins.{Declares}
 use Rattle.kernel_core.specs.Program.{cell_of_program}
 use Rattle.kernel_core.specs.Runner.{world_of, Stands, IsInside}
-use Rattle.kernel_core.specs.Kept.{is_back, IsNodeAt, IsProgramOf, StandsIn, StandsAt, Kept, HasRoom, HasPath, HasPathFor}
+use Rattle.kernel_core.specs.Kept.{is_back, IsNodeAt, IsProgramOf, StandsIn, StandsAt, Kept, IsKept, HasRoom, HasPath, HasPathFor}
 use Rattle.kernel_core.specs.declared.runner.Runner.{Runner}
 use Rattle.kernel_core.specs.declared.program.Program.{Program}
 use Rattle.kernel_core.specs.declared.tree.Node.{Node}
@@ -27,7 +27,7 @@ use Rattle.kernel_core.specs.declared.job.Turn.{Turn as CodeTurn}
 use Rattle.kernel_core.specs.declared.job.Turn.TheVariants.{Going}
 use Rattle.kernel_core.specs.declared.job.Open.{Open}
 use Rattle.kernel_core.specs.declared.job.Open.TheVariants.{Idle, Border, Inside}
-use Rattle.kernel_core.proofs.LanguageLaws.{part_none_forward, part_none_backward, exec_end}
+use Rattle.kernel_core.proofs.LanguageLaws.{part_none_forward, part_none_backward, exec_end, exec_some}
 use Rattle.kernel_core.proofs.Running.{stands_part}
 use Rattle.kernel_core.proofs.Nodes.{shifted, node_read, count_of_nodes}
 use Rattle.kernel_core.proofs.Trees.{worlds-more, legal_up, legal_down, legal_grown, undone_world, redone_world, run_here, parent_sound, IsNext, formed_below, next_below, up_possible, down_possible, way_up, way_down, new_legal, new_worlds}
@@ -228,31 +228,41 @@ stands_with tree work count back runner p of h =
 -- ---- begins
 
 pub kept_entered : (tree : Tree) (runner at : Runner) (travel : CodeTravel) → Kept tree runner (Border travel) → StandsIn tree (Move travel) 0 false at →
-    Kept tree at (Inside (record { work = Move travel; count = 0; turn = Going }))
+    IsKept tree at (Inside (record { work = Move travel; count = 0; turn = Going }))
 kept_entered tree runner at travel k stands = record {
-  legal = k.legal;
-  possible = k.possible;
-  counted = k.counted;
-  stands = stands;
-  room = tt;
-  path = k.path;
-  path_room = k.path_room;
+  kept = record {
+    legal = k.legal;
+    possible = k.possible;
+    counted = k.counted;
+    stands = stands;
+    room = tt;
+    path = k.path;
+    path_room = k.path_room;
+  };
+  in_time = exec_some (code_of (past_of tree) (state.Move (travel_of travel))) (here (past_of tree));
 }
 
+-- with no open job nothing is due
+pub idle_in_time : (tree : Tree) (runner : Runner) → Kept tree runner Idle → IsKept tree runner Idle
+idle_in_time tree runner k = record { kept = k; in_time = tt }
+
 pub kept_begun : (tree made : Tree) (runner at : Runner) (program : Program) → Kept tree runner Idle → past_of made ≡ past_of tree → HasRoom made → IsFormed (cell_of_program program) (here (past_of tree)) →
-    Stands at program (Forward (cell_of_program program)) (here (past_of tree)) 0 false → Kept made at (Inside (record { work = Cell program; count = 0; turn = Going }))
+    Stands at program (Forward (cell_of_program program)) (here (past_of tree)) 0 false → IsKept made at (Inside (record { work = Cell program; count = 0; turn = Going }))
 kept_begun tree made runner at program k same room formed stands = record {
-  legal = subst (λ (s : Past). IsLegal s) (sym same) k.legal;
-  possible = subst (λ (s : Past). IsFormed (cell_of_program program) (here s)) (sym same) formed;
-  counted = tt;
-  stands = record {
-    program = program;
-    of_work = refl;
-    stands = subst (λ (s : Past). Stands at program (Forward (cell_of_program program)) (here s) 0 false) (sym same) stands;
+  kept = record {
+    legal = subst (λ (s : Past). IsLegal s) (sym same) k.legal;
+    possible = subst (λ (s : Past). IsFormed (cell_of_program program) (here s)) (sym same) formed;
+    counted = tt;
+    stands = record {
+      program = program;
+      of_work = refl;
+      stands = subst (λ (s : Past). Stands at program (Forward (cell_of_program program)) (here s) 0 false) (sym same) stands;
+    };
+    room = room;
+    path = tt;
+    path_room = (let h = room.path in omega arith);
   };
-  room = room;
-  path = tt;
-  path_room = (let h = room.path in omega arith);
+  in_time = exec_some (code_of (past_of made) (state.Posted (cell_of_program program))) (here (past_of made));
 }
 
 pub ok_fact : {A E : Type 0} (P : Type 0) (r : Result A E) → is_err r ≡ false → OnOk r P → P

@@ -3,7 +3,7 @@ use Rattle.std.specs.Prelude.{◌≡◌, ℕ, ◌+◌, ◌-◌, ◌<◌, ◌≤�
 use Rattle.kernel_core.specs.State.{here, ancestor, below, code_of}
 use Rattle.kernel_core.specs.Travel.{Up, Down, Aim, Undo, Redo, Goto, next_way}
 use Rattle.kernel_core.specs.Fields.{nodes_of, past_of, aim_of, travel_of, work_of, job_of}
-use Rattle.kernel_core.specs.Legal.{IsLegal, IsPossibleAt, IsCountedAt}
+use Rattle.kernel_core.specs.Legal.{IsLegal, IsPossibleAt, IsInTimeAt, IsCountedAt}
 use Rattle.kernel_core.specs.Runner.{Stands, world_of}
 use Rattle.kernel_core.specs.declared.program.Program.{Program}
 use Rattle.kernel_core.specs.declared.runner.Runner.{Runner}
@@ -75,6 +75,7 @@ HasPathAt tree Idle = Unit {0}
 HasPathAt tree (Border travel) = HasPath (aim_of travel.aim) tree travel.down
 HasPathAt tree (Inside e) = HasPathFor tree e.work
 
+-- also in the middle of a slice
 pub record Kept (tree : Tree) (runner : Runner) (job : Open) : Type 0 where
   pub legal : IsLegal (past_of tree)
   pub possible : IsPossibleAt (past_of tree) (job_of job)
@@ -84,3 +85,8 @@ pub record Kept (tree : Tree) (runner : Runner) (job : Open) : Type 0 where
   pub path : HasPathAt tree job
   -- room for a path of all nodes
   pub path_room : length tree.nodes.items ≤ vec_capacity tree.path
+
+-- what a history keeps: beside this, its open job has steps to take
+pub record IsKept (tree : Tree) (runner : Runner) (job : Open) : Type 0 where
+  pub kept : Kept tree runner job
+  pub in_time : IsInTimeAt (past_of tree) (job_of job)

@@ -3,11 +3,11 @@ ghost use Rattle.std.specs.Prelude.{◌≡◌, ◌≤◌, IfOk, OnOk, OnErr, len
 ghost use Rattle.kernel_core.specs.State.{State, Idle, Border, here, Shown, new_state};
 ghost use Rattle.kernel_core.specs.Fields.{past_of, nodes_of, aim_of, travel_of, state_of, IsPhase};
 ghost use Rattle.kernel_core.specs.Travel.{Undo, Redo};
-ghost use Rattle.kernel_core.specs.Legal.{IsLegal, IsPossible, IsPossibleAt, IsCounted, CanGo, can_undo, can_redo};
+ghost use Rattle.kernel_core.specs.Legal.{IsLegal, IsLegalState, IsPossible, IsCounted, CanGo, can_undo, can_redo};
 ghost use Rattle.kernel_core.specs.Slices.{IsSlice, cells};
 ghost use Rattle.kernel_core.specs.Begins.{TakesCell, TakesMove, TakesGoto, Departs, Enters, Declares, travel_to};
 ghost use Rattle.kernel_core.specs.Runner.{world_of};
-ghost use Rattle.kernel_core.specs.Kept.{HasRoom, HasPath, Kept, StandsAt};
+ghost use Rattle.kernel_core.specs.Kept.{HasRoom, HasPath, Kept, IsKept, StandsAt};
 
 use crate::job::{Aim, Entered, Open, Phase, Travel, Turn, Way, Why, Work};
 use crate::outcome::{Begun, End, Outcome, Refusal, Sliced};
@@ -38,11 +38,11 @@ impl Model for History {
     ghost coded = { state_code };
 
     ghost use Rattle.kernel_core.specs.Fields.{state_of};
-    ghost use Rattle.kernel_core.specs.Kept.{Kept};
+    ghost use Rattle.kernel_core.specs.Kept.{IsKept};
 
     ghost view = { λ a. state_of a.tree a.job };
 
-    ghost invariant = { λ a. Kept a.tree a.runner a.job };
+    ghost invariant = { λ a. IsKept a.tree a.runner a.job };
 }
 
 /// Makes room for one node, its favourite, and a path down to it.
@@ -82,7 +82,7 @@ fn enter_next(tree: &Tree, runner: &mut Runner, travel: Travel) -> Result<(), Al
 fn enter(tree: &Tree, runner: &mut Runner, travel: Travel) -> (Open, Begun)
     requires { Kept tree.now runner.old (Open.Border travel) }
     ensures step { Enters (past_of tree.now) (travel_of travel) result.1 (state_of tree.now result.0) }
-    ensures kept { Kept tree.now runner.new result.0 }
+    ensures kept { IsKept tree.now runner.new result.0 }
 {
     if enter_next(tree, runner, travel).is_err() {
         return (Open::Idle, Begun::Ended(finished(travel, End::NoMemory)));
@@ -102,7 +102,7 @@ fn depart(tree: &Tree, runner: &mut Runner, travel: Travel) -> (Open, Begun)
     requires counted { IsCounted (travel_of travel) }
     requires path { HasPath (aim_of travel.aim) tree.now travel.down }
     ensures step { Departs (cells (travel_of travel)) (past_of tree.now) (travel_of travel) result.1 (state_of tree.now result.0) }
-    ensures kept { Kept tree.now runner.new result.0 }
+    ensures kept { IsKept tree.now runner.new result.0 }
 {
     if travel.is_over() {
         return (Open::Idle, Begun::Ended(finished(travel, End::All)));
@@ -134,8 +134,7 @@ impl History {
     /// The shown world.
     pub fn world(&self) -> View<'_>
         ensures shown { Shown self.now result }
-        ensures legal { IsLegal self.now.past }
-        ensures possible { IsPossibleAt self.now.past self.now.job }
+        ensures legal { IsLegalState self.now }
     {
         View::of(&self.runner)
     }

@@ -1,0 +1,20 @@
+-- After a slice the open job still has steps to take.
+use Rattle.std.proofs.Common.{ℕ, Bool}
+use Rattle.kernel_core.specs.Fields.{past_of, job_of, state_of}
+use Rattle.kernel_core.specs.Slices.{IsSlice}
+use Rattle.kernel_core.specs.Runner.{world_of}
+use Rattle.kernel_core.specs.Kept.{Kept, IsKept}
+use Rattle.kernel_core.specs.declared.tree.Tree.{Tree}
+use Rattle.kernel_core.specs.declared.runner.Runner.{Runner}
+use Rattle.kernel_core.specs.declared.job.Open.{Open}
+use Rattle.kernel_core.specs.declared.outcome.Sliced.{Sliced}
+use Rattle.kernel_core.proofs.Standing.{shown_by}
+use Rattle.kernel_core.proofs.Stays.{slice_legal}
+
+pub slice_kept : (tree moved-to : Tree) (runner at : Runner) (old new : Open) (m : ℕ) (asked : Bool) (told : Sliced) → IsKept tree runner old → Kept moved-to at new →
+    IsSlice (state_of tree old) m asked told (state_of moved-to new) → IsKept moved-to at new
+slice_kept tree moved-to runner at old new m asked told k n s =
+    let kept = k.kept in
+    let shown = shown_by tree old runner k.kept.stands in
+    let legal = slice_legal (past_of tree) (job_of old) m asked told (state_of moved-to new) kept.legal kept.possible (world_of runner, shown) s in
+    record { kept = n; in_time = legal.in_time }
