@@ -17,7 +17,7 @@ use Rattle.kernel_core.proofs.Jobs.{jobs_end}
 
 -- ---- what is left of a travel
 
-abbrev left_of : Aim → ℕ → ℕ → ℕ → ℕ → Travel
+abbrev pub left_of : Aim → ℕ → ℕ → ℕ → ℕ → Travel
 left_of a up down went_up went_down = record { aim = a; up = up; down = down; went_up = went_up; went_down = went_down }
 
 step_up : (a : Aim) (up down i j : ℕ) → 0 < up → stepped (left_of a up down i j) ≡ left_of a (up - 1) down (i + 1) j
@@ -28,7 +28,7 @@ move_up : (s : Past) (a : Aim) (up down i j : ℕ) → 0 < up → moved s (left_
 move_up s a zero down i j l = absurd (omega arith)
 move_up s a (suc up) down i j l = refl
 
-after_up : (a : Aim) (up down j : ℕ) → j ≤ up → after (travel_to a up down) j ≡ left_of a (up - j) down j 0
+pub after_up : (a : Aim) (up down j : ℕ) → j ≤ up → after (travel_to a up down) j ≡ left_of a (up - j) down j 0
 after_up a up down zero l = (let e : up - 0 ≡ up = omega arith in rw e refl)
 after_up a up down (suc j) l =
     let e : up - j - 1 ≡ up - suc j = omega arith in

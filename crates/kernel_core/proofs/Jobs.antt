@@ -196,7 +196,7 @@ departs_move (suc left) s t answer new e a =
     enters_move s t s t answer new (record { done = 0; left = refl; stands = refl; count = omega arith; some = omega arith }) a
 
 -- the first event takes the job
-begin_takes : (old : Machine) (posted : Request) (rest : List Request) (answer : Begun) (new : Machine) → old.state.job ≡ Idle → old.queue ≡ posted ∷ rest → BeginsAt old old.state.job old.queue answer new → Takes old.state.past posted answer new.state
+pub begin_takes : (old : Machine) (posted : Request) (rest : List Request) (answer : Begun) (new : Machine) → old.state.job ≡ Idle → old.queue ≡ posted ∷ rest → BeginsAt old old.state.job old.queue answer new → Takes old.state.past posted answer new.state
 begin_takes old posted rest answer new e f b =
     let at : BeginsAt old Idle (posted ∷ rest) answer new = subst (λ (q : List Request). BeginsAt old Idle q answer new) f (subst (λ (j : Open). BeginsAt old j old.queue answer new) e b) in
     subst (λ (x : Machine). Takes old.state.past posted answer x.state) (sym at.2) at.1

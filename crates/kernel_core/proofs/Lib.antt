@@ -13,6 +13,7 @@ pub mod OnTime
 pub mod Paths
 pub mod Stays
 pub mod InTime
+pub mod Stopping
 pub mod Reach
 pub mod Places
 pub mod Refusals

@@ -15,7 +15,7 @@ use Rattle.kernel_core.specs.Runs.{Machine, Request, RunCell, Undo, Redo, Goto, 
 use Rattle.kernel_core.specs.Turn.{GoesOn}
 use Rattle.kernel_core.specs.Travel as aim
 use Rattle.kernel_core.specs.declared.outcome.End.{End}
-use Rattle.kernel_core.specs.declared.outcome.End.TheVariants.{All, NoMemory}
+use Rattle.kernel_core.specs.declared.outcome.End.TheVariants.{All, Asked, NoMemory}
 use Rattle.kernel_core.specs.declared.outcome.Refusal.{Refusal}
 use Rattle.kernel_core.specs.declared.outcome.Refusal.TheVariants.{TooFar, NoNode}
 use Rattle.kernel_core.specs.declared.outcome.Outcome.{Outcome}
@@ -129,6 +129,39 @@ JobsEnd =
     (old new : Machine) (job : Request) (rest : List Request) (events : List Event) (answers : List Told) (o : Outcome) →
     old.state.job ≡ Idle → old.queue ≡ job ∷ rest →
     Run old (event.Begin ∷ events) answers new → EndsAs answers o → JobEnds old.state.past job o new.state
+
+-- ---- what stops a job
+
+-- the outcome tells that the job was stopped before its end
+abbrev pub WasStopped : Outcome → Type 0
+WasStopped (outcome.Ran node n) = ⊥
+WasStopped (outcome.Failed fault j) = ⊥
+WasStopped (outcome.Interrupted j) = Unit {0}
+WasStopped (outcome.Undid j end) = end ≡ Asked
+WasStopped (outcome.Redid j end) = end ≡ Asked
+WasStopped (outcome.Went i j end) = end ≡ Asked
+WasStopped (outcome.Refused refusal) = ⊥
+
+-- one of the events is an asked slice
+abbrev pub HasAsked : List Event → Type 0
+HasAsked [] = ⊥
+HasAsked (event.Post lane posted ∷ events) = HasAsked events
+HasAsked (event.Begin ∷ events) = HasAsked events
+HasAsked (event.Slice m asked ∷ events) = IsTrue asked ⊎ HasAsked events
+
+-- Only an asked slice stops a job before its end.
+abbrev pub OnlyAskedSlicesStop : Type 0
+OnlyAskedSlicesStop =
+    (old new : Machine) (job : Request) (rest : List Request) (events : List Event) (answers : List Told) (o : Outcome) →
+    IsLegal old.state.past → old.state.job ≡ Idle → old.queue ≡ job ∷ rest →
+    Run old (event.Begin ∷ events) answers new → EndsAs answers o → WasStopped o → HasAsked events
+
+-- So an undo that can go its k cells, and that nobody stops, undoes all of them.
+abbrev pub UndoesAll : Type 0
+UndoesAll =
+    (old new : Machine) (k : ℕ) (rest : List Request) (events : List Event) (answers : List Told) (o : Outcome) →
+    IsLegal old.state.past → IsTrue (can_undo old.state.past.nodes old.state.past.position k) → old.state.job ≡ Idle → old.queue ≡ Undo k ∷ rest →
+    Run old (event.Begin ∷ events) answers new → EndsAs answers o → ¬ HasAsked events → o ≡ outcome.Undid k All
 
 -- ---- where a travel leads
 

@@ -1,7 +1,7 @@
 //! The main theorem, over every run of the machine. `run_events` gives such runs, and each state of a kernel is legal.
 //! The functions do nothing: their contracts are the laws.
 ghost use Rattle.kernel_core.specs.Determined.{StepIsDetermined, RunIsDetermined};
-ghost use Rattle.kernel_core.specs.Theorems.{NewIsLegal, StaysLegal, JobsEnd, UndoGoesUp, RedoGoesDown, GotoGoesThere, RedoGivesBack, SettlesOnTime, NeverFaults, IsMirrored, PathGivesWorld, UndoGoesUpThePath, RedoGoesDownFavourites};
+ghost use Rattle.kernel_core.specs.Theorems.{NewIsLegal, StaysLegal, JobsEnd, OnlyAskedSlicesStop, UndoesAll, UndoGoesUp, RedoGoesDown, GotoGoesThere, RedoGivesBack, SettlesOnTime, NeverFaults, IsMirrored, PathGivesWorld, UndoGoesUpThePath, RedoGoesDownFavourites};
 
 /// A new machine is legal: its tree is, and no job is open.
 pub fn new_is_legal_law()
@@ -18,6 +18,17 @@ pub fn stays_legal_law()
 /// cells: it says `All` exactly where these are all, and `NoMemory` only on the way down, in front of a cell that declares names.
 pub fn jobs_end_law()
     ensures { JobsEnd }
+{}
+
+/// Only an asked slice stops a job before its end: where one ends as `Interrupted`, or a travel as `Asked`, some slice since
+/// its begin was asked.
+pub fn only_asked_slices_stop_law()
+    ensures { OnlyAskedSlicesStop }
+{}
+
+/// An undo of `k` cells, where there are so many, ends as `Undid(k, All)` unless some slice since its begin was asked.
+pub fn undoes_all_law()
+    ensures { UndoesAll }
 {}
 
 /// `j` cells of an undo lead `j` nodes up, and change the position alone.
