@@ -159,13 +159,13 @@ end_told t end = by_aim t.aim t.went_up t.went_down end
 
 pub redo_gives_back : RedoGivesBack
 unfolding end_of_outcome
-redo_gives_back old mid later new k rest more undo redo told_undo told_redo g idle queue run ends same more_queue run_on ends_on =
+redo_gives_back old mid later new k undo redo told_undo told_redo g idle next run ends same then run_on ends_on =
     let size : k + 0 ≡ k = omega arith in
     let other : 0 + k ≡ k = omega arith in
-    let first = undid_all old.state.past (travel_to aim.Undo k 0) k _ mid.state size (jobs_end old mid (Undo k) rest undo told_undo (outcome.Undid k All) idle queue run ends) (λ j end e. sym (end_told (after (travel_to aim.Undo k 0) j) end) ∙ ap end_of_outcome e) in
+    let first = undid_all old.state.past (travel_to aim.Undo k 0) k _ mid.state size (jobs_end old mid (Undo k) undo told_undo (outcome.Undid k All) idle next run ends) (λ j end e. sym (end_told (after (travel_to aim.Undo k 0) j) end) ∙ ap end_of_outcome e) in
     let there = same ∙ first.0 in
     let again : later.state.job ≡ Idle = ap (λ (s : State). s.job) there in
-    let second = redid_all later.state.past (travel_to aim.Redo 0 k) k _ new.state other (jobs_end later new (Redo k) more redo told_redo (outcome.Redid k All) again more_queue run_on ends_on) (λ j end e. sym (end_told (after (travel_to aim.Redo 0 k) j) end) ∙ ap end_of_outcome e) in
+    let second = redid_all later.state.past (travel_to aim.Redo 0 k) k _ new.state other (jobs_end later new (Redo k) redo told_redo (outcome.Redid k All) again then run_on ends_on) (λ j end e. sym (end_told (after (travel_to aim.Redo 0 k) j) end) ∙ ap end_of_outcome e) in
     ap (λ (s : State). s.past) second
     ∙ ap (λ (s : State). gone s.past (travel_to aim.Redo 0 k) k) there
     ∙ there_and_back old.state.past k g first.1

@@ -1,6 +1,6 @@
 -- Where memory is ample, each step of the machine is determined, and so is each run.
 use Rattle.std.specs.Prelude.{nat_lt, length}
-use Rattle.std.proofs.Common.{◌≡◌, ℕ, ◌+◌, ◌-◌, ◌<◌, ◌≤◌, Bool, true, false, List, [], ◌∷◌, zero, suc, refl, sym, ap, ◌∙◌, subst, arith, inl, inr, Result, Ok, Err}
+use Rattle.std.proofs.Common.{◌≡◌, ℕ, ◌+◌, ◌-◌, ◌<◌, ◌≤◌, Bool, true, false, List, [], ◌∷◌, zero, suc, refl, sym, ap, ◌∙◌, subst, arith, inl, inr, Result, Ok, Err, ◌++◌}
 use Rattle.janus_meaning.specs.Fault as meaning
 use Rattle.janus_meaning.specs.World.{World, Cell}
 use Rattle.janus_machine.specs.Faults.{fault_of}
@@ -12,7 +12,7 @@ use Rattle.kernel_core.specs.State.{Past, Work, Posted, Move, Job as Open, Idle,
 use Rattle.kernel_core.specs.Legal.{can_undo, can_redo, IsLegal}
 use Rattle.kernel_core.specs.Slices.{cells, stepped, moved, Backs, Arrives, Settles, Comes, Goes, SlicesIn, SlicesAt}
 use Rattle.kernel_core.specs.Begins.{travel_to, Departs, Enters, TakesMove, TakesGoto, TakesCell}
-use Rattle.kernel_core.specs.Runs.{Machine, Request, RunCell, Undo, Redo, Goto, request_of, IsPost, Run, BeginsAt, Takes}
+use Rattle.kernel_core.specs.Runs.{Machine, Request, RunCell, Undo, Redo, Goto, request_of, IsPost, Run, BeginsAt, Takes, Waiting}
 use Rattle.kernel_core.specs.Determined.{TellsWant, StepIsDetermined, RunIsDetermined}
 use Rattle.kernel_core.specs.Travel as aim
 use Rattle.kernel_core.proofs.Trees.{meeting_same}
@@ -174,11 +174,11 @@ takes_same s (Undo k) t u new other g a ample b enough = takes_move_same s (trav
 takes_same s (Redo k) t u new other g a ample b enough = takes_move_same s (travel_to aim.Redo 0 k) (can_redo s.favourites s.position k) t u new other a ample b enough
 takes_same s (Goto n) t u new other g a ample b enough = takes_goto_same s n (nat_lt n (length s.nodes)) t u new other a ample b enough
 
-begins_same : (old : Machine) (job : Open) (queue : List Request) (t u : Begun) (new other : Machine) → IsLegal old.state.past → BeginsAt old job queue t new → IsAmple t → BeginsAt old job queue u other → IsAmple u →
+begins_same : (old : Machine) (job : Open) (queue : List Waiting) (t u : Begun) (new other : Machine) → IsLegal old.state.past → BeginsAt old job queue t new → IsAmple t → BeginsAt old job queue u other → IsAmple u →
     (t ≡ u) × (new ≡ other)
 begins_same old Idle [] t u new other g a ample b enough = (a.0 ∙ sym b.0, a.1 ∙ sym b.1)
-begins_same old Idle (r ∷ rest) t u new other g a ample b enough =
-    let same = takes_same old.state.past r t u a.0 b.0 g a.1 ample b.1 enough in
+begins_same old Idle (first ∷ rest) t u new other g a ample b enough =
+    let same = takes_same old.state.past first.job t u a.0 b.0 g a.1 ample b.1 enough in
     (same.0, a.2 ∙ ap (λ (x : State). record old { state = x; queue = rest }) same.1 ∙ sym b.2)
 begins_same old (Border travel) queue t u new other g a ample b enough =
     let same = enters_same old.state.past travel t u a.0 b.0 a.1 ample b.1 enough in
@@ -187,17 +187,19 @@ begins_same old (Inside e) queue t u new other g a ample b enough = (a.0 ∙ sym
 
 -- ---- posts, steps and runs
 
-post_same : (old : Machine) (r : Request) (t u : Result ℕ PostFault) (new other : Machine) → IsPost old r t new → (t ≡ Err NoRoom → ⊥) → IsPost old r u other → (u ≡ Err NoRoom → ⊥) → (t ≡ u) × (new ≡ other)
-post_same old r (Err NoRoom) u new other a ample b enough = absurd (ample refl)
-post_same old r t (Err NoRoom) new other a ample b enough = absurd (enough refl)
-post_same old r (Ok n) (Ok i) new other a ample b enough = (ap (λ (k : ℕ). Ok k) (a.1 ∙ sym b.1), a.2 ∙ sym b.2)
-post_same old r (Ok n) (Err QueueFull) new other a ample b enough = absurd (let l = a.0 in let h = b.0 in omega arith)
-post_same old r (Err QueueFull) (Ok n) new other a ample b enough = absurd (let l = a.0 in let h = b.0 in omega arith)
-post_same old r (Err QueueFull) (Err QueueFull) new other a ample b enough = (refl, a.1 ∙ sym b.1)
+pub post_same : (old : Machine) (lane : ℕ) (r : Request) (t u : Result ℕ PostFault) (new other : Machine) → IsPost old lane r t new → (t ≡ Err NoRoom → ⊥) → IsPost old lane r u other → (u ≡ Err NoRoom → ⊥) → (t ≡ u) × (new ≡ other)
+post_same old lane r (Err NoRoom) u new other a ample b enough = absurd (ample refl)
+post_same old lane r t (Err NoRoom) new other a ample b enough = absurd (enough refl)
+post_same old lane r (Ok n) (Ok i) new other a ample b enough =
+    let same = a.1 ∙ sym b.1 in
+    (ap (λ (k : ℕ). Ok k) same, a.2 ∙ ap (λ (k : ℕ). record old { queue = old.queue ++ record { number = k; lane = lane; job = r } ∷ []; posted = k }) same ∙ sym b.2)
+post_same old lane r (Ok n) (Err QueueFull) new other a ample b enough = absurd (let l = a.0 in let h = b.0 in omega arith)
+post_same old lane r (Err QueueFull) (Ok n) new other a ample b enough = absurd (let l = a.0 in let h = b.0 in omega arith)
+post_same old lane r (Err QueueFull) (Err QueueFull) new other a ample b enough = (refl, a.1 ∙ sym b.1)
 
 pub step_is_determined : StepIsDetermined
 step_is_determined old new other (event.Post lane posted) (told.Post t) (told.Post u) g a ample b enough =
-    let same = post_same old (request_of posted) t u new other a ample b enough in
+    let same = post_same old lane (request_of posted) t u new other a ample b enough in
     (ap (λ (x : Result ℕ PostFault). told.Post x) same.0, same.1)
 step_is_determined old new other event.Begin (told.Begin t) (told.Begin u) g a ample b enough =
     let same = begins_same old old.state.job old.queue t u new other g.legal a ample b enough in

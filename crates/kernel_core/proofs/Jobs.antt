@@ -10,7 +10,7 @@ use Rattle.kernel_core.specs.Legal.{can_undo, can_redo, IsMeeting}
 use Rattle.kernel_core.proofs.LanguageLaws.{part_zero_forward, exec_some}
 use Rattle.kernel_core.specs.Slices.{finished, turned, cells, stepped, moved, grown, Backs, Arrives, Comes, SlicesIn, SlicesAt}
 use Rattle.kernel_core.specs.Begins.{Declares, travel_to, Departs, Enters, TakesMove, TakesGoto, TakesCell}
-use Rattle.kernel_core.specs.Runs.{Machine, Request, RunCell, Undo, Redo, Goto, request_of, Step, Run, IsPost, BeginsAt, Takes}
+use Rattle.kernel_core.specs.Runs.{Machine, Request, RunCell, Undo, Redo, Goto, request_of, Step, Run, Waiting, IsPost, IsNext, BeginsAt, Takes}
 use Rattle.kernel_core.specs.Theorems.{after, gone, EndsAs, TravelEnds, MoveEnds, GotoEnds, CellEnds, JobEnds, IsUnderWay, MeetsFault, IsNoNode, JobsEnd}
 use Rattle.kernel_core.proofs.Trees.{stepped_cells}
 use Rattle.kernel_core.specs.Travel as aim
@@ -76,10 +76,10 @@ to_end keeps ends step old (d ∷ events) (told.Slice sliced.Backing ∷ answers
 to_end keeps ends step old (d ∷ events) (told.Slice (sliced.Ended p) ∷ answers) new o k r e = at_end ends r.0 events answers new p o (step old d (told.Slice (sliced.Ended p)) r.0 k r.1) r.2 e.0 e.1
 
 -- a post changes the queue alone
-pub post_keeps : (old : Machine) (posted : Request) (answer : Result ℕ PostFault) (new : Machine) → IsPost old posted answer new → new.state ≡ old.state
-post_keeps old posted (Ok n) new s = ap (λ (m : Machine). m.state) s.2
-post_keeps old posted (Err QueueFull) new s = ap (λ (m : Machine). m.state) s.1
-post_keeps old posted (Err NoRoom) new s = ap (λ (m : Machine). m.state) s
+pub post_keeps : (old : Machine) (lane : ℕ) (posted : Request) (answer : Result ℕ PostFault) (new : Machine) → IsPost old lane posted answer new → new.state ≡ old.state
+post_keeps old lane posted (Ok n) new s = ap (λ (m : Machine). m.state) s.2
+post_keeps old lane posted (Err QueueFull) new s = ap (λ (m : Machine). m.state) s.1
+post_keeps old lane posted (Err NoRoom) new s = ap (λ (m : Machine). m.state) s
 
 -- ---- a travel
 
@@ -196,10 +196,10 @@ departs_move (suc left) s t answer new e a =
     enters_move s t s t answer new (record { done = 0; left = refl; stands = refl; count = omega arith; some = omega arith }) a
 
 -- the first event takes the job
-pub begin_takes : (old : Machine) (posted : Request) (rest : List Request) (answer : Begun) (new : Machine) → old.state.job ≡ Idle → old.queue ≡ posted ∷ rest → BeginsAt old old.state.job old.queue answer new → Takes old.state.past posted answer new.state
-begin_takes old posted rest answer new e f b =
-    let at : BeginsAt old Idle (posted ∷ rest) answer new = subst (λ (q : List Request). BeginsAt old Idle q answer new) f (subst (λ (j : Open). BeginsAt old j old.queue answer new) e b) in
-    subst (λ (x : Machine). Takes old.state.past posted answer x.state) (sym at.2) at.1
+pub begin_takes : (old : Machine) (job : Request) (answer : Begun) (new : Machine) → old.state.job ≡ Idle → IsNext old job → BeginsAt old old.state.job old.queue answer new → Takes old.state.past job answer new.state
+begin_takes old job answer new e f b =
+    let at : BeginsAt old Idle (f.0 ∷ f.1) answer new = subst (λ (q : List Waiting). BeginsAt old Idle q answer new) f.2 (subst (λ (j : Open). BeginsAt old j old.queue answer new) e b) in
+    subst (λ (r : Request). Takes old.state.past r answer new.state) f.3 (subst (λ (x : Machine). Takes old.state.past f.0.job answer x.state) (sym at.2) at.1)
 
 -- ---- a cell
 
@@ -348,7 +348,7 @@ no_idle p (Undo k) s h = h.0
 no_idle p (Redo k) s h = h.0
 no_idle p (Goto n) s h = h.1.3
 
-begins_hold : (p : Past) (r : Request) (old : Machine) (job : Open) (queue : List Request) (answer : Begun) (new : Machine) → Holds p r (record { past = old.state.past; job = job }) → BeginsAt old job queue answer new →
+begins_hold : (p : Past) (r : Request) (old : Machine) (job : Open) (queue : List Waiting) (answer : Begun) (new : Machine) → Holds p r (record { past = old.state.past; job = job }) → BeginsAt old job queue answer new →
     old.state.job ≡ job → ThenBegun (Holds p r) (JobEnds p r) answer new.state
 begins_hold p r old Idle queue answer new i a e = absurd (no_idle p r old.state.past i)
 begins_hold p r old (Border t) queue answer new i a e =
@@ -357,7 +357,7 @@ begins_hold p r old (Inside x) queue answer new i a e =
     begun_at _ _ begun.Nothing answer old.state new.state a.0 (ap (λ (m : Machine). m.state) a.1) (subst (λ (j : Open). Holds p r (record { past = old.state.past; job = j })) (sym e) i)
 
 steps_hold : (p : Past) (r : Request) (old : Machine) (e : Event) (t : Told) (new : Machine) → Holds p r old.state → Step old e t new → Then (Holds p r) (JobEnds p r) t new.state
-steps_hold p r old (event.Post lane posted) (told.Post answer) new i s = subst (λ (x : State). Holds p r x) (sym (post_keeps old (request_of posted) answer new s)) i
+steps_hold p r old (event.Post lane posted) (told.Post answer) new i s = subst (λ (x : State). Holds p r x) (sym (post_keeps old lane (request_of posted) answer new s)) i
 steps_hold p r old event.Begin (told.Begin answer) new i s = begins_hold p r old old.state.job old.queue answer new i s refl
 steps_hold p r old (event.Slice m asked) (told.Slice answer) new i s =
     subst (λ (x : Machine). ThenSliced (Holds p r) (JobEnds p r) answer x.state) (sym s.2) (slice_holds p r old.state.past old.state.job m asked answer s.0 i s.1)
@@ -369,12 +369,12 @@ steps_hold p r old (event.Slice m asked) (told.Post answer) new i s = absurd s
 steps_hold p r old (event.Slice m asked) (told.Begin answer) new i s = absurd s
 
 pub jobs_end : JobsEnd
-jobs_end old new r rest events [] o e f run h = absurd run
-jobs_end old new r rest events (told.Post a ∷ answers) o e f run h = absurd run.1
-jobs_end old new r rest events (told.Slice a ∷ answers) o e f run h = absurd run.1
-jobs_end old new r rest events (told.Begin begun.Nothing ∷ answers) o e f run h =
-    to_end (Holds old.state.past r) (JobEnds old.state.past r) (steps_hold old.state.past r) run.0 events answers new o (take_holds old.state.past r begun.Nothing run.0.state (begin_takes old _ rest begun.Nothing run.0 e f run.1)) run.2 h
-jobs_end old new r rest events (told.Begin begun.Going ∷ answers) o e f run h =
-    to_end (Holds old.state.past r) (JobEnds old.state.past r) (steps_hold old.state.past r) run.0 events answers new o (take_holds old.state.past r begun.Going run.0.state (begin_takes old _ rest begun.Going run.0 e f run.1)) run.2 h
-jobs_end old new r rest events (told.Begin (begun.Ended q) ∷ answers) o e f run h =
-    at_end (JobEnds old.state.past r) run.0 events answers new q o (take_holds old.state.past r (begun.Ended q) run.0.state (begin_takes old _ rest (begun.Ended q) run.0 e f run.1)) run.2 h.0 h.1
+jobs_end old new r events [] o e f run h = absurd run
+jobs_end old new r events (told.Post a ∷ answers) o e f run h = absurd run.1
+jobs_end old new r events (told.Slice a ∷ answers) o e f run h = absurd run.1
+jobs_end old new r events (told.Begin begun.Nothing ∷ answers) o e f run h =
+    to_end (Holds old.state.past r) (JobEnds old.state.past r) (steps_hold old.state.past r) run.0 events answers new o (take_holds old.state.past r begun.Nothing run.0.state (begin_takes old r begun.Nothing run.0 e f run.1)) run.2 h
+jobs_end old new r events (told.Begin begun.Going ∷ answers) o e f run h =
+    to_end (Holds old.state.past r) (JobEnds old.state.past r) (steps_hold old.state.past r) run.0 events answers new o (take_holds old.state.past r begun.Going run.0.state (begin_takes old r begun.Going run.0 e f run.1)) run.2 h
+jobs_end old new r events (told.Begin (begun.Ended q) ∷ answers) o e f run h =
+    at_end (JobEnds old.state.past r) run.0 events answers new q o (take_holds old.state.past r (begun.Ended q) run.0.state (begin_takes old r (begun.Ended q) run.0 e f run.1)) run.2 h.0 h.1

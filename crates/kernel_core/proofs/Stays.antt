@@ -13,7 +13,7 @@ use Rattle.kernel_core.specs.State.{Past, Work, Posted, Move, Job as Open, Idle,
 use Rattle.kernel_core.specs.Legal.{CanGo, IsLegal, IsPossible, IsPossibleWork, IsPossibleAt, IsInTime, IsLegalState}
 use Rattle.kernel_core.specs.Slices.{cells, stepped, moved, Backs, Arrives, Settles, Comes, SlicesIn, SlicesAt}
 use Rattle.kernel_core.specs.Begins.{travel_to, Enters, Departs, TakesMove, TakesGoto, TakesCell}
-use Rattle.kernel_core.specs.Runs.{Machine, Request, RunCell, Undo, Redo, Goto, request_of, Step, BeginsAt, Takes}
+use Rattle.kernel_core.specs.Runs.{Machine, Request, RunCell, Undo, Redo, Goto, Waiting, request_of, Step, BeginsAt, Takes}
 use Rattle.kernel_core.specs.Theorems.{NewIsLegal, StaysLegal}
 use Rattle.kernel_core.specs.Travel as aim
 use Rattle.kernel_core.specs.Travel.{Travel}
@@ -145,16 +145,16 @@ takes_legal s (Undo k) answer new g a = takes_move_legal s (travel_to aim.Undo k
 takes_legal s (Redo k) answer new g a = takes_move_legal s (travel_to aim.Redo 0 k) _ answer new g (λ e. (refl, e)) a
 takes_legal s (Goto n) answer new g a = takes_goto_legal s n _ answer new g (λ e. lt_is n (length s.nodes) e) a
 
-begins_legal : (old : Machine) (job : Open) (queue : List Request) (answer : Begun) (new : Machine) → IsLegalState old.state → IsPossibleAt old.state.past job → BeginsAt old job queue answer new → IsLegalState new.state
+begins_legal : (old : Machine) (job : Open) (queue : List Waiting) (answer : Begun) (new : Machine) → IsLegalState old.state → IsPossibleAt old.state.past job → BeginsAt old job queue answer new → IsLegalState new.state
 begins_legal old Idle [] answer new g p a = legal_at old.state new.state (ap (λ (m : Machine). m.state) a.1) g
-begins_legal old Idle (r ∷ rest) answer new g p a = legal_at a.0 new.state (ap (λ (m : Machine). m.state) a.2) (takes_legal old.state.past r answer a.0 g.legal a.1)
+begins_legal old Idle (first ∷ rest) answer new g p a = legal_at a.0 new.state (ap (λ (m : Machine). m.state) a.2) (takes_legal old.state.past first.job answer a.0 g.legal a.1)
 begins_legal old (Border t) queue answer new g p a = legal_at a.0 new.state (ap (λ (m : Machine). m.state) a.2) (enters_legal old.state.past t answer a.0 g.legal p a.1)
 begins_legal old (Inside e) queue answer new g p a = legal_at old.state new.state (ap (λ (m : Machine). m.state) a.1) g
 
 -- ---- runs
 
 pub step_legal : (old : Machine) (e : Event) (t : Told) (new : Machine) → IsLegalState old.state → Step old e t new → IsLegalState new.state
-step_legal old (event.Post lane posted) (told.Post answer) new g s = legal_at old.state new.state (post_keeps old (request_of posted) answer new s) g
+step_legal old (event.Post lane posted) (told.Post answer) new g s = legal_at old.state new.state (post_keeps old lane (request_of posted) answer new s) g
 step_legal old event.Begin (told.Begin answer) new g s = begins_legal old old.state.job old.queue answer new g g.possible s
 step_legal old (event.Slice m asked) (told.Slice answer) new g s =
     legal_at s.0 new.state (ap (λ (x : Machine). x.state) s.2) (slice_legal old.state.past old.state.job m asked answer s.0 g.legal g.possible g.shown s.1)

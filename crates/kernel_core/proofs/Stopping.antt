@@ -10,7 +10,7 @@ use Rattle.kernel_core.specs.State.{Past, Work, Posted, Move, Job as Open, Idle,
 use Rattle.kernel_core.specs.Legal.{IsLegal, IsLegalState, IsPossible, IsPossibleWork, IsPossibleAt, can_undo}
 use Rattle.kernel_core.specs.Slices.{finished, turned, cells, stepped, moved, Backs, Arrives, Settles, Comes, SlicesIn, SlicesAt}
 use Rattle.kernel_core.specs.Begins.{Declares, travel_to, Departs, Enters, TakesCell, TakesMove, TakesGoto}
-use Rattle.kernel_core.specs.Runs.{Machine, Request, RunCell, Undo, Redo, Goto, request_of, Step, Run, IsPost, BeginsAt, Takes}
+use Rattle.kernel_core.specs.Runs.{Machine, Request, RunCell, Undo, Redo, Goto, Waiting, request_of, Step, Run, BeginsAt, Takes}
 use Rattle.kernel_core.specs.Theorems.{after, gone, EndsAs, EndsAfter, TravelEnds, MoveEnds, WasStopped, HasAsked, OnlyAskedSlicesStop, UndoesAll}
 use Rattle.kernel_core.specs.declared.outcome.End.{End}
 use Rattle.kernel_core.specs.declared.outcome.End.TheVariants.{All, Asked, NoMemory}
@@ -135,11 +135,11 @@ takes_stops s (Undo k) answer new a x = takes_move_stops s (travel_to aim.Undo k
 takes_stops s (Redo k) answer new a x = takes_move_stops s (travel_to aim.Redo 0 k) _ answer new a x
 takes_stops s (Goto n) answer new a x = takes_goto_stops s n _ answer new a x
 
-begins_stops : (old : Machine) (job : Open) (queue : List Request) (answer : Begun) (new : Machine) → old.state.job ≡ job → BeginsAt old job queue answer new → StoppedBegun answer new.state → Stops job
+begins_stops : (old : Machine) (job : Open) (queue : List Waiting) (answer : Begun) (new : Machine) → old.state.job ≡ job → BeginsAt old job queue answer new → StoppedBegun answer new.state → Stops job
 begins_stops old Idle [] answer new e a x =
     at_begin ⊥ begun.Nothing answer old.state new.state a.0 (ap (λ (m : Machine). m.state) a.1) (λ h. subst (λ (j : Open). Stops j) e h) x
-begins_stops old Idle (r ∷ rest) answer new e a x =
-    takes_stops old.state.past r answer a.0 a.1 (subst (λ (m : Machine). StoppedBegun answer m.state) a.2 x)
+begins_stops old Idle (first ∷ rest) answer new e a x =
+    takes_stops old.state.past first.job answer a.0 a.1 (subst (λ (m : Machine). StoppedBegun answer m.state) a.2 x)
 begins_stops old (Border t) queue answer new e a x =
     enters_stops old.state.past t answer a.0 a.1 (subst (λ (m : Machine). StoppedBegun answer m.state) a.2 x)
 begins_stops old (Inside i) queue answer new e a x =
@@ -160,7 +160,7 @@ runs_stop old (event.Slice m true ∷ events) (t ∷ answers) new o g r e w = in
 runs_stop old (event.Post lane posted ∷ events) (told.Post answer ∷ answers) new o g r e w =
     elim (runs_stop r.0 events answers new o (step_legal old (event.Post lane posted) (told.Post answer) r.0 g r.1) r.2 e w) [
       | inl asked ↦ inl asked
-      | inr back ↦ inr (subst (λ (s : State). Stops s.job) (post_keeps old (request_of posted) answer r.0 r.1) back)
+      | inr back ↦ inr (subst (λ (s : State). Stops s.job) (post_keeps old lane (request_of posted) answer r.0 r.1) back)
     ]
 runs_stop old (event.Begin ∷ events) (told.Begin begun.Nothing ∷ answers) new o g r e w =
     elim (runs_stop r.0 events answers new o (step_legal old event.Begin (told.Begin begun.Nothing) r.0 g r.1) r.2 e w) [
@@ -208,7 +208,7 @@ idle_legal : (s : State) → IsLegal s.past → s.job ≡ Idle → IsLegalState 
 idle_legal s g e = legal_idle s.past s g (ap (λ (j : Open). record { past = s.past; job = j }) e)
 
 pub only_asked_slices_stop : OnlyAskedSlicesStop
-only_asked_slices_stop old new r rest events answers o g idle queue run ends stopped =
+only_asked_slices_stop old new r events answers o g idle next run ends stopped =
     elim (runs_stop old (event.Begin ∷ events) answers new o (idle_legal old.state g idle) run ends stopped) [
       | inl asked ↦ asked
       | inr back ↦ absurd (subst (λ (j : Open). Stops j) idle back)
@@ -244,7 +244,7 @@ can_move s t false o new h m = absurd (let e : false ≡ true = h in cc)
 can_move s t true o new h m = m
 
 pub undoes_all : UndoesAll
-undoes_all old new k rest events answers o g can idle queue run ends none =
-    let ended = jobs_end old new (Undo k) rest events answers o idle queue run ends in
+undoes_all old new k events answers o g can idle next run ends none =
+    let ended = jobs_end old new (Undo k) events answers o idle next run ends in
     let travelled = can_move old.state.past (travel_to aim.Undo k 0) _ o new.state can ended in
-    all_undone old.state.past k travelled.0 travelled.1 o new.state travelled.2 (λ w. none (only_asked_slices_stop old new (Undo k) rest events answers o g idle queue run ends w))
+    all_undone old.state.past k travelled.0 travelled.1 o new.state travelled.2 (λ w. none (only_asked_slices_stop old new (Undo k) events answers o g idle next run ends w))

@@ -15,6 +15,7 @@ pub mod Begins
 pub mod Kept
 pub mod PostFault
 pub mod Runs
+pub mod Queue
 pub mod MachineCode
 pub mod Theorems
 pub mod Determined

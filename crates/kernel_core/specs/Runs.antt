@@ -30,10 +30,17 @@ request_of (job.Undo k) = Undo k
 request_of (job.Redo k) = Redo k
 request_of (job.Goto n) = Goto n
 
+-- a posted job that is not begun, with the number of its post and the lane of the frontend that posted it
+pub record Waiting : Type 0 where
+  pub number : ℕ
+  pub lane : ℕ
+  pub job : Request
+
+-- a state with its queue
 pub record Machine : Type 0 where
   pub state : State
-  -- the posted jobs that are not begun
-  pub queue : List Request
+  -- the posted jobs that are not begun, the earliest first
+  pub queue : List Waiting
   -- how many were posted, modulo 2^64
   pub posted : ℕ
 
@@ -48,12 +55,16 @@ abbrev pub queue_limit : ℕ
 queue_limit = 1024
 
 -- a post is refused, or queued with the next number; want of memory is free
-abbrev pub IsPost : Machine → Request → Result ℕ PostFault → Machine → Type 0
-IsPost old posted (Ok number) new =
+abbrev pub IsPost : Machine → ℕ → Request → Result ℕ PostFault → Machine → Type 0
+IsPost old lane job (Ok number) new =
     (length old.queue < queue_limit) × (number ≡ next_number old.posted)
-    × (new ≡ record old { queue = old.queue ++ posted ∷ []; posted = next_number old.posted })
-IsPost old posted (Err QueueFull) new = (queue_limit ≤ length old.queue) × (new ≡ old)
-IsPost old posted (Err Memory) new = new ≡ old
+    × (new ≡ record old { queue = old.queue ++ record { number = number; lane = lane; job = job } ∷ []; posted = number })
+IsPost old lane job (Err QueueFull) new = (queue_limit ≤ length old.queue) × (new ≡ old)
+IsPost old lane job (Err Memory) new = new ≡ old
+
+-- this job is the earliest of the posted ones that are not begun
+abbrev pub IsNext : Machine → Request → Type 0
+IsNext m job = (first : Waiting) × (rest : List Waiting) × (m.queue ≡ first ∷ rest) × (first.job ≡ job)
 
 -- a posted job is taken
 abbrev pub Takes : Past → Request → Begun → State → Type 0
@@ -63,10 +74,10 @@ Takes s (Redo k) answer new = TakesMove s (travel_to aim.Redo 0 k) (can_redo s.f
 Takes s (Goto n) answer new = TakesGoto s n (nat_lt n (length s.nodes)) answer new
 
 -- with no open job the earliest posted one is taken; at a border the next cell is entered; inside a cell nothing
-abbrev pub BeginsAt : Machine → Open → List Request → Begun → Machine → Type 0
+abbrev pub BeginsAt : Machine → Open → List Waiting → Begun → Machine → Type 0
 BeginsAt old Idle [] answer new = (answer ≡ begun.Nothing) × (new ≡ old)
 BeginsAt old Idle (first ∷ rest) answer new =
-    (state : State) × Takes old.state.past first answer state × (new ≡ record old { state = state; queue = rest })
+    (state : State) × Takes old.state.past first.job answer state × (new ≡ record old { state = state; queue = rest })
 BeginsAt old (Border travel) queue answer new =
     (state : State) × Enters old.state.past travel answer state × (new ≡ record old { state = state })
 BeginsAt old (Inside e) queue answer new = (answer ≡ begun.Nothing) × (new ≡ old)
@@ -80,7 +91,7 @@ IsSliceOf old m asked answer new =
 
 -- One step: the machine may give this answer to the event and go on to new.
 abbrev pub Step : Machine → Event → Told → Machine → Type 0
-Step old (event.Post lane posted) (told.Post answer) new = IsPost old (request_of posted) answer new
+Step old (event.Post lane posted) (told.Post answer) new = IsPost old lane (request_of posted) answer new
 Step old event.Begin (told.Begin answer) new = IsBegin old answer new
 Step old (event.Slice m asked) (told.Slice answer) new = IsSliceOf old m asked answer new
 -- no other answer is given
@@ -97,3 +108,7 @@ Run old [] [] new = new ≡ old
 Run old (e ∷ events) (t ∷ answers) new = (mid : Machine) × Step old e t mid × Run mid events answers new
 Run old [] (t ∷ answers) new = ⊥
 Run old (e ∷ events) [] new = ⊥
+
+-- What contracts see of a kernel: the machine that it is.
+pub record Seen : Type 0 where
+  pub machine : Machine

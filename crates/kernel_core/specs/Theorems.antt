@@ -11,7 +11,7 @@ use Rattle.kernel_core.specs.Legal.{can_undo, can_redo, IsPossible, IsLegal, IsL
 use Rattle.kernel_core.specs.Slices.{finished, cells, stepped, moved, grown, Settles}
 use Rattle.kernel_core.specs.Text.{Accepts, Refuses}
 use Rattle.kernel_core.specs.Begins.{Declares, travel_to}
-use Rattle.kernel_core.specs.Runs.{Machine, Request, RunCell, Undo, Redo, Goto, new_machine, Step, Run}
+use Rattle.kernel_core.specs.Runs.{Machine, Request, RunCell, Undo, Redo, Goto, new_machine, IsNext, Step, Run}
 use Rattle.kernel_core.specs.Turn.{GoesOn}
 use Rattle.kernel_core.specs.Travel as aim
 use Rattle.kernel_core.specs.declared.outcome.End.{End}
@@ -126,8 +126,8 @@ JobEnds s (Goto n) o new = GotoEnds s n (nat_lt n (length s.nodes)) o new
 -- Over any events, with posts, interrupts and faults among them, a job that is taken ends so.
 abbrev pub JobsEnd : Type 0
 JobsEnd =
-    (old new : Machine) (job : Request) (rest : List Request) (events : List Event) (answers : List Told) (o : Outcome) →
-    old.state.job ≡ Idle → old.queue ≡ job ∷ rest →
+    (old new : Machine) (job : Request) (events : List Event) (answers : List Told) (o : Outcome) →
+    old.state.job ≡ Idle → IsNext old job →
     Run old (event.Begin ∷ events) answers new → EndsAs answers o → JobEnds old.state.past job o new.state
 
 -- ---- what stops a job
@@ -152,15 +152,15 @@ HasAsked (event.Slice m asked ∷ events) = IsTrue asked ⊎ HasAsked events
 -- Only an asked slice stops a job before its end.
 abbrev pub OnlyAskedSlicesStop : Type 0
 OnlyAskedSlicesStop =
-    (old new : Machine) (job : Request) (rest : List Request) (events : List Event) (answers : List Told) (o : Outcome) →
-    IsLegal old.state.past → old.state.job ≡ Idle → old.queue ≡ job ∷ rest →
+    (old new : Machine) (job : Request) (events : List Event) (answers : List Told) (o : Outcome) →
+    IsLegal old.state.past → old.state.job ≡ Idle → IsNext old job →
     Run old (event.Begin ∷ events) answers new → EndsAs answers o → WasStopped o → HasAsked events
 
 -- So an undo that can go its k cells, and that nobody stops, undoes all of them.
 abbrev pub UndoesAll : Type 0
 UndoesAll =
-    (old new : Machine) (k : ℕ) (rest : List Request) (events : List Event) (answers : List Told) (o : Outcome) →
-    IsLegal old.state.past → IsTrue (can_undo old.state.past.nodes old.state.past.position k) → old.state.job ≡ Idle → old.queue ≡ Undo k ∷ rest →
+    (old new : Machine) (k : ℕ) (events : List Event) (answers : List Told) (o : Outcome) →
+    IsLegal old.state.past → IsTrue (can_undo old.state.past.nodes old.state.past.position k) → old.state.job ≡ Idle → IsNext old (Undo k) →
     Run old (event.Begin ∷ events) answers new → EndsAs answers o → ¬ HasAsked events → o ≡ outcome.Undid k All
 
 -- ---- where a travel leads
@@ -193,10 +193,10 @@ GotoGoesThere =
 -- worlds. It may have been posted before the undo ended, or later.
 abbrev pub RedoGivesBack : Type 0
 RedoGivesBack =
-    (old mid later new : Machine) (k : ℕ) (rest more : List Request) (undo redo : List Event) (told_undo told_redo : List Told) →
+    (old mid later new : Machine) (k : ℕ) (undo redo : List Event) (told_undo told_redo : List Told) →
     IsLegal old.state.past → old.state.job ≡ Idle →
-    old.queue ≡ Undo k ∷ rest → Run old (event.Begin ∷ undo) told_undo mid → EndsAs told_undo (outcome.Undid k All) →
-    later.state ≡ mid.state → later.queue ≡ Redo k ∷ more → Run later (event.Begin ∷ redo) told_redo new → EndsAs told_redo (outcome.Redid k All) →
+    IsNext old (Undo k) → Run old (event.Begin ∷ undo) told_undo mid → EndsAs told_undo (outcome.Undid k All) →
+    later.state ≡ mid.state → IsNext later (Redo k) → Run later (event.Begin ∷ redo) told_redo new → EndsAs told_redo (outcome.Redid k All) →
     new.state.past ≡ old.state.past
 
 -- ---- inside a cell of a travel
