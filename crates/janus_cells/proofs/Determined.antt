@@ -7,7 +7,10 @@ use Rattle.kernel_core.specs.Determined as machine
 use Rattle.kernel_core.specs.Determined.{StepIsDetermined}
 use Rattle.kernel_core.specs.Legal.{IsLegalState}
 use Rattle.kernel_core.specs.Theorems.{StaysLegal}
+use Rattle.kernel_core.specs.Travel.{Aim, Undo, Redo, Goto}
+use Rattle.kernel_core.specs.Slices.{finished_by, finished}
 use Rattle.kernel_core.specs.Runs.{Machine, Request, IsPost, IsBegin, IsSliceOf}
+use Rattle.kernel_core.proofs.Determined.{post_same}
 use Rattle.kernel_core.specs.declared.events.Event.TheVariants as event
 use Rattle.kernel_core.specs.declared.events.Told.{Told}
 use Rattle.kernel_core.specs.declared.events.Told.TheVariants as told
@@ -24,8 +27,8 @@ use Rattle.kernel_core.specs.declared.outcome.End.TheVariants.{NoMemory}
 use Rattle.janus_cells.specs.Determined.{Holds, TellsWant}
 use Rattle.janus_cells.specs.Lines.{ended_line}
 use Rattle.janus_cells.specs.Output.{counted_text}
-use Rattle.janus_cells.specs.Script.{Action, RunText, UndoCells, RedoCells, ShowWorld, BadCommand}
-use Rattle.janus_cells.specs.Served.{Finishes, ended, going, backing, next_cell, no_next_cell, Came, NotPosted, Finished, Serves, not_posted, at_once, later}
+use Rattle.janus_cells.specs.Script.{Action, RunText, UndoCells, RedoCells, GoToNode, ShowWorld, BadCommand}
+use Rattle.janus_cells.specs.Served.{lane, Finishes, ended, going, backing, next_cell, no_next_cell, Came, NotPosted, Finished, Serves, not_posted, at_once, later}
 use Rattle.janus_cells.specs.Transcript.{came_line, Answers, ActionServes, ActionsServe}
 
 -- ---- one begin, one slice, one post
@@ -55,14 +58,6 @@ slices_same determined old new other t u legal a b =
     let same = determined old new other (event.Slice step_limit false) (told.Slice t) (told.Slice u) legal a (λ x. x) b (λ x. x) in
     (ap sliced_of same.0, same.1)
 
-posts_same : (old : Machine) (r : Request) (t u : Result ℕ PostFault) (new other : Machine) → IsPost old r t new → (t ≡ Err Memory → ⊥) → IsPost old r u other → (u ≡ Err Memory → ⊥) → (t ≡ u) × (new ≡ other)
-posts_same old r (Err Memory) u new other a ample b enough = absurd (ample refl)
-posts_same old r t (Err Memory) new other a ample b enough = absurd (enough refl)
-posts_same old r (Ok n) (Ok i) new other a ample b enough = (ap (λ (k : ℕ). Ok k) (a.1 ∙ sym b.1), a.2 ∙ sym b.2)
-posts_same old r (Ok n) (Err QueueFull) new other a ample b enough = absurd (let l = a.0 in let h = b.0 in omega arith)
-posts_same old r (Err QueueFull) (Ok n) new other a ample b enough = absurd (let l = a.0 in let h = b.0 in omega arith)
-posts_same old r (Err QueueFull) (Err QueueFull) new other a ample b enough = (refl, a.1 ∙ sym b.1)
-
 -- ---- what stays legal
 
 begin_legal : StaysLegal → (old new : Machine) (t : Begun) → IsLegalState old.state → IsBegin old t new → IsLegalState new.state
@@ -71,7 +66,7 @@ begin_legal stays old new t legal h = stays old new (event.Begin ∷ []) (told.B
 slice_legal : StaysLegal → (old new : Machine) (t : Sliced) → IsLegalState old.state → IsSliceOf old step_limit false t new → IsLegalState new.state
 slice_legal stays old new t legal h = stays old new (event.Slice step_limit false ∷ []) (told.Slice t ∷ []) legal (new, h, refl)
 
-post_legal : (old new : Machine) (r : Request) (t : Result ℕ PostFault) → IsLegalState old.state → IsPost old r t new → IsLegalState new.state
+post_legal : (old new : Machine) (r : Request) (t : Result ℕ PostFault) → IsLegalState old.state → IsPost old lane r t new → IsLegalState new.state
 post_legal old new r (Ok n) legal h = subst (λ (m : Machine). IsLegalState m.state) (sym h.2) legal
 post_legal old new r (Err QueueFull) legal h = subst (λ (m : Machine). IsLegalState m.state) (sym h.1) legal
 post_legal old new r (Err Memory) legal h = subst (λ (m : Machine). IsLegalState m.state) (sym h) legal
@@ -154,7 +149,7 @@ AfterPost (Err f) mid came new = (NotPosted f ≡ came) × (mid ≡ new)
 AfterPost (Ok n) mid came new =
     (o : Outcome) × (Finished o ≡ came) × (t : Begun) × (inside : Machine) × IsBegin mid t inside × AfterBegin t inside o new
 
-first_post : {old new : Machine} {r : Request} {came : Came} → Serves old r came new → (t : Result ℕ PostFault) × (mid : Machine) × IsPost old r t mid × AfterPost t mid came new
+first_post : {old new : Machine} {r : Request} {came : Came} → Serves old r came new → (t : Result ℕ PostFault) × (mid : Machine) × IsPost old lane r t mid × AfterPost t mid came new
 first_post (not_posted {f = f} p) = (Err f, _, p, (refl, refl))
 first_post (at_once {n = n} {o = o} p b) = (Ok n, _, p, (o, refl, begun.Ended o, _, b, (refl, refl)))
 first_post (later {n = n} {o = o} p b f) = (Ok n, _, p, (o, refl, begun.Going, _, b, f))
@@ -189,7 +184,7 @@ serves_same : StepIsDetermined → StaysLegal → (old new other : Machine) (r :
 serves_same determined stays old new other r a b legal s ample s2 enough =
     let one = first_post s in
     let two = first_post s2 in
-    let same = posts_same old r one.0 two.0 one.1 two.1 one.2 (posted_ample one.0 one.1 new a one.3 ample) two.2 (posted_ample two.0 two.1 other b two.3 enough) in
+    let same = post_same old lane r one.0 two.0 one.1 two.1 one.2 (posted_ample one.0 one.1 new a one.3 ample) two.2 (posted_ample two.0 two.1 other b two.3 enough) in
     after_same determined stays one.0 one.1 new other a b (post_legal old one.1 r one.0 legal one.2) one.3 ample
     (subst (λ (m : Machine). AfterPost one.0 m b other) (sym same.1) (subst (λ (x : Result ℕ PostFault). AfterPost x two.1 b other) (sym same.0) two.3)) enough
 
@@ -230,16 +225,24 @@ over_of begun.Nothing = outcome.Ran 0 0
 over_of begun.Going = outcome.Ran 0 0
 over_of (begun.Ended o) = o
 
+-- so does a travel that ended for it
+travel_tells : (a : Aim) (up down : ℕ) → TellsWant (ended_line (came_line (Finished (finished_by a up down NoMemory))))
+unfolding digits
+travel_tells Undo up down = inr (counted_text (codes "undid ") up, 10 ∷ [], refl)
+travel_tells Redo up down = inr (counted_text (codes "redid ") down, 10 ∷ [], refl)
+travel_tells (Goto n) up down =
+    let way : List ℕ = counted_text (codes "went ") up ++ counted_text (codes " up ") down in
+    inr ((counted_text (codes "went ") up ++ counted_text (codes " up ") down) ++ codes " down", 10 ∷ [], ap (λ t. t ++ 10 ∷ []) (sym (append_assoc way (codes " down") (codes " then no memory"))))
+
 lacks_told : (came : Came) → Lacks came → TellsWant (ended_line (came_line came))
 unfolding over_of digits
 lacks_told (NotPosted f) e = subst (λ (g : PostFault). TellsWant (ended_line (came_line (NotPosted g)))) (sym e) (inl ([], 10 ∷ [], refl))
 lacks_told (Finished o) (inl e) =
     let is : o ≡ outcome.Refused refusal.Memory = ap over_of e in
     subst (λ (p : Outcome). TellsWant (ended_line (came_line (Finished p)))) (sym is) (inl ([], 10 ∷ [], refl))
-lacks_told (Finished o) (inr (j, e)) =
-    let is : o ≡ outcome.Redid j NoMemory = ap over_of e in
-    subst (λ (p : Outcome). TellsWant (ended_line (came_line (Finished p)))) (sym is)
-    (inr (counted_text (codes "redid ") j, 10 ∷ [], refl))
+lacks_told (Finished o) (inr (travel, e)) =
+    let is : o ≡ finished travel NoMemory = ap over_of e in
+    subst (λ (p : Outcome). TellsWant (ended_line (came_line (Finished p)))) (sym is) (travel_tells travel.aim travel.went_up travel.went_down)
 
 -- ---- actions
 
@@ -254,6 +257,7 @@ action_same : StepIsDetermined → StaysLegal → (action : Action) (old new oth
 action_same determined stays (RunText text) old new other out more legal a ample b enough = answers_same determined stays old new other _ out more legal a ample b enough
 action_same determined stays (UndoCells k) old new other out more legal a ample b enough = answers_same determined stays old new other _ out more legal a ample b enough
 action_same determined stays (RedoCells k) old new other out more legal a ample b enough = answers_same determined stays old new other _ out more legal a ample b enough
+action_same determined stays (GoToNode n) old new other out more legal a ample b enough = answers_same determined stays old new other _ out more legal a ample b enough
 action_same determined stays ShowWorld old new other out more legal a ample b enough = (a.0 ∙ sym b.0, a.1 ∙ sym b.1)
 action_same determined stays BadCommand old new other out more legal a ample b enough = (a.0 ∙ sym b.0, a.1 ∙ sym b.1)
 
@@ -261,6 +265,7 @@ action_legal : StaysLegal → (action : Action) (old new : Machine) (out : List 
 action_legal stays (RunText text) old new out legal a = serves_legal stays legal a.1
 action_legal stays (UndoCells k) old new out legal a = serves_legal stays legal a.1
 action_legal stays (RedoCells k) old new out legal a = serves_legal stays legal a.1
+action_legal stays (GoToNode n) old new out legal a = serves_legal stays legal a.1
 action_legal stays ShowWorld old new out legal a = subst (λ (m : Machine). IsLegalState m.state) (sym a.1) legal
 action_legal stays BadCommand old new out legal a = subst (λ (m : Machine). IsLegalState m.state) (sym a.1) legal
 

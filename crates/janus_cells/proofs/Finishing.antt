@@ -1,21 +1,16 @@
 -- Each slice brings an open job nearer to its end.
-use Rattle.std.proofs.Common.{◌≡◌, ℕ, zero, suc, ◌+◌, ◌-◌, ◌*◌, ◌<◌, ◌≤◌, false, refl, ap, sym, subst, arith, ⊎_elim}
+use Rattle.std.proofs.Common.{◌≡◌, ℕ, zero, suc, ◌+◌, ◌-◌, ◌*◌, ◌<◌, ◌≤◌, false, refl, ap, sym, ◌∙◌, subst, arith, ⊎_elim}
 use Rattle.janus_meaning.specs.World.{World}
 use Rattle.janus_meaning.specs.Limit.{step_limit}
 use Rattle.kernel_core.specs.Language.{Code, Part}
-use Rattle.kernel_core.specs.Reached.{Reaches}
-use Rattle.kernel_core.specs.State.{Past, State, Work, Posted, Move, Entered, Job, Idle, Border, Inside, here, node_at, favourite_of, code_of}
-use Rattle.kernel_core.specs.Slices.{Backs, Arrives, Settles, Comes, SlicesIn, SlicesAt}
+use Rattle.kernel_core.specs.Reached.{Progress, Went, Ended, Stopped, Reaches}
+use Rattle.kernel_core.specs.State.{Past, State, Work, Posted, Move, Entered, Job, Idle, Border, Inside, here, code_of}
+use Rattle.kernel_core.specs.Slices.{cells, stepped, moved, Backs, Arrives, Settles, Comes, SlicesIn, SlicesAt}
 use Rattle.kernel_core.specs.Begins.{Enters}
 use Rattle.kernel_core.specs.Runs.{Machine, IsBegin, BeginsAt, IsSliceOf}
-use Rattle.kernel_core.specs.declared.runner.Ran.{Ran}
-use Rattle.kernel_core.specs.declared.runner.Ran.TheVariants.{Went, Ended, Stopped}
-use Rattle.kernel_core.specs.declared.job.Way.{Way}
-use Rattle.kernel_core.specs.declared.job.Way.TheVariants.{Up, Down}
-use Rattle.kernel_core.specs.declared.job.Travel.{Travel}
-use Rattle.kernel_core.specs.declared.job.Why.{Why}
-use Rattle.kernel_core.specs.declared.job.Turn.{Turn}
-use Rattle.kernel_core.specs.declared.job.Turn.TheVariants.{Going as GoesOn, Backing as GoesBack}
+use Rattle.kernel_core.specs.Travel.{Travel, Way, Up, Down, next_way}
+use Rattle.kernel_core.specs.Turn.{Why, Turn, GoesOn, GoesBack}
+use Rattle.kernel_core.proofs.Trees.{way_up, way_down}
 use Rattle.kernel_core.specs.declared.outcome.Sliced.{Sliced}
 use Rattle.kernel_core.specs.declared.outcome.Sliced.TheVariants as sliced
 use Rattle.kernel_core.specs.declared.outcome.Begun.{Begun}
@@ -30,11 +25,11 @@ turn_left (GoesBack why) c = c
 
 abbrev cells_left : Work → ℕ
 cells_left (Posted cell) = 0
-cells_left (Move travel) = travel.left
+cells_left (Move travel) = cells travel
 
 abbrev pub left : Job → ℕ
 left Idle = 0
-left (Border travel) = travel.left * (step_limit + 4) + (step_limit + 3)
+left (Border travel) = cells travel * (step_limit + 4) + (step_limit + 3)
 left (Inside e) = cells_left e.work * (step_limit + 4) + turn_left e.turn e.count
 
 abbrev pub IsInside : Job → Type 0
@@ -70,31 +65,28 @@ inside work c = Inside (record { work = work; count = c; turn = GoesOn })
 one_less : (n m t : ℕ) → n - 1 ≡ suc m → step_limit < t → suc m * (step_limit + 4) + (step_limit + 3) < n * (step_limit + 4) + t
 one_less n m t e h = omega arith
 
-arrives_nearer : (s : Past) (way : Way) (travel : Travel) (n done c : ℕ) (told : Sliced) (new : State) → travel.left - 1 ≡ n → Arrives s way n done told new → Nearer (inside (Move travel) c) told new.job
-arrives_nearer s way travel zero done c told new e h =
-    subst (λ t. Nearer (inside (Move travel) c) t new.job) (sym h.0) (ap (λ x. x.job) h.1)
-arrives_nearer s way travel (suc n) done c told new e h =
-    subst (λ t. Nearer (inside (Move travel) c) t new.job) (sym h.0)
-    ((_, ap (λ x. x.job) h.1), subst (λ n. n < left (inside (Move travel) c)) (sym (ap (λ x. left x.job) h.1)) (one_less travel.left n (turn_left GoesOn c) e (going_left c)))
+stepped_left : (t : Travel) (way : Way) → next_way t ≡ way → cells (stepped t) ≡ cells t - 1
+stepped_left t Up way = (let some = way_up t.up way in rw (way, stepped) (omega arith))
+stepped_left t Down way = (let none = way_down t.up way in rw (way, stepped) (omega arith))
 
-move_nearer : (s : Past) (travel : Travel) (c : ℕ) (told : Sliced) (new : State) (way : Way) →
-    (elim way as (λ _. Type 0) [
-      | Up ↦ Arrives (record s { position = (node_at s s.position).parent }) Up (travel.left - 1) travel.done told new
-      | Down ↦ Arrives (record s { position = favourite_of s s.position }) Down (travel.left - 1) travel.done told new
-    ]) → Nearer (inside (Move travel) c) told new.job
-move_nearer s travel c told new Up h = arrives_nearer _ Up travel (travel.left - 1) travel.done c told new refl h
-move_nearer s travel c told new Down h = arrives_nearer _ Down travel (travel.left - 1) travel.done c told new refl h
+arrives_nearer : (s : Past) (travel on : Travel) (n c : ℕ) (told : Sliced) (new : State) → cells travel - 1 ≡ n → cells on ≡ n → Arrives n s on told new → Nearer (inside (Move travel) c) told new.job
+arrives_nearer s travel on zero c told new e f h =
+    subst (λ t. Nearer (inside (Move travel) c) t new.job) (sym h.0) (ap (λ x. x.job) h.1)
+arrives_nearer s travel on (suc n) c told new e f h =
+    let there : left new.job ≡ suc n * (step_limit + 4) + (step_limit + 3) = ap (λ x. left x.job) h.1 ∙ ap (λ k. k * (step_limit + 4) + (step_limit + 3)) f in
+    subst (λ t. Nearer (inside (Move travel) c) t new.job) (sym h.0)
+    ((_, ap (λ x. x.job) h.1), subst (λ n. n < left (inside (Move travel) c)) (sym there) (one_less (cells travel) n (turn_left GoesOn c) e (going_left c)))
 
 settles_nearer : (s : Past) (work : Work) (c n : ℕ) (w : World) (told : Sliced) (new : State) → Settles s work n w told new → Nearer (inside work c) told new.job
 settles_nearer s (Posted cell) c n w told new h = subst (λ t. Nearer (inside (Posted cell) c) t new.job) (sym h.0) (ap (λ x. x.job) h.1)
-settles_nearer s (Move travel) c n w told new h = move_nearer s travel c told new travel.way h
+settles_nearer s (Move travel) c n w told new h = arrives_nearer (moved s travel) travel (stepped travel) (cells (stepped travel)) c told new (sym (stepped_left travel (next_way travel) refl)) refl h
 
 -- a part is never past the limit
 part_limit : (code : Code) (w v : World) (j : ℕ) → Part code w j v → j ≤ step_limit
 unfolding Part
 part_limit code w v j h = h.limit
 
-comes_nearer : (s : Past) (work : Work) (c : ℕ) (ran : Ran) (w : World) (told : Sliced) (new : State) → Reaches (code_of s work) (here s) (c + step_limit) ran w → Comes s work (c + step_limit) ran w told new → Nearer (inside work c) told new.job
+comes_nearer : (s : Past) (work : Work) (c : ℕ) (ran : Progress) (w : World) (told : Sliced) (new : State) → Reaches (code_of s work) (here s) (c + step_limit) ran w → Comes s work (c + step_limit) ran w told new → Nearer (inside work c) told new.job
 comes_nearer s work c Went w told new r h =
     let le = part_limit (code_of s work) (here s) w (c + step_limit) r.0 in
     let none : c ≡ zero = omega arith in
@@ -150,7 +142,7 @@ enter_less a = omega arith
 enters_nearer : (s : Past) (t : Travel) (told : Begun) (new : State) → Enters s t told new → Begins (Border t) told new.job
 enters_nearer s t told new h =
     ⊎_elim
-    (λ h. subst (λ b. Begins (Border t) b new.job) (sym h.0) ((_, ap (λ x. x.job) h.1), subst (λ n. n < left (Border t)) (sym (ap (λ x. left x.job) h.1)) (enter_less (t.left * (step_limit + 4)))))
+    (λ h. subst (λ b. Begins (Border t) b new.job) (sym h.0) ((_, ap (λ x. x.job) h.1), subst (λ n. n < left (Border t)) (sym (ap (λ x. left x.job) h.1)) (enter_less (cells t * (step_limit + 4)))))
     (λ h. subst (λ b. Begins (Border t) b new.job) (sym h.0) (ap (λ x. x.job) h.2))
     h
 

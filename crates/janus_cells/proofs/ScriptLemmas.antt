@@ -4,11 +4,11 @@ use Rattle.std.specs.Prelude.{filter, if◌then◌else◌}
 use Rattle.std.specs.List.{slice_split, onto_first}
 use Rattle.kernel_core.specs.Runs.{Machine}
 use Rattle.janus_cells.specs.declared.command.Command.{Command}
-use Rattle.janus_cells.specs.declared.command.Command.TheVariants.{Run, Undo, Redo, Show, Unknown}
+use Rattle.janus_cells.specs.declared.command.Command.TheVariants.{Run, Undo, Redo, Goto, Show, Unknown}
 use Rattle.janus_cells.specs.Command.{command_of}
 use Rattle.janus_cells.specs.Lines.{is_blank, is_command_line, lines, trimmed}
 use Rattle.janus_cells.specs.Loop.{RestAt, RunsRest, Does, DoesAfterRest, CommandServes, LineAt, text_after, LinesServe}
-use Rattle.janus_cells.specs.Script.{Action, RunText, UndoCells, RedoCells, ShowWorld, BadCommand, text_of, run_unless_blank, asked, texts, commands, actions, script}
+use Rattle.janus_cells.specs.Script.{Action, RunText, UndoCells, RedoCells, GoToNode, ShowWorld, BadCommand, text_of, run_unless_blank, asked, texts, commands, actions, script}
 use Rattle.janus_cells.specs.Transcript.{ActionServes, ActionsServe}
 use Rattle.janus_cells.proofs.LinesLemmas.{some_part}
 
@@ -44,6 +44,7 @@ command_serves : (command : Command) (old new : Machine) (text out : List ℕ) �
 command_serves Run old new text out h = one_serves (RunText text) old new out h
 command_serves (Undo k) old new text out h = after_rest_serves (Undo k) (UndoCells k) old new text out (λ m o d. d) h
 command_serves (Redo k) old new text out h = after_rest_serves (Redo k) (RedoCells k) old new text out (λ m o d. d) h
+command_serves (Goto n) old new text out h = after_rest_serves (Goto n) (GoToNode n) old new text out (λ m o d. d) h
 command_serves Show old new text out h = after_rest_serves Show ShowWorld old new text out (λ m o d. d) h
 command_serves Unknown old new text out h = after_rest_serves Unknown BadCommand old new text out (λ m o d. d) h
 

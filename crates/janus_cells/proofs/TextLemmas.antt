@@ -20,9 +20,9 @@ use Rattle.kernel_core.specs.Refusal as refusal
 use Rattle.kernel_core.specs.declared.outcome.End.{End}
 use Rattle.kernel_core.specs.declared.outcome.End.TheVariants.{All, Asked, NoMemory}
 use Rattle.kernel_core.specs.declared.outcome.Outcome.{Outcome}
-use Rattle.kernel_core.specs.declared.outcome.Outcome.TheVariants.{Ran, Failed, Interrupted, Undid, Redid, Refused}
+use Rattle.kernel_core.specs.declared.outcome.Outcome.TheVariants.{Ran, Failed, Interrupted, Undid, Redid, Went, Refused}
 use Rattle.kernel_core.specs.declared.outcome.Refusal.{Refusal}
-use Rattle.kernel_core.specs.declared.outcome.Refusal.TheVariants.{Syntax, Check, TooFar, Memory}
+use Rattle.kernel_core.specs.declared.outcome.Refusal.TheVariants.{Syntax, Check, TooFar, NoNode, Memory}
 use Rattle.janus_cells.specs.Output.{counted_text, numbered_text, place_text, end_text, outcome_line}
 use Rattle.janus_cells.specs.Shown.{value_text}
 
@@ -111,6 +111,7 @@ refusal_name_utf8 : (r : Refusal) → IsUtf8 (refusal.name_of r)
 refusal_name_utf8 (Syntax f) = syntax_name_utf8 f
 refusal_name_utf8 (Check f) = check_name_utf8 f
 refusal_name_utf8 TooFar = literal (codes "TooFar") refl
+refusal_name_utf8 NoNode = literal (codes "NoNode") refl
 refusal_name_utf8 Memory = literal (codes "Memory") refl
 
 -- ---- the parts of an outcome's line
@@ -139,6 +140,11 @@ outcome_utf8 (Undid cells end) =
     IsUtf8-append (counted_text (codes "undid ") cells) (end_text end) (counted_utf8 (codes "undid ") cells (literal (codes "undid ") refl)) (end_utf8 end)
 outcome_utf8 (Redid cells end) =
     IsUtf8-append (counted_text (codes "redid ") cells) (end_text end) (counted_utf8 (codes "redid ") cells (literal (codes "redid ") refl)) (end_utf8 end)
+outcome_utf8 (Went up down end) =
+    IsUtf8-append (counted_text (codes "went ") up ++ counted_text (codes " up ") down) (codes " down" ++ end_text end)
+    (IsUtf8-append (counted_text (codes "went ") up) (counted_text (codes " up ") down)
+    (counted_utf8 (codes "went ") up (literal (codes "went ") refl)) (counted_utf8 (codes " up ") down (literal (codes " up ") refl)))
+    (IsUtf8-append (codes " down") (end_text end) (literal (codes " down") refl) (end_utf8 end))
 outcome_utf8 (Refused r) =
     IsUtf8-append (numbered_text (codes "refused ") (refusal.number_of r) (refusal.name_of r)) (place_text (refusal.span_of r))
     (numbered_utf8 (codes "refused ") (refusal.number_of r) (refusal.name_of r) (literal (codes "refused ") refl) (refusal_name_utf8 r)) (place_utf8 (refusal.span_of r))

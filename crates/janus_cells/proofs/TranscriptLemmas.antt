@@ -5,7 +5,7 @@ use Rattle.std.specs.Io.KnownBytes.{Appends, Keeps}
 use Rattle.kernel_core.specs.Runs.{Machine, Request, RunCell}
 use Rattle.kernel_core.specs.declared.kernel.PostFault.TheVariants.{Memory}
 use Rattle.janus_cells.specs.declared.command.Command.{Command}
-use Rattle.janus_cells.specs.declared.command.Command.TheVariants.{Run, Undo, Redo, Show, Unknown}
+use Rattle.janus_cells.specs.declared.command.Command.TheVariants.{Run, Undo, Redo, Goto, Show, Unknown}
 use Rattle.janus_cells.specs.declared.run.Gathered.{Gathered}
 use Rattle.janus_cells.specs.Command.{command_of}
 use Rattle.janus_cells.specs.Gathering.{IsGathered}
@@ -60,6 +60,7 @@ any_does : (command : Command) (old : Machine) → (command ≡ Run → ⊥) →
 any_does Run old other = absurd (other refl)
 any_does (Undo k) old other = (ended_line (post_fault_line Memory), old, (NotPosted Memory, not_posted {f = Memory} refl, refl))
 any_does (Redo k) old other = (ended_line (post_fault_line Memory), old, (NotPosted Memory, not_posted {f = Memory} refl, refl))
+any_does (Goto n) old other = (ended_line (post_fault_line Memory), old, (NotPosted Memory, not_posted {f = Memory} refl, refl))
 any_does Show old other = (world_text old.state.past, old, (refl, refl))
 any_does Unknown old other = (bad_command_line, old, (refl, refl))
 
@@ -73,6 +74,7 @@ any_command : (command : Command) (old : Machine) (text : List ℕ) → (out : L
 any_command Run old text = (ended_line (post_fault_line Memory), old, (NotPosted Memory, not_posted {f = Memory} refl, refl))
 any_command (Undo k) old text = after_rest (Undo k) old text (λ e. cc e)
 any_command (Redo k) old text = after_rest (Redo k) old text (λ e. cc e)
+any_command (Goto n) old text = after_rest (Goto n) old text (λ e. cc e)
 any_command Show old text = after_rest Show old text (λ e. cc e)
 any_command Unknown old text = after_rest Unknown old text (λ e. cc e)
 
@@ -93,6 +95,7 @@ other_serves : (command : Command) (old new : Machine) (text out : List ℕ) →
 other_serves Run old new text out other h = absurd (other refl)
 other_serves (Undo k) old new text out other h = h
 other_serves (Redo k) old new text out other h = h
+other_serves (Goto n) old new text out other h = h
 other_serves Show old new text out other h = h
 other_serves Unknown old new text out other h = h
 

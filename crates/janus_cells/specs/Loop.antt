@@ -8,7 +8,7 @@ use Rattle.janus_cells.specs.Lines.{is_blank, is_command_line, trimmed}
 use Rattle.janus_cells.specs.Shown.{world_text}
 use Rattle.janus_cells.specs.Transcript.{Answers, bad_command_line}
 use Rattle.janus_cells.specs.declared.command.Command.{Command}
-use Rattle.janus_cells.specs.declared.command.Command.TheVariants.{Run, Undo, Redo, Show, Unknown}
+use Rattle.janus_cells.specs.declared.command.Command.TheVariants.{Run, Undo, Redo, Goto, Show, Unknown}
 
 abbrev pub RestAt : Bool → Machine → List ℕ → List ℕ → Machine → Type 0
 RestAt true old text out new = (out ≡ []) × (new ≡ old)
@@ -23,6 +23,7 @@ abbrev pub Does : Command → Machine → List ℕ → Machine → Type 0
 Does Run old out new = ⊥
 Does (Undo k) old out new = Answers old (request.Undo k) out new
 Does (Redo k) old out new = Answers old (request.Redo k) out new
+Does (Goto n) old out new = Answers old (request.Goto n) out new
 Does Show old out new = (out ≡ world_text old.state.past) × (new ≡ old)
 Does Unknown old out new = (out ≡ bad_command_line) × (new ≡ old)
 
@@ -37,6 +38,7 @@ abbrev pub CommandServes : Command → Machine → List ℕ → List ℕ → Mac
 CommandServes Run old text out new = Answers old (RunCell text false true) out new
 CommandServes (Undo k) old text out new = DoesAfterRest (Undo k) old text out new
 CommandServes (Redo k) old text out new = DoesAfterRest (Redo k) old text out new
+CommandServes (Goto n) old text out new = DoesAfterRest (Goto n) old text out new
 CommandServes Show old text out new = DoesAfterRest Show old text out new
 CommandServes Unknown old text out new = DoesAfterRest Unknown old text out new
 

@@ -8,7 +8,7 @@ use Rattle.kernel_core.specs.Refusal as refusal
 use Rattle.kernel_core.specs.declared.outcome.End.{End}
 use Rattle.kernel_core.specs.declared.outcome.End.TheVariants.{All, Asked, NoMemory}
 use Rattle.kernel_core.specs.declared.outcome.Outcome.{Outcome}
-use Rattle.kernel_core.specs.declared.outcome.Outcome.TheVariants.{Ran, Failed, Interrupted, Undid, Redid, Refused}
+use Rattle.kernel_core.specs.declared.outcome.Outcome.TheVariants.{Ran, Failed, Interrupted, Undid, Redid, Went, Refused}
 use Rattle.kernel_core.specs.declared.outcome.Refusal.{Refusal}
 
 -- some of the octets went out: a beginning of them
@@ -32,11 +32,16 @@ abbrev pub place_text : Option Span → List ℕ
 place_text None = []
 place_text (Some span) = counted_text (codes " at ") span.start ++ counted_text (codes "..") span.end
 
--- how an undo or a redo ended, where memory ran out
+-- how an undo, a redo or a goto ended, where memory ran out
 abbrev pub end_text : End → List ℕ
 end_text All = []
 end_text Asked = []
 end_text NoMemory = codes " then no memory"
+
+-- how many cells a goto went up and down, and how it ended
+abbrev pub way_text : ℕ → ℕ → End → List ℕ
+way_text up down end =
+    (counted_text (codes "went ") up ++ counted_text (codes " up ") down) ++ (codes " down" ++ end_text end)
 
 -- which fault a cell met, and after how many steps
 abbrev pub fault_text : Fault → ℕ → List ℕ
@@ -55,4 +60,5 @@ outcome_line (Failed f steps) = fault_text f steps
 outcome_line (Interrupted steps) = counted_text (codes "interrupted after ") steps
 outcome_line (Undid cells end) = counted_text (codes "undid ") cells ++ end_text end
 outcome_line (Redid cells end) = counted_text (codes "redid ") cells ++ end_text end
+outcome_line (Went up down end) = way_text up down end
 outcome_line (Refused r) = refusal_text r

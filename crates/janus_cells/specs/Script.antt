@@ -4,14 +4,15 @@ use Rattle.std.specs.List.{slice_split}
 use Rattle.janus_cells.specs.Command.{command_of}
 use Rattle.janus_cells.specs.Lines.{ended_line, is_blank, is_command_line, lines, trimmed}
 use Rattle.janus_cells.specs.declared.command.Command.{Command}
-use Rattle.janus_cells.specs.declared.command.Command.TheVariants.{Run, Undo, Redo, Show, Unknown}
+use Rattle.janus_cells.specs.declared.command.Command.TheVariants.{Run, Undo, Redo, Goto, Show, Unknown}
 
--- one thing that an input asks for: to run a text as a cell, to undo or redo so many cells, to show the world, or what
--- nobody knows
+-- one thing that an input asks for: to run a text as a cell, to undo or redo so many cells, to go to a node, to show the
+-- world, or what nobody knows
 pub data Action : Type 0 where
   RunText : (text : List ℕ) → Action
   UndoCells : (k : ℕ) → Action
   RedoCells : (k : ℕ) → Action
+  GoToNode : (n : ℕ) → Action
   ShowWorld : Action
   BadCommand : Action
 
@@ -29,6 +30,7 @@ abbrev pub asked : List ℕ → Command → List Action
 asked text Run = RunText text ∷ []
 asked text (Undo k) = run_unless_blank text ++ UndoCells k ∷ []
 asked text (Redo k) = run_unless_blank text ++ RedoCells k ∷ []
+asked text (Goto n) = run_unless_blank text ++ GoToNode n ∷ []
 asked text Show = run_unless_blank text ++ ShowWorld ∷ []
 asked text Unknown = run_unless_blank text ++ BadCommand ∷ []
 

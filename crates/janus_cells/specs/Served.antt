@@ -25,10 +25,14 @@ pub data Came : Type 0 where
   NotPosted : PostFault → Came
   Finished : Outcome → Came
 
+-- the lane of the one frontend
+abbrev pub lane : ℕ
+lane = 0
+
 -- a request is posted, begun and brought to its end
 pub data Serves : Machine → Request → Came → Machine → Type 0 where
-  not_posted : {old new : Machine} {r : Request} {f : PostFault} → IsPost old r (Err f) new → Serves old r (NotPosted f) new
+  not_posted : {old new : Machine} {r : Request} {f : PostFault} → IsPost old lane r (Err f) new → Serves old r (NotPosted f) new
   at_once : {old posted new : Machine} {r : Request} {n : ℕ} {o : Outcome}
-      → IsPost old r (Ok n) posted → IsBegin posted (begun.Ended o) new → Serves old r (Finished o) new
+      → IsPost old lane r (Ok n) posted → IsBegin posted (begun.Ended o) new → Serves old r (Finished o) new
   later : {old posted inside new : Machine} {r : Request} {n : ℕ} {o : Outcome}
-      → IsPost old r (Ok n) posted → IsBegin posted begun.Going inside → Finishes inside o new → Serves old r (Finished o) new
+      → IsPost old lane r (Ok n) posted → IsBegin posted begun.Going inside → Finishes inside o new → Serves old r (Finished o) new

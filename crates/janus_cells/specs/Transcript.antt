@@ -6,7 +6,7 @@ use Rattle.kernel_core.specs.Runs as request
 use Rattle.kernel_core.specs.declared.kernel.PostFault.{PostFault}
 use Rattle.janus_cells.specs.Lines.{ended_line}
 use Rattle.janus_cells.specs.Output.{numbered_text, outcome_line}
-use Rattle.janus_cells.specs.Script.{Action, RunText, UndoCells, RedoCells, ShowWorld, BadCommand, script}
+use Rattle.janus_cells.specs.Script.{Action, RunText, UndoCells, RedoCells, GoToNode, ShowWorld, BadCommand, script}
 use Rattle.janus_cells.specs.Served.{Came, NotPosted, Finished, Serves}
 use Rattle.janus_cells.specs.Shown.{world_text}
 
@@ -27,12 +27,13 @@ Answers old r out new = (came : Came) × Serves old r came new × (out ≡ ended
 abbrev pub bad_command_line : List ℕ
 bad_command_line = ended_line (codes "refused 80 BadCommand")
 
--- one action is served, and `out` is what is written of it: a text runs as a cell, cells are undone or redone, the world is
--- shown as it is, or a command is refused
+-- one action is served, and `out` is what is written of it: a text runs as a cell, cells are undone or redone, a node is gone
+-- to, the world is shown as it is, or a command is refused
 abbrev pub ActionServes : Action → Machine → List ℕ → Machine → Type 0
 ActionServes (RunText text) old out new = Answers old (RunCell text false true) out new
 ActionServes (UndoCells k) old out new = Answers old (request.Undo k) out new
 ActionServes (RedoCells k) old out new = Answers old (request.Redo k) out new
+ActionServes (GoToNode n) old out new = Answers old (request.Goto n) out new
 ActionServes ShowWorld old out new = (out ≡ world_text old.state.past) × (new ≡ old)
 ActionServes BadCommand old out new = (out ≡ bad_command_line) × (new ≡ old)
 

@@ -16,6 +16,8 @@ pub enum Command {
     Undo(u32),
     /// To redo so many cells.
     Redo(u32),
+    /// To go to the node of this number.
+    Goto(u32),
     /// To show the position and the declared names with their values.
     Show,
     /// Nothing that is known.
@@ -43,6 +45,12 @@ impl Command {
         if let Some(digits) = after(line, "%redo ") {
             return match count(digits) {
                 Some(k) => Command::Redo(k),
+                None => Command::Unknown,
+            };
+        }
+        if let Some(digits) = after(line, "%goto ") {
+            return match count(digits) {
+                Some(n) => Command::Goto(n),
                 None => Command::Unknown,
             };
         }

@@ -1,11 +1,11 @@
 //! What is written, and what has gone out where the writer fails.
-ghost use Rattle.std.specs.Prelude.{◌++◌, decimal, OnOk, OnErr};
+ghost use Rattle.std.specs.Prelude.{◌++◌, codes, decimal, OnOk, OnErr};
 ghost use Rattle.std.specs.Fmt.{signed_decimal};
 ghost use Rattle.std.specs.Io.KnownBytes.{Appends};
 ghost use Rattle.janus_cells.specs.Ending.{fault_line};
 ghost use Rattle.janus_cells.specs.Lines.{ended_line};
 ghost use Rattle.janus_cells.specs.Shown.{equated_text, position_line, value_text};
-ghost use Rattle.janus_cells.specs.Output.{SentSome, counted_text, end_text, fault_text, named_text, numbered_text, outcome_line, place_text, refusal_text};
+ghost use Rattle.janus_cells.specs.Output.{SentSome, counted_text, end_text, fault_text, named_text, numbered_text, outcome_line, place_text, refusal_text, way_text};
 ghost use Rattle.janus_cells.specs.Transcript.{post_fault_line};
 
 use crate::fault::RunFault;
@@ -117,7 +117,7 @@ fn send_place<W: Write>(writer: &mut W, place: Option<Span>) -> Result<(), Write
     }
 }
 
-/// Writes how an undo or a redo ended, if memory ran out.
+/// Writes how an undo, a redo or a goto ended, if memory ran out.
 fn send_end<W: Write>(writer: &mut W, end: End) -> Result<(), WriteFailed>
     ensures ok { OnOk result (Appends (W.contents writer.old) (W.contents writer.new) (end_text end)) }
     ensures err { OnErr result (SentSome (W.contents writer.old) (W.contents writer.new) (end_text end)) }
@@ -132,7 +132,7 @@ fn send_end<W: Write>(writer: &mut W, end: End) -> Result<(), WriteFailed>
 fn send_cells<W: Write>(
     writer: &mut W,
     words: &str,
-    cells: u32,
+    cells: usize,
     end: End,
 ) -> Result<(), WriteFailed>
     ensures ok { OnOk result (Appends (W.contents writer.old) (W.contents writer.new) (counted_text words.now cells ++ end_text end)) }
@@ -140,6 +140,29 @@ fn send_cells<W: Write>(
 {
     send_counted(writer, words, cells as u64)?;
     send_end(writer, end)
+}
+
+/// Writes the word behind the cells that a goto went down, and how that ended.
+fn send_down<W: Write>(writer: &mut W, end: End) -> Result<(), WriteFailed>
+    ensures ok { OnOk result (Appends (W.contents writer.old) (W.contents writer.new) (codes " down" ++ end_text end)) }
+    ensures err { OnErr result (SentSome (W.contents writer.old) (W.contents writer.new) (codes " down" ++ end_text end)) }
+{
+    send(writer, b" down")?;
+    send_end(writer, end)
+}
+
+/// Writes how many cells a goto went up and down, and how that ended.
+fn send_way<W: Write>(
+    writer: &mut W,
+    up: usize,
+    down: usize,
+    end: End,
+) -> Result<(), WriteFailed>
+    ensures ok { OnOk result (Appends (W.contents writer.old) (W.contents writer.new) (way_text up down end)) }
+    ensures err { OnErr result (SentSome (W.contents writer.old) (W.contents writer.new) (way_text up down end)) }
+{
+    send_pair(writer, "went ", up as u64, " up ", down as u64)?;
+    send_down(writer, end)
 }
 
 /// Writes which fault a cell met, and after how many steps.
@@ -171,6 +194,7 @@ pub fn send_outcome_text<W: Write>(writer: &mut W, outcome: &Outcome) -> Result<
         Outcome::Interrupted(steps) => send_counted(writer, "interrupted after ", steps),
         Outcome::Undid(cells, end) => send_cells(writer, "undid ", cells, end),
         Outcome::Redid(cells, end) => send_cells(writer, "redid ", cells, end),
+        Outcome::Went(up, down, end) => send_way(writer, up, down, end),
         Outcome::Refused(refusal) => send_refusal(writer, refusal),
     }
 }

@@ -74,11 +74,11 @@ fn run_text<W: Write>(
     text: &str,
     writer: &mut W,
 ) -> Result<(), WriteFailed>
-    requires idle { kernel.old.state.job ≡ Idle }
-    requires alone { kernel.old.queue ≡ [] }
-    ensures ok { OnOk result ((out : List ℕ) × (new : Machine) × ActionsServe (script text.now) kernel.old out new
+    requires idle { kernel.old.machine.state.job ≡ Idle }
+    requires alone { kernel.old.machine.queue ≡ [] }
+    ensures ok { OnOk result ((out : List ℕ) × (new : Machine) × ActionsServe (script text.now) kernel.old.machine out new
         × Appends (W.contents writer.old) (W.contents writer.new) out) }
-    ensures err { OnErr result ((out : List ℕ) × (new : Machine) × ActionsServe (script text.now) kernel.old out new
+    ensures err { OnErr result ((out : List ℕ) × (new : Machine) × ActionsServe (script text.now) kernel.old.machine out new
         × SentSome (W.contents writer.old) (W.contents writer.new) out) }
 {
     let mut gathered = Gathered::new(alloc);
@@ -102,14 +102,14 @@ fn run_end<W: Write>(
     rest: &str,
     writer: &mut W,
 ) -> Result<(), WriteFailed>
-    requires idle { kernel.old.state.job ≡ Idle }
-    requires alone { kernel.old.queue ≡ [] }
+    requires idle { kernel.old.machine.state.job ≡ Idle }
+    requires alone { kernel.old.machine.queue ≡ [] }
     requires last { position_or_len (λ b. b == 10) rest.now ≡ length rest.now }
     ensures ok { OnOk result ((text : List ℕ) → IsGathered gathered.old text →
-        (out : List ℕ) × LinesServe kernel.old text (lines rest.now) out kernel.new
+        (out : List ℕ) × LinesServe kernel.old.machine text (lines rest.now) out kernel.new.machine
         × Appends (W.contents writer.old) (W.contents writer.new) out) }
     ensures err { OnErr result ((text : List ℕ) → IsGathered gathered.old text →
-        (out : List ℕ) × (new : Machine) × LinesServe kernel.old text (lines rest.now) out new
+        (out : List ℕ) × (new : Machine) × LinesServe kernel.old.machine text (lines rest.now) out new
         × SentSome (W.contents writer.old) (W.contents writer.new) out) }
 {
     if rest.is_empty() {
@@ -127,17 +127,17 @@ fn run_line<W: Write>(
     line: &str,
     writer: &mut W,
 ) -> Result<(), WriteFailed>
-    requires idle { kernel.old.state.job ≡ Idle }
-    requires alone { kernel.old.queue ≡ [] }
-    ensures idle { kernel.new.state.job ≡ Idle }
-    ensures alone { kernel.new.queue ≡ [] }
+    requires idle { kernel.old.machine.state.job ≡ Idle }
+    requires alone { kernel.old.machine.queue ≡ [] }
+    ensures idle { kernel.new.machine.state.job ≡ Idle }
+    ensures alone { kernel.new.machine.queue ≡ [] }
     ensures gathers { (text : List ℕ) → IsGathered gathered.old text →
         IsGathered gathered.new (text_after text line.now) }
     ensures ok { OnOk result ((text : List ℕ) → IsGathered gathered.old text →
-        (out : List ℕ) × LineServes kernel.old text line.now out kernel.new
+        (out : List ℕ) × LineServes kernel.old.machine text line.now out kernel.new.machine
         × Appends (W.contents writer.old) (W.contents writer.new) out) }
     ensures err { OnErr result ((text : List ℕ) → IsGathered gathered.old text →
-        (out : List ℕ) × (new : Machine) × LineServes kernel.old text line.now out new
+        (out : List ℕ) × (new : Machine) × LineServes kernel.old.machine text line.now out new
         × SentSome (W.contents writer.old) (W.contents writer.new) out) }
 {
     if !is_command_line(line) {
@@ -155,16 +155,16 @@ fn run_command<W: Write>(
     command: Command,
     writer: &mut W,
 ) -> Result<(), WriteFailed>
-    requires idle { kernel.old.state.job ≡ Idle }
-    requires alone { kernel.old.queue ≡ [] }
-    ensures idle { kernel.new.state.job ≡ Idle }
-    ensures alone { kernel.new.queue ≡ [] }
+    requires idle { kernel.old.machine.state.job ≡ Idle }
+    requires alone { kernel.old.machine.queue ≡ [] }
+    ensures idle { kernel.new.machine.state.job ≡ Idle }
+    ensures alone { kernel.new.machine.queue ≡ [] }
     ensures taken { IsGathered gathered.new [] }
     ensures ok { OnOk result ((text : List ℕ) → IsGathered gathered.old text →
-        (out : List ℕ) × CommandServes command kernel.old text out kernel.new
+        (out : List ℕ) × CommandServes command kernel.old.machine text out kernel.new.machine
         × Appends (W.contents writer.old) (W.contents writer.new) out) }
     ensures err { OnErr result ((text : List ℕ) → IsGathered gathered.old text →
-        (out : List ℕ) × (new : Machine) × CommandServes command kernel.old text out new
+        (out : List ℕ) × (new : Machine) × CommandServes command kernel.old.machine text out new
         × SentSome (W.contents writer.old) (W.contents writer.new) out) }
 {
     if let Command::Run = command {
@@ -177,18 +177,19 @@ fn run_command<W: Write>(
 /// Does what a command other than `%%` asks for.
 fn obey<W: Write>(kernel: &mut Kernel, command: Command, writer: &mut W) -> Result<(), WriteFailed>
     requires other { command ≢ Command.Run }
-    requires idle { kernel.old.state.job ≡ Idle }
-    requires alone { kernel.old.queue ≡ [] }
-    ensures idle { kernel.new.state.job ≡ Idle }
-    ensures alone { kernel.new.queue ≡ [] }
-    ensures ok { OnOk result ((out : List ℕ) × Does command kernel.old out kernel.new
+    requires idle { kernel.old.machine.state.job ≡ Idle }
+    requires alone { kernel.old.machine.queue ≡ [] }
+    ensures idle { kernel.new.machine.state.job ≡ Idle }
+    ensures alone { kernel.new.machine.queue ≡ [] }
+    ensures ok { OnOk result ((out : List ℕ) × Does command kernel.old.machine out kernel.new.machine
         × Appends (W.contents writer.old) (W.contents writer.new) out) }
-    ensures err { OnErr result ((out : List ℕ) × Does command kernel.old out kernel.new
+    ensures err { OnErr result ((out : List ℕ) × Does command kernel.old.machine out kernel.new.machine
         × SentSome (W.contents writer.old) (W.contents writer.new) out) }
 {
     match command {
         Command::Undo(k) => run_job(kernel, Job::Undo(k), writer),
         Command::Redo(k) => run_job(kernel, Job::Redo(k), writer),
+        Command::Goto(n) => run_job(kernel, Job::Goto(n), writer),
         Command::Show => show(kernel, writer),
         Command::Run | Command::Unknown => send(writer, b"refused 80 BadCommand\n"),
     }
@@ -201,16 +202,16 @@ fn run_rest<W: Write>(
     gathered: &mut Gathered,
     writer: &mut W,
 ) -> Result<(), WriteFailed>
-    requires idle { kernel.old.state.job ≡ Idle }
-    requires alone { kernel.old.queue ≡ [] }
-    ensures idle { kernel.new.state.job ≡ Idle }
-    ensures alone { kernel.new.queue ≡ [] }
+    requires idle { kernel.old.machine.state.job ≡ Idle }
+    requires alone { kernel.old.machine.queue ≡ [] }
+    ensures idle { kernel.new.machine.state.job ≡ Idle }
+    ensures alone { kernel.new.machine.queue ≡ [] }
     ensures taken { IsGathered gathered.new [] }
     ensures ok { OnOk result ((text : List ℕ) → IsGathered gathered.old text →
-        (out : List ℕ) × RunsRest kernel.old text out kernel.new
+        (out : List ℕ) × RunsRest kernel.old.machine text out kernel.new.machine
         × Appends (W.contents writer.old) (W.contents writer.new) out) }
     ensures err { OnErr result ((text : List ℕ) → IsGathered gathered.old text →
-        (out : List ℕ) × RunsRest kernel.old text out kernel.new
+        (out : List ℕ) × RunsRest kernel.old.machine text out kernel.new.machine
         × SentSome (W.contents writer.old) (W.contents writer.new) out) }
 {
     if gathered.has_text {
@@ -227,16 +228,16 @@ fn run_cell<W: Write>(
     gathered: &mut Gathered,
     writer: &mut W,
 ) -> Result<(), WriteFailed>
-    requires idle { kernel.old.state.job ≡ Idle }
-    requires alone { kernel.old.queue ≡ [] }
-    ensures idle { kernel.new.state.job ≡ Idle }
-    ensures alone { kernel.new.queue ≡ [] }
+    requires idle { kernel.old.machine.state.job ≡ Idle }
+    requires alone { kernel.old.machine.queue ≡ [] }
+    ensures idle { kernel.new.machine.state.job ≡ Idle }
+    ensures alone { kernel.new.machine.queue ≡ [] }
     ensures taken { IsGathered gathered.new [] }
     ensures ok { OnOk result ((text : List ℕ) → IsGathered gathered.old text →
-        (came : Came) × Serves kernel.old (RunCell text false true) came kernel.new
+        (came : Came) × Serves kernel.old.machine (RunCell text false true) came kernel.new.machine
         × Appends (W.contents writer.old) (W.contents writer.new) (ended_line (came_line came))) }
     ensures err { OnErr result ((text : List ℕ) → IsGathered gathered.old text →
-        (came : Came) × Serves kernel.old (RunCell text false true) came kernel.new
+        (came : Came) × Serves kernel.old.machine (RunCell text false true) came kernel.new.machine
         × SentSome (W.contents writer.old) (W.contents writer.new) (ended_line (came_line came))) }
 {
     match gathered.take(alloc) {
@@ -255,14 +256,14 @@ fn run_cell<W: Write>(
 
 /// Brings a job to its end, and writes what came of it.
 fn run_job<W: Write>(kernel: &mut Kernel, job: Job, writer: &mut W) -> Result<(), WriteFailed>
-    requires idle { kernel.old.state.job ≡ Idle }
-    requires alone { kernel.old.queue ≡ [] }
-    ensures ok { OnOk result ((came : Came) × Serves kernel.old (request_of job) came kernel.new
+    requires idle { kernel.old.machine.state.job ≡ Idle }
+    requires alone { kernel.old.machine.queue ≡ [] }
+    ensures ok { OnOk result ((came : Came) × Serves kernel.old.machine (request_of job) came kernel.new.machine
         × Appends (W.contents writer.old) (W.contents writer.new) (ended_line (came_line came))) }
-    ensures err { OnErr result ((came : Came) × Serves kernel.old (request_of job) came kernel.new
+    ensures err { OnErr result ((came : Came) × Serves kernel.old.machine (request_of job) came kernel.new.machine
         × SentSome (W.contents writer.old) (W.contents writer.new) (ended_line (came_line came))) }
-    ensures idle { kernel.new.state.job ≡ Idle }
-    ensures alone { kernel.new.queue ≡ [] }
+    ensures idle { kernel.new.machine.state.job ≡ Idle }
+    ensures alone { kernel.new.machine.queue ≡ [] }
 {
     match serve(kernel, job) {
         Ok(outcome) => send_outcome(writer, &outcome),
@@ -272,9 +273,9 @@ fn run_job<W: Write>(kernel: &mut Kernel, job: Job, writer: &mut W) -> Result<()
 
 /// Writes the position, and the declared names with their values.
 fn show<W: Write>(kernel: &Kernel, writer: &mut W) -> Result<(), WriteFailed>
-    requires idle { kernel.now.state.job ≡ Idle }
-    ensures ok { OnOk result (Appends (W.contents writer.old) (W.contents writer.new) (world_text kernel.now.state.past)) }
-    ensures err { OnErr result (SentSome (W.contents writer.old) (W.contents writer.new) (world_text kernel.now.state.past)) }
+    requires idle { kernel.now.machine.state.job ≡ Idle }
+    ensures ok { OnOk result (Appends (W.contents writer.old) (W.contents writer.new) (world_text kernel.now.machine.state.past)) }
+    ensures err { OnErr result (SentSome (W.contents writer.old) (W.contents writer.new) (world_text kernel.now.machine.state.past)) }
 {
     send_position(writer, kernel.position() as u64)?;
     let world = kernel.world();

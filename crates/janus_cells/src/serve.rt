@@ -8,10 +8,10 @@ use kernel_core::{Begun, Job, Kernel, Outcome, PostFault, STEP_LIMIT, Sliced};
 
 /// Slices the job that stands inside a cell to its end, and begins its next cells.
 fn finish(kernel: &mut Kernel) -> Outcome
-    requires { (e : Entered) × (kernel.old.state.job ≡ Inside e) }
-    ensures finishes { Finishes kernel.old result kernel.new }
-    ensures idle { kernel.new.state.job ≡ Idle }
-    ensures queue { kernel.new.queue ≡ kernel.old.queue }
+    requires { (e : Entered) × (kernel.old.machine.state.job ≡ Inside e) }
+    ensures finishes { Finishes kernel.old.machine result kernel.new.machine }
+    ensures idle { kernel.new.machine.state.job ≡ Idle }
+    ensures queue { kernel.new.machine.queue ≡ kernel.old.machine.queue }
 {
     loop {
         match kernel.slice(STEP_LIMIT, false) {
@@ -30,12 +30,12 @@ fn finish(kernel: &mut Kernel) -> Outcome
 
 /// Posts a job to a kernel without an open job, and brings it to its end.
 pub fn serve(kernel: &mut Kernel, job: Job) -> Result<Outcome, PostFault>
-    requires idle { kernel.old.state.job ≡ Idle }
-    requires alone { kernel.old.queue ≡ [] }
-    ensures ok { IfOk result (λ outcome. Serves kernel.old (request_of job) (Finished outcome) kernel.new) }
-    ensures err { IfErr result (λ fault. Serves kernel.old (request_of job) (NotPosted fault) kernel.new) }
-    ensures idle { kernel.new.state.job ≡ Idle }
-    ensures alone { kernel.new.queue ≡ [] }
+    requires idle { kernel.old.machine.state.job ≡ Idle }
+    requires alone { kernel.old.machine.queue ≡ [] }
+    ensures ok { IfOk result (λ outcome. Serves kernel.old.machine (request_of job) (Finished outcome) kernel.new.machine) }
+    ensures err { IfErr result (λ fault. Serves kernel.old.machine (request_of job) (NotPosted fault) kernel.new.machine) }
+    ensures idle { kernel.new.machine.state.job ≡ Idle }
+    ensures alone { kernel.new.machine.queue ≡ [] }
 {
     kernel.post(0, job)?;
     match kernel.begin() {

@@ -13,12 +13,12 @@ use Rattle.janus_cells.proofs.run.show.Goals as goal
 
 pub returns-in_err-send_position-clause-err : goal.returns-in_err-send_position-clause-err
 returns-in_err-send_position-clause-err g c =
-    let past = c.args.kernel.now.state.past in
+    let past = c.args.kernel.now.machine.state.past in
     some_first (g.W.Write.contents c.args.writer.now) (g.W.Write.contents c.send_position.new.writer) (ended_line (position_line c.position.result)) (value_lines (listed (here past).store)) (world_text past) c.from_residual.result (rw c.position.ensures refl) c.in_err-send_position.ensures.err
 
 pub returns-clause-ok : goal.returns-clause-ok
 returns-clause-ok g c =
-    let past = c.args.kernel.now.state.past in
+    let past = c.args.kernel.now.machine.state.past in
     let w : c.world-world.result ≡ here past = c.world-world.ensures.idle c.requires.idle in
     let n : c.len-i-end.result ≡ size_of (here past).store = c.len-i-end.ensures ∙ ap (λ w. size_of w.store) w in
     let l : size_of (here past).store ≤ c.loop-i.i = omega (arith, n, c.loop-i-test.false) in
@@ -26,7 +26,7 @@ returns-clause-ok g c =
 
 pub returns-in_err-send_value-clause-err : goal.returns-in_err-send_value-clause-err
 returns-in_err-send_value-clause-err g c =
-    let past = c.args.kernel.now.state.past in
+    let past = c.args.kernel.now.machine.state.past in
     let name = c.entry-value.result.0.now in
     let v = c.entry-value.result.1 in
     let es = listed (here past).store in
@@ -39,7 +39,7 @@ returns-in_err-send_value-clause-err g c =
 
 pub loop-i-preserved : goal.loop-i-preserved
 loop-i-preserved g c =
-    let past = c.args.kernel.now.state.past in
+    let past = c.args.kernel.now.machine.state.past in
     let name = c.entry-value.result.0.now in
     let v = c.entry-value.result.1 in
     let es = listed (here past).store in

@@ -2,33 +2,33 @@ use Rattle.std.proofs.Common.{◌≡◌, subst, [], ◌∷◌}
 use Rattle.kernel_core.specs.Runs.{Machine, Request, IsPost, IsBegin, request_of}
 use Rattle.kernel_core.specs.State.{Idle}
 use Rattle.kernel_core.specs.declared.outcome.Begun.{Begun}
-use Rattle.janus_cells.specs.Served.{not_posted, at_once, later}
-use Rattle.janus_cells.proofs.Serving.{posted_alone, begun_alone, Took}
+use Rattle.janus_cells.specs.Served.{lane, not_posted, at_once, later}
+use Rattle.janus_cells.proofs.Serving.{IsAlone, posted_alone, begun_alone, Took}
 use Rattle.std.proofs.lemmas.Result.{err_from_is_err_and}
 use Rattle.janus_cells.proofs.serve.serve.Goals as goal
 
 -- what a begin told, at its answer
-begun_as : (old new : Machine) (r : Request) (told as_told : Begun) → told ≡ as_told → (old.state.job ≡ Idle) × (old.queue ≡ r ∷ []) → IsBegin old told new → IsBegin old as_told new × Took as_told new.state.job
+begun_as : (old new : Machine) (r : Request) (told as_told : Begun) → told ≡ as_told → (old.state.job ≡ Idle) × IsAlone old r → IsBegin old told new → IsBegin old as_told new × Took as_told new.state.job
 begun_as old new r told as_told e alone h =
     let s = subst (λ t. IsBegin old t new) e h in (s, (begun_alone old new r as_told alone.0 alone.1 s).0)
 
 pub returns-in_err-post-clause-err : goal.returns-in_err-post-clause-err
 returns-in_err-post-clause-err c =
     let p = err_from_is_err_and c.from_residual.result c.from_residual.ensures.1 in
-    rw (p.1, p.2) (not_posted (subst (λ r. IsPost c.args.kernel.now (request_of c.args.job) r c.post.new.self) c.in_err-post.was c.post.ensures.post))
+    rw (p.1, p.2) (not_posted (subst (λ r. IsPost c.args.kernel.now.machine lane (request_of c.args.job) r c.post.new.self.machine) c.in_err-post.was c.post.ensures.post))
 
 pub finish-requires : goal.finish-requires
 finish-requires c =
-    let p = subst (λ r. IsPost c.args.kernel.now (request_of c.args.job) r c.post.new.self) c.in_ok-post.was c.post.ensures.post in
-    let alone = posted_alone c.args.kernel.now c.post.new.self (request_of c.args.job) _ c.requires.idle c.requires.alone p in
-    (begun_as c.post.new.self c.begin.new.self (request_of c.args.job) c.begin.result _ c.in-Going.is alone c.begin.ensures).1
+    let p = subst (λ r. IsPost c.args.kernel.now.machine lane (request_of c.args.job) r c.post.new.self.machine) c.in_ok-post.was c.post.ensures.post in
+    let alone = posted_alone c.args.kernel.now.machine c.post.new.self.machine (request_of c.args.job) _ c.requires.idle c.requires.alone p in
+    (begun_as c.post.new.self.machine c.begin.new.self.machine (request_of c.args.job) c.begin.result _ c.in-Going.is alone c.begin.ensures).1
 
 pub returns-in-Ended-clause-ok : goal.returns-in-Ended-clause-ok
 returns-in-Ended-clause-ok c =
-    let p = subst (λ r. IsPost c.args.kernel.now (request_of c.args.job) r c.post.new.self) c.in_ok-post.was c.post.ensures.post in
-    at_once p (subst (λ t. IsBegin c.post.new.self t c.begin.new.self) c.in-Ended.is c.begin.ensures)
+    let p = subst (λ r. IsPost c.args.kernel.now.machine lane (request_of c.args.job) r c.post.new.self.machine) c.in_ok-post.was c.post.ensures.post in
+    at_once p (subst (λ t. IsBegin c.post.new.self.machine t c.begin.new.self.machine) c.in-Ended.is c.begin.ensures)
 
 pub returns-in-Going-clause-ok : goal.returns-in-Going-clause-ok
 returns-in-Going-clause-ok c =
-    let p = subst (λ r. IsPost c.args.kernel.now (request_of c.args.job) r c.post.new.self) c.in_ok-post.was c.post.ensures.post in
-    later p (subst (λ t. IsBegin c.post.new.self t c.begin.new.self) c.in-Going.is c.begin.ensures) c.finish.ensures.finishes
+    let p = subst (λ r. IsPost c.args.kernel.now.machine lane (request_of c.args.job) r c.post.new.self.machine) c.in_ok-post.was c.post.ensures.post in
+    later p (subst (λ t. IsBegin c.post.new.self.machine t c.begin.new.self.machine) c.in-Going.is c.begin.ensures) c.finish.ensures.finishes
