@@ -152,12 +152,7 @@ fn send_down<W: Write>(writer: &mut W, end: End) -> Result<(), WriteFailed>
 }
 
 /// Writes how many cells a goto went up and down, and how that ended.
-fn send_way<W: Write>(
-    writer: &mut W,
-    up: usize,
-    down: usize,
-    end: End,
-) -> Result<(), WriteFailed>
+fn send_way<W: Write>(writer: &mut W, up: usize, down: usize, end: End) -> Result<(), WriteFailed>
     ensures ok { OnOk result (Appends (W.contents writer.old) (W.contents writer.new) (way_text up down end)) }
     ensures err { OnErr result (SentSome (W.contents writer.old) (W.contents writer.new) (way_text up down end)) }
 {

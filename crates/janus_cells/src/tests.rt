@@ -51,6 +51,14 @@ fn runs_undoes_and_redoes(rt: HostRuntime) -> Result<(), Fail> {
         .as_str(),
         "ok node 1 steps 1;ok node 2 steps 3;undid 1;ok node 3 steps 3;undid 2;redid 2;at node 3;x = 2;"
     );
+    assert_eq!(rt;
+        written(
+            alloc,
+            "int x;%%;x += 1;%undo 1;x += 2;%undo 1;%goto 2;%undo 1;%redo 1;%show"
+        )?
+        .as_str(),
+        "ok node 1 steps 1;ok node 2 steps 3;undid 1;ok node 3 steps 3;undid 1;went 0 up 1 down;undid 1;redid 1;at node 2;x = 1;"
+    );
     Ok(())
 }
 
@@ -59,7 +67,7 @@ fn refuses(rt: HostRuntime) -> Result<(), Fail> {
     let alloc = rt.alloc();
     assert_eq!(rt;
         written(alloc, "%undo 1;%goto 1;%undo 0;%undo 4294967296;%redo 1")?.as_str(),
-        "refused 73 TooFar;refused 80 BadCommand;undid 0;refused 80 BadCommand;refused 73 TooFar;"
+        "refused 73 TooFar;refused 71 NoNode;undid 0;refused 80 BadCommand;refused 73 TooFar;"
     );
     assert_eq!(rt;
         written(alloc, "int a[3]")?.as_str(),
@@ -235,6 +243,10 @@ fn gives_texts(rt: HostRuntime) -> Result<(), Fail> {
     assert_eq!(rt;
         outcome_line(alloc, &Outcome::Redid(2, End::NoMemory))?.as_str(),
         "redid 2 then no memory"
+    );
+    assert_eq!(rt;
+        outcome_line(alloc, &Outcome::Went(1, 2, End::All))?.as_str(),
+        "went 1 up 2 down"
     );
     let at = Span { start: 5, end: 6 };
     assert_eq!(rt;
