@@ -6,3 +6,4 @@ pub mod Mirrors
 pub mod Sizes
 pub mod Assigns
 pub mod Courses
+pub mod Counting

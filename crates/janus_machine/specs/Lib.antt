@@ -4,5 +4,6 @@ pub mod Faults
 pub mod Statements
 pub mod Places
 pub mod Mirrored
+pub mod Counts
 pub mod Steps
 pub mod Law

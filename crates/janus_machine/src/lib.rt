@@ -17,7 +17,7 @@ mod statement;
 mod store;
 
 pub use crate::book::Book;
-pub use crate::cursor::Cursor;
+pub use crate::cursor::{Cursor, STEP_LIMIT};
 pub use crate::fault::Fault;
 pub use crate::machine::{End, Sliced, Stepped, slice, step};
 pub use crate::store::Store;
