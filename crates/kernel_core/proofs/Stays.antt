@@ -55,7 +55,7 @@ part_sooner code w j i v p l =
             (world_trichotomy (start_of code w) (block_of code) j).stopped_or_under_way
             (stopped.0, stopped.1, (let early = stopped.2 in omega arith), stopped.3)
             (v, p, λ u e. (worlds_are_determined (start_of code w) (block_of code)).no_stop_and_end stopped.0 j stopped.1 u stopped.3 e)
-          )
+            )
         | inr on ↦ (on.0, on.1)
       ]
     ]

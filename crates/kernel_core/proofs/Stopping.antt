@@ -151,7 +151,6 @@ slices_of_stop old m answer new g s x =
 
 -- ---- runs
 
-
 runs_stop : (old : Machine) (events : List Event) (answers : List Told) (new : Machine) (o : Outcome) → IsLegalState old.state → Run old events answers new → EndsAs answers o → WasStopped o → HasAsked events ⊎ Stops old.state.job
 runs_stop old [] [] new o g r e w = absurd e
 runs_stop old [] (t ∷ answers) new o g r e w = absurd r
@@ -237,7 +236,7 @@ all_undone s k j NoMemory o new e none =
     let other : j ≢ k = λ h. (let all : j ≡ k + 0 = omega arith in let end = e.all.1 all in cc) in
     let fewer : j < k = omega arith in
     absurd (up_declares (gone s (travel_to aim.Undo k 0) j) (k - j) j (omega arith)
-      (subst (λ (t : Travel). Declares (gone s (travel_to aim.Undo k 0) j) t) (after_up aim.Undo k 0 j (omega arith)) (e.no_memory refl)))
+    (subst (λ (t : Travel). Declares (gone s (travel_to aim.Undo k 0) j) t) (after_up aim.Undo k 0 j (omega arith)) (e.no_memory refl)))
 
 can_move : (s : Past) (t : Travel) (can : Bool) (o : Outcome) (new : State) → IsTrue can → MoveEnds s t can o new → TravelEnds s t o new
 can_move s t false o new h m = absurd (let e : false ≡ true = h in cc)

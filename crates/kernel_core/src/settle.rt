@@ -203,11 +203,11 @@ pub fn go_on(tree: &mut Tree, runner: &mut Runner, work: Work, count: u64, m: u6
     ensures step { Goes (past_of tree.old) (work_of work) count m result.1 (state_of tree.new result.0) }
     ensures kept { Kept tree.new runner.new result.0 }
 {
-    match runner.run(program_of(tree, &work), count, m) {
+    match runner.run(program_of(tree, &work), m) {
         Ran::Went => (
             Open::Inside(Entered {
                 work,
-                count: count + m,
+                count: runner.count(),
                 turn: Turn::Going,
             }),
             Sliced::Going,
