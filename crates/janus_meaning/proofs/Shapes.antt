@@ -8,7 +8,7 @@ use Rattle.janus_meaning.specs.Syntax.{Name, Exp, Stm, Blk, Skip, Set, SetAt, Pu
 use Rattle.janus_meaning.specs.Store.{Val, Num, Arr, Stk, Lent, Store, Bare, Slot, same_name, take, take_at, take_slot, put, put_at, put_slot, number, array, stack, element, set_element, pull, fill, bind, unbind, find}
 use Rattle.janus_meaning.specs.Value.{value, test}
 use Rattle.janus_meaning.specs.Moves.{Hole, InThen, InElse, InDo, InLoop, InInt, InStack, InCall, InUncall, Move, Over, Into, room, stack_room, begin, leave, choose, done, assign, assign_at, push, pop, stack_has_room, must_be_zero, uncons, drop_int, drop_int_slot, drop_stack, drop_stack_slot, leave_call}
-use Rattle.janus_meaning.specs.Meaning.{Outcome, Done, Piece, Block, One, Rest, Inside, Run, block_run, rest_none, rest_next, one_over, one_into, in_over, in_again}
+use Rattle.janus_meaning.specs.Meaning.{Outcome, Done, Stretch, Whole, Block, One, Rest, Inside, Run, block_run, rest_none, rest_next, one_over, one_into, in_over, in_again}
 use Rattle.janus_meaning.specs.Formed.{Shape, Nobody, Known, kind_of, shape_of, kind_at, pick_kind, set_at_name, with_kind, hide, IsPlain}
 use Rattle.janus_meaning.specs.WorldLaw.{KeepsShape}
 use Rattle.janus_meaning.proofs.Results.{fine_inj, with_parts, by_fine}
@@ -226,13 +226,13 @@ leave_keeps ps (InUncall f xs c) p s m h = done_keeps _ _ m h (λ r. leave_call_
 -- ---- runs
 
 -- the shape in which a piece ends
-abbrev end_shape : Piece → Store → Shape
-end_shape (Block b) s = shape_of s
-end_shape (One c) s = shape_of s
+abbrev end_shape : Stretch → Store → Shape
+end_shape (Whole (Block b)) s = shape_of s
+end_shape (Whole (One c)) s = shape_of s
 end_shape (Rest b) s = shape_of s
 end_shape (Inside h b) s = outside h (shape_of s)
 
-run_keeps : (ps : List Proc) {d k n : ℕ} {t : Piece} {s r : Store} → Run ps d k t s n (Done r) → shape_of r ≡ end_shape t s
+run_keeps : (ps : List Proc) {d k n : ℕ} {t : Stretch} {s r : Store} → Run ps d k t s n (Done r) → shape_of r ≡ end_shape t s
 run_keeps ps (block_run h w) = run_keeps ps w
 run_keeps ps rest_none = refl
 run_keeps ps (rest_next v w) = run_keeps ps w ∙ run_keeps ps v

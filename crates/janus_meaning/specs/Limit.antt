@@ -1,7 +1,7 @@
 -- The limits that belong to the meaning of a cell.
 use Rattle.std.specs.Prelude.{ℕ}
 
--- how many control frames may be open: each open block, `if`, loop, local and call is one
+-- how many control frames may be open at once: each open block, `if`, loop, local and call is one
 abbrev pub frame_limit : ℕ
 frame_limit = 16384
 
