@@ -3,15 +3,15 @@ use Rattle.std.proofs.Common.{◌≡◌, ℕ, zero, suc, List, [], ◌∷◌, re
 use Rattle.std.specs.Prelude.{ℤ, pos, negsuc}
 use Rattle.std.specs.Int.{int_wrap}
 use Rattle.janus_meaning.specs.Fault.{Fault, Fine, Bad, FiAssertion, EntryAssertion, LoopAssertion, DelocalMismatch, PopNotZero, PopEmpty, TopEmpty, DivisionByZero, IndexRange, StackFull, TooDeep, TooManyStacks}
-use Rattle.janus_meaning.specs.Word.{Plus, Minus, Flip, Add', Sub', Mul', Div', Rem', And', Or', Xor', Less', More', AtMost', AtLeast', Same', Differ', wrap, changed}
-use Rattle.janus_meaning.specs.Syntax.{Name, Exp, Number, Var, At, Empty, Top, Negate, Binary, And, Or, Stm, Blk, Nil, Cons, Skip, Set, SetAt, Push, Pop, If, From, LocalInt, LocalStack, Call, Uncall, Proc, ANumber, AnArray, AStack, inverse_block}
+use Rattle.janus_meaning.specs.Word.{Plus, Minus, Flip, Add', Sub', Div', Rem', And', Or', More', AtMost', AtLeast', Same', Differ', wrap, changed}
+use Rattle.janus_meaning.specs.Syntax.{Name, Exp, Number, Var, Top, Negate, Binary, And, Or, Stm, Blk, Nil, Cons, Skip, Set, SetAt, Push, Pop, If, From, LocalInt, LocalStack, Call, Uncall, Proc, ANumber, inverse_block}
 use Rattle.janus_meaning.specs.Store.{Store, Bare, Slot, Num, Arr, Stk}
 use Rattle.janus_meaning.specs.Limit.{frame_limit}
 use Rattle.janus_meaning.specs.Value.{value}
-use Rattle.janus_meaning.specs.Moves.{room, stack_room, stack_has_room}
-use Rattle.janus_meaning.specs.Meaning.{Block, Exec, Part, Stop}
+use Rattle.janus_meaning.specs.Moves.{stack_room, stack_has_room}
+use Rattle.janus_meaning.specs.Meaning.{Block, Exec, Stop}
 use Rattle.janus_meaning.specs.Machine.{BeforeBlock, AfterBlock, To, Halt, Place, step, steps, shown}
-use Rattle.janus_meaning.specs.World.{World, Cell, DeclareInt, DeclareArray, DeclareStack, stacks_in, entered, left, empty_world}
+use Rattle.janus_meaning.specs.World.{World, Cell, DeclareInt, DeclareArray, stacks_in, entered, taken_back, empty_world}
 use Rattle.janus_meaning.specs.Cells.{world_after, store_after}
 use Rattle.janus_meaning.proofs.Interface.{machine_meaning}
 
@@ -37,22 +37,22 @@ stops_stop ps b s j f h = (machine_meaning ps frame_limit (stacks_in s) b s).sto
 
 -- ---- abbreviations of the programs
 
-abbrev x : Name
+abbrev pub x : Name
 x = 120 ∷ []
 
-abbrev y : Name
+abbrev pub y : Name
 y = 121 ∷ []
 
-abbrev n : Name
+abbrev pub n : Name
 n = 110 ∷ []
 
-abbrev f : Name
+abbrev pub f : Name
 f = 102 ∷ []
 
-abbrev num : ℕ → Exp
+abbrev pub num : ℕ → Exp
 num k = Number (pos k)
 
-abbrev one : Stm → Blk
+abbrev pub one : Stm → Blk
 one a = Cons a Nil
 
 abbrev two : Stm → Stm → Blk
@@ -267,12 +267,12 @@ loop_fills = refl
 -- ---- procedures
 
 -- procedure f(int x) x += 1
-abbrev increments : Proc
-increments = record { name = f; params = x ∷ []; kinds = ANumber ∷ []; body = one (Set x Plus (num 1)) }
+abbrev pub increments : Proc
+increments = record { name = f; params = (x, ANumber) ∷ []; body = one (Set x Plus (num 1)) }
 
 -- procedure f(int x) x += 2
 abbrev increments_by_two : Proc
-increments_by_two = record { name = f; params = x ∷ []; kinds = ANumber ∷ []; body = one (Set x Plus (num 2)) }
+increments_by_two = record { name = f; params = (x, ANumber) ∷ []; body = one (Set x Plus (num 2)) }
 
 abbrev y_is : ℤ → Store
 y_is v = Slot y (Num v) Bare
@@ -288,7 +288,7 @@ uncalls_newer = refl
 
 -- procedure f(int x) call f(x): where 16,384 frames are open there is no room for the body's block
 abbrev endless_call : Proc
-endless_call = record { name = f; params = x ∷ []; kinds = ANumber ∷ []; body = one (Call f (x ∷ [])) }
+endless_call = record { name = f; params = (x, ANumber) ∷ []; body = one (Call f (x ∷ [])) }
 
 too_deep : Stops (endless_call ∷ []) (one (Call f (y ∷ []))) (y_is (pos 0)) 16384 TooDeep
 unfolding value wrap changed int_wrap
@@ -296,11 +296,10 @@ too_deep = (_, _, refl, refl)
 
 -- procedure f(int x, int y, int n) if n = 0 then x += 1 y += 1 else n -= 1 call f(x, y, n) x += y x ^= y y ^= x x ^= y
 -- fi x = y: pairs of Fibonacci numbers
-abbrev fib : Proc
+abbrev pub fib : Proc
 fib = record {
   name = f;
-  params = x ∷ y ∷ n ∷ [];
-  kinds = ANumber ∷ ANumber ∷ ANumber ∷ [];
+  params = (x, ANumber) ∷ (y, ANumber) ∷ (n, ANumber) ∷ [];
   body = one (If (Binary Same' (Var n) (num 0))
       (two (Set x Plus (num 1)) (Set y Plus (num 1)))
       (Cons (Set n Minus (num 1)) (Cons (Call f (x ∷ y ∷ n ∷ [])) (Cons (Set x Plus (Var y)) (Cons (Set x Flip (Var y)) (Cons (Set y Flip (Var x)) (Cons (Set x Flip (Var y)) Nil))))))
@@ -330,7 +329,7 @@ enters : entered declaring before ≡ record { store = Slot y (Arr (pos 0 ∷ po
 enters = refl
 
 -- a name is retired only with the value that it began with
-keeps_a_changed_name : left declaring (record { store = Slot y (Arr (pos 0 ∷ pos 1 ∷ [])) (Slot x (Num (pos 0)) Bare); procedures = increments ∷ [] }) ≡ Bad DelocalMismatch
+keeps_a_changed_name : taken_back declaring (record { store = Slot y (Arr (pos 0 ∷ pos 1 ∷ [])) (Slot x (Num (pos 0)) Bare); procedures = increments ∷ [] }) ≡ Bad DelocalMismatch
 keeps_a_changed_name = refl
 
 -- int x with x += 5 behind it, in an empty world: the world after its three steps, and taken back
@@ -345,8 +344,8 @@ cell_goes_back : world_after (record { store = x_is (pos 5); procedures = [] }) 
 unfolding world_after store_after value wrap changed int_wrap
 cell_goes_back = refl
 
-cell_is_left : left first_cell (entered first_cell empty_world) ≡ Fine empty_world
-cell_is_left = refl
+cell_is_taken_back : taken_back first_cell (entered first_cell empty_world) ≡ Fine empty_world
+cell_is_taken_back = refl
 
 -- midway inside a local the world shows the declared names alone
 no_local_shown : world_after (record { store = x_is (pos 0); procedures = [] }) (one (LocalInt n (num 3) (one (Set x Plus (Var n))) (num 3))) 4 ≡ record { store = x_is (pos 3); procedures = [] }

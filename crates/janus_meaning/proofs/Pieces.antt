@@ -4,9 +4,9 @@ use Rattle.std.proofs.lemmas.Bool.{cases_lt}
 use Rattle.janus_meaning.specs.Fault.{Fault}
 use Rattle.janus_meaning.specs.Syntax.{Stm, Nil, Cons, Proc, inverse}
 use Rattle.janus_meaning.specs.Store.{Store, IsGood}
-use Rattle.janus_meaning.specs.Meaning.{Done, Going, Stopped, Whole, Block, One, Rest, Run, Exec, Part, Stop, block_start, block_run, rest_none, rest_going, rest_fault, rest_between, rest_next}
+use Rattle.janus_meaning.specs.Meaning.{Done, Going, Whole, Block, One, Rest, Run, Exec, Part, Stop, block_start, block_run, rest_none, rest_going, rest_fault, rest_between, rest_next}
 use Rattle.janus_meaning.specs.Law.{Reversal, HasEnded, HasStopped, IsUnderWay, ExactlyOne, Trichotomy, IsFunction, Determinism}
-use Rattle.janus_meaning.proofs.Exactly.{AtEnd, AtHalt, AtWork, at_end, at_halt, at_work, kind, exactly, function}
+use Rattle.janus_meaning.proofs.Exactly.{AtEnd, AtHalt, AtWork, at_end, at_halt, at_work, standing, exactly, function}
 use Rattle.janus_meaning.proofs.Laws.{block_reversal}
 use Rattle.janus_meaning.proofs.Fates.{Fate, Ends, Stops, GoesOn, fate_of_one}
 
@@ -42,7 +42,7 @@ module _ (ps : List Proc) (d k : ℕ) where
       let same : suc (suc (n + zero)) ≡ suc (suc n) = omega arith in
       subst (λ n. Run ps (suc d) k (Whole (Block (Cons c Nil))) s n (Done r)) same (block_run refl (rest_next w rest_none))
 
-  part_in_block : (j : ℕ) (c : Stm) (s m : Store) → Part ps d k (One c) s j m → Run ps (suc d) k (Whole (Block (Cons c Nil))) s (suc j) (Going m)
+  pub part_in_block : (j : ℕ) (c : Stm) (s m : Store) → Part ps d k (One c) s j m → Run ps (suc d) k (Whole (Block (Cons c Nil))) s (suc j) (Going m)
   part_in_block j c s m w = ⊎_elim (λ w. block_run refl (rest_going w)) (λ w. block_run refl (rest_between w)) w
 
   exec_of_one : (n : ℕ) (c : Stm) (s r : Store) → Exec ps (suc d) k (Block (Cons c Nil)) s (suc (suc n)) r → Exec ps d k (One c) s n r
@@ -88,7 +88,7 @@ module _ (ps : List Proc) (d k : ℕ) where
   not_ended_and_stopped n j c s r f e h =
       let a = at_end ps (suc d) k (Cons c Nil) s (suc (suc n)) (suc (suc (n + j))) r (omega arith) (exec_in_block n c s r e) in
       let b = at_halt ps (suc d) k (Cons c Nil) s (suc j) (suc (suc (n + j))) f (omega arith) (stop_in_rest j c s f h) in
-      let bad : AtEnd ≡ AtHalt = sym a ∙ ap kind b in cc
+      let bad : AtEnd ≡ AtHalt = sym a ∙ ap standing b in cc
 
   -- past its end a statement is not on its way
   not_ended_and_going : (n m : ℕ) (c : Stm) (s r q : Store) → n < m → Exec ps d k (One c) s n r → Part ps d k (One c) s m q → ⊥
@@ -101,7 +101,7 @@ module _ (ps : List Proc) (d k : ℕ) where
   not_stopped_and_going j m c s q f lt h w =
       let a = at_halt ps (suc d) k (Cons c Nil) s (suc j) (suc m) f (omega arith) (stop_in_rest j c s f h) in
       let b = at_work ps (suc d) k (Cons c Nil) s (suc m) q (part_in_block m c s q w) in
-      let bad : AtHalt ≡ AtWork = sym (ap kind a) ∙ b in cc
+      let bad : AtHalt ≡ AtWork = sym (ap standing a) ∙ b in cc
 
   one_time : (c : Stm) (s : Store) (n i : ℕ) (r q : Store) → Exec ps d k (One c) s n r → Exec ps d k (One c) s i q → n ≡ i
   one_time c s n i r q v w = let e = ((function ps (suc d) k (Cons c Nil) s).exec (suc (suc n)) (suc (suc i)) r q (exec_in_block n c s r v) (exec_in_block i c s q w)).0 in omega arith

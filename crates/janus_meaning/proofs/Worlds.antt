@@ -1,64 +1,23 @@
 -- The laws of worlds, from those of blocks.
 use Rattle.std.proofs.Common.{◌≡◌, ℕ, zero, suc, ◌+◌, ◌-◌, ◌<◌, ◌≤◌, List, [], ◌∷◌, ◌⊎◌, inl, inr, refl, ap, ◌∙◌, sym, subst, arith, ⊎_elim}
 use Rattle.std.proofs.lemmas.Bool.{cases_lt}
-use Rattle.std.specs.Prelude.{ℤ, pos}
-use Rattle.std.specs.Ordering.{int_eq}
-use Rattle.janus_meaning.specs.Fault.{Fault, Res, Fine, Bad, StepLimit, Broken, DelocalMismatch, and_then, guard}
-use Rattle.janus_meaning.specs.Syntax.{Name, Blk, Proc, Kind, ANumber, AnArray, AStack, Hidden, Absent, inverse_block}
-use Rattle.janus_meaning.specs.Store.{Val, Num, Arr, Stk, Lent, Store, Bare, Slot, same_name, AllFit, IsGood}
-use Rattle.janus_meaning.specs.Formed.{Shape, Nobody, Known, kind_of, shape_of}
-use Rattle.janus_meaning.specs.Meaning.{Run, Done, Going, Stopped, Block, Exec, Part, Stop, block_start}
-use Rattle.janus_meaning.specs.Machine.{BeforeBlock, AfterBlock, Next, To, steps, shown}
-use Rattle.janus_meaning.specs.World.{World, Cell, Declaration, DeclareInt, DeclareArray, DeclareStack, declared_name, zeros, declare_one, declare, define, entered, must_be, must_be_zeros, must_be_first, retire_one, retire, without_newest, undefine, left, stacks_with, stacks_in, size_of, dropped, oldest}
+use Rattle.std.specs.Prelude.{pos}
+use Rattle.janus_meaning.specs.Fault.{Fault, Fine, StepLimit, Broken, DelocalMismatch, and_then, guard}
+use Rattle.janus_meaning.specs.Syntax.{Blk, Proc, inverse_block}
+use Rattle.janus_meaning.specs.Store.{Num, Arr, Store, zeros, AllFit, IsGood, cleared}
+use Rattle.janus_meaning.specs.Meaning.{Block, Exec, Part, Stop, block_start}
+use Rattle.janus_meaning.specs.World.{World, Cell, Declaration, DeclareInt, DeclareArray, DeclareStack, declare_one, declare, define, entered, must_be_zeros, must_be_first, retire_one, retire, without_newest, undefine, taken_back, stacks_in, size_of, dropped, oldest}
 use Rattle.janus_meaning.specs.Limit.{frame_limit, step_limit}
-use Rattle.janus_meaning.specs.Cells.{WorldExec, WorldPart, WorldStop, IsUnended, CellRun, store_at, store_after, world_after, IsGoodWorld}
-use Rattle.janus_meaning.specs.WorldLaw.{WorldsAreFunctions, WorldsBeginAndEnd, WorldsGoBack, WorldsReverse, CellIsTakenBack, WorldsAreDetermined, WorldsStartAndEnd, EnteredIsGood, WorldHasEnded, WorldHasStopped, WorldIsUnderWay, WorldExactlyOne, WorldTrichotomy, IsFormedCell, FormedCellIsSafe}
+use Rattle.janus_meaning.specs.Cells.{WorldExec, WorldPart, WorldStop, IsUnended, store_at, store_after, world_after, IsGoodWorld}
+use Rattle.janus_meaning.specs.WorldLaw.{WorldsAreFunctions, WorldsBeginAndEnd, WorldsReverse, CellIsTakenBack, WorldsAreDetermined, WorldsStartAndEnd, EnteredIsGood, WorldHasEnded, WorldHasStopped, WorldIsUnderWay, WorldExactlyOne, WorldTrichotomy}
 use Rattle.janus_meaning.specs.Law.{HasEnded, HasStopped, IsUnderWay}
-use Rattle.janus_meaning.specs.Formed.{IsReal}
-use Rattle.janus_meaning.proofs.Safe.{well_formed_is_safe}
 use Rattle.janus_meaning.proofs.Changes.{int_eq_self, zero_fits}
 use Rattle.janus_meaning.proofs.Stores.{same_name_self}
-use Rattle.janus_meaning.proofs.Laws.{run_leads, stands, block_reversal}
-use Rattle.janus_meaning.proofs.Exactly.{AtEnd, AtWork, AtHalt, at_end, at_work, at_halt, kind, function, exactly}
+use Rattle.janus_meaning.proofs.Laws.{stands, block_reversal}
+use Rattle.janus_meaning.proofs.Exactly.{AtEnd, AtWork, AtHalt, at_end, at_work, at_halt, standing, function, exactly}
+use Rattle.janus_meaning.proofs.Cleared.{same_stacks, same_size}
 use Rattle.janus_meaning.proofs.Shapes.{keeps_shape}
 use Rattle.janus_meaning.proofs.Goodness.{keeps_good}
-
--- ---- what a shape determines
-
-abbrev stacks_of : Kind → ℕ → ℕ
-stacks_of ANumber k = k
-stacks_of AnArray k = k
-stacks_of AStack k = suc k
-stacks_of Hidden k = k
-stacks_of Absent k = k
-
-abbrev shape_stacks : Shape → ℕ
-shape_stacks Nobody = zero
-shape_stacks (Known x c g) = stacks_of c (shape_stacks g)
-
-abbrev shape_size : Shape → ℕ
-shape_size Nobody = zero
-shape_size (Known x c g) = suc (shape_size g)
-
-kind_stacks : (v : Val) (k : ℕ) → stacks_of (kind_of v) k ≡ stacks_with v k
-kind_stacks (Num n) k = refl
-kind_stacks (Arr l) k = refl
-kind_stacks (Stk l) k = refl
-kind_stacks Lent k = refl
-
-stacks_is : (s : Store) → shape_stacks (shape_of s) ≡ stacks_in s
-stacks_is Bare = refl
-stacks_is (Slot x v s) = kind_stacks v (shape_stacks (shape_of s)) ∙ ap (stacks_with v) (stacks_is s)
-
-size_is : (s : Store) → shape_size (shape_of s) ≡ size_of s
-size_is Bare = refl
-size_is (Slot x v s) = ap suc (size_is s)
-
-pub same_stacks : (r s : Store) → shape_of r ≡ shape_of s → stacks_in r ≡ stacks_in s
-same_stacks r s e = sym (stacks_is r) ∙ ap shape_stacks e ∙ stacks_is s
-
-pub same_size : (r s : Store) → shape_of r ≡ shape_of s → size_of r ≡ size_of s
-same_size r s e = sym (size_is r) ∙ ap shape_size e ∙ size_is s
 
 -- a store with as many names is the oldest part of itself
 pub oldest_whole : (n : ℕ) (s : Store) → size_of s ≡ n → oldest n s ≡ s
@@ -70,8 +29,8 @@ module _ (w : World) (b : Blk) where
   world_is : (v : World) (s : Store) → v.store ≡ s → v.procedures ≡ w.procedures → v ≡ record w { store = s }
   world_is v s e f = ap (λ s. record { store = s; procedures = v.procedures }) e ∙ ap (λ q. record { store = s; procedures = q }) f
 
-  exec_shape : (n : ℕ) (v : World) → WorldExec w b n v → shape_of v.store ≡ shape_of w.store
-  exec_shape n v e = keeps_shape w.procedures frame_limit (stacks_in w.store) n b w.store v.store e.ran
+  pub exec_shape : (n : ℕ) (v : World) → WorldExec w b n v → cleared v.store ≡ cleared w.store
+  exec_shape n v e = keeps_shape w.procedures frame_limit (stacks_in w.store) n (Block b) w.store v.store e.ran
 
   part_is : (j : ℕ) (v : World) → WorldPart w b j v → v ≡ world_after w b j
   unfolding world_after store_after
@@ -94,7 +53,7 @@ module _ (w : World) (b : Blk) where
       (λ h.
       let d = at_halt w.procedures frame_limit (stacks_in w.store) b w.store n (suc (n + i)) f (omega arith) h.1 in
       let a = at_end w.procedures frame_limit (stacks_in w.store) b w.store i (suc (n + i)) v.store (omega arith) e.ran in
-      let bad : AtHalt ≡ AtEnd = sym (ap kind d) ∙ a in cc)
+      let bad : AtHalt ≡ AtEnd = sym (ap standing d) ∙ a in cc)
       (λ h.
       let le : i ≤ n = let z = h.0 in let y = e.limit in omega arith in
       let c = at_work w.procedures frame_limit (stacks_in w.store) b w.store n h.2.0 h.2.1 in
@@ -107,7 +66,7 @@ module _ (w : World) (b : Blk) where
       let lt : n < i = let z = u.0 in let y = h.0 in omega arith in
       let d = at_halt w.procedures frame_limit (stacks_in w.store) b w.store n i f lt h.1 in
       let c = at_work w.procedures frame_limit (stacks_in w.store) b w.store i u.2.0 u.2.1 in
-      let bad : AtHalt ≡ AtWork = sym (ap kind d) ∙ c in cc
+      let bad : AtHalt ≡ AtWork = sym (ap standing d) ∙ c in cc
 
   one_stop_only : (n i : ℕ) (f g : Fault) → WorldStop w b n f → WorldStop w b i g → (n ≡ i) × (f ≡ g)
   one_stop_only n i f g h u =
@@ -186,7 +145,7 @@ worlds_reverse w b n v g e =
       back = back;
       through = turned_part w b n v g e;
       safe = λ j f h. (functions v (inverse_block b)).no_stop_and_end j n f w h back;
-      good = keeps_good w.procedures frame_limit (stacks_in w.store) n b w.store v.store g (inr e.ran);
+      good = keeps_good w.procedures frame_limit (stacks_in w.store) n (Block b) w.store v.store g (inr e.ran);
     }
 
 -- ---- declarations and definitions
@@ -211,8 +170,8 @@ undefine_all : (more ps : List Proc) → undefine more (define more ps) ≡ ps
 undefine_all [] ps = refl
 undefine_all (p ∷ more) ps = ap without_newest (undefine_all more (p ∷ ps))
 
-pub entered_left : (c : Cell) (w : World) → left c (entered c w) ≡ Fine w
-entered_left c w =
+pub entered_back : (c : Cell) (w : World) → taken_back c (entered c w) ≡ Fine w
+entered_back c w =
     ap (λ r. and_then r (λ s. Fine (record { store = s; procedures = undefine c.procedures (define c.procedures w.procedures) }))) (retire_all c.declarations w.store)
     ∙ ap (λ q. Fine (record { store = w.store; procedures = q })) (undefine_all c.procedures w.procedures)
 
@@ -233,7 +192,7 @@ pub entered_is_good : EnteredIsGood
 entered_is_good c w g = declare_good c.declarations w.store g
 
 pub cell_is_taken_back : CellIsTakenBack
-cell_is_taken_back c w n v g e = (turned_exec (entered c w) c.block n v (entered_is_good c w g) e, entered_left c w)
+cell_is_taken_back c w n v g e = (turned_exec (entered c w) c.block n v (entered_is_good c w g) e, entered_back c w)
 
 -- ---- exactly one
 
@@ -279,7 +238,7 @@ module _ (w : World) (b : Blk) where
       (λ g.
       let d = at_halt w.procedures frame_limit (stacks_in w.store) b w.store j m f lt h.1 in
       let c = at_work w.procedures frame_limit (stacks_in w.store) b w.store m p.store g in
-      let bad : AtHalt ≡ AtWork = sym (ap kind d) ∙ c in cc)
+      let bad : AtHalt ≡ AtWork = sym (ap standing d) ∙ c in cc)
       (λ e. unended (record w { store = p.store }) (exec_of_run m p.store p.limit e))
       p.part)
       (λ h. let z = h.0 in let y = p.limit in absurd (omega arith))
@@ -301,10 +260,3 @@ module _ (w : World) (b : Blk) where
 
 pub world_trichotomy : WorldTrichotomy
 world_trichotomy w b m = exactly_one w b m
-
-pub formed_cell_is_safe : FormedCellIsSafe
-formed_cell_is_safe c w j f formed h =
-    ⊎_elim
-    (λ h. well_formed_is_safe (entered c w).procedures frame_limit (stacks_in (entered c w).store) j c.block (entered c w).store f formed.procedures formed.block h.1)
-    (λ h. subst IsReal (sym h.1) tt)
-    h
