@@ -1,17 +1,14 @@
 -- Which cells are well formed over the names in sight, by the faults that a cell has.
-use Rattle.std.specs.Prelude.{ℕ, Bool, true, false, not, ◌||◌, nat_le, List, [], ◌∷◌, ◌++◌, if◌then◌else◌}
+use Rattle.std.specs.Prelude.{Bool, true, false, not, ◌||◌, nat_le, List, [], ◌∷◌, ◌++◌, length, if◌then◌else◌}
+use Rattle.janus_meaning.specs.Limit.{name_limit}
 use Rattle.janus_meaning.specs.Syntax as tree
 use Rattle.janus_meaning.specs.Store.{same_name}
-use Rattle.janus_meaning.specs.Formed.{Shape, Known}
+use Rattle.janus_meaning.specs.Shape.{Shape}
 use Rattle.janus_syntax.specs.declared.token.Span.{Span}
 use Rattle.janus_syntax.specs.Tree.{Name, named, Exp, Num, Var, Bin, Stm, Assign, Block, Empty, More, Declaration, Int, Cell, cell_of}
-use Rattle.janus_check.specs.Names.{is_in, size}
+use Rattle.janus_check.specs.Names.{is_in}
 use Rattle.janus_check.specs.declared.fault.CheckFault.{CheckFault}
 use Rattle.janus_check.specs.declared.fault.CheckFault.TheVariants.{Declared, Unknown, SelfUse, TooMany}
-
--- how many names a world may have
-abbrev pub name_limit : ℕ
-name_limit = 256
 
 abbrev pub text_of : Name → tree.Name
 text_of (named x at) = x
@@ -25,12 +22,12 @@ fault_if false f = []
 
 -- no more names may be declared
 abbrev pub is_full : Shape → Bool
-is_full g = nat_le name_limit (size g)
+is_full g = nat_le name_limit (length g)
 
 -- The names in sight with one more. One that is there already stays as it is. One past the limit is left out: its own
 -- fault stands in the text before all of its uses.
 abbrev pub extended : Shape → tree.Name → Shape
-extended g x = if is_in x g || is_full g then g else Known x tree.ANumber g
+extended g x = if is_in x g || is_full g then g else (x, tree.ANumber) ∷ g
 
 -- the faults of the declaration of a name at a place
 abbrev pub name_faults : Shape → tree.Name → Span → List CheckFault

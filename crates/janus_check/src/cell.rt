@@ -2,7 +2,7 @@
 ghost use Rattle.std.specs.Prelude.{◌≡◌, ◌≢◌, [], OnOk, IfOk, IfErr, ◌++◌};
 ghost use Rattle.janus_syntax.specs.Tree.{cell_view, exp_view, stm_view, block_view, declaration_view, declarations_view};
 ghost use Rattle.janus_syntax.specs.View.{name_of};
-ghost use Rattle.janus_check.specs.Names.{shape_of, over, is_in};
+ghost use Rattle.janus_check.specs.Names.{shape_in, over, is_in};
 ghost use Rattle.janus_check.specs.Fault.{IsFirst, first_from};
 ghost use Rattle.janus_check.specs.Check.{is_full, fault_if, name_faults, extended, cell_faults, declaration_faults, declarations_faults, after_declaration, after_declarations, exp_faults, stm_faults, block_faults};
 ghost use Rattle.janus_check.specs.WellFormed.{IsWellFormed};
@@ -22,10 +22,10 @@ const NAME_LIMIT: usize = 256;
 /// Checks a cell over the names that are declared already. What passes is well formed; else the answer is the fault
 /// that stands first in the text, and at one place the one with the smaller number, or want of memory.
 pub fn check(alloc: Global, env: &Env, cell: Cell) -> Result<Checked, CheckFault>
-    ensures passes { OnOk result (cell_faults (shape_of env.now) (cell_view cell) ≡ []) }
-    ensures well_formed { OnOk result (IsWellFormed (shape_of env.now) (cell_view cell)) }
+    ensures passes { OnOk result (cell_faults (shape_in env.now) (cell_view cell) ≡ []) }
+    ensures well_formed { OnOk result (IsWellFormed (shape_in env.now) (cell_view cell)) }
     ensures same { IfOk result (λ checked. cell_in checked ≡ cell_view cell) }
-    ensures first { IfErr result (λ fault. fault ≢ NoMemory → IsFirst fault (cell_faults (shape_of env.now) (cell_view cell))) }
+    ensures first { IfErr result (λ fault. fault ≢ NoMemory → IsFirst fault (cell_faults (shape_in env.now) (cell_view cell))) }
 {
     match first_fault(alloc, env, &cell)? {
         None => Ok(Checked::new(cell)),
@@ -35,7 +35,7 @@ pub fn check(alloc: Global, env: &Env, cell: Cell) -> Result<Checked, CheckFault
 
 /// The first fault of a cell, if it has one.
 fn first_fault(alloc: Global, env: &Env, cell: &Cell) -> Result<Option<CheckFault>, AllocError>
-    ensures { IfOk result (λ first. first ≡ first_from None (cell_faults (shape_of env.now) (cell_view cell.now))) }
+    ensures { IfOk result (λ first. first ≡ first_from None (cell_faults (shape_in env.now) (cell_view cell.now))) }
 {
     let mut own = Env::new(alloc);
     let first = declare_all(env, &mut own, &cell.declarations, None)?;
@@ -44,7 +44,7 @@ fn first_fault(alloc: Global, env: &Env, cell: &Cell) -> Result<Option<CheckFaul
 
 /// Whether a name is declared, already or by the cell.
 fn is_declared(env: &Env, own: &Env, name: &Name) -> bool
-    ensures { result ≡ is_in (name_of name.now) (over (shape_of env.now) own.now) }
+    ensures { result ≡ is_in (name_of name.now) (over (shape_in env.now) own.now) }
 {
     own.kind(&name.text).is_some() || env.kind(&name.text).is_some()
 }
@@ -56,8 +56,8 @@ fn declare(
     declaration: &Declaration,
     first: Option<CheckFault>,
 ) -> Result<Option<CheckFault>, AllocError>
-    ensures fault { IfOk result (λ next. next ≡ first_from first (declaration_faults (over (shape_of env.now) own.old) (declaration_view declaration.now))) }
-    ensures names { OnOk result (over (shape_of env.now) own.new ≡ after_declaration (over (shape_of env.now) own.old) (declaration_view declaration.now)) }
+    ensures fault { IfOk result (λ next. next ≡ first_from first (declaration_faults (over (shape_in env.now) own.old) (declaration_view declaration.now))) }
+    ensures names { OnOk result (over (shape_in env.now) own.new ≡ after_declaration (over (shape_in env.now) own.old) (declaration_view declaration.now)) }
 {
     match declaration {
         Declaration::Int(name) => declare_name(env, own, name, first),
@@ -72,8 +72,8 @@ fn declare_name(
     name: &Name,
     first: Option<CheckFault>,
 ) -> Result<Option<CheckFault>, AllocError>
-    ensures fault { IfOk result (λ next. next ≡ first_from first (name_faults (over (shape_of env.now) own.old) (name_of name.now) name.now.span)) }
-    ensures names { OnOk result (over (shape_of env.now) own.new ≡ extended (over (shape_of env.now) own.old) (name_of name.now)) }
+    ensures fault { IfOk result (λ next. next ≡ first_from first (name_faults (over (shape_in env.now) own.old) (name_of name.now) name.now.span)) }
+    ensures names { OnOk result (over (shape_in env.now) own.new ≡ extended (over (shape_in env.now) own.old) (name_of name.now)) }
 {
     let known = is_declared(env, own, name);
     let full = is_full(env, own);
@@ -106,7 +106,7 @@ fn declaration_fault(
 
 /// Whether no more names may be declared.
 fn is_full(env: &Env, own: &Env) -> bool
-    ensures { result ≡ is_full (over (shape_of env.now) own.now) }
+    ensures { result ≡ is_full (over (shape_in env.now) own.now) }
 {
     env.len() + own.len() >= NAME_LIMIT
 }
@@ -118,8 +118,8 @@ fn declare_all(
     declarations: &[Declaration],
     first: Option<CheckFault>,
 ) -> Result<Option<CheckFault>, AllocError>
-    ensures fault { IfOk result (λ next. next ≡ first_from first (declarations_faults (over (shape_of env.now) own.old) (declarations_view declarations.now))) }
-    ensures names { OnOk result (over (shape_of env.now) own.new ≡ after_declarations (over (shape_of env.now) own.old) (declarations_view declarations.now)) }
+    ensures fault { IfOk result (λ next. next ≡ first_from first (declarations_faults (over (shape_in env.now) own.old) (declarations_view declarations.now))) }
+    ensures names { OnOk result (over (shape_in env.now) own.new ≡ after_declarations (over (shape_in env.now) own.old) (declarations_view declarations.now)) }
 {
     let mut next = first;
     for i in 0..declarations.len() {
@@ -136,7 +136,7 @@ fn exp_fault(
     exp: &Exp,
     first: Option<CheckFault>,
 ) -> Option<CheckFault>
-    ensures { result ≡ first_from first (exp_faults (over (shape_of env.now) own.now) (name_of target.now) (exp_view exp.now)) }
+    ensures { result ≡ first_from first (exp_faults (over (shape_in env.now) own.now) (name_of target.now) (exp_view exp.now)) }
 {
     match exp {
         Exp::Number(_, _) => first,
@@ -159,7 +159,7 @@ fn exp_fault(
 
 /// The first fault after a statement.
 fn stm_fault(env: &Env, own: &Env, stm: &Stm, first: Option<CheckFault>) -> Option<CheckFault>
-    ensures { result ≡ first_from first (stm_faults (over (shape_of env.now) own.now) (stm_view stm.now)) }
+    ensures { result ≡ first_from first (stm_faults (over (shape_in env.now) own.now) (stm_view stm.now)) }
 {
     let Stm::Assign(name, _, exp) = stm;
     let mut next = first;
@@ -176,7 +176,7 @@ fn block_fault(
     statements: &[Stm],
     first: Option<CheckFault>,
 ) -> Option<CheckFault>
-    ensures { result ≡ first_from first (block_faults (over (shape_of env.now) own.now) (block_view statements.now)) }
+    ensures { result ≡ first_from first (block_faults (over (shape_in env.now) own.now) (block_view statements.now)) }
 {
     let mut next = first;
     for i in 0..statements.len() {

@@ -1,8 +1,7 @@
 //! The names that are declared already.
-ghost use Rattle.std.specs.Prelude.{◌≡◌, ◌↔◌, IsTrue, OnOk, OnErr, [], ◌∷◌, ◌++◌, length, string_bytes, ◌<◌, ◌^◌};
-ghost use Rattle.janus_meaning.specs.Formed.{kind_at};
-ghost use Rattle.janus_meaning.specs.Syntax.{Absent};
-ghost use Rattle.janus_check.specs.Names.{kind_found, shape_of};
+ghost use Rattle.std.specs.Prelude.{◌≡◌, ◌↔◌, None, IsTrue, OnOk, OnErr, [], ◌∷◌, ◌++◌, length, string_bytes, ◌<◌, ◌^◌};
+ghost use Rattle.janus_meaning.specs.Shape.{kind_at};
+ghost use Rattle.janus_check.specs.Names.{kind_found, shape_in};
 
 use indexmap::IndexMap;
 use std::alloc::{AllocError, Global};
@@ -21,16 +20,15 @@ pub struct Env {
 }
 
 impl Model for Env {
-    ghost use Rattle.std.specs.Prelude.{List, ℕ, map, string_bytes};
-    ghost use Rattle.janus_meaning.specs.Formed.{Nobody};
-    ghost use Rattle.janus_check.specs.Names.{AreNew};
+    ghost use Rattle.std.specs.Prelude.{List, [], ℕ, map, string_bytes};
+    ghost use Rattle.janus_check.specs.Names.{AreNewNames};
     ghost use Rattle.janus_check.specs.declared.env.Kind.{Kind};
 
     ghost Value = { List (List ℕ × Kind) };
 
     ghost view = { λ e. map (λ entry. (string_bytes entry.0, entry.1)) e.names.entries };
 
-    ghost invariant = { λ e. AreNew Nobody (map (λ entry. (string_bytes entry.0, entry.1)) e.names.entries) };
+    ghost invariant = { λ e. AreNewNames [] (map (λ entry. (string_bytes entry.0, entry.1)) e.names.entries) };
 }
 
 impl Env {
@@ -45,7 +43,7 @@ impl Env {
 
     /// Adds a name, which is not there yet; after an error for want of memory nothing is added.
     pub fn declare(&mut self, name: String, kind: Kind) -> Result<(), AllocError>
-        requires { kind_at (string_bytes name) (shape_of self.old) ≡ Absent }
+        requires { kind_at (string_bytes name) (shape_in self.old) ≡ None }
         ensures ok { OnOk result (self.new ≡ self.old ++ (string_bytes name, kind) ∷ []) }
         ensures err { OnErr result (self.new ≡ self.old) }
     {
@@ -55,7 +53,7 @@ impl Env {
 
     /// The kind of a name, if it is there.
     pub fn kind(&self, name: &str) -> Option<Kind>
-        ensures { kind_found result ≡ kind_at name.now (shape_of self.now) }
+        ensures { kind_found result ≡ kind_at name.now (shape_in self.now) }
     {
         self.names.get(name).copied()
     }

@@ -28,7 +28,7 @@ module _ (t : ℕ → tree.Stm) (members : List ℕ) where
       let n : s - s ≡ zero = omega arith in
       ap (back t members s) n
 
-  pub zip_count : (n s m : ℕ) → tree.zip (back t members s n) (ahead t members (s + n) m) ≡ ahead t members s (n + m)
+  pub zip_count : (n s m : ℕ) → tree.rejoin (back t members s n) (ahead t members (s + n) m) ≡ ahead t members s (n + m)
   zip_count zero s m =
       let e : s + zero ≡ s = omega arith in
       let f : zero + m ≡ m = omega arith in
@@ -36,13 +36,13 @@ module _ (t : ℕ → tree.Stm) (members : List ℕ) where
   zip_count (suc n) s m =
       let e : s + suc n ≡ suc (s + n) = omega arith in
       let f : n + suc m ≡ suc n + m = omega arith in
-      ap (λ j. tree.zip (back t members s n) (tree.Cons (t (get_or members (s + n) 0)) (ahead t members j m))) e
+      ap (λ j. tree.rejoin (back t members s n) (tree.Cons (t (get_or members (s + n) 0)) (ahead t members j m))) e
       ∙ zip_count n s (suc m) ∙ ap (ahead t members s) f
 
   -- the gap closed
-  pub zip_at : (s i e : ℕ) → s ≤ i → i ≤ e → tree.zip (back t members s (i - s)) (ahead t members i (e - i)) ≡ ahead t members s (e - s)
+  pub zip_at : (s i e : ℕ) → s ≤ i → i ≤ e → tree.rejoin (back t members s (i - s)) (ahead t members i (e - i)) ≡ ahead t members s (e - s)
   zip_at s i e h k =
       let p : s + (i - s) ≡ i = omega arith in
       let q : (i - s) + (e - i) ≡ e - s = omega arith in
-      ap (λ j. tree.zip (back t members s (i - s)) (ahead t members j (e - i))) (sym p)
+      ap (λ j. tree.rejoin (back t members s (i - s)) (ahead t members j (e - i))) (sym p)
       ∙ zip_count (i - s) s (e - i) ∙ ap (ahead t members s) q

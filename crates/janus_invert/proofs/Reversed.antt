@@ -3,7 +3,7 @@ use Rattle.std.proofs.Common.{◌≡◌, ℕ, zero, suc, ◌+◌, ◌-◌, ◌<�
 use Rattle.std.specs.Prelude.{slice_get, Some, None}
 use Rattle.std.proofs.lemmas.Option.{slice_get-get_or, slice_get_within, slice_get_cases}
 use Rattle.janus_meaning.specs.Syntax as tree
-use Rattle.janus_meaning.proofs.Inverse.{inverse-zip}
+use Rattle.janus_meaning.proofs.Inverse.{inverse-rejoin}
 use Rattle.janus_invert.specs.declared.code.Block.{Block}
 use Rattle.janus_invert.specs.declared.code.Statement.{Statement}
 use Rattle.janus_invert.specs.declared.code.Statement.TheVariants.{Assign}
@@ -48,7 +48,7 @@ module _ (t u : ℕ → tree.Stm) (members others : List ℕ) (b : Block) (o : b
       let z : b.end - n ≡ b.start = omega arith in
       let y : n + 0 ≡ n = omega arith in
       ap (λ i. ahead u others i (b.end - b.start)) (sym z) ∙ ahead_turned (b.end - b.start) (omega arith)
-      ∙ sym (inverse-zip (back t members b.start (b.end - b.start)))
+      ∙ sym (inverse-rejoin (back t members b.start (b.end - b.start)))
       ∙ ap tree.inverse_block (zip_count t members (b.end - b.start) b.start 0)
       ∙ ap (λ m. tree.inverse_block (ahead t members b.start m)) y
 

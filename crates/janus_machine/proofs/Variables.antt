@@ -1,14 +1,12 @@
 -- The store that variables show: reading, writing and the newest name.
-use Rattle.std.proofs.Common.{◌≡◌, ℕ, zero, suc, ℤ, ◌+◌, true, false, List, [], ◌∷◌, ◌++◌, length, set, refl, ap, ◌∙◌, sym, subst, arith, append_assoc, map}
+use Rattle.std.proofs.Common.{◌≡◌, ℕ, zero, suc, ℤ, pos, ◌+◌, true, false, List, [], ◌∷◌, ◌++◌, length, set, refl, ap, ◌∙◌, sym, subst, arith, append_assoc, map}
 use Rattle.std.specs.Prelude.{slice_get, Some, string_bytes}
 use Rattle.std.proofs.lemmas.Bool.{false_from_ne_true}
 use Rattle.std.proofs.lemmas.List.{append-nil}
 use Rattle.janus_meaning.specs.Fault.{Fine, and_then}
 use Rattle.janus_meaning.specs.Syntax.{Name}
 use Rattle.janus_meaning.specs.Store as spec
-use Rattle.janus_meaning.specs.Store.{Val, Num, Lent, same_name, look, look_at, take, take_at, put, put_at}
-use Rattle.janus_meaning.specs.Syntax.{ANumber}
-use Rattle.janus_meaning.specs.Formed.{shape_of, Known}
+use Rattle.janus_meaning.specs.Store.{Val, Num, Lent, same_name, look, look_at, take, take_at, put, put_at, cleared}
 use Rattle.janus_meaning.specs.World.{size_of}
 use Rattle.janus_meaning.proofs.Stores.{same_name_self, same_name_true}
 use Rattle.janus_meaning.proofs.Results.{with_parts}
@@ -102,17 +100,17 @@ listed-declared s [] = sym (append-nil (listed s))
 listed-declared s (v ∷ vs) =
     listed-declared (spec.Slot (name v) (Num v.value) s) vs ∙ append_assoc (listed s) (pair_of v ∷ []) (map pair_of vs)
 
--- ---- names and kinds
+-- ---- all but the values
 
-shape-declared : (s r : spec.Store) (vs : List Variable) → shape_of s ≡ shape_of r → shape_of (declared_over s vs) ≡ shape_of (declared_over r vs)
-shape-declared s r [] e = e
-shape-declared s r (v ∷ vs) e =
-    shape-declared (spec.Slot (name v) (Num v.value) s) (spec.Slot (name v) (Num v.value) r) vs (ap (Known (name v) ANumber) e)
+cleared-declared : (s r : spec.Store) (vs : List Variable) → cleared s ≡ cleared r → cleared (declared_over s vs) ≡ cleared (declared_over r vs)
+cleared-declared s r [] e = e
+cleared-declared s r (v ∷ vs) e =
+    cleared-declared (spec.Slot (name v) (Num v.value) s) (spec.Slot (name v) (Num v.value) r) vs (ap (spec.Slot (name v) (Num (pos 0))) e)
 
 -- another number leaves them
-pub shape-written : (s : spec.Store) (vs : List Variable) (i : ℕ) (v : Variable) (n : ℤ) → slice_get vs i ≡ Some v → shape_of (declared_over s (set vs i (record { name = v.name; value = n }))) ≡ shape_of (declared_over s vs)
-shape-written s [] i v n e = cc
-shape-written s (w ∷ vs) zero v n e =
+pub cleared-written : (s : spec.Store) (vs : List Variable) (i : ℕ) (v : Variable) (n : ℤ) → slice_get vs i ≡ Some v → cleared (declared_over s (set vs i (record { name = v.name; value = n }))) ≡ cleared (declared_over s vs)
+cleared-written s [] i v n e = cc
+cleared-written s (w ∷ vs) zero v n e =
     let same : w ≡ v = cc in
-    shape-declared (spec.Slot (name v) (Num n) s) (spec.Slot (name w) (Num w.value) s) vs (ap (λ (w : Variable). Known (name w) ANumber (shape_of s)) (sym same))
-shape-written s (w ∷ vs) (suc i) v n e = shape-written (spec.Slot (name w) (Num w.value) s) vs i v n e
+    cleared-declared (spec.Slot (name v) (Num n) s) (spec.Slot (name w) (Num w.value) s) vs (ap (λ (w : Variable). spec.Slot (name w) (Num (pos 0)) (cleared s)) (sym same))
+cleared-written s (w ∷ vs) (suc i) v n e = cleared-written (spec.Slot (name w) (Num w.value) s) vs i v n e

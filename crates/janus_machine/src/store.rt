@@ -4,7 +4,7 @@ ghost use Rattle.std.specs.Prelude.{◌≡◌, ℤ, pos, ◌<◌, IsTrue, ◌↔
 ghost use Rattle.std.specs.Bool.{OnFalse};
 ghost use Rattle.janus_meaning.specs.Fault.{Fine, Bad, Broken, and_then};
 ghost use Rattle.janus_meaning.specs.Store.{Bare, Slot, Num, look, number};
-ghost use Rattle.janus_meaning.specs.Formed.{shape_of};
+ghost use Rattle.janus_meaning.specs.Store.{cleared};
 ghost use Rattle.janus_meaning.specs.World.{size_of};
 ghost use Rattle.janus_meaning.specs.Word.{changed as changed_of};
 ghost use Rattle.janus_syntax.specs.View.{update_of};
@@ -128,7 +128,7 @@ impl Store {
     pub fn update(&mut self, name: &str, update: Update, operand: i32)
         requires { IsNumber (look name.now self.old) }
         ensures written { (n : ℤ) → look name.now self.old ≡ Fine (Num n) → write name.now (Num (changed_of (update_of update) n operand)) self.old ≡ Fine self.new }
-        ensures shape { shape_of self.new ≡ shape_of self.old }
+        ensures shape { cleared self.new ≡ cleared self.old }
     {
         match self.places.get(name) {
             Some(place) => {

@@ -3,14 +3,15 @@ use Rattle.std.proofs.Common.{◌≡◌, ℕ, zero, suc, List, [], ◌∷◌, re
 use Rattle.std.specs.Prelude.{ℤ, pos, negsuc}
 use Rattle.std.specs.Int.{int_wrap}
 use Rattle.janus_meaning.specs.Fault.{Fault, Fine, Bad, FiAssertion, EntryAssertion, LoopAssertion, DelocalMismatch, PopNotZero, PopEmpty, TopEmpty, DivisionByZero, IndexRange, StackFull, TooDeep, TooManyStacks}
-use Rattle.janus_meaning.specs.Word.{Plus, Minus, Flip, Add', Sub', Mul', Div', Rem', And', Or', Xor', Less', More', AtMost', AtLeast', Same', Differ', wrap, changed}
-use Rattle.janus_meaning.specs.Syntax.{Name, Exp, Number, Var, At, Empty, Top, Negate, Binary, And, Or, Stm, Blk, Nil, Cons, Skip, Set, SetAt, Push, Pop, If, From, LocalInt, LocalStack, Call, Uncall, Proc, ANumber, AnArray, AStack, inverse_block}
+use Rattle.janus_meaning.specs.Word.{Plus, Minus, Flip, Add', Sub', Div', Rem', And', Or', More', AtMost', AtLeast', Same', Differ', wrap, changed}
+use Rattle.janus_meaning.specs.Syntax.{Name, Exp, Number, Var, Top, Negate, Binary, And, Or, Stm, Blk, Nil, Cons, Skip, Set, SetAt, Push, Pop, If, From, LocalInt, LocalStack, Call, Uncall, Proc, ANumber, inverse_block}
 use Rattle.janus_meaning.specs.Store.{Store, Bare, Slot, Num, Arr, Stk}
+use Rattle.janus_meaning.specs.Limit.{frame_limit}
 use Rattle.janus_meaning.specs.Value.{value}
-use Rattle.janus_meaning.specs.Moves.{room, stack_room, stack_has_room}
-use Rattle.janus_meaning.specs.Meaning.{Block, Exec, Part, Stop}
+use Rattle.janus_meaning.specs.Moves.{stack_room, stack_has_room}
+use Rattle.janus_meaning.specs.Meaning.{Block, Exec, Stop}
 use Rattle.janus_meaning.specs.Machine.{BeforeBlock, AfterBlock, To, Halt, Place, step, steps, shown}
-use Rattle.janus_meaning.specs.World.{World, Cell, DeclareInt, DeclareArray, DeclareStack, stacks_in, entered, left, empty_world}
+use Rattle.janus_meaning.specs.World.{World, Cell, DeclareInt, DeclareArray, stacks_in, entered, taken_back, empty_world}
 use Rattle.janus_meaning.specs.Cells.{world_after, store_after}
 use Rattle.janus_meaning.proofs.Interface.{machine_meaning}
 
@@ -18,40 +19,40 @@ use Rattle.janus_meaning.proofs.Interface.{machine_meaning}
 
 -- n steps lead from the block's beginning to its end
 abbrev pub Ends : List Proc → Blk → Store → ℕ → Store → Type 0
-Ends ps b s n r = steps ps 0 (stacks_in s) n (BeforeBlock b []) s ≡ To (AfterBlock b []) r
+Ends ps b s n r = steps ps frame_limit (stacks_in s) n (BeforeBlock b []) s ≡ To (AfterBlock b []) r
 
 -- after j steps the next one meets the fault
 abbrev pub Stops : List Proc → Blk → Store → ℕ → Fault → Type 0
-Stops ps b s j f = (p : Place) × (r : Store) × (steps ps 0 (stacks_in s) j (BeforeBlock b []) s ≡ To p r) × (step ps 0 (stacks_in s) p r ≡ Halt f)
+Stops ps b s j f = (p : Place) × (r : Store) × (steps ps frame_limit (stacks_in s) j (BeforeBlock b []) s ≡ To p r) × (step ps frame_limit (stacks_in s) p r ≡ Halt f)
 
 -- after j steps the store shown is r
 abbrev pub Shows : List Proc → Blk → Store → ℕ → Store → Type 0
-Shows ps b s j m = (p : Place) × (r : Store) × (steps ps 0 (stacks_in s) j (BeforeBlock b []) s ≡ To p r) × (shown ps p r ≡ m)
+Shows ps b s j m = (p : Place) × (r : Store) × (steps ps frame_limit (stacks_in s) j (BeforeBlock b []) s ≡ To p r) × (shown ps p r ≡ m)
 
-pub ends_exec : (ps : List Proc) (b : Blk) (s r : Store) (n : ℕ) → Ends ps b s n r → Exec ps 0 (stacks_in s) (Block b) s n r
-ends_exec ps b s r n e = ((machine_meaning ps 0 (stacks_in s) b s).ended n r).0 e
+pub ends_exec : (ps : List Proc) (b : Blk) (s r : Store) (n : ℕ) → Ends ps b s n r → Exec ps frame_limit (stacks_in s) (Block b) s n r
+ends_exec ps b s r n e = ((machine_meaning ps frame_limit (stacks_in s) b s).ended n r).0 e
 
-pub stops_stop : (ps : List Proc) (b : Blk) (s : Store) (j : ℕ) (f : Fault) → Stops ps b s j f → Stop ps 0 (stacks_in s) (Block b) s j f
-stops_stop ps b s j f h = (machine_meaning ps 0 (stacks_in s) b s).stopped j f h.0 h.1 h.2 h.3
+pub stops_stop : (ps : List Proc) (b : Blk) (s : Store) (j : ℕ) (f : Fault) → Stops ps b s j f → Stop ps frame_limit (stacks_in s) (Block b) s j f
+stops_stop ps b s j f h = (machine_meaning ps frame_limit (stacks_in s) b s).stopped j f h.0 h.1 h.2 h.3
 
 -- ---- abbreviations of the programs
 
-abbrev x : Name
+abbrev pub x : Name
 x = 120 ∷ []
 
-abbrev y : Name
+abbrev pub y : Name
 y = 121 ∷ []
 
-abbrev n : Name
+abbrev pub n : Name
 n = 110 ∷ []
 
-abbrev f : Name
+abbrev pub f : Name
 f = 102 ∷ []
 
-abbrev num : ℕ → Exp
+abbrev pub num : ℕ → Exp
 num k = Number (pos k)
 
-abbrev one : Stm → Blk
+abbrev pub one : Stm → Blk
 one a = Cons a Nil
 
 abbrev two : Stm → Stm → Blk
@@ -64,36 +65,36 @@ x_is v = Slot x (Num v) Bare
 
 -- x += 5
 adds : Ends [] (one (Set x Plus (num 5))) (x_is (pos 0)) 3 (x_is (pos 5))
-unfolding value wrap changed room int_wrap
+unfolding value wrap changed int_wrap
 adds = refl
 
 -- and taken back
 adds_back : Ends [] (inverse_block (one (Set x Plus (num 5)))) (x_is (pos 5)) 3 (x_is (pos 0))
-unfolding value wrap changed room int_wrap
+unfolding value wrap changed int_wrap
 adds_back = refl
 
 -- x += 2147483647 x += 1 wraps round, and midway it has not
 wraps : Ends [] (two (Set x Plus (num 2147483647)) (Set x Plus (num 1))) (x_is (pos 0)) 5 (x_is (negsuc 2147483647))
-unfolding value wrap changed room int_wrap
+unfolding value wrap changed int_wrap
 wraps = refl
 
 wraps_midway : Shows [] (inverse_block (two (Set x Plus (num 2147483647)) (Set x Plus (num 1)))) (x_is (negsuc 2147483647)) 2 (x_is (pos 2147483647))
-unfolding value wrap changed room int_wrap
+unfolding value wrap changed int_wrap
 wraps_midway = (_, _, refl, refl)
 
 -- x ^= 6 flips bits
 flips : Ends [] (one (Set x Flip (num 6))) (x_is (pos 5)) 3 (x_is (pos 3))
-unfolding value wrap changed room int_wrap
+unfolding value wrap changed int_wrap
 flips = refl
 
 -- x += (-2147483647 - 1) / -1 is the least number again
 least_divided : Ends [] (one (Set x Plus (Binary Div' (Binary Sub' (Negate (num 2147483647)) (num 1)) (Negate (num 1))))) (x_is (pos 0)) 3 (x_is (negsuc 2147483647))
-unfolding value wrap changed room int_wrap
+unfolding value wrap changed int_wrap
 least_divided = refl
 
 -- and its remainder is 0
 least_remainder : Ends [] (one (Set x Plus (Binary Rem' (Binary Sub' (Negate (num 2147483647)) (num 1)) (Negate (num 1))))) (x_is (pos 7)) 3 (x_is (pos 7))
-unfolding value wrap changed room int_wrap
+unfolding value wrap changed int_wrap
 least_remainder = refl
 
 -- -7 / 2 and -7 % 2 go towards zero
@@ -118,7 +119,7 @@ leaves_out = (refl, refl)
 
 -- x += 1 / 0
 zero_divisor : Stops [] (one (Set x Plus (Binary Div' (num 1) (num 0)))) (x_is (pos 0)) 1 DivisionByZero
-unfolding value wrap changed room int_wrap
+unfolding value wrap changed int_wrap
 zero_divisor = (_, _, refl, refl)
 
 -- of two faults in an expression the left one is met: top of an empty stack before a zero divisor
@@ -133,40 +134,40 @@ a_is v w = Slot y (Arr (v ∷ w ∷ [])) (x_is (pos 0))
 
 -- y[1] += 7
 element_adds : Ends [] (one (SetAt y (num 1) Plus (num 7))) (a_is (pos 0) (pos 0)) 3 (a_is (pos 0) (pos 7))
-unfolding value wrap changed room int_wrap
+unfolding value wrap changed int_wrap
 element_adds = refl
 
 -- y[2] += 1 / 0: the range comes before the right side
 past_the_end : Stops [] (one (SetAt y (num 2) Plus (Binary Div' (num 1) (num 0)))) (a_is (pos 0) (pos 0)) 1 IndexRange
-unfolding value wrap changed room int_wrap
+unfolding value wrap changed int_wrap
 past_the_end = (_, _, refl, refl)
 
 before_the_start : Stops [] (one (SetAt y (Negate (num 1)) Plus (num 7))) (a_is (pos 0) (pos 0)) 1 IndexRange
-unfolding value wrap changed room int_wrap
+unfolding value wrap changed int_wrap
 before_the_start = (_, _, refl, refl)
 
 -- ---- if
 
 -- x += 3 if x = 3 then x += 1 else skip fi x = 3: the test after fi is false
 fi_fails : Stops [] (two (Set x Plus (num 3)) (If (Binary Same' (Var x) (num 3)) (one (Set x Plus (num 1))) (one Skip) (Binary Same' (Var x) (num 3)))) (x_is (pos 0)) 7 FiAssertion
-unfolding value wrap changed room int_wrap
+unfolding value wrap changed int_wrap
 fi_fails = (_, _, refl, refl)
 
 -- with fi x = 4 it ends
 fi_holds : Ends [] (two (Set x Plus (num 3)) (If (Binary Same' (Var x) (num 3)) (one (Set x Plus (num 1))) (one Skip) (Binary Same' (Var x) (num 4)))) (x_is (pos 0)) 9 (x_is (pos 4))
-unfolding value wrap changed room int_wrap
+unfolding value wrap changed int_wrap
 fi_holds = refl
 
 -- ---- loops
 
 -- from x = 0 do skip until x = 1: the second turn's test is true again
 loop_fails : Stops [] (one (From (Binary Same' (Var x) (num 0)) (one Skip) (one Skip) (Binary Same' (Var x) (num 1)))) (x_is (pos 0)) 9 LoopAssertion
-unfolding value wrap changed room int_wrap
+unfolding value wrap changed int_wrap
 loop_fails = (_, _, refl, refl)
 
 -- from x = 1 ..: the first test is false
 entry_fails : Stops [] (one (From (Binary Same' (Var x) (num 1)) (one Skip) (one Skip) (Binary Same' (Var x) (num 1)))) (x_is (pos 0)) 1 EntryAssertion
-unfolding value wrap changed room int_wrap
+unfolding value wrap changed int_wrap
 entry_fails = (_, _, refl, refl)
 
 -- from x = 0 do x += 1 loop skip until x = 3, three turns
@@ -174,16 +175,16 @@ abbrev counts : Blk
 counts = one (From (Binary Same' (Var x) (num 0)) (one (Set x Plus (num 1))) (one Skip) (Binary Same' (Var x) (num 3)))
 
 loop_ends : Ends [] counts (x_is (pos 0)) 23 (x_is (pos 3))
-unfolding value wrap changed room int_wrap
+unfolding value wrap changed int_wrap
 loop_ends = refl
 
 loop_back : Ends [] (inverse_block counts) (x_is (pos 3)) 23 (x_is (pos 0))
-unfolding value wrap changed room int_wrap
+unfolding value wrap changed int_wrap
 loop_back = refl
 
 -- from x = 0 loop x += 1 until 0 has no end: 8 steps a turn
 endless : Shows [] (one (From (Binary Same' (Var x) (num 0)) (one Skip) (one (Set x Plus (num 1))) (num 0))) (x_is (pos 0)) 512 (x_is (pos 64))
-unfolding value wrap changed room int_wrap
+unfolding value wrap changed int_wrap
 endless = (_, _, refl, refl)
 
 -- ---- stacks and locals
@@ -192,19 +193,19 @@ abbrev xs_is : ℤ → List ℤ → Store
 xs_is v l = Slot y (Stk l) (x_is v)
 
 pushes : Ends [] (one (Push x y)) (xs_is (pos 4) (pos 7 ∷ [])) 3 (xs_is (pos 0) (pos 4 ∷ pos 7 ∷ []))
-unfolding value wrap changed room int_wrap stack_has_room
+unfolding value wrap changed int_wrap stack_has_room
 pushes = refl
 
 pops : Ends [] (one (Pop x y)) (xs_is (pos 0) (pos 4 ∷ pos 7 ∷ [])) 3 (xs_is (pos 4) (pos 7 ∷ []))
-unfolding value wrap changed room int_wrap stack_has_room
+unfolding value wrap changed int_wrap stack_has_room
 pops = refl
 
 pop_not_zero : Stops [] (one (Pop x y)) (xs_is (pos 1) []) 1 PopNotZero
-unfolding value wrap changed room int_wrap stack_has_room
+unfolding value wrap changed int_wrap stack_has_room
 pop_not_zero = (_, _, refl, refl)
 
 pop_empty : Stops [] (one (Pop x y)) (xs_is (pos 0) []) 1 PopEmpty
-unfolding value wrap changed room int_wrap stack_has_room
+unfolding value wrap changed int_wrap stack_has_room
 pop_empty = (_, _, refl, refl)
 
 abbrev copies : ℕ → List ℤ
@@ -213,11 +214,11 @@ copies (suc k) = pos 0 ∷ copies k
 
 -- 4,096 values are room for no more; with 4,095 there is room for one
 full_stack : Stops [] (one (Push x y)) (xs_is (pos 1) (copies 4096)) 1 StackFull
-unfolding value wrap changed room int_wrap stack_has_room
+unfolding value wrap changed int_wrap stack_has_room
 full_stack = (_, _, refl, refl)
 
 last_place : Ends [] (one (Push x y)) (xs_is (pos 1) (copies 4095)) 3 (xs_is (pos 0) (pos 1 ∷ copies 4095))
-unfolding value wrap changed room int_wrap stack_has_room
+unfolding value wrap changed int_wrap stack_has_room
 last_place = refl
 
 -- local int n = 3 x += n push(n, y) delocal int n = 0
@@ -225,30 +226,30 @@ abbrev with_local : Blk
 with_local = one (LocalInt n (num 3) (two (Set x Plus (Var n)) (Push n y)) (num 0))
 
 local_ends : Ends [] with_local (xs_is (pos 0) []) 9 (xs_is (pos 3) (pos 3 ∷ []))
-unfolding value wrap changed room int_wrap stack_has_room
+unfolding value wrap changed int_wrap stack_has_room
 local_ends = refl
 
 local_back : Ends [] (inverse_block with_local) (xs_is (pos 3) (pos 3 ∷ [])) 9 (xs_is (pos 0) [])
-unfolding value wrap changed room int_wrap stack_has_room
+unfolding value wrap changed int_wrap stack_has_room
 local_back = refl
 
 -- local int n = 3 x += n delocal int n = 2
 delocal_differs : Stops [] (one (LocalInt n (num 3) (one (Set x Plus (Var n))) (num 2))) (x_is (pos 0)) 5 DelocalMismatch
-unfolding value wrap changed room int_wrap
+unfolding value wrap changed int_wrap
 delocal_differs = (_, _, refl, refl)
 
 -- a local stack that is not empty at its end
 stack_left : Stops [] (one (LocalStack n (one (Push x n)))) (x_is (pos 0)) 5 DelocalMismatch
-unfolding value wrap changed room int_wrap stack_has_room stack_room
+unfolding value wrap changed int_wrap stack_has_room stack_room
 stack_left = (_, _, refl, refl)
 
 -- where 64 stacks live there is no room for another, where 63 live there is
-too_many_stacks : (p : Place) × (r : Store) × (steps [] 0 64 1 (BeforeBlock (one (LocalStack n (one Skip))) []) Bare ≡ To p r) × (step [] 0 64 p r ≡ Halt TooManyStacks)
-unfolding value wrap changed room int_wrap stack_room
+too_many_stacks : (p : Place) × (r : Store) × (steps [] frame_limit 64 1 (BeforeBlock (one (LocalStack n (one Skip))) []) Bare ≡ To p r) × (step [] frame_limit 64 p r ≡ Halt TooManyStacks)
+unfolding value wrap changed int_wrap stack_room
 too_many_stacks = (_, _, refl, refl)
 
-last_stack : steps [] 0 63 7 (BeforeBlock (one (LocalStack n (one Skip))) []) Bare ≡ To (AfterBlock (one (LocalStack n (one Skip))) []) Bare
-unfolding value wrap changed room int_wrap stack_room
+last_stack : steps [] frame_limit 63 7 (BeforeBlock (one (LocalStack n (one Skip))) []) Bare ≡ To (AfterBlock (one (LocalStack n (one Skip))) []) Bare
+unfolding value wrap changed int_wrap stack_room
 last_stack = refl
 
 -- from n = 0 do x += n push(x, y) n += 1 until n = 64: 64 values, 12 steps a turn
@@ -260,46 +261,45 @@ down zero = []
 down (suc k) = pos k ∷ down k
 
 loop_fills : Ends [] fills (Slot n (Num (pos 0)) (xs_is (pos 0) [])) 767 (Slot n (Num (pos 64)) (xs_is (pos 0) (down 64)))
-unfolding value wrap changed room int_wrap stack_has_room
+unfolding value wrap changed int_wrap stack_has_room
 loop_fills = refl
 
 -- ---- procedures
 
 -- procedure f(int x) x += 1
-abbrev increments : Proc
-increments = record { name = f; params = x ∷ []; kinds = ANumber ∷ []; body = one (Set x Plus (num 1)) }
+abbrev pub increments : Proc
+increments = record { name = f; params = (x, ANumber) ∷ []; body = one (Set x Plus (num 1)) }
 
 -- procedure f(int x) x += 2
 abbrev increments_by_two : Proc
-increments_by_two = record { name = f; params = x ∷ []; kinds = ANumber ∷ []; body = one (Set x Plus (num 2)) }
+increments_by_two = record { name = f; params = (x, ANumber) ∷ []; body = one (Set x Plus (num 2)) }
 
 abbrev y_is : ℤ → Store
 y_is v = Slot y (Num v) Bare
 
 calls : Ends (increments ∷ []) (one (Call f (y ∷ []))) (y_is (pos 0)) 7 (y_is (pos 1))
-unfolding value wrap changed room int_wrap
+unfolding value wrap changed int_wrap
 calls = refl
 
 -- a newer body is the one in effect, for an uncall too
 uncalls_newer : Ends (increments_by_two ∷ increments ∷ []) (one (Uncall f (y ∷ []))) (y_is (pos 1)) 7 (y_is (negsuc 0))
-unfolding value wrap changed room int_wrap
+unfolding value wrap changed int_wrap
 uncalls_newer = refl
 
 -- procedure f(int x) call f(x): where 16,384 frames are open there is no room for the body's block
 abbrev endless_call : Proc
-endless_call = record { name = f; params = x ∷ []; kinds = ANumber ∷ []; body = one (Call f (x ∷ [])) }
+endless_call = record { name = f; params = (x, ANumber) ∷ []; body = one (Call f (x ∷ [])) }
 
 too_deep : Stops (endless_call ∷ []) (one (Call f (y ∷ []))) (y_is (pos 0)) 16384 TooDeep
-unfolding value wrap changed room int_wrap
+unfolding value wrap changed int_wrap
 too_deep = (_, _, refl, refl)
 
 -- procedure f(int x, int y, int n) if n = 0 then x += 1 y += 1 else n -= 1 call f(x, y, n) x += y x ^= y y ^= x x ^= y
 -- fi x = y: pairs of Fibonacci numbers
-abbrev fib : Proc
+abbrev pub fib : Proc
 fib = record {
   name = f;
-  params = x ∷ y ∷ n ∷ [];
-  kinds = ANumber ∷ ANumber ∷ ANumber ∷ [];
+  params = (x, ANumber) ∷ (y, ANumber) ∷ (n, ANumber) ∷ [];
   body = one (If (Binary Same' (Var n) (num 0))
       (two (Set x Plus (num 1)) (Set y Plus (num 1)))
       (Cons (Set n Minus (num 1)) (Cons (Call f (x ∷ y ∷ n ∷ [])) (Cons (Set x Plus (Var y)) (Cons (Set x Flip (Var y)) (Cons (Set y Flip (Var x)) (Cons (Set x Flip (Var y)) Nil))))))
@@ -310,11 +310,11 @@ abbrev fib_store : ℤ → ℤ → ℤ → Store
 fib_store a b c = Slot n (Num c) (Slot y (Num b) (Slot x (Num a) Bare))
 
 fib_calls : Ends (fib ∷ []) (one (Call f (x ∷ y ∷ n ∷ []))) (fib_store (pos 0) (pos 0) (pos 4)) 85 (fib_store (pos 5) (pos 8) (pos 0))
-unfolding value wrap changed room int_wrap
+unfolding value wrap changed int_wrap
 fib_calls = refl
 
 fib_uncalls : Ends (fib ∷ []) (one (Uncall f (x ∷ y ∷ n ∷ []))) (fib_store (pos 5) (pos 8) (pos 0)) 85 (fib_store (pos 0) (pos 0) (pos 4))
-unfolding value wrap changed room int_wrap
+unfolding value wrap changed int_wrap
 fib_uncalls = refl
 
 -- ---- cells
@@ -329,7 +329,7 @@ enters : entered declaring before ≡ record { store = Slot y (Arr (pos 0 ∷ po
 enters = refl
 
 -- a name is retired only with the value that it began with
-keeps_a_changed_name : left declaring (record { store = Slot y (Arr (pos 0 ∷ pos 1 ∷ [])) (Slot x (Num (pos 0)) Bare); procedures = increments ∷ [] }) ≡ Bad DelocalMismatch
+keeps_a_changed_name : taken_back declaring (record { store = Slot y (Arr (pos 0 ∷ pos 1 ∷ [])) (Slot x (Num (pos 0)) Bare); procedures = increments ∷ [] }) ≡ Bad DelocalMismatch
 keeps_a_changed_name = refl
 
 -- int x with x += 5 behind it, in an empty world: the world after its three steps, and taken back
@@ -337,22 +337,22 @@ abbrev first_cell : Cell
 first_cell = record { declarations = DeclareInt x ∷ []; procedures = []; block = one (Set x Plus (num 5)) }
 
 cell_runs : world_after (entered first_cell empty_world) first_cell.block 3 ≡ record { store = x_is (pos 5); procedures = [] }
-unfolding world_after store_after value wrap changed room int_wrap
+unfolding world_after store_after value wrap changed int_wrap
 cell_runs = refl
 
 cell_goes_back : world_after (record { store = x_is (pos 5); procedures = [] }) (inverse_block first_cell.block) 3 ≡ entered first_cell empty_world
-unfolding world_after store_after value wrap changed room int_wrap
+unfolding world_after store_after value wrap changed int_wrap
 cell_goes_back = refl
 
-cell_is_left : left first_cell (entered first_cell empty_world) ≡ Fine empty_world
-cell_is_left = refl
+cell_is_taken_back : taken_back first_cell (entered first_cell empty_world) ≡ Fine empty_world
+cell_is_taken_back = refl
 
 -- midway inside a local the world shows the declared names alone
 no_local_shown : world_after (record { store = x_is (pos 0); procedures = [] }) (one (LocalInt n (num 3) (one (Set x Plus (Var n))) (num 3))) 4 ≡ record { store = x_is (pos 3); procedures = [] }
-unfolding world_after store_after value wrap changed room int_wrap
+unfolding world_after store_after value wrap changed int_wrap
 no_local_shown = refl
 
 -- midway inside a call the argument shows the parameter's value
 call_shown : world_after (record { store = y_is (pos 0); procedures = increments ∷ [] }) (one (Call f (y ∷ []))) 4 ≡ record { store = y_is (pos 1); procedures = increments ∷ [] }
-unfolding world_after store_after value wrap changed room int_wrap
+unfolding world_after store_after value wrap changed int_wrap
 call_shown = refl

@@ -1,18 +1,19 @@
 -- What a block shows on the way is good.
-use Rattle.std.proofs.Common.{◌≡◌, ℕ, suc, List, [], ◌∷◌, refl, sym, subst, ⊎_elim}
+use Rattle.std.proofs.Common.{◌≡◌, ℕ, suc, List, [], ◌∷◌, inl, refl, subst}
 use Rattle.janus_meaning.specs.Fault.{Res, Fine, Bad, or_else, and_then}
-use Rattle.janus_meaning.specs.Syntax.{Name, Blk, Nil, Cons, Proc, zip}
+use Rattle.janus_meaning.specs.Syntax.{Name, Blk, Nil, Cons, Proc, names_of, rejoin}
 use Rattle.janus_meaning.specs.Store.{Val, Store, look, find, values, fill, IsGood}
 use Rattle.janus_meaning.specs.Moves.{Hole, InThen, InElse, InDo, InLoop, InInt, InStack, InCall, InUncall, rebuild, seen, seen_call}
-use Rattle.janus_meaning.specs.Meaning.{Done, Going, Block, Part}
-use Rattle.janus_meaning.specs.Machine.{Frame, Framed, Place, BeforeBlock, AfterBlock, BeforeOne, AfterOne, steps, To, seen_through, shown}
+use Rattle.janus_meaning.specs.Meaning.{Block, One, Part}
+use Rattle.janus_meaning.specs.Machine.{Frame, Framed, Place, BeforeBlock, AfterBlock, BeforeOne, AfterOne, seen_through, shown}
 use Rattle.janus_meaning.specs.WorldLaw.{KeepsGood}
 use Rattle.janus_meaning.proofs.Results.{with_parts, by_fine}
 use Rattle.janus_meaning.proofs.Stores.{AllGood, fill_good}
 use Rattle.janus_meaning.proofs.Values.{look_good}
 use Rattle.janus_meaning.proofs.Local.{IsGoodHole}
 use Rattle.janus_meaning.proofs.Machines.{IsOpen, IsAt}
-use Rattle.janus_meaning.proofs.Laws.{Stands, stands, back_at}
+use Rattle.janus_meaning.proofs.Laws.{stands, back_at}
+use Rattle.janus_meaning.proofs.Pieces.{part_in_block}
 
 values_good : (ps : List Name) (s : Store) (vs : List Val) → values ps s ≡ Fine vs → IsGood s → AllGood vs
 values_good [] s vs h g = by_fine AllGood _ vs h tt
@@ -25,8 +26,8 @@ or_else_good (Bad f) s h g = g
 
 seen_call_good : (ps : List Proc) (f : Name) (xs : List Name) (c s : Store) → IsGood c → IsGood s → IsGood (seen_call ps f xs c s)
 seen_call_good ps f xs c s gc g =
-    or_else_good (and_then (find f ps) (λ p. and_then (values p.params s) (λ vs. fill xs vs c))) c
-    (λ t h. with_parts (find f ps) _ t h (λ p hp h1. with_parts (values p.params s) _ t h1 (λ vs hvs h2. fill_good xs vs c t h2 (values_good p.params s vs hvs g) gc)))
+    or_else_good (and_then (find f ps) (λ p. and_then (values (names_of p.params) s) (λ vs. fill xs vs c))) c
+    (λ t h. with_parts (find f ps) _ t h (λ p hp h1. with_parts (values (names_of p.params) s) _ t h1 (λ vs hvs h2. fill_good xs vs c t h2 (values_good (names_of p.params) s vs hvs g) gc)))
     gc
 
 seen_good : (ps : List Proc) (h : Hole) (s : Store) → IsGoodHole h → IsGood s → IsGood (seen ps h s)
@@ -42,16 +43,20 @@ seen_good ps (InUncall f xs c) s h g = seen_call_good ps f xs c s h g
 through_good : (ps : List Proc) (d k : ℕ) (b : Blk) (fs : List Frame) (s : Store) → IsOpen ps d k b fs → IsGood s → IsGood (seen_through ps fs s)
 through_good ps d k b [] s o g = g
 through_good ps d k b (Framed h before after ∷ fs) s o g =
-    through_good ps d k (zip before (Cons (rebuild h b) after)) fs (seen ps h s) o.2 (seen_good ps h s o.0.good_hole g)
+    through_good ps d k (rejoin before (Cons (rebuild h b) after)) fs (seen ps h s) o.2 (seen_good ps h s o.0.good_hole g)
 
 shown_good : (ps : List Proc) (d k : ℕ) (p : Place) (s : Store) → IsAt ps d k p → IsGood s → IsGood (shown ps p s)
 shown_good ps d k (BeforeBlock b fs) s o g = through_good ps d k b fs s o g
 shown_good ps d k (AfterBlock b fs) s o g = through_good ps d k b fs s o.1 g
-shown_good ps d k (BeforeOne c before after fs) s o g = through_good ps d k (zip before (Cons c after)) fs s o.1 g
-shown_good ps d k (AfterOne c before after fs) s o g = through_good ps d k (zip before (Cons c after)) fs s o.1 g
+shown_good ps d k (BeforeOne c before after fs) s o g = through_good ps d k (rejoin before (Cons c after)) fs s o.1 g
+shown_good ps d k (AfterOne c before after fs) s o g = through_good ps d k (rejoin before (Cons c after)) fs s o.1 g
 
-pub keeps_good : KeepsGood
-keeps_good ps d k n b s m g w =
+block_good : (ps : List Proc) (d k n : ℕ) (b : Blk) (s m : Store) → IsGood s → Part ps d k (Block b) s n m → IsGood m
+block_good ps d k n b s m g w =
     let q = stands ps d k b s m n w in
     let sound = (back_at ps d k b s q.1 q.0 n g q.2).0 in
     subst IsGood q.3 (shown_good ps d k q.0 q.1 sound.at sound.good)
+
+pub keeps_good : KeepsGood
+keeps_good ps d k n (Block b) s m g w = block_good ps d k n b s m g w
+keeps_good ps d k n (One c) s m g w = block_good ps (suc d) k (suc n) (Cons c Nil) s m g (inl (part_in_block ps d k n c s m w))

@@ -1,64 +1,23 @@
 -- The laws of worlds, from those of blocks.
 use Rattle.std.proofs.Common.{◌≡◌, ℕ, zero, suc, ◌+◌, ◌-◌, ◌<◌, ◌≤◌, List, [], ◌∷◌, ◌⊎◌, inl, inr, refl, ap, ◌∙◌, sym, subst, arith, ⊎_elim}
 use Rattle.std.proofs.lemmas.Bool.{cases_lt}
-use Rattle.std.specs.Prelude.{ℤ, pos}
-use Rattle.std.specs.Ordering.{int_eq}
-use Rattle.janus_meaning.specs.Fault.{Fault, Res, Fine, Bad, StepLimit, Broken, DelocalMismatch, and_then, guard}
-use Rattle.janus_meaning.specs.Syntax.{Name, Blk, Proc, Kind, ANumber, AnArray, AStack, Hidden, Absent, inverse_block}
-use Rattle.janus_meaning.specs.Store.{Val, Num, Arr, Stk, Lent, Store, Bare, Slot, same_name, AllFit, IsGood}
-use Rattle.janus_meaning.specs.Formed.{Shape, Nobody, Known, kind_of, shape_of}
-use Rattle.janus_meaning.specs.Meaning.{Run, Done, Going, Stopped, Block, Exec, Part, Stop, block_start}
-use Rattle.janus_meaning.specs.Machine.{BeforeBlock, AfterBlock, Next, To, steps, shown}
-use Rattle.janus_meaning.specs.World.{World, Cell, Declaration, DeclareInt, DeclareArray, DeclareStack, declared_name, zeros, declare_one, declare, define, entered, must_be, must_be_zeros, must_be_first, retire_one, retire, without_newest, undefine, left, stacks_with, stacks_in, size_of, dropped, oldest}
-use Rattle.janus_meaning.specs.Limit.{step_limit}
-use Rattle.janus_meaning.specs.Cells.{WorldExec, WorldPart, WorldStop, IsUnended, CellRun, store_at, store_after, world_after, IsGoodWorld}
-use Rattle.janus_meaning.specs.WorldLaw.{WorldsAreFunctions, WorldsBeginAndEnd, WorldsGoBack, WorldsReverse, CellIsTakenBack, WorldsAreDetermined, WorldsStartAndEnd, EnteredIsGood, WorldHasEnded, WorldHasStopped, WorldIsUnderWay, WorldExactlyOne, WorldTrichotomy, IsFormedCell, FormedCellIsSafe}
+use Rattle.std.specs.Prelude.{pos}
+use Rattle.janus_meaning.specs.Fault.{Fault, Fine, StepLimit, Broken, DelocalMismatch, and_then, guard}
+use Rattle.janus_meaning.specs.Syntax.{Blk, Proc, inverse_block}
+use Rattle.janus_meaning.specs.Store.{Num, Arr, Store, zeros, AllFit, IsGood, cleared}
+use Rattle.janus_meaning.specs.Meaning.{Block, Exec, Part, Stop, block_start}
+use Rattle.janus_meaning.specs.World.{World, Cell, Declaration, DeclareInt, DeclareArray, DeclareStack, declare_one, declare, define, entered, must_be_zeros, must_be_first, retire_one, retire, without_newest, undefine, taken_back, stacks_in, size_of, dropped, oldest}
+use Rattle.janus_meaning.specs.Limit.{frame_limit, step_limit}
+use Rattle.janus_meaning.specs.Cells.{WorldExec, WorldPart, WorldStop, IsUnended, store_at, store_after, world_after, IsGoodWorld}
+use Rattle.janus_meaning.specs.WorldLaw.{WorldsAreFunctions, WorldsBeginAndEnd, WorldsReverse, CellIsTakenBack, WorldsAreDetermined, WorldsStartAndEnd, EnteredIsGood, WorldHasEnded, WorldHasStopped, WorldIsUnderWay, WorldExactlyOne, WorldTrichotomy}
 use Rattle.janus_meaning.specs.Law.{HasEnded, HasStopped, IsUnderWay}
-use Rattle.janus_meaning.specs.Formed.{IsReal}
-use Rattle.janus_meaning.proofs.Safe.{well_formed_is_safe}
 use Rattle.janus_meaning.proofs.Changes.{int_eq_self, zero_fits}
 use Rattle.janus_meaning.proofs.Stores.{same_name_self}
-use Rattle.janus_meaning.proofs.Laws.{run_leads, stands, reversal_holds}
-use Rattle.janus_meaning.proofs.Exactly.{AtEnd, AtWork, AtHalt, at_end, at_work, at_halt, kind, determinism, trichotomy}
+use Rattle.janus_meaning.proofs.Laws.{stands, block_reversal}
+use Rattle.janus_meaning.proofs.Exactly.{AtEnd, AtWork, AtHalt, at_end, at_work, at_halt, standing, function, exactly}
+use Rattle.janus_meaning.proofs.Cleared.{same_stacks, same_size}
 use Rattle.janus_meaning.proofs.Shapes.{keeps_shape}
 use Rattle.janus_meaning.proofs.Goodness.{keeps_good}
-
--- ---- what a shape determines
-
-abbrev stacks_of : Kind → ℕ → ℕ
-stacks_of ANumber k = k
-stacks_of AnArray k = k
-stacks_of AStack k = suc k
-stacks_of Hidden k = k
-stacks_of Absent k = k
-
-abbrev shape_stacks : Shape → ℕ
-shape_stacks Nobody = zero
-shape_stacks (Known x c g) = stacks_of c (shape_stacks g)
-
-abbrev shape_size : Shape → ℕ
-shape_size Nobody = zero
-shape_size (Known x c g) = suc (shape_size g)
-
-kind_stacks : (v : Val) (k : ℕ) → stacks_of (kind_of v) k ≡ stacks_with v k
-kind_stacks (Num n) k = refl
-kind_stacks (Arr l) k = refl
-kind_stacks (Stk l) k = refl
-kind_stacks Lent k = refl
-
-stacks_is : (s : Store) → shape_stacks (shape_of s) ≡ stacks_in s
-stacks_is Bare = refl
-stacks_is (Slot x v s) = kind_stacks v (shape_stacks (shape_of s)) ∙ ap (stacks_with v) (stacks_is s)
-
-size_is : (s : Store) → shape_size (shape_of s) ≡ size_of s
-size_is Bare = refl
-size_is (Slot x v s) = ap suc (size_is s)
-
-pub same_stacks : (r s : Store) → shape_of r ≡ shape_of s → stacks_in r ≡ stacks_in s
-same_stacks r s e = sym (stacks_is r) ∙ ap shape_stacks e ∙ stacks_is s
-
-pub same_size : (r s : Store) → shape_of r ≡ shape_of s → size_of r ≡ size_of s
-same_size r s e = sym (size_is r) ∙ ap shape_size e ∙ size_is s
 
 -- a store with as many names is the oldest part of itself
 pub oldest_whole : (n : ℕ) (s : Store) → size_of s ≡ n → oldest n s ≡ s
@@ -70,13 +29,13 @@ module _ (w : World) (b : Blk) where
   world_is : (v : World) (s : Store) → v.store ≡ s → v.procedures ≡ w.procedures → v ≡ record w { store = s }
   world_is v s e f = ap (λ s. record { store = s; procedures = v.procedures }) e ∙ ap (λ q. record { store = s; procedures = q }) f
 
-  exec_shape : (n : ℕ) (v : World) → WorldExec w b n v → shape_of v.store ≡ shape_of w.store
-  exec_shape n v e = keeps_shape w.procedures 0 (stacks_in w.store) n b w.store v.store e.ran
+  pub exec_shape : (n : ℕ) (v : World) → WorldExec w b n v → cleared v.store ≡ cleared w.store
+  exec_shape n v e = keeps_shape w.procedures frame_limit (stacks_in w.store) n (Block b) w.store v.store e.ran
 
   part_is : (j : ℕ) (v : World) → WorldPart w b j v → v ≡ world_after w b j
   unfolding world_after store_after
   part_is j v p =
-      let q = stands w.procedures 0 (stacks_in w.store) b w.store p.store j p.part in
+      let q = stands w.procedures frame_limit (stacks_in w.store) b w.store p.store j p.part in
       p.shown ∙ ap (λ s. record w { store = oldest (size_of w.store) s }) (sym q.3 ∙ ap (λ x. store_at w.procedures x w.store) (sym q.2))
 
   exec_last : (n : ℕ) (v : World) → WorldExec w b n v → WorldPart w b n v
@@ -92,27 +51,27 @@ module _ (w : World) (b : Blk) where
   no_stop_then_end n i f v h e =
       ⊎_elim
       (λ h.
-      let d = at_halt w.procedures 0 (stacks_in w.store) b w.store n (suc (n + i)) f (omega arith) h.1 in
-      let a = at_end w.procedures 0 (stacks_in w.store) b w.store i (suc (n + i)) v.store (omega arith) e.ran in
-      let bad : AtHalt ≡ AtEnd = sym (ap kind d) ∙ a in cc)
+      let d = at_halt w.procedures frame_limit (stacks_in w.store) b w.store n (suc (n + i)) f (omega arith) h.1 in
+      let a = at_end w.procedures frame_limit (stacks_in w.store) b w.store i (suc (n + i)) v.store (omega arith) e.ran in
+      let bad : AtHalt ≡ AtEnd = sym (ap standing d) ∙ a in cc)
       (λ h.
       let le : i ≤ n = let z = h.0 in let y = e.limit in omega arith in
-      let c = at_work w.procedures 0 (stacks_in w.store) b w.store n h.2.0 h.2.1 in
-      let a = at_end w.procedures 0 (stacks_in w.store) b w.store i n v.store le e.ran in
+      let c = at_work w.procedures frame_limit (stacks_in w.store) b w.store n h.2.0 h.2.1 in
+      let a = at_end w.procedures frame_limit (stacks_in w.store) b w.store i n v.store le e.ran in
       let bad : AtWork ≡ AtEnd = sym c ∙ a in cc)
       h
 
-  stop_then_limit : (n i : ℕ) (f g : Fault) → (n < step_limit) × Stop w.procedures 0 (stacks_in w.store) (Block b) w.store n f → (i ≡ step_limit) × (g ≡ StepLimit) × IsUnended w b i → ⊥
+  stop_then_limit : (n i : ℕ) (f g : Fault) → (n < step_limit) × Stop w.procedures frame_limit (stacks_in w.store) (Block b) w.store n f → (i ≡ step_limit) × (g ≡ StepLimit) × IsUnended w b i → ⊥
   stop_then_limit n i f g h u =
       let lt : n < i = let z = u.0 in let y = h.0 in omega arith in
-      let d = at_halt w.procedures 0 (stacks_in w.store) b w.store n i f lt h.1 in
-      let c = at_work w.procedures 0 (stacks_in w.store) b w.store i u.2.0 u.2.1 in
-      let bad : AtHalt ≡ AtWork = sym (ap kind d) ∙ c in cc
+      let d = at_halt w.procedures frame_limit (stacks_in w.store) b w.store n i f lt h.1 in
+      let c = at_work w.procedures frame_limit (stacks_in w.store) b w.store i u.2.0 u.2.1 in
+      let bad : AtHalt ≡ AtWork = sym (ap standing d) ∙ c in cc
 
   one_stop_only : (n i : ℕ) (f g : Fault) → WorldStop w b n f → WorldStop w b i g → (n ≡ i) × (f ≡ g)
   one_stop_only n i f g h u =
       ⊎_elim
-      (λ h. ⊎_elim (λ u. (determinism w.procedures 0 (stacks_in w.store) b w.store).stop n i f g h.1 u.1) (λ u. absurd (stop_then_limit n i f g h u)) u)
+      (λ h. ⊎_elim (λ u. (function w.procedures frame_limit (stacks_in w.store) b w.store).stop n i f g h.1 u.1) (λ u. absurd (stop_then_limit n i f g h u)) u)
       (λ h. ⊎_elim (λ u. absurd (stop_then_limit i n g f u h)) (λ u. (h.0 ∙ sym u.0, h.1 ∙ sym u.1)) u)
       h
 
@@ -120,7 +79,7 @@ module _ (w : World) (b : Blk) where
   functions = record {
     part = part_is;
     exec = λ n v e. part_is n v (exec_last n v e);
-    one_end = λ n i u v e g. ((determinism w.procedures 0 (stacks_in w.store) b w.store).exec n i u.store v.store e.ran g.ran).0;
+    one_end = λ n i u v e g. ((function w.procedures frame_limit (stacks_in w.store) b w.store).exec n i u.store v.store e.ran g.ran).0;
     one_stop = one_stop_only;
     no_stop_and_end = no_stop_then_end;
   }
@@ -130,10 +89,10 @@ module _ (w : World) (b : Blk) where
       ⊎_elim
       (λ lt. ⊎_elim
       (λ g.
-      let a = at_end w.procedures 0 (stacks_in w.store) b w.store n j v.store (omega arith) e.ran in
-      let c = at_work w.procedures 0 (stacks_in w.store) b w.store j p.store g in
+      let a = at_end w.procedures frame_limit (stacks_in w.store) b w.store n j v.store (omega arith) e.ran in
+      let c = at_work w.procedures frame_limit (stacks_in w.store) b w.store j p.store g in
       let bad : AtEnd ≡ AtWork = sym a ∙ c in cc)
-      (λ g. let z = ((determinism w.procedures 0 (stacks_in w.store) b w.store).exec n j v.store p.store e.ran g).0 in omega arith)
+      (λ g. let z = ((function w.procedures frame_limit (stacks_in w.store) b w.store).exec n j v.store p.store e.ran g).0 in omega arith)
       p.part)
       (λ le. le)
       (cases_lt n j)
@@ -156,20 +115,20 @@ module _ (w : World) (b : Blk) where
 
     turned_exec : WorldExec v (inverse_block b) n w
     turned_exec =
-        let both = reversal_holds w.procedures 0 (stacks_in w.store) n 0 b w.store v.store w.store g e.ran (inl block_start) in
+        let both = block_reversal w.procedures frame_limit (stacks_in w.store) n 0 b w.store v.store w.store g e.ran (inl block_start) in
         record {
           limit = e.limit;
-          ran = subst (λ k. Exec v.procedures 0 k (Block (inverse_block b)) v.store n w.store) (sym same) (subst (λ ps. Exec ps 0 (stacks_in w.store) (Block (inverse_block b)) v.store n w.store) (sym e.procedures) both.0);
+          ran = subst (λ k. Exec v.procedures frame_limit k (Block (inverse_block b)) v.store n w.store) (sym same) (subst (λ ps. Exec ps frame_limit (stacks_in w.store) (Block (inverse_block b)) v.store n w.store) (sym e.procedures) both.0);
           procedures = sym e.procedures;
         }
 
     turned_part : (j : ℕ) (u : World) → WorldPart w b j u → WorldPart v (inverse_block b) (n - j) u
     turned_part j u p =
-        let both = reversal_holds w.procedures 0 (stacks_in w.store) n j b w.store v.store p.store g e.ran p.part in
+        let both = block_reversal w.procedures frame_limit (stacks_in w.store) n j b w.store v.store p.store g e.ran p.part in
         record {
           limit = let z = e.limit in omega arith;
           store = p.store;
-          part = subst (λ k. Part v.procedures 0 k (Block (inverse_block b)) v.store (n - j) p.store) (sym same) (subst (λ ps. Part ps 0 (stacks_in w.store) (Block (inverse_block b)) v.store (n - j) p.store) (sym e.procedures) both.1);
+          part = subst (λ k. Part v.procedures frame_limit k (Block (inverse_block b)) v.store (n - j) p.store) (sym same) (subst (λ ps. Part ps frame_limit (stacks_in w.store) (Block (inverse_block b)) v.store (n - j) p.store) (sym e.procedures) both.1);
           shown = p.shown ∙ ap (λ q. record { store = oldest (size_of w.store) p.store; procedures = q }) (sym e.procedures) ∙ ap (λ m. record { store = oldest m p.store; procedures = v.procedures }) (sym (same_size v.store w.store (exec_shape n v e)));
         }
 
@@ -186,7 +145,7 @@ worlds_reverse w b n v g e =
       back = back;
       through = turned_part w b n v g e;
       safe = λ j f h. (functions v (inverse_block b)).no_stop_and_end j n f w h back;
-      good = keeps_good w.procedures 0 (stacks_in w.store) n b w.store v.store g (inr e.ran);
+      good = keeps_good w.procedures frame_limit (stacks_in w.store) n (Block b) w.store v.store g (inr e.ran);
     }
 
 -- ---- declarations and definitions
@@ -211,8 +170,8 @@ undefine_all : (more ps : List Proc) → undefine more (define more ps) ≡ ps
 undefine_all [] ps = refl
 undefine_all (p ∷ more) ps = ap without_newest (undefine_all more (p ∷ ps))
 
-pub entered_left : (c : Cell) (w : World) → left c (entered c w) ≡ Fine w
-entered_left c w =
+pub entered_back : (c : Cell) (w : World) → taken_back c (entered c w) ≡ Fine w
+entered_back c w =
     ap (λ r. and_then r (λ s. Fine (record { store = s; procedures = undefine c.procedures (define c.procedures w.procedures) }))) (retire_all c.declarations w.store)
     ∙ ap (λ q. Fine (record { store = w.store; procedures = q })) (undefine_all c.procedures w.procedures)
 
@@ -233,26 +192,26 @@ pub entered_is_good : EnteredIsGood
 entered_is_good c w g = declare_good c.declarations w.store g
 
 pub cell_is_taken_back : CellIsTakenBack
-cell_is_taken_back c w n v g e = (turned_exec (entered c w) c.block n v (entered_is_good c w g) e, entered_left c w)
+cell_is_taken_back c w n v g e = (turned_exec (entered c w) c.block n v (entered_is_good c w g) e, entered_back c w)
 
 -- ---- exactly one
 
 module _ (w : World) (b : Blk) where
   -- past the limit there is nothing but the limit
-  under_way_at_limit : (m : ℕ) → step_limit < m → IsUnderWay w.procedures 0 (stacks_in w.store) b w.store step_limit → WorldHasStopped w b m
+  under_way_at_limit : (m : ℕ) → step_limit < m → IsUnderWay w.procedures frame_limit (stacks_in w.store) (Block b) w.store step_limit → WorldHasStopped w b m
   under_way_at_limit m lt u =
       ⊎_elim
       (λ g. (step_limit, StepLimit, lt, inr (refl, refl, (u.0, g))))
       (λ e. absurd (u.2 u.0 e))
       u.1
 
-  part_of_run : (m : ℕ) (r : Store) → m ≤ step_limit → Part w.procedures 0 (stacks_in w.store) (Block b) w.store m r → WorldPart w b m (record w { store = oldest (size_of w.store) r })
+  part_of_run : (m : ℕ) (r : Store) → m ≤ step_limit → Part w.procedures frame_limit (stacks_in w.store) (Block b) w.store m r → WorldPart w b m (record w { store = oldest (size_of w.store) r })
   part_of_run m r le p = record { limit = le; store = r; part = p; shown = refl }
 
-  exec_of_run : (n : ℕ) (r : Store) → n ≤ step_limit → Exec w.procedures 0 (stacks_in w.store) (Block b) w.store n r → WorldExec w b n (record w { store = r })
+  exec_of_run : (n : ℕ) (r : Store) → n ≤ step_limit → Exec w.procedures frame_limit (stacks_in w.store) (Block b) w.store n r → WorldExec w b n (record w { store = r })
   exec_of_run n r le e = record { limit = le; ran = e; procedures = refl }
 
-  some_within : (m : ℕ) → m ≤ step_limit → HasEnded w.procedures 0 (stacks_in w.store) b w.store m ⊎ (HasStopped w.procedures 0 (stacks_in w.store) b w.store m ⊎ IsUnderWay w.procedures 0 (stacks_in w.store) b w.store m) → WorldHasEnded w b m ⊎ (WorldHasStopped w b m ⊎ WorldIsUnderWay w b m)
+  some_within : (m : ℕ) → m ≤ step_limit → HasEnded w.procedures frame_limit (stacks_in w.store) (Block b) w.store m ⊎ (HasStopped w.procedures frame_limit (stacks_in w.store) (Block b) w.store m ⊎ IsUnderWay w.procedures frame_limit (stacks_in w.store) (Block b) w.store m) → WorldHasEnded w b m ⊎ (WorldHasStopped w b m ⊎ WorldIsUnderWay w b m)
   some_within m le x =
       ⊎_elim
       (λ e. inl (e.0, record w { store = e.1 }, e.2, exec_of_run e.0 e.1 (let z = e.2 in omega arith) e.3))
@@ -262,7 +221,7 @@ module _ (w : World) (b : Blk) where
       y))
       x
 
-  some_past : (m : ℕ) → step_limit < m → HasEnded w.procedures 0 (stacks_in w.store) b w.store step_limit ⊎ (HasStopped w.procedures 0 (stacks_in w.store) b w.store step_limit ⊎ IsUnderWay w.procedures 0 (stacks_in w.store) b w.store step_limit) → WorldHasEnded w b m ⊎ (WorldHasStopped w b m ⊎ WorldIsUnderWay w b m)
+  some_past : (m : ℕ) → step_limit < m → HasEnded w.procedures frame_limit (stacks_in w.store) (Block b) w.store step_limit ⊎ (HasStopped w.procedures frame_limit (stacks_in w.store) (Block b) w.store step_limit ⊎ IsUnderWay w.procedures frame_limit (stacks_in w.store) (Block b) w.store step_limit) → WorldHasEnded w b m ⊎ (WorldHasStopped w b m ⊎ WorldIsUnderWay w b m)
   some_past m lt x =
       ⊎_elim
       (λ e. inl (e.0, record w { store = e.1 }, (let z = e.2 in omega arith), exec_of_run e.0 e.1 e.2 e.3))
@@ -277,9 +236,9 @@ module _ (w : World) (b : Blk) where
       ⊎_elim
       (λ h. ⊎_elim
       (λ g.
-      let d = at_halt w.procedures 0 (stacks_in w.store) b w.store j m f lt h.1 in
-      let c = at_work w.procedures 0 (stacks_in w.store) b w.store m p.store g in
-      let bad : AtHalt ≡ AtWork = sym (ap kind d) ∙ c in cc)
+      let d = at_halt w.procedures frame_limit (stacks_in w.store) b w.store j m f lt h.1 in
+      let c = at_work w.procedures frame_limit (stacks_in w.store) b w.store m p.store g in
+      let bad : AtHalt ≡ AtWork = sym (ap standing d) ∙ c in cc)
       (λ e. unended (record w { store = p.store }) (exec_of_run m p.store p.limit e))
       p.part)
       (λ h. let z = h.0 in let y = p.limit in absurd (omega arith))
@@ -288,8 +247,8 @@ module _ (w : World) (b : Blk) where
   pub exactly_one : (m : ℕ) → WorldExactlyOne w b m
   exactly_one m = record {
     some = ⊎_elim
-        (λ lt. some_past m lt (trichotomy w.procedures 0 (stacks_in w.store) step_limit b w.store).some)
-        (λ le. some_within m le (trichotomy w.procedures 0 (stacks_in w.store) m b w.store).some)
+        (λ lt. some_past m lt (exactly w.procedures frame_limit (stacks_in w.store) b w.store step_limit).some)
+        (λ le. some_within m le (exactly w.procedures frame_limit (stacks_in w.store) b w.store m).some)
         (cases_lt step_limit m);
     ended_or_stopped = λ e h. (functions w b).no_stop_and_end h.0 e.0 h.1 e.1 h.3 e.3;
     ended_or_under_way = λ e u.
@@ -301,10 +260,3 @@ module _ (w : World) (b : Blk) where
 
 pub world_trichotomy : WorldTrichotomy
 world_trichotomy w b m = exactly_one w b m
-
-pub formed_cell_is_safe : FormedCellIsSafe
-formed_cell_is_safe c w j f formed h =
-    ⊎_elim
-    (λ h. well_formed_is_safe (entered c w).procedures 0 (stacks_in (entered c w).store) j c.block (entered c w).store f formed.procedures formed.block h.1)
-    (λ h. subst IsReal (sym h.1) tt)
-    h

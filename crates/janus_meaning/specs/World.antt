@@ -3,7 +3,7 @@ use Rattle.std.specs.Prelude.{ℕ, zero, suc, ◌-◌, ℤ, pos, List, [], ◌�
 use Rattle.std.specs.Ordering.{int_eq}
 use Rattle.janus_meaning.specs.Fault.{Res, Fine, Bad, Broken, DelocalMismatch, and_then, guard}
 use Rattle.janus_meaning.specs.Syntax.{Name, Blk, Proc}
-use Rattle.janus_meaning.specs.Store.{Val, Num, Arr, Stk, Lent, Store, Bare, Slot, same_name, number, array, stack}
+use Rattle.janus_meaning.specs.Store.{Val, Num, Arr, Stk, Lent, Store, Bare, Slot, same_name, number, array, stack, zeros}
 
 -- The declared names with their kinds and values, the newest first, and the procedures, the newest first: a newer
 -- procedure hides an older one of its name.
@@ -24,10 +24,6 @@ pub record Cell : Type 0 where
   pub declarations : List Declaration
   pub procedures : List Proc
   pub block : Blk
-
-abbrev pub zeros : ℕ → List ℤ
-zeros zero = []
-zeros (suc n) = pos 0 ∷ zeros n
 
 -- numbers and elements start at 0, stacks start empty
 abbrev pub declare_one : Declaration → Store → Store
@@ -96,8 +92,8 @@ undefine [] ps = ps
 undefine (p ∷ more) ps = without_newest (undefine more ps)
 
 -- the world before a cell, from the one in which its block began
-abbrev pub left : Cell → World → Res World
-left c w = and_then (retire c.declarations w.store) (λ s. Fine (record { store = s; procedures = undefine c.procedures w.procedures }))
+abbrev pub taken_back : Cell → World → Res World
+taken_back c w = and_then (retire c.declarations w.store) (λ s. Fine (record { store = s; procedures = undefine c.procedures w.procedures }))
 
 -- ---- what a world's block runs beside
 

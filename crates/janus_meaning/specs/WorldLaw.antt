@@ -2,21 +2,22 @@
 use Rattle.std.specs.Prelude.{◌≡◌, ℕ, ◌-◌, ◌<◌, ◌≤◌, ◌⊎◌, List}
 use Rattle.janus_meaning.specs.Fault.{Fault, Fine}
 use Rattle.janus_meaning.specs.Syntax.{Blk, Proc, inverse_block}
-use Rattle.janus_meaning.specs.Store.{Store, IsGood}
-use Rattle.janus_meaning.specs.Formed.{shape_of, IsBlk, AreProcs, IsReal}
-use Rattle.janus_meaning.specs.Meaning.{Block, Exec, Part}
-use Rattle.janus_meaning.specs.World.{World, Cell, entered, left}
+use Rattle.janus_meaning.specs.Store.{Store, cleared, IsGood}
+use Rattle.janus_meaning.specs.Formed.{IsReal}
+use Rattle.janus_meaning.specs.FormedWorld.{IsFormedWorld, IsFormedCell}
+use Rattle.janus_meaning.specs.Meaning.{Piece, Exec, Part}
+use Rattle.janus_meaning.specs.World.{World, Cell, empty_world, entered, taken_back}
 use Rattle.janus_meaning.specs.Cells.{WorldExec, WorldPart, WorldStop, CellRun, world_after, IsGoodWorld}
 
--- A block leaves the names of its store, their order and their kinds.
+-- A block or a statement leaves all but the values of its store: names, their order and kinds, and lengths of arrays.
 abbrev pub KeepsShape : Type 0
 KeepsShape =
-    (ps : List Proc) (d k n : ℕ) (b : Blk) (s r : Store) → Exec ps d k (Block b) s n r → shape_of r ≡ shape_of s
+    (ps : List Proc) (d k n : ℕ) (t : Piece) (s r : Store) → Exec ps d k t s n r → cleared r ≡ cleared s
 
 -- At its end and on the way, numbers fit and stacks are within their limit.
 abbrev pub KeepsGood : Type 0
 KeepsGood =
-    (ps : List Proc) (d k n : ℕ) (b : Blk) (s m : Store) → IsGood s → Part ps d k (Block b) s n m → IsGood m
+    (ps : List Proc) (d k n : ℕ) (t : Piece) (s m : Store) → IsGood s → Part ps d k t s n m → IsGood m
 
 -- The world after some steps is a function of the world before.
 pub record WorldsAreFunctions (w : World) (b : Blk) : Type 0 where
@@ -50,7 +51,7 @@ EnteredIsGood = (c : Cell) (w : World) → IsGoodWorld w → IsGoodWorld (entere
 -- A cell's run is taken back whole: its inverse, and then its declarations and definitions.
 abbrev pub CellIsTakenBack : Type 0
 CellIsTakenBack =
-    (c : Cell) (w : World) (n : ℕ) (v : World) → IsGoodWorld w → CellRun c w n v → WorldExec v (inverse_block c.block) n (entered c w) × (left c (entered c w) ≡ Fine w)
+    (c : Cell) (w : World) (n : ℕ) (v : World) → IsGoodWorld w → CellRun c w n v → WorldExec v (inverse_block c.block) n (entered c w) × (taken_back c (entered c w) ≡ Fine w)
 
 abbrev pub WorldsAreDetermined : Type 0
 WorldsAreDetermined = (w : World) (b : Blk) → WorldsAreFunctions w b
@@ -81,11 +82,19 @@ WorldTrichotomy = (w : World) (b : Blk) (m : ℕ) → WorldExactlyOne w b m
 
 -- ---- well-formed cells
 
--- a cell is well formed over a world: its block, and every procedure in effect
-pub record IsFormedCell (c : Cell) (w : World) : Type 0 where
-  pub procedures : AreProcs (entered c w).procedures
-  pub block : IsBlk (entered c w).procedures (shape_of (entered c w).store) c.block
-
 -- It stops only at the faults of the table.
 abbrev pub FormedCellIsSafe : Type 0
-FormedCellIsSafe = (c : Cell) (w : World) (j : ℕ) (f : Fault) → IsFormedCell c w → WorldStop (entered c w) c.block j f → IsReal f
+FormedCellIsSafe =
+    (c : Cell) (w : World) (j : ℕ) (f : Fault) → IsFormedWorld w → IsFormedCell c w → WorldStop (entered c w) c.block j f → IsReal f
+
+-- A well-formed cell of n steps over the world w, with v at its end: the worlds that it leads to are well formed, forward,
+-- and taken back.
+pub record KeepsFormed (c : Cell) (w : World) (n : ℕ) (v : World) : Type 0 where
+  pub entered_is : IsFormedWorld (entered c w)
+  pub ended_is : CellRun c w n v → IsFormedWorld v
+  pub taken_back_is : (i : ℕ) (u r : World) → CellRun c w n v → WorldExec v (inverse_block c.block) i u → taken_back c u ≡ Fine r → IsFormedWorld r
+
+-- The empty world is well formed, and so are all worlds that well-formed cells lead to.
+pub record FormedWorldsLast : Type 0 where
+  pub first : IsFormedWorld empty_world
+  pub later : (c : Cell) (w : World) (n : ℕ) (v : World) → IsFormedWorld w → IsFormedCell c w → KeepsFormed c w n v

@@ -1,17 +1,18 @@
 -- A text has one answer in a world, want of memory aside: the one cell that it is, or its one refusal.
 use Rattle.std.proofs.Common.{◌≡◌, ℕ, ◌<◌, List, [], length, refl, sym, ap, ◌∙◌, subst, arith}
 use Rattle.std.specs.Prelude.{Contains}
-use Rattle.janus_meaning.specs.Formed.{shape_of}
+use Rattle.janus_meaning.specs.Shape.{shape_of}
 use Rattle.janus_meaning.specs.World.{World, Cell}
 use Rattle.janus_syntax.specs.Tree as tree
 use Rattle.janus_syntax.proofs.OneRefusal.{one_refusal}
 use Rattle.janus_syntax.proofs.OneTree.{one_tree, not_both as tree_or_refusal}
 use Rattle.janus_check.specs.Check.{cell_faults}
+use Rattle.janus_check.specs.WellFormed.{meant_cell}
 use Rattle.janus_check.specs.Fault.{IsFirst}
 use Rattle.janus_check.specs.declared.fault.CheckFault as check
 use Rattle.janus_check.proofs.FormedLemmas.{formed_no_faults}
 use Rattle.kernel_core.specs.Language.{IsSound}
-use Rattle.kernel_core.specs.Text.{meant_cell, Accepts, IsUnformed, Refuses}
+use Rattle.kernel_core.specs.Text.{Accepts, IsUnformed, Refuses}
 use Rattle.kernel_core.specs.declared.outcome.Refusal.{Refusal}
 use Rattle.kernel_core.specs.declared.outcome.Refusal.TheVariants.{Syntax, Check, TooFar, NoNode, Memory}
 use Rattle.kernel_core.proofs.Places.{faults_at, one_first}

@@ -9,7 +9,7 @@ use Rattle.kernel_core.specs.Language.{Forward, Backward, Exec, IsFormed, IsSoun
 use Rattle.kernel_core.specs.State.{Past, Node, new_state, root, ancestor, node_at, world_at, here, favourite_of, below_by, below, worlds_from}
 use Rattle.kernel_core.specs.Legal.{can_undo, can_redo, IsRun, IsChild, IsLegal, IsWayTo, CanGo, IsPossible, IsMeeting}
 use Rattle.kernel_core.specs.Slices.{cells, stepped, moved, grown}
-use Rattle.kernel_core.proofs.LanguageLaws.{exec_sound, exec_same, exec_inverted, end_of_root, empty_sound}
+use Rattle.kernel_core.proofs.LanguageLaws.{sound_good, exec_sound, exec_same, exec_inverted, end_of_root, empty_sound}
 
 pub worlds-more : (worlds : List World) (nodes : List Node) (node : Node) →
     worlds_from worlds (nodes ++ node ∷ []) ≡ worlds_from worlds nodes ++ end_of node.cell (get_or (worlds_from worlds nodes) node.parent empty_world) node.steps ∷ []
@@ -297,7 +297,7 @@ formed_below s c g next =
 
 -- the inverse of the position's cell leads to where that cell's statements began
 pub run_above : (s : Past) → IsLegal s → 0 < s.position → Exec (Backward (node_at s s.position).cell) (here s) (node_at s s.position).steps (entered (node_at s s.position).cell (world_at s (node_at s s.position).parent))
-run_above s g l = exec_inverted _ _ _ _ (parent_sound s g l).good (run_here s g l).ran
+run_above s g l = exec_inverted _ _ _ _ (sound_good _ (parent_sound s g l)) (run_here s g l).ran
 
 -- the world at the end of an undone cell, and of a redone one
 pub undone_world : (s : Past) (n : ℕ) (w : World) → IsLegal s → 0 < s.position → Exec (Backward (node_at s s.position).cell) (here s) n w →

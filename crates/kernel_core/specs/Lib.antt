@@ -1,21 +1,29 @@
+-- The definitions of the kernel, in three groups.
+
+-- What the machine is told of the language: cells that run and are taken back, how far code came, and which cell a text is.
 pub mod Language
+pub mod Reached
 pub mod Text
 pub mod Refusal
-pub mod Program
-pub mod Reached
+
+-- The machine, in reading order: travels and turns, its states, which of them are legal, its slices, begins and runs, and the laws of
+-- its runs.
 pub mod Travel
 pub mod Turn
-pub mod Runner
 pub mod State
-pub mod StateCode
-pub mod Fields
 pub mod Legal
 pub mod Slices
 pub mod Begins
-pub mod Kept
-pub mod PostFault
 pub mod Runs
-pub mod Queue
-pub mod MachineCode
+pub mod PostFault
 pub mod Theorems
 pub mod Determined
+
+-- The code's own words: its types read as those of the machine, what its fields keep, and how contracts have states as values.
+pub mod Program
+pub mod Runner
+pub mod Fields
+pub mod Kept
+pub mod Queue
+pub mod StateCode
+pub mod MachineCode

@@ -1,6 +1,6 @@
 -- Which cell a text is, in a world, and how it is refused there.
-use Rattle.std.specs.Prelude.{◌≡◌, ◌≢◌, ℕ, List, []}
-use Rattle.janus_meaning.specs.Formed.{shape_of}
+use Rattle.std.specs.Prelude.{◌≡◌, ◌≢◌, ℕ, List}
+use Rattle.janus_meaning.specs.Shape.{shape_of}
 use Rattle.janus_meaning.specs.World as world
 use Rattle.janus_meaning.specs.World.{World}
 use Rattle.janus_syntax.specs.Tree.{Cell}
@@ -9,16 +9,11 @@ use Rattle.janus_syntax.specs.declared.fault.SyntaxFault as syntax
 use Rattle.janus_syntax.specs.declared.fault.SyntaxFault.TheVariants as syntax_fault
 use Rattle.janus_check.specs.Check.{cell_faults}
 use Rattle.janus_check.specs.Fault.{IsFirst}
-use Rattle.janus_check.specs.WellFormed.{declared_names, block_of_cell, IsWellFormed}
+use Rattle.janus_check.specs.WellFormed.{meant_cell, IsWellFormed}
 use Rattle.janus_check.specs.declared.fault.CheckFault as check
 use Rattle.janus_check.specs.declared.fault.CheckFault.TheVariants as check_fault
-use Rattle.kernel_core.specs.Program.{numbers}
 use Rattle.kernel_core.specs.declared.outcome.Refusal.{Refusal}
 use Rattle.kernel_core.specs.declared.outcome.Refusal.TheVariants.{Syntax, Check, TooFar, NoNode, Memory}
-
--- a tree read as a cell of the meaning
-abbrev pub meant_cell : Cell → world.Cell
-meant_cell tree = record { declarations = numbers (declared_names tree); procedures = []; block = block_of_cell tree }
 
 -- the text has a tree that is well formed over the names of the world, and this is the cell
 pub record Accepts (w : World) (text : List ℕ) (cell : world.Cell) : Type 0 where

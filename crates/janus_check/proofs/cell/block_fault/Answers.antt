@@ -1,7 +1,7 @@
 use Rattle.std.proofs.Common.{suc, ◌∷◌, sym, ap, ◌∙◌, drop, add-one}
 use Rattle.std.proofs.Math.Seq.{drop-cons}
 use Rattle.janus_syntax.specs.Tree.{stm_view, block_view}
-use Rattle.janus_check.specs.Names.{shape_of, over}
+use Rattle.janus_check.specs.Names.{shape_in, over}
 use Rattle.janus_check.specs.Fault.{first_from}
 use Rattle.janus_check.specs.Check.{stm_faults, block_faults}
 use Rattle.janus_check.proofs.FirstLemmas.{first_from-append}
@@ -9,7 +9,7 @@ use Rattle.janus_check.proofs.cell.block_fault.Goals as goal
 
 pub loop-i-preserved : goal.loop-i-preserved
 loop-i-preserved c =
-    let g = over (shape_of c.args.env.now) c.args.own.now in
+    let g = over (shape_in c.args.env.now) c.args.own.now in
     let xs = c.args.statements.now in
     let x = c.index-statements-i.result in
     let i = c.loop-i.i in

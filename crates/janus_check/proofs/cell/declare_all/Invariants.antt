@@ -1,6 +1,6 @@
 use Rattle.std.proofs.Common.{◌≡◌, drop}
 use Rattle.janus_syntax.specs.Tree.{declarations_view}
-use Rattle.janus_check.specs.Names.{shape_of, over}
+use Rattle.janus_check.specs.Names.{shape_in, over}
 use Rattle.janus_check.specs.Fault.{first_from}
 use Rattle.janus_check.specs.Check.{declarations_faults, after_declarations}
 use Rattle.janus_check.proofs.cell.declare_all.Given as goal
@@ -8,7 +8,7 @@ use Rattle.janus_check.proofs.cell.declare_all.Given as goal
 -- what is found and declared from here on is what is found and declared from the beginning
 abbrev pub invariant-loop-i : goal.invariant-loop-i
 invariant-loop-i l =
-    (first_from l.next (declarations_faults (over (shape_of l.env) l.own) (declarations_view (drop l.i l.declarations)))
-    ≡ first_from l.fn.first (declarations_faults (over (shape_of l.env) l.fn.own) (declarations_view l.declarations)))
-    × (after_declarations (over (shape_of l.env) l.own) (declarations_view (drop l.i l.declarations))
-    ≡ after_declarations (over (shape_of l.env) l.fn.own) (declarations_view l.declarations))
+    (first_from l.next (declarations_faults (over (shape_in l.env) l.own) (declarations_view (drop l.i l.declarations)))
+    ≡ first_from l.fn.first (declarations_faults (over (shape_in l.env) l.fn.own) (declarations_view l.declarations)))
+    × (after_declarations (over (shape_in l.env) l.own) (declarations_view (drop l.i l.declarations))
+    ≡ after_declarations (over (shape_in l.env) l.fn.own) (declarations_view l.declarations))

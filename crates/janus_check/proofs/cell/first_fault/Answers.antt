@@ -1,6 +1,6 @@
 use Rattle.std.proofs.Common.{◌≡◌, None, sym, ap, ◌∙◌}
 use Rattle.janus_syntax.specs.Tree.{declarations_view, block_view}
-use Rattle.janus_check.specs.Names.{shape_of, over}
+use Rattle.janus_check.specs.Names.{shape_in, over}
 use Rattle.janus_check.specs.Fault.{first_from}
 use Rattle.janus_check.specs.Check.{declarations_faults, after_declarations, block_faults}
 use Rattle.janus_check.proofs.FirstLemmas.{first_from-append}
@@ -8,7 +8,7 @@ use Rattle.janus_check.proofs.cell.first_fault.Goals as goal
 
 pub returns : goal.returns
 returns c =
-    let g = shape_of c.args.env.now in
+    let g = shape_in c.args.env.now in
     let ds = c.args.cell.now.declarations.items in
     let b = c.args.cell.now.statements.items in
     let own : over g c.declare_all.new.own ≡ after_declarations g (declarations_view ds) =

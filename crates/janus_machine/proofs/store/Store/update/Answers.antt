@@ -4,14 +4,13 @@ use Rattle.std.specs.BTreeMap.{get_by_text}
 use Rattle.std.proofs.lemmas.Int.{to_z-of_z}
 use Rattle.std.proofs.lemmas.Option.{slice_get_within, slice_get_read}
 use Rattle.janus_meaning.specs.Fault.{Fine, Bad, Broken}
-use Rattle.janus_meaning.specs.Store.{look, Num, Bare}
-use Rattle.janus_meaning.specs.Formed.{shape_of}
+use Rattle.janus_meaning.specs.Store.{look, Num, Bare, cleared}
 use Rattle.janus_meaning.specs.Word.{changed}
 use Rattle.janus_syntax.specs.View.{update_of}
 use Rattle.janus_machine.specs.Stores.{write}
 use Rattle.janus_machine.specs.StoreView.{declared_over}
 use Rattle.janus_machine.specs.declared.store.Variable.{Variable}
-use Rattle.janus_machine.proofs.Variables.{write_here, shape-written}
+use Rattle.janus_machine.proofs.Variables.{write_here, cleared-written}
 use Rattle.janus_machine.proofs.Indexes.{only, look_none, look_some, written}
 use Rattle.janus_machine.proofs.store.Store.update.Goals as goal
 
@@ -75,4 +74,4 @@ returns-clause-shape c =
     let s = c.self.invariant.stored c.args.name.now i (sym c.in-Some.ensures.value) in
     let lt : i < length a.variables.items = slice_get_within a.variables.items i s.0 s.1 in
     let at : slice_get a.variables.items i ≡ Some v = slice_get_read a.variables.items (length a.variables.items) i v refl lt c.index_mut-variable.ensures.value in
-    shape-written Bare a.variables.items i v _ at ∙ ap shape_of c.self.view_is
+    cleared-written Bare a.variables.items i v _ at ∙ ap cleared c.self.view_is
