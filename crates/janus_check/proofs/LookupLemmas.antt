@@ -14,7 +14,6 @@ use Rattle.janus_meaning.specs.Shape.{Shape, kind_at, pick_newest}
 use Rattle.janus_meaning.proofs.Stores.{same_name_true}
 use Rattle.janus_check.specs.Names.{meant_kind, kind_found, over, shape_in, AreNewNames}
 use Rattle.janus_check.specs.declared.env.Kind.{Kind}
-use Rattle.janus_check.specs.declared.env.Kind.TheVariants.{Number}
 
 -- an entry of the code as contracts see it
 abbrev pub seen : {Y : Type 0} → String Y × Kind → List ℕ × Kind

@@ -1,5 +1,5 @@
 -- What a cell without faults meets: the well-formedness of the meaning.
-use Rattle.std.specs.Prelude.{◌≡◌, ◌↔◌, List, [], ◌∷◌, map, pos}
+use Rattle.std.specs.Prelude.{◌≡◌, ◌↔◌, List, [], map, pos}
 use Rattle.janus_meaning.specs.Syntax as tree
 use Rattle.janus_meaning.specs.World as world
 use Rattle.janus_meaning.specs.Shape.{Shape, Heads}

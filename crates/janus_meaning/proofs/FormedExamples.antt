@@ -7,7 +7,8 @@ use Rattle.janus_meaning.specs.Shape.{Shape, Heads, head_at, different, count_ne
 use Rattle.janus_meaning.specs.Formed.{IsExp, AreArguments, IsStm, IsProc}
 use Rattle.janus_meaning.specs.World.{Cell, DeclareInt, DeclareArray, DeclareStack, empty_world}
 use Rattle.janus_meaning.specs.FormedWorld.{IsNew, AreNew, IsDefinable, IsFormedOver, IsFormedCell}
-use Rattle.janus_meaning.proofs.Examples.{x, y, n, f, num, one, increments, fib}
+use Rattle.janus_meaning.proofs.Examples.{x, y, n, f, num, one}
+use Rattle.janus_meaning.proofs.CellExamples.{increments, fib}
 
 -- the names x, a number, and y, a stack, in sight
 abbrev names : Shape
