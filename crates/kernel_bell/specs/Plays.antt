@@ -9,8 +9,8 @@ use Rattle.kernel_bell.specs.declared.view.View.TheVariants.{Runner, Ringer}
 use Rattle.kernel_bell.specs.Views.{new_runner, new_ringer, after_begin, after_hearing, after_look, after_raise}
 
 -- a seat's view, with no slots, since the bell has none
-abbrev pub Sat : Type 0
-Sat = Me (Unit {0}) View
+abbrev pub Seated : Type 0
+Seated = Me (Unit {0}) View
 
 abbrev pub runner_of : View → RunnerView
 runner_of (Runner r) = r
@@ -20,25 +20,25 @@ abbrev pub ringer_of : View → RingerView
 ringer_of (Runner r) = new_ringer
 ringer_of (Ringer g) = g
 
-abbrev pub sat_runner : RunnerView → Sat
-sat_runner r = (Runner r, [])
+abbrev pub seated_runner : RunnerView → Seated
+seated_runner r = (Runner r, [])
 
-abbrev pub sat_ringer : RingerView → Sat
-sat_ringer g = (Ringer g, [])
+abbrev pub seated_ringer : RingerView → Seated
+seated_ringer g = (Ringer g, [])
 
-abbrev pub Begins : Step (Unit {0}) → Sat → ℕ → Sat → Type 0
-Begins st old n new = new ≡ sat_runner (after_begin (runner_of old.0))
+abbrev pub Begins : Step (Unit {0}) → Seated → ℕ → Seated → Type 0
+Begins st old n new = new ≡ seated_runner (after_begin (runner_of old.0))
 
 -- what is found is at least what was heard before
-abbrev pub Hears : Step (Unit {0}) → Sat → ℕ → Sat → Type 0
-Hears st old n new = (new ≡ sat_runner (after_hearing (runner_of old.0) n)) × ((runner_of old.0).heard ≤ n)
+abbrev pub Hears : Step (Unit {0}) → Seated → ℕ → Seated → Type 0
+Hears st old n new = (new ≡ seated_runner (after_hearing (runner_of old.0) n)) × ((runner_of old.0).heard ≤ n)
 
 -- what is found is at least what was seen before
-abbrev pub Looks : Step (Unit {0}) → Sat → ℕ → Sat → Type 0
-Looks st old n new = (new ≡ sat_ringer (after_look (ringer_of old.0) n)) × ((ringer_of old.0).seen ≤ n)
+abbrev pub Looks : Step (Unit {0}) → Seated → ℕ → Seated → Type 0
+Looks st old n new = (new ≡ seated_ringer (after_look (ringer_of old.0) n)) × ((ringer_of old.0).seen ≤ n)
 
-abbrev pub Raises : Step (Unit {0}) → Sat → ℕ → Sat → Type 0
-Raises st old n new = new ≡ sat_ringer (after_raise (ringer_of old.0))
+abbrev pub Raises : Step (Unit {0}) → Seated → ℕ → Seated → Type 0
+Raises st old n new = new ≡ seated_ringer (after_raise (ringer_of old.0))
 
 -- a ringer's seat is made beside the runner's
 abbrev pub same_view : View → View

@@ -14,14 +14,14 @@ pub struct RunnerSeat {
 
 impl Model for RunnerSeat {
     ghost use Rattle.std.specs.Prelude.{◌≡◌};
-    ghost use Rattle.kernel_bell.specs.Plays.{runner_of, sat_runner};
+    ghost use Rattle.kernel_bell.specs.Plays.{runner_of, seated_runner};
     ghost use Rattle.kernel_bell.specs.Seats.{RunnerOf, runner_seat};
 
     ghost Value = { RunnerOf };
 
     ghost view = { λ s. runner_seat s.seat.table_id (runner_of s.seat.me.0) };
 
-    ghost invariant = { λ s. (s.seat.me ≡ sat_runner (runner_of s.seat.me.0)) × (s.serial ≡ (runner_of s.seat.me.0).serial) };
+    ghost invariant = { λ s. (s.seat.me ≡ seated_runner (runner_of s.seat.me.0)) × (s.serial ≡ (runner_of s.seat.me.0).serial) };
 }
 
 /// A seat of one ringer. Contracts see which bell it belongs to, and what the ringer knows.
@@ -33,14 +33,14 @@ pub struct RingerSeat {
 
 impl Model for RingerSeat {
     ghost use Rattle.std.specs.Prelude.{◌≡◌};
-    ghost use Rattle.kernel_bell.specs.Plays.{ringer_of, sat_ringer};
+    ghost use Rattle.kernel_bell.specs.Plays.{ringer_of, seated_ringer};
     ghost use Rattle.kernel_bell.specs.Seats.{RingerOf, ringer_seat};
 
     ghost Value = { RingerOf };
 
     ghost view = { λ s. ringer_seat s.seat.table_id (ringer_of s.seat.me.0) };
 
-    ghost invariant = { λ s. (s.seat.me ≡ sat_ringer (ringer_of s.seat.me.0)) × (s.seen ≡ (ringer_of s.seat.me.0).seen) };
+    ghost invariant = { λ s. (s.seat.me ≡ seated_ringer (ringer_of s.seat.me.0)) × (s.seen ≡ (ringer_of s.seat.me.0).seen) };
 }
 
 impl RunnerSeat {
