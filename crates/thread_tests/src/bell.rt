@@ -100,45 +100,26 @@ impl Ringer<'_> {
 
 #[test]
 fn a_late_raise_stops_no_later_job(rt: HostRuntime) -> Result<(), Fail> {
-    let (bell, runner, mut ringers) = Bell::new(rt.alloc(), RINGERS)?;
-    assert_eq!(rt; ringers.len(), 64);
+    let (bell, runner, mut seats) = Bell::new(rt.alloc(), RINGERS)?;
+    assert!(rt; seats.len() == 64);
     let mut runner = Runner {
         bell: &bell,
         seat: runner,
     };
-    let seat = ringers.pop().expect(&rt, "a seat");
-    let mut ringer = Ringer { bell: &bell, seat };
-    assert!(rt; !runner.is_asked());
+    let mut ringer = Ringer {
+        bell: &bell,
+        seat: seats.pop().expect(&rt, "a seat"),
+    };
+    assert!(rt; !runner.is_asked() && ringer.ring() == 0 && !runner.is_asked());
     for serial in 1..8u64 {
-        assert_eq!(rt; runner.begin(), Some(serial));
+        assert!(rt; runner.begin() == Some(serial) && !runner.is_asked());
     }
-    assert_eq!(rt; ringer.look(), 7);
-    assert_eq!(rt; runner.begin(), Some(8));
-    assert_eq!(rt; ringer.raise(), 7);
-    assert!(rt; !runner.is_asked());
-    assert_eq!(rt; ringer.ring(), 8);
-    assert!(rt; runner.is_asked());
-    assert!(rt; runner.is_asked());
-    assert_eq!(rt; runner.seat.serial(), 8);
-    assert_eq!(rt; runner.begin(), Some(9));
-    assert!(rt; !runner.is_asked());
-    Ok(())
-}
-
-/// A ring before the first job is for no job.
-#[test]
-fn a_ring_before_any_job_stops_none(rt: HostRuntime) -> Result<(), Fail> {
-    let (bell, runner, mut ringers) = Bell::new(rt.alloc(), 1)?;
-    let mut runner = Runner {
-        bell: &bell,
-        seat: runner,
-    };
-    let seat = ringers.pop().expect(&rt, "a seat");
-    let mut ringer = Ringer { bell: &bell, seat };
-    assert_eq!(rt; ringer.ring(), 0);
-    assert!(rt; !runner.is_asked());
-    assert_eq!(rt; runner.begin(), Some(1));
-    assert!(rt; !runner.is_asked());
+    assert!(rt; ringer.look() == 7);
+    assert!(rt; runner.begin() == Some(8));
+    assert!(rt; ringer.raise() == 7 && !runner.is_asked());
+    assert!(rt; ringer.ring() == 8 && runner.is_asked() && runner.is_asked());
+    assert!(rt; runner.seat.serial() == 8);
+    assert!(rt; runner.begin() == Some(9) && !runner.is_asked());
     Ok(())
 }
 
@@ -188,6 +169,7 @@ fn rings_from_threads_stop_the_job_that_runs(rt: HostRuntime) -> Result<(), Fail
         bell: &bell,
         seat: runner,
     };
-    assert_eq!(rt; stopped_by_threads(&rt, runner, ringers), (JOBS, 0));
+    let (stopped, wrong) = stopped_by_threads(&rt, runner, ringers);
+    assert!(rt; stopped == JOBS && wrong == 0);
     Ok(())
 }

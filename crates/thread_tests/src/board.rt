@@ -65,7 +65,7 @@ fn publish_all<R: Wait>(
 }
 
 /// What a reader came by.
-#[derive(Clone, Copy, Debug, PartialEq, Eq)]
+#[derive(Clone, Copy)]
 struct Account {
     /// Where it stands.
     place: Place,
@@ -85,6 +85,11 @@ impl Account {
             missed: 0,
             is_good: true,
         }
+    }
+
+    /// Whether it stands at this place, after so many broadcasts read and so many missed, and all was good.
+    fn is(&self, place: u64, read: u64, missed: u64) -> bool {
+        self.is_good && self.place.number == place && self.read == read && self.missed == missed
     }
 
     /// Takes what the reader was told. Whether there was any news.
@@ -129,58 +134,38 @@ fn follow<R: Wait>(rt: &R, board: &Board, from: Place, end: u64) -> Account {
     account
 }
 
+/// Whether a reader at its place was told that there is nothing new.
+fn is_no_news(told: Result<Read, BoardFault>, place: Place) -> bool {
+    match told {
+        Ok(Read::Got(got, next)) => got.is_empty() && next == place,
+        _ => false,
+    }
+}
+
 #[test]
 fn the_last_4096_are_kept(rt: HostRuntime) -> Result<(), Fail> {
     let alloc = rt.alloc();
     let board = Board::new(alloc)?;
     let start = board.join(&rt);
-    assert_eq!(rt; start.number, 0);
-    assert!(rt;
-        matches!(board.read_from(&rt, start), Ok(Read::Got(got, Place { number: 0 })) if got.is_empty())
-    );
+    assert!(rt; start.number == 0 && is_no_news(board.read_from(&rt, start), start));
     assert!(rt; publish_all(&rt, alloc, &board, 0, 4096)?);
     let mut account = Account::at(start);
-    account.take(board.read_from(&rt, start));
-    assert_eq!(rt;
-        account,
-        Account {
-            place: Place { number: 64 },
-            read: 64,
-            missed: 0,
-            is_good: true
-        }
-    );
-    assert_eq!(rt; board.publish(&rt, numbered(alloc, 4096)?), 4096);
-    assert!(rt;
-        matches!(
-            board.read_from(&rt, start),
-            Ok(Read::Lagged(Place { number: 1 }))
-        )
-    );
-    assert_eq!(rt; board.join(&rt).number, 4097);
+    assert!(rt; account.take(board.read_from(&rt, start)) && account.is(64, 64, 0));
+    assert!(rt; publish_all(&rt, alloc, &board, 4096, 4097)?);
+    let mut account = Account::at(start);
+    assert!(rt; account.take(board.read_from(&rt, start)) && account.is(1, 0, 1));
     let account = follow(&rt, &board, start, 4097);
-    assert_eq!(rt;
-        account,
-        Account {
-            place: Place { number: 4097 },
-            read: 4096,
-            missed: 1,
-            is_good: true
-        }
-    );
-    let end = account.place;
-    assert!(rt;
-        matches!(board.read_from(&rt, end), Ok(Read::Got(got, Place { number: 4097 })) if got.is_empty())
-    );
+    assert!(rt; account.is(4097, 4096, 1) && account.place == board.join(&rt));
+    assert!(rt; is_no_news(board.read_from(&rt, account.place), account.place));
     Ok(())
 }
 
 #[test]
 fn a_fault_has_its_number_and_name(rt: HostRuntime) -> Result<(), Fail> {
     let fault = BoardFault::Memory;
-    assert_eq!(rt; (fault.number(), fault.name()), (76, "Memory"));
-    assert_eq!(rt; format!(in rt.alloc(); "{fault}")?.as_str(), "Memory");
-    assert_eq!(rt; (KEPT, MOST), (4096, 64));
+    let text = format!(in rt.alloc(); "{fault}")?;
+    assert!(rt; fault.number() == 76 && fault.name() == "Memory" && text.as_str() == "Memory");
+    assert!(rt; KEPT == 4096 && MOST == 64);
     Ok(())
 }
 
@@ -198,6 +183,18 @@ fn a_clone_is_the_same_broadcast(rt: HostRuntime) -> Result<(), Fail> {
     Ok(())
 }
 
+/// Reads on up to the end, and counts itself as wrong where it went wrong.
+fn follow_to_the_end<R: Wait>(rt: &R, board: &Board, from: Place, wrong: &AtomicU64) {
+    let account = follow(rt, board, from, PUBLISHED);
+    if !account.is(
+        PUBLISHED,
+        account.read,
+        PUBLISHED.saturating_sub(account.read),
+    ) {
+        wrong.fetch_add(1, Ordering::SeqCst);
+    }
+}
+
 /// Publishes, while threads read on from the start: whether each broadcast got its number, and how many readers went wrong.
 fn followed_by_threads<R: Threads + Wait + Sync>(
     rt: &R,
@@ -209,16 +206,8 @@ fn followed_by_threads<R: Threads + Wait + Sync>(
     let wrong_seen = &wrong;
     let is_published = thread::scope(thread::scope_env(), rt, |scope| {
         for _ in 0..READERS {
-            let is_started = scope
-                .spawn(move || {
-                    let account = follow(rt, board, start, PUBLISHED);
-                    let all = account.read.saturating_add(account.missed);
-                    if !account.is_good || all != PUBLISHED {
-                        wrong_seen.fetch_add(1, Ordering::SeqCst);
-                    }
-                })
-                .is_ok();
-            if !is_started {
+            let started = scope.spawn(move || follow_to_the_end(rt, board, start, wrong_seen));
+            if started.is_err() {
                 wrong_seen.fetch_add(1, Ordering::SeqCst);
             }
         }
@@ -232,16 +221,9 @@ fn readers_on_threads_miss_nothing_untold(rt: HostRuntime) -> Result<(), Fail> {
     let alloc = rt.alloc();
     let board = Board::new(alloc)?;
     let start = board.join(&rt);
-    assert_eq!(rt; followed_by_threads(&rt, alloc, &board, start), (true, 0));
+    let (is_published, wrong) = followed_by_threads(&rt, alloc, &board, start);
+    assert!(rt; is_published && wrong == 0);
     let slow = follow(&rt, &board, start, PUBLISHED);
-    assert_eq!(rt;
-        slow,
-        Account {
-            place: Place { number: PUBLISHED },
-            read: 4096,
-            missed: PUBLISHED - 4096,
-            is_good: true
-        }
-    );
+    assert!(rt; slow.is(PUBLISHED, 4096, PUBLISHED - 4096));
     Ok(())
 }
