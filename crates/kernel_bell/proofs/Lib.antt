@@ -1,0 +1,4 @@
+pub mod Ringers
+pub mod Keeps
+pub mod Allowed
+pub mod Concludes

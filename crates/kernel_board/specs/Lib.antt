@@ -1,0 +1,5 @@
+pub mod Fault
+pub mod Frames
+pub mod Log
+pub mod Reads
+pub mod Laws

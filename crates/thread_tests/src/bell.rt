@@ -1,0 +1,175 @@
+//! The interrupt bell.
+ghost use Rattle.std.specs.Prelude.{◌≡◌};
+
+use kernel_bell::{Bell, RINGERS, RingerSeat, RunnerSeat};
+use std::sync::Wait;
+use std::sync::atomic::{AtomicBool, AtomicU64, Ordering};
+use std::test::Fail;
+use std::thread;
+use std::thread::Threads;
+
+/// So many jobs are begun while others ring.
+const JOBS: u64 = 100;
+
+/// No thread takes more turns than these.
+const TURNS: u32 = 20_000_000;
+
+/// The runner, at its bell.
+#[derive(Drop)]
+struct Runner<'a> {
+    bell: &'a Bell,
+    seat: RunnerSeat,
+    ghost own: { seat.bell ≡ bell.now },
+}
+
+impl Runner<'_> {
+    /// Begins a job, and answers its serial; `None` after the last serial.
+    fn begin(&mut self) -> Option<u64> {
+        if self.seat.serial() == u64::MAX {
+            return None;
+        }
+        Some(self.bell.begin(&mut self.seat))
+    }
+
+    fn is_asked(&mut self) -> bool {
+        self.bell.asked(&mut self.seat)
+    }
+
+    /// Begins a job, and runs it until it is asked to stop. Whether that came.
+    fn is_stopped(&mut self) -> bool {
+        if self.begin().is_none() {
+            return false;
+        }
+        for _ in 0..TURNS {
+            if self.is_asked() {
+                return true;
+            }
+            thread::yield_now();
+        }
+        false
+    }
+
+    /// How many jobs, of those that are to be begun, are stopped one after another.
+    fn stopped_jobs(&mut self) -> u64 {
+        for stopped in 0..JOBS {
+            if !self.is_stopped() {
+                return stopped;
+            }
+        }
+        JOBS
+    }
+}
+
+/// A ringer, at its bell.
+#[derive(Drop)]
+struct Ringer<'a> {
+    bell: &'a Bell,
+    seat: RingerSeat,
+    ghost own: { seat.bell ≡ bell.now },
+}
+
+impl Ringer<'_> {
+    fn look(&mut self) -> u64 {
+        self.bell.look(&mut self.seat)
+    }
+
+    fn raise(&mut self) -> u64 {
+        self.bell.raise(&mut self.seat)
+    }
+
+    fn ring(&mut self) -> u64 {
+        self.bell.ring(&mut self.seat)
+    }
+
+    /// Rings until the runner is done, and counts the answers that fall or that are for no job.
+    fn keep_ringing(mut self, is_done: &AtomicBool, wrong: &AtomicU64) {
+        let mut last = 0;
+        for _ in 0..TURNS {
+            if is_done.load(Ordering::SeqCst) {
+                return;
+            }
+            let serial = self.ring();
+            if serial < last || serial > JOBS {
+                wrong.fetch_add(1, Ordering::SeqCst);
+            }
+            last = serial;
+            thread::yield_now();
+        }
+    }
+}
+
+#[test]
+fn a_late_raise_stops_no_later_job(rt: HostRuntime) -> Result<(), Fail> {
+    let (bell, runner, mut seats) = Bell::new(rt.alloc(), RINGERS)?;
+    assert!(rt; seats.len() == 64);
+    let mut runner = Runner {
+        bell: &bell,
+        seat: runner,
+    };
+    let mut ringer = Ringer {
+        bell: &bell,
+        seat: seats.pop().expect(&rt, "a seat"),
+    };
+    assert!(rt; !runner.is_asked() && ringer.ring() == 0 && !runner.is_asked());
+    for serial in 1..8u64 {
+        assert!(rt; runner.begin() == Some(serial) && !runner.is_asked());
+    }
+    assert!(rt; ringer.look() == 7);
+    assert!(rt; runner.begin() == Some(8));
+    assert!(rt; ringer.raise() == 7 && !runner.is_asked());
+    assert!(rt; ringer.ring() == 8 && runner.is_asked() && runner.is_asked());
+    assert!(rt; runner.seat.serial() == 8);
+    assert!(rt; runner.begin() == Some(9) && !runner.is_asked());
+    Ok(())
+}
+
+/// Begins jobs and runs each until it is asked to stop, while threads ring: how many were stopped, and how many answers of rings were wrong.
+fn stopped_by_threads<R: Threads + Wait>(
+    rt: &R,
+    mut runner: Runner<'_>,
+    ringers: Vec<Ringer<'_>>,
+) -> (u64, u64) {
+    let is_done = AtomicBool::new(false);
+    let wrong = AtomicU64::new(0);
+    let (is_done_seen, wrong_seen) = (&is_done, &wrong);
+    let stopped = thread::scope(thread::scope_env(), rt, |scope| {
+        for ringer in ringers {
+            if scope
+                .spawn(move || ringer.keep_ringing(is_done_seen, wrong_seen))
+                .is_err()
+            {
+                wrong_seen.fetch_add(1, Ordering::SeqCst);
+            }
+        }
+        let stopped = runner.stopped_jobs();
+        is_done_seen.store(true, Ordering::SeqCst);
+        stopped
+    });
+    (stopped, wrong.into_inner())
+}
+
+#[test]
+fn rings_from_threads_stop_the_job_that_runs(rt: HostRuntime) -> Result<(), Fail> {
+    let alloc = rt.alloc();
+    let (bell, runner, mut seats) = Bell::new(alloc, 3)?;
+    let first = Ringer {
+        bell: &bell,
+        seat: seats.pop().expect(&rt, "a seat"),
+    };
+    let second = Ringer {
+        bell: &bell,
+        seat: seats.pop().expect(&rt, "a seat"),
+    };
+    let third = Ringer {
+        bell: &bell,
+        seat: seats.pop().expect(&rt, "a seat"),
+    };
+    let ringers = Vec::from_array(alloc, [first, second, third])?;
+    let runner = Runner {
+        bell: &bell,
+        seat: runner,
+    };
+    let (stopped, wrong) = stopped_by_threads(&rt, runner, ringers);
+    assert!(rt; stopped == JOBS && wrong == 0);
+    Ok(())
+}

@@ -1,0 +1,8 @@
+//! Tests of the crates that threads share: their worked rows, and runs on threads. The threads end by themselves, after bounded turns, and
+//! the tests hold whatever the schedule is.
+#![tactic(auto)]
+
+#[cfg(test)]
+mod bell;
+#[cfg(test)]
+mod board;
