@@ -21,13 +21,9 @@ mod introspection;
 mod keyed_hash;
 mod message;
 mod object;
-#[cfg(test)]
-mod recorded;
 mod request;
 mod request_type;
 mod signature;
-#[cfg(test)]
-mod tests;
 
 pub use comm::{CommAsk, CommClose, CommInfoRequest, CommMessage, CommOpen};
 pub use connection::Connection;

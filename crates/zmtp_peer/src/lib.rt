@@ -21,8 +21,6 @@ mod opening;
 pub mod peer;
 pub mod role;
 mod subscriptions;
-#[cfg(test)]
-mod tests;
 mod told;
 
 pub use event::PeerEvent;

@@ -16,8 +16,6 @@ pub mod frame;
 pub mod greeting;
 mod header;
 mod tally;
-#[cfg(test)]
-mod tests;
 
 pub use decoder::Decoder;
 pub use fault::WireFault;

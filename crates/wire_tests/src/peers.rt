@@ -1,13 +1,14 @@
-//! Rows of octets in any cut, recorded octets of libzmq, and each public function with ample memory.
-use crate::{Peer, PeerEvent, PeerFault, Reason, Role};
+//! Peers: what libzmq sends and rows of octets by hand in any cut, greetings that are refused, the opening, subscriptions.
+use crate::libzmq::RECORDED;
 use std::alloc::Global;
 use std::process::Abort;
 use std::test::Fail;
+use zmtp_peer::{Peer, PeerEvent, PeerFault, Role};
 use zmtp_wire::WireFault;
 
 /// An event that is expected.
 #[derive(Clone, Copy)]
-enum Expected {
+pub(crate) enum Expected {
     Ready,
     Message(&'static [&'static [u8]]),
     Subscribe(&'static [u8]),
@@ -16,124 +17,17 @@ enum Expected {
 
 /// A greeting and the octets behind it, the events that they tell a role, and the fault behind those, by its number and
 /// with the reason of an ERROR.
-struct Row {
-    role: Role,
-    greeting: &'static [u8; 64],
-    octets: &'static [u8],
-    events: &'static [Expected],
-    fault: Option<(u8, &'static [u8])>,
+pub(crate) struct Row {
+    pub(crate) role: Role,
+    pub(crate) greeting: &'static [u8; 64],
+    pub(crate) octets: &'static [u8],
+    pub(crate) events: &'static [Expected],
+    pub(crate) fault: Option<(u8, &'static [u8])>,
 }
 
 /// A greeting of version 3.0, from RFC 23.
 const GREETING: [u8; 64] =
     *b"\xFF\0\0\0\0\0\0\0\0\x7F\x03\0NULL\0\0\0\0\0\0\0\0\0\0\0\0\0\0\0\0\0\0\0\0\0\0\0\0\0\0\0\0\0\0\0\0\0\0\0\0\0\0\0\0\0\0\0\0\0\0\0\0";
-
-/// What libzmq 4.3.4 (pyzmq 24.0.1, Debian's python3-zmq) sends first to a peer of version 3.0, recorded on 2026-11-22
-/// from a plain TCP listener on 127.0.0.1.
-const LIBZMQ_GREETING: [u8; 64] =
-    *b"\xFF\0\0\0\0\0\0\0\x01\x7F\x03\x01NULL\0\0\0\0\0\0\0\0\0\0\0\0\0\0\0\0\0\0\0\0\0\0\0\0\0\0\0\0\0\0\0\0\0\0\0\0\0\0\0\0\0\0\0\0\0\0\0\0";
-
-/// What libzmq sends behind its greeting, recorded in the same way: for each socket type its READY, and then a message
-/// or subscriptions.
-const RECORDED: [Row; 9] = [
-    // DEALER
-    Row {
-        role: Role::Router,
-        greeting: &LIBZMQ_GREETING,
-        octets: b"\x04)\x05READY\x0BSocket-Type\0\0\0\x06DEALER\x08Identity\0\0\0\0\x01\0\x01\x06k\
-            ernel\x02\0\0\0\0\0\0\x01,xxxxxxxxxxxxxxxxxxxxxxxxxxxxxxxxxxxxxxxxxxxxxxxxxxxxxx\
-            xxxxxxxxxxxxxxxxxxxxxxxxxxxxxxxxxxxxxxxxxxxxxxxxxxxxxxxxxxxxxxxxxxxxxxxxxxxxxxxx\
-            xxxxxxxxxxxxxxxxxxxxxxxxxxxxxxxxxxxxxxxxxxxxxxxxxxxxxxxxxxxxxxxxxxxxxxxxxxxxxxxx\
-            xxxxxxxxxxxxxxxxxxxxxxxxxxxxxxxxxxxxxxxxxxxxxxxxxxxxxxxxxxxxxxxxxxxxxxxxxxxxxxxx\
-            xxxxxx",
-        events: &[
-            Expected::Ready,
-            Expected::Message(&[b"", b"kernel", &[0x78; 300]]),
-        ],
-        fault: None,
-    },
-    // REQ
-    Row {
-        role: Role::Router,
-        greeting: &LIBZMQ_GREETING,
-        octets: b"\x04&\x05READY\x0BSocket-Type\0\0\0\x03REQ\x08Identity\0\0\0\0\x01\0\0\x04ping",
-        events: &[Expected::Ready, Expected::Message(&[b"", b"ping"])],
-        fault: None,
-    },
-    // ROUTER
-    Row {
-        role: Role::Router,
-        greeting: &LIBZMQ_GREETING,
-        octets: b"\x04)\x05READY\x0BSocket-Type\0\0\0\x06ROUTER\x08Identity\0\0\0\0\0\x04pong",
-        events: &[Expected::Ready, Expected::Message(&[b"pong"])],
-        fault: None,
-    },
-    // REQ
-    Row {
-        role: Role::Rep,
-        greeting: &LIBZMQ_GREETING,
-        octets: b"\x04&\x05READY\x0BSocket-Type\0\0\0\x03REQ\x08Identity\0\0\0\0\x01\0\0\x04beat",
-        events: &[Expected::Ready, Expected::Message(&[b"", b"beat"])],
-        fault: None,
-    },
-    // DEALER
-    Row {
-        role: Role::Rep,
-        greeting: &LIBZMQ_GREETING,
-        octets: b"\x04)\x05READY\x0BSocket-Type\0\0\0\x06DEALER\x08Identity\0\0\0\0\x01\0\0\x04bea\
-            t",
-        events: &[Expected::Ready, Expected::Message(&[b"", b"beat"])],
-        fault: None,
-    },
-    // SUB
-    Row {
-        role: Role::Pub,
-        greeting: &LIBZMQ_GREETING,
-        octets: b"\x04\x19\x05READY\x0BSocket-Type\0\0\0\x03SUB\0\x03\x01st\0\x06\x01error\0\x03\0\
-            st",
-        events: &[
-            Expected::Ready,
-            Expected::Subscribe(b"st"),
-            Expected::Subscribe(b"error"),
-            Expected::Cancel(b"st"),
-        ],
-        fault: None,
-    },
-    // XSUB
-    Row {
-        role: Role::Pub,
-        greeting: &LIBZMQ_GREETING,
-        octets: b"\x04\x1A\x05READY\x0BSocket-Type\0\0\0\x04XSUB\0\x03\x01st\0\x03\x01st",
-        events: &[
-            Expected::Ready,
-            Expected::Subscribe(b"st"),
-            Expected::Subscribe(b"st"),
-        ],
-        fault: None,
-    },
-    // ROUTER
-    Row {
-        role: Role::Dealer,
-        greeting: &LIBZMQ_GREETING,
-        octets: b"\x04)\x05READY\x0BSocket-Type\0\0\0\x06ROUTER\x08Identity\0\0\0\0\x01\x01a\0\x01\
-            b",
-        events: &[Expected::Ready, Expected::Message(&[b"a", b"b"])],
-        fault: None,
-    },
-    // PUB
-    Row {
-        role: Role::Sub,
-        greeting: &LIBZMQ_GREETING,
-        octets: b"\x04\x19\x05READY\x0BSocket-Type\0\0\0\x03PUB\x01\x06stream\0\x011\x01\x06status\
-            \0\x04busy",
-        events: &[
-            Expected::Ready,
-            Expected::Message(&[b"stream", b"1"]),
-            Expected::Message(&[b"status", b"busy"]),
-        ],
-        fault: None,
-    },
-];
 
 /// Lists of octets by hand, from RFC 23.
 const ROWS: [Row; 26] = [
@@ -533,23 +427,4 @@ fn counts_subscriptions(rt: HostRuntime) -> Result<(), Fail> {
     feed(&mut peer, b"\0\x03\0st\0\x01\x01", &mut events)?;
     assert!(rt; peer.wants(b"") && peer.wants(b"error"));
     Ok(())
-}
-
-/// Numbers and names, and the reason of a peer's ERROR.
-#[test]
-fn names_faults(rt: HostRuntime) {
-    let reason = Reason::new(b"no");
-    let faults = [
-        (PeerFault::MEMORY, 7, "Memory"),
-        (PeerFault::NoSocketType, 8, "NoSocketType"),
-        (PeerFault::WrongPair, 9, "WrongPair"),
-        (PeerFault::BadMetadata, 10, "BadMetadata"),
-        (PeerFault::PeerError(reason), 11, "PeerError"),
-        (PeerFault::NotReady, 12, "NotReady"),
-    ];
-    for (fault, number, name) in faults {
-        assert_eq!(rt; fault.number(), number);
-        assert_eq!(rt; fault.name(), name);
-    }
-    assert_eq!(rt; reason.as_octets(), b"no".as_slice());
 }

@@ -1,8 +1,8 @@
-//! Rows of octets in any cut, sizes and limits, and each public function with ample memory.
-use crate::{Decoder, Frame, Greeting, WireFault};
+//! Greetings and frames: rows of octets in any cut, both forms of a size, and the limits.
 use std::alloc::Global;
 use std::process::Abort;
 use std::test::Fail;
+use zmtp_wire::{Decoder, Frame, Greeting, WireFault};
 
 /// A frame that is expected: more, command, body.
 type Expected = (bool, bool, &'static [u8]);
@@ -198,40 +198,6 @@ fn counts_frames(rt: HostRuntime) -> Result<(), Fail> {
     Ok(())
 }
 
-#[test]
-fn refuses_frames_that_no_reader_takes(rt: HostRuntime) -> Result<(), Fail> {
-    let alloc = rt.alloc();
-    let both = Frame {
-        more: true,
-        command: true,
-        body: Vec::new(alloc),
-    };
-    assert_eq!(rt; both.write(alloc).err(), Some(WireFault::CommandWithMore));
-    let long = Frame {
-        more: true,
-        command: false,
-        body: vec![in alloc; 0; 16_777_217]?,
-    };
-    assert_eq!(rt; long.write(alloc).err(), Some(WireFault::TooLong));
-    Ok(())
-}
-
-#[test]
-fn takes_back_a_piece(rt: HostRuntime) -> Result<(), Fail> {
-    let mut decoder = Decoder::new(rt.alloc());
-    decoder.feed(&[1, 1])?;
-    decoder.feed(&[0x61, 0, 0, 8])?;
-    assert_eq!(rt; decoder.next()?.map(|f| f.more), Some(true));
-    assert_eq!(rt; decoder.next()?.map(|f| f.more), Some(false));
-    assert_eq!(rt; decoder.next().err(), Some(WireFault::ReservedBits));
-    decoder.unfeed();
-    assert!(rt; decoder.next()?.is_none());
-    decoder.feed(&[0x62])?;
-    assert_eq!(rt; decoder.next()?.map(|f| f.more), Some(true));
-    assert!(rt; decoder.next()?.is_none());
-    Ok(())
-}
-
 /// The octets of greetings, in the layout of RFC 23.
 #[test]
 fn greets(rt: HostRuntime) -> Result<(), Fail> {
@@ -262,24 +228,5 @@ fn greets(rt: HostRuntime) -> Result<(), Fail> {
     assert_eq!(rt; Greeting::read(&octets), Err(WireFault::OldVersion));
     octets[9] = 0;
     assert_eq!(rt; Greeting::read(&octets), Err(WireFault::BadSignature));
-    Ok(())
-}
-
-#[test]
-fn tells_faults(rt: HostRuntime) -> Result<(), Fail> {
-    let told = [
-        (WireFault::BadSignature, 1, "BadSignature"),
-        (WireFault::OldVersion, 2, "OldVersion"),
-        (WireFault::BadMechanism, 3, "BadMechanism"),
-        (WireFault::ReservedBits, 4, "ReservedBits"),
-        (WireFault::CommandWithMore, 5, "CommandWithMore"),
-        (WireFault::TooLong, 6, "TooLong"),
-        (WireFault::Memory, 7, "Memory"),
-    ];
-    for (fault, number, name) in told {
-        assert_eq!(rt; fault.number(), number);
-        assert_eq!(rt; fault.name(), name);
-        assert_eq!(rt; format!(in rt.alloc(); "{fault}")?.as_str(), name);
-    }
     Ok(())
 }
