@@ -2,7 +2,7 @@
 use std::alloc::Global;
 use std::process::Abort;
 use std::test::Fail;
-use zmtp_wire::{Decoder, Frame, Greeting, WireFault};
+use zmtp_wire::{Decoder, Frame, Greeting, WireFault, write_message};
 
 /// A frame that is expected: more, command, body.
 type Expected = (bool, bool, &'static [u8]);
@@ -165,36 +165,80 @@ fn reads_both_forms(rt: HostRuntime) -> Result<(), Fail> {
     Ok(())
 }
 
-/// Feeds so many first frames of one message, a command before each, and then its last frame.
-fn message(rt: &impl Abort, alloc: Global, frames: u32) -> Result<Option<WireFault>, Fail> {
-    let mut decoder = Decoder::new(alloc);
-    for _ in 0..frames {
-        assert_eq!(rt;
-            feed(
-                rt,
-                &mut decoder,
-                &[4, 0, 1, 0],
-                &[(false, true, b""), (true, false, b"")],
-                0
-            )?,
-            (2, None)
-        );
+/// Writes a message with so many bodies of this length behind an octet, and reads it back.
+fn writes_message(
+    rt: &impl Abort,
+    alloc: Global,
+    count: usize,
+    length: usize,
+) -> Result<Option<WireFault>, Fail> {
+    let mut bodies = Vec::new(alloc);
+    for _ in 0..count {
+        bodies.push(vec![in alloc; 0x61; length]?)?;
     }
-    let (_, fault) = feed(
-        rt,
-        &mut decoder,
-        &[4, 0, 0, 0],
-        &[(false, true, b""), (false, false, b"")],
-        0,
-    )?;
-    Ok(fault)
+    if bodies.is_empty() {
+        return Ok(None);
+    }
+    let mut octets = Vec::from_slice(alloc, b"\x08")?;
+    if let Err(fault) = write_message(&mut octets, &bodies) {
+        assert_eq!(rt; octets.as_slice(), b"\x08".as_slice());
+        return Ok(Some(fault));
+    }
+    let mut decoder = Decoder::new(alloc);
+    decoder.feed(octets.get(1..).unwrap_or(&[]))?;
+    for place in 1..=count {
+        let frame = decoder.next()?;
+        assert_eq!(rt; frame.map(|f| (f.more, f.body.len())), Some((place < count, length)));
+    }
+    assert!(rt; decoder.next()?.is_none());
+    Ok(None)
 }
 
+/// A message has up to 1,024 frames, and up to 16,777,216 octets in all of them.
+#[test]
+fn writes_messages(rt: HostRuntime) -> Result<(), Fail> {
+    let alloc = rt.alloc();
+    let too_long = Some(WireFault::TooLong);
+    let cases = [
+        (1, 0, None),
+        (3, 255, None),
+        (2, 256, None),
+        (1024, 1, None),
+        (1025, 0, too_long),
+        (2, 8_388_608, None),
+        (3, 8_388_608, too_long),
+    ];
+    for (count, length, fault) in cases {
+        assert_eq!(rt; writes_message(&rt, alloc, count, length)?, fault);
+    }
+    Ok(())
+}
+
+/// The octets of a message of two frames, by hand from RFC 23.
+#[test]
+fn writes_the_octets_of_a_message(rt: HostRuntime) -> Result<(), Fail> {
+    let alloc = rt.alloc();
+    let bodies = [
+        Vec::from_slice(alloc, b"stream")?,
+        Vec::from_slice(alloc, b"")?,
+    ];
+    let mut octets = Vec::new(alloc);
+    write_message(&mut octets, &bodies)?;
+    assert_eq!(rt; octets.as_slice(), b"\x01\x06stream\0\0".as_slice());
+    Ok(())
+}
+
+/// A reader refuses the 1,025th frame of a message; commands between its frames don't count.
 #[test]
 fn counts_frames(rt: HostRuntime) -> Result<(), Fail> {
-    let alloc = rt.alloc();
-    assert_eq!(rt; message(&rt, alloc, 1023)?, None);
-    assert_eq!(rt; message(&rt, alloc, 1024)?, Some(WireFault::TooLong));
+    let mut decoder = Decoder::new(rt.alloc());
+    for _ in 0..1024 {
+        decoder.feed(&[4, 0, 1, 0])?;
+        assert_eq!(rt; decoder.next()?.map(|f| f.command), Some(true));
+        assert_eq!(rt; decoder.next()?.map(|f| f.more), Some(true));
+    }
+    decoder.feed(&[0, 0])?;
+    assert_eq!(rt; decoder.next().err(), Some(WireFault::TooLong));
     Ok(())
 }
 

@@ -108,7 +108,10 @@ impl Connection {
                 self.held = intake.taken_back(kept);
                 Err(AllocError)
             }
-            Ok(room) => Ok(self.keep(alloc, role, intake, room)),
+            Ok(room) => {
+                self.decoder.settle();
+                Ok(self.keep(alloc, role, intake, room))
+            }
         }
     }
 

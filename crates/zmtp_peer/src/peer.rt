@@ -74,12 +74,19 @@ impl Peer {
 
     /// What this end sends first, without waiting for the peer: its greeting, and a READY with its socket type alone.
     ///
+    /// Nothing is to be written behind it before the event `Ready`: libzmq drops a connection on which a frame comes together
+    /// with READY.
+    ///
     /// # Errors
     /// Want of memory alone.
-    pub fn opening(&self) -> Result<Vec<u8>, AllocError>
-        ensures { IfOk result (λ octets. octets.items ≡ opening_of self.now.role) }
+    pub fn opening(&self) -> Result<Vec<u8>, PeerFault>
+        ensures octets { IfOk result (λ octets. octets.items ≡ opening_of self.now.role) }
+        ensures memory { IfErr result (λ fault. fault_of fault ≡ want_of_memory) }
     {
-        opening_octets(self.alloc, self.role)
+        match opening_octets(self.alloc, self.role) {
+            Ok(octets) => Ok(octets),
+            Err(AllocError) => Err(PeerFault::MEMORY),
+        }
     }
 
     /// Whether the peer has subscribed to a topic: a prefix to which it subscribes, and has not taken that back as often,

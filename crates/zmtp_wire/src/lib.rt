@@ -10,18 +10,18 @@
 
 ghost use Rattle.zmtp_wire.specs.Laws.{EveryStreamIsRead, StreamsHaveOneReading, ReadingsGoOn, FaultsStay, FramesAreReadBack, MessagesAreReadBack, NoCutMatters, CutsAgree};
 
-pub mod decoder;
-pub mod fault;
-pub mod frame;
-pub mod greeting;
+mod decoder;
+mod fault;
+mod frame;
+mod greeting;
 mod header;
-pub mod message;
+mod message;
 mod tally;
 
 pub use decoder::Decoder;
 pub use fault::WireFault;
 pub use frame::Frame;
-pub use greeting::Greeting;
+pub use greeting::{GREETING_LENGTH, Greeting, MAJOR, MINOR};
 pub use message::write_message;
 
 /// Law: each list of octets has a reading.
