@@ -13,13 +13,13 @@ ghost use Rattle.zmtp_peer.specs.Laws.{OctetsAreRead, OctetsHaveOneReading, Refu
 
 mod command;
 mod connection;
-pub mod event;
-pub mod fault;
+mod event;
+mod fault;
 mod handshake;
 mod intake;
 mod opening;
-pub mod peer;
-pub mod role;
+mod peer;
+mod role;
 mod subscriptions;
 mod told;
 

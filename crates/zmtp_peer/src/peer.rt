@@ -17,8 +17,7 @@ use crate::subscriptions::is_wanted;
 use std::alloc::{AllocError, Global};
 use std::collections::BTreeMap;
 use std::marker::Model;
-use zmtp_wire::greeting::GREETING_LENGTH;
-use zmtp_wire::{Decoder, Greeting};
+use zmtp_wire::{Decoder, GREETING_LENGTH, Greeting};
 
 /// One end of a ZMTP 3.0 connection in one role. It is fed the octets that come, in any pieces, and answers the events
 /// that they bring.

@@ -1,5 +1,5 @@
 //! The reading of a stream of frames that comes in pieces.
-ghost use Rattle.std.specs.Prelude.{◌≡◌, ◌≢◌, ◌≤◌, ◌++◌, [], List, ℕ, drop, length, IfErr, IfNone, IfOk, IfSome, IsErrOf, IsOkUnless, OnErr, OnOk, vec_capacity, vec_len};
+ghost use Rattle.std.specs.Prelude.{◌≡◌, ◌≢◌, ◌≤◌, ◌↔◌, ◌++◌, [], List, ℕ, drop, length, IfErr, IfNone, IfOk, IfSome, IsErrOf, IsOkUnless, IsTrue, OnErr, OnOk, vec_capacity, vec_len};
 ghost use Rattle.zmtp_wire.specs.Frame.{Frame as FrameSeen, frame_of};
 ghost use Rattle.zmtp_wire.specs.Stream.{Takes, HasFrame, IsPartial, IsFaultAt};
 ghost use Rattle.zmtp_wire.specs.Decoding.{new_decoding, fed, unfed, HasGiven, Tells};
@@ -110,6 +110,17 @@ impl Decoder {
         }
         self.length_before = self.buffer.len();
         self.position_before = self.position;
+    }
+
+    /// Whether less than a whole frame is left, and no fault. It takes no memory.
+    pub fn is_partial(&self) -> bool
+        ensures { IsTrue result ↔ IsPartial self.now.rest }
+    {
+        match Front::read(&self.buffer[self.position.at..], self.position.tally) {
+            Ok(Some(_)) => false,
+            Ok(None) => true,
+            Err(_) => false,
+        }
     }
 
     /// The next frame, or `None` where less than a whole frame is left.

@@ -1,7 +1,7 @@
 use Rattle.zmtp_peer.specs.Subscriptions.{is_asked}
 use Rattle.zmtp_peer.specs.Table.{table_of}
 use Rattle.zmtp_peer.proofs.TidyLemmas.{tidy-again}
-use Rattle.zmtp_peer.proofs.connection.Connection.read.Goals as goal
+use Rattle.zmtp_peer.proofs.connection.Connection.read_frames.Goals as goal
 
 pub returns-in-Err-clause-tidy : goal.returns-in-Err-clause-tidy
 returns-in-Err-clause-tidy c =
