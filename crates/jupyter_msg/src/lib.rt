@@ -33,6 +33,6 @@ pub use history::{HistoryAccess, HistoryRequest};
 pub use introspection::{CompleteRequest, InspectRequest, IsCompleteRequest};
 pub use keyed_hash::hmac;
 pub use message::{Message, Opened, open, seal};
-pub use request::{Request, ShutdownRequest};
+pub use request::{Request, RequestContent, ShutdownRequest};
 pub use request_type::RequestType;
 pub use signature::{Parts, sign};

@@ -211,7 +211,11 @@ fn push_copy(alloc: Global, frames: &mut Vec<Vec<u8>>, frame: &[u8]) -> Result<(
 }
 
 /// Adds a copy of each of the frames, in order.
-fn push_copies(alloc: Global, frames: &mut Vec<Vec<u8>>, more: &[Vec<u8>]) -> Result<(), MsgFault>
+pub(crate) fn push_copies(
+    alloc: Global,
+    frames: &mut Vec<Vec<u8>>,
+    more: &[Vec<u8>],
+) -> Result<(), MsgFault>
     ensures ok { OnOk result (octets frames.new.items ≡ octets frames.old.items ++ octets more.now) }
     ensures memory { IfErr result (λ e. e ≡ MsgFault.Memory) }
 {

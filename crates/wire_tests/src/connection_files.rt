@@ -26,6 +26,7 @@ fn reads_a_connection_file(rt: HostRuntime) -> Result<(), Fail> {
     assert_eq!(rt; connection.stdin_port, 47299);
     assert_eq!(rt; (connection.control_port, connection.hb_port), (1, 65535));
     assert_eq!(rt; connection.key.as_bytes(), KEY);
+    assert!(rt; !format!(in rt.alloc(); "{connection:?}")?.contains("a0436f6c"));
     Ok(())
 }
 

@@ -188,7 +188,10 @@ fn writes_message(
     decoder.feed(octets.get(1..).unwrap_or(&[]))?;
     for place in 1..=count {
         let frame = decoder.next()?;
-        assert_eq!(rt; frame.map(|f| (f.more, f.body.len())), Some((place < count, length)));
+        assert_eq!(rt;
+            frame.map(|f| (f.more, f.body.len())),
+            Some((place < count, length))
+        );
     }
     assert!(rt; decoder.next()?.is_none());
     Ok(None)

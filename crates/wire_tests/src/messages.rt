@@ -1,6 +1,6 @@
 //! Messages: vectors of RFC 4231, messages that a real client wrote, and the first refusal of frames that are none.
 use crate::client::{COMM_OPEN, COMPLETE, EXECUTE, KERNEL_INFO, KEY};
-use jupyter_msg::{Message, MsgFault, Part, Parts, Request, hmac, open, seal, sign};
+use jupyter_msg::{MsgFault, Opened, Part, Parts, Request, RequestContent, hmac, open, seal, sign};
 use std::alloc::{AllocError, Global};
 use std::process::Abort;
 use std::test::Fail;
@@ -54,7 +54,7 @@ fn copy_frames(alloc: Global, frames: &[&[u8]]) -> Result<Vec<Vec<u8>>, AllocErr
 }
 
 /// A message with this header and content, under an empty key.
-pub(crate) fn message_of(alloc: Global, header: &str, content: &str) -> Result<Message, Fail> {
+pub(crate) fn message_of(alloc: Global, header: &str, content: &str) -> Result<Opened, Fail> {
     let frames = [
         b"<IDS|MSG>".as_slice(),
         b"",
@@ -81,28 +81,32 @@ fn opens(
     alloc: Global,
     frames: &[&[u8]],
     identities: usize,
-) -> Result<Message, Fail> {
-    let message = open(alloc, copy_frames(alloc, frames)?, KEY)?;
-    assert_eq!(rt; message.identities.len(), identities);
-    let sealed = seal(alloc, &message, KEY)?;
+) -> Result<Opened, Fail> {
+    let opened = open(alloc, copy_frames(alloc, frames)?, KEY)?;
+    assert_eq!(rt; opened.message.identities.len(), identities);
+    let sealed = seal(alloc, &opened.message, KEY)?;
     assert_eq!(rt; sealed.len(), frames.len());
     for (ours, theirs) in sealed.iter().zip(frames) {
         assert_eq!(rt; ours.as_slice(), *theirs);
     }
-    Ok(message)
+    Ok(opened)
 }
 
 #[test]
 fn opens_what_a_client_wrote(rt: HostRuntime) -> Result<(), Fail> {
     let alloc = rt.alloc();
-    let message = opens(&rt, alloc, &EXECUTE, 0)?;
+    let opened = opens(&rt, alloc, &EXECUTE, 0)?;
+    let message = &opened.message;
     assert_eq!(rt;
         message.msg_id(alloc)?.as_str(),
         "8f2ad2ee-5a5e4b9d_18161_0"
     );
     assert_eq!(rt; message.session(alloc)?.as_str(), "8f2ad2ee-5a5e4b9d");
     assert_eq!(rt; message.msg_type(alloc)?.as_str(), "execute_request");
-    let Request::Execute(request) = Request::read(alloc, &message)? else {
+    let request = Request::read(alloc, &opened)?;
+    assert!(rt; request.identities.is_empty());
+    assert_eq!(rt; request.header.as_slice(), EXECUTE[2]);
+    let RequestContent::Execute(request) = request.content else {
         return Err(Fail::from("no execute_request"));
     };
     assert_eq!(rt; request.code.as_str(), "int x\nx += 5");
@@ -111,27 +115,36 @@ fn opens_what_a_client_wrote(rt: HostRuntime) -> Result<(), Fail> {
     assert_eq!(rt; request.user_expressions[0].name.as_str(), "a");
     assert_eq!(rt; request.user_expressions[0].expression.as_str(), "x * 2");
 
-    let message = opens(&rt, alloc, &KERNEL_INFO, 0)?;
-    assert!(rt; matches!(&Request::read(alloc, &message)?, Request::KernelInfo));
+    let opened = opens(&rt, alloc, &KERNEL_INFO, 0)?;
+    assert!(rt;
+        matches!(
+            &Request::read(alloc, &opened)?.content,
+            RequestContent::KernelInfo
+        )
+    );
     Ok(())
 }
 
 #[test]
 fn keeps_identities_and_buffers(rt: HostRuntime) -> Result<(), Fail> {
     let alloc = rt.alloc();
-    let message = opens(&rt, alloc, &COMPLETE, 2)?;
-    assert_eq!(rt; message.identities.len(), 2);
-    assert_eq!(rt; message.identities[1].as_slice(), b"second".as_slice());
-    let Request::Complete(request) = Request::read(alloc, &message)? else {
+    let opened = opens(&rt, alloc, &COMPLETE, 2)?;
+    let request = Request::read(alloc, &opened)?;
+    assert_eq!(rt; request.identities.len(), 2);
+    assert_eq!(rt; request.identities[1].as_slice(), b"second".as_slice());
+    let RequestContent::Complete(request) = request.content else {
         return Err(Fail::from("no complete_request"));
     };
     assert_eq!(rt; request.code.as_str(), "unc p");
     assert_eq!(rt; request.cursor, Some(3));
 
-    let message = opens(&rt, alloc, &COMM_OPEN, 0)?;
-    assert_eq!(rt; message.buffers.len(), 2);
-    assert_eq!(rt; message.buffers[0].as_slice(), b"\x01\x02".as_slice());
-    let Request::CommOpen(request) = Request::read(alloc, &message)? else {
+    let opened = opens(&rt, alloc, &COMM_OPEN, 0)?;
+    assert_eq!(rt; opened.message.buffers.len(), 2);
+    assert_eq!(rt;
+        opened.message.buffers[0].as_slice(),
+        b"\x01\x02".as_slice()
+    );
+    let RequestContent::CommOpen(request) = Request::read(alloc, &opened)?.content else {
         return Err(Fail::from("no comm_open"));
     };
     assert_eq!(rt; request.comm_id.as_str(), "c1");

@@ -1,6 +1,6 @@
 //! Requests: each field of each request with values of each kind, and what is read of a content.
 use crate::messages::message_of;
-use jupyter_msg::{CommAsk, Field, MsgFault, Request};
+use jupyter_msg::{CommAsk, Field, MsgFault, Request, RequestContent};
 use std::alloc::{AllocError, Global};
 use std::test::Fail;
 
@@ -359,7 +359,7 @@ fn reads_each_request(rt: HostRuntime) -> Result<(), Fail> {
     let alloc = rt.alloc();
     for (msg_type, content, want) in REQUESTS {
         let message = message_of(alloc, &header_of(alloc, msg_type)?, content)?;
-        let request = Request::read(alloc, &message)?;
+        let request = Request::read(alloc, &message)?.content;
         assert_eq!(rt; format!(in alloc; "{request:?}")?.as_str(), want);
     }
     Ok(())
@@ -384,7 +384,7 @@ fn reads_what_a_comm_asks(rt: HostRuntime) -> Result<(), Fail> {
     for (data, want) in ASKS {
         let content = format!(in alloc; "{{\"comm_id\":\"c\",\"data\":{data}}}")?;
         let message = message_of(alloc, &header_of(alloc, "comm_msg")?, &content)?;
-        let Request::CommMessage(request) = Request::read(alloc, &message)? else {
+        let RequestContent::CommMessage(request) = Request::read(alloc, &message)?.content else {
             return Err(Fail::from("no comm_msg"));
         };
         assert_eq!(rt; request.ask, want, "{data}");

@@ -1,5 +1,7 @@
 //! A peer: one end of a connection, in one role.
-ghost use Rattle.std.specs.Prelude.{◌≡◌, ◌≢◌, ℕ, List, ◌+◌, ◌≤◌, ◌↔◌, [], ◌++◌, IfOk, IfErr, IsErrAnd, IsTrue, take, length};
+ghost use Rattle.std.specs.Prelude.{◌≡◌, ◌≢◌, ℕ, List, ◌+◌, ◌<◌, ◌≤◌, ◌↔◌, ◌⊎◌, [], ◌++◌, IfOk, IfErr, IfSome, IfNone, IsErrAnd, IsTrue, take, length};
+ghost use Rattle.zmtp_wire.specs.declared.fault.WireFault.{WireFault};
+ghost use Rattle.zmtp_wire.specs.Greeting.{IsGreeting, IsGreetingFault};
 ghost use Rattle.zmtp_peer.specs.Faults.{Fault, Wire, fault_of, want_of_memory};
 ghost use Rattle.zmtp_peer.specs.Events.{Event, Refused, events_of};
 ghost use Rattle.zmtp_peer.specs.Intake.{IsRefusal, state_at};
@@ -85,6 +87,21 @@ impl Peer {
         match opening_octets(self.alloc, self.role) {
             Ok(octets) => Ok(octets),
             Err(AllocError) => Err(PeerFault::MEMORY),
+        }
+    }
+
+    /// The partner's greeting, with its minor version, once all of it came; none where it is refused.
+    pub fn partner(&self) -> Option<Greeting>
+        ensures some { IfSome result (IsGreeting self.now.greeting) }
+        ensures none { IfNone result ((length self.now.greeting < 64)
+            ⊎ ((fault : WireFault) × IsGreetingFault self.now.greeting fault)) }
+    {
+        if self.greeted < GREETING_LENGTH {
+            return None;
+        }
+        match Greeting::read(&self.greeting) {
+            Ok(greeting) => Some(greeting),
+            Err(_) => None,
         }
     }
 
