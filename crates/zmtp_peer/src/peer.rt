@@ -99,10 +99,7 @@ impl Peer {
         if self.greeted < GREETING_LENGTH {
             return None;
         }
-        match Greeting::read(&self.greeting) {
-            Ok(greeting) => Some(greeting),
-            Err(_) => None,
-        }
+        welcome(&self.greeting)
     }
 
     /// Whether the peer has subscribed to a topic: a prefix to which it subscribes, and has not taken that back as often,
@@ -156,6 +153,18 @@ impl Peer {
                 answer(events, self.connection.stage)
             }
         }
+    }
+}
+
+/// The greeting that the octets are, unless it is refused.
+fn welcome(octets: &[u8; 64]) -> Option<Greeting>
+    ensures some { IfSome result (IsGreeting octets.now) }
+    ensures none { IfNone result ((fault : WireFault) × IsGreetingFault octets.now fault) }
+    ensures size { length octets.now ≡ 64 }
+{
+    match Greeting::read(octets) {
+        Ok(greeting) => Some(greeting),
+        Err(_) => None,
     }
 }
 
