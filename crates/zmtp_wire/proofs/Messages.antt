@@ -1,5 +1,5 @@
 -- Messages: how they are written, and that what is written is read again.
-use Rattle.std.proofs.Common.{◌≡◌, ℕ, ◌+◌, ◌<◌, ◌≤◌, Bool, true, false, List, [], ◌∷◌, ◌++◌, length, map, take, drop, sum_by, sym, ap, ◌∙◌, refl, subst, arith, append_assoc, append-nil, take-append-drop, take_all, get_or, Result, Ok, Err, OnOk, nat_lt}
+use Rattle.std.proofs.Common.{◌≡◌, ℕ, ◌+◌, ◌<◌, ◌≤◌, Bool, true, false, List, [], ◌∷◌, ◌++◌, length, take, drop, sum_by, sym, ap, ◌∙◌, refl, arith, append_assoc, append-nil, take-append-drop, take_all, get_or, Result, Ok, Err, OnOk, nat_lt}
 use Rattle.std.proofs.Math.Seq.{take-append_seam}
 use Rattle.std.proofs.lemmas.List.{map-append}
 use Rattle.std.proofs.lemmas.List.Folds.{flat_map-map}
@@ -7,13 +7,13 @@ use Rattle.std.proofs.lemmas.List.Sums.{sum_by_more_le, sum_by-cons}
 use Rattle.std.proofs.lemmas.Bool.Decides.{nat_tests}
 use Rattle.std.specs.List.{flat_map}
 use Rattle.std.specs.Global.{Vec}
-use Rattle.zmtp_wire.specs.Frame.{Frame, written}
+use Rattle.zmtp_wire.specs.Frame.{written}
 use Rattle.zmtp_wire.specs.declared.tally.Tally.{Tally}
 use Rattle.zmtp_wire.specs.Header.{size_bound, header_octets}
-use Rattle.zmtp_wire.specs.Frame.{IsFrame, header_of}
-use Rattle.zmtp_wire.specs.Tally.{counted, octet_limit, frame_limit}
-use Rattle.zmtp_wire.specs.Message.{bodies_of, message_frames, message_octets, IsWithinLimits}
-use Rattle.zmtp_wire.specs.Stream.{Rest, whole, Takes, Leaves}
+use Rattle.zmtp_wire.specs.Frame.{IsFrame}
+use Rattle.zmtp_wire.specs.Tally.{octet_limit, frame_limit}
+use Rattle.zmtp_wire.specs.Message.{bodies_of, message_frames, message_octets}
+use Rattle.zmtp_wire.specs.Stream.{whole, Leaves}
 use Rattle.zmtp_wire.specs.Laws.{MessagesAreReadBack}
 
 -- what stands before stays, if what stands before with more behind it does

@@ -1,5 +1,5 @@
 -- Messages (RFC 23, "Formal Grammar": message): one frame or more, each but the last with MORE.
-use Rattle.std.specs.Prelude.{ℕ, ◌<◌, ◌≤◌, true, false, List, [], ◌∷◌, ◌++◌, length, map, sum_by}
+use Rattle.std.specs.Prelude.{ℕ, ◌≤◌, true, false, List, [], ◌∷◌, length, map, sum_by}
 use Rattle.std.specs.List.{flat_map}
 use Rattle.std.specs.Global.{Vec}
 use Rattle.zmtp_wire.specs.declared.fault.WireFault.{WireFault}

@@ -1,7 +1,6 @@
 use Rattle.std.proofs.Common.{◌≡◌, ◌++◌, take}
 use Rattle.std.specs.List.{flat_map}
 use Rattle.zmtp_wire.proofs.Messages.{part}
-use Rattle.zmtp_wire.specs.Frame.{written}
 use Rattle.std.proofs.Common.{true}
 use Rattle.zmtp_wire.proofs.message.push_frames.Given as goal
 

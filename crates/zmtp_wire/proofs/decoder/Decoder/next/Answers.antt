@@ -1,4 +1,4 @@
-use Rattle.std.proofs.Common.{◌≢◌, ap, ◌∙◌}
+use Rattle.std.proofs.Common.{◌≢◌, ap}
 use Rattle.zmtp_wire.specs.declared.fault.WireFault.{WireFault}
 use Rattle.zmtp_wire.specs.declared.fault.WireFault.TheVariants.{Memory}
 use Rattle.zmtp_wire.specs.Stream.{IsFaultAt}
