@@ -1,6 +1,5 @@
 -- What a message tells a peer that is ready.
-use Rattle.std.proofs.Common.{◌≡◌, ◌≢◌, ℕ, ◌<◌, true, false, List, [], ◌∷◌, ◌++◌, length, refl, ap, sym, subst, ◌∙◌, arith, append_assoc, append-nil, inl}
-use Rattle.zmtp_wire.specs.Frame.{Frame}
+use Rattle.std.proofs.Common.{◌≡◌, ◌≢◌, ℕ, ◌<◌, List, [], ◌∷◌, ◌++◌, length, refl, ap, sym, subst, ◌∙◌, arith, append_assoc, append-nil, inl}
 use Rattle.zmtp_wire.specs.Message.{message_frames, message_octets, IsWithinLimits}
 use Rattle.zmtp_wire.specs.Stream.{Rest, whole, Leaves}
 use Rattle.zmtp_wire.proofs.Streams.{longer}
