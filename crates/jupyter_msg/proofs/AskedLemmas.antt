@@ -5,7 +5,7 @@ use Rattle.jupyter_msg.specs.Object.{object_of}
 use Rattle.jupyter_msg.specs.Octets.{Octets}
 use Rattle.jupyter_msg.specs.Fields.{first_wrong}
 use Rattle.jupyter_msg.specs.Requests.{fields_of}
-use Rattle.jupyter_msg.specs.Asked.{asked, type_in, fitted_or, Reads}
+use Rattle.jupyter_msg.specs.Asked.{asked, type_in, fitted_or}
 use Rattle.jupyter_msg.specs.declared.fault.Field.{Field}
 use Rattle.jupyter_msg.specs.declared.fault.MsgFault.{MsgFault}
 use Rattle.jupyter_msg.specs.declared.fault.MsgFault.TheVariants.{BadField, Memory}

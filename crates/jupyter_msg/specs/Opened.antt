@@ -1,5 +1,5 @@
 -- What was read of a message as it was opened.
-use Rattle.std.specs.Prelude.{◌≡◌, ℕ, List, [], ◌∷◌, Some}
+use Rattle.std.specs.Prelude.{◌≡◌, ℕ, List, ◌∷◌, Some}
 use Rattle.serde_json.specs.View.{view}
 use Rattle.jupyter_msg.specs.Object.{object_of}
 use Rattle.jupyter_msg.specs.declared.message.Opened.{Opened}
