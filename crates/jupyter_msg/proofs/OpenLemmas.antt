@@ -7,7 +7,10 @@ use Rattle.jupyter_msg.specs.Octets.{Octets, octets, octets_of}
 use Rattle.jupyter_msg.specs.Signature.{fits, signature_of}
 use Rattle.jupyter_msg.specs.Message.{delimiter, NoneIsDelimiter, IsCut, AreObjects, IsMessage, IsRefused, after_delimiter, refusal_after, text_of, frames_of}
 use Rattle.std.proofs.lemmas.Slice.Eq.{bytes_eq-Decides}
-use Rattle.jupyter_msg.specs.declared.message.Message.{Message}
+use Rattle.serde_json.specs.View.{view}
+use Rattle.jupyter_msg.specs.Opened.{IsRead, AreReadAfter}
+use Rattle.jupyter_msg.specs.declared.message.Opened.{Opened}
+use Rattle.jupyter_msg.specs.declared.message.ReadParts.{ReadParts}
 use Rattle.jupyter_msg.specs.declared.fault.Part.TheVariants.{Header, Parent, Metadata, Content}
 use Rattle.jupyter_msg.specs.declared.fault.MsgFault.{MsgFault}
 use Rattle.jupyter_msg.specs.declared.fault.MsgFault.TheVariants.{NoDelimiter, ShortMessage, BadSignature, NotJson, BadField, UnknownType, Memory, BadConnection}
@@ -183,46 +186,61 @@ refusal_at key frames identities after fault cut q =
 
 -- ---- what the answer of `open` says of every message and of every refusal
 
-pub every_message : (key : List ℕ) (frames : List (List ℕ)) (r : Result Message MsgFault) → IfOk r (λ m. IsMessage key frames (octets_of m)) → IfErr r (λ e. (e ≡ Memory) ⊎ IsRefused key frames e)
-    → (m : Octets) → IsMessage key frames m → MatchResult r (λ x. octets_of x ≡ m) (λ e. e ≡ Memory)
-every_message key frames (Ok x) ok err m p = same_message key frames (octets_of x) m ok p
+-- the message that was opened
+abbrev seen : Opened → Octets
+seen o = octets_of o.message
+
+pub every_message : (key : List ℕ) (frames : List (List ℕ)) (r : Result Opened MsgFault) → IfOk r (λ m. IsMessage key frames (seen m)) → IfErr r (λ e. (e ≡ Memory) ⊎ IsRefused key frames e)
+    → (m : Octets) → IsMessage key frames m → MatchResult r (λ x. seen x ≡ m) (λ e. e ≡ Memory)
+every_message key frames (Ok x) ok err m p = same_message key frames (seen x) m ok p
 every_message key frames (Err e) ok err m p = elim err [ inl h ↦ h | inr h ↦ absurd (message_not_refused key frames m e p h) ]
 
-pub exactly_refused : (key : List ℕ) (frames : List (List ℕ)) (r : Result Message MsgFault) → IfOk r (λ m. IsMessage key frames (octets_of m)) → IfErr r (λ e. (e ≡ Memory) ⊎ IsRefused key frames e)
+pub exactly_refused : (key : List ℕ) (frames : List (List ℕ)) (r : Result Opened MsgFault) → IfOk r (λ m. IsMessage key frames (seen m)) → IfErr r (λ e. (e ≡ Memory) ⊎ IsRefused key frames e)
     → (fault : MsgFault) → IsRefused key frames fault → MatchResult r (λ _. ⊥) (λ e. (e ≡ Memory) ⊎ (e ≡ fault))
-exactly_refused key frames (Ok x) ok err fault q = message_not_refused key frames (octets_of x) fault ok q
+exactly_refused key frames (Ok x) ok err fault q = message_not_refused key frames (seen x) fault ok q
 exactly_refused key frames (Err e) ok err fault q = elim err [ inl h ↦ inl h | inr h ↦ inr (same_refusal key frames e fault h q) ]
 
 pub no_delimiter_early : (key : List ℕ) (frames : List (List ℕ)) → NoneIsDelimiter frames → (fault : MsgFault) → IsRefused key frames fault → NoDelimiter ≡ fault
 no_delimiter_early key frames none fault q = same_refusal key frames NoDelimiter fault none q
 
-pub passed_early : (key : List ℕ) (frames identities after : List (List ℕ)) (r : Result Message MsgFault) → IsCut frames identities after → refusal_after key after ≡ None
+pub passed_early : (key : List ℕ) (frames identities after : List (List ℕ)) (r : Result Opened MsgFault) → IsCut frames identities after → refusal_after key after ≡ None
     → (fault : MsgFault) → IsRefused key frames fault → r ≡ Err fault
 passed_early key frames identities after r cut passed fault q = absurd (none_some (sym passed ∙ refusal_at key frames identities after fault cut q))
 
-pub refused_early : (key : List ℕ) (frames identities after : List (List ℕ)) (r : Result Message MsgFault) (checked : Result (Unit {0}) MsgFault) (e fault : MsgFault) → IsCut frames identities after → r ≡ Err e
+pub refused_early : (key : List ℕ) (frames identities after : List (List ℕ)) (r : Result Opened MsgFault) (checked : Result ReadParts MsgFault) (e fault : MsgFault) → IsCut frames identities after → r ≡ Err e
     → checked ≡ Err e → (refusal_after key after ≡ Some fault → checked ≡ Err fault) → IsRefused key frames fault → r ≡ Err fault
 refused_early key frames identities after r checked e fault cut s at early q = let t = early (refusal_at key frames identities after fault cut q) in let u : e ≡ fault = cc in s ∙ ap Err u
 
 -- ---- what is taken apart
 
-pub taken_message : (key : List ℕ) (frames identities after : List (List ℕ)) (r : Result Message MsgFault) → IsCut frames identities after → refusal_after key after ≡ None
-    → IfOk r (λ m. octets m.identities.items ≡ identities) → IfOk r (λ m. (signature : List ℕ) × (after ≡ after_delimiter signature (octets_of m))) → IfOk r (λ m. IsMessage key frames (octets_of m))
-taken_message key frames identities after (Ok m) cut passed same e = message_of key frames identities after e.0 (octets_of m) cut passed same e.1
+pub taken_message : (key : List ℕ) (frames identities after : List (List ℕ)) (r : Result Opened MsgFault) → IsCut frames identities after → refusal_after key after ≡ None
+    → IfOk r (λ m. octets m.message.identities.items ≡ identities) → IfOk r (λ m. (signature : List ℕ) × (after ≡ after_delimiter signature (seen m))) → IfOk r (λ m. IsMessage key frames (seen m))
+taken_message key frames identities after (Ok m) cut passed same e = message_of key frames identities after e.0 (seen m) cut passed same e.1
 taken_message key frames identities after (Err fault) cut passed same e = tt
 
-pub memory_refused : (key : List ℕ) (frames : List (List ℕ)) (r : Result Message MsgFault) → IfErr r (λ e. e ≡ Memory) → IfErr r (λ e. (e ≡ Memory) ⊎ IsRefused key frames e)
+pub memory_refused : (key : List ℕ) (frames : List (List ℕ)) (r : Result Opened MsgFault) → IfErr r (λ e. e ≡ Memory) → IfErr r (λ e. (e ≡ Memory) ⊎ IsRefused key frames e)
 memory_refused key frames (Ok m) h = tt
 memory_refused key frames (Err e) h = inl h
 
 pub judged_refused : (key : List ℕ) (frames identities after : List (List ℕ)) (e : MsgFault) → IsCut frames identities after → (e ≡ Memory) ⊎ (refusal_after key after ≡ Some e) → (e ≡ Memory) ⊎ IsRefused key frames e
 judged_refused key frames identities after e cut h = elim h [ inl m ↦ inl m | inr r ↦ inr (refused_after key frames identities after e cut r) ]
 
-pub refused_at : (key : List ℕ) (frames : List (List ℕ)) (r : Result Message MsgFault) (e : MsgFault) → r ≡ Err e → (e ≡ Memory) ⊎ IsRefused key frames e → IfErr r (λ e. (e ≡ Memory) ⊎ IsRefused key frames e)
+pub refused_at : (key : List ℕ) (frames : List (List ℕ)) (r : Result Opened MsgFault) (e : MsgFault) → r ≡ Err e → (e ≡ Memory) ⊎ IsRefused key frames e → IfErr r (λ e. (e ≡ Memory) ⊎ IsRefused key frames e)
 refused_at key frames r e s h = subst (λ r. IfErr r (λ e. (e ≡ Memory) ⊎ IsRefused key frames e)) (sym s) h
 
-pub not_message : (key : List ℕ) (frames : List (List ℕ)) (r : Result Message MsgFault) (e : MsgFault) → r ≡ Err e → IfOk r (λ m. IsMessage key frames (octets_of m))
-not_message key frames r e s = subst (λ r. IfOk r (λ m. IsMessage key frames (octets_of m))) (sym s) tt
+pub not_message : (key : List ℕ) (frames : List (List ℕ)) (r : Result Opened MsgFault) (e : MsgFault) → r ≡ Err e → IfOk r (λ m. IsMessage key frames (seen m))
+not_message key frames r e s = subst (λ r. IfOk r (λ m. IsMessage key frames (seen m))) (sym s) tt
+
+-- what was read from the frames is what was read of the message
+pub taken_read : (after : List (List ℕ)) (p : ReadParts) (r : Result Opened MsgFault) → AreReadAfter p after
+    → IfOk r (λ o. (signature : List ℕ) × (after ≡ after_delimiter signature (seen o))) → IfOk r (λ o. (o.header ≡ p.header) × (o.content ≡ p.content)) → IfOk r IsRead
+taken_read after p (Ok o) from e same =
+    let here = subst (AreReadAfter p) e.1 from in
+    record { header = here.header_is ∙ ap (λ v. Some (view v)) (sym same.0); content = here.content_is ∙ ap (λ v. Some (view v)) (sym same.1) }
+taken_read after p (Err fault) from e same = tt
+
+pub not_read : (r : Result Opened MsgFault) (e : MsgFault) → r ≡ Err e → IfOk r IsRead
+not_read r e s = subst (λ r. IfOk r IsRead) (sym s) tt
 
 -- ---- what is written is a message
 

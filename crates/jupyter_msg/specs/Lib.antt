@@ -4,6 +4,7 @@ pub mod Signature
 pub mod Object
 pub mod Octets
 pub mod Message
+pub mod Opened
 pub mod Table
 pub mod Connection
 pub mod Fields

@@ -21,8 +21,8 @@ use Rattle.jupyter_msg.specs.declared.comm.CommAsk.{CommAsk}
 use Rattle.jupyter_msg.specs.declared.comm.CommAsk.TheVariants as ask
 use Rattle.jupyter_msg.specs.declared.comm.CommOpen.{CommOpen}
 use Rattle.jupyter_msg.specs.declared.comm.CommMessage.{CommMessage}
-use Rattle.jupyter_msg.specs.declared.request.Request.{Request}
-use Rattle.jupyter_msg.specs.declared.request.Request.TheVariants as request
+use Rattle.jupyter_msg.specs.declared.request.RequestContent.{RequestContent}
+use Rattle.jupyter_msg.specs.declared.request.RequestContent.TheVariants as request
 
 -- ---- words for values
 
@@ -125,7 +125,7 @@ pub record IsCommMessage (d : Data) (r : CommMessage) : Type 0 where
   pub comm_id : text_at field.CommId d ≡ Some (string_bytes r.comm_id)
   pub ask : option_map ask_of (value_at field.Data d) ≡ Some r.ask
 
-abbrev pub IsRequest : Data → Request → Type 0
+abbrev pub IsRequest : Data → RequestContent → Type 0
 IsRequest d request.KernelInfo = Unit {0}
 IsRequest d (request.Execute r) = IsExecute d r
 IsRequest d (request.Complete r) = IsCompletion d r
@@ -139,7 +139,7 @@ IsRequest d (request.CommOpen r) = IsCommOpen d r
 IsRequest d (request.CommMessage r) = IsCommMessage d r
 IsRequest d (request.CommClose r) = text_at field.CommId d ≡ Some (string_bytes r.comm_id)
 
-abbrev pub type_of : Request → RequestType
+abbrev pub type_of : RequestContent → RequestType
 type_of request.KernelInfo = type.KernelInfo
 type_of (request.Execute r) = type.Execute
 type_of (request.Complete r) = type.Complete

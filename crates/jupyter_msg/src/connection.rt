@@ -11,9 +11,10 @@ use crate::fault::{MsgFault, Setting};
 use crate::object::object_of;
 use serde_json::Value;
 use std::alloc::Global;
+use std::fmt;
 
-/// Where a kernel listens, and the key under which messages are signed.
-#[derive(Debug, Drop)]
+/// Where a kernel listens, and the key under which messages are signed. `Debug` leaves the key out.
+#[derive(Drop)]
 pub struct Connection {
     /// The address.
     pub ip: String,
@@ -29,6 +30,19 @@ pub struct Connection {
     pub hb_port: u16,
     /// The text whose octets are the key; empty where nothing is signed.
     pub key: String,
+}
+
+impl fmt::Debug for Connection {
+    fn fmt<W: fmt::Write>(&self, f: &mut fmt::Formatter<W>) -> fmt::Result {
+        f.debug_struct("Connection")
+            .field("ip", &self.ip)
+            .field("shell_port", &self.shell_port)
+            .field("iopub_port", &self.iopub_port)
+            .field("stdin_port", &self.stdin_port)
+            .field("control_port", &self.control_port)
+            .field("hb_port", &self.hb_port)
+            .finish_non_exhaustive()
+    }
 }
 
 /// The value of a field, if the file has it.

@@ -3,7 +3,8 @@ ghost use Rattle.std.specs.Prelude.{◌≡◌};
 ghost use Rattle.jupyter_msg.specs.Fault.{number_of, fault_name, part_name, field_name, setting_name};
 
 use std::alloc::{AllocError, AllocFailed};
-use thiserror::Error;
+use std::error::Error;
+use std::fmt;
 
 /// One of the four parts of a message that are signed.
 #[derive(Clone, Copy, Debug, PartialEq, Eq)]
@@ -147,31 +148,23 @@ impl Setting {
 }
 
 /// Why a message, a request or a connection file is refused.
-#[derive(Clone, Copy, Debug, PartialEq, Eq, Error)]
+#[derive(Clone, Copy, Debug, PartialEq, Eq)]
 pub enum MsgFault {
     /// No frame is the delimiter `<IDS|MSG>`.
-    #[error("NoDelimiter")]
     NoDelimiter,
     /// Fewer than five frames follow the delimiter.
-    #[error("ShortMessage")]
     ShortMessage,
     /// The signature is not that of the four parts under the key.
-    #[error("BadSignature")]
     BadSignature,
     /// The part is not the text of a JSON object.
-    #[error("NotJson {}", .0.name())]
     NotJson(Part),
     /// The field is missing, or its value is none that the field may have.
-    #[error("BadField {}", .0.name())]
     BadField(Field),
     /// No request has this type.
-    #[error("UnknownType")]
     UnknownType,
     /// There was no memory.
-    #[error("Memory")]
     Memory,
     /// The field of the connection file is missing, or its value is none that the field may have.
-    #[error("BadConnection {}", .0.name())]
     BadConnection(Setting),
 }
 
@@ -208,6 +201,20 @@ impl MsgFault {
         }
     }
 }
+
+impl fmt::Display for MsgFault {
+    fn fmt<W: fmt::Write>(&self, f: &mut fmt::Formatter<W>) -> fmt::Result {
+        f.write_str(self.name())?;
+        match self {
+            MsgFault::NotJson(part) => write!(f, " {}", part.name()),
+            MsgFault::BadField(field) => write!(f, " {}", field.name()),
+            MsgFault::BadConnection(setting) => write!(f, " {}", setting.name()),
+            _ => Ok(()),
+        }
+    }
+}
+
+impl Error for MsgFault {}
 
 impl From<AllocError> for MsgFault {
     ghost use Rattle.jupyter_msg.specs.declared.fault.MsgFault.TheVariants.{Memory};

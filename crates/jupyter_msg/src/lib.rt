@@ -21,13 +21,9 @@ mod introspection;
 mod keyed_hash;
 mod message;
 mod object;
-#[cfg(test)]
-mod recorded;
 mod request;
 mod request_type;
 mod signature;
-#[cfg(test)]
-mod tests;
 
 pub use comm::{CommAsk, CommClose, CommInfoRequest, CommMessage, CommOpen};
 pub use connection::Connection;
@@ -36,7 +32,7 @@ pub use fault::{Field, MsgFault, Part, Setting};
 pub use history::{HistoryAccess, HistoryRequest};
 pub use introspection::{CompleteRequest, InspectRequest, IsCompleteRequest};
 pub use keyed_hash::hmac;
-pub use message::{Message, open, seal};
-pub use request::{Request, ShutdownRequest};
+pub use message::{Message, Opened, open, seal};
+pub use request::{Request, RequestContent, ShutdownRequest};
 pub use request_type::RequestType;
 pub use signature::{Parts, sign};

@@ -4,12 +4,14 @@ ghost use Rattle.std.specs.Str.{bytes_eq};
 ghost use Rattle.jupyter_msg.specs.Asked.{Gives, header_text};
 ghost use Rattle.jupyter_msg.specs.Fault.{Refuses};
 ghost use Rattle.jupyter_msg.specs.Octets.{Octets, octets, octets_of};
+ghost use Rattle.jupyter_msg.specs.Opened.{IsRead, AreReadFrom, AreReadAfter};
 ghost use Rattle.jupyter_msg.specs.Message.{AreObjects, IsMessage, IsRefused, refusal_after, after_delimiter, no_object, comes_before_parts, NoneIsDelimiter, delimiter, frames_of};
 
 use crate::fault::{Field, MsgFault, Part};
 use crate::fields::text;
 use crate::object::part_object;
 use crate::signature::{Parts, is_signed, sign};
+use serde_json::Value;
 use std::alloc::Global;
 
 /// The frame between the identities and the signature.
@@ -30,6 +32,24 @@ pub struct Message {
     pub content: Vec<u8>,
     /// Frames after the content, kept as they are.
     pub buffers: Vec<Vec<u8>>,
+}
+
+/// A message that was opened, with its header and its content as they were read.
+#[derive(Debug, Drop)]
+pub struct Opened {
+    /// The message, octet for octet.
+    pub message: Message,
+    /// The header, as JSON.
+    pub header: Value,
+    /// The content, as JSON.
+    pub content: Value,
+}
+
+/// The header and the content of a message, as they were read.
+#[derive(Drop)]
+struct ReadParts {
+    header: Value,
+    content: Value,
 }
 
 /// The text of a field of a header.
@@ -85,23 +105,25 @@ fn find_delimiter(frames: &[Vec<u8>]) -> Option<usize>
         .position(|frame| frame.as_slice() == DELIMITER)
 }
 
-/// Passes four parts that are each the text of a JSON object.
-fn check_objects(alloc: Global, parts: &Parts<'_>) -> Result<(), MsgFault>
-    ensures { Refuses result (no_object parts.now.header.now parts.now.parent.now
+/// Reads the header and the content of four parts that are each the text of a JSON object.
+fn read_objects(alloc: Global, parts: &Parts<'_>) -> Result<ReadParts, MsgFault>
+    ensures refused { Refuses result (no_object parts.now.header.now parts.now.parent.now
         parts.now.metadata.now parts.now.content.now) }
+    ensures read { IfOk result (λ r. AreReadFrom r parts.now.header.now parts.now.content.now) }
 {
-    part_object(alloc, parts.header, Part::Header)?;
+    let header = part_object(alloc, parts.header, Part::Header)?;
     part_object(alloc, parts.parent, Part::Parent)?;
     part_object(alloc, parts.metadata, Part::Metadata)?;
-    part_object(alloc, parts.content, Part::Content)?;
-    Ok(())
+    let content = part_object(alloc, parts.content, Part::Content)?;
+    Ok(ReadParts { header, content })
 }
 
-/// Passes frames after a delimiter that are a signed message's.
-fn check_after(alloc: Global, after: &[Vec<u8>], key: &[u8]) -> Result<(), MsgFault>
+/// Passes frames after a delimiter that are a signed message's, and reads its header and its content.
+fn read_after(alloc: Global, after: &[Vec<u8>], key: &[u8]) -> Result<ReadParts, MsgFault>
     ensures refused { Refuses result (refusal_after key.now (octets after.now)) }
     ensures early { (fault : MsgFault) → IsTrue (comes_before_parts fault)
         → refusal_after key.now (octets after.now) ≡ Some fault → result ≡ Err fault }
+    ensures read { IfOk result (λ r. AreReadAfter r (octets after.now)) }
 {
     let [signature, header, parent, metadata, content, ..] = after else {
         return Err(MsgFault::ShortMessage);
@@ -115,15 +137,16 @@ fn check_after(alloc: Global, after: &[Vec<u8>], key: &[u8]) -> Result<(), MsgFa
     if !is_signed(key, signature, &parts) {
         return Err(MsgFault::BadSignature);
     }
-    check_objects(alloc, &parts)
+    read_objects(alloc, &parts)
 }
 
-/// The message of frames that have the delimiter at the place and at least five frames after it.
-fn take_apart(mut frames: Vec<Vec<u8>>, at: usize) -> Result<Message, MsgFault>
+/// The message of frames that have the delimiter at the place and at least five frames after it, with what was read of it.
+fn take_apart(mut frames: Vec<Vec<u8>>, at: usize, read: ReadParts) -> Result<Opened, MsgFault>
     requires { at + 6 ≤ vec_len frames }
-    ensures identities { IfOk result (λ m. octets m.identities.items ≡ octets (take at frames.items)) }
-    ensures after { IfOk result (λ m. (signature : List ℕ)
-        × (octets (drop (at + 1) frames.items) ≡ after_delimiter signature (octets_of m))) }
+    ensures identities { IfOk result (λ o. octets o.message.identities.items ≡ octets (take at frames.items)) }
+    ensures after { IfOk result (λ o. (signature : List ℕ)
+        × (octets (drop (at + 1) frames.items) ≡ after_delimiter signature (octets_of o.message))) }
+    ensures read { IfOk result (λ o. (o.header ≡ read.header) × (o.content ≡ read.content)) }
     ensures memory { IfErr result (λ e. e ≡ MsgFault.Memory) }
 {
     let mut parts = frames.split_off(at)?;
@@ -132,32 +155,38 @@ fn take_apart(mut frames: Vec<Vec<u8>>, at: usize) -> Result<Message, MsgFault>
     let metadata = parts.pop().unwrap();
     let parent = parts.pop().unwrap();
     let header = parts.pop().unwrap();
-    Ok(Message {
+    let message = Message {
         identities: frames,
         header,
         parent,
         metadata,
         content,
         buffers,
+    };
+    Ok(Opened {
+        message,
+        header: read.header,
+        content: read.content,
     })
 }
 
 /// Opens the frames of a message: cuts them at the first delimiter, looks at the signature under the key, and passes four
-/// parts that are JSON objects. The message has its identities, parts and buffers octet for octet; none is copied. Under an
-/// empty key the signature is not looked at.
+/// parts that are JSON objects. The message has its identities, parts and buffers octet for octet; none is copied. Its header
+/// and its content are read once, and kept beside it. Under an empty key the signature is not looked at.
 ///
 /// # Errors
 ///
 /// The first that holds of: `NoDelimiter`; `ShortMessage` for fewer than five frames after the delimiter; `BadSignature`;
 /// `NotJson` with the first part that is no JSON object. `Memory` may stand in the place of a message and of `NotJson`, and of no
 /// other: nothing is allocated before the signature fits. With each of them the frames are dropped.
-pub fn open(alloc: Global, frames: Vec<Vec<u8>>, key: &[u8]) -> Result<Message, MsgFault>
-    ensures message { IfOk result (λ m. IsMessage key.now (octets frames.items) (octets_of m)) }
+pub fn open(alloc: Global, frames: Vec<Vec<u8>>, key: &[u8]) -> Result<Opened, MsgFault>
+    ensures message { IfOk result (λ o. IsMessage key.now (octets frames.items) (octets_of o.message)) }
+    ensures read { IfOk result IsRead }
     ensures refused { IfErr result (λ e. (e ≡ MsgFault.Memory) ⊎ IsRefused key.now (octets frames.items) e) }
 
     // Every message is opened, and no other refusal is told than the first.
     ensures every { (m : Octets) → IsMessage key.now (octets frames.items) m
-        → MatchResult result (λ x. octets_of x ≡ m) (λ e. e ≡ MsgFault.Memory) }
+        → MatchResult result (λ o. octets_of o.message ≡ m) (λ e. e ≡ MsgFault.Memory) }
     ensures exactly { (fault : MsgFault) → IsRefused key.now (octets frames.items) fault
         → MatchResult result (λ _. ⊥) (λ e. (e ≡ MsgFault.Memory) ⊎ (e ≡ fault)) }
 
@@ -168,8 +197,8 @@ pub fn open(alloc: Global, frames: Vec<Vec<u8>>, key: &[u8]) -> Result<Message, 
     let Some(at) = find_delimiter(&frames) else {
         return Err(MsgFault::NoDelimiter);
     };
-    check_after(alloc, &frames[at + 1..], key)?;
-    take_apart(frames, at)
+    let read = read_after(alloc, &frames[at + 1..], key)?;
+    take_apart(frames, at, read)
 }
 
 /// Adds a copy of the frame.
@@ -182,7 +211,11 @@ fn push_copy(alloc: Global, frames: &mut Vec<Vec<u8>>, frame: &[u8]) -> Result<(
 }
 
 /// Adds a copy of each of the frames, in order.
-fn push_copies(alloc: Global, frames: &mut Vec<Vec<u8>>, more: &[Vec<u8>]) -> Result<(), MsgFault>
+pub(crate) fn push_copies(
+    alloc: Global,
+    frames: &mut Vec<Vec<u8>>,
+    more: &[Vec<u8>],
+) -> Result<(), MsgFault>
     ensures ok { OnOk result (octets frames.new.items ≡ octets frames.old.items ++ octets more.now) }
     ensures memory { IfErr result (λ e. e ≡ MsgFault.Memory) }
 {

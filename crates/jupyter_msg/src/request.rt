@@ -27,17 +27,17 @@ ghost use Rattle.serde_json.specs.Data.{Data};
 ghost use Rattle.serde_json.specs.View.{view};
 ghost use Rattle.jupyter_msg.specs.Asked.{Reads, Tells, asked, type_in};
 ghost use Rattle.jupyter_msg.specs.Fields.{first_wrong, flag_at};
-ghost use Rattle.jupyter_msg.specs.Octets.{octets_of};
+ghost use Rattle.jupyter_msg.specs.Octets.{octets, octets_of};
+ghost use Rattle.jupyter_msg.specs.Opened.{IsRead};
 ghost use Rattle.jupyter_msg.specs.Requests.{IsRequest, type_of, fields_of};
 
 use crate::comm::{CommClose, CommInfoRequest, CommMessage, CommOpen};
 use crate::execution::ExecuteRequest;
-use crate::fault::{Field, MsgFault, Part};
+use crate::fault::{Field, MsgFault};
 use crate::fields::{flag, text_in};
 use crate::history::HistoryRequest;
 use crate::introspection::{CompleteRequest, InspectRequest, IsCompleteRequest};
-use crate::message::Message;
-use crate::object::part_object;
+use crate::message::{Opened, push_copies};
 use crate::request_type::RequestType;
 use serde_json::Value;
 use std::alloc::Global;
@@ -49,9 +49,9 @@ pub struct ShutdownRequest {
     pub restart: bool,
 }
 
-/// What a message asks.
+/// What the content of a message asks.
 #[derive(Debug, Drop)]
-pub enum Request {
+pub enum RequestContent {
     /// What the kernel is.
     KernelInfo,
     /// Execute a cell.
@@ -78,6 +78,17 @@ pub enum Request {
     CommClose(CommClose),
 }
 
+/// What a message asks, with what its answer needs of it.
+#[derive(Debug, Drop)]
+pub struct Request {
+    /// The routing frames of the message.
+    pub identities: Vec<Vec<u8>>,
+    /// The header of the message, as JSON.
+    pub header: Vec<u8>,
+    /// What is asked.
+    pub content: RequestContent,
+}
+
 impl ShutdownRequest {
     /// Reads the content of a `shutdown_request`.
     fn read(content: &Value) -> Result<ShutdownRequest, MsgFault>
@@ -99,73 +110,91 @@ fn type_in(header: &Value) -> Result<RequestType, MsgFault>
     RequestType::named(text_in(header, Field::MsgType)?).ok_or(MsgFault::UnknownType)
 }
 
-impl Request {
+impl RequestContent {
     /// The type of the request.
     pub fn request_type(&self) -> RequestType
         ensures { result ≡ type_of self.now }
     {
         match self {
-            Request::KernelInfo => RequestType::KernelInfo,
-            Request::Execute(_) => RequestType::Execute,
-            Request::Complete(_) => RequestType::Complete,
-            Request::Inspect(_) => RequestType::Inspect,
-            Request::IsComplete(_) => RequestType::IsComplete,
-            Request::History(_) => RequestType::History,
-            Request::CommInfo(_) => RequestType::CommInfo,
-            Request::Interrupt => RequestType::Interrupt,
-            Request::Shutdown(_) => RequestType::Shutdown,
-            Request::CommOpen(_) => RequestType::CommOpen,
-            Request::CommMessage(_) => RequestType::CommMessage,
-            Request::CommClose(_) => RequestType::CommClose,
+            RequestContent::KernelInfo => RequestType::KernelInfo,
+            RequestContent::Execute(_) => RequestType::Execute,
+            RequestContent::Complete(_) => RequestType::Complete,
+            RequestContent::Inspect(_) => RequestType::Inspect,
+            RequestContent::IsComplete(_) => RequestType::IsComplete,
+            RequestContent::History(_) => RequestType::History,
+            RequestContent::CommInfo(_) => RequestType::CommInfo,
+            RequestContent::Interrupt => RequestType::Interrupt,
+            RequestContent::Shutdown(_) => RequestType::Shutdown,
+            RequestContent::CommOpen(_) => RequestType::CommOpen,
+            RequestContent::CommMessage(_) => RequestType::CommMessage,
+            RequestContent::CommClose(_) => RequestType::CommClose,
         }
     }
 
     /// Reads the content of a request of this type.
-    fn read_content(
+    fn read(
         alloc: Global,
         request_type: RequestType,
         content: &Value,
-    ) -> Result<Request, MsgFault>
+    ) -> Result<RequestContent, MsgFault>
         ensures { Reads (λ r. (type_of r ≡ request_type) × IsRequest (view content.now) r) result
             (first_wrong (fields_of request_type) (view content.now)) }
     {
         Ok(match request_type {
-            RequestType::KernelInfo => Request::KernelInfo,
-            RequestType::Execute => Request::Execute(ExecuteRequest::read(alloc, content)?),
-            RequestType::Complete => Request::Complete(CompleteRequest::read(alloc, content)?),
-            RequestType::Inspect => Request::Inspect(InspectRequest::read(alloc, content)?),
-            RequestType::IsComplete => Request::IsComplete(IsCompleteRequest::read(
+            RequestType::KernelInfo => RequestContent::KernelInfo,
+            RequestType::Execute => RequestContent::Execute(ExecuteRequest::read(alloc, content)?),
+            RequestType::Complete => RequestContent::Complete(CompleteRequest::read(
                 alloc, content,
             )?),
-            RequestType::History => Request::History(HistoryRequest::read(content)?),
-            RequestType::CommInfo => Request::CommInfo(CommInfoRequest::read(alloc, content)?),
-            RequestType::Interrupt => Request::Interrupt,
-            RequestType::Shutdown => Request::Shutdown(ShutdownRequest::read(content)?),
-            RequestType::CommOpen => Request::CommOpen(CommOpen::read(alloc, content)?),
-            RequestType::CommMessage => Request::CommMessage(CommMessage::read(alloc, content)?),
-            RequestType::CommClose => Request::CommClose(CommClose::read(alloc, content)?),
+            RequestType::Inspect => RequestContent::Inspect(InspectRequest::read(alloc, content)?),
+            RequestType::IsComplete => RequestContent::IsComplete(IsCompleteRequest::read(
+                alloc, content,
+            )?),
+            RequestType::History => RequestContent::History(HistoryRequest::read(content)?),
+            RequestType::CommInfo => RequestContent::CommInfo(CommInfoRequest::read(
+                alloc, content,
+            )?),
+            RequestType::Interrupt => RequestContent::Interrupt,
+            RequestType::Shutdown => RequestContent::Shutdown(ShutdownRequest::read(content)?),
+            RequestType::CommOpen => RequestContent::CommOpen(CommOpen::read(alloc, content)?),
+            RequestType::CommMessage => RequestContent::CommMessage(CommMessage::read(
+                alloc, content,
+            )?),
+            RequestType::CommClose => RequestContent::CommClose(CommClose::read(alloc, content)?),
         })
     }
+}
 
-    /// Reads what a message asks, as on the shell socket. A field that is null counts as missing; fields that the request
-    /// does not have are passed over, and of one given twice the last value counts. A whole number is one that is written
-    /// with neither a fraction nor an exponent.
+impl Request {
+    /// Reads what an opened message asks, as on the shell socket. A field that is null counts as missing; fields that the
+    /// request does not have are passed over, and of one given twice the last value counts. A whole number is one that is
+    /// written with neither a fraction nor an exponent. The header and the content are those that were read as the message was
+    /// opened.
     ///
     /// # Errors
     ///
     /// The first that holds of: `BadField` with the first of the header's `msg_id`, `session` and `msg_type` that is no
-    /// text; `UnknownType`; `BadField` with the first wrong field of the content. For a message that was not opened also
-    /// `NotJson`, with the header before its fields and with the content after the type. `Memory` may stand in the place
-    /// of any other answer.
-    pub fn read(alloc: Global, message: &Message) -> Result<Request, MsgFault>
+    /// text; `UnknownType`; `BadField` with the first wrong field of the content. `Memory` may stand in the place of any other
+    /// answer.
+    pub fn read(alloc: Global, opened: &Opened) -> Result<Request, MsgFault>
+        requires { IsRead opened.now }
         ensures request { IfOk result (λ r. (content : Data)
-            × (asked (octets_of message.now) ≡ Ok (type_of r, content)) × IsRequest content r) }
+            × (asked (octets_of opened.now.message) ≡ Ok (type_of r.content, content)) × IsRequest content r.content) }
         ensures refused { IfErr result (λ e. (e ≡ MsgFault.Memory)
-            ⊎ (asked (octets_of message.now) ≡ Err e)) }
+            ⊎ (asked (octets_of opened.now.message) ≡ Err e)) }
+
+        // Identities and header are the message's.
+        ensures identities { IfOk result (λ r. octets r.identities.items ≡ octets opened.now.message.identities.items) }
+        ensures header { IfOk result (λ r. r.header.items ≡ opened.now.message.header.items) }
     {
-        let header = part_object(alloc, &message.header, Part::Header)?;
-        let request_type = type_in(&header)?;
-        let content = part_object(alloc, &message.content, Part::Content)?;
-        Request::read_content(alloc, request_type, &content)
+        let request_type = type_in(&opened.header)?;
+        let content = RequestContent::read(alloc, request_type, &opened.content)?;
+        let mut identities = Vec::new(alloc);
+        push_copies(alloc, &mut identities, &opened.message.identities)?;
+        Ok(Request {
+            identities,
+            header: opened.message.header.to_vec(alloc)?,
+            content,
+        })
     }
 }

@@ -6,3 +6,4 @@ pub mod ReadingLemmas
 pub mod RefusalLemmas
 pub mod LawLemmas
 pub mod OpeningLemmas
+pub mod MessageLemmas

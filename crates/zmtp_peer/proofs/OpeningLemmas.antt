@@ -54,7 +54,7 @@ ready-taken role = (
 )
 
 -- nothing is less than a frame
-nothing-partial : IsPartial (whole [])
+pub nothing-partial : IsPartial (whole [])
 nothing-partial = record {
   missing = 0 ∷ 0 ∷ [];
   some = lit< tt;

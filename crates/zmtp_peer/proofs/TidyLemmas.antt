@@ -15,7 +15,7 @@ use mathlib.Core.Logic.{⊎_elim}
 use Rattle.zmtp_peer.specs.declared.event.PeerEvent.{PeerEvent}
 use Rattle.zmtp_peer.specs.declared.role.Role.{Role}
 use Rattle.zmtp_peer.specs.Events.{Event, Ready, Message, Subscribe, Cancel, event_of, events_of, bodies, message_told}
-use Rattle.zmtp_peer.specs.Subscriptions.{place_of, count_in, HasRoom, IsIdle, IsTidy, AddsIdle, DropsIdle, subscribes, names, is_named, asks, is_asked}
+use Rattle.zmtp_peer.specs.Subscriptions.{place_of, count_in, HasRoom, IsIdle, IsTidy, AddsIdle, DropsIdle, subscribes, names, is_named, is_asked}
 use Rattle.zmtp_peer.specs.Table.{table_of, is_key}
 use Rattle.zmtp_peer.proofs.TableLemmas.{keys_cmp, changed, place_of-set_value}
 

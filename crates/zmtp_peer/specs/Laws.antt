@@ -1,11 +1,14 @@
 -- Laws of what octets tell a peer.
-use Rattle.std.specs.Prelude.{◌≡◌, ℕ, ◌<◌, true, All, List, [], ◌∷◌, ◌++◌}
+use Rattle.std.specs.Prelude.{◌≡◌, ◌≢◌, ℕ, ◌<◌, true, All, List, [], ◌∷◌, ◌++◌, length}
 use Rattle.std.specs.List.{flat_map}
 use Rattle.zmtp_wire.specs.Frame.{Frame}
+use Rattle.zmtp_wire.specs.Message.{message_octets, IsWithinLimits}
+use Rattle.zmtp_wire.specs.Stream.{whole}
 use Rattle.zmtp_peer.specs.declared.role.Role.{Role}
+use Rattle.zmtp_peer.specs.declared.role.Role.TheVariants.{Pub}
 use Rattle.zmtp_peer.specs.Roles.{socket_type_of, is_partner}
 use Rattle.zmtp_peer.specs.Faults.{Fault}
-use Rattle.zmtp_peer.specs.Events.{Event, Ready, State, after, told}
+use Rattle.zmtp_peer.specs.Events.{Event, Ready, Message, State, Open, after, told}
 use Rattle.zmtp_peer.specs.Subscriptions.{counted_all}
 use Rattle.zmtp_peer.specs.Reading.{Ending, Awaiting, Failing, PeerReads, Standing, ending_of, Stands, Brings}
 use Rattle.zmtp_peer.specs.Opening.{opening_of}
@@ -45,3 +48,16 @@ FoldsGoOn =
 -- a role that is fed the opening of a partner is told that it is ready, and nothing else
 abbrev pub PartnersAreReady : Type 0
 PartnersAreReady = (role other : Role) → is_partner role (socket_type_of other) ≡ true → PeerReads role (opening_of other) (Ready ∷ []) Awaiting
+
+-- a peer that was told Ready, and stands between two messages
+pub record IsBetweenMessages (s : Standing) : Type 0 where
+  pub ready : s.state ≡ Open []
+  pub nothing : s.rest ≡ whole []
+
+-- A message within the limits, as it is written, tells a peer between two messages that message; what follows brings what it
+-- brings without it. A publisher is told subscriptions alone.
+abbrev pub MessagesAreTold : Type 0
+MessagesAreTold =
+    (s t : Standing) (message : List (List ℕ)) (more : List ℕ) (es : List Event)
+    → s.role ≢ Pub → IsBetweenMessages s → 0 < length message → IsWithinLimits message
+    → Brings s more es t → Brings s (message_octets message ++ more) (Message message ∷ es) t

@@ -44,8 +44,8 @@ fn property(octets: &[u8]) -> Option<(&[u8], &[u8], &[u8])>
     ensures less { IfSome result (λ x. length x.2.now < length octets.now) }
 {
     let (name, octets) = sized(octets)?;
-    let (size, octets) = octets.split_at_checked(4)?;
-    let size = u32::from_be_bytes([size[0], size[1], size[2], size[3]]);
+    let (size, octets) = octets.split_first_chunk::<4>()?;
+    let size = u32::from_be_bytes(*size);
     let (value, octets) = octets.split_at_checked(size as usize)?;
     Some((name, value, octets))
 }

@@ -31,18 +31,16 @@ pub(crate) struct Connection {
     pub(crate) counts: BTreeMap<Vec<u8>, u64>,
 }
 
-/// Takes the frames of a piece, and all memory that is needed to tell them. The answer is room for the events.
+/// Takes the frames that came, and all memory that is needed to tell them. The answer is room for the events.
 fn gather(
     alloc: Global,
     role: Role,
     decoder: &mut Decoder,
     counts: &mut BTreeMap<Vec<u8>, u64>,
     intake: &mut Intake,
-    piece: &[u8],
 ) -> Result<Vec<PeerEvent>, AllocError>
     requires { IsFresh intake.old }
-    ensures taken { OnOk result (TakesFrames role (fed decoder.old piece.now).rest intake.old decoder.new.rest
-        intake.new) }
+    ensures taken { OnOk result (TakesFrames role decoder.old.rest intake.old decoder.new.rest intake.new) }
     ensures empty { IfOk result (λ events. events.items ≡ []) }
     ensures space { IfOk result (λ events. vec_len intake.new.whole + 1 ≤ vec_capacity events) }
     ensures room { OnOk result (HasRoom (vec_len intake.new.whole + 1) (table_of counts.new.entries)
@@ -50,14 +48,10 @@ fn gather(
     ensures same { (q : List ℕ) → count_in (table_of counts.new.entries) q
         ≡ count_in (table_of counts.old.entries) q }
     ensures idle { AddsIdle (is_asked role intake.new.whole.items) (table_of counts.old.entries) (table_of counts.new.entries) }
-    ensures before { decoder.new.before ≡ decoder.old.rest }
+    ensures before { decoder.new.before ≡ decoder.old.before }
     ensures kept { Keeps (front_of intake.old) (front_of intake.new) }
     ensures fresh { IsFresh intake.new }
 {
-    match decoder.feed(piece) {
-        Err(_) => return Err(AllocError),
-        Ok(()) => {}
-    }
     take_frames(alloc, role, decoder, intake)?;
     let most = intake.whole.len() + 1;
     reserve(alloc, counts, role, &intake.whole, most)?;
@@ -86,6 +80,34 @@ impl Connection {
         ensures opening { IsOpeningEmpty self.new.stage (bodies self.new.held.items) }
         ensures tidy { IsTidy (table_of self.new.counts.entries) }
     {
+        if self.decoder.feed(piece).is_err() {
+            self.decoder.unfeed();
+            return Err(AllocError);
+        }
+        if self.decoder.is_partial() {
+            return Ok(Vec::new(alloc));
+        }
+        self.read_frames(alloc, role)
+    }
+
+    /// Reads the frames that came with the last piece, and answers the events that they bring.
+    ///
+    /// # Errors
+    /// Want of memory. Then the piece is taken back.
+    fn read_frames(&mut self, alloc: Global, role: Role) -> Result<Vec<PeerEvent>, AllocError>
+        requires { IsConnection self.old }
+        ensures read { IfOk result (λ events. ReadsPiece role self.old.decoder.rest (state_in self.old)
+            self.new.decoder.rest (state_in self.new) (events_of events.items)) }
+        ensures counted { IfOk result (λ events. (q : List ℕ) → count_in (table_of self.new.counts.entries) q
+            ≡ counted_all q (count_in (table_of self.old.counts.entries) q) (events_of events.items)) }
+        ensures rest { OnErr result (self.new.decoder.rest ≡ self.old.decoder.before) }
+        ensures stage { OnErr result (self.new.stage ≡ self.old.stage) }
+        ensures held { OnErr result (bodies self.new.held.items ≡ bodies self.old.held.items) }
+        ensures uncounted { OnErr result ((q : List ℕ) → count_in (table_of self.new.counts.entries) q
+            ≡ count_in (table_of self.old.counts.entries) q) }
+        ensures opening { IsOpeningEmpty self.new.stage (bodies self.new.held.items) }
+        ensures tidy { IsTidy (table_of self.new.counts.entries) }
+    {
         let kept = self.held.len();
         let mut intake = Intake {
             stage: self.stage,
@@ -99,7 +121,6 @@ impl Connection {
             &mut self.decoder,
             &mut self.counts,
             &mut intake,
-            piece,
         );
         match gathered {
             Err(_) => {
@@ -108,7 +129,10 @@ impl Connection {
                 self.held = intake.taken_back(kept);
                 Err(AllocError)
             }
-            Ok(room) => Ok(self.keep(alloc, role, intake, room)),
+            Ok(room) => {
+                self.decoder.settle();
+                Ok(self.keep(alloc, role, intake, room))
+            }
         }
     }
 

@@ -1,7 +1,8 @@
 //! Why a connection is refused.
 ghost use Rattle.std.specs.Prelude.{◌≡◌, ◌≤◌, length};
 
-use thiserror::Error;
+use std::error::Error;
+use std::fmt;
 use zmtp_wire::WireFault;
 
 /// The reason that a peer gave in its ERROR: up to 255 octets.
@@ -36,25 +37,19 @@ impl Reason {
 }
 
 /// Why a peer is refused. Each but want of memory is final: the connection is closed without a word.
-#[derive(Clone, Copy, Debug, PartialEq, Eq, Error)]
+#[derive(Clone, Copy, Debug, PartialEq, Eq)]
 pub enum PeerFault {
     /// The greeting or the frames are wrong, or there was no memory. Want of memory changes nothing.
-    #[error("{0}")]
     Wire(WireFault),
     /// READY has no `Socket-Type`.
-    #[error("NoSocketType")]
     NoSocketType,
     /// The peer's socket type doesn't fit the role.
-    #[error("WrongPair")]
     WrongPair,
     /// The data of READY or of ERROR doesn't fit its lengths, or the name of the first command is cut.
-    #[error("BadMetadata")]
     BadMetadata,
     /// The peer refused the connection by ERROR.
-    #[error("PeerError")]
     PeerError(Reason),
     /// A message, or a command other than READY, came before READY.
-    #[error("NotReady")]
     NotReady,
 }
 
@@ -92,3 +87,11 @@ impl PeerFault {
         }
     }
 }
+
+impl fmt::Display for PeerFault {
+    fn fmt<W: fmt::Write>(&self, f: &mut fmt::Formatter<W>) -> fmt::Result {
+        f.write_str(self.name())
+    }
+}
+
+impl Error for PeerFault {}

@@ -9,20 +9,18 @@
 //! Mechanism", and its rules for publishers and subscribers. Greetings, frames and their limits are those of `zmtp_wire`.
 #![tactic(auto)]
 
-ghost use Rattle.zmtp_peer.specs.Laws.{OctetsAreRead, OctetsHaveOneReading, RefusalsStay, NoCutMatters, FoldsGoOn, PartnersAreReady};
+ghost use Rattle.zmtp_peer.specs.Laws.{OctetsAreRead, OctetsHaveOneReading, RefusalsStay, NoCutMatters, FoldsGoOn, PartnersAreReady, MessagesAreTold};
 
 mod command;
 mod connection;
-pub mod event;
-pub mod fault;
+mod event;
+mod fault;
 mod handshake;
 mod intake;
 mod opening;
-pub mod peer;
-pub mod role;
+mod peer;
+mod role;
 mod subscriptions;
-#[cfg(test)]
-mod tests;
 mod told;
 
 pub use event::PeerEvent;
@@ -58,4 +56,10 @@ pub fn folds_go_on_law()
 /// Law: a role that is fed the opening of a partner is told that it is ready.
 pub fn partners_are_ready_law()
     ensures { PartnersAreReady }
+{}
+
+/// Law: a peer that is ready and stands between two messages is told each message that `zmtp_wire::write_message` writes, exactly,
+/// and what follows as if the message weren't there.
+pub fn messages_are_told_law()
+    ensures { MessagesAreTold }
 {}

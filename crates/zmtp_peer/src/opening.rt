@@ -4,8 +4,7 @@ ghost use Rattle.zmtp_peer.specs.Opening.{opening_of, ready_of, property_octets}
 
 use crate::role::Role;
 use std::alloc::{AllocError, Global};
-use zmtp_wire::greeting::{MAJOR, MINOR};
-use zmtp_wire::{Frame, Greeting};
+use zmtp_wire::{Frame, Greeting, MAJOR, MINOR};
 
 /// The greeting and the READY of a role.
 pub(crate) fn opening_octets(alloc: Global, role: Role) -> Result<Vec<u8>, AllocError>

@@ -1,5 +1,7 @@
 //! A peer: one end of a connection, in one role.
-ghost use Rattle.std.specs.Prelude.{◌≡◌, ◌≢◌, ℕ, List, ◌+◌, ◌≤◌, ◌↔◌, [], ◌++◌, IfOk, IfErr, IsErrAnd, IsTrue, take, length};
+ghost use Rattle.std.specs.Prelude.{◌≡◌, ◌≢◌, ℕ, List, ◌+◌, ◌<◌, ◌≤◌, ◌↔◌, ◌⊎◌, [], ◌++◌, IfOk, IfErr, IfSome, IfNone, IsErrAnd, IsTrue, take, length};
+ghost use Rattle.zmtp_wire.specs.declared.fault.WireFault.{WireFault};
+ghost use Rattle.zmtp_wire.specs.Greeting.{IsGreeting, IsGreetingFault};
 ghost use Rattle.zmtp_peer.specs.Faults.{Fault, Wire, fault_of, want_of_memory};
 ghost use Rattle.zmtp_peer.specs.Events.{Event, Refused, events_of};
 ghost use Rattle.zmtp_peer.specs.Intake.{IsRefusal, state_at};
@@ -17,8 +19,7 @@ use crate::subscriptions::is_wanted;
 use std::alloc::{AllocError, Global};
 use std::collections::BTreeMap;
 use std::marker::Model;
-use zmtp_wire::greeting::GREETING_LENGTH;
-use zmtp_wire::{Decoder, Greeting};
+use zmtp_wire::{Decoder, GREETING_LENGTH, Greeting};
 
 /// One end of a ZMTP 3.0 connection in one role. It is fed the octets that come, in any pieces, and answers the events
 /// that they bring.
@@ -74,12 +75,31 @@ impl Peer {
 
     /// What this end sends first, without waiting for the peer: its greeting, and a READY with its socket type alone.
     ///
+    /// Nothing is to be written behind it before the event `Ready`: libzmq drops a connection on which a frame comes together
+    /// with READY.
+    ///
     /// # Errors
     /// Want of memory alone.
-    pub fn opening(&self) -> Result<Vec<u8>, AllocError>
-        ensures { IfOk result (λ octets. octets.items ≡ opening_of self.now.role) }
+    pub fn opening(&self) -> Result<Vec<u8>, PeerFault>
+        ensures octets { IfOk result (λ octets. octets.items ≡ opening_of self.now.role) }
+        ensures memory { IfErr result (λ fault. fault_of fault ≡ want_of_memory) }
     {
-        opening_octets(self.alloc, self.role)
+        match opening_octets(self.alloc, self.role) {
+            Ok(octets) => Ok(octets),
+            Err(AllocError) => Err(PeerFault::MEMORY),
+        }
+    }
+
+    /// The partner's greeting, with its minor version, once all of it came; none where it is refused.
+    pub fn partner(&self) -> Option<Greeting>
+        ensures some { IfSome result (IsGreeting self.now.greeting) }
+        ensures none { IfNone result ((length self.now.greeting < 64)
+            ⊎ ((fault : WireFault) × IsGreetingFault self.now.greeting fault)) }
+    {
+        if self.greeted < GREETING_LENGTH {
+            return None;
+        }
+        welcome(&self.greeting)
     }
 
     /// Whether the peer has subscribed to a topic: a prefix to which it subscribes, and has not taken that back as often,
@@ -133,6 +153,18 @@ impl Peer {
                 answer(events, self.connection.stage)
             }
         }
+    }
+}
+
+/// The greeting that the octets are, unless it is refused.
+fn welcome(octets: &[u8; 64]) -> Option<Greeting>
+    ensures some { IfSome result (IsGreeting octets.now) }
+    ensures none { IfNone result ((fault : WireFault) × IsGreetingFault octets.now fault) }
+    ensures size { length octets.now ≡ 64 }
+{
+    match Greeting::read(octets) {
+        Ok(greeting) => Some(greeting),
+        Err(_) => None,
     }
 }
 

@@ -1,6 +1,8 @@
 //! The roles in which a peer can stand, by the socket type that it announces.
-ghost use Rattle.std.specs.Prelude.{◌≡◌};
-ghost use Rattle.zmtp_peer.specs.Roles.{socket_type_of, is_partner};
+ghost use Rattle.std.specs.Prelude.{◌≡◌, map};
+ghost use Rattle.std.specs.List.{list_any};
+ghost use Rattle.std.specs.Str.{bytes_eq};
+ghost use Rattle.zmtp_peer.specs.Roles.{socket_type_of, partners_of, is_partner};
 
 const ROUTER: &[u8] = b"ROUTER";
 
@@ -45,16 +47,35 @@ impl Role {
         }
     }
 
+    /// The socket types of the peers that this role takes.
+    fn partners(self) -> &'static [&'static [u8]]
+        ensures { map (λ partner. partner.now) result.now ≡ partners_of self }
+    {
+        match self {
+            Role::Router => &[ROUTER, DEALER, REQ],
+            Role::Pub => &[SUB, XSUB],
+            Role::Rep => &[REQ, DEALER],
+            Role::Dealer => &[ROUTER],
+            Role::Sub => &[PUB],
+        }
+    }
+
     /// Whether this role takes a peer of a socket type, which is told as it stands in READY: in upper case.
     pub fn fits(self, socket_type: &[u8]) -> bool
         ensures { result ≡ is_partner self socket_type.now }
     {
-        match self {
-            Role::Router => { socket_type == ROUTER || socket_type == DEALER || socket_type == REQ }
-            Role::Pub => socket_type == SUB || socket_type == XSUB,
-            Role::Rep => socket_type == REQ || socket_type == DEALER,
-            Role::Dealer => socket_type == ROUTER,
-            Role::Sub => socket_type == PUB,
+        is_one_of(socket_type, self.partners())
+    }
+}
+
+/// Whether a socket type is one of these.
+fn is_one_of(socket_type: &[u8], types: &[&[u8]]) -> bool
+    ensures { result ≡ list_any (bytes_eq socket_type.now) (map (λ one. one.now) types.now) }
+{
+    for one in types {
+        if socket_type == *one {
+            return true;
         }
     }
+    false
 }

@@ -1,5 +1,7 @@
 -- What a decoder was fed and gave, through its calls.
-use Rattle.std.proofs.Common.{◌≡◌, ◌≢◌, ℕ, List, [], ◌∷◌, ◌++◌, Result, Err, Ok, OnOk, sym, subst}
+use Rattle.std.specs.Prelude.{Option, IsErrAnd, IfErr}
+use Rattle.zmtp_wire.specs.declared.frame.Frame as code
+use Rattle.std.proofs.Common.{◌≡◌, ◌≢◌, ℕ, Bool, List, [], ◌∷◌, ◌++◌, Result, Err, Ok, OnOk, sym, subst}
 use Rattle.zmtp_wire.specs.declared.fault.WireFault.{WireFault}
 use Rattle.zmtp_wire.specs.declared.fault.WireFault.TheVariants.{BadSignature, OldVersion, BadMechanism, ReservedBits, CommandWithMore, TooLong, Memory}
 use Rattle.zmtp_wire.specs.Frame.{Frame}
@@ -30,3 +32,19 @@ pub given_on_ok : {T E : Type 0} (r : Result T E) (old new : Decoding) (piece : 
     → (octets : List ℕ) (given : List Frame) → HasGiven old octets given → OnOk r (HasGiven new (octets ++ piece) given)
 given_on_ok (Ok x) old new piece e octets given has = subst (λ (d : Decoding). HasGiven d (octets ++ piece) given) (sym e) (given_fed old octets piece given has)
 given_on_ok (Err x) old new piece e octets given has = tt
+
+-- an error that is handed on
+pub err_of : {T : Type 0} (r : Result T WireFault) (fault : WireFault) (Q : WireFault → Type 0) → IsErrAnd r (λ e. e ≡ fault) → Q fault → IfErr r Q
+err_of (Ok x) fault Q is q = tt
+err_of (Err e) fault Q is q = subst Q (sym is) q
+
+pub tells_of : (r : Result (Option code.Frame) WireFault) (fault : WireFault) (d : Decoding) (octets : List ℕ) (given : List Frame) → IsErrAnd r (λ e. e ≡ fault) → Tells octets given (Err fault) d → Tells octets given r d
+tells_of (Ok x) fault d octets given is tells = absurd is
+tells_of (Err e) fault d octets given is tells = subst (λ (f : WireFault). Tells octets given (Err f) d) (sym is) tells
+
+-- a frame whose body was copied
+pub takes_copy : (rest behind : Rest) (more command : Bool) (body copy : List ℕ) → copy ≡ body → Takes rest (record { more = more; command = command; body = body }) behind
+    → Takes rest (record { more = more; command = command; body = copy }) behind
+takes_copy rest behind more command body copy same takes =
+    let P : List ℕ → Type 0 = λ b. Takes rest (record { more = more; command = command; body = b }) behind in
+    subst P (sym same) takes

@@ -5,3 +5,4 @@ pub mod Streams
 pub mod Taking
 pub mod Readings
 pub mod Decodings
+pub mod Messages

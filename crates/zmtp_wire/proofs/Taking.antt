@@ -110,3 +110,10 @@ frame_at f items slice at n t u rest same is takes =
     let there = subst P (rest_at items slice at same) takes in
     let Q : List ℕ → Type 0 = λ o. Takes (record { octets = drop at items; tally = t }) f (record { octets = o; tally = u }) in
     subst (λ (r : Rest). Takes r f (record { octets = drop (at + n) items; tally = u })) is (subst Q (drop-drop n at items) there)
+
+-- and a part of a frame is one of it
+pub partial_at : (items slice : List ℕ) (at : ℕ) (t : Tally) (rest : Rest) → slice ≡ items → record { octets = drop at items; tally = t } ≡ rest
+    → IsPartial (record { octets = take (length slice - at) (drop at slice); tally = t }) → IsPartial rest
+partial_at items slice at t rest same is partial =
+    let P : List ℕ → Type 0 = λ o. IsPartial (record { octets = o; tally = t }) in
+    subst (λ (r : Rest). IsPartial r) is (subst P (rest_at items slice at same) partial)

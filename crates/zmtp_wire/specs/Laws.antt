@@ -1,8 +1,9 @@
 -- Laws of the reading of streams.
-use Rattle.std.specs.Prelude.{◌≡◌, ℕ, ◌<◌, List, [], ◌∷◌, ◌++◌, All}
+use Rattle.std.specs.Prelude.{◌≡◌, ℕ, ◌<◌, List, [], ◌∷◌, ◌++◌, length, All}
 use Rattle.zmtp_wire.specs.declared.fault.WireFault.{WireFault}
 use Rattle.zmtp_wire.specs.Frame.{Frame, IsFrame, header_of}
 use Rattle.zmtp_wire.specs.Tally.{Fits, counted}
+use Rattle.zmtp_wire.specs.Message.{message_frames, message_octets, IsWithinLimits}
 use Rattle.zmtp_wire.specs.Stream.{Rest, whole, Takes, Leaves, End, Faulty, EndsIn, ReadsFrom, Reads}
 
 -- each list of octets has a reading
@@ -31,6 +32,12 @@ FramesAreReadBack =
     (rest : Rest) (octets : List ℕ) (f : Frame) → IsFrame octets f → Fits rest.tally (header_of f)
     → (fs : List Frame) (end : End) → ReadsFrom (record rest { octets = octets ++ rest.octets }) fs end
     → (gs : List Frame) × (fs ≡ f ∷ gs) × ReadsFrom (record rest { tally = counted rest.tally (header_of f) }) gs end
+
+-- a message within the limits, as it is written, is read as its frames, and what follows as if it stood alone
+abbrev pub MessagesAreReadBack : Type 0
+MessagesAreReadBack =
+    (bodies : List (List ℕ)) (more : List ℕ) → 0 < length bodies → IsWithinLimits bodies
+    → Leaves (whole (message_octets bodies ++ more)) (message_frames bodies) (whole more)
 
 -- what happens to a stream that is read: a piece comes, or a frame is given
 pub data Event : Type 0 where

@@ -4,6 +4,7 @@ pub mod Header
 pub mod Tally
 pub mod Frame
 pub mod Fronts
+pub mod Message
 pub mod Stream
 pub mod Decoding
 pub mod Laws

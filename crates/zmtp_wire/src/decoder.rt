@@ -1,5 +1,5 @@
 //! The reading of a stream of frames that comes in pieces.
-ghost use Rattle.std.specs.Prelude.{◌≡◌, ◌≢◌, ◌≤◌, ◌++◌, [], List, ℕ, drop, length, IfErr, IfNone, IfOk, IfSome, IsErrOf, IsOkUnless, OnErr, OnOk, vec_len};
+ghost use Rattle.std.specs.Prelude.{◌≡◌, ◌≢◌, ◌≤◌, ◌↔◌, ◌++◌, [], List, ℕ, drop, length, IfErr, IfNone, IfOk, IfSome, IsErrOf, IsOkUnless, IsTrue, OnErr, OnOk, vec_capacity, vec_len};
 ghost use Rattle.zmtp_wire.specs.Frame.{Frame as FrameSeen, frame_of};
 ghost use Rattle.zmtp_wire.specs.Stream.{Takes, HasFrame, IsPartial, IsFaultAt};
 ghost use Rattle.zmtp_wire.specs.Decoding.{new_decoding, fed, unfed, HasGiven, Tells};
@@ -10,6 +10,9 @@ use crate::header::Header;
 use crate::tally::Tally;
 use std::alloc::Global;
 use std::marker::Model;
+
+/// How many octets of memory are kept for the next pieces.
+const ROOM: usize = 131_072;
 
 /// How far a stream is read.
 #[derive(Clone, Copy)]
@@ -25,7 +28,7 @@ struct Position {
 ///
 /// It keeps what came and isn't given. What was given is dropped as the next piece comes, once it is at least half of what
 /// is kept; so each octet is moved a bounded number of times, and memory grows with what comes, never with a size that was
-/// told.
+/// told. Memory past 131,072 octets is given back once all that came was given.
 #[derive(Drop)]
 pub struct Decoder {
     alloc: Global,
@@ -89,6 +92,14 @@ impl Decoder {
         }
     }
 
+    /// Gives up what was given: it can't be taken back any more. Where nothing is left, a large memory is given back.
+    pub fn settle(&mut self)
+        ensures rest { self.new.rest ≡ self.old.rest }
+        ensures before { self.new.before ≡ self.old.rest }
+    {
+        self.begin_piece();
+    }
+
     /// Notes what is left before the next piece. What was given is dropped where it is at least half of what is kept.
     fn begin_piece(&mut self)
         ensures { self.new ≡ fed self.old [] }
@@ -99,6 +110,17 @@ impl Decoder {
         }
         self.length_before = self.buffer.len();
         self.position_before = self.position;
+    }
+
+    /// Whether less than a whole frame is left, and no fault. It takes no memory.
+    pub fn is_partial(&self) -> bool
+        ensures { IsTrue result ↔ IsPartial self.now.rest }
+    {
+        match Front::read(&self.buffer[self.position.at..], self.position.tally) {
+            Ok(Some(_)) => false,
+            Ok(None) => true,
+            Err(_) => false,
+        }
     }
 
     /// The next frame, or `None` where less than a whole frame is left.
@@ -121,20 +143,20 @@ impl Decoder {
         // What this says of all octets that were fed.
         ensures whole { (octets : List ℕ) (given : List FrameSeen) → HasGiven self.old octets given → Tells octets given result self.new }
     {
-        let taken = match front(
-            self.alloc,
-            &self.buffer[self.position.at..],
-            self.position.tally,
-        ) {
-            Ok(Some(taken)) => taken,
-            Ok(None) => return Ok(None),
-            Err(fault) => return Err(fault),
+        let octets = &self.buffer[self.position.at..];
+        let Some(front) = Front::read(octets, self.position.tally)? else {
+            return Ok(None);
+        };
+        let frame = Frame {
+            more: front.more,
+            command: front.command,
+            body: Vec::from_slice(self.alloc, front.body)?,
         };
         self.position = Position {
-            at: self.position.at + taken.length,
-            tally: taken.tally,
+            at: self.position.at + front.length,
+            tally: front.tally,
         };
-        Ok(Some(taken.frame))
+        Ok(Some(frame))
     }
 
     /// Takes the last piece back, and with it the frames that were given since: the rest is what it was before.
@@ -146,55 +168,60 @@ impl Decoder {
     }
 }
 
-/// Drops so many octets at the front, and keeps the memory.
+/// Drops so many octets at the front. Where none is left, memory past what is kept for the next pieces is given back.
 fn drop_front(buffer: &mut Vec<u8>, count: usize)
     requires { count ≤ vec_len buffer.old }
-    ensures { buffer.new.items ≡ drop count buffer.old.items }
+    ensures items { buffer.new.items ≡ drop count buffer.old.items }
+    ensures room { buffer.new.items ≡ [] → vec_capacity buffer.new ≤ ROOM }
 {
     let rest = buffer.len() - count;
+    if rest == 0 {
+        buffer.clear();
+        if buffer.capacity() > ROOM {
+            buffer.shrink_to_fit();
+        }
+        return;
+    }
     buffer.copy_within(count.., 0);
     buffer.truncate(rest);
 }
 
-/// A frame at the front of octets: how many of them it takes, and the tally behind it.
-#[derive(Drop)]
-struct Taken {
-    frame: Frame,
+/// A frame at the front of octets: its body as it lies there, how many of the octets the frame takes, and the tally behind it.
+#[derive(Clone, Copy)]
+struct Front<'a> {
+    more: bool,
+    command: bool,
+    body: &'a [u8],
     length: usize,
     tally: Tally,
 }
 
-/// The frame at the front of the octets, which go on a message with this tally; none where some of it is missing.
-fn front(alloc: Global, octets: &[u8], tally: Tally) -> Result<Option<Taken>, WireFault>
-    ensures within { IfOk result (λ found. IfSome found (λ t. t.length ≤ length octets.now)) }
-    ensures frame { IfOk result (λ found. IfSome found (λ t.
-        Takes (record { octets = octets.now; tally = tally }) (frame_of t.frame) (record { octets = drop t.length octets.now; tally = t.tally }))) }
-    ensures partial { IfOk result (λ found. IfNone found (IsPartial (record { octets = octets.now; tally = tally }))) }
-    ensures fault { IfErr result (λ fault. fault ≢ WireFault.Memory → IsFaultAt (record { octets = octets.now; tally = tally }) fault) }
-    ensures memory { IsErrOf result WireFault.Memory → HasFrame (record { octets = octets.now; tally = tally }) }
-{
-    let (header, behind) = match Header::read(octets) {
-        Ok(Some(found)) => found,
-        Ok(None) => return Ok(None),
-        Err(fault) => return Err(fault),
-    };
-    let Some(tally) = tally.with(header) else {
-        return Err(WireFault::TooLong);
-    };
-    let size = header.size as usize;
-    if behind.len() < size {
-        return Ok(None);
-    }
-    let Ok(body) = Vec::from_slice(alloc, &behind[..size]) else {
-        return Err(WireFault::Memory);
-    };
-    Ok(Some(Taken {
-        frame: Frame {
+impl Front<'_> {
+    /// The frame at the front of the octets, which go on a message with this tally; none where some of it is missing. It has no
+    /// allocator: a size that is told reserves nothing.
+    fn read(octets: &[u8], tally: Tally) -> Result<Option<Front<'_>>, WireFault>
+        ensures within { IfOk result (λ found. IfSome found (λ front. front.length ≤ length octets.now)) }
+        ensures frame { IfOk result (λ found. IfSome found (λ front.
+            Takes (record { octets = octets.now; tally = tally }) (record { more = front.more; command = front.command; body = front.body.now }) (record { octets = drop front.length octets.now; tally = front.tally }))) }
+        ensures partial { IfOk result (λ found. IfNone found (IsPartial (record { octets = octets.now; tally = tally }))) }
+        ensures fault { IfErr result (λ fault. IsFaultAt (record { octets = octets.now; tally = tally }) fault) }
+    {
+        let Some((header, behind)) = Header::read(octets)? else {
+            return Ok(None);
+        };
+        let Some(tally) = tally.with(header) else {
+            return Err(WireFault::TooLong);
+        };
+        let size = header.size as usize;
+        if behind.len() < size {
+            return Ok(None);
+        }
+        Ok(Some(Front {
             more: header.more,
             command: header.command,
-            body,
-        },
-        length: octets.len() - (behind.len() - size),
-        tally,
-    }))
+            body: &behind[..size],
+            length: octets.len() - (behind.len() - size),
+            tally,
+        }))
+    }
 }

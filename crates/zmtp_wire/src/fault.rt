@@ -3,31 +3,25 @@ ghost use Rattle.std.specs.Prelude.{◌≡◌};
 ghost use Rattle.zmtp_wire.specs.Fault.{number_of, name_of};
 
 use std::alloc::AllocError;
-use thiserror::Error;
+use std::error::Error;
+use std::fmt;
 
 /// What is wrong with a greeting or with a stream of frames, or that there was no memory.
-#[derive(Clone, Copy, Debug, PartialEq, Eq, Error)]
+#[derive(Clone, Copy, Debug, PartialEq, Eq)]
 pub enum WireFault {
     /// The greeting doesn't have the octets FF and 7F where the signature has them.
-    #[error("BadSignature")]
     BadSignature,
     /// The major version is below 3.
-    #[error("OldVersion")]
     OldVersion,
     /// The mechanism is not NULL.
-    #[error("BadMechanism")]
     BadMechanism,
     /// A reserved bit of the flags is set.
-    #[error("ReservedBits")]
     ReservedBits,
     /// The flags have both COMMAND and MORE.
-    #[error("CommandWithMore")]
     CommandWithMore,
     /// A message or a command is larger than the limits allow.
-    #[error("TooLong")]
     TooLong,
     /// There was no memory. Nothing is changed.
-    #[error("Memory")]
     Memory,
 }
 
@@ -62,6 +56,14 @@ impl WireFault {
         }
     }
 }
+
+impl fmt::Display for WireFault {
+    fn fmt<W: fmt::Write>(&self, f: &mut fmt::Formatter<W>) -> fmt::Result {
+        f.write_str(self.name())
+    }
+}
+
+impl Error for WireFault {}
 
 impl From<AllocError> for WireFault {
     ghost use Rattle.std.specs.Prelude.{◌≡◌};

@@ -1,10 +1,11 @@
 //! Frames (RFC 23, "Formal Grammar": command and message).
-ghost use Rattle.std.specs.Prelude.{◌≡◌, ◌≤◌, length, IfErr, IfOk, OnOk};
+ghost use Rattle.std.specs.Prelude.{◌≡◌, ◌≤◌, ◌++◌, length, nat_lt, take, IfErr, IfOk, OnOk};
+ghost use Rattle.zmtp_wire.specs.Header.{header_octets};
 
 use crate::fault::WireFault;
 use crate::header::Header;
 use crate::tally::OCTET_LIMIT;
-use std::alloc::Global;
+use std::alloc::{AllocError, Global};
 
 /// A frame: a part of a message, or a command.
 #[derive(Debug, Drop, PartialEq, Eq)]
@@ -45,8 +46,20 @@ impl Frame {
             size,
         };
         let mut octets = Vec::new(alloc);
-        header.write(&mut octets)?;
-        octets.extend_from_slice(&self.body)?;
+        push_frame(&mut octets, header, &self.body)?;
         Ok(octets)
     }
+}
+
+/// Writes a frame with this header and body at the end. After an error a part of it may stand there.
+pub(crate) fn push_frame(
+    octets: &mut Vec<u8>,
+    header: Header,
+    body: &[u8],
+) -> Result<(), AllocError>
+    ensures ok { OnOk result (octets.new.items ≡ octets.old.items ++ header_octets (nat_lt 255 header.size) header ++ body.now) }
+    ensures front { take (length octets.old.items) octets.new.items ≡ octets.old.items }
+{
+    header.write(octets)?;
+    octets.extend_from_slice(body)
 }

@@ -1,5 +1,5 @@
 //! What stands before a frame's body: the flags and the size (RFC 23, "Formal Grammar": command and message).
-ghost use Rattle.std.specs.Prelude.{◌≡◌, ◌&&◌, ◌++◌, ◌<◌, false, length, nat_lt, IfErr, IfNone, IfOk, IfSome, OnOk};
+ghost use Rattle.std.specs.Prelude.{◌≡◌, ◌&&◌, ◌++◌, ◌<◌, false, length, nat_lt, take, IfErr, IfNone, IfOk, IfSome, OnOk};
 ghost use Rattle.zmtp_wire.specs.Header.{flags, size_octets, size_bound, header_octets};
 ghost use Rattle.zmtp_wire.specs.Fronts.{HasHeader, IsHeaderBegun, HasBadFlags, IsBadFlags};
 
@@ -94,9 +94,11 @@ impl Header {
         Ok(Some((header, body)))
     }
 
-    /// Writes the header at the end: in the long form where the size doesn't fit one octet.
+    /// Writes the header at the end: in the long form where the size doesn't fit one octet. After an error a part of it
+    /// may stand there.
     pub(crate) fn write(self, octets: &mut Vec<u8>) -> Result<(), AllocError>
-        ensures { OnOk result (octets.new.items ≡ octets.old.items ++ header_octets (nat_lt 255 self.size) self) }
+        ensures ok { OnOk result (octets.new.items ≡ octets.old.items ++ header_octets (nat_lt 255 self.size) self) }
+        ensures front { take (length octets.old.items) octets.new.items ≡ octets.old.items }
     {
         let flags = Flags {
             more: self.more,

@@ -2,27 +2,27 @@
 //!
 //! To the layer above this crate promises that the frames which a `Decoder` gives are those of the whole list of octets
 //! fed to it, whatever the cut; that it tells the fault of that list where there is one, and for good; and that what
-//! `Greeting::write` and `Frame::write` give is read again, whatever follows.
+//! `Greeting::write`, `Frame::write` and `write_message` give is read again, whatever follows.
 //!
 //! The definitions, in specs/, are those of RFC 23 (ZMTP 3.0), "Formal Grammar" (greeting, command, message), with the
 //! mechanism NULL and with this project's limits on the size of a message.
 #![tactic(auto)]
 
-ghost use Rattle.zmtp_wire.specs.Laws.{EveryStreamIsRead, StreamsHaveOneReading, ReadingsGoOn, FaultsStay, FramesAreReadBack, NoCutMatters, CutsAgree};
+ghost use Rattle.zmtp_wire.specs.Laws.{EveryStreamIsRead, StreamsHaveOneReading, ReadingsGoOn, FaultsStay, FramesAreReadBack, MessagesAreReadBack, NoCutMatters, CutsAgree};
 
-pub mod decoder;
-pub mod fault;
-pub mod frame;
-pub mod greeting;
+mod decoder;
+mod fault;
+mod frame;
+mod greeting;
 mod header;
+mod message;
 mod tally;
-#[cfg(test)]
-mod tests;
 
 pub use decoder::Decoder;
 pub use fault::WireFault;
 pub use frame::Frame;
-pub use greeting::Greeting;
+pub use greeting::{GREETING_LENGTH, Greeting, MAJOR, MINOR};
+pub use message::write_message;
 
 /// Law: each list of octets has a reading.
 pub fn every_stream_is_read_law()
@@ -47,6 +47,12 @@ pub fn faults_stay_law()
 /// Law: the octets of a frame that keeps the limits are read as this frame, whatever follows, in either form.
 pub fn frames_are_read_back_law()
     ensures { FramesAreReadBack }
+{}
+
+/// Law: the octets of a message that keeps the limits are read as its frames, whatever follows, which is read as if it stood
+/// alone.
+pub fn messages_are_read_back_law()
+    ensures { MessagesAreReadBack }
 {}
 
 /// Law: for each list of pieces, and whenever frames are asked for in between, the frames are those of all octets joined.

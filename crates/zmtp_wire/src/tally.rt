@@ -8,7 +8,7 @@ use crate::header::Header;
 pub(crate) const OCTET_LIMIT: u64 = 16_777_216;
 
 /// How many frames one message may have.
-const FRAME_LIMIT: u64 = 1024;
+pub(crate) const FRAME_LIMIT: u64 = 1024;
 
 /// The frames of a message that has begun and not ended: how many they are, and the octets of their bodies.
 #[derive(Clone, Copy, Debug, PartialEq, Eq)]

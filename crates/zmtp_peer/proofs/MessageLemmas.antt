@@ -1,0 +1,72 @@
+-- What a message tells a peer that is ready.
+use Rattle.std.proofs.Common.{◌≡◌, ◌≢◌, ℕ, ◌<◌, List, [], ◌∷◌, ◌++◌, length, refl, ap, sym, subst, ◌∙◌, arith, append_assoc, append-nil, inl}
+use Rattle.zmtp_wire.specs.Message.{message_frames, message_octets, IsWithinLimits}
+use Rattle.zmtp_wire.specs.Stream.{Rest, whole, Leaves}
+use Rattle.zmtp_wire.proofs.Streams.{longer}
+use Rattle.zmtp_wire.proofs.Messages.{messages_are_read_back}
+use Rattle.zmtp_peer.specs.declared.role.Role.{Role}
+use Rattle.zmtp_peer.specs.declared.role.Role.TheVariants.{Router, Pub, Rep, Dealer, Sub}
+use Rattle.zmtp_peer.specs.Events.{Event, Message, State, Open, after, told, message_told}
+use Rattle.zmtp_peer.specs.Intake.{IsRefusal}
+use Rattle.zmtp_peer.specs.Connection.{ReadsPiece}
+use Rattle.zmtp_peer.specs.Reading.{Standing, IsStreaming, IsAt, Stands, Brings}
+use Rattle.zmtp_peer.specs.Laws.{IsBetweenMessages, MessagesAreTold}
+use Rattle.zmtp_peer.proofs.ReadingLemmas.{stands-read}
+use Rattle.zmtp_peer.proofs.OpeningLemmas.{nothing-partial}
+
+-- behind the frames of a message no frame is held
+after-message : (role : Role) (held message : List (List ℕ)) → 0 < length message → after role (Open held) (message_frames message) ≡ Open []
+after-message role held [] some = absurd (omega arith)
+after-message role held (body ∷ []) some = refl
+after-message role held (body ∷ other ∷ message) some = after-message role (held ++ body ∷ []) (other ∷ message) (omega arith)
+
+-- and they tell the message with what was held before
+told-message : (role : Role) (held message : List (List ℕ)) → 0 < length message → told role (Open held) (message_frames message) ≡ message_told role (held ++ message)
+told-message role held [] some = absurd (omega arith)
+told-message role held (body ∷ []) some = append-nil (message_told role (held ++ body ∷ []))
+told-message role held (body ∷ other ∷ message) some =
+    told-message role (held ++ body ∷ []) (other ∷ message) (omega arith) ∙ ap (message_told role) (append_assoc held (body ∷ []) (other ∷ message))
+
+-- who doesn't publish is told each message
+message-told : (role : Role) (message : List (List ℕ)) → role ≢ Pub → message_told role message ≡ Message message ∷ []
+message-told Router message other = refl
+message-told Pub message other = absurd (other refl)
+message-told Rep message other = refl
+message-told Dealer message other = refl
+message-told Sub message other = refl
+
+-- a message is one piece for a peer that is ready
+message-piece : (role : Role) (message : List (List ℕ)) → role ≢ Pub → 0 < length message → IsWithinLimits message
+    → ReadsPiece role (longer (whole []) (message_octets message)) (Open []) (whole []) (Open []) (Message message ∷ [])
+message-piece role message other some within = record {
+  frames = message_frames message;
+  left = subst (λ (o : List ℕ). Leaves (whole o) (message_frames message) (whole [])) (append-nil (message_octets message)) (messages_are_read_back message [] some within);
+  told = sym (told-message role [] message some ∙ message-told role message other);
+  ends = inl (nothing-partial, sym (after-message role [] message some), λ refusal. refusal);
+}
+
+streaming-of : (role : Role) (octets : List ℕ) (given : List Event) (greeting : List ℕ) (state : State) (rest : Rest) → state ≡ Open [] → IsAt role octets given greeting state rest
+    → IsStreaming role octets given greeting (Open []) rest
+streaming-of role octets given greeting state rest ready at = subst (λ (s : State). IsAt role octets given greeting s rest) ready at
+
+message-brings : (s : Standing) (message : List (List ℕ)) → s.role ≢ Pub → IsBetweenMessages s → 0 < length message → IsWithinLimits message
+    → Brings s (message_octets message) (Message message ∷ []) s
+message-brings s message other between some within fed given h =
+    let streaming = streaming-of s.role fed given s.greeting s.state s.rest between.ready h.leaves in
+    let piece = message-piece s.role message other some within in
+    let from : ReadsPiece s.role (longer s.rest (message_octets message)) (Open []) (whole []) (Open []) (Message message ∷ []) =
+    subst (λ (r : Rest). ReadsPiece s.role (longer r (message_octets message)) (Open []) (whole []) (Open []) (Message message ∷ [])) (sym between.nothing) piece in
+    let into : ReadsPiece s.role (longer s.rest (message_octets message)) (Open []) s.rest (Open []) (Message message ∷ []) =
+    subst (λ (r : Rest). ReadsPiece s.role (longer s.rest (message_octets message)) (Open []) r (Open []) (Message message ∷ [])) (sym between.nothing) from in
+    let here : ReadsPiece s.role (longer s.rest (message_octets message)) s.state s.rest s.state (Message message ∷ []) =
+    subst (λ (a : State). ReadsPiece s.role (longer s.rest (message_octets message)) a s.rest a (Message message ∷ [])) (sym between.ready) into in
+    stands-read s.role s.greeting s.state s.rest s.table [] (message_octets message) s.greeting streaming.of s.state s.rest s.table (Message message ∷ [])
+    (sym (append-nil s.greeting)) streaming.complete streaming.welcome (λ refusal. subst IsRefusal between.ready refusal) here (λ q. refl) fed given h
+
+pub messages_are_told : MessagesAreTold
+messages_are_told s t message more es other between some within brings fed given h =
+    let m = message_octets message in
+    let told_first = message-brings s message other between some within fed given h in
+    let all = brings (fed ++ m) (given ++ Message message ∷ []) told_first in
+    subst (λ (o : List ℕ). Stands o (given ++ Message message ∷ es) t) (append_assoc fed m more)
+    (subst (λ (events : List Event). Stands ((fed ++ m) ++ more) events t) (append_assoc given (Message message ∷ []) es) all)
