@@ -3,8 +3,7 @@ ghost use Rattle.std.specs.Prelude.{◌≡◌};
 ghost use Rattle.jupyter_msg.specs.Fault.{number_of, fault_name, part_name, field_name, setting_name};
 
 use std::alloc::{AllocError, AllocFailed};
-use std::error::Error;
-use std::fmt;
+use thiserror::Error;
 
 /// One of the four parts of a message that are signed.
 #[derive(Clone, Copy, Debug, PartialEq, Eq)]
@@ -148,7 +147,8 @@ impl Setting {
 }
 
 /// Why a message, a request or a connection file is refused.
-#[derive(Clone, Copy, Debug, PartialEq, Eq)]
+#[derive(Clone, Copy, Debug, PartialEq, Eq, Error)]
+#[error("{}", self.name())]
 pub enum MsgFault {
     /// No frame is the delimiter `<IDS|MSG>`.
     NoDelimiter,
@@ -157,14 +157,17 @@ pub enum MsgFault {
     /// The signature is not that of the four parts under the key.
     BadSignature,
     /// The part is not the text of a JSON object.
+    #[error("{} {}", self.name(), .0.name())]
     NotJson(Part),
     /// The field is missing, or its value is none that the field may have.
+    #[error("{} {}", self.name(), .0.name())]
     BadField(Field),
     /// No request has this type.
     UnknownType,
     /// There was no memory.
     Memory,
     /// The field of the connection file is missing, or its value is none that the field may have.
+    #[error("{} {}", self.name(), .0.name())]
     BadConnection(Setting),
 }
 
@@ -201,20 +204,6 @@ impl MsgFault {
         }
     }
 }
-
-impl fmt::Display for MsgFault {
-    fn fmt<W: fmt::Write>(&self, f: &mut fmt::Formatter<W>) -> fmt::Result {
-        f.write_str(self.name())?;
-        match self {
-            MsgFault::NotJson(part) => write!(f, " {}", part.name()),
-            MsgFault::BadField(field) => write!(f, " {}", field.name()),
-            MsgFault::BadConnection(setting) => write!(f, " {}", setting.name()),
-            _ => Ok(()),
-        }
-    }
-}
-
-impl Error for MsgFault {}
 
 impl From<AllocError> for MsgFault {
     ghost use Rattle.jupyter_msg.specs.declared.fault.MsgFault.TheVariants.{Memory};

@@ -1,8 +1,7 @@
 //! Why a connection is refused.
 ghost use Rattle.std.specs.Prelude.{◌≡◌, ◌≤◌, length};
 
-use std::error::Error;
-use std::fmt;
+use thiserror::Error;
 use zmtp_wire::WireFault;
 
 /// The reason that a peer gave in its ERROR: up to 255 octets.
@@ -37,7 +36,8 @@ impl Reason {
 }
 
 /// Why a peer is refused. Each but want of memory is final: the connection is closed without a word.
-#[derive(Clone, Copy, Debug, PartialEq, Eq)]
+#[derive(Clone, Copy, Debug, PartialEq, Eq, Error)]
+#[error("{}", self.name())]
 pub enum PeerFault {
     /// The greeting or the frames are wrong, or there was no memory. Want of memory changes nothing.
     Wire(WireFault),
@@ -88,10 +88,3 @@ impl PeerFault {
     }
 }
 
-impl fmt::Display for PeerFault {
-    fn fmt<W: fmt::Write>(&self, f: &mut fmt::Formatter<W>) -> fmt::Result {
-        f.write_str(self.name())
-    }
-}
-
-impl Error for PeerFault {}

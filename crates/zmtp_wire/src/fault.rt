@@ -3,11 +3,11 @@ ghost use Rattle.std.specs.Prelude.{◌≡◌};
 ghost use Rattle.zmtp_wire.specs.Fault.{number_of, name_of};
 
 use std::alloc::AllocError;
-use std::error::Error;
-use std::fmt;
+use thiserror::Error;
 
 /// What is wrong with a greeting or with a stream of frames, or that there was no memory.
-#[derive(Clone, Copy, Debug, PartialEq, Eq)]
+#[derive(Clone, Copy, Debug, PartialEq, Eq, Error)]
+#[error("{}", self.name())]
 pub enum WireFault {
     /// The greeting doesn't have the octets FF and 7F where the signature has them.
     BadSignature,
@@ -56,14 +56,6 @@ impl WireFault {
         }
     }
 }
-
-impl fmt::Display for WireFault {
-    fn fmt<W: fmt::Write>(&self, f: &mut fmt::Formatter<W>) -> fmt::Result {
-        f.write_str(self.name())
-    }
-}
-
-impl Error for WireFault {}
 
 impl From<AllocError> for WireFault {
     ghost use Rattle.std.specs.Prelude.{◌≡◌};
