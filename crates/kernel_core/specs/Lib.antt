@@ -5,7 +5,6 @@ pub mod Language
 pub mod Reached
 pub mod Text
 pub mod Refusal
-
 -- The machine, in reading order: travels and turns, its states, which of them are legal, its slices, begins and runs, and the laws of
 -- its runs.
 pub mod Travel
@@ -18,7 +17,6 @@ pub mod Runs
 pub mod PostFault
 pub mod Theorems
 pub mod Determined
-
 -- The code's own words: its types read as those of the machine, what its fields keep, and how contracts have states as values.
 pub mod Program
 pub mod Runner
