@@ -1,4 +1,7 @@
 //! Messages: vectors of RFC 4231, messages that a real client wrote, and the first refusal of frames that are none.
+ghost use Rattle.std.specs.Prelude.{IfOk};
+ghost use Rattle.jupyter_msg.specs.Opened.{IsRead};
+
 use crate::client::{COMM_OPEN, COMPLETE, EXECUTE, KERNEL_INFO, KEY};
 use jupyter_msg::{MsgFault, Opened, Part, Parts, Request, RequestContent, hmac, open, seal, sign};
 use std::alloc::{AllocError, Global};
@@ -54,7 +57,9 @@ fn copy_frames(alloc: Global, frames: &[&[u8]]) -> Result<Vec<Vec<u8>>, AllocErr
 }
 
 /// A message with this header and content, under an empty key.
-pub(crate) fn message_of(alloc: Global, header: &str, content: &str) -> Result<Opened, Fail> {
+pub(crate) fn message_of(alloc: Global, header: &str, content: &str) -> Result<Opened, Fail>
+    ensures { IfOk result IsRead }
+{
     let frames = [
         b"<IDS|MSG>".as_slice(),
         b"",
@@ -81,7 +86,9 @@ fn opens(
     alloc: Global,
     frames: &[&[u8]],
     identities: usize,
-) -> Result<Opened, Fail> {
+) -> Result<Opened, Fail>
+    ensures { IfOk result IsRead }
+{
     let opened = open(alloc, copy_frames(alloc, frames)?, KEY)?;
     assert_eq!(rt; opened.message.identities.len(), identities);
     let sealed = seal(alloc, &opened.message, KEY)?;
@@ -106,7 +113,7 @@ fn opens_what_a_client_wrote(rt: HostRuntime) -> Result<(), Fail> {
     let request = Request::read(alloc, &opened)?;
     assert!(rt; request.identities.is_empty());
     assert_eq!(rt; request.header.as_slice(), EXECUTE[2]);
-    let RequestContent::Execute(request) = request.content else {
+    let RequestContent::Execute(request) = &request.content else {
         return Err(Fail::from("no execute_request"));
     };
     assert_eq!(rt; request.code.as_str(), "int x\nx += 5");
@@ -132,7 +139,7 @@ fn keeps_identities_and_buffers(rt: HostRuntime) -> Result<(), Fail> {
     let request = Request::read(alloc, &opened)?;
     assert_eq!(rt; request.identities.len(), 2);
     assert_eq!(rt; request.identities[1].as_slice(), b"second".as_slice());
-    let RequestContent::Complete(request) = request.content else {
+    let RequestContent::Complete(request) = &request.content else {
         return Err(Fail::from("no complete_request"));
     };
     assert_eq!(rt; request.code.as_str(), "unc p");
@@ -144,7 +151,8 @@ fn keeps_identities_and_buffers(rt: HostRuntime) -> Result<(), Fail> {
         opened.message.buffers[0].as_slice(),
         b"\x01\x02".as_slice()
     );
-    let RequestContent::CommOpen(request) = Request::read(alloc, &opened)?.content else {
+    let request = Request::read(alloc, &opened)?;
+    let RequestContent::CommOpen(request) = &request.content else {
         return Err(Fail::from("no comm_open"));
     };
     assert_eq!(rt; request.comm_id.as_str(), "c1");

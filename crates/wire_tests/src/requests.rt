@@ -359,7 +359,8 @@ fn reads_each_request(rt: HostRuntime) -> Result<(), Fail> {
     let alloc = rt.alloc();
     for (msg_type, content, want) in REQUESTS {
         let message = message_of(alloc, &header_of(alloc, msg_type)?, content)?;
-        let request = Request::read(alloc, &message)?.content;
+        let read = Request::read(alloc, &message)?;
+        let request = &read.content;
         assert_eq!(rt; format!(in alloc; "{request:?}")?.as_str(), want);
     }
     Ok(())
@@ -384,7 +385,8 @@ fn reads_what_a_comm_asks(rt: HostRuntime) -> Result<(), Fail> {
     for (data, want) in ASKS {
         let content = format!(in alloc; "{{\"comm_id\":\"c\",\"data\":{data}}}")?;
         let message = message_of(alloc, &header_of(alloc, "comm_msg")?, &content)?;
-        let RequestContent::CommMessage(request) = Request::read(alloc, &message)?.content else {
+        let read = Request::read(alloc, &message)?;
+        let RequestContent::CommMessage(request) = &read.content else {
             return Err(Fail::from("no comm_msg"));
         };
         assert_eq!(rt; request.ask, want, "{data}");
