@@ -36,6 +36,17 @@ pub operator_level : (op : Operator) → 0 < level_of op
 operator_level operation.Add = omega arith
 operator_level operation.Subtract = omega arith
 operator_level operation.Xor = omega arith
+operator_level operation.Multiply = omega arith
+operator_level operation.Divide = omega arith
+operator_level operation.Remainder = omega arith
+operator_level operation.BitAnd = omega arith
+operator_level operation.BitOr = omega arith
+operator_level operation.Less = omega arith
+operator_level operation.Greater = omega arith
+operator_level operation.AtMost = omega arith
+operator_level operation.AtLeast = omega arith
+operator_level operation.Equal = omega arith
+operator_level operation.Differ = omega arith
 
 pub binds_weaker : (o : Option Operator) (op : Operator) (e : Exp) (E : ForExp) (x : Step) → Stops (level_of op) o → binds_before o op e E x ≡ x
 binds_weaker None op e E x h = refl

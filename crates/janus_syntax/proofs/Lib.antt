@@ -13,3 +13,4 @@ pub mod OneRefusal
 pub mod Theorems
 pub mod OneTree
 pub mod EveryText
+pub mod Views

@@ -109,6 +109,17 @@ no_operator None h = refl
 no_operator (Some operation.Add) h = absurd (omega arith)
 no_operator (Some operation.Subtract) h = absurd (omega arith)
 no_operator (Some operation.Xor) h = absurd (omega arith)
+no_operator (Some operation.Multiply) h = absurd (omega arith)
+no_operator (Some operation.Divide) h = absurd (omega arith)
+no_operator (Some operation.Remainder) h = absurd (omega arith)
+no_operator (Some operation.BitAnd) h = absurd (omega arith)
+no_operator (Some operation.BitOr) h = absurd (omega arith)
+no_operator (Some operation.Less) h = absurd (omega arith)
+no_operator (Some operation.Greater) h = absurd (omega arith)
+no_operator (Some operation.AtMost) h = absurd (omega arith)
+no_operator (Some operation.AtLeast) h = absurd (omega arith)
+no_operator (Some operation.Equal) h = absurd (omega arith)
+no_operator (Some operation.Differ) h = absurd (omega arith)
 
 pub assign_is : {x : List ℕ} {at : Span} {u : Update} {e : Exp} {total : ℕ} {from middle rest : List Token} → IsUpdate u from middle → IsExp 8 0 e total middle rest → IsStm (Assign (named x at) u e) (Name x at ∷ from) rest
 assign_is {x} {at} {u} {e} {rest = rest} i d =

@@ -15,7 +15,7 @@ use Rattle.janus_syntax.specs.declared.tree.Update.TheVariants as assignment
 use Rattle.janus_syntax.specs.Tokens.{Token, Name, Number, Sign_of, Word_of}
 use Rattle.janus_syntax.specs.Tree.{Name as Named, named, Exp, Num, Var, Bin, Stm, Assign, Block, Empty, More, Declaration, Int, Cell, cell_of}
 use Rattle.janus_syntax.specs.Grammar
-use Rattle.janus_syntax.specs.Grammar.{SpellsExp, SpellsCell, level_of, operator_at, update_at, operators, operator_limit, BlockWithin, CellWithin, IsTree, IsOpen, IsOpenWithin, IsItem, a_name, an_operator, an_expression, BeginsWith, IsNext, IsWanted, IsUnexpected, IsTooNested}
+use Rattle.janus_syntax.specs.Grammar.{stm_operators, SpellsExp, SpellsCell, level_of, operator_at, update_at, operators, operator_limit, BlockWithin, CellWithin, IsTree, IsOpen, IsOpenWithin, IsItem, a_name, an_operator, an_expression, BeginsWith, IsNext, IsWanted, IsUnexpected, IsTooNested}
 use Rattle.janus_syntax.specs.Machine.{ForExp, Pending, Right, ForStm, Within, ForBlock, Body, State, Operand, After, Target, Another, Declarations, Declared, Step, Go, Accept, Stuck, push, binds_before, goes_on, after, ended, another, step, run, follow, at_end, target, next, wanted, wanted_exp, owed, counted, Outcome, Read, Failed, Limited}
 use Rattle.janus_syntax.specs.Reading.{IsRefused}
 use Rattle.janus_syntax.proofs.Agrees.{run_goes, reads}
@@ -121,16 +121,16 @@ walk limit (t ∷ rest) s h = walk_step limit s t rest (step s (Some t)) refl h 
 
 total : Block → ℕ
 total Empty = 0
-total (More (Assign x u e) b) = operators e + total b
+total (More s b) = stm_operators s + total b
 
 within_more : (low high : ℕ) (b : Block) → low ≤ high → BlockWithin low b → BlockWithin high b
 within_more low high Empty h w = tt
-within_more low high (More (Assign x u e) b) h w = (omega (arith, w.0), within_more low high b h w.1)
+within_more low high (More s b) h w = (omega (arith, w.0), within_more low high b h w.1)
 
 within_total : (limit : ℕ) (b : Block) → BlockWithin (limit + total b) b
 unfolding total
 within_total limit Empty = tt
-within_total limit (More (Assign x u e) b) = (omega arith, within_more (limit + total b) (limit + (operators e + total b)) b (omega arith) (within_total limit b))
+within_total limit (More s b) = (omega arith, within_more (limit + total b) (limit + (stm_operators s + total b)) b (omega arith) (within_total limit b))
 
 -- a cell's tokens are read under some limit
 reads_high : (limit : ℕ) (c : Cell) (tokens : List Token) → SpellsCell c tokens → (higher : ℕ) × (limit ≤ higher) × (run higher tokens (Declarations []) ≡ Read c)

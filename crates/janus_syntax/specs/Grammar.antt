@@ -12,13 +12,24 @@ use Rattle.janus_syntax.specs.declared.tree.Update.TheVariants as update
 use Rattle.janus_syntax.specs.declared.fault.What.{What}
 use Rattle.janus_syntax.specs.declared.fault.What.TheVariants as what
 use Rattle.janus_syntax.specs.Tokens.{Token, Name, Number, Sign_of, Word_of}
-use Rattle.janus_syntax.specs.Tree.{named, Exp, Num, Var, Bin, Stm, Assign, Block, Empty, More, Declaration, Int, Cell, cell_of}
+use Rattle.janus_syntax.specs.Tree.{named, Exp, Num, Var, Bin, Element, Neg, And, Or, Stm, Assign, Block, Empty, More, Declaration, Int, Cell, cell_of}
 
 -- The language's eight levels of operators: 1 binds strongest (`* / %`; `+ -`; relations; `&`; `^`; `|`; `&&`; `||`).
 abbrev pub level_of : Operator → ℕ
 level_of operator.Add = 2
 level_of operator.Subtract = 2
+level_of operator.Multiply = 1
+level_of operator.Divide = 1
+level_of operator.Remainder = 1
+level_of operator.BitAnd = 4
+level_of operator.BitOr = 6
 level_of operator.Xor = 5
+level_of operator.Less = 3
+level_of operator.Greater = 3
+level_of operator.AtMost = 3
+level_of operator.AtLeast = 3
+level_of operator.Equal = 3
+level_of operator.Differ = 3
 
 -- the operator of a sign
 abbrev pub sign_operator : Sign → Option Operator
@@ -78,9 +89,17 @@ abbrev pub operators : Exp → ℕ
 operators (Num n at) = 0
 operators (Var x) = 0
 operators (Bin op l r) = operators l + operators r + 1
+operators (Element x i) = operators i
+operators (Neg e) = operators e + 1
+operators (And l r) = operators l + operators r + 1
+operators (Or l r) = operators l + operators r + 1
+
+abbrev pub stm_operators : Stm → ℕ
+stm_operators (Assign x u e) = operators e
+stm_operators _ = 0
 
 abbrev pub StmWithin : ℕ → Stm → Type 0
-StmWithin limit (Assign x u e) = operators e ≤ limit
+StmWithin limit s = stm_operators s ≤ limit
 
 -- each whole expression has at most so many operators
 abbrev pub BlockWithin : ℕ → Block → Type 0

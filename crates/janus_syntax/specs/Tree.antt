@@ -16,15 +16,24 @@ use Rattle.janus_syntax.specs.declared.tree.Cell as code_cell
 pub data Name : Type 0 where
   named : List ℕ → Span → Name
 
+-- constructors are those of the meaning's trees, in the same order
 pub data Exp : Type 0 where
   Num : ℕ → Span → Exp
   Var : Name → Exp
+  Element : Name → Exp → Exp
+  Neg : Exp → Exp
   Bin : Operator → Exp → Exp → Exp
+  And : Exp → Exp → Exp
+  Or : Exp → Exp → Exp
 
 -- a statement, and a block of statements
 mutual
   pub data Stm : Type 0 where
+    Skip : Stm
     Assign : Name → Update → Exp → Stm
+    AssignElement : Name → Exp → Update → Exp → Stm
+    If : Exp → Block → Block → Exp → Stm
+    Loop : Exp → Block → Block → Exp → Stm
 
   pub data Block : Type 0 where
     Empty : Block
@@ -32,6 +41,7 @@ mutual
 
 pub data Declaration : Type 0 where
   Int : Name → Declaration
+  Array : Name → ℕ → Span → Declaration
 
 -- a cell: the declarations, and the statements
 pub data Cell : Type 0 where
@@ -45,10 +55,24 @@ name_view x = named (string_bytes x.text) x.span
 abbrev pub exp_view : code_exp.Exp → Exp
 exp_view (exps.Number n at) = Num n at
 exp_view (exps.Variable x) = Var (name_view x)
+exp_view (exps.Element' x p i) = Element (name_view x) (exp_view i)
+exp_view (exps.Negative' p e) = Neg (exp_view e)
 exp_view (exps.Binary' op p l q r) = Bin op (exp_view l) (exp_view r)
+exp_view (exps.And' p l q r) = And (exp_view l) (exp_view r)
+exp_view (exps.Or' p l q r) = Or (exp_view l) (exp_view r)
 
-abbrev pub stm_view : code_stm.Stm → Stm
-stm_view (stms.Assign x u e) = Assign (name_view x) u (exp_view e)
+abbrev mutual
+  pub stm_view : code_stm.Stm → Stm
+  stm_view stms.Skip = Skip
+  stm_view (stms.Assign x u e) = Assign (name_view x) u (exp_view e)
+  stm_view (stms.AssignElement x i u e) = AssignElement (name_view x) (exp_view i) u (exp_view e)
+  stm_view (stms.If' e s ss t ts f) = If (exp_view e) (row_view ss) (row_view ts) (exp_view f)
+  stm_view (stms.Loop' e s ss t ts f) = Loop (exp_view e) (row_view ss) (row_view ts) (exp_view f)
+
+  -- the statements of a Vec inside a statement
+  pub row_view : {m : _} → code_stm.Row_of-Stm m → Block
+  row_view code_stm.end_of-Stm = Empty
+  row_view (code_stm.more_of-Stm s rest) = More (stm_view s) (row_view rest)
 
 abbrev pub block_view : List code_stm.Stm → Block
 block_view [] = Empty
@@ -56,6 +80,7 @@ block_view (s ∷ ss) = More (stm_view s) (block_view ss)
 
 abbrev pub declaration_view : code_declaration.Declaration → Declaration
 declaration_view (declarations.Int x) = Int (name_view x)
+declaration_view (declarations.Array x n at) = Array (name_view x) n at
 
 abbrev pub declarations_view : List code_declaration.Declaration → List Declaration
 declarations_view ds = map declaration_view ds

@@ -3,8 +3,8 @@
 //! Names and numbers keep the octets of the text where they stand, since a later check refuses a cell at a place.
 
 ghost use Rattle.std.specs.Prelude.{◌≡◌, IfOk};
-ghost use Rattle.janus_syntax.specs.View.{name_of, exp_of, stm_of};
-ghost use Rattle.janus_syntax.specs.Tree.{exp_view, stm_view};
+ghost use Rattle.janus_syntax.specs.View.{name_of};
+ghost use Rattle.janus_syntax.specs.Tree.{exp_view};
 
 use crate::token::Span;
 use std::alloc::{AllocError, Global};
@@ -29,35 +29,68 @@ impl Name {
     }
 }
 
-/// An operator of an expression.
+/// An operator of an expression that reads both its sides.
 #[derive(Clone, Copy, PartialEq, Eq, Debug)]
 pub enum Operator {
     Add,
     Subtract,
+    Multiply,
+    Divide,
+    Remainder,
+    BitAnd,
+    BitOr,
     Xor,
+    Less,
+    Greater,
+    AtMost,
+    AtLeast,
+    Equal,
+    Differ,
 }
 
-/// An expression. A number is at most 2147483647.
+/// An expression. A number is at most 2147483647. The right sides of `And` and `Or` are read only where they are needed.
 #[derive(Drop)]
 pub enum Exp {
     Number(u32, Span),
     Variable(Name),
+    Element(Name, Box<Exp>),
+    Negative(Box<Exp>),
     Binary(Operator, Box<Exp>, Box<Exp>),
+    And(Box<Exp>, Box<Exp>),
+    Or(Box<Exp>, Box<Exp>),
 }
 
 impl Exp {
     /// The same expression, at the same places, in memory of its own; an error for want of memory.
     pub fn copy(&self, alloc: Global) -> Result<Exp, AllocError>
-        ensures tree { IfOk result (λ copy. exp_of copy ≡ exp_of self.now) }
-        ensures places { IfOk result (λ copy. exp_view copy ≡ exp_view self.now) }
+        ensures { IfOk result (λ copy. exp_view copy ≡ exp_view self.now) }
     {
         match self {
             Exp::Number(number, span) => Ok(Exp::Number(*number, *span)),
             Exp::Variable(name) => Ok(Exp::Variable(name.copy()?)),
+            Exp::Element(name, index) => {
+                let name = name.copy()?;
+                let index = index.copy(alloc)?;
+                Ok(Exp::Element(name, Box::new(alloc, index)?))
+            }
+            Exp::Negative(operand) => {
+                let operand = operand.copy(alloc)?;
+                Ok(Exp::Negative(Box::new(alloc, operand)?))
+            }
             Exp::Binary(operator, left, right) => {
                 let left = left.copy(alloc)?;
                 let right = right.copy(alloc)?;
                 Ok(Exp::Binary(*operator, Box::new(alloc, left)?, Box::new(alloc, right)?))
+            }
+            Exp::And(left, right) => {
+                let left = left.copy(alloc)?;
+                let right = right.copy(alloc)?;
+                Ok(Exp::And(Box::new(alloc, left)?, Box::new(alloc, right)?))
+            }
+            Exp::Or(left, right) => {
+                let left = left.copy(alloc)?;
+                let right = right.copy(alloc)?;
+                Ok(Exp::Or(Box::new(alloc, left)?, Box::new(alloc, right)?))
             }
         }
     }
@@ -71,31 +104,26 @@ pub enum Update {
     Xor,
 }
 
-/// A statement.
+/// A statement. A part of an `if` or a loop that is left out in the text is the block with one `Skip`.
 #[derive(Drop)]
 pub enum Stm {
+    Skip,
+    /// A variable, and what it is changed by.
     Assign(Name, Update, Exp),
-}
-
-impl Stm {
-    /// The same statement, at the same places, in memory of its own; an error for want of memory.
-    pub fn copy(&self, alloc: Global) -> Result<Stm, AllocError>
-        ensures tree { IfOk result (λ copy. stm_of copy ≡ stm_of self.now) }
-        ensures places { IfOk result (λ copy. stm_view copy ≡ stm_view self.now) }
-    {
-        match self {
-            Stm::Assign(name, update, exp) => {
-                let name = name.copy()?;
-                Ok(Stm::Assign(name, *update, exp.copy(alloc)?))
-            }
-        }
-    }
+    /// An array, the index of the element, and what that is changed by.
+    AssignElement(Name, Exp, Update, Exp),
+    /// The first test, the parts after `then` and `else`, and the test after `fi`.
+    If(Exp, Vec<Stm>, Vec<Stm>, Exp),
+    /// The test after `from`, the parts after `do` and `loop`, and the test after `until`.
+    Loop(Exp, Vec<Stm>, Vec<Stm>, Exp),
 }
 
 /// What a cell declares.
 #[derive(Drop)]
 pub enum Declaration {
     Int(Name),
+    /// An array, how long it is, and where that number stands.
+    Array(Name, u32, Span),
 }
 
 /// A cell: its declarations and behind them its statements.

@@ -1,0 +1,28 @@
+-- How a statement with blocks is seen, where it is made from its vectors.
+use Rattle.std.proofs.Common.{◌≡◌, Vec, Global, refl, ap, ◌∙◌}
+use mathlib.Core.Former.{Count}
+use Rattle.janus_syntax.specs.declared.tree.Stm.{Stm, If, If', Loop, Loop', Row_of-Stm, end_of-Stm, more_of-Stm, items-the_row-Stm, items_hidden-the_row-Stm-0}
+use Rattle.janus_syntax.specs.declared.tree.Exp as code_exp
+use Rattle.janus_syntax.specs.Tree
+use Rattle.janus_syntax.specs.Tree.{Block, Empty, More, exp_view, stm_view, row_view, block_view}
+
+row_is_block : (n : _) (row : Row_of-Stm n) → row_view row ≡ block_view (items-the_row-Stm n row)
+row_is_block n end_of-Stm = refl
+row_is_block n (more_of-Stm s rest) = ap (More (stm_view s)) (row_is_block _ rest)
+
+abbrev rows_of : Stm → (n : Count) × Row_of-Stm n × (m : Count) × Row_of-Stm m
+rows_of (If' _ _ ss _ ts _) = (_, ss, _, ts)
+rows_of (Loop' _ _ ss _ ts _) = (_, ss, _, ts)
+rows_of _ = (_, end_of-Stm, _, end_of-Stm)
+
+pub view_if : (e f : code_exp.Exp) (v w : Vec Stm Global) → stm_view (If e v w f) ≡ Tree.If (exp_view e) (block_view v.items) (block_view w.items) (exp_view f)
+view_if e f v w =
+    let rows = rows_of (If e v w f) in
+    ap (λ b. Tree.If (exp_view e) b (row_view rows.3) (exp_view f)) (row_is_block rows.0 rows.1 ∙ ap block_view (items_hidden-the_row-Stm-0 v))
+    ∙ ap (λ b. Tree.If (exp_view e) (block_view v.items) b (exp_view f)) (row_is_block rows.2 rows.3 ∙ ap block_view (items_hidden-the_row-Stm-0 w))
+
+pub view_loop : (e f : code_exp.Exp) (v w : Vec Stm Global) → stm_view (Loop e v w f) ≡ Tree.Loop (exp_view e) (block_view v.items) (block_view w.items) (exp_view f)
+view_loop e f v w =
+    let rows = rows_of (Loop e v w f) in
+    ap (λ b. Tree.Loop (exp_view e) b (row_view rows.3) (exp_view f)) (row_is_block rows.0 rows.1 ∙ ap block_view (items_hidden-the_row-Stm-0 v))
+    ∙ ap (λ b. Tree.Loop (exp_view e) (block_view v.items) b (exp_view f)) (row_is_block rows.2 rows.3 ∙ ap block_view (items_hidden-the_row-Stm-0 w))
