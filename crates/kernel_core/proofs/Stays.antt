@@ -4,7 +4,6 @@ use Rattle.std.specs.Prelude.{nat_lt, length}
 use Rattle.std.proofs.Common.{◌≡◌, ℕ, ◌+◌, ◌-◌, ◌<◌, ◌≤◌, Bool, true, false, List, [], ◌∷◌, zero, suc, refl, sym, ap, subst, arith, inl, inr}
 use Rattle.janus_meaning.specs.World.{World}
 use Rattle.janus_meaning.specs.Syntax.{Blk}
-use Rattle.janus_meaning.specs.World.{entered}
 use Rattle.janus_meaning.specs.Cells.{WorldPart}
 use Rattle.janus_meaning.proofs.Worlds.{worlds_are_determined, world_trichotomy, worlds_start_and_end}
 use Rattle.kernel_core.specs.Language.{Code, Forward, Backward, start_of, block_of, Part, Exec}
@@ -13,7 +12,8 @@ use Rattle.kernel_core.specs.State.{Past, Work, Posted, Move, Job as Open, Idle,
 use Rattle.kernel_core.specs.Legal.{CanGo, IsLegal, IsPossible, IsPossibleWork, IsPossibleAt, IsInTime, IsLegalState}
 use Rattle.kernel_core.specs.Slices.{cells, stepped, moved, Backs, Arrives, Settles, Comes, SlicesIn, SlicesAt}
 use Rattle.kernel_core.specs.Begins.{travel_to, Enters, Departs, TakesMove, TakesGoto, TakesCell}
-use Rattle.kernel_core.specs.Runs.{Machine, Request, RunCell, Undo, Redo, Goto, Waiting, request_of, Step, BeginsAt, Takes}
+use Rattle.kernel_core.specs.Runs.{Machine, Step, BeginsAt, Takes, TakesUnless}
+use Rattle.kernel_core.specs.Request.{Request, RunCell, Undo, Redo, Goto, request_of}
 use Rattle.kernel_core.specs.Theorems.{NewIsLegal, StaysLegal}
 use Rattle.kernel_core.specs.Travel as aim
 use Rattle.kernel_core.specs.Travel.{Travel}
@@ -24,20 +24,15 @@ use Rattle.kernel_core.specs.declared.events.Event.{Event}
 use Rattle.kernel_core.specs.declared.events.Event.TheVariants as event
 use Rattle.kernel_core.specs.declared.events.Told.{Told}
 use Rattle.kernel_core.specs.declared.events.Told.TheVariants as told
-use Rattle.kernel_core.proofs.LanguageLaws.{exec_some, part_zero_forward, part_zero_backward}
+use Rattle.kernel_core.proofs.LanguageLaws.{exec_some}
 use Rattle.kernel_core.proofs.Texts.{accepted_formed}
 use Rattle.kernel_core.proofs.Trees.{legal_grown, moved_legal, meeting_way, new_legal}
-use Rattle.kernel_core.proofs.Jobs.{post_keeps}
+use Rattle.kernel_core.proofs.Jobs.{post_keeps, part_none}
 
 pub new_is_legal : NewIsLegal
 new_is_legal = (record { legal = new_legal; possible = tt; in_time = tt; shown = (_, refl) }, refl)
 
 -- ---- the worlds that are shown
-
--- before the first step
-part_none : (code : Code) (w : World) → (v : World) × Part code w 0 v
-part_none (Forward cell) w = (entered cell w, part_zero_forward cell w)
-part_none (Backward cell) w = (w, part_zero_backward cell w)
 
 -- where a world is shown after some steps, one is after fewer
 part_sooner : (code : Code) (w : World) (j i : ℕ) (v : World) → Part code w j v → i ≤ j → (u : World) × Part code w i u
@@ -145,9 +140,13 @@ takes_legal s (Undo k) answer new g a = takes_move_legal s (travel_to aim.Undo k
 takes_legal s (Redo k) answer new g a = takes_move_legal s (travel_to aim.Redo 0 k) _ answer new g (λ e. (refl, e)) a
 takes_legal s (Goto n) answer new g a = takes_goto_legal s n _ answer new g (λ e. lt_is n (length s.nodes) e) a
 
-begins_legal : (old : Machine) (job : Open) (queue : List Waiting) (answer : Begun) (new : Machine) → IsLegalState old.state → IsPossibleAt old.state.past job → BeginsAt old job queue answer new → IsLegalState new.state
+taken_legal : (closing : Bool) (s : Past) (r : Request) (answer : Begun) (new : State) → IsLegal s → TakesUnless closing s r answer new → IsLegalState new
+taken_legal false s r answer new g a = takes_legal s r answer new g a
+taken_legal true s r answer new g a = legal_idle s new g a.1
+
+begins_legal : (old : Machine) (job : Open) (queue : List Request) (answer : Begun) (new : Machine) → IsLegalState old.state → IsPossibleAt old.state.past job → BeginsAt old job queue answer new → IsLegalState new.state
 begins_legal old Idle [] answer new g p a = legal_at old.state new.state (ap (λ (m : Machine). m.state) a.1) g
-begins_legal old Idle (first ∷ rest) answer new g p a = legal_at a.0 new.state (ap (λ (m : Machine). m.state) a.2) (takes_legal old.state.past first.job answer a.0 g.legal a.1)
+begins_legal old Idle (first ∷ rest) answer new g p a = legal_at a.0 new.state (ap (λ (m : Machine). m.state) a.2) (taken_legal old.closing old.state.past first answer a.0 g.legal a.1)
 begins_legal old (Border t) queue answer new g p a = legal_at a.0 new.state (ap (λ (m : Machine). m.state) a.2) (enters_legal old.state.past t answer a.0 g.legal p a.1)
 begins_legal old (Inside e) queue answer new g p a = legal_at old.state new.state (ap (λ (m : Machine). m.state) a.1) g
 
@@ -155,15 +154,12 @@ begins_legal old (Inside e) queue answer new g p a = legal_at old.state new.stat
 
 pub step_legal : (old : Machine) (e : Event) (t : Told) (new : Machine) → IsLegalState old.state → Step old e t new → IsLegalState new.state
 step_legal old (event.Post lane posted) (told.Post answer) new g s = legal_at old.state new.state (post_keeps old lane (request_of posted) answer new s) g
-step_legal old event.Begin (told.Begin answer) new g s = begins_legal old old.state.job old.queue answer new g g.possible s
+step_legal old event.Begin (told.Begin answer) new g s =
+    legal_at s.0.state new.state (ap (λ (x : Machine). x.state) s.2) (begins_legal old old.state.job old.queue answer s.0 g g.possible s.1)
 step_legal old (event.Slice m asked) (told.Slice answer) new g s =
     legal_at s.0 new.state (ap (λ (x : Machine). x.state) s.2) (slice_legal old.state.past old.state.job m asked answer s.0 g.legal g.possible g.shown s.1)
-step_legal old (event.Post lane posted) (told.Begin answer) new g s = absurd s
-step_legal old (event.Post lane posted) (told.Slice answer) new g s = absurd s
-step_legal old event.Begin (told.Post answer) new g s = absurd s
-step_legal old event.Begin (told.Slice answer) new g s = absurd s
-step_legal old (event.Slice m asked) (told.Post answer) new g s = absurd s
-step_legal old (event.Slice m asked) (told.Begin answer) new g s = absurd s
+step_legal old event.Shut told.Shut new g s = legal_at old.state new.state (ap (λ (x : Machine). x.state) s) g
+step_legal old e t new g s = absurd s
 
 pub stays_legal : StaysLegal
 stays_legal old new [] [] g r = legal_at old.state new.state (ap (λ (m : Machine). m.state) r) g
