@@ -5,7 +5,7 @@ use Rattle.std.specs.Fmt.{digits}
 use Rattle.janus_meaning.specs.Limit.{step_limit}
 use Rattle.kernel_core.specs.Determined as machine
 use Rattle.kernel_core.specs.Determined.{StepIsDetermined}
-use Rattle.kernel_core.specs.Legal.{IsLegalState}
+use Rattle.kernel_core.specs.LegalState.{IsLegalState}
 use Rattle.kernel_core.specs.Theorems.{StaysLegal}
 use Rattle.kernel_core.specs.Travel.{Aim, Undo, Redo, Goto}
 use Rattle.kernel_core.specs.Slices.{finished_by, finished}

@@ -1,6 +1,6 @@
 -- Where memory is ample, each step of the machine is determined, and so is each run.
 use Rattle.std.specs.Prelude.{nat_lt, length}
-use Rattle.std.proofs.Common.{◌≡◌, ℕ, ◌+◌, ◌-◌, ◌<◌, ◌≤◌, Bool, true, false, List, [], ◌∷◌, zero, suc, refl, sym, ap, ◌∙◌, subst, arith, inl, inr, Result, Ok, Err, ◌++◌}
+use Rattle.std.proofs.Common.{◌≡◌, ℕ, ◌+◌, ◌-◌, ◌<◌, ◌≤◌, Bool, true, false, List, [], ◌∷◌, zero, suc, refl, sym, ap, ◌∙◌, subst, arith, inl, inr, Result, Ok, Err}
 use Rattle.janus_meaning.specs.Fault as meaning
 use Rattle.janus_meaning.specs.World.{World, Cell}
 use Rattle.janus_machine.specs.Faults.{fault_of}
@@ -12,7 +12,7 @@ use Rattle.kernel_core.specs.State.{Past, Work, Posted, Move, Job as Open, Idle,
 use Rattle.kernel_core.specs.Legal.{can_undo, can_redo, IsLegal}
 use Rattle.kernel_core.specs.Slices.{cells, stepped, moved, Backs, Arrives, Settles, Comes, Goes, SlicesIn, SlicesAt}
 use Rattle.kernel_core.specs.Begins.{travel_to, Departs, Enters, TakesMove, TakesGoto, TakesCell}
-use Rattle.kernel_core.specs.Runs.{Machine, IsReady, IsRefusal, IsPost, Run, IsBegin, BeginsAt, Takes, TakesUnless, noted, end_of_begun, end_of_sliced}
+use Rattle.kernel_core.specs.Runs.{Machine, IsRefusal, IsPost, Run, IsBegin, BeginsAt, Takes, TakesUnless, noted, end_of_begun, end_of_sliced}
 use Rattle.kernel_core.specs.Request.{Request, RunCell, Undo, Redo, Goto, request_of, raised}
 use Rattle.kernel_core.specs.Determined.{TellsWant, StepIsDetermined, RunIsDetermined}
 use Rattle.kernel_core.specs.Travel as aim

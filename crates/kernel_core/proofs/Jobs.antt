@@ -1,19 +1,18 @@
 -- What a job keeps from its begin to its end, over any events.
-use Rattle.std.specs.Prelude.{nat_lt}
-use Rattle.std.proofs.Common.{◌≡◌, ℕ, ◌+◌, ◌-◌, ◌<◌, ◌≤◌, Bool, true, false, List, [], ◌∷◌, length, zero, suc, refl, sym, ap, subst, arith, inl, inr, Result, Ok, Err}
+use Rattle.std.proofs.Common.{◌≡◌, ℕ, ◌+◌, ◌-◌, ◌≤◌, Bool, true, false, List, [], ◌∷◌, length, zero, suc, refl, sym, ap, subst, arith, inl, inr, Result, Ok, Err}
 use Rattle.janus_meaning.specs.World.{World, Cell, entered}
 use Rattle.kernel_core.specs.Language.{Code, Forward, Backward, Part}
 use Rattle.kernel_core.specs.Reached.{Reaches, Progress, Went, Ended, Stopped, IsUnderWay}
 use Rattle.kernel_core.specs.Text.{Accepts}
 use Rattle.kernel_core.specs.State.{Past, Work, Posted, Move, Job as Open, Idle, Border, Inside, State, here, code_of}
-use Rattle.kernel_core.specs.Legal.{can_undo, can_redo, IsMeeting}
+use Rattle.kernel_core.specs.Legal.{IsMeeting}
 use Rattle.kernel_core.proofs.LanguageLaws.{part_zero_forward, part_zero_backward, exec_some}
 use Rattle.kernel_core.specs.Slices.{finished, turned, cells, stepped, moved, grown, Backs, Arrives, Comes, SlicesIn, SlicesAt}
 use Rattle.kernel_core.specs.Begins.{Declares, travel_to, Departs, Enters, TakesMove, TakesGoto, TakesCell}
 use Rattle.kernel_core.specs.Runs.{Machine, Step, Run, IsPost, IsNext, IsBegin, BeginsAt, Takes, TakesUnless}
 use Rattle.kernel_core.specs.Request.{Request, RunCell, Undo, Redo, Goto, request_of}
 use Rattle.kernel_core.specs.Midway.{after, gone, count_of, IsReason, IsAtCount, IsStage, KeepsIn, KeepsAt, Keeps, IsCell, CellIn, CellAt, CellKeeps, Holds}
-use Rattle.kernel_core.specs.Theorems.{EndsAs, IsRefused, TravelEnds, MoveEnds, GotoEnds, CellEnds, JobEnds, EndsUnless, IsNoNode, JobsEnd}
+use Rattle.kernel_core.specs.Theorems.{EndsAs, TravelEnds, MoveEnds, GotoEnds, CellEnds, JobEnds, EndsUnless, IsNoNode, JobsEnd}
 use Rattle.kernel_core.proofs.Trees.{stepped_cells}
 use Rattle.kernel_core.specs.Travel as aim
 use Rattle.kernel_core.specs.Travel.{Travel}
@@ -306,6 +305,27 @@ no_idle p (RunCell text silent store) s h = h
 no_idle p (Undo k) s h = h.0
 no_idle p (Redo k) s h = h.0
 no_idle p (Goto n) s h = h.1.3
+
+cell_idle : (p : Past) (text : List ℕ) (o : Outcome) (s : State) → CellEnds p text o s → s.job ≡ Idle
+cell_idle p text o s h = elim h [
+  | inl n ↦ ap (λ (x : State). x.job) n.6
+  | inr b ↦ ap (λ (x : State). x.job) b.0
+]
+
+move_idle : (p : Past) (t : Travel) (can : Bool) (o : Outcome) (s : State) → MoveEnds p t can o s → s.job ≡ Idle
+move_idle p t false o s h = ap (λ (x : State). x.job) h.1
+move_idle p t true o s h = ap (λ (x : State). x.job) h.2.stands
+
+goto_idle : (p : Past) (n : ℕ) (known : Bool) (o : Outcome) (s : State) → GotoEnds p n known o s → s.job ≡ Idle
+goto_idle p n false o s h = ap (λ (x : State). x.job) h.1
+goto_idle p n true o s h = ap (λ (x : State). x.job) h.3.2.stands
+
+-- a job that ended is open no more
+pub ended_idle : (p : Past) (job : Request) (o : Outcome) (s : State) → JobEnds p job o s → s.job ≡ Idle
+ended_idle p (RunCell text silent store) o s h = cell_idle p text o s h
+ended_idle p (Undo k) o s h = move_idle p (travel_to aim.Undo k 0) _ o s h
+ended_idle p (Redo k) o s h = move_idle p (travel_to aim.Redo 0 k) _ o s h
+ended_idle p (Goto n) o s h = goto_idle p n _ o s h
 
 begins_hold : (p : Past) (r : Request) (old : Machine) (job : Open) (queue : List Request) (answer : Begun) (new : Machine) → Holds p r (record { past = old.state.past; job = job }) → BeginsAt old job queue answer new →
     old.state.job ≡ job → ThenBegun (Holds p r) (JobEnds p r) answer new.state

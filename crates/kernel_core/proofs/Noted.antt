@@ -1,16 +1,15 @@
 -- The minutes of each machine that is reached are legal.
-use Rattle.std.proofs.Common.{Option, None, Some, ◌≡◌, ℕ, ◌+◌, ◌<◌, ◌≤◌, Bool, true, false, List, [], ◌∷◌, ◌++◌, length, suc, refl, sym, ap, ◌∙◌, subst, arith, inl, inr, Result, Ok, Err, length-append, append-nil}
+use Rattle.std.proofs.Common.{None, Some, ◌≡◌, ℕ, ◌+◌, ◌<◌, ◌≤◌, Bool, true, false, List, [], ◌∷◌, ◌++◌, length, suc, refl, sym, ap, ◌∙◌, subst, arith, inl, inr, Result, Ok, Err, length-append, append-nil}
 use Rattle.std.specs.Prelude.{if◌then◌else◌}
 use Rattle.kernel_core.specs.State.{Past, State, Job as Open, Idle, Border, Inside}
 use Rattle.kernel_core.specs.Slices as slices
-use Rattle.kernel_core.specs.Begins.{Enters, travel_to}
-use Rattle.kernel_core.specs.Request.{Request, RunCell, Undo, Redo, Goto, request_of, is_counted, raised}
+use Rattle.kernel_core.specs.Begins.{Enters}
+use Rattle.kernel_core.specs.Request.{Request, request_of, is_counted, raised}
 use Rattle.kernel_core.specs.Minutes.{Entry, Posted, Ended, posted_in, ended_in}
-use Rattle.kernel_core.specs.Theorems.{JobEnds, MoveEnds, GotoEnds, CellEnds}
+use Rattle.kernel_core.specs.Theorems.{JobEnds}
 use Rattle.kernel_core.specs.Runs.{Machine, new_machine, posted, shut, IsPost, end_of_begun, end_of_sliced, noted, TakesUnless, BeginsAt, IsBegin, IsSliceOf, Step, Run}
 use Rattle.kernel_core.specs.Midway.{Holds}
-use Rattle.kernel_core.specs.LegalMinutes.{Account, new_account, MayEnd, EndsFirst, Tells, Give, IsOpen, Agrees, HasLegalMinutes, KeepsLegalMinutes}
-use Rattle.kernel_core.specs.Travel as aim
+use Rattle.kernel_core.specs.LegalMinutes.{IsLegalMachine, Account, new_account, MayEnd, EndsFirst, Tells, Give, IsOpen, Agrees, HasLegalMinutes, KeepsLegalMinutes}
 use Rattle.kernel_core.specs.Travel.{Travel}
 use Rattle.kernel_core.specs.declared.outcome.Refusal.TheVariants.{Closing}
 use Rattle.kernel_core.specs.declared.outcome.Outcome.{Outcome}
@@ -24,7 +23,8 @@ use Rattle.kernel_core.specs.declared.events.Event.{Event}
 use Rattle.kernel_core.specs.declared.events.Event.TheVariants as event
 use Rattle.kernel_core.specs.declared.events.Told.{Told}
 use Rattle.kernel_core.specs.declared.events.Told.TheVariants as told
-use Rattle.kernel_core.proofs.Jobs.{ThenSliced, ThenBegun, no_idle, slice_holds, enter_holds, take_holds}
+use Rattle.kernel_core.proofs.Jobs.{ThenSliced, ThenBegun, no_idle, ended_idle, slice_holds, enter_holds, take_holds}
+use Rattle.kernel_core.proofs.Stays.{new_is_legal, legal_at, post_legal, begin_legal, slice_legal}
 use Rattle.kernel_core.proofs.Posts.{begins_minutes}
 
 -- ---- the fold
@@ -155,26 +155,6 @@ goes_on : (a : Account) (job : Request) (m : Machine) → IsFirst a job m → Ho
 goes_on a job m f h = nothing_noted m (record { account = a; given = f.given; agrees = open_agrees a job m m.state.job f h refl })
 
 -- ---- a job that ends
-
-cell_idle : (p : Past) (text : List ℕ) (o : Outcome) (s : State) → CellEnds p text o s → s.job ≡ Idle
-cell_idle p text o s h = elim h [
-  | inl n ↦ ap (λ (x : State). x.job) n.6
-  | inr b ↦ ap (λ (x : State). x.job) b.0
-]
-
-move_idle : (p : Past) (t : Travel) (can : Bool) (o : Outcome) (s : State) → MoveEnds p t can o s → s.job ≡ Idle
-move_idle p t false o s h = ap (λ (x : State). x.job) h.1
-move_idle p t true o s h = ap (λ (x : State). x.job) h.2.stands
-
-goto_idle : (p : Past) (n : ℕ) (known : Bool) (o : Outcome) (s : State) → GotoEnds p n known o s → s.job ≡ Idle
-goto_idle p n false o s h = ap (λ (x : State). x.job) h.1
-goto_idle p n true o s h = ap (λ (x : State). x.job) h.3.2.stands
-
-ended_idle : (p : Past) (job : Request) (o : Outcome) (s : State) → JobEnds p job o s → s.job ≡ Idle
-ended_idle p (RunCell text silent store) o s h = cell_idle p text o s h
-ended_idle p (Undo k) o s h = move_idle p (travel_to aim.Undo k 0) _ o s h
-ended_idle p (Redo k) o s h = move_idle p (travel_to aim.Redo 0 k) _ o s h
-ended_idle p (Goto n) o s h = goto_idle p n _ o s h
 
 ends : (a : Account) (job : Request) (m : Machine) (o : Outcome) → IsFirst a job m → m.state.job ≡ Idle → MayEnd a.past job o m.state.past → HasLegalMinutes (noted m (Some o))
 ends a job m o f idle may =
@@ -325,3 +305,20 @@ run_known old new (e ∷ events) (t ∷ answers) k r = run_known r.0 new events 
 
 pub keeps_legal_minutes : KeepsLegalMinutes
 keeps_legal_minutes = (new_known, run_known)
+
+-- ---- what a kernel keeps
+
+pub new_kept : IsLegalMachine new_machine
+new_kept = record { state = new_is_legal.0; minutes = new_known }
+
+pub post_kept : (old : Machine) (lane : ℕ) (job : Request) (answer : Result ℕ PostFault) (new : Machine) → IsLegalMachine old → IsPost old lane job answer new → IsLegalMachine new
+post_kept old lane job answer new k p = record { state = post_legal old lane job answer new k.state p; minutes = post_known old lane job answer new k.minutes p }
+
+pub begin_kept : (old : Machine) (told : Begun) (new : Machine) → IsLegalMachine old → IsBegin old told new → IsLegalMachine new
+begin_kept old told new k b = record { state = begin_legal old told new k.state b; minutes = begin_known old told new k.minutes b }
+
+pub slice_kept : (old : Machine) (m : ℕ) (asked : Bool) (told : Sliced) (new : Machine) → IsLegalMachine old → IsSliceOf old m asked told new → IsLegalMachine new
+slice_kept old m asked told new k s = record { state = slice_legal old m asked told new k.state s; minutes = slice_known old m asked told new k.minutes s }
+
+pub shut_kept : (old new : Machine) → IsLegalMachine old → new ≡ shut old → IsLegalMachine new
+shut_kept old new k s = record { state = legal_at old.state new.state (ap (λ (m : Machine). m.state) s) k.state; minutes = known_at (shut old) new s (shut_known old k.minutes) }

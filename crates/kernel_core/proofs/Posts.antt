@@ -1,11 +1,11 @@
 -- The posts that stand in the minutes: what each step makes of them, and their numbers.
 use Rattle.std.specs.Prelude.{nat_lt}
 use Rattle.std.proofs.lemmas.Bool.Decides.{nat_tests}
-use Rattle.std.proofs.Common.{◌≡◌, ℕ, ◌+◌, ◌*◌, ◌<◌, ◌≤◌, Bool, true, false, List, [], ◌∷◌, ◌++◌, length, suc, refl, sym, ap, ◌∙◌, subst, arith, append_assoc, append-nil, length-append, Option, None, Some, Result, Ok, Err}
+use Rattle.std.proofs.Common.{◌≡◌, ℕ, ◌+◌, ◌*◌, ◌<◌, ◌≤◌, Bool, true, false, List, [], ◌∷◌, ◌++◌, length, get_or, drop, suc, refl, sym, ap, ◌∙◌, arith, append_assoc, append-nil, length-append, Option, None, Some, Ok, Err}
 use Rattle.kernel_core.specs.State.{Job as Open, Idle, Border, Inside}
-use Rattle.kernel_core.specs.Request.{Request, request_of}
+use Rattle.kernel_core.specs.Request.{Request}
 use Rattle.kernel_core.specs.Minutes.{Entry, Posted, Ended, Post, posts_of, posted_in, ended_in, IsNumberOf, HavePlaces, minutes_limit}
-use Rattle.kernel_core.specs.Runs.{Machine, queue_limit, IsRefusal, IsPost, BeginsAt, IsBegin, IsSliceOf, noted, shut, Step, Run, end_of_begun, end_of_sliced}
+use Rattle.kernel_core.specs.Runs.{Machine, queue_limit, IsRefusal, IsPost, BeginsAt, IsBegin, IsSliceOf, noted, shut, Run, end_of_begun, end_of_sliced}
 use Rattle.kernel_core.specs.Theorems.{AllPostsRefused, ShutRefusesJobs}
 use Rattle.kernel_core.specs.declared.outcome.Outcome.{Outcome}
 use Rattle.kernel_core.specs.declared.outcome.Begun.{Begun}
@@ -43,6 +43,19 @@ entry_count (Ended number o count node ∷ xs) = let rest = entry_count xs in om
 pub number_stays : (entries more : List Entry) (number : ℕ) (post : Post) → IsNumberOf entries number post → IsNumberOf (entries ++ more) number post
 number_stays entries more number post h =
     (h.0, h.1 ++ posts_of more, posts-append entries more ∙ ap (λ (posts : List Post). posts ++ posts_of more) h.2 ∙ append_assoc h.0 (post ∷ h.1) (posts_of more), h.3)
+
+same_place : (xs zs ys ws : List Post) (p q : Post) → xs ++ p ∷ ys ≡ zs ++ q ∷ ws → length xs ≡ length zs → p ≡ q
+same_place [] [] ys ws p q e l = ap (λ (posts : List Post). get_or posts 0 p) e
+same_place [] (z ∷ zs) ys ws p q e l = absurd (omega arith)
+same_place (x ∷ xs) [] ys ws p q e l = absurd (omega arith)
+same_place (x ∷ xs) (z ∷ zs) ys ws p q e l = same_place xs zs ys ws p q (ap (λ (posts : List Post). drop 1 posts) e) (omega arith)
+
+-- a number is that of one post
+pub one_post : (entries : List Entry) (number : ℕ) (p q : Post) → IsNumberOf entries number p → IsNumberOf entries number q → p ≡ q
+one_post entries number p q a b =
+    let first = a.3 in
+    let second = b.3 in
+    same_place a.0 b.0 a.1 b.1 p q (sym a.2 ∙ b.2) (omega arith)
 
 -- ---- steps
 

@@ -1,5 +1,5 @@
 -- What stops a job: only an asked slice.
-use Rattle.std.specs.Prelude.{IsTrue, nat_lt}
+use Rattle.std.specs.Prelude.{IsTrue}
 use Rattle.std.proofs.Common.{◌≡◌, ◌≢◌, ℕ, ◌+◌, ◌-◌, ◌<◌, ◌≤◌, Bool, true, false, List, [], ◌∷◌, zero, suc, refl, sym, ap, ◌∙◌, subst, arith, inl, inr, ◌⊎◌}
 use Rattle.janus_meaning.specs.World.{World}
 use Rattle.kernel_core.specs.Travel as aim
@@ -7,8 +7,9 @@ use Rattle.kernel_core.specs.Travel.{Travel, Way, Up, Down, next_way}
 use Rattle.kernel_core.specs.Turn.{Why, WasAsked, Faulted, Turn, GoesOn, GoesBack}
 use Rattle.kernel_core.specs.Reached.{Progress, Went, Ended, Stopped, Reaches}
 use Rattle.kernel_core.specs.State.{Past, Work, Posted, Move, Job as Open, Idle, Border, Inside, State, here, code_of}
-use Rattle.kernel_core.specs.Legal.{IsLegal, IsLegalState, IsPossible, IsPossibleWork, IsPossibleAt, can_undo}
-use Rattle.kernel_core.specs.Slices.{finished, turned, cells, stepped, moved, Backs, Arrives, Settles, Comes, SlicesIn, SlicesAt}
+use Rattle.kernel_core.specs.Legal.{IsLegal, IsPossibleWork, IsPossibleAt}
+use Rattle.kernel_core.specs.LegalState.{IsLegalState}
+use Rattle.kernel_core.specs.Slices.{finished, cells, stepped, moved, Backs, Arrives, Settles, Comes, SlicesIn, SlicesAt}
 use Rattle.kernel_core.specs.Begins.{Declares, travel_to, Departs, Enters, TakesCell, TakesMove, TakesGoto}
 use Rattle.kernel_core.specs.Runs.{Machine, Step, Run, IsBegin, BeginsAt, Takes, TakesUnless}
 use Rattle.kernel_core.specs.Request.{Request, RunCell, Undo, Redo, Goto, request_of}

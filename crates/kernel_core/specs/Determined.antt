@@ -1,6 +1,6 @@
 -- Where memory is ample, the machine gives one answer to each event, and goes on to one state.
 use Rattle.std.specs.Prelude.{◌≡◌, ◌⊎◌, List, [], ◌∷◌, Err}
-use Rattle.kernel_core.specs.Legal.{IsLegalState}
+use Rattle.kernel_core.specs.LegalState.{IsLegalState}
 use Rattle.kernel_core.specs.Runs.{Machine, Step, Run}
 use Rattle.kernel_core.specs.Slices.{finished}
 use Rattle.kernel_core.specs.Travel.{Travel}

@@ -5,6 +5,7 @@ use Rattle.kernel_core.specs.Request.{Request, raised}
 use Rattle.kernel_core.specs.Minutes.{Entry, Posted, Ended}
 use Rattle.kernel_core.specs.Runs.{Machine, new_machine, Run}
 use Rattle.kernel_core.specs.Midway.{Holds}
+use Rattle.kernel_core.specs.LegalState.{IsLegalState}
 use Rattle.kernel_core.specs.Theorems.{IsRefused, JobEnds}
 use Rattle.kernel_core.specs.declared.events.Event.{Event}
 use Rattle.kernel_core.specs.declared.events.Told.{Told}
@@ -60,6 +61,11 @@ pub record HasLegalMinutes (m : Machine) : Type 0 where
   pub account : Account
   pub given : Give new_account m.minutes account
   pub agrees : Agrees account m m.state.job
+
+-- what a kernel keeps: its state and its minutes are legal
+pub record IsLegalMachine (m : Machine) : Type 0 where
+  pub state : IsLegalState m.state
+  pub minutes : HasLegalMinutes m
 
 -- ---- over runs
 

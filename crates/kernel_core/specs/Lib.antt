@@ -18,6 +18,7 @@ pub mod Minutes
 pub mod Runs
 pub mod PostFault
 pub mod Midway
+pub mod LegalState
 pub mod Theorems
 pub mod LegalMinutes
 pub mod Determined

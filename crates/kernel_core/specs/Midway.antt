@@ -33,7 +33,7 @@ abbrev pub IsReason : Code → World → Why → Type 0
 IsReason code w (WasAsked at) = IsUnderWay code w at
 IsReason code w (Faulted fault at) = MeetsFault code w fault at
 
--- the code goes on after so many steps; or it goes back, and has come no further back than from where it turned, for this reason
+-- the code goes on after so many steps; or it goes back from where it turned, for this reason, and stands no further on
 abbrev pub IsAtCount : Code → World → ℕ → Turn → Type 0
 IsAtCount code w c GoesOn = IsUnderWay code w c
 IsAtCount code w c (GoesBack why) = (c ≤ count_of why) × IsReason code w why
@@ -46,10 +46,12 @@ pub record IsStage (p : Past) (whole : Travel) (s : Past) (t : Travel) : Type 0 
   pub count : cells t + done ≡ cells whole
   pub some : 0 < cells t
 
+-- inside a cell that is the travel's next one
 abbrev pub KeepsIn : Past → Travel → Past → Work → ℕ → Turn → Type 0
 KeepsIn p whole s (Posted cell) c turn = ⊥
 KeepsIn p whole s (Move t) c turn = IsStage p whole s t × IsAtCount (code_of s (Move t)) (here s) c turn
 
+-- between two of its cells, or inside one
 abbrev pub KeepsAt : Past → Travel → Past → Open → Type 0
 KeepsAt p whole s Idle = ⊥
 KeepsAt p whole s (Border t) = IsStage p whole s t
@@ -64,10 +66,12 @@ pub record IsCell (p : Past) (text : List ℕ) (cell : Cell) (s : Past) : Type 0
   pub accepted : Accepts (here p) text cell
   pub same : s ≡ p
 
+-- the open job runs this cell
 abbrev pub CellIn : Past → List ℕ → Past → Work → ℕ → Turn → Type 0
 CellIn p text s (Posted cell) c turn = IsCell p text cell s × IsAtCount (Forward cell) (here p) c turn
 CellIn p text s (Move t) c turn = ⊥
 
+-- it is inside a cell, never between two
 abbrev pub CellAt : Past → List ℕ → Past → Open → Type 0
 CellAt p text s Idle = ⊥
 CellAt p text s (Border t) = ⊥

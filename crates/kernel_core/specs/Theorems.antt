@@ -3,17 +3,18 @@ use Rattle.std.specs.Prelude.{◌≡◌, ℕ, Bool, true, false, ◌+◌, ◌-�
 use Rattle.janus_meaning.specs.World.{World, empty_world, Cell, entered}
 use Rattle.janus_meaning.specs.Cells.{IsGoodWorld}
 use Rattle.kernel_core.specs.Travel.{next_way, Travel, Up, Down}
-use Rattle.kernel_core.specs.Language.{Forward, Backward, Part, Exec, Stop}
+use Rattle.kernel_core.specs.Language.{Forward, Backward, Part, Exec}
 use Rattle.kernel_core.specs.Reached.{Reaches, Stopped, IsUnderWay, MeetsFault}
-use Rattle.kernel_core.specs.State.{Node, Past, Move, Idle, Inside, State, root, node_at, world_at, here, ancestor, below, code_of}
-use Rattle.kernel_core.specs.Legal.{can_undo, can_redo, IsPossible, IsLegal, IsLegalState, IsMeeting}
-use Rattle.kernel_core.specs.Slices.{finished, cells, stepped, moved, grown, Settles}
+use Rattle.kernel_core.specs.State.{Node, Past, Work, Move, Idle, Inside, State, root, node_at, world_at, here, ancestor, below, code_of}
+use Rattle.kernel_core.specs.Legal.{can_undo, can_redo, IsPossible, IsLegal, IsMeeting}
+use Rattle.kernel_core.specs.LegalState.{IsLegalState}
+use Rattle.kernel_core.specs.Slices.{finished, cells, grown, Settles}
 use Rattle.kernel_core.specs.Text.{Accepts, Refuses}
 use Rattle.kernel_core.specs.Begins.{Declares, travel_to}
 use Rattle.kernel_core.specs.Request.{Request, RunCell, Undo, Redo, Goto}
 use Rattle.kernel_core.specs.Runs.{Machine, new_machine, IsNext, shut, Step, Run}
-use Rattle.kernel_core.specs.Midway.{after, gone}
-use Rattle.kernel_core.specs.Turn.{GoesOn}
+use Rattle.kernel_core.specs.Midway.{after, gone, count_of, IsReason}
+use Rattle.kernel_core.specs.Turn.{Why, GoesOn, GoesBack}
 use Rattle.kernel_core.specs.Travel as aim
 use Rattle.kernel_core.specs.declared.outcome.End.{End}
 use Rattle.kernel_core.specs.declared.outcome.End.TheVariants.{All, Asked, NoMemory}
@@ -43,6 +44,14 @@ abbrev pub StaysLegal : Type 0
 StaysLegal =
     (old new : Machine) (events : List Event) (answers : List Told) →
     IsLegalState old.state → Run old events answers new → IsLegalState new.state
+
+-- In each legal state in which a job goes back, it stands no further on than where it turned, and it turned there for its reason: it was asked
+-- to while the code went on, or the next step of the code met the fault.
+abbrev pub GoesBackForItsReason : Type 0
+GoesBackForItsReason =
+    (s : State) (work : Work) (c : ℕ) (why : Why) →
+    IsLegalState s → s.job ≡ Inside (record { work = work; count = c; turn = GoesBack why }) →
+    (c ≤ count_of why) × IsReason (code_of s.past work) (here s.past) why
 
 -- ---- jobs, from their begin to their end
 

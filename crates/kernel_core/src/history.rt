@@ -3,7 +3,7 @@ ghost use Rattle.std.specs.Prelude.{◌≡◌, ◌≤◌, IfOk, OnOk, OnErr, len
 ghost use Rattle.kernel_core.specs.State.{State, Idle, Border, here, Shown, new_state};
 ghost use Rattle.kernel_core.specs.Fields.{past_of, nodes_of, aim_of, travel_of, state_of, IsStageOf};
 ghost use Rattle.kernel_core.specs.Travel.{Undo, Redo};
-ghost use Rattle.kernel_core.specs.Legal.{IsLegal, IsLegalState, IsPossible, IsCounted, CanGo, can_undo, can_redo};
+ghost use Rattle.kernel_core.specs.Legal.{IsLegal, IsPossible, IsCounted, CanGo, can_undo, can_redo};
 ghost use Rattle.kernel_core.specs.Slices.{IsSlice, cells};
 ghost use Rattle.kernel_core.specs.Begins.{TakesCell, TakesMove, TakesGoto, Departs, Enters, Declares, travel_to};
 ghost use Rattle.kernel_core.specs.Runner.{world_of};
@@ -133,8 +133,7 @@ impl History {
 
     /// The shown world.
     pub fn world(&self) -> View<'_>
-        ensures shown { Shown self.now result }
-        ensures legal { IsLegalState self.now }
+        ensures { Shown self.now result }
     {
         View::of(&self.runner)
     }

@@ -1,7 +1,7 @@
 //! The main theorem, over every run of the machine. `run_events` gives such runs, and each state of a kernel is legal.
 //! The functions do nothing: their contracts are the laws.
 ghost use Rattle.kernel_core.specs.Determined.{StepIsDetermined, RunIsDetermined};
-ghost use Rattle.kernel_core.specs.Theorems.{NewIsLegal, StaysLegal, JobsEnd, OnlyAskedSlicesStop, UndoesAll, UndoGoesUp, RedoGoesDown, GotoGoesThere, RedoGivesBack, SettlesOnTime, NeverFaults, IsMirrored, PathGivesWorld, UndoGoesUpThePath, RedoGoesDownFavourites, ShutRefusesJobs};
+ghost use Rattle.kernel_core.specs.Theorems.{NewIsLegal, StaysLegal, GoesBackForItsReason, JobsEnd, OnlyAskedSlicesStop, UndoesAll, UndoGoesUp, RedoGoesDown, GotoGoesThere, RedoGivesBack, SettlesOnTime, NeverFaults, IsMirrored, PathGivesWorld, UndoGoesUpThePath, RedoGoesDownFavourites, ShutRefusesJobs};
 ghost use Rattle.kernel_core.specs.LegalMinutes.{KeepsLegalMinutes};
 
 /// A new machine is legal: its tree is, and no job is open.
@@ -12,6 +12,12 @@ pub fn new_is_legal_law()
 /// Each run from a legal state leads to a legal state. So the laws below hold at every state of a kernel.
 pub fn stays_legal_law()
     ensures { StaysLegal }
+{}
+
+/// In each legal state in which a job goes back, it stands no further on than where it turned, and it turned there for its reason: it
+/// was asked to while the code went on, or the next step of the code met the fault.
+pub fn goes_back_for_its_reason_law()
+    ensures { GoesBackForItsReason }
 {}
 
 /// A job that is taken ends so, whatever posts, interrupts, slices and shutdowns come; one that is taken while the kernel closes is

@@ -1,7 +1,6 @@
 //! The kernel machine: the history, the queue of posted jobs, the execution counter and the minutes.
 ghost use Rattle.std.specs.Prelude.{◌≡◌, ◌+◌, ◌<◌, ◌^◌, IfOk, IfSome, IfNone, Some, length, map};
 ghost use Rattle.kernel_core.specs.State.{Idle, Shown};
-ghost use Rattle.kernel_core.specs.Legal.{IsLegalState};
 ghost use Rattle.kernel_core.specs.Request.{request_of, raised as the_raised};
 ghost use Rattle.kernel_core.specs.Minutes.{posted_in, ended_in};
 ghost use Rattle.kernel_core.specs.LegalMinutes.{HasLegalMinutes};
@@ -193,8 +192,7 @@ impl Machine {
 
     /// The shown world.
     pub fn world(&self) -> View<'_>
-        ensures shown { Shown self.now.state result }
-        ensures legal { IsLegalState self.now.state }
+        ensures { Shown self.now.state result }
     {
         self.history.world()
     }
