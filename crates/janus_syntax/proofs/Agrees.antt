@@ -1,169 +1,145 @@
--- What has a tree is read, and as that tree: the machine goes along each derivation.
-use Rattle.std.proofs.Common.{◌≡◌, ℕ, suc, ◌+◌, ◌<◌, ◌≤◌, List, [], ◌∷◌, ◌++◌, length, Option, Some, None, true, cond, refl, ap, sym, ◌∙◌, arith, append_assoc}
-use Rattle.std.proofs.lemmas.List.{append-nil}
-use Rattle.std.specs.Prelude.{nat_lt}
-use Rattle.std.proofs.lemmas.Bool.{lt-ltb, le-ltb, le-leb}
+-- What is spelled is read, and as its tree: the machine goes along each derivation.
+use Rattle.std.proofs.Common.{◌≡◌, suc, List, [], ◌∷◌, length, Option, Some, None, Bool, true, refl, ap, subst, ◌∙◌, inl, inr}
 use Rattle.janus_syntax.specs.declared.fault.What.{What}
-use Rattle.janus_syntax.specs.declared.tree.Operator.{Operator}
-use Rattle.janus_syntax.specs.declared.tree.Operator.TheVariants as operation
-use Rattle.janus_syntax.specs.declared.token.Span.{Span}
-use Rattle.janus_syntax.specs.declared.token.Word.TheVariants as word
-use Rattle.janus_syntax.specs.Tokens.{Token, Name, Word_of}
-use Rattle.janus_syntax.specs.Tree.{named, Exp, Num, Var, Bin, Stm, Assign, Block, Empty, More, Declaration, Int, Cell, cell_of}
+use Rattle.janus_syntax.specs.declared.fault.What.TheVariants as what
+use Rattle.janus_syntax.specs.Tokens.{Token}
+use Rattle.janus_syntax.specs.Forms.{Part, Tree, Class, Seen, seen, Form, done, take, part, close, Rule}
+use Rattle.janus_syntax.specs.Table.{rule, left_out, label}
 use Rattle.janus_syntax.specs.Grammar
-use Rattle.janus_syntax.specs.Grammar.{SpellsExp, SpellsStm, SpellsBlock, SpellsDeclarations, SpellsCell, level_of, operator_at, update_at, operators, StmWithin, BlockWithin, CellWithin}
-use Rattle.janus_syntax.specs.Machine.{ForExp, Pending, Right, ForStm, Within, Body, State, Operand, After, Target, Another, Declarations, Declared, Step, Go, push, binds_before, goes_on, after, ended, step, run, follow, at_end, target, seen_operator, next, wanted, owed, counted, Admits, Stops, Outcome, Read, Limited}
-use Rattle.janus_syntax.specs.Reading.{standing}
+use Rattle.janus_syntax.specs.Grammar.{Count, zero_count, entered, closed, fits, Demands, all, met, Spells, Begins, text_form, IsTree, Next, Wanted, Complete, required, passed_over}
+use Rattle.janus_syntax.specs.Machine.{Stack, bottom, waits, State, at, Step, Go, Accept, Stuck, TooMany, go_if, enter, skip, taken, at_form, hand, step, wanted_behind, wanted, Ended, at_end, follow, run, start, next}
+use Rattle.janus_syntax.proofs.Follow.{may_follow, May, Proper, AllProper}
+use Rattle.janus_syntax.proofs.LeftOut.{no_rule}
+use Rattle.janus_syntax.proofs.KeepsTable.{proper_rule, proper_text}
 
--- a step to a state within the limit goes on
-pub goes : (limit : ℕ) (go : State → Outcome) (w : What) (left : ℕ) (s : State) → counted s ≤ limit → follow limit go w left (Go s) ≡ go s
-goes limit go w left s h = ap (λ b. cond b (go s) (Limited left)) (le-leb (counted s) limit h)
+pub proper : {p : Part} (t : Token) (r : Rule p) → rule p t ≡ Some r → Proper r.form
+proper {p} t r e = subst (λ o. AllProper o) e (proper_rule p t)
 
--- the same, from the step's equation
-pub run_goes : (limit : ℕ) (t : Token) (rest : List Token) (s s' : State) → step s (Some t) ≡ Go s' → counted s' ≤ limit → run limit (t ∷ rest) s ≡ run limit rest s'
-run_goes limit t rest s s' e h =
-    ap (follow limit (λ n. run limit rest n) (wanted s) (suc (length rest))) e
-    ∙ goes limit (λ n. run limit rest n) (wanted s) (suc (length rest)) s' h
+-- the next token, if there is one, may stand behind the part
+abbrev pub Fits : Part → List Token → Type 0
+Fits p rest = (t : Token) → next rest ≡ Some t → may_follow p t ≡ true
 
--- two states that step alike run alike
-pub run_alike : (limit : ℕ) (rest : List Token) (s s' : State) → wanted s ≡ wanted s' → step s (next rest) ≡ step s' (next rest) → run limit rest s ≡ run limit rest s'
-run_alike limit [] s s' w e = ap (λ v. at_end v (step s None)) w ∙ ap (at_end (wanted s')) e
-run_alike limit (t ∷ rest) s s' w e =
-    ap (λ v. follow limit (λ n. run limit rest n) v (suc (length rest)) (step s (Some t))) w
-    ∙ ap (follow limit (λ n. run limit rest n) (wanted s') (suc (length rest))) e
+-- what a form's tokens begin with
+pub first : {d : Demands} {p : Part} {f : Form p} {v : Tree p} {m m' : Count} {from rest : List Token} → Spells d p f v m from m' rest → Fits p rest → (t : Token) → next from ≡ Some t → May f t
+first Grammar.nothing_more h t e = h t e
+first (Grammar.token {c = c} {s = s} {t = u} is more) h t e = let same : u ≡ t = cc in (s, subst (λ x. seen c x ≡ Some s) same is)
+first (Grammar.end_of_construct more) h t e = first more h t e
+first (Grammar.a_part {q = q} {r = r} {t = u} is ok inner more) h t e = let same : u ≡ t = cc in inl (r, subst (λ x. rule q x ≡ Some r) same is)
+first (Grammar.no_part {u = u} is more) h t e = inr (u, is, first more h t e)
 
-pub operator_level : (op : Operator) → 0 < level_of op
-operator_level operation.Add = omega arith
-operator_level operation.Subtract = omega arith
-operator_level operation.Xor = omega arith
-operator_level operation.Multiply = omega arith
-operator_level operation.Divide = omega arith
-operator_level operation.Remainder = omega arith
-operator_level operation.BitAnd = omega arith
-operator_level operation.BitOr = omega arith
-operator_level operation.Less = omega arith
-operator_level operation.Greater = omega arith
-operator_level operation.AtMost = omega arith
-operator_level operation.AtLeast = omega arith
-operator_level operation.Equal = omega arith
-operator_level operation.Differ = omega arith
+pub first_begins : {d : Demands} {p : Part} {f : Form p} {w : What} {m : Count} {front : List Token} → Begins d p f w m front → (t : Token) → next front ≡ Some t → May f t
+first_begins (Grammar.here is) t e = absurd cc
+first_begins (Grammar.token {c = c} {s = s} {t = u} is more) t e = let same : u ≡ t = cc in (s, subst (λ x. seen c x ≡ Some s) same is)
+first_begins (Grammar.end_of_construct more) t e = first_begins more t e
+first_begins (Grammar.inside {q = q} {r = r} {t = u} is ok more) t e = let same : u ≡ t = cc in inl (r, subst (λ x. rule q x ≡ Some r) same is)
+first_begins (Grammar.behind {q = q} {r = r} {t = u} is ok inner more) t e = let same : u ≡ t = cc in inl (r, subst (λ x. rule q x ≡ Some r) same is)
+first_begins (Grammar.no_part {u = u} is more) t e = inr (u, is, first_begins more t e)
 
-pub binds_weaker : (o : Option Operator) (op : Operator) (e : Exp) (E : ForExp) (x : Step) → Stops (level_of op) o → binds_before o op e E x ≡ x
-binds_weaker None op e E x h = refl
-binds_weaker (Some o) op e E x h = rw (le-ltb (level_of o) (level_of op) h) refl
+module _ {goal : Part} where
+  -- two states that step alike run alike
+  pub run_alike : (d : Demands) (rest : List Token) (s s' : State goal) → wanted s ≡ wanted s' → step d s (next rest) ≡ step d s' (next rest) → run d rest s ≡ run d rest s'
+  run_alike d [] s s' w e = ap (λ v. at_end v (step d s None)) w ∙ ap (at_end (wanted s')) e
+  run_alike d (t ∷ rest) s s' w e =
+      ap (λ v. follow (λ n. run d rest n) v (suc (length rest)) (step d s (Some t))) w
+      ∙ ap (follow (λ n. run d rest n) (wanted s') (suc (length rest))) e
 
--- a right side that has ended is part of its operation
-reduces : (limit : ℕ) (rest : List Token) (op : Operator) (l e : Exp) (E : ForExp) → Stops (level_of op) (seen_operator (next rest)) → run limit rest (After e (Pending l op E)) ≡ run limit rest (After (Bin op l e) E)
-reduces limit rest op l e E h = run_alike limit rest (After e (Pending l op E)) (After (Bin op l e) E) refl (binds_weaker (seen_operator (next rest)) op e (Pending l op E) (after E (Bin op l e) (next rest)) h)
+  -- a step that goes on
+  pub run_goes : (d : Demands) (t : Token) (rest : List Token) (s s' : State goal) → step d s (Some t) ≡ Go s' → run d (t ∷ rest) s ≡ run d rest s'
+  run_goes d t rest s s' e = ap (follow (λ n. run d rest n) (wanted s) (suc (length rest))) e
 
--- an operator is taken where the stack admits its level
-pub shifts : (E : ForExp) (level : ℕ) (e : Exp) (t : Token) (op : Operator) → Admits level E → level_of op ≤ level → operator_at t ≡ Some op → after E e (Some t) ≡ Go (Operand (Pending e op E))
-shifts (Pending l left E) level e t op a h o =
-    let b : nat_lt (level_of op) (level_of left) ≡ true = lt-ltb (level_of op) (level_of left) (omega arith) in
-    ap (λ x. binds_before x left e (Pending l left E) (after E (Bin left l e) (Some t))) o
-    ∙ ap (λ x. cond x (Go (Operand (Pending e op (Pending l left E)))) (after E (Bin left l e) (Some t))) b
-shifts (Right x u A) level e t op a h o = ap (λ y. goes_on y e (Right x u A) (ended (Assign x u e) A (Some t))) o
+  go_met : (b : Bool) (s : State goal) (x : Step goal) → b ≡ true → go_if b s x ≡ Go s
+  go_met b s x e = ap (λ c. go_if c s x) e
 
-pub run_shifts : (limit : ℕ) (E : ForExp) (level : ℕ) (e : Exp) (t : Token) (rest : List Token) (op : Operator) → Admits level E → level_of op ≤ level → operator_at t ≡ Some op →
-    operators e + 1 + owed E ≤ limit → run limit (t ∷ rest) (After e E) ≡ run limit rest (Operand (Pending e op E))
-run_shifts limit E level e t rest op a h o c = run_goes limit t rest (After e E) (Operand (Pending e op E)) (shifts E level e t op a h o) c
+  pub steps_token : (d : Demands) {p : Part} (c : Class) (k : Seen c → Form p) (S : Stack goal p) (m : Count) (t : Token) (s : Seen c) →
+      seen c t ≡ Some s → step d (at (take c k) S m) (Some t) ≡ Go (at (k s) S m)
+  steps_token d c k S m t s is = ap (λ o. taken c o k S m) is
 
-pub stops_below : (o : Option Operator) (low high : ℕ) → low ≤ high → Stops high o → Stops low o
-stops_below None low high h s = tt
-stops_below (Some op) low high h s = omega arith
+  pub steps_part : (d : Demands) {p q : Part} (k : Tree q → Form p) (S : Stack goal p) (m : Count) (t : Token) (r : Rule q) →
+      rule q t ≡ Some r → met d.limits (fits (entered r m)) ≡ true → step d (at (part q k) S m) (Some t) ≡ Go (at r.form (waits k S) (entered r m))
+  steps_part d {q = q} k S m t r is ok =
+      ap (λ o. enter d o k S m (skip (left_out q) (λ u. at_form d (k u) S m (Some t) (hand d S (Some t))))) is
+      ∙ go_met (met d.limits (fits (entered r m))) (at r.form (waits k S) (entered r m)) TooMany ok
 
-pub admits_below : (E : ForExp) (low high : ℕ) → low ≤ high → Admits high E → Admits low E
-admits_below (Pending l op E) low high h a = omega (arith, a)
-admits_below (Right x u A) low high h a = tt
+  -- a part that is left out is passed over
+  pub wants_behind : {p : Part} (q : Part) (k : Tree q → Form p) (S : Stack goal p) (m : Count) (u : Tree q) → left_out q ≡ Some u → wanted (at (part q k) S m) ≡ wanted (at (k u) S m)
+  wants_behind q k S m u is = ap (λ o. wanted_behind S (passed_over o (label q) (λ u. required (k u)))) is
 
-pub stops_at_operator : (o : Option Operator) (op : Operator) → o ≡ Some op → Stops (level_of op) o
-stops_at_operator o op e = rw e (omega arith)
+  pub steps_over : (d : Demands) {p : Part} (q : Part) (k : Tree q → Form p) (S : Stack goal p) (m : Count) (u : Tree q) (t : Option Token) → left_out q ≡ Some u → ((x : Token) → t ≡ Some x → rule q x ≡ None) →
+      step d (at (part q k) S m) t ≡ step d (at (k u) S m) t
+  steps_over d q k S m u None is none = ap (λ o. skip o (λ u. at_form d (k u) S m None (hand d S None))) is
+  steps_over d q k S m u (Some x) is none =
+      ap (λ o. enter d o k S m (skip (left_out q) (λ u. at_form d (k u) S m (Some x) (hand d S (Some x))))) (none x refl)
+      ∙ ap (λ o. skip o (λ u. at_form d (k u) S m (Some x) (hand d S (Some x)))) is
 
--- an expression
-pub reads-exp : (limit : ℕ) {level : ℕ} {e : Exp} {from rest : List Token} → SpellsExp level e from rest → (E : ForExp) → Admits level E → Stops level (seen_operator (next rest)) → operators e + owed E ≤ limit → run limit from (Operand E) ≡ run limit rest (After e E)
-reads-exp limit (Grammar.number {n = n} {at} {rest}) E a h c = goes limit (λ s. run limit rest s) (wanted (Operand E)) (suc (length rest)) (After (Num n at) E) c
-reads-exp limit (Grammar.variable {x = x} {at} {rest}) E a h c = goes limit (λ s. run limit rest s) (wanted (Operand E)) (suc (length rest)) (After (Var (named x at)) E) c
-reads-exp limit (Grammar.binary {level} {below} {op} {t} {l} {r} {from} {middle} {rest} k dl o b dr) E a h c =
-    let ends : Stops (level_of op) (seen_operator (next rest)) = stops_below (seen_operator (next rest)) (level_of op) level k h in
-    reads-exp limit dl E (admits_below E (level_of op) level k a) (stops_at_operator (operator_at t) op o) (omega (arith, c))
-    ∙ run_shifts limit E level l t middle op a k o (omega (arith, c))
-    ∙ reads-exp limit dr (Pending l op E) b (stops_below (seen_operator (next rest)) below (level_of op) (omega arith) ends) (omega (arith, c))
-    ∙ reduces limit rest op l r E ends
+  pub left_behind : {p : Part} (q : Part) (k : Tree q → Form p) (S : Stack goal p) (m : Count) (u : Tree q) (rest : List Token) → left_out q ≡ Some u → ((t : Token) → next rest ≡ Some t → rule q t ≡ None) →
+      run all rest (at (part q k) S m) ≡ run all rest (at (k u) S m)
+  left_behind q k S m u rest is none = run_alike all rest (at (part q k) S m) (at (k u) S m) (wants_behind q k S m u is) (steps_over all q k S m u (next rest) is none)
 
--- a block behind another, statement by statement and at once
-abbrev pub append : Block → Block → Block
-append b Empty = b
-append b (More s r) = append (push b s) r
+  pub run_over : (d : Demands) {p : Part} (q : Part) (k : Tree q → Form p) (S : Stack goal p) (m : Count) (u : Tree q) (rest : List Token) → left_out q ≡ Some u → Fits q rest →
+      run d rest (at (part q k) S m) ≡ run d rest (at (k u) S m)
+  run_over d q k S m u rest is h =
+      run_alike d rest (at (part q k) S m) (at (k u) S m) (wants_behind q k S m u is)
+      (steps_over d q k S m u (next rest) is (λ x e. no_rule q x u is (h x e)))
 
-abbrev pub joined : Block → Block → Block
-joined Empty r = r
-joined (More s b) r = More s (joined b r)
+  -- a tree is handed on
+  pub run_hands : (d : Demands) {p : Part} (q : Part) (k : Tree q → Form p) (S : Stack goal p) (m : Count) (u : Tree q) (rest : List Token) → run d rest (at (done u) (waits k S) m) ≡ run d rest (at (k u) S m)
+  run_hands d q k S m u rest = run_alike d rest (at (done u) (waits k S) m) (at (k u) S m) refl refl
 
-push_joined : (b : Block) (s : Stm) (r : Block) → joined (push b s) r ≡ joined b (More s r)
-push_joined Empty s r = refl
-push_joined (More t b) s r = ap (More t) (push_joined b s r)
+  pub run_closes : (d : Demands) {p : Part} (f : Form p) (S : Stack goal p) (m : Count) (rest : List Token) → run d rest (at (close f) S m) ≡ run d rest (at f S (closed m))
+  run_closes d f S m rest = run_alike d rest (at (close f) S m) (at f S (closed m)) refl refl
 
-joined_empty : (b : Block) → joined b Empty ≡ b
-joined_empty Empty = refl
-joined_empty (More s b) = ap (More s) (joined_empty b)
+  pub reads : {d : Demands} {p : Part} {f : Form p} {v : Tree p} {m m' : Count} {from rest : List Token} → Spells d p f v m from m' rest → Proper f → Fits p rest → (S : Stack goal p) →
+      run d from (at f S m) ≡ run d rest (at (done v) S m')
+  reads Grammar.nothing_more g h S = refl
+  reads {d} (Grammar.token {c = c} {k = k} {s = s} {t = t} {m = m} {from = from} is more) g h S =
+      run_goes d t from (at (take c k) S m) (at (k s) S m) (steps_token d c k S m t s is)
+      ∙ reads more (g s) h S
+  reads {d} (Grammar.end_of_construct {f = f} {m = m} {from = from} more) g h S = run_closes d f S m from ∙ reads more g h S
+  reads {d} (Grammar.a_part {q = q} {k = k} {r = r} {u = u} {t = t} {m = m} {m1 = m1} {from = from} {middle = middle} is ok inner more) g h S =
+      run_goes d t from (at (part q k) S m) (at r.form (waits k S) (entered r m)) (steps_part d k S m t r is ok)
+      ∙ reads inner (proper t r is) (λ x e. (g u).1 x (first more h x e)) (waits k S)
+      ∙ run_hands d q k S m1 u middle
+      ∙ reads more (g u).0 h S
+  reads {d} (Grammar.no_part {q = q} {k = k} {u = u} {m = m} {from = from} is more) g h S =
+      run_over d q k S m u from is (λ x e. (g u).1 x (first more h x e))
+      ∙ reads more (g u).0 h S
 
-pub append_joined : (r b : Block) → append b r ≡ joined b r
-append_joined Empty b = sym (joined_empty b)
-append_joined (More s r) b = append_joined r (push b s) ∙ push_joined b s r
+no_token : (p : Part) → Fits p []
+no_token p t e = absurd cc
 
--- no operator stands at the beginning of statements
-starts-stm : {s : Stm} {from rest : List Token} → SpellsStm s from rest → seen_operator (next from) ≡ None
-starts-stm (Grammar.assign u d) = refl
+module _ {goal : Part} where
+  -- what is a cell is read as its tree
+  pub reads_cell : (d : Demands) (c : Tree goal) (tokens : List Token) → IsTree goal d c tokens → run d tokens (start goal) ≡ Ended (Some c) what.End
+  reads_cell d c tokens (m, is) = reads is (proper_text goal) (no_token goal) bottom
 
-pub starts-block : {b : Block} {from rest : List Token} → SpellsBlock b from rest → rest ≡ [] → seen_operator (next from) ≡ None
-starts-block Grammar.none e = ap (λ ts. seen_operator (next ts)) e
-starts-block (Grammar.more d ds) e = starts-stm d
+  -- behind what begins a form the machine wants what the grammar says
+  pub at_end_wants : (w : What) (x : Step goal) → (a : Option (Tree goal)) × (at_end w x ≡ Ended a w)
+  at_end_wants w (Go s) = (None, refl)
+  at_end_wants w (Accept c) = (Some c, refl)
+  at_end_wants w Stuck = (None, refl)
+  at_end_wants w TooMany = (None, refl)
 
-pub stops_at_none : (o : Option Operator) (level : ℕ) → o ≡ None → Stops level o
-stops_at_none o level e = rw e tt
+  abbrev pub EndsWanting : Demands → List Token → State goal → What → Type 0
+  EndsWanting d front s w = (a : Option (Tree goal)) × (run d front s ≡ Ended a w)
 
--- behind the cell's declarations and statements, a name begins another one
-pub begins_name : (ds : List Declaration) (b : Block) (x : List ℕ) (at : Span) → step (standing ds b) (Some (Name x at)) ≡ Go (Target (named x at) (Within b (Body ds)))
-begins_name ds Empty x at = refl
-begins_name ds (More s b) x at = refl
+  through : (d : Demands) (front back : List Token) (s s' : State goal) (w : What) → run d front s ≡ run d back s' → EndsWanting d back s' w → EndsWanting d front s w
+  through d front back s s' w e r = (r.0, e ∙ r.1)
 
-pub standing_push : (ds : List Declaration) (b : Block) (s : Stm) → standing ds (push b s) ≡ Another (push b s) (Body ds)
-standing_push ds Empty s = refl
-standing_push ds (More t b) s = refl
-
--- a statement, behind those of b
-pub reads-stm : (limit : ℕ) {s : Stm} {from rest : List Token} → SpellsStm s from rest → (ds : List Declaration) (b : Block) → seen_operator (next rest) ≡ None → StmWithin limit s → run limit from (standing ds b) ≡ run limit rest (standing ds (push b s))
-reads-stm limit (Grammar.assign {x = name} {at} {t} {u} {level} {e = exp} {from} {rest} up d) ds b n c =
-    let A : ForStm = Within b (Body ds) in
-    run_goes limit (Name name at) (t ∷ from) (standing ds b) (Target (named name at) A) (begins_name ds b name at) (omega arith)
-    ∙ run_goes limit t from (Target (named name at) A) (Operand (Right (named name at) u A)) (ap (λ o. target o (named name at) A) up) (omega arith)
-    ∙ reads-exp limit d (Right (named name at) u A) tt (stops_at_none (seen_operator (next rest)) level n) (omega (arith, c))
-    ∙ run_alike limit rest (After exp (Right (named name at) u A)) (Another (push b (Assign (named name at) u exp)) (Body ds)) refl
-    (ap (λ o. goes_on o exp (Right (named name at) u A) (ended (Assign (named name at) u exp) A (next rest))) n)
-    ∙ ap (run limit rest) (sym (standing_push ds b (Assign (named name at) u exp)))
-
-pub reads-block : (limit : ℕ) {r : Block} {from rest : List Token} → SpellsBlock r from rest → rest ≡ [] → (ds : List Declaration) (b : Block) → BlockWithin limit r → run limit from (standing ds b) ≡ run limit rest (standing ds (append b r))
-reads-block limit Grammar.none e ds b c = refl
-reads-block limit (Grammar.more {s = s} {b = r} d rs) e ds b c =
-    reads-stm limit d ds b (starts-block rs e) c.0
-    ∙ reads-block limit rs e ds (push b s) c.1
-
-pub reads-declarations : (limit : ℕ) {ds : List Declaration} {from rest : List Token} → SpellsDeclarations ds from rest → (before : List Declaration) → run limit from (Declarations before) ≡ run limit rest (Declarations (before ++ ds))
-reads-declarations limit (Grammar.none {rest}) before = ap (λ x. run limit rest (Declarations x)) (sym (append-nil before))
-reads-declarations limit (Grammar.more {x} {a} {at} {ds} {from} {rest} d) before =
-    run_goes limit (Word_of word.Int a) (Name x at ∷ from) (Declarations before) (Declared before) refl (omega arith)
-    ∙ run_goes limit (Name x at) from (Declared before) (Declarations (before ++ Int (named x at) ∷ [])) refl (omega arith)
-    ∙ reads-declarations limit d (before ++ Int (named x at) ∷ [])
-    ∙ ap (λ x. run limit rest (Declarations x)) (append_assoc before (Int (named x at) ∷ []) ds)
-
-reads_end : (limit : ℕ) (ds : List Declaration) (b : Block) → run limit [] (standing ds b) ≡ Read (cell_of ds b)
-reads_end limit ds Empty = refl
-reads_end limit ds (More s b) = refl
-
--- what has a tree is read as that tree
-pub reads : (limit : ℕ) (c : Cell) (from : List Token) → SpellsCell c from → CellWithin limit c → run limit from (Declarations []) ≡ Read c
-reads limit (cell_of ds b) from (Grammar.cell d r) c =
-    reads-declarations limit d []
-    ∙ reads-block limit r refl ds Empty c
-    ∙ ap (λ x. run limit [] (standing ds x)) (append_joined b Empty)
-    ∙ reads_end limit ds b
+  pub wants : {d : Demands} {p : Part} {f : Form p} {w : What} {m : Count} {front : List Token} → Begins d p f w m front → Proper f → (S : Stack goal p) → EndsWanting d front (at f S m) w
+  wants {d} (Grammar.here {f = f} {w = w} {m = m} is) g S =
+      let r = at_end_wants (wanted (at f S m)) (step d (at f S m) None) in
+      (r.0, r.1 ∙ ap (λ n. Ended r.0 (wanted_behind S n)) is)
+  wants {d} (Grammar.token {c = c} {k = k} {s = s} {w = w} {t = t} {m = m} {front = front} is more) g S =
+      through d (t ∷ front) front (at (take c k) S m) (at (k s) S m) w (run_goes d t front (at (take c k) S m) (at (k s) S m) (steps_token d c k S m t s is)) (wants more (g s) S)
+  wants {d} (Grammar.end_of_construct {f = f} {w = w} {m = m} {front = front} more) g S =
+      through d front front (at (close f) S m) (at f S (closed m)) w (run_closes d f S m front) (wants more g S)
+  wants {d} (Grammar.inside {q = q} {k = k} {r = r} {w = w} {t = t} {m = m} {front = front} is ok more) g S =
+      through d (t ∷ front) front (at (part q k) S m) (at r.form (waits k S) (entered r m)) w (run_goes d t front (at (part q k) S m) (at r.form (waits k S) (entered r m)) (steps_part d k S m t r is ok)) (wants more (proper t r is) (waits k S))
+  wants {d} (Grammar.behind {q = q} {k = k} {r = r} {u = u} {w = w} {t = t} {m = m} {m1 = m1} {from = from} {front = front} is ok inner more) g S =
+      through d (t ∷ from) front (at (part q k) S m) (at (k u) S m1) w
+      (run_goes d t from (at (part q k) S m) (at r.form (waits k S) (entered r m)) (steps_part d k S m t r is ok)
+      ∙ reads inner (proper t r is) (λ x e. (g u).1 x (first_begins more x e)) (waits k S)
+      ∙ run_hands d q k S m1 u front)
+      (wants more (g u).0 S)
+  wants {d} (Grammar.no_part {q = q} {k = k} {u = u} {w = w} {m = m} {front = front} is more) g S =
+      through d front front (at (part q k) S m) (at (k u) S m) w (run_over d q k S m u front is (λ x e. (g u).1 x (first_begins more x e))) (wants more (g u).0 S)

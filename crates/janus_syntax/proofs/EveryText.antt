@@ -1,4 +1,4 @@
--- Each text has a tree or a refusal.
+-- Each text has tokens, or a refusal that comes before all others.
 use Rattle.std.proofs.Common.{◌≡◌, ℕ, zero, suc, ◌+◌, ◌<◌, ◌≤◌, ◌⊎◌, inl, inr, List, [], ◌∷◌, ◌++◌, length, length-drop, length-append, get_or, take, drop, true, false, Option, Some, None, refl, ap, sym, ◌∙◌, arith, IsUtf8}
 use Rattle.std.specs.Prelude.{nat_eq, nat_le, encode_utf8, encode_utf8_all}
 use Rattle.std.specs.List.{prefix_len, starts_with}
@@ -21,17 +21,13 @@ use Rattle.janus_syntax.specs.declared.fault.SyntaxFault.{SyntaxFault}
 use Rattle.janus_syntax.specs.declared.fault.SyntaxFault.TheVariants as fault
 use Rattle.janus_syntax.specs.Spelling.{sign_text, word_text}
 use Rattle.janus_syntax.specs.Tokens.{Token, Name, Number, Sign_of, Word_of}
-use Rattle.janus_syntax.specs.Tree.{Cell}
+use Rattle.janus_syntax.specs.Forms.{Part}
 use Rattle.janus_syntax.specs.Lexical.{class_of, of_name, of_number, in_line, decimal, NotReserved, Item, Gap, A_name, A_number, A_sign, A_word, IsSpelled, IsToken, NoItem, AreTokens, largest_number}
 use Rattle.janus_syntax.specs.Scan.{IsLongestSign, IsFrontText, IsFrontOf, IsFirstChar}
-use Rattle.janus_syntax.specs.Grammar.{operator_limit}
-use Rattle.janus_syntax.specs.Machine.{Declarations, Outcome, Read, Failed, Limited, run}
-use Rattle.janus_syntax.specs.Text.{place_before, HasTree, IsRefusal, TreeOrRefusal}
+use Rattle.janus_syntax.specs.Text.{IsRefusalOf}
 use Rattle.janus_syntax.proofs.Scanning.{signs, words, first_is_longest, no_sign, begins_with, not_reserved}
 use Rattle.janus_syntax.proofs.Fronts.{letters_front, digits_front, space_front, comment_front, sign_front, underscore_none, other_none, letters_cut, digits_cut, space_cut, line_cut, sign_cut, slashes, no_slashes}
 use Rattle.janus_syntax.proofs.Lexing.{IsLexedTo, lexed_start, lexed_gap, lexed_one, bad_token, too_large, place}
-use Rattle.janus_syntax.proofs.Sound.{read_is_tree}
-use Rattle.janus_syntax.proofs.Viable.{refused_expected, refused_nested}
 
 -- ---- the item at the front
 
@@ -133,8 +129,8 @@ item_of (front.Sign s) text h = (A_sign s, h)
 
 -- ---- the tokens of a text
 
-abbrev Lexed : List ℕ → Type 0
-Lexed text = ((ts : List Token) × AreTokens text ts) ⊎ ((e : SyntaxFault) × IsRefusal text e)
+abbrev pub Lexed : Part → List ℕ → Type 0
+Lexed goal text = ((ts : List Token) × AreTokens text ts) ⊎ ((e : SyntaxFault) × IsRefusalOf goal text e)
 
 first_char : (xs : List ℕ) → IsUtf8 xs → 0 < length xs → (n : ℕ) × IsFirstChar n xs × (n ≤ length xs)
 first_char xs ([], (s, e)) some = absurd (omega (arith, ap length e, some))
@@ -151,58 +147,40 @@ number_token n at =
     ] refl
 
 -- the tokens go on behind an item
-abbrev GoesOn : List ℕ → ℕ → Type 0
-GoesOn text left = (ts : List Token) (rest : List ℕ) (start : ℕ) → length rest ≤ left → IsLexedTo text ts rest start → Lexed text
+abbrev GoesOn : Part → List ℕ → ℕ → Type 0
+GoesOn goal text left = (ts : List Token) (rest : List ℕ) (start : ℕ) → length rest ≤ left → IsLexedTo text ts rest start → Lexed goal text
 
 shorter : (rest : List ℕ) (n left : ℕ) → 0 < n → length rest ≤ suc left → length (drop n rest) ≤ left
 shorter rest n left some le = omega (arith, some, le, length-drop n rest)
 
-one_item : (text : List ℕ) (ts : List Token) (rest : List ℕ) (start left : ℕ) → IsLexedTo text ts rest start → length rest ≤ suc left → (b : Begins rest) → (i : Item) → IsSpelled i (take b.size rest) → GoesOn text left → Lexed text
-one_item text ts rest start left k le b Gap s go =
+one_item : (goal : Part) (text : List ℕ) (ts : List Token) (rest : List ℕ) (start left : ℕ) → IsLexedTo text ts rest start → length rest ≤ suc left → (b : Begins rest) → (i : Item) → IsSpelled i (take b.size rest) → GoesOn goal text left → Lexed goal text
+one_item goal text ts rest start left k le b Gap s go =
     go ts (drop b.size rest) (start + b.size) (shorter rest b.size left b.front_of.nonempty le) (lexed_gap text ts rest (take b.size rest) (drop b.size rest) start b.size b.kind k b.front_of b.cut refl refl s)
-one_item text ts rest start left k le b (A_name x) s go =
+one_item goal text ts rest start left k le b (A_name x) s go =
     go (ts ++ Name x (place start (start + b.size)) ∷ []) (drop b.size rest) (start + b.size) (shorter rest b.size left b.front_of.nonempty le)
     (lexed_one text ts (Name x (place start (start + b.size))) rest (take b.size rest) (drop b.size rest) start b.size b.kind (A_name x) k b.front_of b.cut refl refl s refl)
-one_item text ts rest start left k le b (A_number n) s go =
+one_item goal text ts rest start left k le b (A_number n) s go =
     elim (number_token n (place start (start + b.size))) [
       | inl (t, is) ↦
           go (ts ++ t ∷ []) (drop b.size rest) (start + b.size) (shorter rest b.size left b.front_of.nonempty le)
           (lexed_one text ts t rest (take b.size rest) (drop b.size rest) start b.size b.kind (A_number n) k b.front_of b.cut refl refl s is)
       | inr large ↦ inr (fault.NumberTooLarge (place start (start + b.size)), too_large text ts rest (take b.size rest) (drop b.size rest) start b.size b.kind (place start (start + b.size)) k b.front_of refl refl (n, s, large, refl))
     ]
-one_item text ts rest start left k le b (A_sign x) s go =
+one_item goal text ts rest start left k le b (A_sign x) s go =
     go (ts ++ Sign_of x (place start (start + b.size)) ∷ []) (drop b.size rest) (start + b.size) (shorter rest b.size left b.front_of.nonempty le)
     (lexed_one text ts (Sign_of x (place start (start + b.size))) rest (take b.size rest) (drop b.size rest) start b.size b.kind (A_sign x) k b.front_of b.cut refl refl s refl)
-one_item text ts rest start left k le b (A_word x) s go =
+one_item goal text ts rest start left k le b (A_word x) s go =
     go (ts ++ Word_of x (place start (start + b.size)) ∷ []) (drop b.size rest) (start + b.size) (shorter rest b.size left b.front_of.nonempty le)
     (lexed_one text ts (Word_of x (place start (start + b.size))) rest (take b.size rest) (drop b.size rest) start b.size b.kind (A_word x) k b.front_of b.cut refl refl s refl)
 
-lexed : (text : List ℕ) (left : ℕ) → GoesOn text left
-lexed text left ts [] start le k = inl (ts, k.lexes)
-lexed text zero ts (x ∷ xs) start le k = absurd (omega (arith, le))
-lexed text (suc left) ts (x ∷ xs) start le k =
+lexed_from : (goal : Part) (text : List ℕ) (left : ℕ) → GoesOn goal text left
+lexed_from goal text left ts [] start le k = inl (ts, k.lexes)
+lexed_from goal text zero ts (x ∷ xs) start le k = absurd (omega (arith, le))
+lexed_from goal text (suc left) ts (x ∷ xs) start le k =
     elim (begins (x ∷ xs) k.utf8 (omega arith) (class_of x) refl) [
-      | inl b ↦ let i = item_of b.kind (take b.size (x ∷ xs)) b.front_of.is in one_item text ts (x ∷ xs) start left k le b i.0 i.1 (lexed text left)
+      | inl b ↦ let i = item_of b.kind (take b.size (x ∷ xs)) b.front_of.is in one_item goal text ts (x ∷ xs) start left k le b i.0 i.1 (lexed_from goal text left)
       | inr none ↦ let c = first_char (x ∷ xs) k.utf8 (omega arith) in inr (fault.BadToken (place start (start + c.0)), bad_token text ts (x ∷ xs) start c.0 k none c.1 c.2)
     ]
 
--- ---- the tree of the tokens
-
-abbrev Parsed : List ℕ → Type 0
-Parsed text = ((c : Cell) × HasTree text c) ⊎ ((e : SyntaxFault) × IsRefusal text e)
-
-parsed : (text : List ℕ) (ts : List Token) → AreTokens text ts → (out : Outcome) → run operator_limit ts (Declarations []) ≡ out → Parsed text
-parsed text ts l (Read c) e = let t = read_is_tree operator_limit ts c e in inl (c, record { tokens = ts; are_tokens = l; is_tree = record { spells = t.0; within = t.1 } })
-parsed text ts l (Failed w left) e =
-    let u = refused_expected ts w left e in
-    inr (fault.Expected w (place_before (length text) u.0), record { tokens = ts; rest = u.0; are_tokens = l; unexpected = u.2; place = refl })
-parsed text ts l (Limited left) e =
-    let u = refused_nested ts left e in
-    inr (fault.TooNested (place_before (length text) u.0), record { tokens = ts; rest = u.0; are_tokens = l; too_nested = u.2; place = refl })
-
-pub tree_or_refusal : TreeOrRefusal
-tree_or_refusal text u =
-    elim (lexed text (length text) [] text 0 (omega arith) (lexed_start text u)) [
-      | inl (ts, l) ↦ parsed text ts l (run operator_limit ts (Declarations [])) refl
-      | inr r ↦ inr r
-    ]
+pub lexed : (goal : Part) (text : List ℕ) → IsUtf8 text → Lexed goal text
+lexed goal text u = lexed_from goal text (length text) [] text 0 (omega arith) (lexed_start text u)

@@ -1,249 +1,119 @@
--- The parser's steps, over plain lists: what each part gives its caller, and where a part fails.
-use Rattle.std.proofs.Common.{◌≡◌, ◌≢◌, ℕ, suc, ◌+◌, ◌<◌, ◌≤◌, ◌-◌, List, [], ◌∷◌, ◌++◌, length, Option, Some, None, false, cond, refl, ap, sym, subst, ◌∙◌, arith}
-use Rattle.std.specs.Prelude.{nat_le}
-use Rattle.std.proofs.lemmas.Bool.{lt-leb}
+-- The parser's steps, over plain lists: single tokens.
+use Rattle.std.proofs.Common.{◌≡◌, ℕ, suc, ◌+◌, List, [], ◌∷◌, length, get_or, Option, Some, None, true, cond, refl, ap, sym, subst, ◌∙◌, arith}
+use Rattle.std.specs.Prelude.{nat_eq}
+use Rattle.std.proofs.lemmas.Bool.{eq-eqb, eqb-true}
 use Rattle.janus_syntax.specs.declared.token.Span.{Span}
+use Rattle.janus_syntax.specs.declared.token.Sign.{Sign}
+use Rattle.janus_syntax.specs.declared.token.Sign.TheVariants as sign
+use Rattle.janus_syntax.specs.declared.token.Word.{Word}
 use Rattle.janus_syntax.specs.declared.token.Word.TheVariants as word
-use Rattle.janus_syntax.specs.declared.tree.Operator.{Operator}
-use Rattle.janus_syntax.specs.declared.tree.Operator.TheVariants as operation
-use Rattle.janus_syntax.specs.declared.tree.Update.{Update}
-use Rattle.janus_syntax.specs.declared.tree.Stm as code_stm
-use Rattle.janus_syntax.specs.declared.tree.Declaration as code_declaration
+use Rattle.janus_syntax.specs.declared.token.Token as code_token
+use Rattle.janus_syntax.specs.declared.token.TokenKind.{TokenKind}
 use Rattle.janus_syntax.specs.declared.fault.What.TheVariants as what
-use Rattle.janus_syntax.specs.Tokens.{Token, Name, Word_of}
-use Rattle.janus_syntax.specs.Tree.{named, Exp, Bin, Stm, stm_view, Assign, Block, block_view, Empty, More, Declaration, declaration_view, declarations_view, Int, cell_of}
-use Rattle.janus_syntax.specs.Grammar
-use Rattle.janus_syntax.specs.Grammar.{SpellsExp, SpellsStm, SpellsBlock, SpellsDeclarations, SpellsCell, level_of, operator_at, update_at, operators, operator_limit, StmWithin, BlockWithin, IsTree}
-use Rattle.janus_syntax.specs.Machine.{ForExp, Pending, Right, ForStm, Within, Body, State, Operand, After, Target, Declarations, Declared, Step, Go, Stuck, push, or_else, begin, close, declaration, target, step, run, follow, at_end, seen_operator, next, wanted, owed, Admits, Stops, Outcome, Failed, Limited}
-use Rattle.janus_syntax.specs.Reading.{EndsAt, IsExp, FailsExp, IsOperand, IsOperator, IsSum, IsUpdate, FailsUpdate, IsStm, NoStm, FailsStm, IsDeclaration, OtherWord, FailsDeclaration, AreDeclarations, AreAllDeclarations, standing, AreStatements, AreAllStatements, FailsStatements, FailsCell}
-use Rattle.janus_syntax.proofs.Agrees.{run_goes, shifts, run_shifts, reads-exp, reads-stm, operator_level}
-use Rattle.janus_syntax.proofs.Sound.{weaker, block_push, within_push, declarations_push}
+use Rattle.janus_syntax.specs.declared.problem.Problem.{Problem}
+use Rattle.janus_syntax.specs.declared.problem.Problem.TheVariants as problem
+use Rattle.janus_syntax.specs.Tokens.{Token, Name, Number, Sign_of, Word_of, token_of, views}
+use Rattle.janus_syntax.specs.Forms.{The_word, The_sign, Class, Seen, seen, word_number, sign_number, what_of, take}
+use Rattle.janus_syntax.specs.Grammar.{all, Refusal, Expected, TooNested}
+use Rattle.janus_syntax.specs.Machine.{at, follow, run, next, taken}
+use Rattle.janus_syntax.specs.Reading.{FailsAs, TokenGoes, TokenFails, BeginsWith, BeginsWithSign}
+use Rattle.janus_syntax.proofs.Agrees.{run_goes, steps_token}
+use Rattle.janus_syntax.proofs.Follow.{no_index}
+use Rattle.janus_syntax.proofs.Keeps.{cond_some}
 
--- where no step leads on, the reading fails
-pub stuck_run : (limit : ℕ) (rest : List Token) (s : State) → step s (next rest) ≡ Stuck → run limit rest s ≡ Failed (wanted s) (length rest)
-stuck_run limit [] s e = ap (at_end (wanted s)) e
-stuck_run limit (t ∷ rest) s e = ap (follow limit (λ n. run limit rest n) (wanted s) (suc (length rest))) e
+-- The premise on the lengths is std's, in the fact that 'split_first' gives.
+pub first_token : (tokens rest : List code_token.Token) (first : code_token.Token) (k : TokenKind) → (tokens ≡ first ∷ rest) × (length rest + 1 ≡ length tokens) → first.kind ≡ k → views tokens ≡ token_of k first.span ∷ views rest
+first_token tokens rest first k h e = ap views h.0 ∙ ap (λ x. token_of x first.span ∷ views rest) e
 
--- a part takes tokens
-pub shorter-exp : {level : ℕ} {e : Exp} {from rest : List Token} → SpellsExp level e from rest → length rest < length from
-shorter-exp Grammar.number = omega arith
-shorter-exp Grammar.variable = omega arith
-shorter-exp (Grammar.binary k dl o b dr) = omega (arith, shorter-exp dl, shorter-exp dr)
+-- a failure of a part is a failure of the whole, at the same place; want of memory says nothing
+pub passes_on : (fails whole_fails : Refusal → Type 0) (e : Problem) → FailsAs fails e → ((out : Refusal) → fails out → whole_fails out) → FailsAs whole_fails e
+passes_on fails whole_fails (problem.Expected w left) h f = f (Expected w left) h
+passes_on fails whole_fails (problem.TooNested left) h f = f (TooNested left) h
+passes_on fails whole_fails problem.Memory h f = tt
 
-pub shorter-stm : {s : Stm} {from rest : List Token} → SpellsStm s from rest → length rest < length from
-shorter-stm (Grammar.assign u d) = omega (arith, shorter-exp d)
+-- ---- tokens of a class
 
-pub shorter-operator : {level : ℕ} {op : Operator} {from rest : List Token} → IsOperator level op from rest → suc (length rest) ≡ length from
-shorter-operator o = sym (ap length o.is)
+pub token_goes : (c : Class) (v : Seen c) (t : Token) (rest : List Token) → seen c t ≡ Some v → TokenGoes c v (t ∷ rest) rest
+token_goes c v t rest is = record { goes = λ g p k S m. run_goes all t rest (at (take c k) S m) (at (k v) S m) (steps_token all c k S m t v is); shorter = omega arith }
 
-pub shorter-declaration : {d : Declaration} {from rest : List Token} → IsDeclaration d from rest → length rest < length from
-shorter-declaration i = omega (arith, ap length i.is)
+pub token_fails : (c : Class) (t : Token) (rest : List Token) → seen c t ≡ None → TokenFails c (t ∷ rest) (Expected (what_of c) (suc (length rest)))
+token_fails c t rest is g p k S m = ap (λ o. follow (λ n. run all rest n) (what_of c) (suc (length rest)) (taken c o k S m)) is
 
--- operands
+pub end_fails : (c : Class) → TokenFails c [] (Expected (what_of c) 0)
+end_fails c g p k S m = refl
 
-ends_at_0 : (o : Option Operator) → EndsAt 0 o
-ends_at_0 None = tt
-ends_at_0 (Some op) = operator_level op
+-- ---- fixed tokens
 
-pub operand_is : {used : ℕ} {e : Exp} {from rest : List Token} → used ≤ operator_limit → IsOperand e from rest → IsExp 0 used e used from rest
-operand_is {rest = rest} h i = record { spells = i.spells; ends = ends_at_0 (seen_operator (next rest)); count = omega (arith, i.none); within = h }
+abbrev signs : List Sign
+signs =
+    sign.PlusEquals ∷ sign.MinusEquals ∷ sign.XorEquals ∷ sign.Plus ∷ sign.Minus ∷ sign.Times ∷ sign.Divide ∷ sign.Remainder ∷ sign.Xor ∷ sign.BitAnd ∷ sign.And ∷ sign.BitOr ∷ sign.Or ∷ sign.Equals ∷ sign.Differs ∷ sign.Less ∷ sign.Greater ∷ sign.AtMost ∷ sign.AtLeast ∷ sign.Open ∷ sign.Close ∷ sign.OpenIndex ∷ sign.CloseIndex ∷ sign.Comma ∷ []
 
--- a chain of operators of one level
+abbrev words : List Word
+words =
+    word.Call ∷ word.Delocal ∷ word.Do ∷ word.Else ∷ word.Empty ∷ word.Fi ∷ word.From ∷ word.If ∷ word.Int ∷ word.Local ∷ word.Loop ∷ word.Main ∷ word.Nil ∷ word.Pop ∷ word.Procedure ∷ word.Push ∷ word.Skip ∷ word.Stack ∷ word.Then ∷ word.Top ∷ word.Uncall ∷ word.Until ∷ []
 
-pub sum_begins : {level used : ℕ} {e : Exp} {total : ℕ} {from rest : List Token} → 0 < level → IsExp (level - 1) used e total from rest → IsSum level used e total from rest
-sum_begins {level} h i = record { spells = weaker i.spells level (omega arith); ends = i.ends; count = i.count; within = i.within; level_is = h }
+numbered_sign : (s : Sign) → get_or signs (sign_number s) sign.Comma ≡ s
+numbered_sign sign.PlusEquals = refl
+numbered_sign _ = refl
 
-pub sum_goes_on : {level used total more : ℕ} {op : Operator} {l r : Exp} {from middle behind rest : List Token} →
-    IsSum level used l total from middle → IsOperator level op middle behind → IsExp (level - 1) (total + 1) r more behind rest → IsSum level used (Bin op l r) more from rest
-sum_goes_on {level} {op = op} {l} {from = from} {behind = behind} s o i =
-    let h = s.level_is in
-    let k = o.level_is in
-    record {
-      spells = Grammar.binary (omega (arith, k)) (subst (λ m. SpellsExp m l from (o.token ∷ behind)) (sym k) (subst (λ m. SpellsExp level l from m) o.is s.spells)) o.operator (omega (arith, k, h)) i.spells;
-      ends = i.ends;
-      count = omega (arith, s.count, i.count);
-      within = i.within;
-      level_is = h;
-    }
+numbered_word : (w : Word) → get_or words (word_number w) word.Until ≡ w
+numbered_word word.Call = refl
+numbered_word _ = refl
 
-ends_above : (level : ℕ) (o : Option Operator) → EndsAt (level - 1) o → ((op : Operator) → o ≡ Some op → level_of op ≢ level) → EndsAt level o
-ends_above level None h n = tt
-ends_above level (Some op) h n = let k = n op refl in omega (arith, k)
+same_sign : (s r : Sign) → sign_number s ≡ sign_number r → s ≡ r
+same_sign s r e = sym (numbered_sign s) ∙ ap (λ n. get_or signs n sign.Comma) e ∙ numbered_sign r
 
-pub sum_ends : {level used : ℕ} {e : Exp} {total : ℕ} {from rest : List Token} → IsSum level used e total from rest → ((op : Operator) → seen_operator (next rest) ≡ Some op → level_of op ≢ level) → IsExp level used e total from rest
-sum_ends {level} {rest = rest} s n = record { spells = s.spells; ends = ends_above level (seen_operator (next rest)) s.ends n; count = s.count; within = s.within }
+same_word : (v w : Word) → word_number v ≡ word_number w → v ≡ w
+same_word v w e = sym (numbered_word v) ∙ ap (λ n. get_or words n word.Until) e ∙ numbered_word w
 
--- up to the operator behind the chain
-to_operator : {level used : ℕ} {op : Operator} {l : Exp} {total : ℕ} {from middle behind : List Token} → IsSum level used l total from middle → (o : IsOperator level op middle behind) → (E : ForExp) → Admits level E → owed E ≡ used →
-    run operator_limit from (Operand E) ≡ run operator_limit (o.token ∷ behind) (After l E)
-to_operator {level} {op = op} {l} {from = from} {middle} {behind} s o E a c =
-    let k = o.level_is in
-    let stops : Stops level (seen_operator (next middle)) = rw (o.is, o.operator) (omega (arith, k)) in
-    reads-exp operator_limit s.spells E a stops (omega (arith, s.count, s.within, c))
-    ∙ ap (λ m. run operator_limit m (After l E)) o.is
+abbrev yes : Option (Unit {0})
+yes = Some tt
 
-pub sum_fails : {level used : ℕ} {op : Operator} {l : Exp} {total : ℕ} {from middle behind : List Token} (out : Outcome) → total < operator_limit →
-    IsSum level used l total from middle → IsOperator level op middle behind → FailsExp (level - 1) (total + 1) behind out → FailsExp level used from out
-sum_fails {level} {op = op} {l} {from = from} {middle} {behind} out room s o f E a c =
-    let h = s.level_is in
-    let k = o.level_is in
-    to_operator s o E a c
-    ∙ run_shifts operator_limit E level l o.token behind op a (omega (arith, k)) o.operator (omega (arith, s.count, c, room))
-    ∙ f (Pending l op E) (omega (arith, k, h)) (omega (arith, s.count, c))
+pub seen_the_sign : (s : Sign) (place : Span) → seen (The_sign s) (Sign_of s place) ≡ yes
+seen_the_sign s place = ap (λ b. cond b yes None) (eq-eqb (sign_number s) (sign_number s) refl)
 
--- an operator past the limit
-pub sum_too_long : {level used : ℕ} {op : Operator} {l : Exp} {total : ℕ} {from middle behind : List Token} → total ≡ operator_limit →
-    IsSum level used l total from middle → IsOperator level op middle behind → FailsExp level used from (Limited (length middle))
-sum_too_long {level} {op = op} {l} {from = from} {middle} {behind} full s o E a c =
-    let k = o.level_is in
-    let b : nat_le (operators l + 1 + owed E) operator_limit ≡ false = lt-leb (operators l + 1 + owed E) operator_limit (omega (arith, s.count, c, full)) in
-    to_operator s o E a c
-    ∙ ap (follow operator_limit (λ n. run operator_limit behind n) (wanted (After l E)) (suc (length behind))) (shifts E level l o.token op a (omega (arith, k)) o.operator)
-    ∙ ap (λ x. cond x (run operator_limit behind (Operand (Pending l op E))) (Limited (suc (length behind)))) b
-    ∙ ap Limited (sym (ap length o.is))
+pub seen_the_word : (w : Word) (place : Span) → seen (The_word w) (Word_of w place) ≡ yes
+seen_the_word w place = ap (λ b. cond b yes None) (eq-eqb (word_number w) (word_number w) refl)
 
--- assignments
+seen_or_not : {A : Type 0} (o : Option A) → ((v : A) → o ≡ Some v → ⊥) → o ≡ None
+seen_or_not None h = refl
+seen_or_not (Some v) h = absurd (h v refl)
 
-pub no_operator : (o : Option Operator) → EndsAt 8 o → o ≡ None
-no_operator None h = refl
-no_operator (Some operation.Add) h = absurd (omega arith)
-no_operator (Some operation.Subtract) h = absurd (omega arith)
-no_operator (Some operation.Xor) h = absurd (omega arith)
-no_operator (Some operation.Multiply) h = absurd (omega arith)
-no_operator (Some operation.Divide) h = absurd (omega arith)
-no_operator (Some operation.Remainder) h = absurd (omega arith)
-no_operator (Some operation.BitAnd) h = absurd (omega arith)
-no_operator (Some operation.BitOr) h = absurd (omega arith)
-no_operator (Some operation.Less) h = absurd (omega arith)
-no_operator (Some operation.Greater) h = absurd (omega arith)
-no_operator (Some operation.AtMost) h = absurd (omega arith)
-no_operator (Some operation.AtLeast) h = absurd (omega arith)
-no_operator (Some operation.Equal) h = absurd (omega arith)
-no_operator (Some operation.Differ) h = absurd (omega arith)
+other_sign : (s : Sign) (t : Token) (rest : List Token) → ((behind : List Token) → BeginsWithSign s (t ∷ rest) behind → ⊥) → seen (The_sign s) t ≡ None
+other_sign s (Sign_of r place) rest h =
+    seen_or_not (seen (The_sign s) (Sign_of r place)) (λ v e. h rest (record { at = place; is = ap (λ x. Sign_of x place ∷ rest) (same_sign r s (sym (eqb-true (sign_number s) (sign_number r) (cond_some (nat_eq (sign_number s) (sign_number r)) tt v e)))) }))
+other_sign s (Name x place) rest h = refl
+other_sign s (Number n place) rest h = refl
+other_sign s (Word_of w place) rest h = refl
 
-pub assign_is : {x : List ℕ} {at : Span} {u : Update} {e : Exp} {total : ℕ} {from middle rest : List Token} → IsUpdate u from middle → IsExp 8 0 e total middle rest → IsStm (Assign (named x at) u e) (Name x at ∷ from) rest
-assign_is {x} {at} {u} {e} {rest = rest} i d =
-    record {
-      spells = subst (λ ts. SpellsStm (Assign (named x at) u e) (Name x at ∷ ts) rest) (sym i.is) (Grammar.assign i.update d.spells);
-      ends = no_operator (seen_operator (next rest)) d.ends;
-      within = omega (arith, d.count, d.within);
-    }
+other_word : (w : Word) (t : Token) (rest : List Token) → ((behind : List Token) → BeginsWith w (t ∷ rest) behind → ⊥) → seen (The_word w) t ≡ None
+other_word w (Word_of v place) rest h =
+    seen_or_not (seen (The_word w) (Word_of v place)) (λ u e. h rest (record { at = place; is = ap (λ x. Word_of x place ∷ rest) (same_word v w (sym (eqb-true (word_number w) (word_number v) (cond_some (nat_eq (word_number w) (word_number v)) tt u e)))) }))
+other_word w (Name x place) rest h = refl
+other_word w (Number n place) rest h = refl
+other_word w (Sign_of s place) rest h = refl
 
-begins_with_name : (x : List ℕ) (at : Span) (from : List Token) (out : Outcome) → ((A : ForStm) → run operator_limit from (Target (named x at) A) ≡ out) → FailsStm (Name x at ∷ from) out
-begins_with_name x at from out f =
-    record {
-      token = Name x at;
-      rest = from;
-      is = refl;
-      begins = λ b B. (Target (named x at) (Within b B), refl);
-      fails = λ b B s e. run_goes operator_limit (Name x at) from s (Target (named x at) (Within b B)) e (omega arith) ∙ f (Within b B);
-    }
+pub sign_goes : (s : Sign) (from rest : List Token) → BeginsWithSign s from rest → TokenGoes (The_sign s) tt from rest
+sign_goes s from rest b = subst (λ ts. TokenGoes (The_sign s) tt ts rest) (sym b.is) (token_goes (The_sign s) tt (Sign_of s b.at) rest (seen_the_sign s b.at))
 
-pub update_fails : (x : List ℕ) (at : Span) {from : List Token} (out : Outcome) → FailsUpdate from out → FailsStm (Name x at ∷ from) out
-update_fails x at {from} out f = begins_with_name x at from out (λ A. f (named x at) A)
+pub word_goes : (w : Word) (from rest : List Token) → BeginsWith w from rest → TokenGoes (The_word w) tt from rest
+word_goes w from rest b = subst (λ ts. TokenGoes (The_word w) tt ts rest) (sym b.is) (token_goes (The_word w) tt (Word_of w b.at) rest (seen_the_word w b.at))
 
-pub assign_fails : (x : List ℕ) (at : Span) {u : Update} {from middle : List Token} (out : Outcome) → IsUpdate u from middle → FailsExp 8 0 middle out → FailsStm (Name x at ∷ from) out
-assign_fails x at {u} {from} {middle} out i f =
-    begins_with_name x at from out
-    (λ A.
-    ap (λ ts. run operator_limit ts (Target (named x at) A)) i.is
-    ∙ run_goes operator_limit i.token middle (Target (named x at) A) (Operand (Right (named x at) u A)) (ap (λ o. target o (named x at) A) i.update) (omega arith)
-    ∙ f (Right (named x at) u A) tt refl)
+pub sign_fails : (s : Sign) (from : List Token) (left : ℕ) → left ≡ length from → ((behind : List Token) → BeginsWithSign s from behind → ⊥) → TokenFails (The_sign s) from (Expected (what.Sign s) left)
+sign_fails s [] left e h = subst (λ n. TokenFails (The_sign s) [] (Expected (what.Sign s) n)) (sym e) (end_fails (The_sign s))
+sign_fails s (t ∷ rest) left e h =
+    subst (λ n. TokenFails (The_sign s) (t ∷ rest) (Expected (what.Sign s) n)) (let k : suc (length rest) ≡ left = sym e in k) (token_fails (The_sign s) t rest (other_sign s t rest h))
 
--- statements in a row
+pub word_fails : (w : Word) (from : List Token) (left : ℕ) → left ≡ length from → ((behind : List Token) → BeginsWith w from behind → ⊥) → TokenFails (The_word w) from (Expected (what.Word w) left)
+word_fails w [] left e h = subst (λ n. TokenFails (The_word w) [] (Expected (what.Word w) n)) (sym e) (end_fails (The_word w))
+word_fails w (t ∷ rest) left e h =
+    subst (λ n. TokenFails (The_word w) (t ∷ rest) (Expected (what.Word w) n)) (let k : suc (length rest) ≡ left = sym e in k) (token_fails (The_word w) t rest (other_word w t rest h))
 
-pub view_push : (ss : List code_stm.Stm) (s : code_stm.Stm) → block_view (ss ++ s ∷ []) ≡ push (block_view ss) (stm_view s)
-view_push [] s = refl
-view_push (t ∷ ss) s = ap (More (stm_view t)) (view_push ss s)
-
-pub statements_begin : (from : List Token) → AreStatements Empty from from
-statements_begin from = record { spells = Grammar.none; within = tt; goes = λ ds. refl }
-
-pub statements_go_on : {b : Block} {s : Stm} {from middle rest : List Token} → AreStatements b from middle → IsStm s middle rest → AreStatements (push b s) from rest
-statements_go_on {b} {s} a i =
-    record {
-      spells = block_push a.spells i.spells;
-      within = within_push operator_limit b s a.within i.within;
-      goes = λ ds. a.goes ds ∙ reads-stm operator_limit i.spells ds b i.ends i.within;
-    }
-
-or_else_go : (x : Step) (s : State) (y : Step) → x ≡ Go s → or_else x y ≡ x
-or_else_go x s y e = ap (λ z. or_else z y) e ∙ sym e
-
--- where the statement begins, the cell's state begins it too
-standing_begins : (ds : List Declaration) (b : Block) (t : Token) (s : State) → begin (Some t) b (Body ds) ≡ Go s → step (standing ds b) (Some t) ≡ begin (Some t) b (Body ds)
-standing_begins ds Empty t s e = or_else_go (begin (Some t) Empty (Body ds)) s (declaration ds (Some t)) e
-standing_begins ds (More r b) t s e = or_else_go (begin (Some t) (More r b) (Body ds)) s (close (More r b) (Body ds) (Some t)) e
-
-pub statements_fail : {b : Block} {from middle : List Token} (out : Outcome) → AreStatements b from middle → FailsStm middle out → FailsStatements from out
-statements_fail {b} out a f ds =
-    let r = f.begins b (Body ds) in
-    a.goes ds ∙ f.fails b (Body ds) (standing ds b) (standing_begins ds b f.token r.0 r.1)
-
-pub statements_are : {b : Block} {from rest : List Token} → AreStatements b from rest → NoStm rest → AreAllStatements b from rest
-statements_are a n = record { are = a; no_more = n }
-
--- declarations in a row
-
-pub declarations_view_push : (ds : List code_declaration.Declaration) (d : code_declaration.Declaration) → declarations_view (ds ++ d ∷ []) ≡ declarations_view ds ++ declaration_view d ∷ []
-declarations_view_push [] d = refl
-declarations_view_push (e ∷ ds) d = ap (λ r. declaration_view e ∷ r) (declarations_view_push ds d)
-
-pub declarations_begin : (from : List Token) → AreDeclarations [] from from
-declarations_begin from = record { spells = Grammar.none; goes = refl }
-
-pub declarations_go_on : {ds : List Declaration} {d : Declaration} {from middle rest : List Token} → AreDeclarations ds from middle → IsDeclaration d middle rest → AreDeclarations (ds ++ d ∷ []) from rest
-declarations_go_on {ds} {d} {from} {middle} {rest} a i =
-    let x : Declaration = Int (named i.text i.name_at) in
-    subst (λ y. AreDeclarations (ds ++ y ∷ []) from rest) (sym i.declares)
-    (record {
-      spells = declarations_push (subst (λ ts. SpellsDeclarations ds from ts) i.is a.spells);
-      goes =
-          a.goes ∙ ap (λ ts. run operator_limit ts (Declarations ds)) i.is
-          ∙ run_goes operator_limit (Word_of word.Int i.word_at) (Name i.text i.name_at ∷ rest) (Declarations ds) (Declared ds) refl (omega arith)
-          ∙ run_goes operator_limit (Name i.text i.name_at) rest (Declared ds) (Declarations (ds ++ x ∷ [])) refl (omega arith);
-    })
-
-pub declaration_fails : {ds : List Declaration} {from middle : List Token} (out : Outcome) → AreDeclarations ds from middle → FailsDeclaration middle out → FailsCell from out
-declaration_fails {ds} out a f = a.goes ∙ f ds
-
-pub declarations_are : {ds : List Declaration} {from rest : List Token} → AreDeclarations ds from rest → OtherWord word.Int rest → AreAllDeclarations ds from rest
-declarations_are a n = record { are = a; no_more = n }
-
--- the whole cell
-
-pub cell_is : {ds : List Declaration} {b : Block} {from middle rest : List Token} → AreAllDeclarations ds from middle → AreAllStatements b middle rest → rest ≡ [] → IsTree (cell_of ds b) from
-cell_is {ds} {b} {from} {middle} d s e =
-    record {
-      spells = Grammar.cell d.are.spells (subst (λ ts. SpellsBlock b middle ts) e s.are.spells);
-      within = s.are.within;
-    }
-
-pub statements_of_cell_fail : {ds : List Declaration} {from middle : List Token} (out : Outcome) → AreAllDeclarations ds from middle → FailsStatements middle out → FailsCell from out
-statements_of_cell_fail {ds} out d f = d.are.goes ∙ f ds
-
-no_declaration : (ds : List Declaration) (rest : List Token) → 0 < length rest → OtherWord word.Int rest → declaration ds (next rest) ≡ Stuck
-no_declaration ds [] h n = absurd (omega (arith, h))
-no_declaration ds (Word_of word.Int at ∷ rest) h n = absurd (n at rest refl)
-no_declaration ds (_ ∷ rest) h n = refl
-
-not_closed : (ds : List Declaration) (b : Block) (rest : List Token) → 0 < length rest → close b (Body ds) (next rest) ≡ Stuck
-not_closed ds b [] h = absurd (omega (arith, h))
-not_closed ds b (t ∷ rest) h = refl
-
-stuck_or : (x y : Step) → x ≡ Stuck → y ≡ Stuck → or_else x y ≡ Stuck
-stuck_or x y e f = ap (λ z. or_else z y) e ∙ f
-
-standing_stuck : (ds : List Declaration) (b : Block) {middle rest : List Token} → SpellsBlock b middle rest → OtherWord word.Int middle → NoStm rest → 0 < length rest → step (standing ds b) (next rest) ≡ Stuck
-standing_stuck ds Empty {rest = rest} Grammar.none n m h = stuck_or (begin (next rest) Empty (Body ds)) (declaration ds (next rest)) (m Empty (Body ds)) (no_declaration ds rest h n)
-standing_stuck ds (More s b) {rest = rest} d n m h = stuck_or (begin (next rest) (More s b) (Body ds)) (close (More s b) (Body ds) (next rest)) (m (More s b) (Body ds)) (not_closed ds (More s b) rest h)
-
-standing_wants : (ds : List Declaration) (b : Block) → wanted (standing ds b) ≡ what.End
-standing_wants ds Empty = refl
-standing_wants ds (More s b) = refl
-
-pub end_fails : {ds : List Declaration} {b : Block} {from middle rest : List Token} → AreAllDeclarations ds from middle → AreAllStatements b middle rest → 0 < length rest → FailsCell from (Failed what.End (length rest))
-end_fails {ds} {b} {rest = rest} d s h =
-    d.are.goes ∙ s.are.goes ds
-    ∙ stuck_run operator_limit rest (standing ds b) (standing_stuck ds b s.are.spells d.no_more s.no_more h)
-    ∙ ap (λ w. Failed w (length rest)) (standing_wants ds b)
+-- no `[` at the front
+pub no_opening : (from : List Token) → ((behind : List Token) → BeginsWithSign sign.OpenIndex from behind → ⊥) → (t : Token) → next from ≡ Some t → no_index t ≡ true
+no_opening [] h t e = absurd cc
+no_opening (Sign_of sign.OpenIndex place ∷ rest) h t e = absurd (h rest (record { at = place; is = refl }))
+no_opening (Sign_of r place ∷ rest) h t e = let same : Sign_of r place ≡ t = cc in subst (λ x. no_index x ≡ true) same refl
+no_opening (Name x place ∷ rest) h t e = let same : Name x place ≡ t = cc in subst (λ x. no_index x ≡ true) same refl
+no_opening (Number n place ∷ rest) h t e = let same : Number n place ≡ t = cc in subst (λ x. no_index x ≡ true) same refl
+no_opening (Word_of w place ∷ rest) h t e = let same : Word_of w place ≡ t = cc in subst (λ x. no_index x ≡ true) same refl

@@ -1,174 +1,128 @@
--- The grammar: which tokens spell which tree. A rule says where a part begins and where it ends: in
--- 'SpellsExp level e from rest' the expression e is spelled by the tokens of from up to rest.
-use Rattle.std.specs.Prelude.{◌≡◌, ℕ, ◌<◌, ◌≤◌, ◌+◌, List, [], ◌∷◌, ◌++◌, Option, Some, None}
-use Rattle.janus_syntax.specs.declared.token.Span.{Span}
-use Rattle.janus_syntax.specs.declared.token.Sign.{Sign}
-use Rattle.janus_syntax.specs.declared.token.Sign.TheVariants as sign
-use Rattle.janus_syntax.specs.declared.token.Word.TheVariants as word
-use Rattle.janus_syntax.specs.declared.tree.Operator.{Operator}
-use Rattle.janus_syntax.specs.declared.tree.Operator.TheVariants as operator
-use Rattle.janus_syntax.specs.declared.tree.Update.{Update}
-use Rattle.janus_syntax.specs.declared.tree.Update.TheVariants as update
+-- What the grammar's table means: which tokens spell which tree; what has to come next behind the beginning of a
+-- text; and where tokens are refused. What a text is to be is the part `goal`: a cell, or an expression.
+use Rattle.std.specs.Prelude.{◌≡◌, ℕ, suc, ◌+◌, ◌-◌, List, [], ◌∷◌, ◌++◌, length, Option, Some, None, Bool, true, false, cond, nat_le, ◌&&◌}
 use Rattle.janus_syntax.specs.declared.fault.What.{What}
 use Rattle.janus_syntax.specs.declared.fault.What.TheVariants as what
-use Rattle.janus_syntax.specs.Tokens.{Token, Name, Number, Sign_of, Word_of}
-use Rattle.janus_syntax.specs.Tree.{named, Exp, Num, Var, Bin, Element, Neg, And, Or, Stm, Assign, Block, Empty, More, Declaration, Int, Cell, cell_of}
+use Rattle.janus_syntax.specs.Tokens.{Token}
+use Rattle.janus_syntax.specs.Tree.{cell_of}
+use Rattle.janus_syntax.specs.Forms.{Part, A_cell, Declarations, Statements, Tree, Class, Seen, seen, what_of, Form, done, take, part, close, Rule}
+use Rattle.janus_syntax.specs.Table.{rule, left_out, label}
 
--- The language's eight levels of operators: 1 binds strongest (`* / %`; `+ -`; relations; `&`; `^`; `|`; `&&`; `||`).
-abbrev pub level_of : Operator → ℕ
-level_of operator.Add = 2
-level_of operator.Subtract = 2
-level_of operator.Multiply = 1
-level_of operator.Divide = 1
-level_of operator.Remainder = 1
-level_of operator.BitAnd = 4
-level_of operator.BitOr = 6
-level_of operator.Xor = 5
-level_of operator.Less = 3
-level_of operator.Greater = 3
-level_of operator.AtMost = 3
-level_of operator.AtLeast = 3
-level_of operator.Equal = 3
-level_of operator.Differ = 3
+-- How many constructs are open, and how many operators the whole expression has so far.
+pub record Count : Type 0 where
+  pub depth : ℕ
+  pub used : ℕ
 
--- the operator of a sign
-abbrev pub sign_operator : Sign → Option Operator
-sign_operator sign.Plus = Some operator.Add
-sign_operator sign.Minus = Some operator.Subtract
-sign_operator sign.Xor = Some operator.Xor
-sign_operator _ = None
+abbrev pub zero_count : Count
+zero_count = record { depth = 0; used = 0 }
 
-abbrev pub operator_at : Token → Option Operator
-operator_at (Sign_of s _) = sign_operator s
-operator_at _ = None
+-- behind the first token of a rule
+abbrev pub entered : {p : Part} → Rule p → Count → Count
+entered r m = record { depth = m.depth + r.opens; used = cond r.is_whole 0 m.used + r.counts }
 
--- the assignment of a sign
-abbrev pub sign_update : Sign → Option Update
-sign_update sign.PlusEquals = Some update.Add
-sign_update sign.MinusEquals = Some update.Subtract
-sign_update sign.XorEquals = Some update.Xor
-sign_update _ = None
+-- behind the end of a construct
+abbrev pub closed : Count → Count
+closed m = record { depth = m.depth - 1; used = m.used }
 
-abbrev pub update_at : Token → Option Update
-update_at (Sign_of s _) = sign_update s
-update_at _ = None
-
--- An expression whose outermost operator has at most this level. Level 0 is an operand. The left side of an
--- operator has at most its level, the right side a smaller one.
-pub data SpellsExp : ℕ → Exp → List Token → List Token → Type 0 where
-  number : {level n : ℕ} {at : Span} {rest : List Token} → SpellsExp level (Num n at) (Number n at ∷ rest) rest
-  variable : {level : ℕ} {x : List ℕ} {at : Span} {rest : List Token} → SpellsExp level (Var (named x at)) (Name x at ∷ rest) rest
-  binary : {level below : ℕ} {op : Operator} {t : Token} {l r : Exp} {from middle rest : List Token} →
-      level_of op ≤ level → SpellsExp (level_of op) l from (t ∷ middle) → operator_at t ≡ Some op →
-      below < level_of op → SpellsExp below r middle rest → SpellsExp level (Bin op l r) from rest
-
--- a statement
-pub data SpellsStm : Stm → List Token → List Token → Type 0 where
-  assign : {x : List ℕ} {at : Span} {t : Token} {u : Update} {level : ℕ} {e : Exp} {from rest : List Token} →
-      update_at t ≡ Some u → SpellsExp level e from rest → SpellsStm (Assign (named x at) u e) (Name x at ∷ t ∷ from) rest
-
--- statements, none or more
-pub data SpellsBlock : Block → List Token → List Token → Type 0 where
-  none : {rest : List Token} → SpellsBlock Empty rest rest
-  more : {s : Stm} {b : Block} {from middle rest : List Token} →
-      SpellsStm s from middle → SpellsBlock b middle rest → SpellsBlock (More s b) from rest
-
--- declarations, none or more
-pub data SpellsDeclarations : List Declaration → List Token → List Token → Type 0 where
-  none : {rest : List Token} → SpellsDeclarations [] rest rest
-  more : {x : List ℕ} {a at : Span} {ds : List Declaration} {from rest : List Token} →
-      SpellsDeclarations ds from rest → SpellsDeclarations (Int (named x at) ∷ ds) (Word_of word.Int a ∷ Name x at ∷ from) rest
-
--- a cell: declarations and then statements, to the end
-pub data SpellsCell : Cell → List Token → Type 0 where
-  cell : {ds : List Declaration} {b : Block} {from middle : List Token} →
-      SpellsDeclarations ds from middle → SpellsBlock b middle [] → SpellsCell (cell_of ds b) from
-
--- The limit: how many operators an expression has.
-abbrev pub operators : Exp → ℕ
-operators (Num n at) = 0
-operators (Var x) = 0
-operators (Bin op l r) = operators l + operators r + 1
-operators (Element x i) = operators i
-operators (Neg e) = operators e + 1
-operators (And l r) = operators l + operators r + 1
-operators (Or l r) = operators l + operators r + 1
-
-abbrev pub stm_operators : Stm → ℕ
-stm_operators (Assign x u e) = operators e
-stm_operators _ = 0
-
-abbrev pub StmWithin : ℕ → Stm → Type 0
-StmWithin limit s = stm_operators s ≤ limit
-
--- each whole expression has at most so many operators
-abbrev pub BlockWithin : ℕ → Block → Type 0
-BlockWithin limit Empty = Unit {0}
-BlockWithin limit (More s b) = StmWithin limit s × BlockWithin limit b
-
-abbrev pub CellWithin : ℕ → Cell → Type 0
-CellWithin limit (cell_of ds b) = BlockWithin limit b
+abbrev pub depth_limit : ℕ
+depth_limit = 64
 
 abbrev pub operator_limit : ℕ
 operator_limit = 256
 
--- the tree of a cell's tokens
-pub record IsTree (c : Cell) (tokens : List Token) : Type 0 where
-  pub spells : SpellsCell c tokens
-  pub within : CellWithin operator_limit c
+abbrev pub fits : Count → Bool
+fits m = nat_le m.depth depth_limit && nat_le m.used operator_limit
 
--- what begins a cell
-abbrev pub IsOpen : List Token → Type 0
-IsOpen front = (more : List Token) × (c : Cell) × SpellsCell c (front ++ more)
+-- Which demands beyond the forms are made: the limits.
+pub record Demands : Type 0 where
+  pub limits : Bool
 
--- what begins a cell within the limit
-abbrev pub IsOpenWithin : List Token → Type 0
-IsOpenWithin front = (more : List Token) × (c : Cell) × IsTree c (front ++ more)
+abbrev pub all : Demands
+all = record { limits = true }
 
--- the tokens of an item
-pub data IsItem : What → List Token → Type 0 where
-  a_name : {x : List ℕ} {at : Span} → IsItem what.Name (Name x at ∷ [])
-  an_operator : {t : Token} {u : Update} → update_at t ≡ Some u → IsItem what.Operator (t ∷ [])
-  an_expression : {level : ℕ} {e : Exp} {item : List Token} → SpellsExp level e item [] → IsItem what.Expression item
+abbrev pub but_limits : Demands
+but_limits = record { limits = false }
 
--- such an item stands at the front
-pub record BeginsWith (w : What) (tokens : List Token) : Type 0 where
-  pub item : List Token
-  pub rest : List Token
-  pub whole : tokens ≡ item ++ rest
-  pub is_item : IsItem w item
+-- if it is demanded, it holds
+abbrev pub met : Bool → Bool → Bool
+met true b = b
+met false b = true
 
--- behind this front each such item may come, one of them within the limit, and no cell goes on without one
-pub record IsNext (w : What) (front : List Token) : Type 0 where
-  pub item : List Token
-  pub is_item : IsItem w item
-  pub may_come : IsOpenWithin (front ++ item)
-  pub each : (other : List Token) → IsItem w other → IsOpen (front ++ other)
-  pub required : (more : List Token) (c : Cell) → SpellsCell c (front ++ more) → BeginsWith w more
+-- 'Spells d p f v m from m' rest': the tokens of from up to rest are of the form f, as the tree v; the counts are m
+-- before them and m' behind them.
+pub data Spells (d : Demands) : (p : Part) → Form p → Tree p → Count → List Token → Count → List Token → Type 0 where
+  nothing_more : {p : Part} {v : Tree p} {m : Count} {rest : List Token} → Spells d p (done v) v m rest m rest
+  token : {p : Part} {c : Class} {k : Seen c → Form p} {s : Seen c} {v : Tree p} {t : Token} {m m' : Count} {from rest : List Token} →
+      seen c t ≡ Some s → Spells d p (k s) v m from m' rest → Spells d p (take c k) v m (t ∷ from) m' rest
+  end_of_construct : {p : Part} {f : Form p} {v : Tree p} {m m' : Count} {from rest : List Token} →
+      Spells d p f v (closed m) from m' rest → Spells d p (close f) v m from m' rest
+  a_part : {p q : Part} {k : Tree q → Form p} {r : Rule q} {u : Tree q} {v : Tree p} {t : Token} {m m1 m' : Count} {from middle rest : List Token} →
+      rule q t ≡ Some r → met d.limits (fits (entered r m)) ≡ true →
+      Spells d q r.form u (entered r m) from m1 middle → Spells d p (k u) v m1 middle m' rest → Spells d p (part q k) v m (t ∷ from) m' rest
+  no_part : {p q : Part} {k : Tree q → Form p} {u : Tree q} {v : Tree p} {m m' : Count} {from rest : List Token} →
+      left_out q ≡ Some u → Spells d p (k u) v m from m' rest → Spells d p (part q k) v m from m' rest
 
--- What has to come next behind this front. It is the end where the front is a cell already.
-abbrev pub IsWanted : What → List Token → Type 0
-IsWanted what.End front = (c : Cell) × IsTree c front
-IsWanted w front = IsNext w front
+-- A whole text: a cell is its declarations and then its statements; any other part stands alone.
+abbrev pub text_form : (goal : Part) → Form goal
+text_form A_cell = part Declarations (λ ds. part Statements (λ b. done (cell_of ds b)))
+text_form goal = part goal done
 
--- The reading cannot go on in front of rest: its first token is the first with which no cell goes on. Or rest
--- is empty, and the tokens only begin a cell.
-pub record IsUnexpected (w : What) (tokens rest : List Token) : Type 0 where
-  pub front : List Token
-  pub whole : tokens ≡ front ++ rest
-  pub open_before : IsOpenWithin front
-  pub no_longer : (t : Token) (more : List Token) → rest ≡ t ∷ more → IsOpen (front ++ t ∷ []) → ⊥
-  pub not_whole : (c : Cell) → SpellsCell c tokens → ⊥
-  pub wanted : IsWanted w front
+-- these tokens are that part, with this tree
+abbrev pub IsTree : (goal : Part) → Demands → Tree goal → List Token → Type 0
+IsTree goal d v tokens = (m : Count) × Spells d goal (text_form goal) v zero_count tokens m []
 
--- The first token of rest is the first with which no cell within the limit goes on, though cells go on with it.
-pub record IsTooNested (tokens rest : List Token) : Type 0 where
-  pub front : List Token
-  pub token : Token
-  pub behind : List Token
-  pub is_operator : (op : Operator) × (operator_at token ≡ Some op)
-  pub begins : rest ≡ token ∷ behind
-  pub whole : tokens ≡ front ++ rest
-  pub open_before : IsOpenWithin front
-  pub open_after : IsOpen (front ++ token ∷ [])
-  pub beyond : IsOpenWithin (front ++ token ∷ []) → ⊥
+-- what begins it
+abbrev pub IsOpen : (goal : Part) → Demands → List Token → Type 0
+IsOpen goal d front = (more : List Token) × (v : Tree goal) × IsTree goal d v (front ++ more)
+
+-- The next required item of a form, optional parts passed over; or, if nothing more is required, its tree.
+pub data Next (p : Part) : Type 0 where
+  Wanted : What → Next p
+  Complete : Tree p → Next p
+
+abbrev pub passed_over : {p : Part} {T : Type 0} → Option T → What → (T → Next p) → Next p
+passed_over (Some u) w next = next u
+passed_over None w next = Wanted w
+
+abbrev pub required : {p : Part} → Form p → Next p
+required (done v) = Complete v
+required (take c k) = Wanted (what_of c)
+required (close f) = required f
+required (part q k) = passed_over (left_out q) (label q) (λ u. required (k u))
+
+-- 'Begins d p f w m front': the tokens of front begin the form f, and w is the next required item of the innermost
+-- part that is begun and not finished.
+pub data Begins (d : Demands) : (p : Part) → Form p → What → Count → List Token → Type 0 where
+  here : {p : Part} {f : Form p} {w : What} {m : Count} → required f ≡ Wanted w → Begins d p f w m []
+  token : {p : Part} {c : Class} {k : Seen c → Form p} {s : Seen c} {w : What} {t : Token} {m : Count} {front : List Token} →
+      seen c t ≡ Some s → Begins d p (k s) w m front → Begins d p (take c k) w m (t ∷ front)
+  end_of_construct : {p : Part} {f : Form p} {w : What} {m : Count} {front : List Token} →
+      Begins d p f w (closed m) front → Begins d p (close f) w m front
+  inside : {p q : Part} {k : Tree q → Form p} {r : Rule q} {w : What} {t : Token} {m : Count} {front : List Token} →
+      rule q t ≡ Some r → met d.limits (fits (entered r m)) ≡ true →
+      Begins d q r.form w (entered r m) front → Begins d p (part q k) w m (t ∷ front)
+  behind : {p q : Part} {k : Tree q → Form p} {r : Rule q} {u : Tree q} {w : What} {t : Token} {m m1 : Count} {from front : List Token} →
+      rule q t ≡ Some r → met d.limits (fits (entered r m)) ≡ true →
+      Spells d q r.form u (entered r m) from m1 front → Begins d p (k u) w m1 front → Begins d p (part q k) w m (t ∷ from)
+  no_part : {p q : Part} {k : Tree q → Form p} {u : Tree q} {w : What} {m : Count} {front : List Token} →
+      left_out q ≡ Some u → Begins d p (k u) w m front → Begins d p (part q k) w m front
+
+-- What has to come next behind this front: the end, if it is whole already.
+pub data Wants (goal : Part) (d : Demands) : What → List Token → Type 0 where
+  an_item : {w : What} {front : List Token} → Begins d goal (text_form goal) w zero_count front → Wants goal d w front
+  the_end : {v : Tree goal} {front : List Token} → IsTree goal d v front → Wants goal d what.End front
+
+-- why tokens are refused, and how many of them are left at the place
+pub data Refusal : Type 0 where
+  Expected : What → ℕ → Refusal
+  TooNested : ℕ → Refusal
+
+-- The refusal stands at the first token with which no text goes on that meets all demands.
+-- Expected: no text at all goes on with it; or the tokens are at their end, and only begin a text.
+-- TooNested: a text goes on with it, if the limits are left aside.
+pub data IsRefused (goal : Part) (tokens : List Token) : Refusal → Type 0 where
+  expected : {w : What} → (front : List Token) (t : Token) (behind : List Token) → tokens ≡ front ++ t ∷ behind → Wants goal all w front →
+      (IsOpen goal but_limits (front ++ t ∷ []) → ⊥) → IsRefused goal tokens (Expected w (suc (length behind)))
+  expected_at_end : {w : What} → Wants goal all w tokens → ((v : Tree goal) → IsTree goal all v tokens → ⊥) → IsRefused goal tokens (Expected w 0)
+  too_nested : (front : List Token) (t : Token) (behind : List Token) → tokens ≡ front ++ t ∷ behind → ((w : What) × Wants goal all w front) →
+      IsOpen goal but_limits (front ++ t ∷ []) → (IsOpen goal all (front ++ t ∷ []) → ⊥) → IsRefused goal tokens (TooNested (suc (length behind)))

@@ -5,7 +5,12 @@ pub mod Fault
 pub mod Tokens
 pub mod Lexical
 pub mod Scan
+pub mod Operators
+pub mod Forms
+pub mod Table
 pub mod Grammar
+pub mod Laws
+pub mod Text
 pub mod Machine
 pub mod Reading
-pub mod Text
+pub mod Statements

@@ -1,180 +1,101 @@
--- A machine that reads tokens one by one, with one token of look-ahead. It keeps what is still owed as a
--- stack. It is not part of what the grammar means: proofs/ relates the two. It needs no measure, since
--- each step takes a token, and its failures depend on the tokens seen alone.
-use Rattle.std.specs.Prelude.{ℕ, suc, ◌<◌, ◌≤◌, ◌+◌, List, [], ◌∷◌, ◌++◌, length, Option, Some, None, nat_lt, nat_le, cond}
-use Rattle.janus_syntax.specs.declared.token.Word.TheVariants as word
-use Rattle.janus_syntax.specs.declared.tree.Operator.{Operator}
-use Rattle.janus_syntax.specs.declared.tree.Update.{Update}
+-- A machine that reads tokens one by one. It keeps what is still owed as a stack of forms. It is no part of what
+-- the grammar means: proofs/ relates the two. Its recursion is on the tokens, and within a step on the stack.
+use Rattle.std.specs.Prelude.{ℕ, zero, suc, List, [], ◌∷◌, length, Option, Some, None, Bool, cond}
 use Rattle.janus_syntax.specs.declared.fault.What.{What}
 use Rattle.janus_syntax.specs.declared.fault.What.TheVariants as what
-use Rattle.janus_syntax.specs.Tokens.{Token, Name, Number, Sign_of, Word_of}
-use Rattle.janus_syntax.specs.Tree.{Name as Named, named, Exp, Num, Var, Bin, Stm, Assign, Block, Empty, More, Declaration, Int, Cell, cell_of}
-use Rattle.janus_syntax.specs.Grammar.{level_of, operator_at, update_at, operators}
+use Rattle.janus_syntax.specs.Tokens.{Token}
+use Rattle.janus_syntax.specs.Forms.{Part, Tree, Class, Seen, seen, Form, done, take, part, close, Rule}
+use Rattle.janus_syntax.specs.Table.{rule, left_out}
+use Rattle.janus_syntax.specs.Grammar.{Count, zero_count, entered, closed, fits, Demands, met, text_form, Next, Wanted, Complete, required, Refusal, Expected, TooNested}
 
--- what waits for a block: the cell, with its declarations
-pub data ForBlock : Type 0 where
-  Body : List Declaration → ForBlock
+-- what waits for a part's tree, where the whole is to be the part `goal`
+pub data Stack (goal : Part) : Part → Type 0 where
+  bottom : Stack goal goal
+  waits : {p q : Part} → (Tree q → Form p) → Stack goal p → Stack goal q
 
--- what waits for a statement: a block that has these before it
-pub data ForStm : Type 0 where
-  Within : Block → ForBlock → ForStm
+-- a form, what waits for its tree, and the counts
+pub data State (goal : Part) : Type 0 where
+  at : {p : Part} → Form p → Stack goal p → Count → State goal
 
--- what waits for an expression
-pub data ForExp : Type 0 where
-  Right : Named → Update → ForStm → ForExp  -- an assignment waits for its right side
-  Pending : Exp → Operator → ForExp → ForExp  -- a left side and an operator wait for the right side
+pub data Step (goal : Part) : Type 0 where
+  Go : State goal → Step goal
+  Accept : Tree goal → Step goal
+  Stuck : Step goal
+  TooMany : Step goal
 
--- where the reading stands
-pub data State : Type 0 where
-  Operand : ForExp → State  -- an operand is wanted
-  After : Exp → ForExp → State  -- behind an expression that may go on
-  Target : Named → ForStm → State  -- behind the name that an assignment begins with
-  Another : Block → ForBlock → State  -- behind a statement of a block
-  Declarations : List Declaration → State  -- a declaration, a statement or the end
-  Declared : List Declaration → State  -- behind `int`
+abbrev pub go_if : {goal : Part} → Bool → State goal → Step goal → Step goal
+go_if b s other = cond b (Go s) other
 
-pub data Step : Type 0 where
-  Go : State → Step
-  Accept : Cell → Step
-  Stuck : Step
+-- the part q begins with this rule, or is left out
+abbrev pub enter : {goal p q : Part} → Demands → Option (Rule q) → (Tree q → Form p) → Stack goal p → Count → Step goal → Step goal
+enter d (Some r) k S m other = go_if (met d.limits (fits (entered r m))) (at r.form (waits k S) (entered r m)) TooMany
+enter d None k S m other = other
 
--- the block with one more statement at its end
-abbrev pub push : Block → Stm → Block
-push Empty s = More s Empty
-push (More r b) s = More r (push b s)
+abbrev pub skip : {goal : Part} {T : Type 0} → Option T → (T → Step goal) → Step goal
+skip (Some u) next = next u
+skip None next = Stuck
 
-abbrev pub or_else : Step → Step → Step
-or_else (Go s) other = Go s
-or_else (Accept c) other = Accept c
-or_else Stuck other = other
+abbrev pub taken : {goal p : Part} → (c : Class) → Option (Seen c) → (Seen c → Form p) → Stack goal p → Count → Step goal
+taken c (Some s) k S m = Go (at (k s) S m)
+taken c None k S m = Stuck
 
--- an operand's first token
-abbrev pub operand : Token → ForExp → Step
-operand (Name x at) E = Go (After (Var (named x at)) E)
-operand (Number n at) E = Go (After (Num n at) E)
-operand (Sign_of s at) E = Stuck
-operand (Word_of w at) E = Stuck
+-- at a form; behind its end the step goes on as `rest` says
+abbrev pub at_form : {goal p : Part} → Demands → Form p → Stack goal p → Count → Option Token → (Tree p → Count → Step goal) → Step goal
+at_form d (done v) S m t rest = rest v m
+at_form d (close f) S m t rest = at_form d f S (closed m) t rest
+at_form d (take c k) S m None rest = Stuck
+at_form d (take c k) S m (Some t) rest = taken c (seen c t) k S m
+at_form d (part q k) S m None rest = skip (left_out q) (λ u. at_form d (k u) S m None rest)
+at_form d (part q k) S m (Some t) rest = enter d (rule q t) k S m (skip (left_out q) (λ u. at_form d (k u) S m (Some t) rest))
 
--- a statement's first token, behind the statements b of its block
-abbrev pub begin : Option Token → Block → ForBlock → Step
-begin (Some (Name x at)) b B = Go (Target (named x at) (Within b B))
-begin _ b B = Stuck
+-- a tree is handed to what waits for it
+abbrev pub hand : {goal p : Part} → Demands → Stack goal p → Option Token → Tree p → Count → Step goal
+hand d bottom None v m = Accept v
+hand d bottom (Some t) v m = Stuck
+hand d (waits k S) t v m = at_form d (k v) S m t (hand d S t)
 
--- what ends the block b
-abbrev pub close : Block → ForBlock → Option Token → Step
-close b (Body ds) None = Accept (cell_of ds b)
-close b (Body ds) (Some t) = Stuck
+abbrev pub step : {goal : Part} → Demands → State goal → Option Token → Step goal
+step d (at f S m) t = at_form d f S m t (hand d S t)
 
--- behind the statements b of a block: one more, or what ends it
-abbrev pub another : Block → ForBlock → Option Token → Step
-another b B t = or_else (begin t b B) (close b B t)
+-- what is wanted
+abbrev pub wanted_behind : {goal p : Part} → Stack goal p → Next p → What
+wanted_behind S (Wanted w) = w
+wanted_behind bottom (Complete v) = what.End
+wanted_behind (waits k S) (Complete v) = wanted_behind S (required (k v))
 
--- behind a statement that has ended
-abbrev pub ended : Stm → ForStm → Option Token → Step
-ended s (Within b B) t = another (push b s) B t
+abbrev pub wanted : {goal : Part} → State goal → What
+wanted (at f S m) = wanted_behind S (required f)
 
-abbrev pub seen_operator : Option Token → Option Operator
-seen_operator None = None
-seen_operator (Some t) = operator_at t
+-- how a reading ends: at the end of the tokens, with a tree or without; or earlier, with so many tokens left
+pub data Outcome (goal : Part) : Type 0 where
+  Ended : Option (Tree goal) → What → Outcome goal
+  Failed : What → ℕ → Outcome goal
+  Nested : ℕ → Outcome goal
 
--- behind an expression
-abbrev pub goes_on : Option Operator → Exp → ForExp → Step → Step
-goes_on (Some op) e E other = Go (Operand (Pending e op E))
-goes_on None e E other = other
+-- how it ends at a refusal
+abbrev pub outcome_of : {goal : Part} → Refusal → Outcome goal
+outcome_of (Expected w zero) = Ended None w
+outcome_of (Expected w (suc n)) = Failed w (suc n)
+outcome_of (TooNested n) = Nested n
 
-abbrev pub binds_before : Option Operator → Operator → Exp → ForExp → Step → Step
-binds_before (Some op) left e E other = cond (nat_lt (level_of op) (level_of left)) (Go (Operand (Pending e op E))) other
-binds_before None left e E other = other
+abbrev pub at_end : {goal : Part} → What → Step goal → Outcome goal
+at_end w (Accept v) = Ended (Some v) w
+at_end w _ = Ended None w
 
-abbrev pub after : ForExp → Exp → Option Token → Step
-after (Pending l op E) e t = binds_before (seen_operator t) op e (Pending l op E) (after E (Bin op l e) t)
-after (Right x u A) e t = goes_on (seen_operator t) e (Right x u A) (ended (Assign x u e) A t)
+abbrev pub follow : {goal : Part} → (State goal → Outcome goal) → What → ℕ → Step goal → Outcome goal
+follow go w left (Go s) = go s
+follow go w left (Accept v) = Failed w left
+follow go w left Stuck = Failed w left
+follow go w left TooMany = Nested left
 
-abbrev pub target : Option Update → Named → ForStm → Step
-target (Some u) x A = Go (Operand (Right x u A))
-target None x A = Stuck
+abbrev pub run : {goal : Part} → Demands → List Token → State goal → Outcome goal
+run d [] s = at_end (wanted s) (step d s None)
+run d (t ∷ rest) s = follow (λ n. run d rest n) (wanted s) (suc (length rest)) (step d s (Some t))
 
--- before the statements: a declaration or the end
-abbrev pub declaration : List Declaration → Option Token → Step
-declaration ds None = Accept (cell_of ds Empty)
-declaration ds (Some (Word_of word.Int _)) = Go (Declared ds)
-declaration ds _ = Stuck
-
-abbrev pub declared : List Declaration → Option Token → Step
-declared ds (Some (Name x at)) = Go (Declarations (ds ++ Int (named x at) ∷ []))
-declared ds _ = Stuck
-
--- one step, at the next token or at the end
-abbrev pub step : State → Option Token → Step
-step (Operand E) None = Stuck
-step (Operand E) (Some t) = operand t E
-step (After e E) t = after E e t
-step (Target x A) None = Stuck
-step (Target x A) (Some t) = target (update_at t) x A
-step (Another b B) t = another b B t
-step (Declarations ds) t = or_else (begin t Empty (Body ds)) (declaration ds t)
-step (Declared ds) t = declared ds t
-
--- the next required item of what is not finished yet
-abbrev pub wanted_block : ForBlock → What
-wanted_block (Body ds) = what.End
-
-abbrev pub wanted_stm : ForStm → What
-wanted_stm (Within b B) = wanted_block B
-
-abbrev pub wanted_exp : ForExp → What
-wanted_exp (Right x u A) = wanted_stm A
-wanted_exp (Pending l op E) = wanted_exp E
-
-abbrev pub wanted : State → What
-wanted (Operand E) = what.Expression
-wanted (After e E) = wanted_exp E
-wanted (Target x A) = what.Operator
-wanted (Another b B) = wanted_block B
-wanted (Declarations ds) = what.End
-wanted (Declared ds) = what.Name
-
--- how many operators the whole expression has so far
-abbrev pub owed : ForExp → ℕ
-owed (Right x u A) = 0
-owed (Pending l op E) = operators l + 1 + owed E
-
-abbrev pub counted : State → ℕ
-counted (Operand E) = owed E
-counted (After e E) = operators e + owed E
-counted _ = 0
-
--- how a reading ends: the tree, or what is wanted and how many tokens are left where it cannot go on, or how
--- many are left at the operator that is one too many
-pub data Outcome : Type 0 where
-  Read : Cell → Outcome
-  Failed : What → ℕ → Outcome
-  Limited : ℕ → Outcome
-
-abbrev pub at_end : What → Step → Outcome
-at_end w (Accept c) = Read c
-at_end w _ = Failed w 0
-
--- goes on after a step, or fails with so many tokens left
-abbrev pub follow : ℕ → (State → Outcome) → What → ℕ → Step → Outcome
-follow limit go w left (Go s) = cond (nat_le (counted s) limit) (go s) (Limited left)
-follow limit go w left _ = Failed w left
-
-abbrev pub run : ℕ → List Token → State → Outcome
-run limit [] s = at_end (wanted s) (step s None)
-run limit (t ∷ rest) s = follow limit (λ s'. run limit rest s') (wanted s) (suc (length rest)) (step s (Some t))
+abbrev pub start : (goal : Part) → State goal
+start goal = at (text_form goal) bottom zero_count
 
 -- the next token, if there is one
 abbrev pub next : List Token → Option Token
 next [] = None
 next (t ∷ rest) = Some t
-
--- An expression of this level can be read in front of what this stack owes.
-abbrev pub Admits : ℕ → ForExp → Type 0
-Admits level (Pending l op E) = level < level_of op
-Admits level (Right x u A) = Unit {0}
-
--- What follows does not belong to an expression of this level.
-abbrev pub Stops : ℕ → Option Operator → Type 0
-Stops level None = Unit {0}
-Stops level (Some op) = level ≤ level_of op

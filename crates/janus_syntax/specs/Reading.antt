@@ -1,161 +1,151 @@
--- What the parser's functions say of what they return.
-use Rattle.std.specs.Prelude.{◌≡◌, ℕ, ◌<◌, ◌≤◌, ◌-◌, ◌+◌, List, [], ◌∷◌, length, Option, Some, None, Result, Ok, Err}
-use Rattle.std.specs.Borrow.{Bor}
+-- What the parser's functions say of what they return: where the machine stands behind a part, or how it is
+-- refused in it, in each place where the part may stand. It serves the proofs.
+use Rattle.std.specs.Prelude.{◌≡◌, ℕ, suc, ◌+◌, ◌-◌, ◌<◌, ◌≤◌, List, [], ◌∷◌, length, Option, Some, None, Result, Ok, Err, cond, drop}
+use Rattle.janus_syntax.specs.declared.fault.What.{What}
+use Rattle.janus_syntax.specs.declared.fault.What.TheVariants as what
+use Rattle.janus_syntax.specs.declared.fault.SyntaxFault.{SyntaxFault}
+use Rattle.janus_syntax.specs.declared.fault.SyntaxFault.TheVariants as fault
 use Rattle.janus_syntax.specs.declared.token.Span.{Span}
 use Rattle.janus_syntax.specs.declared.token.Word.{Word}
-use Rattle.janus_syntax.specs.declared.token.Word.TheVariants as word
-use Rattle.janus_syntax.specs.declared.token.Token as code_token
-use Rattle.janus_syntax.specs.declared.tree.Stm as code_stm
-use Rattle.janus_syntax.specs.declared.tree.Declaration as code_declaration
-use Rattle.janus_syntax.specs.declared.tree.Operator.{Operator}
-use Rattle.janus_syntax.specs.declared.tree.Update.{Update}
+use Rattle.janus_syntax.specs.declared.token.Sign.{Sign}
+use Rattle.janus_syntax.specs.declared.operator.Infix.{Infix}
 use Rattle.janus_syntax.specs.declared.problem.Problem.{Problem}
 use Rattle.janus_syntax.specs.declared.problem.Problem.TheVariants as problem
-use Rattle.janus_syntax.specs.Tokens.{Token, Name, Word_of, views}
-use Rattle.janus_syntax.specs.Tree.{named, Exp, Stm, stm_view, Block, Empty, Declaration, declaration_view, Int}
-use Rattle.janus_syntax.specs.Grammar.{SpellsExp, SpellsStm, SpellsBlock, SpellsDeclarations, level_of, operator_at, update_at, operators, operator_limit, StmWithin, BlockWithin, IsUnexpected, IsTooNested}
-use Rattle.janus_syntax.specs.Machine.{ForExp, ForStm, ForBlock, Body, State, Operand, Target, Another, Declarations, Go, Stuck, begin, step, run, next, seen_operator, owed, Admits, Outcome, Failed, Limited}
+use Rattle.janus_syntax.specs.Tokens.{Token, Sign_of, Word_of}
+use Rattle.janus_syntax.specs.Tree.{Name as Named, Exp}
+use Rattle.janus_syntax.specs.Operators.{operator_at}
+use Rattle.janus_syntax.specs.Forms.{Part, Index, Chain, Tree, Class, Seen, Form, take, part, Rule}
+use Rattle.janus_syntax.specs.Table.{operand, chains, variable}
+use Rattle.janus_syntax.specs.Grammar.{Count, all, entered, fits, operator_limit, Refusal, Expected, TooNested}
+use Rattle.janus_syntax.specs.Text.{place_before}
+use Rattle.janus_syntax.specs.Machine.{Stack, at, run, Outcome, Ended, Failed, Nested, outcome_of}
 
--- how a reading failed, unless memory ran out
-abbrev pub FailsAs : (Outcome → Type 0) → Problem → Type 0
-FailsAs fails (problem.Expected w left) = fails (Failed w left)
-FailsAs fails (problem.TooNested left) = fails (Limited left)
+-- how tokens are refused, unless memory ran out
+abbrev pub FailsAs : (Refusal → Type 0) → Problem → Type 0
+FailsAs fails (problem.Expected w left) = fails (Expected w left)
+FailsAs fails (problem.TooNested left) = fails (TooNested left)
 FailsAs fails problem.Memory = Unit {0}
 
--- what was read, or how the reading failed
-abbrev pub Reads : {X : Type 0} → (X → Type 0) → (Outcome → Type 0) → Result X Problem → Type 0
+-- what was read, or how it is refused
+abbrev pub Reads : {X : Type 0} → (X → Type 0) → (Refusal → Type 0) → Result X Problem → Type 0
 Reads found fails (Ok x) = found x
 Reads found fails (Err e) = FailsAs fails e
 
--- no operator of this level or a stronger one
-abbrev pub EndsAt : ℕ → Option Operator → Type 0
-EndsAt level None = Unit {0}
-EndsAt level (Some op) = level < level_of op
+-- its place is one of the tokens
+abbrev pub Within : Problem → ℕ → Type 0
+Within (problem.Expected w left) size = left ≤ size
+Within (problem.TooNested left) size = left ≤ size
+Within problem.Memory size = Unit {0}
 
--- the longest expression of this level at the front; its whole expression has `used` operators before it and `total` behind it
-pub record IsExp (level used : ℕ) (e : Exp) (total : ℕ) (from rest : List Token) : Type 0 where
-  pub spells : SpellsExp level e from rest
-  pub ends : EndsAt level (seen_operator (next rest))
-  pub count : total ≡ used + operators e
+-- a problem as the refusal of a text with these tokens, which ends there
+abbrev pub fault_of : ℕ → List Token → Problem → SyntaxFault
+fault_of end tokens (problem.Expected w left) = fault.Expected w (place_before end (drop (length tokens - left) tokens))
+fault_of end tokens (problem.TooNested left) = fault.TooNested (place_before end (drop (length tokens - left) tokens))
+fault_of end tokens problem.Memory = fault.Memory
+
+-- a token of a class at the front
+pub record TokenGoes (c : Class) (v : Seen c) (from rest : List Token) : Type 0 where
+  pub goes : (goal p : Part) (k : Seen c → Form p) (S : Stack goal p) (m : Count) → run all from (at (take c k) S m) ≡ run all rest (at (k v) S m)
+  pub shorter : length rest < length from
+
+abbrev pub TokenFails : Class → List Token → Refusal → Type 0
+TokenFails c from e = (goal p : Part) (k : Seen c → Form p) (S : Stack goal p) (m : Count) → run all from (at (take c k) S m) ≡ outcome_of e
+
+-- this word at the front
+pub record BeginsWith (w : Word) (from behind : List Token) : Type 0 where
+  pub at : Span
+  pub is : from ≡ Word_of w at ∷ behind
+
+-- this sign at the front
+pub record BeginsWithSign (s : Sign) (from behind : List Token) : Type 0 where
+  pub at : Span
+  pub is : from ≡ Sign_of s at ∷ behind
+
+abbrev pub count : ℕ → ℕ → Count
+count d u = record { depth = d; used = u }
+
+-- ---- forms and parts, with so many constructs open
+
+-- the machine stands at a form, in front of these tokens
+abbrev pub Stands : {goal p : Part} → ℕ → Outcome goal → List Token → Form p → Stack goal p → Type 0
+Stands depth out rest f S = (u : ℕ) × (u ≤ operator_limit) × (out ≡ run all rest (at f S (count depth u)))
+
+-- from one form to another
+abbrev pub Moves : {p : Part} → ℕ → Form p → List Token → Form p → List Token → Type 0
+Moves {p} depth f from f' rest = (goal : Part) (S : Stack goal p) (u : ℕ) → u ≤ operator_limit → Stands depth (run all from (at f S (count depth u))) rest f' S
+
+-- refused within a form
+abbrev pub Stops : {p : Part} → ℕ → Form p → List Token → Refusal → Type 0
+Stops {p} depth f from e = (goal : Part) (S : Stack goal p) (u : ℕ) → u ≤ operator_limit → run all from (at f S (count depth u)) ≡ outcome_of e
+
+-- a part at the front
+pub record IsPart (q : Part) (depth : ℕ) (v : Tree q) (from rest : List Token) : Type 0 where
+  pub goes : (p : Part) (k : Tree q → Form p) → Moves depth (part q k) from (k v) rest
+  pub shorter : length rest ≤ length from
+
+abbrev pub FailsPart : (q : Part) → ℕ → List Token → Refusal → Type 0
+FailsPart q depth from e = (p : Part) (k : Tree q → Form p) → Stops depth (part q k) from e
+
+-- ---- expressions
+
+-- a part is begun
+abbrev pub begun : {goal p : Part} → What → Option (Rule p) → List Token → Stack goal p → Count → Outcome goal
+begun w None rest S m = Failed w (suc (length rest))
+begun w (Some r) rest S m = cond (fits (entered r m)) (run all rest (at r.form S (entered r m))) (Nested (suc (length rest)))
+
+abbrev pub begin : {goal p : Part} → List Token → (Exp → Form p) → Stack goal p → Count → Outcome goal
+begin [] k S m = Ended None what.Expression
+begin (t ∷ rest) k S m = begun what.Expression (operand t k) rest S m
+
+-- an expression of this level at the front
+pub record IsExp (level depth used : ℕ) (e : Exp) (total : ℕ) (from rest : List Token) : Type 0 where
+  pub goes : (goal p : Part) (k : Exp → Form p) (S : Stack goal p) → begin from (λ x. chains 0 level x k) S (count depth used) ≡ run all rest (at (k e) S (count depth total))
   pub within : total ≤ operator_limit
+  pub shorter : length rest < length from
 
--- in each place where an expression of this level may stand
-abbrev pub FailsExp : ℕ → ℕ → List Token → Outcome → Type 0
-FailsExp level used from out = (E : ForExp) → Admits level E → owed E ≡ used → run operator_limit from (Operand E) ≡ out
+abbrev pub FailsExp : ℕ → ℕ → ℕ → List Token → Refusal → Type 0
+FailsExp level depth used from e = (goal p : Part) (k : Exp → Form p) (S : Stack goal p) → begin from (λ x. chains 0 level x k) S (count depth used) ≡ outcome_of e
 
--- an operand at the front
-pub record IsOperand (e : Exp) (from rest : List Token) : Type 0 where
-  pub spells : SpellsExp 0 e from rest
-  pub none : operators e ≡ 0
-
-abbrev pub FailsOperand : List Token → Outcome → Type 0
-FailsOperand from out = (E : ForExp) → run operator_limit from (Operand E) ≡ out
+abbrev pub seen_operator : Option Token → Option Infix
+seen_operator None = None
+seen_operator (Some t) = operator_at t
 
 -- the operator of this level at the front
-pub record IsOperator (level : ℕ) (op : Operator) (from rest : List Token) : Type 0 where
+pub record IsOperator (level : ℕ) (op : Infix) (from rest : List Token) : Type 0 where
   pub token : Token
   pub is : from ≡ token ∷ rest
   pub operator : operator_at token ≡ Some op
-  pub level_is : level_of op ≡ level
+  pub level_is : op.level ≡ level
 
--- an expression of this level at the front, behind which another operator of the level may stand
-pub record IsSum (level used : ℕ) (e : Exp) (total : ℕ) (from rest : List Token) : Type 0 where
-  pub spells : SpellsExp level e from rest
-  pub ends : EndsAt (level - 1) (seen_operator (next rest))
-  pub count : total ≡ used + operators e
+-- behind a name of an expression: its index, if there is one
+pub record IsIndexed (depth used : ℕ) (x : Named) (e : Exp) (total : ℕ) (from rest : List Token) : Type 0 where
+  pub goes : (goal p : Part) (k : Exp → Form p) (S : Stack goal p) → run all from (at (part Index (λ i. k (variable x i))) S (count depth used)) ≡ run all rest (at (k e) S (count depth total))
   pub within : total ≤ operator_limit
-  pub level_is : 0 < level
+  pub shorter : length rest ≤ length from
 
--- the sign of an assignment at the front
-pub record IsUpdate (u : Update) (from rest : List Token) : Type 0 where
-  pub token : Token
-  pub is : from ≡ token ∷ rest
-  pub update : update_at token ≡ Some u
+abbrev pub FailsIndexed : ℕ → ℕ → Named → List Token → Refusal → Type 0
+FailsIndexed depth used x from e = (goal p : Part) (k : Exp → Form p) (S : Stack goal p) → run all from (at (part Index (λ i. k (variable x i))) S (count depth used)) ≡ outcome_of e
 
-abbrev pub FailsUpdate : List Token → Outcome → Type 0
-FailsUpdate from out = (x : _) (A : ForStm) → run operator_limit from (Target x A) ≡ out
+-- Behind e, operators of the level behind `level` may stand: the expression so far, with n levels to come.
+pub record IsSoFar (level weakest depth used : ℕ) (e : Exp) (total : ℕ) (from rest : List Token) : Type 0 where
+  pub to_come : ℕ
+  pub levels : level + to_come ≡ weakest
+  pub goes : (goal p : Part) (k : Exp → Form p) (S : Stack goal p) → begin from (λ x. chains 0 weakest x k) S (count depth used) ≡ run all rest (at (chains level to_come e k) S (count depth total))
+  pub within : total ≤ operator_limit
+  pub shorter : length rest < length from
 
--- the longest statement at the front
-pub record IsStm (s : Stm) (from rest : List Token) : Type 0 where
-  pub spells : SpellsStm s from rest
-  pub ends : seen_operator (next rest) ≡ None
-  pub within : StmWithin operator_limit s
+-- the machine stands at the chain of a level; behind it, it goes on as k has it
+pub record AtChain (level to_come : ℕ) (e : Exp) (c : Count) (goal : Part) (out : Outcome goal) (rest : List Token) (p : Part) (k : Exp → Form p) (S : Stack goal p) : Type 0 where
+  pub other : Part
+  pub form : Exp → Form other
+  pub stack : Stack goal other
+  pub stands : out ≡ run all rest (at (part (Chain (suc level) e) form) stack c)
+  pub onward : (f : Exp) (ts : List Token) (m : Count) → run all ts (at (form f) stack m) ≡ run all ts (at (chains (suc level) to_come f k) S m)
 
--- no statement begins at the front
-abbrev pub NoStm : List Token → Type 0
-NoStm from = (b : Block) (B : ForBlock) → begin (next from) b B ≡ Stuck
-
-abbrev pub IsStmOrOther : List Token → Option (code_stm.Stm × Bor (List code_token.Token)) → Type 0
-IsStmOrOther from (Some (s, rest)) = IsStm (stm_view s) from (views rest.now)
-IsStmOrOther from None = NoStm from
-
--- a statement begins at the front, and fails in each state in which one may begin
-pub record FailsStm (from : List Token) (out : Outcome) : Type 0 where
-  pub token : Token
-  pub rest : List Token
-  pub is : from ≡ token ∷ rest
-  pub begins : (b : Block) (B : ForBlock) → (s : State) × (begin (Some token) b B ≡ Go s)
-  pub fails : (b : Block) (B : ForBlock) (s : State) → step s (Some token) ≡ begin (Some token) b B → run operator_limit from s ≡ out
-
--- a declaration at the front
-pub record IsDeclaration (d : Declaration) (from rest : List Token) : Type 0 where
-  pub text : List ℕ
-  pub word_at : Span
-  pub name_at : Span
-  pub is : from ≡ Word_of word.Int word_at ∷ Name text name_at ∷ rest
-  pub declares : d ≡ Int (named text name_at)
-
--- this word at the front
-pub record IsWord (w : Word) (from rest : List Token) : Type 0 where
-  pub at : Span
-  pub is : from ≡ Word_of w at ∷ rest
-
-abbrev pub OtherWord : Word → List Token → Type 0
-OtherWord w from = (at : Span) (rest : List Token) → from ≡ Word_of w at ∷ rest → ⊥
-
-abbrev pub IsDeclarationOrOther : List Token → Option (code_declaration.Declaration × Bor (List code_token.Token)) → Type 0
-IsDeclarationOrOther from (Some (d, rest)) = IsDeclaration (declaration_view d) from (views rest.now)
-IsDeclarationOrOther from None = OtherWord word.Int from
-
-abbrev pub FailsDeclaration : List Token → Outcome → Type 0
-FailsDeclaration from out = (ds : List Declaration) → run operator_limit from (Declarations ds) ≡ out
-
--- the declarations between these two places
-pub record AreDeclarations (ds : List Declaration) (from rest : List Token) : Type 0 where
-  pub spells : SpellsDeclarations ds from rest
-  pub goes : run operator_limit from (Declarations []) ≡ run operator_limit rest (Declarations ds)
-
--- all declarations at the front
-pub record AreAllDeclarations (ds : List Declaration) (from rest : List Token) : Type 0 where
-  pub are : AreDeclarations ds from rest
-  pub no_more : OtherWord word.Int rest
-
--- where the reading stands behind the cell's declarations and these statements
-abbrev pub standing : List Declaration → Block → State
-standing ds Empty = Declarations ds
-standing ds b = Another b (Body ds)
-
--- the statements between these two places
-pub record AreStatements (b : Block) (from rest : List Token) : Type 0 where
-  pub spells : SpellsBlock b from rest
-  pub within : BlockWithin operator_limit b
-  pub goes : (ds : List Declaration) → run operator_limit from (Declarations ds) ≡ run operator_limit rest (standing ds b)
-
--- all statements at the front
-pub record AreAllStatements (b : Block) (from rest : List Token) : Type 0 where
-  pub are : AreStatements b from rest
-  pub no_more : NoStm rest
-
--- in each place where the cell's statements may stand
-abbrev pub FailsStatements : List Token → Outcome → Type 0
-FailsStatements from out = (ds : List Declaration) → run operator_limit from (Declarations ds) ≡ out
-
--- of the whole cell
-abbrev pub FailsCell : List Token → Outcome → Type 0
-FailsCell from out = run operator_limit from (Declarations []) ≡ out
-
--- a refusal, where so many tokens are left
-abbrev pub IsRefused : List Token → Outcome → Type 0
-IsRefused tokens (Failed w left) = (rest : List Token) × (left ≡ length rest) × IsUnexpected w tokens rest
-IsRefused tokens (Limited left) = (rest : List Token) × (left ≡ length rest) × IsTooNested tokens rest
-IsRefused tokens out = ⊥
+-- in the midst of the operators of the level behind `level`
+pub record IsChain (level weakest depth used : ℕ) (e : Exp) (total : ℕ) (from rest : List Token) : Type 0 where
+  pub to_come : ℕ
+  pub levels : level + suc to_come ≡ weakest
+  pub goes : (goal p : Part) (k : Exp → Form p) (S : Stack goal p) → AtChain level to_come e (count depth total) goal (begin from (λ x. chains 0 weakest x k) S (count depth used)) rest p k S
+  pub within : total ≤ operator_limit
+  pub shorter : length rest < length from

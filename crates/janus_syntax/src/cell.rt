@@ -1,49 +1,49 @@
-//! Cells.
+//! Declarations and cells.
 
-ghost use Rattle.std.specs.Prelude.{◌≡◌, IfSome, IfNone};
-ghost use Rattle.janus_syntax.specs.Tree.{Cell as Tree, cell_view, declarations_view};
+ghost use Rattle.std.specs.Prelude.{◌≡◌, []};
+ghost use Rattle.janus_syntax.specs.Tree.{Cell as Tree, Exp as ExpTree, name_view, exp_view, cell_view, declaration_view, declarations_view};
 ghost use Rattle.janus_syntax.specs.Tokens.{views};
-ghost use Rattle.janus_syntax.specs.Grammar.{IsTree};
-ghost use Rattle.janus_syntax.specs.Reading.{Reads, IsDeclarationOrOther, FailsDeclaration, AreAllDeclarations, FailsCell, IsRefused, IsWord, OtherWord};
+ghost use Rattle.janus_syntax.specs.Forms.{A_cell, Whole, Declarations};
+ghost use Rattle.janus_syntax.specs.Grammar.{all, IsTree, IsRefused};
+ghost use Rattle.janus_syntax.specs.Reading.{Reads, IsPart, FailsPart};
+ghost use Rattle.janus_syntax.specs.Statements.{IsDeclarationOrOther, FailsDeclaration, IsBound, FailsBound, AtEnd, Refused};
 
+use crate::expression::whole_expression;
 use crate::fault::What;
+use crate::item::{behind_sign, name, number, sign_at, word_at};
 use crate::problem::Problem;
 use crate::statement::statements;
-use crate::token::{Token, TokenKind, Word};
-use crate::tree::{Cell, Declaration, Name};
+use crate::token::{Sign, Token, Word};
+use crate::tree::{Cell, Declaration, Exp, Name};
 use std::alloc::Global;
 
-/// The cell that the tokens spell.
-pub(crate) fn parse(alloc: Global, tokens: &[Token]) -> Result<Cell, Problem>
-    // What is read is the tokens' tree, and a refusal is the one that the grammar has.
-    ensures read { Reads (λ cell. IsTree (cell_view cell) (views tokens.now)) (IsRefused (views tokens.now)) result }
-
-    // What has a tree is read as that tree, unless memory runs out.
-    ensures only { (tree : Tree) → IsTree tree (views tokens.now) → Reads (λ cell. cell_view cell ≡ tree) (λ out. ⊥) result }
+/// A declaration and the tokens behind it, if one begins here.
+fn declaration(tokens: &[Token]) -> Result<Option<(Declaration, &[Token])>, Problem>
+    ensures { Reads (IsDeclarationOrOther (views tokens.now)) (FailsDeclaration (views tokens.now)) result }
 {
-    cell(alloc, tokens)
+    let Some(rest) = word_at(Word::Int, tokens) else {
+        return Ok(None);
+    };
+    let (name, rest) = name(rest)?;
+    let (declaration, rest) = bound(name, rest)?;
+    Ok(Some((declaration, rest)))
 }
 
-fn cell(alloc: Global, tokens: &[Token]) -> Result<Cell, Problem>
-    ensures { Reads (λ cell. IsTree (cell_view cell) (views tokens.now)) (FailsCell (views tokens.now)) result }
+/// The declaration of `name`, behind that name: an array, if a length stands here.
+fn bound(name: Name, tokens: &[Token]) -> Result<(Declaration, &[Token]), Problem>
+    ensures { Reads (λ x. IsBound (name_view name) (declaration_view x.0) (views tokens.now) (views x.1.now)) (FailsBound (name_view name) (views tokens.now)) result }
 {
-    let (declarations, rest) = declarations(alloc, tokens)?;
-    let (statements, rest) = statements(alloc, rest)?;
-    if !rest.is_empty() {
-        return Err(Problem::Expected {
-            what: What::End,
-            left: rest.len(),
-        });
-    }
-    Ok(Cell {
-        declarations,
-        statements,
-    })
+    let Some(rest) = sign_at(Sign::OpenIndex, tokens) else {
+        return Ok((Declaration::Int(name), tokens));
+    };
+    let (length, span, rest) = number(rest)?;
+    let rest = behind_sign(Sign::CloseIndex, rest)?;
+    Ok((Declaration::Array(name, length, span), rest))
 }
 
 /// All declarations that stand here, and the tokens behind them.
 fn declarations(alloc: Global, tokens: &[Token]) -> Result<(Vec<Declaration>, &[Token]), Problem>
-    ensures { Reads (λ x. AreAllDeclarations (declarations_view x.0.items) (views tokens.now) (views x.1.now)) (FailsCell (views tokens.now)) result }
+    ensures { Reads (λ x. IsPart Declarations 0 (declarations_view x.0.items) (views tokens.now) (views x.1.now)) (FailsPart Declarations 0 (views tokens.now)) result }
 {
     let mut declarations = Vec::new(alloc);
     let mut rest = tokens;
@@ -54,42 +54,58 @@ fn declarations(alloc: Global, tokens: &[Token]) -> Result<(Vec<Declaration>, &[
     Ok((declarations, rest))
 }
 
-/// A declaration and the tokens behind it, if one begins here.
-fn declaration(tokens: &[Token]) -> Result<Option<(Declaration, &[Token])>, Problem>
-    ensures { Reads (IsDeclarationOrOther (views tokens.now)) (FailsDeclaration (views tokens.now)) result }
+/// The end of the tokens.
+fn end(tokens: &[Token]) -> Result<(), Problem>
+    ensures { Reads (λ u. views tokens.now ≡ []) (AtEnd (views tokens.now)) result }
 {
-    let Some(named) = behind_word(Word::Int, tokens) else {
-        return Ok(None);
-    };
-    let Some((first, rest)) = named.split_first() else {
-        return Err(Problem::Expected {
-            what: What::Name,
-            left: 0,
-        });
-    };
-    match &first.kind {
-        TokenKind::Name(text) => {
-            let name = Name {
-                text: text.clone()?,
-                span: first.span,
-            };
-            Ok(Some((Declaration::Int(name), rest)))
-        }
-        _ => Err(Problem::Expected {
-            what: What::Name,
-            left: named.len(),
-        }),
+    if tokens.is_empty() {
+        Ok(())
+    } else {
+        Err(Problem::Expected {
+            what: What::End,
+            left: tokens.len(),
+        })
     }
 }
 
-/// The tokens behind this word, if it stands at the front.
-fn behind_word(word: Word, tokens: &[Token]) -> Option<&[Token]>
-    ensures found { IfSome result (λ rest. IsWord word (views tokens.now) (views rest.now)) }
-    ensures none { IfNone result (OtherWord word (views tokens.now)) }
+/// The cell that the tokens spell.
+pub(crate) fn cell(alloc: Global, tokens: &[Token]) -> Result<Cell, Problem>
+    // What is read is the tokens' tree, and a refusal is the one that the grammar has.
+    ensures read { Reads (λ cell. IsTree A_cell all (cell_view cell) (views tokens.now)) (IsRefused A_cell (views tokens.now)) result }
+
+    // What has a tree is read as that tree, unless memory runs out.
+    ensures only { (tree : Tree) → IsTree A_cell all tree (views tokens.now) → Reads (λ cell. cell_view cell ≡ tree) (λ e. ⊥) result }
 {
-    let (first, rest) = tokens.split_first()?;
-    match &first.kind {
-        TokenKind::Word(found) => { if *found == word { Some(rest) } else { None } }
-        _ => None,
-    }
+    all_tokens_cell(alloc, tokens)
+}
+
+fn all_tokens_cell(alloc: Global, tokens: &[Token]) -> Result<Cell, Problem>
+    ensures { Reads (λ cell. IsTree A_cell all (cell_view cell) (views tokens.now)) (Refused A_cell (views tokens.now)) result }
+{
+    let (declarations, rest) = declarations(alloc, tokens)?;
+    let (statements, rest) = statements(alloc, rest)?;
+    end(rest)?;
+    Ok(Cell {
+        declarations,
+        statements,
+    })
+}
+
+/// The expression that the tokens spell.
+pub(crate) fn only_expression(alloc: Global, tokens: &[Token]) -> Result<Exp, Problem>
+    // What is read is the tokens' tree, and a refusal is the one that the grammar has.
+    ensures read { Reads (λ exp. IsTree Whole all (exp_view exp) (views tokens.now)) (IsRefused Whole (views tokens.now)) result }
+
+    // What has a tree is read as that tree, unless memory runs out.
+    ensures only { (tree : ExpTree) → IsTree Whole all tree (views tokens.now) → Reads (λ exp. exp_view exp ≡ tree) (λ e. ⊥) result }
+{
+    all_tokens_expression(alloc, tokens)
+}
+
+fn all_tokens_expression(alloc: Global, tokens: &[Token]) -> Result<Exp, Problem>
+    ensures { Reads (λ exp. IsTree Whole all (exp_view exp) (views tokens.now)) (Refused Whole (views tokens.now)) result }
+{
+    let (exp, rest) = whole_expression(alloc, tokens, 0)?;
+    end(rest)?;
+    Ok(exp)
 }

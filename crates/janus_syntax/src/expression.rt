@@ -1,63 +1,56 @@
 //! Expressions.
 
-ghost use Rattle.std.specs.Prelude.{◌≡◌, ℕ, ◌≤◌, ◌≢◌, Some, IfSome, IfNone};
-ghost use Rattle.janus_syntax.specs.Tree.{exp_view};
+ghost use Rattle.std.specs.Prelude.{◌≡◌, ℕ, ◌≤◌, ◌≢◌, Some, IfSome, IfNone, IfOk};
+ghost use Rattle.janus_syntax.specs.declared.operator.Infix as code;
+ghost use Rattle.janus_syntax.specs.Tree.{exp_view, name_view};
 ghost use Rattle.janus_syntax.specs.Tokens.{views};
-ghost use Rattle.janus_syntax.specs.Grammar.{level_of, operator_limit};
-ghost use Rattle.janus_syntax.specs.Machine.{seen_operator, next};
-ghost use Rattle.janus_syntax.specs.Reading.{Reads, IsExp, FailsExp, IsOperand, FailsOperand, IsOperator};
+ghost use Rattle.janus_syntax.specs.Operators.{joined};
+ghost use Rattle.janus_syntax.specs.Forms.{Whole};
+ghost use Rattle.janus_syntax.specs.Grammar.{operator_limit, depth_limit};
+ghost use Rattle.janus_syntax.specs.Machine.{next};
+ghost use Rattle.janus_syntax.specs.Reading.{Reads, IsPart, FailsPart, IsExp, FailsExp, IsOperator, seen_operator, IsIndexed, FailsIndexed};
 
 use crate::fault::What;
+use crate::item::{behind_sign, sign_at};
+use crate::operator::{Infix, Joint, infix_of};
 use crate::problem::Problem;
 use crate::token::{Sign, Token, TokenKind};
-use crate::tree::{Exp, Name, Operator};
-use std::alloc::Global;
+use crate::tree::{Exp, Name};
+use std::alloc::{AllocError, Global};
 
 /// The level of the operators that bind weakest.
-pub(crate) const WEAKEST: u8 = 8;
+const WEAKEST: u8 = 8;
 
 /// How many operators one whole expression has at most.
-pub(crate) const OPERATOR_LIMIT: usize = 256;
+const OPERATOR_LIMIT: usize = 256;
 
-/// The operator of this level that the tokens begin with, and the tokens behind it.
-fn operator_at(tokens: &[Token], level: u8) -> Option<(Operator, &[Token])>
-    ensures found { IfSome result (λ x. IsOperator level x.0 (views tokens.now) (views x.1.now)) }
-    ensures none { IfNone result ((op : Operator) → seen_operator (next (views tokens.now)) ≡ Some op → level_of op ≢ level) }
+/// How many constructs are open at once, at most.
+pub(crate) const DEPTH_LIMIT: usize = 64;
+
+/// Two expressions with an operator between them.
+fn join(alloc: Global, joint: Joint, left: Exp, right: Exp) -> Result<Exp, AllocError>
+    ensures { IfOk result (λ exp. exp_view exp ≡ joined joint (exp_view left) (exp_view right)) }
 {
-    let (operator, own_level, rest) = match tokens {
-        [
-            Token {
-                kind: TokenKind::Sign(Sign::Plus),
-                ..
-            },
-            rest @ ..,
-        ] => (Operator::Add, 2, rest),
-        [
-            Token {
-                kind: TokenKind::Sign(Sign::Minus),
-                ..
-            },
-            rest @ ..,
-        ] => (Operator::Subtract, 2, rest),
-        [
-            Token {
-                kind: TokenKind::Sign(Sign::Xor),
-                ..
-            },
-            rest @ ..,
-        ] => (Operator::Xor, 5, rest),
-        _ => return None,
-    };
-    if own_level == level {
-        Some((operator, rest))
-    } else {
-        None
-    }
+    let left = Box::new(alloc, left)?;
+    let right = Box::new(alloc, right)?;
+    Ok(match joint {
+        Joint::Binary(operator) => Exp::Binary(operator, left, right),
+        Joint::And => Exp::And(left, right),
+        Joint::Or => Exp::Or(left, right),
+    })
 }
 
-/// An operand, and the tokens behind it.
-fn operand(tokens: &[Token]) -> Result<(Exp, &[Token]), Problem>
-    ensures { Reads (λ x. IsOperand (exp_view x.0) (views tokens.now) (views x.1.now)) (FailsOperand (views tokens.now)) result }
+/// An operand, and the tokens behind it, with `depth` constructs open and `used` operators of its whole expression before it.
+#[cycle(expression)]
+fn operand(
+    alloc: Global,
+    tokens: &[Token],
+    depth: usize,
+    used: usize,
+) -> Result<(Exp, usize, &[Token]), Problem>
+    requires room { depth ≤ depth_limit }
+    requires few { used ≤ operator_limit }
+    ensures { Reads (λ x. IsExp 0 depth used (exp_view x.0) x.1 (views tokens.now) (views x.2.now)) (FailsExp 0 depth used (views tokens.now)) result }
 {
     let Some((first, rest)) = tokens.split_first() else {
         return Err(Problem::Expected {
@@ -66,14 +59,35 @@ fn operand(tokens: &[Token]) -> Result<(Exp, &[Token]), Problem>
         });
     };
     match &first.kind {
-        TokenKind::Number(number) => Ok((Exp::Number(*number, first.span), rest)),
+        TokenKind::Number(number) => Ok((Exp::Number(*number, first.span), used, rest)),
         TokenKind::Name(text) => {
             let name = Name {
                 text: text.clone()?,
                 span: first.span,
             };
-            Ok((Exp::Variable(name), rest))
+            index(alloc, name, rest, depth, used)
         }
+        TokenKind::Sign(sign) => match sign {
+            Sign::Open => {
+                if depth == DEPTH_LIMIT {
+                    return Err(Problem::TooNested { left: tokens.len() });
+                }
+                let (inner, used, rest) = expression(alloc, rest, WEAKEST, depth + 1, used)?;
+                let rest = behind_sign(Sign::Close, rest)?;
+                Ok((inner, used, rest))
+            }
+            Sign::Minus => {
+                if depth == DEPTH_LIMIT || used == OPERATOR_LIMIT {
+                    return Err(Problem::TooNested { left: tokens.len() });
+                }
+                let (inner, used, rest) = operand(alloc, rest, depth + 1, used + 1)?;
+                Ok((Exp::Negative(Box::new(alloc, inner)?), used, rest))
+            }
+            _ => Err(Problem::Expected {
+                what: What::Expression,
+                left: tokens.len(),
+            }),
+        },
         _ => Err(Problem::Expected {
             what: What::Expression,
             left: tokens.len(),
@@ -81,30 +95,91 @@ fn operand(tokens: &[Token]) -> Result<(Exp, &[Token]), Problem>
     }
 }
 
-/// The longest expression at the front whose operators have at most this level. `used` operators of its whole expression
-/// stand before it. Gives the expression, how many operators the whole expression has behind it, and the tokens behind it.
-pub(crate) fn expression(
+/// An element of the array `name`, or the variable if no index stands here.
+#[cycle(expression)]
+fn index(
     alloc: Global,
+    name: Name,
     tokens: &[Token],
-    level: u8,
+    depth: usize,
     used: usize,
 ) -> Result<(Exp, usize, &[Token]), Problem>
-    requires { used ≤ operator_limit }
-    ensures { Reads (λ x. IsExp level used (exp_view x.0) x.1 (views tokens.now) (views x.2.now)) (FailsExp level used (views tokens.now)) result }
+    requires room { depth ≤ depth_limit }
+    requires few { used ≤ operator_limit }
+    ensures { Reads (λ x. IsIndexed depth used (name_view name) (exp_view x.0) x.1 (views tokens.now) (views x.2.now)) (FailsIndexed depth used (name_view name) (views tokens.now)) result }
 {
-    if level == 0 {
-        let (exp, rest) = operand(tokens)?;
-        return Ok((exp, used, rest));
+    let Some(rest) = sign_at(Sign::OpenIndex, tokens) else {
+        return Ok((Exp::Variable(name), used, tokens));
+    };
+    if depth == DEPTH_LIMIT {
+        return Err(Problem::TooNested { left: tokens.len() });
     }
-    let (mut left, mut total, mut rest) = expression(alloc, tokens, level - 1, used)?;
-    while let Some((operator, behind)) = operator_at(rest, level) {
-        if total == OPERATOR_LIMIT {
-            return Err(Problem::TooNested { left: rest.len() });
+    let (inner, used, rest) = expression(alloc, rest, WEAKEST, depth + 1, used)?;
+    let rest = behind_sign(Sign::CloseIndex, rest)?;
+    Ok((Exp::Element(name, Box::new(alloc, inner)?), used, rest))
+}
+
+/// The operator of this level that the tokens begin with, and the tokens behind it.
+fn operator_at(tokens: &[Token], level: u8) -> Option<(Infix, &[Token])>
+    ensures found { IfSome result (λ x. IsOperator level x.0 (views tokens.now) (views x.1.now)) }
+    ensures none { IfNone result ((op : code.Infix) → seen_operator (next (views tokens.now)) ≡ Some op → op.level ≢ level) }
+{
+    let (first, rest) = tokens.split_first()?;
+    match &first.kind {
+        TokenKind::Sign(sign) => {
+            let operator = infix_of(*sign)?;
+            if operator.level == level {
+                Some((operator, rest))
+            } else {
+                None
+            }
         }
-        let (right, now_total, after) = expression(alloc, behind, level - 1, total + 1)?;
-        left = Exp::Binary(operator, Box::new(alloc, left)?, Box::new(alloc, right)?);
-        total = now_total;
-        rest = after;
+        _ => None,
+    }
+}
+
+/// The longest expression at the front whose operators have at most the level `weakest`, with `depth` constructs open and
+/// `used` operators of its whole expression before it. Gives the expression, how many operators the whole expression has
+/// behind it, and the tokens behind it.
+#[cycle(expression)]
+fn expression(
+    alloc: Global,
+    tokens: &[Token],
+    weakest: u8,
+    depth: usize,
+    used: usize,
+) -> Result<(Exp, usize, &[Token]), Problem>
+    requires room { depth ≤ depth_limit }
+    requires few { used ≤ operator_limit }
+    requires level { weakest ≤ 8 }
+    ensures { Reads (λ x. IsExp weakest depth used (exp_view x.0) x.1 (views tokens.now) (views x.2.now)) (FailsExp weakest depth used (views tokens.now)) result }
+{
+    let (mut left, mut total, mut rest) = operand(alloc, tokens, depth, used)?;
+    let mut stronger: u8 = 0;
+    'levels: while stronger < weakest {
+        'operators: while let Some((operator, behind)) = operator_at(rest, stronger + 1) {
+            if total == OPERATOR_LIMIT {
+                return Err(Problem::TooNested { left: rest.len() });
+            }
+            let (right, now_total, after) = expression(alloc, behind, stronger, depth, total + 1)?;
+            left = join(alloc, operator.joint, left, right)?;
+            total = now_total;
+            rest = after;
+        }
+        stronger += 1;
     }
     Ok((left, total, rest))
+}
+
+/// A whole expression at the front, and the tokens behind it, with `depth` constructs open before it.
+pub(crate) fn whole_expression(
+    alloc: Global,
+    tokens: &[Token],
+    depth: usize,
+) -> Result<(Exp, &[Token]), Problem>
+    requires { depth ≤ depth_limit }
+    ensures { Reads (λ x. IsPart Whole depth (exp_view x.0) (views tokens.now) (views x.1.now)) (FailsPart Whole depth (views tokens.now)) result }
+{
+    let (exp, _, rest) = expression(alloc, tokens, WEAKEST, depth, 0)?;
+    Ok((exp, rest))
 }

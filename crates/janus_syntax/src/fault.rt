@@ -8,8 +8,8 @@ use crate::token::{Sign, Span, Word};
 use std::alloc::{AllocError, AllocFailed};
 use thiserror::Error;
 
-/// What has to come next where the reading of a cell cannot go on. The forms that are read so far want `Name`,
-/// `Operator` (of an assignment), `Expression` or `End`.
+/// What has to come next where the reading of a cell or an expression cannot go on. The forms that are read so far want no
+/// `Kind`.
 #[derive(Clone, Copy, PartialEq, Eq, Debug)]
 pub enum What {
     Statement,
@@ -54,7 +54,8 @@ pub enum SyntaxFault {
     /// A number past 2147483647.
     #[error("NumberTooLarge")]
     NumberTooLarge(Span),
-    /// The 257th operator of one whole expression.
+    /// A token that opens a 65th construct (`if`, `from`, `(` of grouping, `[` of an index, prefix minus), or the 257th
+    /// operator of one whole expression.
     #[error("TooNested")]
     TooNested(Span),
     /// There was no memory.

@@ -7,24 +7,30 @@
 //! What the layer above may rely on:
 //! - `tokens`: the tokens are those of the text, the longest item that fits at each place, and there are no others; else the
 //!   first character that begins no token, or the first number past 2147483647, whichever stands first.
-//! - `parse_cell`: the answer is the one tree that the grammar gives the text; else the refusal that the grammar has for it,
-//!   with its place in octets.
+//! - `parse_cell`, `parse_exp`: the answer is the one tree that the grammar gives the text; else the refusal that the grammar
+//!   has for it, with its place in octets.
 //! - `one_tokens_law`, `one_tree_law`, `one_refusal_law`: a text has one list of tokens at most, one tree at most and one
 //!   refusal at most. `tree_or_refusal_law`: it has a tree or a refusal, and not both. So no answer is left to choice.
+//! - `wanted_law`: behind the beginning of a text one item is wanted at most, and one is just behind what begins a text.
 //! - `Exp::copy`, `Stm::copy`, `Name::copy`: the same tree at the same places.
 //!
-//! The definitions are in specs/, to be read in this order: `Spelling`, `Lexical` (tokens of a text), `Tree`, `Grammar`
-//! (tokens of a tree, and where no cell goes on), `Text` (both together), `View` (the trees as trees of the meaning), and
-//! `Fault` (what is shown of a refusal). No contract of a public function names `Machine`, `Reading` or `Scan`: they serve
-//! the proofs.
+//! The definitions are in specs/, to be read in this order: `Spelling`, `Lexical` (tokens of a text), `Tree`, `Operators`,
+//! `Forms` (four words in which the grammar is written), `Table` (the grammar, a line for each form), `Grammar` (which tokens
+//! spell which tree, what is wanted behind a beginning, where tokens are refused), `Text` (tokens and text together), `Laws`,
+//! `View` (the trees as trees of the meaning), and `Fault` (what is shown of a refusal). No contract of a public function
+//! names `Machine`, `Reading`, `Statements` or `Scan`: they serve the proofs.
 //!
-//! A cell here has `int` declarations and assignments, and expressions have numbers, names, `+`, `-` and `^`.
+//! A cell here has declarations of numbers and arrays, and assignments, `if`, loops and `skip`. The words of procedures,
+//! calls, locals, stacks and `main` are reserved, but begin nothing.
 #![tactic(auto)]
 
 mod cell;
 mod expression;
 pub mod fault;
+mod item;
+pub mod laws;
 mod lexer;
+mod operator;
 mod parser;
 mod problem;
 mod statement;
@@ -32,5 +38,6 @@ pub mod token;
 pub mod tree;
 
 pub use fault::SyntaxFault;
+pub use laws::{one_refusal_law, one_tokens_law, one_tree_law, tree_or_refusal_law, wanted_law};
 pub use lexer::tokens;
-pub use parser::{one_refusal_law, one_tokens_law, one_tree_law, parse_cell, tree_or_refusal_law};
+pub use parser::{parse_cell, parse_exp};

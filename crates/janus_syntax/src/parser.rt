@@ -1,24 +1,26 @@
-//! From a text to its cell.
+//! From a text to its cell, or its expression.
 
 ghost use Rattle.std.specs.Prelude.{◌≡◌, ◌≤◌, ◌-◌, length, drop};
-ghost use Rattle.janus_syntax.specs.Tree.{Cell as Tree};
+ghost use Rattle.janus_syntax.specs.Tree.{Cell as Tree, Exp as ExpTree};
 ghost use Rattle.janus_syntax.specs.Tokens.{views};
-ghost use Rattle.janus_syntax.specs.Text.{place_before, HasTree, IsParsed, IsOnlyTree, OneRefusal, OneTokens, OneTree, TreeOrRefusal, NotBoth};
+ghost use Rattle.janus_syntax.specs.Reading.{Within, fault_of};
+ghost use Rattle.janus_syntax.specs.Text.{place_before, HasTree, IsParsed, IsOnlyTree, HasExp, IsParsedExp, IsOnlyExp};
 
-use crate::cell::parse;
+use crate::cell::{cell, only_expression};
 use crate::fault::SyntaxFault;
 use crate::lexer::tokens;
 use crate::problem::Problem;
 use crate::token::{Span, Token};
-use crate::tree::Cell;
+use crate::tree::{Cell, Exp};
 use std::alloc::Global;
 
 /// The cell that the text is.
 ///
 /// A bad token or a number past the largest is refused before all else, the first in the text. Otherwise the refusal
 /// whose token stands first is answered: `Expected` at the first token with which no cell goes on, with an empty span
-/// at the text's end if it only begins a cell; `TooNested` at the 257th operator of one whole expression. `Memory`
-/// promises nothing.
+/// at the text's end if it only begins a cell; `TooNested` at a token that opens a 65th construct (`if`, `from`, `(` of
+/// grouping, `[` of an index, prefix minus) and at the 257th operator of one whole expression, prefix minus counted.
+/// `Memory` promises nothing.
 pub fn parse_cell(alloc: Global, text: &str) -> Result<Cell, SyntaxFault>
     // What is read is the text's tree, and a refusal is the one that the text has.
     ensures read { IsParsed text.now result }
@@ -27,18 +29,37 @@ pub fn parse_cell(alloc: Global, text: &str) -> Result<Cell, SyntaxFault>
     ensures only { (tree : Tree) → HasTree text.now tree → IsOnlyTree tree result }
 {
     let tokens = tokens(alloc, text)?;
-    match parse(alloc, &tokens) {
+    match cell(alloc, &tokens) {
         Ok(cell) => Ok(cell),
-        Err(Problem::Expected { what, left }) => Err(SyntaxFault::Expected(
-            what,
-            place(&tokens, left, text.len()),
-        )),
-        Err(Problem::TooNested { left }) => Err(SyntaxFault::TooNested(place(
-            &tokens,
-            left,
-            text.len(),
-        ))),
-        Err(Problem::Memory) => Err(SyntaxFault::Memory),
+        Err(problem) => Err(fault(problem, &tokens, text.len())),
+    }
+}
+
+/// The expression that the text is, by the same rules: `Expected` stands at the first token with which no expression goes
+/// on.
+pub fn parse_exp(alloc: Global, text: &str) -> Result<Exp, SyntaxFault>
+    // What is read is the text's expression, and a refusal is the one that the text has.
+    ensures read { IsParsedExp text.now result }
+
+    // What is an expression is read as that one, unless memory runs out.
+    ensures only { (tree : ExpTree) → HasExp text.now tree → IsOnlyExp tree result }
+{
+    let tokens = tokens(alloc, text)?;
+    match only_expression(alloc, &tokens) {
+        Ok(exp) => Ok(exp),
+        Err(problem) => Err(fault(problem, &tokens, text.len())),
+    }
+}
+
+/// A problem of the tokens as a refusal of their text, which has `end` octets.
+fn fault(problem: Problem, tokens: &[Token], end: usize) -> SyntaxFault
+    requires { Within problem (length tokens.now) }
+    ensures { result ≡ fault_of end (views tokens.now) problem }
+{
+    match problem {
+        Problem::Expected { what, left } => SyntaxFault::Expected(what, place(tokens, left, end)),
+        Problem::TooNested { left } => SyntaxFault::TooNested(place(tokens, left, end)),
+        Problem::Memory => SyntaxFault::Memory,
     }
 }
 
@@ -52,25 +73,3 @@ fn place(tokens: &[Token], left: usize, end: usize) -> Span
         None => Span { start: end, end },
     }
 }
-
-/// A law about the definitions of `specs/`: a text has one refusal at most. It does nothing.
-pub fn one_refusal_law()
-    ensures { OneRefusal }
-{}
-
-/// A law about the definitions of `specs/`: a text has one list of tokens at most. It does nothing.
-pub fn one_tokens_law()
-    ensures { OneTokens }
-{}
-
-/// A law about the definitions of `specs/`: a text has one tree at most. It does nothing.
-pub fn one_tree_law()
-    ensures { OneTree }
-{}
-
-/// A law about the definitions of `specs/`: a text of characters has a tree or a refusal, and not
-/// both. It does nothing.
-pub fn tree_or_refusal_law()
-    ensures one { TreeOrRefusal }
-    ensures not_both { NotBoth }
-{}

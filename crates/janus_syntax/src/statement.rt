@@ -1,53 +1,30 @@
-//! Statements.
+//! Statements and blocks.
 
-ghost use Rattle.std.specs.Prelude.{◌≡◌};
-ghost use Rattle.janus_syntax.specs.Tree.{block_view};
+ghost use Rattle.std.specs.Prelude.{◌≡◌, ◌≤◌};
+ghost use Rattle.janus_syntax.specs.Tree.{name_view, stm_view, block_view};
 ghost use Rattle.janus_syntax.specs.Tokens.{views};
-ghost use Rattle.janus_syntax.specs.Reading.{Reads, IsUpdate, FailsUpdate, IsStmOrOther, FailsStm, AreAllStatements, FailsStatements};
+ghost use Rattle.janus_syntax.specs.Forms.{Body, Statements};
+ghost use Rattle.janus_syntax.specs.Grammar.{depth_limit};
+ghost use Rattle.janus_syntax.specs.Reading.{Reads, IsPart, FailsPart};
+ghost use Rattle.janus_syntax.specs.Statements.{IsStmOrOther, FailsStm, IsAssignment, FailsAssignment, IsIf, FailsIf, IsLoop, FailsLoop, AreStatements, IsOptional, FailsOptional};
 
-use crate::expression::{WEAKEST, expression};
+use crate::expression::{DEPTH_LIMIT, whole_expression};
 use crate::fault::What;
+use crate::item::{behind_sign, behind_word, sign_at, update, word_at};
 use crate::problem::Problem;
-use crate::token::{Sign, Token, TokenKind};
-use crate::tree::{Name, Stm, Update};
+use crate::token::{Sign, Token, TokenKind, Word};
+use crate::tree::{Name, Stm};
 use std::alloc::Global;
 
-/// The operator of an assignment, and the tokens behind it.
-fn update(tokens: &[Token]) -> Result<(Update, &[Token]), Problem>
-    ensures { Reads (λ x. IsUpdate x.0 (views tokens.now) (views x.1.now)) (FailsUpdate (views tokens.now)) result }
-{
-    match tokens {
-        [
-            Token {
-                kind: TokenKind::Sign(Sign::PlusEquals),
-                ..
-            },
-            rest @ ..,
-        ] => Ok((Update::Add, rest)),
-        [
-            Token {
-                kind: TokenKind::Sign(Sign::MinusEquals),
-                ..
-            },
-            rest @ ..,
-        ] => Ok((Update::Subtract, rest)),
-        [
-            Token {
-                kind: TokenKind::Sign(Sign::XorEquals),
-                ..
-            },
-            rest @ ..,
-        ] => Ok((Update::Xor, rest)),
-        _ => Err(Problem::Expected {
-            what: What::Operator,
-            left: tokens.len(),
-        }),
-    }
-}
-
-/// A statement and the tokens behind it, if one begins here.
-fn statement(alloc: Global, tokens: &[Token]) -> Result<Option<(Stm, &[Token])>, Problem>
-    ensures { Reads (IsStmOrOther (views tokens.now)) (FailsStm (views tokens.now)) result }
+/// A statement and the tokens behind it, if one begins here, with `depth` constructs open before it.
+#[cycle(statement)]
+fn statement(
+    alloc: Global,
+    tokens: &[Token],
+    depth: usize,
+) -> Result<Option<(Stm, &[Token])>, Problem>
+    requires { depth ≤ depth_limit }
+    ensures { Reads (IsStmOrOther depth (views tokens.now)) (FailsStm depth (views tokens.now)) result }
 {
     let Some((first, rest)) = tokens.split_first() else {
         return Ok(None);
@@ -58,23 +35,144 @@ fn statement(alloc: Global, tokens: &[Token]) -> Result<Option<(Stm, &[Token])>,
                 text: text.clone()?,
                 span: first.span,
             };
-            let (update, rest) = update(rest)?;
-            let (exp, _, rest) = expression(alloc, rest, WEAKEST, 0)?;
-            Ok(Some((Stm::Assign(name, update, exp), rest)))
+            let (stm, rest) = assignment(alloc, name, rest, depth)?;
+            Ok(Some((stm, rest)))
         }
+        TokenKind::Word(word) => match word {
+            Word::Skip => Ok(Some((Stm::Skip, rest))),
+            Word::If => {
+                if depth == DEPTH_LIMIT {
+                    return Err(Problem::TooNested { left: tokens.len() });
+                }
+                let (stm, rest) = behind_if(alloc, rest, depth + 1)?;
+                Ok(Some((stm, rest)))
+            }
+            Word::From => {
+                if depth == DEPTH_LIMIT {
+                    return Err(Problem::TooNested { left: tokens.len() });
+                }
+                let (stm, rest) = behind_from(alloc, rest, depth + 1)?;
+                Ok(Some((stm, rest)))
+            }
+            _ => Ok(None),
+        },
         _ => Ok(None),
     }
 }
 
-/// All statements that stand here, and the tokens behind them.
-pub(crate) fn statements(alloc: Global, tokens: &[Token]) -> Result<(Vec<Stm>, &[Token]), Problem>
-    ensures { Reads (λ x. AreAllStatements (block_view x.0.items) (views tokens.now) (views x.1.now)) (FailsStatements (views tokens.now)) result }
+/// An assignment to `name`, behind that name, and the tokens behind it.
+fn assignment(
+    alloc: Global,
+    name: Name,
+    tokens: &[Token],
+    depth: usize,
+) -> Result<(Stm, &[Token]), Problem>
+    requires { depth ≤ depth_limit }
+    ensures { Reads (λ x. IsAssignment depth (name_view name) (stm_view x.0) (views tokens.now) (views x.1.now)) (FailsAssignment depth (name_view name) (views tokens.now)) result }
 {
+    let Some(rest) = sign_at(Sign::OpenIndex, tokens) else {
+        let (update, rest) = update(tokens)?;
+        let (exp, rest) = whole_expression(alloc, rest, depth)?;
+        return Ok((Stm::Assign(name, update, exp), rest));
+    };
+    if depth == DEPTH_LIMIT {
+        return Err(Problem::TooNested { left: tokens.len() });
+    }
+    let (index, rest) = whole_expression(alloc, rest, depth + 1)?;
+    let rest = behind_sign(Sign::CloseIndex, rest)?;
+    let (update, rest) = update(rest)?;
+    let (exp, rest) = whole_expression(alloc, rest, depth)?;
+    Ok((Stm::AssignElement(name, index, update, exp), rest))
+}
+
+/// An `if`, behind that word, and the tokens behind it. It is one of the `depth` open constructs.
+#[cycle(statement)]
+fn behind_if(alloc: Global, tokens: &[Token], depth: usize) -> Result<(Stm, &[Token]), Problem>
+    requires { depth ≤ depth_limit }
+    ensures { Reads (λ x. IsIf depth (stm_view x.0) (views tokens.now) (views x.1.now)) (FailsIf depth (views tokens.now)) result }
+{
+    let (test, rest) = whole_expression(alloc, tokens, depth)?;
+    let rest = behind_word(Word::Then, rest)?;
+    let (then_part, rest) = body(alloc, rest, depth)?;
+    let (else_part, rest) = optional_body(alloc, Word::Else, rest, depth)?;
+    let rest = behind_word(Word::Fi, rest)?;
+    let (assertion, rest) = whole_expression(alloc, rest, depth)?;
+    Ok((Stm::If(test, then_part, else_part, assertion), rest))
+}
+
+/// A loop, behind the word `from`, and the tokens behind it. It is one of the `depth` open constructs.
+#[cycle(statement)]
+fn behind_from(alloc: Global, tokens: &[Token], depth: usize) -> Result<(Stm, &[Token]), Problem>
+    requires { depth ≤ depth_limit }
+    ensures { Reads (λ x. IsLoop depth (stm_view x.0) (views tokens.now) (views x.1.now)) (FailsLoop depth (views tokens.now)) result }
+{
+    let (assertion, rest) = whole_expression(alloc, tokens, depth)?;
+    let (do_part, rest) = optional_body(alloc, Word::Do, rest, depth)?;
+    let (loop_part, rest) = optional_body(alloc, Word::Loop, rest, depth)?;
+    let rest = behind_word(Word::Until, rest)?;
+    let (test, rest) = whole_expression(alloc, rest, depth)?;
+    Ok((Stm::Loop(assertion, do_part, loop_part, test), rest))
+}
+
+/// The body behind this word, if it stands here; else the block with one `skip`.
+#[cycle(statement)]
+fn optional_body(
+    alloc: Global,
+    word: Word,
+    tokens: &[Token],
+    depth: usize,
+) -> Result<(Vec<Stm>, &[Token]), Problem>
+    requires { depth ≤ depth_limit }
+    ensures { Reads (λ x. IsOptional word depth (block_view x.0.items) (views tokens.now) (views x.1.now)) (FailsOptional word depth (views tokens.now)) result }
+{
+    let Some(rest) = word_at(word, tokens) else {
+        let mut left_out = Vec::new(alloc);
+        left_out.push(Stm::Skip)?;
+        return Ok((left_out, tokens));
+    };
+    body(alloc, rest, depth)
+}
+
+/// One statement or more, and the tokens behind them.
+#[cycle(statement)]
+fn body(alloc: Global, tokens: &[Token], depth: usize) -> Result<(Vec<Stm>, &[Token]), Problem>
+    requires { depth ≤ depth_limit }
+    ensures { Reads (λ x. IsPart Body depth (block_view x.0.items) (views tokens.now) (views x.1.now)) (FailsPart Body depth (views tokens.now)) result }
+{
+    let Some((first, rest)) = statement(alloc, tokens, depth)? else {
+        return Err(Problem::Expected {
+            what: What::Statement,
+            left: tokens.len(),
+        });
+    };
     let mut statements = Vec::new(alloc);
+    statements.push(first)?;
+    statements_behind(alloc, statements, rest, depth)
+}
+
+/// All statements that stand here, put behind those of `before`, and the tokens behind them.
+#[cycle(statement)]
+fn statements_behind(
+    alloc: Global,
+    before: Vec<Stm>,
+    tokens: &[Token],
+    depth: usize,
+) -> Result<(Vec<Stm>, &[Token]), Problem>
+    requires { depth ≤ depth_limit }
+    ensures { Reads (λ x. AreStatements depth (block_view before.items) (block_view x.0.items) (views tokens.now) (views x.1.now)) (FailsPart Statements depth (views tokens.now)) result }
+{
+    let mut statements = before;
     let mut rest = tokens;
-    'statements: while let Some((next, after)) = statement(alloc, rest)? {
+    'statements: while let Some((next, after)) = statement(alloc, rest, depth)? {
         statements.push(next)?;
         rest = after;
     }
     Ok((statements, rest))
+}
+
+/// All statements that stand here outside of any construct, and the tokens behind them.
+pub(crate) fn statements(alloc: Global, tokens: &[Token]) -> Result<(Vec<Stm>, &[Token]), Problem>
+    ensures { Reads (λ x. IsPart Statements 0 (block_view x.0.items) (views tokens.now) (views x.1.now)) (FailsPart Statements 0 (views tokens.now)) result }
+{
+    statements_behind(alloc, Vec::new(alloc), tokens, 0)
 }

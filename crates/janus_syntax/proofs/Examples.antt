@@ -1,0 +1,103 @@
+-- What the machine answers for some tokens, by computation.
+use Rattle.std.proofs.Common.{◌≡◌, ℕ, zero, suc, List, [], ◌∷◌, ◌++◌, Some, None, refl}
+use Rattle.janus_syntax.specs.declared.token.Span.{Span}
+use Rattle.janus_syntax.specs.declared.token.Sign.{Sign}
+use Rattle.janus_syntax.specs.declared.token.Sign.TheVariants as sign
+use Rattle.janus_syntax.specs.declared.token.Word.{Word}
+use Rattle.janus_syntax.specs.declared.token.Word.TheVariants as word
+use Rattle.janus_syntax.specs.declared.tree.Operator.TheVariants as operator
+use Rattle.janus_syntax.specs.declared.tree.Update.TheVariants as update
+use Rattle.janus_syntax.specs.declared.fault.What.TheVariants as what
+use Rattle.janus_syntax.specs.Tokens.{Token, Name, Number, Sign_of, Word_of}
+use Rattle.janus_syntax.specs.Tree.{Name as Named, named, Num, Var, Neg, Bin, Skip, Assign, If, Empty, More, cell_of}
+use Rattle.janus_syntax.specs.Forms.{A_cell}
+use Rattle.janus_syntax.specs.Grammar.{all}
+use Rattle.janus_syntax.specs.Machine.{Outcome, Ended, Failed, Nested, run, start}
+
+abbrev at : Span
+at = record { start = 0; end = 0 }
+
+abbrev x : Token
+x = Name (120 ∷ []) at
+
+abbrev y : Token
+y = Name (121 ∷ []) at
+
+abbrev X : Named
+X = named (120 ∷ []) at
+
+abbrev Y : Named
+Y = named (121 ∷ []) at
+
+abbrev n : ℕ → Token
+n k = Number k at
+
+abbrev w : Word → Token
+w v = Word_of v at
+
+abbrev s : Sign → Token
+s r = Sign_of r at
+
+abbrev answer : List Token → Outcome A_cell
+answer ts = run all ts (start A_cell)
+
+abbrev times : ℕ → List Token → List Token
+times zero ts = []
+times (suc k) ts = ts ++ times k ts
+
+-- `if x` wants `then`, `if x then skip` wants `fi`, `from x` wants `until`
+if_x : answer (w word.If ∷ x ∷ []) ≡ Ended None (what.Word word.Then)
+if_x = refl
+
+if_x_skip : answer (w word.If ∷ x ∷ w word.Then ∷ w word.Skip ∷ []) ≡ Ended None (what.Word word.Fi)
+if_x_skip = refl
+
+from_x : answer (w word.From ∷ x ∷ s sign.Plus ∷ n 1 ∷ []) ≡ Ended None (what.Word word.Until)
+from_x = refl
+
+-- `x` wants an operator, `x[1` wants `]`, `x[1]` an operator, `x += (1` wants `)`, `x += 1` the end
+x_wants : answer (x ∷ []) ≡ Ended None what.Operator
+x_wants = refl
+
+x_index_wants : answer (x ∷ s sign.OpenIndex ∷ n 1 ∷ []) ≡ Ended None (what.Sign sign.CloseIndex)
+x_index_wants = refl
+
+x_element_wants : answer (x ∷ s sign.OpenIndex ∷ n 1 ∷ s sign.CloseIndex ∷ []) ≡ Ended None what.Operator
+x_element_wants = refl
+
+group_wants : answer (x ∷ s sign.PlusEquals ∷ s sign.Open ∷ n 1 ∷ []) ≡ Ended None (what.Sign sign.Close)
+group_wants = refl
+
+-- `int a[3] 1` wants the end at the number
+declared_wants : answer (w word.Int ∷ x ∷ s sign.OpenIndex ∷ n 3 ∷ s sign.CloseIndex ∷ n 1 ∷ []) ≡ Failed what.End 1
+declared_wants = refl
+
+-- x += 1 - 2 * -x - 3
+left_to_right : answer (x ∷ s sign.PlusEquals ∷ n 1 ∷ s sign.Minus ∷ n 2 ∷ s sign.Times ∷ s sign.Minus ∷ x ∷ s sign.Minus ∷ n 3 ∷ []) ≡
+    Ended (Some (cell_of [] (More (Assign X update.Add (Bin operator.Subtract (Bin operator.Subtract (Num 1 at) (Bin operator.Multiply (Num 2 at) (Neg (Var X)))) (Num 3 at))) Empty))) what.End
+left_to_right = refl
+
+-- if x then x += (1) fi x
+left_out_else : answer (w word.If ∷ x ∷ w word.Then ∷ x ∷ s sign.PlusEquals ∷ s sign.Open ∷ n 1 ∷ s sign.Close ∷ w word.Fi ∷ x ∷ []) ≡
+    Ended (Some (cell_of [] (More (If (Var X) (More (Assign X update.Add (Num 1 at)) Empty) (More Skip Empty) (Var X)) Empty))) what.End
+left_out_else = refl
+
+-- 64 nested `(` are read, the 65th is refused; so the 65th prefix minus, and the 257th operator
+deep : answer (x ∷ s sign.PlusEquals ∷ times 64 (s sign.Open ∷ []) ++ n 1 ∷ times 64 (s sign.Close ∷ [])) ≡ Ended (Some (cell_of [] (More (Assign X update.Add (Num 1 at)) Empty))) what.End
+deep = refl
+
+too_deep : answer (x ∷ s sign.PlusEquals ∷ times 65 (s sign.Open ∷ []) ++ n 1 ∷ []) ≡ Nested 2
+too_deep = refl
+
+too_many_minus : answer (x ∷ s sign.PlusEquals ∷ times 65 (s sign.Minus ∷ [])) ≡ Nested 1
+too_many_minus = refl
+
+long_enough : answer (x ∷ s sign.PlusEquals ∷ n 1 ∷ times 256 (s sign.Xor ∷ n 1 ∷ []) ++ w word.Fi ∷ []) ≡ Failed what.End 1
+long_enough = refl
+
+too_long : answer (x ∷ s sign.PlusEquals ∷ n 1 ∷ times 257 (s sign.Xor ∷ n 1 ∷ [])) ≡ Nested 2
+too_long = refl
+
+-- constructs that have ended do not count
+many_minus : answer (x ∷ s sign.PlusEquals ∷ n 1 ∷ times 100 (s sign.Times ∷ s sign.Minus ∷ x ∷ []) ++ w word.Fi ∷ []) ≡ Failed what.End 1
+many_minus = refl

@@ -1,0 +1,90 @@
+-- Each line of the grammar's table keeps to the table of what may follow: one line here for each line there.
+use Rattle.std.proofs.Common.{◌≡◌, ℕ, ◌+◌, ◌-◌, ◌<◌, Option, Some, None, true, false, cond, refl, arith, inl, inr}
+use Rattle.std.specs.Prelude.{nat_eq}
+use Rattle.std.proofs.lemmas.Bool.{ltb-true, eqb-true}
+use Rattle.janus_syntax.specs.declared.token.Sign.TheVariants as sign
+use Rattle.janus_syntax.specs.declared.token.Word.TheVariants as word
+use Rattle.janus_syntax.specs.declared.operator.Infix.{Infix}
+use Rattle.janus_syntax.specs.Tokens.{Token, Name, Number, Sign_of, Word_of}
+use Rattle.janus_syntax.specs.Tree.{Exp, Block, Cell, cell_of}
+use Rattle.janus_syntax.specs.Operators.{weakest, joined, operator_at}
+use Rattle.janus_syntax.specs.Forms.{Part, A_cell, Declarations, Bound, Body, Statements, Else_part, Do_part, Loop_part, Target_index, Whole, Level, Chain, Index, done, part, Rule}
+use Rattle.janus_syntax.specs.Grammar.{text_form}
+use Rattle.janus_syntax.specs.Table.{rule, whole, operand, counts, chain_rule}
+use Rattle.janus_syntax.proofs.Follow.{ends_at, after_declarations, May, Proper, AllProper}
+use Rattle.janus_syntax.proofs.Keeps.{seen_sign, ends_close_index, ends_weaker, ends_chain, proper_chains, may_chains, positive, operator_positive}
+use Rattle.janus_syntax.proofs.KeepsTokens.{begins_statement, begins_declaration, body_after, declarations_after, statement_declarations, fi_body, until_body, loop_or_until_body}
+use Rattle.janus_syntax.proofs.KeepsForms.{proper_operand, proper_statement, proper_declaration}
+
+-- Statements to the end, and declarations before them.
+never_more : (t : Token) → false ≡ true → ⊥
+never_more t e = cc
+
+may_statements : (g : Block → Cell) (t : Token) → May {p = A_cell} (part Statements (λ b. done (g b))) t → after_declarations t ≡ true
+may_statements g t m = elim m [ inl (r, is) ↦ statement_declarations t _ r is | inr (u, is, m) ↦ absurd (never_more t m) ]
+
+proper_statements : (g : Block → Cell) → Proper {p = A_cell} (part Statements (λ b. done (g b)))
+proper_statements g = λ b. (tt, λ t m. absurd (never_more t m))
+
+-- the form of a whole text
+pub proper_text : (goal : Part) → Proper (text_form goal)
+proper_text A_cell = λ ds. (proper_statements (cell_of ds), λ t m. may_statements (cell_of ds) t m)
+proper_text _ = λ u. (tt, λ t m. m)
+
+whole_proper : {p : Part} (a : Option (Rule p)) → AllProper a → AllProper (whole a)
+whole_proper (Some r) h = h
+whole_proper None h = h
+
+chain_form : (op : Infix) (n : ℕ) (e : Exp) → 0 < n → Proper {p = Chain n e} (part (Level (n - 1)) (λ r. part (Chain n (joined op.joint e r)) done))
+chain_form op n e h =
+    λ r. ((λ u. (tt, λ t m. m)), λ t m. elim m [ inl (q, is) ↦ ends_chain (n - 1) n (joined op.joint e r) t q (omega (arith, h)) is | inr (u, is, m) ↦ ends_weaker (n - 1) n t (omega arith) m ])
+
+chain_proper : (o : Option Infix) (n : ℕ) (e : Exp) → positive o ≡ true → AllProper (chain_rule o n e)
+chain_proper None n e h = tt
+chain_proper (Some op) n e h =
+    elim (nat_eq op.level n) as (λ b. nat_eq op.level n ≡ b → AllProper {p = Chain n e} (cond b (counts (part (Level (n - 1)) (λ r. part (Chain n (joined op.joint e r)) done))) None)) [
+      | true ↦ λ q. let k = ltb-true 0 op.level h in let l = eqb-true op.level n q in chain_form op n e (omega (arith, k, l))
+      | false ↦ λ q. tt
+    ] refl
+
+up : (n : ℕ) (t : Token) → ends_at n t ≡ true → ends_at (0 + n) t ≡ true
+up n t m = ends_weaker (0 + n) n t (omega arith) m
+
+pub proper_rule : (p : Part) (t : Token) → AllProper (rule p t)
+proper_rule A_cell t = tt
+proper_rule Declarations t = proper_declaration t _ (λ d ds. (tt, λ t m. m)) (λ d t m. elim m [ inl (r, is) ↦ begins_declaration t _ r is | inr (u, is, m) ↦ declarations_after t m ])
+proper_rule Bound (Sign_of sign.OpenIndex at) = λ n z. tt
+proper_rule Bound (Sign_of _ at) = tt
+proper_rule Bound (Name x at) = tt
+proper_rule Bound (Number n at) = tt
+proper_rule Bound (Word_of w at) = tt
+proper_rule Body t = proper_statement t _ (λ s b. (tt, λ t m. m)) (λ s t m. elim m [ inl (r, is) ↦ begins_statement t _ r is | inr (u, is, m) ↦ body_after t m ])
+proper_rule Statements t = proper_statement t _ (λ s b. (tt, λ t m. m)) (λ s t m. elim m [ inl (r, is) ↦ begins_statement t _ r is | inr (u, is, m) ↦ body_after t m ])
+proper_rule Else_part (Word_of word.Else at) = λ b. (tt, λ t m. fi_body t m)
+proper_rule Else_part (Word_of _ at) = tt
+proper_rule Else_part (Name x at) = tt
+proper_rule Else_part (Number n at) = tt
+proper_rule Else_part (Sign_of s at) = tt
+proper_rule Do_part (Word_of word.Do at) = λ b. (tt, λ t m. loop_or_until_body t m)
+proper_rule Do_part (Word_of _ at) = tt
+proper_rule Do_part (Name x at) = tt
+proper_rule Do_part (Number n at) = tt
+proper_rule Do_part (Sign_of s at) = tt
+proper_rule Loop_part (Word_of word.Loop at) = λ b. (tt, λ t m. until_body t m)
+proper_rule Loop_part (Word_of _ at) = tt
+proper_rule Loop_part (Name x at) = tt
+proper_rule Loop_part (Number n at) = tt
+proper_rule Loop_part (Sign_of s at) = tt
+proper_rule Target_index (Sign_of sign.OpenIndex at) = λ e. ((λ z. tt), λ t m. ends_close_index t (seen_sign sign.CloseIndex t m.0 m.1))
+proper_rule Target_index (Sign_of _ at) = tt
+proper_rule Target_index (Name x at) = tt
+proper_rule Target_index (Number n at) = tt
+proper_rule Target_index (Word_of w at) = tt
+proper_rule Whole t = whole_proper (operand t _) (proper_operand t _ (λ e. proper_chains {p = Whole} 0 weakest e done (λ f. tt) (λ f t m. m)) (λ e t m. may_chains {p = Whole} 0 weakest e done (λ f t m. m) t m))
+proper_rule (Level n) t = proper_operand t _ (λ e. proper_chains {p = Level n} 0 n e done (λ f. tt) (λ f t m. up n t m)) (λ e t m. may_chains {p = Level n} 0 n e done (λ f t m. up n t m) t m)
+proper_rule (Chain n e) t = chain_proper (operator_at t) n e (operator_positive t)
+proper_rule Index (Sign_of sign.OpenIndex at) = λ e. ((λ z. tt), λ t m. ends_close_index t (seen_sign sign.CloseIndex t m.0 m.1))
+proper_rule Index (Sign_of _ at) = tt
+proper_rule Index (Name x at) = tt
+proper_rule Index (Number n at) = tt
+proper_rule Index (Word_of w at) = tt

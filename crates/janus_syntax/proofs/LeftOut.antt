@@ -1,0 +1,98 @@
+-- A part that may be left out does not begin with a token that may follow it.
+use Rattle.std.proofs.Common.{◌≡◌, ℕ, ◌-◌, ◌<◌, Option, Some, None, true, cond, refl, ap, arith}
+use Rattle.std.specs.Prelude.{◌||◌}
+use Rattle.std.proofs.lemmas.Bool.{ltb-true, ne_eqb, and_parts}
+use Rattle.janus_syntax.specs.declared.token.Sign.TheVariants as sign
+use Rattle.janus_syntax.specs.declared.token.Word.TheVariants as word
+use Rattle.janus_syntax.specs.declared.operator.Infix.{Infix}
+use Rattle.janus_syntax.specs.Tokens.{Token, Name, Number, Sign_of, Word_of}
+use Rattle.janus_syntax.specs.Tree.{Exp, Stm, Declaration}
+use Rattle.janus_syntax.specs.Operators.{joined, operator_at}
+use Rattle.janus_syntax.specs.Forms.{Part, A_cell, Declarations, Bound, Body, Statements, Else_part, Do_part, Loop_part, Target_index, Whole, Level, Chain, Index, Tree, Form, done, part}
+use Rattle.janus_syntax.specs.Table.{rule, left_out, counts, chain_rule, statement, declaration}
+use Rattle.janus_syntax.proofs.Follow.{is_word, no_index, weaker_than, after_statement, after_body, after_declarations, may_follow}
+
+no_statement : {p : Part} → (t : Token) (k : Stm → Form p) → after_body t ≡ true → statement t k ≡ None
+no_statement (Word_of word.If at) k e = absurd cc
+no_statement (Word_of word.From at) k e = absurd cc
+no_statement (Word_of word.Skip at) k e = absurd cc
+no_statement (Word_of _ at) k e = refl
+no_statement (Name x at) k e = absurd cc
+no_statement (Number n at) k e = refl
+no_statement (Sign_of s at) k e = refl
+
+no_declaration : {p : Part} → (t : Token) (k : Declaration → Form p) → after_declarations t ≡ true → declaration t k ≡ None
+no_declaration (Word_of word.Int at) k e = absurd cc
+no_declaration (Word_of _ at) k e = refl
+no_declaration (Name x at) k e = refl
+no_declaration (Number n at) k e = refl
+no_declaration (Sign_of s at) k e = refl
+
+no_chain : (o : Option Infix) (n : ℕ) (e : Exp) → weaker_than n o ≡ true → chain_rule o n e ≡ None
+no_chain None n e h = refl
+no_chain (Some op) n e h =
+    let k : n < op.level = ltb-true n op.level h in
+    ap (λ b. cond b (counts (part (Level (n - 1)) (λ r. part (Chain n (joined op.joint e r)) done))) None) (ne_eqb op.level n (λ q. absurd (omega (arith, q, k))))
+
+no_bound : (t : Token) → after_statement t ≡ true → rule Bound t ≡ None
+no_bound (Sign_of s at) e = absurd cc
+no_bound (Word_of w at) e = refl
+no_bound (Name x at) e = refl
+no_bound (Number n at) e = refl
+
+no_else : (t : Token) → is_word word.Fi t ≡ true → rule Else_part t ≡ None
+no_else (Word_of word.Else at) e = absurd cc
+no_else (Word_of _ at) e = refl
+no_else (Sign_of s at) e = refl
+no_else (Name x at) e = refl
+no_else (Number n at) e = refl
+
+no_do : (t : Token) → (is_word word.Loop t || is_word word.Until t) ≡ true → rule Do_part t ≡ None
+no_do (Word_of word.Do at) e = absurd cc
+no_do (Word_of _ at) e = refl
+no_do (Sign_of s at) e = refl
+no_do (Name x at) e = refl
+no_do (Number n at) e = refl
+
+no_loop : (t : Token) → is_word word.Until t ≡ true → rule Loop_part t ≡ None
+no_loop (Word_of word.Loop at) e = absurd cc
+no_loop (Word_of _ at) e = refl
+no_loop (Sign_of s at) e = refl
+no_loop (Name x at) e = refl
+no_loop (Number n at) e = refl
+
+pub no_target : (t : Token) → no_index t ≡ true → rule Target_index t ≡ None
+no_target (Sign_of sign.OpenIndex at) e = absurd cc
+no_target (Sign_of _ at) e = refl
+no_target (Word_of w at) e = refl
+no_target (Name x at) e = refl
+no_target (Number n at) e = refl
+
+pub not_index : (t : Token) → no_index t ≡ true → rule Index t ≡ None
+not_index (Sign_of sign.OpenIndex at) e = absurd cc
+not_index (Sign_of _ at) e = refl
+not_index (Word_of w at) e = refl
+not_index (Name x at) e = refl
+not_index (Number n at) e = refl
+
+pub unbound : (t : Token) → no_index t ≡ true → rule Bound t ≡ None
+unbound (Sign_of sign.OpenIndex at) e = absurd cc
+unbound (Sign_of _ at) e = refl
+unbound (Word_of w at) e = refl
+unbound (Name x at) e = refl
+unbound (Number n at) e = refl
+
+pub no_rule : (p : Part) (t : Token) (u : Tree p) → left_out p ≡ Some u → may_follow p t ≡ true → rule p t ≡ None
+no_rule A_cell t u e h = absurd cc
+no_rule Declarations t u e h = no_declaration t _ h
+no_rule Bound t u e h = no_bound t h
+no_rule Body t u e h = absurd cc
+no_rule Statements t u e h = no_statement t _ h
+no_rule Else_part t u e h = no_else t h
+no_rule Do_part t u e h = no_do t h
+no_rule Loop_part t u e h = no_loop t h
+no_rule Target_index t u e h = no_target t h
+no_rule Whole t u e h = absurd cc
+no_rule (Level n) t u e h = absurd cc
+no_rule (Chain n x) t u e h = no_chain (operator_at t) n x (and_parts (no_index t) (weaker_than n (operator_at t)) h).1
+no_rule Index t u e h = not_index t h

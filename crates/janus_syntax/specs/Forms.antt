@@ -1,0 +1,147 @@
+-- The language in which the grammar's table is written. A part of a cell is told by its first token; behind that
+-- it has a form: tokens of a class and further parts in a row, and at its end the part's tree.
+use Rattle.std.specs.Prelude.{ℕ, List, Option, Some, None, Bool, cond, nat_eq}
+use Rattle.janus_syntax.specs.declared.token.Span.{Span}
+use Rattle.janus_syntax.specs.declared.token.Sign.{Sign}
+use Rattle.janus_syntax.specs.declared.token.Sign.TheVariants as sign
+use Rattle.janus_syntax.specs.declared.token.Word.{Word}
+use Rattle.janus_syntax.specs.declared.token.Word.TheVariants as word
+use Rattle.janus_syntax.specs.declared.tree.Update.{Update}
+use Rattle.janus_syntax.specs.declared.fault.What.{What}
+use Rattle.janus_syntax.specs.declared.fault.What.TheVariants as what
+use Rattle.janus_syntax.specs.Tokens.{Token, Name, Number, Sign_of, Word_of}
+use Rattle.janus_syntax.specs.Tree.{Name as Named, named, Exp, Block, Declaration, Cell}
+use Rattle.janus_syntax.specs.Operators.{update_at}
+
+-- the parts of a cell
+pub data Part : Type 0 where
+  A_cell : Part
+  Declarations : Part
+  Bound : Part  -- behind a declared `int` name
+  Body : Part  -- one statement or more
+  Statements : Part  -- none or more
+  Else_part : Part
+  Do_part : Part
+  Loop_part : Part
+  Target_index : Part  -- behind the name that an assignment begins with
+  Whole : Part  -- a whole expression
+  Level : ℕ → Part  -- an expression with no operator of a weaker level outside parentheses; 0: an operand
+  Chain : ℕ → Exp → Part  -- behind an expression: operators of this level
+  Index : Part  -- behind a name in an expression
+
+-- what a part's tree is
+abbrev pub Tree : Part → Type 0
+Tree A_cell = Cell
+Tree Declarations = List Declaration
+Tree Bound = Option (ℕ × Span)
+Tree Body = Block
+Tree Statements = Block
+Tree Else_part = Block
+Tree Do_part = Block
+Tree Loop_part = Block
+Tree Target_index = Option Exp
+Tree Whole = Exp
+Tree (Level n) = Exp
+Tree (Chain n e) = Exp
+Tree Index = Option Exp
+
+-- the classes of tokens
+pub data Class : Type 0 where
+  The_word : Word → Class
+  The_sign : Sign → Class
+  A_name : Class
+  A_number : Class
+  An_update : Class
+
+-- what a token of a class is
+abbrev pub Seen : Class → Type 0
+Seen (The_word w) = Unit {0}
+Seen (The_sign s) = Unit {0}
+Seen A_name = Named
+Seen A_number = ℕ × Span
+Seen An_update = Update
+
+abbrev pub word_number : Word → ℕ
+word_number word.Call = 0
+word_number word.Delocal = 1
+word_number word.Do = 2
+word_number word.Else = 3
+word_number word.Empty = 4
+word_number word.Fi = 5
+word_number word.From = 6
+word_number word.If = 7
+word_number word.Int = 8
+word_number word.Local = 9
+word_number word.Loop = 10
+word_number word.Main = 11
+word_number word.Nil = 12
+word_number word.Pop = 13
+word_number word.Procedure = 14
+word_number word.Push = 15
+word_number word.Skip = 16
+word_number word.Stack = 17
+word_number word.Then = 18
+word_number word.Top = 19
+word_number word.Uncall = 20
+word_number word.Until = 21
+
+abbrev pub sign_number : Sign → ℕ
+sign_number sign.PlusEquals = 0
+sign_number sign.MinusEquals = 1
+sign_number sign.XorEquals = 2
+sign_number sign.Plus = 3
+sign_number sign.Minus = 4
+sign_number sign.Times = 5
+sign_number sign.Divide = 6
+sign_number sign.Remainder = 7
+sign_number sign.Xor = 8
+sign_number sign.BitAnd = 9
+sign_number sign.And = 10
+sign_number sign.BitOr = 11
+sign_number sign.Or = 12
+sign_number sign.Equals = 13
+sign_number sign.Differs = 14
+sign_number sign.Less = 15
+sign_number sign.Greater = 16
+sign_number sign.AtMost = 17
+sign_number sign.AtLeast = 18
+sign_number sign.Open = 19
+sign_number sign.Close = 20
+sign_number sign.OpenIndex = 21
+sign_number sign.CloseIndex = 22
+sign_number sign.Comma = 23
+
+-- a token as one of a class
+abbrev pub seen : (c : Class) → Token → Option (Seen c)
+seen (The_word w) (Word_of v _) = cond (nat_eq (word_number w) (word_number v)) (Some tt) None
+seen (The_word w) _ = None
+seen (The_sign s) (Sign_of r _) = cond (nat_eq (sign_number s) (sign_number r)) (Some tt) None
+seen (The_sign s) _ = None
+seen A_name (Name x at) = Some (named x at)
+seen A_name _ = None
+seen A_number (Number n at) = Some (n, at)
+seen A_number _ = None
+seen An_update t = update_at t
+
+-- how a class is told
+abbrev pub what_of : Class → What
+what_of (The_word w) = what.Word w
+what_of (The_sign s) = what.Sign s
+what_of A_name = what.Name
+what_of A_number = what.Number
+what_of An_update = what.Operator
+
+-- a form of a part's tree
+pub data Form (p : Part) : Type 0 where
+  done : Tree p → Form p  -- nothing more
+  take : (c : Class) → (Seen c → Form p) → Form p  -- a token of a class
+  part : (q : Part) → (Tree q → Form p) → Form p  -- a part
+  close : Form p → Form p  -- here a construct that counts for the limit on nesting has ended
+
+-- What a part is behind its first token: its form; whether that token opens a construct, is an operator, begins
+-- a whole expression.
+pub record Rule (p : Part) : Type 0 where
+  pub opens : ℕ
+  pub counts : ℕ
+  pub is_whole : Bool
+  pub form : Form p

@@ -1,0 +1,168 @@
+-- What the parser's functions on statements and declarations say of what they return. It serves the proofs.
+use Rattle.std.specs.Prelude.{◌≡◌, ℕ, ◌<◌, ◌≤◌, List, [], ◌∷◌, ◌++◌, length, Option, Some, None, Bool, true, false}
+use Rattle.std.specs.Borrow.{Bor}
+use Rattle.janus_syntax.specs.declared.fault.What.TheVariants as what
+use Rattle.janus_syntax.specs.declared.token.Word.{Word}
+use Rattle.janus_syntax.specs.declared.token.Word.TheVariants as word
+use Rattle.janus_syntax.specs.declared.token.Token as code_token
+use Rattle.janus_syntax.specs.declared.tree.Stm as code_stm
+use Rattle.janus_syntax.specs.declared.tree.Declaration as code_declaration
+use Rattle.janus_syntax.specs.Tokens.{Token, Name, Word_of, views}
+use Rattle.janus_syntax.specs.Tree.{Name as Named, Stm, If, Loop, Block, Empty, More, Declaration, stm_view, declaration_view}
+use Rattle.janus_syntax.specs.Forms.{Part, Body, Statements, Declarations, Bound, Whole, Else_part, Do_part, Loop_part, Target_index, An_update, Form, take, part, close}
+use Rattle.janus_syntax.specs.Table.{word_then, statement, declaration, declared, assignment, skip_block}
+use Rattle.janus_syntax.specs.Grammar.{all, operator_limit, Refusal, Expected}
+use Rattle.janus_syntax.specs.Machine.{Stack, at, run, start, Outcome, Ended, outcome_of, next}
+use Rattle.janus_syntax.specs.Reading.{begun, count, BeginsWith, Stands, Moves, Stops, IsPart, FailsPart}
+
+-- ---- statements
+
+-- whether a token begins a statement
+abbrev pub is_statement : Option Token → Bool
+is_statement (Some (Name x place)) = true
+is_statement (Some (Word_of word.If place)) = true
+is_statement (Some (Word_of word.From place)) = true
+is_statement (Some (Word_of word.Skip place)) = true
+is_statement _ = false
+
+abbrev pub begin_statement : {goal p : Part} → List Token → (Stm → Form p) → Stack goal p → ℕ → ℕ → Outcome goal
+begin_statement [] k S depth u = Ended None what.Statement
+begin_statement (t ∷ rest) k S depth u = begun what.Statement (statement t k) rest S (count depth u)
+
+-- a statement at the front
+pub record IsStm (depth : ℕ) (s : Stm) (from rest : List Token) : Type 0 where
+  pub begins : is_statement (next from) ≡ true
+  pub goes : (goal p : Part) (k : Stm → Form p) (S : Stack goal p) (u : ℕ) → u ≤ operator_limit → Stands depth (begin_statement from k S depth u) rest (k s) S
+  pub shorter : length rest < length from
+
+-- refused within a statement
+pub record FailsStm (depth : ℕ) (from : List Token) (e : Refusal) : Type 0 where
+  pub begins : is_statement (next from) ≡ true
+  pub stops : (goal p : Part) (k : Stm → Form p) (S : Stack goal p) (u : ℕ) → u ≤ operator_limit → begin_statement from k S depth u ≡ outcome_of e
+
+-- a statement, or none begins here
+abbrev pub IsStmOrOther : ℕ → List Token → Option (code_stm.Stm × Bor (List code_token.Token)) → Type 0
+IsStmOrOther depth from None = is_statement (next from) ≡ false
+IsStmOrOther depth from (Some x) = IsStm depth (stm_view x.0) from (views x.1.now)
+
+-- what an `if` and a loop are behind their first word, but for the end of the construct
+abbrev pub if_form : {p : Part} → (Stm → Form p) → Form p
+if_form k = part Whole (λ e. word_then word.Then (part Body (λ s. part Else_part (λ t. word_then word.Fi (part Whole (λ f. close (k (If e s t f))))))))
+
+abbrev pub from_form : {p : Part} → (Stm → Form p) → Form p
+from_form k = part Whole (λ e. part Do_part (λ s. part Loop_part (λ t. word_then word.Until (part Whole (λ f. close (k (Loop e s t f)))))))
+
+-- the same of an assignment behind its name
+abbrev pub assignment_form : {p : Part} → Named → (Stm → Form p) → Form p
+assignment_form x k = part Target_index (λ i. take An_update (λ u. part Whole (λ e. k (assignment x i u e))))
+
+pub record IsIf (depth : ℕ) (s : Stm) (from rest : List Token) : Type 0 where
+  pub goes : (p : Part) (k : Stm → Form p) → Moves depth (if_form k) from (close (k s)) rest
+  pub shorter : length rest ≤ length from
+
+abbrev pub FailsIf : ℕ → List Token → Refusal → Type 0
+FailsIf depth from e = (p : Part) (k : Stm → Form p) → Stops depth (if_form k) from e
+
+pub record IsLoop (depth : ℕ) (s : Stm) (from rest : List Token) : Type 0 where
+  pub goes : (p : Part) (k : Stm → Form p) → Moves depth (from_form k) from (close (k s)) rest
+  pub shorter : length rest ≤ length from
+
+abbrev pub FailsLoop : ℕ → List Token → Refusal → Type 0
+FailsLoop depth from e = (p : Part) (k : Stm → Form p) → Stops depth (from_form k) from e
+
+pub record IsAssignment (depth : ℕ) (x : Named) (s : Stm) (from rest : List Token) : Type 0 where
+  pub goes : (p : Part) (k : Stm → Form p) → Moves depth (assignment_form x k) from (k s) rest
+  pub shorter : length rest ≤ length from
+
+abbrev pub FailsAssignment : ℕ → Named → List Token → Refusal → Type 0
+FailsAssignment depth x from e = (p : Part) (k : Stm → Form p) → Stops depth (assignment_form x k) from e
+
+-- ---- blocks
+
+-- statements, and then others
+abbrev pub followed_by : Block → Block → Block
+followed_by Empty b = b
+followed_by (More s a) b = More s (followed_by a b)
+
+-- In the midst of statements: the machine stands at more of them.
+pub record AtStatements (depth : ℕ) (b : Block) (goal : Part) (out : Outcome goal) (rest : List Token) (p : Part) (k : Block → Form p) (S : Stack goal p) : Type 0 where
+  pub other : Part
+  pub form : Block → Form other
+  pub stack : Stack goal other
+  pub stands : Stands depth out rest (part Statements form) stack
+  pub onward : (a : Block) (ts : List Token) (u : ℕ) → run all ts (at (form a) stack (count depth u)) ≡ run all ts (at (k (followed_by b a)) S (count depth u))
+
+-- statements read so far, behind others
+pub record AreSoFar (depth : ℕ) (before now : Block) (from rest : List Token) : Type 0 where
+  pub block : Block
+  pub is : now ≡ followed_by before block
+  pub goes : (p : Part) (k : Block → Form p) (goal : Part) (S : Stack goal p) (u : ℕ) → u ≤ operator_limit → AtStatements depth block goal (run all from (at (part Statements k) S (count depth u))) rest p k S
+  pub shorter : length rest ≤ length from
+
+-- all statements that stand here, behind others
+pub record AreStatements (depth : ℕ) (before now : Block) (from rest : List Token) : Type 0 where
+  pub block : Block
+  pub is : now ≡ followed_by before block
+  pub part : IsPart Statements depth block from rest
+
+-- a word and a body, or another word and nothing
+pub data IsOptional (w : Word) (depth : ℕ) : Block → List Token → List Token → Type 0 where
+  there : {b : Block} {from behind rest : List Token} → BeginsWith w from behind → IsPart Body depth b behind rest → IsOptional w depth b from rest
+  left : {from : List Token} → ((behind : List Token) → BeginsWith w from behind → ⊥) → IsOptional w depth skip_block from from
+
+abbrev pub FailsOptional : Word → ℕ → List Token → Refusal → Type 0
+FailsOptional w depth from e = (behind : List Token) × BeginsWith w from behind × FailsPart Body depth behind e
+
+-- ---- declarations
+
+abbrev pub is_declaration : Option Token → Bool
+is_declaration (Some (Word_of word.Int place)) = true
+is_declaration _ = false
+
+abbrev pub begin_declaration : {goal p : Part} → List Token → (Declaration → Form p) → Stack goal p → ℕ → Outcome goal
+begin_declaration [] k S u = Ended None what.End
+begin_declaration (t ∷ rest) k S u = begun what.End (declaration t k) rest S (count 0 u)
+
+pub record IsDeclaration (d : Declaration) (from rest : List Token) : Type 0 where
+  pub begins : is_declaration (next from) ≡ true
+  pub goes : (goal p : Part) (k : Declaration → Form p) (S : Stack goal p) (u : ℕ) → u ≤ operator_limit → Stands 0 (begin_declaration from k S u) rest (k d) S
+  pub shorter : length rest < length from
+
+pub record FailsDeclaration (from : List Token) (e : Refusal) : Type 0 where
+  pub begins : is_declaration (next from) ≡ true
+  pub stops : (goal p : Part) (k : Declaration → Form p) (S : Stack goal p) (u : ℕ) → u ≤ operator_limit → begin_declaration from k S u ≡ outcome_of e
+
+abbrev pub IsDeclarationOrOther : List Token → Option (code_declaration.Declaration × Bor (List code_token.Token)) → Type 0
+IsDeclarationOrOther from None = is_declaration (next from) ≡ false
+IsDeclarationOrOther from (Some x) = IsDeclaration (declaration_view x.0) from (views x.1.now)
+
+-- behind a declared name: the length, if there is one
+pub record IsBound (x : Named) (d : Declaration) (from rest : List Token) : Type 0 where
+  pub goes : (p : Part) (k : Declaration → Form p) → Moves 0 (part Bound (λ n. k (declared x n))) from (k d) rest
+  pub shorter : length rest ≤ length from
+
+abbrev pub FailsBound : Named → List Token → Refusal → Type 0
+FailsBound x from e = (p : Part) (k : Declaration → Form p) → Stops 0 (part Bound (λ n. k (declared x n))) from e
+
+-- In the midst of declarations: the machine stands at more of them.
+pub record AtDeclarations (ds : List Declaration) (goal : Part) (out : Outcome goal) (rest : List Token) (p : Part) (k : List Declaration → Form p) (S : Stack goal p) : Type 0 where
+  pub other : Part
+  pub form : List Declaration → Form other
+  pub stack : Stack goal other
+  pub stands : Stands 0 out rest (part Declarations form) stack
+  pub onward : (es : List Declaration) (ts : List Token) (u : ℕ) → run all ts (at (form es) stack (count 0 u)) ≡ run all ts (at (k (ds ++ es)) S (count 0 u))
+
+-- declarations read so far
+pub record AreDeclared (ds : List Declaration) (from rest : List Token) : Type 0 where
+  pub goes : (p : Part) (k : List Declaration → Form p) (goal : Part) (S : Stack goal p) (u : ℕ) → u ≤ operator_limit → AtDeclarations ds goal (run all from (at (part Declarations k) S (count 0 u))) rest p k S
+  pub shorter : length rest ≤ length from
+
+-- ---- the end
+
+-- tokens stand where the end is wanted
+abbrev pub AtEnd : List Token → Refusal → Type 0
+AtEnd from e = (e ≡ Expected what.End (length from)) × (0 < length from)
+
+-- how a whole text is refused
+abbrev pub Refused : (goal : Part) → List Token → Refusal → Type 0
+Refused goal from e = run all from (start goal) ≡ outcome_of e

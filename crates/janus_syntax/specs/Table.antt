@@ -1,0 +1,137 @@
+-- The grammar's table: what each part is, by its first token, and which parts may be left out, as which tree.
+-- A rule is read aloud along its line: `if`, a whole expression e, `then`, a body s, the `else` part t, `fi`, a
+-- whole expression f: If e s t f.
+use Rattle.std.specs.Prelude.{ℕ, zero, suc, ◌-◌, [], ◌∷◌, Option, Some, None, true, false, cond, nat_eq}
+use Rattle.janus_syntax.specs.declared.token.Span.{Span}
+use Rattle.janus_syntax.specs.declared.token.Sign.{Sign}
+use Rattle.janus_syntax.specs.declared.token.Sign.TheVariants as sign
+use Rattle.janus_syntax.specs.declared.token.Word.{Word}
+use Rattle.janus_syntax.specs.declared.token.Word.TheVariants as word
+use Rattle.janus_syntax.specs.declared.operator.Infix.{Infix}
+use Rattle.janus_syntax.specs.declared.tree.Update.{Update}
+use Rattle.janus_syntax.specs.declared.fault.What.{What}
+use Rattle.janus_syntax.specs.declared.fault.What.TheVariants as what
+use Rattle.janus_syntax.specs.Tokens.{Token, Name, Number, Sign_of, Word_of}
+use Rattle.janus_syntax.specs.Tree.{Name as Named, named, Exp, Num, Var, Element, Neg, Stm, Skip, Assign, AssignElement, If, Loop, Block, Empty, More, Declaration, Int, Array, Cell, cell_of}
+use Rattle.janus_syntax.specs.Operators.{weakest, joined, operator_at}
+use Rattle.janus_syntax.specs.Forms.{Part, A_cell, Declarations, Bound, Body, Statements, Else_part, Do_part, Loop_part, Target_index, Whole, Level, Chain, Index, Tree, The_word, The_sign, A_name, A_number, An_update, Form, done, take, part, close, Rule}
+
+-- rules with and without marks
+abbrev pub marked : {p : Part} → ℕ → ℕ → Form p → Option (Rule p)
+marked o c f = Some (record { opens = o; counts = c; is_whole = false; form = f })
+
+abbrev pub begins : {p : Part} → Form p → Option (Rule p)
+begins f = marked 0 0 f
+
+-- a construct that counts for the limit on nesting; it ends at its form's `close`
+abbrev pub opens : {p : Part} → Form p → Option (Rule p)
+opens f = marked 1 0 f
+
+abbrev pub counts : {p : Part} → Form p → Option (Rule p)
+counts f = marked 0 1 f
+
+abbrev pub whole : {p : Part} → Option (Rule p) → Option (Rule p)
+whole (Some r) = Some (record { opens = r.opens; counts = r.counts; is_whole = true; form = r.form })
+whole None = None
+
+-- fixed tokens in a row
+abbrev pub word_then : {p : Part} → Word → Form p → Form p
+word_then w f = take (The_word w) (λ v. f)
+
+abbrev pub sign_then : {p : Part} → Sign → Form p → Form p
+sign_then s f = take (The_sign s) (λ v. f)
+
+-- trees of optional parts
+
+abbrev pub variable : Named → Option Exp → Exp
+variable x None = Var x
+variable x (Some i) = Element x i
+
+abbrev pub assignment : Named → Option Exp → Update → Exp → Stm
+assignment x None u e = Assign x u e
+assignment x (Some i) u e = AssignElement x i u e
+
+abbrev pub declared : Named → Option (ℕ × Span) → Declaration
+declared x None = Int x
+declared x (Some n) = Array x n.0 n.1
+
+abbrev pub nothing : Cell
+nothing = cell_of [] Empty
+
+abbrev pub skip_block : Block
+skip_block = More Skip Empty
+
+-- An operand, by its first token.
+abbrev pub operand : {p : Part} → Token → (Exp → Form p) → Option (Rule p)
+operand (Number n at) k = begins (k (Num n at))
+operand (Name x at) k = begins (part Index (λ i. k (variable (named x at) i)))
+operand (Sign_of sign.Open _) k = opens (part (Level weakest) (λ e. sign_then sign.Close (close (k e))))
+operand (Sign_of sign.Minus _) k = marked 1 1 (part (Level 0) (λ e. close (k (Neg e))))
+operand _ k = None
+
+-- Behind the operand e: operators of the next level, then of the one behind it, so many levels on.
+abbrev pub chains : {p : Part} → ℕ → ℕ → Exp → (Exp → Form p) → Form p
+chains l zero e k = k e
+chains l (suc n) e k = part (Chain (suc l) e) (λ f. chains (suc l) n f k)
+
+-- Operators of one level, from left to right, each with a right side of a stronger level.
+abbrev pub chain_rule : Option Infix → (n : ℕ) (e : Exp) → Option (Rule (Chain n e))
+chain_rule None n e = None
+chain_rule (Some op) n e = cond (nat_eq op.level n) (counts (part (Level (n - 1)) (λ r. part (Chain n (joined op.joint e r)) done))) None
+
+-- A statement, by its first token.
+abbrev pub statement : {p : Part} → Token → (Stm → Form p) → Option (Rule p)
+statement (Name x at) k = begins (part Target_index (λ i. take An_update (λ u. part Whole (λ e. k (assignment (named x at) i u e)))))
+statement (Word_of word.If _) k = opens (part Whole (λ e. word_then word.Then (part Body (λ s. part Else_part (λ t. word_then word.Fi (part Whole (λ f. close (k (If e s t f)))))))))
+statement (Word_of word.From _) k = opens (part Whole (λ e. part Do_part (λ s. part Loop_part (λ t. word_then word.Until (part Whole (λ f. close (k (Loop e s t f))))))))
+statement (Word_of word.Skip _) k = begins (k Skip)
+statement _ k = None
+
+abbrev pub declaration : {p : Part} → Token → (Declaration → Form p) → Option (Rule p)
+declaration (Word_of word.Int _) k = begins (take A_name (λ x. part Bound (λ n. k (declared x n))))
+declaration _ k = None
+
+-- What a part is behind its first token.
+abbrev pub rule : (p : Part) → Token → Option (Rule p)
+rule A_cell t = None
+rule Declarations t = declaration t (λ d. part Declarations (λ ds. done (d ∷ ds)))
+rule Bound (Sign_of sign.OpenIndex _) = begins (take A_number (λ n. sign_then sign.CloseIndex (done (Some n))))
+rule Bound _ = None
+rule Body t = statement t (λ s. part Statements (λ b. done (More s b)))
+rule Statements t = statement t (λ s. part Statements (λ b. done (More s b)))
+rule Else_part (Word_of word.Else _) = begins (part Body done)
+rule Else_part _ = None
+rule Do_part (Word_of word.Do _) = begins (part Body done)
+rule Do_part _ = None
+rule Loop_part (Word_of word.Loop _) = begins (part Body done)
+rule Loop_part _ = None
+rule Target_index (Sign_of sign.OpenIndex _) = opens (part Whole (λ e. sign_then sign.CloseIndex (close (done (Some e)))))
+rule Target_index _ = None
+rule Whole t = whole (operand t (λ e. chains 0 weakest e done))
+rule (Level n) t = operand t (λ e. chains 0 n e done)
+rule (Chain n e) t = chain_rule (operator_at t) n e
+rule Index (Sign_of sign.OpenIndex _) = opens (part (Level weakest) (λ e. sign_then sign.CloseIndex (close (done (Some e)))))
+rule Index _ = None
+
+-- What a part is where it is left out, if it may be.
+abbrev pub left_out : (p : Part) → Option (Tree p)
+left_out A_cell = Some nothing
+left_out Declarations = Some []
+left_out Bound = Some None
+left_out Body = None
+left_out Statements = Some Empty
+left_out Else_part = Some skip_block
+left_out Do_part = Some skip_block
+left_out Loop_part = Some skip_block
+left_out Target_index = Some None
+left_out Whole = None
+left_out (Level n) = None
+left_out (Chain n e) = Some e
+left_out Index = Some None
+
+-- how a part is told that may not be left out
+abbrev pub label : Part → What
+label Body = what.Statement
+label Whole = what.Expression
+label (Level n) = what.Expression
+label _ = what.End

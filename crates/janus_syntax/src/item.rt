@@ -1,0 +1,132 @@
+//! Single tokens: fixed ones, names, numbers.
+
+ghost use Rattle.std.specs.Prelude.{◌≡◌, List, IfSome, IfNone};
+ghost use Rattle.janus_syntax.specs.Tree.{name_view};
+ghost use Rattle.janus_syntax.specs.Tokens.{Token as AToken, views};
+ghost use Rattle.janus_syntax.specs.Forms.{The_word, The_sign, A_name, A_number, An_update};
+ghost use Rattle.janus_syntax.specs.Reading.{Reads, TokenGoes, TokenFails, BeginsWith, BeginsWithSign};
+
+use crate::fault::What;
+use crate::operator;
+use crate::problem::Problem;
+use crate::token::{Sign, Span, Token, TokenKind, Word};
+use crate::tree::{Name, Update};
+
+/// The tokens behind this sign, if it stands at the front.
+pub(crate) fn sign_at(sign: Sign, tokens: &[Token]) -> Option<&[Token]>
+    ensures found { IfSome result (λ rest. BeginsWithSign sign (views tokens.now) (views rest.now)) }
+    ensures none { IfNone result ((behind : List AToken) → BeginsWithSign sign (views tokens.now) behind → ⊥) }
+{
+    let (first, rest) = tokens.split_first()?;
+    match &first.kind {
+        TokenKind::Sign(found) => { if *found == sign { Some(rest) } else { None } }
+        _ => None,
+    }
+}
+
+/// Behind this sign.
+pub(crate) fn behind_sign(sign: Sign, tokens: &[Token]) -> Result<&[Token], Problem>
+    ensures { Reads (λ rest. TokenGoes (The_sign sign) tt (views tokens.now) (views rest.now)) (TokenFails (The_sign sign) (views tokens.now)) result }
+{
+    match sign_at(sign, tokens) {
+        Some(rest) => Ok(rest),
+        None => Err(Problem::Expected {
+            what: What::Sign(sign),
+            left: tokens.len(),
+        }),
+    }
+}
+
+/// The tokens behind this word, if it stands at the front.
+pub(crate) fn word_at(word: Word, tokens: &[Token]) -> Option<&[Token]>
+    ensures found { IfSome result (λ rest. BeginsWith word (views tokens.now) (views rest.now)) }
+    ensures none { IfNone result ((behind : List AToken) → BeginsWith word (views tokens.now) behind → ⊥) }
+{
+    let (first, rest) = tokens.split_first()?;
+    match &first.kind {
+        TokenKind::Word(found) => { if *found == word { Some(rest) } else { None } }
+        _ => None,
+    }
+}
+
+/// Behind this word.
+pub(crate) fn behind_word(word: Word, tokens: &[Token]) -> Result<&[Token], Problem>
+    ensures { Reads (λ rest. TokenGoes (The_word word) tt (views tokens.now) (views rest.now)) (TokenFails (The_word word) (views tokens.now)) result }
+{
+    match word_at(word, tokens) {
+        Some(rest) => Ok(rest),
+        None => Err(Problem::Expected {
+            what: What::Word(word),
+            left: tokens.len(),
+        }),
+    }
+}
+
+/// A name, and the tokens behind it.
+pub(crate) fn name(tokens: &[Token]) -> Result<(Name, &[Token]), Problem>
+    ensures { Reads (λ x. TokenGoes A_name (name_view x.0) (views tokens.now) (views x.1.now)) (TokenFails A_name (views tokens.now)) result }
+{
+    let Some((first, rest)) = tokens.split_first() else {
+        return Err(Problem::Expected {
+            what: What::Name,
+            left: 0,
+        });
+    };
+    match &first.kind {
+        TokenKind::Name(text) => Ok((
+            Name {
+                text: text.clone()?,
+                span: first.span,
+            },
+            rest,
+        )),
+        _ => Err(Problem::Expected {
+            what: What::Name,
+            left: tokens.len(),
+        }),
+    }
+}
+
+/// A number, where it stands, and the tokens behind it.
+pub(crate) fn number(tokens: &[Token]) -> Result<(u32, Span, &[Token]), Problem>
+    ensures { Reads (λ x. TokenGoes A_number (x.0, x.1) (views tokens.now) (views x.2.now)) (TokenFails A_number (views tokens.now)) result }
+{
+    let Some((first, rest)) = tokens.split_first() else {
+        return Err(Problem::Expected {
+            what: What::Number,
+            left: 0,
+        });
+    };
+    match &first.kind {
+        TokenKind::Number(number) => Ok((*number, first.span, rest)),
+        _ => Err(Problem::Expected {
+            what: What::Number,
+            left: tokens.len(),
+        }),
+    }
+}
+
+/// The operator of an assignment, and the tokens behind it.
+pub(crate) fn update(tokens: &[Token]) -> Result<(Update, &[Token]), Problem>
+    ensures { Reads (λ x. TokenGoes An_update x.0 (views tokens.now) (views x.1.now)) (TokenFails An_update (views tokens.now)) result }
+{
+    let Some((first, rest)) = tokens.split_first() else {
+        return Err(Problem::Expected {
+            what: What::Operator,
+            left: 0,
+        });
+    };
+    match &first.kind {
+        TokenKind::Sign(sign) => match operator::update_of(*sign) {
+            Some(update) => Ok((update, rest)),
+            None => Err(Problem::Expected {
+                what: What::Operator,
+                left: tokens.len(),
+            }),
+        },
+        _ => Err(Problem::Expected {
+            what: What::Operator,
+            left: tokens.len(),
+        }),
+    }
+}
