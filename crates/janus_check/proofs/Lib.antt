@@ -2,3 +2,4 @@ pub mod LookupLemmas
 pub mod ScopeLemmas
 pub mod FirstLemmas
 pub mod FormedLemmas
+pub mod Orders

@@ -1,0 +1,85 @@
+//! The numbers of expressions.
+
+ghost use Rattle.std.specs.Prelude.{◌≡◌, ◌≢◌, true};
+ghost use Rattle.std.specs.Prelude.{List, ℤ};
+ghost use Rattle.janus_meaning.specs.Fault.{Fine, Bad, Broken};
+ghost use Rattle.janus_meaning.specs.Store.{Arr, look, element as element_of};
+ghost use Rattle.janus_store.specs.Stores.{IsArray};
+ghost use Rattle.janus_meaning.specs.Value.{value as value_of, both};
+ghost use Rattle.janus_invert.specs.Expressions.{exp_of};
+ghost use Rattle.janus_evaluation.specs.Results.{result_of};
+
+use crate::fault::ValueFault;
+use crate::operator::{bit_of, holds, negative, operate};
+use janus_invert::code::Exp;
+use janus_store::Store;
+
+/// The number of an expression, or the first fault from left to right. Its names are declared, each as what its use wants.
+pub fn value(exp: &Exp, store: &Store) -> Result<i32, ValueFault>
+    requires { value_of (exp_of exp.now) store.now ≢ Bad Broken }
+    ensures { result_of result ≡ value_of (exp_of exp.now) store.now }
+{
+    match exp {
+        Exp::Number(number) => Ok(number.cast_signed()),
+        Exp::Variable(name) => match store.get(name.as_str()) {
+            Some(number) => Ok(number),
+            None => unreachable!(),
+        },
+        Exp::Element(name, index) => match value(index, store) {
+            Ok(index) => element(name.as_str(), index, store),
+            Err(fault) => Err(fault),
+        },
+        Exp::Negative(operand) => match value(operand, store) {
+            Ok(number) => Ok(negative(number)),
+            Err(fault) => Err(fault),
+        },
+        Exp::Binary(operator, left, right) => match value(left, store) {
+            Ok(left) => match value(right, store) {
+                Ok(right) => operate(*operator, left, right),
+                Err(fault) => Err(fault),
+            },
+            Err(fault) => Err(fault),
+        },
+        Exp::And(left, right) => match value(left, store) {
+            Ok(left) => {
+                if holds(left) {
+                    as_bit(value(right, store))
+                } else {
+                    Ok(0)
+                }
+            }
+            Err(fault) => Err(fault),
+        },
+        Exp::Or(left, right) => match value(left, store) {
+            Ok(left) => {
+                if holds(left) {
+                    Ok(1)
+                } else {
+                    as_bit(value(right, store))
+                }
+            }
+            Err(fault) => Err(fault),
+        },
+    }
+}
+
+/// The element of an array at an index; a fault for an index out of its range.
+fn element(name: &str, index: i32, store: &Store) -> Result<i32, ValueFault>
+    requires { IsArray (look name.now store.now) }
+    ensures { (l : List ℤ) → look name.now store.now ≡ Fine (Arr l) → result_of result ≡ element_of l index }
+{
+    match store.element(name, index) {
+        Some(number) => Ok(number),
+        None => Err(ValueFault::IndexRange),
+    }
+}
+
+/// 1 for a number that holds as a test, 0 for one that doesn't.
+fn as_bit(number: Result<i32, ValueFault>) -> Result<i32, ValueFault>
+    ensures { result_of result ≡ both true (result_of number) }
+{
+    match number {
+        Ok(number) => Ok(bit_of(holds(number))),
+        Err(fault) => Err(fault),
+    }
+}

@@ -1,0 +1,14 @@
+//! The numbers of expressions, and what assignments do to a store.
+//!
+//! To the layer above it promises that an expression of flat code has in a store the number, or the first fault, that the
+//! meaning gives it, and that an assignment changes its variable or element alone, or nothing at a fault. Numbers have 32 bits
+//! in two's complement; operators are those of Janus (Yokoyama, Axelsen and Glück 2008), division truncates towards zero as
+//! in C.
+#![tactic(auto)]
+
+mod fault;
+mod operator;
+mod expression;
+
+pub use crate::fault::ValueFault;
+pub use crate::expression::value;
