@@ -5,17 +5,18 @@ use Rattle.std.specs.Fmt.{digits}
 use Rattle.janus_meaning.specs.Limit.{step_limit}
 use Rattle.kernel_core.specs.Determined as machine
 use Rattle.kernel_core.specs.Determined.{StepIsDetermined}
-use Rattle.kernel_core.specs.Legal.{IsLegalState}
+use Rattle.kernel_core.specs.LegalState.{IsLegalState}
 use Rattle.kernel_core.specs.Theorems.{StaysLegal}
 use Rattle.kernel_core.specs.Travel.{Aim, Undo, Redo, Goto}
 use Rattle.kernel_core.specs.Slices.{finished_by, finished}
-use Rattle.kernel_core.specs.Runs.{Machine, Request, IsPost, IsBegin, IsSliceOf}
+use Rattle.kernel_core.specs.Runs.{Machine, IsPost, IsBegin, IsSliceOf}
+use Rattle.kernel_core.specs.Request.{Request}
 use Rattle.kernel_core.proofs.Determined.{post_same}
 use Rattle.kernel_core.specs.declared.events.Event.TheVariants as event
 use Rattle.kernel_core.specs.declared.events.Told.{Told}
 use Rattle.kernel_core.specs.declared.events.Told.TheVariants as told
-use Rattle.kernel_core.specs.declared.kernel.PostFault.{PostFault}
-use Rattle.kernel_core.specs.declared.kernel.PostFault.TheVariants.{QueueFull, Memory}
+use Rattle.kernel_core.specs.declared.post.PostFault.{PostFault}
+use Rattle.kernel_core.specs.declared.post.PostFault.TheVariants.{Closing, MinutesFull, QueueFull, Memory}
 use Rattle.kernel_core.specs.declared.outcome.Begun.{Begun}
 use Rattle.kernel_core.specs.declared.outcome.Begun.TheVariants as begun
 use Rattle.kernel_core.specs.declared.outcome.Sliced.{Sliced}
@@ -37,11 +38,13 @@ begun_of : Told → Begun
 begun_of (told.Post answer) = begun.Nothing
 begun_of (told.Begin answer) = answer
 begun_of (told.Slice answer) = begun.Nothing
+begun_of told.Shut = begun.Nothing
 
 sliced_of : Told → Sliced
 sliced_of (told.Post answer) = sliced.Nothing
 sliced_of (told.Begin answer) = sliced.Nothing
 sliced_of (told.Slice answer) = answer
+sliced_of told.Shut = sliced.Nothing
 
 abbrev Wants : Begun → Type 0
 Wants answer = machine.TellsWant (told.Begin answer)
@@ -68,8 +71,7 @@ slice_legal stays old new t legal h = stays old new (event.Slice step_limit fals
 
 post_legal : (old new : Machine) (r : Request) (t : Result ℕ PostFault) → IsLegalState old.state → IsPost old lane r t new → IsLegalState new.state
 post_legal old new r (Ok n) legal h = subst (λ (m : Machine). IsLegalState m.state) (sym h.2) legal
-post_legal old new r (Err QueueFull) legal h = subst (λ (m : Machine). IsLegalState m.state) (sym h.1) legal
-post_legal old new r (Err Memory) legal h = subst (λ (m : Machine). IsLegalState m.state) (sym h) legal
+post_legal old new r (Err fault) legal h = subst (λ (m : Machine). IsLegalState m.state) (sym h.1) legal
 
 -- ---- a job to its end
 
@@ -160,8 +162,10 @@ Lacks (NotPosted f) = f ≡ Memory
 Lacks (Finished o) = Wants (begun.Ended o)
 
 posted_ample : (t : Result ℕ PostFault) (mid new : Machine) (came : Came) → AfterPost t mid came new → (Lacks came → ⊥) → t ≡ Err Memory → ⊥
-posted_ample (Err QueueFull) mid new came h ample e = cc
 posted_ample (Err Memory) mid new came h ample e = subst (λ (c : Came). Lacks c → ⊥) (sym h.0) ample refl
+posted_ample (Err Closing) mid new came h ample e = cc
+posted_ample (Err MinutesFull) mid new came h ample e = cc
+posted_ample (Err QueueFull) mid new came h ample e = cc
 posted_ample (Ok n) mid new came h ample e = cc
 
 begun_same : StepIsDetermined → StaysLegal → (mid inside other_inside new other : Machine) (t u : Begun) (o p : Outcome) → IsLegalState mid.state → IsBegin mid t inside → AfterBegin t inside o new → IsAmple o

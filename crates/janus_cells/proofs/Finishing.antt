@@ -148,6 +148,7 @@ enters_nearer s t told new h =
 
 pub begin_nearer : (old new : Machine) (told : Begun) → IsBorder old.state.job → IsBegin old told new → Begins old.state.job told new.state.job
 begin_nearer old new told i h =
-    let at : BeginsAt old (Border i.0) old.queue told new = subst (λ job. BeginsAt old job old.queue told new) i.1 h in
+    let at : BeginsAt old (Border i.0) old.queue told h.0 = subst (λ job. BeginsAt old job old.queue told h.0) i.1 h.1 in
+    let state : new.state ≡ at.0 = ap (λ m. m.state) h.2 ∙ ap (λ m. m.state) at.2 in
     subst (λ job. Begins job told new.state.job) (sym i.1)
-    (subst (λ state. Begins (Border i.0) told state.job) (sym (ap (λ m. m.state) at.2)) (enters_nearer old.state.past i.0 told at.0 at.1))
+    (subst (λ state. Begins (Border i.0) told state.job) (sym state) (enters_nearer old.state.past i.0 told at.0 at.1))

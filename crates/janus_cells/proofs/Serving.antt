@@ -3,12 +3,12 @@ use Rattle.std.proofs.Common.{◌≡◌, refl, ℕ, ◌+◌, zero, suc, Bool, tr
 use Rattle.janus_meaning.specs.Limit.{step_limit}
 use Rattle.kernel_core.specs.State.{Past, State, Job, Idle, Border}
 use Rattle.kernel_core.specs.Begins.{travel_to, Enters, Departs, TakesCell, TakesMove, TakesGoto}
-use Rattle.kernel_core.specs.Runs.{Machine, Request, RunCell, Undo, Redo, Goto, Waiting, Takes, BeginsAt, IsPost, IsBegin, IsSliceOf}
+use Rattle.kernel_core.specs.Runs.{Machine, Takes, TakesUnless, BeginsAt, IsPost, IsBegin, IsSliceOf}
+use Rattle.kernel_core.specs.Request.{Request, RunCell, Undo, Redo, Goto}
 use Rattle.kernel_core.specs.Travel as aim
 use Rattle.kernel_core.specs.Travel.{Travel}
 use Rattle.kernel_core.specs.Slices.{cells}
-use Rattle.kernel_core.specs.declared.kernel.PostFault.{PostFault}
-use Rattle.kernel_core.specs.declared.kernel.PostFault.TheVariants as post
+use Rattle.kernel_core.specs.declared.post.PostFault.{PostFault}
 use Rattle.kernel_core.specs.declared.outcome.Begun.{Begun}
 use Rattle.kernel_core.specs.declared.outcome.Begun.TheVariants as begun
 use Rattle.kernel_core.specs.declared.outcome.Sliced.{Sliced}
@@ -53,30 +53,33 @@ takes_took s (Undo k) told new h = move_took s (travel_to aim.Undo k 0) _ told n
 takes_took s (Redo k) told new h = move_took s (travel_to aim.Redo 0 k) _ told new h
 takes_took s (Goto n) told new h = goto_took s n _ told new h
 
+taken_took : (closing : Bool) (s : Past) (r : Request) (told : Begun) (new : State) → TakesUnless closing s r told new → Took told new.job
+taken_took false s r told new h = takes_took s r told new h
+taken_took true s r told new h = subst (λ b. Took b new.job) (sym h.0) (ap (λ x. x.job) h.1)
+
 -- the job stands alone in the queue
 abbrev pub IsAlone : Machine → Request → Type 0
-IsAlone m r = (w : Waiting) × (m.queue ≡ w ∷ []) × (w.job ≡ r)
+IsAlone m r = m.queue ≡ r ∷ []
 
 -- a post that is taken does
 pub posted_alone : (old new : Machine) (r : Request) (n : ℕ) → old.state.job ≡ Idle → old.queue ≡ [] → IsPost old lane r (Ok n) new → (new.state.job ≡ Idle) × IsAlone new r
-posted_alone old new r n idle alone h =
-    (ap (λ m. m.state.job) h.2 ∙ idle, (_, ap (λ m. m.queue) h.2 ∙ ap (λ q. q ++ record { number = n; lane = lane; job = r } ∷ []) alone, refl))
+posted_alone old new r n idle alone h = (ap (λ m. m.state.job) h.2 ∙ idle, ap (λ m. m.queue) h.2 ∙ ap (λ q. q ++ r ∷ []) alone)
 
 -- a post that is refused changes nothing
 pub refused_unchanged : (old new : Machine) (r : Request) (f : PostFault) → IsPost old lane r (Err f) new → new ≡ old
-refused_unchanged old new r post.QueueFull h = h.1
-refused_unchanged old new r post.Memory h = h
+refused_unchanged old new r f h = h.1
 
 -- the begin of a job that stands alone in the queue
 pub begun_alone : (old new : Machine) (r : Request) (told : Begun) → old.state.job ≡ Idle → IsAlone old r → IsBegin old told new → Took told new.state.job × (new.queue ≡ [])
 begun_alone old new r told idle alone h =
-    let at : BeginsAt old Idle (alone.0 ∷ []) told new = subst (λ q. BeginsAt old Idle q told new) alone.1 (subst (λ job. BeginsAt old job old.queue told new) idle h) in
-    (subst (λ s. Took told s.job) (sym (ap (λ m. m.state) at.2)) (takes_took old.state.past alone.0.job told at.0 at.1), ap (λ m. m.queue) at.2)
+    let at : BeginsAt old Idle (r ∷ []) told h.0 = subst (λ q. BeginsAt old Idle q told h.0) alone (subst (λ job. BeginsAt old job old.queue told h.0) idle h.1) in
+    let state : new.state ≡ at.0 = ap (λ m. m.state) h.2 ∙ ap (λ m. m.state) at.2 in
+    (subst (λ s. Took told s.job) (sym state) (taken_took old.closing old.state.past r told at.0 at.1), ap (λ m. m.queue) h.2 ∙ ap (λ m. m.queue) at.2)
 
 pub slice_queue : (old new : Machine) (told : Sliced) → IsSliceOf old step_limit false told new → new.queue ≡ old.queue
 slice_queue old new told h = ap (λ m. m.queue) h.2
 
 pub border_queue : (old new : Machine) (told : Begun) → IsBorder old.state.job → IsBegin old told new → new.queue ≡ old.queue
 border_queue old new told i h =
-    let at : BeginsAt old (Border i.0) old.queue told new = subst (λ job. BeginsAt old job old.queue told new) i.1 h in
-    ap (λ m. m.queue) at.2
+    let at : BeginsAt old (Border i.0) old.queue told h.0 = subst (λ job. BeginsAt old job old.queue told h.0) i.1 h.1 in
+    ap (λ m. m.queue) h.2 ∙ ap (λ m. m.queue) at.2

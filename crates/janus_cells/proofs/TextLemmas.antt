@@ -22,7 +22,7 @@ use Rattle.kernel_core.specs.declared.outcome.End.TheVariants.{All, Asked, NoMem
 use Rattle.kernel_core.specs.declared.outcome.Outcome.{Outcome}
 use Rattle.kernel_core.specs.declared.outcome.Outcome.TheVariants.{Ran, Failed, Interrupted, Undid, Redid, Went, Refused}
 use Rattle.kernel_core.specs.declared.outcome.Refusal.{Refusal}
-use Rattle.kernel_core.specs.declared.outcome.Refusal.TheVariants.{Syntax, Check, TooFar, NoNode, Memory}
+use Rattle.kernel_core.specs.declared.outcome.Refusal.TheVariants.{Syntax, Check, TooFar, NoNode, Closing, Memory}
 use Rattle.janus_cells.specs.Output.{counted_text, numbered_text, place_text, end_text, outcome_line}
 use Rattle.janus_cells.specs.Shown.{value_text}
 
@@ -112,6 +112,7 @@ refusal_name_utf8 (Syntax f) = syntax_name_utf8 f
 refusal_name_utf8 (Check f) = check_name_utf8 f
 refusal_name_utf8 TooFar = literal (codes "TooFar") refl
 refusal_name_utf8 NoNode = literal (codes "NoNode") refl
+refusal_name_utf8 Closing = literal (codes "Closing") refl
 refusal_name_utf8 Memory = literal (codes "Memory") refl
 
 -- ---- the parts of an outcome's line

@@ -2,8 +2,10 @@
 use Rattle.std.proofs.Common.{◌≡◌, ◌∙◌, ℕ, Bool, true, false, not, List, [], ◌∷◌, ◌++◌, Option, refl, sym, ap, subst, append_assoc, append-nil, ◌⊎◌, inl, inr}
 use Rattle.std.specs.Prelude.{Result, Ok, Err, OnOk, OnErr, ◌||◌, string_bytes, if◌then◌else◌}
 use Rattle.std.specs.Io.KnownBytes.{Appends, Keeps}
-use Rattle.kernel_core.specs.Runs.{Machine, Request, RunCell}
-use Rattle.kernel_core.specs.declared.kernel.PostFault.TheVariants.{Memory}
+use Rattle.kernel_core.specs.Runs.{Machine, IsRefusal}
+use Rattle.kernel_core.specs.Request.{Request, RunCell}
+use Rattle.kernel_core.specs.declared.post.PostFault.{PostFault}
+use Rattle.kernel_core.proofs.Posts.{some_refusal}
 use Rattle.janus_cells.specs.declared.command.Command.{Command}
 use Rattle.janus_cells.specs.declared.command.Command.TheVariants.{Run, Undo, Redo, Goto, Show, Unknown}
 use Rattle.janus_cells.specs.declared.run.Gathered.{Gathered}
@@ -25,16 +27,16 @@ not_true true h = sym h
 not_true false h = refl
 
 -- there was no memory for the text
-pub lost_ok : {E : Type 0} (a b : Option (List ℕ)) (old : Machine) (G : Gathered) (res : Result (Unit {0}) E) → OnOk res (Appends a b (ended_line (post_fault_line Memory)))
+pub lost_ok : {E : Type 0} (a b : Option (List ℕ)) (old : Machine) (fault : PostFault) (G : Gathered) (res : Result (Unit {0}) E) → IsRefusal old fault → OnOk res (Appends a b (ended_line (post_fault_line fault)))
     → OnOk res ((text : List ℕ) → IsGathered G text → (came : Came) × Serves old (RunCell text false true) came old × Appends a b (ended_line (came_line came)))
-lost_ok a b old G (Ok x) p = λ text h. (NotPosted Memory, not_posted {f = Memory} refl, p)
-lost_ok a b old G (Err f) p = tt
+lost_ok a b old fault G (Ok x) r p = λ text h. (NotPosted fault, not_posted {f = fault} (r, refl), p)
+lost_ok a b old fault G (Err f) r p = tt
 
 -- there was no memory for the text
-pub lost_err : {E : Type 0} (a b : Option (List ℕ)) (old : Machine) (G : Gathered) (res : Result (Unit {0}) E) → OnErr res (SentSome a b (ended_line (post_fault_line Memory)))
+pub lost_err : {E : Type 0} (a b : Option (List ℕ)) (old : Machine) (fault : PostFault) (G : Gathered) (res : Result (Unit {0}) E) → IsRefusal old fault → OnErr res (SentSome a b (ended_line (post_fault_line fault)))
     → OnErr res ((text : List ℕ) → IsGathered G text → (came : Came) × Serves old (RunCell text false true) came old × SentSome a b (ended_line (came_line came)))
-lost_err a b old G (Ok x) p = tt
-lost_err a b old G (Err f) p = λ text h. (NotPosted Memory, not_posted {f = Memory} refl, p)
+lost_err a b old fault G (Ok x) r p = tt
+lost_err a b old fault G (Err f) r p = λ text h. (NotPosted fault, not_posted {f = fault} (r, refl), p)
 
 rest_err_gathered : (a b : Option (List ℕ)) (old new : Machine) (G : Gathered) (text : List ℕ) → G.has_text ≡ true → IsGathered G text
     → (came : Came) × Serves old (RunCell text false true) came new × SentSome a b (ended_line (came_line came))
@@ -47,20 +49,26 @@ pub rest_err : {E : Type 0} (a b : Option (List ℕ)) (old new : Machine) (G : G
 rest_err a b old new G (Ok x) e p = tt
 rest_err a b old new G (Err f) e p = λ text h. rest_err_gathered a b old new G text e h (p text h)
 
--- ---- any request may find no memory, so whatever was served before, the rest of an input has a transcript
+-- ---- any request may be refused, so whatever was served before, the rest of an input has a transcript
+
+-- the request is refused, if for nothing else then for want of memory
+refuses_some : (old : Machine) (r : Request) → (out : List ℕ) × (new : Machine) × Answers old r out new
+refuses_some old r =
+    let refusal = some_refusal old in
+    (ended_line (post_fault_line refusal.0), old, (NotPosted refusal.0, not_posted {f = refusal.0} (refusal.1, refl), refl))
 
 any_rest_at : (b : Bool) (old : Machine) (text : List ℕ) → (out : List ℕ) × (new : Machine) × RestAt b old text out new
 any_rest_at true old text = ([], old, (refl, refl))
-any_rest_at false old text = (ended_line (post_fault_line Memory), old, (NotPosted Memory, not_posted {f = Memory} refl, refl))
+any_rest_at false old text = refuses_some old _
 
 pub any_rest : (old : Machine) (text : List ℕ) → (out : List ℕ) × (new : Machine) × RunsRest old text out new
 any_rest old text = any_rest_at (is_blank text) old text
 
 any_does : (command : Command) (old : Machine) → (command ≡ Run → ⊥) → (out : List ℕ) × (new : Machine) × Does command old out new
 any_does Run old other = absurd (other refl)
-any_does (Undo k) old other = (ended_line (post_fault_line Memory), old, (NotPosted Memory, not_posted {f = Memory} refl, refl))
-any_does (Redo k) old other = (ended_line (post_fault_line Memory), old, (NotPosted Memory, not_posted {f = Memory} refl, refl))
-any_does (Goto n) old other = (ended_line (post_fault_line Memory), old, (NotPosted Memory, not_posted {f = Memory} refl, refl))
+any_does (Undo k) old other = refuses_some old _
+any_does (Redo k) old other = refuses_some old _
+any_does (Goto n) old other = refuses_some old _
 any_does Show old other = (world_text old.state.past, old, (refl, refl))
 any_does Unknown old other = (bad_command_line, old, (refl, refl))
 
@@ -71,7 +79,7 @@ after_rest command old text other =
     (r.0 ++ d.0, d.1, (r.1, r.0, d.0, r.2, d.2, refl))
 
 any_command : (command : Command) (old : Machine) (text : List ℕ) → (out : List ℕ) × (new : Machine) × CommandServes command old text out new
-any_command Run old text = (ended_line (post_fault_line Memory), old, (NotPosted Memory, not_posted {f = Memory} refl, refl))
+any_command Run old text = refuses_some old _
 any_command (Undo k) old text = after_rest (Undo k) old text (λ e. cc e)
 any_command (Redo k) old text = after_rest (Redo k) old text (λ e. cc e)
 any_command (Goto n) old text = after_rest (Goto n) old text (λ e. cc e)

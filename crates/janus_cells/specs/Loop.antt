@@ -1,8 +1,9 @@
 -- What the program's loop comes to, line by line: words for the contracts of its private functions. The promise of `run` has
 -- none of them; that what the loop writes is a transcript is proved in proofs/ScriptLemmas.
 use Rattle.std.specs.Prelude.{◌≡◌, ℕ, Bool, true, false, List, [], ◌∷◌, ◌++◌, if◌then◌else◌}
-use Rattle.kernel_core.specs.Runs.{Machine, RunCell}
-use Rattle.kernel_core.specs.Runs as request
+use Rattle.kernel_core.specs.Runs.{Machine}
+use Rattle.kernel_core.specs.Request.{RunCell}
+use Rattle.kernel_core.specs.Request as request
 use Rattle.janus_cells.specs.Command.{command_of}
 use Rattle.janus_cells.specs.Lines.{is_blank, is_command_line, trimmed}
 use Rattle.janus_cells.specs.Shown.{world_text}

@@ -1,8 +1,9 @@
 -- What comes of one request that a kernel without an open job serves to its end.
 use Rattle.std.specs.Prelude.{ℕ, false, Ok, Err}
 use Rattle.janus_meaning.specs.Limit.{step_limit}
-use Rattle.kernel_core.specs.Runs.{Machine, Request, IsPost, IsBegin, IsSliceOf}
-use Rattle.kernel_core.specs.declared.kernel.PostFault.{PostFault}
+use Rattle.kernel_core.specs.Runs.{Machine, IsPost, IsBegin, IsSliceOf}
+use Rattle.kernel_core.specs.Request.{Request}
+use Rattle.kernel_core.specs.declared.post.PostFault.{PostFault}
 use Rattle.kernel_core.specs.declared.outcome.Outcome.{Outcome}
 use Rattle.kernel_core.specs.declared.outcome.Begun.TheVariants as begun
 use Rattle.kernel_core.specs.declared.outcome.Sliced.TheVariants as sliced

@@ -1,9 +1,10 @@
 -- What a run writes: the actions that its input asks for are served one after the other.
 use Rattle.std.specs.Prelude.{◌≡◌, ℕ, true, false, List, [], ◌∷◌, ◌++◌, codes}
 use Rattle.kernel_core.specs.PostFault.{number_of, name_of}
-use Rattle.kernel_core.specs.Runs.{Machine, Request, RunCell, new_machine}
-use Rattle.kernel_core.specs.Runs as request
-use Rattle.kernel_core.specs.declared.kernel.PostFault.{PostFault}
+use Rattle.kernel_core.specs.Runs.{Machine, new_machine}
+use Rattle.kernel_core.specs.Request.{Request, RunCell}
+use Rattle.kernel_core.specs.Request as request
+use Rattle.kernel_core.specs.declared.post.PostFault.{PostFault}
 use Rattle.janus_cells.specs.Lines.{ended_line}
 use Rattle.janus_cells.specs.Output.{numbered_text, outcome_line}
 use Rattle.janus_cells.specs.Script.{Action, RunText, UndoCells, RedoCells, GoToNode, ShowWorld, BadCommand, script}

@@ -3,7 +3,8 @@ ghost use Rattle.std.specs.Prelude.{◌≡◌, ◌≢◌, ◌||◌, ◌==◌, �
 ghost use Rattle.std.specs.List.{position_or_len, before_first, after_first};
 ghost use Rattle.std.specs.Option.{MatchOption};
 ghost use Rattle.std.specs.Io.KnownBytes.{Appends, Keeps};
-ghost use Rattle.kernel_core.specs.Runs.{Machine, request_of, RunCell};
+ghost use Rattle.kernel_core.specs.Runs.{Machine, IsRefusal};
+ghost use Rattle.kernel_core.specs.Request.{request_of, RunCell};
 ghost use Rattle.kernel_core.specs.State.{Idle};
 ghost use Rattle.janus_cells.specs.Gathering.{IsGathered};
 ghost use Rattle.janus_cells.specs.Lines.{ended_line, is_blank as is_blank_text, is_command_line as is_command_line_text, lines};
@@ -250,7 +251,17 @@ fn run_cell<W: Write>(
             },
             writer,
         ),
-        None => send_post_fault(writer, PostFault::Memory),
+        None => send_post_fault(writer, lost_text(kernel)),
+    }
+}
+
+/// Why a cell is not posted for whose text there was no memory: that, unless any post is refused now.
+fn lost_text(kernel: &Kernel) -> PostFault
+    ensures { IsRefusal kernel.now.machine result }
+{
+    match kernel.post_fault() {
+        Some(fault) => fault,
+        None => PostFault::Memory,
     }
 }
 

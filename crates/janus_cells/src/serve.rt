@@ -1,6 +1,6 @@
 //! One request, from its post to its end.
 ghost use Rattle.std.specs.Prelude.{◌≡◌, [], IfOk, IfErr};
-ghost use Rattle.kernel_core.specs.Runs.{request_of};
+ghost use Rattle.kernel_core.specs.Request.{request_of};
 ghost use Rattle.kernel_core.specs.State.{Idle, Inside, Entered};
 ghost use Rattle.janus_cells.specs.Served.{Finishes, Serves, NotPosted, Finished};
 

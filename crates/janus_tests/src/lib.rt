@@ -10,6 +10,8 @@ mod checking;
 #[cfg(test)]
 mod inverting;
 #[cfg(test)]
+mod posting;
+#[cfg(test)]
 mod reading;
 #[cfg(test)]
 mod storing;

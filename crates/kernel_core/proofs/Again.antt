@@ -1,11 +1,12 @@
 -- Where travels lead, and that a redo that follows an undo gives back what the undo left.
 use Rattle.std.proofs.Common.{◌≡◌, ℕ, ◌+◌, ◌-◌, ◌<◌, ◌≤◌, Bool, true, false, IsTrue, List, get_or, zero, suc, refl, sym, ap, ◌∙◌, subst, arith}
 use Rattle.kernel_core.specs.State.{Node, Past, Idle, State, root, ancestor}
-use Rattle.kernel_core.specs.Legal.{can_undo, IsLegal}
+use Rattle.kernel_core.specs.Legal.{can_undo, can_redo, IsLegal}
 use Rattle.kernel_core.specs.Slices.{finished_by, finished, cells, stepped, moved}
 use Rattle.kernel_core.specs.Begins.{travel_to}
-use Rattle.kernel_core.specs.Runs.{Undo, Redo}
-use Rattle.kernel_core.specs.Theorems.{after, gone, descendant, MoveEnds, UndoGoesUp, RedoGoesDown, GotoGoesThere, RedoGivesBack}
+use Rattle.kernel_core.specs.Request.{Undo, Redo}
+use Rattle.kernel_core.specs.Midway.{after, gone}
+use Rattle.kernel_core.specs.Theorems.{descendant, MoveEnds, EndsUnless, UndoGoesUp, RedoGoesDown, GotoGoesThere, RedoGivesBack}
 use Rattle.kernel_core.specs.Travel.{Travel, Aim}
 use Rattle.kernel_core.specs.Travel as aim
 use Rattle.kernel_core.specs.declared.outcome.End.{End}
@@ -157,15 +158,24 @@ end_told t end = by_aim t.aim t.went_up t.went_down end
     by_aim aim.Redo i j end = refl
     by_aim (aim.Goto n) i j end = refl
 
+-- what ended otherwise than by a refusal was taken before a shutdown
+undone_open : (closing : Bool) (s : Past) (k : ℕ) (new : State) → EndsUnless closing s (Undo k) (outcome.Undid k All) new → MoveEnds s (travel_to aim.Undo k 0) (can_undo s.nodes s.position k) (outcome.Undid k All) new
+undone_open false s k new h = h
+undone_open true s k new h = absurd (let e = h.0 in cc)
+
+redone_open : (closing : Bool) (s : Past) (k : ℕ) (new : State) → EndsUnless closing s (Redo k) (outcome.Redid k All) new → MoveEnds s (travel_to aim.Redo 0 k) (can_redo s.favourites s.position k) (outcome.Redid k All) new
+redone_open false s k new h = h
+redone_open true s k new h = absurd (let e = h.0 in cc)
+
 pub redo_gives_back : RedoGivesBack
 unfolding end_of_outcome
 redo_gives_back old mid later new k undo redo told_undo told_redo g idle next run ends same then run_on ends_on =
     let size : k + 0 ≡ k = omega arith in
     let other : 0 + k ≡ k = omega arith in
-    let first = undid_all old.state.past (travel_to aim.Undo k 0) k _ mid.state size (jobs_end old mid (Undo k) undo told_undo (outcome.Undid k All) idle next run ends) (λ j end e. sym (end_told (after (travel_to aim.Undo k 0) j) end) ∙ ap end_of_outcome e) in
+    let first = undid_all old.state.past (travel_to aim.Undo k 0) k _ mid.state size (undone_open old.closing old.state.past k mid.state (jobs_end old mid (Undo k) undo told_undo (outcome.Undid k All) idle next run ends)) (λ j end e. sym (end_told (after (travel_to aim.Undo k 0) j) end) ∙ ap end_of_outcome e) in
     let there = same ∙ first.0 in
     let again : later.state.job ≡ Idle = ap (λ (s : State). s.job) there in
-    let second = redid_all later.state.past (travel_to aim.Redo 0 k) k _ new.state other (jobs_end later new (Redo k) redo told_redo (outcome.Redid k All) again then run_on ends_on) (λ j end e. sym (end_told (after (travel_to aim.Redo 0 k) j) end) ∙ ap end_of_outcome e) in
+    let second = redid_all later.state.past (travel_to aim.Redo 0 k) k _ new.state other (redone_open later.closing later.state.past k new.state (jobs_end later new (Redo k) redo told_redo (outcome.Redid k All) again then run_on ends_on)) (λ j end e. sym (end_told (after (travel_to aim.Redo 0 k) j) end) ∙ ap end_of_outcome e) in
     ap (λ (s : State). s.past) second
     ∙ ap (λ (s : State). gone s.past (travel_to aim.Redo 0 k) k) there
     ∙ there_and_back old.state.past k g first.1

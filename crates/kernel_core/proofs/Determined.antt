@@ -1,6 +1,6 @@
 -- Where memory is ample, each step of the machine is determined, and so is each run.
 use Rattle.std.specs.Prelude.{nat_lt, length}
-use Rattle.std.proofs.Common.{◌≡◌, ℕ, ◌+◌, ◌-◌, ◌<◌, ◌≤◌, Bool, true, false, List, [], ◌∷◌, zero, suc, refl, sym, ap, ◌∙◌, subst, arith, inl, inr, Result, Ok, Err, ◌++◌}
+use Rattle.std.proofs.Common.{◌≡◌, ℕ, ◌+◌, ◌-◌, ◌<◌, ◌≤◌, Bool, true, false, List, [], ◌∷◌, zero, suc, refl, sym, ap, ◌∙◌, subst, arith, inl, inr, Result, Ok, Err}
 use Rattle.janus_meaning.specs.Fault as meaning
 use Rattle.janus_meaning.specs.World.{World, Cell}
 use Rattle.janus_machine.specs.Faults.{fault_of}
@@ -12,7 +12,8 @@ use Rattle.kernel_core.specs.State.{Past, Work, Posted, Move, Job as Open, Idle,
 use Rattle.kernel_core.specs.Legal.{can_undo, can_redo, IsLegal}
 use Rattle.kernel_core.specs.Slices.{cells, stepped, moved, Backs, Arrives, Settles, Comes, Goes, SlicesIn, SlicesAt}
 use Rattle.kernel_core.specs.Begins.{travel_to, Departs, Enters, TakesMove, TakesGoto, TakesCell}
-use Rattle.kernel_core.specs.Runs.{Machine, Request, RunCell, Undo, Redo, Goto, request_of, IsPost, Run, BeginsAt, Takes, Waiting}
+use Rattle.kernel_core.specs.Runs.{Machine, IsRefusal, IsPost, Run, IsBegin, BeginsAt, Takes, TakesUnless, noted, end_of_begun, end_of_sliced}
+use Rattle.kernel_core.specs.Request.{Request, RunCell, Undo, Redo, Goto, request_of, raised}
 use Rattle.kernel_core.specs.Determined.{TellsWant, StepIsDetermined, RunIsDetermined}
 use Rattle.kernel_core.specs.Travel as aim
 use Rattle.kernel_core.proofs.Trees.{meeting_same}
@@ -24,8 +25,8 @@ use Rattle.kernel_core.specs.declared.outcome.Outcome.TheVariants as outcome
 use Rattle.kernel_core.specs.declared.outcome.Begun.{Begun}
 use Rattle.kernel_core.specs.declared.outcome.Begun.TheVariants as begun
 use Rattle.kernel_core.specs.declared.outcome.Sliced.{Sliced}
-use Rattle.kernel_core.specs.declared.kernel.PostFault.{PostFault}
-use Rattle.kernel_core.specs.declared.kernel.PostFault.TheVariants.{QueueFull, Memory as NoRoom}
+use Rattle.kernel_core.specs.declared.post.PostFault.{PostFault}
+use Rattle.kernel_core.specs.declared.post.PostFault.TheVariants.{Closing, MinutesFull, QueueFull, Memory as NoRoom}
 use Rattle.kernel_core.specs.declared.events.Event.TheVariants as event
 use Rattle.kernel_core.specs.declared.events.Told.{Told}
 use Rattle.kernel_core.specs.declared.events.Told.TheVariants as told
@@ -174,51 +175,71 @@ takes_same s (Undo k) t u new other g a ample b enough = takes_move_same s (trav
 takes_same s (Redo k) t u new other g a ample b enough = takes_move_same s (travel_to aim.Redo 0 k) (can_redo s.favourites s.position k) t u new other a ample b enough
 takes_same s (Goto n) t u new other g a ample b enough = takes_goto_same s n (nat_lt n (length s.nodes)) t u new other a ample b enough
 
-begins_same : (old : Machine) (job : Open) (queue : List Waiting) (t u : Begun) (new other : Machine) → IsLegal old.state.past → BeginsAt old job queue t new → IsAmple t → BeginsAt old job queue u other → IsAmple u →
+taken_same : (closing : Bool) (s : Past) (r : Request) (t u : Begun) (new other : State) → IsLegal s → TakesUnless closing s r t new → IsAmple t → TakesUnless closing s r u other → IsAmple u → (t ≡ u) × (new ≡ other)
+taken_same false s r t u new other g a ample b enough = takes_same s r t u new other g a ample b enough
+taken_same true s r t u new other g a ample b enough = (a.0 ∙ sym b.0, a.1 ∙ sym b.1)
+
+begins_same : (old : Machine) (job : Open) (queue : List Request) (t u : Begun) (new other : Machine) → IsLegal old.state.past → BeginsAt old job queue t new → IsAmple t → BeginsAt old job queue u other → IsAmple u →
     (t ≡ u) × (new ≡ other)
 begins_same old Idle [] t u new other g a ample b enough = (a.0 ∙ sym b.0, a.1 ∙ sym b.1)
 begins_same old Idle (first ∷ rest) t u new other g a ample b enough =
-    let same = takes_same old.state.past first.job t u a.0 b.0 g a.1 ample b.1 enough in
-    (same.0, a.2 ∙ ap (λ (x : State). record old { state = x; queue = rest }) same.1 ∙ sym b.2)
+    let same = taken_same old.closing old.state.past first t u a.0 b.0 g a.1 ample b.1 enough in
+    (same.0, a.2 ∙ ap (λ (x : State). record old { state = x; queue = rest; counter = raised old.counter first }) same.1 ∙ sym b.2)
 begins_same old (Border travel) queue t u new other g a ample b enough =
     let same = enters_same old.state.past travel t u a.0 b.0 a.1 ample b.1 enough in
     (same.0, a.2 ∙ ap (λ (x : State). record old { state = x }) same.1 ∙ sym b.2)
 begins_same old (Inside e) queue t u new other g a ample b enough = (a.0 ∙ sym b.0, a.1 ∙ sym b.1)
 
+begin_same : (old : Machine) (t u : Begun) (new other : Machine) → IsLegal old.state.past → IsBegin old t new → IsAmple t → IsBegin old u other → IsAmple u → (t ≡ u) × (new ≡ other)
+begin_same old t u new other g a ample b enough =
+    let same = begins_same old old.state.job old.queue t u a.0 b.0 g a.1 ample b.1 enough in
+    (same.0, a.2 ∙ ap (λ (x : Machine). noted x (end_of_begun t)) same.1 ∙ ap (λ (x : Begun). noted b.0 (end_of_begun x)) same.0 ∙ sym b.2)
+
 -- ---- posts, steps and runs
 
+-- nothing else refuses a post than one thing
+pub refusal_same : (m : Machine) (f g : PostFault) → IsRefusal m f → IsRefusal m g → f ≡ g
+refusal_same m Closing Closing a b = refl
+refusal_same m MinutesFull MinutesFull a b = refl
+refusal_same m QueueFull QueueFull a b = refl
+refusal_same m NoRoom NoRoom a b = refl
+refusal_same m Closing MinutesFull a b = absurd (let e = sym a ∙ b.0 in cc)
+refusal_same m Closing QueueFull a b = absurd (let e = sym a ∙ b.0 in cc)
+refusal_same m Closing NoRoom a b = absurd (let e = sym a ∙ b.serves in cc)
+refusal_same m MinutesFull Closing a b = absurd (let e = sym b ∙ a.0 in cc)
+refusal_same m QueueFull Closing a b = absurd (let e = sym b ∙ a.0 in cc)
+refusal_same m NoRoom Closing a b = absurd (let e = sym b ∙ a.serves in cc)
+refusal_same m MinutesFull QueueFull a b = absurd (a.1 b.1)
+refusal_same m MinutesFull NoRoom a b = absurd (a.1 b.places)
+refusal_same m QueueFull MinutesFull a b = absurd (b.1 a.1)
+refusal_same m NoRoom MinutesFull a b = absurd (b.1 a.places)
+refusal_same m QueueFull NoRoom a b = absurd (let l = a.2 in let h = b.room in omega arith)
+refusal_same m NoRoom QueueFull a b = absurd (let l = b.2 in let h = a.room in omega arith)
+
 pub post_same : (old : Machine) (lane : ℕ) (r : Request) (t u : Result ℕ PostFault) (new other : Machine) → IsPost old lane r t new → (t ≡ Err NoRoom → ⊥) → IsPost old lane r u other → (u ≡ Err NoRoom → ⊥) → (t ≡ u) × (new ≡ other)
-post_same old lane r (Err NoRoom) u new other a ample b enough = absurd (ample refl)
-post_same old lane r t (Err NoRoom) new other a ample b enough = absurd (enough refl)
-post_same old lane r (Ok n) (Ok i) new other a ample b enough =
-    let same = a.1 ∙ sym b.1 in
-    (ap (λ (k : ℕ). Ok k) same, a.2 ∙ ap (λ (k : ℕ). record old { queue = old.queue ++ record { number = k; lane = lane; job = r } ∷ []; posted = k }) same ∙ sym b.2)
-post_same old lane r (Ok n) (Err QueueFull) new other a ample b enough = absurd (let l = a.0 in let h = b.0 in omega arith)
-post_same old lane r (Err QueueFull) (Ok n) new other a ample b enough = absurd (let l = a.0 in let h = b.0 in omega arith)
-post_same old lane r (Err QueueFull) (Err QueueFull) new other a ample b enough = (refl, a.1 ∙ sym b.1)
+post_same old lane r (Ok n) (Ok i) new other a ample b enough = (ap (λ (k : ℕ). Ok k) (a.1 ∙ sym b.1), a.2 ∙ sym b.2)
+post_same old lane r (Err f) (Err g) new other a ample b enough = (ap (λ (x : PostFault). Err x) (refusal_same old f g a.0 b.0), a.1 ∙ sym b.1)
+post_same old lane r (Ok n) (Err g) new other a ample b enough = absurd (enough (ap (λ (x : PostFault). Err x) (refusal_same old g NoRoom b.0 a.0)))
+post_same old lane r (Err f) (Ok i) new other a ample b enough = absurd (ample (ap (λ (x : PostFault). Err x) (refusal_same old f NoRoom a.0 b.0)))
 
 pub step_is_determined : StepIsDetermined
 step_is_determined old new other (event.Post lane posted) (told.Post t) (told.Post u) g a ample b enough =
     let same = post_same old lane (request_of posted) t u new other a ample b enough in
     (ap (λ (x : Result ℕ PostFault). told.Post x) same.0, same.1)
 step_is_determined old new other event.Begin (told.Begin t) (told.Begin u) g a ample b enough =
-    let same = begins_same old old.state.job old.queue t u new other g.legal a ample b enough in
+    let same = begin_same old t u new other g.legal a ample b enough in
     (ap (λ (x : Begun). told.Begin x) same.0, same.1)
 step_is_determined old new other (event.Slice m asked) (told.Slice t) (told.Slice u) g a ample b enough =
-    let same = slice_same old.state.past old.state.job m asked t u a.0 b.0 a.1 b.1 in
-    (ap (λ (x : Sliced). told.Slice x) same.0, a.2 ∙ ap (λ (x : State). record old { state = x }) same.1 ∙ sym b.2)
-step_is_determined old new other (event.Post lane posted) (told.Begin t) u g a ample b enough = absurd a
-step_is_determined old new other (event.Post lane posted) (told.Slice t) u g a ample b enough = absurd a
-step_is_determined old new other (event.Post lane posted) (told.Post t) (told.Begin u) g a ample b enough = absurd b
-step_is_determined old new other (event.Post lane posted) (told.Post t) (told.Slice u) g a ample b enough = absurd b
-step_is_determined old new other event.Begin (told.Post t) u g a ample b enough = absurd a
-step_is_determined old new other event.Begin (told.Slice t) u g a ample b enough = absurd a
-step_is_determined old new other event.Begin (told.Begin t) (told.Post u) g a ample b enough = absurd b
-step_is_determined old new other event.Begin (told.Begin t) (told.Slice u) g a ample b enough = absurd b
-step_is_determined old new other (event.Slice m asked) (told.Post t) u g a ample b enough = absurd a
-step_is_determined old new other (event.Slice m asked) (told.Begin t) u g a ample b enough = absurd a
-step_is_determined old new other (event.Slice m asked) (told.Slice t) (told.Post u) g a ample b enough = absurd b
-step_is_determined old new other (event.Slice m asked) (told.Slice t) (told.Begin u) g a ample b enough = absurd b
+    let same = slice_same old.state.past old.state.job m asked t u a.0 b.0 a.1 b.1 in (
+      ap (λ (x : Sliced). told.Slice x) same.0,
+      a.2 ∙ ap (λ (x : State). noted (record old { state = x }) (end_of_sliced t)) same.1 ∙ ap (λ (x : Sliced). noted (record old { state = b.0 }) (end_of_sliced x)) same.0 ∙ sym b.2,
+    )
+step_is_determined old new other event.Shut told.Shut told.Shut g a ample b enough = (refl, a ∙ sym b)
+step_is_determined old new other (event.Post lane posted) (told.Post t) u g a ample b enough = absurd b
+step_is_determined old new other event.Begin (told.Begin t) u g a ample b enough = absurd b
+step_is_determined old new other (event.Slice m asked) (told.Slice t) u g a ample b enough = absurd b
+step_is_determined old new other event.Shut told.Shut u g a ample b enough = absurd b
+step_is_determined old new other e t u g a ample b enough = absurd a
 
 pub run_is_determined : RunIsDetermined
 run_is_determined old new other [] [] [] g r a q b = (refl, r ∙ sym q)

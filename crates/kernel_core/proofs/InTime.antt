@@ -9,12 +9,12 @@ use Rattle.kernel_core.specs.declared.runner.Runner.{Runner}
 use Rattle.kernel_core.specs.declared.job.Open.{Open}
 use Rattle.kernel_core.specs.declared.outcome.Sliced.{Sliced}
 use Rattle.kernel_core.proofs.Standing.{shown_by}
-use Rattle.kernel_core.proofs.Stays.{slice_legal}
+use Rattle.kernel_core.proofs.Stays.{slice_fit}
 
 pub slice_kept : (tree moved-to : Tree) (runner at : Runner) (old new : Open) (m : ℕ) (asked : Bool) (told : Sliced) → IsKept tree runner old → Kept moved-to at new →
     IsSlice (state_of tree old) m asked told (state_of moved-to new) → IsKept moved-to at new
 slice_kept tree moved-to runner at old new m asked told k n s =
     let kept = k.kept in
     let shown = shown_by tree old runner k.kept.stands in
-    let legal = slice_legal (past_of tree) (job_of old) m asked told (state_of moved-to new) kept.legal kept.possible (world_of runner, shown) s in
-    record { kept = n; in_time = legal.in_time }
+    let fit = slice_fit (past_of tree) (job_of old) m asked told (state_of moved-to new) kept.legal kept.possible (world_of runner, shown) s in
+    record { kept = n; in_time = fit.in_time }

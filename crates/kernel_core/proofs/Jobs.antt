@@ -1,32 +1,32 @@
 -- What a job keeps from its begin to its end, over any events.
-use Rattle.std.specs.Prelude.{nat_lt}
-use Rattle.std.proofs.Common.{◌≡◌, ℕ, ◌+◌, ◌-◌, ◌<◌, Bool, true, false, List, [], ◌∷◌, length, zero, suc, refl, sym, ap, subst, arith, inl, inr, Result, Ok, Err}
+use Rattle.std.proofs.Common.{◌≡◌, ℕ, ◌+◌, ◌-◌, ◌≤◌, Bool, true, false, List, [], ◌∷◌, length, zero, suc, refl, sym, ap, subst, arith, inl, inr, Result, Ok, Err}
 use Rattle.janus_meaning.specs.World.{World, Cell, entered}
-use Rattle.kernel_core.specs.Language.{Forward}
-use Rattle.kernel_core.specs.Reached.{Reaches, Progress, Went, Ended, Stopped}
+use Rattle.kernel_core.specs.Language.{Code, Forward, Backward, Part}
+use Rattle.kernel_core.specs.Reached.{Reaches, Progress, Went, Ended, Stopped, IsUnderWay}
 use Rattle.kernel_core.specs.Text.{Accepts}
-use Rattle.kernel_core.specs.State.{Past, Work, Posted, Move, Job as Open, Idle, Border, Inside, State, here}
-use Rattle.kernel_core.specs.Legal.{can_undo, can_redo, IsMeeting}
-use Rattle.kernel_core.proofs.LanguageLaws.{part_zero_forward, exec_some}
+use Rattle.kernel_core.specs.State.{Past, Work, Posted, Move, Job as Open, Idle, Border, Inside, State, here, code_of}
+use Rattle.kernel_core.specs.Legal.{IsMeeting}
+use Rattle.kernel_core.proofs.LanguageLaws.{part_zero_forward, part_zero_backward, exec_some}
 use Rattle.kernel_core.specs.Slices.{finished, turned, cells, stepped, moved, grown, Backs, Arrives, Comes, SlicesIn, SlicesAt}
 use Rattle.kernel_core.specs.Begins.{Declares, travel_to, Departs, Enters, TakesMove, TakesGoto, TakesCell}
-use Rattle.kernel_core.specs.Runs.{Machine, Request, RunCell, Undo, Redo, Goto, request_of, Step, Run, Waiting, IsPost, IsNext, BeginsAt, Takes}
-use Rattle.kernel_core.specs.Theorems.{after, gone, EndsAs, TravelEnds, MoveEnds, GotoEnds, CellEnds, JobEnds, IsUnderWay, MeetsFault, IsNoNode, JobsEnd}
+use Rattle.kernel_core.specs.Runs.{Machine, Step, Run, IsPost, IsNext, IsBegin, BeginsAt, Takes, TakesUnless}
+use Rattle.kernel_core.specs.Request.{Request, RunCell, Undo, Redo, Goto, request_of}
+use Rattle.kernel_core.specs.Midway.{after, gone, count_of, IsReason, IsAtCount, IsStage, KeepsIn, KeepsAt, Keeps, IsCell, CellIn, CellAt, CellKeeps, Holds}
+use Rattle.kernel_core.specs.Theorems.{EndsAs, TravelEnds, MoveEnds, GotoEnds, CellEnds, JobEnds, EndsUnless, IsNoNode, JobsEnd}
 use Rattle.kernel_core.proofs.Trees.{stepped_cells}
 use Rattle.kernel_core.specs.Travel as aim
 use Rattle.kernel_core.specs.Travel.{Travel}
 use Rattle.kernel_core.specs.Turn.{Why, WasAsked, Faulted, Turn, GoesOn, GoesBack}
 use Rattle.kernel_core.specs.declared.outcome.End.{End}
 use Rattle.kernel_core.specs.declared.outcome.End.TheVariants.{All, Asked, NoMemory}
-use Rattle.kernel_core.specs.declared.outcome.Refusal.TheVariants.{TooFar, NoNode}
+use Rattle.kernel_core.specs.declared.outcome.Refusal.TheVariants.{TooFar, NoNode, Closing}
 use Rattle.kernel_core.specs.declared.outcome.Outcome.{Outcome}
 use Rattle.kernel_core.specs.declared.outcome.Outcome.TheVariants as outcome
 use Rattle.kernel_core.specs.declared.outcome.Begun.{Begun}
 use Rattle.kernel_core.specs.declared.outcome.Begun.TheVariants as begun
 use Rattle.kernel_core.specs.declared.outcome.Sliced.{Sliced}
 use Rattle.kernel_core.specs.declared.outcome.Sliced.TheVariants as sliced
-use Rattle.kernel_core.specs.declared.kernel.PostFault.{PostFault}
-use Rattle.kernel_core.specs.declared.kernel.PostFault.TheVariants.{QueueFull, Memory as NoRoom}
+use Rattle.kernel_core.specs.declared.post.PostFault.{PostFault}
 use Rattle.kernel_core.specs.declared.events.Event.{Event}
 use Rattle.kernel_core.specs.declared.events.Event.TheVariants as event
 use Rattle.kernel_core.specs.declared.events.Told.{Told}
@@ -48,6 +48,7 @@ ThenSliced keeps ends sliced.Backing new = keeps new
 ThenSliced keeps ends (sliced.Ended o) new = ends o new
 
 abbrev Then : (State → Type 0) → (Outcome → State → Type 0) → Told → State → Type 0
+Then keeps ends told.Shut new = keeps new
 Then keeps ends (told.Post answer) new = keeps new
 Then keeps ends (told.Begin answer) new = ThenBegun keeps ends answer new
 Then keeps ends (told.Slice answer) new = ThenSliced keeps ends answer new
@@ -66,6 +67,7 @@ to_end keeps ends step old [] [] new o k r e = absurd e
 to_end keeps ends step old [] (t ∷ answers) new o k r e = absurd r
 to_end keeps ends step old (d ∷ events) [] new o k r e = absurd r
 to_end keeps ends step old (d ∷ events) (told.Post a ∷ answers) new o k r e = to_end keeps ends step r.0 events answers new o (step old d (told.Post a) r.0 k r.1) r.2 e
+to_end keeps ends step old (d ∷ events) (told.Shut ∷ answers) new o k r e = to_end keeps ends step r.0 events answers new o (step old d told.Shut r.0 k r.1) r.2 e
 to_end keeps ends step old (d ∷ events) (told.Begin begun.Nothing ∷ answers) new o k r e = to_end keeps ends step r.0 events answers new o (step old d (told.Begin begun.Nothing) r.0 k r.1) r.2 e
 to_end keeps ends step old (d ∷ events) (told.Begin begun.Going ∷ answers) new o k r e = to_end keeps ends step r.0 events answers new o (step old d (told.Begin begun.Going) r.0 k r.1) r.2 e
 to_end keeps ends step old (d ∷ events) (told.Begin (begun.Ended p) ∷ answers) new o k r e = at_end ends r.0 events answers new p o (step old d (told.Begin (begun.Ended p)) r.0 k r.1) r.2 e.0 e.1
@@ -75,33 +77,23 @@ to_end keeps ends step old (d ∷ events) (told.Slice sliced.Border ∷ answers)
 to_end keeps ends step old (d ∷ events) (told.Slice sliced.Backing ∷ answers) new o k r e = to_end keeps ends step r.0 events answers new o (step old d (told.Slice sliced.Backing) r.0 k r.1) r.2 e
 to_end keeps ends step old (d ∷ events) (told.Slice (sliced.Ended p) ∷ answers) new o k r e = at_end ends r.0 events answers new p o (step old d (told.Slice (sliced.Ended p)) r.0 k r.1) r.2 e.0 e.1
 
--- a post changes the queue alone
+-- a post changes the queue and the minutes alone
 pub post_keeps : (old : Machine) (lane : ℕ) (posted : Request) (answer : Result ℕ PostFault) (new : Machine) → IsPost old lane posted answer new → new.state ≡ old.state
 post_keeps old lane posted (Ok n) new s = ap (λ (m : Machine). m.state) s.2
-post_keeps old lane posted (Err QueueFull) new s = ap (λ (m : Machine). m.state) s.1
-post_keeps old lane posted (Err NoRoom) new s = ap (λ (m : Machine). m.state) s
+post_keeps old lane posted (Err fault) new s = ap (λ (m : Machine). m.state) s.1
+
+-- ---- a turn
+
+-- before the first step
+pub part_none : (code : Code) (w : World) → (v : World) × Part code w 0 v
+part_none (Forward cell) w = (entered cell w, part_zero_forward cell w)
+part_none (Backward cell) w = (w, part_zero_backward cell w)
+
+-- the code has just been entered
+under_way : (code : Code) (w : World) → IsUnderWay code w 0
+under_way code w = (let start = part_none code w in (start.0, start.1, exec_some code w))
 
 -- ---- a travel
-
--- it stands after some of its cells, and has a further one
-pub record IsStage (p : Past) (whole : Travel) (s : Past) (t : Travel) : Type 0 where
-  pub done : ℕ
-  pub left : t ≡ after whole done
-  pub stands : s ≡ gone p whole done
-  pub count : cells t + done ≡ cells whole
-  pub some : 0 < cells t
-
-abbrev pub KeepsIn : Past → Travel → Past → Work → Type 0
-KeepsIn p whole s (Posted cell) = ⊥
-KeepsIn p whole s (Move t) = IsStage p whole s t
-
-abbrev pub KeepsAt : Past → Travel → Past → Open → Type 0
-KeepsAt p whole s Idle = ⊥
-KeepsAt p whole s (Border t) = IsStage p whole s t
-KeepsAt p whole s (Inside e) = KeepsIn p whole s e.work
-
-abbrev pub Keeps : Past → Travel → State → Type 0
-Keeps p whole s = KeepsAt p whole s.past s.job
 
 abbrev Sliced-move : Past → Travel → Sliced → State → Type 0
 Sliced-move p whole told new = ThenSliced (Keeps p whole) (TravelEnds p whole) told new
@@ -130,11 +122,12 @@ ends_here p whole s t end i not_all short =
       },
     )
 
-backs_move : (p : Past) (whole : Travel) (s : Past) (t : Travel) (why : Why) (c : ℕ) (told : Sliced) (new : State) → IsStage p whole s t → Backs s (Move t) why c told new → Sliced-move p whole told new
-backs_move p whole s t why zero told new i b =
+backs_move : (p : Past) (whole : Travel) (s : Past) (t : Travel) (why : Why) (c : ℕ) (told : Sliced) (new : State) → IsStage p whole s t → c ≤ count_of why → IsReason (code_of s (Move t)) (here s) why →
+    Backs s (Move t) why c told new → Sliced-move p whole told new
+backs_move p whole s t why zero told new i l r b =
     sliced_at _ _ (sliced.Ended (finished t Asked)) told (record { past = s; job = Idle }) new b.0 b.1 (ends_here p whole s t Asked i (λ e. cc) (λ e. absurd (cc)))
-backs_move p whole s t why (suc c) told new i b =
-    sliced_at _ _ sliced.Backing told (record { past = s; job = Inside (record { work = Move t; count = suc c; turn = GoesBack why }) }) new b.0 b.1 i
+backs_move p whole s t why (suc c) told new i l r b =
+    sliced_at _ _ sliced.Backing told (record { past = s; job = Inside (record { work = Move t; count = suc c; turn = GoesBack why }) }) new b.0 b.1 (i, (l, r))
 
 -- one cell further
 further : (p : Past) (whole : Travel) (done : ℕ) (s : Past) (t : Travel) → s ≡ gone p whole done → t ≡ after whole done → moved s t ≡ gone p whole (suc done)
@@ -163,19 +156,22 @@ arrives_move p whole (suc left) s t told new i l a =
     sliced_at _ _ sliced.Border told (record { past = moved s t; job = Border (stepped t) }) new a.0 a.1
     (record { done = suc i.done; left = ap (λ (x : Travel). stepped x) i.left; stands = further p whole i.done s t i.stands i.left; count = omega arith; some = omega arith })
 
-comes_move : (p : Past) (whole : Travel) (s : Past) (t : Travel) (c : ℕ) (ran : Progress) (w : World) (told : Sliced) (new : State) → IsStage p whole s t → Comes s (Move t) c ran w told new → Sliced-move p whole told new
-comes_move p whole s t c Went w told new i a = sliced_at _ _ sliced.Going told (record { past = s; job = Inside (record { work = Move t; count = c; turn = GoesOn }) }) new a.0 a.1 i
-comes_move p whole s t c (Ended n) w told new i a = arrives_move p whole (cells (stepped t)) s t told new i refl a
-comes_move p whole s t c (Stopped j f) w told new i a = backs_move p whole s t (Faulted f j) j told new i a
+comes_move : (p : Past) (whole : Travel) (s : Past) (t : Travel) (c : ℕ) (ran : Progress) (w : World) (told : Sliced) (new : State) → IsStage p whole s t →
+    Reaches (code_of s (Move t)) (here s) c ran w → Comes s (Move t) c ran w told new → Sliced-move p whole told new
+comes_move p whole s t c Went w told new i r a =
+    sliced_at _ _ sliced.Going told (record { past = s; job = Inside (record { work = Move t; count = c; turn = GoesOn }) }) new a.0 a.1 (i, (w, r.0, r.1))
+comes_move p whole s t c (Ended n) w told new i r a = arrives_move p whole (cells (stepped t)) s t told new i refl a
+comes_move p whole s t c (Stopped j f) w told new i r a = backs_move p whole s t (Faulted f j) j told new i (omega arith) (w, r.0, r.1) a
 
-slices_move : (p : Past) (whole : Travel) (s : Past) (t : Travel) (c : ℕ) (turn : Turn) (m : ℕ) (asked : Bool) (told : Sliced) (new : State) → IsStage p whole s t → SlicesIn s (Move t) c turn m asked told new → Sliced-move p whole told new
-slices_move p whole s t c GoesOn m false told new i a = comes_move p whole s t (c + m) a.0 a.1 told new i a.3
-slices_move p whole s t c GoesOn m true told new i a = backs_move p whole s t (WasAsked c) (c - m) told new i a
-slices_move p whole s t c (GoesBack why) m asked told new i a = backs_move p whole s t why (c - m) told new i a
+slices_move : (p : Past) (whole : Travel) (s : Past) (t : Travel) (c : ℕ) (turn : Turn) (m : ℕ) (asked : Bool) (told : Sliced) (new : State) → IsStage p whole s t → IsAtCount (code_of s (Move t)) (here s) c turn →
+    SlicesIn s (Move t) c turn m asked told new → Sliced-move p whole told new
+slices_move p whole s t c GoesOn m false told new i at a = comes_move p whole s t (c + m) a.0 a.1 told new i a.2 a.3
+slices_move p whole s t c GoesOn m true told new i at a = backs_move p whole s t (WasAsked c) (c - m) told new i (omega arith) at a
+slices_move p whole s t c (GoesBack why) m asked told new i at a = backs_move p whole s t why (c - m) told new i (let l : c ≤ count_of why = at.0 in omega arith) at.1 a
 
-slice_in_move : (p : Past) (whole : Travel) (s : Past) (work : Work) (c : ℕ) (turn : Turn) (m : ℕ) (asked : Bool) (told : Sliced) (new : State) → KeepsIn p whole s work → SlicesIn s work c turn m asked told new → Sliced-move p whole told new
+slice_in_move : (p : Past) (whole : Travel) (s : Past) (work : Work) (c : ℕ) (turn : Turn) (m : ℕ) (asked : Bool) (told : Sliced) (new : State) → KeepsIn p whole s work c turn → SlicesIn s work c turn m asked told new → Sliced-move p whole told new
 slice_in_move p whole s (Posted program) c turn m asked told new i a = absurd i
-slice_in_move p whole s (Move t) c turn m asked told new i a = slices_move p whole s t c turn m asked told new i a
+slice_in_move p whole s (Move t) c turn m asked told new i a = slices_move p whole s t c turn m asked told new i.0 i.1 a
 
 slice_at_move : (p : Past) (whole : Travel) (s : Past) (job : Open) (m : ℕ) (asked : Bool) (told : Sliced) (new : State) → KeepsAt p whole s job → SlicesAt s job m asked told new → Sliced-move p whole told new
 slice_at_move p whole s Idle m asked told new i a = absurd i
@@ -184,7 +180,7 @@ slice_at_move p whole s (Inside e) m asked told new i a = slice_in_move p whole 
 
 enters_move : (p : Past) (whole : Travel) (s : Past) (t : Travel) (answer : Begun) (new : State) → IsStage p whole s t → Enters s t answer new → ThenBegun (Keeps p whole) (TravelEnds p whole) answer new
 enters_move p whole s t answer new i a = elim a [
-  | inl b ↦ begun_at _ _ begun.Going answer (record { past = s; job = Inside (record { work = Move t; count = 0; turn = GoesOn }) }) new b.0 b.1 i
+  | inl b ↦ begun_at _ _ begun.Going answer (record { past = s; job = Inside (record { work = Move t; count = 0; turn = GoesOn }) }) new b.0 b.1 (i, under_way (code_of s (Move t)) (here s))
   | inr b ↦ begun_at _ _ (begun.Ended (finished t NoMemory)) answer (record { past = s; job = Idle }) new b.0 b.2 (ends_here p whole s t NoMemory i (λ e. cc) (λ e. b.1))
 ]
 
@@ -195,52 +191,21 @@ departs_move zero s t answer new e a =
 departs_move (suc left) s t answer new e a =
     enters_move s t s t answer new (record { done = 0; left = refl; stands = refl; count = omega arith; some = omega arith }) a
 
--- the first event takes the job
-pub begin_takes : (old : Machine) (job : Request) (answer : Begun) (new : Machine) → old.state.job ≡ Idle → IsNext old job → BeginsAt old old.state.job old.queue answer new → Takes old.state.past job answer new.state
-begin_takes old job answer new e f b =
-    let at : BeginsAt old Idle (f.0 ∷ f.1) answer new = subst (λ (q : List Waiting). BeginsAt old Idle q answer new) f.2 (subst (λ (j : Open). BeginsAt old j old.queue answer new) e b) in
-    subst (λ (r : Request). Takes old.state.past r answer new.state) f.3 (subst (λ (x : Machine). Takes old.state.past f.0.job answer x.state) (sym at.2) at.1)
-
 -- ---- a cell
-
--- the text is accepted as this cell, and the past is as before
-pub record IsCell (p : Past) (text : List ℕ) (cell : Cell) (s : Past) : Type 0 where
-  pub accepted : Accepts (here p) text cell
-  pub same : s ≡ p
-
--- why a cell that goes back turned
-abbrev pub IsTurned : Past → Cell → Why → Type 0
-IsTurned p cell (WasAsked at) = IsUnderWay p cell at
-IsTurned p cell (Faulted f at) = MeetsFault p cell f at
-
-abbrev pub IsAtCount : Past → Cell → ℕ → Turn → Type 0
-IsAtCount p cell c GoesOn = IsUnderWay p cell c
-IsAtCount p cell c (GoesBack why) = IsTurned p cell why
-
-abbrev pub CellIn : Past → List ℕ → Past → Work → ℕ → Turn → Type 0
-CellIn p text s (Posted cell) c turn = IsCell p text cell s × IsAtCount p cell c turn
-CellIn p text s (Move t) c turn = ⊥
-
-abbrev pub CellAt : Past → List ℕ → Past → Open → Type 0
-CellAt p text s Idle = ⊥
-CellAt p text s (Border t) = ⊥
-CellAt p text s (Inside e) = CellIn p text s e.work e.count e.turn
-
-abbrev pub CellKeeps : Past → List ℕ → State → Type 0
-CellKeeps p text s = CellAt p text s.past s.job
 
 abbrev Sliced-cell : Past → List ℕ → Sliced → State → Type 0
 Sliced-cell p text told new = ThenSliced (CellKeeps p text) (CellEnds p text) told new
 
-no_node : (p : Past) (text : List ℕ) (cell : Cell) (why : Why) → Accepts (here p) text cell → IsTurned p cell why → IsNoNode p text (turned (Posted cell) why)
+no_node : (p : Past) (text : List ℕ) (cell : Cell) (why : Why) → Accepts (here p) text cell → IsReason (Forward cell) (here p) why → IsNoNode p text (turned (Posted cell) why)
 no_node p text cell (WasAsked at) a t = (cell, a, t)
 no_node p text cell (Faulted f at) a t = (cell, a, t)
 
-backs_cell : (p : Past) (text : List ℕ) (cell : Cell) (why : Why) (c : ℕ) (told : Sliced) (new : State) → IsCell p text cell p → IsTurned p cell why → Backs p (Posted cell) why c told new → Sliced-cell p text told new
-backs_cell p text cell why zero told new i t b =
+backs_cell : (p : Past) (text : List ℕ) (cell : Cell) (why : Why) (c : ℕ) (told : Sliced) (new : State) → IsCell p text cell p → c ≤ count_of why → IsReason (Forward cell) (here p) why →
+    Backs p (Posted cell) why c told new → Sliced-cell p text told new
+backs_cell p text cell why zero told new i l t b =
     sliced_at _ _ (sliced.Ended (turned (Posted cell) why)) told (record { past = p; job = Idle }) new b.0 b.1 (inr (refl, no_node p text cell why i.accepted t))
-backs_cell p text cell why (suc c) told new i t b =
-    sliced_at _ _ sliced.Backing told (record { past = p; job = Inside (record { work = Posted cell; count = suc c; turn = GoesBack why }) }) new b.0 b.1 (i, t)
+backs_cell p text cell why (suc c) told new i l t b =
+    sliced_at _ _ sliced.Backing told (record { past = p; job = Inside (record { work = Posted cell; count = suc c; turn = GoesBack why }) }) new b.0 b.1 (i, (l, t))
 
 comes_cell : (p : Past) (text : List ℕ) (cell : Cell) (c : ℕ) (ran : Progress) (w : World) (told : Sliced) (new : State) → IsCell p text cell p →
     Reaches (Forward cell) (here p) c ran w → Comes p (Posted cell) c ran w told new → Sliced-cell p text told new
@@ -248,12 +213,13 @@ comes_cell p text cell c Went w told new i r a = sliced_at _ _ sliced.Going told
 comes_cell p text cell c (Ended n) w told new i r a =
     sliced_at _ _ (sliced.Ended (outcome.Ran (length p.nodes) n)) told (record { past = grown p cell n w; job = Idle }) new a.0 a.1
     (inl (cell, n, w, i.accepted, refl, r.0, refl))
-comes_cell p text cell c (Stopped j f) w told new i r a = backs_cell p text cell (Faulted f j) j told new i (w, r.0, r.1) a
+comes_cell p text cell c (Stopped j f) w told new i r a = backs_cell p text cell (Faulted f j) j told new i (omega arith) (w, r.0, r.1) a
 
-slices_cell : (p : Past) (text : List ℕ) (cell : Cell) (c : ℕ) (turn : Turn) (m : ℕ) (asked : Bool) (told : Sliced) (new : State) → IsCell p text cell p → IsAtCount p cell c turn → SlicesIn p (Posted cell) c turn m asked told new → Sliced-cell p text told new
+slices_cell : (p : Past) (text : List ℕ) (cell : Cell) (c : ℕ) (turn : Turn) (m : ℕ) (asked : Bool) (told : Sliced) (new : State) → IsCell p text cell p → IsAtCount (Forward cell) (here p) c turn →
+    SlicesIn p (Posted cell) c turn m asked told new → Sliced-cell p text told new
 slices_cell p text cell c GoesOn m false told new i t a = comes_cell p text cell (c + m) a.0 a.1 told new i a.2 a.3
-slices_cell p text cell c GoesOn m true told new i t a = backs_cell p text cell (WasAsked c) (c - m) told new i t a
-slices_cell p text cell c (GoesBack why) m asked told new i t a = backs_cell p text cell why (c - m) told new i t a
+slices_cell p text cell c GoesOn m true told new i t a = backs_cell p text cell (WasAsked c) (c - m) told new i (omega arith) t a
+slices_cell p text cell c (GoesBack why) m asked told new i t a = backs_cell p text cell why (c - m) told new i (let l : c ≤ count_of why = t.0 in omega arith) t.1 a
 
 slice_in_cell : (p : Past) (text : List ℕ) (s : Past) (work : Work) (c : ℕ) (turn : Turn) (m : ℕ) (asked : Bool) (told : Sliced) (new : State) → CellIn p text s work c turn → SlicesIn s work c turn m asked told new → Sliced-cell p text told new
 slice_in_cell p text s (Move t) c turn m asked told new i a = absurd i
@@ -267,19 +233,11 @@ slice_at_cell p text s (Inside e) m asked told new i a = slice_in_cell p text s 
 
 takes_cell : (s : Past) (text : List ℕ) (answer : Begun) (new : State) → TakesCell s text answer new → ThenBegun (CellKeeps s text) (CellEnds s text) answer new
 takes_cell s text answer new a = elim a [
-  | inl b ↦ begun_at _ _ begun.Going answer (record { past = s; job = Inside (record { work = Posted b.0; count = 0; turn = GoesOn }) }) new b.2 b.3 (record { accepted = b.1; same = refl }, (entered b.0 (here s), part_zero_forward b.0 (here s), exec_some (Forward b.0) (here s)))
+  | inl b ↦ begun_at _ _ begun.Going answer (record { past = s; job = Inside (record { work = Posted b.0; count = 0; turn = GoesOn }) }) new b.2 b.3 (record { accepted = b.1; same = refl }, under_way (Forward b.0) (here s))
   | inr b ↦ begun_at _ _ (begun.Ended (outcome.Refused b.0)) answer (record { past = s; job = Idle }) new b.2 b.3 (inr (refl, b.1))
 ]
 
 -- ---- any job
-
--- the open job is this one, begun in the past p, and stands where its slices have led it
-abbrev pub Holds : Past → Request → State → Type 0
-Holds p (RunCell text silent store) s = CellKeeps p text s
-Holds p (Undo k) s = Keeps p (travel_to aim.Undo k 0) s × (can_undo p.nodes p.position k ≡ true)
-Holds p (Redo k) s = Keeps p (travel_to aim.Redo 0 k) s × (can_redo p.favourites p.position k ≡ true)
-Holds p (Goto n) s =
-    (nat_lt n (length p.nodes) ≡ true) × ((up : ℕ) × (down : ℕ) × IsMeeting p.nodes p.position n up down × Keeps p (travel_to (aim.Goto n) up down) s)
 
 -- from what is kept and how it ends, in one form, to another
 then_sliced : (keeps other : State → Type 0) (ends more : Outcome → State → Type 0) (told : Sliced) (new : State) → ((s : State) → keeps s → other s) → ((o : Outcome) (s : State) → ends o s → more o s) →
@@ -348,7 +306,28 @@ no_idle p (Undo k) s h = h.0
 no_idle p (Redo k) s h = h.0
 no_idle p (Goto n) s h = h.1.3
 
-begins_hold : (p : Past) (r : Request) (old : Machine) (job : Open) (queue : List Waiting) (answer : Begun) (new : Machine) → Holds p r (record { past = old.state.past; job = job }) → BeginsAt old job queue answer new →
+cell_idle : (p : Past) (text : List ℕ) (o : Outcome) (s : State) → CellEnds p text o s → s.job ≡ Idle
+cell_idle p text o s h = elim h [
+  | inl n ↦ ap (λ (x : State). x.job) n.6
+  | inr b ↦ ap (λ (x : State). x.job) b.0
+]
+
+move_idle : (p : Past) (t : Travel) (can : Bool) (o : Outcome) (s : State) → MoveEnds p t can o s → s.job ≡ Idle
+move_idle p t false o s h = ap (λ (x : State). x.job) h.1
+move_idle p t true o s h = ap (λ (x : State). x.job) h.2.stands
+
+goto_idle : (p : Past) (n : ℕ) (known : Bool) (o : Outcome) (s : State) → GotoEnds p n known o s → s.job ≡ Idle
+goto_idle p n false o s h = ap (λ (x : State). x.job) h.1
+goto_idle p n true o s h = ap (λ (x : State). x.job) h.3.2.stands
+
+-- a job that ended is open no more
+pub ended_idle : (p : Past) (job : Request) (o : Outcome) (s : State) → JobEnds p job o s → s.job ≡ Idle
+ended_idle p (RunCell text silent store) o s h = cell_idle p text o s h
+ended_idle p (Undo k) o s h = move_idle p (travel_to aim.Undo k 0) _ o s h
+ended_idle p (Redo k) o s h = move_idle p (travel_to aim.Redo 0 k) _ o s h
+ended_idle p (Goto n) o s h = goto_idle p n _ o s h
+
+begins_hold : (p : Past) (r : Request) (old : Machine) (job : Open) (queue : List Request) (answer : Begun) (new : Machine) → Holds p r (record { past = old.state.past; job = job }) → BeginsAt old job queue answer new →
     old.state.job ≡ job → ThenBegun (Holds p r) (JobEnds p r) answer new.state
 begins_hold p r old Idle queue answer new i a e = absurd (no_idle p r old.state.past i)
 begins_hold p r old (Border t) queue answer new i a e =
@@ -356,25 +335,56 @@ begins_hold p r old (Border t) queue answer new i a e =
 begins_hold p r old (Inside x) queue answer new i a e =
     begun_at _ _ begun.Nothing answer old.state new.state a.0 (ap (λ (m : Machine). m.state) a.1) (subst (λ (j : Open). Holds p r (record { past = old.state.past; job = j })) (sym e) i)
 
+-- what is written down changes no state
+begin_holds : (p : Past) (r : Request) (old : Machine) (answer : Begun) (new : Machine) → Holds p r old.state → IsBegin old answer new → ThenBegun (Holds p r) (JobEnds p r) answer new.state
+begin_holds p r old answer new i a =
+    subst (λ (x : Machine). ThenBegun (Holds p r) (JobEnds p r) answer x.state) (sym a.2) (begins_hold p r old old.state.job old.queue answer a.0 i a.1 refl)
+
 steps_hold : (p : Past) (r : Request) (old : Machine) (e : Event) (t : Told) (new : Machine) → Holds p r old.state → Step old e t new → Then (Holds p r) (JobEnds p r) t new.state
 steps_hold p r old (event.Post lane posted) (told.Post answer) new i s = subst (λ (x : State). Holds p r x) (sym (post_keeps old lane (request_of posted) answer new s)) i
-steps_hold p r old event.Begin (told.Begin answer) new i s = begins_hold p r old old.state.job old.queue answer new i s refl
+steps_hold p r old event.Begin (told.Begin answer) new i s = begin_holds p r old answer new i s
 steps_hold p r old (event.Slice m asked) (told.Slice answer) new i s =
     subst (λ (x : Machine). ThenSliced (Holds p r) (JobEnds p r) answer x.state) (sym s.2) (slice_holds p r old.state.past old.state.job m asked answer s.0 i s.1)
-steps_hold p r old (event.Post lane posted) (told.Begin answer) new i s = absurd s
-steps_hold p r old (event.Post lane posted) (told.Slice answer) new i s = absurd s
-steps_hold p r old event.Begin (told.Post answer) new i s = absurd s
-steps_hold p r old event.Begin (told.Slice answer) new i s = absurd s
-steps_hold p r old (event.Slice m asked) (told.Post answer) new i s = absurd s
-steps_hold p r old (event.Slice m asked) (told.Begin answer) new i s = absurd s
+steps_hold p r old event.Shut told.Shut new i s = subst (λ (x : Machine). Holds p r x.state) (sym s) i
+steps_hold p r old e t new i s = absurd s
+
+-- ---- a job that is taken
+
+-- the first event takes the job
+pub begin_takes : (old : Machine) (job : Request) (answer : Begun) (new : Machine) → old.state.job ≡ Idle → IsNext old job → IsBegin old answer new → TakesUnless old.closing old.state.past job answer new.state
+begin_takes old job answer new e f b =
+    let at : BeginsAt old Idle (job ∷ f.0) answer b.0 = subst (λ (q : List Request). BeginsAt old Idle q answer b.0) f.1 (subst (λ (j : Open). BeginsAt old j old.queue answer b.0) e b.1) in
+    subst (λ (x : Machine). TakesUnless old.closing old.state.past job answer x.state) (sym b.2) (subst (λ (x : Machine). TakesUnless old.closing old.state.past job answer x.state) (sym at.2) at.1)
+
+-- while the kernel closes nothing is kept of it
+abbrev HoldsUnless : Bool → Past → Request → State → Type 0
+HoldsUnless false p r s = Holds p r s
+HoldsUnless true p r s = ⊥
+
+taken_holds : (closing : Bool) (s : Past) (r : Request) (answer : Begun) (new : State) → TakesUnless closing s r answer new → ThenBegun (HoldsUnless closing s r) (EndsUnless closing s r) answer new
+taken_holds false s r answer new a = take_holds s r answer new a
+taken_holds true s r answer new a = begun_at _ _ (begun.Ended (outcome.Refused Closing)) answer (record { past = s; job = Idle }) new a.0 a.1 (refl, refl)
+
+then_told : (keeps other : State → Type 0) (ends more : Outcome → State → Type 0) (t : Told) (new : State) → ((s : State) → keeps s → other s) → ((o : Outcome) (s : State) → ends o s → more o s) →
+    Then keeps ends t new → Then other more t new
+then_told keeps other ends more (told.Post answer) new f h a = f new a
+then_told keeps other ends more (told.Begin answer) new f h a = then_begun keeps other ends more answer new f h a
+then_told keeps other ends more (told.Slice answer) new f h a = then_sliced keeps other ends more answer new f h a
+then_told keeps other ends more told.Shut new f h a = f new a
+
+later_hold : (closing : Bool) (p : Past) (r : Request) (old : Machine) (e : Event) (t : Told) (new : Machine) → HoldsUnless closing p r old.state → Step old e t new → Then (HoldsUnless closing p r) (EndsUnless closing p r) t new.state
+later_hold false p r old e t new i s = then_told _ _ _ _ t new.state (λ x h. h) (λ o x h. h) (steps_hold p r old e t new i s)
+later_hold true p r old e t new i s = absurd i
 
 pub jobs_end : JobsEnd
 jobs_end old new r events [] o e f run h = absurd run
-jobs_end old new r events (told.Post a ∷ answers) o e f run h = absurd run.1
-jobs_end old new r events (told.Slice a ∷ answers) o e f run h = absurd run.1
 jobs_end old new r events (told.Begin begun.Nothing ∷ answers) o e f run h =
-    to_end (Holds old.state.past r) (JobEnds old.state.past r) (steps_hold old.state.past r) run.0 events answers new o (take_holds old.state.past r begun.Nothing run.0.state (begin_takes old r begun.Nothing run.0 e f run.1)) run.2 h
+    to_end (HoldsUnless old.closing old.state.past r) (EndsUnless old.closing old.state.past r) (later_hold old.closing old.state.past r) run.0 events answers new o
+    (taken_holds old.closing old.state.past r begun.Nothing run.0.state (begin_takes old r begun.Nothing run.0 e f run.1)) run.2 h
 jobs_end old new r events (told.Begin begun.Going ∷ answers) o e f run h =
-    to_end (Holds old.state.past r) (JobEnds old.state.past r) (steps_hold old.state.past r) run.0 events answers new o (take_holds old.state.past r begun.Going run.0.state (begin_takes old r begun.Going run.0 e f run.1)) run.2 h
+    to_end (HoldsUnless old.closing old.state.past r) (EndsUnless old.closing old.state.past r) (later_hold old.closing old.state.past r) run.0 events answers new o
+    (taken_holds old.closing old.state.past r begun.Going run.0.state (begin_takes old r begun.Going run.0 e f run.1)) run.2 h
 jobs_end old new r events (told.Begin (begun.Ended q) ∷ answers) o e f run h =
-    at_end (JobEnds old.state.past r) run.0 events answers new q o (take_holds old.state.past r (begun.Ended q) run.0.state (begin_takes old r (begun.Ended q) run.0 e f run.1)) run.2 h.0 h.1
+    at_end (EndsUnless old.closing old.state.past r) run.0 events answers new q o
+    (taken_holds old.closing old.state.past r (begun.Ended q) run.0.state (begin_takes old r (begun.Ended q) run.0 e f run.1)) run.2 h.0 h.1
+jobs_end old new r events (t ∷ answers) o e f run h = absurd run.1

@@ -19,3 +19,6 @@ pub mod Places
 pub mod Refusals
 pub mod Determined
 pub mod Ways
+pub mod Posts
+pub mod Noted
+pub mod Writing

@@ -14,7 +14,7 @@ use Rattle.janus_check.proofs.FormedLemmas.{formed_no_faults}
 use Rattle.kernel_core.specs.Language.{IsSound}
 use Rattle.kernel_core.specs.Text.{Accepts, IsUnformed, Refuses}
 use Rattle.kernel_core.specs.declared.outcome.Refusal.{Refusal}
-use Rattle.kernel_core.specs.declared.outcome.Refusal.TheVariants.{Syntax, Check, TooFar, NoNode, Memory}
+use Rattle.kernel_core.specs.declared.outcome.Refusal.TheVariants.{Syntax, Check, TooFar, NoNode, Closing, Memory}
 use Rattle.kernel_core.proofs.Places.{faults_at, one_first}
 
 pub one_cell : (w : World) (text : List ℕ) (c d : Cell) → Accepts w text c → Accepts w text d → c ≡ d
@@ -35,6 +35,8 @@ one_answer w text TooFar q a real b other = absurd a
 one_answer w text NoNode q a real b other = absurd a
 one_answer w text r TooFar a real b other = absurd b
 one_answer w text r NoNode a real b other = absurd b
+one_answer w text Closing q a real b other = absurd a
+one_answer w text r Closing a real b other = absurd b
 one_answer w text (Syntax f) (Syntax h) a real b other = ap Syntax (one_refusal text f h a b)
 one_answer w text (Check f) (Check h) a real b other = ap Check (one_check w text f h a b)
 one_answer w text (Syntax f) (Check h) a real b other = absurd (tree_or_refusal text b.tree f b.is_tree a)
@@ -48,6 +50,7 @@ pub not_both : (w : World) (text : List ℕ) (c : Cell) (r : Refusal) → IsSoun
 not_both w text c Memory sound a b real = real refl
 not_both w text c TooFar sound a b real = b
 not_both w text c NoNode sound a b real = b
+not_both w text c Closing sound a b real = b
 not_both w text c (Syntax f) sound a b real = tree_or_refusal text a.tree f a.is_tree b
 not_both w text c (Check f) sound a b real =
     let same : b.tree ≡ a.tree = one_tree text b.tree a.tree b.is_tree a.is_tree in

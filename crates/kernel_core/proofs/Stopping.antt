@@ -1,5 +1,5 @@
 -- What stops a job: only an asked slice.
-use Rattle.std.specs.Prelude.{IsTrue, nat_lt}
+use Rattle.std.specs.Prelude.{IsTrue}
 use Rattle.std.proofs.Common.{◌≡◌, ◌≢◌, ℕ, ◌+◌, ◌-◌, ◌<◌, ◌≤◌, Bool, true, false, List, [], ◌∷◌, zero, suc, refl, sym, ap, ◌∙◌, subst, arith, inl, inr, ◌⊎◌}
 use Rattle.janus_meaning.specs.World.{World}
 use Rattle.kernel_core.specs.Travel as aim
@@ -7,11 +7,14 @@ use Rattle.kernel_core.specs.Travel.{Travel, Way, Up, Down, next_way}
 use Rattle.kernel_core.specs.Turn.{Why, WasAsked, Faulted, Turn, GoesOn, GoesBack}
 use Rattle.kernel_core.specs.Reached.{Progress, Went, Ended, Stopped, Reaches}
 use Rattle.kernel_core.specs.State.{Past, Work, Posted, Move, Job as Open, Idle, Border, Inside, State, here, code_of}
-use Rattle.kernel_core.specs.Legal.{IsLegal, IsLegalState, IsPossible, IsPossibleWork, IsPossibleAt, can_undo}
-use Rattle.kernel_core.specs.Slices.{finished, turned, cells, stepped, moved, Backs, Arrives, Settles, Comes, SlicesIn, SlicesAt}
+use Rattle.kernel_core.specs.Legal.{IsLegal, IsPossibleWork, IsPossibleAt}
+use Rattle.kernel_core.specs.LegalState.{IsLegalState}
+use Rattle.kernel_core.specs.Slices.{finished, cells, stepped, moved, Backs, Arrives, Settles, Comes, SlicesIn, SlicesAt}
 use Rattle.kernel_core.specs.Begins.{Declares, travel_to, Departs, Enters, TakesCell, TakesMove, TakesGoto}
-use Rattle.kernel_core.specs.Runs.{Machine, Request, RunCell, Undo, Redo, Goto, Waiting, request_of, Step, Run, BeginsAt, Takes}
-use Rattle.kernel_core.specs.Theorems.{after, gone, EndsAs, EndsAfter, TravelEnds, MoveEnds, WasStopped, HasAsked, OnlyAskedSlicesStop, UndoesAll}
+use Rattle.kernel_core.specs.Runs.{Machine, Step, Run, IsBegin, BeginsAt, Takes, TakesUnless}
+use Rattle.kernel_core.specs.Request.{Request, RunCell, Undo, Redo, Goto, request_of}
+use Rattle.kernel_core.specs.Midway.{after, gone}
+use Rattle.kernel_core.specs.Theorems.{EndsAs, EndsAfter, TravelEnds, MoveEnds, JobEnds, EndsUnless, WasStopped, HasAsked, OnlyAskedSlicesStop, UndoesAll}
 use Rattle.kernel_core.specs.declared.outcome.End.{End}
 use Rattle.kernel_core.specs.declared.outcome.End.TheVariants.{All, Asked, NoMemory}
 use Rattle.kernel_core.specs.declared.outcome.Outcome.{Outcome}
@@ -135,15 +138,23 @@ takes_stops s (Undo k) answer new a x = takes_move_stops s (travel_to aim.Undo k
 takes_stops s (Redo k) answer new a x = takes_move_stops s (travel_to aim.Redo 0 k) _ answer new a x
 takes_stops s (Goto n) answer new a x = takes_goto_stops s n _ answer new a x
 
-begins_stops : (old : Machine) (job : Open) (queue : List Waiting) (answer : Begun) (new : Machine) → old.state.job ≡ job → BeginsAt old job queue answer new → StoppedBegun answer new.state → Stops job
+taken_stops : (closing : Bool) (s : Past) (r : Request) (answer : Begun) (new : State) → TakesUnless closing s r answer new → StoppedBegun answer new → ⊥
+taken_stops false s r answer new a x = takes_stops s r answer new a x
+taken_stops true s r answer new a x = at_begin ⊥ _ answer _ new a.0 a.1 (λ h. h) x
+
+begins_stops : (old : Machine) (job : Open) (queue : List Request) (answer : Begun) (new : Machine) → old.state.job ≡ job → BeginsAt old job queue answer new → StoppedBegun answer new.state → Stops job
 begins_stops old Idle [] answer new e a x =
     at_begin ⊥ begun.Nothing answer old.state new.state a.0 (ap (λ (m : Machine). m.state) a.1) (λ h. subst (λ (j : Open). Stops j) e h) x
 begins_stops old Idle (first ∷ rest) answer new e a x =
-    takes_stops old.state.past first.job answer a.0 a.1 (subst (λ (m : Machine). StoppedBegun answer m.state) a.2 x)
+    taken_stops old.closing old.state.past first answer a.0 a.1 (subst (λ (m : Machine). StoppedBegun answer m.state) a.2 x)
 begins_stops old (Border t) queue answer new e a x =
     enters_stops old.state.past t answer a.0 a.1 (subst (λ (m : Machine). StoppedBegun answer m.state) a.2 x)
 begins_stops old (Inside i) queue answer new e a x =
     at_begin (Stops (Inside i)) begun.Nothing answer old.state new.state a.0 (ap (λ (m : Machine). m.state) a.1) (λ h. subst (λ (j : Open). Stops j) e h) x
+
+begin_stops : (old : Machine) (answer : Begun) (new : Machine) → IsBegin old answer new → StoppedBegun answer new.state → Stops old.state.job
+begin_stops old answer new a x =
+    begins_stops old old.state.job old.queue answer a.0 refl a.1 (subst (λ (m : Machine). StoppedBegun answer m.state) a.2 x)
 
 slices_of_stop : (old : Machine) (m : ℕ) (answer : Sliced) (new : Machine) → IsLegalState old.state → Step old (event.Slice m false) (told.Slice answer) new → StoppedSliced answer new.state → Stops old.state.job
 slices_of_stop old m answer new g s x =
@@ -164,15 +175,15 @@ runs_stop old (event.Post lane posted ∷ events) (told.Post answer ∷ answers)
 runs_stop old (event.Begin ∷ events) (told.Begin begun.Nothing ∷ answers) new o g r e w =
     elim (runs_stop r.0 events answers new o (step_legal old event.Begin (told.Begin begun.Nothing) r.0 g r.1) r.2 e w) [
       | inl asked ↦ inl asked
-      | inr back ↦ inr (begins_stops old old.state.job old.queue begun.Nothing r.0 refl r.1 back)
+      | inr back ↦ inr (begin_stops old begun.Nothing r.0 r.1 back)
     ]
 runs_stop old (event.Begin ∷ events) (told.Begin begun.Going ∷ answers) new o g r e w =
     elim (runs_stop r.0 events answers new o (step_legal old event.Begin (told.Begin begun.Going) r.0 g r.1) r.2 e w) [
       | inl asked ↦ inl asked
-      | inr back ↦ inr (begins_stops old old.state.job old.queue begun.Going r.0 refl r.1 back)
+      | inr back ↦ inr (begin_stops old begun.Going r.0 r.1 back)
     ]
 runs_stop old (event.Begin ∷ events) (told.Begin (begun.Ended p) ∷ answers) new o g r e w =
-    inr (begins_stops old old.state.job old.queue (begun.Ended p) r.0 refl r.1 (subst (λ (x : Outcome). WasStopped x) (sym e.1) w))
+    inr (begin_stops old (begun.Ended p) r.0 r.1 (subst (λ (x : Outcome). WasStopped x) (sym e.1) w))
 runs_stop old (event.Slice m false ∷ events) (told.Slice sliced.Nothing ∷ answers) new o g r e w =
     elim (runs_stop r.0 events answers new o (step_legal old (event.Slice m false) (told.Slice sliced.Nothing) r.0 g r.1) r.2 e w) [
       | inl asked ↦ inl (inr asked)
@@ -195,12 +206,12 @@ runs_stop old (event.Slice m false ∷ events) (told.Slice sliced.Backing ∷ an
     ]
 runs_stop old (event.Slice m false ∷ events) (told.Slice (sliced.Ended p) ∷ answers) new o g r e w =
     inr (slices_of_stop old m (sliced.Ended p) r.0 g r.1 (subst (λ (x : Outcome). WasStopped x) (sym e.1) w))
-runs_stop old (event.Post lane posted ∷ events) (told.Begin answer ∷ answers) new o g r e w = absurd r.1
-runs_stop old (event.Post lane posted ∷ events) (told.Slice answer ∷ answers) new o g r e w = absurd r.1
-runs_stop old (event.Begin ∷ events) (told.Post answer ∷ answers) new o g r e w = absurd r.1
-runs_stop old (event.Begin ∷ events) (told.Slice answer ∷ answers) new o g r e w = absurd r.1
-runs_stop old (event.Slice m false ∷ events) (told.Post answer ∷ answers) new o g r e w = absurd r.1
-runs_stop old (event.Slice m false ∷ events) (told.Begin answer ∷ answers) new o g r e w = absurd r.1
+runs_stop old (event.Shut ∷ events) (told.Shut ∷ answers) new o g r e w =
+    elim (runs_stop r.0 events answers new o (step_legal old event.Shut told.Shut r.0 g r.1) r.2 e w) [
+      | inl asked ↦ inl asked
+      | inr back ↦ inr (subst (λ (m : Machine). Stops m.state.job) r.1 back)
+    ]
+runs_stop old (d ∷ events) (t ∷ answers) new o g r e w = absurd r.1
 
 -- the state of a machine without an open job is legal where its tree is
 idle_legal : (s : State) → IsLegal s.past → s.job ≡ Idle → IsLegalState s
@@ -243,7 +254,7 @@ can_move s t false o new h m = absurd (let e : false ≡ true = h in cc)
 can_move s t true o new h m = m
 
 pub undoes_all : UndoesAll
-undoes_all old new k events answers o g can idle next run ends none =
-    let ended = jobs_end old new (Undo k) events answers o idle next run ends in
+undoes_all old new k events answers o g can serves idle next run ends none =
+    let ended : JobEnds old.state.past (Undo k) o new.state = subst (λ (b : Bool). EndsUnless b old.state.past (Undo k) o new.state) serves (jobs_end old new (Undo k) events answers o idle next run ends) in
     let travelled = can_move old.state.past (travel_to aim.Undo k 0) _ o new.state can ended in
     all_undone old.state.past k travelled.0 travelled.1 o new.state travelled.2 (λ w. none (only_asked_slices_stop old new (Undo k) events answers o g idle next run ends w))

@@ -2,7 +2,7 @@
 use Rattle.std.specs.Prelude.{◌≡◌, ◌≢◌, ◌⊎◌, ℕ, ◌+◌, Bool, true, false, List, [], zero, suc}
 use Rattle.janus_meaning.specs.World.{Cell}
 use Rattle.kernel_core.specs.Travel.{next_way, Up, Down, Aim, Goto, Travel}
-use Rattle.kernel_core.specs.State.{Past, State, Posted, Move, Entered, Idle, Border, Inside, node_at, here, below}
+use Rattle.kernel_core.specs.State.{Past, State, Posted, Move, Idle, Inside, node_at, here, below}
 use Rattle.kernel_core.specs.Slices.{finished, cells}
 use Rattle.kernel_core.specs.Legal.{IsMeeting}
 use Rattle.kernel_core.specs.Text.{Accepts, Refuses}

@@ -1,6 +1,6 @@
 -- Where memory is ample, the machine gives one answer to each event, and goes on to one state.
 use Rattle.std.specs.Prelude.{◌≡◌, ◌⊎◌, List, [], ◌∷◌, Err}
-use Rattle.kernel_core.specs.Legal.{IsLegalState}
+use Rattle.kernel_core.specs.LegalState.{IsLegalState}
 use Rattle.kernel_core.specs.Runs.{Machine, Step, Run}
 use Rattle.kernel_core.specs.Slices.{finished}
 use Rattle.kernel_core.specs.Travel.{Travel}
@@ -8,7 +8,7 @@ use Rattle.kernel_core.specs.declared.outcome.End.TheVariants.{NoMemory}
 use Rattle.kernel_core.specs.declared.outcome.Refusal.TheVariants.{Memory}
 use Rattle.kernel_core.specs.declared.outcome.Outcome.TheVariants.{Refused}
 use Rattle.kernel_core.specs.declared.outcome.Begun.TheVariants.{Ended}
-use Rattle.kernel_core.specs.declared.kernel.PostFault.TheVariants.{Memory as NoRoom}
+use Rattle.kernel_core.specs.declared.post.PostFault.TheVariants.{Memory as NoRoom}
 use Rattle.kernel_core.specs.declared.events.Event.{Event}
 use Rattle.kernel_core.specs.declared.events.Told.{Told}
 use Rattle.kernel_core.specs.declared.events.Told.TheVariants as told
@@ -18,6 +18,7 @@ abbrev pub TellsWant : Told → Type 0
 TellsWant (told.Post answer) = answer ≡ Err NoRoom
 TellsWant (told.Begin answer) = (answer ≡ Ended (Refused Memory)) ⊎ ((travel : Travel) × (answer ≡ Ended (finished travel NoMemory)))
 TellsWant (told.Slice answer) = ⊥
+TellsWant told.Shut = ⊥
 
 -- none of the answers does
 abbrev pub AreAmple : List Told → Type 0

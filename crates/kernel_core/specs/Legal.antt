@@ -1,8 +1,8 @@
--- Legal trees, and what each state of the machine keeps.
+-- Legal trees, and what a state of the machine keeps of its open job.
 use Rattle.std.specs.Prelude.{◌≡◌, ℕ, ◌+◌, ◌^◌, ◌<◌, ◌≤◌, ◌==◌, Bool, true, false, IsTrue, List, length, zero, suc, if◌then◌else◌, get_or}
 use Rattle.janus_meaning.specs.World.{World, empty_world}
 use Rattle.kernel_core.specs.Language.{Forward, Exec, IsFormed, IsSound}
-use Rattle.kernel_core.specs.State.{Past, Node, Work, Posted, Move, Job, Idle, Border, Inside, State, Shown, root, ancestor, node_at, world_at, here, favourite_of, code_of}
+use Rattle.kernel_core.specs.State.{Past, Node, Work, Posted, Move, Job, Idle, Border, Inside, root, ancestor, node_at, world_at, here, favourite_of, code_of}
 use Rattle.kernel_core.specs.Travel.{Aim, Undo, Redo, Goto, Travel}
 use Rattle.kernel_core.specs.Turn.{Turn, GoesOn, GoesBack}
 
@@ -83,14 +83,6 @@ abbrev pub IsInTimeAt : Past → Job → Type 0
 IsInTimeAt s Idle = Unit {0}
 IsInTimeAt s (Border travel) = Unit {0}
 IsInTimeAt s (Inside e) = IsInTime s e.work e.count e.turn
-
--- The state is legal: its tree, and its open job, which can do what it has to do, has steps to take, and stands at a count that can be
--- reached, since a world is shown there.
-pub record IsLegalState (s : State) : Type 0 where
-  pub legal : IsLegal s.past
-  pub possible : IsPossibleAt s.past s.job
-  pub in_time : IsInTimeAt s.past s.job
-  pub shown : (w : World) × Shown s w
 
 -- ---- the way to a node
 

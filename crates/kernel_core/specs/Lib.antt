@@ -5,23 +5,29 @@ pub mod Language
 pub mod Reached
 pub mod Text
 pub mod Refusal
--- The machine, in reading order: travels and turns, its states, which of them are legal, its slices, begins and runs, and the laws of
--- its runs.
+-- The machine, in reading order: travels and turns, its states, which of them are legal, its slices and begins, its minutes and runs, and
+-- the laws of its runs.
 pub mod Travel
 pub mod Turn
 pub mod State
 pub mod Legal
 pub mod Slices
 pub mod Begins
+pub mod Request
+pub mod Minutes
 pub mod Runs
 pub mod PostFault
+pub mod Midway
+pub mod LegalState
 pub mod Theorems
+pub mod LegalMinutes
 pub mod Determined
 -- The code's own words: its types read as those of the machine, what its fields keep, and how contracts have states as values.
 pub mod Program
 pub mod Runner
 pub mod Fields
 pub mod Kept
-pub mod Queue
+pub mod Written
+pub mod MachineParts
 pub mod StateCode
 pub mod MachineCode

@@ -3,7 +3,7 @@
 use Rattle.std.specs.Prelude.{◌≡◌, ℕ, ◌-◌, List, [], ◌∷◌, ◌++◌, get_or, zero, suc}
 use Rattle.janus_meaning.specs.World.{World, empty_world, Cell}
 use Rattle.kernel_core.specs.Language.{empty_cell, Code, Forward, Backward, Part, end_of}
-use Rattle.kernel_core.specs.Travel.{Way, Up, Down, Aim, Undo, Redo, Goto, Travel, next_way}
+use Rattle.kernel_core.specs.Travel.{Up, Down, Aim, Undo, Redo, Goto, Travel, next_way}
 use Rattle.kernel_core.specs.Turn.{Turn}
 
 -- a cell that ended well, with the steps that it took; or the root

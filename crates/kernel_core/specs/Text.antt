@@ -13,7 +13,7 @@ use Rattle.janus_check.specs.WellFormed.{meant_cell, IsWellFormed}
 use Rattle.janus_check.specs.declared.fault.CheckFault as check
 use Rattle.janus_check.specs.declared.fault.CheckFault.TheVariants as check_fault
 use Rattle.kernel_core.specs.declared.outcome.Refusal.{Refusal}
-use Rattle.kernel_core.specs.declared.outcome.Refusal.TheVariants.{Syntax, Check, TooFar, NoNode, Memory}
+use Rattle.kernel_core.specs.declared.outcome.Refusal.TheVariants.{Syntax, Check, TooFar, NoNode, Closing, Memory}
 
 -- the text has a tree that is well formed over the names of the world, and this is the cell
 pub record Accepts (w : World) (text : List ℕ) (cell : world.Cell) : Type 0 where
@@ -35,6 +35,7 @@ Refuses w text (Syntax fault) = IsRefusal text fault
 Refuses w text (Check fault) = IsUnformed w text fault
 Refuses w text TooFar = ⊥
 Refuses w text NoNode = ⊥
+Refuses w text Closing = ⊥
 Refuses w text Memory = Unit {0}
 
 -- the refusal that a fault is told as: want of memory is one of its own

@@ -1,28 +1,32 @@
 -- The main theorem in the subject's own words, over runs of the machine.
-use Rattle.std.specs.Prelude.{◌≡◌, ℕ, Bool, true, false, ◌+◌, ◌-◌, ◌<◌, ◌≤◌, List, [], ◌∷◌, length, nat_lt, get_or, IsTrue, zero, suc, ◌⊎◌, ◌↔◌}
+use Rattle.std.specs.Prelude.{◌≡◌, ℕ, Bool, true, false, ◌+◌, ◌-◌, ◌<◌, ◌≤◌, List, [], ◌∷◌, length, nat_lt, get_or, IsTrue, zero, suc, ◌⊎◌, ◌↔◌, Err}
 use Rattle.janus_meaning.specs.World.{World, empty_world, Cell, entered}
 use Rattle.janus_meaning.specs.Cells.{IsGoodWorld}
-use Rattle.janus_machine.specs.Faults.{fault_of}
 use Rattle.kernel_core.specs.Travel.{next_way, Travel, Up, Down}
-use Rattle.kernel_core.specs.Language.{Forward, Backward, Part, Exec, Stop}
-use Rattle.kernel_core.specs.Reached.{Reaches, Stopped}
-use Rattle.kernel_core.specs.State.{Node, Past, Move, Idle, Inside, State, root, node_at, world_at, here, ancestor, below, code_of}
-use Rattle.kernel_core.specs.Legal.{can_undo, can_redo, IsPossible, IsLegal, IsLegalState, IsMeeting}
-use Rattle.kernel_core.specs.Slices.{finished, cells, stepped, moved, grown, Settles}
+use Rattle.kernel_core.specs.Language.{Forward, Backward, Part, Exec}
+use Rattle.kernel_core.specs.Reached.{Reaches, Stopped, IsUnderWay, MeetsFault}
+use Rattle.kernel_core.specs.State.{Node, Past, Work, Move, Idle, Inside, State, root, node_at, world_at, here, ancestor, below, code_of}
+use Rattle.kernel_core.specs.Legal.{can_undo, can_redo, IsPossible, IsLegal, IsMeeting}
+use Rattle.kernel_core.specs.LegalState.{IsLegalState}
+use Rattle.kernel_core.specs.Slices.{finished, cells, grown, Settles}
 use Rattle.kernel_core.specs.Text.{Accepts, Refuses}
 use Rattle.kernel_core.specs.Begins.{Declares, travel_to}
-use Rattle.kernel_core.specs.Runs.{Machine, Request, RunCell, Undo, Redo, Goto, new_machine, IsNext, Step, Run}
-use Rattle.kernel_core.specs.Turn.{GoesOn}
+use Rattle.kernel_core.specs.Request.{Request, RunCell, Undo, Redo, Goto}
+use Rattle.kernel_core.specs.Runs.{Machine, new_machine, IsNext, shut, Step, Run}
+use Rattle.kernel_core.specs.Midway.{after, gone, count_of, IsReason}
+use Rattle.kernel_core.specs.Turn.{Why, GoesOn, GoesBack}
 use Rattle.kernel_core.specs.Travel as aim
 use Rattle.kernel_core.specs.declared.outcome.End.{End}
 use Rattle.kernel_core.specs.declared.outcome.End.TheVariants.{All, Asked, NoMemory}
 use Rattle.kernel_core.specs.declared.outcome.Refusal.{Refusal}
-use Rattle.kernel_core.specs.declared.outcome.Refusal.TheVariants.{TooFar, NoNode}
+use Rattle.kernel_core.specs.declared.outcome.Refusal.TheVariants.{TooFar, NoNode, Closing}
 use Rattle.kernel_core.specs.declared.outcome.Outcome.{Outcome}
 use Rattle.kernel_core.specs.declared.outcome.Outcome.TheVariants as outcome
 use Rattle.kernel_core.specs.declared.outcome.Begun.TheVariants as begun
 use Rattle.kernel_core.specs.declared.outcome.Sliced.{Sliced}
 use Rattle.kernel_core.specs.declared.outcome.Sliced.TheVariants as sliced
+use Rattle.kernel_core.specs.Minutes.{posts_of}
+use Rattle.kernel_core.specs.declared.post.PostFault.TheVariants.{Closing as CannotPost}
 use Rattle.kernel_core.specs.declared.events.Event.{Event}
 use Rattle.kernel_core.specs.declared.events.Event.TheVariants as event
 use Rattle.kernel_core.specs.declared.events.Told.{Told}
@@ -41,17 +45,15 @@ StaysLegal =
     (old new : Machine) (events : List Event) (answers : List Told) →
     IsLegalState old.state → Run old events answers new → IsLegalState new.state
 
+-- In each legal state in which a job goes back, it stands no further on than where it turned, and it turned there for its reason: it was asked
+-- to while the code went on, or the next step of the code met the fault.
+abbrev pub GoesBackForItsReason : Type 0
+GoesBackForItsReason =
+    (s : State) (work : Work) (c : ℕ) (why : Why) →
+    IsLegalState s → s.job ≡ Inside (record { work = work; count = c; turn = GoesBack why }) →
+    (c ≤ count_of why) × IsReason (code_of s.past work) (here s.past) why
+
 -- ---- jobs, from their begin to their end
-
--- what is left of a travel after j cells
-abbrev pub after : Travel → ℕ → Travel
-after travel zero = travel
-after travel (suc j) = stepped (after travel j)
-
--- the past after j cells of it
-abbrev pub gone : Past → Travel → ℕ → Past
-gone s travel zero = s
-gone s travel (suc j) = moved (gone s travel j) (after travel j)
 
 -- the job that was open ends with the last answer, as o, and with no earlier one
 abbrev pub EndsAs : List Told → Outcome → Type 0
@@ -93,19 +95,11 @@ BecomesNode s text o new =
     (cell : Cell) × (n : ℕ) × (w : World) × Accepts (here s) text cell × (o ≡ outcome.Ran (length s.nodes) n)
     × Exec (Forward cell) (here s) n w × (new ≡ record { past = grown s cell n w; job = Idle })
 
--- after j steps the cell goes on: the world shown is a part's, and it has not ended
-abbrev pub IsUnderWay : Past → Cell → ℕ → Type 0
-IsUnderWay s cell j = (w : World) × Part (Forward cell) (here s) j w × ((n : ℕ) (v : World) → Exec (Forward cell) (here s) n v → j < n)
-
--- after j steps the cell meets the fault
-abbrev pub MeetsFault : Past → Cell → Fault → ℕ → Type 0
-MeetsFault s cell fault j = (w : World) × Part (Forward cell) (here s) j w × Stop (Forward cell) (here s) j (fault_of fault)
-
 -- why the text became no node: it is no cell, or its cell met this fault there, or it was asked to stop while it went on
 abbrev pub IsNoNode : Past → List ℕ → Outcome → Type 0
 IsNoNode s text (outcome.Refused refusal) = Refuses (here s) text refusal
-IsNoNode s text (outcome.Failed fault j) = (cell : Cell) × Accepts (here s) text cell × MeetsFault s cell fault j
-IsNoNode s text (outcome.Interrupted j) = (cell : Cell) × Accepts (here s) text cell × IsUnderWay s cell j
+IsNoNode s text (outcome.Failed fault j) = (cell : Cell) × Accepts (here s) text cell × MeetsFault (Forward cell) (here s) fault j
+IsNoNode s text (outcome.Interrupted j) = (cell : Cell) × Accepts (here s) text cell × IsUnderWay (Forward cell) (here s) j
 IsNoNode s text (outcome.Ran node n) = ⊥
 IsNoNode s text (outcome.Undid j end) = ⊥
 IsNoNode s text (outcome.Redid j end) = ⊥
@@ -123,12 +117,17 @@ JobEnds s (Undo k) o new = MoveEnds s (travel_to aim.Undo k 0) (can_undo s.nodes
 JobEnds s (Redo k) o new = MoveEnds s (travel_to aim.Redo 0 k) (can_redo s.favourites s.position k) o new
 JobEnds s (Goto n) o new = GotoEnds s n (nat_lt n (length s.nodes)) o new
 
--- Over any events, with posts, interrupts and faults among them, a job that is taken ends so.
+-- a job that is taken while the kernel closes is refused
+abbrev pub EndsUnless : Bool → Past → Request → Outcome → State → Type 0
+EndsUnless false s job o new = JobEnds s job o new
+EndsUnless true s job o new = IsRefused s Closing o new
+
+-- Over any events, with posts, interrupts, faults and a shutdown among them, a job that is taken ends so.
 abbrev pub JobsEnd : Type 0
 JobsEnd =
     (old new : Machine) (job : Request) (events : List Event) (answers : List Told) (o : Outcome) →
     old.state.job ≡ Idle → IsNext old job →
-    Run old (event.Begin ∷ events) answers new → EndsAs answers o → JobEnds old.state.past job o new.state
+    Run old (event.Begin ∷ events) answers new → EndsAs answers o → EndsUnless old.closing old.state.past job o new.state
 
 -- ---- what stops a job
 
@@ -148,6 +147,7 @@ HasAsked [] = ⊥
 HasAsked (event.Post lane posted ∷ events) = HasAsked events
 HasAsked (event.Begin ∷ events) = HasAsked events
 HasAsked (event.Slice m asked ∷ events) = IsTrue asked ⊎ HasAsked events
+HasAsked (event.Shut ∷ events) = HasAsked events
 
 -- Only an asked slice stops a job before its end.
 abbrev pub OnlyAskedSlicesStop : Type 0
@@ -156,11 +156,12 @@ OnlyAskedSlicesStop =
     IsLegal old.state.past → old.state.job ≡ Idle → IsNext old job →
     Run old (event.Begin ∷ events) answers new → EndsAs answers o → WasStopped o → HasAsked events
 
--- So an undo that can go its k cells, and that nobody stops, undoes all of them.
+-- So an undo that is taken where it can go its k cells, and that nobody stops, undoes all of them.
 abbrev pub UndoesAll : Type 0
 UndoesAll =
     (old new : Machine) (k : ℕ) (events : List Event) (answers : List Told) (o : Outcome) →
-    IsLegal old.state.past → IsTrue (can_undo old.state.past.nodes old.state.past.position k) → old.state.job ≡ Idle → IsNext old (Undo k) →
+    IsLegal old.state.past → IsTrue (can_undo old.state.past.nodes old.state.past.position k) → old.closing ≡ false → old.state.job ≡ Idle →
+    IsNext old (Undo k) →
     Run old (event.Begin ∷ events) answers new → EndsAs answers o → ¬ HasAsked events → o ≡ outcome.Undid k All
 
 -- ---- where a travel leads
@@ -284,3 +285,17 @@ RedoGoesDownFavourites =
     (s : Past) → IsLegal s →
     (below : List ℕ) × AreFavourites s.favourites s.position below
     × ((k : ℕ) → IsTrue (can_redo s.favourites s.position k) ↔ (k ≤ length below))
+
+-- ---- a shutdown
+
+-- each post was refused as Closing
+abbrev pub AllPostsRefused : List Told → Type 0
+AllPostsRefused [] = Unit {0}
+AllPostsRefused (told.Post answer ∷ answers) = (answer ≡ Err CannotPost) × AllPostsRefused answers
+AllPostsRefused (t ∷ answers) = AllPostsRefused answers
+
+-- A shutdown interrupts nothing. From then on each post is refused, and so is each job that is taken, whatever else comes.
+abbrev pub ShutRefusesJobs : Type 0
+ShutRefusesJobs =
+    (old new : Machine) (events : List Event) (answers : List Told) →
+    Run (shut old) events answers new → (new.closing ≡ true) × AllPostsRefused answers × (posts_of new.minutes ≡ posts_of old.minutes)

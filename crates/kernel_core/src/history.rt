@@ -1,15 +1,15 @@
 //! The history: the tree of cells, the one store, and the open job. It is what a kernel has besides its queue.
 ghost use Rattle.std.specs.Prelude.{◌≡◌, ◌≤◌, IfOk, OnOk, OnErr, length, nat_lt, vec_capacity};
 ghost use Rattle.kernel_core.specs.State.{State, Idle, Border, here, Shown, new_state};
-ghost use Rattle.kernel_core.specs.Fields.{past_of, nodes_of, aim_of, travel_of, state_of, IsPhase};
+ghost use Rattle.kernel_core.specs.Fields.{past_of, nodes_of, aim_of, travel_of, state_of, IsStageOf};
 ghost use Rattle.kernel_core.specs.Travel.{Undo, Redo};
-ghost use Rattle.kernel_core.specs.Legal.{IsLegal, IsLegalState, IsPossible, IsCounted, CanGo, can_undo, can_redo};
+ghost use Rattle.kernel_core.specs.Legal.{IsLegal, IsPossible, IsCounted, CanGo, can_undo, can_redo};
 ghost use Rattle.kernel_core.specs.Slices.{IsSlice, cells};
 ghost use Rattle.kernel_core.specs.Begins.{TakesCell, TakesMove, TakesGoto, Departs, Enters, Declares, travel_to};
 ghost use Rattle.kernel_core.specs.Runner.{world_of};
 ghost use Rattle.kernel_core.specs.Kept.{HasRoom, HasPath, Kept, IsKept, StandsAt};
 
-use crate::job::{Aim, Entered, Open, Phase, Travel, Turn, Way, Why, Work};
+use crate::job::{Aim, Entered, Open, Stage, Travel, Turn, Way, Why, Work};
 use crate::outcome::{Begun, End, Outcome, Refusal, Sliced};
 use crate::program::Program;
 use crate::runner::Runner;
@@ -133,8 +133,7 @@ impl History {
 
     /// The shown world.
     pub fn world(&self) -> View<'_>
-        ensures shown { Shown self.now result }
-        ensures legal { IsLegalState self.now }
+        ensures { Shown self.now result }
     {
         View::of(&self.runner)
     }
@@ -221,13 +220,13 @@ impl History {
     }
 
     /// Where the open job stands.
-    pub fn phase(&self) -> Phase
-        ensures { IsPhase self.now result }
+    pub fn stage(&self) -> Stage
+        ensures { IsStageOf self.now result }
     {
         match &self.job {
-            Open::Idle => Phase::Idle,
-            Open::Border(travel) => Phase::Border(*travel),
-            Open::Inside(_) => Phase::Inside,
+            Open::Idle => Stage::Idle,
+            Open::Border(travel) => Stage::Border(*travel),
+            Open::Inside(_) => Stage::Inside,
         }
     }
 

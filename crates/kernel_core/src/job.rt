@@ -127,7 +127,7 @@ pub enum Open {
 
 /// Where the open job stands.
 #[derive(Clone, Copy)]
-pub enum Phase {
+pub enum Stage {
     Idle,
     Border(Travel),
     Inside,

@@ -1,7 +1,8 @@
 //! The main theorem, over every run of the machine. `run_events` gives such runs, and each state of a kernel is legal.
 //! The functions do nothing: their contracts are the laws.
 ghost use Rattle.kernel_core.specs.Determined.{StepIsDetermined, RunIsDetermined};
-ghost use Rattle.kernel_core.specs.Theorems.{NewIsLegal, StaysLegal, JobsEnd, OnlyAskedSlicesStop, UndoesAll, UndoGoesUp, RedoGoesDown, GotoGoesThere, RedoGivesBack, SettlesOnTime, NeverFaults, IsMirrored, PathGivesWorld, UndoGoesUpThePath, RedoGoesDownFavourites};
+ghost use Rattle.kernel_core.specs.Theorems.{NewIsLegal, StaysLegal, GoesBackForItsReason, JobsEnd, OnlyAskedSlicesStop, UndoesAll, UndoGoesUp, RedoGoesDown, GotoGoesThere, RedoGivesBack, SettlesOnTime, NeverFaults, IsMirrored, PathGivesWorld, UndoGoesUpThePath, RedoGoesDownFavourites, ShutRefusesJobs};
+ghost use Rattle.kernel_core.specs.LegalMinutes.{KeepsLegalMinutes};
 
 /// A new machine is legal: its tree is, and no job is open.
 pub fn new_is_legal_law()
@@ -13,7 +14,14 @@ pub fn stays_legal_law()
     ensures { StaysLegal }
 {}
 
-/// A job that is taken ends so, whatever posts, interrupts and slices come. A cell that ends as `Ran` is a new node with the
+/// In each legal state in which a job goes back, it stands no further on than where it turned, and it turned there for its reason: it
+/// was asked to while the code went on, or the next step of the code met the fault.
+pub fn goes_back_for_its_reason_law()
+    ensures { GoesBackForItsReason }
+{}
+
+/// A job that is taken ends so, whatever posts, interrupts, slices and shutdowns come; one that is taken while the kernel closes is
+/// refused. A cell that ends as `Ran` is a new node with the
 /// world to which it leads; any other end leaves all as before it, and tells why. A travel is refused whole, or ends after `j`
 /// cells: it says `All` exactly where these are all, and `NoMemory` only on the way down, in front of a cell that declares names.
 pub fn jobs_end_law()
@@ -26,7 +34,7 @@ pub fn only_asked_slices_stop_law()
     ensures { OnlyAskedSlicesStop }
 {}
 
-/// An undo of `k` cells, where there are so many, ends as `Undid(k, All)` unless some slice since its begin was asked.
+/// An undo of `k` cells that is taken where there are so many, and before a shutdown, ends as `Undid(k, All)` unless some slice since its begin was asked.
 pub fn undoes_all_law()
     ensures { UndoesAll }
 {}
@@ -91,4 +99,16 @@ pub fn step_is_determined_law()
 /// Where no answer tells want of memory, the answers to a list of events and the machine after it are the only ones.
 pub fn run_is_determined_law()
     ensures { RunIsDetermined }
+{}
+
+/// A shutdown interrupts nothing. From then on the kernel closes: each post is refused as `Closing`, so no job is posted any more;
+/// by `jobs_end_law` each job that is taken is refused too.
+pub fn shut_refuses_jobs_law()
+    ensures { ShutRefusesJobs }
+{}
+
+/// The minutes of each machine that is reached are legal, and give its tree, position, favourites and counter, save what the open
+/// job has done.
+pub fn keeps_legal_minutes_law()
+    ensures { KeepsLegalMinutes }
 {}

@@ -19,7 +19,7 @@ pub enum End {
     NoMemory,
 }
 
-/// Why a job was not begun. It changed nothing.
+/// Why a job was not begun. The world, the tree and the position are as before.
 #[derive(Clone, Copy, Debug, PartialEq, Eq, Error)]
 pub enum Refusal {
     /// The text is no cell.
@@ -34,6 +34,9 @@ pub enum Refusal {
     /// There is no node of this number.
     #[error("NoNode")]
     NoNode,
+    /// The kernel was shut.
+    #[error("Closing")]
+    Closing,
     /// There was no memory for a cell's code, names or node.
     #[error("Memory")]
     Memory,
@@ -49,6 +52,7 @@ impl Refusal {
             Refusal::Check(fault) => fault.number(),
             Refusal::NoNode => 71,
             Refusal::TooFar => 73,
+            Refusal::Closing => 75,
             Refusal::Memory => 76,
         }
     }
@@ -62,6 +66,7 @@ impl Refusal {
             Refusal::Check(fault) => fault.name(),
             Refusal::NoNode => "NoNode",
             Refusal::TooFar => "TooFar",
+            Refusal::Closing => "Closing",
             Refusal::Memory => "Memory",
         }
     }
@@ -75,6 +80,7 @@ impl Refusal {
             Refusal::Check(fault) => fault.span(),
             Refusal::NoNode => None,
             Refusal::TooFar => None,
+            Refusal::Closing => None,
             Refusal::Memory => None,
         }
     }
@@ -122,4 +128,17 @@ pub enum Sliced {
     Backing,
     /// The job is over, and no job is open.
     Ended(Outcome),
+}
+
+/// What the next call is to be.
+#[derive(Clone, Copy, Debug, PartialEq, Eq)]
+pub enum Phase {
+    /// No job is open, and none is posted.
+    Idle,
+    /// No job is open, and `begin` takes the earliest posted one.
+    Queued,
+    /// The open job stands between two cells, and `begin` enters the next one.
+    Border,
+    /// The open job stands inside a cell, and `slice` takes steps of it.
+    Inside,
 }

@@ -1,5 +1,5 @@
 use Rattle.std.proofs.Common.{sym, subst, refl}
-use Rattle.kernel_core.specs.Runs.{Undo, Redo, Goto}
+use Rattle.kernel_core.specs.Request.{Undo, Redo, Goto}
 use Rattle.janus_cells.specs.Loop.{Does}
 use Rattle.janus_cells.specs.Shown.{world_text}
 use Rattle.janus_cells.specs.Transcript.{bad_command_line}

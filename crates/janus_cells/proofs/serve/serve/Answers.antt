@@ -1,5 +1,6 @@
 use Rattle.std.proofs.Common.{◌≡◌, subst, [], ◌∷◌}
-use Rattle.kernel_core.specs.Runs.{Machine, Request, IsPost, IsBegin, request_of}
+use Rattle.kernel_core.specs.Runs.{Machine, IsPost, IsBegin}
+use Rattle.kernel_core.specs.Request.{Request, request_of}
 use Rattle.kernel_core.specs.State.{Idle}
 use Rattle.kernel_core.specs.declared.outcome.Begun.{Begun}
 use Rattle.janus_cells.specs.Served.{lane, not_posted, at_once, later}
@@ -32,3 +33,9 @@ pub returns-in-Going-clause-ok : goal.returns-in-Going-clause-ok
 returns-in-Going-clause-ok c =
     let p = subst (λ r. IsPost c.args.kernel.now.machine lane (request_of c.args.job) r c.post.new.self.machine) c.in_ok-post.was c.post.ensures.post in
     later p (subst (λ t. IsBegin c.post.new.self.machine t c.begin.new.self.machine) c.in-Going.is c.begin.ensures) c.finish.ensures.finishes
+
+pub returns-in-Ended-clause-idle : goal.returns-in-Ended-clause-idle
+returns-in-Ended-clause-idle c =
+    let p = subst (λ r. IsPost c.args.kernel.now.machine lane (request_of c.args.job) r c.post.new.self.machine) c.in_ok-post.was c.post.ensures.post in
+    let alone = posted_alone c.args.kernel.now.machine c.post.new.self.machine (request_of c.args.job) _ c.requires.idle c.requires.alone p in
+    (begun_as c.post.new.self.machine c.begin.new.self.machine (request_of c.args.job) c.begin.result _ c.in-Ended.is alone c.begin.ensures).1

@@ -1,0 +1,19 @@
+-- How the fields of the code are the machine.
+use Rattle.std.specs.Prelude.{map}
+use Rattle.kernel_core.specs.Runs.{Machine}
+use Rattle.kernel_core.specs.Written.{entries_in, job_at, ArePosts, HasPlaces}
+use Rattle.kernel_core.specs.declared.machine.Machine.TheInside.{Inside}
+
+-- the queue is kept as the places of the posts in the minutes
+abbrev pub machine_of : Inside → Machine
+machine_of a = record {
+  state = a.history;
+  queue = map (job_at (entries_in a.minutes)) a.queue.items;
+  counter = a.counter;
+  minutes = entries_in a.minutes;
+  closing = a.closing;
+}
+
+pub record IsInOrder (a : Inside) : Type 0 where
+  pub places : HasPlaces a.minutes
+  pub queue : ArePosts (entries_in a.minutes) a.queue.items
