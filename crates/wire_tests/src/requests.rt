@@ -89,7 +89,7 @@ fn looks_at_each_field_of_a_request(rt: HostRuntime) -> Result<(), Fail> {
             let content = object_with(alloc, members, field, value)?;
             let passes = is_of(cell(row, 4), value) || optional && value == "null";
             let want = if passes { "read" } else { field };
-            assert_eq!(rt; told(alloc, &header, &content)?, want, "{row} {value}");
+            assert_eq!(rt; told(alloc, &header, &content)?, want, "{content}");
         }
     }
     Ok(())
