@@ -15,7 +15,8 @@ const GREETING: [u8; 64] =
     *b"\xFF\0\0\0\0\0\0\0\0\x7F\x03\0NULL\0\0\0\0\0\0\0\0\0\0\0\0\0\0\0\0\0\0\0\0\0\0\0\0\0\0\0\0\0\0\0\0\0\0\0\0\0\0\0\0\0\0\0\0\0\0\0\0";
 
 /// Lists of octets by hand, from RFC 23.
-const ROWS: &str = "subscriptions to one prefix, and one taken back|Pub|04190552454144590b536f636b65742d5479706500000003535542000301737400030173740003007374|Ready Subscribe=7374 Subscribe=7374 Cancel=7374|
+const ROWS: &str =
+    "subscriptions to one prefix, and one taken back|Pub|04190552454144590b536f636b65742d5479706500000003535542000301737400030173740003007374|Ready Subscribe=7374 Subscribe=7374 Cancel=7374|
 the READY of a router|Dealer|041c0552454144590b536f636b65742d5479706500000006524f55544552|Ready|
 a socket type that doesn't fit|Router|04190552454144590b536f636b65742d5479706500000003535542||9
 a message before READY|Router|000161||12

@@ -26,7 +26,8 @@ fn cell(row: &str, at: usize) -> &str {
 }
 
 /// What each field is tried with, as JSON: values of each kind, and the edges of the whole numbers.
-const VALUES: &str = r#"null true false 0 -1 -0 1.0 1e3 18446744073709551615 18446744073709551616 "x" "tail" [] {}"#;
+const VALUES: &str =
+    r#"null true false 0 -1 -0 1.0 1e3 18446744073709551615 18446744073709551616 "x" "tail" [] {}"#;
 
 /// Whether a value is of a kind.
 fn is_of(kind: &str, value: &str) -> bool {
@@ -109,7 +110,11 @@ fn looks_at_each_field_of_a_header(rt: HostRuntime) -> Result<(), Fail> {
         assert_eq!(rt; told(alloc, &header, "{}")?, field, "{row}");
         for value in VALUES.split(' ') {
             let header = object_with(alloc, members, field, value)?;
-            let want = if is_of("text", value) { cell(row, 2) } else { field };
+            let want = if is_of("text", value) {
+                cell(row, 2)
+            } else {
+                field
+            };
             assert_eq!(rt; told(alloc, &header, "{}")?, want, "{row} {value}");
         }
     }
@@ -177,7 +182,11 @@ fn reads_each_request(rt: HostRuntime) -> Result<(), Fail> {
         let message = message_of(alloc, &header_of(alloc, cell(row, 0))?, cell(row, 1))?;
         let read = Request::read(alloc, &message)?;
         let request = &read.content;
-        assert_eq!(rt; format!(in alloc; "{request:?}")?.as_str(), cell(row, 2), "{row}");
+        assert_eq!(rt;
+            format!(in alloc; "{request:?}")?.as_str(),
+            cell(row, 2),
+            "{row}"
+        );
     }
     Ok(())
 }
