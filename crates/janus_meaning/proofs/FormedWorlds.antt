@@ -224,7 +224,7 @@ formed_worlds_last = record {
   later = λ c w n v f h. record {
     entered_is = entered_formed c w f h;
     ended_is = λ e. ended_formed (entered c w) c.block n v (entered_formed c w f h) e;
-    taken_back_is = λ i u r e back taken. subst IsFormedWorld (back_is c w n v f e i u r back taken) f;
+    taken_back_is = λ i u r e back taken. back_is c w n v f e i u r back taken;
   };
 }
 

@@ -87,12 +87,12 @@ abbrev pub FormedCellIsSafe : Type 0
 FormedCellIsSafe =
     (c : Cell) (w : World) (j : ℕ) (f : Fault) → IsFormedWorld w → IsFormedCell c w → WorldStop (entered c w) c.block j f → IsReal f
 
--- A well-formed cell of n steps over the world w, with v at its end: the worlds that it leads to are well formed, forward,
--- and taken back.
+-- A well-formed cell of n steps over the world w, with v at its end: the worlds that it leads to are well formed, and what any
+-- run of its inverse and the taking back of its declarations and definitions lead to from there is w itself.
 pub record KeepsFormed (c : Cell) (w : World) (n : ℕ) (v : World) : Type 0 where
   pub entered_is : IsFormedWorld (entered c w)
   pub ended_is : CellRun c w n v → IsFormedWorld v
-  pub taken_back_is : (i : ℕ) (u r : World) → CellRun c w n v → WorldExec v (inverse_block c.block) i u → taken_back c u ≡ Fine r → IsFormedWorld r
+  pub taken_back_is : (i : ℕ) (u r : World) → CellRun c w n v → WorldExec v (inverse_block c.block) i u → taken_back c u ≡ Fine r → w ≡ r
 
 -- The empty world is well formed, and so are all worlds that well-formed cells lead to.
 pub record FormedWorldsLast : Type 0 where

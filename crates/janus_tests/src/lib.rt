@@ -6,14 +6,14 @@
 #![tactic(auto)]
 
 #[cfg(test)]
+mod calls;
+#[cfg(test)]
 mod checking;
 #[cfg(test)]
 mod inverting;
 #[cfg(test)]
-mod posting;
-#[cfg(test)]
 mod reading;
 #[cfg(test)]
-mod storing;
+mod schedules;
 #[cfg(test)]
-mod undoing;
+mod storing;

@@ -1,5 +1,5 @@
 -- What follows from the rule and one seat's view.
-use Rattle.std.proofs.Common.{◌≡◌, ℕ, suc, ◌+◌, ◌≤◌, ap, ◌∙◌, arith, get_or, nat_le, ◌&&◌, IsTrue}
+use Rattle.std.proofs.Common.{◌≡◌, ℕ, suc, ◌≤◌, ap, ◌∙◌, arith, get_or, nat_le, ◌&&◌, IsTrue}
 use Rattle.std.proofs.lemmas.Bool.Decides.{nat_tests}
 use lib.ListN.{get_elem?}
 use Rattle.kernel_bell.specs.declared.view.RunnerView.{RunnerView}
@@ -10,7 +10,7 @@ use Rattle.kernel_bell.specs.Steps.{Knows, begins, hears, looks, raises, sits}
 use Rattle.kernel_bell.specs.Seats.{HasRung, WasRung, IsNeverLater}
 use Rattle.kernel_bell.specs.Laws.{StepsKeepTheRule, AskedIsExact, NoRingIsEarly}
 use Rattle.kernel_bell.proofs.Ringers.{highest-below, highest_is_rung, to_map}
-use Rattle.kernel_bell.proofs.Keeps.{runner_is, bell_is_highest, begin_keeps, hear_keeps, look_keeps, raise_keeps, seat_keeps, rung_within}
+use Rattle.kernel_bell.proofs.Keeps.{runner_is, bell_is_highest, begin_keeps, hear_keeps, look_keeps, raise_keeps, seat_keeps, rung_within, seen_within}
 
 module _ (s : BellState) (h : IsRuled s) (seat : ℕ) (q : RunnerView) (at : Knows s seat (Runner q)) where
   serial_is : h.runner.serial ≡ q.serial
@@ -42,7 +42,7 @@ was_rung q one le s seat h at =
     reached_is_rung s h seat q at one (omega arith)
 
 pub never_later : (g : RingerView) → IsNeverLater g
-never_later g s seat h at = rung_within s h seat g at
+never_later g s seat h at = let w = rung_within s h seat g at in (seen_within s h seat g at, w.0, w.1)
 
 pub steps_keep : StepsKeepTheRule
 steps_keep s t h (begins seat r at) = begin_keeps s h seat r at
@@ -69,4 +69,4 @@ asked_is_exact s seat r h at = (
 )
 
 pub no_ring_is_early : NoRingIsEarly
-no_ring_is_early s seat r h at rung = let le = rung_is_behind s h seat r at (r.serial + 1) rung in absurd (omega arith)
+no_ring_is_early s seat r h at n later rung = let le = rung_is_behind s h seat r at n rung in absurd (omega arith)

@@ -121,6 +121,9 @@ module _ (s : BellState) (h : IsRuled s) (seat : ℕ) (g : RingerView) (at : Kno
   rung_within = let b0 = bounds.0 in let b1 = bounds.1 in let e = current_is in let e' = bell_is in
       let above = highest-above h.ringers there.0 g there.2 in (omega arith, omega arith)
 
+  pub seen_within : g.seen ≤ current_of s
+  seen_within = let b1 = bounds.1 in let e = current_is in omega arith
+
 -- One more ringer, that has seen and rung nothing
 
 pub seat_keeps : (s : BellState) → IsRuled s → IsRuled record { words = s.words; homes = s.homes; views = s.views ++ Ringer new_ringer ∷ [] }

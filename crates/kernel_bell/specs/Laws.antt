@@ -1,5 +1,5 @@
 -- What the rule comes to, in the words of its use.
-use Rattle.std.specs.Prelude.{ℕ, ◌+◌, ◌≤◌, IsTrue, ◌↔◌}
+use Rattle.std.specs.Prelude.{ℕ, ◌<◌, ◌≤◌, IsTrue, ◌↔◌}
 use Rattle.kernel_bell.specs.declared.view.RunnerView.{RunnerView}
 use Rattle.kernel_bell.specs.declared.view.View.TheVariants.{Runner}
 use Rattle.kernel_bell.specs.Views.{after_hearing}
@@ -18,8 +18,8 @@ AskedIsExact =
     (s : BellState) (seat : ℕ) (r : RunnerView) → IsRuled s → Knows s seat (Runner r)
     → IsTrue (is_asked (after_hearing r (bell_of s))) ↔ ((1 ≤ r.serial) × HasRung s r.serial)
 
--- Nobody has rung a serial that isn't begun: whatever was rung before, a new job isn't asked to stop.
+-- Nobody has rung a serial that isn't begun, the next one or a later: whatever was rung before, a new job isn't asked to stop.
 abbrev pub NoRingIsEarly : Type 0
 NoRingIsEarly =
     (s : BellState) (seat : ℕ) (r : RunnerView) → IsRuled s → Knows s seat (Runner r)
-    → ¬ HasRung s (r.serial + 1)
+    → (n : ℕ) → r.serial < n → ¬ HasRung s n

@@ -35,8 +35,8 @@ HasRung s serial = (seat : ℕ) × (g : RingerView) × Knows s seat (Ringer g) �
 abbrev pub WasRung : RunnerView → Type 0
 WasRung r = (s : BellState) (seat : ℕ) → IsRuled s → Knows s seat (Runner r) → HasRung s r.serial
 
--- in every state in which a ringer knows this, what it rang is at most `current`, and `bell` has reached it
+-- in every state in which a ringer knows this, what it has seen and rung is at most `current`, and `bell` has reached what it rang
 abbrev pub IsNeverLater : RingerView → Type 0
 IsNeverLater g =
     (s : BellState) (seat : ℕ) → IsRuled s → Knows s seat (Ringer g)
-    → (g.rung ≤ current_of s) × (g.rung ≤ bell_of s)
+    → (g.seen ≤ current_of s) × (g.rung ≤ current_of s) × (g.rung ≤ bell_of s)

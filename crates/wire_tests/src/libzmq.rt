@@ -1,110 +1,19 @@
 //! What libzmq writes.
-use crate::peers::{Expected, Row};
-use zmtp_peer::Role;
 
 /// What libzmq 4.3.4 (pyzmq 24.0.1, Debian's python3-zmq) sends first to a peer of version 3.0, recorded on 2026-11-22
 /// from a plain TCP listener on 127.0.0.1.
-const LIBZMQ_GREETING: [u8; 64] =
+pub(crate) const LIBZMQ_GREETING: [u8; 64] =
     *b"\xFF\0\0\0\0\0\0\0\x01\x7F\x03\x01NULL\0\0\0\0\0\0\0\0\0\0\0\0\0\0\0\0\0\0\0\0\0\0\0\0\0\0\0\0\0\0\0\0\0\0\0\0\0\0\0\0\0\0\0\0\0\0\0\0";
 
 /// What libzmq sends behind its greeting, recorded in the same way: for each socket type its READY, and then a message
-/// or subscriptions.
-pub(crate) const RECORDED: [Row; 9] = [
-    // DEALER
-    Row {
-        role: Role::Router,
-        greeting: &LIBZMQ_GREETING,
-        octets: b"\x04)\x05READY\x0BSocket-Type\0\0\0\x06DEALER\x08Identity\0\0\0\0\x01\0\x01\x06k\
-            ernel\x02\0\0\0\0\0\0\x01,xxxxxxxxxxxxxxxxxxxxxxxxxxxxxxxxxxxxxxxxxxxxxxxxxxxxxx\
-            xxxxxxxxxxxxxxxxxxxxxxxxxxxxxxxxxxxxxxxxxxxxxxxxxxxxxxxxxxxxxxxxxxxxxxxxxxxxxxxx\
-            xxxxxxxxxxxxxxxxxxxxxxxxxxxxxxxxxxxxxxxxxxxxxxxxxxxxxxxxxxxxxxxxxxxxxxxxxxxxxxxx\
-            xxxxxxxxxxxxxxxxxxxxxxxxxxxxxxxxxxxxxxxxxxxxxxxxxxxxxxxxxxxxxxxxxxxxxxxxxxxxxxxx\
-            xxxxxx",
-        events: &[
-            Expected::Ready,
-            Expected::Message(&[b"", b"kernel", &[0x78; 300]]),
-        ],
-        fault: None,
-    },
-    // REQ
-    Row {
-        role: Role::Router,
-        greeting: &LIBZMQ_GREETING,
-        octets: b"\x04&\x05READY\x0BSocket-Type\0\0\0\x03REQ\x08Identity\0\0\0\0\x01\0\0\x04ping",
-        events: &[Expected::Ready, Expected::Message(&[b"", b"ping"])],
-        fault: None,
-    },
-    // ROUTER
-    Row {
-        role: Role::Router,
-        greeting: &LIBZMQ_GREETING,
-        octets: b"\x04)\x05READY\x0BSocket-Type\0\0\0\x06ROUTER\x08Identity\0\0\0\0\0\x04pong",
-        events: &[Expected::Ready, Expected::Message(&[b"pong"])],
-        fault: None,
-    },
-    // REQ
-    Row {
-        role: Role::Rep,
-        greeting: &LIBZMQ_GREETING,
-        octets: b"\x04&\x05READY\x0BSocket-Type\0\0\0\x03REQ\x08Identity\0\0\0\0\x01\0\0\x04beat",
-        events: &[Expected::Ready, Expected::Message(&[b"", b"beat"])],
-        fault: None,
-    },
-    // DEALER
-    Row {
-        role: Role::Rep,
-        greeting: &LIBZMQ_GREETING,
-        octets: b"\x04)\x05READY\x0BSocket-Type\0\0\0\x06DEALER\x08Identity\0\0\0\0\x01\0\0\x04bea\
-            t",
-        events: &[Expected::Ready, Expected::Message(&[b"", b"beat"])],
-        fault: None,
-    },
-    // SUB
-    Row {
-        role: Role::Pub,
-        greeting: &LIBZMQ_GREETING,
-        octets: b"\x04\x19\x05READY\x0BSocket-Type\0\0\0\x03SUB\0\x03\x01st\0\x06\x01error\0\x03\0\
-            st",
-        events: &[
-            Expected::Ready,
-            Expected::Subscribe(b"st"),
-            Expected::Subscribe(b"error"),
-            Expected::Cancel(b"st"),
-        ],
-        fault: None,
-    },
-    // XSUB
-    Row {
-        role: Role::Pub,
-        greeting: &LIBZMQ_GREETING,
-        octets: b"\x04\x1A\x05READY\x0BSocket-Type\0\0\0\x04XSUB\0\x03\x01st\0\x03\x01st",
-        events: &[
-            Expected::Ready,
-            Expected::Subscribe(b"st"),
-            Expected::Subscribe(b"st"),
-        ],
-        fault: None,
-    },
-    // ROUTER
-    Row {
-        role: Role::Dealer,
-        greeting: &LIBZMQ_GREETING,
-        octets: b"\x04)\x05READY\x0BSocket-Type\0\0\0\x06ROUTER\x08Identity\0\0\0\0\x01\x01a\0\x01\
-            b",
-        events: &[Expected::Ready, Expected::Message(&[b"a", b"b"])],
-        fault: None,
-    },
-    // PUB
-    Row {
-        role: Role::Sub,
-        greeting: &LIBZMQ_GREETING,
-        octets: b"\x04\x19\x05READY\x0BSocket-Type\0\0\0\x03PUB\x01\x06stream\0\x011\x01\x06status\
-            \0\x04busy",
-        events: &[
-            Expected::Ready,
-            Expected::Message(&[b"stream", b"1"]),
-            Expected::Message(&[b"status", b"busy"]),
-        ],
-        fault: None,
-    },
-];
+/// or subscriptions. It begins with the socket type.
+pub(crate) const RECORDED: &str =
+    "DEALER|Router|04290552454144590b536f636b65742d54797065000000064445414c4552084964656e7469747900000000010001066b65726e656c02000000000000012c787878787878787878787878787878787878787878787878787878787878787878787878787878787878787878787878787878787878787878787878787878787878787878787878787878787878787878787878787878787878787878787878787878787878787878787878787878787878787878787878787878787878787878787878787878787878787878787878787878787878787878787878787878787878787878787878787878787878787878787878787878787878787878787878787878787878787878787878787878787878787878787878787878787878787878787878787878787878787878787878787878787878787878787878787878787878787878787878787878787878787878787878787878787878787878787878787878787878787878787878|Ready Message=,6b65726e656c,787878787878787878787878787878787878787878787878787878787878787878787878787878787878787878787878787878787878787878787878787878787878787878787878787878787878787878787878787878787878787878787878787878787878787878787878787878787878787878787878787878787878787878787878787878787878787878787878787878787878787878787878787878787878787878787878787878787878787878787878787878787878787878787878787878787878787878787878787878787878787878787878787878787878787878787878787878787878787878787878787878787878787878787878787878787878787878787878787878787878787878787878787878787878787878787878787878787878787878787878|
+REQ|Router|04260552454144590b536f636b65742d5479706500000003524551084964656e74697479000000000100000470696e67|Ready Message=,70696e67|
+ROUTER|Router|04290552454144590b536f636b65742d5479706500000006524f55544552084964656e74697479000000000004706f6e67|Ready Message=706f6e67|
+REQ|Rep|04260552454144590b536f636b65742d5479706500000003524551084964656e74697479000000000100000462656174|Ready Message=,62656174|
+DEALER|Rep|04290552454144590b536f636b65742d54797065000000064445414c4552084964656e74697479000000000100000462656174|Ready Message=,62656174|
+SUB|Pub|04190552454144590b536f636b65742d547970650000000353554200030173740006016572726f720003007374|Ready Subscribe=7374 Subscribe=6572726f72 Cancel=7374|
+XSUB|Pub|041a0552454144590b536f636b65742d54797065000000045853554200030173740003017374|Ready Subscribe=7374 Subscribe=7374|
+ROUTER|Dealer|04290552454144590b536f636b65742d5479706500000006524f55544552084964656e7469747900000000010161000162|Ready Message=61,62|
+PUB|Sub|04190552454144590b536f636b65742d5479706500000003505542010673747265616d0001310106737461747573000462757379|Ready Message=73747265616d,31 Message=737461747573,62757379|";

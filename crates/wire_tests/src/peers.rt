@@ -1,288 +1,102 @@
 //! Peers: what libzmq sends and rows of octets by hand in any cut, greetings that are refused, the opening, subscriptions.
-use crate::libzmq::RECORDED;
-use std::alloc::Global;
+//!
+//! The tables are texts, a row a line and its cells parted by `|`: what it shows, the role, the octets behind the greeting, the
+//! events that they tell the role, and the number of the fault behind those. Octets are written in hexadecimal. A message has its
+//! bodies behind it, a subscription its prefix, and an ERROR its reason.
+use crate::libzmq::{LIBZMQ_GREETING, RECORDED};
+use std::alloc::{AllocError, Global};
 use std::process::Abort;
 use std::test::Fail;
 use zmtp_peer::{Peer, PeerEvent, PeerFault, Role};
 use zmtp_wire::WireFault;
-
-/// An event that is expected.
-#[derive(Clone, Copy)]
-pub(crate) enum Expected {
-    Ready,
-    Message(&'static [&'static [u8]]),
-    Subscribe(&'static [u8]),
-    Cancel(&'static [u8]),
-}
-
-/// A greeting and the octets behind it, the events that they tell a role, and the fault behind those, by its number and
-/// with the reason of an ERROR.
-pub(crate) struct Row {
-    pub(crate) role: Role,
-    pub(crate) greeting: &'static [u8; 64],
-    pub(crate) octets: &'static [u8],
-    pub(crate) events: &'static [Expected],
-    pub(crate) fault: Option<(u8, &'static [u8])>,
-}
 
 /// A greeting of version 3.0, from RFC 23.
 const GREETING: [u8; 64] =
     *b"\xFF\0\0\0\0\0\0\0\0\x7F\x03\0NULL\0\0\0\0\0\0\0\0\0\0\0\0\0\0\0\0\0\0\0\0\0\0\0\0\0\0\0\0\0\0\0\0\0\0\0\0\0\0\0\0\0\0\0\0\0\0\0\0";
 
 /// Lists of octets by hand, from RFC 23.
-const ROWS: [Row; 26] = [
-    // subscriptions to one prefix, and one taken back
-    Row {
-        role: Role::Pub,
-        greeting: &GREETING,
-        octets: b"\x04\x19\x05READY\x0BSocket-Type\0\0\0\x03SUB\0\x03\x01st\0\x03\x01st\0\x03\0st",
-        events: &[
-            Expected::Ready,
-            Expected::Subscribe(b"st"),
-            Expected::Subscribe(b"st"),
-            Expected::Cancel(b"st"),
-        ],
-        fault: None,
-    },
-    // the READY of a router
-    Row {
-        role: Role::Dealer,
-        greeting: &GREETING,
-        octets: b"\x04\x1C\x05READY\x0BSocket-Type\0\0\0\x06ROUTER",
-        events: &[Expected::Ready],
-        fault: None,
-    },
-    // a socket type that doesn't fit
-    Row {
-        role: Role::Router,
-        greeting: &GREETING,
-        octets: b"\x04\x19\x05READY\x0BSocket-Type\0\0\0\x03SUB",
-        events: &[],
-        fault: Some((9, b"")),
-    },
-    // a message before READY
-    Row {
-        role: Role::Router,
-        greeting: &GREETING,
-        octets: b"\0\x01a",
-        events: &[],
-        fault: Some((12, b"")),
-    },
-    // another command before READY
-    Row {
-        role: Role::Router,
-        greeting: &GREETING,
-        octets: b"\x04\x07\x04PING\0\0",
-        events: &[],
-        fault: Some((12, b"")),
-    },
-    // no property
-    Row {
-        role: Role::Router,
-        greeting: &GREETING,
-        octets: b"\x04\x06\x05READY",
-        events: &[],
-        fault: Some((8, b"")),
-    },
-    // no socket type among the properties
-    Row {
-        role: Role::Router,
-        greeting: &GREETING,
-        octets: b"\x04\x14\x05READY\x08Identity\0\0\0\x01a",
-        events: &[],
-        fault: Some((8, b"")),
-    },
-    // a value that is cut, behind a socket type that doesn't fit
-    Row {
-        role: Role::Router,
-        greeting: &GREETING,
-        octets: b"\x04'\x05READY\x0BSocket-Type\0\0\0\x03PUB\x08Identity\0\0\0\x02a",
-        events: &[],
-        fault: Some((10, b"")),
-    },
-    // a name that is cut
-    Row {
-        role: Role::Router,
-        greeting: &GREETING,
-        octets: b"\x04\x1B\x05READY\x08Identity\0\0\0\x01a\x0BSocket",
-        events: &[],
-        fault: Some((10, b"")),
-    },
-    // a command whose name is cut
-    Row {
-        role: Role::Router,
-        greeting: &GREETING,
-        octets: b"\x04\x06\x06READY",
-        events: &[],
-        fault: Some((10, b"")),
-    },
-    // a command without a name
-    Row {
-        role: Role::Router,
-        greeting: &GREETING,
-        octets: b"\x04\0",
-        events: &[],
-        fault: Some((10, b"")),
-    },
-    // a name in another case
-    Row {
-        role: Role::Router,
-        greeting: &GREETING,
-        octets: b"\x04\x1C\x05READY\x0BsOCKET-tYPE\0\0\0\x06DEALER",
-        events: &[Expected::Ready],
-        fault: None,
-    },
-    // a value in another case
-    Row {
-        role: Role::Router,
-        greeting: &GREETING,
-        octets: b"\x04\x1C\x05READY\x0BSocket-Type\0\0\0\x06dealer",
-        events: &[],
-        fault: Some((9, b"")),
-    },
-    // a property given twice: the first counts
-    Row {
-        role: Role::Router,
-        greeting: &GREETING,
-        octets: b"\x04,\x05READY\x0BSocket-Type\0\0\0\x03REQ\x0BSOCKET-TYPE\0\0\0\x03SUB",
-        events: &[Expected::Ready],
-        fault: None,
-    },
-    // the same the other way round
-    Row {
-        role: Role::Router,
-        greeting: &GREETING,
-        octets: b"\x04,\x05READY\x0Bsocket-type\0\0\0\x03SUB\x0BSocket-Type\0\0\0\x03REQ",
-        events: &[],
-        fault: Some((9, b"")),
-    },
-    // an unknown property
-    Row {
-        role: Role::Router,
-        greeting: &GREETING,
-        octets: b"\x04*\x05READY\x09X-Unknown\0\0\0\0\x0BSocket-Type\0\0\0\x06ROUTER",
-        events: &[Expected::Ready],
-        fault: None,
-    },
-    // ERROR before READY
-    Row {
-        role: Role::Router,
-        greeting: &GREETING,
-        octets: b"\x04\x09\x05ERROR\x02no",
-        events: &[],
-        fault: Some((11, b"no")),
-    },
-    // an ERROR whose reason is cut
-    Row {
-        role: Role::Router,
-        greeting: &GREETING,
-        octets: b"\x04\x09\x05ERROR\x03no",
-        events: &[],
-        fault: Some((10, b"")),
-    },
-    // an ERROR with more than its reason
-    Row {
-        role: Role::Router,
-        greeting: &GREETING,
-        octets: b"\x04\x09\x05ERROR\x01no",
-        events: &[],
-        fault: Some((10, b"")),
-    },
-    // commands behind READY are passed over
-    Row {
-        role: Role::Router,
-        greeting: &GREETING,
-        octets: b"\x04\x19\x05READY\x0BSocket-Type\0\0\0\x03REQ\x04\x06\x05READY\x04\x01\x09\x04\
-            \x08\x04PING\0\0a\0\x01a",
-        events: &[Expected::Ready, Expected::Message(&[b"a"])],
-        fault: None,
-    },
-    // ERROR inside a message
-    Row {
-        role: Role::Router,
-        greeting: &GREETING,
-        octets: b"\x04\x19\x05READY\x0BSocket-Type\0\0\0\x03REQ\x01\x01a\x04\x07\x05ERROR\0",
-        events: &[Expected::Ready],
-        fault: Some((11, b"")),
-    },
-    // a message before a fault
-    Row {
-        role: Role::Router,
-        greeting: &GREETING,
-        octets: b"\x04\x19\x05READY\x0BSocket-Type\0\0\0\x03REQ\0\x01a\x04\x07\x05ERROR\x02",
-        events: &[Expected::Ready, Expected::Message(&[b"a"])],
-        fault: Some((10, b"")),
-    },
-    // a message before a fault of the frames
-    Row {
-        role: Role::Router,
-        greeting: &GREETING,
-        octets: b"\x04\x19\x05READY\x0BSocket-Type\0\0\0\x03REQ\0\x01a\x01\0\x08",
-        events: &[Expected::Ready, Expected::Message(&[b"a"])],
-        fault: Some((4, b"")),
-    },
-    // a command between two frames
-    Row {
-        role: Role::Router,
-        greeting: &GREETING,
-        octets: b"\x04\x19\x05READY\x0BSocket-Type\0\0\0\x03REQ\x01\x01a\x04\x02\x01x\0\0",
-        events: &[Expected::Ready, Expected::Message(&[b"a", b""])],
-        fault: None,
-    },
-    // what a publisher passes over
-    Row {
-        role: Role::Pub,
-        greeting: &GREETING,
-        octets: b"\x04\x1A\x05READY\x0BSocket-Type\0\0\0\x04XSUB\0\0\0\x01\x02\x01\x01\x01\0\x01\
-            \x01\0\x01\x01\0\x01\0",
-        events: &[
-            Expected::Ready,
-            Expected::Subscribe(b""),
-            Expected::Cancel(b""),
-        ],
-        fault: None,
-    },
-    // two dealers
-    Row {
-        role: Role::Dealer,
-        greeting: &GREETING,
-        octets: b"\x04\x1C\x05READY\x0BSocket-Type\0\0\0\x06DEALER",
-        events: &[],
-        fault: Some((9, b"")),
-    },
-];
+const ROWS: &str =
+    "subscriptions to one prefix, and one taken back|Pub|04190552454144590b536f636b65742d5479706500000003535542000301737400030173740003007374|Ready Subscribe=7374 Subscribe=7374 Cancel=7374|
+the READY of a router|Dealer|041c0552454144590b536f636b65742d5479706500000006524f55544552|Ready|
+a socket type that doesn't fit|Router|04190552454144590b536f636b65742d5479706500000003535542||9
+a message before READY|Router|000161||12
+another command before READY|Router|04070450494e470000||12
+no property|Router|0406055245414459||8
+no socket type among the properties|Router|0414055245414459084964656e746974790000000161||8
+a value that is cut, behind a socket type that doesn't fit|Router|04270552454144590b536f636b65742d5479706500000003505542084964656e746974790000000261||10
+a name that is cut|Router|041b055245414459084964656e7469747900000001610b536f636b6574||10
+a command whose name is cut|Router|0406065245414459||10
+a command without a name|Router|0400||10
+a name in another case|Router|041c0552454144590b734f434b45542d74595045000000064445414c4552|Ready|
+a value in another case|Router|041c0552454144590b536f636b65742d54797065000000066465616c6572||9
+a property given twice: the first counts|Router|042c0552454144590b536f636b65742d54797065000000035245510b534f434b45542d5459504500000003535542|Ready|
+the same the other way round|Router|042c0552454144590b736f636b65742d74797065000000035355420b536f636b65742d5479706500000003524551||9
+an unknown property|Router|042a05524541445909582d556e6b6e6f776e000000000b536f636b65742d5479706500000006524f55544552|Ready|
+ERROR before READY|Router|0409054552524f52026e6f||11=6e6f
+an ERROR whose reason is cut|Router|0409054552524f52036e6f||10
+an ERROR with more than its reason|Router|0409054552524f52016e6f||10
+commands behind READY are passed over|Router|04190552454144590b536f636b65742d5479706500000003524551040605524541445904010904080450494e47000061000161|Ready Message=61|
+ERROR inside a message|Router|04190552454144590b536f636b65742d54797065000000035245510101610407054552524f5200|Ready|11=
+a message before a fault|Router|04190552454144590b536f636b65742d54797065000000035245510001610407054552524f5202|Ready Message=61|10
+a message before a fault of the frames|Router|04190552454144590b536f636b65742d5479706500000003524551000161010008|Ready Message=61|4
+a command between two frames|Router|04190552454144590b536f636b65742d5479706500000003524551010161040201780000|Ready Message=61,|
+what a publisher passes over|Pub|041a0552454144590b536f636b65742d5479706500000004585355420000000102010101000101000101000100|Ready Subscribe= Cancel=|
+two dealers|Dealer|041c0552454144590b536f636b65742d54797065000000064445414c4552||9";
 
-/// Whether an event is the expected one.
-fn is_expected(event: &PeerEvent, expected: Expected) -> bool {
-    match event {
-        PeerEvent::Ready => matches!(expected, Expected::Ready),
-        PeerEvent::Message(frames) => match expected {
-            Expected::Message(bodies) => {
-                frames.len() == bodies.len()
-                    && frames.iter().zip(bodies).all(|(f, b)| f.as_slice() == *b)
-            }
-            _ => false,
-        },
-        PeerEvent::Subscribe(prefix) => match expected {
-            Expected::Subscribe(octets) => prefix.as_slice() == octets,
-            _ => false,
-        },
-        PeerEvent::Cancel(prefix) => match expected {
-            Expected::Cancel(octets) => prefix.as_slice() == octets,
-            _ => false,
-        },
+/// The role of this name.
+fn role_of(name: &str) -> Role {
+    match name {
+        "Router" => Role::Router,
+        "Pub" => Role::Pub,
+        "Rep" => Role::Rep,
+        "Dealer" => Role::Dealer,
+        _ => Role::Sub,
     }
 }
 
-/// Whether a fault has the expected number and reason.
-fn is_expected_fault(fault: Option<PeerFault>, expected: Option<(u8, &'static [u8])>) -> bool {
+/// The bodies of a message, as a table has them.
+fn bodies_text(alloc: Global, frames: &[Vec<u8>]) -> Result<String, AllocError> {
+    let mut text = String::new(alloc);
+    for (i, frame) in frames.iter().enumerate() {
+        text.push_str(if i == 0 { "" } else { "," })?;
+        text.push_str(hex::encode(alloc, frame)?.as_str())?;
+    }
+    Ok(text)
+}
+
+/// An event, as a table has it.
+fn event_text(alloc: Global, event: &PeerEvent) -> Result<String, AllocError> {
+    let (name, octets) = match event {
+        PeerEvent::Ready => return String::from_str(alloc, "Ready"),
+        PeerEvent::Message(frames) => ("Message", bodies_text(alloc, frames)?),
+        PeerEvent::Subscribe(prefix) => ("Subscribe", hex::encode(alloc, prefix)?),
+        PeerEvent::Cancel(prefix) => ("Cancel", hex::encode(alloc, prefix)?),
+    };
+    format!(in alloc; "{name}={octets}")
+}
+
+/// Events, as a table has them.
+fn events_text(alloc: Global, events: &[PeerEvent]) -> Result<String, AllocError> {
+    let mut text = String::new(alloc);
+    for (i, event) in events.iter().enumerate() {
+        text.push_str(if i == 0 { "" } else { " " })?;
+        text.push_str(event_text(alloc, event)?.as_str())?;
+    }
+    Ok(text)
+}
+
+/// A fault, as a table has it.
+fn fault_text(alloc: Global, fault: Option<PeerFault>) -> Result<String, AllocError> {
     match fault {
-        None => expected.is_none(),
-        Some(PeerFault::PeerError(reason)) => expected == Some((11, reason.as_octets())),
-        Some(fault) => match expected {
-            Some((number, _)) => fault.number() == number,
-            None => false,
-        },
+        None => Ok(String::new(alloc)),
+        Some(PeerFault::PeerError(reason)) => {
+            let octets = hex::encode(alloc, reason.as_octets())?;
+            format!(in alloc; "11={octets}")
+        }
+        Some(fault) => {
+            let number = fault.number();
+            format!(in alloc; "{number}")
+        }
     }
 }
 
@@ -305,18 +119,17 @@ fn feed(
     }
 }
 
-/// Feeds a row cut after so many octets, the rest in pieces of this length, and then an empty piece.
-fn feeds_row(
+/// What a row's octets tell a role, cut after so many of them, the rest in pieces of this length and then an empty piece: the events
+/// and the fault.
+fn told(
     rt: &impl Abort,
     alloc: Global,
-    row: &Row,
+    role: Role,
+    octets: &[u8],
     first: usize,
     length: usize,
-) -> Result<(), Fail> {
-    let (greeting, behind, expected) = (row.greeting, row.octets, row.events);
-    let mut octets = Vec::from_slice(alloc, greeting)?;
-    octets.extend_from_slice(behind)?;
-    let mut peer = Peer::new(alloc, row.role);
+) -> Result<String, Fail> {
+    let mut peer = Peer::new(alloc, role);
     let mut events = Vec::new(alloc);
     let (front, rest) = octets.split_at(first.min(octets.len()));
     feed(&mut peer, front, &mut events)?;
@@ -324,37 +137,43 @@ fn feeds_row(
         feed(&mut peer, piece, &mut events)?;
     }
     let fault = feed(&mut peer, &[], &mut events)?;
-    assert_eq!(rt; events.len(), expected.len());
-    for (event, wanted) in events.iter().zip(expected) {
-        assert!(rt; is_expected(event, *wanted), "{event:?}");
-    }
-    assert!(rt; is_expected_fault(fault, row.fault));
     if fault.is_some() {
         assert_eq!(rt; feed(&mut peer, b"\0\0", &mut events)?, fault);
     }
-    Ok(())
+    let (events, fault) = (events_text(alloc, &events)?, fault_text(alloc, fault)?);
+    Ok(format!(in alloc; "{events}|{fault}")?)
 }
 
-/// Feeds rows whole, octet by octet, and in each cut into two.
-fn feeds_rows(rt: &impl Abort, alloc: Global, rows: &[Row]) -> Result<(), Fail> {
-    for row in rows {
-        let behind = row.octets;
-        for first in 0..=behind.len().saturating_add(64) {
-            feeds_row(rt, alloc, row, first, 1024)?;
-        }
-        feeds_row(rt, alloc, row, 1, 1)?;
+/// Feeds a row whole, octet by octet, and in each cut into two.
+fn feeds_row(rt: &impl Abort, alloc: Global, greeting: &[u8], row: &str) -> Result<(), Fail> {
+    let mut cells = row.splitn(4, '|');
+    let (_, role) = (cells.next(), role_of(cells.next().unwrap_or("")));
+    let mut octets = Vec::from_slice(alloc, greeting)?;
+    octets.extend_from_slice(&hex::decode(alloc, cells.next().unwrap_or(""))?)?;
+    let want = cells.next().unwrap_or("");
+    for first in 0..=octets.len() {
+        let whole = told(rt, alloc, role, &octets, first, 1024)?;
+        assert_eq!(rt; whole.as_str(), want);
     }
+    let by_octet = told(rt, alloc, role, &octets, 1, 1)?;
+    assert_eq!(rt; by_octet.as_str(), want);
     Ok(())
 }
 
 #[test]
 fn tells_what_libzmq_sends(rt: HostRuntime) -> Result<(), Fail> {
-    feeds_rows(&rt, rt.alloc(), &RECORDED)
+    for row in RECORDED.split('\n') {
+        feeds_row(&rt, rt.alloc(), &LIBZMQ_GREETING, row)?;
+    }
+    Ok(())
 }
 
 #[test]
 fn tells_rows_whatever_the_cut(rt: HostRuntime) -> Result<(), Fail> {
-    feeds_rows(&rt, rt.alloc(), &ROWS)
+    for row in ROWS.split('\n') {
+        feeds_row(&rt, rt.alloc(), &GREETING, row)?;
+    }
+    Ok(())
 }
 
 /// The opening of a router, and a dealer to which it is fed.
