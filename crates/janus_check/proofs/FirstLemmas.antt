@@ -1,15 +1,19 @@
 -- The first fault of a list, found from the front.
-use Rattle.std.proofs.Common.{◌≡◌, ℕ, Bool, true, false, List, [], ◌∷◌, ◌++◌, Option, Some, None, refl, ◌∙◌, sym, subst, nat_lt, All, Contains, if◌then◌else◌, arith, ◌+◌, ◌*◌, ◌<◌, ◌≤◌, lit<, ◌⊎◌, inl, inr, ⊎_elim}
+use Rattle.std.proofs.Common.{◌≡◌, ℕ, Bool, true, false, List, [], ◌∷◌, ◌++◌, Option, Some, None, refl, ap, ◌∙◌, sym, subst, nat_lt, All, Contains, if◌then◌else◌, arith, ◌+◌, ◌*◌, ◌<◌, ◌≤◌, lit<, ◌⊎◌, inl, inr, ⊎_elim}
 use Rattle.std.proofs.lemmas.List.Elements.{All-cons, Contains-append_right}
 use Rattle.std.proofs.lemmas.Bool.Decides.{nat_tests}
 use Rattle.std.specs.Prelude.{◌&&◌, ◌||◌, ◌==◌}
 use Rattle.janus_check.specs.declared.fault.CheckFault.{CheckFault}
-use Rattle.janus_check.specs.declared.fault.CheckFault.TheVariants.{Declared, Unknown, SelfUse, TooMany, Memory}
+use Rattle.janus_check.specs.declared.fault.CheckFault.TheVariants.{Declared, Unknown, WrongKind, SelfUse, TooMany, ArrayLength, Memory}
 use Rattle.janus_check.specs.Fault.{number_of, start_of, comes_before, IsFirst, sooner_of, first_from}
 
 pub first_from-append : (f : Option CheckFault) (xs ys : List CheckFault) → first_from f (xs ++ ys) ≡ first_from (first_from f xs) ys
 first_from-append f [] ys = refl
 first_from-append f (x ∷ xs) ys = first_from-append (Some (sooner_of f x)) xs ys
+
+-- what is found in two parts, one after the other
+pub two_parts : (f n r : Option CheckFault) (xs ys : List CheckFault) → n ≡ first_from f xs → r ≡ first_from n ys → r ≡ first_from f (xs ++ ys)
+two_parts f n r xs ys p q = q ∙ ap (λ o. first_from o ys) p ∙ sym (first_from-append f xs ys)
 
 -- once there is a fault, there is one
 first_some : (f : CheckFault) (fs : List CheckFault) → (h : CheckFault) × (first_from (Some f) fs ≡ Some h)
@@ -29,7 +33,9 @@ small : (f : CheckFault) → number_of f < 64
 small Memory = lit< tt
 small (Declared at) = lit< tt
 small (Unknown at) = lit< tt
+small (WrongKind at) = lit< tt
 small (SelfUse at) = lit< tt
+small (ArrayLength at) = lit< tt
 small (TooMany at) = lit< tt
 
 lexical : (a b c d : ℕ) → c < 64 → d < 64 → (nat_lt a b || ((a == b) && nat_lt c d)) ≡ nat_lt (a * 64 + c) (b * 64 + d)

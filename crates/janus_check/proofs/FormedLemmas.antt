@@ -1,24 +1,23 @@
 -- A cell has no faults exactly where it is well formed.
-use Rattle.std.proofs.Common.{◌≡◌, ℕ, ◌<◌, Bool, true, false, not, is_some, List, [], ◌∷◌, ◌++◌, length, map, Option, Some, None, refl, ap, ◌∙◌, sym, subst, arith, if◌then◌else◌}
-use Rattle.std.specs.Prelude.{nat_le, ◌||◌}
+use Rattle.std.proofs.Common.{◌≡◌, ℕ, ◌<◌, ◌≤◌, Bool, true, false, not, is_some, List, [], ◌∷◌, ◌++◌, length, map, Option, Some, None, refl, ap, ◌∙◌, sym, subst, arith, if◌then◌else◌}
+use Rattle.std.specs.Prelude.{nat_le, nat_lt, ◌||◌, ◌&&◌}
 use Rattle.std.proofs.lemmas.Bool.Decides.{nat_tests}
-use Rattle.janus_meaning.specs.Limit.{name_limit}
+use Rattle.janus_meaning.specs.Limit.{name_limit, array_limit}
 use Rattle.janus_meaning.specs.Syntax as tree
-use Rattle.janus_meaning.specs.World.{DeclareInt}
 use Rattle.janus_meaning.specs.Store.{same_name}
+use Rattle.janus_meaning.specs.World as world
 use Rattle.janus_meaning.specs.Shape.{Shape, kind_at, without, Heads}
 use Rattle.janus_meaning.specs.Formed.{IsExp, IsStm, IsBlk}
-use Rattle.janus_meaning.specs.FormedWorld.{AreNew, with_declared}
+use Rattle.janus_meaning.specs.FormedWorld.{AreNew, with_declared, IsArrayLength}
 use Rattle.janus_meaning.proofs.Stores.{same_name_true}
 use Rattle.janus_meaning.proofs.Scopes.{without_same, without_other}
-use Rattle.janus_syntax.specs.Tree.{named, Exp, Num, Var, Bin, Stm, Assign, Block, Empty, More, Declaration, Int, Cell, cell_of}
+use Rattle.janus_syntax.specs.Tree.{Name, named, Exp, Num, Var, Element, Neg, Bin, And, Or, Stm, Skip, Assign, AssignElement, If, Loop, Block, Empty, More, Declaration, Int, Array, Cell, cell_of}
+use Rattle.janus_syntax.specs.View.{text_of, plain_exp, plain_stm, plain_block, plain_declaration}
 use Rattle.janus_syntax.specs.declared.token.Span.{Span}
 use Rattle.janus_check.specs.declared.fault.CheckFault.{CheckFault}
-use Rattle.janus_check.specs.declared.fault.CheckFault.TheVariants.{Declared, Unknown, SelfUse, TooMany}
 use Rattle.janus_check.specs.Names.{is_in, shape_in}
-use Rattle.janus_check.specs.Check.{fault_if, is_full, extended, name_faults, declarations_faults, after_declarations, exp_faults, stm_faults, block_faults, cell_faults}
-use Rattle.janus_check.specs.WellFormed.{meant_exp, meant_stm, meant_block, meant_name, IsWellFormed, FaultsAreExact}
-use Rattle.janus_check.proofs.ScopeLemmas.{IsNumberAt, AreNumbers, numbers_more, shape_numbers}
+use Rattle.janus_check.specs.Check.{fault_if, is_full, extended, name_faults, is_array_length, declaration_faults, declarations_faults, after_declarations, same_kind, is_other, use_faults, exp_faults, self_fault, self_faults, side_faults, stm_faults, block_faults, cell_faults}
+use Rattle.janus_check.specs.WellFormed.{IsWellFormed, FaultsAreExact}
 
 -- ---- lists of faults
 
@@ -37,108 +36,256 @@ no_fault : (b : Bool) (f : CheckFault) → fault_if b f ≡ [] → b ≡ false
 no_fault true f h = cc
 no_fault false f h = refl
 
+fault_if_false : (b : Bool) (f : CheckFault) → b ≡ false → fault_if b f ≡ []
+fault_if_false b f h = ap (λ b. fault_if b f) h
+
 not_false : (b : Bool) → not b ≡ false → b ≡ true
 not_false true h = refl
 not_false false h = cc
 
--- ---- names
+-- ---- kinds and uses of names
 
-number_in : (c : Option tree.Kind) → IsNumberAt c → is_some c ≡ true → c ≡ Some tree.ANumber
-number_in (Some k) u h = ap Some u
-number_in None u h = cc
+same_kind_true : (a b : tree.Kind) → same_kind a b ≡ true → a ≡ b
+same_kind_true tree.ANumber tree.ANumber h = refl
+same_kind_true tree.ANumber tree.AnArray h = cc
+same_kind_true tree.ANumber tree.AStack h = cc
+same_kind_true tree.AnArray tree.ANumber h = cc
+same_kind_true tree.AnArray tree.AnArray h = refl
+same_kind_true tree.AnArray tree.AStack h = cc
+same_kind_true tree.AStack tree.ANumber h = cc
+same_kind_true tree.AStack tree.AnArray h = cc
+same_kind_true tree.AStack tree.AStack h = refl
+
+same_kind_self : (k : tree.Kind) → same_kind k k ≡ true
+same_kind_self tree.ANumber = refl
+same_kind_self tree.AnArray = refl
+same_kind_self tree.AStack = refl
+
+kind_in : (c : Option tree.Kind) (k : tree.Kind) → is_some c ≡ true → is_other k c ≡ false → c ≡ Some k
+kind_in (Some found) k u h = ap Some (same_kind_true found k (not_false (same_kind found k) h))
+kind_in None k u h = cc
 
 none_out : (c : Option tree.Kind) → is_some c ≡ false → c ≡ None
 none_out (Some k) h = cc
 none_out None h = refl
 
--- ---- no faults: well formed
+-- a use without faults is of a name in sight, of its kind
+use_formed : (g : Shape) (k : tree.Kind) (y : Name) → use_faults g k y ≡ [] → kind_at (text_of y) g ≡ Some k
+use_formed g k (named y at) h =
+    kind_in (kind_at y g) k (not_false (is_in y g) (no_fault (not (is_in y g)) _ (left_nil _ _ h))) (no_fault (is_other k (kind_at y g)) _ (right_nil (fault_if (not (is_in y g)) _) _ h))
 
-exp_formed : (g : Shape) (x : tree.Name) (e : Exp) → AreNumbers g → exp_faults g x e ≡ [] → IsExp (without x g) (meant_exp e)
-exp_formed g x (Num n at) u h = tt
-exp_formed g x (Var (named y at)) u h =
-    let known = not_false (is_in y g) (no_fault (not (is_in y g)) _ (left_nil _ _ h)) in
-    let apart = no_fault (same_name y x) _ (right_nil _ _ h) in
-    without_other y x g apart ∙ number_in (kind_at y g) (u y) known
-exp_formed g x (Bin op l r) u h = (exp_formed g x l u (left_nil _ _ h), exp_formed g x r u (right_nil _ _ h))
+use_no_faults : (g : Shape) (k : tree.Kind) (y : Name) → kind_at (text_of y) g ≡ Some k → use_faults g k y ≡ []
+use_no_faults g k (named y at) h =
+    both_nil _ _ (fault_if_false (not (is_in y g)) _ (ap (λ c. not (is_some c)) h)) (fault_if_false (is_other k (kind_at y g)) _ (ap (is_other k) h ∙ ap not (same_kind_self k)))
 
-stm_formed : (hs : Heads) (g : Shape) (s : Stm) → AreNumbers g → stm_faults g s ≡ [] → IsStm hs g (meant_stm s)
-stm_formed hs g (Assign (named x at) o e) u h =
-    (number_in (kind_at x g) (u x) (not_false (is_in x g) (no_fault (not (is_in x g)) _ (left_nil _ _ h))), exp_formed g x e u (right_nil _ _ h))
+-- a use beside the assigned name
+apart_formed : (g : Shape) (x : tree.Name) (k : tree.Kind) (y : Name) → use_faults g k y ≡ [] → self_fault x y ≡ [] → kind_at (text_of y) (without x g) ≡ Some k
+apart_formed g x k (named y at) h s = without_other y x g (no_fault (same_name y x) _ s) ∙ use_formed g k (named y at) h
 
-block_formed : (hs : Heads) (g : Shape) (b : Block) → AreNumbers g → block_faults g b ≡ [] → IsBlk hs g (meant_block b)
-block_formed hs g Empty u h = tt
-block_formed hs g (More s b) u h = (stm_formed hs g s u (left_nil _ _ h), block_formed hs g b u (right_nil _ _ h))
+record Apart (g : Shape) (x : tree.Name) (k : tree.Kind) (y : Name) : Type 0 where
+  used : use_faults g k y ≡ []
+  self : self_fault x y ≡ []
+
+apart_by : (g : Shape) (x : tree.Name) (k : tree.Kind) (y : tree.Name) (at : Span) (b : Bool) → same_name y x ≡ b → kind_at y (without x g) ≡ Some k → Apart g x k (named y at)
+apart_by g x k y at true s h =
+    let bad : None ≡ Some k = sym (without_same x g) ∙ ap (λ z. kind_at z (without x g)) (sym (same_name_true y x s)) ∙ h in
+    cc
+apart_by g x k y at false s h = record { used = use_no_faults g k (named y at) (sym (without_other y x g s) ∙ h); self = fault_if_false (same_name y x) _ s }
+
+apart_no_faults : (g : Shape) (x : tree.Name) (k : tree.Kind) (y : Name) → kind_at (text_of y) (without x g) ≡ Some k → Apart g x k y
+apart_no_faults g x k (named y at) h = apart_by g x k y at (same_name y x) refl h
+
+-- ---- expressions
+
+pub exp_formed : (g : Shape) (e : Exp) → exp_faults g e ≡ [] → IsExp g (plain_exp e)
+exp_formed g (Num n at) h = tt
+exp_formed g (Var y) h = use_formed g tree.ANumber y h
+exp_formed g (Element a i) h = (use_formed g tree.AnArray a (left_nil _ _ h), exp_formed g i (right_nil (use_faults g tree.AnArray a) _ h))
+exp_formed g (Neg e) h = exp_formed g e h
+exp_formed g (Bin op l r) h = (exp_formed g l (left_nil _ _ h), exp_formed g r (right_nil (exp_faults g l) _ h))
+exp_formed g (And l r) h = (exp_formed g l (left_nil _ _ h), exp_formed g r (right_nil (exp_faults g l) _ h))
+exp_formed g (Or l r) h = (exp_formed g l (left_nil _ _ h), exp_formed g r (right_nil (exp_faults g l) _ h))
+
+pub exp_no_faults : (g : Shape) (e : Exp) → IsExp g (plain_exp e) → exp_faults g e ≡ []
+exp_no_faults g (Num n at) h = refl
+exp_no_faults g (Var y) h = use_no_faults g tree.ANumber y h
+exp_no_faults g (Element a i) h = both_nil _ _ (use_no_faults g tree.AnArray a h.0) (exp_no_faults g i h.1)
+exp_no_faults g (Neg e) h = exp_no_faults g e h
+exp_no_faults g (Bin op l r) h = both_nil _ _ (exp_no_faults g l h.0) (exp_no_faults g r h.1)
+exp_no_faults g (And l r) h = both_nil _ _ (exp_no_faults g l h.0) (exp_no_faults g r h.1)
+exp_no_faults g (Or l r) h = both_nil _ _ (exp_no_faults g l h.0) (exp_no_faults g r h.1)
+
+-- an index or a right side, where x is assigned
+within_formed : (g : Shape) (x : tree.Name) (e : Exp) → exp_faults g e ≡ [] → self_faults x e ≡ [] → IsExp (without x g) (plain_exp e)
+within_formed g x (Num n at) h s = tt
+within_formed g x (Var y) h s = apart_formed g x tree.ANumber y h s
+within_formed g x (Element a i) h s =
+    (apart_formed g x tree.AnArray a (left_nil _ _ h) (left_nil _ _ s), within_formed g x i (right_nil (use_faults g tree.AnArray a) _ h) (right_nil (self_fault x a) _ s))
+within_formed g x (Neg e) h s = within_formed g x e h s
+within_formed g x (Bin op l r) h s = (within_formed g x l (left_nil _ _ h) (left_nil _ _ s), within_formed g x r (right_nil (exp_faults g l) _ h) (right_nil (self_faults x l) _ s))
+within_formed g x (And l r) h s = (within_formed g x l (left_nil _ _ h) (left_nil _ _ s), within_formed g x r (right_nil (exp_faults g l) _ h) (right_nil (self_faults x l) _ s))
+within_formed g x (Or l r) h s = (within_formed g x l (left_nil _ _ h) (left_nil _ _ s), within_formed g x r (right_nil (exp_faults g l) _ h) (right_nil (self_faults x l) _ s))
+
+side_formed : (g : Shape) (x : tree.Name) (e : Exp) → side_faults g x e ≡ [] → IsExp (without x g) (plain_exp e)
+side_formed g x e h = within_formed g x e (left_nil _ _ h) (right_nil (exp_faults g e) _ h)
+
+record Within (g : Shape) (x : tree.Name) (e : Exp) : Type 0 where
+  exp : exp_faults g e ≡ []
+  self : self_faults x e ≡ []
+
+abbrev two : (g : Shape) (x : tree.Name) (l r : Exp) → Within g x l → Within g x r → (exp_faults g l ++ exp_faults g r ≡ []) × (self_faults x l ++ self_faults x r ≡ [])
+two g x l r p q = (both_nil _ _ p.exp q.exp, both_nil _ _ p.self q.self)
+
+within_no_faults : (g : Shape) (x : tree.Name) (e : Exp) → IsExp (without x g) (plain_exp e) → Within g x e
+within_no_faults g x (Num n at) h = record { exp = refl; self = refl }
+within_no_faults g x (Var y) h = let a = apart_no_faults g x tree.ANumber y h in record { exp = a.used; self = a.self }
+within_no_faults g x (Element y i) h =
+    let a = apart_no_faults g x tree.AnArray y h.0 in
+    let w = within_no_faults g x i h.1 in
+    record { exp = both_nil _ _ a.used w.exp; self = both_nil _ _ a.self w.self }
+within_no_faults g x (Neg e) h = let w = within_no_faults g x e h in record { exp = w.exp; self = w.self }
+within_no_faults g x (Bin op l r) h = let t = two g x l r (within_no_faults g x l h.0) (within_no_faults g x r h.1) in record { exp = t.0; self = t.1 }
+within_no_faults g x (And l r) h = let t = two g x l r (within_no_faults g x l h.0) (within_no_faults g x r h.1) in record { exp = t.0; self = t.1 }
+within_no_faults g x (Or l r) h = let t = two g x l r (within_no_faults g x l h.0) (within_no_faults g x r h.1) in record { exp = t.0; self = t.1 }
+
+side_no_faults : (g : Shape) (x : tree.Name) (e : Exp) → IsExp (without x g) (plain_exp e) → side_faults g x e ≡ []
+side_no_faults g x e h = let w = within_no_faults g x e h in both_nil _ _ w.exp w.self
+
+-- ---- statements
+
+-- four parts in a row
+abbrev Four : (a s t b : List CheckFault) → Type 0
+Four a s t b = (a ≡ []) × (s ≡ []) × (t ≡ []) × (b ≡ [])
+
+four : (a s t b : List CheckFault) → a ++ s ++ t ++ b ≡ [] → Four a s t b
+four a s t b h =
+    let three = left_nil (a ++ s ++ t) b h in
+    let pair = left_nil (a ++ s) t three in
+    (left_nil a s pair, right_nil a s pair, right_nil (a ++ s) t three, right_nil (a ++ s ++ t) b h)
+
+all_four : (a s t b : List CheckFault) → a ≡ [] → s ≡ [] → t ≡ [] → b ≡ [] → a ++ s ++ t ++ b ≡ []
+all_four a s t b h i j k = both_nil (a ++ s ++ t) b (both_nil (a ++ s) t (both_nil a s h i) j) k
+
+mutual
+  stm_formed : (hs : Heads) (g : Shape) (s : Stm) → stm_faults g s ≡ [] → IsStm hs g (plain_stm s)
+  stm_formed hs g Skip h = tt
+  stm_formed hs g (Assign x o e) h = (use_formed g tree.ANumber x (left_nil _ _ h), side_formed g (text_of x) e (right_nil (use_faults g tree.ANumber x) _ h))
+  stm_formed hs g (AssignElement a i o e) h =
+      let front = left_nil (use_faults g tree.AnArray a ++ side_faults g (text_of a) i) _ h in
+      (use_formed g tree.AnArray a (left_nil _ _ front), side_formed g (text_of a) i (right_nil (use_faults g tree.AnArray a) _ front), side_formed g (text_of a) e (right_nil (use_faults g tree.AnArray a ++ side_faults g (text_of a) i) _ h))
+  stm_formed hs g (If a s t b) h =
+      let f = four (exp_faults g a) (block_faults g s) (block_faults g t) (exp_faults g b) h in
+      (exp_formed g a f.0, block_formed hs g s f.1, block_formed hs g t f.2, exp_formed g b f.3)
+  stm_formed hs g (Loop a s t b) h =
+      let f = four (exp_faults g a) (block_faults g s) (block_faults g t) (exp_faults g b) h in
+      (exp_formed g a f.0, block_formed hs g s f.1, block_formed hs g t f.2, exp_formed g b f.3)
+
+  block_formed : (hs : Heads) (g : Shape) (b : Block) → block_faults g b ≡ [] → IsBlk hs g (plain_block b)
+  block_formed hs g Empty h = tt
+  block_formed hs g (More s b) h = (stm_formed hs g s (left_nil _ _ h), block_formed hs g b (right_nil (stm_faults g s) _ h))
+
+mutual
+  stm_no_faults : (hs : Heads) (g : Shape) (s : Stm) → IsStm hs g (plain_stm s) → stm_faults g s ≡ []
+  stm_no_faults hs g Skip h = refl
+  stm_no_faults hs g (Assign x o e) h = both_nil _ _ (use_no_faults g tree.ANumber x h.0) (side_no_faults g (text_of x) e h.1)
+  stm_no_faults hs g (AssignElement a i o e) h =
+      both_nil (use_faults g tree.AnArray a ++ side_faults g (text_of a) i) _ (both_nil _ _ (use_no_faults g tree.AnArray a h.0) (side_no_faults g (text_of a) i h.1)) (side_no_faults g (text_of a) e h.2)
+  stm_no_faults hs g (If a s t b) h =
+      all_four (exp_faults g a) (block_faults g s) (block_faults g t) (exp_faults g b) (exp_no_faults g a h.0) (block_no_faults hs g s h.1) (block_no_faults hs g t h.2) (exp_no_faults g b h.3)
+  stm_no_faults hs g (Loop a s t b) h =
+      all_four (exp_faults g a) (block_faults g s) (block_faults g t) (exp_faults g b) (exp_no_faults g a h.0) (block_no_faults hs g s h.1) (block_no_faults hs g t h.2) (exp_no_faults g b h.3)
+
+  block_no_faults : (hs : Heads) (g : Shape) (b : Block) → IsBlk hs g (plain_block b) → block_faults g b ≡ []
+  block_no_faults hs g Empty h = refl
+  block_no_faults hs g (More s b) h = both_nil _ _ (stm_no_faults hs g s h.0) (block_no_faults hs g b h.1)
+
+-- ---- declarations
+
+abbrev declared : List Declaration → List world.Declaration
+declared ds = map plain_declaration ds
 
 record Declares (g : Shape) (ds : List Declaration) : Type 0 where
-  new : AreNew g (map DeclareInt (map meant_name ds))
-  names : after_declarations g ds ≡ with_declared g (map DeclareInt (map meant_name ds))
-  numbers : AreNumbers (with_declared g (map DeclareInt (map meant_name ds)))
+  new : AreNew g (declared ds)
+  names : after_declarations g ds ≡ with_declared g (declared ds)
 
 room_for : (n : ℕ) → nat_le name_limit n ≡ false → n < name_limit
 room_for n h = grind (arith, nat_tests)
 
--- a new name with room for it is added
-added : (g : Shape) (x : tree.Name) → is_in x g ≡ false → is_full g ≡ false → extended g x ≡ (x, tree.ANumber) ∷ g
-added g x out room = ap (λ b. if b || is_full g then g else (x, tree.ANumber) ∷ g) out ∙ ap (λ b. if b then g else (x, tree.ANumber) ∷ g) room
-
-declares : (g : Shape) (ds : List Declaration) → AreNumbers g → declarations_faults g ds ≡ [] → Declares g ds
-declares g [] u h = record { new = tt; names = refl; numbers = u }
-declares g (Int (named x at) ∷ ds) u h =
-    let here = left_nil (name_faults g x at) _ h in
-    let out = no_fault (is_in x g) _ (left_nil _ _ here) in
-    let space = no_fault (is_full g) _ (right_nil _ _ here) in
-    let next = added g x out space in
-    let rest = subst (λ n. declarations_faults n ds ≡ []) next (right_nil (name_faults g x at) _ h) in
-    let d = declares ((x, tree.ANumber) ∷ g) ds (numbers_more x g u) rest in
-    record {
-      new = (record { name = none_out (kind_at x g) out; room = room_for (length g) space; extent = tt }, d.new);
-      names = ap (λ n. after_declarations n ds) next ∙ d.names;
-      numbers = d.numbers;
-    }
-
-pub no_faults_formed : (g : Shape) (c : Cell) → AreNumbers g → cell_faults g c ≡ [] → IsWellFormed g c
-no_faults_formed g (cell_of ds b) u h hs =
-    let d = declares g ds u (left_nil _ _ h) in
-    let body = subst (λ n. block_faults n b ≡ []) d.names (right_nil (declarations_faults g ds) _ h) in
-    record { names = d.new; once = tt; heads = tt; procedures = tt; block = block_formed hs _ b d.numbers body }
-
--- ---- well formed: no faults
-
-fault_if_false : (b : Bool) (f : CheckFault) → b ≡ false → fault_if b f ≡ []
-fault_if_false b f h = ap (λ b. fault_if b f) h
-
-in_sight : (x : tree.Name) (g : Shape) (k : tree.Kind) → kind_at x g ≡ Some k → not (is_in x g) ≡ false
-in_sight x g k h = ap (λ c. not (is_some c)) h
-
-var_no_fault : (g : Shape) (x y : tree.Name) (at : Span) (b : Bool) → same_name y x ≡ b → kind_at y (without x g) ≡ Some tree.ANumber → exp_faults g x (Var (named y at)) ≡ []
-var_no_fault g x y at true s h =
-    let bad : None ≡ Some tree.ANumber = sym (without_same x g) ∙ ap (λ z. kind_at z (without x g)) (sym (same_name_true y x s)) ∙ h in
-    cc
-var_no_fault g x y at false s h =
-    both_nil _ _ (fault_if_false (not (is_in y g)) (Unknown at) (in_sight y g tree.ANumber (sym (without_other y x g s) ∙ h))) (fault_if_false (same_name y x) (SelfUse at) s)
-
-exp_no_faults : (g : Shape) (x : tree.Name) (e : Exp) → IsExp (without x g) (meant_exp e) → exp_faults g x e ≡ []
-exp_no_faults g x (Num n at) h = refl
-exp_no_faults g x (Var (named y at)) h = var_no_fault g x y at (same_name y x) refl h
-exp_no_faults g x (Bin op l r) h = both_nil _ _ (exp_no_faults g x l h.0) (exp_no_faults g x r h.1)
-
-block_no_faults : (hs : Heads) (g : Shape) (b : Block) → IsBlk hs g (meant_block b) → block_faults g b ≡ []
-block_no_faults hs g Empty h = refl
-block_no_faults hs g (More (Assign (named x at) o e) b) h =
-    both_nil _ _ (both_nil _ _ (fault_if_false (not (is_in x g)) (Unknown at) (in_sight x g tree.ANumber h.0.0)) (exp_no_faults g x e h.0.1)) (block_no_faults hs g b h.1)
-
 no_limit : (n : ℕ) → n < name_limit → nat_le name_limit n ≡ false
 no_limit n h = grind (arith, nat_tests)
 
-declares_no_faults : (g : Shape) (ds : List Declaration) → AreNew g (map DeclareInt (map meant_name ds)) → (declarations_faults g ds ≡ []) × (after_declarations g ds ≡ with_declared g (map DeclareInt (map meant_name ds)))
+length_by : (n : ℕ) (p q : Bool) → nat_lt 0 n ≡ p → nat_le n array_limit ≡ q → (p && q) ≡ true → IsArrayLength n
+length_by n true true h k e = (grind (arith, nat_tests), grind (arith, nat_tests))
+length_by n true false h k e = cc
+length_by n false q h k e = cc
+
+within_length : (n : ℕ) → is_array_length n ≡ true → IsArrayLength n
+within_length n h = length_by n (nat_lt 0 n) (nat_le n array_limit) refl refl h
+
+long_enough : (n : ℕ) → 0 < n → nat_lt 0 n ≡ true
+long_enough n h = grind (arith, nat_tests)
+
+not_too_long : (n : ℕ) → n ≤ array_limit → nat_le n array_limit ≡ true
+not_too_long n h = grind (arith, nat_tests)
+
+is_length : (n : ℕ) → IsArrayLength n → is_array_length n ≡ true
+is_length n h = ap (λ b. b && nat_le n array_limit) (long_enough n h.0) ∙ not_too_long n h.1
+
+-- a new name with room for it is added
+added : (g : Shape) (x : tree.Name) (k : tree.Kind) → is_in x g ≡ false → is_full g ≡ false → extended g x k ≡ (x, k) ∷ g
+added g x k out room = ap (λ b. if b || is_full g then g else (x, k) ∷ g) out ∙ ap (λ b. if b then g else (x, k) ∷ g) room
+
+declares : (g : Shape) (ds : List Declaration) → declarations_faults g ds ≡ [] → Declares g ds
+declares g [] h = record { new = tt; names = refl }
+declares g (Int (named x at) ∷ ds) h =
+    let here = left_nil (name_faults g x at) _ h in
+    let out = no_fault (is_in x g) _ (left_nil _ _ here) in
+    let space = no_fault (is_full g) _ (right_nil (fault_if (is_in x g) _) _ here) in
+    let next = added g x tree.ANumber out space in
+    let d = declares ((x, tree.ANumber) ∷ g) ds (subst (λ n. declarations_faults n ds ≡ []) next (right_nil (name_faults g x at) _ h)) in
+    record {
+      new = (record { name = none_out (kind_at x g) out; room = room_for (length g) space; extent = tt }, d.new);
+      names = ap (λ n. after_declarations n ds) next ∙ d.names;
+    }
+declares g (Array (named x at) n place ∷ ds) h =
+    let whole = left_nil (declaration_faults g (Array (named x at) n place)) _ h in
+    let here = left_nil (name_faults g x at) _ whole in
+    let long = no_fault (not (is_array_length n)) _ (right_nil (name_faults g x at) _ whole) in
+    let out = no_fault (is_in x g) _ (left_nil _ _ here) in
+    let space = no_fault (is_full g) _ (right_nil (fault_if (is_in x g) _) _ here) in
+    let next = added g x tree.AnArray out space in
+    let d = declares ((x, tree.AnArray) ∷ g) ds (subst (λ n. declarations_faults n ds ≡ []) next (right_nil (declaration_faults g (Array (named x at) n place)) _ h)) in
+    record {
+      new = (record { name = none_out (kind_at x g) out; room = room_for (length g) space; extent = within_length n (not_false (is_array_length n) long) }, d.new);
+      names = ap (λ n. after_declarations n ds) next ∙ d.names;
+    }
+
+name_no_faults : (g : Shape) (x : tree.Name) (at : Span) → is_in x g ≡ false → is_full g ≡ false → name_faults g x at ≡ []
+name_no_faults g x at out space = both_nil _ _ (fault_if_false (is_in x g) _ out) (fault_if_false (is_full g) _ space)
+
+declares_no_faults : (g : Shape) (ds : List Declaration) → AreNew g (declared ds) → (declarations_faults g ds ≡ []) × (after_declarations g ds ≡ with_declared g (declared ds))
 declares_no_faults g [] h = (refl, refl)
 declares_no_faults g (Int (named x at) ∷ ds) h =
     let rest = declares_no_faults ((x, tree.ANumber) ∷ g) ds h.1 in
     let out : is_in x g ≡ false = ap is_some h.0.name in
     let space = no_limit (length g) h.0.room in
-    let next = added g x out space in
-    let here = both_nil _ _ (fault_if_false (is_in x g) (Declared at) out) (fault_if_false (is_full g) (TooMany at) space) in
+    let next = added g x tree.ANumber out space in
+    (both_nil _ _ (name_no_faults g x at out space) (ap (λ n. declarations_faults n ds) next ∙ rest.0), ap (λ n. after_declarations n ds) next ∙ rest.1)
+declares_no_faults g (Array (named x at) n place ∷ ds) h =
+    let rest = declares_no_faults ((x, tree.AnArray) ∷ g) ds h.1 in
+    let out : is_in x g ≡ false = ap is_some h.0.name in
+    let space = no_limit (length g) h.0.room in
+    let next = added g x tree.AnArray out space in
+    let here = both_nil _ _ (name_no_faults g x at out space) (fault_if_false (not (is_array_length n)) _ (ap not (is_length n h.0.extent))) in
     (both_nil _ _ here (ap (λ n. declarations_faults n ds) next ∙ rest.0), ap (λ n. after_declarations n ds) next ∙ rest.1)
+
+-- ---- cells
+
+pub no_faults_formed : (g : Shape) (c : Cell) → cell_faults g c ≡ [] → IsWellFormed g c
+no_faults_formed g (cell_of ds b) h hs =
+    let d = declares g ds (left_nil _ _ h) in
+    let body = subst (λ n. block_faults n b ≡ []) d.names (right_nil (declarations_faults g ds) _ h) in
+    record { names = d.new; once = tt; heads = tt; procedures = tt; block = block_formed hs _ b body }
 
 pub formed_no_faults : (g : Shape) (c : Cell) → IsWellFormed g c → cell_faults g c ≡ []
 formed_no_faults g (cell_of ds b) w =
@@ -147,4 +294,8 @@ formed_no_faults g (cell_of ds b) w =
     both_nil _ _ d.0 (ap (λ n. block_faults n b) d.1 ∙ block_no_faults [] _ b f.block)
 
 pub faults_are_exact : FaultsAreExact
-faults_are_exact names c = (no_faults_formed (shape_in names) c (shape_numbers names), formed_no_faults (shape_in names) c)
+faults_are_exact names =
+    record {
+      cells = λ c. (no_faults_formed (shape_in names) c, formed_no_faults (shape_in names) c);
+      expressions = λ e. (exp_formed (shape_in names) e, exp_no_faults (shape_in names) e);
+    }

@@ -1,24 +1,22 @@
 -- Which cells are well formed over the names in sight, by the faults that a cell has.
-use Rattle.std.specs.Prelude.{Bool, true, false, not, ◌||◌, nat_le, List, [], ◌∷◌, ◌++◌, length, if◌then◌else◌}
-use Rattle.janus_meaning.specs.Limit.{name_limit}
+use Rattle.std.specs.Prelude.{ℕ, Bool, true, false, not, ◌&&◌, ◌||◌, nat_le, nat_lt, List, [], ◌∷◌, ◌++◌, length, Option, Some, None, if◌then◌else◌}
+use Rattle.janus_meaning.specs.Limit.{name_limit, array_limit}
 use Rattle.janus_meaning.specs.Syntax as tree
 use Rattle.janus_meaning.specs.Store.{same_name}
-use Rattle.janus_meaning.specs.Shape.{Shape}
+use Rattle.janus_meaning.specs.Shape.{Shape, kind_at}
 use Rattle.janus_syntax.specs.declared.token.Span.{Span}
-use Rattle.janus_syntax.specs.Tree.{Name, named, Exp, Num, Var, Bin, Stm, Assign, Block, Empty, More, Declaration, Int, Cell, cell_of}
+use Rattle.janus_syntax.specs.Tree.{Name, named, Exp, Num, Var, Element, Neg, Bin, And, Or, Stm, Skip, Assign, AssignElement, If, Loop, Block, Empty, More, Declaration, Int, Array, Cell, cell_of}
+use Rattle.janus_syntax.specs.View.{text_of}
 use Rattle.janus_check.specs.Names.{is_in}
 use Rattle.janus_check.specs.declared.fault.CheckFault.{CheckFault}
-use Rattle.janus_check.specs.declared.fault.CheckFault.TheVariants.{Declared, Unknown, SelfUse, TooMany}
-
-abbrev pub text_of : Name → tree.Name
-text_of (named x at) = x
+use Rattle.janus_check.specs.declared.fault.CheckFault.TheVariants.{Declared, Unknown, WrongKind, SelfUse, TooMany, ArrayLength}
 
 -- a fault, where there is one
 abbrev pub fault_if : Bool → CheckFault → List CheckFault
 fault_if true f = f ∷ []
 fault_if false f = []
 
--- ---- the faults
+-- ---- declarations
 
 -- no more names may be declared
 abbrev pub is_full : Shape → Bool
@@ -26,18 +24,24 @@ is_full g = nat_le name_limit (length g)
 
 -- The names in sight with one more. One that is there already stays as it is. One past the limit is left out: its own
 -- fault stands in the text before all of its uses.
-abbrev pub extended : Shape → tree.Name → Shape
-extended g x = if is_in x g || is_full g then g else (x, tree.ANumber) ∷ g
+abbrev pub extended : Shape → tree.Name → tree.Kind → Shape
+extended g x k = if is_in x g || is_full g then g else (x, k) ∷ g
 
 -- the faults of the declaration of a name at a place
 abbrev pub name_faults : Shape → tree.Name → Span → List CheckFault
 name_faults g x at = fault_if (is_in x g) (Declared at) ++ fault_if (is_full g) (TooMany at)
 
+-- an array may be so long
+abbrev pub is_array_length : ℕ → Bool
+is_array_length n = nat_lt 0 n && nat_le n array_limit
+
 abbrev pub declaration_faults : Shape → Declaration → List CheckFault
 declaration_faults g (Int (named x at)) = name_faults g x at
+declaration_faults g (Array (named x at) n place) = name_faults g x at ++ fault_if (not (is_array_length n)) (ArrayLength place)
 
 abbrev pub after_declaration : Shape → Declaration → Shape
-after_declaration g (Int (named x at)) = extended g x
+after_declaration g (Int x) = extended g (text_of x) tree.ANumber
+after_declaration g (Array x n place) = extended g (text_of x) tree.AnArray
 
 abbrev pub declarations_faults : Shape → List Declaration → List CheckFault
 declarations_faults g [] = []
@@ -47,18 +51,61 @@ abbrev pub after_declarations : Shape → List Declaration → Shape
 after_declarations g [] = g
 after_declarations g (d ∷ ds) = after_declarations (after_declaration g d) ds
 
--- the faults of a right side, where x is the assigned name
-abbrev pub exp_faults : Shape → tree.Name → Exp → List CheckFault
-exp_faults g x (Num n at) = []
-exp_faults g x (Var (named y at)) = fault_if (not (is_in y g)) (Unknown at) ++ fault_if (same_name y x) (SelfUse at)
-exp_faults g x (Bin op l r) = exp_faults g x l ++ exp_faults g x r
+-- ---- expressions and statements
 
-abbrev pub stm_faults : Shape → Stm → List CheckFault
-stm_faults g (Assign (named x at) u e) = fault_if (not (is_in x g)) (Unknown at) ++ exp_faults g x e
+abbrev pub same_kind : tree.Kind → tree.Kind → Bool
+same_kind tree.ANumber tree.ANumber = true
+same_kind tree.AnArray tree.AnArray = true
+same_kind tree.AStack tree.AStack = true
+same_kind _ _ = false
 
-abbrev pub block_faults : Shape → Block → List CheckFault
-block_faults g Empty = []
-block_faults g (More s b) = stm_faults g s ++ block_faults g b
+-- a name in sight has another kind than its use wants
+abbrev pub is_other : tree.Kind → Option tree.Kind → Bool
+is_other k None = false
+is_other k (Some found) = not (same_kind found k)
+
+-- the faults of a name that is used as one of this kind
+abbrev pub use_faults : Shape → tree.Kind → Name → List CheckFault
+use_faults g k (named y at) = fault_if (not (is_in y g)) (Unknown at) ++ fault_if (is_other k (kind_at y g)) (WrongKind at)
+
+-- the faults of an expression
+abbrev pub exp_faults : Shape → Exp → List CheckFault
+exp_faults g (Num n at) = []
+exp_faults g (Var y) = use_faults g tree.ANumber y
+exp_faults g (Element a i) = use_faults g tree.AnArray a ++ exp_faults g i
+exp_faults g (Neg e) = exp_faults g e
+exp_faults g (Bin op l r) = exp_faults g l ++ exp_faults g r
+exp_faults g (And l r) = exp_faults g l ++ exp_faults g r
+exp_faults g (Or l r) = exp_faults g l ++ exp_faults g r
+
+-- the uses of the assigned name x in its own index or right side
+abbrev pub self_fault : tree.Name → Name → List CheckFault
+self_fault x (named y at) = fault_if (same_name y x) (SelfUse at)
+
+abbrev pub self_faults : tree.Name → Exp → List CheckFault
+self_faults x (Num n at) = []
+self_faults x (Var y) = self_fault x y
+self_faults x (Element a i) = self_fault x a ++ self_faults x i
+self_faults x (Neg e) = self_faults x e
+self_faults x (Bin op l r) = self_faults x l ++ self_faults x r
+self_faults x (And l r) = self_faults x l ++ self_faults x r
+self_faults x (Or l r) = self_faults x l ++ self_faults x r
+
+-- the faults of an expression in which the assigned name x may not be used
+abbrev pub side_faults : Shape → tree.Name → Exp → List CheckFault
+side_faults g x e = exp_faults g e ++ self_faults x e
+
+abbrev mutual
+  pub stm_faults : Shape → Stm → List CheckFault
+  stm_faults g Skip = []
+  stm_faults g (Assign x u e) = use_faults g tree.ANumber x ++ side_faults g (text_of x) e
+  stm_faults g (AssignElement a i u e) = use_faults g tree.AnArray a ++ side_faults g (text_of a) i ++ side_faults g (text_of a) e
+  stm_faults g (If a s t b) = exp_faults g a ++ block_faults g s ++ block_faults g t ++ exp_faults g b
+  stm_faults g (Loop a s t b) = exp_faults g a ++ block_faults g s ++ block_faults g t ++ exp_faults g b
+
+  pub block_faults : Shape → Block → List CheckFault
+  block_faults g Empty = []
+  block_faults g (More s b) = stm_faults g s ++ block_faults g b
 
 -- all faults of a cell over the names in sight
 abbrev pub cell_faults : Shape → Cell → List CheckFault

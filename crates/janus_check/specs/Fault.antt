@@ -2,35 +2,43 @@
 use Rattle.std.specs.Prelude.{◌≡◌, ℕ, Bool, false, ◌&&◌, ◌||◌, ◌==◌, nat_lt, Option, Some, None, List, [], ◌∷◌, codes, Contains, All, if◌then◌else◌}
 use Rattle.janus_syntax.specs.declared.token.Span.{Span}
 use Rattle.janus_check.specs.declared.fault.CheckFault.{CheckFault}
-use Rattle.janus_check.specs.declared.fault.CheckFault.TheVariants.{Declared, Unknown, SelfUse, TooMany, Memory}
+use Rattle.janus_check.specs.declared.fault.CheckFault.TheVariants.{Declared, Unknown, WrongKind, SelfUse, TooMany, ArrayLength, Memory}
 
 abbrev pub number_of : CheckFault → ℕ
 number_of Memory = 35
 number_of (Declared at) = 40
 number_of (Unknown at) = 41
+number_of (WrongKind at) = 42
 number_of (SelfUse at) = 43
 number_of (TooMany at) = 48
+number_of (ArrayLength at) = 49
 
 abbrev pub fault_name : CheckFault → List ℕ
 fault_name Memory = codes "Memory"
 fault_name (Declared at) = codes "Declared"
 fault_name (Unknown at) = codes "Unknown"
+fault_name (WrongKind at) = codes "WrongKind"
 fault_name (SelfUse at) = codes "SelfUse"
 fault_name (TooMany at) = codes "TooMany"
+fault_name (ArrayLength at) = codes "ArrayLength"
 
 abbrev pub span_of : CheckFault → Option Span
 span_of Memory = None
 span_of (Declared at) = Some at
 span_of (Unknown at) = Some at
+span_of (WrongKind at) = Some at
 span_of (SelfUse at) = Some at
 span_of (TooMany at) = Some at
+span_of (ArrayLength at) = Some at
 
 abbrev pub start_of : CheckFault → ℕ
 start_of Memory = 0
 start_of (Declared at) = at.start
 start_of (Unknown at) = at.start
+start_of (WrongKind at) = at.start
 start_of (SelfUse at) = at.start
 start_of (TooMany at) = at.start
+start_of (ArrayLength at) = at.start
 
 -- a fault is told rather than another if it stands earlier, or at the same place under a smaller number
 abbrev pub comes_before : CheckFault → CheckFault → Bool

@@ -11,6 +11,7 @@ use std::marker::Model;
 #[derive(Clone, Copy, Debug, PartialEq, Eq)]
 pub enum Kind {
     Number,
+    Array,
 }
 
 /// The declared names with their kinds. Contracts see them as a list, in order of declaration.

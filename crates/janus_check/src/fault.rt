@@ -15,12 +15,18 @@ pub enum CheckFault {
     /// A name that is not in sight.
     #[error("Unknown")]
     Unknown(Span),
-    /// The assigned name in its own right side.
+    /// A name whose kind doesn't fit its use.
+    #[error("WrongKind")]
+    WrongKind(Span),
+    /// The assigned name in its own index or right side.
     #[error("SelfUse")]
     SelfUse(Span),
     /// The name past the limit of declared names.
     #[error("TooMany")]
     TooMany(Span),
+    /// An array's length that isn't 1 to 65,536.
+    #[error("ArrayLength")]
+    ArrayLength(Span),
     /// There was no memory for the check.
     #[error("Memory")]
     Memory,
@@ -35,8 +41,10 @@ impl CheckFault {
             CheckFault::Memory => 35,
             CheckFault::Declared(_) => 40,
             CheckFault::Unknown(_) => 41,
+            CheckFault::WrongKind(_) => 42,
             CheckFault::SelfUse(_) => 43,
             CheckFault::TooMany(_) => 48,
+            CheckFault::ArrayLength(_) => 49,
         }
     }
 
@@ -48,8 +56,10 @@ impl CheckFault {
             CheckFault::Memory => "Memory",
             CheckFault::Declared(_) => "Declared",
             CheckFault::Unknown(_) => "Unknown",
+            CheckFault::WrongKind(_) => "WrongKind",
             CheckFault::SelfUse(_) => "SelfUse",
             CheckFault::TooMany(_) => "TooMany",
+            CheckFault::ArrayLength(_) => "ArrayLength",
         }
     }
 
@@ -61,8 +71,10 @@ impl CheckFault {
             CheckFault::Memory => None,
             CheckFault::Declared(at) => Some(at),
             CheckFault::Unknown(at) => Some(at),
+            CheckFault::WrongKind(at) => Some(at),
             CheckFault::SelfUse(at) => Some(at),
             CheckFault::TooMany(at) => Some(at),
+            CheckFault::ArrayLength(at) => Some(at),
         }
     }
 

@@ -1,8 +1,8 @@
 //! Which cells are well formed: the check between the parser and everything that runs.
 //!
 //! A cell is checked over the names that are declared already. What passes is a `Checked`, and it is exactly the
-//! cells without a fault of the table: a name declared twice, a name out of sight, an assigned name in its own right
-//! side, too many names. Of several faults the one that stands first in the text is told, and at one place the one
+//! cells without a fault of the table: a name declared twice, a name out of sight or of another kind, an assigned name
+//! in its own index or right side, too many names, an array's length out of its range. Of several faults the one that stands first in the text is told, and at one place the one
 //! with the smaller number. What passes meets the well-formedness on which the laws of `janus_meaning` stand.
 //!
 //! The rules are those of Janus (Yokoyama and Glück 2007; Yokoyama, Axelsen and Glück 2008), with this kernel's
@@ -14,14 +14,18 @@ ghost use Rattle.janus_check.specs.WellFormed.{FaultsAreExact};
 pub mod cell;
 pub mod checked;
 pub mod env;
+mod expression;
 pub mod fault;
+mod sight;
+mod statement;
 
 pub use cell::check;
 pub use checked::Checked;
 pub use env::{Env, Kind};
+pub use expression::check_exp;
 pub use fault::CheckFault;
 
-/// A cell has no faults exactly where it is well formed: a law about the definitions of `specs/`. It does nothing.
+/// A cell has no faults exactly where it is well formed, and so an expression: a law about the definitions of `specs/`. It does nothing.
 pub fn faults_are_exact_law()
     ensures { FaultsAreExact }
 {}

@@ -4,7 +4,6 @@ use Rattle.janus_check.specs.Names.{shape_in}
 use Rattle.janus_check.specs.Check.{cell_faults}
 use Rattle.janus_check.proofs.FirstLemmas.{first_none, found_is_first}
 use Rattle.janus_check.proofs.FormedLemmas.{no_faults_formed}
-use Rattle.janus_check.proofs.ScopeLemmas.{shape_numbers}
 use Rattle.janus_check.proofs.cell.check.Goals as goal
 
 pub returns-in-None-clause-passes : goal.returns-in-None-clause-passes
@@ -13,7 +12,7 @@ returns-in-None-clause-passes c =
 
 pub returns-in-None-clause-well_formed : goal.returns-in-None-clause-well_formed
 returns-in-None-clause-well_formed c =
-    no_faults_formed (shape_in c.args.env.now) (cell_view c.args.cell) (shape_numbers c.args.env.now)
+    no_faults_formed (shape_in c.args.env.now) (cell_view c.args.cell)
     (first_none (cell_faults (shape_in c.args.env.now) (cell_view c.args.cell)) (sym c.in_ok-first_fault.ensures ∙ c.in-None.is))
 
 pub returns-in-Some-clause-first : goal.returns-in-Some-clause-first
@@ -24,6 +23,6 @@ pub new-requires : goal.new-requires
 new-requires c =
     ∣ (
       shape_in c.args.env.now,
-      no_faults_formed (shape_in c.args.env.now) (cell_view c.args.cell) (shape_numbers c.args.env.now)
+      no_faults_formed (shape_in c.args.env.now) (cell_view c.args.cell)
           (first_none (cell_faults (shape_in c.args.env.now) (cell_view c.args.cell)) (sym c.in_ok-first_fault.ensures ∙ c.in-None.is)),
     ) ∣₁

@@ -1,0 +1,3 @@
+pub mod Variables
+pub mod Indexes
+pub mod Elements

@@ -1,0 +1,12 @@
+//! The store: the declared names with their numbers and arrays, by name and in the order of declaration.
+//!
+//! To the layer above it promises a map: a name's value is read and written alone, a write changes no other name, and the
+//! newest name can be taken away again. Only a declaration takes memory. Contracts see it as a store of `janus_meaning`,
+//! where a value is taken out of its slot and put back.
+#![tactic(auto)]
+
+mod store;
+mod value;
+
+pub use crate::store::Store;
+pub use crate::value::View;

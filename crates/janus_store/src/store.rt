@@ -1,0 +1,190 @@
+//! The declared names with their values: an ordered map by name, and the order of declaration.
+
+ghost use Rattle.std.specs.Prelude.{◌≡◌, ℤ, List, pos, ◌<◌, IsTrue, ◌↔◌, OnOk, OnErr, slice_get, Some, Bool, false, true};
+ghost use Rattle.std.specs.Bool.{OnFalse};
+ghost use Rattle.janus_meaning.specs.Fault.{Fine, Bad, Broken, IndexRange, and_then};
+ghost use Rattle.janus_meaning.specs.Store.{Bare, Slot, Num, Arr, look, number, element, set_element, zeros, cleared};
+ghost use Rattle.janus_meaning.specs.World.{size_of, listed};
+ghost use Rattle.janus_store.specs.Values.{val_of, shown, read_or};
+ghost use Rattle.janus_store.specs.Stores.{IsFirstOnTop, IsNumber, IsArray, HasElementAt, rest_of, is_fine, write};
+
+use crate::value::{Value, View};
+use std::alloc::{AllocError, Global};
+use std::collections::BTreeMap;
+use std::marker::Model;
+
+/// A declared name with its value.
+#[derive(Drop)]
+struct Variable {
+    name: String,
+    value: Value,
+}
+
+impl Variable {
+    ghost use Rattle.std.specs.Prelude.{string_bytes};
+
+    /// The name, without the value.
+    fn into_name(self) -> String
+        ensures { string_bytes result ≡ string_bytes self.name }
+    {
+        self.name
+    }
+}
+
+/// The declared names with their values.
+#[derive(Drop)]
+pub struct Store {
+    /// In the order of declaration.
+    variables: Vec<Variable>,
+    /// Where each name stands among the variables.
+    places: BTreeMap<String, usize>,
+}
+
+impl Model for Store {
+    ghost use Rattle.janus_meaning.specs.Store.{Store};
+    ghost use Rattle.janus_meaning.specs.Codes.{store_code};
+
+    ghost Value = { Store };
+
+    ghost coded = { store_code };
+
+    ghost use Rattle.janus_store.specs.Inside.{store_of, IsIndexed};
+
+    ghost view = { store_of };
+
+    ghost invariant = { IsIndexed };
+}
+
+impl Store {
+    /// No names. It takes no memory.
+    pub fn new(alloc: Global) -> Store
+        ensures { result ≡ Bare }
+    {
+        Store {
+            variables: Vec::new(alloc),
+            places: BTreeMap::new(alloc),
+        }
+    }
+
+    /// How many names are declared.
+    pub fn len(&self) -> usize
+        ensures { result ≡ size_of self.now }
+    {
+        self.variables.len()
+    }
+
+    /// Whether no name is declared.
+    pub fn is_empty(&self) -> bool
+        ensures { IsTrue result ↔ (size_of self.now ≡ 0) }
+    {
+        self.variables.is_empty()
+    }
+
+    /// Whether a name is declared.
+    pub fn contains(&self, name: &str) -> bool
+        ensures declared { result ≡ is_fine (look name.now self.now) }
+        ensures absent { OnFalse result (look name.now self.now ≡ Bad Broken) }
+    {
+        self.places.contains_key(name)
+    }
+
+    /// The number of a name; none where the name is not declared, or as an array.
+    pub fn get(&self, name: &str) -> Option<i32>
+        ensures { read_or Broken result ≡ and_then (look name.now self.now) number }
+    {
+        match self.places.get(name) {
+            Some(place) => self.variables[*place].value.number(),
+            None => None,
+        }
+    }
+
+    /// The element of an array at an index; none where the index is out of its range.
+    pub fn element(&self, name: &str, index: i32) -> Option<i32>
+        requires { IsArray (look name.now self.now) }
+        ensures { (l : List ℤ) → look name.now self.now ≡ Fine (Arr l) → read_or IndexRange result ≡ element l index }
+    {
+        match self.places.get(name) {
+            Some(place) => self.variables[*place].value.element(index),
+            None => unreachable!(),
+        }
+    }
+
+    /// The i-th name in the order of declaration, the oldest being 0, with its value.
+    pub fn entry(&self, i: usize) -> (&str, View<'_>)
+        requires { i < size_of self.now }
+        ensures { slice_get (listed self.now) i ≡ Some (result.0.now, shown result.1) }
+    {
+        let variable = &self.variables[i];
+        (variable.name.as_str(), variable.value.view())
+    }
+
+    /// Declares a number, which is 0 then. An error for want of memory leaves the store.
+    pub fn declare(&mut self, name: &str) -> Result<(), AllocError>
+        requires { look name.now self.old ≡ Bad Broken }
+        ensures ok { OnOk result (self.new ≡ Slot name.now (Num (pos 0)) self.old) }
+        ensures err { OnErr result (self.new ≡ self.old) }
+    {
+        self.add(name, Value::Number(0))
+    }
+
+    /// Declares an array of this length, whose elements are 0 then. An error for want of memory leaves the store.
+    pub fn declare_array(&mut self, name: &str, length: usize) -> Result<(), AllocError>
+        requires { look name.now self.old ≡ Bad Broken }
+        ensures ok { OnOk result (self.new ≡ Slot name.now (Arr (zeros length)) self.old) }
+        ensures err { OnErr result (self.new ≡ self.old) }
+    {
+        let alloc = *self.variables.allocator();
+        let items = vec![in alloc; 0i32; length]?;
+        self.add(name, Value::Array(items))
+    }
+
+    /// Declares a name with a value; an error for want of memory leaves the store.
+    fn add(&mut self, name: &str, value: Value) -> Result<(), AllocError>
+        requires { look name.now self.old ≡ Bad Broken }
+        ensures ok { OnOk result (self.new ≡ Slot name.now (val_of value) self.old) }
+        ensures err { OnErr result (self.new ≡ self.old) }
+    {
+        let alloc = *self.variables.allocator();
+        let key = String::from_str(alloc, name)?;
+        let name = key.clone()?;
+        self.variables.reserve(1)?;
+        self.places.insert(key, self.variables.len())?;
+        self.variables.push_reserved(Variable { name, value });
+        Ok(())
+    }
+
+    /// Takes the newest name away, which has the value that it was declared with.
+    pub fn retire(&mut self)
+        requires { IsFirstOnTop self.old }
+        ensures { self.new ≡ rest_of self.old }
+    {
+        if let Some(variable) = self.variables.pop() {
+            let name = variable.into_name();
+            let _ = self.places.remove(name.as_str());
+        }
+    }
+
+    /// Another number in place of that of a name.
+    pub fn set(&mut self, name: &str, number: i32)
+        requires { IsNumber (look name.now self.old) }
+        ensures written { write name.now (Num number) self.old ≡ Fine self.new }
+        ensures shape { cleared self.new ≡ cleared self.old }
+    {
+        match self.places.get(name) {
+            Some(place) => self.variables[*place].value.set_number(number),
+            None => unreachable!(),
+        }
+    }
+
+    /// Another number in place of an element of an array, at an index within its range.
+    pub fn set_element(&mut self, name: &str, index: i32, number: i32)
+        requires { HasElementAt (look name.now self.old) index }
+        ensures written { (l : List ℤ) → look name.now self.old ≡ Fine (Arr l) → write name.now (Arr (set_element l index number)) self.old ≡ Fine self.new }
+        ensures shape { cleared self.new ≡ cleared self.old }
+    {
+        match self.places.get(name) {
+            Some(place) => self.variables[*place].value.set_element(index, number),
+            None => unreachable!(),
+        }
+    }
+}

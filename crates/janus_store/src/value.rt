@@ -1,0 +1,86 @@
+//! A variable's value.
+
+ghost use Rattle.std.specs.Prelude.{◌≡◌, ℤ, length};
+ghost use Rattle.janus_meaning.specs.Fault.{Fine, Bad, Broken, IndexRange};
+ghost use Rattle.janus_meaning.specs.Store.{Val, Num, Arr, number, element, set_element, cleared_val};
+ghost use Rattle.janus_store.specs.Values.{val_of, shown, read_or, HasElement};
+
+/// What a variable holds.
+#[derive(Drop)]
+pub(crate) enum Value {
+    Number(i32),
+    Array(Vec<i32>),
+}
+
+/// A value that is lent to be read.
+#[derive(Clone, Copy)]
+pub enum View<'a> {
+    Number(i32),
+    /// The elements, from index 0 on.
+    Array(&'a [i32]),
+}
+
+impl Value {
+    /// The value, lent.
+    pub(crate) fn view(&self) -> View<'_>
+        ensures { shown result ≡ val_of self.now }
+    {
+        match self {
+            Value::Number(number) => View::Number(*number),
+            Value::Array(items) => View::Array(items),
+        }
+    }
+
+    /// The number, if it is one.
+    pub(crate) fn number(&self) -> Option<i32>
+        ensures { read_or Broken result ≡ number (val_of self.now) }
+    {
+        match self {
+            Value::Number(number) => Some(*number),
+            Value::Array(_) => None,
+        }
+    }
+
+    /// The element of an array at an index, if the index is within its range.
+    pub(crate) fn element(&self, index: i32) -> Option<i32>
+        ensures { (l : _) → val_of self.now ≡ Arr l → read_or IndexRange result ≡ element l index }
+    {
+        match self {
+            Value::Number(_) => None,
+            Value::Array(items) => element_of(items, index),
+        }
+    }
+
+    /// Another number in place of a number.
+    pub(crate) fn set_number(&mut self, number: i32)
+        requires { (n : ℤ) × (val_of self.old ≡ Num n) }
+        ensures { val_of self.new ≡ Num number }
+    {
+        match self {
+            Value::Number(old) => *old = number,
+            Value::Array(_) => unreachable!(),
+        }
+    }
+
+    /// Another number in place of an element.
+    pub(crate) fn set_element(&mut self, index: i32, number: i32)
+        requires { HasElement (val_of self.old) index }
+        ensures written { (l : _) → val_of self.old ≡ Arr l → val_of self.new ≡ Arr (set_element l index number) }
+        ensures extent { cleared_val (val_of self.new) ≡ cleared_val (val_of self.old) }
+    {
+        match self {
+            Value::Number(_) => unreachable!(),
+            Value::Array(items) => items[index as usize] = number,
+        }
+    }
+}
+
+/// The element at an index, if the index is within the range.
+fn element_of(items: &[i32], index: i32) -> Option<i32>
+    ensures { read_or IndexRange result ≡ element items.now index }
+{
+    if index < 0 {
+        return None;
+    }
+    items.get(index as usize).copied()
+}
