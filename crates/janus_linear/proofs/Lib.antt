@@ -1,3 +1,5 @@
 pub mod Steps
 pub mod Turns
 pub mod Linked
+pub mod Ends
+pub mod Flatness
