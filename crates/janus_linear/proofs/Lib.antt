@@ -3,3 +3,4 @@ pub mod Turns
 pub mod Linked
 pub mod Ends
 pub mod Flatness
+pub mod Fetched
