@@ -1,17 +1,14 @@
 -- The inverse of a parser's block, and of its tree without the places.
-use Rattle.std.proofs.Common.{◌≡◌, ℕ, suc, ◌-◌, ◌<◌, ◌≤◌, List, [], ◌∷◌, ◌++◌, length, get_or, drop, drop-cons, refl, ap, ◌∙◌, sym, arith}
+use Rattle.std.proofs.Common.{◌≡◌, Vec, Global, ℕ, suc, ◌-◌, ◌<◌, ◌≤◌, List, [], ◌∷◌, ◌++◌, length, get_or, drop, drop-cons, refl, ap, ◌∙◌, sym, arith}
 use Rattle.janus_meaning.specs.Syntax as tree
 use Rattle.janus_meaning.specs.Word.{opposite}
-use Rattle.janus_syntax.specs.View.{name_of, exp_of, stm_of, block_of, update_of, operator_of}
+use Rattle.janus_syntax.specs.View.{text_of, plain_exp, plain_stm, plain_block, block_of, update_of}
 use Rattle.janus_syntax.specs.declared.tree.Update.{Update}
 use Rattle.janus_syntax.specs.declared.tree.Update.TheVariants.{Add, Subtract, Xor}
 use Rattle.janus_syntax.specs.declared.tree.Exp as code_exp
-use Rattle.janus_syntax.specs.declared.tree.Exp.TheVariants as exps
 use Rattle.janus_syntax.specs.declared.tree.Stm as code_stm
-use Rattle.janus_syntax.specs.declared.tree.Stm.TheVariants as stms
-use Rattle.janus_syntax.specs.Tree.{Stm, Assign, Block, Empty, More, cell_of, exp_view, stm_view, block_view}
-use Rattle.janus_check.specs.Check.{text_of}
-use Rattle.janus_check.specs.WellFormed.{meant_exp, meant_stm, meant_block}
+use Rattle.janus_syntax.proofs.Views.{view_if, view_loop}
+use Rattle.janus_syntax.specs.Tree.{Stm, Skip, Assign, AssignElement, If, Loop, Block, Empty, More, cell_of, exp_view, stm_view, block_view}
 use Rattle.janus_invert.specs.Cells.{opposite_of, inverse_stm, turned, InverseCellTwice}
 
 -- ---- twice is the identity
@@ -21,12 +18,17 @@ opposite_twice Add = refl
 opposite_twice Subtract = refl
 opposite_twice Xor = refl
 
-inverse_twice : (s : Stm) → inverse_stm (inverse_stm s) ≡ s
-inverse_twice (Assign x u e) = ap (λ u. Assign x u e) (opposite_twice u)
+mutual
+  inverse_twice : (s : Stm) → inverse_stm (inverse_stm s) ≡ s
+  inverse_twice Skip = refl
+  inverse_twice (Assign x u e) = ap (λ u. Assign x u e) (opposite_twice u)
+  inverse_twice (AssignElement x i u e) = ap (λ u. AssignElement x i u e) (opposite_twice u)
+  inverse_twice (If a s t b) = ap (λ r. If a r (turned (turned t Empty) Empty) b) (turned_twice s Empty) ∙ ap (λ r. If a s r b) (turned_twice t Empty)
+  inverse_twice (Loop a s t b) = ap (λ r. Loop a r (turned (turned t Empty) Empty) b) (turned_twice s Empty) ∙ ap (λ r. Loop a s r b) (turned_twice t Empty)
 
-turned_twice : (b acc : Block) → turned (turned b acc) Empty ≡ turned acc b
-turned_twice Empty acc = refl
-turned_twice (More s b) acc = turned_twice b (More (inverse_stm s) acc) ∙ ap (λ r. turned acc (More r b)) (inverse_twice s)
+  turned_twice : (b acc : Block) → turned (turned b acc) Empty ≡ turned acc b
+  turned_twice Empty acc = refl
+  turned_twice (More s b) acc = turned_twice b (More (inverse_stm s) acc) ∙ ap (λ r. turned acc (More r b)) (inverse_twice s)
 
 pub inverse_cell_twice : InverseCellTwice
 inverse_cell_twice (cell_of declarations b) = ap (cell_of declarations) (turned_twice b Empty)
@@ -58,33 +60,48 @@ one_more b xs ys i r d low le h e f =
 
 -- ---- without the places
 
-meant_exp_is : (e : code_exp.Exp) → meant_exp (exp_view e) ≡ exp_of e
-meant_exp_is (exps.Number n at) = refl
-meant_exp_is (exps.Variable x) = refl
-meant_exp_is (exps.Binary' o p l q r) =
-    ap (λ l. tree.Binary (operator_of o) l (meant_exp (exp_view r))) (meant_exp_is l) ∙ ap (tree.Binary (operator_of o) (exp_of l)) (meant_exp_is r)
-
-meant_stm_is : (s : code_stm.Stm) → meant_stm (stm_view s) ≡ stm_of s
-meant_stm_is (stms.Assign x u e) = ap (tree.Set (name_of x) (update_of u)) (meant_exp_is e)
-
-pub meant_block_is : (ss : List code_stm.Stm) → meant_block (block_view ss) ≡ block_of ss
-meant_block_is [] = refl
-meant_block_is (s ∷ ss) = ap (λ s. tree.Cons s (meant_block (block_view ss))) (meant_stm_is s) ∙ ap (tree.Cons (stm_of s)) (meant_block_is ss)
-
 opposite_plain : (u : Update) → update_of (opposite_of u) ≡ opposite (update_of u)
 opposite_plain Add = refl
 opposite_plain Subtract = refl
 opposite_plain Xor = refl
 
-inverse_plain : (s : Stm) → meant_stm (inverse_stm s) ≡ tree.inverse (meant_stm s)
-inverse_plain (Assign x u e) = ap (λ o. tree.Set (text_of x) o (meant_exp e)) (opposite_plain u)
+mutual
+  inverse_plain : (s : Stm) → plain_stm (inverse_stm s) ≡ tree.inverse (plain_stm s)
+  inverse_plain Skip = refl
+  inverse_plain (Assign x u e) = ap (λ o. tree.Set (text_of x) o (plain_exp e)) (opposite_plain u)
+  inverse_plain (AssignElement x i u e) = ap (λ o. tree.SetAt (text_of x) (plain_exp i) o (plain_exp e)) (opposite_plain u)
+  inverse_plain (If a s t b) =
+      ap (λ r. tree.If (plain_exp b) r (plain_block (turned t Empty)) (plain_exp a)) (turned_plain s Empty)
+      ∙ ap (λ r. tree.If (plain_exp b) (tree.turn (plain_block s) tree.Nil) r (plain_exp a)) (turned_plain t Empty)
+  inverse_plain (Loop a s t b) =
+      ap (λ r. tree.From (plain_exp b) r (plain_block (turned t Empty)) (plain_exp a)) (turned_plain s Empty)
+      ∙ ap (λ r. tree.From (plain_exp b) (tree.turn (plain_block s) tree.Nil) r (plain_exp a)) (turned_plain t Empty)
 
-turned_plain : (b acc : Block) → meant_block (turned b acc) ≡ tree.turn (meant_block b) (meant_block acc)
-turned_plain Empty acc = refl
-turned_plain (More s b) acc =
-    turned_plain b (More (inverse_stm s) acc) ∙ ap (λ s. tree.turn (meant_block b) (tree.Cons s (meant_block acc))) (inverse_plain s)
+  turned_plain : (b acc : Block) → plain_block (turned b acc) ≡ tree.turn (plain_block b) (plain_block acc)
+  turned_plain Empty acc = refl
+  turned_plain (More s b) acc =
+      turned_plain b (More (inverse_stm s) acc) ∙ ap (λ s. tree.turn (plain_block b) (tree.Cons s (plain_block acc))) (inverse_plain s)
 
 -- what is inverted with its places is inverted without them
 pub inverse_block_is : (rs ss : List code_stm.Stm) → block_view rs ≡ turned (block_view ss) Empty → block_of rs ≡ tree.inverse_block (block_of ss)
-inverse_block_is rs ss h =
-    sym (meant_block_is rs) ∙ ap meant_block h ∙ turned_plain (block_view ss) Empty ∙ ap tree.inverse_block (meant_block_is ss)
+inverse_block_is rs ss h = ap plain_block h ∙ turned_plain (block_view ss) Empty
+
+-- ---- statements with blocks, made from their vectors
+
+pub if_turned : (a b c d : code_exp.Exp) (v w x y : Vec code_stm.Stm Global) → exp_view c ≡ exp_view a → exp_view d ≡ exp_view b → block_view x.items ≡ turned (block_view v.items) Empty → block_view y.items ≡ turned (block_view w.items) Empty → stm_view (code_stm.If d x y c) ≡ inverse_stm (stm_view (code_stm.If a v w b))
+if_turned a b c d v w x y e f g h =
+    view_if d c x y
+    ∙ ap (λ e. If e (block_view x.items) (block_view y.items) (exp_view c)) f
+    ∙ ap (λ s. If (exp_view b) s (block_view y.items) (exp_view c)) g
+    ∙ ap (λ s. If (exp_view b) (turned (block_view v.items) Empty) s (exp_view c)) h
+    ∙ ap (If (exp_view b) (turned (block_view v.items) Empty) (turned (block_view w.items) Empty)) e
+    ∙ ap inverse_stm (sym (view_if a b v w))
+
+pub loop_turned : (a b c d : code_exp.Exp) (v w x y : Vec code_stm.Stm Global) → exp_view c ≡ exp_view a → exp_view d ≡ exp_view b → block_view x.items ≡ turned (block_view v.items) Empty → block_view y.items ≡ turned (block_view w.items) Empty → stm_view (code_stm.Loop d x y c) ≡ inverse_stm (stm_view (code_stm.Loop a v w b))
+loop_turned a b c d v w x y e f g h =
+    view_loop d c x y
+    ∙ ap (λ e. Loop e (block_view x.items) (block_view y.items) (exp_view c)) f
+    ∙ ap (λ s. Loop (exp_view b) s (block_view y.items) (exp_view c)) g
+    ∙ ap (λ s. Loop (exp_view b) (turned (block_view v.items) Empty) s (exp_view c)) h
+    ∙ ap (Loop (exp_view b) (turned (block_view v.items) Empty) (turned (block_view w.items) Empty)) e
+    ∙ ap inverse_stm (sym (view_loop a b v w))

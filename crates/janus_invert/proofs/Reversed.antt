@@ -1,121 +1,174 @@
--- Blocks whose members stand backward, and the trees of inverse code.
+-- Inverse code stands for the inverse block.
 use Rattle.std.proofs.Common.{◌≡◌, ℕ, zero, suc, ◌+◌, ◌-◌, ◌<◌, ◌≤◌, List, length, get_or, refl, ap, ◌∙◌, sym, arith, ⊎_elim}
-use Rattle.std.specs.Prelude.{slice_get, Some, None}
+use Rattle.std.specs.Prelude.{slice_get, Some, None, string_bytes}
+use Rattle.std.proofs.lemmas.Bool.{cases_lt}
 use Rattle.std.proofs.lemmas.Option.{slice_get-get_or, slice_get_within, slice_get_cases}
 use Rattle.janus_meaning.specs.Syntax as tree
-use Rattle.janus_meaning.proofs.Inverse.{inverse-rejoin}
+use Rattle.janus_meaning.specs.Word.{opposite}
+use Rattle.janus_syntax.specs.View.{update_of}
+use Rattle.janus_syntax.specs.declared.tree.Update.{Update}
+use Rattle.janus_syntax.specs.declared.tree.Update.TheVariants as update
 use Rattle.janus_invert.specs.declared.code.Block.{Block}
 use Rattle.janus_invert.specs.declared.code.Statement.{Statement}
-use Rattle.janus_invert.specs.declared.code.Statement.TheVariants.{Assign}
-use Rattle.janus_invert.specs.Flat.{ahead, back, block_at, tree_at, BlocksAreBelow, IsDownward}
-use Rattle.janus_invert.specs.Inverted.{IsBackward, BlocksAreBackward, IsInverse, AreInverse}
-use Rattle.janus_invert.proofs.Blocks.{zip_count}
-use Rattle.janus_invert.proofs.Trees.{tree_is}
-use Rattle.janus_invert.proofs.Pairs.{ArePairs}
-use Rattle.janus_invert.proofs.Inverses.{inverse_built, inverse_back}
+use Rattle.janus_invert.specs.declared.code.Statement.TheVariants.{Skip, Assign, AssignElement, If, Loop}
+use Rattle.janus_invert.specs.Expressions.{exp_of}
+use Rattle.janus_invert.specs.Flat.{ahead, block_at, built, tree_at, IsBelow, BlocksAreBelow, AreBelow, IsDownward}
+use Rattle.janus_invert.specs.Inverted.{IsOpposite, IsBackward, IsInverse, AreInverse}
+use Rattle.janus_invert.specs.Longer.{IsLonger}
+use Rattle.janus_invert.proofs.Trees.{tree_of}
 
-module _ (t u : ℕ → tree.Stm) (members others : List ℕ) (b : Block) (o : b.start ≤ b.end) (rev : IsBackward members others b) (inv : (j : ℕ) → b.start ≤ j → j < b.end → u (get_or members j 0) ≡ tree.inverse (t (get_or members j 0))) where
-  -- what stands before a gap of the inverse is what stands after it in the code
-  pub back_turned : (n : ℕ) → n ≤ b.end - b.start → back u others b.start n ≡ tree.inverse_each (ahead t members (b.end - n) n)
-  back_turned zero h = refl
-  back_turned (suc n) h =
-      let at : b.start + (b.end - suc (b.start + n)) ≡ b.end - suc n = omega arith in
-      let z : suc (b.end - suc n) ≡ b.end - n = omega arith in
-      let e : get_or others (b.start + n) 0 ≡ get_or members (b.end - suc n) 0 = rev (b.start + n) (omega arith) (omega arith) ∙ ap (λ j. get_or members j 0) at in
-      let f : u (get_or members (b.end - suc n) 0) ≡ tree.inverse (t (get_or members (b.end - suc n) 0)) = inv (b.end - suc n) (omega arith) (omega arith) in
-      ap (λ m. tree.Cons (u m) (back u others b.start n)) e
-      ∙ ap (λ c. tree.Cons c (back u others b.start n)) f
-      ∙ ap (tree.Cons (tree.inverse (t (get_or members (b.end - suc n) 0)))) (back_turned n (omega arith))
-      ∙ ap (λ i. tree.Cons (tree.inverse (t (get_or members (b.end - suc n) 0))) (tree.inverse_each (ahead t members i n))) (sym z)
+-- ---- blocks
 
-  -- and the other way
-  pub ahead_turned : (n : ℕ) → n ≤ b.end - b.start → ahead u others (b.end - n) n ≡ tree.inverse_each (back t members b.start n)
-  ahead_turned zero h = refl
-  ahead_turned (suc n) h =
-      let at : b.start + (b.end - suc (b.end - suc n)) ≡ b.start + n = omega arith in
-      let z : suc (b.end - suc n) ≡ b.end - n = omega arith in
-      let e : get_or others (b.end - suc n) 0 ≡ get_or members (b.start + n) 0 = rev (b.end - suc n) (omega arith) (omega arith) ∙ ap (λ j. get_or members j 0) at in
-      let f : u (get_or members (b.start + n) 0) ≡ tree.inverse (t (get_or members (b.start + n) 0)) = inv (b.start + n) (omega arith) (omega arith) in
-      ap (λ m. tree.Cons (u m) (ahead u others (suc (b.end - suc n)) n)) e
-      ∙ ap (λ c. tree.Cons c (ahead u others (suc (b.end - suc n)) n)) f
-      ∙ ap (λ i. tree.Cons (tree.inverse (t (get_or members (b.start + n) 0))) (ahead u others i n)) z
-      ∙ ap (tree.Cons (tree.inverse (t (get_or members (b.start + n) 0)))) (ahead_turned n (omega arith))
+-- the first n members of the block c are the last n of b, the last one first
+row_turned : (t u : ℕ → tree.Stm) (members others : List ℕ) (b c : Block) → b.start ≤ b.end → IsBackward members others b c → ((i : ℕ) → b.start ≤ i → i < b.end → u (get_or members i 0) ≡ tree.inverse (t (get_or members i 0))) → (n k : ℕ) (done : tree.Blk) → n + k ≡ b.end - b.start → done ≡ ahead u others (c.start + k) n → tree.turn (ahead t members (b.start + n) k) done ≡ ahead u others c.start (n + k)
+row_turned t u members others b c o v inv n zero done e h =
+    let z : c.start + 0 ≡ c.start = omega arith in
+    let y : n ≡ n + 0 = omega arith in
+    h ∙ ap (λ i. ahead u others i n) z ∙ ap (ahead u others c.start) y
+row_turned t u members others b c o v inv n (suc k) done e h =
+    let at : ℕ = b.start + n in
+    let z : suc at ≡ b.start + suc n = omega arith in
+    let y : suc n + k ≡ n + suc k = omega arith in
+    let x : b.end - suc k ≡ at = omega arith in
+    let w : c.start + suc k ≡ suc (c.start + k) = omega arith in
+    let there : get_or others (c.start + k) 0 ≡ get_or members at 0 = v.backward k (omega arith) ∙ ap (λ i. get_or members i 0) x in
+    let first : u (get_or others (c.start + k) 0) ≡ tree.inverse (t (get_or members at 0)) = ap u there ∙ inv at (omega arith) (omega arith) in
+    let more : tree.Cons (tree.inverse (t (get_or members at 0))) done ≡ ahead u others (c.start + k) (suc n) =
+    ap (tree.Cons (tree.inverse (t (get_or members at 0)))) (h ∙ ap (λ i. ahead u others i n) w)
+    ∙ ap (λ s. tree.Cons s (ahead u others (suc (c.start + k)) n)) (sym first) in
+    ap (λ i. tree.turn (ahead t members i k) (tree.Cons (tree.inverse (t (get_or members at 0))) done)) z
+    ∙ row_turned t u members others b c o v inv (suc n) k (tree.Cons (tree.inverse (t (get_or members at 0))) done) (omega (arith, e)) more
+    ∙ ap (ahead u others c.start) y
 
-  -- a whole block
-  pub block_turned : block_at u others b ≡ tree.inverse_block (block_at t members b)
-  block_turned =
-      let n : ℕ = b.end - b.start in
-      let z : b.end - n ≡ b.start = omega arith in
-      let y : n + 0 ≡ n = omega arith in
-      ap (λ i. ahead u others i (b.end - b.start)) (sym z) ∙ ahead_turned (b.end - b.start) (omega arith)
-      ∙ sym (inverse-rejoin (back t members b.start (b.end - b.start)))
-      ∙ ap tree.inverse_block (zip_count t members (b.end - b.start) b.start 0)
-      ∙ ap (λ m. tree.inverse_block (ahead t members b.start m)) y
+block_turned : (t u : ℕ → tree.Stm) (members others : List ℕ) (m : ℕ) (b c : Block) → IsBelow members m b → IsBackward members others b c → ((j : ℕ) → j < m → u j ≡ tree.inverse (t j)) → block_at u others c ≡ tree.inverse_block (block_at t members b)
+block_turned t u members others m b c below v inv =
+    let o : b.start ≤ b.end = below.order in
+    let z : b.start + 0 ≡ b.start = omega arith in
+    let y : c.end - c.start ≡ 0 + (b.end - b.start) = omega (arith, v.as_many) in
+    ap (ahead u others c.start) y
+    ∙ sym (row_turned t u members others b c o v (λ i low high. inv (get_or members i 0) (below.below i low high)) 0 (b.end - b.start) tree.Nil (omega arith) refl)
+    ∙ ap (λ i. tree.inverse_block (ahead t members i (b.end - b.start))) z
 
--- a block that stands backward stands backward the other way round too
-pub backward_back : (members others : List ℕ) (b : Block) → IsBackward members others b → IsBackward others members b
-backward_back members others b h = λ i low high.
-    let j : ℕ = b.start + (b.end - suc i) in
-    let z : b.start + (b.end - suc j) ≡ i = omega arith in
-    sym (h j (omega arith) (omega arith) ∙ ap (λ j. get_or members j 0) z)
+-- ---- statements
 
-module _ (members : List ℕ) (statements : List Statement) (others : List ℕ) (inverses : List Statement) (body : Block) (d : IsDownward members statements body) (e : IsDownward others inverses body) (v : AreInverse members statements others inverses body) where
-  inverted_by : (n : ℕ) (s : Statement) → slice_get statements n ≡ Some s → tree_at others inverses n ≡ tree.inverse (tree_at members statements n)
-  inverted_by n s h =
-      let lt : n < length inverses = omega (arith, slice_get_within statements n s h, v.as_many) in
-      let r = get_or inverses n s in
-      let g = slice_get-get_or inverses n s lt in
-      tree_is others inverses body n r e g
-      ∙ inverse_built (tree_at members statements) (tree_at others inverses) members others s r (v.inverse n s r h g)
-      ∙ ap tree.inverse (sym (tree_is members statements body n s d h))
+opposite_sign : (u v : Update) → IsOpposite u v → update_of v ≡ opposite (update_of u)
+opposite_sign update.Add update.Subtract h = refl
+opposite_sign update.Subtract update.Add h = refl
+opposite_sign update.Xor update.Xor h = refl
+opposite_sign _ _ h = absurd h
 
-  -- the tree of each number is inverted
-  pub tree_inverted : (n : ℕ) → n < length statements → tree_at others inverses n ≡ tree.inverse (tree_at members statements n)
-  tree_inverted n lt =
+module _ (t u : ℕ → tree.Stm) (members others : List ℕ) (m : ℕ) (inv : (j : ℕ) → j < m → u j ≡ tree.inverse (t j)) where
+  built_turned : (s r : Statement) → BlocksAreBelow members m s → IsInverse members others s r → built u others r ≡ tree.inverse (built t members s)
+  built_turned Skip Skip b h = refl
+  built_turned (Assign x o e) (Assign y p f) b h =
+      ap (λ z. tree.Set z (update_of p) (exp_of f)) h.0
+      ∙ ap (λ q. tree.Set (string_bytes x) q (exp_of f)) (opposite_sign o p h.1)
+      ∙ ap (tree.Set (string_bytes x) (opposite (update_of o))) h.2
+  built_turned (AssignElement x i o e) (AssignElement y j p f) b h =
+      ap (λ z. tree.SetAt z (exp_of j) (update_of p) (exp_of f)) h.0
+      ∙ ap (λ z. tree.SetAt (string_bytes x) z (update_of p) (exp_of f)) h.1
+      ∙ ap (λ q. tree.SetAt (string_bytes x) (exp_of i) q (exp_of f)) (opposite_sign o p h.2)
+      ∙ ap (tree.SetAt (string_bytes x) (exp_of i) (opposite (update_of o))) h.3
+  built_turned (If a p q c) (If d r s e) b h =
+      ap (λ z. tree.If z (block_at u others r) (block_at u others s) (exp_of e)) h.0
+      ∙ ap (λ z. tree.If (exp_of c) z (block_at u others s) (exp_of e)) (block_turned t u members others m p r b.0 h.1 inv)
+      ∙ ap (λ z. tree.If (exp_of c) (tree.inverse_block (block_at t members p)) z (exp_of e)) (block_turned t u members others m q s b.1 h.2 inv)
+      ∙ ap (tree.If (exp_of c) (tree.inverse_block (block_at t members p)) (tree.inverse_block (block_at t members q))) h.3
+  built_turned (Loop a p q c) (Loop d r s e) b h =
+      ap (λ z. tree.From z (block_at u others r) (block_at u others s) (exp_of e)) h.0
+      ∙ ap (λ z. tree.From (exp_of c) z (block_at u others s) (exp_of e)) (block_turned t u members others m p r b.0 h.1 inv)
+      ∙ ap (λ z. tree.From (exp_of c) (tree.inverse_block (block_at t members p)) z (exp_of e)) (block_turned t u members others m q s b.1 h.2 inv)
+      ∙ ap (tree.From (exp_of c) (tree.inverse_block (block_at t members p)) (tree.inverse_block (block_at t members q))) h.3
+  built_turned _ _ b h = absurd h
+
+-- ---- code
+
+module _ (members : List ℕ) (statements : List Statement) (body : Block) (others : List ℕ) (inverses : List Statement) (back : Block) (d : AreBelow members statements) (e : AreBelow others inverses) (v : AreInverse members statements body others inverses back) where
+  turned_up_to : (n : ℕ) → n ≤ length statements → (m : ℕ) → m < n → tree_at others inverses m ≡ tree.inverse (tree_at members statements m)
+  turned_up_to zero h m lt = absurd (omega arith)
+  turned_up_to (suc n) h m lt =
+      let before = turned_up_to n (omega arith) in
       ⊎_elim
-      (λ (p : (s : Statement) × (n < length statements) × (slice_get statements n ≡ Some s) × (get_or statements n s ≡ s)). inverted_by n p.0 p.2)
-      (λ (p : (length statements ≤ n) × (slice_get statements n ≡ None)). let q : length statements ≤ n = p.0 in absurd (omega arith))
-      (slice_get_cases statements n).1
+      (λ (q : m < n). before m q)
+      (λ (q : n ≤ m).
+      ⊎_elim
+      (λ (p : (s : Statement) × (m < length statements) × (slice_get statements m ≡ Some s) × (get_or statements m s ≡ s)).
+      let s = p.0 in
+      let r = get_or inverses m s in
+      let there : slice_get inverses m ≡ Some r = slice_get-get_or inverses m s (omega (arith, v.as_many)) in
+      tree_of others inverses m r e there
+      ∙ built_turned (tree_at members statements) (tree_at others inverses) members others m (λ j low. before j (omega arith)) s r (d m s p.2) (v.inverse m s r p.2 there)
+      ∙ ap tree.inverse (sym (tree_of members statements m s d p.2)))
+      (λ (p : (length statements ≤ m) × (slice_get statements m ≡ None)). let q : length statements ≤ m = p.0 in absurd (omega arith))
+      (slice_get_cases statements m).1)
+      (cases_lt m n)
 
   -- the whole block
-  pub body_inverted : block_at (tree_at others inverses) others body ≡ tree.inverse_block (block_at (tree_at members statements) members body)
-  body_inverted =
-      block_turned (tree_at members statements) (tree_at others inverses) members others body d.whole.order v.whole
-      (λ j p q. tree_inverted (get_or members j 0) (d.whole.below j p q))
+  pub body_turned : IsBelow members (length statements) body → block_at (tree_at others inverses) others back ≡ tree.inverse_block (block_at (tree_at members statements) members body)
+  body_turned b =
+      block_turned (tree_at members statements) (tree_at others inverses) members others (length statements) body back b v.whole
+      (λ j lt. turned_up_to (length statements) (omega arith) j lt)
 
-blocks_back : (members others : List ℕ) (s : Statement) → BlocksAreBackward others members s
-blocks_back members others (Assign x u e) = tt
+-- ---- the parts of inverse code
 
--- the inverse's inverse
-pub inverse_both_ways : (members : List ℕ) (statements : List Statement) (others : List ℕ) (inverses : List Statement) (body : Block) → AreInverse members statements others inverses body → AreInverse others inverses members statements body
-inverse_both_ways members statements others inverses body v = record {
-  as_many = sym v.as_many;
-  inverse = λ n r s h g. inverse_back s r (v.inverse n s r g h);
-  backward = λ n s h. blocks_back members others s;
-  whole = backward_back members others body v.whole;
-}
-
-no_blocks : (members : List ℕ) (n : ℕ) (s : Statement) → BlocksAreBelow members n s
-no_blocks members n (Assign x u e) = tt
-
--- the parts of inverse code go down too
-pub inverse_downward : (members : List ℕ) (statements : List Statement) (others : List ℕ) (inverses : List Statement) (body : Block) → IsDownward members statements body → length inverses ≡ length statements → length others ≡ length members → IsBackward members others body → IsDownward others inverses body
-inverse_downward members statements others inverses body d as_many long back =
-    let o : body.start ≤ body.end = d.whole.order in
-    let w : body.end ≤ length members = d.whole.within in
+backward_below : (members others : List ℕ) (n : ℕ) (b c : Block) → IsBelow members n b → IsBackward members others b c → IsBelow others n c
+backward_below members others n b c h v =
+    let o : b.start ≤ b.end = h.order in
     record {
-      each = λ n s e. no_blocks others n s;
-      whole = record {
-        order = o;
-        within = omega arith;
-        below = λ i low high.
-            let j : ℕ = body.start + (body.end - suc i) in
-            let e : get_or others i 0 ≡ get_or members j 0 = back i low high in
-            let b : get_or members j 0 < length statements = d.whole.below j (omega arith) (omega arith) in
-            omega arith;
-      };
+      order = v.order;
+      within = v.within;
+      below = λ i low high.
+          let j : ℕ = i - c.start in
+          let z : c.start + j ≡ i = omega arith in
+          let lt : j < b.end - b.start = omega (arith, v.as_many) in
+          let e : get_or others i 0 ≡ get_or members (b.end - suc j) 0 = ap (λ i. get_or others i 0) (sym z) ∙ v.backward j lt in
+          let below : get_or members (b.end - suc j) 0 < n = h.below (b.end - suc j) (omega arith) (omega arith) in
+          omega arith;
     }
 
-pub are_inverse : (members : List ℕ) (statements : List Statement) (others : List ℕ) (inverses : List Statement) (body : Block) → length inverses ≡ length statements → ArePairs IsInverse statements inverses → IsBackward members others body → AreInverse members statements others inverses body
-are_inverse members statements others inverses body as_many pairs back =
-    record { as_many = as_many; inverse = pairs; backward = λ n s e. blocks_back others members s; whole = back }
+pub inverse_below : (members others : List ℕ) (n : ℕ) (s r : Statement) → BlocksAreBelow members n s → IsInverse members others s r → BlocksAreBelow others n r
+inverse_below members others n Skip Skip b h = tt
+inverse_below members others n (Assign x o e) (Assign y p f) b h = tt
+inverse_below members others n (AssignElement x i o e) (AssignElement y j p f) b h = tt
+inverse_below members others n (If a p q c) (If d r s e) b h = (backward_below members others n p r b.0 h.1, backward_below members others n q s b.1 h.2)
+inverse_below members others n (Loop a p q c) (Loop d r s e) b h = (backward_below members others n p r b.0 h.1, backward_below members others n q s b.1 h.2)
+inverse_below members others n _ _ b h = absurd h
+
+pub whole_below : (members others : List ℕ) (n m : ℕ) (b c : Block) → m ≡ n → IsBelow members n b → IsBackward members others b c → IsBelow others m c
+whole_below members others n m b c e h v =
+    let g = backward_below members others n b c h v in
+    record { order = g.order; within = g.within; below = λ i low high. let lt : get_or others i 0 < n = g.below i low high in omega arith }
+
+-- ---- more members behind
+
+backward_longer : (members others more : List ℕ) (b c : Block) → IsLonger others more → IsBackward members others b c → IsBackward members more b c
+backward_longer members others more b c l v = record {
+  order = v.order;
+  within = omega (arith, v.within, l.longer);
+  as_many = v.as_many;
+  backward = λ i lt. l.same (c.start + i) (omega (arith, v.within, v.as_many, v.order)) ∙ v.backward i lt;
+}
+
+pub inverse_longer : (members others more : List ℕ) (s r : Statement) → IsLonger others more → IsInverse members others s r → IsInverse members more s r
+inverse_longer members others more Skip Skip l h = tt
+inverse_longer members others more (Assign x o e) (Assign y p f) l h = h
+inverse_longer members others more (AssignElement x i o e) (AssignElement y j p f) l h = h
+inverse_longer members others more (If a p q c) (If d r s e) l h = (h.0, backward_longer members others more p r l h.1, backward_longer members others more q s l h.2, h.3)
+inverse_longer members others more (Loop a p q c) (Loop d r s e) l h = (h.0, backward_longer members others more p r l h.1, backward_longer members others more q s l h.2, h.3)
+inverse_longer members others more _ _ l h = absurd h
+
+-- ---- what the loop over all statements has made, and the whole block behind it
+
+module _ (members : List ℕ) (statements : List Statement) (body : Block) (others more : List ℕ) (inverses : List Statement) (back : Block) (as_many : length inverses ≡ length statements) (pairs : (n : ℕ) (s r : Statement) → slice_get statements n ≡ Some s → slice_get inverses n ≡ Some r → IsInverse members others s r) (longer : IsLonger others more) (whole : IsBackward members more body back) where
+  pub are_inverse : AreInverse members statements body more inverses back
+  are_inverse = record { as_many = as_many; inverse = λ n s r e f. inverse_longer members others more s r longer (pairs n s r e f); whole = whole }
+
+pub inverse_downward : (members : List ℕ) (statements : List Statement) (body : Block) (others more : List ℕ) (inverses : List Statement) (back : Block) → IsDownward members statements body → length inverses ≡ length statements → ((n : ℕ) (s r : Statement) → slice_get statements n ≡ Some s → slice_get inverses n ≡ Some r → IsInverse members others s r) → IsLonger others more → IsBackward members more body back → IsDownward more inverses back
+inverse_downward members statements body others more inverses back d as_many pairs longer whole = record {
+  each = λ n r e.
+      let lt : n < length statements = omega (arith, slice_get_within inverses n r e, as_many) in
+      let s = get_or statements n r in
+      let here : slice_get statements n ≡ Some s = slice_get-get_or statements n r lt in
+      inverse_below members more n s r (d.each n s here) (inverse_longer members others more s r longer (pairs n s r here e));
+  whole = whole_below members more (length statements) (length inverses) body back as_many d.whole whole;
+}

@@ -2,21 +2,26 @@
 use Rattle.std.specs.Prelude.{◌≡◌}
 use Rattle.janus_syntax.specs.declared.tree.Update.{Update}
 use Rattle.janus_syntax.specs.declared.tree.Update.TheVariants.{Add, Subtract, Xor}
-use Rattle.janus_syntax.specs.Tree.{Stm, Assign, Block, Empty, More, Cell, cell_of}
+use Rattle.janus_syntax.specs.Tree.{Stm, Skip, Assign, AssignElement, If, Loop, Block, Empty, More, Cell, cell_of}
 
 abbrev pub opposite_of : Update → Update
 opposite_of Add = Subtract
 opposite_of Subtract = Add
 opposite_of Xor = Xor
 
--- the inverse of a statement; its names and numbers keep their places
-abbrev pub inverse_stm : Stm → Stm
-inverse_stm (Assign x u e) = Assign x (opposite_of u) e
+abbrev mutual
+  -- the inverse of a statement; its names and numbers keep their places
+  pub inverse_stm : Stm → Stm
+  inverse_stm Skip = Skip
+  inverse_stm (Assign x u e) = Assign x (opposite_of u) e
+  inverse_stm (AssignElement x i u e) = AssignElement x i (opposite_of u) e
+  inverse_stm (If a s t b) = If b (turned s Empty) (turned t Empty) a
+  inverse_stm (Loop a s t b) = Loop b (turned s Empty) (turned t Empty) a
 
--- the inverse of a block, and behind it `done`
-abbrev pub turned : Block → Block → Block
-turned Empty done = done
-turned (More s b) done = turned b (More (inverse_stm s) done)
+  -- the inverse of a block, and behind it `done`
+  pub turned : Block → Block → Block
+  turned Empty done = done
+  turned (More s b) done = turned b (More (inverse_stm s) done)
 
 abbrev pub inverse_cell : Cell → Cell
 inverse_cell (cell_of declarations block) = cell_of declarations (turned block Empty)

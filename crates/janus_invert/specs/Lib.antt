@@ -1,5 +1,8 @@
-pub mod Flat
-pub mod Inverted
-pub mod CodeBlock
 pub mod Cells
+pub mod Expressions
+pub mod Flat
+pub mod CodeBlock
+pub mod Grown
+pub mod Longer
+pub mod Inverted
 pub mod Fault

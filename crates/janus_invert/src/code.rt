@@ -1,8 +1,20 @@
-//! Flat code: the statements of a cell, named by number.
+//! Flat code: the statements of a cell, named by number, and their expressions.
 
 ghost use Rattle.janus_invert.specs.Flat.{IsDownward, IsDownward-prop};
 
-use janus_syntax::tree::{Exp, Name, Update};
+use janus_syntax::tree::{Operator, Update};
+
+/// An expression. The right sides of `And` and `Or` are read only where they are needed.
+#[derive(Drop)]
+pub enum Exp {
+    Number(u32),
+    Variable(String),
+    Element(String, Box<Exp>),
+    Negative(Box<Exp>),
+    Binary(Operator, Box<Exp>, Box<Exp>),
+    And(Box<Exp>, Box<Exp>),
+    Or(Box<Exp>, Box<Exp>),
+}
 
 /// A block: the statements whose numbers stand in `Code::members` from `start` up to, and without, `end`.
 #[derive(Clone, Copy, Drop)]
@@ -14,7 +26,15 @@ pub struct Block {
 /// A statement. Its blocks are named, not held.
 #[derive(Drop)]
 pub enum Statement {
-    Assign(Name, Update, Exp),
+    Skip,
+    /// A variable, and what it is changed by.
+    Assign(String, Update, Exp),
+    /// An array, the index of the element, and what that is changed by.
+    AssignElement(String, Exp, Update, Exp),
+    /// The first test, the parts after `then` and `else`, and the test after `fi`.
+    If(Exp, Block, Block, Exp),
+    /// The test after `from`, the parts after `do` and `loop`, and the test after `until`.
+    Loop(Exp, Block, Block, Exp),
 }
 
 /// Flat code. A statement stands behind those of its blocks.

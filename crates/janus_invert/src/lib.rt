@@ -10,14 +10,17 @@
 ghost use Rattle.janus_invert.specs.Cells.{InverseCellTwice};
 
 pub mod code;
+mod expression;
 mod fault;
 mod flat;
 mod inverse;
+mod turned;
 
-pub use crate::code::{Block, Code, Statement};
+pub use crate::code::{Block, Code, Exp, Statement};
 pub use crate::fault::InvertFault;
 pub use crate::flat::flatten;
-pub use crate::inverse::{invert, invert_code};
+pub use crate::inverse::invert;
+pub use crate::turned::invert_code;
 
 /// A law about the definitions of `specs/`: the inverse of a cell's inverse is the cell. It does nothing.
 pub fn inverse_cell_twice_law()

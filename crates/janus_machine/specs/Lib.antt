@@ -1,7 +1,6 @@
-pub mod Stores
-pub mod StoreView
 pub mod Faults
 pub mod Statements
+pub mod Acts
 pub mod Places
 pub mod Mirrored
 pub mod Counts

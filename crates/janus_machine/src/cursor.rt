@@ -1,68 +1,33 @@
 //! A place in code.
 
-ghost use Rattle.std.specs.Prelude.{◌≡◌, ℕ, suc, ◌+◌, ◌-◌, ◌<◌, ◌≤◌, ◌^◌, List, [], true, false, not};
-ghost use Rattle.janus_meaning.specs.Syntax as tree;
-ghost use Rattle.janus_meaning.specs.Store as spec;
+ghost use Rattle.std.specs.Prelude.{◌≡◌, ◌+◌, ◌-◌, ◌≤◌, ◌^◌, [], true, false, not};
 ghost use Rattle.janus_meaning.specs.Machine.{mirror as mirror_of, BeforeBlock as Before};
-ghost use Rattle.janus_machine.specs.Places.{place_of, block_of, has_ended, IsStanding};
-ghost use Rattle.janus_machine.specs.Mirrored.{mirrored_phase};
 ghost use Rattle.janus_meaning.specs.Limit.{step_limit};
-ghost use Rattle.janus_machine.specs.Counts.{KeepsCount, counted};
-ghost use Rattle.janus_machine.specs.Steps.{Leads};
+ghost use Rattle.janus_invert.specs.CodeBlock.{code_block};
+ghost use Rattle.janus_linear.specs.Layout.{block_size};
+ghost use Rattle.janus_machine.specs.Places.{place_of, block_of, has_ended, IsStanding};
+ghost use Rattle.janus_machine.specs.Counts.{counted};
 ghost use Rattle.janus_machine.specs.declared.book.Direction.TheVariants.{Forward, Inverse};
-ghost use Rattle.janus_machine.specs.declared.cursor.Phase.TheVariants.{BeforeBlock, AfterOne};
 
 use crate::book::{Book, Direction};
-use janus_invert::Block;
+use janus_linear::Linear;
 
 /// How many steps a cell may take.
 pub const STEP_LIMIT: u64 = 1_000_000_000_000;
 
-/// Before or after the block, or a statement of it.
-#[derive(Clone, Copy, PartialEq, Eq, Debug)]
-pub(crate) enum Phase {
-    /// Before the first step of the block.
-    BeforeBlock,
-    /// After its last step.
-    AfterBlock,
-    /// Before the first step of a statement.
-    BeforeOne,
-    /// After its last step.
-    AfterOne,
-}
-
-impl Phase {
-    /// Before for after.
-    fn mirrored(self) -> Phase
-        ensures { result ≡ mirrored_phase self }
-    {
-        match self {
-            Phase::BeforeBlock => Phase::AfterBlock,
-            Phase::AfterBlock => Phase::BeforeBlock,
-            Phase::BeforeOne => Phase::AfterOne,
-            Phase::AfterOne => Phase::BeforeOne,
-        }
-    }
-}
-
-/// The place as far from the block's end as this one is from its start. Outside the block it is this one.
-fn from_other_end(block: Block, at: usize) -> usize
-    ensures { block.start ≤ at → at < block.end → result ≡ block.start + (block.end - suc at) }
+/// The last place of code.
+pub(crate) fn last(linear: &Linear) -> usize
+    ensures { result ≡ block_size (code_block linear.now.code) - 1 }
 {
-    if block.start <= at && at < block.end {
-        block.start + (block.end - 1 - at)
-    } else {
-        at
-    }
+    linear.instructions.len().saturating_sub(1)
 }
 
 /// A place in the code of a book.
 #[derive(Drop)]
 pub struct Cursor {
     pub(crate) direction: Direction,
-    pub(crate) phase: Phase,
-    /// The statement's place among the members of the code, where the phase is of one.
-    pub(crate) at: usize,
+    /// How many places of the code come behind this one.
+    pub(crate) left: usize,
     /// How many steps from the entry of the block it stands.
     pub(crate) count: u64,
     /// It was turned round: its steps take those back that it had taken.
@@ -76,8 +41,7 @@ impl Cursor {
     {
         Cursor {
             direction: Direction::Forward,
-            phase: Phase::AfterBlock,
-            at: 0,
+            left: 0,
             count: 0,
             turned: false,
         }
@@ -97,7 +61,7 @@ impl Cursor {
         ensures counts { (self.new.count ≡ 0) × (self.new.turned ≡ false) }
     {
         self.direction = Direction::Forward;
-        self.phase = Phase::BeforeBlock;
+        self.left = last(&book.forward);
         self.count = 0;
         self.turned = false;
     }
@@ -109,7 +73,7 @@ impl Cursor {
         ensures counts { (self.new.count ≡ 0) × (self.new.turned ≡ false) }
     {
         self.direction = Direction::Inverse;
-        self.phase = Phase::BeforeBlock;
+        self.left = last(&book.inverse);
         self.count = 0;
         self.turned = false;
     }
@@ -118,10 +82,7 @@ impl Cursor {
     pub fn is_ended(&self) -> bool
         ensures { result ≡ has_ended self.now }
     {
-        match self.phase {
-            Phase::AfterBlock => true,
-            _ => false,
-        }
+        self.left == 0
     }
 
     /// Turns round where it stands: the steps from here go back by the way that the cursor came.
@@ -131,45 +92,9 @@ impl Cursor {
         ensures place { place_of book.now self.new ≡ mirror_of (place_of book.now self.old) }
         ensures counts { (self.new.count ≡ self.old.count) × (self.new.turned ≡ not self.old.turned) }
     {
-        let body = book.code(self.direction).body;
+        self.left = last(book.linear(self.direction)).saturating_sub(self.left);
         self.direction = self.direction.opposite();
-        self.phase = self.phase.mirrored();
-        self.at = from_other_end(body, self.at);
         self.turned = !self.turned;
-    }
-
-    /// The step at the entry of the block.
-    pub(crate) fn enter_block(&mut self, book: &Book)
-        requires here { self.old.phase ≡ BeforeBlock }
-        requires standing { IsStanding book.now self.old }
-        ensures stands { IsStanding book.now self.new }
-        ensures counts { KeepsCount self.old self.new }
-        ensures leads { (ps : List tree.Proc) (k : ℕ) (s : spec.Store) → Leads ps k book.now self.old s self.new s }
-    {
-        let body = book.code(self.direction).body;
-        if body.start == body.end {
-            self.phase = Phase::AfterBlock;
-        } else {
-            self.at = body.start;
-            self.phase = Phase::BeforeOne;
-        }
-    }
-
-    /// The step after a statement.
-    pub(crate) fn go_on(&mut self, book: &Book)
-        requires here { self.old.phase ≡ AfterOne }
-        requires standing { IsStanding book.now self.old }
-        ensures stands { IsStanding book.now self.new }
-        ensures counts { KeepsCount self.old self.new }
-        ensures leads { (ps : List tree.Proc) (k : ℕ) (s : spec.Store) → Leads ps k book.now self.old s self.new s }
-    {
-        let next = self.at + 1;
-        if next == book.code(self.direction).body.end {
-            self.phase = Phase::AfterBlock;
-        } else {
-            self.at = next;
-            self.phase = Phase::BeforeOne;
-        }
     }
 
     /// How many steps may be taken before the limit: the way back has none.

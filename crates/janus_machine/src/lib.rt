@@ -7,6 +7,7 @@
 //! defines it step by step.
 #![tactic(auto)]
 
+mod act;
 mod book;
 mod cursor;
 mod evaluate;
@@ -14,10 +15,9 @@ mod fault;
 pub mod laws;
 mod machine;
 mod statement;
-mod store;
 
 pub use crate::book::Book;
 pub use crate::cursor::{Cursor, STEP_LIMIT};
 pub use crate::fault::Fault;
 pub use crate::machine::{End, Sliced, Stepped, slice, step};
-pub use crate::store::Store;
+pub use janus_store::Store;

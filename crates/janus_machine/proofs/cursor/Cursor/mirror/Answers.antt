@@ -1,20 +1,18 @@
-use Rattle.std.proofs.Common.{◌≡◌, ◌<◌, ◌≤◌, [], ap, ◌∙◌, subst}
-use Rattle.janus_invert.specs.declared.code.Code.{Code}
+use Rattle.std.proofs.Common.{◌≡◌, suc, ◌-◌, ap, ◌∙◌, arith}
+use Rattle.janus_invert.specs.CodeBlock.{code_block}
+use Rattle.janus_linear.specs.declared.code.Linear.{Linear}
+use Rattle.janus_linear.specs.Layout.{block_size, place_at}
 use Rattle.janus_machine.specs.declared.book.Direction.{Direction}
-use Rattle.janus_machine.specs.declared.cursor.Phase.{Phase}
-use Rattle.janus_machine.specs.Mirrored.{opposite_direction}
-use Rattle.janus_machine.specs.Places.{place_in, code_in}
-use Rattle.janus_machine.proofs.Mirrors.{opposite_place, other_code, place_mirrored}
+use Rattle.janus_machine.specs.Places.{order_of, block_of}
+use Rattle.janus_machine.proofs.Mirrors.{place_mirrored}
 use Rattle.janus_machine.proofs.cursor.Cursor.mirror.Goals as goal
 
 pub returns-clause-place : goal.returns-clause-place
 returns-clause-place c =
     let b = c.args.book.now in
     let u = c.args.self.now in
-    let code = code_in b u.direction in
-    let to = c.from_other_end-self.result in
-    let at : code.body.start ≤ u.at → u.at < code.body.end → to ≡ opposite_place code.body u.at =
-    subst (λ (d : Code). d.body.start ≤ u.at → u.at < d.body.end → to ≡ opposite_place d.body u.at) c.code.ensures c.from_other_end-self.ensures in
-    ap (λ (d : Direction). place_in c.mirrored-self.result (code_in b d) to []) c.opposite-self.ensures
-    ∙ ap (λ (p : Phase). place_in p (code_in b (opposite_direction u.direction)) to []) c.mirrored-self.ensures
-    ∙ place_mirrored code (code_in b (opposite_direction u.direction)) (other_code b u.direction) u.phase u.at to c.requires.within at
+    let to = c.saturating_sub-self.result in
+    let end : c.last.result ≡ block_size (block_of b u.direction) - 1 = c.last.ensures ∙ ap (λ (l : Linear). block_size (code_block l.code) - 1) c.linear.ensures in
+    let left : to ≡ block_size (block_of b u.direction) - 1 - u.left = omega (arith, c.saturating_sub-self.ensures, end) in
+    ap (λ (d : Direction). place_at (order_of d) (block_of b d) (block_size (block_of b d) - suc to)) c.opposite-self.ensures
+    ∙ place_mirrored b u.direction u.left to left

@@ -1,0 +1,15 @@
+use Rattle.std.proofs.Common.{◌≡◌, ℕ, ◌<◌, length, get_or}
+use Rattle.std.specs.Prelude.{slice_get, Some}
+use Rattle.janus_syntax.specs.View.{stm_of}
+use Rattle.janus_syntax.specs.declared.tree.Stm as code_stm
+use Rattle.janus_invert.specs.Flat.{tree_at}
+use Rattle.janus_invert.specs.Grown.{Grows}
+use Rattle.janus_invert.proofs.flat.+flat.Given as goal
+
+abbrev pub invariant-flat_block-loop-i : goal.invariant-flat_block-loop-i
+invariant-flat_block-loop-i l = record {
+  as_many : length l.numbers.items ≡ l.i;
+  grows : Grows l.fn.draft.members.items l.fn.draft.statements.items l.draft.members.items l.draft.statements.items;
+  below : (j : ℕ) → j < l.i → get_or l.numbers.items j 0 < length l.draft.statements.items;
+  trees : (j : ℕ) (s : code_stm.Stm) → j < l.i → slice_get l.block j ≡ Some s → tree_at l.draft.members.items l.draft.statements.items (get_or l.numbers.items j 0) ≡ stm_of s;
+}

@@ -1,0 +1,27 @@
+use Rattle.std.proofs.Common.{◌≡◌, ap, ◌∙◌, sym, arith}
+use Rattle.janus_syntax.specs.Tree as plain
+use Rattle.janus_syntax.specs.Tree.{stm_view, exp_view, block_view, Empty}
+use Rattle.janus_syntax.proofs.Views.{view_if, view_loop}
+use Rattle.janus_invert.specs.Cells.{inverse_stm, turned}
+use Rattle.janus_invert.proofs.Cells.{one_more, if_turned, loop_turned}
+use Rattle.janus_invert.proofs.inverse.+inverse.Goals as goal
+
+pub inverse_statement-returns-in_ok-copy-in-If : goal.inverse_statement-returns-in_ok-copy-in-If
+inverse_statement-returns-in_ok-copy-in-If t c =
+    if_turned c.in-If.test c.in-If.last c.in_ok-test-in-If.test c.in_ok-copy-in-If.field-0 c.in-If.then_part c.in-If.else_part c.in_ok-then_part-in-If.then_part c.in_ok-else_part-in-If.else_part
+    c.in_ok-test-in-If.ensures c.in_ok-copy-in-If.ensures
+    (c.in_ok-then_part-in-If.ensures ∙ ap (λ b. turned (block_view b) Empty) c.deref.ensures.value)
+    (c.in_ok-else_part-in-If.ensures ∙ ap (λ b. turned (block_view b) Empty) c.deref-in-If.ensures.value)
+    ∙ ap (λ s. inverse_stm (stm_view s)) (sym c.in-If.is)
+
+pub inverse_statement-returns-in_ok-copy-in-Loop : goal.inverse_statement-returns-in_ok-copy-in-Loop
+inverse_statement-returns-in_ok-copy-in-Loop t c =
+    loop_turned c.in-Loop.entry c.in-Loop.exit c.in_ok-entry-in-Loop.entry c.in_ok-copy-in-Loop.field-0 c.in-Loop.do_part c.in-Loop.loop_part c.in_ok-do_part-in-Loop.do_part c.in_ok-loop_part-in-Loop.loop_part
+    c.in_ok-entry-in-Loop.ensures c.in_ok-copy-in-Loop.ensures
+    (c.in_ok-do_part-in-Loop.ensures ∙ ap (λ b. turned (block_view b) Empty) c.deref-in-Loop.ensures.value)
+    (c.in_ok-loop_part-in-Loop.ensures ∙ ap (λ b. turned (block_view b) Empty) c.deref-in-Loop-2.ensures.value)
+    ∙ ap (λ s. inverse_stm (stm_view s)) (sym c.in-Loop.is)
+
+pub inverse_statements-loop-i-preserved : goal.inverse_statements-loop-i-preserved
+inverse_statements-loop-i-preserved t c =
+    one_more c.args.statements.now c.loop-i.inverses.items c.push.new.self.items c.loop-i.i c.in_ok-inverse_statement.field-0 c.index-statements-i.result (omega arith) (omega arith) c.loop-i.invariant (c.in_ok-inverse_statement.ensures ∙ ap (λ s. inverse_stm (stm_view s)) c.index-statements-i.is) c.in_ok-push.ensures.items

@@ -1,0 +1,96 @@
+//! The inverse of flat code.
+
+ghost use Rattle.std.specs.Prelude.{◌≡◌, ℕ, ◌<◌, ◌≤◌, length, slice_index_or, IfOk};
+ghost use Rattle.janus_meaning.specs.Syntax.{inverse_block};
+ghost use Rattle.janus_invert.specs.Flat.{BlocksAreBelow};
+ghost use Rattle.janus_invert.specs.Inverted.{IsInverse, IsBackward, AreInverse};
+ghost use Rattle.janus_invert.specs.CodeBlock.{code_block};
+ghost use Rattle.janus_invert.specs.Longer.{IsLonger};
+
+use crate::code::{Block, Code, Statement};
+use crate::expression::copy;
+use crate::fault::InvertFault;
+use crate::inverse::opposite;
+use std::alloc::{AllocError, Global};
+
+/// The code whose block is the inverse of this one's: its statements keep their numbers. Or want of memory.
+pub fn invert_code(alloc: Global, code: &Code) -> Result<Code, InvertFault>
+    ensures block { IfOk result (λ inverse. code_block inverse ≡ inverse_block (code_block code.now)) }
+    ensures parts { IfOk result (λ inverse. AreInverse code.now.members.items code.now.statements.items code.now.body inverse.members.items inverse.statements.items inverse.body) }
+{
+    Ok(inverse_code(alloc, code)?)
+}
+
+/// The inverse of each statement at its number, and that of the body.
+fn inverse_code(alloc: Global, code: &Code) -> Result<Code, AllocError>
+    ensures block { IfOk result (λ inverse. code_block inverse ≡ inverse_block (code_block code.now)) }
+    ensures parts { IfOk result (λ inverse. AreInverse code.now.members.items code.now.statements.items code.now.body inverse.members.items inverse.statements.items inverse.body) }
+{
+    let mut statements = Vec::new(alloc);
+    let mut members = Vec::new(alloc);
+    for i in 0..code.statements.len() {
+        let inverse = inverse_one(alloc, &code.statements[i], &code.members, i, &mut members)?;
+        statements.push(inverse)?;
+    }
+    let body = backward(&code.members, code.body, &mut members)?;
+    Ok(Code {
+        statements,
+        members,
+        body,
+    })
+}
+
+/// The inverse of the statement of a number. The members of its blocks are added backward.
+fn inverse_one(
+    alloc: Global,
+    statement: &Statement,
+    members: &[usize],
+    number: usize,
+    others: &mut Vec<usize>,
+) -> Result<Statement, AllocError>
+    requires { BlocksAreBelow members.now number statement.now }
+    ensures longer { IfOk result (λ inverse. IsLonger others.old.items others.new.items) }
+    ensures inverse { IfOk result (λ inverse. IsInverse members.now others.new.items statement.now inverse) }
+{
+    match statement {
+        Statement::Skip => Ok(Statement::Skip),
+        Statement::Assign(name, update, exp) => {
+            let name = name.clone()?;
+            Ok(Statement::Assign(name, opposite(*update), copy(alloc, exp)?))
+        }
+        Statement::AssignElement(name, index, update, exp) => {
+            let name = name.clone()?;
+            let index = copy(alloc, index)?;
+            Ok(Statement::AssignElement(name, index, opposite(*update), copy(alloc, exp)?))
+        }
+        Statement::If(test, then_part, else_part, last) => {
+            let then_part = backward(members, *then_part, others)?;
+            let else_part = backward(members, *else_part, others)?;
+            let test = copy(alloc, test)?;
+            Ok(Statement::If(copy(alloc, last)?, then_part, else_part, test))
+        }
+        Statement::Loop(entry, do_part, loop_part, exit) => {
+            let do_part = backward(members, *do_part, others)?;
+            let loop_part = backward(members, *loop_part, others)?;
+            let entry = copy(alloc, entry)?;
+            Ok(Statement::Loop(copy(alloc, exit)?, do_part, loop_part, entry))
+        }
+    }
+}
+
+/// Adds the members of a block, the last one first.
+fn backward(members: &[usize], block: Block, others: &mut Vec<usize>) -> Result<Block, AllocError>
+    requires order { block.start ≤ block.end }
+    requires within { block.end ≤ length members.now }
+    ensures longer { IfOk result (λ b. IsLonger others.old.items others.new.items) }
+    ensures backward { IfOk result (λ b. IsBackward members.now others.new.items block b) }
+{
+    let start = others.len();
+    for i in (block.start..block.end).rev() {
+        others.push(members[i])?;
+    }
+    Ok(Block {
+        start,
+        end: others.len(),
+    })
+}

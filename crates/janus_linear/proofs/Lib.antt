@@ -1,0 +1,6 @@
+pub mod Steps
+pub mod Turns
+pub mod Linked
+pub mod Ends
+pub mod Flatness
+pub mod Fetched

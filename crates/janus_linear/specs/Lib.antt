@@ -1,0 +1,6 @@
+pub mod Actions
+pub mod ActionCodes
+pub mod Layout
+pub mod Instructions
+pub mod Laid
+pub mod Law
