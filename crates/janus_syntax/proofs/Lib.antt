@@ -12,6 +12,8 @@ pub mod StatementSteps
 pub mod Assignments
 pub mod Blocks
 pub mod Declared
+pub mod Pieces
+pub mod PrintedBlocks
 pub mod Views
 pub mod Follow
 pub mod LeftOut

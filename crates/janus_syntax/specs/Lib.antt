@@ -14,3 +14,5 @@ pub mod Text
 pub mod Machine
 pub mod Reading
 pub mod Statements
+pub mod Printing
+pub mod Printed

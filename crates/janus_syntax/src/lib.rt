@@ -12,13 +12,14 @@
 //! - `one_tokens_law`, `one_tree_law`, `one_refusal_law`: a text has one list of tokens at most, one tree at most and one
 //!   refusal at most. `tree_or_refusal_law`: it has a tree or a refusal, and not both. So no answer is left to choice.
 //! - `wanted_law`: behind the beginning of a text one item is wanted at most, and one is just behind what begins a text.
-//! - `Exp::copy`, `Stm::copy`, `Name::copy`: the same tree at the same places.
+//! - `print_cell`, `print_exp`: the text is the one that `Printing` gives the tree. That it is read as the same tree is not proved yet.
+//! - `Exp::copy`, `Name::copy`: the same tree at the same places.
 //!
 //! The definitions are in specs/, to be read in this order: `Spelling`, `Lexical` (tokens of a text), `Tree`, `Operators`,
 //! `Forms` (four words in which the grammar is written), `Table` (the grammar, a line for each form), `Grammar` (which tokens
-//! spell which tree, what is wanted behind a beginning, where tokens are refused), `Text` (tokens and text together), `Laws`,
+//! spell which tree, what is wanted behind a beginning, where tokens are refused), `Text` (tokens and text together), `Laws`, `Printing`,
 //! `View` (the trees as trees of the meaning), and `Fault` (what is shown of a refusal). No contract of a public function
-//! names `Machine`, `Reading`, `Statements` or `Scan`: they serve the proofs.
+//! names `Machine`, `Reading`, `Statements`, `Printed` or `Scan`: they serve the proofs.
 //!
 //! A cell here has declarations of numbers and arrays, and assignments, `if`, loops and `skip`. The words of procedures,
 //! calls, locals, stacks and `main` are reserved, but begin nothing.
@@ -32,6 +33,7 @@ pub mod laws;
 mod lexer;
 mod operator;
 mod parser;
+mod printer;
 mod problem;
 mod statement;
 pub mod token;
@@ -41,3 +43,4 @@ pub use fault::SyntaxFault;
 pub use laws::{one_refusal_law, one_tokens_law, one_tree_law, tree_or_refusal_law, wanted_law};
 pub use lexer::tokens;
 pub use parser::{parse_cell, parse_exp};
+pub use printer::{print_cell, print_exp};

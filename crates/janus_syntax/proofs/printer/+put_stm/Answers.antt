@@ -1,0 +1,40 @@
+use Rattle.std.proofs.Common.{◌≡◌, arith, sym, subst, string_bytes}
+use Rattle.janus_syntax.specs.declared.token.Sign.TheVariants as sign
+use Rattle.janus_syntax.specs.declared.token.Word.TheVariants as word
+use Rattle.janus_syntax.specs.Tree.{exp_view, block_view}
+use Rattle.janus_syntax.specs.Printed.{line_view}
+use Rattle.janus_syntax.specs.Printing.{A_name, A_sign, A_word, with_pieces, update_sign, whole_pieces, block_pieces, stm_pieces}
+use Rattle.janus_syntax.proofs.Views.{view_if, view_loop}
+use Rattle.janus_syntax.proofs.Pieces.{four_words, assigned_row}
+use Rattle.janus_syntax.proofs.PrintedBlocks.{next_statement}
+use Rattle.janus_syntax.proofs.printer.+put_stm.Goals as goal
+
+pub put_stm-returns-in_ok-put_whole-in-AssignElement-2 : goal.put_stm-returns-in_ok-put_whole-in-AssignElement-2
+put_stm-returns-in_ok-put_whole-in-AssignElement-2 t c =
+    rw c.in-AssignElement.is
+    (assigned_row (A_name (string_bytes c.in-AssignElement.name.text)) (A_sign sign.OpenIndex) (A_sign sign.CloseIndex) (A_sign (update_sign c.in-AssignElement.update)) (whole_pieces (exp_view c.in-AssignElement.index)) (whole_pieces (exp_view c.in-AssignElement.exp)) _ _ _ _ _ _ _
+    c.in_ok-put_name-in-AssignElement.ensures c.in_ok-put_sign-in-AssignElement.ensures c.in_ok-put_whole-in-AssignElement.ensures c.in_ok-put_sign-in-AssignElement-2.ensures
+    (rw c.sign_of_update-in-AssignElement.ensures at c.in_ok-put_sign-in-AssignElement-3.ensures) c.in_ok-put_whole-in-AssignElement-2.ensures)
+
+pub put_stm-returns-in_ok-put_whole-in-If-2 : goal.put_stm-returns-in_ok-put_whole-in-If-2
+put_stm-returns-in_ok-put_whole-in-If-2 t c =
+    rw c.in-If.is
+    (subst (λ s. line_view c.put_whole-in-If-2.new.line ≡ with_pieces (line_view c.args.line.now) (stm_pieces s)) (sym (view_if c.in-If.test c.in-If.assertion c.in-If.then_part c.in-If.else_part))
+    (four_words (A_word word.If) (A_word word.Then) (A_word word.Else) (A_word word.Fi) (whole_pieces (exp_view c.in-If.test)) (block_pieces (block_view c.in-If.then_part.items)) (block_pieces (block_view c.in-If.else_part.items)) (whole_pieces (exp_view c.in-If.assertion)) _ _ _ _ _ _ _ _ _
+    c.in_ok-put_word-in-If.ensures c.in_ok-put_whole-in-If.ensures c.in_ok-put_word-in-If-2.ensures (rw c.deref.ensures.value at c.in_ok-put_block-in-If.ensures)
+    c.in_ok-put_word-in-If-3.ensures (rw c.deref-in-If.ensures.value at c.in_ok-put_block-in-If-2.ensures) c.in_ok-put_word-in-If-4.ensures c.in_ok-put_whole-in-If-2.ensures))
+
+pub put_stm-returns-in_ok-put_whole-in-Loop-2 : goal.put_stm-returns-in_ok-put_whole-in-Loop-2
+put_stm-returns-in_ok-put_whole-in-Loop-2 t c =
+    rw c.in-Loop.is
+    (subst (λ s. line_view c.put_whole-in-Loop-2.new.line ≡ with_pieces (line_view c.args.line.now) (stm_pieces s)) (sym (view_loop c.in-Loop.assertion c.in-Loop.test c.in-Loop.do_part c.in-Loop.loop_part))
+    (four_words (A_word word.From) (A_word word.Do) (A_word word.Loop) (A_word word.Until) (whole_pieces (exp_view c.in-Loop.assertion)) (block_pieces (block_view c.in-Loop.do_part.items)) (block_pieces (block_view c.in-Loop.loop_part.items)) (whole_pieces (exp_view c.in-Loop.test)) _ _ _ _ _ _ _ _ _
+    c.in_ok-put_word-in-Loop.ensures c.in_ok-put_whole-in-Loop.ensures c.in_ok-put_word-in-Loop-2.ensures (rw c.deref-in-Loop.ensures.value at c.in_ok-put_block-in-Loop.ensures)
+    c.in_ok-put_word-in-Loop-3.ensures (rw c.deref-in-Loop-2.ensures.value at c.in_ok-put_block-in-Loop-2.ensures) c.in_ok-put_word-in-Loop-4.ensures c.in_ok-put_whole-in-Loop-2.ensures))
+
+pub put_block-statements-preserved : goal.put_block-statements-preserved
+put_block-statements-preserved t c =
+    let within = c.statements-test.true in (
+      omega (arith, within),
+      next_statement c.args.block.now c.statements.n c.index-block-n.result _ _ _ (omega (arith, within)) c.index-block-n.is c.statements.invariant.1 c.in_ok-put_stm.ensures,
+    )

@@ -1,0 +1,148 @@
+-- How cells and expressions are printed: as tokens, in one line.
+use Rattle.std.specs.Prelude.{ℕ, ◌-◌, List, [], ◌∷◌, ◌++◌, codes, Option, Some, None, Bool, true, false, cond, nat_lt}
+use Rattle.std.specs.Fmt.{decimal}
+use Rattle.janus_syntax.specs.declared.token.Sign.{Sign}
+use Rattle.janus_syntax.specs.declared.token.Sign.TheVariants as sign
+use Rattle.janus_syntax.specs.declared.operator.Infix.{Infix}
+use Rattle.janus_syntax.specs.declared.tree.Operator.{Operator}
+use Rattle.janus_syntax.specs.declared.tree.Operator.TheVariants as operator
+use Rattle.janus_syntax.specs.declared.token.Word.{Word}
+use Rattle.janus_syntax.specs.declared.token.Word.TheVariants as word
+use Rattle.janus_syntax.specs.declared.tree.Update.{Update}
+use Rattle.janus_syntax.specs.declared.tree.Update.TheVariants as update
+use Rattle.janus_syntax.specs.Spelling.{sign_text, word_text}
+use Rattle.janus_syntax.specs.Tree.{named, Exp, Num, Var, Element, Neg, Bin, And, Or, Stm, Skip, Assign, AssignElement, If, Loop, Block, Empty, More, Declaration, Int, Array, Cell, cell_of}
+use Rattle.janus_syntax.specs.Operators.{sign_infix, weakest}
+
+-- a token as it is printed, with no place
+pub data Piece : Type 0 where
+  A_name : List ℕ → Piece
+  A_number : ℕ → Piece
+  A_sign : Sign → Piece
+  A_word : Word → Piece
+  A_minus : Piece  -- prefix minus
+
+abbrev pub piece_text : Piece → List ℕ
+piece_text (A_name x) = x
+piece_text (A_number n) = decimal n
+piece_text (A_sign s) = sign_text s
+piece_text (A_word w) = word_text w
+piece_text A_minus = codes "-"
+
+-- no space stands before it
+abbrev pub leans : Piece → Bool
+leans (A_sign sign.Close) = true
+leans (A_sign sign.CloseIndex) = true
+leans (A_sign sign.Comma) = true
+leans (A_sign sign.OpenIndex) = true
+leans _ = false
+
+-- no space stands behind it
+abbrev pub holds : Piece → Bool
+holds (A_sign sign.Open) = true
+holds (A_sign sign.OpenIndex) = true
+holds A_minus = true
+holds _ = false
+
+-- what is printed so far, and whether no space may follow
+pub record Printed : Type 0 where
+  pub text : List ℕ
+  pub tight : Bool
+
+-- one piece more
+abbrev pub with_text : Printed → Bool → List ℕ → Bool → Printed
+with_text line leans text holds = record { text = line.text ++ (cond line.tight [] (cond leans [] (codes " ")) ++ text); tight = holds }
+
+abbrev pub with_piece : Printed → Piece → Printed
+with_piece line p = with_text line (leans p) (piece_text p) (holds p)
+
+abbrev pub with_pieces : Printed → List Piece → Printed
+with_pieces line [] = line
+with_pieces line (p ∷ ps) = with_pieces (with_piece line p) ps
+
+-- the sign of an operator, and how strongly a sign binds
+abbrev pub operator_sign : Operator → Sign
+operator_sign operator.Add = sign.Plus
+operator_sign operator.Subtract = sign.Minus
+operator_sign operator.Multiply = sign.Times
+operator_sign operator.Divide = sign.Divide
+operator_sign operator.Remainder = sign.Remainder
+operator_sign operator.BitAnd = sign.BitAnd
+operator_sign operator.BitOr = sign.BitOr
+operator_sign operator.Xor = sign.Xor
+operator_sign operator.Less = sign.Less
+operator_sign operator.Greater = sign.Greater
+operator_sign operator.AtMost = sign.AtMost
+operator_sign operator.AtLeast = sign.AtLeast
+operator_sign operator.Equal = sign.Equals
+operator_sign operator.Differ = sign.Differs
+
+abbrev pub infix_level : Option Infix → ℕ
+infix_level None = 0
+infix_level (Some i) = i.level
+
+abbrev pub sign_level : Sign → ℕ
+sign_level s = infix_level (sign_infix s)
+
+-- this sign, if it is needed
+abbrev pub if_needed : Bool → Sign → List Piece
+if_needed needed s = cond needed (A_sign s ∷ []) []
+
+-- an operator in a place for operators of at most that level: a weaker one stands in parentheses
+abbrev pub infix_pieces : ℕ → Sign → (ℕ → List Piece) → (ℕ → List Piece) → List Piece
+infix_pieces level s left right =
+    let weaker = nat_lt level (sign_level s) in
+    if_needed weaker sign.Open ++ (left (sign_level s) ++ A_sign s ∷ (right (sign_level s - 1) ++ if_needed weaker sign.Close))
+
+-- an expression in a place for operators of at most that level
+abbrev pub exp_pieces : Exp → ℕ → List Piece
+exp_pieces (Num n place) level = A_number n ∷ []
+exp_pieces (Var (named x place)) level = A_name x ∷ []
+exp_pieces (Element (named x place) i) level = A_name x ∷ A_sign sign.OpenIndex ∷ (exp_pieces i weakest ++ A_sign sign.CloseIndex ∷ [])
+exp_pieces (Neg e) level = A_minus ∷ exp_pieces e 0
+exp_pieces (Bin op l r) level = infix_pieces level (operator_sign op) (exp_pieces l) (exp_pieces r)
+exp_pieces (And l r) level = infix_pieces level sign.And (exp_pieces l) (exp_pieces r)
+exp_pieces (Or l r) level = infix_pieces level sign.Or (exp_pieces l) (exp_pieces r)
+
+-- the sign of an assignment
+abbrev pub update_sign : Update → Sign
+update_sign update.Add = sign.PlusEquals
+update_sign update.Subtract = sign.MinusEquals
+update_sign update.Xor = sign.XorEquals
+
+-- a whole expression
+abbrev pub whole_pieces : Exp → List Piece
+whole_pieces e = exp_pieces e weakest
+
+-- statements, all parts told
+abbrev mutual
+  pub stm_pieces : Stm → List Piece
+  stm_pieces Skip = A_word word.Skip ∷ []
+  stm_pieces (Assign (named x place) u e) = A_name x ∷ A_sign (update_sign u) ∷ whole_pieces e
+  stm_pieces (AssignElement (named x place) i u e) = A_name x ∷ A_sign sign.OpenIndex ∷ (whole_pieces i ++ A_sign sign.CloseIndex ∷ A_sign (update_sign u) ∷ whole_pieces e)
+  stm_pieces (If e s t f) = A_word word.If ∷ (whole_pieces e ++ A_word word.Then ∷ (block_pieces s ++ A_word word.Else ∷ (block_pieces t ++ A_word word.Fi ∷ whole_pieces f)))
+  stm_pieces (Loop e s t f) = A_word word.From ∷ (whole_pieces e ++ A_word word.Do ∷ (block_pieces s ++ A_word word.Loop ∷ (block_pieces t ++ A_word word.Until ∷ whole_pieces f)))
+
+  pub block_pieces : Block → List Piece
+  block_pieces Empty = []
+  block_pieces (More s b) = stm_pieces s ++ block_pieces b
+
+abbrev pub declaration_pieces : Declaration → List Piece
+declaration_pieces (Int (named x place)) = A_word word.Int ∷ A_name x ∷ []
+declaration_pieces (Array (named x place) n at) = A_word word.Int ∷ A_name x ∷ A_sign sign.OpenIndex ∷ A_number n ∷ A_sign sign.CloseIndex ∷ []
+
+abbrev pub declarations_pieces : List Declaration → List Piece
+declarations_pieces [] = []
+declarations_pieces (d ∷ ds) = declaration_pieces d ++ declarations_pieces ds
+
+abbrev pub cell_pieces : Cell → List Piece
+cell_pieces (cell_of ds b) = declarations_pieces ds ++ block_pieces b
+
+abbrev pub no_text : Printed
+no_text = record { text = []; tight = true }
+
+abbrev pub printed_exp : Exp → List ℕ
+printed_exp e = (with_pieces no_text (exp_pieces e weakest)).text
+
+abbrev pub printed : Cell → List ℕ
+printed c = (with_pieces no_text (cell_pieces c)).text

@@ -1,0 +1,291 @@
+//! From a tree to its text.
+
+ghost use Rattle.std.specs.Prelude.{◌≡◌, IfOk, string_bytes};
+ghost use Rattle.janus_syntax.specs.Tree.{exp_view, stm_view, block_view, declaration_view, declarations_view, cell_view};
+ghost use Rattle.janus_syntax.specs.Printed.{line_view};
+ghost use Rattle.janus_syntax.specs.Printing.{A_name, A_number, A_sign, A_word, with_text, with_piece, with_pieces, if_needed, operator_sign, sign_level, exp_pieces, update_sign, whole_pieces, stm_pieces, block_pieces, declaration_pieces, declarations_pieces, printed, printed_exp};
+
+use crate::operator::infix_of;
+use crate::token::{Sign, Word};
+use crate::tree::{Cell, Declaration, Exp, Name, Operator, Stm, Update};
+use std::alloc::{AllocError, Global};
+
+/// A line as far as it is printed.
+#[derive(Drop)]
+struct Line {
+    text: String,
+    /// No space may follow.
+    tight: bool,
+}
+
+/// One token more; a space stands before it, unless it leans on the one before or that one holds it.
+fn put(line: &mut Line, leans: bool, text: &str, holds: bool) -> Result<(), AllocError>
+    ensures { IfOk result (λ u. line_view line.new ≡ with_text (line_view line.old) leans text.now holds) }
+{
+    if !line.tight && !leans {
+        line.text.push_str(" ")?;
+    }
+    line.text.push_str(text)?;
+    line.tight = holds;
+    Ok(())
+}
+
+/// One sign more.
+fn put_sign(line: &mut Line, sign: Sign) -> Result<(), AllocError>
+    ensures { IfOk result (λ u. line_view line.new ≡ with_piece (line_view line.old) (A_sign sign)) }
+{
+    match sign {
+        Sign::Close | Sign::CloseIndex | Sign::Comma => put(line, true, sign.text(), false),
+        Sign::OpenIndex => put(line, true, sign.text(), true),
+        Sign::Open => put(line, false, sign.text(), true),
+        _ => put(line, false, sign.text(), false),
+    }
+}
+
+/// One sign more, if it is needed.
+fn put_if(line: &mut Line, needed: bool, sign: Sign) -> Result<(), AllocError>
+    ensures { IfOk result (λ u. line_view line.new ≡ with_pieces (line_view line.old) (if_needed needed sign)) }
+{
+    if needed { put_sign(line, sign) } else { Ok(()) }
+}
+
+/// One word more.
+fn put_word(line: &mut Line, word: Word) -> Result<(), AllocError>
+    ensures { IfOk result (λ u. line_view line.new ≡ with_piece (line_view line.old) (A_word word)) }
+{
+    put(line, false, word.text(), false)
+}
+
+/// One name more.
+fn put_name(line: &mut Line, name: &Name) -> Result<(), AllocError>
+    ensures { IfOk result (λ u. line_view line.new ≡ with_piece (line_view line.old) (A_name (string_bytes name.now.text))) }
+{
+    put(line, false, &name.text, false)
+}
+
+/// One number more.
+fn put_number(alloc: Global, line: &mut Line, number: u32) -> Result<(), AllocError>
+    ensures { IfOk result (λ u. line_view line.new ≡ with_piece (line_view line.old) (A_number number)) }
+{
+    let digits = number.to_string(alloc)?;
+    put(line, false, &digits, false)
+}
+
+/// The sign of an operator.
+fn sign_of(operator: Operator) -> Sign
+    ensures { result ≡ operator_sign operator }
+{
+    match operator {
+        Operator::Add => Sign::Plus,
+        Operator::Subtract => Sign::Minus,
+        Operator::Multiply => Sign::Times,
+        Operator::Divide => Sign::Divide,
+        Operator::Remainder => Sign::Remainder,
+        Operator::BitAnd => Sign::BitAnd,
+        Operator::BitOr => Sign::BitOr,
+        Operator::Xor => Sign::Xor,
+        Operator::Less => Sign::Less,
+        Operator::Greater => Sign::Greater,
+        Operator::AtMost => Sign::AtMost,
+        Operator::AtLeast => Sign::AtLeast,
+        Operator::Equal => Sign::Equals,
+        Operator::Differ => Sign::Differs,
+    }
+}
+
+/// The level of a sign's operator.
+fn level_of(sign: Sign) -> u8
+    ensures { result ≡ sign_level sign }
+{
+    match infix_of(sign) {
+        Some(infix) => infix.level,
+        None => 0,
+    }
+}
+
+/// An expression, in a place for operators of at most this level.
+fn put_exp(alloc: Global, line: &mut Line, exp: &Exp, level: u8) -> Result<(), AllocError>
+    ensures { IfOk result (λ u. line_view line.new ≡ with_pieces (line_view line.old) (exp_pieces (exp_view exp.now) level)) }
+{
+    match exp {
+        Exp::Number(number, _) => put_number(alloc, line, *number),
+        Exp::Variable(name) => put_name(line, name),
+        Exp::Element(name, index) => {
+            put_name(line, name)?;
+            put_sign(line, Sign::OpenIndex)?;
+            put_exp(alloc, line, index, 8)?;
+            put_sign(line, Sign::CloseIndex)?;
+            Ok(())
+        }
+        Exp::Negative(operand) => {
+            put(line, false, "-", true)?;
+            put_exp(alloc, line, operand, 0)
+        }
+        Exp::Binary(operator, left, right) => {
+            let sign = sign_of(*operator);
+            let own = level_of(sign);
+            put_if(line, level < own, Sign::Open)?;
+            put_exp(alloc, line, left, own)?;
+            put_sign(line, sign)?;
+            put_exp(alloc, line, right, own.saturating_sub(1))?;
+            put_if(line, level < own, Sign::Close)?;
+            Ok(())
+        }
+        Exp::And(left, right) => {
+            put_if(line, level < 7, Sign::Open)?;
+            put_exp(alloc, line, left, 7)?;
+            put_sign(line, Sign::And)?;
+            put_exp(alloc, line, right, 6)?;
+            put_if(line, level < 7, Sign::Close)?;
+            Ok(())
+        }
+        Exp::Or(left, right) => {
+            put_if(line, level < 8, Sign::Open)?;
+            put_exp(alloc, line, left, 8)?;
+            put_sign(line, Sign::Or)?;
+            put_exp(alloc, line, right, 7)?;
+            put_if(line, level < 8, Sign::Close)?;
+            Ok(())
+        }
+    }
+}
+
+/// The sign of an assignment.
+fn sign_of_update(update: Update) -> Sign
+    ensures { result ≡ update_sign update }
+{
+    match update {
+        Update::Add => Sign::PlusEquals,
+        Update::Subtract => Sign::MinusEquals,
+        Update::Xor => Sign::XorEquals,
+    }
+}
+
+/// A whole expression.
+fn put_whole(alloc: Global, line: &mut Line, exp: &Exp) -> Result<(), AllocError>
+    ensures { IfOk result (λ u. line_view line.new ≡ with_pieces (line_view line.old) (whole_pieces (exp_view exp.now))) }
+{
+    put_exp(alloc, line, exp, 8)
+}
+
+/// A statement.
+#[cycle(put_stm)]
+fn put_stm(alloc: Global, line: &mut Line, statement: &Stm) -> Result<(), AllocError>
+    ensures { IfOk result (λ u. line_view line.new ≡ with_pieces (line_view line.old) (stm_pieces (stm_view statement.now))) }
+{
+    match statement {
+        Stm::Skip => put_word(line, Word::Skip),
+        Stm::Assign(name, update, exp) => {
+            put_name(line, name)?;
+            put_sign(line, sign_of_update(*update))?;
+            put_whole(alloc, line, exp)
+        }
+        Stm::AssignElement(name, index, update, exp) => {
+            put_name(line, name)?;
+            put_sign(line, Sign::OpenIndex)?;
+            put_whole(alloc, line, index)?;
+            put_sign(line, Sign::CloseIndex)?;
+            put_sign(line, sign_of_update(*update))?;
+            put_whole(alloc, line, exp)?;
+            Ok(())
+        }
+        Stm::If(test, then_part, else_part, assertion) => {
+            put_word(line, Word::If)?;
+            put_whole(alloc, line, test)?;
+            put_word(line, Word::Then)?;
+            put_block(alloc, line, then_part)?;
+            put_word(line, Word::Else)?;
+            put_block(alloc, line, else_part)?;
+            put_word(line, Word::Fi)?;
+            put_whole(alloc, line, assertion)?;
+            Ok(())
+        }
+        Stm::Loop(assertion, do_part, loop_part, test) => {
+            put_word(line, Word::From)?;
+            put_whole(alloc, line, assertion)?;
+            put_word(line, Word::Do)?;
+            put_block(alloc, line, do_part)?;
+            put_word(line, Word::Loop)?;
+            put_block(alloc, line, loop_part)?;
+            put_word(line, Word::Until)?;
+            put_whole(alloc, line, test)?;
+            Ok(())
+        }
+    }
+}
+
+/// The statements of a block.
+#[cycle(put_stm)]
+fn put_block(alloc: Global, line: &mut Line, block: &[Stm]) -> Result<(), AllocError>
+    ensures { IfOk result (λ u. line_view line.new ≡ with_pieces (line_view line.old) (block_pieces (block_view block.now))) }
+{
+    let mut n = 0;
+    'statements: while n < block.len() {
+        put_stm(alloc, line, &block[n])?;
+        n += 1;
+    }
+    Ok(())
+}
+
+/// A declaration.
+fn put_declaration(
+    alloc: Global,
+    line: &mut Line,
+    declaration: &Declaration,
+) -> Result<(), AllocError>
+    ensures { IfOk result (λ u. line_view line.new ≡ with_pieces (line_view line.old) (declaration_pieces (declaration_view declaration.now))) }
+{
+    put_word(line, Word::Int)?;
+    match declaration {
+        Declaration::Int(name) => put_name(line, name),
+        Declaration::Array(name, length, _) => {
+            put_name(line, name)?;
+            put_sign(line, Sign::OpenIndex)?;
+            put_number(alloc, line, *length)?;
+            put_sign(line, Sign::CloseIndex)
+        }
+    }
+}
+
+/// All declarations.
+fn put_declarations(
+    alloc: Global,
+    line: &mut Line,
+    declarations: &[Declaration],
+) -> Result<(), AllocError>
+    ensures { IfOk result (λ u. line_view line.new ≡ with_pieces (line_view line.old) (declarations_pieces (declarations_view declarations.now))) }
+{
+    let mut n = 0;
+    'declarations: while n < declarations.len() {
+        put_declaration(alloc, line, &declarations[n])?;
+        n += 1;
+    }
+    Ok(())
+}
+
+/// The cell as it is printed: one line, all parts told, with parentheses only where precedence needs them; an error for want
+/// of memory.
+pub fn print_cell(alloc: Global, cell: &Cell) -> Result<String, AllocError>
+    ensures { IfOk result (λ text. string_bytes text ≡ printed (cell_view cell.now)) }
+{
+    let mut line = Line {
+        text: String::new(alloc),
+        tight: true,
+    };
+    put_declarations(alloc, &mut line, &cell.declarations)?;
+    put_block(alloc, &mut line, &cell.statements)?;
+    Ok(line.text)
+}
+
+/// The expression as it is printed: one line, with parentheses only where precedence needs them; an error for want of
+/// memory.
+pub fn print_exp(alloc: Global, exp: &Exp) -> Result<String, AllocError>
+    ensures { IfOk result (λ text. string_bytes text ≡ printed_exp (exp_view exp.now)) }
+{
+    let mut line = Line {
+        text: String::new(alloc),
+        tight: true,
+    };
+    put_exp(alloc, &mut line, exp, 8)?;
+    Ok(line.text)
+}
