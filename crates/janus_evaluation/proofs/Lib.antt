@@ -1,3 +1,4 @@
+pub mod Assigns
 pub mod Numbers
 pub mod Sizes
 pub mod Values

@@ -5,14 +5,25 @@ ghost use Rattle.std.specs.Prelude.{List, ℤ};
 ghost use Rattle.janus_meaning.specs.Fault.{Fine, Bad, Broken};
 ghost use Rattle.janus_meaning.specs.Store.{Arr, look, element as element_of};
 ghost use Rattle.janus_store.specs.Stores.{IsArray};
-ghost use Rattle.janus_meaning.specs.Value.{value as value_of, both};
+ghost use Rattle.janus_meaning.specs.Value.{value as value_of, test as test_of, both};
 ghost use Rattle.janus_invert.specs.Expressions.{exp_of};
-ghost use Rattle.janus_evaluation.specs.Results.{result_of};
+ghost use Rattle.janus_evaluation.specs.Results.{result_of, truth_of};
 
 use crate::fault::ValueFault;
 use crate::operator::{bit_of, holds, negative, operate};
 use janus_invert::code::Exp;
 use janus_store::Store;
+
+/// Whether an expression is not 0, or its first fault. Its names are declared, each as what its use wants.
+pub fn test(exp: &Exp, store: &Store) -> Result<bool, ValueFault>
+    requires { test_of (exp_of exp.now) store.now ≢ Bad Broken }
+    ensures { truth_of result ≡ test_of (exp_of exp.now) store.now }
+{
+    match value(exp, store) {
+        Ok(number) => Ok(holds(number)),
+        Err(fault) => Err(fault),
+    }
+}
 
 /// The number of an expression, or the first fault from left to right. Its names are declared, each as what its use wants.
 pub fn value(exp: &Exp, store: &Store) -> Result<i32, ValueFault>

@@ -6,9 +6,11 @@
 //! in C.
 #![tactic(auto)]
 
+mod assignment;
+mod expression;
 mod fault;
 mod operator;
-mod expression;
 
+pub use crate::assignment::{assign, assign_element};
+pub use crate::expression::{test, value};
 pub use crate::fault::ValueFault;
-pub use crate::expression::value;

@@ -1,0 +1,61 @@
+//! What assignments do to a store.
+
+ghost use Rattle.std.specs.Prelude.{◌≡◌, ◌≢◌};
+ghost use Rattle.janus_meaning.specs.Fault.{Bad, Broken};
+ghost use Rattle.janus_meaning.specs.Store.{cleared};
+ghost use Rattle.janus_meaning.specs.Moves.{assign as assign_of, assign_at as assign_at_of};
+ghost use Rattle.janus_syntax.specs.View.{update_of};
+ghost use Rattle.janus_invert.specs.Expressions.{exp_of};
+ghost use Rattle.janus_evaluation.specs.Results.{IsDone};
+
+use crate::expression::value;
+use crate::fault::ValueFault;
+use crate::operator::changed;
+use janus_invert::code::Exp;
+use janus_store::Store;
+use janus_syntax::tree::Update;
+
+/// An assignment to a variable, whose right side does not name it. A fault leaves the store.
+pub fn assign(name: &str, update: Update, exp: &Exp, store: &mut Store) -> Result<(), ValueFault>
+    requires { assign_of name.now (update_of update) (exp_of exp.now) store.old ≢ Bad Broken }
+    ensures done { IsDone (assign_of name.now (update_of update) (exp_of exp.now) store.old) store.old store.new result }
+    ensures shape { cleared store.new ≡ cleared store.old }
+{
+    let operand = match value(exp, store) {
+        Ok(operand) => operand,
+        Err(fault) => return Err(fault),
+    };
+    let Some(old) = store.get(name) else {
+        unreachable!()
+    };
+    store.set(name, changed(update, old, operand));
+    Ok(())
+}
+
+/// An assignment to an element of an array, which neither index nor right side names. Index and range come before the right
+/// side. A fault leaves the store.
+pub fn assign_element(
+    name: &str,
+    index: &Exp,
+    update: Update,
+    exp: &Exp,
+    store: &mut Store,
+) -> Result<(), ValueFault>
+    requires { assign_at_of name.now (exp_of index.now) (update_of update) (exp_of exp.now) store.old ≢ Bad Broken }
+    ensures done { IsDone (assign_at_of name.now (exp_of index.now) (update_of update) (exp_of exp.now) store.old) store.old store.new result }
+    ensures shape { cleared store.new ≡ cleared store.old }
+{
+    let index = match value(index, store) {
+        Ok(index) => index,
+        Err(fault) => return Err(fault),
+    };
+    let Some(old) = store.element(name, index) else {
+        return Err(ValueFault::IndexRange);
+    };
+    let operand = match value(exp, store) {
+        Ok(operand) => operand,
+        Err(fault) => return Err(fault),
+    };
+    store.set_element(name, index, changed(update, old, operand));
+    Ok(())
+}
