@@ -1,4 +1,3 @@
-pub mod Assigns
 pub mod Counting
 pub mod Courses
 pub mod Mirrors

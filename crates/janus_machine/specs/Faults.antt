@@ -1,5 +1,5 @@
 -- Faults read as those of the meaning, and as programs print them.
-use Rattle.std.specs.Prelude.{◌≡◌, ℕ, ℤ, List, Result, Ok, Err, Bool, codes}
+use Rattle.std.specs.Prelude.{◌≡◌, ℕ, List, Result, Ok, Err, codes}
 use Rattle.janus_meaning.specs.Fault as fault
 use Rattle.janus_meaning.specs.Store.{Store}
 use Rattle.janus_machine.specs.declared.fault.Fault.{Fault}
@@ -49,15 +49,6 @@ name_of StackFull = codes "StackFull"
 name_of TooDeep = codes "TooDeep"
 name_of TooManyStacks = codes "TooManyStacks"
 name_of StepLimit = codes "StepLimit"
-
--- a result of the code as one of the meaning
-abbrev pub result_of : Result ℤ Fault → fault.Res ℤ
-result_of (Ok n) = fault.Fine n
-result_of (Err f) = fault.Bad (fault_of f)
-
-abbrev pub truth_of : Result Bool Fault → fault.Res Bool
-truth_of (Ok v) = fault.Fine v
-truth_of (Err f) = fault.Bad (fault_of f)
 
 -- what becomes of a store: it is the new one, or the old one at a fault
 abbrev pub IsDone : fault.Res Store → Store → Store → Result (Unit {0}) Fault → Type 0

@@ -10,7 +10,6 @@
 mod act;
 mod book;
 mod cursor;
-mod evaluate;
 mod fault;
 pub mod laws;
 mod machine;
