@@ -1,11 +1,12 @@
 -- The first fault of a list, found from the front.
 use Rattle.std.proofs.Common.{◌≡◌, ℕ, Bool, true, false, List, [], ◌∷◌, ◌++◌, Option, Some, None, refl, ap, ◌∙◌, sym, subst, nat_lt, All, Contains, if◌then◌else◌, arith, ◌+◌, ◌*◌, ◌<◌, ◌≤◌, lit<, ◌⊎◌, inl, inr, ⊎_elim}
 use Rattle.std.proofs.lemmas.List.Elements.{All-cons, Contains-append_right}
-use Rattle.std.proofs.lemmas.Bool.Decides.{nat_tests}
-use Rattle.std.specs.Prelude.{◌&&◌, ◌||◌, ◌==◌}
+use Rattle.std.specs.Prelude.{◌==◌}
 use Rattle.janus_check.specs.declared.fault.CheckFault.{CheckFault}
 use Rattle.janus_check.specs.declared.fault.CheckFault.TheVariants.{Declared, Unknown, WrongKind, SelfUse, TooMany, ArrayLength, Memory}
-use Rattle.janus_check.specs.Fault.{number_of, start_of, comes_before, IsFirst, sooner_of, first_from}
+use Rattle.janus_syntax.specs.declared.token.Span.{Span}
+use Rattle.janus_check.proofs.Orders.{earlier-self, earlier-other, earlier-through, same-first, same-second, same-third}
+use Rattle.janus_check.specs.Fault.{number_of, start_of, end_of, comes_before, IsFirst, sooner_of, first_from}
 
 pub first_from-append : (f : Option CheckFault) (xs ys : List CheckFault) → first_from f (xs ++ ys) ≡ first_from (first_from f xs) ys
 first_from-append f [] ys = refl
@@ -24,61 +25,30 @@ pub first_none : (fs : List CheckFault) → first_from None fs ≡ None → fs �
 first_none [] h = refl
 first_none (f ∷ fs) h = let w = first_some f fs in let bad : Some w.0 ≡ None = sym w.1 ∙ h in cc
 
--- ---- the order is that of one number
+-- ---- the order
 
-abbrev rank : CheckFault → ℕ
-rank f = start_of f * 64 + number_of f
+self : (f : CheckFault) → comes_before f f ≡ false
+self f = earlier-self (start_of f) (number_of f) (end_of f)
 
-small : (f : CheckFault) → number_of f < 64
-small Memory = lit< tt
-small (Declared at) = lit< tt
-small (Unknown at) = lit< tt
-small (WrongKind at) = lit< tt
-small (SelfUse at) = lit< tt
-small (ArrayLength at) = lit< tt
-small (TooMany at) = lit< tt
+other : (f h : CheckFault) → comes_before f h ≡ true → comes_before h f ≡ false
+other f h e = earlier-other (start_of f) (number_of f) (end_of f) (start_of h) (number_of h) (end_of h) e
 
-lexical : (a b c d : ℕ) → c < 64 → d < 64 → (nat_lt a b || ((a == b) && nat_lt c d)) ≡ nat_lt (a * 64 + c) (b * 64 + d)
-lexical a b c d hc hd = lexical_by (nat_lt a b) (a == b) (nat_lt c d) refl refl refl
-  where
-    lexical_by : (p q r : Bool) → nat_lt a b ≡ p → (a == b) ≡ q → nat_lt c d ≡ r → (p || (q && r)) ≡ nat_lt (a * 64 + c) (b * 64 + d)
-    lexical_by true q r hp hq hr = grind (arith, nat_tests)
-    lexical_by false true true hp hq hr = grind (arith, nat_tests)
-    lexical_by false true false hp hq hr = grind (arith, nat_tests)
-    lexical_by false false r hp hq hr = grind (arith, nat_tests)
+through : (r s f : CheckFault) → comes_before s r ≡ false → comes_before f s ≡ false → comes_before f r ≡ false
+through r s f h k = earlier-through (start_of r) (number_of r) (end_of r) (start_of s) (number_of s) (end_of s) (start_of f) (number_of f) (end_of f) h k
 
-rank_before : (f h : CheckFault) → comes_before f h ≡ nat_lt (rank f) (rank h)
-rank_before f h = lexical (start_of f) (start_of h) (number_of f) (number_of h) (small f) (small h)
-
-not_lt : (m n : ℕ) → n ≤ m → nat_lt m n ≡ false
-not_lt m n h = grind (arith, nat_tests)
-
-lt : (m n : ℕ) → nat_lt m n ≡ true → m < n
-lt m n h = grind (arith, nat_tests)
-
-not_before : (f h : CheckFault) → rank h ≤ rank f → comes_before f h ≡ false
-not_before f h le = rank_before f h ∙ not_lt (rank f) (rank h) le
-
-not_sooner : (m n : ℕ) → nat_lt m n ≡ false → n ≤ m
-not_sooner m n h = grind (arith, nat_tests)
-
--- the first of two is one of them, and none is before it
+-- none of the list is before it
 abbrev IsLeast : CheckFault → List CheckFault → Type 0
 IsLeast r [] = Unit {0}
-IsLeast r (f ∷ fs) = (rank r ≤ rank f) × IsLeast r fs
-
-least_later : (r s : CheckFault) (fs : List CheckFault) → rank r ≤ rank s → IsLeast s fs → IsLeast r fs
-least_later r s [] le h = tt
-least_later r s (f ∷ fs) le h = (let z = h.0 in omega arith, least_later r s fs le h.1)
+IsLeast r (f ∷ fs) = (comes_before f r ≡ false) × IsLeast r fs
 
 least_all : (r : CheckFault) (fs : List CheckFault) → IsLeast r fs → All (λ h. comes_before h r ≡ false) fs
 least_all r [] h = λ k d lt. absurd (omega arith)
-least_all r (f ∷ fs) h = All-cons (λ h. comes_before h r ≡ false) f fs (not_before f r h.0) (least_all r fs h.1)
+least_all r (f ∷ fs) h = All-cons (λ h. comes_before h r ≡ false) f fs h.0 (least_all r fs h.1)
 
 -- the result is the first one so far or one of the list, and none of these is before it
 record Keeps (f : CheckFault) (fs : List CheckFault) (r : CheckFault) : Type 0 where
   one : (r ≡ f) ⊎ Contains fs r
-  before_first : rank r ≤ rank f
+  before_first : comes_before f r ≡ false
   before_all : IsLeast r fs
 
 here : (f : CheckFault) (fs : List CheckFault) → Contains (f ∷ fs) f
@@ -88,25 +58,23 @@ later : (f r : CheckFault) (fs : List CheckFault) → Contains fs r → Contains
 later f r fs h = Contains-append_right (f ∷ []) fs r h
 
 keeps : (f : CheckFault) (fs : List CheckFault) (r : CheckFault) → first_from (Some f) fs ≡ Some r → Keeps f fs r
-keeps f [] r h = let e : r ≡ f = cc in record { one = inl e; before_first = subst (λ r. rank r ≤ rank f) (sym e) (omega arith); before_all = tt }
+keeps f [] r h = let e : r ≡ f = cc in record { one = inl e; before_first = subst (λ r. comes_before f r ≡ false) (sym e) (self f); before_all = tt }
 keeps f (g ∷ fs) r h = by (λ s. keeps s fs r) (comes_before g f) refl h
   where
     by : ((s : CheckFault) → first_from (Some s) fs ≡ Some r → Keeps s fs r) → (b : Bool) → comes_before g f ≡ b → first_from (Some (if b then g else f)) fs ≡ Some r → Keeps f (g ∷ fs) r
     by ih true e h =
         let k = ih g h in
-        let sooner : rank g < rank f = lt (rank g) (rank f) (sym (rank_before g f) ∙ e) in
         record {
           one = inr (⊎_elim (λ w. subst (Contains (g ∷ fs)) (sym w) (here g fs)) (λ w. later g r fs w) k.one);
-          before_first = let z = k.before_first in omega arith;
+          before_first = through r g f k.before_first (other g f e);
           before_all = (k.before_first, k.before_all);
         }
     by ih false e h =
         let k = ih f h in
-        let sooner : rank f ≤ rank g = not_sooner (rank g) (rank f) (sym (rank_before g f) ∙ e) in
         record {
           one = ⊎_elim (λ w. inl w) (λ w. inr (later g r fs w)) k.one;
           before_first = k.before_first;
-          before_all = (let z = k.before_first in omega arith, k.before_all);
+          before_all = (through r f g k.before_first e, k.before_all);
         }
 
 -- what the fold finds is the first of the faults
@@ -118,3 +86,50 @@ found_is_first (f ∷ fs) r h =
       one = ⊎_elim (λ w. subst (Contains (f ∷ fs)) (sym w) (here f fs)) (λ w. later f r fs w) k.one;
       least = least_all r (f ∷ fs) (k.before_first, k.before_all);
     }
+
+-- ---- there is one first fault
+
+abbrev place_of : CheckFault → Span
+place_of Memory = record { start = 0; end = 0 }
+place_of (Declared at) = at
+place_of (Unknown at) = at
+place_of (WrongKind at) = at
+place_of (SelfUse at) = at
+place_of (TooMany at) = at
+place_of (ArrayLength at) = at
+
+-- the fault of a number at a place
+abbrev told : ℕ → Span → CheckFault
+told n at = if n == 35 then Memory else if n == 40 then Declared at else if n == 41 then Unknown at else if n == 42 then WrongKind at else if n == 43 then SelfUse at else if n == 48 then TooMany at else ArrayLength at
+
+told_is : (f : CheckFault) → f ≡ told (number_of f) (place_of f)
+told_is Memory = refl
+told_is (Declared at) = refl
+told_is (Unknown at) = refl
+told_is (WrongKind at) = refl
+told_is (SelfUse at) = refl
+told_is (TooMany at) = refl
+told_is (ArrayLength at) = refl
+
+place_is : (f : CheckFault) → place_of f ≡ record { start = start_of f; end = end_of f }
+place_is Memory = refl
+place_is (Declared at) = refl
+place_is (Unknown at) = refl
+place_is (WrongKind at) = refl
+place_is (SelfUse at) = refl
+place_is (TooMany at) = refl
+place_is (ArrayLength at) = refl
+
+same_fault : (f h : CheckFault) → comes_before f h ≡ false → comes_before h f ≡ false → f ≡ h
+same_fault f h p q =
+    let start : start_of f ≡ start_of h = same-first (start_of f) (number_of f) (end_of f) (start_of h) (number_of h) (end_of h) p q in
+    let number : number_of f ≡ number_of h = same-second (start_of f) (number_of f) (end_of f) (start_of h) (number_of h) (end_of h) p q in
+    let end : end_of f ≡ end_of h = same-third (start_of f) (number_of f) (end_of f) (start_of h) (number_of h) (end_of h) p q in
+    let place : place_of f ≡ place_of h = place_is f ∙ ap (λ a. record { start = a; end = end_of f }) start ∙ ap (λ a. record { start = start_of h; end = a }) end ∙ sym (place_is h) in
+    told_is f ∙ ap (λ n. told n (place_of f)) number ∙ ap (told (number_of h)) place ∙ sym (told_is h)
+
+pub one_first : (fs : List CheckFault) (f h : CheckFault) → IsFirst f fs → IsFirst h fs → f ≡ h
+one_first fs f h p q =
+    same_fault f h
+    (subst (λ x. comes_before x h ≡ false) p.one.2 (q.least p.one.0 f p.one.1))
+    (subst (λ x. comes_before x f ≡ false) q.one.2 (p.least q.one.0 h q.one.1))

@@ -40,9 +40,24 @@ start_of (SelfUse at) = at.start
 start_of (TooMany at) = at.start
 start_of (ArrayLength at) = at.start
 
--- a fault is told rather than another if it stands earlier, or at the same place under a smaller number
+abbrev pub end_of : CheckFault → ℕ
+end_of Memory = 0
+end_of (Declared at) = at.end
+end_of (Unknown at) = at.end
+end_of (WrongKind at) = at.end
+end_of (SelfUse at) = at.end
+end_of (TooMany at) = at.end
+end_of (ArrayLength at) = at.end
+
+-- three numbers are before three others, one compared after the other
+abbrev pub is_earlier : (a b c x y z : ℕ) → Bool
+is_earlier a b c x y z = nat_lt a x || ((a == x) && (nat_lt b y || ((b == y) && nat_lt c z)))
+
+-- A fault is told rather than another if it stands earlier, or at the same place under a smaller number. (Two faults of one
+-- number begin at the same octet only where they are the same; the end is compared, so that this order alone says which is
+-- told.)
 abbrev pub comes_before : CheckFault → CheckFault → Bool
-comes_before f h = nat_lt (start_of f) (start_of h) || ((start_of f == start_of h) && nat_lt (number_of f) (number_of h))
+comes_before f h = is_earlier (start_of f) (number_of f) (end_of f) (start_of h) (number_of h) (end_of h)
 
 -- f is one of the faults, and none of them comes before it
 pub record IsFirst (f : CheckFault) (fs : List CheckFault) : Type 0 where

@@ -1,6 +1,6 @@
 //! Why a cell is refused.
 ghost use Rattle.std.specs.Prelude.{◌≡◌, Some};
-ghost use Rattle.janus_check.specs.Fault.{number_of, fault_name, span_of, start_of, comes_before, sooner_of};
+ghost use Rattle.janus_check.specs.Fault.{number_of, fault_name, span_of, start_of, end_of, comes_before, sooner_of};
 
 use janus_syntax::token::Span;
 use std::alloc::AllocError;
@@ -88,12 +88,24 @@ impl CheckFault {
         }
     }
 
+    /// Where the fault ends, in octets; 0 for want of memory.
+    fn end(self) -> usize
+        ensures { result ≡ end_of self }
+    {
+        match self.span() {
+            Some(at) => at.end,
+            None => 0,
+        }
+    }
+
     /// Whether this fault is told rather than the other: it stands earlier, or at the same place under a smaller number.
     pub(crate) fn is_before(self, other: CheckFault) -> bool
         ensures { result ≡ comes_before self other }
     {
         self.start() < other.start()
-            || (self.start() == other.start() && self.number() < other.number())
+            || (self.start() == other.start()
+                && (self.number() < other.number()
+                    || (self.number() == other.number() && self.end() < other.end())))
     }
 }
 
