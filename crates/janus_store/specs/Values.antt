@@ -1,6 +1,6 @@
 -- How values are seen, and what may be read and written.
 use Rattle.std.specs.Prelude.{◌≡◌, ℤ, List, Option, Some, None}
-use Rattle.janus_meaning.specs.Fault.{Fault, Res, Fine, Bad}
+use Rattle.janus_meaning.specs.Fault.{Fault, Res, Fine, Bad, Broken}
 use Rattle.janus_meaning.specs.Store.{Val, Num, Arr, element}
 use Rattle.janus_store.specs.declared.value.Value.{Value}
 use Rattle.janus_store.specs.declared.value.Value.TheVariants as values
@@ -15,6 +15,11 @@ val_of (values.Array v) = Arr v.items
 abbrev pub shown : View → Val
 shown (views.Number n) = Num n
 shown (views.Array l) = Arr l.now
+
+-- a value that was looked up
+abbrev pub found : Option View → Res Val
+found (Some v) = Fine (shown v)
+found None = Bad Broken
 
 -- a number that was read, or why there is none
 abbrev pub read_or : Fault → Option ℤ → Res ℤ

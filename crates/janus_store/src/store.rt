@@ -5,7 +5,7 @@ ghost use Rattle.std.specs.Bool.{OnFalse};
 ghost use Rattle.janus_meaning.specs.Fault.{Fine, Bad, Broken, IndexRange, and_then};
 ghost use Rattle.janus_meaning.specs.Store.{Bare, Slot, Num, Arr, look, number, element, set_element, zeros, cleared};
 ghost use Rattle.janus_meaning.specs.World.{size_of, listed};
-ghost use Rattle.janus_store.specs.Values.{val_of, shown, read_or};
+ghost use Rattle.janus_store.specs.Values.{val_of, shown, found, read_or};
 ghost use Rattle.janus_store.specs.Stores.{IsFirstOnTop, IsNumber, IsArray, HasElementAt, rest_of, is_fine, write};
 
 use crate::value::{Value, View};
@@ -86,6 +86,16 @@ impl Store {
         ensures absent { OnFalse result (look name.now self.now ≡ Bad Broken) }
     {
         self.places.contains_key(name)
+    }
+
+    /// The value of a name, if it is declared.
+    pub fn value(&self, name: &str) -> Option<View<'_>>
+        ensures { found result ≡ look name.now self.now }
+    {
+        match self.places.get(name) {
+            Some(place) => Some(self.variables[*place].value.view()),
+            None => None,
+        }
     }
 
     /// The number of a name; none where the name is not declared, or as an array.

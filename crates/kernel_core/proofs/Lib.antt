@@ -15,7 +15,6 @@ pub mod Stays
 pub mod InTime
 pub mod Stopping
 pub mod Reach
-pub mod Places
 pub mod Refusals
 pub mod Determined
 pub mod Ways

@@ -7,7 +7,7 @@ use Rattle.janus_syntax.specs.Tree as tree
 use Rattle.janus_syntax.proofs.OneRefusal.{one_refusal}
 use Rattle.janus_syntax.proofs.OneTree.{one_tree, not_both as tree_or_refusal}
 use Rattle.janus_check.specs.Check.{cell_faults}
-use Rattle.janus_check.specs.WellFormed.{meant_cell}
+use Rattle.janus_syntax.specs.View.{plain_cell}
 use Rattle.janus_check.specs.Fault.{IsFirst}
 use Rattle.janus_check.specs.declared.fault.CheckFault as check
 use Rattle.janus_check.proofs.FormedLemmas.{formed_no_faults}
@@ -15,18 +15,17 @@ use Rattle.kernel_core.specs.Language.{IsSound}
 use Rattle.kernel_core.specs.Text.{Accepts, IsUnformed, Refuses}
 use Rattle.kernel_core.specs.declared.outcome.Refusal.{Refusal}
 use Rattle.kernel_core.specs.declared.outcome.Refusal.TheVariants.{Syntax, Check, TooFar, NoNode, Closing, Memory}
-use Rattle.kernel_core.proofs.Places.{faults_at, one_first}
+use Rattle.janus_check.proofs.FirstLemmas.{one_first}
 
 pub one_cell : (w : World) (text : List ℕ) (c d : Cell) → Accepts w text c → Accepts w text d → c ≡ d
-one_cell w text c d p q = p.meant ∙ ap meant_cell (one_tree text p.tree q.tree p.is_tree q.is_tree) ∙ sym q.meant
+one_cell w text c d p q = p.meant ∙ ap plain_cell (one_tree text p.tree q.tree p.is_tree q.is_tree) ∙ sym q.meant
 
 -- the first fault of the check
 one_check : (w : World) (text : List ℕ) (f h : check.CheckFault) → IsUnformed w text f → IsUnformed w text h → f ≡ h
 one_check w text f h p q =
     let same : q.tree ≡ p.tree = one_tree text q.tree p.tree q.is_tree p.is_tree in
     let first : IsFirst h (cell_faults (shape_of w.store) p.tree) = subst (λ (t : tree.Cell). IsFirst h (cell_faults (shape_of w.store) t)) same q.first in
-    let has = p.is_tree in
-    one_first text (cell_faults (shape_of w.store) p.tree) f h (faults_at text (shape_of w.store) p.tree has.tokens has.are_tokens has.is_tree.spells) p.first first
+    one_first (cell_faults (shape_of w.store) p.tree) f h p.first first
 
 pub one_answer : (w : World) (text : List ℕ) (r q : Refusal) → Refuses w text r → (r ≡ Memory → ⊥) → Refuses w text q → (q ≡ Memory → ⊥) → r ≡ q
 one_answer w text Memory q a real b other = absurd (real refl)

@@ -4,12 +4,13 @@ use Rattle.janus_meaning.specs.Shape.{shape_of}
 use Rattle.janus_meaning.specs.World as world
 use Rattle.janus_meaning.specs.World.{World}
 use Rattle.janus_syntax.specs.Tree.{Cell}
+use Rattle.janus_syntax.specs.View.{plain_cell}
 use Rattle.janus_syntax.specs.Text.{HasTree, IsRefusal}
 use Rattle.janus_syntax.specs.declared.fault.SyntaxFault as syntax
 use Rattle.janus_syntax.specs.declared.fault.SyntaxFault.TheVariants as syntax_fault
 use Rattle.janus_check.specs.Check.{cell_faults}
 use Rattle.janus_check.specs.Fault.{IsFirst}
-use Rattle.janus_check.specs.WellFormed.{meant_cell, IsWellFormed}
+use Rattle.janus_check.specs.WellFormed.{IsWellFormed}
 use Rattle.janus_check.specs.declared.fault.CheckFault as check
 use Rattle.janus_check.specs.declared.fault.CheckFault.TheVariants as check_fault
 use Rattle.kernel_core.specs.declared.outcome.Refusal.{Refusal}
@@ -20,7 +21,7 @@ pub record Accepts (w : World) (text : List ℕ) (cell : world.Cell) : Type 0 wh
   pub tree : Cell
   pub is_tree : HasTree text tree
   pub formed : IsWellFormed (shape_of w.store) tree
-  pub meant : cell ≡ meant_cell tree
+  pub meant : cell ≡ plain_cell tree
 
 -- the text's tree has faults over the names of the world, and this is the first one
 pub record IsUnformed (w : World) (text : List ℕ) (fault : check.CheckFault) : Type 0 where
@@ -49,6 +50,8 @@ refused_by_syntax syntax_fault.Memory = Memory
 abbrev pub refused_by_check : check.CheckFault → Refusal
 refused_by_check (check_fault.Declared at) = Check (check_fault.Declared at)
 refused_by_check (check_fault.Unknown at) = Check (check_fault.Unknown at)
+refused_by_check (check_fault.WrongKind at) = Check (check_fault.WrongKind at)
 refused_by_check (check_fault.SelfUse at) = Check (check_fault.SelfUse at)
 refused_by_check (check_fault.TooMany at) = Check (check_fault.TooMany at)
+refused_by_check (check_fault.ArrayLength at) = Check (check_fault.ArrayLength at)
 refused_by_check check_fault.Memory = Memory
