@@ -31,7 +31,7 @@ pub mod fault;
 mod item;
 pub mod laws;
 mod lexer;
-mod operator;
+pub mod operator;
 mod parser;
 mod printer;
 mod problem;

@@ -8,7 +8,7 @@ use crate::tree::{Operator, Update};
 
 /// What joins two expressions.
 #[derive(Clone, Copy)]
-pub(crate) enum Joint {
+pub enum Joint {
     Binary(Operator),
     And,
     Or,
@@ -16,13 +16,13 @@ pub(crate) enum Joint {
 
 /// What joins two expressions, and how strongly: 1 binds strongest, 8 weakest.
 #[derive(Clone, Copy)]
-pub(crate) struct Infix {
-    pub(crate) joint: Joint,
-    pub(crate) level: u8,
+pub struct Infix {
+    pub joint: Joint,
+    pub level: u8,
 }
 
 /// The operator of a sign, and its level.
-pub(crate) fn infix_of(sign: Sign) -> Option<Infix>
+pub fn infix_of(sign: Sign) -> Option<Infix>
     ensures { result ≡ sign_infix sign }
 {
     let (joint, level) = match sign {
@@ -48,7 +48,7 @@ pub(crate) fn infix_of(sign: Sign) -> Option<Infix>
 }
 
 /// The assignment of a sign.
-pub(crate) fn update_of(sign: Sign) -> Option<Update>
+pub fn update_of(sign: Sign) -> Option<Update>
     ensures { result ≡ sign_update sign }
 {
     match sign {

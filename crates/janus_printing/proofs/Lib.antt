@@ -1,0 +1,9 @@
+mod Inside
+mod Fits
+mod Good
+mod Measures
+mod BlockMeasures
+mod StatementMeasures
+mod CellMeasures
+mod Spelled
+mod Expressions
