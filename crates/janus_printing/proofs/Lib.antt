@@ -7,3 +7,5 @@ mod StatementMeasures
 mod CellMeasures
 mod Spelled
 mod Expressions
+mod Onward
+mod Statements

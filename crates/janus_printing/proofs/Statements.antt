@@ -1,0 +1,181 @@
+-- The tokens that spell the print of statements spell those statements, places aside.
+use Rattle.std.proofs.Common.{◌≡◌, ℕ, suc, ◌+◌, ◌<◌, ◌≤◌, List, [], ◌∷◌, ◌++◌, Option, Some, None, false, refl, ap, sym, subst, ◌∙◌, arith}
+use Rattle.janus_meaning.specs.Syntax as plain
+use Rattle.janus_syntax.specs.declared.token.Span.{Span}
+use Rattle.janus_syntax.specs.declared.token.Sign.TheVariants as sign
+use Rattle.janus_syntax.specs.declared.token.Word.{Word}
+use Rattle.janus_syntax.specs.declared.token.Word.TheVariants as word
+use Rattle.janus_syntax.specs.declared.tree.Update.{Update}
+use Rattle.janus_syntax.specs.declared.tree.Update.TheVariants as update
+use Rattle.janus_syntax.specs.Tokens.{Token, Name, Number, Sign_of, Word_of}
+use Rattle.janus_syntax.specs.Tree.{named, Exp, Stm, Skip, Assign, AssignElement, If, Loop, Block, Empty, More}
+use Rattle.janus_syntax.specs.Forms.{Part, Body, Statements, Else_part, Do_part, Loop_part, Target_index, Whole, Tree, The_word, The_sign, An_update, seen, Form, done, take, part, close, Rule}
+use Rattle.janus_syntax.specs.Table.{rule, assignment, word_then, sign_then, statement}
+use Rattle.janus_syntax.specs.Grammar.{all, depth_limit, operator_limit, Spells}
+use Rattle.janus_syntax.specs.Printing.{Piece, A_name, A_sign, A_word, update_sign, whole_pieces, stm_pieces, block_pieces}
+use Rattle.janus_syntax.specs.View.{plain_exp, plain_stm, plain_block, update_of}
+use Rattle.janus_printing.proofs.Fits.{FitsWhole, FitsStm, FitsBlock, IsBody}
+use Rattle.janus_printing.proofs.Spelled.{Spelled, in_two}
+use Rattle.janus_printing.proofs.Onward.{SpellsTo, StartsTo, done_to, part_to, left_to, token_to, close_to, begins_to, opens_to, whole_again}
+
+-- these tokens are read as that statement
+pub record StmAgain (s : Stm) (d : ℕ) (ts rest : List Token) : Type 0 where
+  pub again : Stm
+  pub same : plain_stm again ≡ plain_stm s
+  pub starts : {p : Part} (k : Stm → Form p) (v : Tree p) (d' : ℕ) (end : List Token) → SpellsTo (k again) v d rest d' end → StartsTo (λ t. statement t k) v d ts d' end
+
+-- as that block, where statements may stand, and where one has to
+pub record BlockAgain (b : Block) (d : ℕ) (ts rest : List Token) : Type 0 where
+  pub again : Block
+  pub same : plain_block again ≡ plain_block b
+  pub statements : {p : Part} (k : Block → Form p) (v : Tree p) (d' : ℕ) (end : List Token) → SpellsTo (k again) v d rest d' end → SpellsTo (part Statements k) v d ts d' end
+  pub body : IsBody b → {p : Part} (k : Block → Form p) (v : Tree p) (d' : ℕ) (end : List Token) → SpellsTo (k again) v d rest d' end → SpellsTo (part Body k) v d ts d' end
+
+-- ---- assignments
+
+update_seen : (u : Update) (at : Span) → seen An_update (Sign_of (update_sign u) at) ≡ Some u
+update_seen update.Add at = refl
+update_seen update.Subtract at = refl
+update_seen update.Xor at = refl
+
+assign_again : (x : List ℕ) (place : Span) (u : Update) (e : Exp) (d : ℕ) (ts rest : List Token) → d ≤ depth_limit → FitsWhole e d → Spelled (stm_pieces (Assign (named x place) u e)) ts rest → StmAgain (Assign (named x place) u e) d ts rest
+assign_again x place u e d ts rest h f (at, t1, e1, (on, t2, e2, s)) =
+    let r = whole_again e d t2 rest h f s in
+    record {
+      again = Assign (named x at) u r.again;
+      same = ap (λ y. plain.Set x (update_of u) y) r.same;
+      starts = λ {p} k v d' end onward.
+        begins_to (λ t. statement t k) (part Target_index (λ i. take An_update (λ w. part Whole (λ y. k (assignment (named x at) i w y))))) v d d' (Name x at) ts t1 end e1 refl h
+        (left_to (λ i. take An_update (λ w. part Whole (λ y. k (assignment (named x at) i w y)))) None v d d' t1 end refl
+        (token_to An_update (λ w. part Whole (λ y. k (assignment (named x at) None w y))) u v d d' (Sign_of (update_sign u) on) t1 t2 end e2 (update_seen u on)
+        (r.spells (λ y. k (Assign (named x at) u y)) v d' end onward)));
+    }
+
+assign_element_again : (x : List ℕ) (place : Span) (i : Exp) (u : Update) (e : Exp) (d : ℕ) (ts rest : List Token) → d ≤ depth_limit → suc d ≤ depth_limit → FitsWhole i (suc d) → FitsWhole e d → Spelled (stm_pieces (AssignElement (named x place) i u e)) ts rest → StmAgain (AssignElement (named x place) i u e) d ts rest
+assign_element_again x place i u e d ts rest h few fits_i fits_e (at, t1, e1, (opened, t2, e2, s)) =
+    let two = in_two (whole_pieces i) (A_sign sign.CloseIndex ∷ A_sign (update_sign u) ∷ whole_pieces e) t2 rest s in
+    let j = whole_again i (suc d) t2 two.0 few fits_i two.1 in
+    let shut = two.2 in
+    let on = shut.3 in
+    let r = whole_again e d on.1 rest h fits_e on.3 in
+    record {
+      again = AssignElement (named x at) j.again u r.again;
+      same = (λ n. plain.SetAt x (j.same n) (update_of u) (r.same n));
+      starts = λ {p} k v d' end onward.
+        begins_to (λ t. statement t k) (part Target_index (λ z. take An_update (λ w. part Whole (λ y. k (assignment (named x at) z w y))))) v d d' (Name x at) ts t1 end e1 refl h
+        (part_to (λ z. take An_update (λ w. part Whole (λ y. k (assignment (named x at) z w y)))) (Some j.again) v d d d' t1 shut.1 end
+          (opens_to (rule Target_index) (part Whole (λ y. sign_then sign.CloseIndex (close (done (Some y))))) (Some j.again) d d (Sign_of sign.OpenIndex opened) t1 t2 shut.1 e2 refl few
+            (j.spells {p = Target_index} (λ y. sign_then sign.CloseIndex (close (done (Some y)))) (Some j.again) d shut.1
+            (token_to {p = Target_index} (The_sign sign.CloseIndex) (λ z. close (done (Some j.again))) tt (Some j.again) (suc d) d (Sign_of sign.CloseIndex shut.0) two.0 shut.1 shut.1 shut.2 refl
+            (close_to {p = Target_index} (done (Some j.again)) (Some j.again) d d shut.1 shut.1 (done_to {p = Target_index} (Some j.again) d shut.1)))))
+          (token_to An_update (λ w. part Whole (λ y. k (assignment (named x at) (Some j.again) w y))) u v d d' (Sign_of (update_sign u) on.0) shut.1 on.1 end on.2 (update_seen u on.0)
+          (r.spells (λ y. k (AssignElement (named x at) j.again u y)) v d' end onward)));
+    }
+
+-- ---- the parts of `if` and loops
+
+-- a body behind a word
+optional_to : {p q : Part} (w : Word) (at : Span) (from_block : Block → Tree q) (k : Tree q → Form p) (b : Block) (d d' : ℕ) (v : Tree p) (ts t1 rest end : List Token) → d ≤ depth_limit → ts ≡ Word_of w at ∷ t1 →
+    rule q (Word_of w at) ≡ Some (record { opens = 0; counts = 0; is_whole = false; form = part Body (λ c. done (from_block c)) }) → IsBody b → (r : BlockAgain b d t1 rest) → SpellsTo (k (from_block r.again)) v d rest d' end → SpellsTo (part q k) v d ts d' end
+optional_to {p} {q} w at from_block k b d d' v ts t1 rest end h e is body r onward =
+    part_to k (from_block r.again) v d d d' ts rest end
+    (begins_to (rule q) (part Body (λ c. done (from_block c))) (from_block r.again) d d (Word_of w at) ts t1 rest e is h
+      (r.body body {p = q} (λ c. done (from_block c)) (from_block r.again) d rest (done_to {p = q} (from_block r.again) d rest)))
+    onward
+
+-- what is known of blocks
+abbrev BlockReads : Block → Type 0
+BlockReads b = (d : ℕ) (ts rest : List Token) → d ≤ depth_limit → FitsBlock b d → Spelled (block_pieces b) ts rest → BlockAgain b d ts rest
+
+if_again : (e : Exp) (s t : Block) (f : Exp) → BlockReads s → BlockReads t → (d : ℕ) (ts rest : List Token) → d ≤ depth_limit → FitsStm (If e s t f) d → Spelled (stm_pieces (If e s t f)) ts rest → StmAgain (If e s t f) d ts rest
+if_again e s t f reads_s reads_t d ts rest h (few, fits_e, fits_s, fits_t, fits_f) (at, t1, e1, p1) =
+    let c1 = in_two (whole_pieces e) (A_word word.Then ∷ (block_pieces s ++ A_word word.Else ∷ (block_pieces t ++ A_word word.Fi ∷ whole_pieces f))) t1 rest p1 in
+    let then_at = c1.2 in
+    let c2 = in_two (block_pieces s) (A_word word.Else ∷ (block_pieces t ++ A_word word.Fi ∷ whole_pieces f)) then_at.1 rest then_at.3 in
+    let else_at = c2.2 in
+    let c3 = in_two (block_pieces t) (A_word word.Fi ∷ whole_pieces f) else_at.1 rest else_at.3 in
+    let fi_at = c3.2 in
+    let re = whole_again e (suc d) t1 c1.0 few fits_e c1.1 in
+    let rs = reads_s (suc d) then_at.1 c2.0 few fits_s.1 c2.1 in
+    let rt = reads_t (suc d) else_at.1 c3.0 few fits_t.1 c3.1 in
+    let rf = whole_again f (suc d) fi_at.1 rest few fits_f fi_at.3 in
+    record {
+      again = If re.again rs.again rt.again rf.again;
+      same = (λ n. plain.If (re.same n) (rs.same n) (rt.same n) (rf.same n));
+      starts = λ {p} k v d' end onward.
+        opens_to (λ x. statement x k) (part Whole (λ a. word_then word.Then (part Body (λ b. part Else_part (λ c. word_then word.Fi (part Whole (λ g. close (k (If a b c g))))))))) v d d' (Word_of word.If at) ts t1 end e1 refl few
+        (re.spells (λ a. word_then word.Then (part Body (λ b. part Else_part (λ c. word_then word.Fi (part Whole (λ g. close (k (If a b c g)))))))) v d' end
+        (token_to (The_word word.Then) (λ z. part Body (λ b. part Else_part (λ c. word_then word.Fi (part Whole (λ g. close (k (If re.again b c g))))))) tt v (suc d) d' (Word_of word.Then then_at.0) c1.0 then_at.1 end then_at.2 refl
+        (rs.body fits_s.0 (λ b. part Else_part (λ c. word_then word.Fi (part Whole (λ g. close (k (If re.again b c g)))))) v d' end
+        (optional_to {q = Else_part} word.Else else_at.0 (λ b. b) (λ c. word_then word.Fi (part Whole (λ g. close (k (If re.again rs.again c g))))) t (suc d) d' v c2.0 else_at.1 c3.0 end few else_at.2 refl fits_t.0 rt
+        (token_to (The_word word.Fi) (λ z. part Whole (λ g. close (k (If re.again rs.again rt.again g)))) tt v (suc d) d' (Word_of word.Fi fi_at.0) c3.0 fi_at.1 end fi_at.2 refl
+        (rf.spells (λ g. close (k (If re.again rs.again rt.again g))) v d' end (close_to (k (If re.again rs.again rt.again rf.again)) v d d' rest end onward)))))));
+    }
+
+loop_again : (e : Exp) (s t : Block) (f : Exp) → BlockReads s → BlockReads t → (d : ℕ) (ts rest : List Token) → d ≤ depth_limit → FitsStm (Loop e s t f) d → Spelled (stm_pieces (Loop e s t f)) ts rest → StmAgain (Loop e s t f) d ts rest
+loop_again e s t f reads_s reads_t d ts rest h (few, fits_e, fits_s, fits_t, fits_f) (at, t1, e1, p1) =
+    let c1 = in_two (whole_pieces e) (A_word word.Do ∷ (block_pieces s ++ A_word word.Loop ∷ (block_pieces t ++ A_word word.Until ∷ whole_pieces f))) t1 rest p1 in
+    let do_at = c1.2 in
+    let c2 = in_two (block_pieces s) (A_word word.Loop ∷ (block_pieces t ++ A_word word.Until ∷ whole_pieces f)) do_at.1 rest do_at.3 in
+    let loop_at = c2.2 in
+    let c3 = in_two (block_pieces t) (A_word word.Until ∷ whole_pieces f) loop_at.1 rest loop_at.3 in
+    let until_at = c3.2 in
+    let re = whole_again e (suc d) t1 c1.0 few fits_e c1.1 in
+    let rs = reads_s (suc d) do_at.1 c2.0 few fits_s.1 c2.1 in
+    let rt = reads_t (suc d) loop_at.1 c3.0 few fits_t.1 c3.1 in
+    let rf = whole_again f (suc d) until_at.1 rest few fits_f until_at.3 in
+    record {
+      again = Loop re.again rs.again rt.again rf.again;
+      same = (λ n. plain.From (re.same n) (rs.same n) (rt.same n) (rf.same n));
+      starts = λ {p} k v d' end onward.
+        opens_to (λ x. statement x k) (part Whole (λ a. part Do_part (λ b. part Loop_part (λ c. word_then word.Until (part Whole (λ g. close (k (Loop a b c g)))))))) v d d' (Word_of word.From at) ts t1 end e1 refl few
+        (re.spells (λ a. part Do_part (λ b. part Loop_part (λ c. word_then word.Until (part Whole (λ g. close (k (Loop a b c g))))))) v d' end
+        (optional_to {q = Do_part} word.Do do_at.0 (λ b. b) (λ b. part Loop_part (λ c. word_then word.Until (part Whole (λ g. close (k (Loop re.again b c g)))))) s (suc d) d' v c1.0 do_at.1 c2.0 end few do_at.2 refl fits_s.0 rs
+        (optional_to {q = Loop_part} word.Loop loop_at.0 (λ b. b) (λ c. word_then word.Until (part Whole (λ g. close (k (Loop re.again rs.again c g))))) t (suc d) d' v c2.0 loop_at.1 c3.0 end few loop_at.2 refl fits_t.0 rt
+        (token_to (The_word word.Until) (λ z. part Whole (λ g. close (k (Loop re.again rs.again rt.again g)))) tt v (suc d) d' (Word_of word.Until until_at.0) c3.0 until_at.1 end until_at.2 refl
+        (rf.spells (λ g. close (k (Loop re.again rs.again rt.again g))) v d' end (close_to (k (Loop re.again rs.again rt.again rf.again)) v d d' rest end onward))))));
+    }
+
+-- ---- statements and blocks
+
+skip_again : (d : ℕ) (ts rest : List Token) → d ≤ depth_limit → Spelled (stm_pieces Skip) ts rest → StmAgain Skip d ts rest
+skip_again d ts rest h (at, more, e, s) = record {
+  again = Skip;
+  same = refl;
+  starts = λ {p} k v d' end onward. begins_to (λ t. statement t k) (k Skip) v d d' (Word_of word.Skip at) ts rest end (e ∙ ap (λ x. Word_of word.Skip at ∷ x) s) refl h onward;
+}
+
+more_again : (s : Stm) (b : Block) (d : ℕ) (ts middle rest : List Token) → StmAgain s d ts middle → BlockAgain b d middle rest → BlockAgain (More s b) d ts rest
+more_again s b d ts middle rest first others = record {
+  again = More first.again others.again;
+  same = (λ n. plain.Cons (first.same n) (others.same n));
+  statements = λ {p} k v d' end onward.
+    part_to {q = Statements} k (More first.again others.again) v d d d' ts rest end
+    (first.starts {p = Statements} (λ x. part Statements (λ y. done (More x y))) (More first.again others.again) d rest
+      (others.statements {p = Statements} (λ y. done (More first.again y)) (More first.again others.again) d rest (done_to {p = Statements} (More first.again others.again) d rest)))
+    onward;
+  body = λ some {p} k v d' end onward.
+    part_to {q = Body} k (More first.again others.again) v d d d' ts rest end
+    (first.starts {p = Body} (λ x. part Statements (λ y. done (More x y))) (More first.again others.again) d rest
+      (others.statements {p = Body} (λ y. done (More first.again y)) (More first.again others.again) d rest (done_to {p = Body} (More first.again others.again) d rest)))
+    onward;
+}
+
+mutual
+  pub stm_again : (s : Stm) (d : ℕ) (ts rest : List Token) → d ≤ depth_limit → FitsStm s d → Spelled (stm_pieces s) ts rest → StmAgain s d ts rest
+  stm_again Skip d ts rest h f s = skip_again d ts rest h s
+  stm_again (Assign (named x place) u e) d ts rest h (name, f) s = assign_again x place u e d ts rest h f s
+  stm_again (AssignElement (named x place) i u e) d ts rest h (name, few, f, g) s = assign_element_again x place i u e d ts rest h few f g s
+  stm_again (If e s t f) d ts rest h fs p = if_again e s t f (block_again s) (block_again t) d ts rest h fs p
+  stm_again (Loop e s t f) d ts rest h fs p = loop_again e s t f (block_again s) (block_again t) d ts rest h fs p
+
+  pub block_again : (b : Block) (d : ℕ) (ts rest : List Token) → d ≤ depth_limit → FitsBlock b d → Spelled (block_pieces b) ts rest → BlockAgain b d ts rest
+  block_again Empty d ts rest h f s = record {
+    again = Empty;
+    same = refl;
+    statements = λ {p} k v d' end onward. subst (λ x. SpellsTo (part Statements k) v d x d' end) (sym s) (left_to {q = Statements} k Empty v d d' rest end refl onward);
+    body = λ no. absurd no;
+  }
+  block_again (More s b) d ts rest h (f, g) p =
+      let two = in_two (stm_pieces s) (block_pieces b) ts rest p in
+      more_again s b d ts two.0 rest (stm_again s d ts two.0 h f two.1) (block_again b d two.0 rest h g two.2)
