@@ -1,21 +1,17 @@
 -- The statements of a text's tree fit: each of their constructs was entered within the limits.
-use Rattle.std.proofs.Common.{◌≡◌, ℕ, zero, suc, ◌+◌, ◌-◌, ◌<◌, ◌≤◌, List, [], ◌∷◌, length, Option, Some, None, true, false, refl, ap, sym, subst, ◌∙◌, inl, inr, arith}
-use Rattle.janus_syntax.specs.declared.token.Span.{Span}
-use Rattle.janus_syntax.specs.declared.token.Sign.{Sign}
-use Rattle.janus_syntax.specs.declared.token.Sign.TheVariants as sign
+use Rattle.std.proofs.Common.{◌≡◌, ℕ, ◌+◌, ◌<◌, ◌≤◌, List, length, Some, false, ap, sym, subst, inl, inr, arith}
 use Rattle.janus_syntax.specs.declared.token.Word.{Word}
 use Rattle.janus_syntax.specs.declared.token.Word.TheVariants as word
-use Rattle.janus_syntax.specs.declared.tree.Update.{Update}
 use Rattle.janus_syntax.specs.Tokens.{Token, Name, Number, Sign_of, Word_of}
-use Rattle.janus_syntax.specs.Tree.{named, Exp, Stm, Skip, Assign, AssignElement, If, Loop, Block, Empty, More}
-use Rattle.janus_syntax.specs.Forms.{Part, Body, Statements, Else_part, Do_part, Loop_part, Target_index, Whole, Tree, An_update, Form, done, take, part, close, Rule}
-use Rattle.janus_syntax.specs.Table.{rule, left_out, assignment, word_then, sign_then, statement, skip_block}
-use Rattle.janus_syntax.specs.Grammar.{Count, all, closed, depth_limit, operator_limit, Spells}
+use Rattle.janus_syntax.specs.Tree.{Stm, Block, Empty}
+use Rattle.janus_syntax.specs.Forms.{Part, Body, Statements, Else_part, Do_part, Loop_part, Tree, Form, done, part, Rule}
+use Rattle.janus_syntax.specs.Table.{rule, left_out, word_then, skip_block}
+use Rattle.janus_syntax.specs.Grammar.{Count, all, Spells}
 use Rattle.janus_syntax.specs.Reading.{count}
-use Rattle.janus_printing.proofs.Inside.{There, inside}
-use Rattle.janus_printing.proofs.Fits.{FitsWhole, FitsStm, FitsBlock, IsBody}
+use Rattle.janus_printing.proofs.Inside.{inside}
+use Rattle.janus_printing.proofs.Fits.{FitsStm, FitsBlock, IsBody}
 use Rattle.janus_printing.proofs.Good.{IsGood, AreGood}
-use Rattle.janus_printing.proofs.Measures.{recount, Runs, runs_as, few_of, good_behind, shorter_behind, close_behind, whole_read}
+use Rattle.janus_printing.proofs.Measures.{recount, Runs, runs_as, good_behind, shorter_behind}
 
 -- a statement was read
 pub record IsStm {p : Part} (k : Stm → Form p) (d : ℕ) (v : Tree p) (from : List Token) (m' : Count) (rest : List Token) : Type 0 where
@@ -83,7 +79,13 @@ body_read n known {p} d used k v from m' rest h g s =
           let is = known.body d used there.token there.rule_of there.tree there.behind there.between there.middle (omega (arith, less, h)) good.0 good.1 there.is (there.few, there.inner) in
           let less' = is.shorter in
           record {
-            tree = there.tree; total = is.total; middle = there.middle; body = is.body; fits = is.fits; shorter = omega (arith, less, less'); good = is.good;
+            tree = there.tree;
+            total = is.total;
+            middle = there.middle;
+            body = is.body;
+            fits = is.fits;
+            shorter = omega (arith, less, less');
+            good = is.good;
             onward = subst (λ c. Spells all p (k there.tree) v c there.middle m' rest) is.counts there.onward;
           }
     ]
@@ -101,7 +103,12 @@ statements_read n known {p} d used k v from m' rest h g s =
           let is = known.statements d used there.token there.rule_of there.tree there.behind there.between there.middle (omega (arith, less, h)) good.0 good.1 there.is (there.few, there.inner) in
           let less' = is.shorter in
           record {
-            tree = there.tree; total = is.total; middle = there.middle; fits = is.fits; shorter = omega (arith, less, less'); good = is.good;
+            tree = there.tree;
+            total = is.total;
+            middle = there.middle;
+            fits = is.fits;
+            shorter = omega (arith, less, less');
+            good = is.good;
             onward = subst (λ c. Spells all p (k there.tree) v c there.middle m' rest) is.counts there.onward;
           }
     ]
@@ -160,7 +167,13 @@ optional_read n known {p} q o d used k v from m' rest h g s =
           let less' = is.shorter in
           let rests = ap length end.rests in
           record {
-            tree = is.tree; total = is.total; middle = there.middle; body = is.body; fits = is.fits; shorter = omega (arith, less, less', rests); good = subst AreGood (sym end.rests) is.good;
+            tree = is.tree;
+            total = is.total;
+            middle = there.middle;
+            body = is.body;
+            fits = is.fits;
+            shorter = omega (arith, less, less', rests);
+            good = subst AreGood (sym end.rests) is.good;
             onward = subst (λ u. Spells all p (k u) v (count d is.total) there.middle m' rest) end.tree (subst (λ c. Spells all p (k there.tree) v c there.middle m' rest) end.counts there.onward);
           }
     ]

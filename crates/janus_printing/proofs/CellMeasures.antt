@@ -1,20 +1,21 @@
 -- The tree of a text fits: a cell's, and an expression's.
-use Rattle.std.proofs.Common.{◌≡◌, ℕ, zero, suc, ◌+◌, ◌-◌, ◌<◌, ◌≤◌, List, [], ◌∷◌, length, Option, Some, None, false, refl, ap, sym, subst, ◌∙◌, inl, inr, arith}
+use Rattle.std.proofs.Common.{◌≡◌, ℕ, zero, suc, ◌+◌, ◌<◌, ◌≤◌, List, [], ◌∷◌, length, Option, Some, None, false, ap, sym, subst, ◌∙◌, inl, inr, arith}
 use Rattle.janus_syntax.specs.declared.token.Span.{Span}
 use Rattle.janus_syntax.specs.declared.token.Sign.TheVariants as sign
 use Rattle.janus_syntax.specs.declared.token.Word.TheVariants as word
 use Rattle.janus_syntax.specs.Tokens.{Token, Name, Number, Sign_of, Word_of}
-use Rattle.janus_syntax.specs.Tree.{Name as Named, named, Exp, Block, Empty, Declaration, Cell, cell_of}
+use Rattle.janus_syntax.specs.Tree.{Name as Named, named, Exp, Declaration, Cell, cell_of}
 use Rattle.janus_syntax.specs.Forms.{Part, A_cell, Declarations, Bound, Statements, Whole, Tree, A_name, A_number, seen, Form, done, take, part, Rule}
-use Rattle.janus_syntax.specs.Table.{rule, left_out, declared, sign_then, declaration}
-use Rattle.janus_syntax.specs.Grammar.{Count, zero_count, all, Spells}
+use Rattle.janus_syntax.specs.Table.{rule, declared, sign_then, declaration}
+use Rattle.janus_syntax.specs.Grammar.{Count, all, Spells}
 use Rattle.janus_syntax.specs.Reading.{count}
 use Rattle.janus_syntax.specs.Lexical.{largest_number}
 use Rattle.janus_syntax.specs.Text.{HasTree, HasExp}
 use Rattle.janus_printing.proofs.Inside.{inside}
-use Rattle.janus_printing.proofs.Fits.{FitsWhole, FitsBlock, FitsDeclaration, FitsDeclarations, FitsCell}
+use Rattle.janus_printing.proofs.Fits.{FitsWhole, FitsDeclaration, FitsDeclarations, FitsCell}
 use Rattle.janus_printing.proofs.Good.{IsGood, AreGood, good_tokens}
-use Rattle.janus_printing.proofs.Measures.{recount, Runs, runs_as, good_behind, shorter_behind, whole_read}
+use Rattle.janus_printing.proofs.Measures.{recount, Runs, runs_as, good_behind, shorter_behind}
+use Rattle.janus_printing.proofs.ExpressionMeasures.{whole_read}
 use Rattle.janus_printing.proofs.BlockMeasures.{statements_read}
 use Rattle.janus_printing.proofs.StatementMeasures.{blocks_measured}
 
@@ -94,7 +95,12 @@ bounded {p} t x d used k v from m' rest is name g s =
           let n = bound_read d used there.token there.rule_of there.tree there.behind there.between there.middle good.1 there.is (there.few, there.inner) in
           let less' = n.shorter in
           record {
-            tree = declared x there.tree; total = n.total; middle = there.middle; fits = declared_fits t x there.tree is name n.fits; shorter = omega (arith, less, less'); good = n.good;
+            tree = declared x there.tree;
+            total = n.total;
+            middle = there.middle;
+            fits = declared_fits t x there.tree is name n.fits;
+            shorter = omega (arith, less, less');
+            good = n.good;
             onward = subst (λ c. Spells all p (k (declared x there.tree)) v c there.middle m' rest) n.counts there.onward;
           }
     ]
@@ -138,7 +144,9 @@ declarations_read (suc n) {p} d used k v from m' rest h g s =
           let more = declarations_read n {p = Declarations} d one.total (λ xs. done (one.tree ∷ xs)) there.tree one.middle there.between there.middle (omega (arith, less, less', h)) one.good one.onward in
           let end = inside more.onward in
           record {
-            tree = there.tree; total = more.total; middle = there.middle;
+            tree = there.tree;
+            total = more.total;
+            middle = there.middle;
             fits = subst FitsDeclarations (sym end.tree) (one.fits, more.fits);
             good = subst AreGood (sym end.rests) more.good;
             onward = subst (λ c. Spells all p (k there.tree) v c there.middle m' rest) end.counts there.onward;

@@ -1,31 +1,28 @@
 -- The tokens that spell the print of an expression spell that expression, places aside.
-use Rattle.std.proofs.Common.{◌≡◌, ℕ, zero, suc, ◌+◌, ◌-◌, ◌<◌, ◌≤◌, List, [], ◌∷◌, ◌++◌, Option, Some, None, Bool, true, false, refl, ap, sym, subst, ◌∙◌, inl, inr, arith}
-use Rattle.std.specs.Prelude.{nat_lt, nat_eq, cond}
-use Rattle.std.proofs.lemmas.Bool.{ltb-true, ltb-false, eq-eqb}
+use Rattle.std.proofs.Common.{◌≡◌, ℕ, suc, ◌+◌, ◌-◌, ◌≤◌, List, [], ◌∷◌, ◌++◌, Some, None, true, false, refl, ap, sym, subst, ◌∙◌, inl, inr, arith}
+use Rattle.std.specs.Prelude.{nat_lt, cond}
+use Rattle.std.proofs.lemmas.Bool.{ltb-false, eq-eqb}
 use Rattle.janus_meaning.specs.Syntax as plain
 use Rattle.janus_syntax.specs.declared.token.Span.{Span}
-use Rattle.janus_syntax.specs.declared.token.Sign.{Sign}
 use Rattle.janus_syntax.specs.declared.token.Sign.TheVariants as sign
-use Rattle.janus_syntax.specs.declared.tree.Operator.{Operator}
 use Rattle.janus_syntax.specs.declared.tree.Operator.TheVariants as operator
 use Rattle.janus_syntax.specs.declared.operator.Joint.{Joint}
 use Rattle.janus_syntax.specs.declared.operator.Joint.TheVariants as joint
-use Rattle.janus_syntax.specs.declared.operator.Infix.{Infix}
 use Rattle.janus_syntax.specs.Tokens.{Token, Name, Number, Sign_of}
 use Rattle.janus_syntax.specs.Tree.{named, Exp, Num, Var, Element, Neg, Bin, And, Or}
 use Rattle.janus_syntax.specs.Operators.{weakest, joined, sign_infix}
-use Rattle.janus_syntax.specs.Forms.{Part, Chain, Level, Index, Whole, Tree, Form, done, part, close, Rule}
+use Rattle.janus_syntax.specs.Forms.{Part, Chain, Level, Index, Tree, Form, done, part, close, Rule}
 use Rattle.janus_syntax.specs.Table.{rule, variable, sign_then, whole, operand, chains, chain_rule}
 use Rattle.janus_syntax.specs.Grammar
 use Rattle.janus_syntax.specs.Grammar.{Count, all, entered, closed, fits, depth_limit, operator_limit, Spells}
 use Rattle.janus_syntax.specs.Reading.{count}
-use Rattle.janus_syntax.specs.Printing.{Piece, A_name, A_number, A_sign, A_minus, operator_sign, sign_level, if_needed, infix_pieces, exp_pieces}
+use Rattle.janus_syntax.specs.Printing.{Piece, A_sign, sign_level, if_needed, infix_pieces, exp_pieces}
 use Rattle.janus_syntax.specs.View.{plain_exp}
 use Rattle.janus_syntax.proofs.Chains.{fits_count}
 use Rattle.janus_printing.proofs.Inside.{inside}
-use Rattle.janus_printing.proofs.Fits.{operators, Parenthesized, FitsInfix, FitsExp, FitsWhole}
-use Rattle.janus_printing.proofs.Measures.{recount, Runs, joint_sign, joined_operators}
-use Rattle.janus_printing.proofs.Spelled.{placed, Spelled, in_two, Starts, part_there, sign_there, chains_over}
+use Rattle.janus_printing.proofs.Fits.{operators, Parenthesized, FitsInfix, FitsExp}
+use Rattle.janus_printing.proofs.Measures.{recount, joint_sign, joined_operators}
+use Rattle.janus_printing.proofs.Spelled.{Spelled, in_two, Starts, part_there, sign_there, chains_over}
 
 -- the form behind an expression where operators of this level may stand
 abbrev pub onward : {p : Part} → ℕ → ℕ → Exp → (Exp → Form p) → Form p
@@ -57,10 +54,14 @@ number_again x place at level d ts rest h e = record {
   again = Num x at;
   same = refl;
   starts = λ {p} n u k v m' end weaker few s.
-    record {
-      token = Number x at; behind = rest; rule_of = record { opens = 0; counts = 0; is_whole = false; form = chains 0 n (Num x at) k }; whole = e; is = refl;
-      runs = (fits_count (d + 0) (u + 0) (omega (arith, h)) (omega (arith, few)), recount d (d + 0) (u + 0) (u + 0) (omega arith) refl (to_operators level n (Num x at) k v _ m' rest end weaker s));
-    };
+      record {
+        token = Number x at;
+        behind = rest;
+        rule_of = record { opens = 0; counts = 0; is_whole = false; form = chains 0 n (Num x at) k };
+        whole = e;
+        is = refl;
+        runs = (fits_count (d + 0) (u + 0) (omega (arith, h)) (omega (arith, few)), recount d (d + 0) (u + 0) (u + 0) (omega arith) refl (to_operators level n (Num x at) k v _ m' rest end weaker s));
+      };
 }
 
 variable_again : (x : List ℕ) (place at : Span) (level d : ℕ) (ts rest : List Token) → d ≤ depth_limit → ts ≡ Name x at ∷ rest → IsReadAgain (Var (named x place)) level d ts rest
@@ -68,10 +69,14 @@ variable_again x place at level d ts rest h e = record {
   again = Var (named x at);
   same = refl;
   starts = λ {p} n u k v m' end weaker few s.
-    record {
-      token = Name x at; behind = rest; rule_of = record { opens = 0; counts = 0; is_whole = false; form = part Index (λ i. chains 0 n (variable (named x at) i) k) }; whole = e; is = refl;
-      runs = (fits_count (d + 0) (u + 0) (omega (arith, h)) (omega (arith, few)), Grammar.no_part refl (recount d (d + 0) (u + 0) (u + 0) (omega arith) refl (to_operators level n (Var (named x at)) k v _ m' rest end weaker s)));
-    };
+      record {
+        token = Name x at;
+        behind = rest;
+        rule_of = record { opens = 0; counts = 0; is_whole = false; form = part Index (λ i. chains 0 n (variable (named x at) i) k) };
+        whole = e;
+        is = refl;
+        runs = (fits_count (d + 0) (u + 0) (omega (arith, h)) (omega (arith, few)), Grammar.no_part refl (recount d (d + 0) (u + 0) (u + 0) (omega arith) refl (to_operators level n (Var (named x at)) k v _ m' rest end weaker s)));
+      };
 }
 
 element_again : (x : List ℕ) (i : Exp) (place at opened shut : Span) (level d : ℕ) (ts t1 t2 t3 rest : List Token) → suc d ≤ depth_limit → ts ≡ Name x at ∷ t1 → t1 ≡ Sign_of sign.OpenIndex opened ∷ t2 → IsReadAgain i weakest (suc d) t2 t3 → t3 ≡ Sign_of sign.CloseIndex shut ∷ rest →
@@ -80,20 +85,28 @@ element_again x i place at opened shut level d ts t1 t2 t3 rest h e1 e2 inner e3
   again = Element (named x at) inner.again;
   same = ap (λ y. plain.At x y) inner.same;
   starts = λ {p} n u k v m' end weaker few s.
-    let form : Form Index = part (Level weakest) (λ e. sign_then sign.CloseIndex (close (done (Some e)))) in
-    let total = u + operators i in
-    let last : Spells all Index (close (done (Some inner.again))) (Some inner.again) (count (suc d) total) rest (count (suc d - 1) total) rest = Grammar.end_of_construct Grammar.nothing_more in
-    let index : Spells all Index form (Some inner.again) (count (suc d) u) t2 (count (suc d - 1) total) rest = level_again inner u (λ e. sign_then sign.CloseIndex (close (done (Some e)))) (Some inner.again) _ rest few (sign_there sign.CloseIndex _ _ _ _ shut t3 rest rest e3 refl last) in
-    let start : Starts (rule Index) (Some inner.again) (count d u) t1 (count (suc d - 1) total) rest = record {
-      token = Sign_of sign.OpenIndex opened; behind = t2; rule_of = record { opens = 1; counts = 0; is_whole = false; form = form }; whole = e2; is = refl;
-      runs = (fits_count (d + 1) (u + 0) (omega (arith, h)) (omega (arith, few)), recount (suc d) (d + 1) u (u + 0) (omega arith) (omega arith) index);
-    } in
-    let after = to_operators level n (Element (named x at) inner.again) k v _ m' rest end weaker s in
-    let whole_of : Spells all p (part Index (λ i. chains 0 n (variable (named x at) i) k)) v (count d u) t1 m' end = part_there (λ i. chains 0 n (variable (named x at) i) k) (Some inner.again) v (count d u) (count (suc d - 1) total) m' t1 rest end start (recount d (suc d - 1) total total (omega arith) refl after) in
-    record {
-      token = Name x at; behind = t1; rule_of = record { opens = 0; counts = 0; is_whole = false; form = part Index (λ i. chains 0 n (variable (named x at) i) k) }; whole = e1; is = refl;
-      runs = (fits_count (d + 0) (u + 0) (omega (arith, h)) (omega (arith, few)), recount d (d + 0) u (u + 0) (omega arith) (omega arith) whole_of);
-    };
+      let form : Form Index = part (Level weakest) (λ e. sign_then sign.CloseIndex (close (done (Some e)))) in
+      let total = u + operators i in
+      let last : Spells all Index (close (done (Some inner.again))) (Some inner.again) (count (suc d) total) rest (count (suc d - 1) total) rest = Grammar.end_of_construct Grammar.nothing_more in
+      let index : Spells all Index form (Some inner.again) (count (suc d) u) t2 (count (suc d - 1) total) rest = level_again inner u (λ e. sign_then sign.CloseIndex (close (done (Some e)))) (Some inner.again) _ rest few (sign_there sign.CloseIndex _ _ _ _ shut t3 rest rest e3 refl last) in
+      let start : Starts (rule Index) (Some inner.again) (count d u) t1 (count (suc d - 1) total) rest = record {
+        token = Sign_of sign.OpenIndex opened;
+        behind = t2;
+        rule_of = record { opens = 1; counts = 0; is_whole = false; form = form };
+        whole = e2;
+        is = refl;
+        runs = (fits_count (d + 1) (u + 0) (omega (arith, h)) (omega (arith, few)), recount (suc d) (d + 1) u (u + 0) (omega arith) (omega arith) index);
+      } in
+      let after = to_operators level n (Element (named x at) inner.again) k v _ m' rest end weaker s in
+      let whole_of : Spells all p (part Index (λ i. chains 0 n (variable (named x at) i) k)) v (count d u) t1 m' end = part_there (λ i. chains 0 n (variable (named x at) i) k) (Some inner.again) v (count d u) (count (suc d - 1) total) m' t1 rest end start (recount d (suc d - 1) total total (omega arith) refl after) in
+      record {
+        token = Name x at;
+        behind = t1;
+        rule_of = record { opens = 0; counts = 0; is_whole = false; form = part Index (λ i. chains 0 n (variable (named x at) i) k) };
+        whole = e1;
+        is = refl;
+        runs = (fits_count (d + 0) (u + 0) (omega (arith, h)) (omega (arith, few)), recount d (d + 0) u (u + 0) (omega arith) (omega arith) whole_of);
+      };
 }
 
 minus_again : (e : Exp) (at : Span) (level d : ℕ) (ts t1 rest : List Token) → suc d ≤ depth_limit → ts ≡ Sign_of sign.Minus at ∷ t1 → IsReadAgain e 0 (suc d) t1 rest → IsReadAgain (Neg e) level d ts rest
@@ -101,14 +114,18 @@ minus_again e at level d ts t1 rest h e1 inner = record {
   again = Neg inner.again;
   same = ap (λ x. plain.Negate x) inner.same;
   starts = λ {p} n u k v m' end weaker few s.
-    let after = to_operators level n (Neg inner.again) k v _ m' rest end weaker s in
-    let total = u + 1 + operators e in
-    let shut : Spells all p (close (chains 0 n (Neg inner.again) k)) v (count (suc d) total) rest m' end = Grammar.end_of_construct (recount d (suc d - 1) (u + suc (operators e)) total (omega arith) (omega arith) after) in
-    let form = level_again inner (u + 1) (λ x. close (chains 0 n (Neg x) k)) v m' end (omega (arith, few)) shut in
-    record {
-      token = Sign_of sign.Minus at; behind = t1; rule_of = record { opens = 1; counts = 1; is_whole = false; form = part (Level 0) (λ x. close (chains 0 n (Neg x) k)) }; whole = e1; is = refl;
-      runs = (fits_count (d + 1) (u + 1) (omega (arith, h)) (omega (arith, few)), recount (suc d) (d + 1) (u + 1) (u + 1) (omega arith) refl form);
-    };
+      let after = to_operators level n (Neg inner.again) k v _ m' rest end weaker s in
+      let total = u + 1 + operators e in
+      let shut : Spells all p (close (chains 0 n (Neg inner.again) k)) v (count (suc d) total) rest m' end = Grammar.end_of_construct (recount d (suc d - 1) (u + suc (operators e)) total (omega arith) (omega arith) after) in
+      let form = level_again inner (u + 1) (λ x. close (chains 0 n (Neg x) k)) v m' end (omega (arith, few)) shut in
+      record {
+        token = Sign_of sign.Minus at;
+        behind = t1;
+        rule_of = record { opens = 1; counts = 1; is_whole = false; form = part (Level 0) (λ x. close (chains 0 n (Neg x) k)) };
+        whole = e1;
+        is = refl;
+        runs = (fits_count (d + 1) (u + 1) (omega (arith, h)) (omega (arith, few)), recount (suc d) (d + 1) (u + 1) (u + 1) (omega arith) refl form);
+      };
 }
 
 parenthesized_again : (e : Exp) (opened shut : Span) (level d : ℕ) (ts t1 t2 rest : List Token) → suc d ≤ depth_limit → ts ≡ Sign_of sign.Open opened ∷ t1 → IsReadAgain e weakest (suc d) t1 t2 → t2 ≡ Sign_of sign.Close shut ∷ rest → IsReadAgain e level d ts rest
@@ -116,26 +133,30 @@ parenthesized_again e opened shut level d ts t1 t2 rest h e1 inner e2 = record {
   again = inner.again;
   same = inner.same;
   starts = λ {p} n u k v m' end weaker few s.
-    let after = to_operators level n inner.again k v _ m' rest end weaker s in
-    let total = u + operators e in
-    let closing : Spells all p (close (chains 0 n inner.again k)) v (count (suc d) total) rest m' end = Grammar.end_of_construct (recount d (suc d - 1) total total (omega arith) refl after) in
-    let form = level_again inner u (λ x. sign_then sign.Close (close (chains 0 n x k))) v m' end few (sign_there sign.Close _ _ _ _ shut t2 rest end e2 refl closing) in
-    record {
-      token = Sign_of sign.Open opened; behind = t1; rule_of = record { opens = 1; counts = 0; is_whole = false; form = part (Level weakest) (λ x. sign_then sign.Close (close (chains 0 n x k))) }; whole = e1; is = refl;
-      runs = (fits_count (d + 1) (u + 0) (omega (arith, h)) (omega (arith, few)), recount (suc d) (d + 1) u (u + 0) (omega arith) (omega arith) form);
-    };
+      let after = to_operators level n inner.again k v _ m' rest end weaker s in
+      let total = u + operators e in
+      let closing : Spells all p (close (chains 0 n inner.again k)) v (count (suc d) total) rest m' end = Grammar.end_of_construct (recount d (suc d - 1) total total (omega arith) refl after) in
+      let form = level_again inner u (λ x. sign_then sign.Close (close (chains 0 n x k))) v m' end few (sign_there sign.Close _ _ _ _ shut t2 rest end e2 refl closing) in
+      record {
+        token = Sign_of sign.Open opened;
+        behind = t1;
+        rule_of = record { opens = 1; counts = 0; is_whole = false; form = part (Level weakest) (λ x. sign_then sign.Close (close (chains 0 n x k))) };
+        whole = e1;
+        is = refl;
+        runs = (fits_count (d + 1) (u + 0) (omega (arith, h)) (omega (arith, few)), recount (suc d) (d + 1) u (u + 0) (omega arith) (omega arith) form);
+      };
 }
 
 -- ---- operators
 
 -- the level of an operator, and the operator of its sign
-record IsOperator (j : Joint) : Type 0 where
-  below : ℕ
-  level : sign_level (joint_sign j) ≡ suc below
-  few : suc below ≤ weakest
-  is : sign_infix (joint_sign j) ≡ Some (record { joint = j; level = suc below })
+pub record IsOperator (j : Joint) : Type 0 where
+  pub below : ℕ
+  pub level : sign_level (joint_sign j) ≡ suc below
+  pub few : suc below ≤ weakest
+  pub is : sign_infix (joint_sign j) ≡ Some (record { joint = j; level = suc below })
 
-operator_is : (j : Joint) → IsOperator j
+pub operator_is : (j : Joint) → IsOperator j
 operator_is (joint.Binary operator.Add) = record { below = 1; level = refl; few = omega arith; is = refl }
 operator_is (joint.Binary operator.Subtract) = record { below = 1; level = refl; few = omega arith; is = refl }
 operator_is (joint.Binary operator.Multiply) = record { below = 0; level = refl; few = omega arith; is = refl }
@@ -167,13 +188,17 @@ operator_more : {r : Exp} {o d : ℕ} {t2 rest : List Token} (again : IsReadAgai
     Spells all p (part (Chain (suc o) (joined j l again.again)) k) v (count d (u + 1 + operators r)) rest m' end → Spells all p (part (Chain (suc o) l) k) v (count d u) t1 m' end
 operator_more {r} {o} {d} {t2} {rest} again {p} j l u at t1 k v m' end h few is e s =
     let whole_end : (e2 : Exp) (c : Count) (middle : List Token) → Spells all (Chain (suc o) l) (part (Chain (suc o) (joined j l again.again)) done) e2 (count d (u + 1 + operators r)) rest c middle → Spells all p (k e2) v c middle m' end → Spells all p (part (Chain (suc o) l) k) v (count d u) t1 m' end =
-        λ e2 c middle inner after.
-          part_there k e2 v (count d u) c m' t1 middle end
-          (record {
-            token = Sign_of (joint_sign j) at; behind = t2; rule_of = behind_operator o j l; whole = e; is = operator_rule j o l at is;
-            runs = (fits_count (d + 0) (u + 1) (omega (arith, h)) (omega (arith, few)), recount d (d + 0) (u + 1) (u + 1) (omega arith) refl (level_again again (u + 1) (λ x. part (Chain (suc o) (joined j l x)) done) e2 c middle few inner));
-          })
-          after
+    λ e2 c middle inner after.
+    part_there k e2 v (count d u) c m' t1 middle end
+    (record {
+      token = Sign_of (joint_sign j) at;
+      behind = t2;
+      rule_of = behind_operator o j l;
+      whole = e;
+      is = operator_rule j o l at is;
+      runs = (fits_count (d + 0) (u + 1) (omega (arith, h)) (omega (arith, few)), recount d (d + 0) (u + 1) (u + 1) (omega arith) refl (level_again again (u + 1) (λ x. part (Chain (suc o) (joined j l x)) done) e2 c middle few inner));
+    })
+    after
     in
     elim (inside s) [
       | inr left ↦ whole_end left.tree _ rest (Grammar.no_part left.is Grammar.nothing_more) left.onward
@@ -191,13 +216,13 @@ bare_again j l r o level d at ts t1 t2 rest h is weaker left e right = record {
   again = joined j left.again right.again;
   same = plain_joined j left.again l right.again r left.same right.same;
   starts = λ {p} n u k v m' end within few s.
-    let both = joined_operators j l r in
-    let total : u + operators (joined j l r) ≡ u + operators l + 1 + operators r = omega (arith, both) in
-    let here : Spells all p (chains o (suc (n - suc o)) (joined j left.again right.again) k) v (count d (u + operators l + 1 + operators r)) rest m' end =
-        recount d d _ _ refl total (chains_over o (level - 1) (suc (n - suc o)) (n - (level - 1)) (joined j left.again right.again) k v _ m' rest end (omega (arith, weaker, within)) (omega (arith, weaker)) s) in
-    let first : Spells all p (chains o (suc (n - suc o)) left.again k) v (count d (u + operators l)) t1 m' end =
-        operator_more right j left.again (u + operators l) at t1 (λ f. chains (suc o) (n - suc o) f k) v m' end h (omega (arith, few, both)) is e here in
-    left.starts n u k v m' end (omega (arith, weaker, within)) (omega (arith, few, both)) (chains_over (suc o - 1) o (n - (suc o - 1)) (suc (n - suc o)) left.again k v _ m' t1 end (omega (arith, weaker, within)) (omega arith) first);
+      let both = joined_operators j l r in
+      let total : u + operators (joined j l r) ≡ u + operators l + 1 + operators r = omega (arith, both) in
+      let here : Spells all p (chains o (suc (n - suc o)) (joined j left.again right.again) k) v (count d (u + operators l + 1 + operators r)) rest m' end =
+      recount d d _ _ refl total (chains_over o (level - 1) (suc (n - suc o)) (n - (level - 1)) (joined j left.again right.again) k v _ m' rest end (omega (arith, weaker, within)) (omega (arith, weaker)) s) in
+      let first : Spells all p (chains o (suc (n - suc o)) left.again k) v (count d (u + operators l)) t1 m' end =
+      operator_more right j left.again (u + operators l) at t1 (λ f. chains (suc o) (n - suc o) f k) v m' end h (omega (arith, few, both)) is e here in
+      left.starts n u k v m' end (omega (arith, weaker, within)) (omega (arith, few, both)) (chains_over (suc o - 1) o (n - (suc o - 1)) (suc (n - suc o)) left.again k v _ m' t1 end (omega (arith, weaker, within)) (omega arith) first);
 }
 
 -- what is known of an operand
@@ -227,7 +252,7 @@ infix_again : (j : Joint) (l r : Exp) → ReadsAgain l → ReadsAgain r → (lev
 infix_again j l r reads_l reads_r level d ts rest h fits_both s =
     let own = sign_level (joint_sign j) in
     elim (nat_lt level own) as (λ b. nat_lt level own ≡ b → Parenthesized b (λ n. FitsExp l own n × FitsExp r (own - 1) n) d →
-      Spelled (if_needed b sign.Open ++ (exp_pieces l own ++ A_sign (joint_sign j) ∷ (exp_pieces r (own - 1) ++ if_needed b sign.Close))) ts rest → IsReadAgain (joined j l r) level d ts rest) [
+    Spelled (if_needed b sign.Open ++ (exp_pieces l own ++ A_sign (joint_sign j) ∷ (exp_pieces r (own - 1) ++ if_needed b sign.Close))) ts rest → IsReadAgain (joined j l r) level d ts rest) [
       | true ↦ λ e f t.
           let op = operator_is j in
           let own_is = op.level in

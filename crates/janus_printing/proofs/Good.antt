@@ -1,5 +1,5 @@
 -- The names and numbers of a text's tokens are ones.
-use Rattle.std.proofs.Common.{◌≡◌, ℕ, ◌≤◌, List, [], ◌∷◌, subst, sym}
+use Rattle.std.proofs.Common.{ℕ, ◌≤◌, List, [], ◌∷◌, subst, sym}
 use Rattle.janus_syntax.specs.declared.token.Span.{Span}
 use Rattle.janus_syntax.specs.Tokens.{Token, Name, Number, Sign_of, Word_of}
 use Rattle.janus_syntax.specs.Lexical

@@ -2,6 +2,7 @@ mod Inside
 mod Fits
 mod Good
 mod Measures
+mod ExpressionMeasures
 mod BlockMeasures
 mod StatementMeasures
 mod CellMeasures
@@ -9,3 +10,8 @@ mod Spelled
 mod Expressions
 mod Onward
 mod Statements
+mod CellAgain
+mod Pieces
+mod Digits
+mod Lexed
+mod Theorems

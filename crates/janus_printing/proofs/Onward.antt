@@ -1,13 +1,10 @@
 -- Derivations of statements put together, whatever the count of operators.
-use Rattle.std.proofs.Common.{◌≡◌, ℕ, suc, ◌+◌, ◌-◌, ◌<◌, ◌≤◌, List, [], ◌∷◌, Option, Some, None, Bool, true, false, cond, refl, ap, sym, subst, ◌∙◌, arith}
-use Rattle.janus_syntax.specs.declared.token.Span.{Span}
-use Rattle.janus_syntax.specs.declared.token.Sign.{Sign}
-use Rattle.janus_syntax.specs.declared.token.Word.{Word}
-use Rattle.janus_syntax.specs.Tokens.{Token, Sign_of, Word_of}
+use Rattle.std.proofs.Common.{◌≡◌, ℕ, suc, ◌+◌, ◌-◌, ◌≤◌, List, ◌∷◌, Option, Some, Bool, true, false, cond, refl, ap, sym, subst, arith}
+use Rattle.janus_syntax.specs.Tokens.{Token}
 use Rattle.janus_syntax.specs.Tree.{Exp}
 use Rattle.janus_syntax.specs.Operators.{weakest}
-use Rattle.janus_syntax.specs.Forms.{Part, Whole, Tree, Class, Seen, The_word, The_sign, seen, Form, done, take, part, close, Rule}
-use Rattle.janus_syntax.specs.Table.{rule, left_out, whole, operand, chains}
+use Rattle.janus_syntax.specs.Forms.{Part, Whole, Tree, Class, Seen, seen, Form, done, take, part, close, Rule}
+use Rattle.janus_syntax.specs.Table.{rule, left_out, whole, chains}
 use Rattle.janus_syntax.specs.Grammar
 use Rattle.janus_syntax.specs.Grammar.{Count, all, entered, closed, fits, depth_limit, operator_limit, Spells}
 use Rattle.janus_syntax.specs.Reading.{count}
@@ -86,9 +83,9 @@ whole_again e d ts rest h f s =
       again = r.again;
       same = r.same;
       spells = λ {p} k v d' end onward.
-        part_to k r.again v d d d' ts rest end
-        (λ u few.
+          part_to k r.again v d d d' ts rest end
+          (λ u few.
           let a = r.starts {p = Whole} weakest 0 done r.again (count d (0 + operators e)) rest (omega arith) (let n = f.1 in omega (arith, n)) (nothing_behind r.again (count d (0 + operators e)) rest) in
           (0 + operators e, (let n = f.1 in omega (arith, n)), record { token = a.token; behind = a.behind; rule_of = record { opens = a.rule_of.opens; counts = a.rule_of.counts; is_whole = true; form = a.rule_of.form }; whole = a.whole; is = ap whole a.is; runs = whole_runs a.rule_of d u r.again a.behind (count d (0 + operators e)) rest a.runs }))
-        onward;
+          onward;
     }

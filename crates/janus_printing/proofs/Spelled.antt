@@ -1,5 +1,5 @@
 -- Tokens that spell pieces of print, and derivations put together.
-use Rattle.std.proofs.Common.{◌≡◌, ℕ, zero, suc, ◌+◌, ◌-◌, ◌<◌, ◌≤◌, List, [], ◌∷◌, ◌++◌, Option, Some, None, true, refl, ap, sym, subst, ◌∙◌, inl, inr, arith}
+use Rattle.std.proofs.Common.{◌≡◌, ℕ, zero, suc, ◌+◌, ◌≤◌, List, [], ◌∷◌, ◌++◌, Option, Some, refl, sym, subst, inl, inr, arith}
 use Rattle.std.proofs.str.Laws.{order}
 use Rattle.janus_syntax.specs.declared.token.Span.{Span}
 use Rattle.janus_syntax.specs.declared.token.Sign.{Sign}
@@ -7,8 +7,8 @@ use Rattle.janus_syntax.specs.declared.token.Sign.TheVariants as sign
 use Rattle.janus_syntax.specs.declared.token.Word.{Word}
 use Rattle.janus_syntax.specs.Tokens.{Token, Name, Number, Sign_of, Word_of}
 use Rattle.janus_syntax.specs.Tree.{Exp}
-use Rattle.janus_syntax.specs.Forms.{Part, Chain, Tree, The_word, The_sign, seen, Form, done, part, Rule}
-use Rattle.janus_syntax.specs.Table.{rule, left_out, chains, word_then, sign_then}
+use Rattle.janus_syntax.specs.Forms.{Part, Tree, The_word, The_sign, seen, Form, part, Rule}
+use Rattle.janus_syntax.specs.Table.{rule, chains, word_then, sign_then}
 use Rattle.janus_syntax.specs.Grammar
 use Rattle.janus_syntax.specs.Grammar.{Count, all, Spells}
 use Rattle.janus_syntax.specs.Printing.{Piece, A_name, A_number, A_sign, A_word, A_minus}

@@ -1,19 +1,20 @@
 -- Each statement that was read fits, and so does a cell.
-use Rattle.std.proofs.Common.{◌≡◌, ℕ, zero, suc, ◌+◌, ◌-◌, ◌<◌, ◌≤◌, List, [], ◌∷◌, length, Option, Some, None, false, refl, ap, sym, subst, ◌∙◌, inl, inr, arith}
+use Rattle.std.proofs.Common.{◌≡◌, ℕ, zero, suc, ◌+◌, ◌-◌, ◌≤◌, List, length, Option, Some, None, false, refl, ap, sym, subst, inl, inr, arith}
 use Rattle.janus_syntax.specs.declared.token.Span.{Span}
 use Rattle.janus_syntax.specs.declared.token.Sign.TheVariants as sign
 use Rattle.janus_syntax.specs.declared.token.Word.TheVariants as word
 use Rattle.janus_syntax.specs.declared.tree.Update.{Update}
 use Rattle.janus_syntax.specs.Tokens.{Token, Name, Number, Sign_of, Word_of}
-use Rattle.janus_syntax.specs.Tree.{named, Exp, Stm, Skip, Assign, AssignElement, If, Loop, Block, Empty, More}
+use Rattle.janus_syntax.specs.Tree.{named, Exp, Stm, Skip, If, Loop, Block, More}
 use Rattle.janus_syntax.specs.Forms.{Part, Body, Statements, Else_part, Do_part, Loop_part, Target_index, Whole, Tree, An_update, Form, done, take, part, close, Rule}
-use Rattle.janus_syntax.specs.Table.{rule, left_out, assignment, word_then, sign_then, statement}
-use Rattle.janus_syntax.specs.Grammar.{Count, all, closed, depth_limit, operator_limit, Spells}
+use Rattle.janus_syntax.specs.Table.{rule, assignment, word_then, sign_then, statement}
+use Rattle.janus_syntax.specs.Grammar.{Count, all, depth_limit, Spells}
 use Rattle.janus_syntax.specs.Reading.{count}
 use Rattle.janus_printing.proofs.Inside.{inside}
 use Rattle.janus_printing.proofs.Fits.{FitsWhole, FitsStm, FitsBlock}
 use Rattle.janus_printing.proofs.Good.{IsGood, AreGood}
-use Rattle.janus_printing.proofs.Measures.{recount, Runs, runs_as, few_of, good_behind, shorter_behind, close_behind, whole_read}
+use Rattle.janus_printing.proofs.Measures.{recount, Runs, runs_as, few_of, good_behind, shorter_behind, close_behind}
+use Rattle.janus_printing.proofs.ExpressionMeasures.{whole_read}
 use Rattle.janus_printing.proofs.BlockMeasures.{IsStm, IsMeasured, BlocksMeasured, word_behind, body_read, statements_read, else_is, do_is, loop_is, optional_read}
 
 -- ---- assignments

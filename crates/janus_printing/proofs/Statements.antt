@@ -1,5 +1,5 @@
 -- The tokens that spell the print of statements spell those statements, places aside.
-use Rattle.std.proofs.Common.{◌≡◌, ℕ, suc, ◌+◌, ◌<◌, ◌≤◌, List, [], ◌∷◌, ◌++◌, Option, Some, None, false, refl, ap, sym, subst, ◌∙◌, arith}
+use Rattle.std.proofs.Common.{◌≡◌, ℕ, suc, ◌≤◌, List, ◌∷◌, ◌++◌, Some, None, false, refl, ap, sym, subst, ◌∙◌}
 use Rattle.janus_meaning.specs.Syntax as plain
 use Rattle.janus_syntax.specs.declared.token.Span.{Span}
 use Rattle.janus_syntax.specs.declared.token.Sign.TheVariants as sign
@@ -7,13 +7,13 @@ use Rattle.janus_syntax.specs.declared.token.Word.{Word}
 use Rattle.janus_syntax.specs.declared.token.Word.TheVariants as word
 use Rattle.janus_syntax.specs.declared.tree.Update.{Update}
 use Rattle.janus_syntax.specs.declared.tree.Update.TheVariants as update
-use Rattle.janus_syntax.specs.Tokens.{Token, Name, Number, Sign_of, Word_of}
+use Rattle.janus_syntax.specs.Tokens.{Token, Name, Sign_of, Word_of}
 use Rattle.janus_syntax.specs.Tree.{named, Exp, Stm, Skip, Assign, AssignElement, If, Loop, Block, Empty, More}
-use Rattle.janus_syntax.specs.Forms.{Part, Body, Statements, Else_part, Do_part, Loop_part, Target_index, Whole, Tree, The_word, The_sign, An_update, seen, Form, done, take, part, close, Rule}
+use Rattle.janus_syntax.specs.Forms.{Part, Body, Statements, Else_part, Do_part, Loop_part, Target_index, Whole, Tree, The_word, The_sign, An_update, seen, Form, done, take, part, close}
 use Rattle.janus_syntax.specs.Table.{rule, assignment, word_then, sign_then, statement}
-use Rattle.janus_syntax.specs.Grammar.{all, depth_limit, operator_limit, Spells}
-use Rattle.janus_syntax.specs.Printing.{Piece, A_name, A_sign, A_word, update_sign, whole_pieces, stm_pieces, block_pieces}
-use Rattle.janus_syntax.specs.View.{plain_exp, plain_stm, plain_block, update_of}
+use Rattle.janus_syntax.specs.Grammar.{depth_limit}
+use Rattle.janus_syntax.specs.Printing.{A_sign, A_word, update_sign, whole_pieces, stm_pieces, block_pieces}
+use Rattle.janus_syntax.specs.View.{plain_stm, plain_block, update_of}
 use Rattle.janus_printing.proofs.Fits.{FitsWhole, FitsStm, FitsBlock, IsBody}
 use Rattle.janus_printing.proofs.Spelled.{Spelled, in_two}
 use Rattle.janus_printing.proofs.Onward.{SpellsTo, StartsTo, done_to, part_to, left_to, token_to, close_to, begins_to, opens_to, whole_again}
@@ -45,10 +45,10 @@ assign_again x place u e d ts rest h f (at, t1, e1, (on, t2, e2, s)) =
       again = Assign (named x at) u r.again;
       same = ap (λ y. plain.Set x (update_of u) y) r.same;
       starts = λ {p} k v d' end onward.
-        begins_to (λ t. statement t k) (part Target_index (λ i. take An_update (λ w. part Whole (λ y. k (assignment (named x at) i w y))))) v d d' (Name x at) ts t1 end e1 refl h
-        (left_to (λ i. take An_update (λ w. part Whole (λ y. k (assignment (named x at) i w y)))) None v d d' t1 end refl
-        (token_to An_update (λ w. part Whole (λ y. k (assignment (named x at) None w y))) u v d d' (Sign_of (update_sign u) on) t1 t2 end e2 (update_seen u on)
-        (r.spells (λ y. k (Assign (named x at) u y)) v d' end onward)));
+          begins_to (λ t. statement t k) (part Target_index (λ i. take An_update (λ w. part Whole (λ y. k (assignment (named x at) i w y))))) v d d' (Name x at) ts t1 end e1 refl h
+          (left_to (λ i. take An_update (λ w. part Whole (λ y. k (assignment (named x at) i w y)))) None v d d' t1 end refl
+          (token_to An_update (λ w. part Whole (λ y. k (assignment (named x at) None w y))) u v d d' (Sign_of (update_sign u) on) t1 t2 end e2 (update_seen u on)
+          (r.spells (λ y. k (Assign (named x at) u y)) v d' end onward)));
     }
 
 assign_element_again : (x : List ℕ) (place : Span) (i : Exp) (u : Update) (e : Exp) (d : ℕ) (ts rest : List Token) → d ≤ depth_limit → suc d ≤ depth_limit → FitsWhole i (suc d) → FitsWhole e d → Spelled (stm_pieces (AssignElement (named x place) i u e)) ts rest → StmAgain (AssignElement (named x place) i u e) d ts rest
@@ -62,12 +62,12 @@ assign_element_again x place i u e d ts rest h few fits_i fits_e (at, t1, e1, (o
       again = AssignElement (named x at) j.again u r.again;
       same = (λ n. plain.SetAt x (j.same n) (update_of u) (r.same n));
       starts = λ {p} k v d' end onward.
-        begins_to (λ t. statement t k) (part Target_index (λ z. take An_update (λ w. part Whole (λ y. k (assignment (named x at) z w y))))) v d d' (Name x at) ts t1 end e1 refl h
-        (part_to (λ z. take An_update (λ w. part Whole (λ y. k (assignment (named x at) z w y)))) (Some j.again) v d d d' t1 shut.1 end
+          begins_to (λ t. statement t k) (part Target_index (λ z. take An_update (λ w. part Whole (λ y. k (assignment (named x at) z w y))))) v d d' (Name x at) ts t1 end e1 refl h
+          (part_to (λ z. take An_update (λ w. part Whole (λ y. k (assignment (named x at) z w y)))) (Some j.again) v d d d' t1 shut.1 end
           (opens_to (rule Target_index) (part Whole (λ y. sign_then sign.CloseIndex (close (done (Some y))))) (Some j.again) d d (Sign_of sign.OpenIndex opened) t1 t2 shut.1 e2 refl few
-            (j.spells {p = Target_index} (λ y. sign_then sign.CloseIndex (close (done (Some y)))) (Some j.again) d shut.1
-            (token_to {p = Target_index} (The_sign sign.CloseIndex) (λ z. close (done (Some j.again))) tt (Some j.again) (suc d) d (Sign_of sign.CloseIndex shut.0) two.0 shut.1 shut.1 shut.2 refl
-            (close_to {p = Target_index} (done (Some j.again)) (Some j.again) d d shut.1 shut.1 (done_to {p = Target_index} (Some j.again) d shut.1)))))
+          (j.spells {p = Target_index} (λ y. sign_then sign.CloseIndex (close (done (Some y)))) (Some j.again) d shut.1
+          (token_to {p = Target_index} (The_sign sign.CloseIndex) (λ z. close (done (Some j.again))) tt (Some j.again) (suc d) d (Sign_of sign.CloseIndex shut.0) two.0 shut.1 shut.1 shut.2 refl
+          (close_to {p = Target_index} (done (Some j.again)) (Some j.again) d d shut.1 shut.1 (done_to {p = Target_index} (Some j.again) d shut.1)))))
           (token_to An_update (λ w. part Whole (λ y. k (assignment (named x at) (Some j.again) w y))) u v d d' (Sign_of (update_sign u) on.0) shut.1 on.1 end on.2 (update_seen u on.0)
           (r.spells (λ y. k (AssignElement (named x at) j.again u y)) v d' end onward)));
     }
@@ -80,7 +80,7 @@ optional_to : {p q : Part} (w : Word) (at : Span) (from_block : Block → Tree q
 optional_to {p} {q} w at from_block k b d d' v ts t1 rest end h e is body r onward =
     part_to k (from_block r.again) v d d d' ts rest end
     (begins_to (rule q) (part Body (λ c. done (from_block c))) (from_block r.again) d d (Word_of w at) ts t1 rest e is h
-      (r.body body {p = q} (λ c. done (from_block c)) (from_block r.again) d rest (done_to {p = q} (from_block r.again) d rest)))
+    (r.body body {p = q} (λ c. done (from_block c)) (from_block r.again) d rest (done_to {p = q} (from_block r.again) d rest)))
     onward
 
 -- what is known of blocks
@@ -103,13 +103,13 @@ if_again e s t f reads_s reads_t d ts rest h (few, fits_e, fits_s, fits_t, fits_
       again = If re.again rs.again rt.again rf.again;
       same = (λ n. plain.If (re.same n) (rs.same n) (rt.same n) (rf.same n));
       starts = λ {p} k v d' end onward.
-        opens_to (λ x. statement x k) (part Whole (λ a. word_then word.Then (part Body (λ b. part Else_part (λ c. word_then word.Fi (part Whole (λ g. close (k (If a b c g))))))))) v d d' (Word_of word.If at) ts t1 end e1 refl few
-        (re.spells (λ a. word_then word.Then (part Body (λ b. part Else_part (λ c. word_then word.Fi (part Whole (λ g. close (k (If a b c g)))))))) v d' end
-        (token_to (The_word word.Then) (λ z. part Body (λ b. part Else_part (λ c. word_then word.Fi (part Whole (λ g. close (k (If re.again b c g))))))) tt v (suc d) d' (Word_of word.Then then_at.0) c1.0 then_at.1 end then_at.2 refl
-        (rs.body fits_s.0 (λ b. part Else_part (λ c. word_then word.Fi (part Whole (λ g. close (k (If re.again b c g)))))) v d' end
-        (optional_to {q = Else_part} word.Else else_at.0 (λ b. b) (λ c. word_then word.Fi (part Whole (λ g. close (k (If re.again rs.again c g))))) t (suc d) d' v c2.0 else_at.1 c3.0 end few else_at.2 refl fits_t.0 rt
-        (token_to (The_word word.Fi) (λ z. part Whole (λ g. close (k (If re.again rs.again rt.again g)))) tt v (suc d) d' (Word_of word.Fi fi_at.0) c3.0 fi_at.1 end fi_at.2 refl
-        (rf.spells (λ g. close (k (If re.again rs.again rt.again g))) v d' end (close_to (k (If re.again rs.again rt.again rf.again)) v d d' rest end onward)))))));
+          opens_to (λ x. statement x k) (part Whole (λ a. word_then word.Then (part Body (λ b. part Else_part (λ c. word_then word.Fi (part Whole (λ g. close (k (If a b c g))))))))) v d d' (Word_of word.If at) ts t1 end e1 refl few
+          (re.spells (λ a. word_then word.Then (part Body (λ b. part Else_part (λ c. word_then word.Fi (part Whole (λ g. close (k (If a b c g)))))))) v d' end
+          (token_to (The_word word.Then) (λ z. part Body (λ b. part Else_part (λ c. word_then word.Fi (part Whole (λ g. close (k (If re.again b c g))))))) tt v (suc d) d' (Word_of word.Then then_at.0) c1.0 then_at.1 end then_at.2 refl
+          (rs.body fits_s.0 (λ b. part Else_part (λ c. word_then word.Fi (part Whole (λ g. close (k (If re.again b c g)))))) v d' end
+          (optional_to {q = Else_part} word.Else else_at.0 (λ b. b) (λ c. word_then word.Fi (part Whole (λ g. close (k (If re.again rs.again c g))))) t (suc d) d' v c2.0 else_at.1 c3.0 end few else_at.2 refl fits_t.0 rt
+          (token_to (The_word word.Fi) (λ z. part Whole (λ g. close (k (If re.again rs.again rt.again g)))) tt v (suc d) d' (Word_of word.Fi fi_at.0) c3.0 fi_at.1 end fi_at.2 refl
+          (rf.spells (λ g. close (k (If re.again rs.again rt.again g))) v d' end (close_to (k (If re.again rs.again rt.again rf.again)) v d d' rest end onward)))))));
     }
 
 loop_again : (e : Exp) (s t : Block) (f : Exp) → BlockReads s → BlockReads t → (d : ℕ) (ts rest : List Token) → d ≤ depth_limit → FitsStm (Loop e s t f) d → Spelled (stm_pieces (Loop e s t f)) ts rest → StmAgain (Loop e s t f) d ts rest
@@ -128,12 +128,12 @@ loop_again e s t f reads_s reads_t d ts rest h (few, fits_e, fits_s, fits_t, fit
       again = Loop re.again rs.again rt.again rf.again;
       same = (λ n. plain.From (re.same n) (rs.same n) (rt.same n) (rf.same n));
       starts = λ {p} k v d' end onward.
-        opens_to (λ x. statement x k) (part Whole (λ a. part Do_part (λ b. part Loop_part (λ c. word_then word.Until (part Whole (λ g. close (k (Loop a b c g)))))))) v d d' (Word_of word.From at) ts t1 end e1 refl few
-        (re.spells (λ a. part Do_part (λ b. part Loop_part (λ c. word_then word.Until (part Whole (λ g. close (k (Loop a b c g))))))) v d' end
-        (optional_to {q = Do_part} word.Do do_at.0 (λ b. b) (λ b. part Loop_part (λ c. word_then word.Until (part Whole (λ g. close (k (Loop re.again b c g)))))) s (suc d) d' v c1.0 do_at.1 c2.0 end few do_at.2 refl fits_s.0 rs
-        (optional_to {q = Loop_part} word.Loop loop_at.0 (λ b. b) (λ c. word_then word.Until (part Whole (λ g. close (k (Loop re.again rs.again c g))))) t (suc d) d' v c2.0 loop_at.1 c3.0 end few loop_at.2 refl fits_t.0 rt
-        (token_to (The_word word.Until) (λ z. part Whole (λ g. close (k (Loop re.again rs.again rt.again g)))) tt v (suc d) d' (Word_of word.Until until_at.0) c3.0 until_at.1 end until_at.2 refl
-        (rf.spells (λ g. close (k (Loop re.again rs.again rt.again g))) v d' end (close_to (k (Loop re.again rs.again rt.again rf.again)) v d d' rest end onward))))));
+          opens_to (λ x. statement x k) (part Whole (λ a. part Do_part (λ b. part Loop_part (λ c. word_then word.Until (part Whole (λ g. close (k (Loop a b c g)))))))) v d d' (Word_of word.From at) ts t1 end e1 refl few
+          (re.spells (λ a. part Do_part (λ b. part Loop_part (λ c. word_then word.Until (part Whole (λ g. close (k (Loop a b c g))))))) v d' end
+          (optional_to {q = Do_part} word.Do do_at.0 (λ b. b) (λ b. part Loop_part (λ c. word_then word.Until (part Whole (λ g. close (k (Loop re.again b c g)))))) s (suc d) d' v c1.0 do_at.1 c2.0 end few do_at.2 refl fits_s.0 rs
+          (optional_to {q = Loop_part} word.Loop loop_at.0 (λ b. b) (λ c. word_then word.Until (part Whole (λ g. close (k (Loop re.again rs.again c g))))) t (suc d) d' v c2.0 loop_at.1 c3.0 end few loop_at.2 refl fits_t.0 rt
+          (token_to (The_word word.Until) (λ z. part Whole (λ g. close (k (Loop re.again rs.again rt.again g)))) tt v (suc d) d' (Word_of word.Until until_at.0) c3.0 until_at.1 end until_at.2 refl
+          (rf.spells (λ g. close (k (Loop re.again rs.again rt.again g))) v d' end (close_to (k (Loop re.again rs.again rt.again rf.again)) v d d' rest end onward))))));
     }
 
 -- ---- statements and blocks
@@ -150,15 +150,15 @@ more_again s b d ts middle rest first others = record {
   again = More first.again others.again;
   same = (λ n. plain.Cons (first.same n) (others.same n));
   statements = λ {p} k v d' end onward.
-    part_to {q = Statements} k (More first.again others.again) v d d d' ts rest end
-    (first.starts {p = Statements} (λ x. part Statements (λ y. done (More x y))) (More first.again others.again) d rest
+      part_to {q = Statements} k (More first.again others.again) v d d d' ts rest end
+      (first.starts {p = Statements} (λ x. part Statements (λ y. done (More x y))) (More first.again others.again) d rest
       (others.statements {p = Statements} (λ y. done (More first.again y)) (More first.again others.again) d rest (done_to {p = Statements} (More first.again others.again) d rest)))
-    onward;
+      onward;
   body = λ some {p} k v d' end onward.
-    part_to {q = Body} k (More first.again others.again) v d d d' ts rest end
-    (first.starts {p = Body} (λ x. part Statements (λ y. done (More x y))) (More first.again others.again) d rest
+      part_to {q = Body} k (More first.again others.again) v d d d' ts rest end
+      (first.starts {p = Body} (λ x. part Statements (λ y. done (More x y))) (More first.again others.again) d rest
       (others.statements {p = Body} (λ y. done (More first.again y)) (More first.again others.again) d rest (done_to {p = Body} (More first.again others.again) d rest)))
-    onward;
+      onward;
 }
 
 mutual

@@ -34,7 +34,7 @@ second (c ∷ cs) = head cs
 
 -- words are names, but for being reserved
 
-word_head : (w : Word) → class_of (head (word_text w)) ≡ class.Letter
+pub word_head : (w : Word) → class_of (head (word_text w)) ≡ class.Letter
 word_head word.Call = refl
 word_head word.Delocal = refl
 word_head word.Do = refl
@@ -58,7 +58,7 @@ word_head word.Top = refl
 word_head word.Uncall = refl
 word_head word.Until = refl
 
-word_passes : (w : Word) → AllPass of_name (word_text w)
+pub word_passes : (w : Word) → AllPass of_name (word_text w)
 word_passes word.Call = (refl, (refl, (refl, (refl, tt))))
 word_passes word.Delocal = (refl, (refl, (refl, (refl, (refl, (refl, (refl, tt)))))))
 word_passes word.Do = (refl, (refl, tt))
@@ -330,13 +330,13 @@ front_from f xs text rest n e k some is longest =
 
 -- a run that begins with a letter is a name's text
 
-letters_longest : (c : ℕ) (cs rest : List ℕ) → class_of c ≡ class.Letter → StopsAt of_name rest → NoLonger (c ∷ cs) rest
+pub letters_longest : (c : ℕ) (cs rest : List ℕ) → class_of c ≡ class.Letter → StopsAt of_name rest → NoLonger (c ∷ cs) rest
 letters_longest c cs rest k stops i more others e s = run_ends of_name cs rest more others stops e (letters_go_on i c (cs ++ more) k s)
 
-digits_longest : (c : ℕ) (cs rest : List ℕ) → class_of c ≡ class.Digit → StopsAt of_number rest → NoLonger (c ∷ cs) rest
+pub digits_longest : (c : ℕ) (cs rest : List ℕ) → class_of c ≡ class.Digit → StopsAt of_number rest → NoLonger (c ∷ cs) rest
 digits_longest c cs rest k stops i more others e s = run_ends of_number cs rest more others stops e (digits_go_on i c (cs ++ more) k s)
 
-space_longest : (c : ℕ) (rest : List ℕ) → class_of c ≡ class.Space → NoLonger (c ∷ []) rest
+pub space_longest : (c : ℕ) (rest : List ℕ) → class_of c ≡ class.Space → NoLonger (c ∷ []) rest
 space_longest c rest k i more others e s = space_ends i c more k s
 
 comment_longest : (cs rest : List ℕ) → StopsAt in_line rest → NoLonger (47 ∷ 47 ∷ cs) rest

@@ -1,5 +1,6 @@
 pub mod Scanning
 pub mod Fronts
+pub mod Longest
 pub mod Lexing
 pub mod OneLexing
 pub mod Places

@@ -1,11 +1,11 @@
 -- A block is printed one statement at a time, and declarations likewise.
-use Rattle.std.proofs.Common.{◌≡◌, ℕ, ◌+◌, ◌<◌, List, [], ◌∷◌, ◌++◌, length, take, get_or, refl, ap, sym, ◌∙◌, append_assoc}
+use Rattle.std.proofs.Common.{◌≡◌, ℕ, ◌+◌, ◌<◌, List, [], ◌∷◌, ◌++◌, length, take, get_or, ap, sym, ◌∙◌, append_assoc}
 use Rattle.std.proofs.lemmas.List.{take_more, append-nil}
 use Rattle.janus_syntax.specs.declared.tree.Stm as code_stm
 use Rattle.janus_syntax.specs.declared.tree.Declaration as code_declaration
 use Rattle.janus_syntax.specs.Tree.{Stm, Block, Empty, More, Declaration, stm_view, block_view, declaration_view, declarations_view}
 use Rattle.janus_syntax.specs.Statements.{followed_by}
-use Rattle.janus_syntax.specs.Printing.{Piece, Printed, with_pieces, stm_pieces, block_pieces, declaration_pieces, declarations_pieces}
+use Rattle.janus_syntax.specs.Printing.{Printed, with_pieces, stm_pieces, block_pieces, declaration_pieces, declarations_pieces}
 use Rattle.janus_syntax.proofs.Blocks as blocks
 use Rattle.janus_syntax.proofs.Declared as declared
 use Rattle.janus_syntax.proofs.Pieces.{behind}

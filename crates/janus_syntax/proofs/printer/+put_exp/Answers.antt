@@ -1,4 +1,4 @@
-use Rattle.std.proofs.Common.{sym, string_bytes, ◌-◌}
+use Rattle.std.proofs.Common.{string_bytes, ◌-◌}
 use Rattle.std.specs.Prelude.{nat_lt}
 use Rattle.janus_syntax.specs.declared.token.Sign.TheVariants as sign
 use Rattle.janus_syntax.specs.Tree.{exp_view}
