@@ -12,7 +12,8 @@
 //! - `one_tokens_law`, `one_tree_law`, `one_refusal_law`: a text has one list of tokens at most, one tree at most and one
 //!   refusal at most. `tree_or_refusal_law`: it has a tree or a refusal, and not both. So no answer is left to choice.
 //! - `wanted_law`: behind the beginning of a text one item is wanted at most, and one is just behind what begins a text.
-//! - `print_cell`, `print_exp`: the text is the one that `Printing` gives the tree. That it is read as the same tree is not proved yet.
+//! - `print_cell`, `print_exp`: the text is the one that `Printing` gives the tree. That it is read as the same tree is proved in
+//!   `janus_printing`.
 //! - `Exp::copy`, `Name::copy`: the same tree at the same places.
 //!
 //! The definitions are in specs/, to be read in this order: `Spelling`, `Lexical` (tokens of a text), `Tree`, `Operators`,
