@@ -17,6 +17,9 @@ mod serve;
 #[cfg(test)]
 mod tests;
 mod text;
+#[cfg(test)]
+mod transcripts;
+mod value;
 mod words;
 
 use crate::fault::{RunFault, status};

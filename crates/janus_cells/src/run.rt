@@ -19,8 +19,9 @@ ghost use Rattle.janus_cells.specs.Transcript.{ActionsServe, IsTranscript, came_
 use crate::command::Command;
 use crate::fault::RunFault;
 use crate::input::read_text;
-use crate::output::{WriteFailed, send, send_outcome, send_position, send_post_fault, send_value};
+use crate::output::{WriteFailed, send, send_outcome, send_position, send_post_fault};
 use crate::serve::serve;
+use crate::value::send_value;
 use kernel_core::{Job, Kernel, PostFault};
 use std::alloc::Global;
 use std::io::{Read, Write};
