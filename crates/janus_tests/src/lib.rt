@@ -17,3 +17,5 @@ mod reading;
 mod schedules;
 #[cfg(test)]
 mod storing;
+#[cfg(test)]
+mod trees;
