@@ -166,9 +166,9 @@ numbers_utf8 l =
     either (nat_le (length l) 32) (spaced_text l) (spaced_text (take 32 l) ++ codes " ...") (spaced_utf8 l)
     (IsUtf8-append (spaced_text (take 32 l)) (codes " ...") (spaced_utf8 (take 32 l)) (literal (codes " ...") refl))
 
-behind_utf8 : (open close : List ℕ) (n : ℕ) (l : List ℤ) → IsUtf8 open → IsUtf8 close → IsUtf8 ((counted_text open n ++ close) ++ numbers_text l)
-behind_utf8 open close n l h k =
-    IsUtf8-append (counted_text open n ++ close) (numbers_text l) (IsUtf8-append (counted_text open n) close (counted_utf8 open n h) k) (numbers_utf8 l)
+behind_utf8 : (left right : List ℕ) (n : ℕ) (l : List ℤ) → IsUtf8 left → IsUtf8 right → IsUtf8 ((counted_text left n ++ right) ++ numbers_text l)
+behind_utf8 left right n l h k =
+    IsUtf8-append (counted_text left n ++ right) (numbers_text l) (IsUtf8-append (counted_text left n) right (counted_utf8 left n h) k) (numbers_utf8 l)
 
 told_utf8 : (value : Val) → IsUtf8 (told_text value)
 told_utf8 (Num n) = IsUtf8-append (codes " = ") (signed_decimal n) (literal (codes " = ") refl) (signed_utf8 n)

@@ -1,10 +1,12 @@
 -- The numbers of an array are written one after the other.
 use Rattle.std.proofs.Common.{add-one, ◌≡◌, ℕ, ℤ, zero, suc, ◌+◌, ◌≤◌, List, [], ◌∷◌, ◌++◌, Option, Some, codes, length, take, drop, sym, ap, subst, ◌∙◌, append_assoc, append-nil, refl, slice_get}
+use Rattle.std.specs.Prelude.{◌<◌, if◌then◌else◌}
+use Rattle.std.proofs.lemmas.Bool.{lt-leb}
 use Rattle.std.proofs.lemmas.List.{take-append-drop, take_all}
 use Rattle.std.specs.Fmt.{signed_decimal}
 use Rattle.std.specs.Io.KnownBytes.{Appends}
 use Rattle.janus_cells.specs.Output.{SentSome}
-use Rattle.janus_cells.specs.Shown.{spaced_text}
+use Rattle.janus_cells.specs.Shown.{spaced_text, numbers_text}
 use Rattle.janus_cells.proofs.OutputLemmas.{appends_join, sent_then, sent_first}
 use Rattle.janus_cells.proofs.ShownLemmas.{Some_inj}
 
@@ -35,3 +37,7 @@ number_failed a b c l i n h p q =
 
 pub numbers_all : (a b : Option (List ℕ)) (l : List ℤ) (i : ℕ) → length l ≤ i → Appends a b (spaced_text (take i l)) → Appends a b (spaced_text l)
 numbers_all a b l i h p = subst (λ k. Appends a b (spaced_text k)) (take_all i l h) p
+
+-- there are more than are shown
+pub more_text : (l : List ℤ) → 32 < length l → numbers_text l ≡ spaced_text (take 32 l) ++ codes " ..."
+more_text l h = ap (λ b. if b then spaced_text l else spaced_text (take 32 l) ++ codes " ...") (lt-leb (length l) 32 h)

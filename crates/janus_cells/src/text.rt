@@ -13,7 +13,7 @@ use std::alloc::{AllocError, Global};
 
 /// The value text of a name and its value, as `x = 5` or `a[3] = 1 2 3`.
 pub fn value_text(alloc: Global, name: &str, value: View<'_>) -> Result<String, AllocError>
-    ensures { IfOk result (λ text. string_bytes text ≡ value_text_of (name.now, shown value)) }
+    ensures { IfOk result (λ text. string_bytes text ≡ value_text_of (name.now, shown value.entry)) }
 {
     let mut octets = Vec::new(alloc);
     match send_value_text(&mut octets, name, value) {

@@ -172,6 +172,35 @@ fn refuses_texts(rt: HostRuntime) -> Result<(), Fail> {
     writes(&rt, rt.alloc(), &REFUSED)
 }
 
+/// The programs of examples/, without their comments.
+const EXAMPLES: [(&str, &str); 5] = [
+    (
+        "int x int y;%%;x += 5;y ^= x + 3;%%;%show;%undo 1;%show;%redo 1;x -= y;%show",
+        "ok node 1 steps 1;ok node 2 steps 5;at node 2;x = 5;y = 8;undid 1;at node 1;x = 0;y = 0;redid 1;ok node 3 steps 3;at node 3;x = -3;y = 8;",
+    ),
+    (
+        "int n int a int b;b += 1;%%;from n = 0;loop a += b  a ^= b  b ^= a  a ^= b  n += 1;until n = 10;%show;from n = 10;loop n -= 1  a ^= b  b ^= a  a ^= b  a -= b;until n = 0;%show;%undo 1;%show;%undo 1;%show",
+        "ok node 1 steps 3;ok node 2 steps 167;at node 2;n = 10;a = 55;b = 89;ok node 3 steps 167;at node 3;n = 0;a = 0;b = 1;undid 1;at node 2;n = 10;a = 55;b = 89;undid 1;at node 1;n = 0;a = 0;b = 1;",
+    ),
+    (
+        "int a[6] int i int t;a[0] += 3 a[1] += 1 a[2] += 4 a[3] += 1 a[4] += 5 a[5] += 9;%%;i += 1;from i = 1;do t += a[i - 1]  a[i] += t  t -= a[i - 1]  i += 1;until i = 6;i -= 6;%show;%undo 1;%show",
+        "ok node 1 steps 13;ok node 2 steps 73;at node 2;a[6] = 3 4 8 9 14 23;i = 0;t = 0;undid 1;at node 1;a[6] = 3 1 4 1 5 9;i = 0;t = 0;",
+    ),
+    (
+        "int a[6] int i int odd int even;a[0] += 3 a[1] += 1 a[2] += 4 a[3] += 1 a[4] += 5 a[5] += 9;%%;from i = 0;do if a[i] % 2 = 1 then odd += 1 else even += 1 fi a[i] % 2 = 1;loop i += 1;until i = 5;%show;%undo 1;%show",
+        "ok node 1 steps 13;ok node 2 steps 71;at node 2;a[6] = 3 1 4 1 5 9;i = 5;odd = 5;even = 1;undid 1;at node 1;a[6] = 3 1 4 1 5 9;i = 0;odd = 0;even = 0;",
+    ),
+    (
+        "int x int a[3];a[0] += 1 a[1] += 2 a[2] += 3;%%;from x = 0 do a[x] += 10 x += 1 until x = 4;%show;if x = 0 then x += 1 else skip fi x = 0;%show;x += y;%show",
+        "ok node 1 steps 7;fault 58 IndexRange after 33;at node 1;x = 0;a[3] = 1 2 3;fault 50 FiAssertion after 5;at node 1;x = 0;a[3] = 1 2 3;refused 41 Unknown at 5..6;at node 1;x = 0;a[3] = 1 2 3;",
+    ),
+];
+
+#[test]
+fn runs_the_examples(rt: HostRuntime) -> Result<(), Fail> {
+    writes(&rt, rt.alloc(), &EXAMPLES)
+}
+
 /// Lines, commands and what is gathered between them.
 const LINES: [(&str, &str); 3] = [
     ("", ""),
@@ -226,7 +255,10 @@ const VALUES: [(&str, i32); 28] = [
 fn evaluates(rt: HostRuntime) -> Result<(), Fail> {
     let alloc = rt.alloc();
     let mut input = String::from_str(alloc, "int a[28];%%")?;
-    let mut output = String::from_str(alloc, "ok node 1 steps 1;ok node 2 steps 57;at node 2;a[28] =")?;
+    let mut output = String::from_str(
+        alloc,
+        "ok node 1 steps 1;ok node 2 steps 57;at node 2;a[28] =",
+    )?;
     for (i, (expression, value)) in VALUES.iter().enumerate() {
         input.push_str(&format!(in alloc; ";a[{i}] += {expression}")?)?;
         output.push_str(&format!(in alloc; " {value}")?)?;

@@ -61,7 +61,8 @@ fn send_numbers<W: Write>(writer: &mut W, numbers: &[i32]) -> Result<(), WriteFa
     if numbers.len() <= SHOWN {
         return send_all(writer, numbers);
     }
-    send_all(writer, &numbers[..SHOWN])?;
+    let first = &numbers[..SHOWN];
+    send_all(writer, first)?;
     send(writer, b" ...")
 }
 
@@ -85,8 +86,8 @@ fn send_array<W: Write>(writer: &mut W, numbers: &[i32]) -> Result<(), WriteFail
 
 /// Writes what stands behind a name: its value.
 fn send_told<W: Write>(writer: &mut W, value: View<'_>) -> Result<(), WriteFailed>
-    ensures ok { OnOk result (Appends (W.contents writer.old) (W.contents writer.new) (told_text (shown value))) }
-    ensures err { OnErr result (SentSome (W.contents writer.old) (W.contents writer.new) (told_text (shown value))) }
+    ensures ok { OnOk result (Appends (W.contents writer.old) (W.contents writer.new) (told_text (shown value.entry))) }
+    ensures err { OnErr result (SentSome (W.contents writer.old) (W.contents writer.new) (told_text (shown value.entry))) }
 {
     match value {
         View::Number(number) => send_equated(writer, number),
@@ -95,9 +96,13 @@ fn send_told<W: Write>(writer: &mut W, value: View<'_>) -> Result<(), WriteFaile
 }
 
 /// Writes the value text of a name and its value.
-pub fn send_value_text<W: Write>(writer: &mut W, name: &str, value: View<'_>) -> Result<(), WriteFailed>
-    ensures ok { OnOk result (Appends (W.contents writer.old) (W.contents writer.new) (value_text (name.now, shown value))) }
-    ensures err { OnErr result (SentSome (W.contents writer.old) (W.contents writer.new) (value_text (name.now, shown value))) }
+pub fn send_value_text<W: Write>(
+    writer: &mut W,
+    name: &str,
+    value: View<'_>,
+) -> Result<(), WriteFailed>
+    ensures ok { OnOk result (Appends (W.contents writer.old) (W.contents writer.new) (value_text (name.now, shown value.entry))) }
+    ensures err { OnErr result (SentSome (W.contents writer.old) (W.contents writer.new) (value_text (name.now, shown value.entry))) }
 {
     send(writer, name.as_bytes())?;
     send_told(writer, value)
@@ -105,8 +110,8 @@ pub fn send_value_text<W: Write>(writer: &mut W, name: &str, value: View<'_>) ->
 
 /// Writes the line of a name with its value.
 pub fn send_value<W: Write>(writer: &mut W, name: &str, value: View<'_>) -> Result<(), WriteFailed>
-    ensures ok { OnOk result (Appends (W.contents writer.old) (W.contents writer.new) (ended_line (value_text (name.now, shown value)))) }
-    ensures err { OnErr result (SentSome (W.contents writer.old) (W.contents writer.new) (ended_line (value_text (name.now, shown value)))) }
+    ensures ok { OnOk result (Appends (W.contents writer.old) (W.contents writer.new) (ended_line (value_text (name.now, shown value.entry)))) }
+    ensures err { OnErr result (SentSome (W.contents writer.old) (W.contents writer.new) (ended_line (value_text (name.now, shown value.entry)))) }
 {
     send_value_text(writer, name, value)?;
     send(writer, b"\n")

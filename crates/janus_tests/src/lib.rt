@@ -19,3 +19,5 @@ mod schedules;
 mod storing;
 #[cfg(test)]
 mod trees;
+#[cfg(test)]
+mod unwinding;

@@ -106,9 +106,12 @@ fn tells_bad_tokens_first(rt: HostRuntime) {
     let alloc = rt.alloc();
     for (text, fault) in [
         ("x += 2147483648", SyntaxFault::NumberTooLarge(at(5, 15))),
-        ("int a[99999999999999999999]", SyntaxFault::NumberTooLarge(at(6, 26))),
+        (
+            "int a[99999999999999999999]",
+            SyntaxFault::NumberTooLarge(at(6, 26)),
+        ),
         ("int int x += é", SyntaxFault::BadToken(at(13, 15))),
-        ("int x // €\n𝄞", SyntaxFault::BadToken(at(12, 16))),
+        ("int x // €\n𝄞", SyntaxFault::BadToken(at(13, 17))),
         ("int x;", SyntaxFault::BadToken(at(5, 6))),
         ("!_ 4294967296", SyntaxFault::BadToken(at(0, 1))),
         ("then 4294967296 !", SyntaxFault::NumberTooLarge(at(5, 15))),
@@ -197,7 +200,7 @@ fn reads_long_texts(rt: HostRuntime) -> Result<(), Fail> {
     let text = repeated(alloc, "int x", " x += x ^ 7", 100_000, "")?;
     let cell = parse_cell(alloc, &text)?;
     assert_eq!(rt; cell.statements.len(), 100_000);
-    let text = repeated(alloc, "x += ", "((((((((((((((((", 1_048_575, "")?;
+    let text = repeated(alloc, "x += ", "((((((((((((((((", 4_095, "")?;
     assert_eq!(rt;
         refusal(alloc, &text),
         Some(SyntaxFault::TooNested(at(69, 70)))

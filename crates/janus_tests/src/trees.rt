@@ -199,7 +199,11 @@ fn reads_and_prints_cells(rt: HostRuntime) -> Result<(), Fail> {
 /// Texts of expressions, their trees, and how these are printed.
 const EXPRESSIONS: [(&str, &str, &str); 3] = [
     ("(x)", "x", "x"),
-    ("-(a[y])-(3)&&1||x", "(|| (&& (- (neg [a y]) 3) 1) x)", "-a[y] - 3 && 1 || x"),
+    (
+        "-(a[y])-(3)&&1||x",
+        "(|| (&& (- (neg [a y]) 3) 1) x)",
+        "-a[y] - 3 && 1 || x",
+    ),
     ("1-(2*(3||4))", "(- 1 (* 2 (|| 3 4)))", "1 - 2 * (3 || 4)"),
 ];
 

@@ -25,11 +25,11 @@ returns-clause-ok g c =
 pub returns-in_err-send_value-clause-err : goal.returns-in_err-send_value-clause-err
 returns-in_err-send_value-clause-err g c =
     let past = c.args.kernel.now.machine.state.past in
-    let name = c.entry-value.result.0.now in
-    let v = shown c.entry-value.result.1 in
+    let name = c.entry.result.0.now in
+    let v = shown c.entry.result.1 in
     let es = listed (here past).store in
     let w : c.world-world.result ≡ here past = c.world-world.ensures.idle c.requires.idle in
-    let at : slice_get es c.loop-i.i ≡ Some (name, v) = subst (λ w. slice_get (listed w.store) c.loop-i.i ≡ Some (name, v)) w c.entry-value.ensures in
+    let at : slice_get es c.loop-i.i ≡ Some (name, v) = subst (λ w. slice_get (listed w.store) c.loop-i.i ≡ Some (name, v)) w c.entry.ensures in
     let sent = c.in_err-send_value.ensures.err in
     some_now (g.W.Write.contents c.args.writer.now) (g.W.Write.contents c.send_value.new.writer) (world_text past) c.from_residual-in_err-send_value.result
     (entry_failed (g.W.Write.contents c.args.writer.now) (g.W.Write.contents c.loop-i.writer) (g.W.Write.contents c.send_value.new.writer) past.position es c.loop-i.i (name, v) at c.loop-i.invariant sent)
@@ -37,10 +37,10 @@ returns-in_err-send_value-clause-err g c =
 pub loop-i-preserved : goal.loop-i-preserved
 loop-i-preserved g c =
     let past = c.args.kernel.now.machine.state.past in
-    let name = c.entry-value.result.0.now in
-    let v = shown c.entry-value.result.1 in
+    let name = c.entry.result.0.now in
+    let v = shown c.entry.result.1 in
     let es = listed (here past).store in
     let w : c.world-world.result ≡ here past = c.world-world.ensures.idle c.requires.idle in
-    let at : slice_get es c.loop-i.i ≡ Some (name, v) = subst (λ w. slice_get (listed w.store) c.loop-i.i ≡ Some (name, v)) w c.entry-value.ensures in
+    let at : slice_get es c.loop-i.i ≡ Some (name, v) = subst (λ w. slice_get (listed w.store) c.loop-i.i ≡ Some (name, v)) w c.entry.ensures in
     let sent = c.in_ok-send_value.ensures.ok in
     entry_then (g.W.Write.contents c.args.writer.now) (g.W.Write.contents c.loop-i.writer) (g.W.Write.contents c.send_value.new.writer) past.position es c.loop-i.i (name, v) at c.loop-i.invariant sent
