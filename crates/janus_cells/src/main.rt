@@ -9,8 +9,10 @@
 
 mod command;
 mod fault;
+mod gathered;
 mod input;
 mod laws;
+mod lines;
 mod output;
 mod run;
 mod serve;

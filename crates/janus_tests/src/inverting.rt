@@ -71,6 +71,7 @@ fn inverts_code(rt: HostRuntime) -> Result<(), Fail> {
     let inverse = invert_code(alloc, &code(alloc)?)?;
     assert_eq!(rt; inverse.members.as_slice(), [1, 2, 3, 0].as_slice());
     assert_eq!(rt; inverse.body.end, 4);
+    assert_eq!(rt; inverse.statements.len(), 4);
     assert_eq!(rt;
         change(&inverse.statements[0]),
         Some(("x", Update::Subtract))
