@@ -32,9 +32,6 @@ fn declares_numbers(rt: HostRuntime) -> Result<(), Fail> {
 fn declares_arrays(rt: HostRuntime) -> Result<(), Fail> {
     let mut store = Store::new(rt.alloc());
     store.declare_array("a", 3)?;
-    for (index, element) in [(-1, None), (0, Some(0)), (2, Some(0)), (3, None)] {
-        assert_eq!(rt; store.element("a", index), element);
-    }
     assert_eq!(rt; store.get("a"), None);
     assert!(rt; matches!(store.value("a"), Some(View::Array([0, 0, 0]))));
     Ok(())
