@@ -9,3 +9,4 @@ pub mod Serving
 pub mod ShownLemmas
 pub mod TextLemmas
 pub mod TranscriptLemmas
+pub mod ValueLemmas

@@ -1,5 +1,5 @@
 -- A request that is posted to a kernel without an open job is the one that is begun.
-use Rattle.std.proofs.Common.{◌≡◌, refl, ℕ, ◌+◌, zero, suc, Bool, true, false, List, [], ◌∷◌, ◌++◌, Ok, Err, ap, ◌∙◌, sym, subst, ⊎_elim}
+use Rattle.std.proofs.Common.{◌≡◌, ℕ, ◌+◌, zero, suc, Bool, true, false, List, [], ◌∷◌, ◌++◌, Ok, Err, ap, ◌∙◌, sym, subst, ⊎_elim}
 use Rattle.janus_meaning.specs.Limit.{step_limit}
 use Rattle.kernel_core.specs.State.{Past, State, Job, Idle, Border}
 use Rattle.kernel_core.specs.Begins.{travel_to, Enters, Departs, TakesCell, TakesMove, TakesGoto}

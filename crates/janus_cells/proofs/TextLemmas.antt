@@ -1,11 +1,12 @@
 -- What is written is UTF-8.
 use Rattle.std.proofs.Common.{◌≡◌, ℕ, ℤ, pos, negsuc, zero, suc, ◌+◌, ◌<◌, ◌%◌, ◌/◌, ◌==◌, Bool, true, false, ◌&&◌, nat_lt, List, [], ◌∷◌, ◌++◌, Option, Some, None, refl, sym, subst, codes, arith}
-use Rattle.std.specs.Prelude.{slice_index, if◌then◌else◌}
+use Rattle.std.specs.Prelude.{slice_index, length, take, nat_le, if◌then◌else◌}
 use Rattle.std.specs.Fmt.{digits, digits_onto, digit_glyph, decimal, signed_decimal}
 use Rattle.std.specs.List.{list_all}
 use Rattle.std.specs.Str.{IsUtf8}
 use Rattle.std.proofs.lemmas.Bool.{lt-ltb, ltb-true}
 use Rattle.std.proofs.lemmas.Str.{IsUtf8-append, IsUtf8-from_ascii, IsUtf8-nil}
+use Rattle.janus_meaning.specs.Store.{Val, Num, Arr, Stk, Lent}
 use Rattle.janus_machine.specs.Faults as fault
 use Rattle.janus_machine.specs.declared.fault.Fault.{Fault}
 use Rattle.janus_machine.specs.declared.fault.Fault.TheVariants.{FiAssertion, EntryAssertion, LoopAssertion, DelocalMismatch, PopNotZero, PopEmpty, TopEmpty, DivisionByZero, IndexRange, StackFull, TooDeep, TooManyStacks, StepLimit}
@@ -24,7 +25,7 @@ use Rattle.kernel_core.specs.declared.outcome.Outcome.TheVariants.{Ran, Failed, 
 use Rattle.kernel_core.specs.declared.outcome.Refusal.{Refusal}
 use Rattle.kernel_core.specs.declared.outcome.Refusal.TheVariants.{Syntax, Check, TooFar, NoNode, Closing, Memory}
 use Rattle.janus_cells.specs.Output.{counted_text, numbered_text, place_text, end_text, outcome_line}
-use Rattle.janus_cells.specs.Shown.{value_text}
+use Rattle.janus_cells.specs.Shown.{spaced_text, numbers_text, told_text, value_text}
 
 -- ---- pieces
 
@@ -104,8 +105,10 @@ check_name_utf8 : (f : CheckFault) → IsUtf8 (check.fault_name f)
 check_name_utf8 c.Memory = literal (codes "Memory") refl
 check_name_utf8 (c.Declared at) = literal (codes "Declared") refl
 check_name_utf8 (c.Unknown at) = literal (codes "Unknown") refl
+check_name_utf8 (c.WrongKind at) = literal (codes "WrongKind") refl
 check_name_utf8 (c.SelfUse at) = literal (codes "SelfUse") refl
 check_name_utf8 (c.TooMany at) = literal (codes "TooMany") refl
+check_name_utf8 (c.ArrayLength at) = literal (codes "ArrayLength") refl
 
 refusal_name_utf8 : (r : Refusal) → IsUtf8 (refusal.name_of r)
 refusal_name_utf8 (Syntax f) = syntax_name_utf8 f
@@ -150,8 +153,29 @@ outcome_utf8 (Refused r) =
     IsUtf8-append (numbered_text (codes "refused ") (refusal.number_of r) (refusal.name_of r)) (place_text (refusal.span_of r))
     (numbered_utf8 (codes "refused ") (refusal.number_of r) (refusal.name_of r) (literal (codes "refused ") refl) (refusal_name_utf8 r)) (place_utf8 (refusal.span_of r))
 
--- the value text of a name that is UTF-8
-pub value_utf8 : (name : List ℕ) (value : ℤ) → IsUtf8 name → IsUtf8 (value_text (name, value))
-value_utf8 name value h =
-    IsUtf8-append name (codes " = " ++ signed_decimal value) h
-    (IsUtf8-append (codes " = ") (signed_decimal value) (literal (codes " = ") refl) (signed_utf8 value))
+-- ---- the value text of a name
+
+spaced_utf8 : (l : List ℤ) → IsUtf8 (spaced_text l)
+spaced_utf8 [] = IsUtf8-nil
+spaced_utf8 (n ∷ more) =
+    IsUtf8-append (codes " " ++ signed_decimal n) (spaced_text more)
+    (IsUtf8-append (codes " ") (signed_decimal n) (literal (codes " ") refl) (signed_utf8 n)) (spaced_utf8 more)
+
+numbers_utf8 : (l : List ℤ) → IsUtf8 (numbers_text l)
+numbers_utf8 l =
+    either (nat_le (length l) 32) (spaced_text l) (spaced_text (take 32 l) ++ codes " ...") (spaced_utf8 l)
+    (IsUtf8-append (spaced_text (take 32 l)) (codes " ...") (spaced_utf8 (take 32 l)) (literal (codes " ...") refl))
+
+behind_utf8 : (left right : List ℕ) (n : ℕ) (l : List ℤ) → IsUtf8 left → IsUtf8 right → IsUtf8 ((counted_text left n ++ right) ++ numbers_text l)
+behind_utf8 left right n l h k =
+    IsUtf8-append (counted_text left n ++ right) (numbers_text l) (IsUtf8-append (counted_text left n) right (counted_utf8 left n h) k) (numbers_utf8 l)
+
+told_utf8 : (value : Val) → IsUtf8 (told_text value)
+told_utf8 (Num n) = IsUtf8-append (codes " = ") (signed_decimal n) (literal (codes " = ") refl) (signed_utf8 n)
+told_utf8 (Arr l) = behind_utf8 (codes "[") (codes "] =") (length l) l (literal (codes "[") refl) (literal (codes "] =") refl)
+told_utf8 (Stk l) = behind_utf8 (codes "(") (codes ") =") (length l) l (literal (codes "(") refl) (literal (codes ") =") refl)
+told_utf8 Lent = IsUtf8-nil
+
+-- of a name that is UTF-8
+pub value_utf8 : (name : List ℕ) (value : Val) → IsUtf8 name → IsUtf8 (value_text (name, value))
+value_utf8 name value h = IsUtf8-append name (told_text value) h (told_utf8 value)

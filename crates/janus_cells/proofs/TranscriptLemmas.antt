@@ -8,7 +8,7 @@ use Rattle.kernel_core.specs.declared.post.PostFault.{PostFault}
 use Rattle.kernel_core.proofs.Posts.{some_refusal}
 use Rattle.janus_cells.specs.declared.command.Command.{Command}
 use Rattle.janus_cells.specs.declared.command.Command.TheVariants.{Run, Undo, Redo, Goto, Show, Unknown}
-use Rattle.janus_cells.specs.declared.run.Gathered.{Gathered}
+use Rattle.janus_cells.specs.declared.gathered.Gathered.{Gathered}
 use Rattle.janus_cells.specs.Command.{command_of}
 use Rattle.janus_cells.specs.Gathering.{IsGathered}
 use Rattle.janus_cells.specs.Lines.{ended_line, is_blank, is_command_line, lines, trimmed}

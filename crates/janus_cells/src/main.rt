@@ -9,14 +9,19 @@
 
 mod command;
 mod fault;
+mod gathered;
 mod input;
 mod laws;
+mod lines;
 mod output;
 mod run;
 mod serve;
 #[cfg(test)]
 mod tests;
 mod text;
+#[cfg(test)]
+mod transcripts;
+mod value;
 mod words;
 
 use crate::fault::{RunFault, status};

@@ -1,10 +1,9 @@
 //! What is written, and what has gone out where the writer fails.
 ghost use Rattle.std.specs.Prelude.{◌++◌, codes, decimal, OnOk, OnErr};
-ghost use Rattle.std.specs.Fmt.{signed_decimal};
 ghost use Rattle.std.specs.Io.KnownBytes.{Appends};
 ghost use Rattle.janus_cells.specs.Ending.{fault_line};
 ghost use Rattle.janus_cells.specs.Lines.{ended_line};
-ghost use Rattle.janus_cells.specs.Shown.{equated_text, position_line, value_text};
+ghost use Rattle.janus_cells.specs.Shown.{position_line};
 ghost use Rattle.janus_cells.specs.Output.{SentSome, counted_text, end_text, fault_text, named_text, numbered_text, outcome_line, place_text, refusal_text, way_text};
 ghost use Rattle.janus_cells.specs.Transcript.{post_fault_line};
 
@@ -48,17 +47,8 @@ pub fn send_number<W: Write>(writer: &mut W, n: u64) -> Result<(), WriteFailed>
     send(writer, buffer.format(n).as_bytes())
 }
 
-/// Writes a number in decimal digits, behind a `-` where it is below 0.
-pub fn send_signed<W: Write>(writer: &mut W, n: i32) -> Result<(), WriteFailed>
-    ensures ok { OnOk result (Appends (W.contents writer.old) (W.contents writer.new) (signed_decimal n)) }
-    ensures err { OnErr result (SentSome (W.contents writer.old) (W.contents writer.new) (signed_decimal n)) }
-{
-    let mut text = Buffer::new();
-    send(writer, text.format(n).as_bytes())
-}
-
 /// Writes words, and then a number.
-fn send_counted<W: Write>(writer: &mut W, words: &str, n: u64) -> Result<(), WriteFailed>
+pub fn send_counted<W: Write>(writer: &mut W, words: &str, n: u64) -> Result<(), WriteFailed>
     ensures ok { OnOk result (Appends (W.contents writer.old) (W.contents writer.new) (counted_text words.now n)) }
     ensures err { OnErr result (SentSome (W.contents writer.old) (W.contents writer.new) (counted_text words.now n)) }
 {
@@ -226,32 +216,5 @@ pub fn send_position<W: Write>(writer: &mut W, node: u64) -> Result<(), WriteFai
     ensures err { OnErr result (SentSome (W.contents writer.old) (W.contents writer.new) (ended_line (position_line node))) }
 {
     send_counted(writer, "at node ", node)?;
-    send(writer, b"\n")
-}
-
-/// Writes an equals sign between spaces, and then a number.
-fn send_equated<W: Write>(writer: &mut W, value: i32) -> Result<(), WriteFailed>
-    ensures ok { OnOk result (Appends (W.contents writer.old) (W.contents writer.new) (equated_text value)) }
-    ensures err { OnErr result (SentSome (W.contents writer.old) (W.contents writer.new) (equated_text value)) }
-{
-    send(writer, b" = ")?;
-    send_signed(writer, value)
-}
-
-/// Writes the value text of a name and its value.
-pub fn send_value_text<W: Write>(writer: &mut W, name: &str, value: i32) -> Result<(), WriteFailed>
-    ensures ok { OnOk result (Appends (W.contents writer.old) (W.contents writer.new) (value_text (name.now, value))) }
-    ensures err { OnErr result (SentSome (W.contents writer.old) (W.contents writer.new) (value_text (name.now, value))) }
-{
-    send(writer, name.as_bytes())?;
-    send_equated(writer, value)
-}
-
-/// Writes the line of a name with its value.
-pub fn send_value<W: Write>(writer: &mut W, name: &str, value: i32) -> Result<(), WriteFailed>
-    ensures ok { OnOk result (Appends (W.contents writer.old) (W.contents writer.new) (ended_line (value_text (name.now, value)))) }
-    ensures err { OnErr result (SentSome (W.contents writer.old) (W.contents writer.new) (ended_line (value_text (name.now, value)))) }
-{
-    send_value_text(writer, name, value)?;
     send(writer, b"\n")
 }

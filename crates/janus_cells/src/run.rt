@@ -1,13 +1,12 @@
 //! The program over any reader and writer.
-ghost use Rattle.std.specs.Prelude.{◌≡◌, ◌≢◌, ◌||◌, ◌==◌, ◌<◌, ◌≤◌, ◌+◌, not, ℕ, false, true, List, [], ◌∷◌, ◌++◌, length, IfErr, IfNone, IfSome, MatchResult, OnOk, OnErr, string_bytes};
-ghost use Rattle.std.specs.List.{position_or_len, before_first, after_first};
-ghost use Rattle.std.specs.Option.{MatchOption};
+ghost use Rattle.std.specs.Prelude.{◌≡◌, ◌≢◌, ◌==◌, ◌+◌, ℕ, false, true, List, [], length, IfErr, IfSome, MatchResult, OnOk, OnErr};
+ghost use Rattle.std.specs.List.{position_or_len};
 ghost use Rattle.std.specs.Io.KnownBytes.{Appends, Keeps};
 ghost use Rattle.kernel_core.specs.Runs.{Machine, IsRefusal};
 ghost use Rattle.kernel_core.specs.Request.{request_of, RunCell};
 ghost use Rattle.kernel_core.specs.State.{Idle};
 ghost use Rattle.janus_cells.specs.Gathering.{IsGathered};
-ghost use Rattle.janus_cells.specs.Lines.{ended_line, is_blank as is_blank_text, is_command_line as is_command_line_text, lines};
+ghost use Rattle.janus_cells.specs.Lines.{ended_line, lines};
 ghost use Rattle.janus_cells.specs.Loop.{CommandServes, Does, LineServes, LinesServe, RunsRest, text_after};
 ghost use Rattle.janus_cells.specs.Output.{SentSome};
 ghost use Rattle.janus_cells.specs.RunFault.{IsServed, IsWhyUnread, TakesAtMost, input_limit};
@@ -18,22 +17,15 @@ ghost use Rattle.janus_cells.specs.Transcript.{ActionsServe, IsTranscript, came_
 
 use crate::command::Command;
 use crate::fault::RunFault;
+use crate::gathered::Gathered;
 use crate::input::read_text;
-use crate::output::{WriteFailed, send, send_outcome, send_position, send_post_fault, send_value};
+use crate::lines::{is_command_line, split_line};
+use crate::output::{WriteFailed, send, send_outcome, send_position, send_post_fault};
 use crate::serve::serve;
+use crate::value::send_value;
 use kernel_core::{Job, Kernel, PostFault};
 use std::alloc::Global;
 use std::io::{Read, Write};
-
-/// The text of a cell as far as it is gathered.
-#[derive(Drop)]
-struct Gathered {
-    text: String,
-    /// It has an octet that isn't space, tab, CR or LF.
-    has_text: bool,
-    /// There was no memory for a line of it.
-    lost: bool,
-}
 
 /// Reads all of the input, at most 16 MiB, and then runs it line by line: lines that begin with `%` are commands, all
 /// others gather to the text of a cell. What a command answers is written before the next one is run.
@@ -295,69 +287,4 @@ fn show<W: Write>(kernel: &Kernel, writer: &mut W) -> Result<(), WriteFailed>
         send_value(writer, name, value)?;
     }
     Ok(())
-}
-
-impl Gathered {
-    /// No text.
-    fn new(alloc: Global) -> Gathered
-        ensures { IsGathered result [] }
-    {
-        Gathered {
-            text: String::new(alloc),
-            has_text: false,
-            lost: false,
-        }
-    }
-
-    /// Adds a line and its LF. Where there is no memory for them the text is lost.
-    fn add(&mut self, line: &str)
-        ensures has_text { self.new.has_text ≡ (self.old.has_text || not (is_blank_text line.now)) }
-        ensures kept { self.new.lost ≡ false → self.old.lost ≡ false }
-        ensures text { self.new.lost ≡ false →
-            string_bytes self.new.text ≡ string_bytes self.old.text ++ ended_line line.now }
-    {
-        if !is_blank(line) {
-            self.has_text = true;
-        }
-        if self.text.push_str(line).is_err() || self.text.push('\n').is_err() {
-            self.lost = true;
-        }
-    }
-
-    /// The text, and none of it is left here; `None` where it was lost.
-    fn take(&mut self, alloc: Global) -> Option<String>
-        ensures taken { IsGathered self.new [] }
-        ensures kept { IfSome result (λ text. self.old.lost ≡ false) }
-        ensures lost { IfNone result (self.old.lost ≡ true) }
-        ensures text { IfSome result (λ text. string_bytes text ≡ string_bytes self.old.text) }
-    {
-        let text = std::mem::replace(&mut self.text, String::new(alloc));
-        let lost = self.lost;
-        self.has_text = false;
-        self.lost = false;
-        if lost { None } else { Some(text) }
-    }
-}
-
-/// The first line of a text, and what is behind its LF; `None` where there is no LF.
-fn split_line(text: &str) -> Option<(&str, &str)>
-    ensures cut { MatchOption result (position_or_len (λ b. b == 10) text.now ≡ length text.now)
-        (λ x. (x.0.now ≡ before_first (λ b. b == 10) text.now) × (x.1.now ≡ after_first (λ b. b == 10) text.now)
-        × (position_or_len (λ b. b == 10) text.now < length text.now)) }
-{
-    text.split_once('\n')
-}
-
-/// Whether a line begins with `%`.
-fn is_command_line(line: &str) -> bool
-    ensures { result ≡ is_command_line_text line.now }
-{
-    line.starts_with('%')
-}
-
-/// Whether a text has only spaces, tabs, CRs and LFs.
-fn is_blank(line: &str) -> bool
-    ensures { result ≡ is_blank_text line.now }
-{
-    line.bytes().all(|c| (c == b' ' || (c == b'\t' || c == b'\r')) || c == b'\n')
 }

@@ -3,120 +3,12 @@ use crate::output::send_run_fault;
 use crate::run::run;
 use crate::text::{outcome_line, value_text};
 use crate::words::{take_words, unread_words_status, words_status};
+use janus_store::View;
 use kernel_core::{CheckFault, End, Fault, Outcome, Refusal, Span};
 use std::alloc::Global;
 use std::io;
 use std::io::{Error, ErrorKind, Read, Write};
 use std::test::Fail;
-
-/// What is written for an input whose lines end with `;`.
-fn written(alloc: Global, input: &str) -> Result<String, Fail> {
-    let mut text = String::new(alloc);
-    for c in input.chars() {
-        text.push(if c == ';' { '\n' } else { c })?;
-    }
-    let mut reader = text.as_bytes();
-    let mut writer = Vec::new(alloc);
-    let ended = run(alloc, &mut reader, &mut writer).is_ok();
-    let mut lines = String::new(alloc);
-    for c in String::from_utf8(writer)?.chars() {
-        lines.push(if c == '\n' { ';' } else { c })?;
-    }
-    if !ended {
-        lines.push_str("failed")?;
-    }
-    Ok(lines)
-}
-
-#[test]
-fn runs_undoes_and_redoes(rt: HostRuntime) -> Result<(), Fail> {
-    let alloc = rt.alloc();
-    assert_eq!(rt;
-        written(alloc, "%%;%undo 1")?.as_str(),
-        "ok node 1 steps 1;undid 1;"
-    );
-    assert_eq!(rt;
-        written(alloc, "int x;%%;x += 5;%undo 1;%redo 1;%show")?.as_str(),
-        "ok node 1 steps 1;ok node 2 steps 3;undid 1;redid 1;at node 2;x = 5;"
-    );
-    assert_eq!(rt;
-        written(alloc, "int x;%%;x += 2147483647 x += 1;%show")?.as_str(),
-        "ok node 1 steps 1;ok node 2 steps 5;at node 2;x = -2147483648;"
-    );
-    assert_eq!(rt;
-        written(
-            alloc,
-            "int x;%%;x += 1;%undo 1;x += 2;%undo 2;%redo 2;%show"
-        )?
-        .as_str(),
-        "ok node 1 steps 1;ok node 2 steps 3;undid 1;ok node 3 steps 3;undid 2;redid 2;at node 3;x = 2;"
-    );
-    assert_eq!(rt;
-        written(
-            alloc,
-            "int x;%%;x += 1;%undo 1;x += 2;%undo 1;%goto 2;%undo 1;%redo 1;%show"
-        )?
-        .as_str(),
-        "ok node 1 steps 1;ok node 2 steps 3;undid 1;ok node 3 steps 3;undid 1;went 0 up 1 down;undid 1;redid 1;at node 2;x = 1;"
-    );
-    Ok(())
-}
-
-#[test]
-fn refuses(rt: HostRuntime) -> Result<(), Fail> {
-    let alloc = rt.alloc();
-    assert_eq!(rt;
-        written(alloc, "%undo 1;%goto 1;%undo 0;%undo 4294967296;%redo 1")?.as_str(),
-        "refused 73 TooFar;refused 71 NoNode;undid 0;refused 80 BadCommand;refused 73 TooFar;"
-    );
-    assert_eq!(rt;
-        written(alloc, "int a[3]")?.as_str(),
-        "refused 31 Expected at 5..6;"
-    );
-    assert_eq!(rt;
-        written(alloc, "int x;%%;x += 2147483648")?.as_str(),
-        "ok node 1 steps 1;refused 32 NumberTooLarge at 5..15;"
-    );
-    assert_eq!(rt;
-        written(alloc, "x ? 1;%%;int x int x;%%;y += 1;%%;int y y += y")?.as_str(),
-        "refused 30 BadToken at 2..3;refused 40 Declared at 10..11;refused 41 Unknown at 0..1;refused 43 SelfUse at 11..12;"
-    );
-    Ok(())
-}
-
-/// The program of examples/first.janus-cells writes what the README says.
-#[test]
-fn runs_the_first_example(rt: HostRuntime) -> Result<(), Fail> {
-    let alloc = rt.alloc();
-    assert_eq!(rt;
-        written(
-            alloc,
-            "int x int y;%%;x += 5;y ^= x + 3;%%;%show;%undo 1;%show;%redo 1;x -= y;%show"
-        )?
-        .as_str(),
-        "ok node 1 steps 1;ok node 2 steps 5;at node 2;x = 5;y = 8;undid 1;at node 1;x = 0;y = 0;redid 1;ok node 3 steps 3;at node 3;x = -3;y = 8;"
-    );
-    Ok(())
-}
-
-#[test]
-fn reads_lines(rt: HostRuntime) -> Result<(), Fail> {
-    let alloc = rt.alloc();
-    assert_eq!(rt; written(alloc, "")?.as_str(), "");
-    assert_eq!(rt;
-        written(alloc, " \t\r;;%show \t\r;%undo 1 ;")?.as_str(),
-        "at node 0;refused 73 TooFar;"
-    );
-    assert_eq!(rt;
-        written(
-            alloc,
-            "int x\r;;%show;%%show;%undo;%undo 01;%undo +1;%undo 12345678901"
-        )?
-        .as_str(),
-        "ok node 1 steps 1;at node 1;x = 0;refused 80 BadCommand;refused 80 BadCommand;undid 1;refused 80 BadCommand;refused 80 BadCommand;"
-    );
-    Ok(())
-}
 
 /// Gives some octets, and then fails.
 #[derive(Drop)]
@@ -219,11 +111,23 @@ fn tells_faults(rt: HostRuntime) -> Result<(), Fail> {
 #[test]
 fn gives_texts(rt: HostRuntime) -> Result<(), Fail> {
     let alloc = rt.alloc();
-    assert_eq!(rt; value_text(alloc, "x", 5)?.as_str(), "x = 5");
-    assert_eq!(rt;
-        value_text(alloc, "y_1", -2147483648)?.as_str(),
-        "y_1 = -2147483648"
-    );
+    for (name, value, text) in [
+        ("x", View::Number(5), "x = 5"),
+        ("y_1", View::Number(-2147483648), "y_1 = -2147483648"),
+        ("a", View::Array(&[1, -2, 3]), "a[3] = 1 -2 3"),
+        (
+            "b",
+            View::Array(&[0; 32]),
+            "b[32] = 0 0 0 0 0 0 0 0 0 0 0 0 0 0 0 0 0 0 0 0 0 0 0 0 0 0 0 0 0 0 0 0",
+        ),
+        (
+            "c",
+            View::Array(&[7; 33]),
+            "c[33] = 7 7 7 7 7 7 7 7 7 7 7 7 7 7 7 7 7 7 7 7 7 7 7 7 7 7 7 7 7 7 7 7 ...",
+        ),
+    ] {
+        assert_eq!(rt; value_text(alloc, name, value)?.as_str(), text);
+    }
     assert_eq!(rt;
         outcome_line(alloc, &Outcome::Ran(2, 3))?.as_str(),
         "ok node 2 steps 3"

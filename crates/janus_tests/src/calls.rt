@@ -1,4 +1,5 @@
 //! Schedules as texts: a call a line, and behind a colon what `Debug` writes of its answer.
+use janus_store::View;
 use kernel_core::{Job, Kernel};
 use std::alloc::{AllocError, Global};
 use std::process::Abort;
@@ -11,7 +12,10 @@ fn world_text(alloc: Global, kernel: &Kernel) -> Result<String, AllocError> {
     let world = kernel.world();
     for i in 0..world.len() {
         let (name, value) = world.entry(i);
-        text.push_str(&format!(in alloc; " {name}={value}")?)?;
+        text.push_str(&match value {
+            View::Number(number) => format!(in alloc; " {name}={number}")?,
+            View::Array(numbers) => format!(in alloc; " {name}={numbers:?}")?,
+        })?;
     }
     Ok(text)
 }

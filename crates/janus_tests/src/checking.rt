@@ -5,12 +5,17 @@ use janus_syntax::token::Span;
 use std::alloc::{AllocError, Global};
 use std::test::Fail;
 
-/// These names, declared already.
+/// These names, declared already: `a` as an array, all others as numbers.
 fn names(alloc: Global, declared: &[&str]) -> Result<Env, AllocError> {
     let mut env = Env::new(alloc);
     for name in declared {
         if env.kind(name).is_none() {
-            env.declare(String::from_str(alloc, name)?, Kind::Number)?;
+            let kind = if *name == "a" {
+                Kind::Array
+            } else {
+                Kind::Number
+            };
+            env.declare(String::from_str(alloc, name)?, kind)?;
         }
     }
     Ok(env)
@@ -33,23 +38,35 @@ fn at(start: usize, end: usize) -> Span {
 #[test]
 fn tells_the_first_fault(rt: HostRuntime) -> Result<(), Fail> {
     let alloc = rt.alloc();
-    assert_eq!(rt; fault_of(alloc, &["x"], "int y y += x - 1")?, None);
-    assert_eq!(rt;
-        fault_of(alloc, &["x"], "int x")?,
-        Some(CheckFault::Declared(at(4, 5)))
-    );
-    assert_eq!(rt;
-        fault_of(alloc, &["x"], "x += y z += x")?,
-        Some(CheckFault::Unknown(at(5, 6)))
-    );
-    assert_eq!(rt;
-        fault_of(alloc, &["x"], "x += 1 + x")?,
-        Some(CheckFault::SelfUse(at(9, 10)))
-    );
-    assert_eq!(rt;
-        fault_of(alloc, &[], "int y int y y += y")?,
-        Some(CheckFault::Declared(at(10, 11)))
-    );
+    for (text, fault) in [
+        (
+            "int z z += x - 1 a[z] += a[0 * 1]",
+            Some(CheckFault::SelfUse(at(25, 26))),
+        ),
+        (
+            "int z int b[65536] z += x - 1 a[x] += b[a[z]]",
+            Some(CheckFault::SelfUse(at(40, 41))),
+        ),
+        (
+            "int b[65536] if a[x] then b[x] += a[a[y]] fi a[0] from x until y",
+            None,
+        ),
+        ("int x", Some(CheckFault::Declared(at(4, 5)))),
+        ("x += z w += x", Some(CheckFault::Unknown(at(5, 6)))),
+        ("x += 1 + x", Some(CheckFault::SelfUse(at(9, 10)))),
+        ("int z int z z += z", Some(CheckFault::Declared(at(10, 11)))),
+        ("int x[0]", Some(CheckFault::Declared(at(4, 5)))),
+        ("int b[0] int b", Some(CheckFault::ArrayLength(at(6, 7)))),
+        ("int b[65537]", Some(CheckFault::ArrayLength(at(6, 11)))),
+        ("x[0] += a", Some(CheckFault::WrongKind(at(0, 1)))),
+        ("a[1] += -a", Some(CheckFault::WrongKind(at(9, 10)))),
+        (
+            "from x loop if y then skip fi a until z",
+            Some(CheckFault::WrongKind(at(30, 31))),
+        ),
+    ] {
+        assert_eq!(rt; fault_of(alloc, &["x", "y", "a"], text)?, fault, "{text}");
+    }
     Ok(())
 }
 

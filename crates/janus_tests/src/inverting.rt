@@ -1,88 +1,67 @@
 //! Inverse cells, flat code and its inverse.
 use janus_check::{Env, check};
 use janus_invert::{Code, Statement, flatten, invert, invert_code};
-use janus_syntax::token::Span;
-use janus_syntax::tree::{Cell, Declaration, Exp, Name, Stm, Update};
-use std::alloc::{AllocError, Global};
+use janus_syntax::tree::Update;
+use janus_syntax::{parse_cell, print_cell};
+use std::alloc::Global;
 use std::test::Fail;
 
-const NOWHERE: Span = Span { start: 0, end: 0 };
+/// Cells with their inverses.
+const INVERSES: [(&str, &str); 4] = [
+    (
+        "int x int a[2] x += 5 a[x] ^= x + 1 skip",
+        "int x int a[2] skip a[x] ^= x + 1 x -= 5",
+    ),
+    (
+        "if x then y += 1 y -= z else skip fi y",
+        "if y then y += z y -= 1 else skip fi x",
+    ),
+    (
+        "from x do y += 1 a[0] -= 2 loop x += 1 z ^= 3 until z",
+        "from z do a[0] += 2 y -= 1 loop z ^= 3 x -= 1 until x",
+    ),
+    (
+        "from x do if y then x += 1 else x += 2 fi z loop skip until 0 x -= 3",
+        "x += 3 from 0 do if z then x -= 1 else x -= 2 fi y loop skip until x",
+    ),
+];
 
-fn name(alloc: Global, text: &str) -> Result<Name, AllocError> {
-    Ok(Name {
-        text: String::from_str(alloc, text)?,
-        span: NOWHERE,
-    })
-}
-
-/// int x int y x += 5 y ^= x
-fn cell(alloc: Global) -> Result<Cell, AllocError> {
-    let mut declarations = Vec::new(alloc);
-    declarations.push(Declaration::Int(name(alloc, "x")?))?;
-    declarations.push(Declaration::Int(name(alloc, "y")?))?;
-    let mut statements = Vec::new(alloc);
-    statements.push(Stm::Assign(name(alloc, "x")?, Update::Add, Exp::Number(5, NOWHERE)))?;
-    statements.push(Stm::Assign(
-        name(alloc, "y")?,
-        Update::Xor,
-        Exp::Variable(name(alloc, "x")?),
-    ))?;
-    Ok(Cell {
-        declarations,
-        statements,
-    })
-}
-
-fn changed(statement: &Stm) -> &str {
-    match statement {
-        Stm::Assign(name, _, _) => name.text.as_str(),
+#[test]
+fn inverts_cells(rt: HostRuntime) -> Result<(), Fail> {
+    let alloc = rt.alloc();
+    for (text, inverse) in INVERSES {
+        let inverted = invert(alloc, &parse_cell(alloc, text)?)?;
+        assert_eq!(rt; print_cell(alloc, &inverted)?.as_str(), inverse);
+        let twice = invert(alloc, &inverted)?;
+        assert_eq!(rt; print_cell(alloc, &twice)?.as_str(), text);
     }
+    Ok(())
 }
 
-fn update(statement: &Stm) -> Update {
+/// The variable that a statement changes, and how.
+fn change(statement: &Statement) -> Option<(&str, Update)> {
     match statement {
-        Stm::Assign(_, update, _) => *update,
-    }
-}
-
-fn flat_changed(statement: &Statement) -> &str {
-    match statement {
-        Statement::Assign(name, _, _) => name.text.as_str(),
-    }
-}
-
-fn flat_update(statement: &Statement) -> Update {
-    match statement {
-        Statement::Assign(_, update, _) => *update,
+        Statement::Assign(name, update, _) => Some((name.as_str(), *update)),
+        _ => None,
     }
 }
 
 fn code(alloc: Global) -> Result<Code, Fail> {
-    let checked = check(alloc, &Env::new(alloc), cell(alloc)?)?;
+    let cell = parse_cell(alloc, "int x int y x += 5 if x then y ^= x else skip fi y")?;
+    let checked = check(alloc, &Env::new(alloc), cell)?;
     Ok(flatten(alloc, &checked)?)
-}
-
-#[test]
-fn inverts_a_cell(rt: HostRuntime) -> Result<(), Fail> {
-    let alloc = rt.alloc();
-    let inverse = invert(alloc, &cell(alloc)?)?;
-    assert_eq!(rt; inverse.declarations.len(), 2);
-    assert_eq!(rt; inverse.statements.len(), 2);
-    assert_eq!(rt; changed(&inverse.statements[0]), "y");
-    assert!(rt; update(&inverse.statements[0]) == Update::Xor);
-    assert_eq!(rt; changed(&inverse.statements[1]), "x");
-    assert!(rt; update(&inverse.statements[1]) == Update::Subtract);
-    Ok(())
 }
 
 #[test]
 fn flattens_a_cell(rt: HostRuntime) -> Result<(), Fail> {
     let code = code(rt.alloc())?;
-    assert_eq!(rt; code.members.as_slice(), [0, 1].as_slice());
-    assert_eq!(rt; code.body.end, 2);
-    assert_eq!(rt; code.statements.len(), 2);
-    assert_eq!(rt; flat_changed(&code.statements[0]), "x");
-    assert!(rt; flat_update(&code.statements[1]) == Update::Xor);
+    assert_eq!(rt; code.members.as_slice(), [1, 2, 0, 3].as_slice());
+    assert_eq!(rt; code.body.start, 2);
+    assert_eq!(rt; code.body.end, 4);
+    assert_eq!(rt; code.statements.len(), 4);
+    assert_eq!(rt; change(&code.statements[0]), Some(("x", Update::Add)));
+    assert_eq!(rt; change(&code.statements[1]), Some(("y", Update::Xor)));
+    assert_eq!(rt; change(&code.statements[3]), None);
     Ok(())
 }
 
@@ -90,10 +69,13 @@ fn flattens_a_cell(rt: HostRuntime) -> Result<(), Fail> {
 fn inverts_code(rt: HostRuntime) -> Result<(), Fail> {
     let alloc = rt.alloc();
     let inverse = invert_code(alloc, &code(alloc)?)?;
-    assert_eq!(rt; inverse.members.as_slice(), [1, 0].as_slice());
-    assert_eq!(rt; inverse.body.end, 2);
-    assert_eq!(rt; inverse.statements.len(), 2);
-    assert_eq!(rt; flat_changed(&inverse.statements[0]), "x");
-    assert!(rt; flat_update(&inverse.statements[0]) == Update::Subtract);
+    assert_eq!(rt; inverse.members.as_slice(), [1, 2, 3, 0].as_slice());
+    assert_eq!(rt; inverse.body.end, 4);
+    assert_eq!(rt; inverse.statements.len(), 4);
+    assert_eq!(rt;
+        change(&inverse.statements[0]),
+        Some(("x", Update::Subtract))
+    );
+    assert_eq!(rt; change(&inverse.statements[1]), Some(("y", Update::Xor)));
     Ok(())
 }

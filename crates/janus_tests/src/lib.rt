@@ -17,3 +17,7 @@ mod reading;
 mod schedules;
 #[cfg(test)]
 mod storing;
+#[cfg(test)]
+mod trees;
+#[cfg(test)]
+mod unwinding;

@@ -1,12 +1,11 @@
-//! Texts, their tokens and their trees.
+//! Texts, their tokens, and where they are refused.
 use janus_syntax::fault::{SyntaxFault, What};
-use janus_syntax::token::{Span, TokenKind};
-use janus_syntax::tree::{Declaration, Exp, Operator, Stm, Update};
+use janus_syntax::token::{Sign, Span, TokenKind, Word};
 use janus_syntax::{parse_cell, tokens};
 use std::alloc::{AllocError, Global};
 use std::test::Fail;
 
-// Why the text is refused.
+/// Why the text is refused.
 fn refusal(alloc: Global, text: &str) -> Option<SyntaxFault> {
     match parse_cell(alloc, text) {
         Ok(_) => None,
@@ -14,7 +13,7 @@ fn refusal(alloc: Global, text: &str) -> Option<SyntaxFault> {
     }
 }
 
-// The tokens as they are shown, a blank after each.
+/// The tokens as they are shown, a blank after each.
 fn shown_tokens(alloc: Global, text: &str) -> Result<String, SyntaxFault> {
     let mut out = String::new(alloc);
     for token in &tokens(alloc, text)? {
@@ -30,63 +29,6 @@ fn shown_tokens(alloc: Global, text: &str) -> Result<String, SyntaxFault> {
         out.push_str(" ")?;
     }
     Ok(out)
-}
-
-// An expression in prefix form.
-fn shown_exp(alloc: Global, exp: &Exp) -> Result<String, AllocError> {
-    match exp {
-        Exp::Number(number, _) => format!(in alloc; "{number}"),
-        Exp::Variable(name) => name.text.clone(),
-        Exp::Binary(operator, left, right) => {
-            let sign = match operator {
-                Operator::Add => "+",
-                Operator::Subtract => "-",
-                Operator::Xor => "^",
-            };
-            let left = shown_exp(alloc, left)?;
-            let right = shown_exp(alloc, right)?;
-            format!(in alloc; "({sign} {left} {right})")
-        }
-    }
-}
-
-// The cell's declarations and statements, each followed by a semicolon.
-fn shown(alloc: Global, text: &str) -> Result<String, SyntaxFault> {
-    let cell = parse_cell(alloc, text)?;
-    let mut out = String::new(alloc);
-    for declaration in &cell.declarations {
-        match declaration {
-            Declaration::Int(name) => {
-                out.push_str("int ")?;
-                out.push_str(&name.text)?;
-            }
-        }
-        out.push_str(";")?;
-    }
-    for statement in &cell.statements {
-        match statement {
-            Stm::Assign(name, update, exp) => {
-                out.push_str(&name.text)?;
-                out.push_str(match update {
-                    Update::Add => " += ",
-                    Update::Subtract => " -= ",
-                    Update::Xor => " ^= ",
-                })?;
-                out.push_str(&shown_exp(alloc, exp)?)?;
-            }
-        }
-        out.push_str(";")?;
-    }
-    Ok(out)
-}
-
-// The text `x += 1`, and behind it so many times `+1`.
-fn sum(alloc: Global, operators: usize) -> Result<String, AllocError> {
-    let mut text = String::from_str(alloc, "x += 1")?;
-    for _ in 0..operators {
-        text.push_str("+1")?;
-    }
-    Ok(text)
 }
 
 #[test]
@@ -112,112 +54,156 @@ fn reads_tokens(rt: HostRuntime) {
     );
 }
 
-#[test]
-fn reads_cells(rt: HostRuntime) {
-    let alloc = rt.alloc();
-    assert_eq!(rt; shown(alloc, "").expect(&rt, "memory").as_str(), "");
-    assert_eq!(rt;
-        shown(alloc, " // nothing\n//")
-            .expect(&rt, "memory")
-            .as_str(),
-        ""
-    );
-    assert_eq!(rt;
-        shown(
-            alloc,
-            "int x int y x+=2147483647 y -= x ^ 1 - 2 - y ^ 3 x ^= y"
-        )
-        .expect(&rt, "memory")
-        .as_str(),
-        "int x;int y;x += 2147483647;y -= (^ (^ x (- (- 1 2) y)) 3);x ^= y;"
-    );
+fn at(start: usize, end: usize) -> Span {
+    Span { start, end }
 }
 
+/// Texts that are no cell, with the item that is wanted there.
+const WANTED: [(&str, What, usize, usize); 29] = [
+    ("x += 1 int y", What::End, 7, 10),
+    ("int x += 1", What::End, 6, 8),
+    ("skip call p()", What::End, 5, 9),
+    ("int ", What::Name, 4, 4),
+    ("int 3", What::Name, 4, 5),
+    ("int a[]", What::Number, 6, 7),
+    ("int a[3", What::Sign(Sign::CloseIndex), 7, 7),
+    ("int a[3 + 1]", What::Sign(Sign::CloseIndex), 8, 9),
+    ("x", What::Operator, 1, 1),
+    ("x x", What::Operator, 2, 3),
+    ("x <=> y", What::Operator, 2, 4),
+    ("a[1] 2", What::Operator, 5, 6),
+    ("a[1 += 1", What::Sign(Sign::CloseIndex), 4, 6),
+    ("a[", What::Expression, 2, 2),
+    ("x += 1 - ", What::Expression, 9, 9),
+    ("x += )", What::Expression, 5, 6),
+    ("x += top(s)", What::Expression, 5, 8),
+    ("x += (1", What::Sign(Sign::Close), 7, 7),
+    ("x += (1 x", What::Sign(Sign::Close), 8, 9),
+    ("x += a[1", What::Sign(Sign::CloseIndex), 8, 8),
+    ("if x", What::Word(Word::Then), 4, 4),
+    ("if x then", What::Statement, 9, 9),
+    ("if x then fi x", What::Statement, 10, 12),
+    ("if x then skip", What::Word(Word::Fi), 14, 14),
+    ("if x then skip else else", What::Statement, 20, 24),
+    ("if x then skip fi", What::Expression, 17, 17),
+    ("from x", What::Word(Word::Until), 6, 6),
+    ("from x do skip do", What::Word(Word::Until), 15, 17),
+    ("from x loop until x", What::Statement, 12, 17),
+];
+
 #[test]
-fn refuses_at_the_first_place(rt: HostRuntime) {
+fn tells_what_is_wanted(rt: HostRuntime) {
+    let alloc = rt.alloc();
+    for (text, what, start, end) in WANTED {
+        let fault = SyntaxFault::Expected(what, at(start, end));
+        assert_eq!(rt; refusal(alloc, text), Some(fault), "{text}");
+    }
+}
+
+/// Bad tokens and too large numbers come before all else, the first in the text.
+#[test]
+fn tells_bad_tokens_first(rt: HostRuntime) {
     let alloc = rt.alloc();
     for (text, fault) in [
+        ("x += 2147483648", SyntaxFault::NumberTooLarge(at(5, 15))),
         (
-            "int a[3]",
-            SyntaxFault::Expected(What::End, Span { start: 5, end: 6 }),
+            "int a[99999999999999999999]",
+            SyntaxFault::NumberTooLarge(at(6, 26)),
         ),
-        (
-            "x += 1 int y",
-            SyntaxFault::Expected(What::End, Span { start: 7, end: 10 }),
-        ),
-        (
-            "int x += 1",
-            SyntaxFault::Expected(What::End, Span { start: 6, end: 8 }),
-        ),
-        (
-            "int ",
-            SyntaxFault::Expected(What::Name, Span { start: 4, end: 4 }),
-        ),
-        (
-            "x x",
-            SyntaxFault::Expected(What::Operator, Span { start: 2, end: 3 }),
-        ),
-        (
-            "x += 1 - ",
-            SyntaxFault::Expected(What::Expression, Span { start: 9, end: 9 }),
-        ),
-        (
-            "x += 2147483648",
-            SyntaxFault::NumberTooLarge(Span { start: 5, end: 15 }),
-        ),
-        (
-            "int int x += é",
-            SyntaxFault::BadToken(Span { start: 13, end: 15 }),
-        ),
-        ("int x;", SyntaxFault::BadToken(Span { start: 5, end: 6 })),
-        (
-            "!_ 4294967296",
-            SyntaxFault::BadToken(Span { start: 0, end: 1 }),
-        ),
+        ("int int x += é", SyntaxFault::BadToken(at(13, 15))),
+        ("int x // €\n𝄞", SyntaxFault::BadToken(at(13, 17))),
+        ("int x;", SyntaxFault::BadToken(at(5, 6))),
+        ("!_ 4294967296", SyntaxFault::BadToken(at(0, 1))),
+        ("then 4294967296 !", SyntaxFault::NumberTooLarge(at(5, 15))),
     ] {
         assert_eq!(rt; refusal(alloc, text), Some(fault), "{text}");
     }
 }
 
+/// A text that is repeated, between two others.
+fn repeated(
+    alloc: Global,
+    first: &str,
+    part: &str,
+    times: usize,
+    last: &str,
+) -> Result<String, AllocError> {
+    let mut text = String::from_str(alloc, first)?;
+    for _ in 0..times {
+        text.push_str(part)?;
+    }
+    text.push_str(last)?;
+    Ok(text)
+}
+
+/// Constructs that nest, with what closes them, and where the 65th one opens.
+const NESTED: [(&str, &str, &str, &str, usize, usize); 5] = [
+    ("x += ", "(", "1", ")", 69, 70),
+    ("x += ", "-", "1", "", 69, 70),
+    ("x += ", "a[", "1", "]", 134, 135),
+    ("", "if 1 then ", "skip", " fi 1", 640, 642),
+    ("", "from 1 do ", "skip", " until 1", 640, 644),
+];
+
+#[test]
+fn limits_open_constructs(rt: HostRuntime) -> Result<(), Fail> {
+    let alloc = rt.alloc();
+    for (first, open, inside, close, start, end) in NESTED {
+        for (times, fault) in [
+            (64, None),
+            (65, Some(SyntaxFault::TooNested(at(start, end)))),
+        ] {
+            let begun = repeated(alloc, first, open, times, inside)?;
+            let text = repeated(alloc, &begun, close, times, "")?;
+            assert_eq!(rt; refusal(alloc, &text), fault, "{text}");
+        }
+    }
+    // What is closed counts no more, and what is open in an `if` counts with it.
+    let text = repeated(alloc, "x += 1", " + (((1)))", 100, "")?;
+    assert_eq!(rt; refusal(alloc, &text), None);
+    let text = repeated(alloc, "if a[", "(", 63, "")?;
+    assert_eq!(rt;
+        refusal(alloc, &text),
+        Some(SyntaxFault::TooNested(at(67, 68)))
+    );
+    Ok(())
+}
+
+/// So many operators are in an expression, also behind prefix minus and in an index.
 #[test]
 fn limits_operators(rt: HostRuntime) -> Result<(), Fail> {
     let alloc = rt.alloc();
-    assert_eq!(rt; refusal(alloc, &sum(alloc, 256)?), None);
-    let place = Span {
-        start: 518,
-        end: 519,
-    };
-    assert_eq!(rt;
-        refusal(alloc, &sum(alloc, 257)?),
-        Some(SyntaxFault::TooNested(place))
-    );
-    assert_eq!(rt;
-        refusal(alloc, &sum(alloc, 1000)?),
-        Some(SyntaxFault::TooNested(place))
-    );
-    Ok(())
-}
-
-#[test]
-fn copies_trees(rt: HostRuntime) -> Result<(), Fail> {
-    let alloc = rt.alloc();
-    let cell = parse_cell(alloc, "x ^= y - 3")?;
-    assert_eq!(rt; cell.statements.len(), 1);
-    let Stm::Assign(name, _, exp) = cell.statements[0].copy(alloc)?;
-    assert_eq!(rt; name.text.as_str(), "x");
-    assert_eq!(rt; name.span, Span { start: 0, end: 1 });
-    assert_eq!(rt; shown_exp(alloc, &exp)?.as_str(), "(- y 3)");
-    Ok(())
-}
-
-#[test]
-fn reads_long_cells(rt: HostRuntime) -> Result<(), Fail> {
-    let alloc = rt.alloc();
-    let mut text = String::from_str(alloc, "int x")?;
-    for _ in 0..100_000 {
-        text.push_str(" x += x ^ 7")?;
+    let place = Some(SyntaxFault::TooNested(at(518, 519)));
+    for (times, fault) in [(256, None), (257, place), (1000, place)] {
+        let text = repeated(alloc, "x += 1", "+1", times, "")?;
+        assert_eq!(rt; refusal(alloc, &text), fault);
     }
+    let text = repeated(alloc, "x += -1", " + -1", 127, "")?;
+    assert_eq!(rt; refusal(alloc, &text), None);
+    let text = repeated(alloc, "x += -1", " + -1", 128, "")?;
+    assert_eq!(rt;
+        refusal(alloc, &text),
+        Some(SyntaxFault::TooNested(at(645, 646)))
+    );
+    let text = repeated(alloc, "a[1", "+1", 256, "] += a[1")?;
+    let text = repeated(alloc, &text, "+1", 257, "]")?;
+    assert_eq!(rt;
+        refusal(alloc, &text),
+        Some(SyntaxFault::TooNested(at(1035, 1036)))
+    );
+    Ok(())
+}
+
+#[test]
+fn reads_long_texts(rt: HostRuntime) -> Result<(), Fail> {
+    let alloc = rt.alloc();
+    let text = repeated(alloc, "int x", " x += x ^ 7", 100_000, "")?;
     let cell = parse_cell(alloc, &text)?;
     assert_eq!(rt; cell.statements.len(), 100_000);
+    let text = repeated(alloc, "x += ", "((((((((((((((((", 4_095, "")?;
+    assert_eq!(rt;
+        refusal(alloc, &text),
+        Some(SyntaxFault::TooNested(at(69, 70)))
+    );
     Ok(())
 }

@@ -80,8 +80,8 @@ fn redo_goes_along_favourites(rt: HostRuntime) -> Result<(), Fail> {
 }
 
 /// A refused text changes nothing, and says where.
-const TEXTS_ARE_REFUSED: &str = r#"cell int a[3]: Ok(1)
-begin: Ended(Refused(Syntax(Expected(End, Span { start: 5, end: 6 }))))
+const TEXTS_ARE_REFUSED: &str = r#"cell int a[3: Ok(1)
+begin: Ended(Refused(Syntax(Expected(Sign(CloseIndex), Span { start: 7, end: 7 }))))
 cell int x x += y: Ok(2)
 begin: Ended(Refused(Check(Unknown(Span { start: 11, end: 12 }))))
 world: 0"#;

@@ -1,12 +1,10 @@
-use Rattle.std.proofs.Common.{◌≡◌, ◌≤◌, ap, subst, ◌∙◌, arith, Some, refl, to_z, of_z, w32, slice_get}
-use Rattle.std.proofs.lemmas.Int.{to_z-of_z}
+use Rattle.std.proofs.Common.{◌≡◌, ◌≤◌, ap, subst, ◌∙◌, arith, Some, refl, slice_get}
 use Rattle.std.specs.Io.KnownBytes.{Appends}
-use Rattle.janus_meaning.specs.World.{size_of}
-use Rattle.janus_machine.specs.Stores.{listed}
+use Rattle.janus_meaning.specs.World.{size_of, listed}
+use Rattle.janus_store.specs.Values.{shown}
 use Rattle.kernel_core.specs.State.{here}
 use Rattle.janus_cells.specs.Lines.{ended_line}
-use Rattle.janus_cells.specs.Output.{SentSome}
-use Rattle.janus_cells.specs.Shown.{position_line, value_lines, value_text, world_text}
+use Rattle.janus_cells.specs.Shown.{position_line, value_lines, world_text}
 use Rattle.janus_cells.proofs.OutputLemmas.{some_first, some_now}
 use Rattle.janus_cells.proofs.ShownLemmas.{entry_then, entry_failed, first_all}
 use Rattle.janus_cells.proofs.run.show.Goals as goal
@@ -27,24 +25,22 @@ returns-clause-ok g c =
 pub returns-in_err-send_value-clause-err : goal.returns-in_err-send_value-clause-err
 returns-in_err-send_value-clause-err g c =
     let past = c.args.kernel.now.machine.state.past in
-    let name = c.entry-value.result.0.now in
-    let v = c.entry-value.result.1 in
+    let name = c.entry.result.0.now in
+    let v = shown c.entry.result.1 in
     let es = listed (here past).store in
     let w : c.world-world.result ≡ here past = c.world-world.ensures.idle c.requires.idle in
-    let at : slice_get es c.loop-i.i ≡ Some (name, v) = subst (λ w. slice_get (listed w.store) c.loop-i.i ≡ Some (name, v)) w c.entry-value.ensures in
-    let z : to_z w32 (of_z w32 v) ≡ v = grind (arith, to_z-of_z) in
-    let sent = subst (λ v. SentSome (g.W.Write.contents c.loop-i.writer) (g.W.Write.contents c.send_value.new.writer) (ended_line (value_text (name, v)))) z c.in_err-send_value.ensures.err in
+    let at : slice_get es c.loop-i.i ≡ Some (name, v) = subst (λ w. slice_get (listed w.store) c.loop-i.i ≡ Some (name, v)) w c.entry.ensures in
+    let sent = c.in_err-send_value.ensures.err in
     some_now (g.W.Write.contents c.args.writer.now) (g.W.Write.contents c.send_value.new.writer) (world_text past) c.from_residual-in_err-send_value.result
     (entry_failed (g.W.Write.contents c.args.writer.now) (g.W.Write.contents c.loop-i.writer) (g.W.Write.contents c.send_value.new.writer) past.position es c.loop-i.i (name, v) at c.loop-i.invariant sent)
 
 pub loop-i-preserved : goal.loop-i-preserved
 loop-i-preserved g c =
     let past = c.args.kernel.now.machine.state.past in
-    let name = c.entry-value.result.0.now in
-    let v = c.entry-value.result.1 in
+    let name = c.entry.result.0.now in
+    let v = shown c.entry.result.1 in
     let es = listed (here past).store in
     let w : c.world-world.result ≡ here past = c.world-world.ensures.idle c.requires.idle in
-    let at : slice_get es c.loop-i.i ≡ Some (name, v) = subst (λ w. slice_get (listed w.store) c.loop-i.i ≡ Some (name, v)) w c.entry-value.ensures in
-    let z : to_z w32 (of_z w32 v) ≡ v = grind (arith, to_z-of_z) in
-    let sent = subst (λ v. Appends (g.W.Write.contents c.loop-i.writer) (g.W.Write.contents c.send_value.new.writer) (ended_line (value_text (name, v)))) z c.in_ok-send_value.ensures.ok in
+    let at : slice_get es c.loop-i.i ≡ Some (name, v) = subst (λ w. slice_get (listed w.store) c.loop-i.i ≡ Some (name, v)) w c.entry.ensures in
+    let sent = c.in_ok-send_value.ensures.ok in
     entry_then (g.W.Write.contents c.args.writer.now) (g.W.Write.contents c.loop-i.writer) (g.W.Write.contents c.send_value.new.writer) past.position es c.loop-i.i (name, v) at c.loop-i.invariant sent

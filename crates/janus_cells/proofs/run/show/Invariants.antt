@@ -1,5 +1,5 @@
 use Rattle.std.specs.Io.KnownBytes.{Appends}
-use Rattle.janus_machine.specs.Stores.{listed}
+use Rattle.janus_meaning.specs.World.{listed}
 use Rattle.kernel_core.specs.State.{here}
 use Rattle.janus_cells.proofs.ShownLemmas.{first_text}
 use Rattle.janus_cells.proofs.run.show.Given as goal

@@ -1,4 +1,4 @@
-use Rattle.std.proofs.Common.{◌≡◌, subst, [], ◌∷◌}
+use Rattle.std.proofs.Common.{◌≡◌, subst}
 use Rattle.kernel_core.specs.Runs.{Machine, IsPost, IsBegin}
 use Rattle.kernel_core.specs.Request.{Request, request_of}
 use Rattle.kernel_core.specs.State.{Idle}

@@ -1,10 +1,11 @@
-use Rattle.std.proofs.Common.{◌++◌, ◌∙◌, ap, subst, sym, to_z, of_z, w32}
+use Rattle.std.proofs.Common.{◌++◌, ◌∙◌, ap, subst, sym}
 use Rattle.std.specs.Str.{IsUtf8}
+use Rattle.janus_store.specs.Values.{shown}
 use Rattle.janus_cells.specs.Shown.{value_text}
 use Rattle.janus_cells.proofs.TextLemmas.{value_utf8}
 use Rattle.janus_cells.proofs.text.value_text.Goals as goal
 
 pub as_text-requires : goal.as_text-requires
 as_text-requires c =
-    let value = to_z w32 (of_z w32 c.args.value) in
+    let value = shown c.args.value in
     subst IsUtf8 (sym (c.in-Ok.ensures.ok ∙ ap (λ xs. xs ++ value_text (c.args.name.now, value)) c.new-octets.ensures.items)) (value_utf8 c.args.name.now value c.utf8.name)

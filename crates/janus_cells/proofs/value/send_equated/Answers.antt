@@ -3,7 +3,7 @@ use Rattle.std.proofs.lemmas.Int.{to_z-of_z}
 use Rattle.std.specs.Fmt.{signed_decimal}
 use Rattle.janus_cells.specs.Shown.{equated_text}
 use Rattle.janus_cells.proofs.OutputLemmas.{some_first, some_then}
-use Rattle.janus_cells.proofs.output.send_equated.Goals as goal
+use Rattle.janus_cells.proofs.value.send_equated.Goals as goal
 
 pub returns-in_err-send-clause-err : goal.returns-in_err-send-clause-err
 returns-in_err-send-clause-err g c =

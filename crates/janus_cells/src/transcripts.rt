@@ -1,0 +1,270 @@
+//! Inputs with their transcripts, which were worked out by hand. `;` stands for the end of a line.
+use crate::run::run;
+use std::alloc::Global;
+use std::process::Abort;
+use std::test::Fail;
+
+/// What is written for an input whose lines end with `;`.
+fn written(alloc: Global, input: &str) -> Result<String, Fail> {
+    let mut text = String::new(alloc);
+    for c in input.chars() {
+        text.push(if c == ';' { '\n' } else { c })?;
+    }
+    let mut reader = text.as_bytes();
+    let mut writer = Vec::new(alloc);
+    let ended = run(alloc, &mut reader, &mut writer).is_ok();
+    let mut lines = String::new(alloc);
+    for c in String::from_utf8(writer)?.chars() {
+        lines.push(if c == '\n' { ';' } else { c })?;
+    }
+    if !ended {
+        lines.push_str("failed")?;
+    }
+    Ok(lines)
+}
+
+/// Each input writes the transcript that stands behind it.
+fn writes(rt: &impl Abort, alloc: Global, rows: &[(&str, &str)]) -> Result<(), Fail> {
+    for (input, transcript) in rows {
+        assert_eq!(rt; written(alloc, input)?.as_str(), *transcript, "{input}");
+    }
+    Ok(())
+}
+
+/// Undo, redo and goto.
+const MOVES: [(&str, &str); 6] = [
+    ("%%;%undo 1", "ok node 1 steps 1;undid 1;"),
+    (
+        "int x;%%;x += 5;%show;%undo 1;%show;%undo 1;%show",
+        "ok node 1 steps 1;ok node 2 steps 3;at node 2;x = 5;undid 1;at node 1;x = 0;undid 1;at node 0;",
+    ),
+    (
+        "int x;%%;x += 5;%undo 1;%redo 1;%show",
+        "ok node 1 steps 1;ok node 2 steps 3;undid 1;redid 1;at node 2;x = 5;",
+    ),
+    (
+        "int x;%%;x += 1;%undo 1;x += 2;%undo 2;%redo 2;%show",
+        "ok node 1 steps 1;ok node 2 steps 3;undid 1;ok node 3 steps 3;undid 2;redid 2;at node 3;x = 2;",
+    ),
+    (
+        "int x;%%;x += 1;%undo 1;x += 2;%undo 1;%goto 2;%undo 1;%redo 1;%show",
+        "ok node 1 steps 1;ok node 2 steps 3;undid 1;ok node 3 steps 3;undid 1;went 0 up 1 down;undid 1;redid 1;at node 2;x = 1;",
+    ),
+    (
+        "%undo 1;%goto 1;%undo 0;%undo 4294967296;%redo 1",
+        "refused 73 TooFar;refused 71 NoNode;undid 0;refused 80 BadCommand;refused 73 TooFar;",
+    ),
+];
+
+#[test]
+fn moves(rt: HostRuntime) -> Result<(), Fail> {
+    writes(&rt, rt.alloc(), &MOVES)
+}
+
+/// Cells with arrays, `if` and loops, forward and back.
+const CELLS: [(&str, &str); 6] = [
+    (
+        "int x;%%;x += 2147483647 x += 1;%show",
+        "ok node 1 steps 1;ok node 2 steps 5;at node 2;x = -2147483648;",
+    ),
+    (
+        "int x int a[2];%%;a[1] += 7 x += a[1] / 2 if x = 3 then a[0] -= x else skip fi a[0] < 0;%show;%undo 1;%show",
+        "ok node 1 steps 1;ok node 2 steps 11;at node 2;x = 3;a[2] = -3 7;undid 1;at node 1;x = 0;a[2] = 0 0;",
+    ),
+    (
+        "int x int a[2];%%;from x = 0 do x += 1 loop a[1] += x until x = 3;%show;%undo 1;%show;%redo 1;%show",
+        "ok node 1 steps 1;ok node 2 steps 23;at node 2;x = 3;a[2] = 0 3;undid 1;at node 1;x = 0;a[2] = 0 0;redid 1;at node 2;x = 3;a[2] = 0 3;",
+    ),
+    (
+        "int x from x = 0 do x += 1 until x = 5000;%undo 1;%redo 1;%show",
+        "ok node 1 steps 39999;undid 1;redid 1;at node 1;x = 5000;",
+    ),
+    (
+        "int a[65536] int b[1] a[65535] += 1;b[a[65535] - 1] -= 2;%show",
+        "ok node 1 steps 5;at node 1;a[65536] = 0 0 0 0 0 0 0 0 0 0 0 0 0 0 0 0 0 0 0 0 0 0 0 0 0 0 0 0 0 0 0 0 ...;b[1] = -2;",
+    ),
+    (
+        "if 1 then skip fi 1;%%;from 1 loop skip until 1;%show",
+        "ok node 1 steps 7;ok node 2 steps 7;at node 2;",
+    ),
+];
+
+#[test]
+fn runs_cells(rt: HostRuntime) -> Result<(), Fail> {
+    writes(&rt, rt.alloc(), &CELLS)
+}
+
+/// Each fault, and that it leaves all as before.
+const FAULTS: [(&str, &str); 9] = [
+    (
+        "int x int y;%%;x += 3 if x = 3 then x += 1 else skip fi x = 3;%show",
+        "ok node 1 steps 1;fault 50 FiAssertion after 7;at node 1;x = 0;y = 0;",
+    ),
+    (
+        "int x if x then skip else skip fi x = 0;%show",
+        "fault 50 FiAssertion after 5;at node 0;",
+    ),
+    (
+        "int x from x do skip until x;%show",
+        "fault 51 EntryAssertion after 1;at node 0;",
+    ),
+    (
+        "int x from x = 0 do skip until x = 1",
+        "fault 52 LoopAssertion after 9;",
+    ),
+    (
+        "int x x += 1 / 0;%show",
+        "fault 57 DivisionByZero after 1;at node 0;",
+    ),
+    (
+        "int x;%%;x += 2 x -= 1 % (x - 2);%show",
+        "ok node 1 steps 1;refused 43 SelfUse at 17..18;at node 1;x = 0;",
+    ),
+    (
+        "int x int y;%%;x += 2 y -= 1 % (x - 2);%show",
+        "ok node 1 steps 1;fault 57 DivisionByZero after 3;at node 1;x = 0;y = 0;",
+    ),
+    (
+        "int a[2];%%;a[2] += 1 / 0;%%;a[-1] += 1;%%;a[1 / 0] += 1;%show",
+        "ok node 1 steps 1;fault 58 IndexRange after 1;fault 58 IndexRange after 1;fault 57 DivisionByZero after 1;at node 1;a[2] = 0 0;",
+    ),
+    (
+        "int i int a[3];%%;from i = 0 do a[i] += i i += 1 until i = 4;%show;from i = 0 do a[i] += i i += 1 until i = 3;%show",
+        "ok node 1 steps 1;fault 58 IndexRange after 33;at node 1;i = 0;a[3] = 0 0 0;ok node 2 steps 29;at node 2;i = 3;a[3] = 0 1 2;",
+    ),
+];
+
+#[test]
+fn takes_faulty_cells_back(rt: HostRuntime) -> Result<(), Fail> {
+    writes(&rt, rt.alloc(), &FAULTS)
+}
+
+/// Refused texts, with the octets where they are.
+const REFUSED: [(&str, &str); 6] = [
+    (
+        "int x;%%;x += 2147483648",
+        "ok node 1 steps 1;refused 32 NumberTooLarge at 5..15;",
+    ),
+    (
+        "x ? 1;%%;int x int x[2];%%;y += 1;%%;int y y += y",
+        "refused 30 BadToken at 2..3;refused 40 Declared at 10..11;refused 41 Unknown at 0..1;refused 43 SelfUse at 11..12;",
+    ),
+    (
+        "int x int a[3];%%;x += x;%%;a[a[0]] += 1",
+        "ok node 1 steps 1;refused 43 SelfUse at 5..6;refused 43 SelfUse at 2..3;",
+    ),
+    (
+        "int x int a[3];%%;a += 1;%%;x[0] += 1;%%;x += a;%%;x += x[0];%%;if a[y] then skip fi 1",
+        "ok node 1 steps 1;refused 42 WrongKind at 0..1;refused 42 WrongKind at 0..1;refused 42 WrongKind at 5..6;refused 42 WrongKind at 5..6;refused 41 Unknown at 5..6;",
+    ),
+    (
+        "int a[0];%%;int a[65537];%%;if 1 then;%%;x <=> y",
+        "refused 49 ArrayLength at 6..7;refused 49 ArrayLength at 6..11;refused 31 Expected at 10..10;refused 31 Expected at 2..4;",
+    ),
+    (
+        "// é€;int x x += y;%%;// 𝄞;int é",
+        "refused 41 Unknown at 20..21;refused 30 BadToken at 12..14;",
+    ),
+];
+
+#[test]
+fn refuses_texts(rt: HostRuntime) -> Result<(), Fail> {
+    writes(&rt, rt.alloc(), &REFUSED)
+}
+
+/// The programs of examples/, without their comments.
+const EXAMPLES: [(&str, &str); 5] = [
+    (
+        "int x int y;%%;x += 5;y ^= x + 3;%%;%show;%undo 1;%show;%redo 1;x -= y;%show",
+        "ok node 1 steps 1;ok node 2 steps 5;at node 2;x = 5;y = 8;undid 1;at node 1;x = 0;y = 0;redid 1;ok node 3 steps 3;at node 3;x = -3;y = 8;",
+    ),
+    (
+        "int n int a int b;b += 1;%%;from n = 0;loop a += b  a ^= b  b ^= a  a ^= b  n += 1;until n = 10;%show;from n = 10;loop n -= 1  a ^= b  b ^= a  a ^= b  a -= b;until n = 0;%show;%undo 1;%show;%undo 1;%show",
+        "ok node 1 steps 3;ok node 2 steps 167;at node 2;n = 10;a = 55;b = 89;ok node 3 steps 167;at node 3;n = 0;a = 0;b = 1;undid 1;at node 2;n = 10;a = 55;b = 89;undid 1;at node 1;n = 0;a = 0;b = 1;",
+    ),
+    (
+        "int a[6] int i int t;a[0] += 3 a[1] += 1 a[2] += 4 a[3] += 1 a[4] += 5 a[5] += 9;%%;i += 1;from i = 1;do t += a[i - 1]  a[i] += t  t -= a[i - 1]  i += 1;until i = 6;i -= 6;%show;%undo 1;%show",
+        "ok node 1 steps 13;ok node 2 steps 73;at node 2;a[6] = 3 4 8 9 14 23;i = 0;t = 0;undid 1;at node 1;a[6] = 3 1 4 1 5 9;i = 0;t = 0;",
+    ),
+    (
+        "int a[6] int i int odd int even;a[0] += 3 a[1] += 1 a[2] += 4 a[3] += 1 a[4] += 5 a[5] += 9;%%;from i = 0;do if a[i] % 2 = 1 then odd += 1 else even += 1 fi a[i] % 2 = 1;loop i += 1;until i = 5;%show;%undo 1;%show",
+        "ok node 1 steps 13;ok node 2 steps 71;at node 2;a[6] = 3 1 4 1 5 9;i = 5;odd = 5;even = 1;undid 1;at node 1;a[6] = 3 1 4 1 5 9;i = 0;odd = 0;even = 0;",
+    ),
+    (
+        "int x int a[3];a[0] += 1 a[1] += 2 a[2] += 3;%%;from x = 0 do a[x] += 10 x += 1 until x = 4;%show;if x = 0 then x += 1 else skip fi x = 0;%show;x += y;%show",
+        "ok node 1 steps 7;fault 58 IndexRange after 33;at node 1;x = 0;a[3] = 1 2 3;fault 50 FiAssertion after 5;at node 1;x = 0;a[3] = 1 2 3;refused 41 Unknown at 5..6;at node 1;x = 0;a[3] = 1 2 3;",
+    ),
+];
+
+#[test]
+fn runs_the_examples(rt: HostRuntime) -> Result<(), Fail> {
+    writes(&rt, rt.alloc(), &EXAMPLES)
+}
+
+/// Lines, commands and what is gathered between them.
+const LINES: [(&str, &str); 3] = [
+    ("", ""),
+    (
+        " \t\r;;%show \t\r;%undo 1 ;",
+        "at node 0;refused 73 TooFar;",
+    ),
+    (
+        "int x\r;;%show;%%show;%undo;%undo 01;%undo +1;%undo 12345678901",
+        "ok node 1 steps 1;at node 1;x = 0;refused 80 BadCommand;refused 80 BadCommand;undid 1;refused 80 BadCommand;refused 80 BadCommand;",
+    ),
+];
+
+#[test]
+fn reads_lines(rt: HostRuntime) -> Result<(), Fail> {
+    writes(&rt, rt.alloc(), &LINES)
+}
+
+/// Expressions with their values.
+const VALUES: [(&str, i32); 28] = [
+    ("7 / -2", -3),
+    ("-7 % 2", -1),
+    ("(-2147483647 - 1) / -1", -2147483648),
+    ("(-2147483647 - 1) % -1", 0),
+    ("65536 * 65536", 0),
+    ("2147483647 + 1", -2147483648),
+    ("6 & 3", 2),
+    ("6 ^ 3", 5),
+    ("6 | 3", 7),
+    ("-1 & 255", 255),
+    ("1 < 2 = 1", 1),
+    ("3 <= 2", 0),
+    ("3 >= 3", 1),
+    ("2 > 3", 0),
+    ("2 != 3", 1),
+    ("0 && 1 / 0", 0),
+    ("2 || 1 / 0", 1),
+    ("2 && 3", 1),
+    ("0 || 0", 0),
+    ("1 + 2 * 3", 7),
+    ("10 - 3 - 2", 5),
+    ("1 | 2 ^ 3 & 2", 1),
+    ("2 & 2 = 2", 0),
+    ("- - 3", 3),
+    ("0 - 2 * -(1 + 2)", 6),
+    ("1 || 0 && 1 / 0", 1),
+    ("7 % 4 / 2", 1),
+    ("100 / 7 * 7", 98),
+];
+
+#[test]
+fn evaluates(rt: HostRuntime) -> Result<(), Fail> {
+    let alloc = rt.alloc();
+    let mut input = String::from_str(alloc, "int a[28];%%")?;
+    let mut output = String::from_str(
+        alloc,
+        "ok node 1 steps 1;ok node 2 steps 57;at node 2;a[28] =",
+    )?;
+    for (i, (expression, value)) in VALUES.iter().enumerate() {
+        input.push_str(&format!(in alloc; ";a[{i}] += {expression}")?)?;
+        output.push_str(&format!(in alloc; " {value}")?)?;
+    }
+    input.push_str(";%show")?;
+    output.push_str(";")?;
+    assert_eq!(rt; written(alloc, &input)?.as_str(), output.as_str());
+    Ok(())
+}

@@ -1,0 +1,118 @@
+//! What is written of a name and its value.
+ghost use Rattle.std.specs.Prelude.{◌++◌, codes, length, OnOk, OnErr};
+ghost use Rattle.std.specs.Fmt.{signed_decimal};
+ghost use Rattle.std.specs.Io.KnownBytes.{Appends};
+ghost use Rattle.janus_store.specs.Values.{shown};
+ghost use Rattle.janus_cells.specs.Lines.{ended_line};
+ghost use Rattle.janus_cells.specs.Output.{SentSome};
+ghost use Rattle.janus_cells.specs.Shown.{equated_text, length_text, spaced_text, numbers_text, told_text, value_text};
+
+use crate::output::{WriteFailed, send, send_counted};
+use itoa::Buffer;
+use janus_store::View;
+use std::io::Write;
+
+/// How many numbers of an array are shown.
+const SHOWN: usize = 32;
+
+/// Writes a number in decimal digits, behind a `-` where it is below 0.
+fn send_signed<W: Write>(writer: &mut W, n: i32) -> Result<(), WriteFailed>
+    ensures ok { OnOk result (Appends (W.contents writer.old) (W.contents writer.new) (signed_decimal n)) }
+    ensures err { OnErr result (SentSome (W.contents writer.old) (W.contents writer.new) (signed_decimal n)) }
+{
+    let mut text = Buffer::new();
+    send(writer, text.format(n).as_bytes())
+}
+
+/// Writes an equals sign between spaces, and then a number.
+fn send_equated<W: Write>(writer: &mut W, value: i32) -> Result<(), WriteFailed>
+    ensures ok { OnOk result (Appends (W.contents writer.old) (W.contents writer.new) (equated_text value)) }
+    ensures err { OnErr result (SentSome (W.contents writer.old) (W.contents writer.new) (equated_text value)) }
+{
+    send(writer, b" = ")?;
+    send_signed(writer, value)
+}
+
+/// Writes a space, and then a number.
+fn send_spaced<W: Write>(writer: &mut W, value: i32) -> Result<(), WriteFailed>
+    ensures ok { OnOk result (Appends (W.contents writer.old) (W.contents writer.new) (codes " " ++ signed_decimal value)) }
+    ensures err { OnErr result (SentSome (W.contents writer.old) (W.contents writer.new) (codes " " ++ signed_decimal value)) }
+{
+    send(writer, b" ")?;
+    send_signed(writer, value)
+}
+
+/// Writes numbers, a space before each.
+fn send_all<W: Write>(writer: &mut W, numbers: &[i32]) -> Result<(), WriteFailed>
+    ensures ok { OnOk result (Appends (W.contents writer.old) (W.contents writer.new) (spaced_text numbers.now)) }
+    ensures err { OnErr result (SentSome (W.contents writer.old) (W.contents writer.new) (spaced_text numbers.now)) }
+{
+    for i in 0..numbers.len() {
+        send_spaced(writer, numbers[i])?;
+    }
+    Ok(())
+}
+
+/// Writes the first numbers, a space before each, and whether there are more.
+fn send_numbers<W: Write>(writer: &mut W, numbers: &[i32]) -> Result<(), WriteFailed>
+    ensures ok { OnOk result (Appends (W.contents writer.old) (W.contents writer.new) (numbers_text numbers.now)) }
+    ensures err { OnErr result (SentSome (W.contents writer.old) (W.contents writer.new) (numbers_text numbers.now)) }
+{
+    if numbers.len() <= SHOWN {
+        return send_all(writer, numbers);
+    }
+    let first = &numbers[..SHOWN];
+    send_all(writer, first)?;
+    send(writer, b" ...")
+}
+
+/// Writes how long an array is, and an equals sign.
+fn send_length<W: Write>(writer: &mut W, length: usize) -> Result<(), WriteFailed>
+    ensures ok { OnOk result (Appends (W.contents writer.old) (W.contents writer.new) (length_text length)) }
+    ensures err { OnErr result (SentSome (W.contents writer.old) (W.contents writer.new) (length_text length)) }
+{
+    send_counted(writer, "[", length as u64)?;
+    send(writer, b"] =")
+}
+
+/// Writes how long an array is, and its numbers.
+fn send_array<W: Write>(writer: &mut W, numbers: &[i32]) -> Result<(), WriteFailed>
+    ensures ok { OnOk result (Appends (W.contents writer.old) (W.contents writer.new) (length_text (length numbers.now) ++ numbers_text numbers.now)) }
+    ensures err { OnErr result (SentSome (W.contents writer.old) (W.contents writer.new) (length_text (length numbers.now) ++ numbers_text numbers.now)) }
+{
+    send_length(writer, numbers.len())?;
+    send_numbers(writer, numbers)
+}
+
+/// Writes what stands behind a name: its value.
+fn send_told<W: Write>(writer: &mut W, value: View<'_>) -> Result<(), WriteFailed>
+    ensures ok { OnOk result (Appends (W.contents writer.old) (W.contents writer.new) (told_text (shown value.entry))) }
+    ensures err { OnErr result (SentSome (W.contents writer.old) (W.contents writer.new) (told_text (shown value.entry))) }
+{
+    match value {
+        View::Number(number) => send_equated(writer, number),
+        View::Array(numbers) => send_array(writer, numbers),
+    }
+}
+
+/// Writes the value text of a name and its value.
+pub fn send_value_text<W: Write>(
+    writer: &mut W,
+    name: &str,
+    value: View<'_>,
+) -> Result<(), WriteFailed>
+    ensures ok { OnOk result (Appends (W.contents writer.old) (W.contents writer.new) (value_text (name.now, shown value.entry))) }
+    ensures err { OnErr result (SentSome (W.contents writer.old) (W.contents writer.new) (value_text (name.now, shown value.entry))) }
+{
+    send(writer, name.as_bytes())?;
+    send_told(writer, value)
+}
+
+/// Writes the line of a name with its value.
+pub fn send_value<W: Write>(writer: &mut W, name: &str, value: View<'_>) -> Result<(), WriteFailed>
+    ensures ok { OnOk result (Appends (W.contents writer.old) (W.contents writer.new) (ended_line (value_text (name.now, shown value.entry)))) }
+    ensures err { OnErr result (SentSome (W.contents writer.old) (W.contents writer.new) (ended_line (value_text (name.now, shown value.entry)))) }
+{
+    send_value_text(writer, name, value)?;
+    send(writer, b"\n")
+}
