@@ -89,5 +89,5 @@ returns-clause-done c =
     let zc : to_z w32 (of_z w32 m) ≡ m = grind (arith, to_z-of_z) in
     let made : to_z w32 (of_z w32 c.changed.result) ≡ changed o old w = zc ∙ c.changed.ensures ∙ ap (λ v. changed o v (to_z w32 (of_z w32 w))) zo ∙ ap (changed o old) zw in
     let written : write a (Arr (set_element l.0 k (changed o old w))) s ≡ Fine c.set_element.new.self =
-        ap (λ m. write a (Arr (set_element l.0 k m)) s) (sym made) ∙ ap (λ k. write a (Arr (set_element l.0 k (to_z w32 (of_z w32 c.changed.result)))) s) (sym zk) ∙ c.set_element.ensures.written l.0 l.1 in
+    ap (λ m. write a (Arr (set_element l.0 k m)) s) (sym made) ∙ ap (λ k. write a (Arr (set_element l.0 k (to_z w32 (of_z w32 c.changed.result)))) s) (sym zk) ∙ c.set_element.ensures.written l.0 l.1 in
     element_fine a i o e s l.0 k old w c.set_element.new.self c.requires l.1 (sym c.in-Ok.ensures) some (sym c.in-Ok-value.ensures) written
