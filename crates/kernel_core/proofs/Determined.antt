@@ -8,7 +8,7 @@ use Rattle.janus_machine.specs.declared.fault.Fault.{Fault}
 use Rattle.janus_machine.specs.declared.fault.Fault.TheVariants as fault
 use Rattle.kernel_core.specs.Language.{Code, Part}
 use Rattle.kernel_core.specs.Reached.{Reaches, Progress, Went, Ended, Stopped}
-use Rattle.kernel_core.specs.State.{Past, Work, Posted, Move, Job as Open, Idle, Border, Inside, State, here, code_of}
+use Rattle.kernel_core.specs.State.{Past, Work, Posted, Move, Job as Open, Idle, Border, Inside, State, here, code_of, is_full}
 use Rattle.kernel_core.specs.Legal.{can_undo, can_redo, IsLegal}
 use Rattle.kernel_core.specs.Slices.{cells, stepped, moved, Backs, Arrives, Settles, Comes, Goes, SlicesIn, SlicesAt}
 use Rattle.kernel_core.specs.Begins.{travel_to, Departs, Enters, TakesMove, TakesGoto, TakesCell}
@@ -153,8 +153,9 @@ takes_goto_same s n true t u new other a ample b enough =
 real : (answer : Begun) (r : Refusal) → IsAmple answer → answer ≡ begun.Ended (outcome.Refused r) → r ≡ Memory → ⊥
 real answer r ample e same = ample (inl (e ∙ ap (λ (x : Refusal). begun.Ended (outcome.Refused x)) same))
 
-takes_cell_same : (s : Past) (text : List ℕ) (t u : Begun) (new other : State) → IsLegal s → TakesCell s text t new → IsAmple t → TakesCell s text u other → IsAmple u → (t ≡ u) × (new ≡ other)
-takes_cell_same s text t u new other g a ample b enough = elim a [
+takes_cell_same : (s : Past) (text : List ℕ) (full : Bool) (t u : Begun) (new other : State) → IsLegal s → TakesCell s text full t new → IsAmple t → TakesCell s text full u other → IsAmple u → (t ≡ u) × (new ≡ other)
+takes_cell_same s text true t u new other g a ample b enough = (a.0 ∙ sym b.0, a.1 ∙ sym b.1)
+takes_cell_same s text false t u new other g a ample b enough = elim a [
   | inl x ↦ elim b [
     | inl y ↦
         (let same : x.0 ≡ y.0 = one_cell (here s) text x.0 y.0 x.1 y.1 in
@@ -170,7 +171,7 @@ takes_cell_same s text t u new other g a ample b enough = elim a [
 ]
 
 takes_same : (s : Past) (r : Request) (t u : Begun) (new other : State) → IsLegal s → Takes s r t new → IsAmple t → Takes s r u other → IsAmple u → (t ≡ u) × (new ≡ other)
-takes_same s (RunCell text silent store) t u new other g a ample b enough = takes_cell_same s text t u new other g a ample b enough
+takes_same s (RunCell text silent store) t u new other g a ample b enough = takes_cell_same s text (is_full s) t u new other g a ample b enough
 takes_same s (Undo k) t u new other g a ample b enough = takes_move_same s (travel_to aim.Undo k 0) (can_undo s.nodes s.position k) t u new other a ample b enough
 takes_same s (Redo k) t u new other g a ample b enough = takes_move_same s (travel_to aim.Redo 0 k) (can_redo s.favourites s.position k) t u new other a ample b enough
 takes_same s (Goto n) t u new other g a ample b enough = takes_goto_same s n (nat_lt n (length s.nodes)) t u new other a ample b enough

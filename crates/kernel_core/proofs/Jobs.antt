@@ -4,7 +4,7 @@ use Rattle.janus_meaning.specs.World.{World, Cell, entered}
 use Rattle.kernel_core.specs.Language.{Code, Forward, Backward, Part}
 use Rattle.kernel_core.specs.Reached.{Reaches, Progress, Went, Ended, Stopped, IsUnderWay}
 use Rattle.kernel_core.specs.Text.{Accepts}
-use Rattle.kernel_core.specs.State.{Past, Work, Posted, Move, Job as Open, Idle, Border, Inside, State, here, code_of}
+use Rattle.kernel_core.specs.State.{Past, Work, Posted, Move, Job as Open, Idle, Border, Inside, State, here, code_of, is_full}
 use Rattle.kernel_core.specs.Legal.{IsMeeting}
 use Rattle.kernel_core.proofs.LanguageLaws.{part_zero_forward, part_zero_backward, exec_some}
 use Rattle.kernel_core.specs.Slices.{finished, turned, cells, stepped, moved, grown, Backs, Arrives, Comes, SlicesIn, SlicesAt}
@@ -12,14 +12,14 @@ use Rattle.kernel_core.specs.Begins.{Declares, travel_to, Departs, Enters, Takes
 use Rattle.kernel_core.specs.Runs.{Machine, Step, Run, IsPost, IsNext, IsBegin, BeginsAt, Takes, TakesUnless}
 use Rattle.kernel_core.specs.Request.{Request, RunCell, Undo, Redo, Goto, request_of}
 use Rattle.kernel_core.specs.Midway.{after, gone, count_of, IsReason, IsAtCount, IsStage, KeepsIn, KeepsAt, Keeps, IsCell, CellIn, CellAt, CellKeeps, Holds}
-use Rattle.kernel_core.specs.Theorems.{EndsAs, TravelEnds, MoveEnds, GotoEnds, CellEnds, JobEnds, EndsUnless, IsNoNode, JobsEnd}
+use Rattle.kernel_core.specs.Theorems.{EndsAs, TravelEnds, MoveEnds, GotoEnds, CellEnds, JobEnds, EndsUnless, IsNoNode, JobsEnd, TextEnds}
 use Rattle.kernel_core.proofs.Trees.{stepped_cells}
 use Rattle.kernel_core.specs.Travel as aim
 use Rattle.kernel_core.specs.Travel.{Travel}
 use Rattle.kernel_core.specs.Turn.{Why, WasAsked, Faulted, Turn, GoesOn, GoesBack}
 use Rattle.kernel_core.specs.declared.outcome.End.{End}
 use Rattle.kernel_core.specs.declared.outcome.End.TheVariants.{All, Asked, NoMemory}
-use Rattle.kernel_core.specs.declared.outcome.Refusal.TheVariants.{TooFar, NoNode, Closing}
+use Rattle.kernel_core.specs.declared.outcome.Refusal.TheVariants.{HistoryFull, TooFar, NoNode, Closing}
 use Rattle.kernel_core.specs.declared.outcome.Outcome.{Outcome}
 use Rattle.kernel_core.specs.declared.outcome.Outcome.TheVariants as outcome
 use Rattle.kernel_core.specs.declared.outcome.Begun.{Begun}
@@ -194,7 +194,7 @@ departs_move (suc left) s t answer new e a =
 -- ---- a cell
 
 abbrev Sliced-cell : Past → List ℕ → Sliced → State → Type 0
-Sliced-cell p text told new = ThenSliced (CellKeeps p text) (CellEnds p text) told new
+Sliced-cell p text told new = ThenSliced (CellKeeps p text) (TextEnds p text) told new
 
 no_node : (p : Past) (text : List ℕ) (cell : Cell) (why : Why) → Accepts (here p) text cell → IsReason (Forward cell) (here p) why → IsNoNode p text (turned (Posted cell) why)
 no_node p text cell (WasAsked at) a t = (cell, a, t)
@@ -231,8 +231,8 @@ slice_at_cell p text s Idle m asked told new i a = absurd i
 slice_at_cell p text s (Border t) m asked told new i a = absurd i
 slice_at_cell p text s (Inside e) m asked told new i a = slice_in_cell p text s e.work e.count e.turn m asked told new i a
 
-takes_cell : (s : Past) (text : List ℕ) (answer : Begun) (new : State) → TakesCell s text answer new → ThenBegun (CellKeeps s text) (CellEnds s text) answer new
-takes_cell s text answer new a = elim a [
+takes_text : (s : Past) (text : List ℕ) (answer : Begun) (new : State) → TakesCell s text false answer new → ThenBegun (CellKeeps s text) (TextEnds s text) answer new
+takes_text s text answer new a = elim a [
   | inl b ↦ begun_at _ _ begun.Going answer (record { past = s; job = Inside (record { work = Posted b.0; count = 0; turn = GoesOn }) }) new b.2 b.3 (record { accepted = b.1; same = refl }, under_way (Forward b.0) (here s))
   | inr b ↦ begun_at _ _ (begun.Ended (outcome.Refused b.0)) answer (record { past = s; job = Idle }) new b.2 b.3 (inr (refl, b.1))
 ]
@@ -258,13 +258,18 @@ move_ended : (p : Past) (t : Travel) (can : Bool) (o : Outcome) (s : State) → 
 move_ended p t false o s e a = absurd (cc)
 move_ended p t true o s e a = a
 
+cell_ended : (p : Past) (text : List ℕ) (full : Bool) (o : Outcome) (s : State) → full ≡ false → TextEnds p text o s → CellEnds p text full o s
+cell_ended p text true o s e a = absurd (cc)
+cell_ended p text false o s e a = a
+
 goto_ended : (p : Past) (n : ℕ) (known : Bool) (o : Outcome) (s : State) → known ≡ true → (up : ℕ) (down : ℕ) → IsMeeting p.nodes p.position n up down → TravelEnds p (travel_to (aim.Goto n) up down) o s → GotoEnds p n known o s
 goto_ended p n false o s e up down m a = absurd (cc)
 goto_ended p n true o s e up down m a = (up, down, m, a)
 
 -- a slice of the open job
 pub slice_holds : (p : Past) (r : Request) (s : Past) (job : Open) (m : ℕ) (asked : Bool) (told : Sliced) (new : State) → Holds p r (record { past = s; job = job }) → SlicesAt s job m asked told new → ThenSliced (Holds p r) (JobEnds p r) told new
-slice_holds p (RunCell text silent store) s job m asked told new i a = slice_at_cell p text s job m asked told new i a
+slice_holds p (RunCell text silent store) s job m asked told new i a =
+    then_sliced _ _ _ _ told new (λ x h. (h, i.1)) (λ o x h. cell_ended p text _ o x i.1 h) (slice_at_cell p text s job m asked told new i.0 a)
 slice_holds p (Undo k) s job m asked told new i a =
     then_sliced _ _ _ _ told new (λ x h. (h, i.1)) (λ o x h. move_ended p _ _ o x i.1 h) (slice_at_move p (travel_to aim.Undo k 0) s job m asked told new i.0 a)
 slice_holds p (Redo k) s job m asked told new i a =
@@ -274,7 +279,7 @@ slice_holds p (Goto n) s job m asked told new i a =
 
 -- its begin at a border
 pub enter_holds : (p : Past) (r : Request) (s : Past) (t : Travel) (answer : Begun) (new : State) → Holds p r (record { past = s; job = Border t }) → Enters s t answer new → ThenBegun (Holds p r) (JobEnds p r) answer new
-enter_holds p (RunCell text silent store) s t answer new i a = absurd i
+enter_holds p (RunCell text silent store) s t answer new i a = absurd i.0
 enter_holds p (Undo k) s t answer new i a =
     then_begun _ _ _ _ answer new (λ x h. (h, i.1)) (λ o x h. move_ended p _ _ o x i.1 h) (enters_move p (travel_to aim.Undo k 0) s t answer new i.0 a)
 enter_holds p (Redo k) s t answer new i a =
@@ -286,6 +291,10 @@ takes_move : (s : Past) (t : Travel) (can : Bool) (answer : Begun) (new : State)
 takes_move s t false answer new a = begun_at _ _ (begun.Ended (outcome.Refused TooFar)) answer (record { past = s; job = Idle }) new a.0 a.1 (refl, refl)
 takes_move s t true answer new a = then_begun _ _ _ _ answer new (λ x h. (h, refl)) (λ o x h. h) (departs_move (cells t) s t answer new refl a)
 
+takes_cell : (s : Past) (text : List ℕ) (full : Bool) (answer : Begun) (new : State) → TakesCell s text full answer new → ThenBegun (λ x. CellKeeps s text x × (full ≡ false)) (CellEnds s text full) answer new
+takes_cell s text true answer new a = begun_at _ _ (begun.Ended (outcome.Refused HistoryFull)) answer (record { past = s; job = Idle }) new a.0 a.1 (refl, refl)
+takes_cell s text false answer new a = then_begun _ _ _ _ answer new (λ x h. (h, refl)) (λ o x h. h) (takes_text s text answer new a)
+
 takes_goto : (s : Past) (n : ℕ) (known : Bool) (answer : Begun) (new : State) → TakesGoto s n known answer new →
     ThenBegun (λ x. (known ≡ true) × ((up : ℕ) × (down : ℕ) × IsMeeting s.nodes s.position n up down × Keeps s (travel_to (aim.Goto n) up down) x)) (GotoEnds s n known) answer new
 takes_goto s n false answer new a = begun_at _ _ (begun.Ended (outcome.Refused NoNode)) answer (record { past = s; job = Idle }) new a.0 a.1 (refl, refl)
@@ -294,20 +303,21 @@ takes_goto s n true answer new a =
 
 -- the begin of a job
 pub take_holds : (s : Past) (r : Request) (answer : Begun) (new : State) → Takes s r answer new → ThenBegun (Holds s r) (JobEnds s r) answer new
-take_holds s (RunCell text silent store) answer new a = takes_cell s text answer new a
+take_holds s (RunCell text silent store) answer new a = takes_cell s text _ answer new a
 take_holds s (Undo k) answer new a = takes_move s (travel_to aim.Undo k 0) _ answer new a
 take_holds s (Redo k) answer new a = takes_move s (travel_to aim.Redo 0 k) _ answer new a
 take_holds s (Goto n) answer new a = takes_goto s n _ answer new a
 
 -- what is kept of the job has it open
 pub no_idle : (p : Past) (r : Request) (s : Past) → Holds p r (record { past = s; job = Idle }) → ⊥
-no_idle p (RunCell text silent store) s h = h
+no_idle p (RunCell text silent store) s h = h.0
 no_idle p (Undo k) s h = h.0
 no_idle p (Redo k) s h = h.0
 no_idle p (Goto n) s h = h.1.3
 
-cell_idle : (p : Past) (text : List ℕ) (o : Outcome) (s : State) → CellEnds p text o s → s.job ≡ Idle
-cell_idle p text o s h = elim h [
+cell_idle : (p : Past) (text : List ℕ) (full : Bool) (o : Outcome) (s : State) → CellEnds p text full o s → s.job ≡ Idle
+cell_idle p text true o s h = ap (λ (x : State). x.job) h.1
+cell_idle p text false o s h = elim h [
   | inl n ↦ ap (λ (x : State). x.job) n.6
   | inr b ↦ ap (λ (x : State). x.job) b.0
 ]
@@ -322,7 +332,7 @@ goto_idle p n true o s h = ap (λ (x : State). x.job) h.3.2.stands
 
 -- a job that ended is open no more
 pub ended_idle : (p : Past) (job : Request) (o : Outcome) (s : State) → JobEnds p job o s → s.job ≡ Idle
-ended_idle p (RunCell text silent store) o s h = cell_idle p text o s h
+ended_idle p (RunCell text silent store) o s h = cell_idle p text _ o s h
 ended_idle p (Undo k) o s h = move_idle p (travel_to aim.Undo k 0) _ o s h
 ended_idle p (Redo k) o s h = move_idle p (travel_to aim.Redo 0 k) _ o s h
 ended_idle p (Goto n) o s h = goto_idle p n _ o s h

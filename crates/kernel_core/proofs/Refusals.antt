@@ -14,7 +14,7 @@ use Rattle.janus_check.proofs.FormedLemmas.{formed_no_faults}
 use Rattle.kernel_core.specs.Language.{IsSound}
 use Rattle.kernel_core.specs.Text.{Accepts, IsUnformed, Refuses}
 use Rattle.kernel_core.specs.declared.outcome.Refusal.{Refusal}
-use Rattle.kernel_core.specs.declared.outcome.Refusal.TheVariants.{Syntax, Check, TooFar, NoNode, Closing, Memory}
+use Rattle.kernel_core.specs.declared.outcome.Refusal.TheVariants.{Syntax, Check, HistoryFull, TooFar, NoNode, Closing, Memory}
 use Rattle.janus_check.proofs.FirstLemmas.{one_first}
 
 pub one_cell : (w : World) (text : List ℕ) (c d : Cell) → Accepts w text c → Accepts w text d → c ≡ d
@@ -30,8 +30,10 @@ one_check w text f h p q =
 pub one_answer : (w : World) (text : List ℕ) (r q : Refusal) → Refuses w text r → (r ≡ Memory → ⊥) → Refuses w text q → (q ≡ Memory → ⊥) → r ≡ q
 one_answer w text Memory q a real b other = absurd (real refl)
 one_answer w text r Memory a real b other = absurd (other refl)
+one_answer w text HistoryFull q a real b other = absurd a
 one_answer w text TooFar q a real b other = absurd a
 one_answer w text NoNode q a real b other = absurd a
+one_answer w text r HistoryFull a real b other = absurd b
 one_answer w text r TooFar a real b other = absurd b
 one_answer w text r NoNode a real b other = absurd b
 one_answer w text Closing q a real b other = absurd a
@@ -47,6 +49,7 @@ nothing_there f fs e c = let l = subst (λ (xs : List check.CheckFault). c.0 < l
 -- a cell that is well formed is not refused
 pub not_both : (w : World) (text : List ℕ) (c : Cell) (r : Refusal) → IsSound w → Accepts w text c → Refuses w text r → (r ≡ Memory → ⊥) → ⊥
 not_both w text c Memory sound a b real = real refl
+not_both w text c HistoryFull sound a b real = b
 not_both w text c TooFar sound a b real = b
 not_both w text c NoNode sound a b real = b
 not_both w text c Closing sound a b real = b

@@ -8,7 +8,7 @@ use Rattle.janus_meaning.specs.Cells.{WorldPart}
 use Rattle.janus_meaning.proofs.Worlds.{worlds_are_determined, world_trichotomy, worlds_start_and_end}
 use Rattle.kernel_core.specs.Language.{Code, Forward, start_of, block_of, Part, Exec}
 use Rattle.kernel_core.specs.Reached.{Reaches, Progress, Went, Ended, Stopped}
-use Rattle.kernel_core.specs.State.{Past, Work, Posted, Move, Job as Open, Idle, Border, Inside, State, ShownAt, here, code_of}
+use Rattle.kernel_core.specs.State.{Past, Work, Posted, Move, Job as Open, Idle, Border, Inside, State, ShownAt, here, code_of, is_full}
 use Rattle.kernel_core.specs.Legal.{CanGo, IsLegal, IsPossible, IsPossibleWork, IsPossibleAt, IsInTime, IsInTimeAt}
 use Rattle.kernel_core.specs.Midway.{count_of, IsReason, Holds}
 use Rattle.kernel_core.specs.LegalState.{IsLegalState, WasBegun, HasBegun}
@@ -140,14 +140,15 @@ takes_goto_fit s n true answer new g e a =
 lt_is : (a b : ℕ) → nat_lt a b ≡ true → a < b
 lt_is a b e = grind (arith, nat_tests)
 
-takes_cell_fit : (s : Past) (text : List ℕ) (answer : Begun) (new : State) → IsLegal s → TakesCell s text answer new → IsFit new
-takes_cell_fit s text answer new g a = elim a [
+takes_cell_fit : (s : Past) (text : List ℕ) (full : Bool) (answer : Begun) (new : State) → IsLegal s → TakesCell s text full answer new → IsFit new
+takes_cell_fit s text true answer new g a = fit_idle s new g a.1
+takes_cell_fit s text false answer new g a = elim a [
   | inl b ↦ fit_inside s (Posted b.0) 0 GoesOn new g (accepted_formed (here s) text b.0 b.1) (exec_some (code_of s (Posted b.0)) (here s)) (part_none (code_of s (Posted b.0)) (here s)) b.3
   | inr b ↦ fit_idle s new g b.3
 ]
 
 pub takes_fit : (s : Past) (r : Request) (answer : Begun) (new : State) → IsLegal s → Takes s r answer new → IsFit new
-takes_fit s (RunCell text silent store) answer new g a = takes_cell_fit s text answer new g a
+takes_fit s (RunCell text silent store) answer new g a = takes_cell_fit s text (is_full s) answer new g a
 takes_fit s (Undo k) answer new g a = takes_move_fit s (travel_to aim.Undo k 0) _ answer new g (λ e. (refl, e)) a
 takes_fit s (Redo k) answer new g a = takes_move_fit s (travel_to aim.Redo 0 k) _ answer new g (λ e. (refl, e)) a
 takes_fit s (Goto n) answer new g a = takes_goto_fit s n _ answer new g (λ e. lt_is n (length s.nodes) e) a
@@ -246,8 +247,8 @@ stays_legal old new (e ∷ events) (t ∷ answers) g r = stays_legal r.0 new eve
 
 reason_in : (p : Past) (r : Request) (s : Past) (work : Work) (c : ℕ) (why : Why) → Holds p r (record { past = s; job = Inside (record { work = work; count = c; turn = GoesBack why }) }) →
     (c ≤ count_of why) × IsReason (code_of s work) (here s) why
-reason_in p (RunCell text silent store) s (Posted cell) c why h = subst (λ (x : Past). (c ≤ count_of why) × IsReason (Forward cell) (here x) why) (sym h.0.same) h.1
-reason_in p (RunCell text silent store) s (Move t) c why h = absurd h
+reason_in p (RunCell text silent store) s (Posted cell) c why h = subst (λ (x : Past). (c ≤ count_of why) × IsReason (Forward cell) (here x) why) (sym h.0.0.same) h.0.1
+reason_in p (RunCell text silent store) s (Move t) c why h = absurd h.0
 reason_in p (Undo k) s (Posted cell) c why h = absurd h.0
 reason_in p (Undo k) s (Move t) c why h = h.0.1
 reason_in p (Redo k) s (Posted cell) c why h = absurd h.0

@@ -6,7 +6,7 @@ use Rattle.kernel_core.specs.Travel as aim
 use Rattle.kernel_core.specs.Travel.{Travel, Way, Up, Down, next_way}
 use Rattle.kernel_core.specs.Turn.{Why, WasAsked, Faulted, Turn, GoesOn, GoesBack}
 use Rattle.kernel_core.specs.Reached.{Progress, Went, Ended, Stopped, Reaches}
-use Rattle.kernel_core.specs.State.{Past, Work, Posted, Move, Job as Open, Idle, Border, Inside, State, here, code_of}
+use Rattle.kernel_core.specs.State.{Past, Work, Posted, Move, Job as Open, Idle, Border, Inside, State, here, code_of, is_full}
 use Rattle.kernel_core.specs.Legal.{IsLegal, IsPossibleWork, IsPossibleAt}
 use Rattle.kernel_core.specs.LegalState.{IsLegalState}
 use Rattle.kernel_core.specs.Slices.{finished, cells, stepped, moved, Backs, Arrives, Settles, Comes, SlicesIn, SlicesAt}
@@ -126,14 +126,15 @@ takes_goto_stops : (s : Past) (n : ℕ) (known : Bool) (answer : Begun) (new : S
 takes_goto_stops s n false answer new a x = at_begin ⊥ _ answer _ new a.0 a.1 (λ h. h) x
 takes_goto_stops s n true answer new a x = departs_stops (a.0 + a.1) s (travel_to (aim.Goto n) a.0 a.1) answer new a.3 x
 
-takes_cell_stops : (s : Past) (text : List ℕ) (answer : Begun) (new : State) → TakesCell s text answer new → StoppedBegun answer new → ⊥
-takes_cell_stops s text answer new a x = elim a [
+takes_cell_stops : (s : Past) (text : List ℕ) (full : Bool) (answer : Begun) (new : State) → TakesCell s text full answer new → StoppedBegun answer new → ⊥
+takes_cell_stops s text true answer new a x = at_begin ⊥ _ answer _ new a.0 a.1 (λ h. h) x
+takes_cell_stops s text false answer new a x = elim a [
   | inl b ↦ at_begin ⊥ begun.Going answer _ new b.2 b.3 (λ h. h) x
   | inr b ↦ at_begin ⊥ _ answer _ new b.2 b.3 (λ h. h) x
 ]
 
 takes_stops : (s : Past) (r : Request) (answer : Begun) (new : State) → Takes s r answer new → StoppedBegun answer new → ⊥
-takes_stops s (RunCell text silent store) answer new a x = takes_cell_stops s text answer new a x
+takes_stops s (RunCell text silent store) answer new a x = takes_cell_stops s text (is_full s) answer new a x
 takes_stops s (Undo k) answer new a x = takes_move_stops s (travel_to aim.Undo k 0) _ answer new a x
 takes_stops s (Redo k) answer new a x = takes_move_stops s (travel_to aim.Redo 0 k) _ answer new a x
 takes_stops s (Goto n) answer new a x = takes_goto_stops s n _ answer new a x

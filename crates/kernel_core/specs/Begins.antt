@@ -9,7 +9,7 @@ use Rattle.kernel_core.specs.Text.{Accepts, Refuses}
 use Rattle.kernel_core.specs.Turn.{GoesOn}
 use Rattle.kernel_core.specs.declared.outcome.End.TheVariants.{All, NoMemory}
 use Rattle.kernel_core.specs.declared.outcome.Refusal.{Refusal}
-use Rattle.kernel_core.specs.declared.outcome.Refusal.TheVariants.{TooFar, NoNode}
+use Rattle.kernel_core.specs.declared.outcome.Refusal.TheVariants.{HistoryFull, TooFar, NoNode}
 use Rattle.kernel_core.specs.declared.outcome.Outcome.TheVariants as outcome
 use Rattle.kernel_core.specs.declared.outcome.Begun.{Begun}
 use Rattle.kernel_core.specs.declared.outcome.Begun.TheVariants as begun
@@ -36,9 +36,14 @@ RefusesCell s text told new =
     (refusal : Refusal) × Refuses (here s) text refusal × (told ≡ begun.Ended (outcome.Refused refusal))
     × (new ≡ record { past = s; job = Idle })
 
--- a posted cell is entered, or refused for its text or for want of memory
-abbrev pub TakesCell : Past → List ℕ → Begun → State → Type 0
-TakesCell s text told new = EntersCell s text told new ⊎ RefusesCell s text told new
+-- a job is refused whole, and all is as before
+abbrev pub RefusesJob : Past → Refusal → Begun → State → Type 0
+RefusesJob s refusal told new = (told ≡ begun.Ended (outcome.Refused refusal)) × (new ≡ record { past = s; job = Idle })
+
+-- a posted cell is refused where the tree is full, whatever its text; else it is entered, or refused for its text or for want of memory
+abbrev pub TakesCell : Past → List ℕ → Bool → Begun → State → Type 0
+TakesCell s text true told new = RefusesJob s HistoryFull told new
+TakesCell s text false told new = EntersCell s text told new ⊎ RefusesCell s text told new
 
 -- a travel of so many cells ends at once, or enters its first cell
 abbrev pub Departs : ℕ → Past → Travel → Begun → State → Type 0
@@ -49,17 +54,13 @@ Departs (suc left) s travel told new = Enters s travel told new
 abbrev pub travel_to : Aim → ℕ → ℕ → Travel
 travel_to aim up down = record { aim = aim; up = up; down = down; went_up = 0; went_down = 0 }
 
--- a move is refused whole
-abbrev pub RefusesMove : Past → Refusal → Begun → State → Type 0
-RefusesMove s refusal told new = (told ≡ begun.Ended (outcome.Refused refusal)) × (new ≡ record { past = s; job = Idle })
-
 -- an undo or a redo is refused where there are fewer cells than it should go
 abbrev pub TakesMove : Past → Travel → Bool → Begun → State → Type 0
-TakesMove s travel false told new = RefusesMove s TooFar told new
+TakesMove s travel false told new = RefusesJob s TooFar told new
 TakesMove s travel true told new = Departs (cells travel) s travel told new
 
 -- a goto is refused where there is no such node, else it goes up to where the paths meet, and then down
 abbrev pub TakesGoto : Past → ℕ → Bool → Begun → State → Type 0
-TakesGoto s n false told new = RefusesMove s NoNode told new
+TakesGoto s n false told new = RefusesJob s NoNode told new
 TakesGoto s n true told new =
     (up : ℕ) × (down : ℕ) × IsMeeting s.nodes s.position n up down × Departs (up + down) s (travel_to (Goto n) up down) told new

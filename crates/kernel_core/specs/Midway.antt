@@ -1,5 +1,5 @@
 -- Where an open job stands, which was begun in an earlier past.
-use Rattle.std.specs.Prelude.{◌≡◌, ℕ, ◌+◌, ◌<◌, ◌≤◌, true, List, length, nat_lt, zero, suc}
+use Rattle.std.specs.Prelude.{false, ◌≡◌, ℕ, ◌+◌, ◌<◌, ◌≤◌, true, List, length, nat_lt, zero, suc}
 use Rattle.janus_meaning.specs.World.{World, Cell}
 use Rattle.kernel_core.specs.Language.{Code, Forward}
 use Rattle.kernel_core.specs.Reached.{IsUnderWay, MeetsFault}
@@ -7,7 +7,7 @@ use Rattle.kernel_core.specs.Text.{Accepts}
 use Rattle.kernel_core.specs.Travel as aim
 use Rattle.kernel_core.specs.Travel.{Travel}
 use Rattle.kernel_core.specs.Turn.{Why, WasAsked, Faulted, Turn, GoesOn, GoesBack}
-use Rattle.kernel_core.specs.State.{Past, Work, Posted, Move, Job as Open, Idle, Border, Inside, State, here, code_of}
+use Rattle.kernel_core.specs.State.{Past, Work, Posted, Move, Job as Open, Idle, Border, Inside, State, here, code_of, is_full}
 use Rattle.kernel_core.specs.Legal.{can_undo, can_redo, IsMeeting}
 use Rattle.kernel_core.specs.Slices.{cells, stepped, moved}
 use Rattle.kernel_core.specs.Begins.{travel_to}
@@ -84,7 +84,7 @@ CellKeeps p text s = CellAt p text s.past s.job
 -- The open job is this one. It was begun in the past p, and stands where its slices may have led: a goto is on the way over the nearest node
 -- above both ends.
 abbrev pub Holds : Past → Request → State → Type 0
-Holds p (RunCell text silent store) s = CellKeeps p text s
+Holds p (RunCell text silent store) s = CellKeeps p text s × (is_full p ≡ false)
 Holds p (Undo k) s = Keeps p (travel_to aim.Undo k 0) s × (can_undo p.nodes p.position k ≡ true)
 Holds p (Redo k) s = Keeps p (travel_to aim.Redo 0 k) s × (can_redo p.favourites p.position k ≡ true)
 Holds p (Goto n) s =

@@ -1,6 +1,6 @@
 -- The kernel machine: a state with its queue and its minutes, its step for each event, and its runs.
 use Rattle.std.specs.Prelude.{◌≡◌, ℕ, Bool, true, false, ◌<◌, ◌≤◌, List, [], ◌∷◌, ◌++◌, length, suc, nat_lt, Result, Ok, Err, Option, Some, None}
-use Rattle.kernel_core.specs.State.{Past, State, Job as Open, Idle, Border, Inside, new_state}
+use Rattle.kernel_core.specs.State.{Past, State, Job as Open, Idle, Border, Inside, new_state, is_full}
 use Rattle.kernel_core.specs.Legal.{can_undo, can_redo}
 use Rattle.kernel_core.specs.Slices.{IsSlice}
 use Rattle.kernel_core.specs.Begins.{Enters, TakesCell, TakesMove, TakesGoto, travel_to}
@@ -93,7 +93,7 @@ noted m end = record m { minutes = m.minutes ++ entries_of m end }
 
 -- a posted job is taken
 abbrev pub Takes : Past → Request → Begun → State → Type 0
-Takes s (RunCell text silent store) answer new = TakesCell s text answer new
+Takes s (RunCell text silent store) answer new = TakesCell s text (is_full s) answer new
 Takes s (Undo k) answer new = TakesMove s (travel_to aim.Undo k 0) (can_undo s.nodes s.position k) answer new
 Takes s (Redo k) answer new = TakesMove s (travel_to aim.Redo 0 k) (can_redo s.favourites s.position k) answer new
 Takes s (Goto n) answer new = TakesGoto s n (nat_lt n (length s.nodes)) answer new

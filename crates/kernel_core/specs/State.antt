@@ -1,6 +1,6 @@
 -- The states of the kernel machine: the tree of cells with the worlds of all its nodes, and the open job. No cursor, no stored inverse, no
 -- store.
-use Rattle.std.specs.Prelude.{◌≡◌, ℕ, ◌-◌, List, [], ◌∷◌, ◌++◌, get_or, zero, suc}
+use Rattle.std.specs.Prelude.{◌≡◌, ℕ, ◌-◌, List, [], ◌∷◌, ◌++◌, length, get_or, zero, suc, Bool, nat_lt}
 use Rattle.janus_meaning.specs.World.{World, empty_world, Cell}
 use Rattle.kernel_core.specs.Language.{empty_cell, Code, Forward, Backward, Part, end_of}
 use Rattle.kernel_core.specs.Travel.{Up, Down, Aim, Undo, Redo, Goto, Travel, next_way}
@@ -54,6 +54,14 @@ world_at s n = get_or s.worlds n empty_world
 
 abbrev pub favourite_of : Past → ℕ → ℕ
 favourite_of s n = get_or s.favourites n 0
+
+-- at most so many nodes stand beside the root
+abbrev pub node_limit : ℕ
+node_limit = 65536
+
+-- no further node may stand in the tree
+abbrev pub is_full : Past → Bool
+is_full s = nat_lt node_limit (length s.nodes)
 
 -- the world of the position
 abbrev pub here : Past → World

@@ -14,7 +14,7 @@ use Rattle.janus_check.specs.WellFormed.{IsWellFormed}
 use Rattle.janus_check.specs.declared.fault.CheckFault as check
 use Rattle.janus_check.specs.declared.fault.CheckFault.TheVariants as check_fault
 use Rattle.kernel_core.specs.declared.outcome.Refusal.{Refusal}
-use Rattle.kernel_core.specs.declared.outcome.Refusal.TheVariants.{Syntax, Check, TooFar, NoNode, Closing, Memory}
+use Rattle.kernel_core.specs.declared.outcome.Refusal.TheVariants.{Syntax, Check, HistoryFull, TooFar, NoNode, Closing, Memory}
 
 -- the text has a tree that is well formed over the names of the world, and this is the cell
 pub record Accepts (w : World) (text : List ℕ) (cell : world.Cell) : Type 0 where
@@ -34,6 +34,7 @@ pub record IsUnformed (w : World) (text : List ℕ) (fault : check.CheckFault) :
 abbrev pub Refuses : World → List ℕ → Refusal → Type 0
 Refuses w text (Syntax fault) = IsRefusal text fault
 Refuses w text (Check fault) = IsUnformed w text fault
+Refuses w text HistoryFull = ⊥
 Refuses w text TooFar = ⊥
 Refuses w text NoNode = ⊥
 Refuses w text Closing = ⊥

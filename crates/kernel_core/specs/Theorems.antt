@@ -5,7 +5,7 @@ use Rattle.janus_meaning.specs.Cells.{IsGoodWorld}
 use Rattle.kernel_core.specs.Travel.{next_way, Travel, Up, Down}
 use Rattle.kernel_core.specs.Language.{Forward, Backward, Part, Exec}
 use Rattle.kernel_core.specs.Reached.{Reaches, Stopped, IsUnderWay, MeetsFault}
-use Rattle.kernel_core.specs.State.{Node, Past, Work, Move, Idle, Inside, State, root, node_at, world_at, here, ancestor, below, code_of}
+use Rattle.kernel_core.specs.State.{Node, Past, Work, Move, Idle, Inside, State, root, is_full, node_at, world_at, here, ancestor, below, code_of}
 use Rattle.kernel_core.specs.Legal.{can_undo, can_redo, IsPossible, IsLegal, IsMeeting}
 use Rattle.kernel_core.specs.LegalState.{IsLegalState}
 use Rattle.kernel_core.specs.Slices.{finished, cells, grown, Settles}
@@ -19,7 +19,7 @@ use Rattle.kernel_core.specs.Travel as aim
 use Rattle.kernel_core.specs.declared.outcome.End.{End}
 use Rattle.kernel_core.specs.declared.outcome.End.TheVariants.{All, Asked, NoMemory}
 use Rattle.kernel_core.specs.declared.outcome.Refusal.{Refusal}
-use Rattle.kernel_core.specs.declared.outcome.Refusal.TheVariants.{TooFar, NoNode, Closing}
+use Rattle.kernel_core.specs.declared.outcome.Refusal.TheVariants.{HistoryFull, TooFar, NoNode, Closing}
 use Rattle.kernel_core.specs.declared.outcome.Outcome.{Outcome}
 use Rattle.kernel_core.specs.declared.outcome.Outcome.TheVariants as outcome
 use Rattle.kernel_core.specs.declared.outcome.Begun.TheVariants as begun
@@ -105,14 +105,19 @@ IsNoNode s text (outcome.Undid j end) = ⊥
 IsNoNode s text (outcome.Redid j end) = ⊥
 IsNoNode s text (outcome.Went i j end) = ⊥
 
--- How a cell ends: as a new node, or all is as it was, and the outcome says why.
-abbrev pub CellEnds : Past → List ℕ → Outcome → State → Type 0
-CellEnds s text o new =
+-- how the cell of a text ends: as a new node, or all is as it was, and the outcome says why
+abbrev pub TextEnds : Past → List ℕ → Outcome → State → Type 0
+TextEnds s text o new =
     BecomesNode s text o new ⊎ ((new ≡ record { past = s; job = Idle }) × IsNoNode s text o)
+
+-- How a cell ends: it is refused where the tree is full, else as its text does.
+abbrev pub CellEnds : Past → List ℕ → Bool → Outcome → State → Type 0
+CellEnds s text true o new = IsRefused s HistoryFull o new
+CellEnds s text false o new = TextEnds s text o new
 
 -- How a job ends that is taken in the past s.
 abbrev pub JobEnds : Past → Request → Outcome → State → Type 0
-JobEnds s (RunCell text silent store) o new = CellEnds s text o new
+JobEnds s (RunCell text silent store) o new = CellEnds s text (is_full s) o new
 JobEnds s (Undo k) o new = MoveEnds s (travel_to aim.Undo k 0) (can_undo s.nodes s.position k) o new
 JobEnds s (Redo k) o new = MoveEnds s (travel_to aim.Redo 0 k) (can_redo s.favourites s.position k) o new
 JobEnds s (Goto n) o new = GotoEnds s n (nat_lt n (length s.nodes)) o new

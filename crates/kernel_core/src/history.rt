@@ -1,6 +1,6 @@
 //! The history: the tree of cells, the one store, and the open job. It is what a kernel has besides its queue.
 ghost use Rattle.std.specs.Prelude.{◌≡◌, ◌≤◌, IfOk, OnOk, OnErr, length, nat_lt, vec_capacity};
-ghost use Rattle.kernel_core.specs.State.{State, Idle, Border, here, Shown, new_state};
+ghost use Rattle.kernel_core.specs.State.{State, Idle, Border, here, is_full, Shown, new_state};
 ghost use Rattle.kernel_core.specs.Fields.{past_of, nodes_of, aim_of, travel_of, state_of, IsStageOf};
 ghost use Rattle.kernel_core.specs.Travel.{Undo, Redo};
 ghost use Rattle.kernel_core.specs.Legal.{IsLegal, IsPossible, IsCounted, CanGo, can_undo, can_redo};
@@ -19,6 +19,9 @@ use crate::view::View;
 use std::alloc::{AllocError, Global};
 use std::marker::Model;
 use std::mem;
+
+/// How many nodes may stand beside the root.
+const NODE_LIMIT: usize = 65_536;
 
 /// The tree, the runner with the one store, and the open job.
 /// Contracts see a state of the machine, with the worlds of all nodes. None of them is kept here.
@@ -145,11 +148,15 @@ impl History {
         self.tree.position
     }
 
-    /// Begins a posted cell: it takes all memory of its run, that of its node included.
+    /// Begins a posted cell: it takes all memory of its run, that of its node included. Where the history has as many nodes as it
+    /// may have, the cell is refused whatever its text.
     pub fn begin_cell(&mut self, alloc: Global, text: &str) -> Begun
         requires { self.old.job ≡ Idle }
-        ensures { TakesCell self.old.past text.now result self.new }
+        ensures { TakesCell self.old.past text.now (is_full self.old.past) result self.new }
     {
+        if self.tree.nodes.len() >= NODE_LIMIT {
+            return Begun::Ended(Outcome::Refused(Refusal::HistoryFull));
+        }
         let program = match Program::of_text(alloc, text, &self.runner) {
             Ok(program) => program,
             Err(refusal) => return Begun::Ended(Outcome::Refused(refusal)),

@@ -28,6 +28,9 @@ pub enum Refusal {
     /// The cell is not well formed over the declared names.
     #[error(transparent)]
     Check(CheckFault),
+    /// The history has its 65,536 nodes beside the root.
+    #[error("HistoryFull")]
+    HistoryFull,
     /// There are fewer cells above, or fewer favourites below, than the job would undo or redo.
     #[error("TooFar")]
     TooFar,
@@ -50,6 +53,7 @@ impl Refusal {
         match self {
             Refusal::Syntax(fault) => fault.number(),
             Refusal::Check(fault) => fault.number(),
+            Refusal::HistoryFull => 70,
             Refusal::NoNode => 71,
             Refusal::TooFar => 73,
             Refusal::Closing => 75,
@@ -64,6 +68,7 @@ impl Refusal {
         match self {
             Refusal::Syntax(fault) => fault.name(),
             Refusal::Check(fault) => fault.name(),
+            Refusal::HistoryFull => "HistoryFull",
             Refusal::NoNode => "NoNode",
             Refusal::TooFar => "TooFar",
             Refusal::Closing => "Closing",
@@ -78,6 +83,7 @@ impl Refusal {
         match self {
             Refusal::Syntax(fault) => fault.span(),
             Refusal::Check(fault) => fault.span(),
+            Refusal::HistoryFull => None,
             Refusal::NoNode => None,
             Refusal::TooFar => None,
             Refusal::Closing => None,
