@@ -23,7 +23,7 @@ use Rattle.kernel_core.specs.declared.outcome.End.TheVariants.{All, Asked, NoMem
 use Rattle.kernel_core.specs.declared.outcome.Outcome.{Outcome}
 use Rattle.kernel_core.specs.declared.outcome.Outcome.TheVariants.{Ran, Failed, Interrupted, Undid, Redid, Went, Refused}
 use Rattle.kernel_core.specs.declared.outcome.Refusal.{Refusal}
-use Rattle.kernel_core.specs.declared.outcome.Refusal.TheVariants.{Syntax, Check, TooFar, NoNode, Closing, Memory}
+use Rattle.kernel_core.specs.declared.outcome.Refusal.TheVariants.{Syntax, Check, HistoryFull, TooFar, NoNode, Closing, Memory}
 use Rattle.janus_cells.specs.Output.{counted_text, numbered_text, place_text, end_text, outcome_line}
 use Rattle.janus_cells.specs.Shown.{spaced_text, numbers_text, told_text, value_text}
 
@@ -114,6 +114,7 @@ refusal_name_utf8 : (r : Refusal) → IsUtf8 (refusal.name_of r)
 refusal_name_utf8 (Syntax f) = syntax_name_utf8 f
 refusal_name_utf8 (Check f) = check_name_utf8 f
 refusal_name_utf8 TooFar = literal (codes "TooFar") refl
+refusal_name_utf8 HistoryFull = literal (codes "HistoryFull") refl
 refusal_name_utf8 NoNode = literal (codes "NoNode") refl
 refusal_name_utf8 Closing = literal (codes "Closing") refl
 refusal_name_utf8 Memory = literal (codes "Memory") refl

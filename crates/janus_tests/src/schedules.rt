@@ -237,3 +237,32 @@ fn runs_a_schedule(rt: HostRuntime) -> Result<(), Fail> {
     assert_eq!(rt; told.as_slice(), want.as_slice());
     Ok(())
 }
+
+/// A history of 65,536 nodes takes no further cell, whatever its text, and goes back as before.
+#[test]
+fn a_full_history_takes_no_cell(rt: HostRuntime) -> Result<(), Fail> {
+    let mut kernel = Kernel::new(rt.alloc())?;
+    for _n in 0..65_536u32 {
+        let job = Job::Cell {
+            code: String::new(rt.alloc()),
+            silent: true,
+            store: false,
+        };
+        assert!(rt; kernel.post(1, job).is_ok());
+        assert_eq!(rt; kernel.begin(), Begun::Going);
+        let _ = kernel.slice(1, false);
+    }
+    assert_eq!(rt; kernel.position(), 65_536);
+    let code = String::from_str(rt.alloc(), "no cell")?;
+    let job = Job::Cell {
+        code,
+        silent: false,
+        store: true,
+    };
+    assert!(rt; kernel.post(1, job).is_ok());
+    let full = Begun::Ended(Outcome::Refused(Refusal::HistoryFull));
+    assert_eq!(rt; kernel.begin(), full);
+    assert!(rt; kernel.post(1, Job::Goto(1)).is_ok());
+    assert_eq!(rt; kernel.begin(), Begun::Going);
+    Ok(())
+}
