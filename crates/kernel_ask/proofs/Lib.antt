@@ -1,1 +1,4 @@
+pub mod Added
 pub mod Ends
+pub mod Known
+pub mod Names

@@ -2,3 +2,5 @@ pub mod Lines
 pub mod ValueTexts
 pub mod Cursor
 pub mod Grown
+pub mod Matches
+pub mod Added

@@ -4,6 +4,7 @@
 mod cursor;
 mod done;
 mod lines;
+mod matches;
 mod values;
 
 pub use crate::done::{Done, ExpFault, NamedValue, Wish};
