@@ -4,8 +4,8 @@ use Rattle.std.specs.Prelude.{Contains}
 use Rattle.janus_meaning.specs.Shape.{shape_of}
 use Rattle.janus_meaning.specs.World.{World, Cell}
 use Rattle.janus_syntax.specs.Tree as tree
-use Rattle.janus_syntax.proofs.OneRefusal.{one_refusal}
-use Rattle.janus_syntax.proofs.OneTree.{one_tree, not_both as tree_or_refusal}
+use Rattle.janus_syntax.specs.Forms.{A_cell}
+use Rattle.janus_syntax.proofs.TextLaws.{one_tree, one_refusal, not_both as tree_or_refusal}
 use Rattle.janus_check.specs.Check.{cell_faults}
 use Rattle.janus_syntax.specs.View.{plain_cell}
 use Rattle.janus_check.specs.Fault.{IsFirst}
@@ -18,12 +18,12 @@ use Rattle.kernel_core.specs.declared.outcome.Refusal.TheVariants.{Syntax, Check
 use Rattle.janus_check.proofs.FirstLemmas.{one_first}
 
 pub one_cell : (w : World) (text : List ℕ) (c d : Cell) → Accepts w text c → Accepts w text d → c ≡ d
-one_cell w text c d p q = p.meant ∙ ap plain_cell (one_tree text p.tree q.tree p.is_tree q.is_tree) ∙ sym q.meant
+one_cell w text c d p q = p.meant ∙ ap plain_cell (one_tree A_cell text p.tree q.tree p.is_tree q.is_tree) ∙ sym q.meant
 
 -- the first fault of the check
 one_check : (w : World) (text : List ℕ) (f h : check.CheckFault) → IsUnformed w text f → IsUnformed w text h → f ≡ h
 one_check w text f h p q =
-    let same : q.tree ≡ p.tree = one_tree text q.tree p.tree q.is_tree p.is_tree in
+    let same : q.tree ≡ p.tree = one_tree A_cell text q.tree p.tree q.is_tree p.is_tree in
     let first : IsFirst h (cell_faults (shape_of w.store) p.tree) = subst (λ (t : tree.Cell). IsFirst h (cell_faults (shape_of w.store) t)) same q.first in
     one_first (cell_faults (shape_of w.store) p.tree) f h p.first first
 
@@ -36,10 +36,10 @@ one_answer w text r TooFar a real b other = absurd b
 one_answer w text r NoNode a real b other = absurd b
 one_answer w text Closing q a real b other = absurd a
 one_answer w text r Closing a real b other = absurd b
-one_answer w text (Syntax f) (Syntax h) a real b other = ap Syntax (one_refusal text f h a b)
+one_answer w text (Syntax f) (Syntax h) a real b other = ap Syntax (one_refusal A_cell text f h a b)
 one_answer w text (Check f) (Check h) a real b other = ap Check (one_check w text f h a b)
-one_answer w text (Syntax f) (Check h) a real b other = absurd (tree_or_refusal text b.tree f b.is_tree a)
-one_answer w text (Check f) (Syntax h) a real b other = absurd (tree_or_refusal text a.tree h a.is_tree b)
+one_answer w text (Syntax f) (Check h) a real b other = absurd (tree_or_refusal A_cell text b.tree f b.is_tree a)
+one_answer w text (Check f) (Syntax h) a real b other = absurd (tree_or_refusal A_cell text a.tree h a.is_tree b)
 
 nothing_there : (f : check.CheckFault) (fs : List check.CheckFault) → fs ≡ [] → Contains fs f → ⊥
 nothing_there f fs e c = let l = subst (λ (xs : List check.CheckFault). c.0 < length xs) e c.1 in absurd (omega arith)
@@ -50,8 +50,8 @@ not_both w text c Memory sound a b real = real refl
 not_both w text c TooFar sound a b real = b
 not_both w text c NoNode sound a b real = b
 not_both w text c Closing sound a b real = b
-not_both w text c (Syntax f) sound a b real = tree_or_refusal text a.tree f a.is_tree b
+not_both w text c (Syntax f) sound a b real = tree_or_refusal A_cell text a.tree f a.is_tree b
 not_both w text c (Check f) sound a b real =
-    let same : b.tree ≡ a.tree = one_tree text b.tree a.tree b.is_tree a.is_tree in
+    let same : b.tree ≡ a.tree = one_tree A_cell text b.tree a.tree b.is_tree a.is_tree in
     let first : IsFirst f (cell_faults (shape_of w.store) a.tree) = subst (λ (t : tree.Cell). IsFirst f (cell_faults (shape_of w.store) t)) same b.first in
     nothing_there f (cell_faults (shape_of w.store) a.tree) (formed_no_faults (shape_of w.store) a.tree a.formed) first.one
