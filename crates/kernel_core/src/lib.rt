@@ -42,6 +42,7 @@ pub use crate::machine::QUEUE_LIMIT;
 pub use crate::minutes::{Entry, MINUTES_LIMIT};
 pub use crate::outcome::{Begun, End, Outcome, Phase, Refusal, Sliced};
 pub use crate::post::{Job, PostFault};
+pub use crate::program::names_in_sight;
 pub use crate::view::View;
 pub use janus_check::CheckFault;
 pub use janus_machine::{Fault, STEP_LIMIT};
