@@ -1,4 +1,5 @@
 pub mod Added
 pub mod Ends
+pub mod Inputs
 pub mod Known
 pub mod Names

@@ -4,3 +4,4 @@ pub mod Cursor
 pub mod Grown
 pub mod Matches
 pub mod Added
+pub mod History

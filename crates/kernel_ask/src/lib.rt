@@ -3,10 +3,12 @@
 
 mod cursor;
 mod done;
+mod history;
 mod lines;
 mod matches;
 mod values;
 
 pub use crate::done::{Done, ExpFault, NamedValue, Wish};
+pub use crate::history::{HistoryAsk, Input};
 pub use crate::lines::{exp_fault_line, outcome_line, post_fault_line};
 pub use crate::values::{SHOWN_VALUES, value_text};
