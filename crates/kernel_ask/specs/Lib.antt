@@ -5,3 +5,9 @@ pub mod Grown
 pub mod Matches
 pub mod Added
 pub mod History
+pub mod Inspection
+pub mod Judgement
+pub mod Evaluation
+pub mod Comms
+pub mod Completion
+pub mod HallFault
