@@ -22,6 +22,7 @@
 #![tactic(auto)]
 
 mod events;
+mod extent;
 mod history;
 mod job;
 mod kernel;
@@ -37,6 +38,7 @@ mod tree;
 mod view;
 
 pub use crate::events::{Event, Told, run_events};
+pub use crate::extent::Extent;
 pub use crate::kernel::Kernel;
 pub use crate::machine::QUEUE_LIMIT;
 pub use crate::minutes::{Entry, MINUTES_LIMIT};
