@@ -1,12 +1,12 @@
 -- The ids of a set, as octets.
-use Rattle.std.proofs.Common.{◌≡◌, ℕ, Bool, true, false, ◌||◌, ◌&&◌, not, List, [], ◌∷◌, length, map, refl, sym, ap, ◌∙◌, String, string_bytes, if◌then◌else◌}
+use Rattle.std.proofs.Common.{◌≡◌, ℕ, Bool, true, false, ◌||◌, List, [], ◌∷◌, map, refl, ap, String, string_bytes, if◌then◌else◌}
 use Rattle.std.specs.declared.alloc.Global.{Global}
-use Rattle.std.specs.Ordering.{nat_cmp, is_eq}
+use Rattle.std.specs.Ordering.{nat_cmp}
 use Rattle.std.specs.Cmp.Lexicographic.{slice_cmp}
 use Rattle.std.specs.BTreeMap.{is_at}
 use Rattle.std.specs.List.{list_any}
 use Rattle.std.specs.Set.{remove_key}
-use Rattle.kernel_ask.specs.Comms.{is_same, is_open, can_open, opened, without_id}
+use Rattle.kernel_ask.specs.Comms.{is_same, is_open, without_id}
 
 -- the test of an id at a text
 abbrev pub at_text : List ℕ → String Global → Bool

@@ -1,5 +1,5 @@
 -- What the code lists is what a frontend may go on with.
-use Rattle.std.proofs.Common.{◌≡◌, ◌⊎◌, ℕ, ◌<◌, nat_eq, IsTrue, List, [], ◌∷◌, length, get_or, map, refl, sym, ap, subst, inl, inr, arith, Contains}
+use Rattle.std.proofs.Common.{◌≡◌, ℕ, nat_eq, IsTrue, List, [], ◌∷◌, map, refl, sym, ap, subst, inl, inr, arith, Contains}
 use Rattle.std.specs.Ordering.{nat_cmp}
 use Rattle.std.specs.Cmp.Lexicographic.{slice_cmp}
 use Rattle.std.specs.List.{starts_with}

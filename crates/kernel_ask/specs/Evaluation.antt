@@ -1,5 +1,5 @@
 -- The values of user expressions (Jupyter messaging page, "Execute").
-use Rattle.std.specs.Prelude.{◌≡◌, ◌≢◌, ℕ, ℤ, List, [], ◌∷◌, Result, Ok, Err, string_bytes}
+use Rattle.std.specs.Prelude.{◌≡◌, ℕ, ℤ, List, [], ◌∷◌, Result, Ok, Err, string_bytes}
 use Rattle.janus_meaning.specs.Fault.{Res, Fine, Bad}
 use Rattle.janus_meaning.specs.Store.{Store}
 use Rattle.janus_meaning.specs.Shape.{shape_of}

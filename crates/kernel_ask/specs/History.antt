@@ -4,9 +4,9 @@ use Rattle.std.specs.Ordering.{int_eq}
 use Rattle.std.specs.List.{filter, flat_map}
 use Rattle.kernel_core.specs.Request.{Request, RunCell, Undo, Redo, Goto}
 use Rattle.kernel_core.specs.Minutes.{Entry, Posted, Ended}
-use Rattle.kernel_ask.specs.declared.history.Input.{Input}
-use Rattle.kernel_ask.specs.declared.history.HistoryAsk.{HistoryAsk}
-use Rattle.kernel_ask.specs.declared.history.HistoryAsk.TheVariants.{Range, Tail}
+use Rattle.kernel_ask.specs.declared.inputs.Input.{Input}
+use Rattle.kernel_ask.specs.declared.inputs.HistoryAsk.{HistoryAsk}
+use Rattle.kernel_ask.specs.declared.inputs.HistoryAsk.TheVariants.{Range, Tail}
 
 -- the text of a cell that is not silent and is to be stored: such cells are counted as they are begun
 abbrev pub texts_of : Request → List (List ℕ)

@@ -11,3 +11,5 @@ pub mod Evaluation
 pub mod Comms
 pub mod Completion
 pub mod HallFault
+pub mod State
+pub mod Answer

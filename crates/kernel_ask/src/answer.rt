@@ -1,5 +1,5 @@
 //! What a frontend asks, and what is answered.
-use crate::history::{HistoryAsk, Input};
+use crate::inputs::{HistoryAsk, Input};
 use crate::judgement::Completeness;
 use thiserror::Error;
 
@@ -40,12 +40,12 @@ pub enum Content {
     History(Vec<Input>),
     /// The ids of the open comms, in the order of their octets.
     Comms(Vec<String>),
-    State(State),
+    State(KernelState),
 }
 
 /// The state of a kernel.
 #[derive(Debug, Drop, PartialEq, Eq)]
-pub struct State {
+pub struct KernelState {
     /// The number of the node at which the kernel stands.
     pub node: usize,
     /// The execution counter.

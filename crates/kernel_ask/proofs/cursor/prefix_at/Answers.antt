@@ -1,4 +1,4 @@
-use Rattle.std.proofs.Common.{◌≡◌, ◌≤◌, length, take, string_bytes, ap, ◌∙◌, arith}
+use Rattle.std.proofs.Common.{length, take, ap, ◌∙◌, arith}
 use Rattle.std.proofs.lemmas.List.{length-take}
 use Rattle.kernel_ask.proofs.Ends.{length_name_end}
 use Rattle.kernel_ask.proofs.cursor.prefix_at.Goals as goal

@@ -1,4 +1,4 @@
-use Rattle.std.proofs.Common.{◌≡◌, ◌≤◌, length, take, map, sym, ap, ◌∙◌, arith, string_bytes}
+use Rattle.std.proofs.Common.{◌≤◌, length, take, map, sym, ap, ◌∙◌, arith, string_bytes}
 use Rattle.std.proofs.lemmas.List.{take_all}
 use Rattle.janus_store.specs.Values.{shown}
 use Rattle.kernel_ask.specs.Added.{with_match, with_matches}

@@ -1,8 +1,8 @@
 use Rattle.std.proofs.Common.{◌≡◌, length, map, take}
 use Rattle.std.specs.List.{filter}
 use Rattle.kernel_ask.specs.History.{numbered, is_within, input_of}
-use Rattle.kernel_ask.proofs.Inputs.{texts}
-use Rattle.kernel_ask.proofs.history.range.Given as goal
+use Rattle.kernel_ask.proofs.Counted.{texts}
+use Rattle.kernel_ask.proofs.inputs.range.Given as goal
 
 -- the inputs of the first entries
 abbrev pub invariant-loop-entry : goal.invariant-loop-entry

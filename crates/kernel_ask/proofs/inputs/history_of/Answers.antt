@@ -2,9 +2,9 @@ use Rattle.std.proofs.Common.{◌≡◌, ◌+◌, ◌-◌, length, take, drop, m
 use Rattle.std.specs.List.{filter}
 use Rattle.std.proofs.lemmas.Result.{IfOk-weaker}
 use Rattle.kernel_core.specs.Written.{entry_of}
-use Rattle.kernel_ask.specs.History.{inputs, is_within, told, input_of}
-use Rattle.kernel_ask.proofs.Inputs.{texts, last_numbered}
-use Rattle.kernel_ask.proofs.history.history_of.Goals as goal
+use Rattle.kernel_ask.specs.History.{inputs, is_within, told}
+use Rattle.kernel_ask.proofs.Counted.{texts, last_numbered}
+use Rattle.kernel_ask.proofs.inputs.history_of.Goals as goal
 
 pub returns-in-Tail : goal.returns-in-Tail
 returns-in-Tail c =

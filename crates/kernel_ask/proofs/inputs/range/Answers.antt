@@ -2,9 +2,9 @@ use Rattle.std.proofs.Common.{◌≡◌, ◌≤◌, [], ◌∷◌, length, take,
 use Rattle.std.specs.List.{filter}
 use Rattle.kernel_core.specs.Written.{entry_of}
 use Rattle.kernel_ask.specs.History.{texts_in, numbered, is_within, input_of}
-use Rattle.kernel_ask.proofs.Inputs.{texts, number_more, told_more, full_more}
-use Rattle.kernel_ask.proofs.history.range.Goals as goal
-use Rattle.kernel_ask.proofs.history.range.Goals.{then-number-counter+in_ok-tell, else-number-counter}
+use Rattle.kernel_ask.proofs.Counted.{texts, number_more, told_more, full_more}
+use Rattle.kernel_ask.proofs.inputs.range.Goals as goal
+use Rattle.kernel_ask.proofs.inputs.range.Goals.{then-number-counter+in_ok-tell, else-number-counter}
 
 pub loop-entry-preserved : goal.loop-entry-preserved
 loop-entry-preserved c =

@@ -1,7 +1,7 @@
 use Rattle.std.proofs.Common.{length, take, sym, ap, ◌∙◌}
 use Rattle.std.proofs.lemmas.List.{take_all}
-use Rattle.kernel_ask.proofs.Inputs.{texts, length_numbered}
-use Rattle.kernel_ask.proofs.history.count.Goals as goal
+use Rattle.kernel_ask.proofs.Counted.{texts, length_numbered}
+use Rattle.kernel_ask.proofs.inputs.count.Goals as goal
 
 pub returns : goal.returns
 returns c =
