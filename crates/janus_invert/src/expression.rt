@@ -9,7 +9,7 @@ use janus_syntax::tree;
 use std::alloc::{AllocError, Global};
 
 /// An expression of a cell without its places; an error for want of memory.
-pub(crate) fn flat_exp(alloc: Global, exp: &tree::Exp) -> Result<Exp, AllocError>
+pub fn flat_exp(alloc: Global, exp: &tree::Exp) -> Result<Exp, AllocError>
     ensures { IfOk result (λ flat. exp_of flat ≡ plain exp.now) }
 {
     match exp {

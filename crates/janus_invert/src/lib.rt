@@ -17,6 +17,7 @@ mod inverse;
 mod turned;
 
 pub use crate::code::{Block, Code, Exp, Statement};
+pub use crate::expression::flat_exp;
 pub use crate::fault::InvertFault;
 pub use crate::flat::flatten;
 pub use crate::inverse::invert;

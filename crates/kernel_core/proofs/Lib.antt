@@ -21,3 +21,4 @@ pub mod Ways
 pub mod Posts
 pub mod Noted
 pub mod Writing
+pub mod Depths

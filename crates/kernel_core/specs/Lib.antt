@@ -13,6 +13,7 @@ pub mod State
 pub mod Legal
 pub mod Slices
 pub mod Begins
+pub mod Extent
 pub mod Request
 pub mod Minutes
 pub mod Runs

@@ -7,8 +7,10 @@ ghost use Rattle.kernel_core.specs.Legal.{IsLegal, IsPossible, IsCounted, CanGo,
 ghost use Rattle.kernel_core.specs.Slices.{IsSlice, cells};
 ghost use Rattle.kernel_core.specs.Begins.{TakesCell, TakesMove, TakesGoto, Departs, Enters, Declares, travel_to};
 ghost use Rattle.kernel_core.specs.Runner.{world_of};
+ghost use Rattle.kernel_core.specs.Extent.{IsExtent};
 ghost use Rattle.kernel_core.specs.Kept.{HasRoom, HasPath, Kept, IsKept, StandsAt};
 
+use crate::extent::{Extent, extent_of};
 use crate::job::{Aim, Entered, Open, Stage, Travel, Turn, Way, Why, Work};
 use crate::outcome::{Begun, End, Outcome, Refusal, Sliced};
 use crate::program::Program;
@@ -146,6 +148,13 @@ impl History {
         ensures { result ≡ self.now.past.position }
     {
         self.tree.position
+    }
+
+    /// How far an undo and a redo can go, and how many nodes there are.
+    pub fn extent(&self) -> Extent
+        ensures { IsExtent self.now.past result }
+    {
+        extent_of(&self.tree)
     }
 
     /// Begins a posted cell: it takes all memory of its run, that of its node included. Where the history has as many nodes as it

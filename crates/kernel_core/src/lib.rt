@@ -22,6 +22,7 @@
 #![tactic(auto)]
 
 mod events;
+mod extent;
 mod history;
 mod job;
 mod kernel;
@@ -37,11 +38,13 @@ mod tree;
 mod view;
 
 pub use crate::events::{Event, Told, run_events};
+pub use crate::extent::Extent;
 pub use crate::kernel::Kernel;
 pub use crate::machine::QUEUE_LIMIT;
 pub use crate::minutes::{Entry, MINUTES_LIMIT};
 pub use crate::outcome::{Begun, End, Outcome, Phase, Refusal, Sliced};
 pub use crate::post::{Job, PostFault};
+pub use crate::program::names_in_sight;
 pub use crate::view::View;
 pub use janus_check::CheckFault;
 pub use janus_machine::{Fault, STEP_LIMIT};

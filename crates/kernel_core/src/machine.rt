@@ -5,8 +5,10 @@ ghost use Rattle.kernel_core.specs.Request.{request_of, raised as the_raised};
 ghost use Rattle.kernel_core.specs.Minutes.{posted_in, ended_in};
 ghost use Rattle.kernel_core.specs.LegalMinutes.{HasLegalMinutes};
 ghost use Rattle.kernel_core.specs.Written.{entry_of};
+ghost use Rattle.kernel_core.specs.Extent.{IsExtent};
 ghost use Rattle.kernel_core.specs.Runs.{new_machine, IsReady, IsRefusal, IsPost, BeginsAt, IsBegin, IsSliceOf, TakesUnless, noted, phase_of, shut};
 
+use crate::extent::Extent;
 use crate::history::History;
 use crate::job::Stage;
 use crate::minutes::{Entry, MINUTES_LIMIT, Minutes};
@@ -202,6 +204,13 @@ impl Machine {
         ensures { result ≡ self.now.state.past.position }
     {
         self.history.position()
+    }
+
+    /// How far an undo and a redo can go, and how many nodes there are.
+    pub fn extent(&self) -> Extent
+        ensures { IsExtent self.now.state.past result }
+    {
+        self.history.extent()
     }
 
     /// The execution counter.

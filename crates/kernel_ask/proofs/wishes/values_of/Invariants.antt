@@ -1,0 +1,6 @@
+use Rattle.std.proofs.Common.{take}
+use Rattle.kernel_ask.specs.Evaluation.{AreValues}
+use Rattle.kernel_ask.proofs.wishes.values_of.Given as goal
+
+abbrev pub invariant-loop-wish : goal.invariant-loop-wish
+invariant-loop-wish l = AreValues l.store (take l.wish-index l.wishes) l.values.items

@@ -1,0 +1,19 @@
+-- The code's own words: names that are put into a set, one after another.
+use Rattle.std.specs.Prelude.{ℕ, nat_eq, List, [], ◌∷◌, if◌then◌else◌}
+use Rattle.std.specs.Ordering.{nat_cmp}
+use Rattle.std.specs.Cmp.Lexicographic.{slice_cmp}
+use Rattle.std.specs.List.{starts_with}
+use Rattle.std.specs.BTreeSet.{insert_key}
+
+-- the names, with one more at its place, unless it is there
+abbrev pub with_name : List (List ℕ) → List ℕ → List (List ℕ)
+with_name names name = insert_key (slice_cmp nat_cmp) names name
+
+-- with the name, if it begins with the prefix
+abbrev pub with_match : List ℕ → List (List ℕ) → List ℕ → List (List ℕ)
+with_match prefix known name = if starts_with nat_eq name prefix then with_name known name else known
+
+-- with those of the names that begin with the prefix
+abbrev pub with_matches : List ℕ → List (List ℕ) → List (List ℕ) → List (List ℕ)
+with_matches prefix known [] = known
+with_matches prefix known (name ∷ names) = with_matches prefix (with_match prefix known name) names

@@ -1,0 +1,15 @@
+pub mod Lines
+pub mod ValueTexts
+pub mod Cursor
+pub mod Grown
+pub mod Matches
+pub mod Added
+pub mod History
+pub mod Inspection
+pub mod Judgement
+pub mod Evaluation
+pub mod Comms
+pub mod Completion
+pub mod HallFault
+pub mod State
+pub mod Answer

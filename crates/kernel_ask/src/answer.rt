@@ -1,0 +1,106 @@
+//! What a frontend asks, and what is answered.
+use crate::inputs::{HistoryAsk, Input};
+use crate::judgement::Completeness;
+use thiserror::Error;
+
+/// What a frontend asks. A cursor counts Unicode code points; none is the end of the code, and so is one past it.
+#[derive(Debug, Drop, PartialEq, Eq)]
+pub enum Ask {
+    /// Which names go on with what stands in front of the cursor.
+    Complete { code: String, cursor: Option<u64> },
+    /// What is known of the name that touches the cursor.
+    Inspect { code: String, cursor: Option<u64> },
+    /// Whether the code can be executed as it stands.
+    IsComplete { code: String },
+    /// The input history.
+    History(HistoryAsk),
+    /// The open comms.
+    Comms,
+    /// The state of the kernel.
+    State,
+}
+
+/// The names that begin with the longest name in front of a cursor, and where that stands, in Unicode code points.
+#[derive(Debug, Drop, PartialEq, Eq)]
+pub struct Completion {
+    /// Declared names and reserved words, each once, in the order of their octets.
+    pub matches: Vec<String>,
+    pub start: usize,
+    pub end: usize,
+}
+
+/// What is answered.
+#[derive(Debug, Drop, PartialEq, Eq)]
+pub enum Content {
+    Completion(Completion),
+    /// The value text of the name, if it is declared.
+    Inspection(Option<String>),
+    Completeness(Completeness),
+    /// The inputs, in rising order.
+    History(Vec<Input>),
+    /// The ids of the open comms, in the order of their octets.
+    Comms(Vec<String>),
+    State(KernelState),
+}
+
+/// The state of a kernel.
+#[derive(Debug, Drop, PartialEq, Eq)]
+pub struct KernelState {
+    /// The number of the node at which the kernel stands.
+    pub node: usize,
+    /// The execution counter.
+    pub count: u64,
+    /// How many cells can be undone.
+    pub depth: usize,
+    /// How many cells can be redone, along favourites.
+    pub redo: usize,
+    /// How many nodes there are beside the root.
+    pub nodes: usize,
+    /// Whether a job is open.
+    pub busy: bool,
+    /// The value texts of the declared names, in the order of declaration.
+    pub world: Vec<String>,
+}
+
+/// An answer, and how many minutes it has seen.
+#[derive(Debug, Drop, PartialEq, Eq)]
+pub struct Answer {
+    pub seen: usize,
+    pub content: Content,
+}
+
+/// Why a question is not answered.
+#[derive(Clone, Copy, Debug, PartialEq, Eq, Error)]
+pub enum HallFault {
+    /// There was no memory for the answer.
+    #[error("Memory")]
+    Memory,
+    /// As many frontends as may be have a pass.
+    #[error("NoPass")]
+    NoPass,
+}
+
+impl HallFault {
+    ghost use Rattle.std.specs.Prelude.{◌≡◌};
+    ghost use Rattle.kernel_ask.specs.HallFault.{number_of, name_of};
+
+    /// The number under which the refusal is told.
+    pub fn number(self) -> u8
+        ensures { result ≡ number_of self }
+    {
+        match self {
+            HallFault::Memory => 76,
+            HallFault::NoPass => 81,
+        }
+    }
+
+    /// The word under which the refusal is told.
+    pub fn name(self) -> &'static str
+        ensures { result.now ≡ name_of self }
+    {
+        match self {
+            HallFault::Memory => "Memory",
+            HallFault::NoPass => "NoPass",
+        }
+    }
+}

@@ -1,0 +1,146 @@
+//! The answers over a lent kernel. None of them changes it.
+ghost use Rattle.std.specs.Prelude.{◌≡◌, map, string_bytes, IfOk, IfErr};
+ghost use Rattle.std.specs.Str.{chars};
+ghost use Rattle.kernel_core.specs.State.{Idle, here};
+ghost use Rattle.kernel_ask.specs.Cursor.{word_at};
+ghost use Rattle.kernel_ask.specs.Completion.{IsCompletion};
+ghost use Rattle.kernel_ask.specs.Inspection.{IsInspection};
+ghost use Rattle.kernel_ask.specs.History.{inputs, told, input_of};
+ghost use Rattle.kernel_ask.specs.Evaluation.{IsEvaluated, AreValuesAfter};
+ghost use Rattle.kernel_ask.specs.State.{OfShown};
+ghost use Rattle.kernel_ask.specs.Answer.{IsContent, IsAnswer};
+
+use crate::answer::{Answer, Ask, Completion, Content, HallFault};
+use crate::comms::Comms;
+use crate::completion::completion_of;
+use crate::done::{ExpFault, NamedValue, Wish};
+use crate::evaluation::evaluation_of;
+use crate::inputs::{HistoryAsk, Input, history_of};
+use crate::inspection::inspection_of;
+use crate::judgement::is_complete;
+use crate::standing::state;
+use crate::wishes::values_of;
+use kernel_core::{Kernel, Outcome};
+use std::alloc::{AllocError, Global};
+
+/// The declared names and reserved words that go on with what stands in front of a cursor. Places count Unicode code points; no
+/// cursor is the end of the code, and so is one past it. The only error is want of memory.
+pub fn complete(
+    alloc: Global,
+    kernel: &Kernel,
+    code: &str,
+    cursor: Option<u64>,
+) -> Result<Completion, AllocError>
+    ensures { IfOk result (λ c. OfShown kernel.now.machine (λ names. IsCompletion names (chars code.now) cursor c)) }
+{
+    let world = kernel.world();
+    completion_of(alloc, world.store(), code, cursor)
+}
+
+/// The value text of the declared name that touches a cursor, if one does. Places count as in [`complete`]. The only error is
+/// want of memory.
+pub fn inspect(
+    alloc: Global,
+    kernel: &Kernel,
+    code: &str,
+    cursor: Option<u64>,
+) -> Result<Option<String>, AllocError>
+    ensures { IfOk result (λ text. OfShown kernel.now.machine (λ names. IsInspection names (word_at cursor (chars code.now)) text)) }
+{
+    let world = kernel.world();
+    inspection_of(alloc, world.store(), code, cursor)
+}
+
+/// The inputs that are asked for, in rising order. The only error is want of memory.
+pub fn history(alloc: Global, kernel: &Kernel, ask: HistoryAsk) -> Result<Vec<Input>, AllocError>
+    ensures { IfOk result (λ v. map input_of v.items
+        ≡ told ask (inputs kernel.now.machine.minutes kernel.now.machine.counter)) }
+{
+    history_of(alloc, kernel.minutes(), kernel.counter(), ask)
+}
+
+/// The value of an expression's text in the world of the position, or why it has none. No job is open.
+pub fn evaluate(alloc: Global, kernel: &Kernel, text: &str) -> Result<i32, ExpFault>
+    requires { kernel.now.machine.state.job ≡ Idle }
+    ensures { IsEvaluated (here kernel.now.machine.state.past).store text.now result }
+{
+    let world = kernel.world();
+    evaluation_of(alloc, world.store(), text)
+}
+
+/// The values of user expressions after a job, in their order: in the world of the position where the job is a cell that ran,
+/// else none. No job is open. The only error is want of memory for the list; where one expression finds none, this is told as its value.
+pub fn evaluate_all(
+    alloc: Global,
+    kernel: &Kernel,
+    outcome: &Outcome,
+    wishes: &[Wish],
+) -> Result<Vec<NamedValue>, AllocError>
+    requires { kernel.now.machine.state.job ≡ Idle }
+    ensures { IfOk result (λ v. AreValuesAfter outcome.now (here kernel.now.machine.state.past).store wishes.now v.items) }
+{
+    match outcome {
+        Outcome::Ran(_, _) => {
+            let world = kernel.world();
+            values_of(alloc, world.store(), wishes)
+        }
+        Outcome::Failed(_, _)
+        | Outcome::Interrupted(_)
+        | Outcome::Undid(_, _)
+        | Outcome::Redid(_, _)
+        | Outcome::Went(_, _, _)
+        | Outcome::Refused(_) => Ok(Vec::new(alloc)),
+    }
+}
+
+/// What is answered to a question.
+fn content_of(
+    alloc: Global,
+    kernel: &Kernel,
+    comms: &Comms,
+    ask: Ask,
+) -> Result<Content, AllocError>
+    ensures { IfOk result (IsContent kernel.now.machine comms.now ask) }
+{
+    match ask {
+        Ask::Complete { code, cursor } => {
+            let completion = complete(alloc, kernel, code.as_str(), cursor)?;
+            Ok(Content::Completion(completion))
+        }
+        Ask::Inspect { code, cursor } => {
+            let text = inspect(alloc, kernel, code.as_str(), cursor)?;
+            Ok(Content::Inspection(text))
+        }
+        Ask::IsComplete { code } => {
+            let completeness = is_complete(alloc, code.as_str());
+            Ok(Content::Completeness(completeness))
+        }
+        Ask::History(ask) => {
+            let inputs = history(alloc, kernel, ask)?;
+            Ok(Content::History(inputs))
+        }
+        Ask::Comms => {
+            let ids = comms.list()?;
+            Ok(Content::Comms(ids))
+        }
+        Ask::State => {
+            let state = state(alloc, kernel)?;
+            Ok(Content::State(state))
+        }
+    }
+}
+
+/// Answers a question of a frontend from the kernel's names, its shown world and its minutes, and tells how many minutes were seen.
+/// Want of memory is the only error; where it can't be told whether code is complete, that is the answer `Unknown`.
+pub fn ask_on(alloc: Global, kernel: &Kernel, comms: &Comms, ask: Ask) -> Result<Answer, HallFault>
+    ensures answer { IfOk result (IsAnswer kernel.now.machine comms.now ask) }
+    ensures memory { IfErr result (λ fault. fault ≡ HallFault.Memory) }
+{
+    match content_of(alloc, kernel, comms, ask) {
+        Ok(content) => Ok(Answer {
+            seen: kernel.minutes().len(),
+            content,
+        }),
+        Err(_) => Err(HallFault::Memory),
+    }
+}

@@ -1,0 +1,28 @@
+//! Completion of names.
+ghost use Rattle.std.specs.Prelude.{IfOk};
+ghost use Rattle.std.specs.Str.{chars};
+ghost use Rattle.kernel_ask.specs.Completion.{IsCompletion};
+
+use crate::answer::Completion;
+use crate::cursor::prefix_at;
+use crate::matches::matches_of;
+use janus_store::Store;
+use std::alloc::{AllocError, Global};
+
+/// The names that go on with what stands in front of the cursor.
+pub(crate) fn completion_of(
+    alloc: Global,
+    store: &Store,
+    code: &str,
+    cursor: Option<u64>,
+) -> Result<Completion, AllocError>
+    ensures { IfOk result (IsCompletion store.now (chars code.now) cursor) }
+{
+    let prefix = prefix_at(alloc, code, cursor)?;
+    let matches = matches_of(alloc, store, prefix.name.as_str())?;
+    Ok(Completion {
+        matches,
+        start: prefix.start,
+        end: prefix.end,
+    })
+}

@@ -1,0 +1,42 @@
+//! What is told of a job that ended.
+use kernel_core::{Fault, Outcome, Refusal};
+
+/// A user expression: the text of an expression, and the name under which its value is told.
+#[derive(Debug, Drop, PartialEq, Eq)]
+pub struct Wish {
+    pub name: String,
+    pub exp: String,
+}
+
+/// Why an expression has no value.
+#[derive(Clone, Copy, Debug, PartialEq, Eq)]
+pub enum ExpFault {
+    /// Its text is refused, at a place of its own text, or there was no memory.
+    Refused(Refusal),
+    /// It met a fault.
+    Met(Fault),
+}
+
+/// The value of an expression, under its name.
+#[derive(Debug, Drop, PartialEq, Eq)]
+pub struct NamedValue {
+    pub name: String,
+    pub value: Result<i32, ExpFault>,
+}
+
+/// What came of a job.
+#[derive(Debug, Drop, PartialEq, Eq)]
+pub struct Done {
+    /// The number of the post.
+    pub number: u64,
+    /// What came of it.
+    pub outcome: Outcome,
+    /// The execution counter as the job ended.
+    pub count: u64,
+    /// The position as the job ended.
+    pub node: usize,
+    /// The value texts of the names that the cell names, if it ran and names one.
+    pub shown: Option<String>,
+    /// The values of the user expressions.
+    pub values: Vec<NamedValue>,
+}

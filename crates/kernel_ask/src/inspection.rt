@@ -1,0 +1,29 @@
+//! What is known of a name.
+ghost use Rattle.std.specs.Prelude.{IfOk};
+ghost use Rattle.std.specs.Str.{chars};
+ghost use Rattle.kernel_ask.specs.Cursor.{word_at as word_at_of};
+ghost use Rattle.kernel_ask.specs.Inspection.{IsInspection};
+
+use crate::cursor::word_at;
+use crate::values::value_text;
+use janus_store::Store;
+use std::alloc::{AllocError, Global};
+
+/// The value text of the name that touches the cursor, if it is declared.
+pub(crate) fn inspection_of(
+    alloc: Global,
+    store: &Store,
+    code: &str,
+    cursor: Option<u64>,
+) -> Result<Option<String>, AllocError>
+    ensures { IfOk result (IsInspection store.now (word_at_of cursor (chars code.now))) }
+{
+    let word = word_at(alloc, code, cursor)?;
+    match store.value(word.as_str()) {
+        Some(value) => {
+            let text = value_text(alloc, word.as_str(), value)?;
+            Ok(Some(text))
+        }
+        None => Ok(None),
+    }
+}

@@ -1,0 +1,30 @@
+//! What a frontend is told of a kernel: the lines of outcomes, the texts of values, and the answers to its questions.
+#![tactic(auto)]
+
+mod answer;
+mod ask;
+mod comms;
+mod completion;
+mod cursor;
+mod done;
+mod evaluation;
+mod inputs;
+mod inspection;
+mod judgement;
+mod lines;
+mod matches;
+mod standing;
+#[cfg(test)]
+mod tests;
+mod values;
+mod wishes;
+
+pub use crate::answer::{Answer, Ask, Completion, Content, HallFault, KernelState};
+pub use crate::ask::{ask_on, complete, evaluate, evaluate_all, history, inspect};
+pub use crate::comms::{COMM_LIMIT, Comms};
+pub use crate::done::{Done, ExpFault, NamedValue, Wish};
+pub use crate::inputs::{HistoryAsk, Input};
+pub use crate::judgement::{Completeness, is_complete};
+pub use crate::lines::{exp_fault_line, outcome_line, post_fault_line};
+pub use crate::standing::state;
+pub use crate::values::{SHOWN_VALUES, value_text};

@@ -1,0 +1,126 @@
+//! The names that begin with a prefix, each once, in the order of their octets.
+ghost use Rattle.std.specs.Prelude.{◌≡◌, [], nat_eq, map, string_bytes, IfOk, OnOk};
+ghost use Rattle.std.specs.List.{starts_with};
+ghost use Rattle.std.specs.List.Sorted.{IsStrictlySortedBy};
+ghost use Rattle.std.specs.String.{string_cmp};
+ghost use Rattle.janus_syntax.specs.Spelling.{word_text};
+ghost use Rattle.kernel_ask.specs.Added.{with_name, with_match, with_matches};
+ghost use Rattle.kernel_ask.specs.Matches.{names_of, AreMatches};
+
+use janus_store::Store;
+use janus_syntax::token::Word;
+use std::alloc::{AllocError, Global};
+use std::collections::BTreeSet;
+
+/// The reserved words.
+const WORDS: [Word; 22] = [
+    Word::Call,
+    Word::Delocal,
+    Word::Do,
+    Word::Else,
+    Word::Empty,
+    Word::Fi,
+    Word::From,
+    Word::If,
+    Word::Int,
+    Word::Local,
+    Word::Loop,
+    Word::Main,
+    Word::Nil,
+    Word::Pop,
+    Word::Procedure,
+    Word::Push,
+    Word::Skip,
+    Word::Stack,
+    Word::Then,
+    Word::Top,
+    Word::Uncall,
+    Word::Until,
+];
+
+/// Adds a name, unless it is there.
+fn add(names: &mut BTreeSet<String>, name: String) -> Result<(), AllocError>
+    ensures { OnOk result (map string_bytes names.new.keys
+        ≡ with_name (map string_bytes names.old.keys) (string_bytes name)) }
+{
+    names.insert(name)?;
+    Ok(())
+}
+
+/// Whether the name begins with the prefix.
+fn begins_with(name: &str, prefix: &str) -> bool
+    ensures { result ≡ starts_with nat_eq name.now prefix.now }
+{
+    name.as_bytes().starts_with(prefix.as_bytes())
+}
+
+/// Adds a name, if it begins with the prefix.
+fn add_match(
+    alloc: Global,
+    names: &mut BTreeSet<String>,
+    name: &str,
+    prefix: &str,
+) -> Result<(), AllocError>
+    ensures { OnOk result (map string_bytes names.new.keys
+        ≡ with_match prefix.now (map string_bytes names.old.keys) name.now) }
+{
+    if begins_with(name, prefix) {
+        add(names, String::from_str(alloc, name)?)?;
+    }
+    Ok(())
+}
+
+/// Adds the declared names that begin with the prefix.
+fn add_declared(
+    alloc: Global,
+    names: &mut BTreeSet<String>,
+    store: &Store,
+    prefix: &str,
+) -> Result<(), AllocError>
+    ensures { OnOk result (map string_bytes names.new.keys
+        ≡ with_matches prefix.now (map string_bytes names.old.keys) (names_of store.now)) }
+{
+    for i in 0..store.len() {
+        let (name, _) = store.entry(i);
+        add_match(alloc, names, name, prefix)?;
+    }
+    Ok(())
+}
+
+/// Adds those of the words that begin with the prefix.
+fn add_words(
+    alloc: Global,
+    names: &mut BTreeSet<String>,
+    words: &[Word],
+    prefix: &str,
+) -> Result<(), AllocError>
+    ensures { OnOk result (map string_bytes names.new.keys
+        ≡ with_matches prefix.now (map string_bytes names.old.keys) (map word_text words.now)) }
+{
+    for word in words {
+        add_match(alloc, names, word.text(), prefix)?;
+    }
+    Ok(())
+}
+
+/// The names of a set, in order.
+fn in_order(alloc: Global, names: BTreeSet<String>) -> Result<Vec<String>, AllocError>
+    ensures items { IfOk result (λ v. v.items ≡ names.keys) }
+    ensures ordered { IfOk result (λ v. IsStrictlySortedBy string_cmp v.items) }
+{
+    names.into_iter().collect(alloc)
+}
+
+/// The declared names and reserved words that begin with the prefix, each once, in the order of their octets.
+pub(crate) fn matches_of(
+    alloc: Global,
+    store: &Store,
+    prefix: &str,
+) -> Result<Vec<String>, AllocError>
+    ensures { IfOk result (λ v. AreMatches store.now prefix.now (map string_bytes v.items)) }
+{
+    let mut names = BTreeSet::new(alloc);
+    add_declared(alloc, &mut names, store, prefix)?;
+    add_words(alloc, &mut names, &WORDS, prefix)?;
+    in_order(alloc, names)
+}

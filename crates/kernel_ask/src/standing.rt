@@ -1,0 +1,51 @@
+//! The state of a kernel.
+ghost use Rattle.std.specs.Prelude.{◌≡◌, map, string_bytes, IfOk};
+ghost use Rattle.janus_meaning.specs.World.{listed};
+ghost use Rattle.kernel_ask.specs.ValueTexts.{value_text as value_text_of};
+ghost use Rattle.kernel_ask.specs.State.{is_busy as is_busy_of, IsState};
+
+use crate::answer::KernelState;
+use crate::values::value_text;
+use janus_store::Store;
+use kernel_core::{Kernel, Phase};
+use std::alloc::{AllocError, Global};
+
+/// The value texts of the names of a store, in the order of declaration.
+fn value_texts(alloc: Global, store: &Store) -> Result<Vec<String>, AllocError>
+    ensures { IfOk result (λ v. map string_bytes v.items ≡ map value_text_of (listed store.now)) }
+{
+    let mut texts = Vec::new(alloc);
+    for i in 0..store.len() {
+        let (name, value) = store.entry(i);
+        texts.push(value_text(alloc, name, value)?)?;
+    }
+    Ok(texts)
+}
+
+/// Whether a job is open.
+fn is_busy(kernel: &Kernel) -> bool
+    ensures { result ≡ is_busy_of kernel.now.machine.state.job }
+{
+    match kernel.phase() {
+        Phase::Idle | Phase::Queued => false,
+        Phase::Border | Phase::Inside => true,
+    }
+}
+
+/// Where the kernel stands, how far an undo and a redo can go, and the shown world. The only error is want of memory.
+pub fn state(alloc: Global, kernel: &Kernel) -> Result<KernelState, AllocError>
+    ensures { IfOk result (IsState kernel.now.machine) }
+{
+    let shown = kernel.world();
+    let world = value_texts(alloc, shown.store())?;
+    let extent = kernel.extent();
+    Ok(KernelState {
+        node: kernel.position(),
+        count: kernel.counter(),
+        depth: extent.undo,
+        redo: extent.redo,
+        nodes: extent.nodes,
+        busy: is_busy(kernel),
+        world,
+    })
+}

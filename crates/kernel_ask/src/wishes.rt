@@ -1,0 +1,29 @@
+//! User expressions.
+ghost use Rattle.std.specs.Prelude.{IfOk};
+ghost use Rattle.janus_meaning.specs.Shape.{AreDistinct, shape_of};
+ghost use Rattle.kernel_core.specs.Language.{HoldNoStacks};
+ghost use Rattle.kernel_ask.specs.Evaluation.{AreValues};
+
+use crate::done::{NamedValue, Wish};
+use crate::evaluation::evaluation_of;
+use janus_store::Store;
+use std::alloc::{AllocError, Global};
+
+/// The values of the expressions over a store, in their order.
+pub(crate) fn values_of(
+    alloc: Global,
+    store: &Store,
+    wishes: &[Wish],
+) -> Result<Vec<NamedValue>, AllocError>
+    requires kinds { HoldNoStacks store.now }
+    requires distinct { AreDistinct (shape_of store.now) }
+    ensures { IfOk result (λ v. AreValues store.now wishes.now v.items) }
+{
+    let mut values = Vec::new(alloc);
+    for wish in wishes {
+        let name = wish.name.clone()?;
+        let value = evaluation_of(alloc, store, wish.exp.as_str());
+        values.push(NamedValue { name, value })?;
+    }
+    Ok(values)
+}

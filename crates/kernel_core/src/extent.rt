@@ -1,0 +1,58 @@
+//! How far an undo and a redo can go.
+ghost use Rattle.std.specs.Prelude.{ℕ, ◌≤◌, ◌↔◌, IsTrue};
+ghost use Rattle.kernel_core.specs.Fields.{past_of, nodes_of};
+ghost use Rattle.kernel_core.specs.Legal.{IsLegal, can_undo, can_redo};
+ghost use Rattle.kernel_core.specs.Extent.{IsExtent};
+
+use crate::tree::Tree;
+
+/// How far an undo and a redo can go from the position, and how many nodes there are.
+#[derive(Clone, Copy, Debug, PartialEq, Eq)]
+pub struct Extent {
+    /// How many cells can be undone.
+    pub undo: usize,
+    /// How many cells can be redone, along favourites.
+    pub redo: usize,
+    /// How many nodes there are beside the root.
+    pub nodes: usize,
+}
+
+/// How many nodes the position can go up.
+fn nodes_above(tree: &Tree) -> usize
+    requires { IsLegal (past_of tree.now) }
+    ensures { (k : ℕ) → IsTrue (can_undo (nodes_of tree.now) tree.now.position k) ↔ (k ≤ result) }
+{
+    let mut at = tree.position;
+    let mut count = 0;
+    while at != 0 {
+        at = tree.nodes[at - 1].parent;
+        count += 1;
+    }
+    count
+}
+
+/// How many nodes the position can go down, along favourites.
+fn nodes_below(tree: &Tree) -> usize
+    requires { IsLegal (past_of tree.now) }
+    ensures { (k : ℕ) → IsTrue (can_redo tree.now.favourites.items tree.now.position k) ↔ (k ≤ result) }
+{
+    let mut next = tree.favourites[tree.position];
+    let mut count = 0;
+    while next != 0 {
+        next = tree.favourites[next];
+        count += 1;
+    }
+    count
+}
+
+/// How far an undo and a redo can go, and how many nodes there are.
+pub fn extent_of(tree: &Tree) -> Extent
+    requires { IsLegal (past_of tree.now) }
+    ensures { IsExtent (past_of tree.now) result }
+{
+    Extent {
+        undo: nodes_above(tree),
+        redo: nodes_below(tree),
+        nodes: tree.nodes.len(),
+    }
+}
