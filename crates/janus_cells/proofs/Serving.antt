@@ -28,8 +28,9 @@ enters_took s t told new h =
     (λ h. subst (λ b. Took b new.job) (sym h.0) (ap (λ x. x.job) h.2))
     h
 
-cell_took : (s : Past) (text : List ℕ) (told : Begun) (new : State) → TakesCell s text told new → Took told new.job
-cell_took s text told new h =
+cell_took : (s : Past) (text : List ℕ) (full : Bool) (told : Begun) (new : State) → TakesCell s text full told new → Took told new.job
+cell_took s text true told new h = subst (λ b. Took b new.job) (sym h.0) (ap (λ x. x.job) h.1)
+cell_took s text false told new h =
     ⊎_elim
     (λ h. subst (λ b. Took b new.job) (sym h.2) (_, ap (λ x. x.job) h.3))
     (λ h. subst (λ b. Took b new.job) (sym h.2) (ap (λ x. x.job) h.3))
@@ -48,7 +49,7 @@ goto_took s n false told new h = subst (λ b. Took b new.job) (sym h.0) (ap (λ 
 goto_took s n true told new h = departs_took (h.0 + h.1) s (travel_to (aim.Goto n) h.0 h.1) told new h.3
 
 takes_took : (s : Past) (r : Request) (told : Begun) (new : State) → Takes s r told new → Took told new.job
-takes_took s (RunCell text silent store) told new h = cell_took s text told new h
+takes_took s (RunCell text silent store) told new h = cell_took s text _ told new h
 takes_took s (Undo k) told new h = move_took s (travel_to aim.Undo k 0) _ told new h
 takes_took s (Redo k) told new h = move_took s (travel_to aim.Redo 0 k) _ told new h
 takes_took s (Goto n) told new h = goto_took s n _ told new h
