@@ -1,5 +1,5 @@
 -- Which names a cell names, in its declarations and its statements.
-use Rattle.std.specs.Prelude.{Bool, false, ◌||◌, List}
+use Rattle.std.specs.Prelude.{Bool, false, ◌||◌}
 use Rattle.std.specs.List.{list_any}
 use Rattle.janus_meaning.specs.Syntax as meaning
 use Rattle.janus_meaning.specs.Store.{same_name}

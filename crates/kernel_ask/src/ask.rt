@@ -107,7 +107,7 @@ pub fn shown(
     requires { kernel.now.machine.state.job ≡ Idle }
     ensures { IfOk result (λ text. IsShownAfter outcome.now (here kernel.now.machine.state.past).store code.now (option_map string_bytes text)) }
 {
-    match outcome {
+    match *outcome {
         Outcome::Ran(_, _) => {
             let world = kernel.world();
             shown_by(alloc, world.store(), code)

@@ -25,7 +25,7 @@ fn push_named(
 ) -> Result<(), AllocError>
     ensures { OnOk result (map string_bytes texts.new.items
         ≡ map string_bytes texts.old.items
-          ++ map value_text_of (filter (λ e. in_cell e.0 (cell_view cell.now)) ((name.now, shown value.entry) ∷ []))) }
+        ++ map value_text_of (filter (λ e. in_cell e.0 (cell_view cell.now)) ((name.now, shown value.entry) ∷ []))) }
 {
     if cell_names(name, cell) {
         texts.push(value_text(alloc, name, value)?)?;
@@ -59,11 +59,7 @@ fn parted(alloc: Global, first: &str, rest: &[String]) -> Result<String, AllocEr
 }
 
 /// The value texts of the declared names that the cell names, parted by LF, if it names one.
-fn shown_of(
-    alloc: Global,
-    store: &Store,
-    cell: &Cell,
-) -> Result<Option<String>, AllocError>
+fn shown_of(alloc: Global, store: &Store, cell: &Cell) -> Result<Option<String>, AllocError>
     ensures { IfOk result (λ text. option_map string_bytes text ≡ shown_text store.now (cell_view cell.now)) }
 {
     let texts = named_texts(alloc, store, cell)?;
@@ -98,7 +94,8 @@ pub(crate) fn shown_by(
 ) -> Result<Option<String>, AllocError>
     ensures { IfOk result (λ text. IsShown store.now code.now (option_map string_bytes text)) }
 {
-    match cell_of(alloc, code)? {
+    let found = cell_of(alloc, code)?;
+    match found {
         Some(cell) => shown_of(alloc, store, &cell),
         None => Ok(None),
     }

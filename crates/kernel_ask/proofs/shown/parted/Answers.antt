@@ -11,7 +11,7 @@ loop-next-preserved c =
     let item = c.next-item.result in
     let before : List (List ℕ) = map string_bytes (take i c.args.rest.now) in
     let next : before ++ string_bytes item ∷ [] ≡ map string_bytes (take (i + 1) c.args.rest.now) =
-        ap (λ t. before ++ string_bytes t ∷ []) c.next-item.is ∙ sym (map_more string_bytes c.args.rest.now i item c.loop-next-test.true) in
+    ap (λ t. before ++ string_bytes t ∷ []) c.next-item.is ∙ sym (map_more string_bytes c.args.rest.now i item c.loop-next-test.true) in
     c.in_ok-push_str-2.ensures.bytes
     ∙ ap (λ text. text ++ c.as_str.result.now) c.in_ok-push_str.ensures.bytes
     ∙ ap (λ text. (string_bytes c.loop-next.text ++ 10 ∷ []) ++ text) c.as_str.ensures.value
