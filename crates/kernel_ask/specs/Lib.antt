@@ -13,3 +13,5 @@ pub mod Completion
 pub mod HallFault
 pub mod State
 pub mod Answer
+pub mod Naming
+pub mod Shown

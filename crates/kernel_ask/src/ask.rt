@@ -1,5 +1,5 @@
 //! The answers over a lent kernel. None of them changes it.
-ghost use Rattle.std.specs.Prelude.{◌≡◌, map, string_bytes, IfOk, IfErr};
+ghost use Rattle.std.specs.Prelude.{◌≡◌, map, string_bytes, option_map, IfOk, IfErr};
 ghost use Rattle.std.specs.Str.{chars};
 ghost use Rattle.kernel_core.specs.State.{Idle, here};
 ghost use Rattle.kernel_ask.specs.Cursor.{word_at};
@@ -7,6 +7,7 @@ ghost use Rattle.kernel_ask.specs.Completion.{IsCompletion};
 ghost use Rattle.kernel_ask.specs.Inspection.{IsInspection};
 ghost use Rattle.kernel_ask.specs.History.{inputs, told, input_of};
 ghost use Rattle.kernel_ask.specs.Evaluation.{IsEvaluated, AreValuesAfter};
+ghost use Rattle.kernel_ask.specs.Shown.{IsShownAfter};
 ghost use Rattle.kernel_ask.specs.State.{OfShown};
 ghost use Rattle.kernel_ask.specs.Answer.{IsContent, IsAnswer};
 
@@ -18,6 +19,7 @@ use crate::evaluation::evaluation_of;
 use crate::inputs::{HistoryAsk, Input, history_of};
 use crate::inspection::inspection_of;
 use crate::judgement::is_complete;
+use crate::shown::shown_by;
 use crate::standing::state;
 use crate::wishes::values_of;
 use kernel_core::{Kernel, Outcome};
@@ -90,6 +92,32 @@ pub fn evaluate_all(
         | Outcome::Redid(_, _)
         | Outcome::Went(_, _, _)
         | Outcome::Refused(_) => Ok(Vec::new(alloc)),
+    }
+}
+
+/// What is shown of a job that is over, with the text of its cell: the value texts of the declared names that the cell names, in
+/// the order of declaration and parted by LF, where the job is a cell that ran and names one; else nothing. No job is open. The only
+/// error is want of memory.
+pub fn shown(
+    alloc: Global,
+    kernel: &Kernel,
+    outcome: &Outcome,
+    code: &str,
+) -> Result<Option<String>, AllocError>
+    requires { kernel.now.machine.state.job ≡ Idle }
+    ensures { IfOk result (λ text. IsShownAfter outcome.now (here kernel.now.machine.state.past).store code.now (option_map string_bytes text)) }
+{
+    match *outcome {
+        Outcome::Ran(_, _) => {
+            let world = kernel.world();
+            shown_by(alloc, world.store(), code)
+        }
+        Outcome::Failed(_, _)
+        | Outcome::Interrupted(_)
+        | Outcome::Undid(_, _)
+        | Outcome::Redid(_, _)
+        | Outcome::Went(_, _, _)
+        | Outcome::Refused(_) => Ok(None),
     }
 }
 

@@ -13,6 +13,8 @@ mod inspection;
 mod judgement;
 mod lines;
 mod matches;
+mod naming;
+mod shown;
 mod standing;
 #[cfg(test)]
 mod tests;
@@ -20,7 +22,9 @@ mod values;
 mod wishes;
 
 pub use crate::answer::{Answer, Ask, Completion, Content, HallFault, KernelState};
-pub use crate::ask::{ask_on, complete, evaluate, evaluate_all, history, inspect};
+pub use crate::ask::{
+    ask_on, complete, evaluate, evaluate_all, history, inspect, shown as shown_text,
+};
 pub use crate::comms::{COMM_LIMIT, Comms};
 pub use crate::done::{Done, ExpFault, NamedValue, Wish};
 pub use crate::inputs::{HistoryAsk, Input};

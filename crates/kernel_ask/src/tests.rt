@@ -1,6 +1,6 @@
 use crate::{
     Ask, Comms, ExpFault, HistoryAsk, Wish, ask_on, evaluate, evaluate_all, exp_fault_line,
-    outcome_line, post_fault_line, value_text,
+    outcome_line, post_fault_line, shown_text, value_text,
 };
 use janus_store::View;
 use kernel_core::{CheckFault, End, Fault, Job, Kernel, Outcome, PostFault, Refusal, Sliced, Span};
@@ -204,6 +204,23 @@ fn evaluates_expressions(rt: HostRuntime) -> Result<(), Fail> {
         told.as_str(),
         "[NamedValue { name: \"a\", value: Ok(10) }][]"
     );
+    for (outcome, code, want) in [
+        (
+            Outcome::Ran(1, 5),
+            "int x int a[2] x += 5 a[1] += 7",
+            Some("x = 5\na[2] = 0 7"),
+        ),
+        (
+            Outcome::Ran(1, 5),
+            "if 0 then skip else a[0] += 1 fi 0",
+            Some("a[2] = 0 7"),
+        ),
+        (Outcome::Ran(1, 5), "skip", None),
+        (Outcome::Interrupted(5), "x += 5", None),
+    ] {
+        let shown = shown_text(alloc, &kernel, &outcome, code)?;
+        assert_eq!(rt; shown.as_ref().map(|text| text.as_str()), want, "{code}");
+    }
     Ok(())
 }
 

@@ -1,0 +1,38 @@
+-- Which names a cell names, in its declarations and its statements.
+use Rattle.std.specs.Prelude.{Bool, false, ◌||◌}
+use Rattle.std.specs.List.{list_any}
+use Rattle.janus_meaning.specs.Syntax as meaning
+use Rattle.janus_meaning.specs.Store.{same_name}
+use Rattle.janus_syntax.specs.Tree.{Name, named, Exp, Num, Var, Element, Neg, Bin, And, Or, Stm, Skip, Assign, AssignElement, If, Loop, Block, Empty, More, Declaration, Int, Array, Cell, cell_of}
+
+abbrev pub is_it : meaning.Name → Name → Bool
+is_it x (named y at) = same_name y x
+
+abbrev pub in_exp : meaning.Name → Exp → Bool
+in_exp x (Num n at) = false
+in_exp x (Var y) = is_it x y
+in_exp x (Element a i) = is_it x a || in_exp x i
+in_exp x (Neg e) = in_exp x e
+in_exp x (Bin op l r) = in_exp x l || in_exp x r
+in_exp x (And l r) = in_exp x l || in_exp x r
+in_exp x (Or l r) = in_exp x l || in_exp x r
+
+abbrev mutual
+  pub in_stm : meaning.Name → Stm → Bool
+  in_stm x Skip = false
+  in_stm x (Assign y u e) = is_it x y || in_exp x e
+  in_stm x (AssignElement a i u e) = is_it x a || in_exp x i || in_exp x e
+  in_stm x (If a s t b) = in_exp x a || in_block x s || in_block x t || in_exp x b
+  in_stm x (Loop a s t b) = in_exp x a || in_block x s || in_block x t || in_exp x b
+
+  pub in_block : meaning.Name → Block → Bool
+  in_block x Empty = false
+  in_block x (More s b) = in_stm x s || in_block x b
+
+abbrev pub in_declaration : meaning.Name → Declaration → Bool
+in_declaration x (Int y) = is_it x y
+in_declaration x (Array y n at) = is_it x y
+
+-- the cell names x
+abbrev pub in_cell : meaning.Name → Cell → Bool
+in_cell x (cell_of ds b) = list_any (in_declaration x) ds || in_block x b

@@ -1,0 +1,40 @@
+-- What is shown of a cell that ran (Jupyter messaging page, "Execution results").
+use Rattle.std.specs.Prelude.{◌≡◌, ℕ, List, [], ◌∷◌, map, Option, Some, None}
+use Rattle.std.specs.List.{filter, join_with_byte}
+use Rattle.janus_meaning.specs.Store.{Store}
+use Rattle.janus_meaning.specs.World.{listed}
+use Rattle.janus_syntax.specs.Tree.{Cell, cell_view}
+use Rattle.janus_syntax.specs.declared.tree.Cell as code
+use Rattle.janus_syntax.specs.Text.{HasTree}
+use Rattle.kernel_core.specs.declared.outcome.Outcome.{Outcome}
+use Rattle.kernel_core.specs.declared.outcome.Outcome.TheVariants.{Ran, Failed, Interrupted, Undid, Redid, Went, Refused}
+use Rattle.kernel_ask.specs.Naming.{in_cell}
+use Rattle.kernel_ask.specs.ValueTexts.{value_text}
+
+-- the texts parted by LF, if there are any
+abbrev pub parted : List (List ℕ) → Option (List ℕ)
+parted [] = None
+parted (text ∷ texts) = Some (join_with_byte 10 (text ∷ texts))
+
+-- the value texts of the names that the cell names, in the order of declaration
+abbrev pub shown_text : Store → Cell → Option (List ℕ)
+shown_text s cell = parted (map value_text (filter (λ e. in_cell e.0 cell) (listed s)))
+
+-- this is the one cell of the text; or the text is no cell
+abbrev pub IsCellOf : List ℕ → Option code.Cell → Type 0
+IsCellOf text (Some cell) = (tree : Cell) → HasTree text tree → cell_view cell ≡ tree
+IsCellOf text None = (tree : Cell) → HasTree text tree → ⊥
+
+-- what is shown of the cell of a text
+abbrev pub IsShown : Store → List ℕ → Option (List ℕ) → Type 0
+IsShown s text shown = (cell : Cell) → HasTree text cell → shown ≡ shown_text s cell
+
+-- it is shown only where the cell ran
+abbrev pub IsShownAfter : Outcome → Store → List ℕ → Option (List ℕ) → Type 0
+IsShownAfter (Ran node steps) s text shown = IsShown s text shown
+IsShownAfter (Failed fault steps) s text shown = shown ≡ None
+IsShownAfter (Interrupted steps) s text shown = shown ≡ None
+IsShownAfter (Undid cells end) s text shown = shown ≡ None
+IsShownAfter (Redid cells end) s text shown = shown ≡ None
+IsShownAfter (Went up down end) s text shown = shown ≡ None
+IsShownAfter (Refused refusal) s text shown = shown ≡ None

@@ -1,0 +1,102 @@
+//! What is shown of a cell that ran.
+ghost use Rattle.std.specs.Prelude.{◌≡◌, [], ◌∷◌, ◌++◌, map, string_bytes, option_map, IfOk, OnOk};
+ghost use Rattle.std.specs.List.{filter, join_with_byte};
+ghost use Rattle.janus_meaning.specs.World.{listed};
+ghost use Rattle.janus_store.specs.Values.{shown};
+ghost use Rattle.janus_syntax.specs.Tree.{cell_view};
+ghost use Rattle.kernel_ask.specs.Naming.{in_cell};
+ghost use Rattle.kernel_ask.specs.ValueTexts.{value_text as value_text_of};
+ghost use Rattle.kernel_ask.specs.Shown.{shown_text, IsCellOf, IsShown};
+
+use crate::naming::cell_names;
+use crate::values::value_text;
+use janus_store::{Store, View};
+use janus_syntax::tree::Cell;
+use janus_syntax::{SyntaxFault, parse_cell};
+use std::alloc::{AllocError, Global};
+
+/// Adds the value text of a name, if the cell names it.
+fn push_named(
+    alloc: Global,
+    texts: &mut Vec<String>,
+    name: &str,
+    value: View<'_>,
+    cell: &Cell,
+) -> Result<(), AllocError>
+    ensures { OnOk result (map string_bytes texts.new.items
+        ≡ map string_bytes texts.old.items
+        ++ map value_text_of (filter (λ e. in_cell e.0 (cell_view cell.now)) ((name.now, shown value.entry) ∷ []))) }
+{
+    if cell_names(name, cell) {
+        texts.push(value_text(alloc, name, value)?)?;
+    }
+    Ok(())
+}
+
+/// The value texts of the declared names that the cell names, in the order of declaration.
+fn named_texts(alloc: Global, store: &Store, cell: &Cell) -> Result<Vec<String>, AllocError>
+    ensures { IfOk result (λ v. map string_bytes v.items
+        ≡ map value_text_of (filter (λ e. in_cell e.0 (cell_view cell.now)) (listed store.now))) }
+{
+    let mut texts = Vec::new(alloc);
+    for i in 0..store.len() {
+        let (name, value) = store.entry(i);
+        push_named(alloc, &mut texts, name, value, cell)?;
+    }
+    Ok(texts)
+}
+
+/// The texts, parted by LF.
+fn parted(alloc: Global, first: &str, rest: &[String]) -> Result<String, AllocError>
+    ensures { IfOk result (λ text. string_bytes text ≡ join_with_byte 10 (first.now ∷ map string_bytes rest.now)) }
+{
+    let mut text = String::from_str(alloc, first)?;
+    for next in rest {
+        text.push_str("\n")?;
+        text.push_str(next.as_str())?;
+    }
+    Ok(text)
+}
+
+/// The value texts of the declared names that the cell names, parted by LF, if it names one.
+fn shown_of(alloc: Global, store: &Store, cell: &Cell) -> Result<Option<String>, AllocError>
+    ensures { IfOk result (λ text. option_map string_bytes text ≡ shown_text store.now (cell_view cell.now)) }
+{
+    let texts = named_texts(alloc, store, cell)?;
+    match texts.as_slice() {
+        [] => Ok(None),
+        [first, rest @ ..] => {
+            let text = parted(alloc, first.as_str(), rest)?;
+            Ok(Some(text))
+        }
+    }
+}
+
+/// The cell of a text, if it is one.
+fn cell_of(alloc: Global, code: &str) -> Result<Option<Cell>, AllocError>
+    ensures { IfOk result (IsCellOf code.now) }
+{
+    match parse_cell(alloc, code) {
+        Ok(cell) => Ok(Some(cell)),
+        Err(SyntaxFault::Memory) => Err(AllocError),
+        Err(SyntaxFault::BadToken(_)) => Ok(None),
+        Err(SyntaxFault::Expected(_, _)) => Ok(None),
+        Err(SyntaxFault::NumberTooLarge(_)) => Ok(None),
+        Err(SyntaxFault::TooNested(_)) => Ok(None),
+    }
+}
+
+/// What is shown of the cell of a text over a store; nothing of a text that is no cell.
+pub(crate) fn shown_by(
+    alloc: Global,
+    store: &Store,
+    code: &str,
+) -> Result<Option<String>, AllocError>
+    ensures { IfOk result (λ text. IsShown store.now code.now (option_map string_bytes text)) }
+{
+    let found = cell_of(alloc, code)?;
+    match found {
+        Some(cell) => shown_of(alloc, store, &cell),
+        None => Ok(None),
+    }
+}
