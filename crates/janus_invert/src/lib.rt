@@ -4,7 +4,8 @@
 //! block, that `flatten` gives code that stands for the cell's block, and that `invert_code` gives code that stands for the
 //! inverse of that block.
 //! The inverse of a statement is that of Yokoyama and Glück (2007), "A reversible programming language and its invertible
-//! self-interpreter": `+=` and `-=` exchange, `^=` stays, and a block is reversed with each of its statements inverted.
+//! self-interpreter": `+=` and `-=` exchange, `^=` stays; an `if` exchanges its test and its assertion, a loop its entry and its
+//! exit, and their blocks stay where they are, each inverted; `skip` stays; a block is reversed with each of its statements inverted.
 #![tactic(auto)]
 
 ghost use Rattle.janus_invert.specs.Cells.{InverseCellTwice};
