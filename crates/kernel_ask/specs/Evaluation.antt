@@ -13,7 +13,7 @@ use Rattle.janus_check.specs.Check.{exp_faults}
 use Rattle.janus_check.specs.Fault.{IsFirst}
 use Rattle.janus_check.specs.declared.fault.CheckFault.{CheckFault}
 use Rattle.janus_machine.specs.Faults.{fault_of}
-use Rattle.kernel_core.specs.declared.outcome.Refusal.TheVariants.{Syntax, Check, TooFar, NoNode, Closing, Memory}
+use Rattle.kernel_core.specs.declared.outcome.Refusal.TheVariants.{Syntax, Check, HistoryFull, TooFar, NoNode, Closing, Memory}
 use Rattle.kernel_core.specs.declared.outcome.Outcome.{Outcome}
 use Rattle.kernel_core.specs.declared.outcome.Outcome.TheVariants.{Ran, Failed, Interrupted, Undid, Redid, Went, Refused as Cancelled}
 use Rattle.kernel_ask.specs.declared.done.ExpFault.{ExpFault}
@@ -41,6 +41,7 @@ IsEvaluated s text (Err (Met fault)) = HasValue s text (Bad (fault_of fault))
 IsEvaluated s text (Err (Refused (Syntax fault))) = IsRefusalOf Whole text fault
 IsEvaluated s text (Err (Refused (Check fault))) = IsUnformed s text fault
 IsEvaluated s text (Err (Refused Memory)) = Unit {0}
+IsEvaluated s text (Err (Refused HistoryFull)) = ⊥
 IsEvaluated s text (Err (Refused TooFar)) = ⊥
 IsEvaluated s text (Err (Refused NoNode)) = ⊥
 IsEvaluated s text (Err (Refused Closing)) = ⊥
