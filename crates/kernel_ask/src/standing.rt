@@ -1,6 +1,7 @@
 //! The state of a kernel.
-ghost use Rattle.std.specs.Prelude.{◌≡◌, map, string_bytes, IfOk};
+ghost use Rattle.std.specs.Prelude.{◌≡◌, true, map, string_bytes, IfOk};
 ghost use Rattle.janus_meaning.specs.World.{listed};
+ghost use Rattle.kernel_core.specs.State.{Idle};
 ghost use Rattle.kernel_ask.specs.ValueTexts.{value_text as value_text_of};
 ghost use Rattle.kernel_ask.specs.State.{is_busy as is_busy_of, IsState};
 
@@ -29,6 +30,18 @@ fn is_busy(kernel: &Kernel) -> bool
     match kernel.phase() {
         Phase::Idle | Phase::Queued => false,
         Phase::Border | Phase::Inside => true,
+    }
+}
+
+/// Whether no job is open and none waits: then expressions can be evaluated.
+pub fn is_settled(kernel: &Kernel) -> bool
+    ensures { result ≡ true → kernel.now.machine.state.job ≡ Idle }
+{
+    match kernel.phase() {
+        Phase::Idle => true,
+        Phase::Queued => false,
+        Phase::Border => false,
+        Phase::Inside => false,
     }
 }
 

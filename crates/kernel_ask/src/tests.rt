@@ -1,6 +1,6 @@
 use crate::{
     Ask, Comms, ExpFault, HistoryAsk, Wish, ask_on, evaluate, evaluate_all, exp_fault_line,
-    outcome_line, post_fault_line, shown_text, value_text,
+    is_settled, outcome_line, post_fault_line, shown_text, value_text,
 };
 use janus_store::View;
 use kernel_core::{CheckFault, End, Fault, Job, Kernel, Outcome, PostFault, Refusal, Sliced, Span};
@@ -170,6 +170,43 @@ fn tells_history_and_state(rt: HostRuntime) -> Result<(), Fail> {
     Ok(())
 }
 
+/// The value of an expression's text, if no job is open.
+fn evaluated(alloc: Global, kernel: &Kernel, text: &str) -> Option<Result<i32, ExpFault>> {
+    if is_settled(kernel) {
+        Some(evaluate(alloc, kernel, text))
+    } else {
+        None
+    }
+}
+
+/// The values of user expressions after a job, as `Debug` writes them, if no job is open.
+fn all_evaluated(
+    alloc: Global,
+    kernel: &Kernel,
+    outcome: &Outcome,
+    wishes: &[Wish],
+) -> Result<String, Fail> {
+    if !is_settled(kernel) {
+        return Ok(String::new(alloc));
+    }
+    let values = evaluate_all(alloc, kernel, outcome, wishes)?;
+    Ok(format!(in alloc; "{values:?}")?)
+}
+
+/// What is shown of a job, if no job is open.
+fn shown_of(
+    alloc: Global,
+    kernel: &Kernel,
+    outcome: &Outcome,
+    code: &str,
+) -> Result<Option<String>, AllocError> {
+    if is_settled(kernel) {
+        shown_text(alloc, kernel, outcome, code)
+    } else {
+        Ok(None)
+    }
+}
+
 #[test]
 fn evaluates_expressions(rt: HostRuntime) -> Result<(), Fail> {
     let alloc = rt.alloc();
@@ -185,25 +222,18 @@ fn evaluates_expressions(rt: HostRuntime) -> Result<(), Fail> {
             Err(ExpFault::Refused(Refusal::Check(CheckFault::Unknown(span)))),
         ),
     ] {
-        assert_eq!(rt; evaluate(alloc, &kernel, text), told, "{text}");
+        assert_eq!(rt; evaluated(alloc, &kernel, text), Some(told), "{text}");
     }
     let wish = Wish {
         name: String::from_str(alloc, "a")?,
         exp: String::from_str(alloc, "x * 2")?,
     };
     let wishes = vec![in alloc; wish]?;
-    let ran = evaluate_all(alloc, &kernel, &Outcome::Ran(1, 5), &wishes)?;
-    let failed = evaluate_all(
-        alloc,
-        &kernel,
-        &Outcome::Failed(Fault::IndexRange, 5),
-        &wishes,
-    )?;
-    let told = format!(in alloc; "{ran:?}{failed:?}")?;
-    assert_eq!(rt;
-        told.as_str(),
-        "[NamedValue { name: \"a\", value: Ok(10) }][]"
-    );
+    let ran = all_evaluated(alloc, &kernel, &Outcome::Ran(1, 5), &wishes)?;
+    assert_eq!(rt; ran.as_str(), "[NamedValue { name: \"a\", value: Ok(10) }]");
+    let fault = Outcome::Failed(Fault::IndexRange, 5);
+    let failed = all_evaluated(alloc, &kernel, &fault, &wishes)?;
+    assert_eq!(rt; failed.as_str(), "[]");
     for (outcome, code, want) in [
         (
             Outcome::Ran(1, 5),
@@ -218,7 +248,7 @@ fn evaluates_expressions(rt: HostRuntime) -> Result<(), Fail> {
         (Outcome::Ran(1, 5), "skip", None),
         (Outcome::Interrupted(5), "x += 5", None),
     ] {
-        let shown = shown_text(alloc, &kernel, &outcome, code)?;
+        let shown = shown_of(alloc, &kernel, &outcome, code)?;
         assert_eq!(rt; shown.as_ref().map(|text| text.as_str()), want, "{code}");
     }
     Ok(())
