@@ -254,3 +254,17 @@ stands-same role greeting state rest table new next behind after_table same_gree
     let four = subst (λ (r : Rest). Stands fed given (standing role new next r after_table)) (sym same_rest) three in
     subst (λ (o : List ℕ). Stands o (given ++ []) (standing role new next behind after_table)) (sym (append-nil fed))
     (subst (λ (es : List Event). Stands fed es (standing role new next behind after_table)) (sym (append-nil given)) four)
+
+-- a peer whose greeting is whole read a piece
+pub stands-on : (role : Role) (greeting : List ℕ) (state : State) (rest : Rest) (table : List (List ℕ × ℕ)) (stream : List ℕ) (next : State) (behind : Rest) (after_table : List (List ℕ × ℕ)) (events : List Event)
+    → length greeting ≡ 64 → ¬ (IsRefusal state)
+    → ReadsPiece role (longer rest stream) state behind next events
+    → ((q : List ℕ) → count_in after_table q ≡ counted_all q (count_in table q) events)
+    → Brings (standing role greeting state rest table) stream events (standing role greeting next behind after_table)
+stands-on role greeting state rest table stream next behind after_table events complete going reads counts fed given h =
+    by_parts (at-parts role fed given greeting state rest going h.leaves)
+  where
+    by_parts : IsGreetingBegun fed given greeting state rest ⊎ IsStreaming role fed given greeting state rest → Stands (fed ++ stream) (given ++ events) (standing role greeting next behind after_table)
+    by_parts (inl begun) = absurd (omega (arith, begun.short, ap length begun.kept, complete))
+    by_parts (inr streaming) =
+        stands-read role greeting state rest table [] stream greeting streaming.of next behind after_table events (sym (append-nil greeting)) complete streaming.welcome going reads counts fed given h

@@ -130,8 +130,11 @@ impl Peer {
         ensures stays { (fault : Fault) → self.old.state ≡ Refused fault
             → IsErrAnd result (λ told. fault_of told ≡ fault) × (self.new ≡ self.old) }
     {
-        if let Stage::Refused(fault) = self.connection.stage {
-            return Err(fault);
+        if let Stage::Refused(fault) = &self.connection.stage {
+            return Err(*fault);
+        }
+        if self.greeted == GREETING_LENGTH {
+            return self.read_on(piece);
         }
         let missing = GREETING_LENGTH - self.greeted;
         if piece.len() < missing {
@@ -150,9 +153,29 @@ impl Peer {
             Err(_) => Err(PeerFault::MEMORY),
             Ok(events) => {
                 self.greeted = GREETING_LENGTH;
-                answer(events, self.connection.stage)
+                answer(events, &self.connection.stage)
             }
         }
+    }
+
+    /// Reads the next piece of the stream behind the greeting, and answers the events that it brings.
+    ///
+    /// # Errors
+    /// Those of `feed`, for a peer that was not refused.
+    fn read_on(&mut self, piece: &[u8]) -> Result<Vec<PeerEvent>, PeerFault>
+        requires greeted { length self.old.greeting ≡ 64 }
+        requires going { ¬ (IsRefusal self.old.state) }
+        ensures role { self.new.role ≡ self.old.role }
+        ensures events { IfOk result (λ events. Brings self.old piece.now (events_of events.items) self.new) }
+        ensures quiet { IfOk result (λ events. events_of events.items ≡ [] → ¬ (IsRefusal self.new.state)) }
+        ensures fault { IfErr result (λ fault. fault_of fault ≢ want_of_memory
+            → Brings self.old piece.now [] self.new × (self.new.state ≡ Refused (fault_of fault))) }
+        ensures memory { IfErr result (λ fault. fault_of fault ≡ want_of_memory → Brings self.old [] [] self.new) }
+    {
+        let Ok(events) = self.connection.read(self.alloc, self.role, piece) else {
+            return Err(PeerFault::MEMORY);
+        };
+        answer(events, &self.connection.stage)
     }
 }
 
@@ -179,13 +202,13 @@ fn write_at(greeting: &mut [u8; 64], at: usize, octets: &[u8])
 }
 
 /// The events, or where there are none the fault for which the peer is refused.
-fn answer(events: Vec<PeerEvent>, stage: Stage) -> Result<Vec<PeerEvent>, PeerFault>
+fn answer(events: Vec<PeerEvent>, stage: &Stage) -> Result<Vec<PeerEvent>, PeerFault>
     ensures events { IfOk result (λ told. told ≡ events) }
-    ensures quiet { IfOk result (λ told. events_of told.items ≡ [] → ¬ (IsRefusal (state_at stage []))) }
-    ensures fault { IfErr result (λ fault. (events.items ≡ []) × (stage ≡ Stage.Refused fault)) }
+    ensures quiet { IfOk result (λ told. events_of told.items ≡ [] → ¬ (IsRefusal (state_at stage.now []))) }
+    ensures fault { IfErr result (λ fault. (events.items ≡ []) × (stage.now ≡ Stage.Refused fault)) }
 {
     match stage {
-        Stage::Refused(fault) if events.is_empty() => Err(fault),
+        Stage::Refused(fault) if events.is_empty() => Err(*fault),
         _ => Ok(events),
     }
 }
