@@ -104,7 +104,8 @@ fn take_command(intake: &mut Intake, frame: &Frame)
     }
 }
 
-/// Holds one more frame of a message, which is the last one unless more follow.
+/// Holds one more frame of a message, which is the last one unless more follow. Most messages are one frame: room is made for no
+/// frame behind the last.
 fn hold(alloc: Global, intake: &mut Intake, more: bool, body: Vec<u8>) -> Result<(), AllocError>
     requires { intake.old.stage ≡ Stage.Open }
     ensures stage { intake.new.stage ≡ Stage.Open }
@@ -115,10 +116,12 @@ fn hold(alloc: Global, intake: &mut Intake, more: bool, body: Vec<u8>) -> Result
     ensures last { OnOk result (more ≡ false → (messages_of intake.new ≡ messages_of intake.old ++
         (bodies intake.old.held.items ++ body.items ∷ []) ∷ []) × (intake.new.held.items ≡ [])) }
 {
-    intake.held.push(body)?;
     if more {
+        intake.held.push(body)?;
         return Ok(());
     }
+    intake.held.reserve_exact(1)?;
+    intake.held.push(body)?;
     let message = mem::replace(&mut intake.held, Vec::new(alloc));
     match intake.whole.push(message) {
         Ok(()) => Ok(()),
