@@ -94,7 +94,6 @@ impl Connection {
     ///
     /// # Errors
     /// Want of memory. Then the piece is taken back.
-    #[inline(never)]
     fn read_frames(&mut self, alloc: Global, role: Role) -> Result<Vec<PeerEvent>, AllocError>
         requires { IsConnection self.old }
         ensures read { IfOk result (λ events. ReadsPiece role self.old.decoder.rest (state_in self.old)
