@@ -6,7 +6,7 @@ ghost use Rattle.janus_meaning.specs.Store.{cleared};
 ghost use Rattle.janus_meaning.specs.Moves.{assign as assign_of, assign_at as assign_at_of};
 ghost use Rattle.janus_syntax.specs.View.{update_of};
 ghost use Rattle.janus_invert.specs.Expressions.{exp_of};
-ghost use Rattle.janus_evaluation.specs.Results.{IsDone, IsOneMore};
+ghost use Rattle.janus_evaluation.specs.Results.{IsDone, IsCounted};
 
 use crate::expression::value;
 use crate::fault::ValueFault;
@@ -27,7 +27,7 @@ pub fn assign<L: Ledger>(
     requires { assign_of name.now (update_of update) (exp_of exp.now) store.old ≢ Bad Broken }
     ensures done { IsDone (assign_of name.now (update_of update) (exp_of exp.now) store.old) store.old store.new result }
     ensures shape { cleared store.new ≡ cleared store.old }
-    ensures counted { IsOneMore writes.old writes.new }
+    ensures counted { IsCounted result writes.old writes.new }
 {
     let operand = match value(exp, store) {
         Ok(operand) => operand,
@@ -53,7 +53,7 @@ pub fn assign_element<L: Ledger>(
     requires { assign_at_of name.now (exp_of index.now) (update_of update) (exp_of exp.now) store.old ≢ Bad Broken }
     ensures done { IsDone (assign_at_of name.now (exp_of index.now) (update_of update) (exp_of exp.now) store.old) store.old store.new result }
     ensures shape { cleared store.new ≡ cleared store.old }
-    ensures counted { IsOneMore writes.old writes.new }
+    ensures counted { IsCounted result writes.old writes.new }
 {
     let index = match value(index, store) {
         Ok(index) => index,
