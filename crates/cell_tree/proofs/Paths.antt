@@ -30,17 +30,20 @@ path_enough parents (suc j) (suc k) (suc n) g a b l =
     let low = g.before (suc n) (omega arith) l in
     ap (λ (path : List ℕ). path ++ suc n ∷ []) (path_enough parents j k (parent_in parents (suc n)) g (omega arith) (omega arith) (omega arith))
 
-pub path_goes_on : PathGoesOn
-path_goes_on parents zero g above l = absurd (omega arith)
-path_goes_on parents (suc n) g above l =
+goes_on : (parents : List ℕ) (n : ℕ) → IsOrdered parents → 0 < n → n < length parents → path_of parents n ≡ path_of parents (parent_in parents n) ++ n ∷ []
+goes_on parents zero g above l = absurd (omega arith)
+goes_on parents (suc n) g above l =
     let low = g.before (suc n) above l in
     ap (λ (path : List ℕ). path ++ suc n ∷ []) (path_enough parents n (parent_in parents (suc n)) (parent_in parents (suc n)) g (omega arith) (omega arith) (omega arith))
+
+pub path_goes_on : PathGoesOn
+path_goes_on parents n g above l = (refl, goes_on parents n g above l)
 
 -- a path as one who goes up it gathers it
 pub path_further : (parents : List ℕ) (n : ℕ) (below : List ℕ) → IsOrdered parents → 0 < n → n < length parents → path_of parents (parent_in parents n) ++ n ∷ below ≡ path_of parents n ++ below
 path_further parents n below g above l =
     sym (append_assoc (path_of parents (parent_in parents n)) (n ∷ []) below)
-    ∙ ap (λ (path : List ℕ). path ++ below) (sym (path_goes_on parents n g above l))
+    ∙ ap (λ (path : List ℕ). path ++ below) (sym (goes_on parents n g above l))
 
 descends_more : (parents path : List ℕ) (n p : ℕ) → 0 < n → parent_in parents n ≡ p → Descends parents p path → Descends parents n (path ++ n ∷ [])
 descends_more parents path n p above parent d =
@@ -72,7 +75,7 @@ descends parents s zero few g l = record { some = omega arith; first = refl; nex
 descends parents zero (suc n) few g l = absurd (omega arith)
 descends parents (suc s) (suc n) few g l =
     let low = g.before (suc n) (omega arith) l in
-    subst (λ (path : List ℕ). Descends parents (suc n) path) (sym (path_goes_on parents (suc n) g (omega arith) l))
+    subst (λ (path : List ℕ). Descends parents (suc n) path) (sym (goes_on parents (suc n) g (omega arith) l))
     (descends_more parents (path_of parents (parent_in parents (suc n))) (suc n) (parent_in parents (suc n)) (omega arith) refl
     (descends parents s (parent_in parents (suc n)) (omega arith) g (omega arith)))
 
@@ -141,14 +144,14 @@ meeting_swap parents a b = last_common_swap 0 (path_of parents a) (path_of paren
 pub meeting_same : (parents : List ℕ) (a : ℕ) → IsOrdered parents → a < length parents → meeting_of parents a a ≡ a
 meeting_same parents zero g l = refl
 meeting_same parents (suc a) g l =
-    subst (λ (path : List ℕ). last_common 0 path path ≡ suc a) (sym (path_goes_on parents (suc a) g (omega arith) l))
+    subst (λ (path : List ℕ). last_common 0 path path ≡ suc a) (sym (goes_on parents (suc a) g (omega arith) l))
     (last_common_same 0 (path_of parents (parent_in parents (suc a))) (suc a))
 
 -- the larger of two nodes is not on the path to the other: they meet where its parent and the other do
 pub meeting_up : (parents : List ℕ) (a b : ℕ) → IsOrdered parents → a < length parents → b < a → meeting_of parents (parent_in parents a) b ≡ meeting_of parents a b
 meeting_up parents a b g l less =
     sym (last_common_drop 0 (path_of parents (parent_in parents a)) (path_of parents b) a (path_below parents b a b g (omega arith) less))
-    ∙ ap (λ (path : List ℕ). last_common 0 path (path_of parents b)) (sym (path_goes_on parents a g (omega arith) l))
+    ∙ ap (λ (path : List ℕ). last_common 0 path (path_of parents b)) (sym (goes_on parents a g (omega arith) l))
 
 pub meeting_up_second : (parents : List ℕ) (a b : ℕ) → IsOrdered parents → b < length parents → a < b → meeting_of parents a (parent_in parents b) ≡ meeting_of parents a b
 meeting_up_second parents a b g l less =
@@ -157,7 +160,7 @@ meeting_up_second parents a b g l less =
 ends_there : (parents : List ℕ) (n : ℕ) → IsOrdered parents → n < length parents → Contains (path_of parents n) n
 ends_there parents zero g l = (0, omega arith, refl)
 ends_there parents (suc n) g l =
-    subst (λ (path : List ℕ). Contains path (suc n)) (sym (path_goes_on parents (suc n) g (omega arith) l)) (Contains-push (path_of parents (parent_in parents (suc n))) (suc n))
+    subst (λ (path : List ℕ). Contains path (suc n)) (sym (goes_on parents (suc n) g (omega arith) l)) (Contains-push (path_of parents (parent_in parents (suc n))) (suc n))
 
 nearest_turned : (parents : List ℕ) (a b : ℕ) → IsNearest parents b a (meeting_of parents b a) → IsNearest parents a b (meeting_of parents a b)
 nearest_turned parents a b n =
@@ -166,7 +169,7 @@ nearest_turned parents a b n =
 
 on_child_path : (parents : List ℕ) (a k : ℕ) → IsOrdered parents → 0 < a → a < length parents → Contains (path_of parents (parent_in parents a)) k → Contains (path_of parents a) k
 on_child_path parents a k g above l there =
-    subst (λ (path : List ℕ). Contains path k) (sym (path_goes_on parents a g above l)) (Contains-append_left (path_of parents (parent_in parents a)) (a ∷ []) k there)
+    subst (λ (path : List ℕ). Contains path k) (sym (goes_on parents a g above l)) (Contains-append_left (path_of parents (parent_in parents a)) (a ∷ []) k there)
 
 nearest_up : (parents : List ℕ) (a b : ℕ) → IsOrdered parents → a < length parents → b < a →
     IsNearest parents (parent_in parents a) b (meeting_of parents (parent_in parents a) b) → IsNearest parents a b (meeting_of parents a b)
@@ -174,7 +177,7 @@ nearest_up parents a b g l less n =
     subst (λ (m : ℕ). IsNearest parents a b m) (meeting_up parents a b g l less) (record {
       on_first = on_child_path parents a (meeting_of parents (parent_in parents a) b) g (omega arith) l n.on_first;
       on_second = n.on_second;
-      nearest = λ k first second. elim (Contains-push_cases (path_of parents (parent_in parents a)) a k (subst (λ (path : List ℕ). Contains path k) (path_goes_on parents a g (omega arith) l) first)) [
+      nearest = λ k first second. elim (Contains-push_cases (path_of parents (parent_in parents a)) a k (subst (λ (path : List ℕ). Contains path k) (goes_on parents a g (omega arith) l) first)) [
         | inl there ↦ n.nearest k there second
         | inr last ↦ absurd (
             let small : k < suc b = below_at (suc b) (path_of parents b) k second.0 (path_below parents b (suc b) b g (omega arith) (omega arith)) second.1 second.2 in
@@ -201,5 +204,23 @@ nearest_within parents (suc s) a b few g k l = elim (cases_order a b) [
       nearest_up parents a b g k less (nearest_within parents s (parent_in parents a) b (omega arith) g (omega arith) l))
 ]
 
+is_nearest : (parents : List ℕ) (a b : ℕ) → IsOrdered parents → a < length parents → b < length parents → IsNearest parents a b (meeting_of parents a b)
+is_nearest parents a b g k l = nearest_within parents (a + b) a b (omega arith) g k l
+
+on_path_below : (parents : List ℕ) (n k : ℕ) → IsOrdered parents → n < length parents → Contains (path_of parents n) k → k < suc n
+on_path_below parents n k g l there =
+    below_at (suc n) (path_of parents n) k there.0 (path_below parents n (suc n) n g l (omega arith)) there.1 there.2
+
+one_nearest : (parents : List ℕ) (a b m n : ℕ) → IsOrdered parents → a < length parents → IsNearest parents a b m → IsNearest parents a b n → m ≡ n
+one_nearest parents a b m n g l p q =
+    let m_known = on_path_below parents a m g l p.on_first in
+    let n_known = on_path_below parents a n g l q.on_first in
+    let m_low = on_path_below parents n m g (omega arith) (q.nearest m p.on_first p.on_second) in
+    let n_low = on_path_below parents m n g (omega arith) (p.nearest n q.on_first q.on_second) in
+    omega arith
+
 pub meeting_is_nearest : MeetingIsNearest
-meeting_is_nearest parents a b g k l = nearest_within parents (a + b) a b (omega arith) g k l
+meeting_is_nearest parents a b m g k l = (
+  λ e. subst (λ (n : ℕ). IsNearest parents a b n) (sym e) (is_nearest parents a b g k l),
+  λ n. one_nearest parents a b m (meeting_of parents a b) g k n (is_nearest parents a b g k l),
+)

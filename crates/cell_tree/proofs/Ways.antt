@@ -3,7 +3,7 @@ use Rattle.std.proofs.Common.{◌≡◌, ℕ, ◌+◌, ◌-◌, ◌<◌, ◌≤�
 use Rattle.std.proofs.lemmas.Bool.{cases_eq}
 use Rattle.cell_tree.specs.Tree.{parent_in, IsOrdered}
 use Rattle.cell_tree.specs.Paths.{meeting_of, ancestor, upward, IsWay}
-use Rattle.cell_tree.specs.Laws.{UpwardAreAncestors}
+use Rattle.cell_tree.specs.Laws.{UpwardAreAncestors, WayLeadsDown}
 use Rattle.cell_tree.proofs.Paths.{parent_falls, meeting_up, meeting_up_second, meeting_same}
 
 -- ---- ancestors
@@ -142,3 +142,43 @@ nears_end parents start end from to up way g l n e =
     let few = n.few_up in
     let there : from ≡ meeting_of parents start end = sym (meeting_same parents from g (omega arith)) ∙ ap (λ (k : ℕ). meeting_of parents from k) e ∙ n.meets in
     record { up_there = sym n.from_is ∙ there; down_there = sym n.to_is ∙ sym e ∙ there; shortest = n.least }
+
+-- ---- the way down
+
+-- above the root is the root
+root_stays : (parents : List ℕ) (n i d : ℕ) → IsOrdered parents → ancestor parents n i ≡ 0 → ancestor parents n (i + d) ≡ 0
+root_stays parents n i zero g e = (let same : i + 0 ≡ i = omega arith in rw same e)
+root_stays parents n i (suc d) g e =
+    let same : i + suc d ≡ suc (i + d) = omega arith in
+    rw same (ap (λ (k : ℕ). parent_in parents k) (root_stays parents n i d g e) ∙ g.root)
+
+below_root : (parents : List ℕ) (from to up down i : ℕ) → IsOrdered parents → IsWay parents from to up down → i < down → 0 < ancestor parents to i
+below_root parents from to up down i g w l = elim (cases_eq (ancestor parents to i) 0) [
+  | inl root ↦ absurd (
+      let same : i + (down - i) ≡ down = omega arith in
+      let bottom : ancestor parents to down ≡ 0 = subst (λ (k : ℕ). ancestor parents to k ≡ 0) same (root_stays parents to i (down - i) g root) in
+      let again = w.shortest up i (w.up_there ∙ sym w.down_there ∙ bottom ∙ sym root) in
+      omega (arith, again.1))
+  | inr above ↦ omega (arith, above)
+]
+
+pub way_leads_down : WayLeadsDown
+way_leads_down parents from to up down g w =
+    let size = length-upward parents to down in
+    record {
+      none = λ e. (
+          let at : down ≡ 0 = omega arith in
+          sym w.down_there ∙ ap (λ (k : ℕ). ancestor parents to k) at);
+      first = λ some. (
+          let end : suc (length (upward parents to down) - 1) ≡ down = omega arith in
+          ap (λ (k : ℕ). parent_in parents k) (upward_are_ancestors parents to down (length (upward parents to down) - 1) (omega arith))
+          ∙ ap (λ (k : ℕ). ancestor parents to k) end
+          ∙ w.down_there);
+      next = λ i l. (
+          let above : suc i ≡ i + 1 = omega arith in
+          ap (λ (k : ℕ). parent_in parents k) (upward_are_ancestors parents to down i (omega arith))
+          ∙ ap (λ (k : ℕ). ancestor parents to k) above
+          ∙ sym (upward_are_ancestors parents to down (i + 1) (omega arith)));
+      last = λ some. upward_are_ancestors parents to down 0 (omega arith);
+      below_root = λ i l. subst (λ (k : ℕ). 0 < k) (sym (upward_are_ancestors parents to down i (omega arith))) (below_root parents from to up down i g w (omega arith));
+    }

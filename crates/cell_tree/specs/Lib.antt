@@ -1,4 +1,5 @@
 pub mod Fault
 pub mod Tree
+pub mod Kept
 pub mod Paths
 pub mod Laws

@@ -1,7 +1,7 @@
 //! Laws of paths and ways, each the contract of a function that does nothing.
-ghost use Rattle.cell_tree.specs.Laws.{PathGoesOn, PathDescends, MeetingIsNearest, UpwardAreAncestors};
+ghost use Rattle.cell_tree.specs.Laws.{PathGoesOn, PathDescends, MeetingIsNearest, WayLeadsDown, UpwardAreAncestors};
 
-/// Law: the path of a node is that of its parent, and then the node.
+/// Law: the path of the root is the root alone, and that of another node is its parent's and then the node.
 pub fn path_goes_on_law()
     ensures { PathGoesOn }
 {}
@@ -11,9 +11,14 @@ pub fn path_descends_law()
     ensures { PathDescends }
 {}
 
-/// Law: the node where two paths meet is on both, and each node on both is on the path to it.
+/// Law: the node where two paths meet is on both, each node on both is on the path to it, and there is no other such node.
 pub fn meeting_is_nearest_law()
     ensures { MeetingIsNearest }
+{}
+
+/// Law: the way down that is kept leads from the node where the paths meet to the end, and each of its nodes is a child of the one before.
+pub fn way_leads_down_law()
+    ensures { WayLeadsDown }
 {}
 
 /// Law: the nodes of a way, from its end on upward, are the ancestors of its end, one step up at each place.

@@ -29,7 +29,8 @@ pub struct Tree<C> {
 }
 
 impl<C> Model for Tree<C> {
-    ghost use Rattle.cell_tree.specs.Tree.{Tree as Nodes, tree_code, tree_of, IsKept};
+    ghost use Rattle.cell_tree.specs.Tree.{Tree as Nodes};
+    ghost use Rattle.cell_tree.specs.Kept.{tree_code, tree_of, IsKept};
 
     ghost Value = { Nodes C };
 

@@ -8,6 +8,8 @@
 #[cfg(test)]
 mod calls;
 #[cfg(test)]
+mod cell_trees;
+#[cfg(test)]
 mod checking;
 #[cfg(test)]
 mod inverting;

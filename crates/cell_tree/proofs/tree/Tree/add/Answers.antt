@@ -1,5 +1,6 @@
 use Rattle.std.proofs.Common.{◌≡◌, length, ap, arith}
-use Rattle.cell_tree.specs.Tree.{Tree, room_of, tree_of}
+use Rattle.cell_tree.specs.Tree.{Tree}
+use Rattle.cell_tree.specs.Kept.{room_of, tree_of}
 use Rattle.cell_tree.proofs.Trees.{tree_more}
 use Rattle.cell_tree.proofs.tree.Tree.add.Goals as goal
 

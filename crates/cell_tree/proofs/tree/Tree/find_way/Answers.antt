@@ -1,5 +1,6 @@
 use Rattle.std.proofs.Common.{◌≡◌, ◌≤◌, ◌∙◌, length, ap, arith}
-use Rattle.cell_tree.specs.Tree.{Tree, parents_of, room_of, tree_of}
+use Rattle.cell_tree.specs.Tree.{Tree, parents_of}
+use Rattle.cell_tree.specs.Kept.{room_of, tree_of}
 use Rattle.cell_tree.proofs.Trees.{tree_with_way}
 use Rattle.cell_tree.proofs.Ways.{length-upward}
 use Rattle.cell_tree.proofs.tree.Tree.find_way.Goals as goal

@@ -1,6 +1,7 @@
 use Rattle.std.proofs.Common.{sym, subst}
 use Rattle.std.specs.Vec.{with_item}
-use Rattle.cell_tree.specs.Tree.{Tree, room_of, tree_of, IsChild}
+use Rattle.cell_tree.specs.Tree.{Tree, IsChild}
+use Rattle.cell_tree.specs.Kept.{room_of, tree_of}
 use Rattle.cell_tree.proofs.Trees.{tree_with_favourite}
 use Rattle.cell_tree.proofs.tree.Tree.set_favourite.Goals as goal
 
