@@ -7,7 +7,7 @@ use Rattle.janus_machine.specs.Statements.{run_of}
 use Rattle.janus_machine.proofs.statement.run.Goals as goal
 
 pub returns-in-Assign-clause-done : goal.returns-in-Assign-clause-done
-returns-in-Assign-clause-done c =
+returns-in-Assign-clause-done g c =
     let s = c.args.store.now in
     let t = c.assign.new.store in
     let o = update_of c.in-Assign.update in
@@ -16,7 +16,7 @@ returns-in-Assign-clause-done c =
     subst (λ r. IsDone r s t c.done.result) is (c.done.ensures (assign c.as_str.result.now o e s) s t c.assign.ensures.done)
 
 pub returns-in-AssignElement-clause-done : goal.returns-in-AssignElement-clause-done
-returns-in-AssignElement-clause-done c =
+returns-in-AssignElement-clause-done g c =
     let s = c.args.store.now in
     let t = c.assign_element.new.store in
     let i = exp_of c.in-AssignElement.index in
