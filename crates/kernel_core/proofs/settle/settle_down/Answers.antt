@@ -12,7 +12,7 @@ abbrev there : goal.After-arrive → Tree
 there c = record { nodes = c.args.tree.now.nodes; favourites = with_item c.args.tree.now.favourites c.args.tree.now.position c.below-child.result; position = c.below-child.result; path = c.args.tree.now.path }
 
 pub returns-clause-kept : goal.returns-clause-kept
-returns-clause-kept c =
+returns-clause-kept g c =
     kept_down c.args.tree.now (there c) c.below-child.result (travel_of c.args.travel) c.args.runner.now c.arrive.result.1 c.arrive.result.0 c.requires.way c.requires.kept.legal c.requires.kept.possible c.requires.kept.counted c.requires.kept.path c.requires.kept.path_room
     c.below-child.ensures refl refl refl refl
     (ended_down (past_of c.args.tree.now) (travel_of c.args.travel) c.args.n (world_of c.args.runner.now) c.requires.way c.requires.kept.legal c.requires.kept.possible c.requires.ended)

@@ -15,12 +15,12 @@ written c =
     ∙ ap (λ (n : ℕ). entries_in c.self.inside.minutes ++ minutes.Ended (suc (ended_in (entries_in c.self.inside.minutes))) c.args.outcome c.self.inside.counter n ∷ []) c.position-node.ensures
 
 pub invariant_of-self : goal.invariant_of-self
-invariant_of-self c = record {
+invariant_of-self g c = record {
   places = c.end.ensures.kept;
   queue = subst (λ (entries : List minutes.Entry). ArePosts entries c.self.inside.queue.items) (sym (written c)) (posts_stay (entries_in c.self.inside.minutes) _ c.self.inside.queue.items c.self.invariant.queue);
 }
 
 pub returns : goal.returns
-returns c =
+returns g c =
     subst (λ (m : Machine). machine_with c.self.inside.history (map (job_at (entries_in c.end.new.self)) c.self.inside.queue.items) c.self.inside.counter (entries_in c.end.new.self) c.self.inside.closing ≡ noted m (Some c.args.outcome)) c.self.view_is
     (written_view (entries_in c.self.inside.minutes) (entries_in c.end.new.self) _ c.self.inside.history c.self.inside.queue.items c.self.inside.counter c.self.inside.closing (written c) c.self.invariant.queue)

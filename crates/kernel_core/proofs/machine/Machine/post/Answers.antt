@@ -25,7 +25,7 @@ queued c =
     ∙ ap (λ (n : ℕ). c.self.inside.queue.items ++ n ∷ []) place
 
 pub invariant_of-self-2 : goal.invariant_of-self-2
-invariant_of-self-2 c = record {
+invariant_of-self-2 g c = record {
   places = c.post.ensures.kept;
   queue =
       subst (λ (entries : List minutes.Entry). ArePosts entries c.push_back.new.self.items) (sym (written c))
@@ -34,7 +34,7 @@ invariant_of-self-2 c = record {
 }
 
 pub returns : goal.returns
-returns c = (
+returns g c = (
   c.in_default.ensures.none,
   c.post.ensures.number
       ∙ ap suc (c.make_room.ensures.kept.posted ∙ ap posted_in c.make_room.ensures.same ∙ ap (λ (m : Machine). posted_in m.minutes) c.self.view_is),
