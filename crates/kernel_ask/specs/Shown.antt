@@ -22,12 +22,14 @@ shown_text s cell = parted (map value_text (filter (λ e. in_cell e.0 cell) (lis
 
 -- this is the one cell of the text; or the text is no cell
 abbrev pub IsCellOf : List ℕ → Option code.Cell → Type 0
-IsCellOf text (Some cell) = (tree : Cell) → HasTree text tree → cell_view cell ≡ tree
+IsCellOf text (Some cell) = HasTree text (cell_view cell) × ((tree : Cell) → HasTree text tree → cell_view cell ≡ tree)
 IsCellOf text None = (tree : Cell) → HasTree text tree → ⊥
 
--- what is shown of the cell of a text
+-- what is shown of the cell of a text; nothing of a text that is no cell
 abbrev pub IsShown : Store → List ℕ → Option (List ℕ) → Type 0
-IsShown s text shown = (cell : Cell) → HasTree text cell → shown ≡ shown_text s cell
+IsShown s text shown =
+    ((cell : Cell) → HasTree text cell → shown ≡ shown_text s cell)
+    × (((cell : Cell) → HasTree text cell → ⊥) → shown ≡ None)
 
 -- it is shown only where the cell ran
 abbrev pub IsShownAfter : Outcome → Store → List ℕ → Option (List ℕ) → Type 0
