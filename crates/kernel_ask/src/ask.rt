@@ -8,6 +8,7 @@ ghost use Rattle.kernel_ask.specs.Inspection.{IsInspection};
 ghost use Rattle.kernel_ask.specs.History.{inputs, told, input_of};
 ghost use Rattle.kernel_ask.specs.Evaluation.{IsEvaluated, AreValuesAfter};
 ghost use Rattle.kernel_ask.specs.Shown.{IsShownAfter};
+ghost use Rattle.kernel_ask.specs.EndedAt.{StandsAtEnd};
 ghost use Rattle.kernel_ask.specs.State.{OfShown};
 ghost use Rattle.kernel_ask.specs.Answer.{IsContent, IsAnswer};
 
@@ -71,16 +72,18 @@ pub fn evaluate<L: Ledger>(alloc: Global, kernel: &Kernel<L>, text: &str) -> Res
     evaluation_of(alloc, world.store(), text)
 }
 
-/// The values of user expressions after a job, in their order: in the world of the position where the job is a cell that ran,
-/// else none. No job is open. The only error is want of memory for the list; where one expression finds none, this is told as its value.
+/// The values of user expressions after a job, in their order: in the world of its node where the job is a cell that ran, else
+/// none. No job is open, and the kernel stands at that node still. The only error is want of memory for the list; where one
+/// expression finds none, this is told as its value.
 pub fn evaluate_all<L: Ledger>(
     alloc: Global,
     kernel: &Kernel<L>,
     outcome: &Outcome,
     wishes: &[Wish],
 ) -> Result<Vec<NamedValue>, AllocError>
-    requires { kernel.now.machine.state.job ≡ Idle }
-    ensures { IfOk result (λ v. AreValuesAfter outcome.now (here kernel.now.machine.state.past).store wishes.now v.items) }
+    requires idle { kernel.now.machine.state.job ≡ Idle }
+    requires still { StandsAtEnd outcome.now kernel.now.machine.state.past }
+    ensures { IfOk result (λ v. AreValuesAfter outcome.now kernel.now.machine.state.past wishes.now v.items) }
 {
     match outcome {
         Outcome::Ran(_, _) => {
@@ -97,16 +100,17 @@ pub fn evaluate_all<L: Ledger>(
 }
 
 /// What is shown of a job that is over, with the text of its cell: the value texts of the declared names that the cell names, in
-/// the order of declaration and parted by LF, where the job is a cell that ran and names one; else nothing. No job is open. The only
-/// error is want of memory.
+/// the order of declaration and parted by LF, with their values in the world of its node, where the job is a cell that ran and names
+/// one; else nothing. No job is open, and the kernel stands at that node still. The only error is want of memory.
 pub fn shown<L: Ledger>(
     alloc: Global,
     kernel: &Kernel<L>,
     outcome: &Outcome,
     code: &str,
 ) -> Result<Option<String>, AllocError>
-    requires { kernel.now.machine.state.job ≡ Idle }
-    ensures { IfOk result (λ text. IsShownAfter outcome.now (here kernel.now.machine.state.past).store code.now (option_map string_bytes text)) }
+    requires idle { kernel.now.machine.state.job ≡ Idle }
+    requires still { StandsAtEnd outcome.now kernel.now.machine.state.past }
+    ensures { IfOk result (λ text. IsShownAfter outcome.now kernel.now.machine.state.past code.now (option_map string_bytes text)) }
 {
     match *outcome {
         Outcome::Ran(_, _) => {
