@@ -6,11 +6,15 @@
 #![tactic(auto)]
 
 #[cfg(test)]
+mod asking;
+#[cfg(test)]
 mod calls;
 #[cfg(test)]
 mod checking;
 #[cfg(test)]
 mod inverting;
+#[cfg(test)]
+mod questions;
 #[cfg(test)]
 mod reading;
 #[cfg(test)]
