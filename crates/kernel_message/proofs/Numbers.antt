@@ -3,20 +3,18 @@ use Rattle.std.proofs.Common.{◌≡◌, ℕ, suc, ◌+◌, List, [], ◌∷◌,
 use Rattle.std.specs.Option.{option_to_list}
 use Rattle.std.proofs.lemmas.List.Elements.{All-nil, All-cons}
 use Rattle.kernel_message.specs.Said.{Said}
-use Rattle.kernel_message.specs.Draft.{said_of}
 use Rattle.kernel_message.specs.Message.{Asker, broadcast_message, reply_message}
 use Rattle.kernel_message.specs.Sent.{numbered}
 use Rattle.kernel_message.specs.Laws.{headers_from, NumberedInOrder, NextCountsMessages, AnswerTheirRequest}
-use Rattle.kernel_message.specs.declared.draft.Draft.{Draft}
 use Rattle.kernel_message.specs.declared.stamp.Stamp.{Stamp}
 
 -- one more message bears the next number
-pub numbered_more : (parent : List ℕ) (stamp : Stamp) (n k : ℕ) (drafts : List Draft) (x : Draft) → k ≡ n + length drafts
-    → numbered parent stamp n (map said_of (drafts ++ x ∷ [])) ≡ numbered parent stamp n (map said_of drafts) ++ broadcast_message parent stamp k (said_of x) ∷ []
-numbered_more parent stamp n k [] x e = let same : n ≡ k = omega arith in ap (λ m. broadcast_message parent stamp m (said_of x) ∷ []) same
+pub numbered_more : (parent : List ℕ) (stamp : Stamp) (n k : ℕ) (said : List Said) (x : Said) → k ≡ n + length said
+    → numbered parent stamp n (said ++ x ∷ []) ≡ numbered parent stamp n said ++ broadcast_message parent stamp k x ∷ []
+numbered_more parent stamp n k [] x e = let same : n ≡ k = omega arith in ap (λ m. broadcast_message parent stamp m x ∷ []) same
 numbered_more parent stamp n k (y ∷ ys) x e =
     let later : k ≡ (n + 1) + length ys = omega arith in
-    ap (λ ms. broadcast_message parent stamp n (said_of y) ∷ ms) (numbered_more parent stamp (n + 1) k ys x later)
+    ap (λ ms. broadcast_message parent stamp n y ∷ ms) (numbered_more parent stamp (n + 1) k ys x later)
 
 -- broadcasts have headers in order
 headers_numbered : (parent : List ℕ) (stamp : Stamp) (n : ℕ) (said : List Said) → map (λ m. m.header) (numbered parent stamp n said) ≡ headers_from stamp n said
