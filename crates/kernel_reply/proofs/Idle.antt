@@ -45,7 +45,7 @@ ends_idle asker stamp reply said =
     }
 
 module _ (asker : Asker) (stamp : Stamp) where
-  Ends : Says → Type 0
+  abbrev Ends : Says → Type 0
   Ends says = EndsIdle asker stamp says
 
   only_ends : (reply : Said) → Ends (only reply)

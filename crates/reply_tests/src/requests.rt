@@ -62,6 +62,7 @@ pub(crate) fn lines_of(alloc: Global, message: &Message) -> Result<String, Fail>
 }
 
 /// What is handed in to be told.
+#[derive(Drop)]
 pub(crate) enum Told {
     /// What came of the job.
     Ended(Done),
