@@ -1,0 +1,4 @@
+pub mod Fault
+pub mod Tree
+pub mod Paths
+pub mod Laws

@@ -1,0 +1,94 @@
+-- A tree as contracts see it. Its root is the node 0, and holds nothing; the nodes after it are numbered in the order in which they came.
+use Rattle.std.specs.Prelude.{◌≡◌, ℕ, ◌+◌, ◌-◌, ◌<◌, ◌≤◌, List, [], ◌∷◌, ◌++◌, length, map, min, slice_index, refl, vec_len, vec_capacity}
+use Rattle.std.specs.Coded.{Coded, code_by, coded×, coded_ℕ, coded_list}
+use Rattle.std.specs.Global.{Vec}
+use Rattle.cell_tree.specs.declared.node.Node.{Node}
+
+pub record Tree (C : Type 0) : Type 0 where
+  -- the nodes without the root: the node n is at the place n - 1
+  pub nodes : List (Node C)
+  -- for each node, the root included, its favourite child, or 0
+  pub favourites : List ℕ
+  -- the way down that was found last: its last node first
+  pub way : List ℕ
+  -- for so many more nodes the memory was taken
+  pub room : ℕ
+
+-- at most so many nodes stand beside the root
+abbrev pub node_limit : ℕ
+node_limit = 65536
+
+-- in a list of parents, that of a node
+abbrev pub parent_in : List ℕ → ℕ → ℕ
+parent_in parents n = slice_index parents n
+
+-- parents stand before their children; the root is its own
+pub record IsOrdered (parents : List ℕ) : Type 0 where
+  pub root : parent_in parents 0 ≡ 0
+  pub before : (n : ℕ) → 0 < n → n < length parents → parent_in parents n < n
+
+module _ {C : Type 0} where
+  -- the parents of all nodes, the root included
+  abbrev pub parents_of : List (Node C) → List ℕ
+  parents_of nodes = 0 ∷ map (λ node. node.parent) nodes
+
+  -- what the nodes beside the root hold
+  abbrev pub contents_of : Tree C → List C
+  contents_of t = map (λ node. node.content) t.nodes
+
+  -- this is the number of a node
+  abbrev pub IsNode : Tree C → ℕ → Type 0
+  IsNode t n = n ≤ length t.nodes
+
+  -- the favourite child of a node, or 0
+  abbrev pub favourite_of : Tree C → ℕ → ℕ
+  favourite_of t n = slice_index t.favourites n
+
+  -- the one node is a child of the other
+  pub record IsChild (t : Tree C) (n child : ℕ) : Type 0 where
+    pub below_root : 0 < child
+    pub known : IsNode t child
+    pub parent : parent_in (parents_of t.nodes) child ≡ n
+
+  -- what holds of each tree
+  pub record IsTree (t : Tree C) : Type 0 where
+    pub ordered : IsOrdered (parents_of t.nodes)
+    pub few : length t.nodes ≤ node_limit
+    pub favourites : length t.favourites ≡ length t.nodes + 1
+    pub children : (n : ℕ) → IsNode t n → 0 < favourite_of t n → IsChild t n (favourite_of t n)
+    pub way : length t.way ≤ length t.nodes
+
+  -- ---- how trees change
+
+  -- the root alone
+  abbrev pub root_alone : ℕ → Tree C
+  root_alone room = record { nodes = []; favourites = 0 ∷ []; way = []; room = room }
+
+  -- with one node more, which has no favourite, in room that was made
+  abbrev pub grown : Tree C → Node C → Tree C
+  grown t node = record { nodes = t.nodes ++ node ∷ []; favourites = t.favourites ++ 0 ∷ []; way = t.way; room = t.room - 1 }
+
+  -- ---- how a tree is kept
+
+  -- the room that is left: up to the limit, in the nodes, in the favourites, and for a way through all nodes
+  abbrev pub room_of : Vec (Node C) → Vec ℕ → Vec ℕ → ℕ
+  room_of nodes favourites way =
+      min (node_limit - vec_len nodes) (min (vec_capacity nodes - vec_len nodes) (min (vec_capacity favourites - vec_len favourites) (vec_capacity way - vec_len nodes)))
+
+  abbrev pub tree_of : Vec (Node C) → Vec ℕ → Vec ℕ → Tree C
+  tree_of nodes favourites way =
+      record { nodes = nodes.items; favourites = favourites.items; way = way.items; room = room_of nodes favourites way }
+
+  -- there is memory for a way through all nodes
+  pub record IsKept (nodes : Vec (Node C)) (favourites way : Vec ℕ) : Type 0 where
+    pub tree : IsTree (tree_of nodes favourites way)
+    pub longest : vec_len nodes ≤ vec_capacity way
+
+-- a node is stored as the pair of its fields, a tree as those of its own
+abbrev pub node_code : {C : Type 0} → Coded C → Coded (Node C)
+node_code {C} code = code_by (ℕ × C) (coded× coded_ℕ code) (λ n. (n.parent, n.content)) (λ p. record { parent = p.0; content = p.1 }) (λ _. refl)
+
+abbrev pub tree_code : {C : Type 0} → Coded C → Coded (Tree C)
+tree_code {C} code =
+    code_by (List (Node C) × (List ℕ × (List ℕ × ℕ))) (coded× (coded_list (node_code code)) (coded× (coded_list coded_ℕ) (coded× (coded_list coded_ℕ) coded_ℕ)))
+    (λ t. (t.nodes, (t.favourites, (t.way, t.room)))) (λ p. record { nodes = p.0; favourites = p.1.0; way = p.1.1.0; room = p.1.1.1 }) (λ _. refl)

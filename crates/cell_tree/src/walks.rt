@@ -1,0 +1,89 @@
+//! Ways along a list of nodes: from a node up to the root, and from one node to another.
+ghost use Rattle.std.specs.Prelude.{◌≡◌, ◌<◌, ◌≤◌, IfOk, IfErr, length, vec_capacity};
+ghost use Rattle.cell_tree.specs.Tree.{parent_in, parents_of, IsOrdered};
+ghost use Rattle.cell_tree.specs.Paths.{path_of, meeting_of, upward, IsWay};
+
+use crate::fault::TreeFault;
+use crate::node::Node;
+use crate::way::Way;
+use std::alloc::Global;
+
+/// The number of the node above, and 0 for the root.
+pub fn parent_of<C>(nodes: &[Node<C>], node: usize) -> usize
+    requires ordered { IsOrdered (parents_of nodes.now) }
+    requires known { node ≤ length nodes.now }
+    ensures parent { result ≡ parent_in (parents_of nodes.now) node }
+    ensures before { 0 < node → result < node }
+{
+    if node == 0 {
+        return 0;
+    }
+    nodes[node - 1].parent
+}
+
+/// The nodes from the root to a node.
+pub fn path_to<C>(alloc: Global, nodes: &[Node<C>], node: usize) -> Result<Vec<usize>, TreeFault>
+    requires ordered { IsOrdered (parents_of nodes.now) }
+    requires known { node ≤ length nodes.now }
+    ensures ok { IfOk result (λ path. path.items ≡ path_of (parents_of nodes.now) node) }
+    ensures err { IfErr result (λ fault. fault ≡ TreeFault.Memory) }
+{
+    let mut path = Vec::new(alloc);
+    let mut at = node;
+    while at != 0 {
+        path.push(at)?;
+        at = parent_of(nodes, at);
+    }
+    path.push(0)?;
+    path.reverse();
+    Ok(path)
+}
+
+/// The last node on the paths to both.
+pub fn meeting<C>(nodes: &[Node<C>], first: usize, second: usize) -> usize
+    requires ordered { IsOrdered (parents_of nodes.now) }
+    requires first { first ≤ length nodes.now }
+    requires second { second ≤ length nodes.now }
+    ensures { result ≡ meeting_of (parents_of nodes.now) first second }
+{
+    let mut a = first;
+    let mut b = second;
+    while a != b {
+        if a > b {
+            a = parent_of(nodes, a);
+        } else {
+            b = parent_of(nodes, b);
+        }
+    }
+    a
+}
+
+/// How far up and then down one node lies from another. The nodes that the way goes down to are written to `way`, the last one first.
+pub fn find_way<C>(nodes: &[Node<C>], way: &mut Vec<usize>, from: usize, to: usize) -> Way
+    requires ordered { IsOrdered (parents_of nodes.now) }
+    requires from { from ≤ length nodes.now }
+    requires to { to ≤ length nodes.now }
+    requires room { length nodes.now ≤ vec_capacity way.old }
+    ensures way { IsWay (parents_of nodes.now) from to result.up result.down }
+    ensures kept { way.new.items ≡ upward (parents_of nodes.now) to result.down }
+    ensures few { (result.up ≤ from) × (result.down ≤ to) }
+    ensures room { vec_capacity way.new ≡ vec_capacity way.old }
+{
+    way.clear();
+    let mut up = 0;
+    let mut a = from;
+    let mut b = to;
+    while a != b {
+        if a > b {
+            a = parent_of(nodes, a);
+            up += 1;
+        } else {
+            way.push_reserved(b);
+            b = parent_of(nodes, b);
+        }
+    }
+    Way {
+        up,
+        down: way.len(),
+    }
+}

@@ -1,0 +1,10 @@
+//! The way from one node to another.
+
+/// How many steps the way from one node to another goes up, and how many it then goes down.
+#[derive(Clone, Copy, Debug, PartialEq, Eq)]
+pub struct Way {
+    /// The steps up, to the node where the paths to both meet.
+    pub up: usize,
+    /// The steps down from there.
+    pub down: usize,
+}
