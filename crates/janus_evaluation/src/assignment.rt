@@ -6,20 +6,28 @@ ghost use Rattle.janus_meaning.specs.Store.{cleared};
 ghost use Rattle.janus_meaning.specs.Moves.{assign as assign_of, assign_at as assign_at_of};
 ghost use Rattle.janus_syntax.specs.View.{update_of};
 ghost use Rattle.janus_invert.specs.Expressions.{exp_of};
-ghost use Rattle.janus_evaluation.specs.Results.{IsDone};
+ghost use Rattle.janus_evaluation.specs.Results.{IsDone, IsCounted};
 
 use crate::expression::value;
 use crate::fault::ValueFault;
 use crate::operator::changed;
 use janus_invert::code::Exp;
-use janus_store::Store;
+use janus_store::{Store, Writes};
 use janus_syntax::tree::Update;
+use std::sync::ledger::Ledger;
 
 /// An assignment to a variable, whose right side does not name it. A fault leaves the store.
-pub fn assign(name: &str, update: Update, exp: &Exp, store: &mut Store) -> Result<(), ValueFault>
+pub fn assign<L: Ledger>(
+    name: &str,
+    update: Update,
+    exp: &Exp,
+    store: &mut Store<L>,
+    writes: &mut Writes<L>,
+) -> Result<(), ValueFault>
     requires { assign_of name.now (update_of update) (exp_of exp.now) store.old ≢ Bad Broken }
     ensures done { IsDone (assign_of name.now (update_of update) (exp_of exp.now) store.old) store.old store.new result }
     ensures shape { cleared store.new ≡ cleared store.old }
+    ensures counted { IsCounted result writes.old writes.new }
 {
     let operand = match value(exp, store) {
         Ok(operand) => operand,
@@ -28,22 +36,24 @@ pub fn assign(name: &str, update: Update, exp: &Exp, store: &mut Store) -> Resul
     let Some(old) = store.get(name) else {
         unreachable!()
     };
-    store.set(name, changed(update, old, operand));
+    store.set(name, changed(update, old, operand), writes);
     Ok(())
 }
 
 /// An assignment to an element of an array, which neither index nor right side names. Index and range come before the right
 /// side. A fault leaves the store.
-pub fn assign_element(
+pub fn assign_element<L: Ledger>(
     name: &str,
     index: &Exp,
     update: Update,
     exp: &Exp,
-    store: &mut Store,
+    store: &mut Store<L>,
+    writes: &mut Writes<L>,
 ) -> Result<(), ValueFault>
     requires { assign_at_of name.now (exp_of index.now) (update_of update) (exp_of exp.now) store.old ≢ Bad Broken }
     ensures done { IsDone (assign_at_of name.now (exp_of index.now) (update_of update) (exp_of exp.now) store.old) store.old store.new result }
     ensures shape { cleared store.new ≡ cleared store.old }
+    ensures counted { IsCounted result writes.old writes.new }
 {
     let index = match value(index, store) {
         Ok(index) => index,
@@ -56,6 +66,6 @@ pub fn assign_element(
         Ok(operand) => operand,
         Err(fault) => return Err(fault),
     };
-    store.set_element(name, index, changed(update, old, operand));
+    store.set_element(name, index, changed(update, old, operand), writes);
     Ok(())
 }

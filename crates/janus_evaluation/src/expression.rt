@@ -13,9 +13,10 @@ use crate::fault::ValueFault;
 use crate::operator::{bit_of, holds, negative, operate};
 use janus_invert::code::Exp;
 use janus_store::Store;
+use std::sync::ledger::Ledger;
 
 /// Whether an expression is not 0, or its first fault. Its names are declared, each as what its use wants.
-pub fn test(exp: &Exp, store: &Store) -> Result<bool, ValueFault>
+pub fn test<L: Ledger>(exp: &Exp, store: &Store<L>) -> Result<bool, ValueFault>
     requires { test_of (exp_of exp.now) store.now ≢ Bad Broken }
     ensures { truth_of result ≡ test_of (exp_of exp.now) store.now }
 {
@@ -26,7 +27,7 @@ pub fn test(exp: &Exp, store: &Store) -> Result<bool, ValueFault>
 }
 
 /// The number of an expression, or the first fault from left to right. Its names are declared, each as what its use wants.
-pub fn value(exp: &Exp, store: &Store) -> Result<i32, ValueFault>
+pub fn value<L: Ledger>(exp: &Exp, store: &Store<L>) -> Result<i32, ValueFault>
     requires { value_of (exp_of exp.now) store.now ≢ Bad Broken }
     ensures { result_of result ≡ value_of (exp_of exp.now) store.now }
 {
@@ -75,7 +76,7 @@ pub fn value(exp: &Exp, store: &Store) -> Result<i32, ValueFault>
 }
 
 /// The element of an array at an index; a fault for an index out of its range.
-fn element(name: &str, index: i32, store: &Store) -> Result<i32, ValueFault>
+fn element<L: Ledger>(name: &str, index: i32, store: &Store<L>) -> Result<i32, ValueFault>
     requires { IsArray (look name.now store.now) }
     ensures { (l : List ℤ) → look name.now store.now ≡ Fine (Arr l) → result_of result ≡ element_of l index }
 {

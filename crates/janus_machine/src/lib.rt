@@ -19,4 +19,4 @@ pub use crate::book::Book;
 pub use crate::cursor::{Cursor, STEP_LIMIT};
 pub use crate::fault::Fault;
 pub use crate::machine::{End, Sliced, Stepped, slice, step};
-pub use janus_store::Store;
+pub use janus_store::{Store, Writes};

@@ -1,28 +1,43 @@
 //! What a statement does to the store.
 
-ghost use Rattle.std.specs.Prelude.{◌≡◌, ◌≢◌};
+ghost use Rattle.std.specs.Prelude.{◌≡◌, ◌≢◌, ℕ};
 ghost use Rattle.janus_meaning.specs.Fault.{Res, Bad, Broken};
 ghost use Rattle.janus_meaning.specs.Store.{Store as Values, cleared};
-ghost use Rattle.janus_evaluation.specs.Results.{IsDone as IsAssigned};
+ghost use Rattle.janus_evaluation.specs.Results.{IsDone as IsAssigned, IsCounted};
 ghost use Rattle.janus_machine.specs.Faults.{IsDone};
 ghost use Rattle.janus_machine.specs.Statements.{run_of};
 
 use crate::fault::{Fault, told};
 use janus_evaluation::{ValueFault, assign, assign_element};
 use janus_invert::Statement;
-use janus_store::Store;
+use janus_store::{Store, Writes};
+use std::sync::ledger::Ledger;
 
 /// Runs a statement without blocks, or leaves the store at a fault.
-pub(crate) fn run(statement: &Statement, store: &mut Store) -> Result<(), Fault>
+pub(crate) fn run<L: Ledger>(
+    statement: &Statement,
+    store: &mut Store<L>,
+    writes: &mut Writes<L>,
+) -> Result<(), Fault>
     requires { run_of statement.now store.old ≢ Bad Broken }
     ensures done { IsDone (run_of statement.now store.old) store.old store.new result }
     ensures shape { cleared store.new ≡ cleared store.old }
+    ensures counted { IsCounted result writes.old writes.new }
 {
     match statement {
         Statement::Skip => Ok(()),
-        Statement::Assign(name, update, exp) => done(assign(name.as_str(), *update, exp, store)),
+        Statement::Assign(name, update, exp) => {
+            done(assign(name.as_str(), *update, exp, store, writes))
+        }
         Statement::AssignElement(name, index, update, exp) => {
-            done(assign_element(name.as_str(), index, *update, exp, store))
+            done(assign_element(
+                name.as_str(),
+                index,
+                *update,
+                exp,
+                store,
+                writes,
+            ))
         }
         _ => unreachable!(),
     }
@@ -30,7 +45,8 @@ pub(crate) fn run(statement: &Statement, store: &mut Store) -> Result<(), Fault>
 
 /// What an assignment came to, with its fault as the machine tells it.
 fn done(assigned: Result<(), ValueFault>) -> Result<(), Fault>
-    ensures { (r : Res Values) (s t : Values) → IsAssigned r s t assigned → IsDone r s t result }
+    ensures counted { (old new : ℕ) → IsCounted assigned old new → IsCounted result old new }
+    ensures done { (r : Res Values) (s t : Values) → IsAssigned r s t assigned → IsDone r s t result }
 {
     match assigned {
         Ok(()) => Ok(()),

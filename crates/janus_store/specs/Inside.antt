@@ -12,7 +12,7 @@ abbrev pub declared_over : spec.Store → List Variable → spec.Store
 declared_over s [] = s
 declared_over s (v ∷ vs) = declared_over (spec.Slot (string_bytes v.name) (val_of v.value) s) vs
 
-abbrev pub store_of : Inside → spec.Store
+abbrev pub store_of : {L : Type 0} → Inside L → spec.Store
 store_of a = declared_over spec.Bare a.variables.items
 
 -- Each variable's name has its place, and each place of a name is that of a variable with that name.
@@ -20,5 +20,5 @@ pub record AreIndexed (vs : List Variable) (place : Name → Option ℕ) : Type 
   pub found : (i : ℕ) (v : Variable) → slice_get vs i ≡ Some v → place (string_bytes v.name) ≡ Some i
   pub stored : (x : Name) (i : ℕ) → place x ≡ Some i → (v : Variable) × (slice_get vs i ≡ Some v) × (string_bytes v.name ≡ x)
 
-abbrev pub IsIndexed : Inside → Type 0
+abbrev pub IsIndexed : {L : Type 0} → Inside L → Type 0
 IsIndexed a = AreIndexed a.variables.items (get_by_text a.places)

@@ -7,6 +7,8 @@
 
 mod store;
 mod value;
+mod writes;
 
 pub use crate::store::Store;
 pub use crate::value::View;
+pub use crate::writes::Writes;

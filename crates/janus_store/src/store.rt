@@ -1,6 +1,6 @@
 //! The declared names with their values: an ordered map by name, and the order of declaration.
 
-ghost use Rattle.std.specs.Prelude.{◌≡◌, ℤ, List, pos, ◌<◌, IsTrue, ◌↔◌, OnOk, OnErr, slice_get, Some, Bool, false, true};
+ghost use Rattle.std.specs.Prelude.{◌≡◌, ℤ, ◌+◌, List, pos, ◌<◌, IsTrue, ◌↔◌, OnOk, OnErr, slice_get, Some, Bool, false, true};
 ghost use Rattle.std.specs.Bool.{OnFalse};
 ghost use Rattle.janus_meaning.specs.Fault.{Fine, Bad, Broken, IndexRange, and_then};
 ghost use Rattle.janus_meaning.specs.Store.{Bare, Slot, Num, Arr, look, number, element, set_element, zeros, cleared};
@@ -9,9 +9,11 @@ ghost use Rattle.janus_store.specs.Values.{val_of, shown, found, read_or};
 ghost use Rattle.janus_store.specs.Stores.{IsFirstOnTop, IsNumber, IsArray, HasElementAt, rest_of, is_fine, write};
 
 use crate::value::{Value, View};
+use crate::writes::Writes;
 use std::alloc::{AllocError, Global};
 use std::collections::BTreeMap;
-use std::marker::Model;
+use std::marker::{Model, PhantomData};
+use std::sync::ledger::Ledger;
 
 /// A declared name with its value.
 #[derive(Drop)]
@@ -31,16 +33,17 @@ impl Variable {
     }
 }
 
-/// The declared names with their values.
+/// The declared names with their values. Each write is counted in the store's own ledger.
 #[derive(Drop)]
-pub struct Store {
+pub struct Store<L: Ledger> {
     /// In the order of declaration.
     variables: Vec<Variable>,
     /// Where each name stands among the variables.
     places: BTreeMap<String, usize>,
+    ledger: PhantomData<L>,
 }
 
-impl Model for Store {
+impl<L: Ledger> Model for Store<L> {
     ghost use Rattle.janus_meaning.specs.Store.{Store};
     ghost use Rattle.janus_meaning.specs.Codes.{store_code};
 
@@ -55,14 +58,15 @@ impl Model for Store {
     ghost invariant = { IsIndexed };
 }
 
-impl Store {
+impl<L: Ledger> Store<L> {
     /// No names. It takes no memory.
-    pub fn new(alloc: Global) -> Store
+    pub fn new(alloc: Global) -> Store<L>
         ensures { result ≡ Bare }
     {
         Store {
             variables: Vec::new(alloc),
             places: BTreeMap::new(alloc),
+            ledger: PhantomData,
         }
     }
 
@@ -175,11 +179,13 @@ impl Store {
     }
 
     /// Another number in place of that of a name.
-    pub fn set(&mut self, name: &str, number: i32)
+    pub fn set(&mut self, name: &str, number: i32, writes: &mut Writes<L>)
         requires { IsNumber (look name.now self.old) }
         ensures written { write name.now (Num number) self.old ≡ Fine self.new }
         ensures shape { cleared self.new ≡ cleared self.old }
+        ensures counted { writes.new ≡ writes.old + 1 }
     {
+        writes.add();
         match self.places.get(name) {
             Some(place) => self.variables[*place].value.set_number(number),
             None => unreachable!(),
@@ -187,11 +193,13 @@ impl Store {
     }
 
     /// Another number in place of an element of an array, at an index within its range.
-    pub fn set_element(&mut self, name: &str, index: i32, number: i32)
+    pub fn set_element(&mut self, name: &str, index: i32, number: i32, writes: &mut Writes<L>)
         requires { HasElementAt (look name.now self.old) index }
         ensures written { (l : List ℤ) → look name.now self.old ≡ Fine (Arr l) → write name.now (Arr (set_element l index number)) self.old ≡ Fine self.new }
         ensures shape { cleared self.new ≡ cleared self.old }
+        ensures counted { writes.new ≡ writes.old + 1 }
     {
+        writes.add();
         match self.places.get(name) {
             Some(place) => self.variables[*place].value.set_element(index, number),
             None => unreachable!(),

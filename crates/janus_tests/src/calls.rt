@@ -1,12 +1,17 @@
 //! Schedules as texts: a call a line, and behind a colon what `Debug` writes of its answer.
+ghost use Rattle.std.specs.Prelude.{◌≡◌, ◌<◌};
+
+use crate::questions::question;
 use janus_store::View;
 use kernel_core::{Job, Kernel};
 use std::alloc::{AllocError, Global};
+use std::marker::Brand;
 use std::process::Abort;
+use std::sync::ledger::{Blank, Ledger};
 use std::test::Fail;
 
 /// The shown world: the position, and each name with its value.
-fn world_text(alloc: Global, kernel: &Kernel) -> Result<String, AllocError> {
+fn world_text<L: Ledger>(alloc: Global, kernel: &Kernel<L>) -> Result<String, AllocError> {
     let position = kernel.position();
     let mut text = format!(in alloc; "{position}")?;
     let world = kernel.world();
@@ -21,7 +26,7 @@ fn world_text(alloc: Global, kernel: &Kernel) -> Result<String, AllocError> {
 }
 
 /// The counter, the phase, and the entries of the minutes.
-fn minutes_text(alloc: Global, kernel: &Kernel) -> Result<String, AllocError> {
+fn minutes_text<L: Ledger>(alloc: Global, kernel: &Kernel<L>) -> Result<String, AllocError> {
     let (counter, phase) = (kernel.counter(), kernel.phase());
     let mut text = format!(in alloc; "{counter} {phase:?}")?;
     for entry in kernel.minutes() {
@@ -46,7 +51,7 @@ fn job_of(alloc: Global, word: &str, rest: &str) -> Result<Job, Fail> {
 }
 
 /// Makes the call of a line, and gives its answer.
-fn call(alloc: Global, kernel: &mut Kernel, line: &str) -> Result<String, Fail> {
+fn call<L: Ledger>(alloc: Global, kernel: &mut Kernel<L>, line: &str) -> Result<String, Fail> {
     let (word, rest) = line.split_once(' ').unwrap_or((line, ""));
     match word {
         "begin" => {
@@ -64,16 +69,21 @@ fn call(alloc: Global, kernel: &mut Kernel, line: &str) -> Result<String, Fail> 
         }
         "world" => Ok(world_text(alloc, kernel)?),
         "minutes" => Ok(minutes_text(alloc, kernel)?),
-        _ => {
+        "cell" | "silent" | "unstored" | "undo" | "redo" | "goto" => {
             let posted = kernel.post(7, job_of(alloc, word, rest)?);
             Ok(format!(in alloc; "{posted:?}")?)
         }
+        _ => question(alloc, kernel, word, rest),
     }
 }
 
-/// Makes the calls of a schedule on a new kernel, and gives each with its answer.
-fn told(alloc: Global, schedule: &str) -> Result<String, Fail> {
-    let mut kernel = Kernel::new(alloc)?;
+/// Makes the calls of a schedule on a new kernel over this ledger, and gives each with its answer.
+fn told_in<L: Ledger>(alloc: Global, blank: Blank, schedule: String) -> Result<String, Fail>
+    requires name { blank.name ≡ L.name }
+    requires parts { blank.parts ≡ L.parts }
+    requires some { 0 < L.parts }
+{
+    let mut kernel = Kernel::<L>::new(alloc, blank)?;
     let mut text = String::new(alloc);
     for (i, line) in schedule.split('\n').enumerate() {
         let (made, _) = line.split_once(": ").unwrap_or((line, ""));
@@ -82,6 +92,12 @@ fn told(alloc: Global, schedule: &str) -> Result<String, Fail> {
         text.push_str(&format!(in alloc; "{made}: {answer}")?)?;
     }
     Ok(text)
+}
+
+/// Makes the calls of a schedule on a new kernel, and gives each with its answer.
+fn told(alloc: Global, schedule: &str) -> Result<String, Fail> {
+    let schedule = String::from_str(alloc, schedule)?;
+    told_in::<Brand>(alloc, Blank::new(1), schedule)
 }
 
 /// Makes the calls of a schedule on a new kernel, and compares their answers with those that stand behind them.

@@ -6,6 +6,8 @@
 #![tactic(auto)]
 
 #[cfg(test)]
+mod asking;
+#[cfg(test)]
 mod calls;
 #[cfg(test)]
 mod cell_trees;
@@ -13,6 +15,8 @@ mod cell_trees;
 mod checking;
 #[cfg(test)]
 mod inverting;
+#[cfg(test)]
+mod questions;
 #[cfg(test)]
 mod reading;
 #[cfg(test)]

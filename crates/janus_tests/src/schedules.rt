@@ -1,7 +1,13 @@
 //! Schedules: undo, redo and goto, interrupts, refusals, the counter, the minutes and a shutdown. Their answers were worked out by
 //! hand.
+ghost use Rattle.std.specs.Prelude.{◌≡◌, ◌<◌};
+
 use crate::calls::plays;
 use kernel_core::{Begun, Event, Job, Kernel, Outcome, Refusal, Sliced, Told, run_events};
+use std::alloc::Global;
+use std::marker::Brand;
+use std::process::Abort;
+use std::sync::ledger::{Blank, Ledger};
 use std::test::Fail;
 
 /// Each slice of an undo shows the world after as many steps of the inverted code.
@@ -211,11 +217,14 @@ fn the_phase_tells_the_next_call(rt: HostRuntime) -> Result<(), Fail> {
 }
 
 /// A whole schedule, with its answers.
-#[test]
-fn runs_a_schedule(rt: HostRuntime) -> Result<(), Fail> {
-    let mut kernel = Kernel::new(rt.alloc())?;
-    let mut events = Vec::new(rt.alloc());
-    let code = String::from_str(rt.alloc(), "int x x += 5")?;
+fn schedule_in<L: Ledger, R: Abort>(rt: &R, alloc: Global, blank: Blank) -> Result<(), Fail>
+    requires name { blank.name ≡ L.name }
+    requires parts { blank.parts ≡ L.parts }
+    requires some { 0 < L.parts }
+{
+    let mut kernel = Kernel::<L>::new(alloc, blank)?;
+    let mut events = Vec::new(alloc);
+    let code = String::from_str(alloc, "int x x += 5")?;
     let job = Job::Cell {
         code,
         silent: false,
@@ -226,7 +235,7 @@ fn runs_a_schedule(rt: HostRuntime) -> Result<(), Fail> {
     events.push(Event::Slice(9, false))?;
     events.push(Event::Post(2, Job::Redo(1)))?;
     events.push(Event::Begin)?;
-    let told = run_events(rt.alloc(), &mut kernel, &events)?;
+    let told = run_events(alloc, &mut kernel, &events)?;
     let want = [
         Told::Post(Ok(1)),
         Told::Begin(Begun::Going),
@@ -238,13 +247,21 @@ fn runs_a_schedule(rt: HostRuntime) -> Result<(), Fail> {
     Ok(())
 }
 
-/// A history of 65,536 nodes takes no further cell, whatever its text, and goes back as before.
 #[test]
-fn a_full_history_takes_no_cell(rt: HostRuntime) -> Result<(), Fail> {
-    let mut kernel = Kernel::new(rt.alloc())?;
+fn runs_a_schedule(rt: HostRuntime) -> Result<(), Fail> {
+    schedule_in::<Brand, _>(&rt, rt.alloc(), Blank::new(1))
+}
+
+/// A history of 65,536 nodes takes no further cell, whatever its text, and goes back as before.
+fn full_history_in<L: Ledger, R: Abort>(rt: &R, alloc: Global, blank: Blank) -> Result<(), Fail>
+    requires name { blank.name ≡ L.name }
+    requires parts { blank.parts ≡ L.parts }
+    requires some { 0 < L.parts }
+{
+    let mut kernel = Kernel::<L>::new(alloc, blank)?;
     for _n in 0..65_536u32 {
         let job = Job::Cell {
-            code: String::new(rt.alloc()),
+            code: String::new(alloc),
             silent: true,
             store: false,
         };
@@ -253,7 +270,7 @@ fn a_full_history_takes_no_cell(rt: HostRuntime) -> Result<(), Fail> {
         let _ = kernel.slice(1, false);
     }
     assert_eq!(rt; kernel.position(), 65_536);
-    let code = String::from_str(rt.alloc(), "no cell")?;
+    let code = String::from_str(alloc, "no cell")?;
     let job = Job::Cell {
         code,
         silent: false,
@@ -265,4 +282,9 @@ fn a_full_history_takes_no_cell(rt: HostRuntime) -> Result<(), Fail> {
     assert!(rt; kernel.post(1, Job::Goto(1)).is_ok());
     assert_eq!(rt; kernel.begin(), Begun::Going);
     Ok(())
+}
+
+#[test]
+fn a_full_history_takes_no_cell(rt: HostRuntime) -> Result<(), Fail> {
+    full_history_in::<Brand, _>(&rt, rt.alloc(), Blank::new(1))
 }

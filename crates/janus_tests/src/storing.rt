@@ -1,14 +1,25 @@
 //! The store, and the book of a cell's code.
+ghost use Rattle.std.specs.Prelude.{◌≡◌, ◌<◌};
+
 use janus_check::{Env, check};
 use janus_invert::flatten;
-use janus_machine::{Book, Cursor, Store};
+use janus_machine::{Book, Cursor, Store, Writes};
 use janus_store::View;
 use janus_syntax::parse_cell;
+use std::alloc::Global;
+use std::marker::Brand;
+use std::process::Abort;
+use std::sync::ledger::{Blank, Ledger};
 use std::test::Fail;
 
-#[test]
-fn declares_numbers(rt: HostRuntime) -> Result<(), Fail> {
-    let mut store = Store::new(rt.alloc());
+/// Numbers in a store over this ledger.
+fn numbers_in<L: Ledger, R: Abort>(rt: &R, alloc: Global, blank: Blank) -> Result<(), Fail>
+    requires name { blank.name ≡ L.name }
+    requires parts { blank.parts ≡ L.parts }
+    requires some { 0 < L.parts }
+{
+    let mut writes = Writes::<L>::new(blank);
+    let mut store = Store::new(alloc);
     assert!(rt; store.is_empty());
     assert!(rt; !store.contains("x"));
     store.declare("x")?;
@@ -16,7 +27,7 @@ fn declares_numbers(rt: HostRuntime) -> Result<(), Fail> {
     store.declare("y")?;
     assert_eq!(rt; store.get("x"), Some(0));
     assert_eq!(rt; store.get("z"), None);
-    store.set("x", 5);
+    store.set("x", 5, &mut writes);
     assert_eq!(rt; store.get("x"), Some(5));
     assert_eq!(rt; store.get("y"), Some(0));
     assert_eq!(rt; store.len(), 2);
@@ -29,8 +40,13 @@ fn declares_numbers(rt: HostRuntime) -> Result<(), Fail> {
 }
 
 #[test]
+fn declares_numbers(rt: HostRuntime) -> Result<(), Fail> {
+    numbers_in::<Brand, _>(&rt, rt.alloc(), Blank::new(1))
+}
+
+#[test]
 fn declares_arrays(rt: HostRuntime) -> Result<(), Fail> {
-    let mut store = Store::new(rt.alloc());
+    let mut store = Store::<Brand>::new(rt.alloc());
     store.declare_array("a", 3)?;
     assert_eq!(rt; store.get("a"), None);
     assert!(rt; matches!(store.value("a"), Some(View::Array([0, 0, 0]))));

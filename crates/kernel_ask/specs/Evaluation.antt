@@ -14,6 +14,7 @@ use Rattle.janus_check.specs.Fault.{IsFirst}
 use Rattle.janus_check.specs.declared.fault.CheckFault.{CheckFault}
 use Rattle.janus_machine.specs.Faults.{fault_of}
 use Rattle.kernel_core.specs.declared.outcome.Refusal.TheVariants.{Syntax, Check, HistoryFull, TooFar, NoNode, Closing, Memory}
+use Rattle.kernel_core.specs.State.{Past, world_at}
 use Rattle.kernel_core.specs.declared.outcome.Outcome.{Outcome}
 use Rattle.kernel_core.specs.declared.outcome.Outcome.TheVariants.{Ran, Failed, Interrupted, Undid, Redid, Went, Refused as Cancelled}
 use Rattle.kernel_ask.specs.declared.done.ExpFault.{ExpFault}
@@ -54,9 +55,9 @@ AreValues s (wish ∷ wishes) (named ∷ values) =
 AreValues s [] (named ∷ values) = ⊥
 AreValues s (wish ∷ wishes) [] = ⊥
 
--- they are evaluated only where the cell ran
-abbrev pub AreValuesAfter : Outcome → Store → List Wish → List NamedValue → Type 0
-AreValuesAfter (Ran node steps) s wishes values = AreValues s wishes values
+-- they are evaluated only where the cell ran, in the world of its node
+abbrev pub AreValuesAfter : Outcome → Past → List Wish → List NamedValue → Type 0
+AreValuesAfter (Ran node steps) s wishes values = AreValues (world_at s node).store wishes values
 AreValuesAfter (Failed fault steps) s wishes values = values ≡ []
 AreValuesAfter (Interrupted steps) s wishes values = values ≡ []
 AreValuesAfter (Undid cells end) s wishes values = values ≡ []

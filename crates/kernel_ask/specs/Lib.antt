@@ -7,6 +7,7 @@ pub mod Added
 pub mod History
 pub mod Inspection
 pub mod Judgement
+pub mod EndedAt
 pub mod Evaluation
 pub mod Comms
 pub mod Completion

@@ -6,6 +6,7 @@ use Rattle.janus_meaning.specs.World.{listed}
 use Rattle.janus_syntax.specs.Tree.{Cell, cell_view}
 use Rattle.janus_syntax.specs.declared.tree.Cell as code
 use Rattle.janus_syntax.specs.Text.{HasTree}
+use Rattle.kernel_core.specs.State.{Past, world_at}
 use Rattle.kernel_core.specs.declared.outcome.Outcome.{Outcome}
 use Rattle.kernel_core.specs.declared.outcome.Outcome.TheVariants.{Ran, Failed, Interrupted, Undid, Redid, Went, Refused}
 use Rattle.kernel_ask.specs.Naming.{in_cell}
@@ -22,16 +23,18 @@ shown_text s cell = parted (map value_text (filter (λ e. in_cell e.0 cell) (lis
 
 -- this is the one cell of the text; or the text is no cell
 abbrev pub IsCellOf : List ℕ → Option code.Cell → Type 0
-IsCellOf text (Some cell) = (tree : Cell) → HasTree text tree → cell_view cell ≡ tree
+IsCellOf text (Some cell) = HasTree text (cell_view cell) × ((tree : Cell) → HasTree text tree → cell_view cell ≡ tree)
 IsCellOf text None = (tree : Cell) → HasTree text tree → ⊥
 
--- what is shown of the cell of a text
+-- what is shown of the cell of a text; nothing of a text that is no cell
 abbrev pub IsShown : Store → List ℕ → Option (List ℕ) → Type 0
-IsShown s text shown = (cell : Cell) → HasTree text cell → shown ≡ shown_text s cell
+IsShown s text shown =
+    ((cell : Cell) → HasTree text cell → shown ≡ shown_text s cell)
+    × (((cell : Cell) → HasTree text cell → ⊥) → shown ≡ None)
 
--- it is shown only where the cell ran
-abbrev pub IsShownAfter : Outcome → Store → List ℕ → Option (List ℕ) → Type 0
-IsShownAfter (Ran node steps) s text shown = IsShown s text shown
+-- it is shown only where the cell ran, in the world of its node
+abbrev pub IsShownAfter : Outcome → Past → List ℕ → Option (List ℕ) → Type 0
+IsShownAfter (Ran node steps) s text shown = IsShown (world_at s node).store text shown
 IsShownAfter (Failed fault steps) s text shown = shown ≡ None
 IsShownAfter (Interrupted steps) s text shown = shown ≡ None
 IsShownAfter (Undid cells end) s text shown = shown ≡ None

@@ -8,6 +8,7 @@ ghost use Rattle.kernel_ask.specs.Inspection.{IsInspection};
 ghost use Rattle.kernel_ask.specs.History.{inputs, told, input_of};
 ghost use Rattle.kernel_ask.specs.Evaluation.{IsEvaluated, AreValuesAfter};
 ghost use Rattle.kernel_ask.specs.Shown.{IsShownAfter};
+ghost use Rattle.kernel_ask.specs.EndedAt.{StandsAtEnd};
 ghost use Rattle.kernel_ask.specs.State.{OfShown};
 ghost use Rattle.kernel_ask.specs.Answer.{IsContent, IsAnswer};
 
@@ -24,12 +25,13 @@ use crate::standing::state;
 use crate::wishes::values_of;
 use kernel_core::{Kernel, Outcome};
 use std::alloc::{AllocError, Global};
+use std::sync::ledger::Ledger;
 
 /// The declared names and reserved words that go on with what stands in front of a cursor. Places count Unicode code points; no
 /// cursor is the end of the code, and so is one past it. The only error is want of memory.
-pub fn complete(
+pub fn complete<L: Ledger>(
     alloc: Global,
-    kernel: &Kernel,
+    kernel: &Kernel<L>,
     code: &str,
     cursor: Option<u64>,
 ) -> Result<Completion, AllocError>
@@ -41,9 +43,9 @@ pub fn complete(
 
 /// The value text of the declared name that touches a cursor, if one does. Places count as in [`complete`]. The only error is
 /// want of memory.
-pub fn inspect(
+pub fn inspect<L: Ledger>(
     alloc: Global,
-    kernel: &Kernel,
+    kernel: &Kernel<L>,
     code: &str,
     cursor: Option<u64>,
 ) -> Result<Option<String>, AllocError>
@@ -54,7 +56,7 @@ pub fn inspect(
 }
 
 /// The inputs that are asked for, in rising order. The only error is want of memory.
-pub fn history(alloc: Global, kernel: &Kernel, ask: HistoryAsk) -> Result<Vec<Input>, AllocError>
+pub fn history<L: Ledger>(alloc: Global, kernel: &Kernel<L>, ask: HistoryAsk) -> Result<Vec<Input>, AllocError>
     ensures { IfOk result (λ v. map input_of v.items
         ≡ told ask (inputs kernel.now.machine.minutes kernel.now.machine.counter)) }
 {
@@ -62,7 +64,7 @@ pub fn history(alloc: Global, kernel: &Kernel, ask: HistoryAsk) -> Result<Vec<In
 }
 
 /// The value of an expression's text in the world of the position, or why it has none. No job is open.
-pub fn evaluate(alloc: Global, kernel: &Kernel, text: &str) -> Result<i32, ExpFault>
+pub fn evaluate<L: Ledger>(alloc: Global, kernel: &Kernel<L>, text: &str) -> Result<i32, ExpFault>
     requires { kernel.now.machine.state.job ≡ Idle }
     ensures { IsEvaluated (here kernel.now.machine.state.past).store text.now result }
 {
@@ -70,16 +72,18 @@ pub fn evaluate(alloc: Global, kernel: &Kernel, text: &str) -> Result<i32, ExpFa
     evaluation_of(alloc, world.store(), text)
 }
 
-/// The values of user expressions after a job, in their order: in the world of the position where the job is a cell that ran,
-/// else none. No job is open. The only error is want of memory for the list; where one expression finds none, this is told as its value.
-pub fn evaluate_all(
+/// The values of user expressions after a job, in their order: in the world of its node where the job is a cell that ran, else
+/// none. No job is open, and the kernel stands at that node still. The only error is want of memory for the list; where one
+/// expression finds none, this is told as its value.
+pub fn evaluate_all<L: Ledger>(
     alloc: Global,
-    kernel: &Kernel,
+    kernel: &Kernel<L>,
     outcome: &Outcome,
     wishes: &[Wish],
 ) -> Result<Vec<NamedValue>, AllocError>
-    requires { kernel.now.machine.state.job ≡ Idle }
-    ensures { IfOk result (λ v. AreValuesAfter outcome.now (here kernel.now.machine.state.past).store wishes.now v.items) }
+    requires idle { kernel.now.machine.state.job ≡ Idle }
+    requires still { StandsAtEnd outcome.now kernel.now.machine.state.past }
+    ensures { IfOk result (λ v. AreValuesAfter outcome.now kernel.now.machine.state.past wishes.now v.items) }
 {
     match outcome {
         Outcome::Ran(_, _) => {
@@ -96,16 +100,17 @@ pub fn evaluate_all(
 }
 
 /// What is shown of a job that is over, with the text of its cell: the value texts of the declared names that the cell names, in
-/// the order of declaration and parted by LF, where the job is a cell that ran and names one; else nothing. No job is open. The only
-/// error is want of memory.
-pub fn shown(
+/// the order of declaration and parted by LF, with their values in the world of its node, where the job is a cell that ran and names
+/// one; else nothing. No job is open, and the kernel stands at that node still. The only error is want of memory.
+pub fn shown<L: Ledger>(
     alloc: Global,
-    kernel: &Kernel,
+    kernel: &Kernel<L>,
     outcome: &Outcome,
     code: &str,
 ) -> Result<Option<String>, AllocError>
-    requires { kernel.now.machine.state.job ≡ Idle }
-    ensures { IfOk result (λ text. IsShownAfter outcome.now (here kernel.now.machine.state.past).store code.now (option_map string_bytes text)) }
+    requires idle { kernel.now.machine.state.job ≡ Idle }
+    requires still { StandsAtEnd outcome.now kernel.now.machine.state.past }
+    ensures { IfOk result (λ text. IsShownAfter outcome.now kernel.now.machine.state.past code.now (option_map string_bytes text)) }
 {
     match *outcome {
         Outcome::Ran(_, _) => {
@@ -122,9 +127,9 @@ pub fn shown(
 }
 
 /// What is answered to a question.
-fn content_of(
+fn content_of<L: Ledger>(
     alloc: Global,
-    kernel: &Kernel,
+    kernel: &Kernel<L>,
     comms: &Comms,
     ask: Ask,
 ) -> Result<Content, AllocError>
@@ -160,7 +165,7 @@ fn content_of(
 
 /// Answers a question of a frontend from the kernel's names, its shown world and its minutes, and tells how many minutes were seen.
 /// Want of memory is the only error; where it can't be told whether code is complete, that is the answer `Unknown`.
-pub fn ask_on(alloc: Global, kernel: &Kernel, comms: &Comms, ask: Ask) -> Result<Answer, HallFault>
+pub fn ask_on<L: Ledger>(alloc: Global, kernel: &Kernel<L>, comms: &Comms, ask: Ask) -> Result<Answer, HallFault>
     ensures answer { IfOk result (IsAnswer kernel.now.machine comms.now ask) }
     ensures memory { IfErr result (λ fault. fault ≡ HallFault.Memory) }
 {

@@ -8,11 +8,12 @@ use crate::cursor::prefix_at;
 use crate::matches::matches_of;
 use janus_store::Store;
 use std::alloc::{AllocError, Global};
+use std::sync::ledger::Ledger;
 
 /// The names that go on with what stands in front of the cursor.
-pub(crate) fn completion_of(
+pub(crate) fn completion_of<L: Ledger>(
     alloc: Global,
-    store: &Store,
+    store: &Store<L>,
     code: &str,
     cursor: Option<u64>,
 ) -> Result<Completion, AllocError>

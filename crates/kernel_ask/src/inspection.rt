@@ -8,11 +8,12 @@ use crate::cursor::word_at;
 use crate::values::value_text;
 use janus_store::Store;
 use std::alloc::{AllocError, Global};
+use std::sync::ledger::Ledger;
 
 /// The value text of the name that touches the cursor, if it is declared.
-pub(crate) fn inspection_of(
+pub(crate) fn inspection_of<L: Ledger>(
     alloc: Global,
-    store: &Store,
+    store: &Store<L>,
     code: &str,
     cursor: Option<u64>,
 ) -> Result<Option<String>, AllocError>

@@ -16,8 +16,6 @@ mod matches;
 mod naming;
 mod shown;
 mod standing;
-#[cfg(test)]
-mod tests;
 mod values;
 mod wishes;
 

@@ -11,6 +11,7 @@ use janus_store::Store;
 use janus_syntax::token::Word;
 use std::alloc::{AllocError, Global};
 use std::collections::BTreeSet;
+use std::sync::ledger::Ledger;
 
 /// The reserved words.
 const WORDS: [Word; 22] = [
@@ -71,10 +72,10 @@ fn add_match(
 }
 
 /// Adds the declared names that begin with the prefix.
-fn add_declared(
+fn add_declared<L: Ledger>(
     alloc: Global,
     names: &mut BTreeSet<String>,
-    store: &Store,
+    store: &Store<L>,
     prefix: &str,
 ) -> Result<(), AllocError>
     ensures { OnOk result (map string_bytes names.new.keys
@@ -112,9 +113,9 @@ fn in_order(alloc: Global, names: BTreeSet<String>) -> Result<Vec<String>, Alloc
 }
 
 /// The declared names and reserved words that begin with the prefix, each once, in the order of their octets.
-pub(crate) fn matches_of(
+pub(crate) fn matches_of<L: Ledger>(
     alloc: Global,
-    store: &Store,
+    store: &Store<L>,
     prefix: &str,
 ) -> Result<Vec<String>, AllocError>
     ensures { IfOk result (λ v. AreMatches store.now prefix.now (map string_bytes v.items)) }

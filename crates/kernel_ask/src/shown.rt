@@ -14,6 +14,7 @@ use janus_store::{Store, View};
 use janus_syntax::tree::Cell;
 use janus_syntax::{SyntaxFault, parse_cell};
 use std::alloc::{AllocError, Global};
+use std::sync::ledger::Ledger;
 
 /// Adds the value text of a name, if the cell names it.
 fn push_named(
@@ -34,7 +35,7 @@ fn push_named(
 }
 
 /// The value texts of the declared names that the cell names, in the order of declaration.
-fn named_texts(alloc: Global, store: &Store, cell: &Cell) -> Result<Vec<String>, AllocError>
+fn named_texts<L: Ledger>(alloc: Global, store: &Store<L>, cell: &Cell) -> Result<Vec<String>, AllocError>
     ensures { IfOk result (λ v. map string_bytes v.items
         ≡ map value_text_of (filter (λ e. in_cell e.0 (cell_view cell.now)) (listed store.now))) }
 {
@@ -59,7 +60,7 @@ fn parted(alloc: Global, first: &str, rest: &[String]) -> Result<String, AllocEr
 }
 
 /// The value texts of the declared names that the cell names, parted by LF, if it names one.
-fn shown_of(alloc: Global, store: &Store, cell: &Cell) -> Result<Option<String>, AllocError>
+fn shown_of<L: Ledger>(alloc: Global, store: &Store<L>, cell: &Cell) -> Result<Option<String>, AllocError>
     ensures { IfOk result (λ text. option_map string_bytes text ≡ shown_text store.now (cell_view cell.now)) }
 {
     let texts = named_texts(alloc, store, cell)?;
@@ -87,9 +88,9 @@ fn cell_of(alloc: Global, code: &str) -> Result<Option<Cell>, AllocError>
 }
 
 /// What is shown of the cell of a text over a store; nothing of a text that is no cell.
-pub(crate) fn shown_by(
+pub(crate) fn shown_by<L: Ledger>(
     alloc: Global,
-    store: &Store,
+    store: &Store<L>,
     code: &str,
 ) -> Result<Option<String>, AllocError>
     ensures { IfOk result (λ text. IsShown store.now code.now (option_map string_bytes text)) }

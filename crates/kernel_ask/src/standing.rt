@@ -1,5 +1,5 @@
 //! The state of a kernel.
-ghost use Rattle.std.specs.Prelude.{◌≡◌, true, map, string_bytes, IfOk};
+ghost use Rattle.std.specs.Prelude.{◌≡◌, true, not, map, string_bytes, IfOk};
 ghost use Rattle.janus_meaning.specs.World.{listed};
 ghost use Rattle.kernel_core.specs.State.{Idle};
 ghost use Rattle.kernel_ask.specs.ValueTexts.{value_text as value_text_of};
@@ -10,9 +10,10 @@ use crate::values::value_text;
 use janus_store::Store;
 use kernel_core::{Kernel, Phase};
 use std::alloc::{AllocError, Global};
+use std::sync::ledger::Ledger;
 
 /// The value texts of the names of a store, in the order of declaration.
-fn value_texts(alloc: Global, store: &Store) -> Result<Vec<String>, AllocError>
+fn value_texts<L: Ledger>(alloc: Global, store: &Store<L>) -> Result<Vec<String>, AllocError>
     ensures { IfOk result (λ v. map string_bytes v.items ≡ map value_text_of (listed store.now)) }
 {
     let mut texts = Vec::new(alloc);
@@ -24,7 +25,7 @@ fn value_texts(alloc: Global, store: &Store) -> Result<Vec<String>, AllocError>
 }
 
 /// Whether a job is open.
-fn is_busy(kernel: &Kernel) -> bool
+fn is_busy<L: Ledger>(kernel: &Kernel<L>) -> bool
     ensures { result ≡ is_busy_of kernel.now.machine.state.job }
 {
     match kernel.phase() {
@@ -33,20 +34,19 @@ fn is_busy(kernel: &Kernel) -> bool
     }
 }
 
-/// Whether no job is open and none waits: then expressions can be evaluated.
-pub fn is_settled(kernel: &Kernel) -> bool
-    ensures { result ≡ true → kernel.now.machine.state.job ≡ Idle }
+/// Whether no job is open: then expressions can be evaluated.
+pub fn is_settled<L: Ledger>(kernel: &Kernel<L>) -> bool
+    ensures exact { result ≡ not (is_busy_of kernel.now.machine.state.job) }
+    ensures idle { result ≡ true → kernel.now.machine.state.job ≡ Idle }
 {
     match kernel.phase() {
-        Phase::Idle => true,
-        Phase::Queued => false,
-        Phase::Border => false,
-        Phase::Inside => false,
+        Phase::Idle | Phase::Queued => true,
+        Phase::Border | Phase::Inside => false,
     }
 }
 
 /// Where the kernel stands, how far an undo and a redo can go, and the shown world. The only error is want of memory.
-pub fn state(alloc: Global, kernel: &Kernel) -> Result<KernelState, AllocError>
+pub fn state<L: Ledger>(alloc: Global, kernel: &Kernel<L>) -> Result<KernelState, AllocError>
     ensures { IfOk result (IsState kernel.now.machine) }
 {
     let shown = kernel.world();

@@ -8,11 +8,12 @@ use crate::done::{NamedValue, Wish};
 use crate::evaluation::evaluation_of;
 use janus_store::Store;
 use std::alloc::{AllocError, Global};
+use std::sync::ledger::Ledger;
 
 /// The values of the expressions over a store, in their order.
-pub(crate) fn values_of(
+pub(crate) fn values_of<L: Ledger>(
     alloc: Global,
-    store: &Store,
+    store: &Store<L>,
     wishes: &[Wish],
 ) -> Result<Vec<NamedValue>, AllocError>
     requires kinds { HoldNoStacks store.now }

@@ -6,7 +6,7 @@ use Rattle.kernel_core.specs.Slices.{finished_by, finished, cells, stepped, move
 use Rattle.kernel_core.specs.Begins.{travel_to}
 use Rattle.kernel_core.specs.Request.{Undo, Redo}
 use Rattle.kernel_core.specs.Midway.{after, gone}
-use Rattle.kernel_core.specs.Theorems.{descendant, MoveEnds, EndsUnless, UndoGoesUp, RedoGoesDown, GotoGoesThere, RedoGivesBack}
+use Rattle.kernel_core.specs.Theorems.{descendant, favoured, MoveEnds, EndsUnless, UndoGoesUp, RedoGoesDown, GotoGoesThere, RedoGivesBack}
 use Rattle.kernel_core.specs.Travel.{Travel, Aim}
 use Rattle.kernel_core.specs.Travel as aim
 use Rattle.kernel_core.specs.declared.outcome.End.{End}
@@ -98,10 +98,18 @@ goto_down s n up down (suc j) some l =
     ∙ ap (λ (nodes : List Node). ancestor nodes n (down - j - 1)) (gone_nodes s (travel_to (aim.Goto n) up down) (up + j))
     ∙ ap (λ (i : ℕ). ancestor s.nodes n i) f)
 
+goto_favours : (s : Past) (n up down j : ℕ) → j < down →
+    (gone s (travel_to (aim.Goto n) up down) (up + j + 1)).favourites ≡ favoured (gone s (travel_to (aim.Goto n) up down) (up + j)) (ancestor s.nodes n (down - j - 1))
+goto_favours s n up down j l =
+    let e : up + j + 1 ≡ suc (up + j) = omega arith in
+    rw e (ap (λ (t : Travel). (moved (gone s (travel_to (aim.Goto n) up down) (up + j)) t).favourites) (after_down (aim.Goto n) up down j (omega arith))
+    ∙ ap (λ (nodes : List Node). favoured (gone s (travel_to (aim.Goto n) up down) (up + j)) (ancestor nodes n (down - j - 1))) (gone_nodes s (travel_to (aim.Goto n) up down) (up + j)))
+
 pub goto_goes_there : GotoGoesThere
 goto_goes_there s n up down j = (
   λ l. gone_up s (aim.Goto n) up down j l,
   λ some l. goto_down s n up down j some l,
+  λ l. goto_favours s n up down j l,
   gone_nodes s (travel_to (aim.Goto n) up down) j,
   gone_worlds s (travel_to (aim.Goto n) up down) j,
 )

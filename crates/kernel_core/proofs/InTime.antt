@@ -11,7 +11,7 @@ use Rattle.kernel_core.specs.declared.outcome.Sliced.{Sliced}
 use Rattle.kernel_core.proofs.Standing.{shown_by}
 use Rattle.kernel_core.proofs.Stays.{slice_fit}
 
-pub slice_kept : (tree moved-to : Tree) (runner at : Runner) (old new : Open) (m : ℕ) (asked : Bool) (told : Sliced) → IsKept tree runner old → Kept moved-to at new →
+pub slice_kept : {L : Type 0} (tree moved-to : Tree) (runner at : Runner L) (old new : Open) (m : ℕ) (asked : Bool) (told : Sliced) → IsKept tree runner old → Kept moved-to at new →
     IsSlice (state_of tree old) m asked told (state_of moved-to new) → IsKept moved-to at new
 slice_kept tree moved-to runner at old new m asked told k n s =
     let kept = k.kept in

@@ -4,7 +4,7 @@ use Rattle.janus_meaning.specs.World.{World, Cell, entered}
 use Rattle.kernel_core.specs.Language.{Code, Forward, Backward, Part}
 use Rattle.kernel_core.specs.Reached.{Reaches, Progress, Went, Ended, Stopped, IsUnderWay}
 use Rattle.kernel_core.specs.Text.{Accepts}
-use Rattle.kernel_core.specs.State.{Past, Work, Posted, Move, Job as Open, Idle, Border, Inside, State, here, code_of, is_full}
+use Rattle.kernel_core.specs.State.{Past, Work, Posted, Move, Job as Open, Idle, Border, Inside, State, here, code_of}
 use Rattle.kernel_core.specs.Legal.{IsMeeting}
 use Rattle.kernel_core.proofs.LanguageLaws.{part_zero_forward, part_zero_backward, exec_some}
 use Rattle.kernel_core.specs.Slices.{finished, turned, cells, stepped, moved, grown, Backs, Arrives, Comes, SlicesIn, SlicesAt}

@@ -33,12 +33,12 @@ use Rattle.kernel_core.proofs.Nodes.{shifted, node_read, count_of_nodes}
 use Rattle.kernel_core.proofs.Trees.{worlds-more, legal_up, legal_down, legal_grown, undone_world, redone_world, run_here, parent_sound, IsNext, formed_below, next_below, up_possible, down_possible, way_up, way_down, new_legal, new_worlds}
 
 -- the shown world is the runner's
-pub shown_by : (tree : Tree) (job : Open) (runner : Runner) → StandsAt tree job runner → ShownAt (past_of tree) (job_of job) (world_of runner)
+pub shown_by : {L : Type 0} (tree : Tree) (job : Open) (runner : Runner L) → StandsAt tree job runner → ShownAt (past_of tree) (job_of job) (world_of runner)
 shown_by tree Idle runner h = h
 shown_by tree (Border travel) runner h = h
 shown_by tree (Inside e) runner h = stands_part _ _ _ _ _ _ h.stands
 
-pub kept_inside : (tree : Tree) (work : Work) (count c : ℕ) (turn to : CodeTurn) (runner at : Runner) → Kept tree runner (Inside (record { work = work; count = count; turn = turn })) →
+pub kept_inside : {L : Type 0} (tree : Tree) (work : Work) (count c : ℕ) (turn to : CodeTurn) (runner at : Runner L) → Kept tree runner (Inside (record { work = work; count = count; turn = turn })) →
     StandsIn tree work c (is_back to) at → Kept tree at (Inside (record { work = work; count = c; turn = to }))
 kept_inside tree work count c turn to runner at k p = record {
   legal = k.legal;
@@ -50,7 +50,7 @@ kept_inside tree work count c turn to runner at k p = record {
   path_room = k.path_room;
 }
 
-pub kept_idle : (tree : Tree) (job : Open) (runner at : Runner) → Kept tree runner job → world_of at ≡ here (past_of tree) → Kept tree at Idle
+pub kept_idle : {L : Type 0} (tree : Tree) (job : Open) (runner at : Runner L) → Kept tree runner job → world_of at ≡ here (past_of tree) → Kept tree at Idle
 kept_idle tree job runner at k e = record {
   legal = k.legal;
   possible = tt;
@@ -74,7 +74,7 @@ state_grown tree larger program n w nodes favourites position ran =
     let more = worlds-more [] (nodes_of tree) (record { parent = tree.position; cell = program; steps = n }) in
     rw (nodes, favourites, position, more, last) refl
 
-pub kept_grown : (tree larger : Tree) (program : ACell) (n : ℕ) (runner : Runner) →
+pub kept_grown : {L : Type 0} (tree larger : Tree) (program : ACell) (n : ℕ) (runner : Runner L) →
     nodes_of larger ≡ nodes_of tree ++ record { parent = tree.position; cell = program; steps = n } ∷ [] →
     larger.favourites.items ≡ set tree.favourites.items tree.position (length (nodes_of tree)) ++ 0 ∷ [] →
     larger.position ≡ length (nodes_of tree) →
@@ -109,7 +109,7 @@ border_job Idle travel e = cc
 border_job (Border t) travel e = (t, refl, cc)
 border_job (Inside x) travel e = cc
 
-pub kept_arrived : (left : ℕ) (moved-to : Tree) (travel : Travel) (told : Sliced) (job : Open) (runner : Runner) → left ≡ cells travel →
+pub kept_arrived : {L : Type 0} (left : ℕ) (moved-to : Tree) (travel : Travel) (told : Sliced) (job : Open) (runner : Runner L) → left ≡ cells travel →
     IsLegal (past_of moved-to) → world_of runner ≡ here (past_of moved-to) → CanGo travel.aim (nodes_of moved-to) moved-to.favourites.items moved-to.position travel.up travel.down → IsCounted travel →
     HasPath travel.aim moved-to travel.down → length moved-to.nodes.items ≤ vec_capacity moved-to.path → Arrives left (past_of moved-to) travel told (state_of moved-to job) → Kept moved-to runner job
 kept_arrived zero tree travel told job runner size legal shown can small path room a =
@@ -139,7 +139,7 @@ path_of Undo tree other down e f h = tt
 path_of Redo tree other down e f h = tt
 path_of (Goto n) tree other down e f h = rw (e, f) h
 
-pub kept_up : (tree : Tree) (p : ℕ) (travel : Travel) (runner : Runner) (told : Sliced) (job : Open) → next_way travel ≡ Up → IsLegal (past_of tree) →
+pub kept_up : {L : Type 0} (tree : Tree) (p : ℕ) (travel : Travel) (runner : Runner L) (told : Sliced) (job : Open) → next_way travel ≡ Up → IsLegal (past_of tree) →
     IsPossible (nodes_of tree) tree.favourites.items tree.position travel → IsCounted travel → HasPath travel.aim tree travel.down → length tree.nodes.items ≤ vec_capacity tree.path →
     p ≡ (node_at (past_of tree) tree.position).parent → world_of runner ≡ world_at (past_of tree) (node_at (past_of tree) tree.position).parent →
     Arrives (cells (stepped travel)) (past_of (record tree { position = p })) (stepped travel) told (state_of (record tree { position = p }) job) → Kept (record tree { position = p }) runner job
@@ -154,7 +154,7 @@ kept_up tree p travel runner told job way legal possible small path room to worl
     (path_of travel.aim tree (record tree { position = p }) travel.down refl refl path) room
     (subst (λ (t : Travel). Arrives (cells t) (past_of (record tree { position = p })) t told (state_of (record tree { position = p }) job)) e a)
 
-pub kept_down : (tree moved-to : Tree) (c : ℕ) (travel : Travel) (runner : Runner) (told : Sliced) (job : Open) → next_way travel ≡ Down → IsLegal (past_of tree) →
+pub kept_down : {L : Type 0} (tree moved-to : Tree) (c : ℕ) (travel : Travel) (runner : Runner L) (told : Sliced) (job : Open) → next_way travel ≡ Down → IsLegal (past_of tree) →
     IsPossible (nodes_of tree) tree.favourites.items tree.position travel → IsCounted travel → HasPath travel.aim tree travel.down → length tree.nodes.items ≤ vec_capacity tree.path →
     c ≡ below (past_of tree) travel → moved-to.nodes ≡ tree.nodes → moved-to.favourites.items ≡ set tree.favourites.items tree.position c → moved-to.position ≡ c → moved-to.path ≡ tree.path →
     world_of runner ≡ world_at (past_of tree) (below (past_of tree) travel) →
@@ -220,14 +220,14 @@ same_program tree (Cell program) p q a b = a ∙ sym b
 same_program tree (Move travel) p q a b = same_up tree travel (next_way (travel_of travel)) p q refl a b
 
 -- where a runner stands, for the program that was found
-pub stands_with : (tree : Tree) (work : Work) (count : ℕ) (back : Bool) (runner : Runner) (p : Program) → IsProgramOf tree work p → StandsIn tree work count back runner →
+pub stands_with : {L : Type 0} (tree : Tree) (work : Work) (count : ℕ) (back : Bool) (runner : Runner L) (p : Program) → IsProgramOf tree work p → StandsIn tree work count back runner →
     Stands runner p (code_of (past_of tree) (work_of work)) (here (past_of tree)) count back
 stands_with tree work count back runner p of h =
     subst (λ (x : Program). Stands runner x (code_of (past_of tree) (work_of work)) (here (past_of tree)) count back) (same_program tree work h.program p h.of_work of) h.stands
 
 -- ---- begins
 
-pub kept_entered : (tree : Tree) (runner at : Runner) (travel : CodeTravel) → Kept tree runner (Border travel) → StandsIn tree (Move travel) 0 false at →
+pub kept_entered : {L : Type 0} (tree : Tree) (runner at : Runner L) (travel : CodeTravel) → Kept tree runner (Border travel) → StandsIn tree (Move travel) 0 false at →
     IsKept tree at (Inside (record { work = Move travel; count = 0; turn = Going }))
 kept_entered tree runner at travel k stands = record {
   kept = record {
@@ -243,10 +243,10 @@ kept_entered tree runner at travel k stands = record {
 }
 
 -- with no open job nothing is due
-pub idle_in_time : (tree : Tree) (runner : Runner) → Kept tree runner Idle → IsKept tree runner Idle
+pub idle_in_time : {L : Type 0} (tree : Tree) (runner : Runner L) → Kept tree runner Idle → IsKept tree runner Idle
 idle_in_time tree runner k = record { kept = k; in_time = tt }
 
-pub kept_begun : (tree made : Tree) (runner at : Runner) (program : Program) → Kept tree runner Idle → past_of made ≡ past_of tree → HasRoom made → IsFormed (cell_of_program program) (here (past_of tree)) →
+pub kept_begun : {L : Type 0} (tree made : Tree) (runner at : Runner L) (program : Program) → Kept tree runner Idle → past_of made ≡ past_of tree → HasRoom made → IsFormed (cell_of_program program) (here (past_of tree)) →
     Stands at program (Forward (cell_of_program program)) (here (past_of tree)) 0 false → IsKept made at (Inside (record { work = Cell program; count = 0; turn = Going }))
 kept_begun tree made runner at program k same room formed stands = record {
   kept = record {
@@ -338,7 +338,7 @@ up_names tree travel n v node way legal possible ended at =
 pub new_past : (tree : Tree) → tree.nodes.items ≡ [] → tree.favourites.items ≡ 0 ∷ [] → tree.position ≡ 0 → past_of tree ≡ new_state.past
 new_past tree nodes favourites position = rw (nodes, favourites, position, new_worlds) refl
 
-pub kept_new : (tree : Tree) (runner : Runner) → past_of tree ≡ new_state.past → tree.nodes.items ≡ [] → world_of runner ≡ empty_world → Kept tree runner Idle
+pub kept_new : {L : Type 0} (tree : Tree) (runner : Runner L) → past_of tree ≡ new_state.past → tree.nodes.items ≡ [] → world_of runner ≡ empty_world → Kept tree runner Idle
 kept_new tree runner e none shown = record {
   legal = subst (λ (s : Past). IsLegal s) (sym e) new_legal;
   possible = tt;
@@ -373,13 +373,13 @@ pub program_down : (tree : Tree) (work : Work) (travel : CodeTravel) (node : Nod
 program_down tree work travel node e way at = rw e (down_is tree travel node.program way (node, at, refl))
 
 -- the runner has gone on, or back, in the work's program
-pub kept_at : (tree : Tree) (work : Work) (count c : ℕ) (turn to : CodeTurn) (runner at : Runner) (p : Program) → Kept tree runner (Inside (record { work = work; count = count; turn = turn })) →
+pub kept_at : {L : Type 0} (tree : Tree) (work : Work) (count c : ℕ) (turn to : CodeTurn) (runner at : Runner L) (p : Program) → Kept tree runner (Inside (record { work = work; count = count; turn = turn })) →
     IsProgramOf tree work p → Stands at p (code_of (past_of tree) (work_of work)) (here (past_of tree)) c (is_back to) → Kept tree at (Inside (record { work = work; count = c; turn = to }))
 kept_at tree work count c turn to runner at p k of stands =
     kept_inside tree work count c turn to runner at k (record { program = p; of_work = of; stands = stands })
 
 -- in the form in which the calls of the runner ask for it
-pub inside_with : (tree : Tree) (work : Work) (count : ℕ) (turn : CodeTurn) (runner : Runner) (p : Program) → Kept tree runner (Inside (record { work = work; count = count; turn = turn })) → IsProgramOf tree work p → IsInside runner p count (is_back turn)
+pub inside_with : {L : Type 0} (tree : Tree) (work : Work) (count : ℕ) (turn : CodeTurn) (runner : Runner L) (p : Program) → Kept tree runner (Inside (record { work = work; count = count; turn = turn })) → IsProgramOf tree work p → IsInside runner p count (is_back turn)
 inside_with tree work count turn runner p k of = (_, _, stands_with tree work count (is_back turn) runner p of k.stands)
 
 -- a cell of a travel settles
@@ -398,7 +398,7 @@ settled_down tree moved-to c travel n w told new way to nodes favourites positio
 
 -- ---- the next cell of a travel, where the runner stands at a border
 
-pub here_sound : (tree : Tree) (runner : Runner) → IsLegal (past_of tree) → world_of runner ≡ here (past_of tree) → IsSound (world_of runner)
+pub here_sound : {L : Type 0} (tree : Tree) (runner : Runner L) → IsLegal (past_of tree) → world_of runner ≡ here (past_of tree) → IsSound (world_of runner)
 here_sound tree runner legal shown = subst (λ (w : World). IsSound w) (sym shown) (legal.sound tree.position legal.position)
 
 pub next_down : (tree : Tree) (travel : Travel) (node : Node) (i : ℕ) → next_way travel ≡ Down → IsLegal (past_of tree) → IsPossible (nodes_of tree) tree.favourites.items tree.position travel →
@@ -406,14 +406,14 @@ pub next_down : (tree : Tree) (travel : Travel) (node : Node) (i : ℕ) → next
 next_down tree travel node i way legal possible at read =
     node_below tree travel node i (next_below (past_of tree) travel legal way possible) at read
 
-pub formed_next : (tree : Tree) (travel : Travel) (node : Node) (runner : Runner) → next_way travel ≡ Down → IsLegal (past_of tree) → IsPossible (nodes_of tree) tree.favourites.items tree.position travel →
+pub formed_next : {L : Type 0} (tree : Tree) (travel : Travel) (node : Node) (runner : Runner L) → next_way travel ≡ Down → IsLegal (past_of tree) → IsPossible (nodes_of tree) tree.favourites.items tree.position travel →
     world_of runner ≡ here (past_of tree) → IsNodeAt tree (below (past_of tree) travel) node → IsFormed (cell_of_program node.program) (world_of runner)
 formed_next tree travel node runner way legal possible shown at =
     let next = next_below (past_of tree) travel legal way possible in
     let formed : IsFormed (node_of node).cell (here (past_of tree)) = subst (λ (n : state.Node). IsFormed n.cell (here (past_of tree))) (sym (node_there tree _ node at)) (formed_below (past_of tree) (below (past_of tree) travel) legal next) in
     subst (λ (w : World). IsFormed (cell_of_program node.program) w) (sym shown) formed
 
-pub stands_next_down : (tree : Tree) (travel : CodeTravel) (node : Node) (runner at : Runner) → next_way (travel_of travel) ≡ Down → world_of runner ≡ here (past_of tree) → IsNodeAt tree (below (past_of tree) (travel_of travel)) node →
+pub stands_next_down : {L : Type 0} (tree : Tree) (travel : CodeTravel) (node : Node) (runner at : Runner L) → next_way (travel_of travel) ≡ Down → world_of runner ≡ here (past_of tree) → IsNodeAt tree (below (past_of tree) (travel_of travel)) node →
     Stands at node.program (Forward (cell_of_program node.program)) (world_of runner) 0 false → StandsIn tree (Move travel) 0 false at
 stands_next_down tree travel node runner at way shown is stands =
     let same = node_there tree _ node is in
@@ -429,7 +429,7 @@ pub next_up : (tree : Tree) (travel : Travel) (node : Node) → next_way travel 
 next_up tree travel node way legal possible read =
     node_here tree node legal (up_possible (past_of tree) travel way possible).0 read
 
-pub ran_above : (tree : Tree) (travel : Travel) (node : Node) (runner : Runner) → next_way travel ≡ Up → IsLegal (past_of tree) → IsPossible (nodes_of tree) tree.favourites.items tree.position travel →
+pub ran_above : {L : Type 0} (tree : Tree) (travel : Travel) (node : Node) (runner : Runner L) → next_way travel ≡ Up → IsLegal (past_of tree) → IsPossible (nodes_of tree) tree.favourites.items tree.position travel →
     world_of runner ≡ here (past_of tree) → IsNodeAt tree tree.position node →
     (before : World) × (n : ℕ) × Exec (Forward (cell_of_program node.program)) before n (world_of runner) × IsSound before × IsFormed (cell_of_program node.program) before
 ran_above tree travel node runner way legal possible shown at =
@@ -445,7 +445,7 @@ ran_above tree travel node runner way legal possible shown at =
       subst (λ (n : state.Node). IsFormed n.cell (world_at (past_of tree) (node_at (past_of tree) tree.position).parent)) (sym (node_there tree tree.position node at)) run.formed,
     )
 
-pub stands_next_up : (tree : Tree) (travel : CodeTravel) (node : Node) (runner at : Runner) → next_way (travel_of travel) ≡ Up → world_of runner ≡ here (past_of tree) → IsNodeAt tree tree.position node →
+pub stands_next_up : {L : Type 0} (tree : Tree) (travel : CodeTravel) (node : Node) (runner at : Runner L) → next_way (travel_of travel) ≡ Up → world_of runner ≡ here (past_of tree) → IsNodeAt tree tree.position node →
     Stands at node.program (Backward (cell_of_program node.program)) (world_of runner) 0 false → StandsIn tree (Move travel) 0 false at
 stands_next_up tree travel node runner at way shown is stands =
     let same = node_there tree _ node is in

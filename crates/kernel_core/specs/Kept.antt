@@ -33,13 +33,13 @@ is_back GoesOn = false
 is_back (GoesBack why) = true
 
 -- the runner stands in the work's program, so many steps from the world of the position
-pub record StandsIn (tree : Tree) (work : Work) (count : ℕ) (back : Bool) (runner : Runner) : Type 0 where
+pub record StandsIn {L : Type 0} (tree : Tree) (work : Work) (count : ℕ) (back : Bool) (runner : Runner L) : Type 0 where
   pub program : Program
   pub of_work : IsProgramOf tree work program
   pub stands : Stands runner program (code_of (past_of tree) (work_of work)) (here (past_of tree)) count back
 
 -- the runner stands where the open job says
-abbrev pub StandsAt : Tree → Open → Runner → Type 0
+abbrev pub StandsAt : {L : Type 0} → Tree → Open → Runner L → Type 0
 StandsAt tree Idle runner = world_of runner ≡ here (past_of tree)
 StandsAt tree (Border travel) runner = world_of runner ≡ here (past_of tree)
 StandsAt tree (Inside e) runner = StandsIn tree e.work e.count (is_back e.turn) runner
@@ -76,7 +76,7 @@ HasPathAt tree (Border travel) = HasPath (aim_of travel.aim) tree travel.down
 HasPathAt tree (Inside e) = HasPathFor tree e.work
 
 -- also in the middle of a slice
-pub record Kept (tree : Tree) (runner : Runner) (job : Open) : Type 0 where
+pub record Kept {L : Type 0} (tree : Tree) (runner : Runner L) (job : Open) : Type 0 where
   pub legal : IsLegal (past_of tree)
   pub possible : IsPossibleAt (past_of tree) (job_of job)
   pub counted : IsCountedAt (job_of job)
@@ -87,6 +87,6 @@ pub record Kept (tree : Tree) (runner : Runner) (job : Open) : Type 0 where
   pub path_room : length tree.nodes.items ≤ vec_capacity tree.path
 
 -- what a history keeps: beside this, its open job has steps to take
-pub record IsKept (tree : Tree) (runner : Runner) (job : Open) : Type 0 where
+pub record IsKept {L : Type 0} (tree : Tree) (runner : Runner L) (job : Open) : Type 0 where
   pub kept : Kept tree runner job
   pub in_time : IsInTimeAt (past_of tree) (job_of job)

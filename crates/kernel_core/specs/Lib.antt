@@ -17,6 +17,7 @@ pub mod Extent
 pub mod Request
 pub mod Minutes
 pub mod Runs
+pub mod StepsOfSlices
 pub mod PostFault
 pub mod Midway
 pub mod LegalState

@@ -5,7 +5,7 @@ use Rattle.kernel_core.specs.Written.{entries_in, job_at, ArePosts, HasPlaces}
 use Rattle.kernel_core.specs.declared.machine.Machine.TheInside.{Inside}
 
 -- the queue is kept as the places of the posts in the minutes
-abbrev pub machine_of : Inside → Machine
+abbrev pub machine_of : {L : Type 0} → Inside L → Machine
 machine_of a = record {
   state = a.history;
   queue = map (job_at (entries_in a.minutes)) a.queue.items;
@@ -14,6 +14,6 @@ machine_of a = record {
   closing = a.closing;
 }
 
-pub record IsInOrder (a : Inside) : Type 0 where
+pub record IsInOrder {L : Type 0} (a : Inside L) : Type 0 where
   pub places : HasPlaces a.minutes
   pub queue : ArePosts (entries_in a.minutes) a.queue.items

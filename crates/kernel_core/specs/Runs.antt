@@ -156,6 +156,7 @@ phase_of Idle (first ∷ rest) = phase.Queued
 phase_of (Border travel) queue = phase.Border
 phase_of (Inside e) queue = phase.Inside
 
--- What contracts see of a kernel: the machine that it is.
+-- What contracts see of a kernel: the machine that it is, and how often its store was written.
 pub record Seen : Type 0 where
   pub machine : Machine
+  pub writes : ℕ

@@ -1,5 +1,5 @@
 -- The main theorem in the subject's own words, over runs of the machine.
-use Rattle.std.specs.Prelude.{◌≡◌, ℕ, Bool, true, false, ◌+◌, ◌-◌, ◌<◌, ◌≤◌, List, [], ◌∷◌, length, nat_lt, get_or, IsTrue, zero, suc, ◌⊎◌, ◌↔◌, Err}
+use Rattle.std.specs.Prelude.{◌≡◌, ℕ, Bool, true, false, ◌+◌, ◌-◌, ◌<◌, ◌≤◌, List, [], ◌∷◌, length, nat_lt, get_or, IsTrue, zero, suc, set, ◌⊎◌, ◌↔◌, Err}
 use Rattle.janus_meaning.specs.World.{World, empty_world, Cell, entered}
 use Rattle.janus_meaning.specs.Cells.{IsGoodWorld}
 use Rattle.kernel_core.specs.Travel.{next_way, Travel, Up, Down}
@@ -176,6 +176,10 @@ abbrev pub descendant : List ℕ → ℕ → ℕ → ℕ
 descendant favourites n zero = n
 descendant favourites n (suc j) = get_or favourites (descendant favourites n j) 0
 
+-- the favourites with this node as that of the position
+abbrev pub favoured : Past → ℕ → List ℕ
+favoured s n = set s.favourites s.position n
+
 -- j cells of an undo change the position alone: it is j nodes above
 abbrev pub UndoGoesUp : Type 0
 UndoGoesUp =
@@ -186,12 +190,14 @@ abbrev pub RedoGoesDown : Type 0
 RedoGoesDown =
     (s : Past) (k j : ℕ) → gone s (travel_to aim.Redo 0 k) j ≡ record s { position = descendant s.favourites s.position j }
 
--- a goto goes up with no favourite changed, and then down to its node, on its path
+-- A goto goes up with no favourite changed, and then down to its node, on its path: each node that it comes to is then the favourite of
+-- the one above it, and no other favourite is changed.
 abbrev pub GotoGoesThere : Type 0
 GotoGoesThere =
     (s : Past) (n up down j : ℕ) →
     (j ≤ up → gone s (travel_to (aim.Goto n) up down) j ≡ record s { position = ancestor s.nodes s.position j })
     × (0 < j → j ≤ down → (gone s (travel_to (aim.Goto n) up down) (up + j)).position ≡ ancestor s.nodes n (down - j))
+    × (j < down → (gone s (travel_to (aim.Goto n) up down) (up + j + 1)).favourites ≡ favoured (gone s (travel_to (aim.Goto n) up down) (up + j)) (ancestor s.nodes n (down - j - 1)))
     × ((gone s (travel_to (aim.Goto n) up down) j).nodes ≡ s.nodes)
     × ((gone s (travel_to (aim.Goto n) up down) j).worlds ≡ s.worlds)
 

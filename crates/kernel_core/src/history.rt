@@ -5,6 +5,7 @@ ghost use Rattle.kernel_core.specs.Fields.{past_of, nodes_of, aim_of, travel_of,
 ghost use Rattle.kernel_core.specs.Travel.{Undo, Redo};
 ghost use Rattle.kernel_core.specs.Legal.{IsLegal, IsPossible, IsCounted, CanGo, can_undo, can_redo};
 ghost use Rattle.kernel_core.specs.Slices.{IsSlice, cells};
+ghost use Rattle.kernel_core.specs.StepsOfSlices.{WritesOnSlice};
 ghost use Rattle.kernel_core.specs.Begins.{TakesCell, TakesMove, TakesGoto, Departs, Enters, Declares, travel_to};
 ghost use Rattle.kernel_core.specs.Runner.{world_of};
 ghost use Rattle.kernel_core.specs.Extent.{IsExtent};
@@ -18,9 +19,11 @@ use crate::runner::Runner;
 use crate::settle::{finished, go_back, go_on, turn_back};
 use crate::tree::{Tree, below, can_go_down, can_go_up, find_way};
 use crate::view::View;
+use janus_machine::Writes;
 use std::alloc::{AllocError, Global};
 use std::marker::Model;
 use std::mem;
+use std::sync::ledger::Ledger;
 
 /// How many nodes may stand beside the root.
 const NODE_LIMIT: usize = 65_536;
@@ -28,13 +31,13 @@ const NODE_LIMIT: usize = 65_536;
 /// The tree, the runner with the one store, and the open job.
 /// Contracts see a state of the machine, with the worlds of all nodes. None of them is kept here.
 #[derive(Drop)]
-pub struct History {
+pub struct History<L: Ledger> {
     tree: Tree,
-    runner: Runner,
+    runner: Runner<L>,
     job: Open,
 }
 
-impl Model for History {
+impl<L: Ledger> Model for History<L> {
     ghost use Rattle.kernel_core.specs.State.{State};
     ghost use Rattle.kernel_core.specs.StateCode.{state_code};
 
@@ -65,7 +68,11 @@ fn make_room(tree: &mut Tree) -> Result<(), AllocError>
 }
 
 /// Enters the next cell of a travel: an undone one takes no memory.
-fn enter_next(tree: &Tree, runner: &mut Runner, travel: Travel) -> Result<(), AllocError>
+fn enter_next<L: Ledger>(
+    tree: &Tree,
+    runner: &mut Runner<L>,
+    travel: Travel,
+) -> Result<(), AllocError>
     requires legal { IsLegal (past_of tree.now) }
     requires possible { IsPossible (nodes_of tree.now) tree.now.favourites.items tree.now.position (travel_of travel) }
     requires path { HasPath (aim_of travel.aim) tree.now travel.down }
@@ -84,7 +91,7 @@ fn enter_next(tree: &Tree, runner: &mut Runner, travel: Travel) -> Result<(), Al
 }
 
 /// Enters the next cell of a travel, or ends it for want of memory.
-fn enter(tree: &Tree, runner: &mut Runner, travel: Travel) -> (Open, Begun)
+fn enter<L: Ledger>(tree: &Tree, runner: &mut Runner<L>, travel: Travel) -> (Open, Begun)
     requires { Kept tree.now runner.old (Open.Border travel) }
     ensures step { Enters (past_of tree.now) (travel_of travel) result.1 (state_of tree.now result.0) }
     ensures kept { IsKept tree.now runner.new result.0 }
@@ -101,7 +108,7 @@ fn enter(tree: &Tree, runner: &mut Runner, travel: Travel) -> (Open, Begun)
 }
 
 /// Ends a travel without cells at once, or enters its first cell.
-fn depart(tree: &Tree, runner: &mut Runner, travel: Travel) -> (Open, Begun)
+fn depart<L: Ledger>(tree: &Tree, runner: &mut Runner<L>, travel: Travel) -> (Open, Begun)
     requires idle { Kept tree.now runner.old Open.Idle }
     requires way { CanGo (aim_of travel.aim) (nodes_of tree.now) tree.now.favourites.items tree.now.position travel.up travel.down }
     requires counted { IsCounted (travel_of travel) }
@@ -115,9 +122,9 @@ fn depart(tree: &Tree, runner: &mut Runner, travel: Travel) -> (Open, Begun)
     enter(tree, runner, travel)
 }
 
-impl History {
+impl<L: Ledger> History<L> {
     /// An empty history.
-    pub fn new(alloc: Global) -> Result<History, AllocError>
+    pub fn new(alloc: Global) -> Result<History<L>, AllocError>
         ensures { IfOk result (λ history. history ≡ new_state) }
     {
         let runner = Runner::new(alloc);
@@ -137,7 +144,7 @@ impl History {
     }
 
     /// The shown world.
-    pub fn world(&self) -> View<'_>
+    pub fn world(&self) -> View<'_, L>
         ensures { Shown self.now result }
     {
         View::of(&self.runner)
@@ -247,8 +254,9 @@ impl History {
     }
 
     /// One slice of up to `m` steps. It takes no memory.
-    pub fn slice(&mut self, m: u64, asked: bool) -> Sliced
-        ensures { IsSlice self.old m asked result self.new }
+    pub fn slice(&mut self, writes: &mut Writes<L>, m: u64, asked: bool) -> Sliced
+        ensures slice { IsSlice self.old m asked result self.new }
+        ensures written { WritesOnSlice self.old m asked writes.old writes.new }
     {
         match mem::replace(&mut self.job, Open::Idle) {
             Open::Idle => Sliced::Nothing,
@@ -260,13 +268,15 @@ impl History {
                 let Entered { work, count, turn } = entered;
                 let (job, told) = match turn {
                     Turn::Backing(why) => {
-                        go_back(&self.tree, &mut self.runner, work, count, why, m)
+                        go_back(&self.tree, &mut self.runner, writes, work, count, why, m)
                     }
                     Turn::Going if asked => {
                         let why = Why::Asked(count);
-                        turn_back(&self.tree, &mut self.runner, work, count, why, m)
+                        turn_back(&self.tree, &mut self.runner, writes, work, count, why, m)
                     }
-                    Turn::Going => go_on(&mut self.tree, &mut self.runner, work, count, m),
+                    Turn::Going => {
+                        go_on(&mut self.tree, &mut self.runner, writes, work, count, m)
+                    }
                 };
                 self.job = job;
                 told

@@ -5,6 +5,7 @@ ghost use Rattle.kernel_core.specs.Request.{request_of, raised as the_raised};
 ghost use Rattle.kernel_core.specs.Minutes.{posted_in, ended_in};
 ghost use Rattle.kernel_core.specs.LegalMinutes.{HasLegalMinutes};
 ghost use Rattle.kernel_core.specs.Written.{entry_of};
+ghost use Rattle.kernel_core.specs.StepsOfSlices.{WritesOnSlice};
 ghost use Rattle.kernel_core.specs.Extent.{IsExtent};
 ghost use Rattle.kernel_core.specs.Runs.{new_machine, IsReady, IsRefusal, IsPost, BeginsAt, IsBegin, IsSliceOf, TakesUnless, noted, phase_of, shut};
 
@@ -15,17 +16,19 @@ use crate::minutes::{Entry, MINUTES_LIMIT, Minutes};
 use crate::outcome::{Begun, Outcome, Phase, Refusal, Sliced};
 use crate::post::{Job, PostFault};
 use crate::view::View;
+use janus_machine::Writes;
 use std::alloc::{AllocError, Global};
 use std::collections::VecDeque;
 use std::marker::Model;
+use std::sync::ledger::Ledger;
 
 /// How many posted jobs may wait to be begun.
 pub const QUEUE_LIMIT: usize = 1024;
 
 /// The machine. Contracts see that of the definitions.
 #[derive(Drop)]
-pub struct Machine {
-    history: History,
+pub struct Machine<L: Ledger> {
+    history: History<L>,
     /// The places in the minutes of the posts that are not begun, the earliest first.
     queue: VecDeque<usize>,
     minutes: Minutes,
@@ -34,7 +37,7 @@ pub struct Machine {
     alloc: Global,
 }
 
-impl Model for Machine {
+impl<L: Ledger> Model for Machine<L> {
     ghost use Rattle.kernel_core.specs.Runs.{Machine};
     ghost use Rattle.kernel_core.specs.MachineCode.{machine_code};
 
@@ -62,7 +65,12 @@ fn raised(counter: u64, job: &Job) -> u64
 }
 
 /// Begins a posted job, unless the kernel closes.
-fn take(history: &mut History, alloc: Global, closing: bool, job: &Job) -> Begun
+fn take<L: Ledger>(
+    history: &mut History<L>,
+    alloc: Global,
+    closing: bool,
+    job: &Job,
+) -> Begun
     requires { history.old.job ≡ Idle }
     ensures { TakesUnless closing history.old.past (request_of job.now) result history.new }
 {
@@ -81,9 +89,9 @@ fn take(history: &mut History, alloc: Global, closing: bool, job: &Job) -> Begun
     }
 }
 
-impl Machine {
+impl<L: Ledger> Machine<L> {
     /// An empty history, and nothing posted. The only error is want of memory.
-    pub fn new(alloc: Global) -> Result<Machine, AllocError>
+    pub fn new(alloc: Global) -> Result<Machine<L>, AllocError>
         ensures { IfOk result (λ machine. machine ≡ new_machine) }
     {
         let history = History::new(alloc)?;
@@ -164,11 +172,12 @@ impl Machine {
     }
 
     /// Up to `m` steps of the open job; `asked` turns it back first. It takes no memory.
-    pub fn slice(&mut self, m: u64, asked: bool) -> Sliced
+    pub fn slice(&mut self, writes: &mut Writes<L>, m: u64, asked: bool) -> Sliced
         requires { HasLegalMinutes self.old }
-        ensures { IsSliceOf self.old m asked result self.new }
+        ensures slice { IsSliceOf self.old m asked result self.new }
+        ensures written { WritesOnSlice self.old.state m asked writes.old writes.new }
     {
-        let told = self.history.slice(m, asked);
+        let told = self.history.slice(writes, m, asked);
         let Sliced::Ended(outcome) = told else {
             return told;
         };
@@ -193,7 +202,7 @@ impl Machine {
     }
 
     /// The shown world.
-    pub fn world(&self) -> View<'_>
+    pub fn world(&self) -> View<'_, L>
         ensures { Shown self.now.state result }
     {
         self.history.world()

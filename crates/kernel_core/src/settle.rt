@@ -6,6 +6,8 @@ ghost use Rattle.kernel_core.specs.Travel.{Up, Down, next_way};
 ghost use Rattle.kernel_core.specs.Fields.{past_of, state_of, travel_of, why_of, work_of, job_of};
 ghost use Rattle.kernel_core.specs.Legal.{IsLegal, IsPossibleWork};
 ghost use Rattle.kernel_core.specs.Slices.{finished as the_finished, turned as the_turned, Backs, cells, Arrives, Settles, Goes, HasEnded};
+ghost use Rattle.janus_machine.specs.Counts.{IsWritten};
+ghost use Rattle.kernel_core.specs.StepsOfSlices.{steps_back, WritesOn};
 ghost use Rattle.kernel_core.specs.Runner.{world_of};
 ghost use Rattle.kernel_core.specs.Kept.{Kept, IsProgramOf, HasPathFor};
 
@@ -14,6 +16,8 @@ use crate::outcome::{End, Outcome, Sliced};
 use crate::program::Program;
 use crate::runner::{Ran, Runner};
 use crate::tree::{Node, Tree, below};
+use janus_machine::Writes;
+use std::sync::ledger::Ledger;
 
 /// The program that the work runs: forward, or for an undo backward.
 fn program_of<'a>(tree: &'a Tree, work: &'a Work) -> &'a Program
@@ -54,7 +58,7 @@ fn turned(work: &Work, why: Why) -> Outcome
 }
 
 /// Back at the count 0: the names that were declared at the begin are taken back.
-fn settle_back(tree: &Tree, runner: &mut Runner, work: &Work)
+fn settle_back<L: Ledger>(tree: &Tree, runner: &mut Runner<L>, work: &Work)
     requires legal { IsLegal (past_of tree.now) }
     requires possible { IsPossibleWork (past_of tree.now) (work_of work.now) }
     requires path { HasPathFor tree.now work.now }
@@ -71,9 +75,10 @@ fn settle_back(tree: &Tree, runner: &mut Runner, work: &Work)
 }
 
 /// Goes back `m` steps, and settles as not done at the count 0.
-pub fn go_back(
+pub fn go_back<L: Ledger>(
     tree: &Tree,
-    runner: &mut Runner,
+    runner: &mut Runner<L>,
+    writes: &mut Writes<L>,
     work: Work,
     count: u64,
     why: Why,
@@ -82,8 +87,9 @@ pub fn go_back(
     requires { Kept tree.now runner.old (Open.Inside (record { work = work; count = count; turn = Turn.Backing why })) }
     ensures step { Backs (past_of tree.now) (work_of work) (why_of why) (count - m) result.1 (state_of tree.now result.0) }
     ensures kept { Kept tree.now runner.new result.0 }
+    ensures written { IsWritten (steps_back count m) writes.old writes.new }
 {
-    runner.back(program_of(tree, &work), m);
+    runner.back(program_of(tree, &work), writes, m);
     let left = count.saturating_sub(m);
     if left == 0 {
         settle_back(tree, runner, &work);
@@ -103,9 +109,10 @@ pub fn go_back(
 }
 
 /// Turns to going back, and goes back `m` steps.
-pub fn turn_back(
+pub fn turn_back<L: Ledger>(
     tree: &Tree,
-    runner: &mut Runner,
+    runner: &mut Runner<L>,
+    writes: &mut Writes<L>,
     work: Work,
     count: u64,
     why: Why,
@@ -114,9 +121,10 @@ pub fn turn_back(
     requires { Kept tree.now runner.old (Open.Inside (record { work = work; count = count; turn = Turn.Going })) }
     ensures step { Backs (past_of tree.now) (work_of work) (why_of why) (count - m) result.1 (state_of tree.now result.0) }
     ensures kept { Kept tree.now runner.new result.0 }
+    ensures written { IsWritten (steps_back count m) writes.old writes.new }
 {
     runner.turn(program_of(tree, &work));
-    go_back(tree, runner, work, count, why, m)
+    go_back(tree, runner, writes, work, count, why, m)
 }
 
 /// A cell of the travel is done, which has so many left.
@@ -131,7 +139,12 @@ fn arrive(travel: Travel) -> (Open, Sliced)
 }
 
 /// A posted cell came to its end, in `n` steps: it becomes a node. The room for it was made before.
-fn settle_cell(tree: &mut Tree, runner: &Runner, program: Program, n: u64) -> (Open, Sliced)
+fn settle_cell<L: Ledger>(
+    tree: &mut Tree,
+    runner: &Runner<L>,
+    program: Program,
+    n: u64,
+) -> (Open, Sliced)
     requires kept { Kept tree.old runner.now (Open.Inside (record { work = Work.Cell program; count = n; turn = Turn.Going })) }
     requires ended { HasEnded (past_of tree.old) (work_of (Work.Cell program)) n (world_of runner.now) }
     ensures step { Settles (past_of tree.old) (work_of (Work.Cell program)) n (world_of runner.now) result.1 (state_of tree.new result.0) }
@@ -151,7 +164,12 @@ fn settle_cell(tree: &mut Tree, runner: &Runner, program: Program, n: u64) -> (O
 }
 
 /// A cell on the way up came to the end of its inverse: its names are zero, and are taken back.
-fn settle_up(tree: &mut Tree, runner: &mut Runner, travel: Travel, n: u64) -> (Open, Sliced)
+fn settle_up<L: Ledger>(
+    tree: &mut Tree,
+    runner: &mut Runner<L>,
+    travel: Travel,
+    n: u64,
+) -> (Open, Sliced)
     requires way { next_way (travel_of travel) ≡ Up }
     requires kept { Kept tree.old runner.old (Open.Inside (record { work = Work.Move travel; count = n; turn = Turn.Going })) }
     requires ended { HasEnded (past_of tree.old) (work_of (Work.Move travel)) n (world_of runner.old) }
@@ -168,7 +186,12 @@ fn settle_up(tree: &mut Tree, runner: &mut Runner, travel: Travel, n: u64) -> (O
 }
 
 /// A cell on the way down came to its end: it is the favourite of the one above it.
-fn settle_down(tree: &mut Tree, runner: &Runner, travel: Travel, n: u64) -> (Open, Sliced)
+fn settle_down<L: Ledger>(
+    tree: &mut Tree,
+    runner: &Runner<L>,
+    travel: Travel,
+    n: u64,
+) -> (Open, Sliced)
     requires way { next_way (travel_of travel) ≡ Down }
     requires kept { Kept tree.old runner.now (Open.Inside (record { work = Work.Move travel; count = n; turn = Turn.Going })) }
     requires ended { HasEnded (past_of tree.old) (work_of (Work.Move travel)) n (world_of runner.now) }
@@ -182,7 +205,12 @@ fn settle_down(tree: &mut Tree, runner: &Runner, travel: Travel, n: u64) -> (Ope
 }
 
 /// A cell came to its end, in `n` steps.
-fn settle(tree: &mut Tree, runner: &mut Runner, work: Work, n: u64) -> (Open, Sliced)
+fn settle<L: Ledger>(
+    tree: &mut Tree,
+    runner: &mut Runner<L>,
+    work: Work,
+    n: u64,
+) -> (Open, Sliced)
     requires kept { Kept tree.old runner.old (Open.Inside (record { work = work; count = n; turn = Turn.Going })) }
     requires ended { HasEnded (past_of tree.old) (work_of work) n (world_of runner.old) }
     ensures step { Settles (past_of tree.old) (work_of work) n (world_of runner.old) result.1 (state_of tree.new result.0) }
@@ -198,12 +226,20 @@ fn settle(tree: &mut Tree, runner: &mut Runner, work: Work, n: u64) -> (Open, Sl
 }
 
 /// Goes on for `m` steps, or to the end of the cell, or to its stop.
-pub fn go_on(tree: &mut Tree, runner: &mut Runner, work: Work, count: u64, m: u64) -> (Open, Sliced)
+pub fn go_on<L: Ledger>(
+    tree: &mut Tree,
+    runner: &mut Runner<L>,
+    writes: &mut Writes<L>,
+    work: Work,
+    count: u64,
+    m: u64,
+) -> (Open, Sliced)
     requires { Kept tree.old runner.old (Open.Inside (record { work = work; count = count; turn = Turn.Going })) }
     ensures step { Goes (past_of tree.old) (work_of work) count m result.1 (state_of tree.new result.0) }
     ensures kept { Kept tree.new runner.new result.0 }
+    ensures written { WritesOn (past_of tree.old) (work_of work) count m writes.old writes.new }
 {
-    match runner.run(program_of(tree, &work), m) {
+    match runner.run(program_of(tree, &work), writes, m) {
         Ran::Went => (
             Open::Inside(Entered {
                 work,
@@ -213,6 +249,8 @@ pub fn go_on(tree: &mut Tree, runner: &mut Runner, work: Work, count: u64, m: u6
             Sliced::Going,
         ),
         Ran::Ended(n) => settle(tree, runner, work, n),
-        Ran::Stopped(j, fault) => turn_back(tree, runner, work, j, Why::Faulted(fault, j), 0),
+        Ran::Stopped(j, fault) => {
+            turn_back(tree, runner, writes, work, j, Why::Faulted(fault, j), 0)
+        },
     }
 }

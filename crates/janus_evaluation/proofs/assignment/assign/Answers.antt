@@ -12,24 +12,24 @@ use Rattle.janus_evaluation.proofs.Assigns.{is_number, value_safe, assign_bad, a
 use Rattle.janus_evaluation.proofs.assignment.assign.Goals as goal
 
 pub value-requires : goal.value-requires
-value-requires c = value_safe c.args.name.now (update_of c.args.update) (exp_of c.args.exp.now) c.args.store.now c.requires
+value-requires g c = value_safe c.args.name.now (update_of c.args.update) (exp_of c.args.exp.now) c.args.store.now c.requires
 
 pub returns-in-Err-clause-done : goal.returns-in-Err-clause-done
-returns-in-Err-clause-done c =
+returns-in-Err-clause-done g c =
     (assign_bad c.args.name.now (update_of c.args.update) (exp_of c.args.exp.now) c.args.store.now (fault_of c.in-Err.fault) c.requires (sym c.in-Err.ensures), refl)
 
 pub unreachable-requires : goal.unreachable-requires
-unreachable-requires c =
+unreachable-requires g c =
     let s = c.args.store.now in
     let n = is_number c.args.name.now (update_of c.args.update) (exp_of c.args.exp.now) s c.requires in
     let z : Bad Broken ≡ Fine n.0 = c.in_default.ensures ∙ ap (λ r. and_then r number) n.1 in
     cc
 
 pub set-requires : goal.set-requires
-set-requires c = is_number c.args.name.now (update_of c.args.update) (exp_of c.args.exp.now) c.args.store.now c.requires
+set-requires g c = is_number c.args.name.now (update_of c.args.update) (exp_of c.args.exp.now) c.args.store.now c.requires
 
 pub returns-clause-done : goal.returns-clause-done
-returns-clause-done c =
+returns-clause-done g c =
     let s = c.args.store.now in
     let x = c.args.name.now in
     let o = update_of c.args.update in

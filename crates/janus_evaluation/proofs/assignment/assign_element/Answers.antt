@@ -12,17 +12,17 @@ use Rattle.janus_evaluation.proofs.Assigns.{assigned_is_array, index_bad, range_
 use Rattle.janus_evaluation.proofs.assignment.assign_element.Goals as goal
 
 pub value-requires : goal.value-requires
-value-requires c = λ h. c.requires (index_bad c.args.name.now (exp_of c.args.index.now) (update_of c.args.update) (exp_of c.args.exp.now) c.args.store.now Broken c.requires h)
+value-requires g c = λ h. c.requires (index_bad c.args.name.now (exp_of c.args.index.now) (update_of c.args.update) (exp_of c.args.exp.now) c.args.store.now Broken c.requires h)
 
 pub returns-in-Err-clause-done : goal.returns-in-Err-clause-done
-returns-in-Err-clause-done c =
+returns-in-Err-clause-done g c =
     (index_bad c.args.name.now (exp_of c.args.index.now) (update_of c.args.update) (exp_of c.args.exp.now) c.args.store.now (fault_of c.in-Err.fault) c.requires (sym c.in-Err.ensures), refl)
 
 pub element-requires : goal.element-requires
-element-requires c = assigned_is_array c.args.name.now (exp_of c.args.index.now) (update_of c.args.update) (exp_of c.args.exp.now) c.args.store.now c.requires
+element-requires g c = assigned_is_array c.args.name.now (exp_of c.args.index.now) (update_of c.args.update) (exp_of c.args.exp.now) c.args.store.now c.requires
 
 pub returns-in_default-clause-done : goal.returns-in_default-clause-done
-returns-in_default-clause-done c =
+returns-in_default-clause-done g c =
     let a = c.args.name.now in
     let i = exp_of c.args.index.now in
     let o = update_of c.args.update in
@@ -35,7 +35,7 @@ returns-in_default-clause-done c =
     (range_bad a i o e s l.0 k IndexRange c.requires l.1 (sym c.in-Ok.ensures) none, refl)
 
 pub value-requires-2 : goal.value-requires-2
-value-requires-2 c = λ h.
+value-requires-2 g c = λ h.
     let a = c.args.name.now in
     let i = exp_of c.args.index.now in
     let o = update_of c.args.update in
@@ -48,7 +48,7 @@ value-requires-2 c = λ h.
     c.requires (right_bad a i o e s l.0 k c.in-Some.old Broken c.requires l.1 (sym c.in-Ok.ensures) some h)
 
 pub returns-in-Err-value-clause-done : goal.returns-in-Err-value-clause-done
-returns-in-Err-value-clause-done c =
+returns-in-Err-value-clause-done g c =
     let a = c.args.name.now in
     let i = exp_of c.args.index.now in
     let o = update_of c.args.update in
@@ -61,7 +61,7 @@ returns-in-Err-value-clause-done c =
     (right_bad a i o e s l.0 k c.in-Some.old (fault_of c.in-Err-value.fault) c.requires l.1 (sym c.in-Ok.ensures) some (sym c.in-Err-value.ensures), refl)
 
 pub set_element-requires : goal.set_element-requires
-set_element-requires c =
+set_element-requires g c =
     let a = c.args.name.now in
     let i = exp_of c.args.index.now in
     let o = update_of c.args.update in
@@ -71,7 +71,7 @@ set_element-requires c =
     (l.0, c.in-Some.old, l.1, sym (c.in-Some.ensures l.0 l.1))
 
 pub returns-clause-done : goal.returns-clause-done
-returns-clause-done c =
+returns-clause-done g c =
     let a = c.args.name.now in
     let i = exp_of c.args.index.now in
     let o = update_of c.args.update in

@@ -15,21 +15,21 @@ use Rattle.janus_evaluation.proofs.Values.{variable_is, is_array, element_is, el
 use Rattle.janus_evaluation.proofs.expression.+value.Goals as goal
 
 pub unreachable-requires : goal.unreachable-requires
-unreachable-requires t c =
+unreachable-requires g t c =
     let s = c.args.store.now in
     c.requires (ap (λ e. value (exp_of e) s) c.in-Variable.is ∙ variable_is s (string_bytes c.in-Variable.name) ∙ ap (λ x. and_then (look x s) number) (sym c.as_str.ensures.value) ∙ sym c.in-None.ensures)
 
 pub value-requires : goal.value-requires
-value-requires t c =
+value-requires g t c =
     let s = c.args.store.now in
     let a = string_bytes c.in-Element.name in
     let i = exp_of c.in-Element.index.value in
     let safe : value (tree.At a i) s ≡ Bad Broken → ⊥ = λ q. c.requires (ap (λ e. value (exp_of e) s) c.in-Element.is ∙ q) in
     let arr = is_array s a i safe in
-    (omega (arith, c.decreases, ap exp_size c.in-Element.is, ap exp_size c.deref.ensures), λ h. safe (element_bad s a i arr.0 Broken arr.1 (ap (λ e. value (exp_of e) s) (sym c.deref.ensures) ∙ h)))
+    λ κs sub. (omega (arith, c.decreases, ap exp_size c.in-Element.is, ap exp_size c.deref.ensures), (sub, λ h. safe (element_bad s a i arr.0 Broken arr.1 (ap (λ e. value (exp_of e) s) (sym c.deref.ensures) ∙ h))))
 
 pub element-requires : goal.element-requires
-element-requires t c =
+element-requires g t c =
     let s = c.args.store.now in
     let a = string_bytes c.in-Element.name in
     let i = exp_of c.in-Element.index.value in
@@ -38,36 +38,36 @@ element-requires t c =
     subst (λ x. IsArray (look x s)) (sym c.as_str-in-Ok.ensures.value) arr
 
 pub value-requires-in-Negative : goal.value-requires-in-Negative
-value-requires-in-Negative t c =
+value-requires-in-Negative g t c =
     let s = c.args.store.now in
-    (omega (arith, c.decreases, ap exp_size c.in-Negative.is, ap exp_size c.deref-in-Negative.ensures), λ h. c.requires (ap (λ e. value (exp_of e) s) c.in-Negative.is ∙ negative_is s (exp_of c.in-Negative.operand.value) (Bad Broken) (ap (λ e. value (exp_of e) s) (sym c.deref-in-Negative.ensures) ∙ h)))
+    λ κs sub. (omega (arith, c.decreases, ap exp_size c.in-Negative.is, ap exp_size c.deref-in-Negative.ensures), (sub, λ h. c.requires (ap (λ e. value (exp_of e) s) c.in-Negative.is ∙ negative_is s (exp_of c.in-Negative.operand.value) (Bad Broken) (ap (λ e. value (exp_of e) s) (sym c.deref-in-Negative.ensures) ∙ h))))
 
 pub value-requires-in-Binary : goal.value-requires-in-Binary
-value-requires-in-Binary t c =
+value-requires-in-Binary g t c =
     let s = c.args.store.now in
     let o = operator_of c.in-Binary.operator in
     let l = exp_of c.in-Binary.left.value in
     let r = exp_of c.in-Binary.right.value in
-    (omega (arith, c.decreases, ap exp_size c.in-Binary.is, ap exp_size c.deref-in-Binary.ensures), λ h. c.requires (ap (λ e. value (exp_of e) s) c.in-Binary.is ∙ binary_is s o l r (Bad Broken) (ap (λ e. value (exp_of e) s) (sym c.deref-in-Binary.ensures) ∙ h)))
+    λ κs sub. (omega (arith, c.decreases, ap exp_size c.in-Binary.is, ap exp_size c.deref-in-Binary.ensures), (sub, λ h. c.requires (ap (λ e. value (exp_of e) s) c.in-Binary.is ∙ binary_is s o l r (Bad Broken) (ap (λ e. value (exp_of e) s) (sym c.deref-in-Binary.ensures) ∙ h))))
 
 pub value-requires-in-Ok-value-2 : goal.value-requires-in-Ok-value-2
-value-requires-in-Ok-value-2 t c =
+value-requires-in-Ok-value-2 g t c =
     let s = c.args.store.now in
     let o = operator_of c.in-Binary.operator in
     let l = exp_of c.in-Binary.left.value in
     let r = exp_of c.in-Binary.right.value in
     let left : value l s ≡ Fine c.in-Ok-value-2.left = sym (c.in-Ok-value-2.ensures ∙ ap (λ e. value (exp_of e) s) c.deref-in-Binary.ensures) in
-    (omega (arith, c.decreases, ap exp_size c.in-Binary.is, ap exp_size c.deref-in-Ok-value-2.ensures), λ h. c.requires (ap (λ e. value (exp_of e) s) c.in-Binary.is ∙ binary_right s o l r c.in-Ok-value-2.left (Bad Broken) left (ap (λ e. value (exp_of e) s) (sym c.deref-in-Ok-value-2.ensures) ∙ h)))
+    λ κs sub. (omega (arith, c.decreases, ap exp_size c.in-Binary.is, ap exp_size c.deref-in-Ok-value-2.ensures), (sub, λ h. c.requires (ap (λ e. value (exp_of e) s) c.in-Binary.is ∙ binary_right s o l r c.in-Ok-value-2.left (Bad Broken) left (ap (λ e. value (exp_of e) s) (sym c.deref-in-Ok-value-2.ensures) ∙ h))))
 
 pub value-requires-in-And : goal.value-requires-in-And
-value-requires-in-And t c =
+value-requires-in-And g t c =
     let s = c.args.store.now in
     let l = exp_of c.in-And.left.value in
     let r = exp_of c.in-And.right.value in
-    (omega (arith, c.decreases, ap exp_size c.in-And.is, ap exp_size c.deref-in-And.ensures), λ h. c.requires (ap (λ e. value (exp_of e) s) c.in-And.is ∙ and_is s l r (Bad Broken) (ap (λ e. value (exp_of e) s) (sym c.deref-in-And.ensures) ∙ h)))
+    λ κs sub. (omega (arith, c.decreases, ap exp_size c.in-And.is, ap exp_size c.deref-in-And.ensures), (sub, λ h. c.requires (ap (λ e. value (exp_of e) s) c.in-And.is ∙ and_is s l r (Bad Broken) (ap (λ e. value (exp_of e) s) (sym c.deref-in-And.ensures) ∙ h))))
 
 pub value-requires-then-holds : goal.value-requires-then-holds
-value-requires-then-holds t c =
+value-requires-then-holds g t c =
     let s = c.args.store.now in
     let l = exp_of c.in-And.left.value in
     let r = exp_of c.in-And.right.value in
@@ -75,17 +75,17 @@ value-requires-then-holds t c =
     let z : to_z w32 (of_z w32 n) ≡ n = grind (arith, to_z-of_z) in
     let left : value l s ≡ Fine n = sym (c.in-Ok-value-4.ensures ∙ ap (λ e. value (exp_of e) s) c.deref-in-And.ensures) in
     let test : nonzero n ≡ true = ap nonzero (sym z) ∙ sym c.holds.ensures ∙ c.if-holds.true in
-    (omega (arith, c.decreases, ap exp_size c.in-And.is, ap exp_size c.deref-then-holds.ensures), λ h. c.requires (ap (λ e. value (exp_of e) s) c.in-And.is ∙ and_at s l r n true (Bad Broken) left test (ap (λ e. value (exp_of e) s) (sym c.deref-then-holds.ensures) ∙ h)))
+    λ κs sub. (omega (arith, c.decreases, ap exp_size c.in-And.is, ap exp_size c.deref-then-holds.ensures), (sub, λ h. c.requires (ap (λ e. value (exp_of e) s) c.in-And.is ∙ and_at s l r n true (Bad Broken) left test (ap (λ e. value (exp_of e) s) (sym c.deref-then-holds.ensures) ∙ h))))
 
 pub value-requires-in-Or : goal.value-requires-in-Or
-value-requires-in-Or t c =
+value-requires-in-Or g t c =
     let s = c.args.store.now in
     let l = exp_of c.in-Or.left.value in
     let r = exp_of c.in-Or.right.value in
-    (omega (arith, c.decreases, ap exp_size c.in-Or.is, ap exp_size c.deref-in-Or.ensures), λ h. c.requires (ap (λ e. value (exp_of e) s) c.in-Or.is ∙ or_is s l r (Bad Broken) (ap (λ e. value (exp_of e) s) (sym c.deref-in-Or.ensures) ∙ h)))
+    λ κs sub. (omega (arith, c.decreases, ap exp_size c.in-Or.is, ap exp_size c.deref-in-Or.ensures), (sub, λ h. c.requires (ap (λ e. value (exp_of e) s) c.in-Or.is ∙ or_is s l r (Bad Broken) (ap (λ e. value (exp_of e) s) (sym c.deref-in-Or.ensures) ∙ h))))
 
 pub value-requires-else-holds-2 : goal.value-requires-else-holds-2
-value-requires-else-holds-2 t c =
+value-requires-else-holds-2 g t c =
     let s = c.args.store.now in
     let l = exp_of c.in-Or.left.value in
     let r = exp_of c.in-Or.right.value in
@@ -93,24 +93,24 @@ value-requires-else-holds-2 t c =
     let z : to_z w32 (of_z w32 n) ≡ n = grind (arith, to_z-of_z) in
     let left : value l s ≡ Fine n = sym (c.in-Ok-value-5.ensures ∙ ap (λ e. value (exp_of e) s) c.deref-in-Or.ensures) in
     let test : nonzero n ≡ false = ap nonzero (sym z) ∙ sym c.holds-in-Ok-value-5.ensures ∙ c.if-holds-2.false in
-    (omega (arith, c.decreases, ap exp_size c.in-Or.is, ap exp_size c.deref-else-holds-2.ensures), λ h. c.requires (ap (λ e. value (exp_of e) s) c.in-Or.is ∙ or_at s l r n false (Bad Broken) left test (ap (λ e. value (exp_of e) s) (sym c.deref-else-holds-2.ensures) ∙ h)))
+    λ κs sub. (omega (arith, c.decreases, ap exp_size c.in-Or.is, ap exp_size c.deref-else-holds-2.ensures), (sub, λ h. c.requires (ap (λ e. value (exp_of e) s) c.in-Or.is ∙ or_at s l r n false (Bad Broken) left test (ap (λ e. value (exp_of e) s) (sym c.deref-else-holds-2.ensures) ∙ h))))
 
 pub returns-in-Number : goal.returns-in-Number
 unfolding value wrap
-returns-in-Number t c =
+returns-in-Number g t c =
     let n : ℤ = c.cast_signed.result in
     let z : to_z w32 (of_z w32 n) ≡ n = grind (arith, to_z-of_z) in
     ap Fine (z ∙ c.cast_signed.ensures ∙ wrap_number c.in-Number.number (omega arith)) ∙ ap (λ e. value (exp_of e) c.args.store.now) (sym c.in-Number.is)
 
 pub returns-in-Some : goal.returns-in-Some
-returns-in-Some t c =
+returns-in-Some g t c =
     let s = c.args.store.now in
     let n : ℤ = c.in-Some.number in
     let z : to_z w32 (of_z w32 n) ≡ n = grind (arith, to_z-of_z) in
     ap Fine z ∙ c.in-Some.ensures ∙ ap (λ x. and_then (look x s) number) c.as_str.ensures.value ∙ sym (variable_is s (string_bytes c.in-Variable.name)) ∙ ap (λ e. value (exp_of e) s) (sym c.in-Variable.is)
 
 pub returns-in-Ok : goal.returns-in-Ok
-returns-in-Ok t c =
+returns-in-Ok g t c =
     let s = c.args.store.now in
     let a = string_bytes c.in-Element.name in
     let i = exp_of c.in-Element.index.value in
@@ -123,7 +123,7 @@ returns-in-Ok t c =
     ∙ sym (element_is s a i arr.0 k arr.1 index) ∙ ap (λ e. value (exp_of e) s) (sym c.in-Element.is)
 
 pub returns-in-Err : goal.returns-in-Err
-returns-in-Err t c =
+returns-in-Err g t c =
     let s = c.args.store.now in
     let a = string_bytes c.in-Element.name in
     let i = exp_of c.in-Element.index.value in
@@ -132,7 +132,7 @@ returns-in-Err t c =
     sym (element_bad s a i arr.0 (fault_of c.in-Err.fault) arr.1 (sym (c.in-Err.ensures ∙ ap (λ e. value (exp_of e) s) c.deref.ensures))) ∙ ap (λ e. value (exp_of e) s) (sym c.in-Element.is)
 
 pub returns-in-Ok-value : goal.returns-in-Ok-value
-returns-in-Ok-value t c =
+returns-in-Ok-value g t c =
     let s = c.args.store.now in
     let e = exp_of c.in-Negative.operand.value in
     let n : ℤ = c.in-Ok-value.number in
@@ -143,12 +143,12 @@ returns-in-Ok-value t c =
     ∙ sym (negative_is s e (Fine n) (sym (c.in-Ok-value.ensures ∙ ap (λ e. value (exp_of e) s) c.deref-in-Negative.ensures))) ∙ ap (λ e. value (exp_of e) s) (sym c.in-Negative.is)
 
 pub returns-in-Err-value : goal.returns-in-Err-value
-returns-in-Err-value t c =
+returns-in-Err-value g t c =
     let s = c.args.store.now in
     sym (negative_is s (exp_of c.in-Negative.operand.value) (Bad (fault_of c.in-Err-value.fault)) (sym (c.in-Err-value.ensures ∙ ap (λ e. value (exp_of e) s) c.deref-in-Negative.ensures))) ∙ ap (λ e. value (exp_of e) s) (sym c.in-Negative.is)
 
 pub returns-in-Ok-value-3 : goal.returns-in-Ok-value-3
-returns-in-Ok-value-3 t c =
+returns-in-Ok-value-3 g t c =
     let s = c.args.store.now in
     let o = operator_of c.in-Binary.operator in
     let l = exp_of c.in-Binary.left.value in
@@ -162,7 +162,7 @@ returns-in-Ok-value-3 t c =
     ∙ sym (binary_right s o l r a (Fine b) left (sym (c.in-Ok-value-3.ensures ∙ ap (λ e. value (exp_of e) s) c.deref-in-Ok-value-2.ensures))) ∙ ap (λ e. value (exp_of e) s) (sym c.in-Binary.is)
 
 pub returns-in-Err-value-3 : goal.returns-in-Err-value-3
-returns-in-Err-value-3 t c =
+returns-in-Err-value-3 g t c =
     let s = c.args.store.now in
     let o = operator_of c.in-Binary.operator in
     let l = exp_of c.in-Binary.left.value in
@@ -171,7 +171,7 @@ returns-in-Err-value-3 t c =
     sym (binary_right s o l r c.in-Ok-value-2.left (Bad (fault_of c.in-Err-value-3.fault)) left (sym (c.in-Err-value-3.ensures ∙ ap (λ e. value (exp_of e) s) c.deref-in-Ok-value-2.ensures))) ∙ ap (λ e. value (exp_of e) s) (sym c.in-Binary.is)
 
 pub returns-in-Err-value-2 : goal.returns-in-Err-value-2
-returns-in-Err-value-2 t c =
+returns-in-Err-value-2 g t c =
     let s = c.args.store.now in
     let o = operator_of c.in-Binary.operator in
     let l = exp_of c.in-Binary.left.value in
@@ -179,7 +179,7 @@ returns-in-Err-value-2 t c =
     sym (binary_is s o l r (Bad (fault_of c.in-Err-value-2.fault)) (sym (c.in-Err-value-2.ensures ∙ ap (λ e. value (exp_of e) s) c.deref-in-Binary.ensures))) ∙ ap (λ e. value (exp_of e) s) (sym c.in-Binary.is)
 
 pub returns-then-holds : goal.returns-then-holds
-returns-then-holds t c =
+returns-then-holds g t c =
     let s = c.args.store.now in
     let l = exp_of c.in-And.left.value in
     let r = exp_of c.in-And.right.value in
@@ -191,7 +191,7 @@ returns-then-holds t c =
     ∙ sym (and_at s l r n true (value r s) left test refl) ∙ ap (λ e. value (exp_of e) s) (sym c.in-And.is)
 
 pub returns-else-holds : goal.returns-else-holds
-returns-else-holds t c =
+returns-else-holds g t c =
     let s = c.args.store.now in
     let l = exp_of c.in-And.left.value in
     let r = exp_of c.in-And.right.value in
@@ -202,14 +202,14 @@ returns-else-holds t c =
     ap Fine (bit_wraps false) ∙ sym (and_at s l r n false (value r s) left test refl) ∙ ap (λ e. value (exp_of e) s) (sym c.in-And.is)
 
 pub returns-in-Err-value-4 : goal.returns-in-Err-value-4
-returns-in-Err-value-4 t c =
+returns-in-Err-value-4 g t c =
     let s = c.args.store.now in
     let l = exp_of c.in-And.left.value in
     let r = exp_of c.in-And.right.value in
     sym (and_is s l r (Bad (fault_of c.in-Err-value-4.fault)) (sym (c.in-Err-value-4.ensures ∙ ap (λ e. value (exp_of e) s) c.deref-in-And.ensures))) ∙ ap (λ e. value (exp_of e) s) (sym c.in-And.is)
 
 pub returns-then-holds-2 : goal.returns-then-holds-2
-returns-then-holds-2 t c =
+returns-then-holds-2 g t c =
     let s = c.args.store.now in
     let l = exp_of c.in-Or.left.value in
     let r = exp_of c.in-Or.right.value in
@@ -220,7 +220,7 @@ returns-then-holds-2 t c =
     ap Fine (bit_wraps true) ∙ sym (or_at s l r n true (value r s) left test refl) ∙ ap (λ e. value (exp_of e) s) (sym c.in-Or.is)
 
 pub returns-else-holds-2 : goal.returns-else-holds-2
-returns-else-holds-2 t c =
+returns-else-holds-2 g t c =
     let s = c.args.store.now in
     let l = exp_of c.in-Or.left.value in
     let r = exp_of c.in-Or.right.value in
@@ -232,7 +232,7 @@ returns-else-holds-2 t c =
     ∙ sym (or_at s l r n false (value r s) left test refl) ∙ ap (λ e. value (exp_of e) s) (sym c.in-Or.is)
 
 pub returns-in-Err-value-5 : goal.returns-in-Err-value-5
-returns-in-Err-value-5 t c =
+returns-in-Err-value-5 g t c =
     let s = c.args.store.now in
     let l = exp_of c.in-Or.left.value in
     let r = exp_of c.in-Or.right.value in

@@ -1,14 +1,43 @@
-use Rattle.std.proofs.Common.{sym, ap, ◌∙◌, subst}
+use Rattle.std.proofs.Common.{◌≡◌, ℕ, List, Err, sym, ap, ◌∙◌, subst}
 use Rattle.janus_meaning.specs.Syntax.{Exp}
-use Rattle.janus_meaning.specs.Shape.{Shape}
+use Rattle.janus_meaning.specs.Shape.{Shape, shape_of}
+use Rattle.janus_meaning.specs.Store.{Store}
 use Rattle.janus_meaning.specs.Formed.{IsExp}
 use Rattle.janus_meaning.specs.Value.{value}
 use Rattle.janus_syntax.specs.View.{exp_of}
+use Rattle.janus_syntax.specs.Tree as tree
+use Rattle.janus_syntax.specs.Tree.{exp_view}
+use Rattle.janus_syntax.specs.Text.{HasExp}
+use Rattle.janus_check.specs.Check.{exp_faults}
+use Rattle.janus_check.specs.Fault.{IsFirst}
+use Rattle.janus_check.specs.declared.fault.CheckFault.{CheckFault}
+use Rattle.janus_check.specs.declared.fault.CheckFault.TheVariants as fault
+use Rattle.kernel_core.specs.Text.{refused_by_check}
+use Rattle.kernel_core.specs.declared.outcome.Refusal.{Refusal}
+use Rattle.kernel_ask.specs.declared.done.ExpFault.TheVariants.{Refused}
+use Rattle.kernel_ask.specs.Evaluation.{IsEvaluated}
 use Rattle.kernel_ask.proofs.Sound.{not_broken}
 use Rattle.kernel_ask.proofs.evaluation.evaluation_of.Goals as goal
 
 pub value-requires : goal.value-requires
-value-requires c = λ broken.
+value-requires g c = λ broken.
     let tree : Exp = exp_of c.in-Ok.exp in
     let formed = subst (λ (g : Shape). IsExp g tree) c.in-Ok-names_in_sight.ensures c.in-Ok-check_exp.ensures.well_formed in
     not_broken tree c.args.store.now formed (ap (λ (e : Exp). value e c.args.store.now) (sym c.in-Ok-flat_exp.ensures) ∙ broken)
+
+-- a fault of the check is told as it is, and want of memory as such
+told : (s : Store) (text : List ℕ) (tree : tree.Exp) (fault : CheckFault) (r : Refusal) → HasExp text tree → IsFirst fault (exp_faults (shape_of s) tree) → r ≡ refused_by_check fault →
+    IsEvaluated s text (Err (Refused r))
+told s text e (fault.Declared at) r has first is = rw is (record { tree = e; is_tree = has; first = first })
+told s text e (fault.Unknown at) r has first is = rw is (record { tree = e; is_tree = has; first = first })
+told s text e (fault.WrongKind at) r has first is = rw is (record { tree = e; is_tree = has; first = first })
+told s text e (fault.SelfUse at) r has first is = rw is (record { tree = e; is_tree = has; first = first })
+told s text e (fault.TooMany at) r has first is = rw is (record { tree = e; is_tree = has; first = first })
+told s text e (fault.ArrayLength at) r has first is = rw is (record { tree = e; is_tree = has; first = first })
+told s text e fault.Memory r has first is = rw is tt
+
+pub returns-in-Err-check_exp : goal.returns-in-Err-check_exp
+returns-in-Err-check_exp g c =
+    let e = exp_view c.in-Ok.exp in
+    let first = subst (λ (g : Shape). IsFirst c.in-Err-check_exp.fault (exp_faults g e)) c.in-Ok-names_in_sight.ensures c.in-Err-check_exp.ensures.first in
+    told c.args.store.now c.args.text.now e c.in-Err-check_exp.fault c.refusal_of_check.result c.in-Ok.ensures.read first c.refusal_of_check.ensures

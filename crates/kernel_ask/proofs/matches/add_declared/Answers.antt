@@ -8,7 +8,7 @@ use Rattle.kernel_ask.proofs.Names.{length_names, name_more}
 use Rattle.kernel_ask.proofs.matches.add_declared.Goals as goal
 
 pub loop-i-preserved : goal.loop-i-preserved
-loop-i-preserved c =
+loop-i-preserved g c =
     let prefix = c.args.prefix.now in
     let first = map string_bytes c.args.names.now.keys in
     let names = names_of c.args.store.now in
@@ -19,7 +19,7 @@ loop-i-preserved c =
     ∙ ap (with_matches prefix first) (sym (name_more c.args.store.now c.loop-i.i (name, shown c.entry.result.1) c.entry.ensures))
 
 pub returns : goal.returns
-returns c =
+returns g c =
     let names = names_of c.args.store.now in
     let all : length names ≤ c.loop-i.i = omega (arith, length_names c.args.store.now, c.len-i-end.ensures, c.loop-i-test.false) in
     c.loop-i.invariant ∙ ap (with_matches c.args.prefix.now (map string_bytes c.args.names.now.keys)) (take_all c.loop-i.i names all)

@@ -20,7 +20,7 @@ listed (Ok v) ks s prefix same sorted all = are_matches s prefix (map string_byt
 listed (Err e) ks s prefix same sorted all = tt
 
 pub returns : goal.returns
-returns c =
+returns g c =
     let prefix = c.args.prefix.now in
     let words = map word_text WORDS in
     let all : map string_bytes c.add_words.new.names.keys ≡ all_matches c.args.store.now prefix =

@@ -13,7 +13,7 @@ use Rattle.kernel_ask.proofs.Names.{length_listed, taken_next}
 use Rattle.kernel_ask.proofs.shown.named_texts.Goals as goal
 
 pub loop-i-preserved : goal.loop-i-preserved
-loop-i-preserved c =
+loop-i-preserved g c =
     let s = c.args.store.now in
     let i = c.loop-i.i in
     let test : Name × Val → Bool = λ e. in_cell e.0 (cell_view c.args.cell.now) in
@@ -25,7 +25,7 @@ loop-i-preserved c =
     ∙ ap (λ es. map value_text (filter test es)) (sym (taken_next (listed s) i entry c.entry.ensures))
 
 pub returns : goal.returns
-returns c =
+returns g c =
     let s = c.args.store.now in
     let test : Name × Val → Bool = λ e. in_cell e.0 (cell_view c.args.cell.now) in
     let all : length (listed s) ≤ c.loop-i.i = omega (arith, length_listed s, c.len-i-end.ensures, c.loop-i-test.false) in

@@ -9,7 +9,7 @@ use Rattle.kernel_ask.proofs.Names.{length_listed, taken_next}
 use Rattle.kernel_ask.proofs.standing.value_texts.Goals as goal
 
 pub loop-i-preserved : goal.loop-i-preserved
-loop-i-preserved c =
+loop-i-preserved g c =
     let s = c.args.store.now in
     let i = c.loop-i.i in
     let entry : Name × Val = (c.entry.result.0.now, shown c.entry.result.1) in
@@ -22,7 +22,7 @@ loop-i-preserved c =
     ∙ ap (map value_text) (sym (taken_next (listed s) i entry c.entry.ensures))
 
 pub returns : goal.returns
-returns c =
+returns g c =
     let s = c.args.store.now in
     let all : length (listed s) ≤ c.loop-i.i = omega (arith, length_listed s, c.len-i-end.ensures, c.loop-i-test.false) in
     c.loop-i.invariant ∙ ap (map value_text) (take_all c.loop-i.i (listed s) all)

@@ -4,4 +4,4 @@ use Rattle.kernel_ask.specs.ValueTexts.{value_text}
 use Rattle.kernel_ask.proofs.standing.value_texts.Given as goal
 
 abbrev pub invariant-loop-i : goal.invariant-loop-i
-invariant-loop-i l = map string_bytes l.texts.items ≡ map value_text (take l.i (listed l.store))
+invariant-loop-i g l = map string_bytes l.texts.items ≡ map value_text (take l.i (listed l.store))

@@ -1,8 +1,7 @@
-use Rattle.std.proofs.Common.{◌≡◌, ◌∷◌, ℕ, ◌+◌, ◌-◌, ◌<◌, ◌≤◌, length, map, get_or, sym, ap, subst, ◌∙◌, arith}
+use Rattle.std.proofs.Common.{◌≡◌, ℕ, ◌+◌, ◌-◌, ◌<◌, ◌≤◌, length, map, get_or, sym, ap, subst, ◌∙◌, arith}
 use Rattle.kernel_core.specs.State as state
 use Rattle.kernel_core.specs.State.{root}
 use Rattle.kernel_core.specs.Fields.{node_of, nodes_of}
-use Rattle.kernel_core.specs.Legal.{IsRun}
 use Rattle.kernel_core.specs.declared.tree.Node.{Node}
 use Rattle.kernel_core.specs.declared.tree.Tree.{Tree}
 use Rattle.kernel_core.proofs.Depths.{Climbs, climbs_more, climbs_end}

@@ -1,4 +1,4 @@
-use Rattle.std.proofs.Common.{ℕ, ◌<◌, ◌-◌, ◌==◌, length, if◌then◌else◌}
+use Rattle.std.proofs.Common.{◌<◌, ◌-◌, ◌==◌, length, if◌then◌else◌}
 use Rattle.kernel_core.proofs.Depths.{Descends}
 use Rattle.kernel_core.proofs.extent.nodes_below.Given as goal
 

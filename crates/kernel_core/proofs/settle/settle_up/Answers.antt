@@ -9,13 +9,13 @@ use Rattle.kernel_core.proofs.Trees.{up_possible}
 use Rattle.kernel_core.proofs.settle.settle_up.Goals as goal
 
 pub leave-requires : goal.leave-requires
-leave-requires c =
+leave-requires g c =
     let some = (up_possible (past_of c.args.tree.now) (travel_of c.args.travel) c.requires.way c.requires.kept.possible).0 in
     let at = node_here c.args.tree.now c.index-node.result.now c.requires.kept.legal some c.index-node.ensures in
     (_, up_names c.args.tree.now (travel_of c.args.travel) c.args.n (world_of c.args.runner.now) c.index-node.result.now c.requires.way c.requires.kept.legal c.requires.kept.possible c.requires.ended at)
 
 pub returns-clause-step : goal.returns-clause-step
-returns-clause-step c =
+returns-clause-step g c =
     let some = (up_possible (past_of c.args.tree.now) (travel_of c.args.travel) c.requires.way c.requires.kept.possible).0 in
     let at = node_here c.args.tree.now c.index-node.result.now c.requires.kept.legal some c.index-node.ensures in
     settled_up c.args.tree.now c.index-node.result.now.parent (travel_of c.args.travel) c.args.n (world_of c.args.runner.now) c.arrive.result.1 _ c.requires.way
@@ -23,7 +23,7 @@ returns-clause-step c =
     (subst (λ (t : Travel). Arrives (cells t) (past_of (record c.args.tree.now { position = c.index-node.result.now.parent })) t c.arrive.result.1 (state_of (record c.args.tree.now { position = c.index-node.result.now.parent }) c.arrive.result.0)) c.stepped.ensures (c.arrive.ensures _))
 
 pub returns-clause-kept : goal.returns-clause-kept
-returns-clause-kept c =
+returns-clause-kept g c =
     let some = (up_possible (past_of c.args.tree.now) (travel_of c.args.travel) c.requires.way c.requires.kept.possible).0 in
     let at = node_here c.args.tree.now c.index-node.result.now c.requires.kept.legal some c.index-node.ensures in
     let names = up_names c.args.tree.now (travel_of c.args.travel) c.args.n (world_of c.args.runner.now) c.index-node.result.now c.requires.way c.requires.kept.legal c.requires.kept.possible c.requires.ended at in

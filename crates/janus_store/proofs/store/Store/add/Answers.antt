@@ -15,14 +15,14 @@ use Rattle.janus_store.proofs.Indexes.{declared, same_places, no_place}
 use Rattle.janus_store.proofs.store.Store.add.Goals as goal
 
 pub invariant_of-self-in_err-insert : goal.invariant_of-self-in_err-insert
-invariant_of-self-in_err-insert c =
+invariant_of-self-in_err-insert g c =
     let a = c.self.inside in
     let same = c.in_err-insert.ensures.err in
     subst (λ (l : List Variable). AreIndexed l (get_by_text c.insert.new.self)) (sym c.reserve.ensures.items)
     (same_places a.variables.items (get_by_text a.places) (get_by_text c.insert.new.self) (λ x. ap (λ es. lookup (is_at (λ k. slice_cmp nat_cmp x (string_bytes k))) es) same) c.self.invariant)
 
 pub invariant_of-self-2 : goal.invariant_of-self-2
-invariant_of-self-2 c =
+invariant_of-self-2 g c =
     let a = c.self.inside in
     let vs = a.variables.items in
     let k = string_bytes c.in_ok-key.key in
@@ -37,7 +37,7 @@ invariant_of-self-2 c =
     (declared vs (get_by_text a.places) c.self.invariant y k (get_by_text c.insert.new.self) named new (λ x. updates x ∙ ap (λ n. update bytes_eq (get_by_text a.places) k (Some n) x) len))
 
 pub returns-clause-ok : goal.returns-clause-ok
-returns-clause-ok c =
+returns-clause-ok g c =
     let a = c.self.inside in
     let vs = a.variables.items in
     let y : Variable = record { name = c.in_ok-name.name; value = c.args.value } in

@@ -17,7 +17,7 @@ by_place vs place x None h e = ap is_fine (sym (look_none vs place h x e))
 by_place vs place x (Some i) h e = let s = h.stored x i e in ap is_fine (sym (look_some vs place h x i s.0 e s.1))
 
 pub returns-clause-declared : goal.returns-clause-declared
-returns-clause-declared c =
+returns-clause-declared g c =
     let a = c.self.inside in
     let x = c.args.name.now in
     c.contains_key.ensures ∙ by_place a.variables.items (get_by_text a.places) x (get_by_text a.places x) c.self.invariant refl
@@ -28,7 +28,7 @@ absent_by vs place x None h e f = look_none vs place h x e
 absent_by vs place x (Some i) h e f = cc
 
 pub returns-clause-absent : goal.returns-clause-absent
-returns-clause-absent c =
+returns-clause-absent g c =
     let a = c.self.inside in
     let x = c.args.name.now in
     OnFalse_from c.contains_key.result (look x c.args.self.now ≡ Bad Broken)

@@ -8,12 +8,12 @@ use Rattle.janus_store.proofs.Indexes.{within, found_at, look_none}
 use Rattle.janus_store.proofs.store.Store.element.Goals as goal
 
 pub index-requires : goal.index-requires
-index-requires c =
+index-requires g c =
     let a = c.self.inside in
     omega (arith, within a.variables.items (get_by_text a.places) c.self.invariant c.args.name.now c.in-Some.place.now (sym c.in-Some.ensures.value), a.variables.ok.0)
 
 pub unreachable-requires : goal.unreachable-requires
-unreachable-requires c =
+unreachable-requires g c =
     let a = c.self.inside in
     let x = c.args.name.now in
     let none = look_none a.variables.items (get_by_text a.places) c.self.invariant x (sym c.in-None.ensures.value) in
@@ -21,7 +21,7 @@ unreachable-requires c =
     cc
 
 pub returns : goal.returns
-returns c = λ l e.
+returns g c = λ l e.
     let a = c.self.inside in
     let x = c.args.name.now in
     let i = c.in-Some.place.now in

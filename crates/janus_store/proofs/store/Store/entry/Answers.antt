@@ -10,12 +10,12 @@ use Rattle.janus_store.proofs.Indexes.{slice_get-map}
 use Rattle.janus_store.proofs.store.Store.entry.Goals as goal
 
 pub index-variable-requires : goal.index-variable-requires
-index-variable-requires c =
+index-variable-requires g c =
     let vs = c.self.inside.variables in
     omega (arith, ap size_of c.self.view_is, size-declared Bare vs.items, vs.ok.0, c.requires)
 
 pub returns : goal.returns
-returns c =
+returns g c =
     let vs = c.self.inside.variables.items in
     let i = c.args.i in
     let v = c.index-variable.result.now in

@@ -6,12 +6,12 @@ use Rattle.janus_store.proofs.Indexes.{within, found_at, look_none}
 use Rattle.janus_store.proofs.store.Store.get.Goals as goal
 
 pub index-requires : goal.index-requires
-index-requires c =
+index-requires g c =
     let a = c.self.inside in
     omega (arith, within a.variables.items (get_by_text a.places) c.self.invariant c.args.name.now c.in-Some.place.now (sym c.in-Some.ensures.value), a.variables.ok.0)
 
 pub returns-in-Some : goal.returns-in-Some
-returns-in-Some c =
+returns-in-Some g c =
     let a = c.self.inside in
     let x = c.args.name.now in
     let i = c.in-Some.place.now in
@@ -20,7 +20,7 @@ returns-in-Some c =
     c.number.ensures ∙ sym (ap (λ r. and_then r number) f.seen) ∙ ap (λ s. and_then (look x s) number) c.self.view_is
 
 pub returns-in-None : goal.returns-in-None
-returns-in-None c =
+returns-in-None g c =
     let a = c.self.inside in
     let x = c.args.name.now in
     sym (ap (λ r. and_then r number) (look_none a.variables.items (get_by_text a.places) c.self.invariant x (sym c.in-None.ensures.value)))

@@ -10,12 +10,12 @@ use Rattle.janus_store.proofs.Indexes.{within, found_at, look_none, written}
 use Rattle.janus_store.proofs.store.Store.set_element.Goals as goal
 
 pub index_mut-requires : goal.index_mut-requires
-index_mut-requires c =
+index_mut-requires g c =
     let a = c.self.inside in
     omega (arith, within a.variables.items (get_by_text a.places) c.self.invariant c.args.name.now c.in-Some.place.now (sym c.in-Some.ensures.value), a.variables.ok.0)
 
 pub set_element-requires : goal.set_element-requires
-set_element-requires c =
+set_element-requires g c =
     let a = c.self.inside in
     let x = c.args.name.now in
     let i = c.in-Some.place.now in
@@ -25,7 +25,7 @@ set_element-requires c =
     (c.requires.0, c.requires.1, cc, ap (element c.requires.0) (to_z-of_z w32 c.args.index c.ranges.index) ∙ c.requires.3)
 
 pub invariant_of-self : goal.invariant_of-self
-invariant_of-self c =
+invariant_of-self g c =
     let a = c.self.inside in
     let x = c.args.name.now in
     let i = c.in-Some.place.now in
@@ -34,7 +34,7 @@ invariant_of-self c =
     written a.variables.items (get_by_text a.places) c.self.invariant i v _ f.at refl
 
 pub unreachable-requires : goal.unreachable-requires
-unreachable-requires c =
+unreachable-requires g c =
     let a = c.self.inside in
     let x = c.args.name.now in
     let none = look_none a.variables.items (get_by_text a.places) c.self.invariant x (sym c.in-None.ensures.value) in
@@ -42,7 +42,7 @@ unreachable-requires c =
     cc
 
 pub returns-clause-written : goal.returns-clause-written
-returns-clause-written c = λ l e.
+returns-clause-written g c = λ l e.
     let a = c.self.inside in
     let x = c.args.name.now in
     let i = c.in-Some.place.now in
@@ -56,7 +56,7 @@ returns-clause-written c = λ l e.
     ∙ write_here x c.set_element.new.self Bare a.variables.items i v f.at f.named f.alone
 
 pub returns-clause-shape : goal.returns-clause-shape
-returns-clause-shape c =
+returns-clause-shape g c =
     let a = c.self.inside in
     let x = c.args.name.now in
     let i = c.in-Some.place.now in

@@ -8,7 +8,7 @@ use Rattle.kernel_core.proofs.Trees.{meeting_way}
 use Rattle.kernel_core.proofs.history.History.begin_goto.Goals as goal
 
 pub depart-job-requires-clause-way : goal.depart-job-requires-clause-way
-depart-job-requires-clause-way c =
+depart-job-requires-clause-way g c =
     let legal : IsLegal (past_of c.find_way-up.new.tree) = subst (λ (t : Tree). IsLegal (past_of t)) (sym c.find_way-up.ensures.same) c.self.invariant.kept.legal in
     let size = count_of_nodes c.self.inside.tree in
     let low : c.args.n < length (nodes_of c.self.inside.tree) = omega (arith, c.if-n-len.false, c.len.ensures, c.self.inside.tree.nodes.ok.0) in

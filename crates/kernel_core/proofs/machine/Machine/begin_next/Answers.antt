@@ -11,13 +11,13 @@ use Rattle.kernel_core.proofs.Writing.{machine_with}
 use Rattle.kernel_core.proofs.machine.Machine.begin_next.Goals as goal
 
 pub raised-self-inside-requires : goal.raised-self-inside-requires
-raised-self-inside-requires c =
+raised-self-inside-requires g c =
     let known : HasLegalMinutes (machine_of c.self.inside) = subst (λ (m : Machine). HasLegalMinutes m) (sym c.self.view_is) c.requires in
     let within = counter_within (machine_of c.self.inside) known in
     omega (arith, c.self.invariant.places.posted, c.self.invariant.places.within, within)
 
 pub returns-in-Some : goal.returns-in-Some
-returns-in-Some c =
+returns-in-Some g c =
     let entries = entries_in c.self.inside.minutes in
     let now : Machine = machine_with c.take.new.history (map (job_at (entries_in c.self.inside.minutes)) c.pop_front.new.self.items) c.raised-self-inside.result (entries_in c.self.inside.minutes) c.self.inside.closing in
     let counter : c.raised-self-inside.result ≡ raised c.self.inside.counter (job_at (entries_in c.self.inside.minutes) c.in-Some.place) = c.raised-self-inside.ensures ∙ ap (λ (job : Request). raised c.self.inside.counter job) c.job-job.ensures in

@@ -7,17 +7,18 @@ use Rattle.kernel_core.specs.Runs.{Machine, posted}
 use Rattle.kernel_core.specs.Written.{entry_of, entries_in, job_at, ArePosts}
 use Rattle.kernel_core.specs.declared.minutes.Entry.TheVariants.{Posted}
 use Rattle.kernel_core.proofs.Writing.{one_more, place_posted, posted_view, pushed, machine_with}
+use Rattle.kernel_core.proofs.machine.Machine.post.Given as given
 use Rattle.kernel_core.proofs.machine.Machine.post.Goals as goal
 
 -- what is written down, in the machine's words
-written : (c : goal.After-post) → entries_in c.post.new.self ≡ entries_in c.self.inside.minutes ++ minutes.Posted c.args.lane (request_of c.args.job) ∷ []
-written c =
+written : (g : given.Over) (c : goal.After-post g) → entries_in c.post.new.self ≡ entries_in c.self.inside.minutes ++ minutes.Posted c.args.lane (request_of c.args.job) ∷ []
+written g c =
     one_more c.make_room.new.self.entries.items c.post.new.self.entries.items (Posted c.args.lane c.args.job) c.post.ensures.written
     ∙ ap (λ (entries : List minutes.Entry). entries ++ minutes.Posted c.args.lane (request_of c.args.job) ∷ []) c.make_room.ensures.same
 
 -- its place stands last in the queue
-queued : (c : goal.After-post) → c.push_back.new.self.items ≡ c.self.inside.queue.items ++ length (entries_in c.self.inside.minutes) ∷ []
-queued c =
+queued : (g : given.Over) (c : goal.After-post g) → c.push_back.new.self.items ≡ c.self.inside.queue.items ++ length (entries_in c.self.inside.minutes) ∷ []
+queued g c =
     let size = length-map c.make_room.new.self.entries.items entry_of in
     let same = ap (λ (entries : List minutes.Entry). length entries) c.make_room.ensures.same in
     let place : c.len-place.result ≡ length (entries_in c.self.inside.minutes) = omega (arith, size, same, c.len-place.ensures, c.make_room.new.self.entries.ok.0) in
@@ -25,20 +26,20 @@ queued c =
     ∙ ap (λ (n : ℕ). c.self.inside.queue.items ++ n ∷ []) place
 
 pub invariant_of-self-2 : goal.invariant_of-self-2
-invariant_of-self-2 c = record {
+invariant_of-self-2 g c = record {
   places = c.post.ensures.kept;
   queue =
-      subst (λ (entries : List minutes.Entry). ArePosts entries c.push_back.new.self.items) (sym (written c))
-      (subst (λ (places : List ℕ). ArePosts (entries_in c.self.inside.minutes ++ minutes.Posted c.args.lane (request_of c.args.job) ∷ []) places) (sym (queued c))
+      subst (λ (entries : List minutes.Entry). ArePosts entries c.push_back.new.self.items) (sym (written g c))
+      (subst (λ (places : List ℕ). ArePosts (entries_in c.self.inside.minutes ++ minutes.Posted c.args.lane (request_of c.args.job) ∷ []) places) (sym (queued g c))
       (place_posted (entries_in c.self.inside.minutes) c.self.inside.queue.items c.args.lane (request_of c.args.job) c.self.invariant.queue));
 }
 
 pub returns : goal.returns
-returns c = (
+returns g c = (
   c.in_default.ensures.none,
   c.post.ensures.number
       ∙ ap suc (c.make_room.ensures.kept.posted ∙ ap posted_in c.make_room.ensures.same ∙ ap (λ (m : Machine). posted_in m.minutes) c.self.view_is),
   subst (λ (m : Machine). machine_with c.self.inside.history (map (job_at (entries_in c.post.new.self)) c.push_back.new.self.items) c.self.inside.counter (entries_in c.post.new.self) c.self.inside.closing ≡ posted m c.args.lane (request_of c.args.job)) c.self.view_is
       (posted_view (entries_in c.self.inside.minutes) (entries_in c.post.new.self) c.self.inside.queue.items c.push_back.new.self.items c.args.lane (request_of c.args.job) c.self.inside.history c.self.inside.counter c.self.inside.closing
-      (written c) (queued c) c.self.invariant.queue),
+      (written g c) (queued g c) c.self.invariant.queue),
 )

@@ -1,0 +1,63 @@
+//! The headers of messages that go out (Jupyter messaging page, "General Message Format").
+ghost use Rattle.std.specs.Prelude.{◌≡◌, string_bytes, IfOk};
+ghost use Rattle.serde_json.specs.View.{view};
+ghost use Rattle.serde_json.specs.Written.{compact_text};
+ghost use Rattle.kernel_message.specs.Stamp.{header as header_of, msg_id as msg_id_of};
+
+use crate::stamp::Stamp;
+use itoa::Buffer;
+use serde_json::{Value, json};
+use std::alloc::{AllocError, Global};
+use std::str;
+
+/// The name of the n-th message.
+fn msg_id(alloc: Global, stamp: &Stamp, n: u64) -> Result<String, AllocError>
+    ensures { IfOk result (λ id. string_bytes id ≡ msg_id_of stamp.now n) }
+{
+    let mut buffer = Buffer::new();
+    let mut id = String::from_str(alloc, &stamp.session)?;
+    id.push_str("_")?;
+    id.push_str(buffer.format(stamp.connection))?;
+    id.push_str("_")?;
+    id.push_str(buffer.format(n))?;
+    Ok(id)
+}
+
+/// The date as text.
+fn date_text(stamp: &Stamp) -> &str
+    ensures { result.now ≡ stamp.now.date }
+{
+    match str::from_utf8(&stamp.date) {
+        Ok(text) => text,
+        Err(_) => unreachable!(),
+    }
+}
+
+/// The header of the n-th message.
+fn header(alloc: Global, stamp: &Stamp, n: u64, msg_type: &str) -> Result<Value, AllocError>
+    ensures { IfOk result (λ v. view v ≡ header_of stamp.now n msg_type.now) }
+{
+    let id = msg_id(alloc, stamp, n)?;
+    let session = stamp.session.as_str();
+    let date = date_text(stamp);
+    json!(in alloc; {
+        "date": date,
+        "msg_id": id,
+        "msg_type": msg_type,
+        "session": session,
+        "username": "kernel",
+        "version": "5.4"
+    })
+}
+
+/// The octets of the n-th message's header.
+pub(crate) fn header_octets(
+    alloc: Global,
+    stamp: &Stamp,
+    n: u64,
+    msg_type: &str,
+) -> Result<Vec<u8>, AllocError>
+    ensures { IfOk result (λ v. v.items ≡ compact_text (header_of stamp.now n msg_type.now)) }
+{
+    header(alloc, stamp, n, msg_type)?.to_vec(alloc)
+}

@@ -1,0 +1,9 @@
+pub mod Status
+pub mod Problems
+pub mod Told
+pub mod Replies
+pub mod Execution
+pub mod Comms
+pub mod Moves
+pub mod Answers
+pub mod Laws

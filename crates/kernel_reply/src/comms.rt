@@ -1,0 +1,157 @@
+//! What is said of comms (Jupyter messaging page: "Comm info", "Custom Messages").
+ghost use Rattle.std.specs.Prelude.{◌≡◌, true, false, map, IfOk, OnOk, string_bytes, option_map};
+ghost use Rattle.serde_json.specs.Data.{object, no_members};
+ghost use Rattle.serde_json.specs.View.{view, members_view};
+ghost use Rattle.serde_json.specs.Written.{has_float};
+ghost use Rattle.kernel_message.specs.Draft.{said_of};
+ghost use Rattle.kernel_reply.specs.Comms as table;
+
+use crate::lists::texts;
+use jupyter_msg::CommOpen;
+use kernel_ask::KernelState;
+use kernel_message::Draft;
+use serde_json::{Map, Value, json};
+use std::alloc::{AllocError, Global};
+
+/// The one target that comms have here.
+const TARGET: &str = "janus.undo";
+
+/// An open comm.
+fn comm_shown(alloc: Global) -> Result<Value, AllocError>
+    ensures { IfOk result (λ v. view v ≡ table.comm_shown) }
+{
+    json!(in alloc; {"target_name": "janus.undo"})
+}
+
+/// Adds the open comms.
+fn put_comms(
+    alloc: Global,
+    listed: &mut Map<String, Value>,
+    ids: &[String],
+) -> Result<(), AllocError>
+    ensures { OnOk result (members_view listed.new.entries
+        ≡ table.with_comms (members_view listed.old.entries) (map string_bytes ids.now)) }
+{
+    for id in ids {
+        let shown = comm_shown(alloc)?;
+        serde_json::put(listed, alloc, id, shown)?;
+    }
+    Ok(())
+}
+
+/// The open comms.
+fn comms_shown(alloc: Global, ids: &[String]) -> Result<Value, AllocError>
+    ensures { IfOk result (λ v. view v ≡ object (table.with_comms no_members (map string_bytes ids.now))) }
+{
+    let mut listed = Map::new(alloc);
+    put_comms(alloc, &mut listed, ids)?;
+    Ok(Value::Object(listed))
+}
+
+/// Whether the comms of the target are asked for.
+fn asks_target(name: Option<&str>) -> bool
+    ensures { result ≡ table.asks_target (option_map (λ t. t.now) name.entry) }
+{
+    match name {
+        None => true,
+        Some(name) => name == TARGET,
+    }
+}
+
+/// Open comms as what is told of them.
+#[tactic(auto, using(crate::proofs::Holes::comm_info_plain))]
+fn comm_info_content(alloc: Global, comms: Value) -> Result<Value, AllocError>
+    requires { has_float (view comms) ≡ false }
+    ensures no_float { IfOk result (λ v. has_float (view v) ≡ false) }
+    ensures value { IfOk result (λ v. view v ≡ table.comm_info_content (view comms)) }
+{
+    json!(in alloc; {"comms": comms, "status": "ok"})
+}
+
+/// The open comms, if they are those of the target.
+pub(crate) fn comm_info_reply(
+    alloc: Global,
+    name: Option<&str>,
+    ids: &[String],
+) -> Result<Draft, AllocError>
+    ensures { IfOk result (λ s. said_of s
+        ≡ table.comm_info_reply (option_map (λ t. t.now) name.entry) (map string_bytes ids.now)) }
+{
+    if asks_target(name) {
+        let shown = comms_shown(alloc, ids)?;
+        Ok(Draft {
+            msg_type: "comm_info_reply",
+            content: comm_info_content(alloc, shown)?,
+        })
+    } else {
+        let shown = json!(in alloc; {})?;
+        Ok(Draft {
+            msg_type: "comm_info_reply",
+            content: comm_info_content(alloc, shown)?,
+        })
+    }
+}
+
+/// Whether the comm is among the open ones.
+fn is_open(id: &str, ids: &[String]) -> bool
+    ensures { result ≡ table.is_open id.now ids.now }
+{
+    ids.iter().any(|x| x.as_str() == id)
+}
+
+/// Whether the open of a comm was granted, by the comms that are open after it.
+pub(crate) fn is_granted(request: &CommOpen, ids: &[String]) -> bool
+    ensures { result ≡ table.is_granted (string_bytes request.now.target_name) (string_bytes request.now.comm_id) ids.now }
+{
+    request.target_name.as_str() == TARGET && is_open(&request.comm_id, ids)
+}
+
+/// A comm is closed.
+pub(crate) fn comm_close(alloc: Global, id: &str) -> Result<Draft, AllocError>
+    ensures { IfOk result (λ s. said_of s ≡ table.comm_close id.now) }
+{
+    Ok(Draft {
+        msg_type: "comm_close",
+        content: json!(in alloc; {"comm_id": id, "data": {}})?,
+    })
+}
+
+/// A message on a comm.
+#[tactic(auto, using(crate::proofs::Holes::comm_msg_plain))]
+pub(crate) fn comm_msg(alloc: Global, id: &str, said: Value) -> Result<Draft, AllocError>
+    requires { has_float (view said) ≡ false }
+    ensures { IfOk result (λ s. said_of s ≡ table.comm_msg id.now (view said)) }
+{
+    Ok(Draft {
+        msg_type: "comm_msg",
+        content: json!(in alloc; {"comm_id": id, "data": said})?,
+    })
+}
+
+/// The state, with its world as a list of lines.
+#[tactic(auto, using(crate::proofs::Holes::state_plain))]
+fn state_content(alloc: Global, state: &KernelState, world: Value) -> Result<Value, AllocError>
+    requires { has_float (view world) ≡ false }
+    ensures no_float { IfOk result (λ v. has_float (view v) ≡ false) }
+    ensures value { IfOk result (λ v. view v ≡ table.state_content state.now (view world)) }
+{
+    json!(in alloc; {
+        "busy": state.busy,
+        "depth": state.depth,
+        "node": state.node,
+        "nodes": state.nodes,
+        "op": "state",
+        "redo": state.redo,
+        "status": "ok",
+        "world": world
+    })
+}
+
+/// The state on a comm.
+pub(crate) fn state_msg(alloc: Global, id: &str, state: &KernelState) -> Result<Draft, AllocError>
+    ensures { IfOk result (λ s. said_of s ≡ table.comm_msg id.now (table.state_shown state.now)) }
+{
+    let world = texts(alloc, &state.world)?;
+    let told = state_content(alloc, state, world)?;
+    comm_msg(alloc, id, told)
+}

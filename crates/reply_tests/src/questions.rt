@@ -1,0 +1,229 @@
+//! Answers to questions: each type of reply.
+use crate::kernels::{content, kernel_after};
+use crate::requests::{IDLE, Told, check};
+use kernel_ask::{Ask, Completeness, Content, HistoryAsk};
+use kernel_core::Kernel;
+use std::alloc::Global;
+use std::process::Abort;
+use std::test::Fail;
+
+/// Compares the reply of this type, which is followed by the status.
+fn check_reply(
+    rt: &impl Abort,
+    alloc: Global,
+    request: (&str, &str),
+    told: Content,
+    reply: (&'static str, &'static str),
+) -> Result<(), Fail> {
+    check(
+        rt,
+        alloc,
+        request.0,
+        request.1,
+        Told::Answered(told),
+        &[("who", reply.0, reply.1), IDLE],
+    )
+}
+
+/// The state of a kernel, where the answer does not matter.
+fn anything(alloc: Global, kernel: &Kernel) -> Result<Content, Fail> {
+    content(alloc, kernel, Ask::State)
+}
+
+#[test]
+fn the_kernel_says_what_it_is(rt: HostRuntime) -> Result<(), Fail> {
+    let alloc = rt.alloc();
+    let kernel = kernel_after(alloc, &[])?;
+    check_reply(
+        &rt,
+        alloc,
+        ("kernel_info_request", "{}"),
+        anything(alloc, &kernel)?,
+        (
+            "kernel_info_reply",
+            "{\"banner\":\"Janus with undo\",\"help_links\":[],\"implementation\":\"janus-shared\",\"implementation_version\":\"1.0.0\",\"language_info\":{\"file_extension\":\".janus\",\"mimetype\":\"text/x-janus\",\"name\":\"janus\",\"version\":\"2008\"},\"protocol_version\":\"5.4\",\"status\":\"ok\"}",
+        ),
+    )
+}
+
+#[test]
+fn names_are_completed(rt: HostRuntime) -> Result<(), Fail> {
+    let alloc = rt.alloc();
+    let kernel = kernel_after(alloc, &[])?;
+    let ask = Ask::Complete {
+        code: String::from_str(alloc, "ca")?,
+        cursor: Some(2),
+    };
+    check_reply(
+        &rt,
+        alloc,
+        ("complete_request", "{\"code\":\"ca\",\"cursor_pos\":2}"),
+        content(alloc, &kernel, ask)?,
+        (
+            "complete_reply",
+            "{\"cursor_end\":2,\"cursor_start\":0,\"matches\":[\"call\"],\"metadata\":{},\"status\":\"ok\"}",
+        ),
+    )
+}
+
+#[test]
+fn several_and_no_names_are_completed(rt: HostRuntime) -> Result<(), Fail> {
+    let alloc = rt.alloc();
+    let kernel = kernel_after(alloc, &["int cab int ca"])?;
+    for (code, request, reply) in [
+        (
+            "+ca",
+            "{\"code\":\"+ca\"}",
+            "{\"cursor_end\":3,\"cursor_start\":1,\"matches\":[\"ca\",\"cab\",\"call\"],\"metadata\":{},\"status\":\"ok\"}",
+        ),
+        (
+            "zz",
+            "{\"code\":\"zz\",\"cursor_pos\":9}",
+            "{\"cursor_end\":2,\"cursor_start\":0,\"matches\":[],\"metadata\":{},\"status\":\"ok\"}",
+        ),
+    ] {
+        let ask = Ask::Complete {
+            code: String::from_str(alloc, code)?,
+            cursor: None,
+        };
+        let told = content(alloc, &kernel, ask)?;
+        check_reply(
+            &rt,
+            alloc,
+            ("complete_request", request),
+            told,
+            ("complete_reply", reply),
+        )?;
+    }
+    Ok(())
+}
+
+#[test]
+fn a_name_is_inspected(rt: HostRuntime) -> Result<(), Fail> {
+    let alloc = rt.alloc();
+    let kernel = kernel_after(alloc, &["int x x += 5"])?;
+    for (code, request, reply) in [
+        (
+            "x += 1",
+            "{\"code\":\"x += 1\",\"cursor_pos\":1}",
+            "{\"data\":{\"text/plain\":\"x = 5\"},\"found\":true,\"metadata\":{},\"status\":\"ok\"}",
+        ),
+        (
+            "y",
+            "{\"code\":\"y\",\"cursor_pos\":1}",
+            "{\"data\":{},\"found\":false,\"metadata\":{},\"status\":\"ok\"}",
+        ),
+    ] {
+        let ask = Ask::Inspect {
+            code: String::from_str(alloc, code)?,
+            cursor: Some(1),
+        };
+        let told = content(alloc, &kernel, ask)?;
+        check_reply(
+            &rt,
+            alloc,
+            ("inspect_request", request),
+            told,
+            ("inspect_reply", reply),
+        )?;
+    }
+    Ok(())
+}
+
+#[test]
+fn code_is_judged(rt: HostRuntime) -> Result<(), Fail> {
+    let alloc = rt.alloc();
+    for (judged, reply) in [
+        (Completeness::Complete, "{\"status\":\"complete\"}"),
+        (
+            Completeness::Incomplete,
+            "{\"indent\":\"\",\"status\":\"incomplete\"}",
+        ),
+        (Completeness::Invalid, "{\"status\":\"invalid\"}"),
+        (Completeness::Unknown, "{\"status\":\"unknown\"}"),
+    ] {
+        check_reply(
+            &rt,
+            alloc,
+            ("is_complete_request", "{\"code\":\"\"}"),
+            Content::Completeness(judged),
+            ("is_complete_reply", reply),
+        )?;
+    }
+    Ok(())
+}
+
+#[test]
+fn the_history_is_told(rt: HostRuntime) -> Result<(), Fail> {
+    let alloc = rt.alloc();
+    let kernel = kernel_after(alloc, &["int x", "x += 5"])?;
+    let tail = content(alloc, &kernel, Ask::History(HistoryAsk::Tail(1)))?;
+    check_reply(
+        &rt,
+        alloc,
+        (
+            "history_request",
+            "{\"hist_access_type\":\"tail\",\"n\":1,\"output\":true}",
+        ),
+        tail,
+        (
+            "history_reply",
+            "{\"history\":[[1,2,[\"x += 5\",null]]],\"status\":\"ok\"}",
+        ),
+    )?;
+    let range = HistoryAsk::Range {
+        session: 0,
+        start: 1,
+        stop: None,
+    };
+    check_reply(
+        &rt,
+        alloc,
+        ("history_request", "{\"hist_access_type\":\"range\"}"),
+        content(alloc, &kernel, Ask::History(range))?,
+        (
+            "history_reply",
+            "{\"history\":[[1,1,\"int x\"],[1,2,\"x += 5\"]],\"status\":\"ok\"}",
+        ),
+    )
+}
+
+#[test]
+fn the_history_is_not_searched(rt: HostRuntime) -> Result<(), Fail> {
+    let alloc = rt.alloc();
+    let kernel = kernel_after(alloc, &[])?;
+    check_reply(
+        &rt,
+        alloc,
+        ("history_request", "{\"hist_access_type\":\"search\"}"),
+        anything(alloc, &kernel)?,
+        (
+            "history_reply",
+            "{\"ename\":\"LeftOut\",\"evalue\":\"history search\",\"status\":\"error\",\"traceback\":[]}",
+        ),
+    )
+}
+
+#[test]
+fn interrupt_and_shutdown_are_replied_to(rt: HostRuntime) -> Result<(), Fail> {
+    let alloc = rt.alloc();
+    let kernel = kernel_after(alloc, &[])?;
+    for (request, reply) in [
+        (
+            ("interrupt_request", "{}"),
+            ("interrupt_reply", "{\"status\":\"ok\"}"),
+        ),
+        (
+            ("shutdown_request", "{}"),
+            ("shutdown_reply", "{\"restart\":false,\"status\":\"ok\"}"),
+        ),
+        (
+            ("shutdown_request", "{\"restart\":true}"),
+            ("shutdown_reply", "{\"restart\":true,\"status\":\"ok\"}"),
+        ),
+    ] {
+        let told = anything(alloc, &kernel)?;
+        check_reply(&rt, alloc, request, told, reply)?;
+    }
+    Ok(())
+}
