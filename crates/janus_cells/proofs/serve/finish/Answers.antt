@@ -45,7 +45,7 @@ pub loop-outcome-preserved-in-Going-begin : goal.loop-outcome-preserved-in-Going
 loop-outcome-preserved-in-Going-begin c =
     let s = sliced_as c.loop-outcome.kernel.machine c.slice.new.self.machine c.slice.result _ c.in-Border.is c.loop-outcome.invariant.0 c.slice.ensures in
     let b = begun_as c.slice.new.self.machine c.begin.new.self.machine c.begin.result _ c.in-Going-begin.is s.1.0 c.begin.ensures in
-    (b.1.0, (λ o new f. c.loop-outcome.invariant.1 o new (next_cell s.0 b.0 f)), border_queue c.slice.new.self.machine c.begin.new.self.machine _ s.1.0 b.0 ∙ slice_queue c.loop-outcome.kernel.machine c.slice.new.self.machine _ s.0 ∙ c.loop-outcome.invariant.2)
+    (b.1.0, (λ o new f. c.loop-outcome.invariant.1 o new (next_cell s.0 b.0 f)), border_queue c.slice.new.self.machine c.begin.new.self.machine _ s.1.0 b.0 ∙ slice_queue c.loop-outcome.kernel.machine c.slice.new.self.machine step_limit false _ s.0 ∙ c.loop-outcome.invariant.2)
 
 pub loop-outcome-smaller-in-Going : goal.loop-outcome-smaller-in-Going
 loop-outcome-smaller-in-Going c =
@@ -54,7 +54,7 @@ loop-outcome-smaller-in-Going c =
 pub loop-outcome-preserved-in-Going : goal.loop-outcome-preserved-in-Going
 loop-outcome-preserved-in-Going c =
     let s = sliced_as c.loop-outcome.kernel.machine c.slice.new.self.machine c.slice.result _ c.in-Going.is c.loop-outcome.invariant.0 c.slice.ensures in
-    (s.1.0, (λ o new f. c.loop-outcome.invariant.1 o new (going s.0 f)), slice_queue c.loop-outcome.kernel.machine c.slice.new.self.machine _ s.0 ∙ c.loop-outcome.invariant.2)
+    (s.1.0, (λ o new f. c.loop-outcome.invariant.1 o new (going s.0 f)), slice_queue c.loop-outcome.kernel.machine c.slice.new.self.machine step_limit false _ s.0 ∙ c.loop-outcome.invariant.2)
 
 pub loop-outcome-smaller : goal.loop-outcome-smaller
 loop-outcome-smaller c =
@@ -63,15 +63,15 @@ loop-outcome-smaller c =
 pub loop-outcome-preserved : goal.loop-outcome-preserved
 loop-outcome-preserved c =
     let s = sliced_as c.loop-outcome.kernel.machine c.slice.new.self.machine c.slice.result _ c.in-Backing.is c.loop-outcome.invariant.0 c.slice.ensures in
-    (s.1.0, (λ o new f. c.loop-outcome.invariant.1 o new (backing s.0 f)), slice_queue c.loop-outcome.kernel.machine c.slice.new.self.machine _ s.0 ∙ c.loop-outcome.invariant.2)
+    (s.1.0, (λ o new f. c.loop-outcome.invariant.1 o new (backing s.0 f)), slice_queue c.loop-outcome.kernel.machine c.slice.new.self.machine step_limit false _ s.0 ∙ c.loop-outcome.invariant.2)
 
 pub returns-in-Ended-clause-queue : goal.returns-in-Ended-clause-queue
 returns-in-Ended-clause-queue c =
     let s = sliced_as c.loop-outcome.kernel.machine c.slice.new.self.machine c.slice.result _ c.in-Ended.is c.loop-outcome.invariant.0 c.slice.ensures in
-    slice_queue c.loop-outcome.kernel.machine c.slice.new.self.machine _ s.0 ∙ c.loop-outcome.invariant.2
+    slice_queue c.loop-outcome.kernel.machine c.slice.new.self.machine step_limit false _ s.0 ∙ c.loop-outcome.invariant.2
 
 pub returns-in-Ended-begin-clause-queue : goal.returns-in-Ended-begin-clause-queue
 returns-in-Ended-begin-clause-queue c =
     let s = sliced_as c.loop-outcome.kernel.machine c.slice.new.self.machine c.slice.result _ c.in-Border.is c.loop-outcome.invariant.0 c.slice.ensures in
     let b = begun_as c.slice.new.self.machine c.begin.new.self.machine c.begin.result _ c.in-Ended-begin.is s.1.0 c.begin.ensures in
-    border_queue c.slice.new.self.machine c.begin.new.self.machine _ s.1.0 b.0 ∙ slice_queue c.loop-outcome.kernel.machine c.slice.new.self.machine _ s.0 ∙ c.loop-outcome.invariant.2
+    border_queue c.slice.new.self.machine c.begin.new.self.machine _ s.1.0 b.0 ∙ slice_queue c.loop-outcome.kernel.machine c.slice.new.self.machine step_limit false _ s.0 ∙ c.loop-outcome.invariant.2
