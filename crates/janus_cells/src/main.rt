@@ -8,6 +8,7 @@
 #![tactic(auto)]
 
 mod command;
+mod counted;
 mod fault;
 mod gathered;
 mod input;

@@ -16,9 +16,9 @@ ghost use Rattle.janus_cells.specs.Shown.{world_text};
 ghost use Rattle.janus_cells.specs.Transcript.{ActionsServe, IsTranscript, came_line};
 
 use crate::command::Command;
+use crate::counted::run_counted;
 use crate::fault::RunFault;
 use crate::gathered::Gathered;
-use crate::input::read_text;
 use crate::lines::{is_command_line, split_line};
 use crate::output::{WriteFailed, send, send_outcome, send_position, send_post_fault};
 use crate::serve::serve;
@@ -26,6 +26,8 @@ use crate::value::send_value;
 use kernel_core::{Job, Kernel, PostFault};
 use std::alloc::Global;
 use std::io::{Read, Write};
+use std::marker::Brand;
+use std::sync::ledger::{Blank, Ledger};
 
 /// Reads all of the input, at most 16 MiB, and then runs it line by line: lines that begin with `%` are commands, all
 /// others gather to the text of a cell. What a command answers is written before the next one is run. A cell that has not ended
@@ -56,21 +58,14 @@ pub fn run<R: Read, W: Write>(
     ensures within { MatchResult result (λ _. TakesAtMost input_limit (R.remaining reader.old) (R.remaining reader.new))
         (λ fault. fault ≢ RunFault.TooLong → TakesAtMost input_limit (R.remaining reader.old) (R.remaining reader.new)) }
 {
-    let Ok(mut kernel) = Kernel::new(alloc) else {
-        return Err(RunFault::Memory);
-    };
-    let text = read_text(alloc, reader)?;
-    match run_text(alloc, steps, &mut kernel, &text, writer) {
-        Ok(()) => Ok(()),
-        Err(_) => Err(RunFault::Write),
-    }
+    run_counted::<Brand, R, W>(alloc, Blank::new(1), steps, reader, writer)
 }
 
 /// Runs the lines of a text, and then what is still gathered.
-fn run_text<W: Write>(
+pub(crate) fn run_text<L: Ledger, W: Write>(
     alloc: Global,
     steps: u64,
-    kernel: &mut Kernel,
+    kernel: &mut Kernel<L>,
     text: &str,
     writer: &mut W,
 ) -> Result<(), WriteFailed>
@@ -95,10 +90,10 @@ fn run_text<W: Write>(
 }
 
 /// Runs what is behind the last LF, a line unless it is empty, and then what is still gathered.
-fn run_end<W: Write>(
+fn run_end<L: Ledger, W: Write>(
     alloc: Global,
     steps: u64,
-    kernel: &mut Kernel,
+    kernel: &mut Kernel<L>,
     gathered: &mut Gathered,
     rest: &str,
     writer: &mut W,
@@ -121,10 +116,10 @@ fn run_end<W: Write>(
 }
 
 /// Gathers a line, or does what it commands.
-fn run_line<W: Write>(
+fn run_line<L: Ledger, W: Write>(
     alloc: Global,
     steps: u64,
-    kernel: &mut Kernel,
+    kernel: &mut Kernel<L>,
     gathered: &mut Gathered,
     line: &str,
     writer: &mut W,
@@ -150,10 +145,10 @@ fn run_line<W: Write>(
 }
 
 /// Does what a command asks for. Before any but `%%`, which runs the gathered text in any case, that is run unless it is blank.
-fn run_command<W: Write>(
+fn run_command<L: Ledger, W: Write>(
     alloc: Global,
     steps: u64,
-    kernel: &mut Kernel,
+    kernel: &mut Kernel<L>,
     gathered: &mut Gathered,
     command: Command,
     writer: &mut W,
@@ -178,9 +173,9 @@ fn run_command<W: Write>(
 }
 
 /// Does what a command other than `%%` asks for.
-fn obey<W: Write>(
+fn obey<L: Ledger, W: Write>(
     steps: u64,
-    kernel: &mut Kernel,
+    kernel: &mut Kernel<L>,
     command: Command,
     writer: &mut W,
 ) -> Result<(), WriteFailed>
@@ -204,10 +199,10 @@ fn obey<W: Write>(
 }
 
 /// Runs the gathered text as a cell, unless it is blank; it is gathered no longer.
-fn run_rest<W: Write>(
+fn run_rest<L: Ledger, W: Write>(
     alloc: Global,
     steps: u64,
-    kernel: &mut Kernel,
+    kernel: &mut Kernel<L>,
     gathered: &mut Gathered,
     writer: &mut W,
 ) -> Result<(), WriteFailed>
@@ -231,10 +226,10 @@ fn run_rest<W: Write>(
 }
 
 /// Runs the gathered text as a cell; it is gathered no longer.
-fn run_cell<W: Write>(
+fn run_cell<L: Ledger, W: Write>(
     alloc: Global,
     steps: u64,
-    kernel: &mut Kernel,
+    kernel: &mut Kernel<L>,
     gathered: &mut Gathered,
     writer: &mut W,
 ) -> Result<(), WriteFailed>
@@ -266,7 +261,7 @@ fn run_cell<W: Write>(
 }
 
 /// Why a cell is not posted for whose text there was no memory: that, unless any post is refused now.
-fn lost_text(kernel: &Kernel) -> PostFault
+fn lost_text<L: Ledger>(kernel: &Kernel<L>) -> PostFault
     ensures { IsRefusal kernel.now.machine result }
 {
     match kernel.post_fault() {
@@ -276,9 +271,9 @@ fn lost_text(kernel: &Kernel) -> PostFault
 }
 
 /// Brings a job to its end, and writes what came of it.
-fn run_job<W: Write>(
+fn run_job<L: Ledger, W: Write>(
     steps: u64,
-    kernel: &mut Kernel,
+    kernel: &mut Kernel<L>,
     job: Job,
     writer: &mut W,
 ) -> Result<(), WriteFailed>
@@ -298,7 +293,7 @@ fn run_job<W: Write>(
 }
 
 /// Writes the position, and the declared names with their values.
-fn show<W: Write>(kernel: &Kernel, writer: &mut W) -> Result<(), WriteFailed>
+fn show<L: Ledger, W: Write>(kernel: &Kernel<L>, writer: &mut W) -> Result<(), WriteFailed>
     requires idle { kernel.now.machine.state.job ≡ Idle }
     ensures ok { OnOk result (Appends (W.contents writer.old) (W.contents writer.new) (world_text kernel.now.machine.state.past)) }
     ensures err { OnErr result (SentSome (W.contents writer.old) (W.contents writer.new) (world_text kernel.now.machine.state.past)) }

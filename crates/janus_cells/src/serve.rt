@@ -6,9 +6,10 @@ ghost use Rattle.janus_cells.specs.OpenJob.{IsInCell, MustGoBack, is_cell as is_
 ghost use Rattle.janus_cells.specs.Served.{CellFinishes, Finishes, GoesBack, Serves, NotPosted, Finished};
 
 use kernel_core::{Begun, Job, Kernel, Outcome, PostFault, STEP_LIMIT, Sliced};
+use std::sync::ledger::Ledger;
 
 /// Slices the job that has to go back, or is asked to, until it has ended.
-fn go_back(kernel: &mut Kernel, asked: bool) -> Outcome
+fn go_back<L: Ledger>(kernel: &mut Kernel<L>, asked: bool) -> Outcome
     requires { MustGoBack asked kernel.old.machine.state.job }
     ensures goes_back { GoesBack asked kernel.old.machine result kernel.new.machine }
     ensures idle { kernel.new.machine.state.job ≡ Idle }
@@ -24,7 +25,7 @@ fn go_back(kernel: &mut Kernel, asked: bool) -> Outcome
 }
 
 /// Gives the cell that has been entered so many steps, and takes it back where it has not ended by then.
-fn finish_cell(kernel: &mut Kernel, steps: u64) -> Outcome
+fn finish_cell<L: Ledger>(kernel: &mut Kernel<L>, steps: u64) -> Outcome
     requires { IsInCell kernel.old.machine.state.job }
     ensures finishes { CellFinishes steps kernel.old.machine result kernel.new.machine }
     ensures idle { kernel.new.machine.state.job ≡ Idle }
@@ -39,7 +40,7 @@ fn finish_cell(kernel: &mut Kernel, steps: u64) -> Outcome
 }
 
 /// Slices the move that stands inside a cell to its end, and begins its next cells.
-fn finish(kernel: &mut Kernel) -> Outcome
+fn finish<L: Ledger>(kernel: &mut Kernel<L>) -> Outcome
     requires { (e : Entered) × (kernel.old.machine.state.job ≡ Inside e) }
     ensures finishes { Finishes kernel.old.machine result kernel.new.machine }
     ensures idle { kernel.new.machine.state.job ≡ Idle }
@@ -62,7 +63,11 @@ fn finish(kernel: &mut Kernel) -> Outcome
 
 /// Posts a job to a kernel without an open job, and brings it to its end. A cell that has not ended after so many steps is
 /// interrupted.
-pub fn serve(kernel: &mut Kernel, steps: u64, job: Job) -> Result<Outcome, PostFault>
+pub fn serve<L: Ledger>(
+    kernel: &mut Kernel<L>,
+    steps: u64,
+    job: Job,
+) -> Result<Outcome, PostFault>
     requires idle { kernel.old.machine.state.job ≡ Idle }
     requires alone { kernel.old.machine.queue ≡ [] }
     ensures ok { IfOk result (λ outcome. Serves steps kernel.old.machine (request_of job) (Finished outcome) kernel.new.machine) }

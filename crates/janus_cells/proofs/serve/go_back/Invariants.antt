@@ -8,9 +8,9 @@ use Rattle.janus_cells.proofs.serve.go_back.Given as goal
 
 -- the job still has to go back, and what it comes to from here it comes to from the beginning
 abbrev pub invariant-loop-outcome : goal.invariant-loop-outcome
-invariant-loop-outcome l =
+invariant-loop-outcome g l =
     MustGoBack l.asked l.kernel.machine.state.job × ((o : Outcome) (new : Machine) → GoesBack l.asked l.kernel.machine o new → GoesBack l.asked l.fn.kernel.machine o new)
     × (l.kernel.machine.queue ≡ l.fn.kernel.machine.queue)
 
 abbrev pub decreases-loop-outcome : goal.decreases-loop-outcome
-decreases-loop-outcome l = count_of l.kernel.machine.state.job
+decreases-loop-outcome g l = count_of l.kernel.machine.state.job
