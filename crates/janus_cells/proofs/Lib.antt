@@ -1,6 +1,7 @@
 pub mod CommandLemmas
 pub mod Determined
 pub mod Finishing
+pub mod GoingBack
 pub mod InputLemmas
 pub mod LinesLemmas
 pub mod OutputLemmas

@@ -1,6 +1,5 @@
 -- A request that is posted to a kernel without an open job is the one that is begun.
-use Rattle.std.proofs.Common.{◌≡◌, ℕ, ◌+◌, zero, suc, Bool, true, false, List, [], ◌∷◌, ◌++◌, Ok, Err, ap, ◌∙◌, sym, subst, ⊎_elim}
-use Rattle.janus_meaning.specs.Limit.{step_limit}
+use Rattle.std.proofs.Common.{◌≡◌, ℕ, ◌+◌, zero, suc, Bool, true, false, List, [], ◌∷◌, ◌++◌, Ok, Err, refl, ap, ◌∙◌, sym, subst, ⊎_elim}
 use Rattle.kernel_core.specs.State.{Past, State, Job, Idle, Border}
 use Rattle.kernel_core.specs.Begins.{travel_to, Enters, Departs, TakesCell, TakesMove, TakesGoto}
 use Rattle.kernel_core.specs.Runs.{Machine, Takes, TakesUnless, BeginsAt, IsPost, IsBegin, IsSliceOf}
@@ -11,8 +10,10 @@ use Rattle.kernel_core.specs.Slices.{cells}
 use Rattle.kernel_core.specs.declared.post.PostFault.{PostFault}
 use Rattle.kernel_core.specs.declared.outcome.Begun.{Begun}
 use Rattle.kernel_core.specs.declared.outcome.Begun.TheVariants as begun
+use Rattle.kernel_core.specs.declared.outcome.Outcome.{Outcome}
 use Rattle.kernel_core.specs.declared.outcome.Sliced.{Sliced}
-use Rattle.janus_cells.specs.Served.{lane}
+use Rattle.janus_cells.specs.OpenJob.{IsInCell, is_cell}
+use Rattle.janus_cells.specs.Served.{lane, CellFinishes, Finishes, FinishesAs}
 use Rattle.janus_cells.proofs.Finishing.{IsInside, IsBorder}
 
 -- what the answer of a begin tells that takes a job
@@ -58,6 +59,22 @@ taken_took : (closing : Bool) (s : Past) (r : Request) (told : Begun) (new : Sta
 taken_took false s r told new h = takes_took s r told new h
 taken_took true s r told new h = subst (λ b. Took b new.job) (sym h.0) (ap (λ x. x.job) h.1)
 
+-- a cell that is taken and goes is entered
+cell_in : (s : Past) (text : List ℕ) (full : Bool) (new : State) → TakesCell s text full begun.Going new → IsInCell new.job
+cell_in s text true new h = cc
+cell_in s text false new h =
+    ⊎_elim
+    (λ h. (_, h.0, ap (λ x. x.job) h.3, refl))
+    (λ h. cc)
+    h
+
+taken_in : (closing : Bool) (s : Past) (r : Request) (new : State) → is_cell r ≡ true → TakesUnless closing s r begun.Going new → IsInCell new.job
+taken_in true s r new e h = cc
+taken_in false s (RunCell text silent store) new e h = cell_in s text _ new h
+taken_in false s (Undo k) new e h = cc
+taken_in false s (Redo k) new e h = cc
+taken_in false s (Goto n) new e h = cc
+
 -- the job stands alone in the queue
 abbrev pub IsAlone : Machine → Request → Type 0
 IsAlone m r = m.queue ≡ r ∷ []
@@ -77,10 +94,31 @@ begun_alone old new r told idle alone h =
     let state : new.state ≡ at.0 = ap (λ m. m.state) h.2 ∙ ap (λ m. m.state) at.2 in
     (subst (λ s. Took told s.job) (sym state) (taken_took old.closing old.state.past r told at.0 at.1), ap (λ m. m.queue) h.2 ∙ ap (λ m. m.queue) at.2)
 
-pub slice_queue : (old new : Machine) (told : Sliced) → IsSliceOf old step_limit false told new → new.queue ≡ old.queue
-slice_queue old new told h = ap (λ m. m.queue) h.2
+-- a cell that stands alone in the queue, and goes
+pub begun_cell : (old new : Machine) (r : Request) → is_cell r ≡ true → old.state.job ≡ Idle → IsAlone old r → IsBegin old begun.Going new → IsInCell new.state.job
+begun_cell old new r e idle alone h =
+    let at : BeginsAt old Idle (r ∷ []) begun.Going h.0 = subst (λ q. BeginsAt old Idle q begun.Going h.0) alone (subst (λ job. BeginsAt old job old.queue begun.Going h.0) idle h.1) in
+    let state : new.state ≡ at.0 = ap (λ m. m.state) h.2 ∙ ap (λ m. m.state) at.2 in
+    subst (λ s. IsInCell s.job) (sym state) (taken_in old.closing old.state.past r at.0 e at.1)
+
+pub slice_queue : (old new : Machine) (m : ℕ) (asked : Bool) (told : Sliced) → IsSliceOf old m asked told new → new.queue ≡ old.queue
+slice_queue old new m asked told h = ap (λ m. m.queue) h.2
 
 pub border_queue : (old new : Machine) (told : Begun) → IsBorder old.state.job → IsBegin old told new → new.queue ≡ old.queue
 border_queue old new told i h =
     let at : BeginsAt old (Border i.0) old.queue told h.0 = subst (λ job. BeginsAt old job old.queue told h.0) i.1 h.1 in
     ap (λ m. m.queue) h.2 ∙ ap (λ m. m.queue) at.2
+
+-- ---- how a job inside a cell is finished
+
+pub cell_as : (steps : ℕ) (r : Request) (old new : Machine) (o : Outcome) → is_cell r ≡ true → CellFinishes steps old o new → FinishesAs steps r old o new
+cell_as steps (RunCell text silent store) old new o e f = f
+cell_as steps (Undo k) old new o e f = cc
+cell_as steps (Redo k) old new o e f = cc
+cell_as steps (Goto n) old new o e f = cc
+
+pub move_as : (steps : ℕ) (r : Request) (old new : Machine) (o : Outcome) → is_cell r ≡ false → Finishes old o new → FinishesAs steps r old o new
+move_as steps (RunCell text silent store) old new o e f = cc
+move_as steps (Undo k) old new o e f = f
+move_as steps (Redo k) old new o e f = f
+move_as steps (Goto n) old new o e f = f

@@ -1,4 +1,4 @@
--- An input has at most one transcript that nowhere tells want of memory.
+-- An input has at most one transcript that nowhere tells want of memory, for each number of steps that a cell may take.
 use Rattle.std.specs.Prelude.{◌≡◌, ℕ, ◌⊎◌, List, ◌++◌, codes}
 use Rattle.janus_cells.specs.Transcript.{IsTranscript}
 
@@ -10,8 +10,8 @@ Holds text octets = (before : List ℕ) × (after : List ℕ) × (text ≡ befor
 abbrev pub TellsWant : List ℕ → Type 0
 TellsWant text = Holds text (codes "refused 76 Memory") ⊎ Holds text (codes " then no memory")
 
--- Two transcripts of one input, neither of which tells want of memory, are the same.
+-- Two transcripts of one input, for the same number of steps, neither of which tells want of memory, are the same.
 abbrev pub TranscriptIsDetermined : Type 0
 TranscriptIsDetermined =
-    (input out other : List ℕ) →
-    IsTranscript input out → (TellsWant out → ⊥) → IsTranscript input other → (TellsWant other → ⊥) → out ≡ other
+    (steps : ℕ) (input out other : List ℕ) →
+    IsTranscript steps input out → (TellsWant out → ⊥) → IsTranscript steps input other → (TellsWant other → ⊥) → out ≡ other

@@ -10,3 +10,5 @@ pub mod Transcript
 pub mod Loop
 pub mod Gathering
 pub mod Determined
+pub mod OpenJob
+pub mod CommandLine

@@ -20,9 +20,9 @@ abbrev pub came_line : Came → List ℕ
 came_line (NotPosted f) = post_fault_line f
 came_line (Finished outcome) = outcome_line outcome
 
--- a request is served, and `out` is the line of what came of it
-abbrev pub Answers : Machine → Request → List ℕ → Machine → Type 0
-Answers old r out new = (came : Came) × Serves old r came new × (out ≡ ended_line (came_line came))
+-- a request is served, with so many steps for a cell, and `out` is the line of what came of it
+abbrev pub Answers : ℕ → Machine → Request → List ℕ → Machine → Type 0
+Answers steps old r out new = (came : Came) × Serves steps old r came new × (out ≡ ended_line (came_line came))
 
 -- what is told of a command that nobody knows
 abbrev pub bad_command_line : List ℕ
@@ -30,22 +30,22 @@ bad_command_line = ended_line (codes "refused 80 BadCommand")
 
 -- one action is served, and `out` is what is written of it: a text runs as a cell, cells are undone or redone, a node is gone
 -- to, the world is shown as it is, or a command is refused
-abbrev pub ActionServes : Action → Machine → List ℕ → Machine → Type 0
-ActionServes (RunText text) old out new = Answers old (RunCell text false true) out new
-ActionServes (UndoCells k) old out new = Answers old (request.Undo k) out new
-ActionServes (RedoCells k) old out new = Answers old (request.Redo k) out new
-ActionServes (GoToNode n) old out new = Answers old (request.Goto n) out new
-ActionServes ShowWorld old out new = (out ≡ world_text old.state.past) × (new ≡ old)
-ActionServes BadCommand old out new = (out ≡ bad_command_line) × (new ≡ old)
+abbrev pub ActionServes : ℕ → Action → Machine → List ℕ → Machine → Type 0
+ActionServes steps (RunText text) old out new = Answers steps old (RunCell text false true) out new
+ActionServes steps (UndoCells k) old out new = Answers steps old (request.Undo k) out new
+ActionServes steps (RedoCells k) old out new = Answers steps old (request.Redo k) out new
+ActionServes steps (GoToNode n) old out new = Answers steps old (request.Goto n) out new
+ActionServes steps ShowWorld old out new = (out ≡ world_text old.state.past) × (new ≡ old)
+ActionServes steps BadCommand old out new = (out ≡ bad_command_line) × (new ≡ old)
 
 -- actions are served one after the other, and `out` is all that is written of them
-abbrev pub ActionsServe : List Action → Machine → List ℕ → Machine → Type 0
-ActionsServe [] old out new = (out ≡ []) × (new ≡ old)
-ActionsServe (action ∷ more) old out new =
+abbrev pub ActionsServe : ℕ → List Action → Machine → List ℕ → Machine → Type 0
+ActionsServe steps [] old out new = (out ≡ []) × (new ≡ old)
+ActionsServe steps (action ∷ more) old out new =
     (mid : Machine) × (first : List ℕ) × (second : List ℕ)
-    × ActionServes action old first mid × ActionsServe more mid second new × (out ≡ first ++ second)
+    × ActionServes steps action old first mid × ActionsServe steps more mid second new × (out ≡ first ++ second)
 
--- A transcript of an input: a new kernel serves the actions that the input asks for, and all that is written of them is
--- the transcript.
-abbrev pub IsTranscript : List ℕ → List ℕ → Type 0
-IsTranscript input out = (new : Machine) × ActionsServe (script input) new_machine out new
+-- A transcript of an input, of whose cells each may take so many steps: a new kernel serves the actions that the input asks
+-- for, and all that is written of them is the transcript.
+abbrev pub IsTranscript : ℕ → List ℕ → List ℕ → Type 0
+IsTranscript steps input out = (new : Machine) × ActionsServe steps (script input) new_machine out new

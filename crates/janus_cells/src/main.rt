@@ -8,6 +8,7 @@
 #![tactic(auto)]
 
 mod command;
+mod counted;
 mod fault;
 mod gathered;
 mod input;
@@ -27,19 +28,20 @@ mod words;
 use crate::fault::{RunFault, status};
 use crate::output::{WriteFailed, send_run_fault};
 use crate::run::run;
-use crate::words::{take_words, unread_words_status, words_status};
+use crate::words::{steps_of, unread_words_status, words_status};
 use clap::error::ErrorKind;
 use std::env;
 use std::io::{self, BufWriter};
 use std::process::ExitCode;
 
 fn main(rt: HostRuntime) -> anyhow::Result<ExitCode> {
-    if let Some(status) = read_command_line(&rt)? {
-        return Ok(status);
-    }
+    let steps = match read_command_line(&rt)? {
+        Ok(steps) => steps,
+        Err(status) => return Ok(status),
+    };
     let alloc = rt.alloc();
     let ended = match BufWriter::new(alloc, rt.stdout()) {
-        Ok(mut writer) => run(alloc, &mut rt.stdin(), &mut writer),
+        Ok(mut writer) => run(alloc, steps, &mut rt.stdin(), &mut writer),
         Err(_) => Err(RunFault::Memory),
     };
     if let Err(fault) = ended {
@@ -48,43 +50,44 @@ fn main(rt: HostRuntime) -> anyhow::Result<ExitCode> {
     Ok(ExitCode::from(status(ended)))
 }
 
-/// Reads the command line, which has no word but `--help`. Where nothing is to be run it answers the program's status.
-fn read_command_line(rt: &HostRuntime) -> anyhow::Result<Option<ExitCode>> {
+/// Reads the command line, which tells how many steps a cell may take. Where nothing is to be run it answers the program's
+/// status.
+fn read_command_line(rt: &HostRuntime) -> anyhow::Result<Result<u64, ExitCode>> {
     let alloc = rt.alloc();
     let words = match env::args(rt) {
         Ok(words) => words,
-        Err(error) => return refuse_unread_words(rt, error.kind()),
+        Err(error) => return Ok(Err(refuse_unread_words(rt, error.kind())?)),
     };
     let Ok(words) = words.collect::<Vec<String>>(alloc) else {
-        return refuse_unread_words(rt, io::ErrorKind::OutOfMemory);
+        return Ok(Err(refuse_unread_words(rt, io::ErrorKind::OutOfMemory)?));
     };
-    match take_words(alloc, words.as_slice()) {
-        Ok(()) => Ok(None),
-        Err(error) => refuse_words(rt, &error),
+    match steps_of(alloc, words.as_slice()) {
+        Ok(steps) => Ok(Ok(steps)),
+        Err(error) => Ok(Err(refuse_words(rt, &error)?)),
     }
 }
 
 /// Tells why the words of the command line could not be had, and answers the program's status.
-fn refuse_unread_words(rt: &HostRuntime, kind: io::ErrorKind) -> anyhow::Result<Option<ExitCode>> {
+fn refuse_unread_words(rt: &HostRuntime, kind: io::ErrorKind) -> anyhow::Result<ExitCode> {
     if kind == io::ErrorKind::OutOfMemory {
         tell(rt, RunFault::Memory)?;
     } else {
         eprintln!(rt; "error: invalid UTF-8 was detected in one or more arguments")?;
     }
-    Ok(Some(ExitCode::from(unread_words_status(kind))))
+    Ok(ExitCode::from(unread_words_status(kind)))
 }
 
 /// Tells why the words of the command line run nothing, and answers the program's status. A help text that can't be written
 /// is a fault.
-fn refuse_words(rt: &HostRuntime, error: &clap::Error) -> anyhow::Result<Option<ExitCode>> {
+fn refuse_words(rt: &HostRuntime, error: &clap::Error) -> anyhow::Result<ExitCode> {
     let kind = error.kind();
     if kind == ErrorKind::OutOfMemory {
         tell(rt, RunFault::Memory)?;
     } else if error.print(rt).is_err() && !error.use_stderr() {
         tell(rt, RunFault::Write)?;
-        return Ok(Some(ExitCode::from(status(Err(RunFault::Write)))));
+        return Ok(ExitCode::from(status(Err(RunFault::Write))));
     }
-    Ok(Some(ExitCode::from(words_status(kind))))
+    Ok(ExitCode::from(words_status(kind)))
 }
 
 /// Tells a fault on standard error.

@@ -16,9 +16,9 @@ ghost use Rattle.janus_cells.specs.Shown.{world_text};
 ghost use Rattle.janus_cells.specs.Transcript.{ActionsServe, IsTranscript, came_line};
 
 use crate::command::Command;
+use crate::counted::run_counted;
 use crate::fault::RunFault;
 use crate::gathered::Gathered;
-use crate::input::read_text;
 use crate::lines::{is_command_line, split_line};
 use crate::output::{WriteFailed, send, send_outcome, send_position, send_post_fault};
 use crate::serve::serve;
@@ -26,9 +26,12 @@ use crate::value::send_value;
 use kernel_core::{Job, Kernel, PostFault};
 use std::alloc::Global;
 use std::io::{Read, Write};
+use std::marker::Brand;
+use std::sync::ledger::{Blank, Ledger};
 
 /// Reads all of the input, at most 16 MiB, and then runs it line by line: lines that begin with `%` are commands, all
-/// others gather to the text of a cell. What a command answers is written before the next one is run.
+/// others gather to the text of a cell. What a command answers is written before the next one is run. A cell that has not ended
+/// after `steps` steps is interrupted; undo, redo and goto take all the steps that they need.
 ///
 /// What is written is the transcript of what is read, which is at most 16 MiB of UTF-8. Faults are looked for in this order:
 /// no memory for the start; a read that fails, input that is too long, no memory for the input; input that isn't text. Up to
@@ -37,50 +40,49 @@ use std::io::{Read, Write};
 ///
 /// The clauses speak of a reader and a writer whose octets are known, as those over memory; of others, as std's `Stdin` and
 /// `Stdout`, which tell none, they say nothing.
-pub fn run<R: Read, W: Write>(alloc: Global, reader: &mut R, writer: &mut W) -> Result<(), RunFault>
+pub fn run<R: Read, W: Write>(
+    alloc: Global,
+    steps: u64,
+    reader: &mut R,
+    writer: &mut W,
+) -> Result<(), RunFault>
     ensures written { OnOk result (IfSome (R.remaining reader.old) (λ input.
-        (out : List ℕ) × IsTranscript input out × Appends (W.contents writer.old) (W.contents writer.new) out)) }
+        (out : List ℕ) × IsTranscript steps input out × Appends (W.contents writer.old) (W.contents writer.new) out)) }
     ensures served { MatchResult result (λ _. IfSome (R.remaining reader.old) IsServed)
         (λ fault. fault ≡ RunFault.Write → IfSome (R.remaining reader.old) IsServed) }
     ensures cut { IfErr result (λ fault. fault ≡ RunFault.Write → IfSome (R.remaining reader.old) (λ input.
-        (out : List ℕ) × IsTranscript input out × SentSome (W.contents writer.old) (W.contents writer.new) out)) }
+        (out : List ℕ) × IsTranscript steps input out × SentSome (W.contents writer.old) (W.contents writer.new) out)) }
     ensures unread { IfErr result (λ fault. fault ≢ RunFault.Write → IfSome (R.remaining reader.old) (IsWhyUnread fault)) }
     ensures unwritten { IfErr result (λ fault. fault ≢ RunFault.Write → Keeps (W.contents writer.old) (W.contents writer.new)) }
     ensures taken { TakesAtMost (input_limit + 1) (R.remaining reader.old) (R.remaining reader.new) }
     ensures within { MatchResult result (λ _. TakesAtMost input_limit (R.remaining reader.old) (R.remaining reader.new))
         (λ fault. fault ≢ RunFault.TooLong → TakesAtMost input_limit (R.remaining reader.old) (R.remaining reader.new)) }
 {
-    let Ok(mut kernel) = Kernel::new(alloc) else {
-        return Err(RunFault::Memory);
-    };
-    let text = read_text(alloc, reader)?;
-    match run_text(alloc, &mut kernel, &text, writer) {
-        Ok(()) => Ok(()),
-        Err(_) => Err(RunFault::Write),
-    }
+    run_counted::<Brand, R, W>(alloc, Blank::new(1), steps, reader, writer)
 }
 
 /// Runs the lines of a text, and then what is still gathered.
-fn run_text<W: Write>(
+pub(crate) fn run_text<L: Ledger, W: Write>(
     alloc: Global,
-    kernel: &mut Kernel,
+    steps: u64,
+    kernel: &mut Kernel<L>,
     text: &str,
     writer: &mut W,
 ) -> Result<(), WriteFailed>
     requires idle { kernel.old.machine.state.job ≡ Idle }
     requires alone { kernel.old.machine.queue ≡ [] }
-    ensures ok { OnOk result ((out : List ℕ) × (new : Machine) × ActionsServe (script text.now) kernel.old.machine out new
+    ensures ok { OnOk result ((out : List ℕ) × (new : Machine) × ActionsServe steps (script text.now) kernel.old.machine out new
         × Appends (W.contents writer.old) (W.contents writer.new) out) }
-    ensures err { OnErr result ((out : List ℕ) × (new : Machine) × ActionsServe (script text.now) kernel.old.machine out new
+    ensures err { OnErr result ((out : List ℕ) × (new : Machine) × ActionsServe steps (script text.now) kernel.old.machine out new
         × SentSome (W.contents writer.old) (W.contents writer.new) out) }
 {
     let mut gathered = Gathered::new(alloc);
     let mut rest = text;
     while let Some((line, more)) = split_line(rest) {
-        run_line(alloc, kernel, &mut gathered, line, writer)?;
+        run_line(alloc, steps, kernel, &mut gathered, line, writer)?;
         rest = more;
     }
-    run_end(alloc, kernel, &mut gathered, rest, writer)?;
+    run_end(alloc, steps, kernel, &mut gathered, rest, writer)?;
     match writer.flush() {
         Ok(()) => Ok(()),
         Err(_) => Err(WriteFailed),
@@ -88,9 +90,10 @@ fn run_text<W: Write>(
 }
 
 /// Runs what is behind the last LF, a line unless it is empty, and then what is still gathered.
-fn run_end<W: Write>(
+fn run_end<L: Ledger, W: Write>(
     alloc: Global,
-    kernel: &mut Kernel,
+    steps: u64,
+    kernel: &mut Kernel<L>,
     gathered: &mut Gathered,
     rest: &str,
     writer: &mut W,
@@ -99,23 +102,24 @@ fn run_end<W: Write>(
     requires alone { kernel.old.machine.queue ≡ [] }
     requires last { position_or_len (λ b. b == 10) rest.now ≡ length rest.now }
     ensures ok { OnOk result ((text : List ℕ) → IsGathered gathered.old text →
-        (out : List ℕ) × LinesServe kernel.old.machine text (lines rest.now) out kernel.new.machine
+        (out : List ℕ) × LinesServe steps kernel.old.machine text (lines rest.now) out kernel.new.machine
         × Appends (W.contents writer.old) (W.contents writer.new) out) }
     ensures err { OnErr result ((text : List ℕ) → IsGathered gathered.old text →
-        (out : List ℕ) × (new : Machine) × LinesServe kernel.old.machine text (lines rest.now) out new
+        (out : List ℕ) × (new : Machine) × LinesServe steps kernel.old.machine text (lines rest.now) out new
         × SentSome (W.contents writer.old) (W.contents writer.new) out) }
 {
     if rest.is_empty() {
-        return run_rest(alloc, kernel, gathered, writer);
+        return run_rest(alloc, steps, kernel, gathered, writer);
     }
-    run_line(alloc, kernel, gathered, rest, writer)?;
-    run_rest(alloc, kernel, gathered, writer)
+    run_line(alloc, steps, kernel, gathered, rest, writer)?;
+    run_rest(alloc, steps, kernel, gathered, writer)
 }
 
 /// Gathers a line, or does what it commands.
-fn run_line<W: Write>(
+fn run_line<L: Ledger, W: Write>(
     alloc: Global,
-    kernel: &mut Kernel,
+    steps: u64,
+    kernel: &mut Kernel<L>,
     gathered: &mut Gathered,
     line: &str,
     writer: &mut W,
@@ -127,23 +131,24 @@ fn run_line<W: Write>(
     ensures gathers { (text : List ℕ) → IsGathered gathered.old text →
         IsGathered gathered.new (text_after text line.now) }
     ensures ok { OnOk result ((text : List ℕ) → IsGathered gathered.old text →
-        (out : List ℕ) × LineServes kernel.old.machine text line.now out kernel.new.machine
+        (out : List ℕ) × LineServes steps kernel.old.machine text line.now out kernel.new.machine
         × Appends (W.contents writer.old) (W.contents writer.new) out) }
     ensures err { OnErr result ((text : List ℕ) → IsGathered gathered.old text →
-        (out : List ℕ) × (new : Machine) × LineServes kernel.old.machine text line.now out new
+        (out : List ℕ) × (new : Machine) × LineServes steps kernel.old.machine text line.now out new
         × SentSome (W.contents writer.old) (W.contents writer.new) out) }
 {
     if !is_command_line(line) {
         gathered.add(line);
         return Ok(());
     }
-    run_command(alloc, kernel, gathered, Command::read(line), writer)
+    run_command(alloc, steps, kernel, gathered, Command::read(line), writer)
 }
 
 /// Does what a command asks for. Before any but `%%`, which runs the gathered text in any case, that is run unless it is blank.
-fn run_command<W: Write>(
+fn run_command<L: Ledger, W: Write>(
     alloc: Global,
-    kernel: &mut Kernel,
+    steps: u64,
+    kernel: &mut Kernel<L>,
     gathered: &mut Gathered,
     command: Command,
     writer: &mut W,
@@ -154,44 +159,50 @@ fn run_command<W: Write>(
     ensures alone { kernel.new.machine.queue ≡ [] }
     ensures taken { IsGathered gathered.new [] }
     ensures ok { OnOk result ((text : List ℕ) → IsGathered gathered.old text →
-        (out : List ℕ) × CommandServes command kernel.old.machine text out kernel.new.machine
+        (out : List ℕ) × CommandServes steps command kernel.old.machine text out kernel.new.machine
         × Appends (W.contents writer.old) (W.contents writer.new) out) }
     ensures err { OnErr result ((text : List ℕ) → IsGathered gathered.old text →
-        (out : List ℕ) × (new : Machine) × CommandServes command kernel.old.machine text out new
+        (out : List ℕ) × (new : Machine) × CommandServes steps command kernel.old.machine text out new
         × SentSome (W.contents writer.old) (W.contents writer.new) out) }
 {
     if let Command::Run = command {
-        return run_cell(alloc, kernel, gathered, writer);
+        return run_cell(alloc, steps, kernel, gathered, writer);
     }
-    run_rest(alloc, kernel, gathered, writer)?;
-    obey(kernel, command, writer)
+    run_rest(alloc, steps, kernel, gathered, writer)?;
+    obey(steps, kernel, command, writer)
 }
 
 /// Does what a command other than `%%` asks for.
-fn obey<W: Write>(kernel: &mut Kernel, command: Command, writer: &mut W) -> Result<(), WriteFailed>
+fn obey<L: Ledger, W: Write>(
+    steps: u64,
+    kernel: &mut Kernel<L>,
+    command: Command,
+    writer: &mut W,
+) -> Result<(), WriteFailed>
     requires other { command ≢ Command.Run }
     requires idle { kernel.old.machine.state.job ≡ Idle }
     requires alone { kernel.old.machine.queue ≡ [] }
     ensures idle { kernel.new.machine.state.job ≡ Idle }
     ensures alone { kernel.new.machine.queue ≡ [] }
-    ensures ok { OnOk result ((out : List ℕ) × Does command kernel.old.machine out kernel.new.machine
+    ensures ok { OnOk result ((out : List ℕ) × Does steps command kernel.old.machine out kernel.new.machine
         × Appends (W.contents writer.old) (W.contents writer.new) out) }
-    ensures err { OnErr result ((out : List ℕ) × Does command kernel.old.machine out kernel.new.machine
+    ensures err { OnErr result ((out : List ℕ) × Does steps command kernel.old.machine out kernel.new.machine
         × SentSome (W.contents writer.old) (W.contents writer.new) out) }
 {
     match command {
-        Command::Undo(k) => run_job(kernel, Job::Undo(k), writer),
-        Command::Redo(k) => run_job(kernel, Job::Redo(k), writer),
-        Command::Goto(n) => run_job(kernel, Job::Goto(n), writer),
+        Command::Undo(k) => run_job(steps, kernel, Job::Undo(k), writer),
+        Command::Redo(k) => run_job(steps, kernel, Job::Redo(k), writer),
+        Command::Goto(n) => run_job(steps, kernel, Job::Goto(n), writer),
         Command::Show => show(kernel, writer),
         Command::Run | Command::Unknown => send(writer, b"refused 80 BadCommand\n"),
     }
 }
 
 /// Runs the gathered text as a cell, unless it is blank; it is gathered no longer.
-fn run_rest<W: Write>(
+fn run_rest<L: Ledger, W: Write>(
     alloc: Global,
-    kernel: &mut Kernel,
+    steps: u64,
+    kernel: &mut Kernel<L>,
     gathered: &mut Gathered,
     writer: &mut W,
 ) -> Result<(), WriteFailed>
@@ -201,23 +212,24 @@ fn run_rest<W: Write>(
     ensures alone { kernel.new.machine.queue ≡ [] }
     ensures taken { IsGathered gathered.new [] }
     ensures ok { OnOk result ((text : List ℕ) → IsGathered gathered.old text →
-        (out : List ℕ) × RunsRest kernel.old.machine text out kernel.new.machine
+        (out : List ℕ) × RunsRest steps kernel.old.machine text out kernel.new.machine
         × Appends (W.contents writer.old) (W.contents writer.new) out) }
     ensures err { OnErr result ((text : List ℕ) → IsGathered gathered.old text →
-        (out : List ℕ) × RunsRest kernel.old.machine text out kernel.new.machine
+        (out : List ℕ) × RunsRest steps kernel.old.machine text out kernel.new.machine
         × SentSome (W.contents writer.old) (W.contents writer.new) out) }
 {
     if gathered.has_text {
-        return run_cell(alloc, kernel, gathered, writer);
+        return run_cell(alloc, steps, kernel, gathered, writer);
     }
     let _blank = gathered.take(alloc);
     Ok(())
 }
 
 /// Runs the gathered text as a cell; it is gathered no longer.
-fn run_cell<W: Write>(
+fn run_cell<L: Ledger, W: Write>(
     alloc: Global,
-    kernel: &mut Kernel,
+    steps: u64,
+    kernel: &mut Kernel<L>,
     gathered: &mut Gathered,
     writer: &mut W,
 ) -> Result<(), WriteFailed>
@@ -227,14 +239,15 @@ fn run_cell<W: Write>(
     ensures alone { kernel.new.machine.queue ≡ [] }
     ensures taken { IsGathered gathered.new [] }
     ensures ok { OnOk result ((text : List ℕ) → IsGathered gathered.old text →
-        (came : Came) × Serves kernel.old.machine (RunCell text false true) came kernel.new.machine
+        (came : Came) × Serves steps kernel.old.machine (RunCell text false true) came kernel.new.machine
         × Appends (W.contents writer.old) (W.contents writer.new) (ended_line (came_line came))) }
     ensures err { OnErr result ((text : List ℕ) → IsGathered gathered.old text →
-        (came : Came) × Serves kernel.old.machine (RunCell text false true) came kernel.new.machine
+        (came : Came) × Serves steps kernel.old.machine (RunCell text false true) came kernel.new.machine
         × SentSome (W.contents writer.old) (W.contents writer.new) (ended_line (came_line came))) }
 {
     match gathered.take(alloc) {
         Some(code) => run_job(
+            steps,
             kernel,
             Job::Cell {
                 code,
@@ -248,7 +261,7 @@ fn run_cell<W: Write>(
 }
 
 /// Why a cell is not posted for whose text there was no memory: that, unless any post is refused now.
-fn lost_text(kernel: &Kernel) -> PostFault
+fn lost_text<L: Ledger>(kernel: &Kernel<L>) -> PostFault
     ensures { IsRefusal kernel.now.machine result }
 {
     match kernel.post_fault() {
@@ -258,24 +271,29 @@ fn lost_text(kernel: &Kernel) -> PostFault
 }
 
 /// Brings a job to its end, and writes what came of it.
-fn run_job<W: Write>(kernel: &mut Kernel, job: Job, writer: &mut W) -> Result<(), WriteFailed>
+fn run_job<L: Ledger, W: Write>(
+    steps: u64,
+    kernel: &mut Kernel<L>,
+    job: Job,
+    writer: &mut W,
+) -> Result<(), WriteFailed>
     requires idle { kernel.old.machine.state.job ≡ Idle }
     requires alone { kernel.old.machine.queue ≡ [] }
-    ensures ok { OnOk result ((came : Came) × Serves kernel.old.machine (request_of job) came kernel.new.machine
+    ensures ok { OnOk result ((came : Came) × Serves steps kernel.old.machine (request_of job) came kernel.new.machine
         × Appends (W.contents writer.old) (W.contents writer.new) (ended_line (came_line came))) }
-    ensures err { OnErr result ((came : Came) × Serves kernel.old.machine (request_of job) came kernel.new.machine
+    ensures err { OnErr result ((came : Came) × Serves steps kernel.old.machine (request_of job) came kernel.new.machine
         × SentSome (W.contents writer.old) (W.contents writer.new) (ended_line (came_line came))) }
     ensures idle { kernel.new.machine.state.job ≡ Idle }
     ensures alone { kernel.new.machine.queue ≡ [] }
 {
-    match serve(kernel, job) {
+    match serve(kernel, steps, job) {
         Ok(outcome) => send_outcome(writer, &outcome),
         Err(fault) => send_post_fault(writer, fault),
     }
 }
 
 /// Writes the position, and the declared names with their values.
-fn show<W: Write>(kernel: &Kernel, writer: &mut W) -> Result<(), WriteFailed>
+fn show<L: Ledger, W: Write>(kernel: &Kernel<L>, writer: &mut W) -> Result<(), WriteFailed>
     requires idle { kernel.now.machine.state.job ≡ Idle }
     ensures ok { OnOk result (Appends (W.contents writer.old) (W.contents writer.new) (world_text kernel.now.machine.state.past)) }
     ensures err { OnErr result (SentSome (W.contents writer.old) (W.contents writer.new) (world_text kernel.now.machine.state.past)) }

@@ -2,7 +2,7 @@ use crate::fault::{RunFault, status};
 use crate::output::send_run_fault;
 use crate::run::run;
 use crate::text::{outcome_line, value_text};
-use crate::words::{take_words, unread_words_status, words_status};
+use crate::words::{steps_of, unread_words_status, words_status};
 use janus_store::View;
 use kernel_core::{CheckFault, End, Fault, Outcome, Refusal, Span};
 use std::alloc::Global;
@@ -75,6 +75,7 @@ fn tells_faults(rt: HostRuntime) -> Result<(), Fail> {
     assert_eq!(rt;
         run(
             alloc,
+            1000,
             &mut Broken {
                 octets: b"int x\n%%\n"
             },
@@ -83,26 +84,26 @@ fn tells_faults(rt: HostRuntime) -> Result<(), Fail> {
         Err(RunFault::Read)
     );
     assert_eq!(rt;
-        run(alloc, &mut b"\xff\n".as_slice(), &mut none),
+        run(alloc, 1000, &mut b"\xff\n".as_slice(), &mut none),
         Err(RunFault::NotText)
     );
     assert_eq!(rt;
-        run(alloc, &mut io::repeat(b' '), &mut none),
+        run(alloc, 1000, &mut io::repeat(b' '), &mut none),
         Err(RunFault::TooLong)
     );
     assert_eq!(rt; none.len(), 0);
     assert_eq!(rt;
-        run(alloc, &mut b"%%\n".as_slice(), &mut Unflushed {}),
+        run(alloc, 1000, &mut b"%%\n".as_slice(), &mut Unflushed {}),
         Err(RunFault::Write)
     );
     let mut some = Full { room: 20 };
     assert_eq!(rt;
-        run(alloc, &mut b"%%\n%%\n%show\n".as_slice(), &mut some),
+        run(alloc, 1000, &mut b"%%\n%%\n%show\n".as_slice(), &mut some),
         Err(RunFault::Write)
     );
     let mut ample = Full { room: 1000 };
     assert_eq!(rt;
-        run(alloc, &mut b"%%\n%%\n%show\n".as_slice(), &mut ample),
+        run(alloc, 1000, &mut b"%%\n%%\n%show\n".as_slice(), &mut ample),
         Ok(())
     );
     Ok(())
@@ -171,8 +172,8 @@ fn gives_texts(rt: HostRuntime) -> Result<(), Fail> {
 /// The exit status of words that run nothing, and whether what is told of them goes to standard error; `None` for words that
 /// run.
 fn refused(alloc: Global, words: &[&str]) -> Option<(u8, bool)> {
-    match take_words(alloc, words) {
-        Ok(()) => None,
+    match steps_of(alloc, words) {
+        Ok(_) => None,
         Err(error) => Some((words_status(error.kind()), error.use_stderr())),
     }
 }

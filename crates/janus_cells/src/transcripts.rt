@@ -12,7 +12,7 @@ fn written(alloc: Global, input: &str) -> Result<String, Fail> {
     }
     let mut reader = text.as_bytes();
     let mut writer = Vec::new(alloc);
-    let ended = run(alloc, &mut reader, &mut writer).is_ok();
+    let ended = run(alloc, 10_000_000, &mut reader, &mut writer).is_ok();
     let mut lines = String::new(alloc);
     for c in String::from_utf8(writer)?.chars() {
         lines.push(if c == '\n' { ';' } else { c })?;

@@ -18,60 +18,60 @@ begun_as old new told as_told e i h =
     let s = subst (λ t. IsBegin old t new) e h in (s, begin_nearer old new as_told i s)
 
 pub returns-in-Ended-clause-finishes : goal.returns-in-Ended-clause-finishes
-returns-in-Ended-clause-finishes c =
-    c.loop-outcome.invariant.1 _ _ (ended (sliced_as c.loop-outcome.kernel.machine c.slice.new.self.machine c.slice.result _ c.in-Ended.is c.loop-outcome.invariant.0 c.slice.ensures).0)
+returns-in-Ended-clause-finishes g c =
+    c.loop-outcome.invariant.1 _ _ (ended (sliced_as c.loop-outcome.kernel.machine c.slice.new.self.machine c.slice.result _ c.in-Ended.is c.loop-outcome.invariant.0 c.slice.ensures.slice).0)
 
 pub returns-in-Ended-clause-idle : goal.returns-in-Ended-clause-idle
-returns-in-Ended-clause-idle c = (sliced_as c.loop-outcome.kernel.machine c.slice.new.self.machine c.slice.result _ c.in-Ended.is c.loop-outcome.invariant.0 c.slice.ensures).1
+returns-in-Ended-clause-idle g c = (sliced_as c.loop-outcome.kernel.machine c.slice.new.self.machine c.slice.result _ c.in-Ended.is c.loop-outcome.invariant.0 c.slice.ensures.slice).1
 
 pub returns-in-Ended-begin-clause-finishes : goal.returns-in-Ended-begin-clause-finishes
-returns-in-Ended-begin-clause-finishes c =
-    let s = sliced_as c.loop-outcome.kernel.machine c.slice.new.self.machine c.slice.result _ c.in-Border.is c.loop-outcome.invariant.0 c.slice.ensures in
-    let b = begun_as c.slice.new.self.machine c.begin.new.self.machine c.begin.result _ c.in-Ended-begin.is s.1.0 c.begin.ensures in
+returns-in-Ended-begin-clause-finishes g c =
+    let s = sliced_as c.loop-outcome.kernel.machine c.slice.new.self.machine c.slice.result _ c.in-Border.is c.loop-outcome.invariant.0 c.slice.ensures.slice in
+    let b = begun_as c.slice.new.self.machine c.begin.new.self.machine c.begin.result _ c.in-Ended-begin.is s.1.0 c.begin.ensures.begin in
     c.loop-outcome.invariant.1 _ _ (no_next_cell s.0 b.0)
 
 pub returns-in-Ended-begin-clause-idle : goal.returns-in-Ended-begin-clause-idle
-returns-in-Ended-begin-clause-idle c =
-    let s = sliced_as c.loop-outcome.kernel.machine c.slice.new.self.machine c.slice.result _ c.in-Border.is c.loop-outcome.invariant.0 c.slice.ensures in
-    (begun_as c.slice.new.self.machine c.begin.new.self.machine c.begin.result _ c.in-Ended-begin.is s.1.0 c.begin.ensures).1
+returns-in-Ended-begin-clause-idle g c =
+    let s = sliced_as c.loop-outcome.kernel.machine c.slice.new.self.machine c.slice.result _ c.in-Border.is c.loop-outcome.invariant.0 c.slice.ensures.slice in
+    (begun_as c.slice.new.self.machine c.begin.new.self.machine c.begin.result _ c.in-Ended-begin.is s.1.0 c.begin.ensures.begin).1
 
 pub loop-outcome-smaller-in-Going-begin : goal.loop-outcome-smaller-in-Going-begin
-loop-outcome-smaller-in-Going-begin c =
-    let s = sliced_as c.loop-outcome.kernel.machine c.slice.new.self.machine c.slice.result _ c.in-Border.is c.loop-outcome.invariant.0 c.slice.ensures in
-    let b = begun_as c.slice.new.self.machine c.begin.new.self.machine c.begin.result _ c.in-Going-begin.is s.1.0 c.begin.ensures in
+loop-outcome-smaller-in-Going-begin g c =
+    let s = sliced_as c.loop-outcome.kernel.machine c.slice.new.self.machine c.slice.result _ c.in-Border.is c.loop-outcome.invariant.0 c.slice.ensures.slice in
+    let b = begun_as c.slice.new.self.machine c.begin.new.self.machine c.begin.result _ c.in-Going-begin.is s.1.0 c.begin.ensures.begin in
     let x = s.1.1 in let y = b.1.1 in omega arith
 
 pub loop-outcome-preserved-in-Going-begin : goal.loop-outcome-preserved-in-Going-begin
-loop-outcome-preserved-in-Going-begin c =
-    let s = sliced_as c.loop-outcome.kernel.machine c.slice.new.self.machine c.slice.result _ c.in-Border.is c.loop-outcome.invariant.0 c.slice.ensures in
-    let b = begun_as c.slice.new.self.machine c.begin.new.self.machine c.begin.result _ c.in-Going-begin.is s.1.0 c.begin.ensures in
-    (b.1.0, (λ o new f. c.loop-outcome.invariant.1 o new (next_cell s.0 b.0 f)), border_queue c.slice.new.self.machine c.begin.new.self.machine _ s.1.0 b.0 ∙ slice_queue c.loop-outcome.kernel.machine c.slice.new.self.machine _ s.0 ∙ c.loop-outcome.invariant.2)
+loop-outcome-preserved-in-Going-begin g c =
+    let s = sliced_as c.loop-outcome.kernel.machine c.slice.new.self.machine c.slice.result _ c.in-Border.is c.loop-outcome.invariant.0 c.slice.ensures.slice in
+    let b = begun_as c.slice.new.self.machine c.begin.new.self.machine c.begin.result _ c.in-Going-begin.is s.1.0 c.begin.ensures.begin in
+    (b.1.0, (λ o new f. c.loop-outcome.invariant.1 o new (next_cell s.0 b.0 f)), border_queue c.slice.new.self.machine c.begin.new.self.machine _ s.1.0 b.0 ∙ slice_queue c.loop-outcome.kernel.machine c.slice.new.self.machine step_limit false _ s.0 ∙ c.loop-outcome.invariant.2)
 
 pub loop-outcome-smaller-in-Going : goal.loop-outcome-smaller-in-Going
-loop-outcome-smaller-in-Going c =
-    (sliced_as c.loop-outcome.kernel.machine c.slice.new.self.machine c.slice.result _ c.in-Going.is c.loop-outcome.invariant.0 c.slice.ensures).1.1
+loop-outcome-smaller-in-Going g c =
+    (sliced_as c.loop-outcome.kernel.machine c.slice.new.self.machine c.slice.result _ c.in-Going.is c.loop-outcome.invariant.0 c.slice.ensures.slice).1.1
 
 pub loop-outcome-preserved-in-Going : goal.loop-outcome-preserved-in-Going
-loop-outcome-preserved-in-Going c =
-    let s = sliced_as c.loop-outcome.kernel.machine c.slice.new.self.machine c.slice.result _ c.in-Going.is c.loop-outcome.invariant.0 c.slice.ensures in
-    (s.1.0, (λ o new f. c.loop-outcome.invariant.1 o new (going s.0 f)), slice_queue c.loop-outcome.kernel.machine c.slice.new.self.machine _ s.0 ∙ c.loop-outcome.invariant.2)
+loop-outcome-preserved-in-Going g c =
+    let s = sliced_as c.loop-outcome.kernel.machine c.slice.new.self.machine c.slice.result _ c.in-Going.is c.loop-outcome.invariant.0 c.slice.ensures.slice in
+    (s.1.0, (λ o new f. c.loop-outcome.invariant.1 o new (going s.0 f)), slice_queue c.loop-outcome.kernel.machine c.slice.new.self.machine step_limit false _ s.0 ∙ c.loop-outcome.invariant.2)
 
 pub loop-outcome-smaller : goal.loop-outcome-smaller
-loop-outcome-smaller c =
-    (sliced_as c.loop-outcome.kernel.machine c.slice.new.self.machine c.slice.result _ c.in-Backing.is c.loop-outcome.invariant.0 c.slice.ensures).1.1
+loop-outcome-smaller g c =
+    (sliced_as c.loop-outcome.kernel.machine c.slice.new.self.machine c.slice.result _ c.in-Backing.is c.loop-outcome.invariant.0 c.slice.ensures.slice).1.1
 
 pub loop-outcome-preserved : goal.loop-outcome-preserved
-loop-outcome-preserved c =
-    let s = sliced_as c.loop-outcome.kernel.machine c.slice.new.self.machine c.slice.result _ c.in-Backing.is c.loop-outcome.invariant.0 c.slice.ensures in
-    (s.1.0, (λ o new f. c.loop-outcome.invariant.1 o new (backing s.0 f)), slice_queue c.loop-outcome.kernel.machine c.slice.new.self.machine _ s.0 ∙ c.loop-outcome.invariant.2)
+loop-outcome-preserved g c =
+    let s = sliced_as c.loop-outcome.kernel.machine c.slice.new.self.machine c.slice.result _ c.in-Backing.is c.loop-outcome.invariant.0 c.slice.ensures.slice in
+    (s.1.0, (λ o new f. c.loop-outcome.invariant.1 o new (backing s.0 f)), slice_queue c.loop-outcome.kernel.machine c.slice.new.self.machine step_limit false _ s.0 ∙ c.loop-outcome.invariant.2)
 
 pub returns-in-Ended-clause-queue : goal.returns-in-Ended-clause-queue
-returns-in-Ended-clause-queue c =
-    let s = sliced_as c.loop-outcome.kernel.machine c.slice.new.self.machine c.slice.result _ c.in-Ended.is c.loop-outcome.invariant.0 c.slice.ensures in
-    slice_queue c.loop-outcome.kernel.machine c.slice.new.self.machine _ s.0 ∙ c.loop-outcome.invariant.2
+returns-in-Ended-clause-queue g c =
+    let s = sliced_as c.loop-outcome.kernel.machine c.slice.new.self.machine c.slice.result _ c.in-Ended.is c.loop-outcome.invariant.0 c.slice.ensures.slice in
+    slice_queue c.loop-outcome.kernel.machine c.slice.new.self.machine step_limit false _ s.0 ∙ c.loop-outcome.invariant.2
 
 pub returns-in-Ended-begin-clause-queue : goal.returns-in-Ended-begin-clause-queue
-returns-in-Ended-begin-clause-queue c =
-    let s = sliced_as c.loop-outcome.kernel.machine c.slice.new.self.machine c.slice.result _ c.in-Border.is c.loop-outcome.invariant.0 c.slice.ensures in
-    let b = begun_as c.slice.new.self.machine c.begin.new.self.machine c.begin.result _ c.in-Ended-begin.is s.1.0 c.begin.ensures in
-    border_queue c.slice.new.self.machine c.begin.new.self.machine _ s.1.0 b.0 ∙ slice_queue c.loop-outcome.kernel.machine c.slice.new.self.machine _ s.0 ∙ c.loop-outcome.invariant.2
+returns-in-Ended-begin-clause-queue g c =
+    let s = sliced_as c.loop-outcome.kernel.machine c.slice.new.self.machine c.slice.result _ c.in-Border.is c.loop-outcome.invariant.0 c.slice.ensures.slice in
+    let b = begun_as c.slice.new.self.machine c.begin.new.self.machine c.begin.result _ c.in-Ended-begin.is s.1.0 c.begin.ensures.begin in
+    border_queue c.slice.new.self.machine c.begin.new.self.machine _ s.1.0 b.0 ∙ slice_queue c.loop-outcome.kernel.machine c.slice.new.self.machine step_limit false _ s.0 ∙ c.loop-outcome.invariant.2
