@@ -1,4 +1,6 @@
 pub mod CommandLemmas
+pub mod CommandReads
+pub mod CommandWords
 pub mod Determined
 pub mod Finishing
 pub mod GoingBack

@@ -1,59 +1,77 @@
-use Rattle.std.proofs.Common.{◌≡◌, ◌⊎◌, inl, inr, ◌∙◌, ap, sym, subst, refl, codes, true, map, length, ◌≤◌, List, [], ◌∷◌, arith}
-use Rattle.std.proofs.lemmas.List.{length-map}
-use Rattle.clap.specs.Faults.{fault_of, is_simple_and_free}
-use Rattle.clap.specs.Kinds.{Kinds, HasKind}
+use Rattle.std.proofs.Common.{◌≡◌, ◌⊎◌, ◌∙◌, ap, ap₂, codes, inl, inr, map, sym, subst, rules, Some, [], ◌∷◌, ℕ}
+use Rattle.std.specs.Ordering.{nat_cmp, ord_max}
+use Rattle.std.specs.Int.{saturate_unsigned, w64}
+use Rattle.std.specs.Str.Parse.{ExplainsUnsignedError, HasUnsignedDigitsIfOk, ParsesUnsigned}
+use Rattle.std.proofs.lemmas.Result.{err_from_is_err_and}
+use Rattle.clap.specs.Values.{unsigned_up_to}
 use Rattle.clap.specs.Simple.{app_of_fields}
-use Rattle.clap.specs.Values.{kind_of}
-use Rattle.clap.specs.Words.{App, Text, app_of, new_app, takes}
-use Rattle.clap.specs.declared.error.kind.ErrorKind.TheVariants.{DisplayHelp, OutOfMemory}
-use Rattle.clap.specs.declared.error.Error.{Error}
-use Rattle.janus_cells.specs.Ending.{AsksForHelp}
-use Rattle.clap.proofs.OnLiterals.{clap_on_literals}
-use Rattle.janus_cells.proofs.words.take_words.Goals as goal
+use Rattle.clap.specs.Words.{app_of, rule_of, with_rule}
+use Rattle.clap.specs.declared.builder.value_parser.ValueParser.TheVariants as vp
+use Rattle.janus_cells.specs.CommandLine.{IsSteps, Runs}
+use Rattle.janus_cells.proofs.CommandReads.{never_served, not_none, same_number, refused_help, refused_memory, steps_given}
+use Rattle.janus_cells.proofs.CommandWords.{program, steps_rule}
+use Rattle.janus_cells.proofs.words.steps_of.Goals as goal
 
-abbrev program : App
-program = new_app (codes "janus-cells")
+pub returns-in_err-matches-clause-err : goal.returns-in_err-matches-clause-err
+returns-in_err-matches-clause-err g c =
+    let made : c.range.result ≡ vp.Unsigned 1 1000000000000 =
+    rw c.value_parser.ensures at c.range.ensures ∙ ap₂ (λ low high. unsigned_up_to (ord_max nat_cmp 0 (saturate_unsigned w64 low)) 18446744073709551615 (Some high)) c.new-2.ensures.start c.new-2.ensures.end in
+    let parser : c.value_parser-2.result.value_parser ≡ Some (vp.Unsigned 1 1000000000000) = c.value_parser-2.ensures.given.1 ∙ ap (λ q. Some q) (c.value_parser-2.ensures.given.2 ∙ made) in
+    let rule : rule_of c.help-steps.result ≡ steps_rule = search rules in
+    let program_is : app_of c.in_ok-command.command ≡ program = c.in_ok-command.ensures.shape (search rules) ∙ ap₂ with_rule (ap app_of_fields c.about.ensures ∙ c.new-3.ensures.app) rule in
+    let p = err_from_is_err_and c.from_residual-in_err-matches.result c.from_residual-in_err-matches.ensures.1 in
+    rw (p.1, p.2) (refused_memory (app_of c.in_ok-command.command) (map g.S.AsStr.text c.args.words.now) c.in_err-matches.field-0.0 program_is c.in_err-matches.ensures.kinds)
 
--- the name of the program alone, or no word at all
-name_alone : (words : List Text) → length words ≤ 1 → takes program words ≡ true
-unfolding clap_on_literals
-name_alone [] h = refl
-name_alone (word ∷ []) h = refl
-name_alone (word ∷ other ∷ more) h = absurd (omega (arith, h))
+pub returns-in_err-matches-clause-help : goal.returns-in_err-matches-clause-help
+returns-in_err-matches-clause-help g c =
+    let made : c.range.result ≡ vp.Unsigned 1 1000000000000 =
+    rw c.value_parser.ensures at c.range.ensures ∙ ap₂ (λ low high. unsigned_up_to (ord_max nat_cmp 0 (saturate_unsigned w64 low)) 18446744073709551615 (Some high)) c.new-2.ensures.start c.new-2.ensures.end in
+    let parser : c.value_parser-2.result.value_parser ≡ Some (vp.Unsigned 1 1000000000000) = c.value_parser-2.ensures.given.1 ∙ ap (λ q. Some q) (c.value_parser-2.ensures.given.2 ∙ made) in
+    let rule : rule_of c.help-steps.result ≡ steps_rule = search rules in
+    let program_is : app_of c.in_ok-command.command ≡ program = c.in_ok-command.ensures.shape (search rules) ∙ ap₂ with_rule (ap app_of_fields c.about.ensures ∙ c.new-3.ensures.app) rule in
+    let p = err_from_is_err_and c.from_residual-in_err-matches.result c.from_residual-in_err-matches.ensures.1 in
+    rw (p.1, p.2) (refused_help (app_of c.in_ok-command.command) (map g.S.AsStr.text c.args.words.now) c.in_err-matches.field-0.0 program_is c.in_err-matches.ensures.kinds)
 
-is_simple : is_simple_and_free program ≡ true
-unfolding clap_on_literals
-is_simple = refl
+pub unreachable-requires : goal.unreachable-requires
+unreachable-requires g c =
+    let made : c.range.result ≡ vp.Unsigned 1 1000000000000 =
+    rw c.value_parser.ensures at c.range.ensures ∙ ap₂ (λ low high. unsigned_up_to (ord_max nat_cmp 0 (saturate_unsigned w64 low)) 18446744073709551615 (Some high)) c.new-2.ensures.start c.new-2.ensures.end in
+    let parser : c.value_parser-2.result.value_parser ≡ Some (vp.Unsigned 1 1000000000000) = c.value_parser-2.ensures.given.1 ∙ ap (λ q. Some q) (c.value_parser-2.ensures.given.2 ∙ made) in
+    let rule : rule_of c.help-steps.result ≡ steps_rule = search rules in
+    let program_is : app_of c.in_ok-command.command ≡ program = c.in_ok-command.ensures.shape (search rules) ∙ ap₂ with_rule (ap app_of_fields c.about.ensures ∙ c.new-3.ensures.app) rule in
+    let given : (n : ℕ) × (c.get_one.result ≡ Some n) × Runs (map g.S.AsStr.text c.args.words.now) n × IsSteps n =
+    steps_given _ (λ bs r. ParsesUnsigned 64 10 bs r × ExplainsUnsignedError 10 bs r × HasUnsignedDigitsIfOk bs r) (app_of c.in_ok-command.command) c.in_ok-matches.matches (map g.S.AsStr.text c.args.words.now) c.get_one.result (λ u x h. h.0) program_is c.in_ok-matches.ensures.kinds c.in_ok-matches.ensures.matches c.get_one.ensures.value in
+    not_none c.get_one.result given.0 given.1 c.in-None.is
 
-asked : (name : Text) → fault_of program (name ∷ codes "--help" ∷ []) ≡ DisplayHelp ∷ []
-unfolding clap_on_literals
-asked name = refl
+pub returns-clause-ok : goal.returns-clause-ok
+returns-clause-ok g c =
+    let made : c.range.result ≡ vp.Unsigned 1 1000000000000 =
+    rw c.value_parser.ensures at c.range.ensures ∙ ap₂ (λ low high. unsigned_up_to (ord_max nat_cmp 0 (saturate_unsigned w64 low)) 18446744073709551615 (Some high)) c.new-2.ensures.start c.new-2.ensures.end in
+    let parser : c.value_parser-2.result.value_parser ≡ Some (vp.Unsigned 1 1000000000000) = c.value_parser-2.ensures.given.1 ∙ ap (λ q. Some q) (c.value_parser-2.ensures.given.2 ∙ made) in
+    let rule : rule_of c.help-steps.result ≡ steps_rule = search rules in
+    let program_is : app_of c.in_ok-command.command ≡ program = c.in_ok-command.ensures.shape (search rules) ∙ ap₂ with_rule (ap app_of_fields c.about.ensures ∙ c.new-3.ensures.app) rule in
+    let given : (n : ℕ) × (c.get_one.result ≡ Some n) × Runs (map g.S.AsStr.text c.args.words.now) n × IsSteps n =
+    steps_given _ (λ bs r. ParsesUnsigned 64 10 bs r × ExplainsUnsignedError 10 bs r × HasUnsignedDigitsIfOk bs r) (app_of c.in_ok-command.command) c.in_ok-matches.matches (map g.S.AsStr.text c.args.words.now) c.get_one.result (λ u x h. h.0) program_is c.in_ok-matches.ensures.kinds c.in_ok-matches.ensures.matches c.get_one.ensures.value in
+    let same = same_number c.get_one.result given.0 c.in-Some.steps given.1 c.in-Some.is in
+    subst (λ n. Runs (map g.S.AsStr.text c.args.words.now) n) same given.2
 
--- help is all that words of that kind can come to
-help_faults : (a : App) (words : List Text) → a ≡ program → AsksForHelp words → fault_of a words ≡ DisplayHelp ∷ []
-help_faults a words e asks = ap (λ b. fault_of b words) e ∙ ap (fault_of program) asks.1 ∙ asked asks.0
-
-not_served : (kinds : Kinds) → kinds ≡ DisplayHelp ∷ [] → kinds ≡ [] → ⊥
-not_served kinds e none = let same : DisplayHelp ∷ [] ≡ [] = sym e ∙ none in absurd (cc same)
-
-help_or_memory : (kinds : Kinds) (error : Error) → kinds ≡ DisplayHelp ∷ [] → HasKind kinds error → (kind_of error ≡ OutOfMemory) ⊎ (kind_of error ≡ DisplayHelp)
-help_or_memory kinds error e h = elim (subst (λ ks. HasKind ks error) e h) [
-  | inl memory ↦ inl memory
-  | inr among ↦ elim among [ inl help ↦ inr help | inr other ↦ absurd other ]
-]
-
-pub returns-clause-name : goal.returns-clause-name
-returns-clause-name g c =
-    let program_is : app_of c.about-command.result ≡ program = ap app_of_fields c.about-command.ensures ∙ c.new.ensures.app in
-    let texts = map g.S.AsStr.text c.args.words.now in
-    λ short. c.in-Err.ensures.passes (ap (λ a. takes a texts) program_is ∙ name_alone texts (omega (arith, short, length-map c.args.words.now g.S.AsStr.text)))
-
-pub returns-in-Ok-clause-help : goal.returns-in-Ok-clause-help
-returns-in-Ok-clause-help g c =
-    let program_is : app_of c.about-command.result ≡ program = ap app_of_fields c.about-command.ensures ∙ c.new.ensures.app in
-    λ asks. absurd (not_served _ (help_faults (app_of c.about-command.result) (map g.S.AsStr.text c.args.words.now) program_is asks) (c.in-Ok.ensures.kinds (ap is_simple_and_free program_is ∙ is_simple)))
+pub returns-clause-range : goal.returns-clause-range
+returns-clause-range g c =
+    let made : c.range.result ≡ vp.Unsigned 1 1000000000000 =
+    rw c.value_parser.ensures at c.range.ensures ∙ ap₂ (λ low high. unsigned_up_to (ord_max nat_cmp 0 (saturate_unsigned w64 low)) 18446744073709551615 (Some high)) c.new-2.ensures.start c.new-2.ensures.end in
+    let parser : c.value_parser-2.result.value_parser ≡ Some (vp.Unsigned 1 1000000000000) = c.value_parser-2.ensures.given.1 ∙ ap (λ q. Some q) (c.value_parser-2.ensures.given.2 ∙ made) in
+    let rule : rule_of c.help-steps.result ≡ steps_rule = search rules in
+    let program_is : app_of c.in_ok-command.command ≡ program = c.in_ok-command.ensures.shape (search rules) ∙ ap₂ with_rule (ap app_of_fields c.about.ensures ∙ c.new-3.ensures.app) rule in
+    let given : (n : ℕ) × (c.get_one.result ≡ Some n) × Runs (map g.S.AsStr.text c.args.words.now) n × IsSteps n =
+    steps_given _ (λ bs r. ParsesUnsigned 64 10 bs r × ExplainsUnsignedError 10 bs r × HasUnsignedDigitsIfOk bs r) (app_of c.in_ok-command.command) c.in_ok-matches.matches (map g.S.AsStr.text c.args.words.now) c.get_one.result (λ u x h. h.0) program_is c.in_ok-matches.ensures.kinds c.in_ok-matches.ensures.matches c.get_one.ensures.value in
+    let same = same_number c.get_one.result given.0 c.in-Some.steps given.1 c.in-Some.is in
+    subst IsSteps same given.3
 
 pub returns-clause-help : goal.returns-clause-help
 returns-clause-help g c =
-    let program_is : app_of c.about-command.result ≡ program = ap app_of_fields c.about-command.ensures ∙ c.new.ensures.app in
-    λ asks. help_or_memory _ c.in-Err.error (help_faults (app_of c.about-command.result) (map g.S.AsStr.text c.args.words.now) program_is asks) (c.in-Err.ensures.kinds (ap is_simple_and_free program_is ∙ is_simple))
+    let made : c.range.result ≡ vp.Unsigned 1 1000000000000 =
+    rw c.value_parser.ensures at c.range.ensures ∙ ap₂ (λ low high. unsigned_up_to (ord_max nat_cmp 0 (saturate_unsigned w64 low)) 18446744073709551615 (Some high)) c.new-2.ensures.start c.new-2.ensures.end in
+    let parser : c.value_parser-2.result.value_parser ≡ Some (vp.Unsigned 1 1000000000000) = c.value_parser-2.ensures.given.1 ∙ ap (λ q. Some q) (c.value_parser-2.ensures.given.2 ∙ made) in
+    let rule : rule_of c.help-steps.result ≡ steps_rule = search rules in
+    let program_is : app_of c.in_ok-command.command ≡ program = c.in_ok-command.ensures.shape (search rules) ∙ ap₂ with_rule (ap app_of_fields c.about.ensures ∙ c.new-3.ensures.app) rule in
+    never_served (app_of c.in_ok-command.command) (map g.S.AsStr.text c.args.words.now) program_is c.in_ok-matches.ensures.kinds
