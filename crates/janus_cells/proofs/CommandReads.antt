@@ -1,7 +1,7 @@
 -- Which command lines meet no fault, and which number of steps they give.
-use Rattle.std.proofs.Common.{append-nil, drop, is_some, ◌≡◌, ◌⊎◌, ◌∙◌, ℕ, Bool, true, false, List, [], ◌∷◌, ◌++◌, Option, Some, None, inl, inr, refl, sym, ap, ap₂, subst, arith, codes, ◌≤◌, ◌<◌}
-use Rattle.std.specs.Prelude.{Err, Ok, Result, ◌^◌, if◌then◌else◌, fold, nat_lt, length, ◌==◌}
-use Rattle.clap.specs.Faults.{check_fault, defaults_fault, entered_fault, fault_of, is_simple_and_free, react_fault, settle_fault, turn_fault, use_fault, values_fault, walk_fault}
+use Rattle.std.proofs.Common.{append-nil, drop, is_some, ◌≡◌, ◌⊎◌, ◌∙◌, ℕ, Bool, true, false, List, [], ◌∷◌, ◌++◌, Option, Some, None, inl, inr, refl, sym, ap, ap₂, subst, arith, codes, ◌<◌}
+use Rattle.std.specs.Prelude.{Err, Ok, Result, ◌^◌, if◌then◌else◌, fold, length, ◌==◌}
+use Rattle.clap.specs.Faults.{check_fault, defaults_fault, entered_fault, fault_of, is_simple_and_free, settle_fault, turn_fault, use_fault, values_fault, walk_fault}
 use Rattle.std.specs.Str.Parse.{IsNumeral, ParsesUnsigned, digits_value, without_leading_plus}
 use Rattle.std.proofs.lemmas.Bool.{eqb-true, ne_eqb}
 use Rattle.std.proofs.lemmas.Str.Parse.{digit_from_value}
@@ -214,9 +214,10 @@ fault_free words e =
     let ws = drop 1 words in
     let below = entered_fault (built program) (end_of w ws).stopped in
     let last = or_else (defaults_fault (settled rules (end_of w ws).held).rows rules) (check_fault top (finished rules (end_of w ws).held) (is_some (entered (built program) (end_of w ws).stopped))) in
-    let settle = settle_fault rules false (end_of w ws).held in
-    (or_else_first (walk_fault top [] w ws) (or_else below (or_else settle last)) e,
-    or_else_first settle last (or_else_second below (or_else settle last) (or_else_second (walk_fault top [] w ws) (or_else below (or_else settle last)) e)))
+    let settle = settle_fault rules false (end_of w ws).held in (
+      or_else_first (walk_fault top [] w ws) (or_else below (or_else settle last)) e,
+      or_else_first settle last (or_else_second below (or_else settle last) (or_else_second (walk_fault top [] w ws) (or_else below (or_else settle last)) e)),
+    )
 
 abbrev number_of : Text → ℕ
 number_of t = digits_value 10 (without_leading_plus t)
@@ -395,16 +396,27 @@ number_read E G t n None only h w s =
     let lt : digits_value 10 (without_leading_plus t) < 2 ^ 64 = omega arith in
     absurd (only t (Err h.0) h.1 (w.0, lt))
 
--- the words run, with the number that is read
+-- a number was read, with which the words run
+abbrev pub IsGiven : List Text → Option ℕ → Type 0
+IsGiven words None = ⊥
+IsGiven words (Some n) = Runs words n × IsSteps n
+
+pub given_number : (words : List Text) (r : Option ℕ) (n : ℕ) → IsGiven words r → r ≡ Some n → Runs words n × IsSteps n
+given_number words r n h is = subst (IsGiven words) is h
+
+pub never_none : (words : List Text) (r : Option ℕ) → IsGiven words r → r ≡ None → ⊥
+never_none words r h is = subst (IsGiven words) is h
+
+-- what is read of words that are served
 pub steps_given : (E : Type 0) (G : List ℕ → Result ℕ E → Type 0) (a : App) (m : ArgMatches) (words : List Text) (r : Option ℕ) → ((u : List ℕ) (x : Result ℕ E) → G u x → ParsesUnsigned 64 10 u x)
     → a ≡ program → (is_simple_and_free a ≡ true → fault_of a words ≡ []) → HasMatchesOf a words m
     → ((t : Text) → one_text (found_of m) (codes "steps") ≡ Some t → ReadsOne G t r)
-    → (n : ℕ) × (r ≡ Some n) × Runs words n × IsSteps n
+    → IsGiven words r
 steps_given E G a m words r only is none matches read =
     let given = reads words (of_program a (λ b. fault_of b words ≡ []) is none) in
     let rows = subst (λ b. HasMatchesOf b words m) is matches refl in
     let text : one_text (found_of m) (codes "steps") ≡ Some given.1 = one_text-rows (found_of m) (codes "steps") ∙ ap (one_of (codes "steps")) rows.0 ∙ given.5 in
-    (given.0, number_read E G given.1 given.0 r only (read given.1 text) given.4 given.3, given.2, given.3)
+    subst (IsGiven words) (sym (number_read E G given.1 given.0 r only (read given.1 text) given.4 given.3)) (given.2, given.3)
 
 -- words that run are refused for want of memory alone
 pub refused_memory : (a : App) (words : List Text) (error : Error) → a ≡ program → (is_simple_and_free a ≡ true → HasKind (fault_of a words) error) → (n : ℕ) → Runs words n → kind_of error ≡ kind.OutOfMemory
@@ -433,11 +445,3 @@ pub never_served : (a : App) (words : List Text) → a ≡ program → (is_simpl
 never_served a words is none asks =
     let same : kind.DisplayHelp ∷ [] ≡ [] = sym (help_asked words asks) ∙ of_program a (λ b. fault_of b words ≡ []) is none in
     cc
-
--- ---- what was read
-
-pub not_none : (r : Option ℕ) (n : ℕ) → r ≡ Some n → r ≡ None → ⊥
-not_none r n e f = let same : Some n ≡ None = sym e ∙ f in cc
-
-pub same_number : (r : Option ℕ) (n m : ℕ) → r ≡ Some n → r ≡ Some m → n ≡ m
-same_number r n m e f = let same : Some n ≡ Some m = sym e ∙ f in cc

@@ -1,5 +1,5 @@
 -- Where an open job stands: words for the contracts of private functions.
-use Rattle.std.specs.Prelude.{◌≡◌, ℕ, Bool, true, false, ⊤}
+use Rattle.std.specs.Prelude.{◌≡◌, Bool, true, false, ⊤}
 use Rattle.janus_meaning.specs.World.{Cell}
 use Rattle.kernel_core.specs.Request.{Request, RunCell, Undo, Redo, Goto}
 use Rattle.kernel_core.specs.State.{Entered, Job, Inside, Posted}

@@ -169,31 +169,78 @@ fn gives_texts(rt: HostRuntime) -> Result<(), Fail> {
     Ok(())
 }
 
-/// The exit status of words that run nothing, and whether what is told of them goes to standard error; `None` for words that
-/// run.
-fn refused(alloc: Global, words: &[&str]) -> Option<(u8, bool)> {
+/// How many steps the words give a cell; of words that run nothing the exit status, and whether what is told of them goes to
+/// standard error.
+fn steps(alloc: Global, words: &[&str]) -> Result<u64, (u8, bool)> {
     match steps_of(alloc, words) {
-        Ok(_) => None,
-        Err(error) => Some((words_status(error.kind()), error.use_stderr())),
+        Ok(steps) => Ok(steps),
+        Err(error) => Err((words_status(error.kind()), error.use_stderr())),
     }
 }
 
 #[test]
-fn takes_words(rt: HostRuntime) -> Result<(), Fail> {
+fn takes_steps(rt: HostRuntime) -> Result<(), Fail> {
     let alloc = rt.alloc();
-    assert_eq!(rt; refused(alloc, &["janus-cells"]), None);
-    assert_eq!(rt; refused(alloc, &[]), None);
-    assert_eq!(rt; refused(alloc, &["janus-cells", "--"]), None);
+    assert_eq!(rt; steps(alloc, &["janus-cells"]), Ok(10_000_000));
+    assert_eq!(rt; steps(alloc, &[]), Ok(10_000_000));
+    assert_eq!(rt; steps(alloc, &["janus-cells", "--"]), Ok(10_000_000));
+    for (text, number) in [
+        ("1", 1),
+        ("4096", 4096),
+        ("+5", 5),
+        ("007", 7),
+        ("1000000000000", 1_000_000_000_000),
+    ] {
+        let joined = format!(in alloc; "--steps={text}")?;
+        assert_eq!(rt; steps(alloc, &["janus-cells", "--steps", text]), Ok(number));
+        assert_eq!(rt;
+            steps(alloc, &["janus-cells", "--steps", text, "--"]),
+            Ok(number)
+        );
+        assert_eq!(rt; steps(alloc, &["janus-cells", joined.as_str()]), Ok(number));
+    }
+    Ok(())
+}
+
+#[test]
+fn refuses_words(rt: HostRuntime) -> Result<(), Fail> {
+    let alloc = rt.alloc();
+    for text in [
+        "0",
+        "1000000000001",
+        "18446744073709551617",
+        "-1",
+        "x",
+        "",
+        "1e3",
+        "--",
+        "--steps",
+    ] {
+        let joined = format!(in alloc; "--steps={text}")?;
+        assert_eq!(rt;
+            steps(alloc, &["janus-cells", "--steps", text]),
+            Err((2, true)),
+            "{text}"
+        );
+        assert_eq!(rt;
+            steps(alloc, &["janus-cells", joined.as_str()]),
+            Err((2, true)),
+            "{text}"
+        );
+    }
+    assert_eq!(rt; steps(alloc, &["janus-cells", "--steps"]), Err((2, true)));
     assert_eq!(rt;
-        refused(alloc, &["janus-cells", "--help"]),
-        Some((0, false))
+        steps(alloc, &["janus-cells", "--steps", "1", "--steps", "1"]),
+        Err((2, true))
     );
-    assert_eq!(rt; refused(alloc, &["janus-cells", "-h"]), Some((0, false)));
     assert_eq!(rt;
-        refused(alloc, &["janus-cells", "--steps"]),
-        Some((2, true))
+        steps(alloc, &["janus-cells", "--steps=1", "x"]),
+        Err((2, true))
     );
-    assert_eq!(rt; refused(alloc, &["janus-cells", "x"]), Some((2, true)));
+    assert_eq!(rt; steps(alloc, &["janus-cells", "--step=1"]), Err((2, true)));
+    assert_eq!(rt; steps(alloc, &["janus-cells", "x"]), Err((2, true)));
+    assert_eq!(rt; steps(alloc, &["janus-cells", "--help"]), Err((0, false)));
+    assert_eq!(rt; steps(alloc, &["janus-cells", "-h"]), Err((0, false)));
     assert_eq!(rt; unread_words_status(ErrorKind::InvalidData), 2);
     assert_eq!(rt; unread_words_status(ErrorKind::OutOfMemory), 1);
     Ok(())

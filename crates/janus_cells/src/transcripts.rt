@@ -4,15 +4,18 @@ use std::alloc::Global;
 use std::process::Abort;
 use std::test::Fail;
 
-/// What is written for an input whose lines end with `;`.
-fn written(alloc: Global, input: &str) -> Result<String, Fail> {
+/// How many steps a cell may take where a row doesn't say.
+const STEPS: u64 = 10_000_000;
+
+/// What is written for an input whose lines end with `;`, where each cell may take so many steps.
+fn written(alloc: Global, steps: u64, input: &str) -> Result<String, Fail> {
     let mut text = String::new(alloc);
     for c in input.chars() {
         text.push(if c == ';' { '\n' } else { c })?;
     }
     let mut reader = text.as_bytes();
     let mut writer = Vec::new(alloc);
-    let ended = run(alloc, 10_000_000, &mut reader, &mut writer).is_ok();
+    let ended = run(alloc, steps, &mut reader, &mut writer).is_ok();
     let mut lines = String::new(alloc);
     for c in String::from_utf8(writer)?.chars() {
         lines.push(if c == '\n' { ';' } else { c })?;
@@ -26,7 +29,78 @@ fn written(alloc: Global, input: &str) -> Result<String, Fail> {
 /// Each input writes the transcript that stands behind it.
 fn writes(rt: &impl Abort, alloc: Global, rows: &[(&str, &str)]) -> Result<(), Fail> {
     for (input, transcript) in rows {
-        assert_eq!(rt; written(alloc, input)?.as_str(), *transcript, "{input}");
+        assert_eq!(rt;
+            written(alloc, STEPS, input)?.as_str(),
+            *transcript,
+            "{input}"
+        );
+    }
+    Ok(())
+}
+
+/// Numbers of steps, inputs and their transcripts: a cell that has not ended after so many steps leaves all as before, and moves
+/// take all the steps that they need.
+const LIMITED: [(u64, &str, &str); 10] = [
+    (
+        4096,
+        "int x from x = 0 loop x += 1 until 0;%show",
+        "interrupted after 4096;at node 0;",
+    ),
+    (
+        1000,
+        "int x;%%;x += 7;%%;from x = 7 loop x += 1 until 0;%show;%undo 1;%show",
+        "ok node 1 steps 1;ok node 2 steps 3;interrupted after 1000;at node 2;x = 7;undid 1;at node 1;x = 0;",
+    ),
+    (
+        3,
+        "int x;%%;x += 5;%show",
+        "ok node 1 steps 1;ok node 2 steps 3;at node 2;x = 5;",
+    ),
+    (
+        2,
+        "int x;%%;x += 5;%show",
+        "ok node 1 steps 1;interrupted after 2;at node 1;x = 0;",
+    ),
+    (
+        2,
+        "int x x += 1 / 0;%show",
+        "fault 57 DivisionByZero after 1;at node 0;",
+    ),
+    (
+        1,
+        "int x x += 1 / 0;%show",
+        "interrupted after 1;at node 0;",
+    ),
+    (
+        1,
+        "int x;%%;%undo 1;%redo 1;y += 1;%show",
+        "ok node 1 steps 1;undid 1;redid 1;refused 41 Unknown at 0..1;at node 1;x = 0;",
+    ),
+    (
+        3,
+        "int x;%%;x += 1;%%;x += 1;%%;%undo 3;%redo 3;%goto 1;%show",
+        "ok node 1 steps 1;ok node 2 steps 3;ok node 3 steps 3;undid 3;redid 3;went 2 up 0 down;at node 1;x = 0;",
+    ),
+    (
+        40959,
+        "int i int x;%%;from i = 0 do x += i i += 1 until i = 4096;%show",
+        "ok node 1 steps 1;ok node 2 steps 40959;at node 2;i = 4096;x = 8386560;",
+    ),
+    (
+        40958,
+        "int i int x;%%;from i = 0 do x += i i += 1 until i = 4096;%show",
+        "ok node 1 steps 1;interrupted after 40958;at node 1;i = 0;x = 0;",
+    ),
+];
+
+#[test]
+fn interrupts_cells(rt: HostRuntime) -> Result<(), Fail> {
+    for (steps, input, transcript) in &LIMITED {
+        assert_eq!(rt;
+            written(rt.alloc(), *steps, input)?.as_str(),
+            *transcript,
+            "{steps} {input}"
+        );
     }
     Ok(())
 }
@@ -265,6 +339,6 @@ fn evaluates(rt: HostRuntime) -> Result<(), Fail> {
     }
     input.push_str(";%show")?;
     output.push_str(";")?;
-    assert_eq!(rt; written(alloc, &input)?.as_str(), output.as_str());
+    assert_eq!(rt; written(alloc, STEPS, &input)?.as_str(), output.as_str());
     Ok(())
 }

@@ -1,4 +1,4 @@
-use Rattle.std.proofs.Common.{◌≡◌, ◌∙◌, ℕ, false, subst}
+use Rattle.std.proofs.Common.{◌≡◌, ℕ, false, subst}
 use Rattle.kernel_core.specs.Runs.{Machine, IsSliceOf}
 use Rattle.kernel_core.specs.declared.outcome.Sliced.{Sliced}
 use Rattle.janus_cells.specs.OpenJob.{IsInCell}

@@ -1,4 +1,4 @@
-use Rattle.std.proofs.Common.{◌≡◌, ◌⊎◌, ◌∙◌, ap, ap₂, codes, inl, inr, map, sym, subst, rules, Some, [], ◌∷◌, ℕ}
+use Rattle.std.proofs.Common.{◌≡◌, ◌∙◌, ap, ap₂, map, rules, Some}
 use Rattle.std.specs.Ordering.{nat_cmp, ord_max}
 use Rattle.std.specs.Int.{saturate_unsigned, w64}
 use Rattle.std.specs.Str.Parse.{ExplainsUnsignedError, HasUnsignedDigitsIfOk, ParsesUnsigned}
@@ -7,8 +7,7 @@ use Rattle.clap.specs.Values.{unsigned_up_to}
 use Rattle.clap.specs.Simple.{app_of_fields}
 use Rattle.clap.specs.Words.{app_of, rule_of, with_rule}
 use Rattle.clap.specs.declared.builder.value_parser.ValueParser.TheVariants as vp
-use Rattle.janus_cells.specs.CommandLine.{IsSteps, Runs}
-use Rattle.janus_cells.proofs.CommandReads.{never_served, not_none, same_number, refused_help, refused_memory, steps_given}
+use Rattle.janus_cells.proofs.CommandReads.{IsGiven, given_number, never_none, never_served, refused_help, refused_memory, steps_given}
 use Rattle.janus_cells.proofs.CommandWords.{program, steps_rule}
 use Rattle.janus_cells.proofs.words.steps_of.Goals as goal
 
@@ -39,9 +38,9 @@ unreachable-requires g c =
     let parser : c.value_parser-2.result.value_parser ≡ Some (vp.Unsigned 1 1000000000000) = c.value_parser-2.ensures.given.1 ∙ ap (λ q. Some q) (c.value_parser-2.ensures.given.2 ∙ made) in
     let rule : rule_of c.help-steps.result ≡ steps_rule = search rules in
     let program_is : app_of c.in_ok-command.command ≡ program = c.in_ok-command.ensures.shape (search rules) ∙ ap₂ with_rule (ap app_of_fields c.about.ensures ∙ c.new-3.ensures.app) rule in
-    let given : (n : ℕ) × (c.get_one.result ≡ Some n) × Runs (map g.S.AsStr.text c.args.words.now) n × IsSteps n =
+    let given : IsGiven (map g.S.AsStr.text c.args.words.now) c.get_one.result =
     steps_given _ (λ bs r. ParsesUnsigned 64 10 bs r × ExplainsUnsignedError 10 bs r × HasUnsignedDigitsIfOk bs r) (app_of c.in_ok-command.command) c.in_ok-matches.matches (map g.S.AsStr.text c.args.words.now) c.get_one.result (λ u x h. h.0) program_is c.in_ok-matches.ensures.kinds c.in_ok-matches.ensures.matches c.get_one.ensures.value in
-    not_none c.get_one.result given.0 given.1 c.in-None.is
+    never_none (map g.S.AsStr.text c.args.words.now) c.get_one.result given c.in-None.is
 
 pub returns-clause-ok : goal.returns-clause-ok
 returns-clause-ok g c =
@@ -50,10 +49,9 @@ returns-clause-ok g c =
     let parser : c.value_parser-2.result.value_parser ≡ Some (vp.Unsigned 1 1000000000000) = c.value_parser-2.ensures.given.1 ∙ ap (λ q. Some q) (c.value_parser-2.ensures.given.2 ∙ made) in
     let rule : rule_of c.help-steps.result ≡ steps_rule = search rules in
     let program_is : app_of c.in_ok-command.command ≡ program = c.in_ok-command.ensures.shape (search rules) ∙ ap₂ with_rule (ap app_of_fields c.about.ensures ∙ c.new-3.ensures.app) rule in
-    let given : (n : ℕ) × (c.get_one.result ≡ Some n) × Runs (map g.S.AsStr.text c.args.words.now) n × IsSteps n =
+    let given : IsGiven (map g.S.AsStr.text c.args.words.now) c.get_one.result =
     steps_given _ (λ bs r. ParsesUnsigned 64 10 bs r × ExplainsUnsignedError 10 bs r × HasUnsignedDigitsIfOk bs r) (app_of c.in_ok-command.command) c.in_ok-matches.matches (map g.S.AsStr.text c.args.words.now) c.get_one.result (λ u x h. h.0) program_is c.in_ok-matches.ensures.kinds c.in_ok-matches.ensures.matches c.get_one.ensures.value in
-    let same = same_number c.get_one.result given.0 c.in-Some.steps given.1 c.in-Some.is in
-    subst (λ n. Runs (map g.S.AsStr.text c.args.words.now) n) same given.2
+    (given_number (map g.S.AsStr.text c.args.words.now) c.get_one.result c.in-Some.steps given c.in-Some.is).0
 
 pub returns-clause-range : goal.returns-clause-range
 returns-clause-range g c =
@@ -62,10 +60,9 @@ returns-clause-range g c =
     let parser : c.value_parser-2.result.value_parser ≡ Some (vp.Unsigned 1 1000000000000) = c.value_parser-2.ensures.given.1 ∙ ap (λ q. Some q) (c.value_parser-2.ensures.given.2 ∙ made) in
     let rule : rule_of c.help-steps.result ≡ steps_rule = search rules in
     let program_is : app_of c.in_ok-command.command ≡ program = c.in_ok-command.ensures.shape (search rules) ∙ ap₂ with_rule (ap app_of_fields c.about.ensures ∙ c.new-3.ensures.app) rule in
-    let given : (n : ℕ) × (c.get_one.result ≡ Some n) × Runs (map g.S.AsStr.text c.args.words.now) n × IsSteps n =
+    let given : IsGiven (map g.S.AsStr.text c.args.words.now) c.get_one.result =
     steps_given _ (λ bs r. ParsesUnsigned 64 10 bs r × ExplainsUnsignedError 10 bs r × HasUnsignedDigitsIfOk bs r) (app_of c.in_ok-command.command) c.in_ok-matches.matches (map g.S.AsStr.text c.args.words.now) c.get_one.result (λ u x h. h.0) program_is c.in_ok-matches.ensures.kinds c.in_ok-matches.ensures.matches c.get_one.ensures.value in
-    let same = same_number c.get_one.result given.0 c.in-Some.steps given.1 c.in-Some.is in
-    subst IsSteps same given.3
+    (given_number (map g.S.AsStr.text c.args.words.now) c.get_one.result c.in-Some.steps given c.in-Some.is).1
 
 pub returns-clause-help : goal.returns-clause-help
 returns-clause-help g c =
