@@ -28,5 +28,5 @@ pub use crate::done::{Done, ExpFault, NamedValue, Wish};
 pub use crate::inputs::{HistoryAsk, Input};
 pub use crate::judgement::{Completeness, is_complete};
 pub use crate::lines::{exp_fault_line, outcome_line, post_fault_line};
-pub use crate::standing::{is_settled, state};
+pub use crate::standing::{is_settled, stands_at_end, state};
 pub use crate::values::{SHOWN_VALUES, value_text};

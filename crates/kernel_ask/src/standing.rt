@@ -1,14 +1,15 @@
 //! The state of a kernel.
-ghost use Rattle.std.specs.Prelude.{◌≡◌, true, not, map, string_bytes, IfOk};
+ghost use Rattle.std.specs.Prelude.{◌≡◌, ◌↔◌, IsTrue, true, not, map, string_bytes, IfOk};
 ghost use Rattle.janus_meaning.specs.World.{listed};
 ghost use Rattle.kernel_core.specs.State.{Idle};
 ghost use Rattle.kernel_ask.specs.ValueTexts.{value_text as value_text_of};
+ghost use Rattle.kernel_ask.specs.EndedAt.{StandsAtEnd};
 ghost use Rattle.kernel_ask.specs.State.{is_busy as is_busy_of, IsState};
 
 use crate::answer::KernelState;
 use crate::values::value_text;
 use janus_store::Store;
-use kernel_core::{Kernel, Phase};
+use kernel_core::{Kernel, Outcome, Phase};
 use std::alloc::{AllocError, Global};
 use std::sync::ledger::Ledger;
 
@@ -42,6 +43,21 @@ pub fn is_settled<L: Ledger>(kernel: &Kernel<L>) -> bool
     match kernel.phase() {
         Phase::Idle | Phase::Queued => true,
         Phase::Border | Phase::Inside => false,
+    }
+}
+
+/// Whether the kernel stands where this outcome of a job left it: after a cell that ran, at its node.
+pub fn stands_at_end<L: Ledger>(kernel: &Kernel<L>, outcome: &Outcome) -> bool
+    ensures { IsTrue result ↔ StandsAtEnd outcome.now kernel.now.machine.state.past }
+{
+    match outcome {
+        Outcome::Ran(node, _) => kernel.position() == *node,
+        Outcome::Failed(_, _)
+        | Outcome::Interrupted(_)
+        | Outcome::Undid(_, _)
+        | Outcome::Redid(_, _)
+        | Outcome::Went(_, _, _)
+        | Outcome::Refused(_) => true,
     }
 }
 

@@ -4,9 +4,10 @@ ghost use Rattle.serde_json.specs.View.{view};
 ghost use Rattle.serde_json.specs.Written.{compact_text};
 ghost use Rattle.kernel_message.specs.Stamp.{header as header_of, msg_id as msg_id_of};
 
+use crate::members::put_text;
 use crate::stamp::Stamp;
 use itoa::Buffer;
-use serde_json::{Value, json};
+use serde_json::{Map, Value};
 use std::alloc::{AllocError, Global};
 use std::str;
 
@@ -40,14 +41,14 @@ fn header(alloc: Global, stamp: &Stamp, n: u64, msg_type: &str) -> Result<Value,
     let id = msg_id(alloc, stamp, n)?;
     let session = stamp.session.as_str();
     let date = date_text(stamp);
-    json!(in alloc; {
-        "date": date,
-        "msg_id": id,
-        "msg_type": msg_type,
-        "session": session,
-        "username": "kernel",
-        "version": "5.4"
-    })
+    let mut members = Map::new(alloc);
+    put_text(alloc, &mut members, "date", date)?;
+    put_text(alloc, &mut members, "msg_id", &id)?;
+    put_text(alloc, &mut members, "msg_type", msg_type)?;
+    put_text(alloc, &mut members, "session", session)?;
+    put_text(alloc, &mut members, "username", "kernel")?;
+    put_text(alloc, &mut members, "version", "5.4")?;
+    Ok(Value::Object(members))
 }
 
 /// The octets of the n-th message's header.

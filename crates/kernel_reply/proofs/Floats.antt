@@ -1,5 +1,5 @@
 -- What is said has no floats.
-use Rattle.std.proofs.Common.{◌≡◌, ℕ, ℤ, Bool, true, false, ◌||◌, List, [], ◌∷◌, map, refl, ap, ◌∙◌, String, string_bytes, Result, Ok, Err}
+use Rattle.std.proofs.Common.{◌≡◌, ℕ, ℤ, Bool, true, false, ◌||◌, List, [], ◌∷◌, map, refl, ap, ◌∙◌, String, string_bytes, Option, Result, Ok, Err, if◌then◌else◌}
 use Rattle.std.specs.declared.alloc.Global.{Global}
 use Rattle.std.specs.Ordering.{nat_cmp, match_ordering}
 use Rattle.std.specs.Cmp.Lexicographic.{slice_cmp}
@@ -14,7 +14,7 @@ use Rattle.kernel_ask.specs.declared.done.ExpFault.{ExpFault}
 use Rattle.kernel_message.specs.Json.{text}
 use Rattle.kernel_reply.specs.Replies.{input_shown}
 use Rattle.kernel_reply.specs.Execution.{with_values, value_shown}
-use Rattle.kernel_reply.specs.Comms.{with_comms, comm_shown}
+use Rattle.kernel_reply.specs.Comms.{with_comms, comm_shown, asks_target, comms_asked}
 
 pub texts_plain : (xs : List (String Global)) → items_have_float (items_of (map (λ s. text (string_bytes s)) xs)) ≡ false
 texts_plain [] = refl
@@ -67,5 +67,9 @@ comms_plain_from : (ms : Members) (ids : List (List ℕ)) → members_have_float
 comms_plain_from ms [] h = h
 comms_plain_from ms (id ∷ ids) h = comms_plain_from (put id comm_shown ms) ids (put_plain id comm_shown ms refl h)
 
-pub comms_plain : (ids : List (List ℕ)) → members_have_float (with_comms no_members ids) ≡ false
-comms_plain ids = comms_plain_from no_members ids refl
+comms_chosen_plain : (b : Bool) (ids : List (List ℕ)) → members_have_float (if b then with_comms no_members ids else no_members) ≡ false
+comms_chosen_plain true ids = comms_plain_from no_members ids refl
+comms_chosen_plain false ids = refl
+
+pub comms_plain : (name : Option (List ℕ)) (ids : List (List ℕ)) → members_have_float (comms_asked name ids) ≡ false
+comms_plain name ids = comms_chosen_plain (asks_target name) ids

@@ -31,17 +31,25 @@ abbrev pub comm_info_content : Data → Data
 comm_info_content comms = record_of ((codes "comms", comms) ∷ ok ∷ [])
 
 -- the open comms, if they are those of the target
+abbrev pub comms_asked : Option (List ℕ) → List (List ℕ) → Members
+comms_asked name ids = if asks_target name then with_comms no_members ids else no_members
+
 abbrev pub comm_info_reply : Option (List ℕ) → List (List ℕ) → Said
-comm_info_reply name ids = says (codes "comm_info_reply")
-    (comm_info_content (object (if asks_target name then with_comms no_members ids else no_members)))
+comm_info_reply name ids = says (codes "comm_info_reply") (comm_info_content (object (comms_asked name ids)))
 
 -- ---- what is said on a comm
 
+abbrev pub comm_msg_content : List ℕ → Data → Data
+comm_msg_content id d = record_of ((codes "comm_id", text id) ∷ (codes "data", d) ∷ [])
+
 abbrev pub comm_msg : List ℕ → Data → Said
-comm_msg id d = says (codes "comm_msg") (record_of ((codes "comm_id", text id) ∷ (codes "data", d) ∷ []))
+comm_msg id d = says (codes "comm_msg") (comm_msg_content id d)
+
+abbrev pub comm_close_content : List ℕ → Data
+comm_close_content id = record_of ((codes "comm_id", text id) ∷ (codes "data", record_of []) ∷ [])
 
 abbrev pub comm_close : List ℕ → Said
-comm_close id = says (codes "comm_close") (record_of ((codes "comm_id", text id) ∷ (codes "data", record_of []) ∷ []))
+comm_close id = says (codes "comm_close") (comm_close_content id)
 
 -- the comm is among the open ones
 abbrev pub is_open : List ℕ → List (String Global) → Bool

@@ -11,12 +11,16 @@ use Rattle.kernel_reply.specs.Problems.{Problem, exp_problem}
 
 -- ---- user expressions
 
+-- the line that tells a problem is its traceback
+abbrev pub traceback : List ℕ → Data
+traceback line = list (text line ∷ [])
+
 abbrev pub problem_shown : Problem → Data
 problem_shown p = record_of (
     (codes "ename", text p.ename)
     ∷ (codes "evalue", text p.evalue)
     ∷ (codes "status", text (codes "error"))
-    ∷ (codes "traceback", list (text p.evalue ∷ []))
+    ∷ (codes "traceback", traceback p.evalue)
     ∷ [])
 
 abbrev pub value_shown : Result ℤ ExpFault → Data
@@ -30,14 +34,17 @@ with_values ms (v ∷ vs) = with_values (put (string_bytes v.name) (value_shown 
 
 -- ---- the reply
 
-abbrev pub error_reply : ℕ → Problem → Said
-error_reply n p = says (codes "execute_reply") (record_of (
+abbrev pub error_reply_content : ℕ → Problem → Data
+error_reply_content n p = record_of (
     (codes "ename", text p.ename)
     ∷ (codes "evalue", text p.evalue)
     ∷ (codes "execution_count", count n)
     ∷ (codes "status", text (codes "error"))
-    ∷ (codes "traceback", list (text p.evalue ∷ []))
-    ∷ []))
+    ∷ (codes "traceback", traceback p.evalue)
+    ∷ [])
+
+unfoldable pub error_reply : ℕ → Problem → Said
+error_reply n p = says (codes "execute_reply") (error_reply_content n p)
 
 abbrev pub ran_content : ℕ → Data → Data
 ran_content n values = record_of (
@@ -46,7 +53,7 @@ ran_content n values = record_of (
     ∷ (codes "user_expressions", values)
     ∷ [])
 
-abbrev pub ran_reply : ℕ → List NamedValue → Said
+unfoldable pub ran_reply : ℕ → List NamedValue → Said
 ran_reply n values = says (codes "execute_reply") (ran_content n (object (with_values no_members values)))
 
 -- user expressions are told only of a cell that ran
@@ -56,25 +63,31 @@ execute_reply n (Some p) values = error_reply n p
 
 -- ---- the broadcasts
 
-abbrev pub execute_input : List ℕ → ℕ → Said
+unfoldable pub execute_input : List ℕ → ℕ → Said
 execute_input code n = says (codes "execute_input") (record_of (
     (codes "code", text code)
     ∷ (codes "execution_count", count n)
     ∷ []))
 
-abbrev pub execute_result : List ℕ → ℕ → Said
-execute_result shown n = says (codes "execute_result") (record_of (
+abbrev pub execute_result_content : List ℕ → ℕ → Data
+execute_result_content shown n = record_of (
     (codes "data", plain shown)
     ∷ (codes "execution_count", count n)
     ∷ no_metadata
-    ∷ []))
+    ∷ [])
 
-abbrev pub error : Problem → Said
-error p = says (codes "error") (record_of (
+unfoldable pub execute_result : List ℕ → ℕ → Said
+execute_result shown n = says (codes "execute_result") (execute_result_content shown n)
+
+abbrev pub error_content : Problem → Data
+error_content p = record_of (
     (codes "ename", text p.ename)
     ∷ (codes "evalue", text p.evalue)
-    ∷ (codes "traceback", list (text p.evalue ∷ []))
-    ∷ []))
+    ∷ (codes "traceback", traceback p.evalue)
+    ∷ [])
+
+unfoldable pub error : Problem → Said
+error p = says (codes "error") (error_content p)
 
 -- what came of the cell: an error, or what it shows, if it shows something
 abbrev pub ending : ℕ → Option Problem → Option (List ℕ) → List Said

@@ -64,22 +64,32 @@ inspect_reply (Some known) = says (codes "inspect_reply") (inspect_content (plai
 
 -- ---- completeness
 
+-- a status of code, and nothing more
+abbrev pub status_word : List ℕ → Data
+status_word word = record_of ((codes "status", text word) ∷ [])
+
+-- more has to come, with no indent
+abbrev pub incomplete : Data
+incomplete = record_of ((codes "indent", text []) ∷ (codes "status", text (codes "incomplete")) ∷ [])
+
 abbrev pub completeness_content : Completeness → Data
-completeness_content Complete = record_of ((codes "status", text (codes "complete")) ∷ [])
-completeness_content Incomplete = record_of ((codes "indent", text []) ∷ (codes "status", text (codes "incomplete")) ∷ [])
-completeness_content Invalid = record_of ((codes "status", text (codes "invalid")) ∷ [])
-completeness_content Unknown = record_of ((codes "status", text (codes "unknown")) ∷ [])
+completeness_content Complete = status_word (codes "complete")
+completeness_content Incomplete = incomplete
+completeness_content Invalid = status_word (codes "invalid")
+completeness_content Unknown = status_word (codes "unknown")
 
 abbrev pub is_complete_reply : Completeness → Said
 is_complete_reply c = says (codes "is_complete_reply") (completeness_content c)
 
 -- ---- history
 
--- an input of session 1; where outputs are asked for it stands beside null, since none is kept
+-- the text of an input; where outputs are asked for it stands beside null, since none is kept
+abbrev pub input_text : Bool → List ℕ → Data
+input_text output code = if output then list (text code ∷ null ∷ []) else text code
+
+-- an input of session 1
 abbrev pub input_shown : Bool → Input → Data
-input_shown output i =
-    list (count 1 ∷ count i.number
-    ∷ (if output then list (text (string_bytes i.code) ∷ null ∷ []) else text (string_bytes i.code)) ∷ [])
+input_shown output i = list (count 1 ∷ count i.number ∷ input_text output (string_bytes i.code) ∷ [])
 
 abbrev pub history_content : Data → Data
 history_content inputs = record_of ((codes "history", inputs) ∷ ok ∷ [])
@@ -88,13 +98,16 @@ abbrev pub history_reply : Bool → List Input → Said
 history_reply output inputs = says (codes "history_reply") (history_content (list (map (input_shown output) inputs)))
 
 -- the history is not searched
-abbrev pub no_search_reply : Said
-no_search_reply = says (codes "history_reply") (record_of (
+abbrev pub no_search : Data
+no_search = record_of (
     (codes "ename", text (codes "LeftOut"))
     ∷ (codes "evalue", text (codes "history search"))
     ∷ (codes "status", text (codes "error"))
     ∷ (codes "traceback", list [])
-    ∷ []))
+    ∷ [])
+
+abbrev pub no_search_reply : Said
+no_search_reply = says (codes "history_reply") no_search
 
 -- ---- interrupt and shutdown
 

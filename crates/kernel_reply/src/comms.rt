@@ -9,7 +9,7 @@ ghost use Rattle.kernel_reply.specs.Comms as table;
 use crate::lists::texts;
 use jupyter_msg::CommOpen;
 use kernel_ask::KernelState;
-use kernel_message::Draft;
+use kernel_message::{Draft, put_count, put_empty, put_flag, put_text, put_value};
 use serde_json::{Map, Value, json};
 use std::alloc::{AllocError, Global};
 
@@ -65,7 +65,21 @@ fn comm_info_content(alloc: Global, comms: Value) -> Result<Value, AllocError>
     ensures no_float { IfOk result (λ v. has_float (view v) ≡ false) }
     ensures value { IfOk result (λ v. view v ≡ table.comm_info_content (view comms)) }
 {
-    json!(in alloc; {"comms": comms, "status": "ok"})
+    let mut members = Map::new(alloc);
+    put_value(alloc, &mut members, "comms", comms)?;
+    put_text(alloc, &mut members, "status", "ok")?;
+    Ok(Value::Object(members))
+}
+
+/// The open comms that are asked for.
+fn comms_asked(alloc: Global, name: Option<&str>, ids: &[String]) -> Result<Value, AllocError>
+    ensures { IfOk result (λ v. view v
+        ≡ object (table.comms_asked (option_map (λ t. t.now) name.entry) (map string_bytes ids.now))) }
+{
+    if asks_target(name) {
+        return comms_shown(alloc, ids);
+    }
+    Ok(Value::Object(Map::new(alloc)))
 }
 
 /// The open comms, if they are those of the target.
@@ -77,19 +91,11 @@ pub(crate) fn comm_info_reply(
     ensures { IfOk result (λ s. said_of s
         ≡ table.comm_info_reply (option_map (λ t. t.now) name.entry) (map string_bytes ids.now)) }
 {
-    if asks_target(name) {
-        let shown = comms_shown(alloc, ids)?;
-        Ok(Draft {
-            msg_type: "comm_info_reply",
-            content: comm_info_content(alloc, shown)?,
-        })
-    } else {
-        let shown = json!(in alloc; {})?;
-        Ok(Draft {
-            msg_type: "comm_info_reply",
-            content: comm_info_content(alloc, shown)?,
-        })
-    }
+    let shown = comms_asked(alloc, name, ids)?;
+    Ok(Draft {
+        msg_type: "comm_info_reply",
+        content: comm_info_content(alloc, shown)?,
+    })
 }
 
 /// Whether the comm is among the open ones.
@@ -106,25 +112,47 @@ pub(crate) fn is_granted(request: &CommOpen, ids: &[String]) -> bool
     request.target_name.as_str() == TARGET && is_open(&request.comm_id, ids)
 }
 
+/// What is said where a comm is closed.
+fn comm_close_content(alloc: Global, id: &str) -> Result<Value, AllocError>
+    ensures { IfOk result (λ v. view v ≡ table.comm_close_content id.now) }
+{
+    let mut members = Map::new(alloc);
+    put_text(alloc, &mut members, "comm_id", id)?;
+    put_empty(alloc, &mut members, "data")?;
+    Ok(Value::Object(members))
+}
+
 /// A comm is closed.
 pub(crate) fn comm_close(alloc: Global, id: &str) -> Result<Draft, AllocError>
     ensures { IfOk result (λ s. said_of s ≡ table.comm_close id.now) }
 {
     Ok(Draft {
         msg_type: "comm_close",
-        content: json!(in alloc; {"comm_id": id, "data": {}})?,
+        content: comm_close_content(alloc, id)?,
     })
 }
 
-/// A message on a comm.
+/// What is said on a comm.
 #[tactic(auto, using(crate::proofs::Holes::comm_msg_plain))]
+fn comm_msg_content(alloc: Global, id: &str, said: Value) -> Result<Value, AllocError>
+    requires { has_float (view said) ≡ false }
+    ensures no_float { IfOk result (λ v. has_float (view v) ≡ false) }
+    ensures value { IfOk result (λ v. view v ≡ table.comm_msg_content id.now (view said)) }
+{
+    let mut members = Map::new(alloc);
+    put_text(alloc, &mut members, "comm_id", id)?;
+    put_value(alloc, &mut members, "data", said)?;
+    Ok(Value::Object(members))
+}
+
+/// A message on a comm.
 pub(crate) fn comm_msg(alloc: Global, id: &str, said: Value) -> Result<Draft, AllocError>
     requires { has_float (view said) ≡ false }
     ensures { IfOk result (λ s. said_of s ≡ table.comm_msg id.now (view said)) }
 {
     Ok(Draft {
         msg_type: "comm_msg",
-        content: json!(in alloc; {"comm_id": id, "data": said})?,
+        content: comm_msg_content(alloc, id, said)?,
     })
 }
 
@@ -135,16 +163,16 @@ fn state_content(alloc: Global, state: &KernelState, world: Value) -> Result<Val
     ensures no_float { IfOk result (λ v. has_float (view v) ≡ false) }
     ensures value { IfOk result (λ v. view v ≡ table.state_content state.now (view world)) }
 {
-    json!(in alloc; {
-        "busy": state.busy,
-        "depth": state.depth,
-        "node": state.node,
-        "nodes": state.nodes,
-        "op": "state",
-        "redo": state.redo,
-        "status": "ok",
-        "world": world
-    })
+    let mut members = Map::new(alloc);
+    put_flag(alloc, &mut members, "busy", state.busy)?;
+    put_count(alloc, &mut members, "depth", state.depth as u64)?;
+    put_count(alloc, &mut members, "node", state.node as u64)?;
+    put_count(alloc, &mut members, "nodes", state.nodes as u64)?;
+    put_text(alloc, &mut members, "op", "state")?;
+    put_count(alloc, &mut members, "redo", state.redo as u64)?;
+    put_text(alloc, &mut members, "status", "ok")?;
+    put_value(alloc, &mut members, "world", world)?;
+    Ok(Value::Object(members))
 }
 
 /// The state on a comm.

@@ -11,9 +11,16 @@ use crate::problem::{Problem, exp_problem};
 use crate::status::{idle, plain};
 use itoa::Buffer;
 use kernel_ask::NamedValue;
-use kernel_message::Draft;
+use kernel_message::{Draft, put_count, put_empty, put_text, put_value};
 use serde_json::{Map, Value, json};
 use std::alloc::{AllocError, Global};
+
+/// A line as a traceback, which it is alone.
+fn traceback(alloc: Global, line: &str) -> Result<Value, AllocError>
+    ensures { IfOk result (λ v. view v ≡ table.traceback line.now) }
+{
+    json!(in alloc; [line])
+}
 
 /// The value of an expression.
 fn number_shown(alloc: Global, value: i32) -> Result<Value, AllocError>
@@ -21,20 +28,24 @@ fn number_shown(alloc: Global, value: i32) -> Result<Value, AllocError>
 {
     let mut buffer = Buffer::new();
     let data = plain(alloc, buffer.format(value))?;
-    json!(in alloc; {"data": data, "metadata": {}, "status": "ok"})
+    let mut members = Map::new(alloc);
+    put_value(alloc, &mut members, "data", data)?;
+    put_empty(alloc, &mut members, "metadata")?;
+    put_text(alloc, &mut members, "status", "ok")?;
+    Ok(Value::Object(members))
 }
 
 /// Why an expression has no value.
 fn problem_shown(alloc: Global, problem: &Problem) -> Result<Value, AllocError>
     ensures { IfOk result (λ v. view v ≡ table.problem_shown (told problem.now)) }
 {
-    let evalue = problem.evalue.as_str();
-    json!(in alloc; {
-        "ename": problem.ename,
-        "evalue": evalue,
-        "status": "error",
-        "traceback": [evalue]
-    })
+    let traceback = traceback(alloc, &problem.evalue)?;
+    let mut members = Map::new(alloc);
+    put_text(alloc, &mut members, "ename", problem.ename)?;
+    put_text(alloc, &mut members, "evalue", &problem.evalue)?;
+    put_text(alloc, &mut members, "status", "error")?;
+    put_value(alloc, &mut members, "traceback", traceback)?;
+    Ok(Value::Object(members))
 }
 
 /// What came of an expression.
@@ -82,10 +93,15 @@ fn ran_content(alloc: Global, count: u64, values: Value) -> Result<Value, AllocE
     ensures no_float { IfOk result (λ v. has_float (view v) ≡ false) }
     ensures value { IfOk result (λ v. view v ≡ table.ran_content count (view values)) }
 {
-    json!(in alloc; {"execution_count": count, "status": "ok", "user_expressions": values})
+    let mut members = Map::new(alloc);
+    put_count(alloc, &mut members, "execution_count", count)?;
+    put_text(alloc, &mut members, "status", "ok")?;
+    put_value(alloc, &mut members, "user_expressions", values)?;
+    Ok(Value::Object(members))
 }
 
 /// The reply for a cell that ran.
+#[tactic(auto, unfolding(crate::specs::Execution::ran_reply))]
 fn ran_reply(alloc: Global, count: u64, values: &[NamedValue]) -> Result<Draft, AllocError>
     ensures { IfOk result (λ s. said_of s ≡ table.ran_reply count values.now) }
 {
@@ -96,21 +112,28 @@ fn ran_reply(alloc: Global, count: u64, values: &[NamedValue]) -> Result<Draft, 
     })
 }
 
+/// What is told of a cell with which something went wrong.
+fn error_reply_content(alloc: Global, count: u64, problem: &Problem) -> Result<Value, AllocError>
+    ensures { IfOk result (λ v. view v ≡ table.error_reply_content count (told problem.now)) }
+{
+    let traceback = traceback(alloc, &problem.evalue)?;
+    let mut members = Map::new(alloc);
+    put_text(alloc, &mut members, "ename", problem.ename)?;
+    put_text(alloc, &mut members, "evalue", &problem.evalue)?;
+    put_count(alloc, &mut members, "execution_count", count)?;
+    put_text(alloc, &mut members, "status", "error")?;
+    put_value(alloc, &mut members, "traceback", traceback)?;
+    Ok(Value::Object(members))
+}
+
 /// The reply for a cell with which something went wrong.
+#[tactic(auto, unfolding(crate::specs::Execution::error_reply))]
 pub(crate) fn error_reply(alloc: Global, count: u64, problem: &Problem) -> Result<Draft, AllocError>
     ensures { IfOk result (λ s. said_of s ≡ table.error_reply count (told problem.now)) }
 {
-    let evalue = problem.evalue.as_str();
-    let content = json!(in alloc; {
-        "ename": problem.ename,
-        "evalue": evalue,
-        "execution_count": count,
-        "status": "error",
-        "traceback": [evalue]
-    })?;
     Ok(Draft {
         msg_type: "execute_reply",
-        content,
+        content: error_reply_content(alloc, count, problem)?,
     })
 }
 
@@ -131,43 +154,62 @@ pub(crate) fn execute_reply(
 }
 
 /// The text of a cell, and its number.
+#[tactic(auto, unfolding(crate::specs::Execution::execute_input))]
 fn execute_input(alloc: Global, code: &str, count: u64) -> Result<Draft, AllocError>
     ensures { IfOk result (λ s. said_of s ≡ table.execute_input code.now count) }
 {
+    let mut members = Map::new(alloc);
+    put_text(alloc, &mut members, "code", code)?;
+    put_count(alloc, &mut members, "execution_count", count)?;
     Ok(Draft {
         msg_type: "execute_input",
-        content: json!(in alloc; {"code": code, "execution_count": count})?,
+        content: Value::Object(members),
     })
+}
+
+/// What is told of the values that a cell shows.
+fn execute_result_content(alloc: Global, shown: &str, count: u64) -> Result<Value, AllocError>
+    ensures { IfOk result (λ v. view v ≡ table.execute_result_content shown.now count) }
+{
+    let data = plain(alloc, shown)?;
+    let mut members = Map::new(alloc);
+    put_value(alloc, &mut members, "data", data)?;
+    put_count(alloc, &mut members, "execution_count", count)?;
+    put_empty(alloc, &mut members, "metadata")?;
+    Ok(Value::Object(members))
 }
 
 /// What a cell that ran shows.
+#[tactic(auto, unfolding(crate::specs::Execution::execute_result))]
 fn execute_result(alloc: Global, shown: &str, count: u64) -> Result<Draft, AllocError>
     ensures { IfOk result (λ s. said_of s ≡ table.execute_result shown.now count) }
 {
-    let content = json!(in alloc; {
-        "data": {"text/plain": shown},
-        "execution_count": count,
-        "metadata": {}
-    })?;
     Ok(Draft {
         msg_type: "execute_result",
-        content,
+        content: execute_result_content(alloc, shown, count)?,
     })
 }
 
+/// What is told of what went wrong.
+fn error_content(alloc: Global, problem: &Problem) -> Result<Value, AllocError>
+    ensures { IfOk result (λ v. view v ≡ table.error_content (told problem.now)) }
+{
+    let traceback = traceback(alloc, &problem.evalue)?;
+    let mut members = Map::new(alloc);
+    put_text(alloc, &mut members, "ename", problem.ename)?;
+    put_text(alloc, &mut members, "evalue", &problem.evalue)?;
+    put_value(alloc, &mut members, "traceback", traceback)?;
+    Ok(Value::Object(members))
+}
+
 /// What went wrong with a cell.
+#[tactic(auto, unfolding(crate::specs::Execution::error))]
 fn error(alloc: Global, problem: &Problem) -> Result<Draft, AllocError>
     ensures { IfOk result (λ s. said_of s ≡ table.error (told problem.now)) }
 {
-    let evalue = problem.evalue.as_str();
-    let content = json!(in alloc; {
-        "ename": problem.ename,
-        "evalue": evalue,
-        "traceback": [evalue]
-    })?;
     Ok(Draft {
         msg_type: "error",
-        content,
+        content: error_content(alloc, problem)?,
     })
 }
 

@@ -8,8 +8,8 @@ ghost use Rattle.kernel_reply.specs.Moves as table;
 use crate::comms::comm_msg;
 use jupyter_msg::CommAsk;
 use kernel_core::{End, Outcome, PostFault};
-use kernel_message::Draft;
-use serde_json::{Value, json};
+use kernel_message::{Draft, put_count, put_text};
+use serde_json::{Map, Value};
 use std::alloc::{AllocError, Global};
 
 /// How a move ended.
@@ -34,15 +34,14 @@ fn moved(
 ) -> Result<Value, AllocError>
     ensures { IfOk result (λ v. view v ≡ table.moved op.now node undone redone end) }
 {
-    let end = end_name(end);
-    json!(in alloc; {
-        "end": end,
-        "node": node,
-        "op": op,
-        "redone": redone,
-        "status": "ok",
-        "undone": undone
-    })
+    let mut members = Map::new(alloc);
+    put_text(alloc, &mut members, "end", end_name(end))?;
+    put_count(alloc, &mut members, "node", node as u64)?;
+    put_text(alloc, &mut members, "op", op)?;
+    put_count(alloc, &mut members, "redone", redone as u64)?;
+    put_text(alloc, &mut members, "status", "ok")?;
+    put_count(alloc, &mut members, "undone", undone as u64)?;
+    Ok(Value::Object(members))
 }
 
 /// A move was refused, with this number and name.
@@ -55,7 +54,13 @@ fn refused(
 ) -> Result<Value, AllocError>
     ensures { IfOk result (λ v. view v ≡ table.refused op.now node number name.now) }
 {
-    json!(in alloc; {"name": name, "node": node, "number": number, "op": op, "status": "refused"})
+    let mut members = Map::new(alloc);
+    put_text(alloc, &mut members, "name", name)?;
+    put_count(alloc, &mut members, "node", node as u64)?;
+    put_count(alloc, &mut members, "number", number as u64)?;
+    put_text(alloc, &mut members, "op", op)?;
+    put_text(alloc, &mut members, "status", "refused")?;
+    Ok(Value::Object(members))
 }
 
 /// A message on a comm that tells so many cells undone, and so many redone.

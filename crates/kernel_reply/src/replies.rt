@@ -11,20 +11,27 @@ ghost use Rattle.kernel_reply.specs.Status.{plain as plain_of};
 use crate::lists::texts;
 use crate::status::plain;
 use kernel_ask::{Completeness, Completion, Input};
-use kernel_message::Draft;
-use serde_json::{Value, json};
+use kernel_message::{Draft, put_count, put_empty, put_flag, put_text, put_value};
+use serde_json::{Map, Value};
 use std::alloc::{AllocError, Global};
+
+/// A list of nothing.
+fn no_items(alloc: Global) -> Value
+    ensures { view result ≡ list [] }
+{
+    Value::Array(Vec::new(alloc))
+}
 
 /// The language.
 fn language_info(alloc: Global) -> Result<Value, AllocError>
     ensures { IfOk result (λ v. view v ≡ table.language_info) }
 {
-    json!(in alloc; {
-        "file_extension": ".janus",
-        "mimetype": "text/x-janus",
-        "name": "janus",
-        "version": "2008"
-    })
+    let mut members = Map::new(alloc);
+    put_text(alloc, &mut members, "file_extension", ".janus")?;
+    put_text(alloc, &mut members, "mimetype", "text/x-janus")?;
+    put_text(alloc, &mut members, "name", "janus")?;
+    put_text(alloc, &mut members, "version", "2008")?;
+    Ok(Value::Object(members))
 }
 
 /// What the kernel is.
@@ -32,15 +39,15 @@ fn kernel_info(alloc: Global) -> Result<Value, AllocError>
     ensures { IfOk result (λ v. view v ≡ table.kernel_info) }
 {
     let language_info = language_info(alloc)?;
-    json!(in alloc; {
-        "banner": "Janus with undo",
-        "help_links": [],
-        "implementation": "janus-shared",
-        "implementation_version": "1.0.0",
-        "language_info": language_info,
-        "protocol_version": "5.4",
-        "status": "ok"
-    })
+    let mut members = Map::new(alloc);
+    put_text(alloc, &mut members, "banner", "Janus with undo")?;
+    put_value(alloc, &mut members, "help_links", no_items(alloc))?;
+    put_text(alloc, &mut members, "implementation", "janus-shared")?;
+    put_text(alloc, &mut members, "implementation_version", "1.0.0")?;
+    put_value(alloc, &mut members, "language_info", language_info)?;
+    put_text(alloc, &mut members, "protocol_version", "5.4")?;
+    put_text(alloc, &mut members, "status", "ok")?;
+    Ok(Value::Object(members))
 }
 
 /// The reply that says what the kernel is.
@@ -64,13 +71,13 @@ fn complete_content(
     ensures no_float { IfOk result (λ v. has_float (view v) ≡ false) }
     ensures value { IfOk result (λ v. view v ≡ table.complete_content completion.now (view matches)) }
 {
-    json!(in alloc; {
-        "cursor_end": completion.end,
-        "cursor_start": completion.start,
-        "matches": matches,
-        "metadata": {},
-        "status": "ok"
-    })
+    let mut members = Map::new(alloc);
+    put_count(alloc, &mut members, "cursor_end", completion.end as u64)?;
+    put_count(alloc, &mut members, "cursor_start", completion.start as u64)?;
+    put_value(alloc, &mut members, "matches", matches)?;
+    put_empty(alloc, &mut members, "metadata")?;
+    put_text(alloc, &mut members, "status", "ok")?;
+    Ok(Value::Object(members))
 }
 
 /// The names that fit.
@@ -89,14 +96,24 @@ fn known_shown(alloc: Global, text: &str) -> Result<Value, AllocError>
     ensures { IfOk result (λ v. view v ≡ table.inspect_content (plain_of text.now) true) }
 {
     let data = plain(alloc, text)?;
-    json!(in alloc; {"data": data, "found": true, "metadata": {}, "status": "ok"})
+    let mut members = Map::new(alloc);
+    put_value(alloc, &mut members, "data", data)?;
+    put_flag(alloc, &mut members, "found", true)?;
+    put_empty(alloc, &mut members, "metadata")?;
+    put_text(alloc, &mut members, "status", "ok")?;
+    Ok(Value::Object(members))
 }
 
 /// Nothing is known of a name.
 fn unknown_shown(alloc: Global) -> Result<Value, AllocError>
     ensures { IfOk result (λ v. view v ≡ table.inspect_content (record_of []) false) }
 {
-    json!(in alloc; {"data": {}, "found": false, "metadata": {}, "status": "ok"})
+    let mut members = Map::new(alloc);
+    put_empty(alloc, &mut members, "data")?;
+    put_flag(alloc, &mut members, "found", false)?;
+    put_empty(alloc, &mut members, "metadata")?;
+    put_text(alloc, &mut members, "status", "ok")?;
+    Ok(Value::Object(members))
 }
 
 /// What is known of a name, if anything is.
@@ -115,32 +132,71 @@ pub(crate) fn inspect_reply(alloc: Global, known: Option<&str>) -> Result<Draft,
     }
 }
 
+/// A status of code, and nothing more.
+fn status_word(alloc: Global, word: &str) -> Result<Value, AllocError>
+    ensures { IfOk result (λ v. view v ≡ table.status_word word.now) }
+{
+    let mut members = Map::new(alloc);
+    put_text(alloc, &mut members, "status", word)?;
+    Ok(Value::Object(members))
+}
+
+/// The status of code to which more has to come, with no indent.
+fn incomplete(alloc: Global) -> Result<Value, AllocError>
+    ensures { IfOk result (λ v. view v ≡ table.incomplete) }
+{
+    let mut members = Map::new(alloc);
+    put_text(alloc, &mut members, "indent", "")?;
+    put_text(alloc, &mut members, "status", "incomplete")?;
+    Ok(Value::Object(members))
+}
+
+/// The status of code.
+fn completeness_content(alloc: Global, code_is: Completeness) -> Result<Value, AllocError>
+    ensures no_float { IfOk result (λ v. has_float (view v) ≡ false) }
+    ensures value { IfOk result (λ v. view v ≡ table.completeness_content code_is) }
+{
+    match code_is {
+        Completeness::Complete => status_word(alloc, "complete"),
+        Completeness::Incomplete => incomplete(alloc),
+        Completeness::Invalid => status_word(alloc, "invalid"),
+        Completeness::Unknown => status_word(alloc, "unknown"),
+    }
+}
+
 /// Whether code can be executed as it stands.
 pub(crate) fn is_complete_reply(alloc: Global, code_is: Completeness) -> Result<Draft, AllocError>
     ensures { IfOk result (λ s. said_of s ≡ table.is_complete_reply code_is) }
 {
-    let content = match code_is {
-        Completeness::Complete => json!(in alloc; {"status": "complete"})?,
-        Completeness::Incomplete => json!(in alloc; {"indent": "", "status": "incomplete"})?,
-        Completeness::Invalid => json!(in alloc; {"status": "invalid"})?,
-        Completeness::Unknown => json!(in alloc; {"status": "unknown"})?,
-    };
     Ok(Draft {
         msg_type: "is_complete_reply",
-        content,
+        content: completeness_content(alloc, code_is)?,
     })
 }
 
-/// An input, with its output if that is asked for: none is kept.
+/// The text of an input, beside the output if that is asked for: none is kept.
+fn input_text(alloc: Global, output: bool, code: &str) -> Result<Value, AllocError>
+    ensures { IfOk result (λ v. view v ≡ table.input_text output code.now) }
+{
+    let text = Value::try_from_str(alloc, code)?;
+    if output {
+        let items = Vec::from_array(alloc, [text, Value::Null])?;
+        return Ok(Value::Array(items));
+    }
+    Ok(text)
+}
+
+/// An input of session 1.
 fn input_shown(alloc: Global, output: bool, input: &Input) -> Result<Value, AllocError>
     ensures { IfOk result (λ v. view v ≡ table.input_shown output input.now) }
 {
-    let code = input.code.as_str();
-    if output {
-        json!(in alloc; [1, input.number, [code, null]])
-    } else {
-        json!(in alloc; [1, input.number, code])
-    }
+    let text = input_text(alloc, output, &input.code)?;
+    let session: u64 = 1;
+    let items = Vec::from_array(
+        alloc,
+        [Value::from(session), Value::from(input.number), text],
+    )?;
+    Ok(Value::Array(items))
 }
 
 /// The inputs as values.
@@ -169,7 +225,10 @@ fn history_content(alloc: Global, inputs: Value) -> Result<Value, AllocError>
     ensures no_float { IfOk result (λ v. has_float (view v) ≡ false) }
     ensures value { IfOk result (λ v. view v ≡ table.history_content (view inputs)) }
 {
-    json!(in alloc; {"history": inputs, "status": "ok"})
+    let mut members = Map::new(alloc);
+    put_value(alloc, &mut members, "history", inputs)?;
+    put_text(alloc, &mut members, "status", "ok")?;
+    Ok(Value::Object(members))
 }
 
 /// The input history.
@@ -187,19 +246,25 @@ pub(crate) fn history_reply(
     })
 }
 
+/// What is told where the history is to be searched.
+fn no_search(alloc: Global) -> Result<Value, AllocError>
+    ensures { IfOk result (λ v. view v ≡ table.no_search) }
+{
+    let mut members = Map::new(alloc);
+    put_text(alloc, &mut members, "ename", "LeftOut")?;
+    put_text(alloc, &mut members, "evalue", "history search")?;
+    put_text(alloc, &mut members, "status", "error")?;
+    put_value(alloc, &mut members, "traceback", no_items(alloc))?;
+    Ok(Value::Object(members))
+}
+
 /// The history is not searched.
 pub(crate) fn no_search_reply(alloc: Global) -> Result<Draft, AllocError>
     ensures { IfOk result (λ s. said_of s ≡ table.no_search_reply) }
 {
-    let content = json!(in alloc; {
-        "ename": "LeftOut",
-        "evalue": "history search",
-        "status": "error",
-        "traceback": []
-    })?;
     Ok(Draft {
         msg_type: "history_reply",
-        content,
+        content: no_search(alloc)?,
     })
 }
 
@@ -209,7 +274,7 @@ pub(crate) fn interrupt_reply(alloc: Global) -> Result<Draft, AllocError>
 {
     Ok(Draft {
         msg_type: "interrupt_reply",
-        content: json!(in alloc; {"status": "ok"})?,
+        content: status_word(alloc, "ok")?,
     })
 }
 
@@ -217,8 +282,11 @@ pub(crate) fn interrupt_reply(alloc: Global) -> Result<Draft, AllocError>
 pub(crate) fn shutdown_reply(alloc: Global, restart: bool) -> Result<Draft, AllocError>
     ensures { IfOk result (λ s. said_of s ≡ table.shutdown_reply restart) }
 {
+    let mut members = Map::new(alloc);
+    put_flag(alloc, &mut members, "restart", restart)?;
+    put_text(alloc, &mut members, "status", "ok")?;
     Ok(Draft {
         msg_type: "shutdown_reply",
-        content: json!(in alloc; {"restart": restart, "status": "ok"})?,
+        content: Value::Object(members),
     })
 }

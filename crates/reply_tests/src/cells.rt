@@ -1,5 +1,5 @@
 //! Cells, as they are told.
-use crate::kernels::{cell, content, done, kernel_after};
+use crate::kernels::{cell, content, done};
 use crate::requests::{Expected, IDLE, Told, check};
 use kernel_ask::Ask;
 use kernel_core::{End, Outcome, PostFault};
@@ -9,8 +9,7 @@ use std::test::Fail;
 fn a_cell_that_ran_is_told_with_its_values(rt: HostRuntime) -> Result<(), Fail> {
     let alloc = rt.alloc();
     let code = "int x x += 5";
-    let mut kernel = kernel_after(alloc, &[])?;
-    let ended = done(alloc, &mut kernel, cell(alloc, code)?, code, &[])?;
+    let ended = done(alloc, &[], cell(alloc, code)?, code, &[])?;
     let expected: [Expected; 4] = [
         (
             "who",
@@ -43,8 +42,7 @@ fn a_cell_that_ran_is_told_with_its_values(rt: HostRuntime) -> Result<(), Fail> 
 fn a_silent_cell_is_told_to_who_asked_alone(rt: HostRuntime) -> Result<(), Fail> {
     let alloc = rt.alloc();
     let code = "int x x += 5";
-    let mut kernel = kernel_after(alloc, &[])?;
-    let ended = done(alloc, &mut kernel, cell(alloc, code)?, code, &[])?;
+    let ended = done(alloc, &[], cell(alloc, code)?, code, &[])?;
     let expected: [Expected; 2] = [
         (
             "who",
@@ -66,8 +64,7 @@ fn a_silent_cell_is_told_to_who_asked_alone(rt: HostRuntime) -> Result<(), Fail>
 #[test]
 fn a_cell_that_names_nothing_shows_nothing(rt: HostRuntime) -> Result<(), Fail> {
     let alloc = rt.alloc();
-    let mut kernel = kernel_after(alloc, &[])?;
-    let ended = done(alloc, &mut kernel, cell(alloc, "")?, "", &[])?;
+    let ended = done(alloc, &[], cell(alloc, "")?, "", &[])?;
     let expected: [Expected; 3] = [
         (
             "who",
@@ -95,8 +92,7 @@ fn a_cell_that_names_nothing_shows_nothing(rt: HostRuntime) -> Result<(), Fail> 
 fn a_fault_is_told_with_its_line(rt: HostRuntime) -> Result<(), Fail> {
     let alloc = rt.alloc();
     let code = "int y y += 1 / 0";
-    let mut kernel = kernel_after(alloc, &["int x"])?;
-    let ended = done(alloc, &mut kernel, cell(alloc, code)?, code, &[("a", "1")])?;
+    let ended = done(alloc, &["int x"], cell(alloc, code)?, code, &[("a", "1")])?;
     let expected: [Expected; 4] = [
         (
             "who",
@@ -128,8 +124,7 @@ fn a_fault_is_told_with_its_line(rt: HostRuntime) -> Result<(), Fail> {
 #[test]
 fn a_text_that_is_no_cell_is_told_with_its_place(rt: HostRuntime) -> Result<(), Fail> {
     let alloc = rt.alloc();
-    let mut kernel = kernel_after(alloc, &["int x"])?;
-    let ended = done(alloc, &mut kernel, cell(alloc, "if x")?, "if x", &[])?;
+    let ended = done(alloc, &["int x"], cell(alloc, "if x")?, "if x", &[])?;
     let expected: [Expected; 4] = [
         (
             "who",
@@ -161,8 +156,7 @@ fn a_text_that_is_no_cell_is_told_with_its_place(rt: HostRuntime) -> Result<(), 
 #[test]
 fn an_interrupted_cell_is_told_as_such(rt: HostRuntime) -> Result<(), Fail> {
     let alloc = rt.alloc();
-    let mut kernel = kernel_after(alloc, &[])?;
-    let mut ended = done(alloc, &mut kernel, cell(alloc, "")?, "", &[])?;
+    let mut ended = done(alloc, &[], cell(alloc, "")?, "", &[])?;
     ended.outcome = Outcome::Interrupted(4096);
     let expected: [Expected; 2] = [
         (
@@ -185,9 +179,8 @@ fn an_interrupted_cell_is_told_as_such(rt: HostRuntime) -> Result<(), Fail> {
 #[test]
 fn expressions_are_told_by_name(rt: HostRuntime) -> Result<(), Fail> {
     let alloc = rt.alloc();
-    let mut kernel = kernel_after(alloc, &["int x x += 5"])?;
     let wishes = [("a", "x * 2"), ("b", "1 / 0"), ("c", "y"), ("d", "0 - x")];
-    let ended = done(alloc, &mut kernel, cell(alloc, "")?, "", &wishes)?;
+    let ended = done(alloc, &["int x x += 5"], cell(alloc, "")?, "", &wishes)?;
     let expected: [Expected; 3] = [
         (
             "who",
@@ -214,11 +207,7 @@ fn expressions_are_told_by_name(rt: HostRuntime) -> Result<(), Fail> {
 #[test]
 fn a_refused_post_is_told_under_the_counter(rt: HostRuntime) -> Result<(), Fail> {
     let alloc = rt.alloc();
-    let mut kernel = kernel_after(alloc, &["int x", "x += 1"])?;
-    kernel.shut();
-    let refusal = kernel.post(1, cell(alloc, "x += 2")?).err();
-    assert_eq!(rt; refusal, Some(PostFault::Closing));
-    let state = content(alloc, &kernel, Ask::State)?;
+    let state = content(alloc, &["int x", "x += 1", "%shut"], &[], Ask::State)?;
     let expected: [Expected; 4] = [
         (
             "who",
@@ -251,8 +240,7 @@ fn a_refused_post_is_told_under_the_counter(rt: HostRuntime) -> Result<(), Fail>
 fn what_is_no_answer_brings_the_status_alone(rt: HostRuntime) -> Result<(), Fail> {
     let alloc = rt.alloc();
     let request = ("execute_request", "{\"code\":\"\"}");
-    let mut kernel = kernel_after(alloc, &[])?;
-    let mut ended = done(alloc, &mut kernel, cell(alloc, "")?, "", &[])?;
+    let mut ended = done(alloc, &[], cell(alloc, "")?, "", &[])?;
     ended.outcome = Outcome::Undid(1, End::All);
     check(
         &rt,
@@ -262,7 +250,7 @@ fn what_is_no_answer_brings_the_status_alone(rt: HostRuntime) -> Result<(), Fail
         Told::Ended(ended),
         &[IDLE],
     )?;
-    let comms = content(alloc, &kernel, Ask::Comms)?;
+    let comms = content(alloc, &[], &[], Ask::Comms)?;
     check(
         &rt,
         alloc,
@@ -271,10 +259,10 @@ fn what_is_no_answer_brings_the_status_alone(rt: HostRuntime) -> Result<(), Fail
         Told::Answered(comms),
         &[IDLE],
     )?;
-    let comms = content(alloc, &kernel, Ask::Comms)?;
+    let comms = content(alloc, &[], &[], Ask::Comms)?;
     let refused = Told::Unposted(PostFault::QueueFull, comms);
     check(&rt, alloc, request.0, request.1, refused, &[IDLE])?;
-    let state = content(alloc, &kernel, Ask::State)?;
+    let state = content(alloc, &[], &[], Ask::State)?;
     check(
         &rt,
         alloc,

@@ -1,23 +1,15 @@
 //! Comms, as they are told: opens and closes, and the undo, the redo, the goto and the state on them.
-use crate::kernels::{content, done, kernel_after};
+use crate::kernels::{content, done};
 use crate::requests::{Expected, IDLE, Told, check};
-use kernel_ask::{Ask, Comms, Content, ask_on};
-use kernel_core::{End, Job, Kernel, Outcome, PostFault};
+use kernel_ask::Ask;
+use kernel_core::{End, Job, Outcome, PostFault};
 use std::alloc::Global;
 use std::process::Abort;
 use std::test::Fail;
 
-/// The answer of the kernel, with this comm open.
-fn with_comm(alloc: Global, kernel: &Kernel, id: &str) -> Result<Content, Fail> {
-    let mut comms = Comms::new(alloc);
-    let _opened = comms.open(String::from_str(alloc, id)?)?;
-    Ok(ask_on(alloc, kernel, &comms, Ask::Comms)?.content)
-}
-
 #[test]
 fn open_comms_are_listed(rt: HostRuntime) -> Result<(), Fail> {
     let alloc = rt.alloc();
-    let kernel = kernel_after(alloc, &[])?;
     for (request, reply) in [
         (
             "{}",
@@ -32,7 +24,7 @@ fn open_comms_are_listed(rt: HostRuntime) -> Result<(), Fail> {
             "{\"comms\":{},\"status\":\"ok\"}",
         ),
     ] {
-        let told = with_comm(alloc, &kernel, "c")?;
+        let told = content(alloc, &[], &["c"], Ask::Comms)?;
         let expected = [("who", "comm_info_reply", reply), IDLE];
         check(
             &rt,
@@ -49,7 +41,6 @@ fn open_comms_are_listed(rt: HostRuntime) -> Result<(), Fail> {
 #[test]
 fn an_open_that_is_not_granted_is_closed(rt: HostRuntime) -> Result<(), Fail> {
     let alloc = rt.alloc();
-    let kernel = kernel_after(alloc, &[])?;
     let close: Expected = (
         "comm_close",
         "comm_close",
@@ -57,11 +48,11 @@ fn an_open_that_is_not_granted_is_closed(rt: HostRuntime) -> Result<(), Fail> {
     );
     let ours = "{\"comm_id\":\"c\",\"target_name\":\"janus.undo\",\"data\":{}}";
     let another = "{\"comm_id\":\"c\",\"target_name\":\"janus\",\"data\":{}}";
-    let open = Told::Answered(with_comm(alloc, &kernel, "c")?);
+    let open = Told::Answered(content(alloc, &[], &["c"], Ask::Comms)?);
     check(&rt, alloc, "comm_open", ours, open, &[IDLE])?;
-    let not_open = Told::Answered(with_comm(alloc, &kernel, "d")?);
+    let not_open = Told::Answered(content(alloc, &[], &["d"], Ask::Comms)?);
     check(&rt, alloc, "comm_open", ours, not_open, &[close, IDLE])?;
-    let another_target = Told::Answered(with_comm(alloc, &kernel, "d")?);
+    let another_target = Told::Answered(content(alloc, &[], &["d"], Ask::Comms)?);
     check(
         &rt,
         alloc,
@@ -70,7 +61,7 @@ fn an_open_that_is_not_granted_is_closed(rt: HostRuntime) -> Result<(), Fail> {
         another_target,
         &[close, IDLE],
     )?;
-    let closed = Told::Answered(with_comm(alloc, &kernel, "d")?);
+    let closed = Told::Answered(content(alloc, &[], &["d"], Ask::Comms)?);
     check(
         &rt,
         alloc,
@@ -96,8 +87,7 @@ fn check_comm(
 #[test]
 fn an_undo_is_told_and_then_the_state(rt: HostRuntime) -> Result<(), Fail> {
     let alloc = rt.alloc();
-    let mut kernel = kernel_after(alloc, &["int x", "x += 5"])?;
-    let undone = done(alloc, &mut kernel, Job::Undo(1), "", &[])?;
+    let undone = done(alloc, &["int x", "x += 5"], Job::Undo(1), "", &[])?;
     check_comm(
         &rt,
         alloc,
@@ -105,7 +95,7 @@ fn an_undo_is_told_and_then_the_state(rt: HostRuntime) -> Result<(), Fail> {
         Told::Ended(undone),
         "{\"comm_id\":\"c\",\"data\":{\"end\":\"all\",\"node\":1,\"op\":\"undo\",\"redone\":0,\"status\":\"ok\",\"undone\":1}}",
     )?;
-    let refused = done(alloc, &mut kernel, Job::Undo(5), "", &[])?;
+    let refused = done(alloc, &["int x", "x += 5", "%undo 1"], Job::Undo(5), "", &[])?;
     check_comm(
         &rt,
         alloc,
@@ -113,7 +103,7 @@ fn an_undo_is_told_and_then_the_state(rt: HostRuntime) -> Result<(), Fail> {
         Told::Ended(refused),
         "{\"comm_id\":\"c\",\"data\":{\"name\":\"TooFar\",\"node\":1,\"number\":73,\"op\":\"undo\",\"status\":\"refused\"}}",
     )?;
-    let state = content(alloc, &kernel, Ask::State)?;
+    let state = content(alloc, &["int x", "x += 5", "%undo 1"], &[], Ask::State)?;
     check_comm(
         &rt,
         alloc,
@@ -126,8 +116,7 @@ fn an_undo_is_told_and_then_the_state(rt: HostRuntime) -> Result<(), Fail> {
 #[test]
 fn a_redo_and_a_goto_are_told(rt: HostRuntime) -> Result<(), Fail> {
     let alloc = rt.alloc();
-    let mut kernel = kernel_after(alloc, &["int x", "x += 5"])?;
-    let back = done(alloc, &mut kernel, Job::Goto(0), "", &[])?;
+    let back = done(alloc, &["int x", "x += 5"], Job::Goto(0), "", &[])?;
     check_comm(
         &rt,
         alloc,
@@ -135,7 +124,7 @@ fn a_redo_and_a_goto_are_told(rt: HostRuntime) -> Result<(), Fail> {
         Told::Ended(back),
         "{\"comm_id\":\"c\",\"data\":{\"end\":\"all\",\"node\":0,\"op\":\"goto\",\"redone\":0,\"status\":\"ok\",\"undone\":2}}",
     )?;
-    let mut redone = done(alloc, &mut kernel, Job::Redo(2), "", &[])?;
+    let mut redone = done(alloc, &["int x", "x += 5", "%goto 0"], Job::Redo(2), "", &[])?;
     redone.outcome = Outcome::Redid(2, End::Asked);
     check_comm(
         &rt,
@@ -144,7 +133,7 @@ fn a_redo_and_a_goto_are_told(rt: HostRuntime) -> Result<(), Fail> {
         Told::Ended(redone),
         "{\"comm_id\":\"c\",\"data\":{\"end\":\"asked\",\"node\":2,\"op\":\"redo\",\"redone\":2,\"status\":\"ok\",\"undone\":0}}",
     )?;
-    let mut nowhere = done(alloc, &mut kernel, Job::Goto(9), "", &[])?;
+    let mut nowhere = done(alloc, &["int x", "x += 5"], Job::Goto(9), "", &[])?;
     check_comm(
         &rt,
         alloc,
@@ -152,7 +141,7 @@ fn a_redo_and_a_goto_are_told(rt: HostRuntime) -> Result<(), Fail> {
         Told::Ended(nowhere),
         "{\"comm_id\":\"c\",\"data\":{\"name\":\"NoNode\",\"node\":2,\"number\":71,\"op\":\"goto\",\"status\":\"refused\"}}",
     )?;
-    nowhere = done(alloc, &mut kernel, Job::Redo(0), "", &[])?;
+    nowhere = done(alloc, &["int x", "x += 5"], Job::Redo(0), "", &[])?;
     nowhere.outcome = Outcome::Redid(0, End::NoMemory);
     check_comm(
         &rt,
@@ -166,8 +155,7 @@ fn a_redo_and_a_goto_are_told(rt: HostRuntime) -> Result<(), Fail> {
 #[test]
 fn a_move_that_is_not_posted_is_refused_at_the_position(rt: HostRuntime) -> Result<(), Fail> {
     let alloc = rt.alloc();
-    let kernel = kernel_after(alloc, &["int x", "x += 5"])?;
-    let state = content(alloc, &kernel, Ask::State)?;
+    let state = content(alloc, &["int x", "x += 5"], &[], Ask::State)?;
     check_comm(
         &rt,
         alloc,
@@ -180,14 +168,13 @@ fn a_move_that_is_not_posted_is_refused_at_the_position(rt: HostRuntime) -> Resu
 #[test]
 fn other_data_and_other_outcomes_bring_the_status_alone(rt: HostRuntime) -> Result<(), Fail> {
     let alloc = rt.alloc();
-    let mut kernel = kernel_after(alloc, &["int x", "x += 5"])?;
     let undo = "{\"comm_id\":\"c\",\"data\":{\"op\":\"undo\",\"n\":1}}";
     let other = "{\"comm_id\":\"c\",\"data\":{\"op\":\"dance\"}}";
-    let mut ended = done(alloc, &mut kernel, Job::Redo(0), "", &[])?;
+    let mut ended = done(alloc, &["int x", "x += 5"], Job::Redo(0), "", &[])?;
     check(&rt, alloc, "comm_msg", undo, Told::Ended(ended), &[IDLE])?;
-    ended = done(alloc, &mut kernel, Job::Undo(0), "", &[])?;
+    ended = done(alloc, &["int x", "x += 5"], Job::Undo(0), "", &[])?;
     check(&rt, alloc, "comm_msg", other, Told::Ended(ended), &[IDLE])?;
-    let state = content(alloc, &kernel, Ask::State)?;
+    let state = content(alloc, &["int x", "x += 5"], &[], Ask::State)?;
     check(
         &rt,
         alloc,
@@ -196,7 +183,7 @@ fn other_data_and_other_outcomes_bring_the_status_alone(rt: HostRuntime) -> Resu
         Told::Answered(state),
         &[IDLE],
     )?;
-    let state = content(alloc, &kernel, Ask::State)?;
+    let state = content(alloc, &["int x", "x += 5"], &[], Ask::State)?;
     let refused = Told::Unposted(PostFault::Closing, state);
     check(&rt, alloc, "comm_msg", other, refused, &[IDLE])
 }

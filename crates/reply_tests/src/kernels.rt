@@ -1,9 +1,15 @@
-//! Real kernels, and what they tell.
+//! Real kernels, and what they tell. Each question stands on a new kernel after some lines: cells, and `%undo 1`, `%redo 1`,
+//! `%goto 1` and `%shut`.
+ghost use Rattle.std.specs.Prelude.{◌≡◌, ◌<◌};
+
 use kernel_ask::{
     Ask, Comms, Content, Done, NamedValue, Wish, ask_on, evaluate_all, is_settled, shown_text,
+    stands_at_end,
 };
 use kernel_core::{Begun, Job, Kernel, Outcome, Sliced};
 use std::alloc::{AllocError, Global};
+use std::marker::Brand;
+use std::sync::ledger::{Blank, Ledger};
 use std::test::Fail;
 
 /// A cell that is counted.
@@ -15,8 +21,20 @@ pub(crate) fn cell(alloc: Global, code: &str) -> Result<Job, AllocError> {
     })
 }
 
+/// The job of a line.
+fn job_of(alloc: Global, line: &str) -> Result<Job, AllocError> {
+    let (word, rest) = line.split_once(' ').unwrap_or((line, ""));
+    let number = rest.parse::<u32>().unwrap_or(0);
+    match word {
+        "%undo" => Ok(Job::Undo(number)),
+        "%redo" => Ok(Job::Redo(number)),
+        "%goto" => Ok(Job::Goto(number)),
+        _ => cell(alloc, line),
+    }
+}
+
 /// Posts the job and runs it to its end, in at most ten slices: its number and its outcome.
-pub(crate) fn run(kernel: &mut Kernel, job: Job) -> Result<Option<(u64, Outcome)>, Fail> {
+fn run<L: Ledger>(kernel: &mut Kernel<L>, job: Job) -> Result<Option<(u64, Outcome)>, Fail> {
     let number = kernel.post(1, job)?;
     for _i in 0..10 {
         if let Begun::Ended(outcome) = kernel.begin() {
@@ -29,50 +47,112 @@ pub(crate) fn run(kernel: &mut Kernel, job: Job) -> Result<Option<(u64, Outcome)
     Ok(None)
 }
 
-/// A new kernel after the cells.
-pub(crate) fn kernel_after(alloc: Global, cells: &[&str]) -> Result<Kernel, Fail> {
-    let mut kernel = Kernel::new(alloc)?;
-    for code in cells {
-        let _ran = run(&mut kernel, cell(alloc, code)?)?;
+/// Runs the lines.
+fn run_lines<L: Ledger>(
+    alloc: Global,
+    kernel: &mut Kernel<L>,
+    lines: &[String],
+) -> Result<(), Fail> {
+    for line in lines {
+        if line.as_str() == "%shut" {
+            kernel.shut();
+        } else {
+            let _ran = run(kernel, job_of(alloc, line.as_str())?)?;
+        }
     }
-    Ok(kernel)
+    Ok(())
 }
 
 /// The values of the expressions after a job.
-fn values_after(
+fn values_after<L: Ledger>(
     alloc: Global,
-    kernel: &Kernel,
+    kernel: &Kernel<L>,
     outcome: &Outcome,
     wishes: &[Wish],
 ) -> Result<Vec<NamedValue>, AllocError> {
-    if is_settled(kernel) {
+    if is_settled(kernel) && stands_at_end(kernel, outcome) {
         return evaluate_all(alloc, kernel, outcome, wishes);
     }
     Ok(Vec::new(alloc))
 }
 
 /// What is shown of a cell.
-fn shown_after(
+fn shown_after<L: Ledger>(
     alloc: Global,
-    kernel: &Kernel,
+    kernel: &Kernel<L>,
     outcome: &Outcome,
     code: &str,
 ) -> Result<Option<String>, AllocError> {
-    if is_settled(kernel) {
+    if is_settled(kernel) && stands_at_end(kernel, outcome) {
         return shown_text(alloc, kernel, outcome, code);
     }
     Ok(None)
 }
 
-/// What came of a job in the kernel, with the text of its cell and the expressions beside it.
+/// What came of a job on a kernel over this ledger.
+fn done_in<L: Ledger>(
+    alloc: Global,
+    blank: Blank,
+    before: Vec<String>,
+    job: Job,
+    code: String,
+    wishes: Vec<Wish>,
+) -> Result<Done, Fail>
+    requires name { blank.name ≡ L.name }
+    requires parts { blank.parts ≡ L.parts }
+    requires some { 0 < L.parts }
+{
+    let mut kernel = Kernel::<L>::new(alloc, blank)?;
+    run_lines(alloc, &mut kernel, &before)?;
+    let (number, outcome) = run(&mut kernel, job)?.unwrap_or((0, Outcome::Interrupted(0)));
+    Ok(Done {
+        number,
+        outcome,
+        count: kernel.counter(),
+        node: kernel.position(),
+        shown: shown_after(alloc, &kernel, &outcome, code.as_str())?,
+        values: values_after(alloc, &kernel, &outcome, &wishes)?,
+    })
+}
+
+/// The answer of a kernel over this ledger, with these comms open.
+fn content_in<L: Ledger>(
+    alloc: Global,
+    blank: Blank,
+    before: Vec<String>,
+    ids: Vec<String>,
+    ask: Ask,
+) -> Result<Content, Fail>
+    requires name { blank.name ≡ L.name }
+    requires parts { blank.parts ≡ L.parts }
+    requires some { 0 < L.parts }
+{
+    let mut kernel = Kernel::<L>::new(alloc, blank)?;
+    run_lines(alloc, &mut kernel, &before)?;
+    let mut comms = Comms::new(alloc);
+    for id in ids {
+        let _opened = comms.open(id)?;
+    }
+    Ok(ask_on(alloc, &kernel, &comms, ask)?.content)
+}
+
+/// Copies of the lines.
+fn lines_of(alloc: Global, lines: &[&str]) -> Result<Vec<String>, AllocError> {
+    let mut all = Vec::new(alloc);
+    for line in lines {
+        all.push(String::from_str(alloc, line)?)?;
+    }
+    Ok(all)
+}
+
+/// What came of a job after the lines, with the text of its cell and the expressions beside it.
 pub(crate) fn done(
     alloc: Global,
-    kernel: &mut Kernel,
+    before: &[&str],
     job: Job,
     code: &str,
     wishes: &[(&str, &str)],
 ) -> Result<Done, Fail> {
-    let (number, outcome) = run(kernel, job)?.unwrap_or((0, Outcome::Interrupted(0)));
     let mut asked = Vec::new(alloc);
     for (name, exp) in wishes {
         asked.push(Wish {
@@ -80,18 +160,19 @@ pub(crate) fn done(
             exp: String::from_str(alloc, exp)?,
         })?;
     }
-    Ok(Done {
-        number,
-        outcome,
-        count: kernel.counter(),
-        node: kernel.position(),
-        shown: shown_after(alloc, kernel, &outcome, code)?,
-        values: values_after(alloc, kernel, &outcome, &asked)?,
-    })
+    let before = lines_of(alloc, before)?;
+    let code = String::from_str(alloc, code)?;
+    done_in::<Brand>(alloc, Blank::new(1), before, job, code, asked)
 }
 
-/// The answer of the kernel, with no comm open.
-pub(crate) fn content(alloc: Global, kernel: &Kernel, ask: Ask) -> Result<Content, Fail> {
-    let comms = Comms::new(alloc);
-    Ok(ask_on(alloc, kernel, &comms, ask)?.content)
+/// The answer after the lines, with these comms open.
+pub(crate) fn content(
+    alloc: Global,
+    before: &[&str],
+    ids: &[&str],
+    ask: Ask,
+) -> Result<Content, Fail> {
+    let before = lines_of(alloc, before)?;
+    let ids = lines_of(alloc, ids)?;
+    content_in::<Brand>(alloc, Blank::new(1), before, ids, ask)
 }

@@ -1,8 +1,7 @@
 //! Answers to questions: each type of reply.
-use crate::kernels::{content, kernel_after};
+use crate::kernels::content;
 use crate::requests::{IDLE, Told, check};
 use kernel_ask::{Ask, Completeness, Content, HistoryAsk};
-use kernel_core::Kernel;
 use std::alloc::Global;
 use std::process::Abort;
 use std::test::Fail;
@@ -26,19 +25,18 @@ fn check_reply(
 }
 
 /// The state of a kernel, where the answer does not matter.
-fn anything(alloc: Global, kernel: &Kernel) -> Result<Content, Fail> {
-    content(alloc, kernel, Ask::State)
+fn anything(alloc: Global) -> Result<Content, Fail> {
+    content(alloc, &[], &[], Ask::State)
 }
 
 #[test]
 fn the_kernel_says_what_it_is(rt: HostRuntime) -> Result<(), Fail> {
     let alloc = rt.alloc();
-    let kernel = kernel_after(alloc, &[])?;
     check_reply(
         &rt,
         alloc,
         ("kernel_info_request", "{}"),
-        anything(alloc, &kernel)?,
+        anything(alloc)?,
         (
             "kernel_info_reply",
             "{\"banner\":\"Janus with undo\",\"help_links\":[],\"implementation\":\"janus-shared\",\"implementation_version\":\"1.0.0\",\"language_info\":{\"file_extension\":\".janus\",\"mimetype\":\"text/x-janus\",\"name\":\"janus\",\"version\":\"2008\"},\"protocol_version\":\"5.4\",\"status\":\"ok\"}",
@@ -49,7 +47,6 @@ fn the_kernel_says_what_it_is(rt: HostRuntime) -> Result<(), Fail> {
 #[test]
 fn names_are_completed(rt: HostRuntime) -> Result<(), Fail> {
     let alloc = rt.alloc();
-    let kernel = kernel_after(alloc, &[])?;
     let ask = Ask::Complete {
         code: String::from_str(alloc, "ca")?,
         cursor: Some(2),
@@ -58,7 +55,7 @@ fn names_are_completed(rt: HostRuntime) -> Result<(), Fail> {
         &rt,
         alloc,
         ("complete_request", "{\"code\":\"ca\",\"cursor_pos\":2}"),
-        content(alloc, &kernel, ask)?,
+        content(alloc, &[], &[], ask)?,
         (
             "complete_reply",
             "{\"cursor_end\":2,\"cursor_start\":0,\"matches\":[\"call\"],\"metadata\":{},\"status\":\"ok\"}",
@@ -69,7 +66,6 @@ fn names_are_completed(rt: HostRuntime) -> Result<(), Fail> {
 #[test]
 fn several_and_no_names_are_completed(rt: HostRuntime) -> Result<(), Fail> {
     let alloc = rt.alloc();
-    let kernel = kernel_after(alloc, &["int cab int ca"])?;
     for (code, request, reply) in [
         (
             "+ca",
@@ -86,7 +82,7 @@ fn several_and_no_names_are_completed(rt: HostRuntime) -> Result<(), Fail> {
             code: String::from_str(alloc, code)?,
             cursor: None,
         };
-        let told = content(alloc, &kernel, ask)?;
+        let told = content(alloc, &["int cab int ca"], &[], ask)?;
         check_reply(
             &rt,
             alloc,
@@ -101,7 +97,6 @@ fn several_and_no_names_are_completed(rt: HostRuntime) -> Result<(), Fail> {
 #[test]
 fn a_name_is_inspected(rt: HostRuntime) -> Result<(), Fail> {
     let alloc = rt.alloc();
-    let kernel = kernel_after(alloc, &["int x x += 5"])?;
     for (code, request, reply) in [
         (
             "x += 1",
@@ -118,7 +113,7 @@ fn a_name_is_inspected(rt: HostRuntime) -> Result<(), Fail> {
             code: String::from_str(alloc, code)?,
             cursor: Some(1),
         };
-        let told = content(alloc, &kernel, ask)?;
+        let told = content(alloc, &["int x x += 5"], &[], ask)?;
         check_reply(
             &rt,
             alloc,
@@ -156,8 +151,7 @@ fn code_is_judged(rt: HostRuntime) -> Result<(), Fail> {
 #[test]
 fn the_history_is_told(rt: HostRuntime) -> Result<(), Fail> {
     let alloc = rt.alloc();
-    let kernel = kernel_after(alloc, &["int x", "x += 5"])?;
-    let tail = content(alloc, &kernel, Ask::History(HistoryAsk::Tail(1)))?;
+    let tail = content(alloc, &["int x", "x += 5"], &[], Ask::History(HistoryAsk::Tail(1)))?;
     check_reply(
         &rt,
         alloc,
@@ -180,7 +174,7 @@ fn the_history_is_told(rt: HostRuntime) -> Result<(), Fail> {
         &rt,
         alloc,
         ("history_request", "{\"hist_access_type\":\"range\"}"),
-        content(alloc, &kernel, Ask::History(range))?,
+        content(alloc, &["int x", "x += 5"], &[], Ask::History(range))?,
         (
             "history_reply",
             "{\"history\":[[1,1,\"int x\"],[1,2,\"x += 5\"]],\"status\":\"ok\"}",
@@ -191,12 +185,11 @@ fn the_history_is_told(rt: HostRuntime) -> Result<(), Fail> {
 #[test]
 fn the_history_is_not_searched(rt: HostRuntime) -> Result<(), Fail> {
     let alloc = rt.alloc();
-    let kernel = kernel_after(alloc, &[])?;
     check_reply(
         &rt,
         alloc,
         ("history_request", "{\"hist_access_type\":\"search\"}"),
-        anything(alloc, &kernel)?,
+        anything(alloc)?,
         (
             "history_reply",
             "{\"ename\":\"LeftOut\",\"evalue\":\"history search\",\"status\":\"error\",\"traceback\":[]}",
@@ -207,7 +200,6 @@ fn the_history_is_not_searched(rt: HostRuntime) -> Result<(), Fail> {
 #[test]
 fn interrupt_and_shutdown_are_replied_to(rt: HostRuntime) -> Result<(), Fail> {
     let alloc = rt.alloc();
-    let kernel = kernel_after(alloc, &[])?;
     for (request, reply) in [
         (
             ("interrupt_request", "{}"),
@@ -222,7 +214,7 @@ fn interrupt_and_shutdown_are_replied_to(rt: HostRuntime) -> Result<(), Fail> {
             ("shutdown_reply", "{\"restart\":true,\"status\":\"ok\"}"),
         ),
     ] {
-        let told = anything(alloc, &kernel)?;
+        let told = anything(alloc)?;
         check_reply(&rt, alloc, request, told, reply)?;
     }
     Ok(())

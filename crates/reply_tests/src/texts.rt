@@ -1,5 +1,5 @@
 //! Texts in JSON: what is escaped, and what stands as it is.
-use crate::kernels::{cell, done, kernel_after};
+use crate::kernels::{cell, done};
 use crate::requests::{Expected, IDLE, Told, check};
 use kernel_ask::{Comms, Content, NamedValue};
 use std::test::Fail;
@@ -15,8 +15,7 @@ const WRITTEN: &str =
 #[test]
 fn code_is_written_with_the_shortest_escapes(rt: HostRuntime) -> Result<(), Fail> {
     let alloc = rt.alloc();
-    let mut kernel = kernel_after(alloc, &[])?;
-    let ended = done(alloc, &mut kernel, cell(alloc, "")?, "", &[])?;
+    let ended = done(alloc, &[], cell(alloc, "")?, "", &[])?;
     let expected: [Expected; 3] = [
         (
             "who",
@@ -39,8 +38,7 @@ fn code_is_written_with_the_shortest_escapes(rt: HostRuntime) -> Result<(), Fail
 #[test]
 fn names_are_escaped_and_stand_in_the_order_of_their_octets(rt: HostRuntime) -> Result<(), Fail> {
     let alloc = rt.alloc();
-    let mut kernel = kernel_after(alloc, &[])?;
-    let mut ended = done(alloc, &mut kernel, cell(alloc, "")?, "", &[])?;
+    let mut ended = done(alloc, &[], cell(alloc, "")?, "", &[])?;
     for (name, value) in [
         ("\u{1f600}", 1),
         ("\u{ffff}", 2),
