@@ -17,7 +17,6 @@ pub mod Stopping
 pub mod Reach
 pub mod Refusals
 pub mod Determined
-pub mod Ways
 pub mod Posts
 pub mod Noted
 pub mod Writing

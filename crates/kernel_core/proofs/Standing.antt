@@ -1,27 +1,28 @@
 -- What the answers on slices and begins share: how runner, tree and open job go on together.
 use Rattle.std.specs.Result.{is_err, IsOk, OnOk, OnErr}
-use Rattle.std.specs.Prelude.{vec_capacity}
-use Rattle.std.proofs.Common.{◌≤◌, Result, Ok, Err, false, ◌≡◌, ℕ, ◌+◌, ◌-◌, ◌<◌, Bool, [], ◌∷◌, ◌++◌, length, map, set, get_or, zero, suc, refl, sym, ap, ◌∙◌, subst, arith}
-use Rattle.std.proofs.lemmas.List.{get_or_at, get_or_read}
+use Rattle.std.specs.Prelude.{slice_get}
+use Rattle.std.proofs.Common.{◌≤◌, Some, Result, Ok, Err, false, ◌≡◌, ℕ, ◌+◌, ◌-◌, ◌<◌, Bool, [], ◌∷◌, ◌++◌, length, map, set, get_or, zero, suc, refl, sym, ap, ◌∙◌, subst, arith}
+use Rattle.std.proofs.lemmas.List.{get_or_at}
 use Rattle.janus_meaning.specs.World.{World, empty_world, entered, Cell as ACell}
 use Rattle.kernel_core.specs.Travel.{next_way, Travel, Aim, Undo, Redo, Goto, Way, Up, Down}
 use Rattle.kernel_core.specs.Language.{IsFormed, IsSound, Code, Forward, Backward, Part, Exec, end_of}
 use Rattle.kernel_core.specs.State as state
 use Rattle.kernel_core.specs.State.{State, Past, new_state, root, node_at, world_at, here, below, code_of, ShownAt, worlds_from}
-use Rattle.kernel_core.specs.Fields.{node_of, nodes_of, aim_of, travel_of, work_of, job_of, past_of, state_of}
+use Rattle.cell_tree.specs.Tree.{contents_of, root_alone}
+use Rattle.kernel_core.specs.Fields.{nodes_of, aim_of, travel_of, work_of, job_of, past_of, state_of}
 use Rattle.kernel_core.specs.Legal.{CanGo, IsLegal, IsPossible, IsPossibleWork, IsCounted}
 use Rattle.kernel_core.specs.Slices.{cells, stepped, moved, grown, Arrives, Settles, HasEnded}
 use Rattle.kernel_core.specs.Begins.{Declares}
 use Rattle.kernel_core.specs.Program.{cell_of_program}
 use Rattle.kernel_core.specs.Runner.{world_of, Stands, IsInside}
-use Rattle.kernel_core.specs.Kept.{is_back, IsNodeAt, IsProgramOf, StandsIn, StandsAt, Kept, IsKept, HasRoom, HasPath, HasPathFor}
+use Rattle.kernel_core.specs.Kept.{is_back, IsCellAt, IsProgramOf, StandsIn, StandsAt, Kept, IsKept, HasRoom, HasPath, HasPathFor}
 use Rattle.kernel_core.specs.declared.runner.Runner.{Runner}
 use Rattle.kernel_core.specs.declared.program.Program.{Program}
-use Rattle.kernel_core.specs.declared.tree.Node.{Node}
+use Rattle.kernel_core.specs.declared.tree.Cell.{Cell}
 use Rattle.kernel_core.specs.declared.tree.Tree.{Tree}
 use Rattle.kernel_core.specs.declared.outcome.Sliced.{Sliced}
 use Rattle.kernel_core.specs.declared.job.Work.{Work}
-use Rattle.kernel_core.specs.declared.job.Work.TheVariants.{Cell, Move}
+use Rattle.kernel_core.specs.declared.job.Work.TheVariants.{Cell as RunCell, Move}
 use Rattle.kernel_core.specs.declared.job.Travel.{Travel as CodeTravel}
 use Rattle.kernel_core.specs.declared.job.Turn.{Turn as CodeTurn}
 use Rattle.kernel_core.specs.declared.job.Turn.TheVariants.{Going}
@@ -29,7 +30,7 @@ use Rattle.kernel_core.specs.declared.job.Open.{Open}
 use Rattle.kernel_core.specs.declared.job.Open.TheVariants.{Idle, Border, Inside}
 use Rattle.kernel_core.proofs.LanguageLaws.{part_none_forward, part_none_backward, exec_end, exec_some}
 use Rattle.kernel_core.proofs.Running.{stands_part}
-use Rattle.kernel_core.proofs.Nodes.{shifted, node_read, count_of_nodes}
+use Rattle.kernel_core.proofs.Nodes.{count_of_nodes, cell_there, one_cell}
 use Rattle.kernel_core.proofs.Trees.{worlds-more, legal_up, legal_down, legal_grown, undone_world, redone_world, run_here, parent_sound, IsNext, formed_below, next_below, up_possible, down_possible, way_up, way_down, new_legal, new_worlds}
 
 -- the shown world is the runner's
@@ -47,7 +48,6 @@ kept_inside tree work count c turn to runner at k p = record {
   stands = p;
   room = k.room;
   path = k.path;
-  path_room = k.path_room;
 }
 
 pub kept_idle : {L : Type 0} (tree : Tree) (job : Open) (runner at : Runner L) → Kept tree runner job → world_of at ≡ here (past_of tree) → Kept tree at Idle
@@ -58,14 +58,13 @@ kept_idle tree job runner at k e = record {
   stands = e;
   room = tt;
   path = tt;
-  path_room = k.path_room;
 }
 
 -- ---- a new node
 
 pub state_grown : (tree larger : Tree) (program : ACell) (n : ℕ) (w : World) →
     nodes_of larger ≡ nodes_of tree ++ record { parent = tree.position; cell = program; steps = n } ∷ [] →
-    larger.favourites.items ≡ set tree.favourites.items tree.position (length (nodes_of tree)) ++ 0 ∷ [] →
+    larger.cells.favourites ≡ set tree.cells.favourites tree.position (length (nodes_of tree)) ++ 0 ∷ [] →
     larger.position ≡ length (nodes_of tree) →
     Exec (Forward program) (here (past_of tree)) n w →
     past_of larger ≡ grown (past_of tree) program n w
@@ -76,12 +75,12 @@ state_grown tree larger program n w nodes favourites position ran =
 
 pub kept_grown : {L : Type 0} (tree larger : Tree) (program : ACell) (n : ℕ) (runner : Runner L) →
     nodes_of larger ≡ nodes_of tree ++ record { parent = tree.position; cell = program; steps = n } ∷ [] →
-    larger.favourites.items ≡ set tree.favourites.items tree.position (length (nodes_of tree)) ++ 0 ∷ [] →
+    larger.cells.favourites ≡ set tree.cells.favourites tree.position (length (nodes_of tree)) ++ 0 ∷ [] →
     larger.position ≡ length (nodes_of tree) →
     IsLegal (past_of tree) → IsFormed program (here (past_of tree)) →
-    Exec (Forward program) (here (past_of tree)) n (world_of runner) → length larger.nodes.items ≤ vec_capacity larger.path →
+    Exec (Forward program) (here (past_of tree)) n (world_of runner) →
     Kept larger runner Idle
-kept_grown tree larger program n runner nodes favourites position legal formed ran room =
+kept_grown tree larger program n runner nodes favourites position legal formed ran =
     let e = state_grown tree larger program n (world_of runner) nodes favourites position ran in
     let last : get_or (worlds_from [] (nodes_of tree) ++ world_of runner ∷ []) (length (nodes_of tree)) empty_world ≡ world_of runner =
     get_or_at (worlds_from [] (nodes_of tree)) (world_of runner) [] empty_world (length (nodes_of tree)) legal.worlds in
@@ -92,7 +91,6 @@ kept_grown tree larger program n runner nodes favourites position legal formed r
       counted = tt;
       room = tt;
       path = tt;
-      path_room = room;
     }
 
 -- ---- a cell of a travel
@@ -110,22 +108,21 @@ border_job (Border t) travel e = (t, refl, cc)
 border_job (Inside x) travel e = cc
 
 pub kept_arrived : {L : Type 0} (left : ℕ) (moved-to : Tree) (travel : Travel) (told : Sliced) (job : Open) (runner : Runner L) → left ≡ cells travel →
-    IsLegal (past_of moved-to) → world_of runner ≡ here (past_of moved-to) → CanGo travel.aim (nodes_of moved-to) moved-to.favourites.items moved-to.position travel.up travel.down → IsCounted travel →
-    HasPath travel.aim moved-to travel.down → length moved-to.nodes.items ≤ vec_capacity moved-to.path → Arrives left (past_of moved-to) travel told (state_of moved-to job) → Kept moved-to runner job
-kept_arrived zero tree travel told job runner size legal shown can small path room a =
+    IsLegal (past_of moved-to) → world_of runner ≡ here (past_of moved-to) → CanGo travel.aim (nodes_of moved-to) moved-to.cells.favourites moved-to.position travel.up travel.down → IsCounted travel →
+    HasPath travel.aim moved-to travel.down → Arrives left (past_of moved-to) travel told (state_of moved-to job) → Kept moved-to runner job
+kept_arrived zero tree travel told job runner size legal shown can small path a =
     let e : job ≡ Idle = idle_job job (ap (λ (s : State). s.job) a.1) in
-    rw e (record { legal = legal; possible = tt; counted = tt; stands = shown; room = tt; path = tt; path_room = room })
-kept_arrived (suc left) tree travel told job runner size legal shown can small path room a =
+    rw e (record { legal = legal; possible = tt; counted = tt; stands = shown; room = tt; path = tt })
+kept_arrived (suc left) tree travel told job runner size legal shown can small path a =
     let at = border_job job _ (ap (λ (s : State). s.job) a.1) in
-    let possible : IsPossible (nodes_of tree) tree.favourites.items tree.position travel = record { some = omega arith; way_there = can } in
+    let possible : IsPossible (nodes_of tree) tree.cells.favourites tree.position travel = record { some = omega arith; way_there = can } in
     rw at.1 (record {
       legal = legal;
-      possible = subst (λ (x : Travel). IsPossible (nodes_of tree) tree.favourites.items tree.position x) (sym at.2) possible;
+      possible = subst (λ (x : Travel). IsPossible (nodes_of tree) tree.cells.favourites tree.position x) (sym at.2) possible;
       counted = subst (λ (x : Travel). IsCounted x) (sym at.2) small;
       stands = shown;
       room = tt;
       path = subst (λ (x : Travel). HasPath x.aim tree x.down) (sym at.2) path;
-      path_room = room;
     })
 
 -- a path is kept for a way that is one node shorter
@@ -134,16 +131,16 @@ path_shorter Undo tree down h = tt
 path_shorter Redo tree down h = tt
 path_shorter (Goto n) tree down h = (let l = h.0 in omega arith, λ i l. h.1 i (omega arith))
 
-path_of : (a : Aim) (tree other : Tree) (down : ℕ) → other.nodes ≡ tree.nodes → other.path ≡ tree.path → HasPath a tree down → HasPath a other down
+path_of : (a : Aim) (tree other : Tree) (down : ℕ) → other.cells.nodes ≡ tree.cells.nodes → other.cells.way ≡ tree.cells.way → HasPath a tree down → HasPath a other down
 path_of Undo tree other down e f h = tt
 path_of Redo tree other down e f h = tt
 path_of (Goto n) tree other down e f h = rw (e, f) h
 
 pub kept_up : {L : Type 0} (tree : Tree) (p : ℕ) (travel : Travel) (runner : Runner L) (told : Sliced) (job : Open) → next_way travel ≡ Up → IsLegal (past_of tree) →
-    IsPossible (nodes_of tree) tree.favourites.items tree.position travel → IsCounted travel → HasPath travel.aim tree travel.down → length tree.nodes.items ≤ vec_capacity tree.path →
+    IsPossible (nodes_of tree) tree.cells.favourites tree.position travel → IsCounted travel → HasPath travel.aim tree travel.down →
     p ≡ (node_at (past_of tree) tree.position).parent → world_of runner ≡ world_at (past_of tree) (node_at (past_of tree) tree.position).parent →
     Arrives (cells (stepped travel)) (past_of (record tree { position = p })) (stepped travel) told (state_of (record tree { position = p }) job) → Kept (record tree { position = p }) runner job
-kept_up tree p travel runner told job way legal possible small path room to world a =
+kept_up tree p travel runner told job way legal possible small path to world a =
     let can = up_possible (past_of tree) travel way possible in
     let some = possible.some in
     let first = small.0 in
@@ -151,15 +148,15 @@ kept_up tree p travel runner told job way legal possible small path room to worl
     let on : Travel = record travel { up = travel.up - 1; went_up = travel.went_up + 1 } in
     let e : stepped travel ≡ on = rw (way, stepped) refl in
     kept_arrived (cells on) (record tree { position = p }) on told job runner refl (rw to (legal_up (past_of tree) legal)) (rw to world) (rw to can.1) (omega arith, small.1)
-    (path_of travel.aim tree (record tree { position = p }) travel.down refl refl path) room
+    (path_of travel.aim tree (record tree { position = p }) travel.down refl refl path)
     (subst (λ (t : Travel). Arrives (cells t) (past_of (record tree { position = p })) t told (state_of (record tree { position = p }) job)) e a)
 
 pub kept_down : {L : Type 0} (tree moved-to : Tree) (c : ℕ) (travel : Travel) (runner : Runner L) (told : Sliced) (job : Open) → next_way travel ≡ Down → IsLegal (past_of tree) →
-    IsPossible (nodes_of tree) tree.favourites.items tree.position travel → IsCounted travel → HasPath travel.aim tree travel.down → length tree.nodes.items ≤ vec_capacity tree.path →
-    c ≡ below (past_of tree) travel → moved-to.nodes ≡ tree.nodes → moved-to.favourites.items ≡ set tree.favourites.items tree.position c → moved-to.position ≡ c → moved-to.path ≡ tree.path →
+    IsPossible (nodes_of tree) tree.cells.favourites tree.position travel → IsCounted travel → HasPath travel.aim tree travel.down →
+    c ≡ below (past_of tree) travel → moved-to.cells.nodes ≡ tree.cells.nodes → moved-to.cells.favourites ≡ set tree.cells.favourites tree.position c → moved-to.position ≡ c → moved-to.cells.way ≡ tree.cells.way →
     world_of runner ≡ world_at (past_of tree) (below (past_of tree) travel) →
     Arrives (cells (stepped travel)) (past_of moved-to) (stepped travel) told (state_of moved-to job) → Kept moved-to runner job
-kept_down tree moved-to c travel runner told job way legal possible small path room to nodes favourites position kept-path world a =
+kept_down tree moved-to c travel runner told job way legal possible small path to nodes favourites position kept-path world a =
     let next = next_below (past_of tree) travel legal way possible in
     let can = down_possible (past_of tree) travel legal way possible in
     let some = possible.some in
@@ -168,14 +165,14 @@ kept_down tree moved-to c travel runner told job way legal possible small path r
     let on : Travel = record travel { down = travel.down - 1; went_down = travel.went_down + 1 } in
     let e : stepped travel ≡ on = rw (way, stepped) refl in
     let down : 0 < travel.down = omega arith in
-    let past : past_of moved-to ≡ record (past_of tree) { favourites = set tree.favourites.items tree.position (below (past_of tree) travel); position = below (past_of tree) travel } = rw (nodes, favourites, position, to) refl in
+    let past : past_of moved-to ≡ record (past_of tree) { favourites = set tree.cells.favourites tree.position (below (past_of tree) travel); position = below (past_of tree) travel } = rw (nodes, favourites, position, to) refl in
     let kept : HasPath travel.aim moved-to (travel.down - 1) = path_of travel.aim tree moved-to (travel.down - 1) nodes kept-path (path_shorter travel.aim tree travel.down path) in
     kept_arrived (cells on) moved-to on told job runner refl
     (subst (λ (s : Past). IsLegal s) (sym past) (legal_down (past_of tree) (below (past_of tree) travel) legal next))
     (subst (λ (s : Past). world_of runner ≡ here s) (sym past) world)
     (subst (λ (s : Past). CanGo travel.aim s.nodes s.favourites s.position travel.up (travel.down - 1)) (sym past)
-    (subst (λ (u : ℕ). CanGo travel.aim (nodes_of tree) (set tree.favourites.items tree.position (below (past_of tree) travel)) (below (past_of tree) travel) u (travel.down - 1)) (sym none) can))
-    (small.0, omega arith) kept (rw (nodes, kept-path) room)
+    (subst (λ (u : ℕ). CanGo travel.aim (nodes_of tree) (set tree.cells.favourites tree.position (below (past_of tree) travel)) (below (past_of tree) travel) u (travel.down - 1)) (sym none) can))
+    (small.0, omega arith) kept
     (subst (λ (t : Travel). Arrives (cells t) (past_of moved-to) t told (state_of moved-to job)) e a)
 
 -- the world at the end of an undone cell, and of a redone one
@@ -190,33 +187,19 @@ ended_down s travel n v way legal possible e = redone_world s (below s travel) n
 
 -- ---- the program of the open job
 
--- the node that stands at a place is the tree's node of that number
-pub node_there : (tree : Tree) (n : ℕ) (node : Node) → IsNodeAt tree n node → node_of node ≡ node_at (past_of tree) n
-node_there tree n node at =
-    let some : 0 < n = at.0 in
-    let low : n < length tree.nodes.items + 1 = at.1 in
-    node_read tree.nodes.items (n - 1) node (omega arith) at.2 ∙ sym (shifted (map node_of tree.nodes.items) n some)
-
-pub same_node : (tree : Tree) (n : ℕ) (a b : Node) → IsNodeAt tree n a → IsNodeAt tree n b → a ≡ b
-same_node tree n a b p q =
-    let some : 0 < n = p.0 in
-    let low : n < length tree.nodes.items + 1 = p.1 in
-    let within : n - 1 < length tree.nodes.items = omega arith in
-    get_or_read tree.nodes.items (n - 1) a within p.2 b ∙ sym q.2
-
 -- the work has one program
 same_up : (tree : Tree) (travel : CodeTravel) (way : Way) (p q : Program) → next_way (travel_of travel) ≡ way → IsProgramOf tree (Move travel) p → IsProgramOf tree (Move travel) q → p ≡ q
 same_up tree travel Up p q way a b =
     let c = rw (way, IsProgramOf) at a in
     let d = rw (way, IsProgramOf) at b in
-    c.2 ∙ ap (λ (n : Node). n.program) (same_node tree tree.position c.0 d.0 c.1 d.1) ∙ sym d.2
+    c.2 ∙ ap (λ (x : Cell). x.program) (one_cell tree tree.position c.0 d.0 c.1 d.1) ∙ sym d.2
 same_up tree travel Down p q way a b =
     let c = rw (way, IsProgramOf) at a in
     let d = rw (way, IsProgramOf) at b in
-    c.2 ∙ ap (λ (n : Node). n.program) (same_node tree _ c.0 d.0 c.1 d.1) ∙ sym d.2
+    c.2 ∙ ap (λ (x : Cell). x.program) (one_cell tree _ c.0 d.0 c.1 d.1) ∙ sym d.2
 
 pub same_program : (tree : Tree) (work : Work) (p q : Program) → IsProgramOf tree work p → IsProgramOf tree work q → p ≡ q
-same_program tree (Cell program) p q a b = a ∙ sym b
+same_program tree (RunCell program) p q a b = a ∙ sym b
 same_program tree (Move travel) p q a b = same_up tree travel (next_way (travel_of travel)) p q refl a b
 
 -- where a runner stands, for the program that was found
@@ -237,7 +220,6 @@ kept_entered tree runner at travel k stands = record {
     stands = stands;
     room = tt;
     path = k.path;
-    path_room = k.path_room;
   };
   in_time = exec_some (code_of (past_of tree) (state.Move (travel_of travel))) (here (past_of tree));
 }
@@ -247,7 +229,7 @@ pub idle_in_time : {L : Type 0} (tree : Tree) (runner : Runner L) → Kept tree 
 idle_in_time tree runner k = record { kept = k; in_time = tt }
 
 pub kept_begun : {L : Type 0} (tree made : Tree) (runner at : Runner L) (program : Program) → Kept tree runner Idle → past_of made ≡ past_of tree → HasRoom made → IsFormed (cell_of_program program) (here (past_of tree)) →
-    Stands at program (Forward (cell_of_program program)) (here (past_of tree)) 0 false → IsKept made at (Inside (record { work = Cell program; count = 0; turn = Going }))
+    Stands at program (Forward (cell_of_program program)) (here (past_of tree)) 0 false → IsKept made at (Inside (record { work = RunCell program; count = 0; turn = Going }))
 kept_begun tree made runner at program k same room formed stands = record {
   kept = record {
     legal = subst (λ (s : Past). IsLegal s) (sym same) k.legal;
@@ -260,7 +242,6 @@ kept_begun tree made runner at program k same room formed stands = record {
     };
     room = room;
     path = tt;
-    path_room = (let h = room.path in omega arith);
   };
   in_time = exec_some (code_of (past_of made) (state.Posted (cell_of_program program))) (here (past_of made));
 }
@@ -271,7 +252,7 @@ ok_fact P (Err x) e h = absurd (cc)
 
 -- ---- back at the count 0
 
-pub began_cell : (tree : Tree) (work : Work) (program : Program) (v : World) → work ≡ Cell program → Part (code_of (past_of tree) (work_of work)) (here (past_of tree)) 0 v → v ≡ entered (cell_of_program program) (here (past_of tree))
+pub began_cell : (tree : Tree) (work : Work) (program : Program) (v : World) → work ≡ RunCell program → Part (code_of (past_of tree) (work_of work)) (here (past_of tree)) 0 v → v ≡ entered (cell_of_program program) (here (past_of tree))
 began_cell tree work program v e p = part_none_forward (cell_of_program program) (here (past_of tree)) v (rw e at p)
 
 pub began_up : (tree : Tree) (work : Work) (travel : CodeTravel) (v : World) → work ≡ Move travel → next_way (travel_of travel) ≡ Up → Part (code_of (past_of tree) (work_of work)) (here (past_of tree)) 0 v → v ≡ here (past_of tree)
@@ -280,12 +261,19 @@ began_up tree work travel v e way p =
     let q : Part (code_of (past_of tree) (state.Move (travel_of travel))) (here (past_of tree)) 0 v = rw e at p in
     part_none_backward (node_at (past_of tree) tree.position).cell (here (past_of tree)) v (rw (way, code_of) at q)
 
-pub began_down : (tree : Tree) (work : Work) (travel : CodeTravel) (v : World) (node : Node) → work ≡ Move travel → next_way (travel_of travel) ≡ Down → IsNodeAt tree (below (past_of tree) (travel_of travel)) node →
-    Part (code_of (past_of tree) (work_of work)) (here (past_of tree)) 0 v → v ≡ entered (cell_of_program node.program) (here (past_of tree))
-began_down tree work travel v node e way at p =
+pub began_down : (tree : Tree) (work : Work) (travel : CodeTravel) (v : World) (cell : Cell) → work ≡ Move travel → next_way (travel_of travel) ≡ Down → IsCellAt tree (below (past_of tree) (travel_of travel)) cell →
+    Part (code_of (past_of tree) (work_of work)) (here (past_of tree)) 0 v → v ≡ entered (cell_of_program cell.program) (here (past_of tree))
+began_down tree work travel v cell e way at p =
     let q : Part (code_of (past_of tree) (state.Move (travel_of travel))) (here (past_of tree)) 0 v = rw e at p in
     part_none_forward (node_at (past_of tree) (below (past_of tree) (travel_of travel))).cell (here (past_of tree)) v (rw (way, code_of) at q)
-    ∙ ap (λ (n : state.Node). entered n.cell (here (past_of tree))) (sym (node_there tree _ node at))
+    ∙ ap (λ (c : ACell). entered c (here (past_of tree))) (sym (cell_there tree _ cell at))
+
+-- the position is a node
+pub position_known : (tree : Tree) → IsLegal (past_of tree) → tree.position ≤ length tree.cells.nodes
+position_known tree g =
+    let size = count_of_nodes tree in
+    let low : tree.position < length (nodes_of tree) = g.position in
+    omega arith
 
 -- what a call of `below` asks for, and where its node stands
 pub work_possible : (s : Past) (work : state.Work) (travel : Travel) → work ≡ state.Move travel → IsPossibleWork s work → IsPossible s.nodes s.favourites s.position travel
@@ -294,8 +282,8 @@ work_possible s work travel e p = rw e at p
 pub work_path : (tree : Tree) (work : Work) (travel : CodeTravel) → work ≡ Move travel → HasPathFor tree work → HasPath (aim_of travel.aim) tree travel.down
 work_path tree work travel e p = rw e at p
 
-pub below_there : (tree : Tree) (travel : Travel) (i : ℕ) → IsLegal (past_of tree) → next_way travel ≡ Down → IsPossible (nodes_of tree) tree.favourites.items tree.position travel → i ≡ below (past_of tree) travel →
-    (0 < i) × (i - 1 < length tree.nodes.items)
+pub below_there : (tree : Tree) (travel : Travel) (i : ℕ) → IsLegal (past_of tree) → next_way travel ≡ Down → IsPossible (nodes_of tree) tree.cells.favourites tree.position travel → i ≡ below (past_of tree) travel →
+    (0 < i) × (i ≤ length tree.cells.nodes)
 below_there tree travel i legal way possible e =
     let next = next_below (past_of tree) travel legal way possible in
     let size = count_of_nodes tree in
@@ -303,7 +291,7 @@ below_there tree travel i legal way possible e =
     let known : below (past_of tree) travel < length (nodes_of tree) = next.known in
     (omega arith, omega arith)
 
--- the nodes of a travel, as they are read
+-- the cells of a travel, as they are read
 pub down_work : (s : Past) (work : state.Work) (travel : Travel) → work ≡ state.Move travel → next_way travel ≡ Down → IsLegal s → IsPossibleWork s work → IsNext s (below s travel)
 down_work s work travel e way g p =
     let q : IsPossible s.nodes s.favourites s.position travel = rw e at p in
@@ -314,63 +302,53 @@ up_work s work travel e way p =
     let q : IsPossible s.nodes s.favourites s.position travel = rw e at p in
     (up_possible s travel way q).0
 
-pub node_here : (tree : Tree) (node : Node) → IsLegal (past_of tree) → 0 < tree.position → node ≡ get_or tree.nodes.items (tree.position - 1) node → IsNodeAt tree tree.position node
-node_here tree node g some read =
-    let size = count_of_nodes tree in
-    let low : tree.position < length (nodes_of tree) = g.position in
-    (some, omega arith, read)
-
-pub node_below : (tree : Tree) (travel : Travel) (node : Node) (i : ℕ) → IsNext (past_of tree) (below (past_of tree) travel) → i ≡ below (past_of tree) travel → node ≡ get_or tree.nodes.items (i - 1) node →
-    IsNodeAt tree (below (past_of tree) travel) node
-node_below tree travel node i next e read =
-    let size = count_of_nodes tree in
-    let known : below (past_of tree) travel < length (nodes_of tree) = next.known in
-    (next.some, omega arith, rw e at read)
+pub cell_below : (tree : Tree) (travel : Travel) (cell : Cell) (i : ℕ) → IsNext (past_of tree) (below (past_of tree) travel) → i ≡ below (past_of tree) travel →
+    slice_get (contents_of tree.cells) (i - 1) ≡ Some cell → IsCellAt tree (below (past_of tree) travel) cell
+cell_below tree travel cell i next e read = (next.some, rw e at read)
 
 -- at the end of an undo, its names are the newest
-pub up_names : (tree : Tree) (travel : Travel) (n : ℕ) (v : World) (node : Node) → next_way travel ≡ Up → IsLegal (past_of tree) → IsPossible (nodes_of tree) tree.favourites.items tree.position travel → HasEnded (past_of tree) (state.Move travel) n v →
-    IsNodeAt tree tree.position node → v ≡ entered (cell_of_program node.program) (world_at (past_of tree) (node_at (past_of tree) tree.position).parent)
-up_names tree travel n v node way legal possible ended at =
+pub up_names : (tree : Tree) (travel : Travel) (n : ℕ) (v : World) (cell : Cell) → next_way travel ≡ Up → IsLegal (past_of tree) → IsPossible (nodes_of tree) tree.cells.favourites tree.position travel → HasEnded (past_of tree) (state.Move travel) n v →
+    IsCellAt tree tree.position cell → v ≡ entered (cell_of_program cell.program) (world_at (past_of tree) (node_at (past_of tree) tree.position).parent)
+up_names tree travel n v cell way legal possible ended at =
     ended_up (past_of tree) travel n v way legal possible ended
-    ∙ ap (λ (x : state.Node). entered x.cell (world_at (past_of tree) (node_at (past_of tree) tree.position).parent)) (sym (node_there tree tree.position node at))
+    ∙ ap (λ (c : ACell). entered c (world_at (past_of tree) (node_at (past_of tree) tree.position).parent)) (sym (cell_there tree tree.position cell at))
 
 -- a tree of the root alone
-pub new_past : (tree : Tree) → tree.nodes.items ≡ [] → tree.favourites.items ≡ 0 ∷ [] → tree.position ≡ 0 → past_of tree ≡ new_state.past
-new_past tree nodes favourites position = rw (nodes, favourites, position, new_worlds) refl
+pub new_past : (tree : Tree) → tree.cells ≡ root_alone tree.cells.room → tree.position ≡ 0 → past_of tree ≡ new_state.past
+new_past tree alone position = rw (alone, position, new_worlds) refl
 
-pub kept_new : {L : Type 0} (tree : Tree) (runner : Runner L) → past_of tree ≡ new_state.past → tree.nodes.items ≡ [] → world_of runner ≡ empty_world → Kept tree runner Idle
-kept_new tree runner e none shown = record {
+pub kept_new : {L : Type 0} (tree : Tree) (runner : Runner L) → past_of tree ≡ new_state.past → world_of runner ≡ empty_world → Kept tree runner Idle
+kept_new tree runner e shown = record {
   legal = subst (λ (s : Past). IsLegal s) (sym e) new_legal;
   possible = tt;
   counted = tt;
   stands = subst (λ (s : Past). world_of runner ≡ here s) (sym e) shown;
   room = tt;
   path = tt;
-  path_room = rw none (omega arith);
 }
 
 -- the program of an undo and of a redo, as it is read
-up_is : (tree : Tree) (travel : CodeTravel) (p : Program) → next_way (travel_of travel) ≡ Up → (node : Node) × IsNodeAt tree tree.position node × (p ≡ node.program) → IsProgramOf tree (Move travel) p
+up_is : (tree : Tree) (travel : CodeTravel) (p : Program) → next_way (travel_of travel) ≡ Up → (cell : Cell) × IsCellAt tree tree.position cell × (p ≡ cell.program) → IsProgramOf tree (Move travel) p
 up_is tree travel p way h = rw (way, IsProgramOf) h
 
-down_is : (tree : Tree) (travel : CodeTravel) (p : Program) → next_way (travel_of travel) ≡ Down → (node : Node) × IsNodeAt tree (below (past_of tree) (travel_of travel)) node × (p ≡ node.program) → IsProgramOf tree (Move travel) p
+down_is : (tree : Tree) (travel : CodeTravel) (p : Program) → next_way (travel_of travel) ≡ Down → (cell : Cell) × IsCellAt tree (below (past_of tree) (travel_of travel)) cell × (p ≡ cell.program) → IsProgramOf tree (Move travel) p
 down_is tree travel p way h = rw (way, IsProgramOf) h
 
-pub node_of_up : (tree : Tree) (work : Work) (travel : CodeTravel) (node : Node) → IsLegal (past_of tree) → IsPossibleWork (past_of tree) (work_of work) → work ≡ Move travel → next_way (travel_of travel) ≡ Up →
-    node ≡ get_or tree.nodes.items (tree.position - 1) node → IsNodeAt tree tree.position node
-node_of_up tree work travel node legal possible e way read =
-    node_here tree node legal (up_work (past_of tree) (work_of work) (travel_of travel) (ap work_of e) way possible) read
+pub cell_of_up : (tree : Tree) (work : Work) (travel : CodeTravel) (cell : Cell) → IsLegal (past_of tree) → IsPossibleWork (past_of tree) (work_of work) → work ≡ Move travel → next_way (travel_of travel) ≡ Up →
+    slice_get (contents_of tree.cells) (tree.position - 1) ≡ Some cell → IsCellAt tree tree.position cell
+cell_of_up tree work travel cell legal possible e way read =
+    (up_work (past_of tree) (work_of work) (travel_of travel) (ap work_of e) way possible, read)
 
-pub node_of_down : (tree : Tree) (work : Work) (travel : CodeTravel) (node : Node) (i : ℕ) → IsLegal (past_of tree) → IsPossibleWork (past_of tree) (work_of work) → work ≡ Move travel → next_way (travel_of travel) ≡ Down →
-    i ≡ below (past_of tree) (travel_of travel) → node ≡ get_or tree.nodes.items (i - 1) node → IsNodeAt tree (below (past_of tree) (travel_of travel)) node
-node_of_down tree work travel node i legal possible e way at read =
-    node_below tree (travel_of travel) node i (down_work (past_of tree) (work_of work) (travel_of travel) (ap work_of e) way legal possible) at read
+pub cell_of_down : (tree : Tree) (work : Work) (travel : CodeTravel) (cell : Cell) (i : ℕ) → IsLegal (past_of tree) → IsPossibleWork (past_of tree) (work_of work) → work ≡ Move travel → next_way (travel_of travel) ≡ Down →
+    i ≡ below (past_of tree) (travel_of travel) → slice_get (contents_of tree.cells) (i - 1) ≡ Some cell → IsCellAt tree (below (past_of tree) (travel_of travel)) cell
+cell_of_down tree work travel cell i legal possible e way at read =
+    cell_below tree (travel_of travel) cell i (down_work (past_of tree) (work_of work) (travel_of travel) (ap work_of e) way legal possible) at read
 
-pub program_up : (tree : Tree) (work : Work) (travel : CodeTravel) (node : Node) → work ≡ Move travel → next_way (travel_of travel) ≡ Up → IsNodeAt tree tree.position node → IsProgramOf tree work node.program
-program_up tree work travel node e way at = rw e (up_is tree travel node.program way (node, at, refl))
+pub program_up : (tree : Tree) (work : Work) (travel : CodeTravel) (cell : Cell) → work ≡ Move travel → next_way (travel_of travel) ≡ Up → IsCellAt tree tree.position cell → IsProgramOf tree work cell.program
+program_up tree work travel cell e way at = rw e (up_is tree travel cell.program way (cell, at, refl))
 
-pub program_down : (tree : Tree) (work : Work) (travel : CodeTravel) (node : Node) → work ≡ Move travel → next_way (travel_of travel) ≡ Down → IsNodeAt tree (below (past_of tree) (travel_of travel)) node → IsProgramOf tree work node.program
-program_down tree work travel node e way at = rw e (down_is tree travel node.program way (node, at, refl))
+pub program_down : (tree : Tree) (work : Work) (travel : CodeTravel) (cell : Cell) → work ≡ Move travel → next_way (travel_of travel) ≡ Down → IsCellAt tree (below (past_of tree) (travel_of travel)) cell → IsProgramOf tree work cell.program
+program_down tree work travel cell e way at = rw e (down_is tree travel cell.program way (cell, at, refl))
 
 -- the runner has gone on, or back, in the work's program
 pub kept_at : {L : Type 0} (tree : Tree) (work : Work) (count c : ℕ) (turn to : CodeTurn) (runner at : Runner L) (p : Program) → Kept tree runner (Inside (record { work = work; count = count; turn = turn })) →
@@ -390,7 +368,7 @@ settled_up tree p travel n w told new way to a =
     subst (λ (s : Past). Arrives (cells (stepped travel)) s (stepped travel) told new) e a
 
 pub settled_down : (tree moved-to : Tree) (c : ℕ) (travel : Travel) (n : ℕ) (w : World) (told : Sliced) (new : State) → next_way travel ≡ Down → c ≡ below (past_of tree) travel →
-    moved-to.nodes ≡ tree.nodes → moved-to.favourites.items ≡ set tree.favourites.items tree.position c → moved-to.position ≡ c →
+    moved-to.cells.nodes ≡ tree.cells.nodes → moved-to.cells.favourites ≡ set tree.cells.favourites tree.position c → moved-to.position ≡ c →
     Arrives (cells (stepped travel)) (past_of moved-to) (stepped travel) told new → Settles (past_of tree) (state.Move travel) n w told new
 settled_down tree moved-to c travel n w told new way to nodes favourites position a =
     let e : past_of moved-to ≡ moved (past_of tree) travel = rw (way, moved, nodes, favourites, position, to) refl in
@@ -401,82 +379,72 @@ settled_down tree moved-to c travel n w told new way to nodes favourites positio
 pub here_sound : {L : Type 0} (tree : Tree) (runner : Runner L) → IsLegal (past_of tree) → world_of runner ≡ here (past_of tree) → IsSound (world_of runner)
 here_sound tree runner legal shown = subst (λ (w : World). IsSound w) (sym shown) (legal.sound tree.position legal.position)
 
-pub next_down : (tree : Tree) (travel : Travel) (node : Node) (i : ℕ) → next_way travel ≡ Down → IsLegal (past_of tree) → IsPossible (nodes_of tree) tree.favourites.items tree.position travel →
-    i ≡ below (past_of tree) travel → node ≡ get_or tree.nodes.items (i - 1) node → IsNodeAt tree (below (past_of tree) travel) node
-next_down tree travel node i way legal possible at read =
-    node_below tree travel node i (next_below (past_of tree) travel legal way possible) at read
+pub next_down : (tree : Tree) (travel : Travel) (cell : Cell) (i : ℕ) → next_way travel ≡ Down → IsLegal (past_of tree) → IsPossible (nodes_of tree) tree.cells.favourites tree.position travel →
+    i ≡ below (past_of tree) travel → slice_get (contents_of tree.cells) (i - 1) ≡ Some cell → IsCellAt tree (below (past_of tree) travel) cell
+next_down tree travel cell i way legal possible at read =
+    cell_below tree travel cell i (next_below (past_of tree) travel legal way possible) at read
 
-pub formed_next : {L : Type 0} (tree : Tree) (travel : Travel) (node : Node) (runner : Runner L) → next_way travel ≡ Down → IsLegal (past_of tree) → IsPossible (nodes_of tree) tree.favourites.items tree.position travel →
-    world_of runner ≡ here (past_of tree) → IsNodeAt tree (below (past_of tree) travel) node → IsFormed (cell_of_program node.program) (world_of runner)
-formed_next tree travel node runner way legal possible shown at =
+pub formed_next : {L : Type 0} (tree : Tree) (travel : Travel) (cell : Cell) (runner : Runner L) → next_way travel ≡ Down → IsLegal (past_of tree) → IsPossible (nodes_of tree) tree.cells.favourites tree.position travel →
+    world_of runner ≡ here (past_of tree) → IsCellAt tree (below (past_of tree) travel) cell → IsFormed (cell_of_program cell.program) (world_of runner)
+formed_next tree travel cell runner way legal possible shown at =
     let next = next_below (past_of tree) travel legal way possible in
-    let formed : IsFormed (node_of node).cell (here (past_of tree)) = subst (λ (n : state.Node). IsFormed n.cell (here (past_of tree))) (sym (node_there tree _ node at)) (formed_below (past_of tree) (below (past_of tree) travel) legal next) in
-    subst (λ (w : World). IsFormed (cell_of_program node.program) w) (sym shown) formed
+    let formed : IsFormed (cell_of_program cell.program) (here (past_of tree)) = subst (λ (c : ACell). IsFormed c (here (past_of tree))) (sym (cell_there tree _ cell at)) (formed_below (past_of tree) (below (past_of tree) travel) legal next) in
+    subst (λ (w : World). IsFormed (cell_of_program cell.program) w) (sym shown) formed
 
-pub stands_next_down : {L : Type 0} (tree : Tree) (travel : CodeTravel) (node : Node) (runner at : Runner L) → next_way (travel_of travel) ≡ Down → world_of runner ≡ here (past_of tree) → IsNodeAt tree (below (past_of tree) (travel_of travel)) node →
-    Stands at node.program (Forward (cell_of_program node.program)) (world_of runner) 0 false → StandsIn tree (Move travel) 0 false at
-stands_next_down tree travel node runner at way shown is stands =
-    let same = node_there tree _ node is in
-    let code : Forward (cell_of_program node.program) ≡ code_of (past_of tree) (state.Move (travel_of travel)) = rw (way, code_of) (ap (λ (n : state.Node). Forward n.cell) same) in
+pub stands_next_down : {L : Type 0} (tree : Tree) (travel : CodeTravel) (cell : Cell) (runner at : Runner L) → next_way (travel_of travel) ≡ Down → world_of runner ≡ here (past_of tree) → IsCellAt tree (below (past_of tree) (travel_of travel)) cell →
+    Stands at cell.program (Forward (cell_of_program cell.program)) (world_of runner) 0 false → StandsIn tree (Move travel) 0 false at
+stands_next_down tree travel cell runner at way shown is stands =
+    let same = cell_there tree _ cell is in
+    let code : Forward (cell_of_program cell.program) ≡ code_of (past_of tree) (state.Move (travel_of travel)) = rw (way, code_of) (ap (λ (c : ACell). Forward c) same) in
     record {
-      program = node.program;
-      of_work = down_is tree travel node.program way (node, is, refl);
-      stands = subst (λ (c : Code). Stands at node.program c (here (past_of tree)) 0 false) code (subst (λ (w : World). Stands at node.program (Forward (cell_of_program node.program)) w 0 false) shown stands);
+      program = cell.program;
+      of_work = down_is tree travel cell.program way (cell, is, refl);
+      stands = subst (λ (c : Code). Stands at cell.program c (here (past_of tree)) 0 false) code (subst (λ (w : World). Stands at cell.program (Forward (cell_of_program cell.program)) w 0 false) shown stands);
     }
 
-pub next_up : (tree : Tree) (travel : Travel) (node : Node) → next_way travel ≡ Up → IsLegal (past_of tree) → IsPossible (nodes_of tree) tree.favourites.items tree.position travel →
-    node ≡ get_or tree.nodes.items (tree.position - 1) node → IsNodeAt tree tree.position node
-next_up tree travel node way legal possible read =
-    node_here tree node legal (up_possible (past_of tree) travel way possible).0 read
+pub next_up : (tree : Tree) (travel : Travel) (cell : Cell) → next_way travel ≡ Up → IsLegal (past_of tree) → IsPossible (nodes_of tree) tree.cells.favourites tree.position travel →
+    slice_get (contents_of tree.cells) (tree.position - 1) ≡ Some cell → IsCellAt tree tree.position cell
+next_up tree travel cell way legal possible read =
+    ((up_possible (past_of tree) travel way possible).0, read)
 
-pub ran_above : {L : Type 0} (tree : Tree) (travel : Travel) (node : Node) (runner : Runner L) → next_way travel ≡ Up → IsLegal (past_of tree) → IsPossible (nodes_of tree) tree.favourites.items tree.position travel →
-    world_of runner ≡ here (past_of tree) → IsNodeAt tree tree.position node →
-    (before : World) × (n : ℕ) × Exec (Forward (cell_of_program node.program)) before n (world_of runner) × IsSound before × IsFormed (cell_of_program node.program) before
-ran_above tree travel node runner way legal possible shown at =
+pub ran_above : {L : Type 0} (tree : Tree) (travel : Travel) (cell : Cell) (runner : Runner L) → next_way travel ≡ Up → IsLegal (past_of tree) → IsPossible (nodes_of tree) tree.cells.favourites tree.position travel →
+    world_of runner ≡ here (past_of tree) → IsCellAt tree tree.position cell →
+    (before : World) × (n : ℕ) × Exec (Forward (cell_of_program cell.program)) before n (world_of runner) × IsSound before × IsFormed (cell_of_program cell.program) before
+ran_above tree travel cell runner way legal possible shown at =
     let s : Past = past_of tree in
     let some = (up_possible (past_of tree) travel way possible).0 in
     let run = run_here (past_of tree) legal some in
-    let ran : Exec (Forward (node_of node).cell) (world_at (past_of tree) (node_at (past_of tree) tree.position).parent) (node_at (past_of tree) tree.position).steps (here (past_of tree)) =
-    subst (λ (n : state.Node). Exec (Forward n.cell) (world_at (past_of tree) (node_at (past_of tree) tree.position).parent) (node_at (past_of tree) tree.position).steps (here (past_of tree))) (sym (node_there tree tree.position node at)) run.ran in (
+    let ran : Exec (Forward (cell_of_program cell.program)) (world_at (past_of tree) (node_at (past_of tree) tree.position).parent) (node_at (past_of tree) tree.position).steps (here (past_of tree)) =
+    subst (λ (c : ACell). Exec (Forward c) (world_at (past_of tree) (node_at (past_of tree) tree.position).parent) (node_at (past_of tree) tree.position).steps (here (past_of tree))) (sym (cell_there tree tree.position cell at)) run.ran in (
       _,
       _,
-      subst (λ (w : World). Exec (Forward (node_of node).cell) (world_at (past_of tree) (node_at (past_of tree) tree.position).parent) (node_at (past_of tree) tree.position).steps w) (sym shown) ran,
+      subst (λ (w : World). Exec (Forward (cell_of_program cell.program)) (world_at (past_of tree) (node_at (past_of tree) tree.position).parent) (node_at (past_of tree) tree.position).steps w) (sym shown) ran,
       parent_sound (past_of tree) legal some,
-      subst (λ (n : state.Node). IsFormed n.cell (world_at (past_of tree) (node_at (past_of tree) tree.position).parent)) (sym (node_there tree tree.position node at)) run.formed,
+      subst (λ (c : ACell). IsFormed c (world_at (past_of tree) (node_at (past_of tree) tree.position).parent)) (sym (cell_there tree tree.position cell at)) run.formed,
     )
 
-pub stands_next_up : {L : Type 0} (tree : Tree) (travel : CodeTravel) (node : Node) (runner at : Runner L) → next_way (travel_of travel) ≡ Up → world_of runner ≡ here (past_of tree) → IsNodeAt tree tree.position node →
-    Stands at node.program (Backward (cell_of_program node.program)) (world_of runner) 0 false → StandsIn tree (Move travel) 0 false at
-stands_next_up tree travel node runner at way shown is stands =
-    let same = node_there tree _ node is in
-    let code : Backward (cell_of_program node.program) ≡ code_of (past_of tree) (state.Move (travel_of travel)) = rw (way, code_of) (ap (λ (n : state.Node). Backward n.cell) same) in
+pub stands_next_up : {L : Type 0} (tree : Tree) (travel : CodeTravel) (cell : Cell) (runner at : Runner L) → next_way (travel_of travel) ≡ Up → world_of runner ≡ here (past_of tree) → IsCellAt tree tree.position cell →
+    Stands at cell.program (Backward (cell_of_program cell.program)) (world_of runner) 0 false → StandsIn tree (Move travel) 0 false at
+stands_next_up tree travel cell runner at way shown is stands =
+    let same = cell_there tree _ cell is in
+    let code : Backward (cell_of_program cell.program) ≡ code_of (past_of tree) (state.Move (travel_of travel)) = rw (way, code_of) (ap (λ (c : ACell). Backward c) same) in
     record {
-      program = node.program;
-      of_work = up_is tree travel node.program way (node, is, refl);
-      stands = subst (λ (c : Code). Stands at node.program c (here (past_of tree)) 0 false) code (subst (λ (w : World). Stands at node.program (Backward (cell_of_program node.program)) w 0 false) shown stands);
+      program = cell.program;
+      of_work = up_is tree travel cell.program way (cell, is, refl);
+      stands = subst (λ (c : Code). Stands at cell.program c (here (past_of tree)) 0 false) code (subst (λ (w : World). Stands at cell.program (Backward (cell_of_program cell.program)) w 0 false) shown stands);
     }
 
 not_ok : (A E : Type 0) (x : E) → IsOk {T = A} {E = E} (Err x) → ⊥
 not_ok A E x h = cc
 
 -- only a cell with declarations may find no memory
-pub declares_next : (A E : Type 0) (tree : Tree) (travel : Travel) (node : Node) (r : Result A E) → next_way travel ≡ Down → IsNodeAt tree (below (past_of tree) travel) node →
-    ((cell_of_program node.program).declarations ≡ [] → IsOk r) → OnErr r (Declares (past_of tree) travel)
-declares_next A E tree travel node (Ok x) way is none = tt
-declares_next A E tree travel node (Err x) way is none =
-    let same = node_there tree _ node is in
-    rw (way, Declares) (λ (e : (node_at (past_of tree) (below (past_of tree) travel)).cell.declarations ≡ []). not_ok A E x (none (ap (λ (n : state.Node). n.cell.declarations) same ∙ e)))
+pub declares_next : (A E : Type 0) (tree : Tree) (travel : Travel) (cell : Cell) (r : Result A E) → next_way travel ≡ Down → IsCellAt tree (below (past_of tree) travel) cell →
+    ((cell_of_program cell.program).declarations ≡ [] → IsOk r) → OnErr r (Declares (past_of tree) travel)
+declares_next A E tree travel cell (Ok x) way is none = tt
+declares_next A E tree travel cell (Err x) way is none =
+    let same = cell_there tree _ cell is in
+    rw (way, Declares) (λ (e : (node_at (past_of tree) (below (past_of tree) travel)).cell.declarations ≡ []). not_ok A E x (none (ap (λ (c : ACell). c.declarations) same ∙ e)))
 
 pub ok_map : {A E : Type 0} {P Q : Type 0} (r : Result A E) → (P → Q) → OnOk r P → OnOk r Q
 ok_map (Ok x) f h = f h
 ok_map (Err x) f h = tt
-
--- the parent that is read
-pub parent_read : (tree : Tree) (n : ℕ) (node : Node) → IsLegal (past_of tree) → 0 < n → n < length (nodes_of tree) → node ≡ get_or tree.nodes.items (n - 1) node →
-    (node.parent ≡ (node_at (past_of tree) n).parent) × (node.parent < n)
-parent_read tree n node g some low read =
-    let size = count_of_nodes tree in
-    let same : node.parent ≡ (node_at (past_of tree) n).parent = ap (λ (x : state.Node). x.parent) (node_there tree n node (some, omega arith, read)) in
-    let run = g.ran n some low in
-    let less : (node_at (past_of tree) n).parent < n = run.parent in
-    (same, omega arith)

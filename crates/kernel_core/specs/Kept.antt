@@ -1,5 +1,6 @@
 -- What a history keeps of its fields: the runner's store is the shown world.
-use Rattle.std.specs.Prelude.{◌≡◌, ℕ, ◌+◌, ◌-◌, ◌<◌, ◌≤◌, Bool, true, false, get_or, length, vec_len, vec_capacity}
+use Rattle.std.specs.Prelude.{◌≡◌, ℕ, ◌-◌, ◌<◌, ◌≤◌, Bool, true, false, Some, length, slice_get, slice_index}
+use Rattle.cell_tree.specs.Tree.{contents_of}
 use Rattle.kernel_core.specs.State.{here, ancestor, below, code_of}
 use Rattle.kernel_core.specs.Travel.{Up, Down, Aim, Undo, Redo, Goto, next_way}
 use Rattle.kernel_core.specs.Fields.{nodes_of, past_of, aim_of, travel_of, work_of, job_of}
@@ -8,24 +9,24 @@ use Rattle.kernel_core.specs.Runner.{Stands, world_of}
 use Rattle.kernel_core.specs.declared.program.Program.{Program}
 use Rattle.kernel_core.specs.declared.runner.Runner.{Runner}
 use Rattle.kernel_core.specs.declared.tree.Tree.{Tree}
-use Rattle.kernel_core.specs.declared.tree.Node.{Node}
+use Rattle.kernel_core.specs.declared.tree.Cell.{Cell}
 use Rattle.kernel_core.specs.declared.job.Work.{Work}
-use Rattle.kernel_core.specs.declared.job.Work.TheVariants.{Cell, Move}
+use Rattle.kernel_core.specs.declared.job.Work.TheVariants.{Cell as RunCell, Move}
 use Rattle.kernel_core.specs.declared.job.Turn.{Turn}
 use Rattle.kernel_core.specs.declared.job.Turn.TheVariants.{Going as GoesOn, Backing as GoesBack}
 use Rattle.kernel_core.specs.declared.job.Open.{Open}
 use Rattle.kernel_core.specs.declared.job.Open.TheVariants.{Idle, Border, Inside}
 
--- the node that stands at this place
-abbrev pub IsNodeAt : Tree → ℕ → Node → Type 0
-IsNodeAt tree n node = (0 < n) × (n < length tree.nodes.items + 1) × (node ≡ get_or tree.nodes.items (n - 1) node)
+-- the cell of this node
+abbrev pub IsCellAt : Tree → ℕ → Cell → Type 0
+IsCellAt tree n cell = (0 < n) × (slice_get (contents_of tree.cells) (n - 1) ≡ Some cell)
 
 -- the program that the work runs, forward or backward
 abbrev pub IsProgramOf : Tree → Work → Program → Type 0
-IsProgramOf tree (Cell program) p = p ≡ program
+IsProgramOf tree (RunCell program) p = p ≡ program
 IsProgramOf tree (Move travel) p = elim (next_way (travel_of travel)) [
-  | Up ↦ (node : Node) × IsNodeAt tree tree.position node × (p ≡ node.program)
-  | Down ↦ (node : Node) × IsNodeAt tree (below (past_of tree) (travel_of travel)) node × (p ≡ node.program)
+  | Up ↦ (cell : Cell) × IsCellAt tree tree.position cell × (p ≡ cell.program)
+  | Down ↦ (cell : Cell) × IsCellAt tree (below (past_of tree) (travel_of travel)) cell × (p ≡ cell.program)
 ]
 
 abbrev pub is_back : Turn → Bool
@@ -45,13 +46,11 @@ StandsAt tree (Border travel) runner = world_of runner ≡ here (past_of tree)
 StandsAt tree (Inside e) runner = StandsIn tree e.work e.count (is_back e.turn) runner
 
 -- room for one more node, made when a cell is begun
-pub record HasRoom (tree : Tree) : Type 0 where
-  pub nodes : vec_len tree.nodes < vec_capacity tree.nodes
-  pub favourites : vec_len tree.favourites < vec_capacity tree.favourites
-  pub path : length tree.nodes.items + 1 ≤ vec_capacity tree.path
+abbrev pub HasRoom : Tree → Type 0
+HasRoom tree = 0 < tree.cells.room
 
 abbrev pub HasRoomFor : Tree → Work → Type 0
-HasRoomFor tree (Cell program) = HasRoom tree
+HasRoomFor tree (RunCell program) = HasRoom tree
 HasRoomFor tree (Move travel) = Unit {0}
 
 abbrev pub HasRoomAt : Tree → Open → Type 0
@@ -59,15 +58,15 @@ HasRoomAt tree Idle = Unit {0}
 HasRoomAt tree (Border travel) = Unit {0}
 HasRoomAt tree (Inside e) = HasRoomFor tree e.work
 
--- the path of a goto is kept: at each place i its node's ancestor i steps above, for all that are still to be gone down to
+-- the way of a goto is kept: at each place i its node's ancestor i steps above, for all that are still to be gone down to
 abbrev pub HasPath : Aim → Tree → ℕ → Type 0
 HasPath Undo tree down = Unit {0}
 HasPath Redo tree down = Unit {0}
 HasPath (Goto n) tree down =
-    (down ≤ length tree.path.items) × ((i : ℕ) → i < down → get_or tree.path.items i 0 ≡ ancestor (nodes_of tree) n i)
+    (down ≤ length tree.cells.way) × ((i : ℕ) → i < down → slice_index tree.cells.way i ≡ ancestor (nodes_of tree) n i)
 
 abbrev pub HasPathFor : Tree → Work → Type 0
-HasPathFor tree (Cell program) = Unit {0}
+HasPathFor tree (RunCell program) = Unit {0}
 HasPathFor tree (Move travel) = HasPath (aim_of travel.aim) tree travel.down
 
 abbrev pub HasPathAt : Tree → Open → Type 0
@@ -83,8 +82,6 @@ pub record Kept {L : Type 0} (tree : Tree) (runner : Runner L) (job : Open) : Ty
   pub stands : StandsAt tree job runner
   pub room : HasRoomAt tree job
   pub path : HasPathAt tree job
-  -- room for a path of all nodes
-  pub path_room : length tree.nodes.items ≤ vec_capacity tree.path
 
 -- what a history keeps: beside this, its open job has steps to take
 pub record IsKept {L : Type 0} (tree : Tree) (runner : Runner L) (job : Open) : Type 0 where

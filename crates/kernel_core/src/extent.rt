@@ -25,7 +25,7 @@ fn nodes_above(tree: &Tree) -> usize
     let mut at = tree.position;
     let mut count = 0;
     while at != 0 {
-        at = tree.nodes[at - 1].parent;
+        at = tree.cells.parent(at);
         count += 1;
     }
     count
@@ -34,12 +34,12 @@ fn nodes_above(tree: &Tree) -> usize
 /// How many nodes the position can go down, along favourites.
 fn nodes_below(tree: &Tree) -> usize
     requires { IsLegal (past_of tree.now) }
-    ensures { (k : ℕ) → IsTrue (can_redo tree.now.favourites.items tree.now.position k) ↔ (k ≤ result) }
+    ensures { (k : ℕ) → IsTrue (can_redo tree.now.cells.favourites tree.now.position k) ↔ (k ≤ result) }
 {
-    let mut next = tree.favourites[tree.position];
+    let mut at = tree.position;
     let mut count = 0;
-    while next != 0 {
-        next = tree.favourites[next];
+    while let Some(child) = tree.cells.favourite(at) {
+        at = child;
         count += 1;
     }
     count
@@ -53,6 +53,6 @@ pub fn extent_of(tree: &Tree) -> Extent
     Extent {
         undo: nodes_above(tree),
         redo: nodes_below(tree),
-        nodes: tree.nodes.len(),
+        nodes: tree.cells.nodes(),
     }
 }

@@ -17,16 +17,14 @@ use crate::outcome::{Begun, End, Outcome, Refusal, Sliced};
 use crate::program::Program;
 use crate::runner::Runner;
 use crate::settle::{finished, go_back, go_on, turn_back};
-use crate::tree::{Tree, below, can_go_down, can_go_up, find_way};
+use crate::tree::{Tree, below, can_go_down, can_go_up, find_way, is_full};
 use crate::view::View;
+use cell_tree::Tree as Cells;
 use janus_machine::Writes;
 use std::alloc::{AllocError, Global};
 use std::marker::Model;
 use std::mem;
 use std::sync::ledger::Ledger;
-
-/// How many nodes may stand beside the root.
-const NODE_LIMIT: usize = 65_536;
 
 /// The tree, the runner with the one store, and the open job.
 /// Contracts see a state of the machine, with the worlds of all nodes. None of them is kept here.
@@ -53,20 +51,6 @@ impl<L: Ledger> Model for History<L> {
     ghost invariant = { λ a. IsKept a.tree a.runner a.job };
 }
 
-/// Makes room for one node, its favourite, and a path down to it.
-fn make_room(tree: &mut Tree) -> Result<(), AllocError>
-    requires { length tree.old.nodes.items ≤ vec_capacity tree.old.path }
-    ensures same { past_of tree.new ≡ past_of tree.old }
-    ensures room { length tree.new.nodes.items ≤ vec_capacity tree.new.path }
-    ensures ok { OnOk result (HasRoom tree.new) }
-{
-    tree.nodes.reserve(1)?;
-    tree.favourites.reserve(1)?;
-    tree.path.clear();
-    tree.path.reserve(tree.nodes.len() + 1)?;
-    Ok(())
-}
-
 /// Enters the next cell of a travel: an undone one takes no memory.
 fn enter_next<L: Ledger>(
     tree: &Tree,
@@ -74,7 +58,7 @@ fn enter_next<L: Ledger>(
     travel: Travel,
 ) -> Result<(), AllocError>
     requires legal { IsLegal (past_of tree.now) }
-    requires possible { IsPossible (nodes_of tree.now) tree.now.favourites.items tree.now.position (travel_of travel) }
+    requires possible { IsPossible (nodes_of tree.now) tree.now.cells.favourites tree.now.position (travel_of travel) }
     requires path { HasPath (aim_of travel.aim) tree.now travel.down }
     requires shown { world_of runner.old ≡ here (past_of tree.now) }
     ensures ok { OnOk result (StandsAt tree.now (Open.Inside (record { work = Work.Move travel; count = 0; turn = Turn.Going })) runner.new) }
@@ -83,10 +67,10 @@ fn enter_next<L: Ledger>(
 {
     match travel.way() {
         Way::Up => {
-            runner.enter_inverse(&tree.nodes[tree.position - 1].program);
+            runner.enter_inverse(&tree.cells.content(tree.position).program);
             Ok(())
         }
-        Way::Down => runner.enter(&tree.nodes[below(tree, travel) - 1].program),
+        Way::Down => runner.enter(&tree.cells.content(below(tree, travel)).program),
     }
 }
 
@@ -110,7 +94,7 @@ fn enter<L: Ledger>(tree: &Tree, runner: &mut Runner<L>, travel: Travel) -> (Ope
 /// Ends a travel without cells at once, or enters its first cell.
 fn depart<L: Ledger>(tree: &Tree, runner: &mut Runner<L>, travel: Travel) -> (Open, Begun)
     requires idle { Kept tree.now runner.old Open.Idle }
-    requires way { CanGo (aim_of travel.aim) (nodes_of tree.now) tree.now.favourites.items tree.now.position travel.up travel.down }
+    requires way { CanGo (aim_of travel.aim) (nodes_of tree.now) tree.now.cells.favourites tree.now.position travel.up travel.down }
     requires counted { IsCounted (travel_of travel) }
     requires path { HasPath (aim_of travel.aim) tree.now travel.down }
     ensures step { Departs (cells (travel_of travel)) (past_of tree.now) (travel_of travel) result.1 (state_of tree.now result.0) }
@@ -127,17 +111,10 @@ impl<L: Ledger> History<L> {
     pub fn new(alloc: Global) -> Result<History<L>, AllocError>
         ensures { IfOk result (λ history. history ≡ new_state) }
     {
+        let cells = Cells::new(alloc)?;
         let runner = Runner::new(alloc);
-        let nodes = Vec::new(alloc);
-        let mut favourites = Vec::new(alloc);
-        favourites.push(0)?;
         Ok(History {
-            tree: Tree {
-                nodes,
-                favourites,
-                position: 0,
-                path: Vec::new(alloc),
-            },
+            tree: Tree { cells, position: 0 },
             runner,
             job: Open::Idle,
         })
@@ -170,14 +147,14 @@ impl<L: Ledger> History<L> {
         requires { self.old.job ≡ Idle }
         ensures { TakesCell self.old.past text.now (is_full self.old.past) result self.new }
     {
-        if self.tree.nodes.len() >= NODE_LIMIT {
+        if is_full(&self.tree) {
             return Begun::Ended(Outcome::Refused(Refusal::HistoryFull));
         }
         let program = match Program::of_text(alloc, text, &self.runner) {
             Ok(program) => program,
             Err(refusal) => return Begun::Ended(Outcome::Refused(refusal)),
         };
-        if make_room(&mut self.tree).is_err() || self.runner.enter(&program).is_err() {
+        if self.tree.cells.room().is_err() || self.runner.enter(&program).is_err() {
             return Begun::Ended(Outcome::Refused(Refusal::Memory));
         }
         self.job = Open::Inside(Entered {
@@ -222,11 +199,10 @@ impl<L: Ledger> History<L> {
         ensures { TakesGoto self.old.past n (nat_lt n (length self.old.past.nodes)) result self.new }
     {
         let n = n as usize;
-        if n > self.tree.nodes.len() {
+        let Ok(way) = find_way(&mut self.tree, n) else {
             return Begun::Ended(Outcome::Refused(Refusal::NoNode));
-        }
-        let (up, down) = find_way(&mut self.tree, n);
-        let travel = Travel::new(Aim::Goto(n), up, down);
+        };
+        let travel = Travel::new(Aim::Goto(n), way.up, way.down);
         let (job, told) = depart(&self.tree, &mut self.runner, travel);
         self.job = job;
         told

@@ -15,7 +15,8 @@ use crate::job::{Aim, Entered, Open, Travel, Turn, Way, Why, Work};
 use crate::outcome::{End, Outcome, Sliced};
 use crate::program::Program;
 use crate::runner::{Ran, Runner};
-use crate::tree::{Node, Tree, below};
+use crate::tree::{Cell, Tree, below};
+use cell_tree::Node;
 use janus_machine::Writes;
 use std::sync::ledger::Ledger;
 
@@ -29,8 +30,8 @@ fn program_of<'a>(tree: &'a Tree, work: &'a Work) -> &'a Program
     match work {
         Work::Cell(program) => program,
         Work::Move(travel) => match travel.way() {
-            Way::Up => &tree.nodes[tree.position - 1].program,
-            Way::Down => &tree.nodes[below(tree, *travel) - 1].program,
+            Way::Up => &tree.cells.content(tree.position).program,
+            Way::Down => &tree.cells.content(below(tree, *travel)).program,
         },
     }
 }
@@ -69,7 +70,7 @@ fn settle_back<L: Ledger>(tree: &Tree, runner: &mut Runner<L>, work: &Work)
         Work::Cell(program) => runner.leave(program),
         Work::Move(travel) => match travel.way() {
             Way::Up => {}
-            Way::Down => runner.leave(&tree.nodes[below(tree, *travel) - 1].program),
+            Way::Down => runner.leave(&tree.cells.content(below(tree, *travel)).program),
         },
     }
 }
@@ -150,15 +151,10 @@ fn settle_cell<L: Ledger>(
     ensures step { Settles (past_of tree.old) (work_of (Work.Cell program)) n (world_of runner.now) result.1 (state_of tree.new result.0) }
     ensures kept { Kept tree.new runner.now result.0 }
 {
-    let number = tree.nodes.len() + 1;
     let parent = tree.position;
-    tree.favourites[parent] = number;
-    tree.favourites.push_reserved(0);
-    tree.nodes.push_reserved(Node {
-        parent,
-        program,
-        steps: n,
-    });
+    let content = Cell { program, steps: n };
+    let number = tree.cells.add(Node { parent, content });
+    tree.cells.set_favourite(parent, number);
     tree.position = number;
     (Open::Idle, Sliced::Ended(Outcome::Ran(number, n)))
 }
@@ -176,12 +172,8 @@ fn settle_up<L: Ledger>(
     ensures step { Settles (past_of tree.old) (work_of (Work.Move travel)) n (world_of runner.old) result.1 (state_of tree.new result.0) }
     ensures kept { Kept tree.new runner.new result.0 }
 {
-    let parent = {
-        let node = &tree.nodes[tree.position - 1];
-        runner.leave(&node.program);
-        node.parent
-    };
-    tree.position = parent;
+    runner.leave(&tree.cells.content(tree.position).program);
+    tree.position = tree.cells.parent(tree.position);
     arrive(travel.stepped())
 }
 
@@ -199,7 +191,7 @@ fn settle_down<L: Ledger>(
     ensures kept { Kept tree.new runner.now result.0 }
 {
     let child = below(tree, travel);
-    tree.favourites[tree.position] = child;
+    tree.cells.set_favourite(tree.position, child);
     tree.position = child;
     arrive(travel.stepped())
 }

@@ -1,23 +1,25 @@
-use Rattle.std.proofs.Common.{◌≡◌, ℕ, ◌+◌, ◌<◌, length, get_or, sym, subst, ◌∙◌, arith}
-use Rattle.std.proofs.lemmas.List.{get_or_default}
+use Rattle.std.proofs.Common.{◌≡◌, ℕ, ◌+◌, ◌<◌, ◌≤◌, length, get_or, sym, subst, arith}
 use Rattle.kernel_core.specs.Fields.{past_of}
-use Rattle.kernel_core.proofs.Depths.{Descends, descends_more, descends_end, favourite_known, favourite_behind}
+use Rattle.kernel_core.proofs.Nodes.{count_of_nodes}
+use Rattle.kernel_core.proofs.Standing.{position_known}
+use Rattle.kernel_core.proofs.Depths.{Descends, descends_start, descends_more, descends_end, favourite_behind}
 use Rattle.kernel_core.proofs.extent.nodes_below.Goals as goal
 
-pub loop-next-preserved : goal.loop-next-preserved
-loop-next-preserved c =
+pub loop-child-init : goal.loop-child-init
+loop-child-init c = (position_known c.args.tree.now c.requires, descends_start c.args.tree.now.cells.favourites c.args.tree.now.position)
+
+pub loop-child-preserved : goal.loop-child-preserved
+loop-child-preserved c =
     let past = past_of c.args.tree.now in
-    let favourites = c.args.tree.now.favourites.items in
+    let favourites = c.args.tree.now.cells.favourites in
     let start = c.args.tree.now.position in
-    let next = c.loop-next.next in
-    let within = c.loop-next.invariant.0 in
-    let many = c.requires.favourites in
-    let node : next < length past.nodes = omega (arith, within, many) in
-    let known = favourite_known past next c.requires node in
-    let read : c.index-next-in-loop-next.result.now ≡ get_or favourites next 0 = c.index-next-in-loop-next.ensures ∙ get_or_default favourites next c.index-next-in-loop-next.result.now 0 within in (
-      subst (λ (n : ℕ). n < length favourites) (sym read) (omega (arith, known, many)),
-      subst (λ (n : ℕ). Descends favourites start n (c.loop-next.count + 1)) (sym read) (descends_more favourites start next c.loop-next.count c.loop-next.invariant.1 c.loop-next-test.true (favourite_behind past next c.requires node)),
-    )
+    let read : c.in-Some.child ≡ get_or favourites c.loop-child.at 0 = c.in-Some.ensures.favourite in
+    let some = c.in-Some.ensures.child.below_root in
+    let known : c.in-Some.child ≤ length c.args.tree.now.cells.nodes = c.in-Some.ensures.child.known in
+    let size = count_of_nodes c.args.tree.now in
+    let next = subst (λ (n : ℕ). Descends favourites start n c.loop-child.count) (sym read) c.loop-child.invariant.1 in
+    (known, descends_more favourites start c.in-Some.child c.loop-child.count next (λ none. absurd (omega arith)) (favourite_behind past c.in-Some.child c.requires (omega arith)))
 
 pub returns : goal.returns
-returns c = descends_end c.args.tree.now.favourites.items c.args.tree.now.position c.loop-next.next c.loop-next.count c.loop-next.invariant.1 c.loop-next-test.false
+returns c =
+    descends_end c.args.tree.now.cells.favourites c.args.tree.now.position (get_or c.args.tree.now.cells.favourites c.loop-child.at 0) c.loop-child.count c.loop-child.invariant.1 c.in_default.ensures.favourite

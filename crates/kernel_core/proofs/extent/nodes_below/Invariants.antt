@@ -1,9 +1,9 @@
-use Rattle.std.proofs.Common.{◌<◌, ◌-◌, ◌==◌, length, if◌then◌else◌}
+use Rattle.std.proofs.Common.{◌≤◌, ◌-◌, get_or, length}
 use Rattle.kernel_core.proofs.Depths.{Descends}
 use Rattle.kernel_core.proofs.extent.nodes_below.Given as goal
 
-abbrev pub invariant-loop-next : goal.invariant-loop-next
-invariant-loop-next l = (l.next < length l.tree.favourites.items) × Descends l.tree.favourites.items l.tree.position l.next l.count
+abbrev pub invariant-loop-child : goal.invariant-loop-child
+invariant-loop-child l = (l.at ≤ length l.tree.cells.nodes) × Descends l.tree.cells.favourites l.tree.position (get_or l.tree.cells.favourites l.at 0) l.count
 
-abbrev pub decreases-loop-next : goal.decreases-loop-next
-decreases-loop-next l = if l.next == 0 then 0 else length l.tree.favourites.items - l.next
+abbrev pub decreases-loop-child : goal.decreases-loop-child
+decreases-loop-child l = length l.tree.cells.nodes - l.at

@@ -1,44 +1,43 @@
-use Rattle.std.proofs.Common.{sym, ◌∙◌, arith, ap}
+use Rattle.std.proofs.Common.{sym, ◌∙◌, ap}
 use Rattle.kernel_core.specs.Fields.{travel_of, way_of}
 use Rattle.kernel_core.proofs.Standing.{below_there, here_sound, next_down, formed_next, stands_next_down, next_up, ran_above, stands_next_up, declares_next, ok_map}
 use Rattle.kernel_core.proofs.history.enter_next.Goals as goal
 
 pub enter-requires-clause-formed : goal.enter-requires-clause-formed
 enter-requires-clause-formed g c =
-    formed_next c.args.tree.now (travel_of c.args.travel) c.index-in-Down.result.now c.args.runner.now (sym c.way.ensures ∙ ap way_of c.in-Down.is) c.requires.legal c.requires.possible c.requires.shown
-    (next_down c.args.tree.now (travel_of c.args.travel) c.index-in-Down.result.now c.below.result (sym c.way.ensures ∙ ap way_of c.in-Down.is) c.requires.legal c.requires.possible c.below.ensures c.index-in-Down.ensures)
+    formed_next c.args.tree.now (travel_of c.args.travel) c.content-in-Down.result.now c.args.runner.now (sym c.way.ensures ∙ ap way_of c.in-Down.is) c.requires.legal c.requires.possible c.requires.shown
+    (next_down c.args.tree.now (travel_of c.args.travel) c.content-in-Down.result.now c.below.result (sym c.way.ensures ∙ ap way_of c.in-Down.is) c.requires.legal c.requires.possible c.below.ensures c.content-in-Down.ensures)
 
 pub enter-requires-clause-sound : goal.enter-requires-clause-sound
 enter-requires-clause-sound g c = here_sound c.args.tree.now c.args.runner.now c.requires.legal c.requires.shown
 
 pub enter_inverse-requires : goal.enter_inverse-requires
 enter_inverse-requires g c =
-    ran_above c.args.tree.now (travel_of c.args.travel) c.index.result.now c.args.runner.now (sym c.way.ensures ∙ ap way_of c.in-Up.is) c.requires.legal c.requires.possible c.requires.shown
-    (next_up c.args.tree.now (travel_of c.args.travel) c.index.result.now (sym c.way.ensures ∙ ap way_of c.in-Up.is) c.requires.legal c.requires.possible c.index.ensures)
+    ran_above c.args.tree.now (travel_of c.args.travel) c.content.result.now c.args.runner.now (sym c.way.ensures ∙ ap way_of c.in-Up.is) c.requires.legal c.requires.possible c.requires.shown
+    (next_up c.args.tree.now (travel_of c.args.travel) c.content.result.now (sym c.way.ensures ∙ ap way_of c.in-Up.is) c.requires.legal c.requires.possible c.content.ensures)
 
 pub returns-in-Up-clause-ok : goal.returns-in-Up-clause-ok
 returns-in-Up-clause-ok g c =
-    stands_next_up c.args.tree.now c.args.travel c.index.result.now c.args.runner.now c.enter_inverse.new.self (sym c.way.ensures ∙ ap way_of c.in-Up.is) c.requires.shown
-    (next_up c.args.tree.now (travel_of c.args.travel) c.index.result.now (sym c.way.ensures ∙ ap way_of c.in-Up.is) c.requires.legal c.requires.possible c.index.ensures) c.enter_inverse.ensures
+    stands_next_up c.args.tree.now c.args.travel c.content.result.now c.args.runner.now c.enter_inverse.new.self (sym c.way.ensures ∙ ap way_of c.in-Up.is) c.requires.shown
+    (next_up c.args.tree.now (travel_of c.args.travel) c.content.result.now (sym c.way.ensures ∙ ap way_of c.in-Up.is) c.requires.legal c.requires.possible c.content.ensures) c.enter_inverse.ensures
 
 pub returns-in-Down-clause-ok : goal.returns-in-Down-clause-ok
 returns-in-Down-clause-ok g c =
     ok_map c.enter.result
-    (stands_next_down c.args.tree.now c.args.travel c.index-in-Down.result.now c.args.runner.now c.enter.new.self (sym c.way.ensures ∙ ap way_of c.in-Down.is) c.requires.shown
-    (next_down c.args.tree.now (travel_of c.args.travel) c.index-in-Down.result.now c.below.result (sym c.way.ensures ∙ ap way_of c.in-Down.is) c.requires.legal c.requires.possible c.below.ensures c.index-in-Down.ensures))
+    (stands_next_down c.args.tree.now c.args.travel c.content-in-Down.result.now c.args.runner.now c.enter.new.self (sym c.way.ensures ∙ ap way_of c.in-Down.is) c.requires.shown
+    (next_down c.args.tree.now (travel_of c.args.travel) c.content-in-Down.result.now c.below.result (sym c.way.ensures ∙ ap way_of c.in-Down.is) c.requires.legal c.requires.possible c.below.ensures c.content-in-Down.ensures))
     c.enter.ensures.ok
 
 pub returns-in-Down-clause-declares : goal.returns-in-Down-clause-declares
 returns-in-Down-clause-declares g c =
-    declares_next _ _ c.args.tree.now (travel_of c.args.travel) c.index-in-Down.result.now c.enter.result (sym c.way.ensures ∙ ap way_of c.in-Down.is)
-    (next_down c.args.tree.now (travel_of c.args.travel) c.index-in-Down.result.now c.below.result (sym c.way.ensures ∙ ap way_of c.in-Down.is) c.requires.legal c.requires.possible c.below.ensures c.index-in-Down.ensures)
+    declares_next _ _ c.args.tree.now (travel_of c.args.travel) c.content-in-Down.result.now c.enter.result (sym c.way.ensures ∙ ap way_of c.in-Down.is)
+    (next_down c.args.tree.now (travel_of c.args.travel) c.content-in-Down.result.now c.below.result (sym c.way.ensures ∙ ap way_of c.in-Down.is) c.requires.legal c.requires.possible c.below.ensures c.content-in-Down.ensures)
     c.enter.ensures.none
 
-pub overflow_sub-below : goal.overflow_sub-below
-overflow_sub-below g c =
-    let there = (below_there c.args.tree.now (travel_of c.args.travel) c.below.result c.requires.legal (sym c.way.ensures ∙ ap way_of c.in-Down.is) c.requires.possible c.below.ensures).0 in
-    omega arith
+pub content-requires-in-Down-clause-below_root : goal.content-requires-in-Down-clause-below_root
+content-requires-in-Down-clause-below_root g c =
+    (below_there c.args.tree.now (travel_of c.args.travel) c.below.result c.requires.legal (sym c.way.ensures ∙ ap way_of c.in-Down.is) c.requires.possible c.below.ensures).0
 
-pub index-requires-in-Down : goal.index-requires-in-Down
-index-requires-in-Down g c = let there = (below_there c.args.tree.now (travel_of c.args.travel) c.below.result c.requires.legal (sym c.way.ensures ∙ ap way_of c.in-Down.is) c.requires.possible c.below.ensures).1 in
-    omega (arith, c.args.tree.now.nodes.ok.0)
+pub content-requires-in-Down-clause-known : goal.content-requires-in-Down-clause-known
+content-requires-in-Down-clause-known g c =
+    (below_there c.args.tree.now (travel_of c.args.travel) c.below.result c.requires.legal (sym c.way.ensures ∙ ap way_of c.in-Down.is) c.requires.possible c.below.ensures).1

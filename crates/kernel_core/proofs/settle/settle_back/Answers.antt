@@ -1,8 +1,8 @@
-use Rattle.std.proofs.Common.{sym, ap, ◌∙◌, arith}
+use Rattle.std.proofs.Common.{sym, ap, ◌∙◌}
 use Rattle.kernel_core.specs.State.{here}
 use Rattle.kernel_core.specs.Fields.{past_of, work_of, travel_of, way_of}
 use Rattle.kernel_core.specs.Runner.{world_of}
-use Rattle.kernel_core.proofs.Standing.{work_possible, below_there, began_cell, began_down, began_up, node_of_down}
+use Rattle.kernel_core.proofs.Standing.{work_possible, below_there, began_cell, began_down, began_up, cell_of_down}
 use Rattle.kernel_core.proofs.settle.settle_back.Goals as goal
 
 pub leave-requires : goal.leave-requires
@@ -13,25 +13,23 @@ returns-in-Cell g c = c.leave.ensures _ (began_cell c.args.tree.now c.args.work.
 
 pub leave-requires-in-Down : goal.leave-requires-in-Down
 leave-requires-in-Down g c =
-    let at = node_of_down c.args.tree.now c.args.work.now c.in-Move.travel c.index.result.now c.below.result c.requires.legal c.requires.possible c.in-Move.is (sym c.way.ensures ∙ ap way_of c.in-Down.is) c.below.ensures c.index.ensures in
-    (here (past_of c.args.tree.now), began_down c.args.tree.now c.args.work.now c.in-Move.travel (world_of c.args.runner.now) c.index.result.now c.in-Move.is (sym c.way.ensures ∙ ap way_of c.in-Down.is) at c.requires.back)
+    let at = cell_of_down c.args.tree.now c.args.work.now c.in-Move.travel c.content.result.now c.below.result c.requires.legal c.requires.possible c.in-Move.is (sym c.way.ensures ∙ ap way_of c.in-Down.is) c.below.ensures c.content.ensures in
+    (here (past_of c.args.tree.now), began_down c.args.tree.now c.args.work.now c.in-Move.travel (world_of c.args.runner.now) c.content.result.now c.in-Move.is (sym c.way.ensures ∙ ap way_of c.in-Down.is) at c.requires.back)
 
 pub returns-in-Down : goal.returns-in-Down
 returns-in-Down g c =
-    let at = node_of_down c.args.tree.now c.args.work.now c.in-Move.travel c.index.result.now c.below.result c.requires.legal c.requires.possible c.in-Move.is (sym c.way.ensures ∙ ap way_of c.in-Down.is) c.below.ensures c.index.ensures in
-    c.leave-in-Down.ensures _ (began_down c.args.tree.now c.args.work.now c.in-Move.travel (world_of c.args.runner.now) c.index.result.now c.in-Move.is (sym c.way.ensures ∙ ap way_of c.in-Down.is) at c.requires.back)
+    let at = cell_of_down c.args.tree.now c.args.work.now c.in-Move.travel c.content.result.now c.below.result c.requires.legal c.requires.possible c.in-Move.is (sym c.way.ensures ∙ ap way_of c.in-Down.is) c.below.ensures c.content.ensures in
+    c.leave-in-Down.ensures _ (began_down c.args.tree.now c.args.work.now c.in-Move.travel (world_of c.args.runner.now) c.content.result.now c.in-Move.is (sym c.way.ensures ∙ ap way_of c.in-Down.is) at c.requires.back)
 
 pub returns-in-Up : goal.returns-in-Up
 returns-in-Up g c = began_up c.args.tree.now c.args.work.now c.in-Move.travel (world_of c.args.runner.now) c.in-Move.is (sym c.way.ensures ∙ ap way_of c.in-Up.is) c.requires.back
 
-pub overflow_sub-below : goal.overflow_sub-below
-overflow_sub-below g c =
+pub content-requires-clause-below_root : goal.content-requires-clause-below_root
+content-requires-clause-below_root g c =
     let possible = work_possible (past_of c.args.tree.now) (work_of c.args.work.now) (travel_of c.in-Move.travel) (ap work_of c.in-Move.is) c.requires.possible in
-    let there = (below_there c.args.tree.now (travel_of c.in-Move.travel) c.below.result c.requires.legal (sym c.way.ensures ∙ ap way_of c.in-Down.is) possible c.below.ensures).0 in
-    omega arith
+    (below_there c.args.tree.now (travel_of c.in-Move.travel) c.below.result c.requires.legal (sym c.way.ensures ∙ ap way_of c.in-Down.is) possible c.below.ensures).0
 
-pub index-requires : goal.index-requires
-index-requires g c =
+pub content-requires-clause-known : goal.content-requires-clause-known
+content-requires-clause-known g c =
     let possible = work_possible (past_of c.args.tree.now) (work_of c.args.work.now) (travel_of c.in-Move.travel) (ap work_of c.in-Move.is) c.requires.possible in
-    let there = (below_there c.args.tree.now (travel_of c.in-Move.travel) c.below.result c.requires.legal (sym c.way.ensures ∙ ap way_of c.in-Down.is) possible c.below.ensures).1 in
-    omega (arith, c.args.tree.now.nodes.ok.0)
+    (below_there c.args.tree.now (travel_of c.in-Move.travel) c.below.result c.requires.legal (sym c.way.ensures ∙ ap way_of c.in-Down.is) possible c.below.ensures).1

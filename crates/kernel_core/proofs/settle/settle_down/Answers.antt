@@ -1,20 +1,34 @@
-use Rattle.std.proofs.Common.{refl, subst}
+use Rattle.std.proofs.Common.{ℕ, refl, ap, sym, subst}
+use Rattle.cell_tree.specs.Tree as cells
 use Rattle.kernel_core.specs.Fields.{past_of, state_of, travel_of}
-use Rattle.kernel_core.specs.Slices.{Arrives, cells}
+use Rattle.kernel_core.specs.Slices.{Arrives, cells as cells_left}
 use Rattle.kernel_core.specs.Runner.{world_of}
 use Rattle.kernel_core.specs.Travel.{Travel}
+use Rattle.kernel_core.specs.declared.tree.Cell.{Cell}
 use Rattle.kernel_core.specs.declared.tree.Tree.{Tree}
-use Rattle.std.specs.Vec.{with_item}
-use Rattle.kernel_core.proofs.Standing.{kept_down, ended_down}
+use Rattle.kernel_core.proofs.Nodes.{child_below}
+use Rattle.kernel_core.proofs.Standing.{kept_down, ended_down, settled_down}
+use Rattle.kernel_core.proofs.Trees.{next_below}
 use Rattle.kernel_core.proofs.settle.settle_down.Given as given
 use Rattle.kernel_core.proofs.settle.settle_down.Goals as goal
 
 abbrev there : (g : given.Over) → goal.After-arrive g → Tree
-there g c = record { nodes = c.args.tree.now.nodes; favourites = with_item c.args.tree.now.favourites c.args.tree.now.position c.below-child.result; position = c.below-child.result; path = c.args.tree.now.path }
+there g c = record { cells = c.set_favourite.new.self; position = c.below-child.result }
+
+pub set_favourite-requires : goal.set_favourite-requires
+set_favourite-requires g c =
+    let next = next_below (past_of c.args.tree.now) (travel_of c.args.travel) c.requires.kept.legal c.requires.way c.requires.kept.possible in
+    subst (λ (n : ℕ). cells.IsChild c.args.tree.now.cells c.args.tree.now.position n) (sym c.below-child.ensures) (child_below c.args.tree.now _ next)
+
+pub returns-clause-step : goal.returns-clause-step
+returns-clause-step g c =
+    settled_down c.args.tree.now (there g c) c.below-child.result (travel_of c.args.travel) c.args.n (world_of c.args.runner.now) c.arrive.result.1 _ c.requires.way c.below-child.ensures
+    (ap (λ (t : cells.Tree Cell). t.nodes) c.set_favourite.ensures) (ap (λ (t : cells.Tree Cell). t.favourites) c.set_favourite.ensures) refl
+    (subst (λ (t : Travel). Arrives (cells_left t) (past_of (there g c)) t c.arrive.result.1 (state_of (there g c) c.arrive.result.0)) c.stepped.ensures (c.arrive.ensures _))
 
 pub returns-clause-kept : goal.returns-clause-kept
 returns-clause-kept g c =
-    kept_down c.args.tree.now (there g c) c.below-child.result (travel_of c.args.travel) c.args.runner.now c.arrive.result.1 c.arrive.result.0 c.requires.way c.requires.kept.legal c.requires.kept.possible c.requires.kept.counted c.requires.kept.path c.requires.kept.path_room
-    c.below-child.ensures refl refl refl refl
+    kept_down c.args.tree.now (there g c) c.below-child.result (travel_of c.args.travel) c.args.runner.now c.arrive.result.1 c.arrive.result.0 c.requires.way c.requires.kept.legal c.requires.kept.possible c.requires.kept.counted c.requires.kept.path
+    c.below-child.ensures (ap (λ (t : cells.Tree Cell). t.nodes) c.set_favourite.ensures) (ap (λ (t : cells.Tree Cell). t.favourites) c.set_favourite.ensures) refl (ap (λ (t : cells.Tree Cell). t.way) c.set_favourite.ensures)
     (ended_down (past_of c.args.tree.now) (travel_of c.args.travel) c.args.n (world_of c.args.runner.now) c.requires.way c.requires.kept.legal c.requires.kept.possible c.requires.ended)
-    (subst (λ (t : Travel). Arrives (cells t) (past_of (there g c)) t c.arrive.result.1 (state_of (there g c) c.arrive.result.0)) c.stepped.ensures (c.arrive.ensures _))
+    (subst (λ (t : Travel). Arrives (cells_left t) (past_of (there g c)) t c.arrive.result.1 (state_of (there g c) c.arrive.result.0)) c.stepped.ensures (c.arrive.ensures _))
