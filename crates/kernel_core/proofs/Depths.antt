@@ -91,13 +91,7 @@ descends_end favourites start next count d e k = (
   λ l. d.behind k l,
 )
 
--- a favourite is a node, and one behind its parent
-pub favourite_known : (s : Past) (n : ℕ) → IsLegal s → n < length s.nodes → favourite_of s n < length s.nodes
-favourite_known s n g l = elim (cases_lt 0 (favourite_of s n)) [
-  | inl some ↦ (let child : IsChild s.nodes s.favourites n = g.children n l some in child.known)
-  | inr none ↦ (let rooted = g.rooted in omega (arith, none, rooted))
-]
-
+-- a favourite stands behind its parent
 pub favourite_behind : (s : Past) (n : ℕ) → IsLegal s → n < length s.nodes → 0 < favourite_of s n → n < favourite_of s n
 favourite_behind s n g l some =
     let child : IsChild s.nodes s.favourites n = g.children n l some in

@@ -18,7 +18,7 @@
 //!
 //! The meaning of a cell is that of `janus_meaning` (Yokoyama and Glück 2007; Yokoyama, Axelsen and Glück 2008), in the form of
 //! specs/Language.antt. A text is a cell by the grammar of `janus_syntax` and the check of `janus_check` (specs/Text.antt).
-//! `runner` alone runs the machine of `janus_machine`.
+//! `runner` alone runs the machine of `janus_machine`. The nodes, the favourites and the way down of a goto are kept by `cell_tree`.
 #![tactic(auto)]
 
 mod events;

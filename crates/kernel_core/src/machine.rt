@@ -65,12 +65,7 @@ fn raised(counter: u64, job: &Job) -> u64
 }
 
 /// Begins a posted job, unless the kernel closes.
-fn take<L: Ledger>(
-    history: &mut History<L>,
-    alloc: Global,
-    closing: bool,
-    job: &Job,
-) -> Begun
+fn take<L: Ledger>(history: &mut History<L>, alloc: Global, closing: bool, job: &Job) -> Begun
     requires { history.old.job ≡ Idle }
     ensures { TakesUnless closing history.old.past (request_of job.now) result history.new }
 {

@@ -197,12 +197,7 @@ fn settle_down<L: Ledger>(
 }
 
 /// A cell came to its end, in `n` steps.
-fn settle<L: Ledger>(
-    tree: &mut Tree,
-    runner: &mut Runner<L>,
-    work: Work,
-    n: u64,
-) -> (Open, Sliced)
+fn settle<L: Ledger>(tree: &mut Tree, runner: &mut Runner<L>, work: Work, n: u64) -> (Open, Sliced)
     requires kept { Kept tree.old runner.old (Open.Inside (record { work = work; count = n; turn = Turn.Going })) }
     requires ended { HasEnded (past_of tree.old) (work_of work) n (world_of runner.old) }
     ensures step { Settles (past_of tree.old) (work_of work) n (world_of runner.old) result.1 (state_of tree.new result.0) }

@@ -1,4 +1,4 @@
-use Rattle.std.proofs.Common.{◌≡◌, ℕ, ◌+◌, ◌<◌, ◌≤◌, length, get_or, sym, subst, arith}
+use Rattle.std.proofs.Common.{◌≡◌, ℕ, ◌≤◌, length, get_or, sym, subst, arith}
 use Rattle.kernel_core.specs.Fields.{past_of}
 use Rattle.kernel_core.proofs.Nodes.{count_of_nodes}
 use Rattle.kernel_core.proofs.Standing.{position_known}

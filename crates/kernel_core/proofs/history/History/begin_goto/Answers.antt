@@ -1,4 +1,4 @@
-use Rattle.std.proofs.Common.{◌≡◌, ◌<◌, length, inl, inr, sym, subst, arith}
+use Rattle.std.proofs.Common.{◌<◌, length, inl, inr, sym, subst}
 use Rattle.std.proofs.lemmas.Bool.{cases_lt}
 use Rattle.kernel_core.specs.State.{Past}
 use Rattle.kernel_core.specs.Fields.{past_of, nodes_of}
