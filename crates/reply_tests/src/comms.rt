@@ -14,36 +14,27 @@ fn with_comm(alloc: Global, kernel: &Kernel, id: &str) -> Result<Content, Fail> 
     Ok(ask_on(alloc, kernel, &comms, Ask::Comms)?.content)
 }
 
+/// Compares what is told where the comm `c` is open.
+fn check_listed(
+    rt: &impl Abort,
+    alloc: Global,
+    request: &str,
+    reply: &'static str,
+) -> Result<(), Fail> {
+    let kernel = kernel_after(alloc, &[])?;
+    let told = Told::Answered(with_comm(alloc, &kernel, "c")?);
+    let expected = [("who", "comm_info_reply", reply), IDLE];
+    check(rt, alloc, "comm_info_request", request, told, &expected)
+}
+
 #[test]
 fn open_comms_are_listed(rt: HostRuntime) -> Result<(), Fail> {
     let alloc = rt.alloc();
-    let kernel = kernel_after(alloc, &[])?;
-    for (request, reply) in [
-        (
-            "{}",
-            "{\"comms\":{\"c\":{\"target_name\":\"janus.undo\"}},\"status\":\"ok\"}",
-        ),
-        (
-            "{\"target_name\":\"janus.undo\"}",
-            "{\"comms\":{\"c\":{\"target_name\":\"janus.undo\"}},\"status\":\"ok\"}",
-        ),
-        (
-            "{\"target_name\":\"janus\"}",
-            "{\"comms\":{},\"status\":\"ok\"}",
-        ),
-    ] {
-        let told = with_comm(alloc, &kernel, "c")?;
-        let expected = [("who", "comm_info_reply", reply), IDLE];
-        check(
-            &rt,
-            alloc,
-            "comm_info_request",
-            request,
-            Told::Answered(told),
-            &expected,
-        )?;
-    }
-    Ok(())
+    let listed = "{\"comms\":{\"c\":{\"target_name\":\"janus.undo\"}},\"status\":\"ok\"}";
+    check_listed(&rt, alloc, "{}", listed)?;
+    check_listed(&rt, alloc, "{\"target_name\":\"janus.undo\"}", listed)?;
+    let none = "{\"comms\":{},\"status\":\"ok\"}";
+    check_listed(&rt, alloc, "{\"target_name\":\"janus\"}", none)
 }
 
 #[test]
