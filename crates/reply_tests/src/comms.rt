@@ -7,35 +7,26 @@ use std::alloc::Global;
 use std::process::Abort;
 use std::test::Fail;
 
+/// Compares what is told where the comm `c` is open.
+fn check_listed(
+    rt: &impl Abort,
+    alloc: Global,
+    request: &str,
+    reply: &'static str,
+) -> Result<(), Fail> {
+    let told = Told::Answered(content(alloc, &[], &["c"], Ask::Comms)?);
+    let expected = [("who", "comm_info_reply", reply), IDLE];
+    check(rt, alloc, "comm_info_request", request, told, &expected)
+}
+
 #[test]
 fn open_comms_are_listed(rt: HostRuntime) -> Result<(), Fail> {
     let alloc = rt.alloc();
-    for (request, reply) in [
-        (
-            "{}",
-            "{\"comms\":{\"c\":{\"target_name\":\"janus.undo\"}},\"status\":\"ok\"}",
-        ),
-        (
-            "{\"target_name\":\"janus.undo\"}",
-            "{\"comms\":{\"c\":{\"target_name\":\"janus.undo\"}},\"status\":\"ok\"}",
-        ),
-        (
-            "{\"target_name\":\"janus\"}",
-            "{\"comms\":{},\"status\":\"ok\"}",
-        ),
-    ] {
-        let told = content(alloc, &[], &["c"], Ask::Comms)?;
-        let expected = [("who", "comm_info_reply", reply), IDLE];
-        check(
-            &rt,
-            alloc,
-            "comm_info_request",
-            request,
-            Told::Answered(told),
-            &expected,
-        )?;
-    }
-    Ok(())
+    let listed = "{\"comms\":{\"c\":{\"target_name\":\"janus.undo\"}},\"status\":\"ok\"}";
+    check_listed(&rt, alloc, "{}", listed)?;
+    check_listed(&rt, alloc, "{\"target_name\":\"janus.undo\"}", listed)?;
+    let none = "{\"comms\":{},\"status\":\"ok\"}";
+    check_listed(&rt, alloc, "{\"target_name\":\"janus\"}", none)
 }
 
 #[test]

@@ -1,5 +1,6 @@
 //! A question from its frames to the frames of its answer, unsigned and signed. The signatures were computed by Python's `hmac`.
-use crate::requests::stamp;
+use crate::requests::copies;
+use crate::stamps::stamp;
 use jupyter_msg::{Message, MsgFault, Request, open, seal};
 use kernel_ask::{Answer, Completeness, Content};
 use kernel_reply::{answer_ask, opening};
@@ -11,18 +12,15 @@ const HEADER: &[u8] = b"{\"msg_id\":\"a\",\"msg_type\":\"is_complete_request\",\
 
 /// The question, with no identity.
 fn question(alloc: Global, signature: &[u8], header: &[u8]) -> Result<Vec<Vec<u8>>, AllocError> {
-    let mut frames = Vec::new(alloc);
-    for frame in [
+    let frames = [
         b"<IDS|MSG>".as_slice(),
         signature,
         header,
         b"{}",
         b"{}",
         b"{\"code\":\"if x\"}",
-    ] {
-        frames.push(frame.to_vec(alloc)?)?;
-    }
-    Ok(frames)
+    ];
+    copies(alloc, &frames)
 }
 
 /// Compares the frames of a message, sealed with the key.

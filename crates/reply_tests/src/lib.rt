@@ -17,5 +17,6 @@ mod kernels;
 mod questions;
 #[cfg(test)]
 mod requests;
+pub mod stamps;
 #[cfg(test)]
 mod texts;

@@ -63,89 +63,113 @@ fn names_are_completed(rt: HostRuntime) -> Result<(), Fail> {
     )
 }
 
+/// Compares how code is completed at its end, where `cab` and `ca` are declared.
+fn check_completed(
+    rt: &impl Abort,
+    alloc: Global,
+    code: &str,
+    request: &str,
+    reply: &'static str,
+) -> Result<(), Fail> {
+    let ask = Ask::Complete {
+        code: String::from_str(alloc, code)?,
+        cursor: None,
+    };
+    let told = content(alloc, &["int cab int ca"], &[], ask)?;
+    let reply = ("complete_reply", reply);
+    check_reply(rt, alloc, ("complete_request", request), told, reply)
+}
+
 #[test]
 fn several_and_no_names_are_completed(rt: HostRuntime) -> Result<(), Fail> {
     let alloc = rt.alloc();
-    for (code, request, reply) in [
-        (
-            "+ca",
-            "{\"code\":\"+ca\"}",
-            "{\"cursor_end\":3,\"cursor_start\":1,\"matches\":[\"ca\",\"cab\",\"call\"],\"metadata\":{},\"status\":\"ok\"}",
-        ),
-        (
-            "zz",
-            "{\"code\":\"zz\",\"cursor_pos\":9}",
-            "{\"cursor_end\":2,\"cursor_start\":0,\"matches\":[],\"metadata\":{},\"status\":\"ok\"}",
-        ),
-    ] {
-        let ask = Ask::Complete {
-            code: String::from_str(alloc, code)?,
-            cursor: None,
-        };
-        let told = content(alloc, &["int cab int ca"], &[], ask)?;
-        check_reply(
-            &rt,
-            alloc,
-            ("complete_request", request),
-            told,
-            ("complete_reply", reply),
-        )?;
-    }
-    Ok(())
+    check_completed(
+        &rt,
+        alloc,
+        "+ca",
+        "{\"code\":\"+ca\"}",
+        "{\"cursor_end\":3,\"cursor_start\":1,\"matches\":[\"ca\",\"cab\",\"call\"],\"metadata\":{},\"status\":\"ok\"}",
+    )?;
+    check_completed(
+        &rt,
+        alloc,
+        "zz",
+        "{\"code\":\"zz\",\"cursor_pos\":9}",
+        "{\"cursor_end\":2,\"cursor_start\":0,\"matches\":[],\"metadata\":{},\"status\":\"ok\"}",
+    )
+}
+
+/// Compares what is known at the place 1 of the code, where `x` is 5.
+fn check_inspected(
+    rt: &impl Abort,
+    alloc: Global,
+    code: &str,
+    request: &str,
+    reply: &'static str,
+) -> Result<(), Fail> {
+    let ask = Ask::Inspect {
+        code: String::from_str(alloc, code)?,
+        cursor: Some(1),
+    };
+    let told = content(alloc, &["int x x += 5"], &[], ask)?;
+    let reply = ("inspect_reply", reply);
+    check_reply(rt, alloc, ("inspect_request", request), told, reply)
 }
 
 #[test]
 fn a_name_is_inspected(rt: HostRuntime) -> Result<(), Fail> {
     let alloc = rt.alloc();
-    for (code, request, reply) in [
-        (
-            "x += 1",
-            "{\"code\":\"x += 1\",\"cursor_pos\":1}",
-            "{\"data\":{\"text/plain\":\"x = 5\"},\"found\":true,\"metadata\":{},\"status\":\"ok\"}",
-        ),
-        (
-            "y",
-            "{\"code\":\"y\",\"cursor_pos\":1}",
-            "{\"data\":{},\"found\":false,\"metadata\":{},\"status\":\"ok\"}",
-        ),
-    ] {
-        let ask = Ask::Inspect {
-            code: String::from_str(alloc, code)?,
-            cursor: Some(1),
-        };
-        let told = content(alloc, &["int x x += 5"], &[], ask)?;
-        check_reply(
-            &rt,
-            alloc,
-            ("inspect_request", request),
-            told,
-            ("inspect_reply", reply),
-        )?;
-    }
-    Ok(())
+    check_inspected(
+        &rt,
+        alloc,
+        "x += 1",
+        "{\"code\":\"x += 1\",\"cursor_pos\":1}",
+        "{\"data\":{\"text/plain\":\"x = 5\"},\"found\":true,\"metadata\":{},\"status\":\"ok\"}",
+    )?;
+    check_inspected(
+        &rt,
+        alloc,
+        "y",
+        "{\"code\":\"y\",\"cursor_pos\":1}",
+        "{\"data\":{},\"found\":false,\"metadata\":{},\"status\":\"ok\"}",
+    )
+}
+
+/// Compares how a judgement is told.
+fn check_judged(
+    rt: &impl Abort,
+    alloc: Global,
+    judged: Completeness,
+    reply: &'static str,
+) -> Result<(), Fail> {
+    let request = ("is_complete_request", "{\"code\":\"\"}");
+    let told = Content::Completeness(judged);
+    check_reply(rt, alloc, request, told, ("is_complete_reply", reply))
 }
 
 #[test]
 fn code_is_judged(rt: HostRuntime) -> Result<(), Fail> {
     let alloc = rt.alloc();
-    for (judged, reply) in [
-        (Completeness::Complete, "{\"status\":\"complete\"}"),
-        (
-            Completeness::Incomplete,
-            "{\"indent\":\"\",\"status\":\"incomplete\"}",
-        ),
-        (Completeness::Invalid, "{\"status\":\"invalid\"}"),
-        (Completeness::Unknown, "{\"status\":\"unknown\"}"),
-    ] {
-        check_reply(
-            &rt,
-            alloc,
-            ("is_complete_request", "{\"code\":\"\"}"),
-            Content::Completeness(judged),
-            ("is_complete_reply", reply),
-        )?;
-    }
-    Ok(())
+    let incomplete = "{\"indent\":\"\",\"status\":\"incomplete\"}";
+    check_judged(
+        &rt,
+        alloc,
+        Completeness::Complete,
+        "{\"status\":\"complete\"}",
+    )?;
+    check_judged(&rt, alloc, Completeness::Incomplete, incomplete)?;
+    check_judged(
+        &rt,
+        alloc,
+        Completeness::Invalid,
+        "{\"status\":\"invalid\"}",
+    )?;
+    check_judged(
+        &rt,
+        alloc,
+        Completeness::Unknown,
+        "{\"status\":\"unknown\"}",
+    )
 }
 
 #[test]
@@ -198,24 +222,21 @@ fn the_history_is_not_searched(rt: HostRuntime) -> Result<(), Fail> {
 }
 
 #[test]
-fn interrupt_and_shutdown_are_replied_to(rt: HostRuntime) -> Result<(), Fail> {
+fn an_interrupt_is_replied_to(rt: HostRuntime) -> Result<(), Fail> {
     let alloc = rt.alloc();
-    for (request, reply) in [
-        (
-            ("interrupt_request", "{}"),
-            ("interrupt_reply", "{\"status\":\"ok\"}"),
-        ),
-        (
-            ("shutdown_request", "{}"),
-            ("shutdown_reply", "{\"restart\":false,\"status\":\"ok\"}"),
-        ),
-        (
-            ("shutdown_request", "{\"restart\":true}"),
-            ("shutdown_reply", "{\"restart\":true,\"status\":\"ok\"}"),
-        ),
-    ] {
-        let told = anything(alloc)?;
-        check_reply(&rt, alloc, request, told, reply)?;
-    }
-    Ok(())
+    let reply = ("interrupt_reply", "{\"status\":\"ok\"}");
+    let told = anything(alloc)?;
+    check_reply(&rt, alloc, ("interrupt_request", "{}"), told, reply)
+}
+
+#[test]
+fn a_shutdown_is_replied_to(rt: HostRuntime) -> Result<(), Fail> {
+    let alloc = rt.alloc();
+    let ends = ("shutdown_reply", "{\"restart\":false,\"status\":\"ok\"}");
+    let told = anything(alloc)?;
+    check_reply(&rt, alloc, ("shutdown_request", "{}"), told, ends)?;
+    let restarts = ("shutdown_reply", "{\"restart\":true,\"status\":\"ok\"}");
+    let request = ("shutdown_request", "{\"restart\":true}");
+    let told = anything(alloc)?;
+    check_reply(&rt, alloc, request, told, restarts)
 }

@@ -1,27 +1,16 @@
 //! Requests, and what is sent in answer to them.
-ghost use Rattle.std.specs.Prelude.{◌≡◌, IfOk};
+ghost use Rattle.std.specs.Prelude.{IfOk};
 ghost use Rattle.jupyter_msg.specs.Opened.{IsRead};
 
+use crate::stamps::stamp;
 use jupyter_msg::{Message, Opened, Request, open, seal};
 use kernel_ask::{Answer, Content, Done};
 use kernel_core::PostFault;
-use kernel_message::{Outgoing, Stamp};
+use kernel_message::Outgoing;
 use kernel_reply::{answer, answer_ask, opening, refuse};
 use std::alloc::{AllocError, Global};
 use std::process::Abort;
 use std::test::Fail;
-
-/// The stamp of session `k` and connection 1, at its first message.
-pub(crate) fn stamp(alloc: Global) -> Result<Stamp, AllocError>
-    ensures { IfOk result (λ s. s.next ≡ 0) }
-{
-    Ok(Stamp {
-        session: String::from_str(alloc, "k")?,
-        connection: 1,
-        next: 0,
-        date: *b"2025-01-01T00:00:00Z",
-    })
-}
 
 /// The header of a request of this type.
 pub(crate) fn header_of(alloc: Global, msg_type: &str) -> Result<String, AllocError> {
@@ -31,13 +20,21 @@ pub(crate) fn header_of(alloc: Global, msg_type: &str) -> Result<String, AllocEr
     Ok(header)
 }
 
+/// The frames, copied.
+pub(crate) fn copies(alloc: Global, frames: &[&[u8]]) -> Result<Vec<Vec<u8>>, AllocError> {
+    let mut copies = Vec::new(alloc);
+    for frame in frames {
+        copies.push(frame.to_vec(alloc)?)?;
+    }
+    Ok(copies)
+}
+
 /// A message that came with the identity `who`, opened.
 pub(crate) fn opened(alloc: Global, msg_type: &str, content: &str) -> Result<Opened, Fail>
     ensures { IfOk result IsRead }
 {
     let header = header_of(alloc, msg_type)?;
-    let mut frames = Vec::new(alloc);
-    for frame in [
+    let frames = [
         b"who".as_slice(),
         b"<IDS|MSG>",
         b"",
@@ -45,10 +42,8 @@ pub(crate) fn opened(alloc: Global, msg_type: &str, content: &str) -> Result<Ope
         b"{}",
         b"{}",
         content.as_bytes(),
-    ] {
-        frames.push(frame.to_vec(alloc)?)?;
-    }
-    Ok(open(alloc, frames, b"")?)
+    ];
+    Ok(open(alloc, copies(alloc, &frames)?, b"")?)
 }
 
 /// The frames of a message under the empty key, one a line.

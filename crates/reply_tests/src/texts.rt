@@ -1,7 +1,8 @@
 //! Texts in JSON: what is escaped, and what stands as it is.
 use crate::kernels::{cell, done};
 use crate::requests::{Expected, IDLE, Told, check};
-use kernel_ask::{Comms, Content, NamedValue};
+use kernel_ask::{Comms, Content, Done, NamedValue};
+use std::alloc::{AllocError, Global};
 use std::test::Fail;
 
 /// Two code units of one character, quotes, a backslash, a slash, and control characters, each by an escape.
@@ -35,22 +36,23 @@ fn code_is_written_with_the_shortest_escapes(rt: HostRuntime) -> Result<(), Fail
     )
 }
 
+/// Adds the value of an expression.
+fn push_value(alloc: Global, done: &mut Done, name: &str, value: i32) -> Result<(), AllocError> {
+    let name = String::from_str(alloc, name)?;
+    let value = Ok(value);
+    done.values.push(NamedValue { name, value })?;
+    Ok(())
+}
+
 #[test]
 fn names_are_escaped_and_stand_in_the_order_of_their_octets(rt: HostRuntime) -> Result<(), Fail> {
     let alloc = rt.alloc();
     let mut ended = done(alloc, &[], cell(alloc, "")?, "", &[])?;
-    for (name, value) in [
-        ("\u{1f600}", 1),
-        ("\u{ffff}", 2),
-        ("\"", 3),
-        ("\u{1}", 4),
-        ("a", -2147483648),
-    ] {
-        ended.values.push(NamedValue {
-            name: String::from_str(alloc, name)?,
-            value: Ok(value),
-        })?;
-    }
+    push_value(alloc, &mut ended, "\u{1f600}", 1)?;
+    push_value(alloc, &mut ended, "\u{ffff}", 2)?;
+    push_value(alloc, &mut ended, "\"", 3)?;
+    push_value(alloc, &mut ended, "\u{1}", 4)?;
+    push_value(alloc, &mut ended, "a", -2147483648)?;
     let expected: [Expected; 2] = [
         (
             "who",
