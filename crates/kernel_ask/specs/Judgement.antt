@@ -21,7 +21,7 @@ pub record IsRefusedAs (text : List ℕ) (early : Bool) : Type 0 where
   pub refusal : IsRefusal text fault
   pub ends : ends_early (length text) fault ≡ early
 
--- it is a cell; it begins one; it is none, whatever follows; of want of memory nothing is said
+-- it is a cell; it is refused at its end, where more was expected; it is refused before; of want of memory nothing is said
 abbrev pub IsJudged : List ℕ → Completeness → Type 0
 IsJudged text Complete = (c : Cell) × HasTree text c
 IsJudged text Incomplete = IsRefusedAs text true

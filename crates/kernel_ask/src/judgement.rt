@@ -12,7 +12,7 @@ pub enum Completeness {
     Complete,
     /// More is expected where it ends.
     Incomplete,
-    /// It is no cell, whatever follows.
+    /// It is refused before its end.
     Invalid,
     /// There was no memory to tell.
     Unknown,
@@ -28,8 +28,8 @@ fn is_at_end(fault: SyntaxFault, length: usize) -> bool
     }
 }
 
-/// Whether code can be executed as it stands: it is a cell, it begins one, or it is none whatever follows. Where memory runs
-/// out that is unknown.
+/// Whether code can be executed as it stands: it is a cell, more is expected where it ends, or it is refused before that.
+/// Where memory runs out that is unknown.
 pub fn is_complete(alloc: Global, code: &str) -> Completeness
     ensures { IsJudged code.now result }
 {

@@ -1,4 +1,4 @@
-//! Tests of the answers that a frontend is sent, as whole messages octet for octet: requests are opened and read, real kernels run the
+//! Tests of the answers that a frontend is sent, as whole messages octet for octet: requests are opened and read, in most tests real kernels run the
 //! cells and answer the questions, and what goes out is compared with what the Jupyter messaging page and the tables ask for.
 //!
 //! Contracts say what each message is, so these rows show that the definitions mean what they are to mean, by texts that were worked
