@@ -37,7 +37,7 @@ goes_on parents (suc n) g above l =
     ap (λ (path : List ℕ). path ++ suc n ∷ []) (path_enough parents n (parent_in parents (suc n)) (parent_in parents (suc n)) g (omega arith) (omega arith) (omega arith))
 
 pub path_goes_on : PathGoesOn
-path_goes_on parents n g above l = (refl, goes_on parents n g above l)
+path_goes_on parents = (refl, λ n g above l. goes_on parents n g above l)
 
 -- a path as one who goes up it gathers it
 pub path_further : (parents : List ℕ) (n : ℕ) (below : List ℕ) → IsOrdered parents → 0 < n → n < length parents → path_of parents (parent_in parents n) ++ n ∷ below ≡ path_of parents n ++ below

@@ -7,8 +7,9 @@ use Rattle.cell_tree.specs.Paths.{path_of, meeting_of, ancestor, upward, IsWay}
 -- the path of the root is the root alone; that of another node is its parent's, and then the node
 abbrev pub PathGoesOn : Type 0
 PathGoesOn =
-    (parents : List ℕ) (n : ℕ) → IsOrdered parents → 0 < n → n < length parents
-    → (path_of parents 0 ≡ 0 ∷ []) × (path_of parents n ≡ path_of parents (parent_in parents n) ++ n ∷ [])
+    (parents : List ℕ) →
+    (path_of parents 0 ≡ 0 ∷ [])
+    × ((n : ℕ) → IsOrdered parents → 0 < n → n < length parents → path_of parents n ≡ path_of parents (parent_in parents n) ++ n ∷ [])
 
 -- a path begins at the root, each next node is a child of the one before, and it ends at its node
 pub record Descends (parents : List ℕ) (n : ℕ) (path : List ℕ) : Type 0 where

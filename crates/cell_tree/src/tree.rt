@@ -195,8 +195,7 @@ impl<C: Drop> Tree<C> {
         requires { IsNode self.old from }
         ensures way { IfOk result (λ way. IsWay (parents_of self.old.nodes) from to way.up way.down) }
         ensures few { IfOk result (λ way. (way.up ≤ from) × (way.down ≤ to)) }
-        ensures kept { IfOk result (λ way. self.new ≡ record self.old { way = upward (parents_of self.old.nodes) to way.down; room = self.new.room }) }
-
+        ensures kept { IfOk result (λ way. self.new ≡ record self.old { way = upward (parents_of self.old.nodes) to way.down }) }
         ensures no_node { IsErr result ↔ (length self.old.nodes < to) }
         ensures err { IfErr result (λ fault. (fault ≡ TreeFault.NoNode) × (self.new ≡ self.old)) }
     {

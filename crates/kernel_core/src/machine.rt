@@ -1,5 +1,5 @@
 //! The kernel machine: the history, the queue of posted jobs, the execution counter and the minutes.
-ghost use Rattle.std.specs.Prelude.{◌≡◌, ◌+◌, ◌<◌, ◌^◌, IfOk, IfSome, IfNone, Some, length, map};
+ghost use Rattle.std.specs.Prelude.{◌≡◌, ◌≢◌, ◌+◌, ◌<◌, ◌^◌, IfOk, IfSome, IfNone, Some, length, map};
 ghost use Rattle.kernel_core.specs.State.{Idle, Shown};
 ghost use Rattle.kernel_core.specs.Request.{request_of, raised as the_raised};
 ghost use Rattle.kernel_core.specs.Minutes.{posted_in, ended_in};
@@ -104,6 +104,7 @@ impl<L: Ledger> Machine<L> {
     pub fn post_fault(&self) -> Option<PostFault>
         ensures some { IfSome result (IsRefusal self.now) }
         ensures none { IfNone result (IsReady self.now) }
+        ensures known { IfSome result (λ fault. fault ≢ PostFault.Memory) }
     {
         if self.closing {
             return Some(PostFault::Closing);

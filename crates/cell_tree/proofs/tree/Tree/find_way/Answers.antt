@@ -1,6 +1,7 @@
-use Rattle.std.proofs.Common.{◌≡◌, ◌≤◌, ◌∙◌, length, ap, arith}
-use Rattle.cell_tree.specs.Tree.{Tree, parents_of}
-use Rattle.cell_tree.specs.Kept.{room_of, tree_of}
+use Rattle.std.proofs.Common.{◌≡◌, ℕ, ◌-◌, ◌≤◌, ◌∙◌, length, ap, arith, refl}
+use Rattle.std.specs.Prelude.{min, vec_len}
+use Rattle.cell_tree.specs.Tree.{Tree, parents_of, node_limit}
+use Rattle.cell_tree.specs.Kept.{spare, room_of, tree_of}
 use Rattle.cell_tree.proofs.Trees.{tree_with_way}
 use Rattle.cell_tree.proofs.Ways.{length-upward}
 use Rattle.cell_tree.proofs.tree.Tree.find_way.Goals as goal
@@ -20,3 +21,10 @@ invariant_of-self g c =
       tree = tree_with_way t c.find_way.new.way.items (room_of inside.nodes inside.favourites c.find_way.new.way) c.self.invariant.tree (omega arith);
       longest = omega arith;
     }
+
+pub returns-clause-kept : goal.returns-clause-kept
+returns-clause-kept g c =
+    let inside = c.self.inside in
+    let same : room_of inside.nodes inside.favourites c.find_way.new.way ≡ room_of inside.nodes inside.favourites inside.way =
+    ap (λ (n : ℕ). min (node_limit - vec_len inside.nodes) (min (spare inside.nodes) (min (spare inside.favourites) (n - vec_len inside.nodes)))) c.find_way.ensures.room in
+    rw (← c.self.view_is) (rw (c.find_way.ensures.kept, same, c.deref.ensures.value) refl)
