@@ -63,11 +63,7 @@ fn finish<L: Ledger>(kernel: &mut Kernel<L>) -> Outcome
 
 /// Posts a job to a kernel without an open job, and brings it to its end. A cell that has not ended after so many steps is
 /// interrupted.
-pub fn serve<L: Ledger>(
-    kernel: &mut Kernel<L>,
-    steps: u64,
-    job: Job,
-) -> Result<Outcome, PostFault>
+pub fn serve<L: Ledger>(kernel: &mut Kernel<L>, steps: u64, job: Job) -> Result<Outcome, PostFault>
     requires idle { kernel.old.machine.state.job ≡ Idle }
     requires alone { kernel.old.machine.queue ≡ [] }
     ensures ok { IfOk result (λ outcome. Serves steps kernel.old.machine (request_of job) (Finished outcome) kernel.new.machine) }

@@ -30,14 +30,7 @@ pub(crate) fn run<L: Ledger>(
             done(assign(name.as_str(), *update, exp, store, writes))
         }
         Statement::AssignElement(name, index, update, exp) => {
-            done(assign_element(
-                name.as_str(),
-                index,
-                *update,
-                exp,
-                store,
-                writes,
-            ))
+            done(assign_element(name.as_str(), index, *update, exp, store, writes))
         }
         _ => unreachable!(),
     }

@@ -1,14 +1,13 @@
 //! What a frontend is told. The answers were worked out by hand.
 use crate::calls::plays;
 use janus_store::View;
-use kernel_ask::{
-    Comms, ExpFault, exp_fault_line, outcome_line, post_fault_line, value_text,
-};
+use kernel_ask::{Comms, ExpFault, exp_fault_line, outcome_line, post_fault_line, value_text};
 use kernel_core::{CheckFault, End, Fault, Outcome, PostFault, Refusal, Span};
 use std::test::Fail;
 
 /// Cursors count code points; names and reserved words come in the order of their octets, each once.
-const COMPLETES_NAMES: &str = r#"complete 2 ca: Answer { seen: 0, content: Completion(Completion { matches: ["call"], start: 0, end: 2 }) }
+const COMPLETES_NAMES: &str =
+    r#"complete 2 ca: Answer { seen: 0, content: Completion(Completion { matches: ["call"], start: 0, end: 2 }) }
 complete - ca: Answer { seen: 0, content: Completion(Completion { matches: ["call"], start: 0, end: 2 }) }
 complete 2 zz: Answer { seen: 0, content: Completion(Completion { matches: [], start: 0, end: 2 }) }
 cell int cab int c: Ok(1)

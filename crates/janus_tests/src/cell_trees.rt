@@ -61,7 +61,14 @@ fn goes_from_node_to_node(rt: HostRuntime) -> Result<(), Fail> {
     assert_eq!(rt; tree.path(0)?.as_slice(), [0].as_slice());
     assert_eq!(rt; tree.path(5)?.as_slice(), [0, 1, 2, 5].as_slice());
     assert_eq!(rt; tree.path(6), Err(TreeFault::NoNode));
-    for (a, b, meeting) in [(5, 3, 1), (3, 5, 1), (5, 4, 0), (2, 5, 2), (4, 4, 4), (0, 5, 0)] {
+    for (a, b, meeting) in [
+        (5, 3, 1),
+        (3, 5, 1),
+        (5, 4, 0),
+        (2, 5, 2),
+        (4, 4, 4),
+        (0, 5, 0),
+    ] {
         assert_eq!(rt; tree.meet(a, b), Ok(meeting), "of {a} and {b}");
     }
     assert_eq!(rt; tree.meet(6, 1), Err(TreeFault::NoNode));

@@ -56,7 +56,11 @@ pub fn inspect<L: Ledger>(
 }
 
 /// The inputs that are asked for, in rising order. The only error is want of memory.
-pub fn history<L: Ledger>(alloc: Global, kernel: &Kernel<L>, ask: HistoryAsk) -> Result<Vec<Input>, AllocError>
+pub fn history<L: Ledger>(
+    alloc: Global,
+    kernel: &Kernel<L>,
+    ask: HistoryAsk,
+) -> Result<Vec<Input>, AllocError>
     ensures { IfOk result (λ v. map input_of v.items
         ≡ told ask (inputs kernel.now.machine.minutes kernel.now.machine.counter)) }
 {
@@ -165,7 +169,12 @@ fn content_of<L: Ledger>(
 
 /// Answers a question of a frontend from the kernel's names, its shown world and its minutes, and tells how many minutes were seen.
 /// Want of memory is the only error; where it can't be told whether code is complete, that is the answer `Unknown`.
-pub fn ask_on<L: Ledger>(alloc: Global, kernel: &Kernel<L>, comms: &Comms, ask: Ask) -> Result<Answer, HallFault>
+pub fn ask_on<L: Ledger>(
+    alloc: Global,
+    kernel: &Kernel<L>,
+    comms: &Comms,
+    ask: Ask,
+) -> Result<Answer, HallFault>
     ensures answer { IfOk result (IsAnswer kernel.now.machine comms.now ask) }
     ensures memory { IfErr result (λ fault. fault ≡ HallFault.Memory) }
 {

@@ -35,7 +35,11 @@ fn push_named(
 }
 
 /// The value texts of the declared names that the cell names, in the order of declaration.
-fn named_texts<L: Ledger>(alloc: Global, store: &Store<L>, cell: &Cell) -> Result<Vec<String>, AllocError>
+fn named_texts<L: Ledger>(
+    alloc: Global,
+    store: &Store<L>,
+    cell: &Cell,
+) -> Result<Vec<String>, AllocError>
     ensures { IfOk result (λ v. map string_bytes v.items
         ≡ map value_text_of (filter (λ e. in_cell e.0 (cell_view cell.now)) (listed store.now))) }
 {
@@ -60,7 +64,11 @@ fn parted(alloc: Global, first: &str, rest: &[String]) -> Result<String, AllocEr
 }
 
 /// The value texts of the declared names that the cell names, parted by LF, if it names one.
-fn shown_of<L: Ledger>(alloc: Global, store: &Store<L>, cell: &Cell) -> Result<Option<String>, AllocError>
+fn shown_of<L: Ledger>(
+    alloc: Global,
+    store: &Store<L>,
+    cell: &Cell,
+) -> Result<Option<String>, AllocError>
     ensures { IfOk result (λ text. option_map string_bytes text ≡ shown_text store.now (cell_view cell.now)) }
 {
     let texts = named_texts(alloc, store, cell)?;

@@ -36,7 +36,7 @@ same_header s t n msg_type same =
 same_message : (identities : List (List ℕ)) (parent : List ℕ) (s t : Stamp) (n : ℕ) (said : Said) → IsSameStamp s t → message identities parent s n said ≡ message identities parent t n said
 same_message identities parent s t n said same =
     ap (λ h. record { identities = identities; header = h; parent = parent; metadata = codes "{}"; content = compact_text said.content; buffers = [] })
-        (same_header s t n said.msg_type same)
+    (same_header s t n said.msg_type same)
 
 same_numbered : (parent : List ℕ) (s t : Stamp) (n : ℕ) (said : List Said) → IsSameStamp s t → numbered parent s n said ≡ numbered parent t n said
 same_numbered parent s t n [] same = refl

@@ -86,7 +86,13 @@ fn an_undo_is_told_and_then_the_state(rt: HostRuntime) -> Result<(), Fail> {
         Told::Ended(undone),
         "{\"comm_id\":\"c\",\"data\":{\"end\":\"all\",\"node\":1,\"op\":\"undo\",\"redone\":0,\"status\":\"ok\",\"undone\":1}}",
     )?;
-    let refused = done(alloc, &["int x", "x += 5", "%undo 1"], Job::Undo(5), "", &[])?;
+    let refused = done(
+        alloc,
+        &["int x", "x += 5", "%undo 1"],
+        Job::Undo(5),
+        "",
+        &[],
+    )?;
     check_comm(
         &rt,
         alloc,
@@ -115,7 +121,13 @@ fn a_redo_and_a_goto_are_told(rt: HostRuntime) -> Result<(), Fail> {
         Told::Ended(back),
         "{\"comm_id\":\"c\",\"data\":{\"end\":\"all\",\"node\":0,\"op\":\"goto\",\"redone\":0,\"status\":\"ok\",\"undone\":2}}",
     )?;
-    let mut redone = done(alloc, &["int x", "x += 5", "%goto 0"], Job::Redo(2), "", &[])?;
+    let mut redone = done(
+        alloc,
+        &["int x", "x += 5", "%goto 0"],
+        Job::Redo(2),
+        "",
+        &[],
+    )?;
     redone.outcome = Outcome::Redid(2, End::Asked);
     check_comm(
         &rt,

@@ -175,7 +175,12 @@ fn code_is_judged(rt: HostRuntime) -> Result<(), Fail> {
 #[test]
 fn the_history_is_told(rt: HostRuntime) -> Result<(), Fail> {
     let alloc = rt.alloc();
-    let tail = content(alloc, &["int x", "x += 5"], &[], Ask::History(HistoryAsk::Tail(1)))?;
+    let tail = content(
+        alloc,
+        &["int x", "x += 5"],
+        &[],
+        Ask::History(HistoryAsk::Tail(1)),
+    )?;
     check_reply(
         &rt,
         alloc,
