@@ -8,6 +8,7 @@ pub mod InputLemmas
 pub mod LinesLemmas
 pub mod OutputLemmas
 pub mod ScriptLemmas
+pub mod ServedEnds
 pub mod Serving
 pub mod ShownLemmas
 pub mod TextLemmas

@@ -4,6 +4,7 @@ pub mod Output
 pub mod RunFault
 pub mod Ending
 pub mod Served
+pub mod ServedEnds
 pub mod Shown
 pub mod Script
 pub mod Transcript
