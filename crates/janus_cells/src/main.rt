@@ -2,9 +2,10 @@
 //!
 //! It reads all standard input, at most 16 MiB, and then runs it line by line. Lines that begin with `%` are commands; all
 //! others gather to the text of a cell. What it promises is said of `run`, over any reader and writer; its clauses speak of
-//! those whose octets are known, as over memory, and std's `Stdin` and `Stdout` tell none. `serve` brings one request of a
-//! kernel to its end; `laws` says that an input has at most one transcript that nowhere tells want of memory; `fault` and
-//! `words` say with which status and line the program ends. The language is Janus (Yokoyama and Glück 2007).
+//! those whose octets are known, as over memory, and std's `Stdin` and `Stdout` tell none. `program` takes the words of the
+//! command line before it; `serve` brings one request of a
+//! kernel to its end; `laws` says that an input has at most one transcript that nowhere tells want of memory, and how a request
+//! that is served ends; `fault` and `words` say with which status and line the program ends. The language is Janus (Yokoyama and Glück 2007).
 #![tactic(auto)]
 
 mod command;
@@ -15,6 +16,7 @@ mod input;
 mod laws;
 mod lines;
 mod output;
+mod program;
 mod run;
 mod serve;
 #[cfg(test)]
@@ -27,43 +29,42 @@ mod words;
 
 use crate::fault::{RunFault, status};
 use crate::output::{WriteFailed, send_run_fault};
-use crate::run::run;
-use crate::words::{steps_of, unread_words_status, words_status};
+use crate::program::{program, without_output};
+use crate::words::{unread_words_status, words_status};
 use clap::error::ErrorKind;
 use std::env;
 use std::io::{self, BufWriter};
 use std::process::ExitCode;
 
 fn main(rt: HostRuntime) -> anyhow::Result<ExitCode> {
-    let steps = match read_command_line(&rt)? {
-        Ok(steps) => steps,
+    let alloc = rt.alloc();
+    let words = match read_words(&rt)? {
+        Ok(words) => words,
         Err(status) => return Ok(status),
     };
-    let alloc = rt.alloc();
     let ended = match BufWriter::new(alloc, rt.stdout()) {
-        Ok(mut writer) => run(alloc, steps, &mut rt.stdin(), &mut writer),
-        Err(_) => Err(RunFault::Memory),
+        Ok(mut writer) => program(alloc, words.as_slice(), &mut rt.stdin(), &mut writer),
+        Err(_) => without_output(alloc, words.as_slice()),
     };
-    if let Err(fault) = ended {
-        tell(&rt, fault)?;
+    match ended {
+        Ok(Ok(())) => Ok(ExitCode::SUCCESS),
+        Ok(Err(fault)) => {
+            tell(&rt, fault)?;
+            Ok(ExitCode::from(status(Err(fault))))
+        }
+        Err(error) => refuse_words(&rt, &error),
     }
-    Ok(ExitCode::from(status(ended)))
 }
 
-/// Reads the command line, which tells how many steps a cell may take. Where nothing is to be run it answers the program's
-/// status.
-fn read_command_line(rt: &HostRuntime) -> anyhow::Result<Result<u64, ExitCode>> {
-    let alloc = rt.alloc();
+/// The words of the command line. Where they can't be had it answers the program's status.
+fn read_words(rt: &HostRuntime) -> anyhow::Result<Result<Vec<String>, ExitCode>> {
     let words = match env::args(rt) {
         Ok(words) => words,
         Err(error) => return Ok(Err(refuse_unread_words(rt, error.kind())?)),
     };
-    let Ok(words) = words.collect::<Vec<String>>(alloc) else {
-        return Ok(Err(refuse_unread_words(rt, io::ErrorKind::OutOfMemory)?));
-    };
-    match steps_of(alloc, words.as_slice()) {
-        Ok(steps) => Ok(Ok(steps)),
-        Err(error) => Ok(Err(refuse_words(rt, &error)?)),
+    match words.collect::<Vec<String>>(rt.alloc()) {
+        Ok(words) => Ok(Ok(words)),
+        Err(_) => Ok(Err(refuse_unread_words(rt, io::ErrorKind::OutOfMemory)?)),
     }
 }
 
