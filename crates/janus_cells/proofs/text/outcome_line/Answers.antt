@@ -1,9 +1,0 @@
-use Rattle.std.proofs.Common.{◌++◌, ◌∙◌, ap, subst, sym}
-use Rattle.std.specs.Str.{IsUtf8}
-use Rattle.janus_cells.specs.Output.{outcome_line}
-use Rattle.janus_cells.proofs.TextLemmas.{outcome_utf8}
-use Rattle.janus_cells.proofs.text.outcome_line.Goals as goal
-
-pub as_text-requires : goal.as_text-requires
-as_text-requires c =
-    subst IsUtf8 (sym (c.in-Ok.ensures.ok ∙ ap (λ xs. xs ++ outcome_line c.args.outcome.now) c.new-octets.ensures.items)) (outcome_utf8 c.args.outcome.now)

@@ -1,8 +1,0 @@
-use Rattle.std.specs.Prelude.{take}
-use Rattle.std.specs.Io.KnownBytes.{Appends}
-use Rattle.janus_cells.specs.Shown.{spaced_text}
-use Rattle.janus_cells.proofs.value.send_all.Given as goal
-
--- the first i numbers are written
-abbrev pub invariant-loop-i : goal.invariant-loop-i
-invariant-loop-i g l = Appends (g.W.Write.contents l.fn.writer) (g.W.Write.contents l.writer) (spaced_text (take l.i l.numbers))

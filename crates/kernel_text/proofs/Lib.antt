@@ -1,0 +1,3 @@
+pub mod Sending
+pub mod Numbers
+mod Utf8

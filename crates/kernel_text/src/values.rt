@@ -1,0 +1,121 @@
+//! Value texts: a name and its value, as `x = 5` and `a[3] = 1 2 3`.
+ghost use Rattle.std.specs.Prelude.{◌≡◌, ◌++◌, codes, length, string_bytes, IfOk, OnOk, OnErr};
+ghost use Rattle.std.specs.Fmt.{signed_decimal};
+ghost use Rattle.std.specs.Io.KnownBytes.{Appends};
+ghost use Rattle.janus_store.specs.Values.{shown};
+ghost use Rattle.kernel_text.specs.Sending.{SentSome};
+ghost use Rattle.kernel_text.specs.ValueTexts.{equated_text, length_text, spaced_text, numbers_text, told_text, value_text as value_text_of};
+
+use crate::writing::{WriteFailed, send, send_counted};
+use crate::text::as_text;
+use itoa::Buffer;
+use janus_store::View;
+use std::alloc::{AllocError, Global};
+use std::io::Write;
+
+/// How many values of an array are shown; ` ...` stands for those behind them.
+pub const SHOWN_VALUES: usize = 32;
+
+/// Writes a number in decimal digits, behind a `-` where it is below 0.
+fn send_signed<W: Write>(writer: &mut W, n: i32) -> Result<(), WriteFailed>
+    ensures ok { OnOk result (Appends (W.contents writer.old) (W.contents writer.new) (signed_decimal n)) }
+    ensures err { OnErr result (SentSome (W.contents writer.old) (W.contents writer.new) (signed_decimal n)) }
+{
+    let mut text = Buffer::new();
+    send(writer, text.format(n).as_bytes())
+}
+
+/// Writes an equals sign between spaces, and then a number.
+fn send_equated<W: Write>(writer: &mut W, value: i32) -> Result<(), WriteFailed>
+    ensures ok { OnOk result (Appends (W.contents writer.old) (W.contents writer.new) (equated_text value)) }
+    ensures err { OnErr result (SentSome (W.contents writer.old) (W.contents writer.new) (equated_text value)) }
+{
+    send(writer, b" = ")?;
+    send_signed(writer, value)
+}
+
+/// Writes a space, and then a number.
+fn send_spaced<W: Write>(writer: &mut W, value: i32) -> Result<(), WriteFailed>
+    ensures ok { OnOk result (Appends (W.contents writer.old) (W.contents writer.new) (codes " " ++ signed_decimal value)) }
+    ensures err { OnErr result (SentSome (W.contents writer.old) (W.contents writer.new) (codes " " ++ signed_decimal value)) }
+{
+    send(writer, b" ")?;
+    send_signed(writer, value)
+}
+
+/// Writes numbers, a space before each.
+fn send_all<W: Write>(writer: &mut W, numbers: &[i32]) -> Result<(), WriteFailed>
+    ensures ok { OnOk result (Appends (W.contents writer.old) (W.contents writer.new) (spaced_text numbers.now)) }
+    ensures err { OnErr result (SentSome (W.contents writer.old) (W.contents writer.new) (spaced_text numbers.now)) }
+{
+    for i in 0..numbers.len() {
+        send_spaced(writer, numbers[i])?;
+    }
+    Ok(())
+}
+
+/// Writes the first numbers, a space before each, and whether there are more.
+fn send_numbers<W: Write>(writer: &mut W, numbers: &[i32]) -> Result<(), WriteFailed>
+    ensures ok { OnOk result (Appends (W.contents writer.old) (W.contents writer.new) (numbers_text numbers.now)) }
+    ensures err { OnErr result (SentSome (W.contents writer.old) (W.contents writer.new) (numbers_text numbers.now)) }
+{
+    if numbers.len() <= SHOWN_VALUES {
+        return send_all(writer, numbers);
+    }
+    let first = &numbers[..SHOWN_VALUES];
+    send_all(writer, first)?;
+    send(writer, b" ...")
+}
+
+/// Writes how long an array is, and an equals sign.
+fn send_length<W: Write>(writer: &mut W, length: usize) -> Result<(), WriteFailed>
+    ensures ok { OnOk result (Appends (W.contents writer.old) (W.contents writer.new) (length_text length)) }
+    ensures err { OnErr result (SentSome (W.contents writer.old) (W.contents writer.new) (length_text length)) }
+{
+    send_counted(writer, "[", length as u64)?;
+    send(writer, b"] =")
+}
+
+/// Writes how long an array is, and its numbers.
+fn send_array<W: Write>(writer: &mut W, numbers: &[i32]) -> Result<(), WriteFailed>
+    ensures ok { OnOk result (Appends (W.contents writer.old) (W.contents writer.new) (length_text (length numbers.now) ++ numbers_text numbers.now)) }
+    ensures err { OnErr result (SentSome (W.contents writer.old) (W.contents writer.new) (length_text (length numbers.now) ++ numbers_text numbers.now)) }
+{
+    send_length(writer, numbers.len())?;
+    send_numbers(writer, numbers)
+}
+
+/// Writes what stands behind a name: its value.
+fn send_told<W: Write>(writer: &mut W, value: View<'_>) -> Result<(), WriteFailed>
+    ensures ok { OnOk result (Appends (W.contents writer.old) (W.contents writer.new) (told_text (shown value.entry))) }
+    ensures err { OnErr result (SentSome (W.contents writer.old) (W.contents writer.new) (told_text (shown value.entry))) }
+{
+    match value {
+        View::Number(number) => send_equated(writer, number),
+        View::Array(numbers) => send_array(writer, numbers),
+    }
+}
+
+/// Writes the value text of a name and its value: `x = 5`, or `a[3] = 1 2 3` with the first [`SHOWN_VALUES`] elements.
+///
+/// # Errors
+/// The writer failed, and a beginning of the text went out.
+pub fn send_value<W: Write>(writer: &mut W, name: &str, value: View<'_>) -> Result<(), WriteFailed>
+    ensures ok { OnOk result (Appends (W.contents writer.old) (W.contents writer.new) (value_text_of (name.now, shown value.entry))) }
+    ensures err { OnErr result (SentSome (W.contents writer.old) (W.contents writer.new) (value_text_of (name.now, shown value.entry))) }
+{
+    send(writer, name.as_bytes())?;
+    send_told(writer, value)
+}
+
+/// The value text of a name and its value: `x = 5`, or `a[3] = 1 2 3` with the first [`SHOWN_VALUES`] elements. The only error
+/// is want of memory.
+pub fn value_text(alloc: Global, name: &str, value: View<'_>) -> Result<String, AllocError>
+    ensures { IfOk result (λ text. string_bytes text ≡ value_text_of (name.now, shown value.entry)) }
+{
+    let mut octets = Vec::new(alloc);
+    match send_value(&mut octets, name, value) {
+        Ok(()) => Ok(as_text(octets)),
+        Err(_) => Err(AllocError),
+    }
+}

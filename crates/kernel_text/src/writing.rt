@@ -1,0 +1,92 @@
+//! Octets, words and numbers on their way to a writer, and what has gone out where it fails.
+ghost use Rattle.std.specs.Prelude.{◌++◌, decimal, OnOk, OnErr};
+ghost use Rattle.std.specs.Io.KnownBytes.{Appends};
+ghost use Rattle.kernel_text.specs.Sending.{SentSome};
+ghost use Rattle.kernel_text.specs.Lines.{counted_text, named_text, numbered_text};
+
+use itoa::Buffer;
+use std::io::Write;
+use thiserror::Error;
+
+/// The writer failed.
+#[derive(Clone, Copy, Debug, PartialEq, Eq, Error)]
+#[error("cannot write")]
+pub struct WriteFailed;
+
+/// Writes all the octets, or a beginning of them and then fails. `write_all` doesn't say what went out before it failed.
+pub fn send<W: Write>(writer: &mut W, octets: &[u8]) -> Result<(), WriteFailed>
+    ensures ok { OnOk result (Appends (W.contents writer.old) (W.contents writer.new) octets.now) }
+    ensures err { OnErr result (SentSome (W.contents writer.old) (W.contents writer.new) octets.now) }
+{
+    let mut at = 0;
+    // Each write takes an octet at least.
+    for _ in 0..u64::MAX {
+        if at >= octets.len() {
+            return Ok(());
+        }
+        match writer.write(&octets[at..]) {
+            Ok(0) => return Err(WriteFailed),
+            Ok(count) => at += count,
+            Err(_) => return Err(WriteFailed),
+        }
+    }
+    Err(WriteFailed)
+}
+
+/// Writes a number in decimal digits.
+fn send_number<W: Write>(writer: &mut W, n: u64) -> Result<(), WriteFailed>
+    ensures ok { OnOk result (Appends (W.contents writer.old) (W.contents writer.new) (decimal n)) }
+    ensures err { OnErr result (SentSome (W.contents writer.old) (W.contents writer.new) (decimal n)) }
+{
+    let mut buffer = Buffer::new();
+    send(writer, buffer.format(n).as_bytes())
+}
+
+/// Writes words, and then a number.
+pub fn send_counted<W: Write>(writer: &mut W, words: &str, n: u64) -> Result<(), WriteFailed>
+    ensures ok { OnOk result (Appends (W.contents writer.old) (W.contents writer.new) (counted_text words.now n)) }
+    ensures err { OnErr result (SentSome (W.contents writer.old) (W.contents writer.new) (counted_text words.now n)) }
+{
+    send(writer, words.as_bytes())?;
+    send_number(writer, n)
+}
+
+/// Writes a space, and then a name.
+fn send_name<W: Write>(writer: &mut W, name: &str) -> Result<(), WriteFailed>
+    ensures ok { OnOk result (Appends (W.contents writer.old) (W.contents writer.new) (named_text name.now)) }
+    ensures err { OnErr result (SentSome (W.contents writer.old) (W.contents writer.new) (named_text name.now)) }
+{
+    send(writer, b" ")?;
+    send(writer, name.as_bytes())
+}
+
+/// Writes words, a number and its name.
+pub(crate) fn send_numbered<W: Write>(
+    writer: &mut W,
+    words: &str,
+    number: u8,
+    name: &str,
+) -> Result<(), WriteFailed>
+    ensures ok { OnOk result (Appends (W.contents writer.old) (W.contents writer.new) (numbered_text words.now number name.now)) }
+    ensures err { OnErr result (SentSome (W.contents writer.old) (W.contents writer.new) (numbered_text words.now number name.now)) }
+{
+    send_counted(writer, words, number as u64)?;
+    send_name(writer, name)
+}
+
+/// Writes words and a number, twice.
+pub(crate) fn send_pair<W: Write>(
+    writer: &mut W,
+    words: &str,
+    n: u64,
+    more_words: &str,
+    m: u64,
+) -> Result<(), WriteFailed>
+    ensures ok { OnOk result (Appends (W.contents writer.old) (W.contents writer.new)
+        (counted_text words.now n ++ counted_text more_words.now m)) }
+    ensures err { OnErr result (SentSome (W.contents writer.old) (W.contents writer.new)
+        (counted_text words.now n ++ counted_text more_words.now m)) }
+{
+    send_counted(writer, words, n)?;
+    send_counted(writer, more_words, m)
+}
