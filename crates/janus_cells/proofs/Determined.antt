@@ -28,7 +28,7 @@ use Rattle.kernel_core.specs.declared.outcome.Refusal.TheVariants as refusal
 use Rattle.kernel_core.specs.declared.outcome.End.TheVariants.{NoMemory}
 use Rattle.janus_cells.specs.Determined.{Holds, TellsWant}
 use Rattle.janus_cells.specs.Lines.{ended_line}
-use Rattle.janus_cells.specs.Output.{counted_text}
+use Rattle.kernel_text.specs.Lines.{counted_text}
 use Rattle.janus_cells.specs.Script.{Action, RunText, UndoCells, RedoCells, GoToNode, ShowWorld, BadCommand}
 use Rattle.janus_cells.specs.Served.{lane, GoesBack, is_back, not_yet_back, CellFinishes, in_time, interrupted, faulted, FinishesAs, Finishes, ended, going, backing, next_cell, no_next_cell, Came, NotPosted, Finished, Serves, not_posted, at_once, later}
 use Rattle.janus_cells.specs.Transcript.{came_line, Answers, ActionServes, ActionsServe}

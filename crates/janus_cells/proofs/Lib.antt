@@ -6,11 +6,8 @@ pub mod Finishing
 pub mod GoingBack
 pub mod InputLemmas
 pub mod LinesLemmas
-pub mod OutputLemmas
 pub mod ScriptLemmas
 pub mod ServedEnds
 pub mod Serving
 pub mod ShownLemmas
-pub mod TextLemmas
 pub mod TranscriptLemmas
-pub mod ValueLemmas

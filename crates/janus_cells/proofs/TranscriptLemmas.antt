@@ -12,14 +12,15 @@ use Rattle.janus_cells.specs.declared.gathered.Gathered.{Gathered}
 use Rattle.janus_cells.specs.Command.{command_of}
 use Rattle.janus_cells.specs.Gathering.{IsGathered}
 use Rattle.janus_cells.specs.Lines.{ended_line, is_blank, is_command_line, lines, trimmed}
-use Rattle.janus_cells.specs.Output.{SentSome}
+use Rattle.kernel_text.specs.Sending.{SentSome}
 use Rattle.janus_cells.specs.Served.{Came, Serves, NotPosted, not_posted}
 use Rattle.janus_cells.specs.Shown.{world_text}
 use Rattle.janus_cells.specs.Script.{script}
-use Rattle.janus_cells.specs.Transcript.{ActionsServe, came_line, Answers, bad_command_line, post_fault_line}
+use Rattle.janus_cells.specs.Transcript.{ActionsServe, came_line, Answers, bad_command_line}
+use Rattle.kernel_text.specs.Lines.{post_fault_line}
 use Rattle.janus_cells.specs.Loop.{RestAt, RunsRest, Does, DoesAfterRest, CommandServes, LineAt, LineServes, text_after, LinesServe}
 use Rattle.janus_cells.proofs.LinesLemmas.{blank_more}
-use Rattle.janus_cells.proofs.OutputLemmas.{appends_none, appends_join, appends_kept, sent_first, sent_then}
+use Rattle.kernel_text.proofs.Sending.{appends_none, appends_join, appends_kept, sent_first, sent_then}
 use Rattle.janus_cells.proofs.ScriptLemmas.{script_serves}
 
 not_true : (b : Bool) → not b ≡ true → b ≡ false

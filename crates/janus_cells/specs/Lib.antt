@@ -1,6 +1,5 @@
 pub mod Lines
 pub mod Command
-pub mod Output
 pub mod RunFault
 pub mod Ending
 pub mod Served

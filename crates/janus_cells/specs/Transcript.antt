@@ -1,19 +1,13 @@
 -- What a run writes: the actions that its input asks for are served one after the other.
 use Rattle.std.specs.Prelude.{◌≡◌, ℕ, true, false, List, [], ◌∷◌, ◌++◌, codes}
-use Rattle.kernel_core.specs.PostFault.{number_of, name_of}
 use Rattle.kernel_core.specs.Runs.{Machine, new_machine}
 use Rattle.kernel_core.specs.Request.{Request, RunCell}
 use Rattle.kernel_core.specs.Request as request
-use Rattle.kernel_core.specs.declared.post.PostFault.{PostFault}
+use Rattle.kernel_text.specs.Lines.{outcome_line, post_fault_line}
 use Rattle.janus_cells.specs.Lines.{ended_line}
-use Rattle.janus_cells.specs.Output.{numbered_text, outcome_line}
 use Rattle.janus_cells.specs.Script.{Action, RunText, UndoCells, RedoCells, GoToNode, ShowWorld, BadCommand, script}
 use Rattle.janus_cells.specs.Served.{Came, NotPosted, Finished, Serves}
 use Rattle.janus_cells.specs.Shown.{world_text}
-
--- why a job could not be posted, without an LF
-abbrev pub post_fault_line : PostFault → List ℕ
-post_fault_line f = numbered_text (codes "refused ") (number_of f) (name_of f)
 
 -- what came of a request, without an LF
 abbrev pub came_line : Came → List ℕ

@@ -21,17 +21,16 @@ mod run;
 mod serve;
 #[cfg(test)]
 mod tests;
-mod text;
 #[cfg(test)]
 mod transcripts;
-mod value;
 mod words;
 
 use crate::fault::{RunFault, status};
-use crate::output::{WriteFailed, send_run_fault};
+use crate::output::send_run_fault;
 use crate::program::{program, without_output};
 use crate::words::{unread_words_status, words_status};
 use clap::error::ErrorKind;
+use kernel_text::WriteFailed;
 use std::env;
 use std::io::{self, BufWriter};
 use std::process::ExitCode;

@@ -4,7 +4,7 @@ ghost use Rattle.std.specs.Io.KnownBytes.{Appends, Keeps};
 ghost use Rattle.clap.specs.Values.{kind_of};
 ghost use Rattle.janus_cells.specs.CommandLine.{Runs};
 ghost use Rattle.janus_cells.specs.Ending.{AsksForHelp};
-ghost use Rattle.janus_cells.specs.Output.{SentSome};
+ghost use Rattle.kernel_text.specs.Sending.{SentSome};
 ghost use Rattle.janus_cells.specs.Transcript.{IsTranscript};
 
 use crate::fault::RunFault;

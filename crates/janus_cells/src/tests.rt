@@ -1,10 +1,8 @@
 use crate::fault::{RunFault, status};
 use crate::output::send_run_fault;
+use crate::program::program;
 use crate::run::run;
-use crate::text::{outcome_line, value_text};
 use crate::words::{steps_of, unread_words_status, words_status};
-use janus_store::View;
-use kernel_core::{CheckFault, End, Fault, Outcome, Refusal, Span};
 use std::alloc::Global;
 use std::io;
 use std::io::{Error, ErrorKind, Read, Write};
@@ -109,66 +107,6 @@ fn tells_faults(rt: HostRuntime) -> Result<(), Fail> {
     Ok(())
 }
 
-#[test]
-fn gives_texts(rt: HostRuntime) -> Result<(), Fail> {
-    let alloc = rt.alloc();
-    for (name, value, text) in [
-        ("x", View::Number(5), "x = 5"),
-        ("y_1", View::Number(-2147483648), "y_1 = -2147483648"),
-        ("a", View::Array(&[1, -2, 3]), "a[3] = 1 -2 3"),
-        (
-            "b",
-            View::Array(&[0; 32]),
-            "b[32] = 0 0 0 0 0 0 0 0 0 0 0 0 0 0 0 0 0 0 0 0 0 0 0 0 0 0 0 0 0 0 0 0",
-        ),
-        (
-            "c",
-            View::Array(&[7; 33]),
-            "c[33] = 7 7 7 7 7 7 7 7 7 7 7 7 7 7 7 7 7 7 7 7 7 7 7 7 7 7 7 7 7 7 7 7 ...",
-        ),
-    ] {
-        assert_eq!(rt; value_text(alloc, name, value)?.as_str(), text);
-    }
-    assert_eq!(rt;
-        outcome_line(alloc, &Outcome::Ran(2, 3))?.as_str(),
-        "ok node 2 steps 3"
-    );
-    assert_eq!(rt;
-        outcome_line(alloc, &Outcome::Failed(Fault::DivisionByZero, 1))?.as_str(),
-        "fault 57 DivisionByZero after 1"
-    );
-    assert_eq!(rt;
-        outcome_line(alloc, &Outcome::Interrupted(4096))?.as_str(),
-        "interrupted after 4096"
-    );
-    assert_eq!(rt;
-        outcome_line(alloc, &Outcome::Undid(1, End::All))?.as_str(),
-        "undid 1"
-    );
-    assert_eq!(rt;
-        outcome_line(alloc, &Outcome::Redid(2, End::NoMemory))?.as_str(),
-        "redid 2 then no memory"
-    );
-    assert_eq!(rt;
-        outcome_line(alloc, &Outcome::Went(1, 2, End::All))?.as_str(),
-        "went 1 up 2 down"
-    );
-    let at = Span { start: 5, end: 6 };
-    assert_eq!(rt;
-        outcome_line(
-            alloc,
-            &Outcome::Refused(Refusal::Check(CheckFault::SelfUse(at)))
-        )?
-        .as_str(),
-        "refused 43 SelfUse at 5..6"
-    );
-    assert_eq!(rt;
-        outcome_line(alloc, &Outcome::Refused(Refusal::TooFar))?.as_str(),
-        "refused 73 TooFar"
-    );
-    Ok(())
-}
-
 /// How many steps the words give a cell; of words that run nothing the exit status, and whether what is told of them goes to
 /// standard error.
 fn steps(alloc: Global, words: &[&str]) -> Result<u64, (u8, bool)> {
@@ -257,5 +195,34 @@ fn tells_how_a_run_ended(rt: HostRuntime) -> Result<(), Fail> {
     );
     assert_eq!(rt; status(Ok(())), 0);
     assert_eq!(rt; status(Err(RunFault::Write)), 1);
+    Ok(())
+}
+
+#[test]
+fn runs_as_the_words_say(rt: HostRuntime) -> Result<(), Fail> {
+    let alloc = rt.alloc();
+    let input = "int x from x = 0 loop x += 1 until 0\n%show\n";
+    for (words, transcript) in [
+        (
+            ["janus-cells", "--steps", "5"].as_slice(),
+            "interrupted after 5\nat node 0\n",
+        ),
+        (
+            ["janus-cells", "--steps=4096"].as_slice(),
+            "interrupted after 4096\nat node 0\n",
+        ),
+    ] {
+        let mut told = Vec::new(alloc);
+        let ended = program(alloc, words, &mut input.as_bytes(), &mut told);
+        assert!(rt; matches!(ended, Ok(Ok(()))));
+        assert_eq!(rt; String::from_utf8(told)?.as_str(), transcript);
+    }
+    let mut told = Vec::new(alloc);
+    let wrong = ["janus-cells", "--steps", "0"];
+    match program(alloc, &wrong, &mut input.as_bytes(), &mut told) {
+        Ok(_) => assert!(rt; false),
+        Err(error) => assert_eq!(rt; words_status(error.kind()), 2),
+    }
+    assert_eq!(rt; told.len(), 0);
     Ok(())
 }

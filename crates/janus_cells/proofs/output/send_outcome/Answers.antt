@@ -1,14 +1,14 @@
 use Rattle.std.proofs.Common.{codes, refl}
 use Rattle.janus_cells.specs.Lines.{ended_line}
-use Rattle.janus_cells.specs.Output.{outcome_line}
-use Rattle.janus_cells.proofs.OutputLemmas.{some_first, some_then}
+use Rattle.kernel_text.specs.Lines.{outcome_line}
+use Rattle.kernel_text.proofs.Sending.{some_first, some_then}
 use Rattle.janus_cells.proofs.output.send_outcome.Goals as goal
 
-pub returns-in_err-send_outcome_text-clause-err : goal.returns-in_err-send_outcome_text-clause-err
-returns-in_err-send_outcome_text-clause-err g c =
-    some_first (g.W.Write.contents c.args.writer.now) (g.W.Write.contents c.send_outcome_text.new.writer) (outcome_line c.args.outcome.now) (codes "\n") (ended_line (outcome_line c.args.outcome.now)) c.from_residual.result refl c.in_err-send_outcome_text.ensures.err
+pub returns-in_err-send_outcome-clause-err : goal.returns-in_err-send_outcome-clause-err
+returns-in_err-send_outcome-clause-err g c =
+    some_first (g.W.Write.contents c.args.writer.now) (g.W.Write.contents c.send_outcome.new.writer) (outcome_line c.args.outcome.now) (codes "\n") (ended_line (outcome_line c.args.outcome.now)) c.from_residual.result refl c.in_err-send_outcome.ensures.err
 
 pub returns-clause-err : goal.returns-clause-err
 returns-clause-err g c =
-    some_then (g.W.Write.contents c.args.writer.now) (g.W.Write.contents c.send_outcome_text.new.writer) (g.W.Write.contents c.send.new.writer) (outcome_line c.args.outcome.now) (codes "\n") (ended_line (outcome_line c.args.outcome.now)) c.send.result refl
-    c.in_ok-send_outcome_text.ensures.ok c.send.ensures.err
+    some_then (g.W.Write.contents c.args.writer.now) (g.W.Write.contents c.send_outcome.new.writer) (g.W.Write.contents c.send.new.writer) (outcome_line c.args.outcome.now) (codes "\n") (ended_line (outcome_line c.args.outcome.now)) c.send.result refl
+    c.in_ok-send_outcome.ensures.ok c.send.ensures.err

@@ -1,8 +1,8 @@
 use Rattle.std.proofs.Common.{codes, refl}
 use Rattle.janus_cells.specs.Lines.{ended_line}
-use Rattle.janus_cells.specs.Output.{counted_text}
+use Rattle.kernel_text.specs.Lines.{counted_text}
 use Rattle.janus_cells.specs.Shown.{position_line}
-use Rattle.janus_cells.proofs.OutputLemmas.{some_first, some_then}
+use Rattle.kernel_text.proofs.Sending.{some_first, some_then}
 use Rattle.janus_cells.proofs.output.send_position.Goals as goal
 
 pub returns-in_err-send_counted-clause-err : goal.returns-in_err-send_counted-clause-err

@@ -5,7 +5,7 @@ use Rattle.janus_store.specs.Values.{shown}
 use Rattle.kernel_core.specs.State.{here}
 use Rattle.janus_cells.specs.Lines.{ended_line}
 use Rattle.janus_cells.specs.Shown.{position_line, value_lines, world_text}
-use Rattle.janus_cells.proofs.OutputLemmas.{some_first, some_now}
+use Rattle.kernel_text.proofs.Sending.{some_first, some_now}
 use Rattle.janus_cells.proofs.ShownLemmas.{entry_then, entry_failed, first_all}
 use Rattle.janus_cells.proofs.run.show.Goals as goal
 
