@@ -4,7 +4,7 @@ use Rattle.std.specs.declared.alloc.Global.{Global}
 use Rattle.janus_meaning.specs.Syntax.{Name}
 use Rattle.janus_meaning.specs.Fault.{Fine, Bad, Broken}
 use Rattle.janus_meaning.specs.Store.{Val, Store, look}
-use Rattle.kernel_ask.specs.ValueTexts.{value_text}
+use Rattle.kernel_text.specs.ValueTexts.{value_text}
 
 -- of a declared name its value text; of another word nothing (there are no procedures yet)
 abbrev pub IsInspection : Store → Name → Option (String Global) → Type 0

@@ -1,5 +1,4 @@
 pub mod Lines
-pub mod ValueTexts
 pub mod Cursor
 pub mod Grown
 pub mod Matches

@@ -1,61 +1,10 @@
--- The lines in which outcomes and refusals are told, without their LF.
-use Rattle.std.specs.Prelude.{ℕ, List, [], ◌++◌, Option, Some, None, codes, decimal}
-use Rattle.janus_machine.specs.Faults as fault
-use Rattle.janus_machine.specs.declared.fault.Fault.{Fault}
-use Rattle.janus_syntax.specs.declared.token.Span.{Span}
-use Rattle.kernel_core.specs.Refusal as refusal
-use Rattle.kernel_core.specs.PostFault as post_fault
-use Rattle.kernel_core.specs.declared.outcome.End.{End}
-use Rattle.kernel_core.specs.declared.outcome.End.TheVariants.{All, Asked, NoMemory}
-use Rattle.kernel_core.specs.declared.outcome.Outcome.{Outcome}
-use Rattle.kernel_core.specs.declared.outcome.Outcome.TheVariants.{Ran, Failed, Interrupted, Undid, Redid, Went, Refused}
-use Rattle.kernel_core.specs.declared.outcome.Refusal.{Refusal}
-use Rattle.kernel_core.specs.declared.post.PostFault.{PostFault}
+-- The line that says why an expression has no value.
+use Rattle.std.specs.Prelude.{ℕ, List}
+use Rattle.kernel_text.specs.Lines.{fault_text, refusal_text}
 use Rattle.kernel_ask.specs.declared.done.ExpFault.{ExpFault}
 use Rattle.kernel_ask.specs.declared.done.ExpFault.TheVariants as exp
 
--- words, and then a number
-abbrev pub counted_text : List ℕ → ℕ → List ℕ
-counted_text words n = words ++ decimal n
-
--- words, a number and its name
-abbrev pub numbered_text : List ℕ → ℕ → List ℕ → List ℕ
-numbered_text words number name = counted_text words number ++ codes " " ++ name
-
--- where a text is refused: from an octet on, and up to another
-abbrev pub place_text : Option Span → List ℕ
-place_text None = []
-place_text (Some span) = counted_text (codes " at ") span.start ++ counted_text (codes "..") span.end
-
--- how a move ended, where memory ran out
-abbrev pub end_text : End → List ℕ
-end_text All = []
-end_text Asked = []
-end_text NoMemory = codes " then no memory"
-
--- which fault was met
-abbrev pub fault_text : Fault → List ℕ
-fault_text f = numbered_text (codes "fault ") (fault.number_of f) (fault.name_of f)
-
--- why something was refused, and where
-abbrev pub refusal_text : Refusal → List ℕ
-refusal_text r = numbered_text (codes "refused ") (refusal.number_of r) (refusal.name_of r) ++ place_text (refusal.span_of r)
-
--- what came of a job
-abbrev pub outcome_line : Outcome → List ℕ
-outcome_line (Ran node steps) = counted_text (codes "ok node ") node ++ counted_text (codes " steps ") steps
-outcome_line (Failed f steps) = fault_text f ++ counted_text (codes " after ") steps
-outcome_line (Interrupted steps) = counted_text (codes "interrupted after ") steps
-outcome_line (Undid cells end) = counted_text (codes "undid ") cells ++ end_text end
-outcome_line (Redid cells end) = counted_text (codes "redid ") cells ++ end_text end
-outcome_line (Went up down end) = counted_text (codes "went ") up ++ counted_text (codes " up ") down ++ codes " down" ++ end_text end
-outcome_line (Refused r) = refusal_text r
-
--- why a job was not posted
-abbrev pub post_fault_line : PostFault → List ℕ
-post_fault_line f = numbered_text (codes "refused ") (post_fault.number_of f) (post_fault.name_of f)
-
--- why an expression has no value
+-- the text was refused, or its evaluation met a fault
 abbrev pub exp_fault_line : ExpFault → List ℕ
 exp_fault_line (exp.Refused r) = refusal_text r
 exp_fault_line (exp.Met f) = fault_text f

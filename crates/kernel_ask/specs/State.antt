@@ -5,7 +5,7 @@ use Rattle.janus_meaning.specs.World.{World, listed}
 use Rattle.kernel_core.specs.State.{Job, Idle, Border, Inside, Shown}
 use Rattle.kernel_core.specs.Runs.{Machine}
 use Rattle.kernel_core.specs.Extent.{IsExtent}
-use Rattle.kernel_ask.specs.ValueTexts.{value_text}
+use Rattle.kernel_text.specs.ValueTexts.{value_text}
 use Rattle.kernel_ask.specs.declared.answer.KernelState.{KernelState}
 
 -- it holds of the names and values of the shown world

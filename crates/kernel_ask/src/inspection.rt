@@ -5,7 +5,7 @@ ghost use Rattle.kernel_ask.specs.Cursor.{word_at as word_at_of};
 ghost use Rattle.kernel_ask.specs.Inspection.{IsInspection};
 
 use crate::cursor::word_at;
-use crate::values::value_text;
+use kernel_text::value_text;
 use janus_store::Store;
 use std::alloc::{AllocError, Global};
 use std::sync::ledger::Ledger;

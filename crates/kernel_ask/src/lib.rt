@@ -16,7 +16,6 @@ mod matches;
 mod naming;
 mod shown;
 mod standing;
-mod values;
 mod wishes;
 
 pub use crate::answer::{Answer, Ask, Completion, Content, HallFault, KernelState};
@@ -27,6 +26,6 @@ pub use crate::comms::{COMM_LIMIT, Comms};
 pub use crate::done::{Done, ExpFault, NamedValue, Wish};
 pub use crate::inputs::{HistoryAsk, Input};
 pub use crate::judgement::{Completeness, is_complete};
-pub use crate::lines::{exp_fault_line, outcome_line, post_fault_line};
+pub use crate::lines::exp_fault_line;
 pub use crate::standing::{is_settled, stands_at_end, state};
-pub use crate::values::{SHOWN_VALUES, value_text};
+pub use kernel_text::{SHOWN_VALUES, outcome_line, post_fault_line, value_text};

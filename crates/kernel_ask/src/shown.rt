@@ -5,11 +5,11 @@ ghost use Rattle.janus_meaning.specs.World.{listed};
 ghost use Rattle.janus_store.specs.Values.{shown};
 ghost use Rattle.janus_syntax.specs.Tree.{cell_view};
 ghost use Rattle.kernel_ask.specs.Naming.{in_cell};
-ghost use Rattle.kernel_ask.specs.ValueTexts.{value_text as value_text_of};
+ghost use Rattle.kernel_text.specs.ValueTexts.{value_text as value_text_of};
 ghost use Rattle.kernel_ask.specs.Shown.{shown_text, IsCellOf, IsShown};
 
 use crate::naming::cell_names;
-use crate::values::value_text;
+use kernel_text::value_text;
 use janus_store::{Store, View};
 use janus_syntax::tree::Cell;
 use janus_syntax::{SyntaxFault, parse_cell};

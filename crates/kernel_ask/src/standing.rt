@@ -2,12 +2,12 @@
 ghost use Rattle.std.specs.Prelude.{◌≡◌, ◌↔◌, IsTrue, true, not, map, string_bytes, IfOk};
 ghost use Rattle.janus_meaning.specs.World.{listed};
 ghost use Rattle.kernel_core.specs.State.{Idle};
-ghost use Rattle.kernel_ask.specs.ValueTexts.{value_text as value_text_of};
+ghost use Rattle.kernel_text.specs.ValueTexts.{value_text as value_text_of};
 ghost use Rattle.kernel_ask.specs.EndedAt.{StandsAtEnd};
 ghost use Rattle.kernel_ask.specs.State.{is_busy as is_busy_of, IsState};
 
 use crate::answer::KernelState;
-use crate::values::value_text;
+use kernel_text::value_text;
 use janus_store::Store;
 use kernel_core::{Kernel, Outcome, Phase};
 use std::alloc::{AllocError, Global};

@@ -6,7 +6,8 @@ use Rattle.kernel_core.specs.PostFault as post_fault
 use Rattle.kernel_core.specs.declared.outcome.Outcome.{Outcome}
 use Rattle.kernel_core.specs.declared.outcome.Outcome.TheVariants.{Ran, Failed, Interrupted, Undid, Redid, Went, Refused}
 use Rattle.kernel_core.specs.declared.post.PostFault.{PostFault}
-use Rattle.kernel_ask.specs.Lines.{outcome_line, post_fault_line, exp_fault_line}
+use Rattle.kernel_text.specs.Lines.{outcome_line, post_fault_line}
+use Rattle.kernel_ask.specs.Lines.{exp_fault_line}
 use Rattle.kernel_ask.specs.declared.done.ExpFault.{ExpFault}
 use Rattle.kernel_ask.specs.declared.done.ExpFault.TheVariants as exp
 
