@@ -68,20 +68,20 @@ move_ends old new o (backing {mid = mid} s f) =
     let rest = move_ends mid new o f in
     (event.Slice step_limit false ∷ rest.0, told.Slice sliced.Backing ∷ rest.1, (mid, s, rest.2), rest.3, λ h. rest.4 (unasked step_limit rest.0 h))
 move_ends old new o (next_cell {border = border} {mid = mid} s b f) =
-    let rest = move_ends mid new o f in
-    ( event.Slice step_limit false ∷ event.Begin ∷ rest.0
-    , told.Slice sliced.Border ∷ told.Begin begun.Going ∷ rest.1
-    , (border, s, (mid, b, rest.2))
-    , rest.3
-    , λ h. rest.4 (unasked step_limit (event.Begin ∷ rest.0) h)
+    let rest = move_ends mid new o f in (
+      event.Slice step_limit false ∷ event.Begin ∷ rest.0,
+      told.Slice sliced.Border ∷ told.Begin begun.Going ∷ rest.1,
+      (border, s, (mid, b, rest.2)),
+      rest.3,
+      λ h. rest.4 (unasked step_limit (event.Begin ∷ rest.0) h),
     )
-move_ends old new o (no_next_cell {border = border} s b) =
-    ( event.Slice step_limit false ∷ event.Begin ∷ []
-    , told.Slice sliced.Border ∷ told.Begin (begun.Ended o) ∷ []
-    , (border, s, (new, b, refl))
-    , (refl, refl)
-    , λ h. none_asked (unasked step_limit (event.Begin ∷ []) h)
-    )
+move_ends old new o (no_next_cell {border = border} s b) = (
+  event.Slice step_limit false ∷ event.Begin ∷ [],
+  told.Slice sliced.Border ∷ told.Begin (begun.Ended o) ∷ [],
+  (border, s, (new, b, refl)),
+  (refl, refl),
+  λ h. none_asked (unasked step_limit (event.Begin ∷ []) h),
+)
 
 job_ends : (steps : ℕ) (r : Request) (old new : Machine) (o : Outcome) → FinishesAs steps r old o new → Ends old o new
 job_ends steps (RunCell text silent store) old new o f = cell_ends steps old new o f

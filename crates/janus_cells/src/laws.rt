@@ -2,7 +2,10 @@
 ghost use Rattle.janus_cells.specs.Determined.{TranscriptIsDetermined};
 ghost use Rattle.janus_cells.specs.ServedEnds.{ServesByARun, ServedJobEnds, StopsCellsAlone};
 
-use kernel_core::laws::{jobs_end_law, new_is_legal_law, only_asked_slices_stop_law, stays_legal_law, step_is_determined_law};
+use kernel_core::laws::{
+    jobs_end_law, new_is_legal_law, only_asked_slices_stop_law, stays_legal_law,
+    step_is_determined_law,
+};
 
 /// An input has at most one transcript that nowhere tells want of memory: two such are the same.
 pub fn transcript_is_determined_law()
@@ -16,8 +19,7 @@ pub fn transcript_is_determined_law()
 /// A request that is served is posted, and a run of the kernel's machine brings it to its end.
 pub fn serves_by_a_run_law()
     ensures { ServesByARun }
-{
-}
+{}
 
 /// What comes of a request that is served is what the kernel's law says of each job: a cell is a new node or has left all as it was, an
 /// undo, a redo or a goto ends after all of its cells or some, or is refused whole.

@@ -46,7 +46,10 @@ pub fn program<'a, S: AsStr, R: Read, W: Write>(
 }
 
 /// What the program answers where it has no memory for its output: what is wrong with the words comes first.
-pub fn without_output<'a, S: AsStr>(alloc: Global, words: &'a [S]) -> Result<Result<(), RunFault>, Error>
+pub fn without_output<'a, S: AsStr>(
+    alloc: Global,
+    words: &'a [S],
+) -> Result<Result<(), RunFault>, Error>
     ensures memory { IfOk result (λ ended. ended ≡ Err RunFault.Memory) }
     ensures err { IfErr result (λ error. (n : ℕ) → Runs (map S.text words.now) n → kind_of error ≡ ErrorKind.OutOfMemory) }
 {

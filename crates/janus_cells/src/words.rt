@@ -26,7 +26,9 @@ pub fn steps_of<'a, S: AsStr>(alloc: Global, words: &'a [S]) -> Result<u64, Erro
         .value_parser(value_parser!(u64).range(1..=1_000_000_000_000))
         .help("How many steps each cell may take, from 1 to 1000000000000");
     let command = Command::new(alloc, "janus-cells")
-        .about("Runs Janus cells with undo, redo, goto and show, line by line, from standard input. A cell that has not ended after N steps is interrupted.")
+        .about(
+            "Runs Janus cells with undo, redo, goto and show, line by line, from standard input. A cell that has not ended after N steps is interrupted.",
+        )
         .arg(steps)?;
     let matches = command.try_get_matches_from(words)?;
     match matches.get_one::<u64>("steps") {

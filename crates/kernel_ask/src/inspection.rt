@@ -5,8 +5,8 @@ ghost use Rattle.kernel_ask.specs.Cursor.{word_at as word_at_of};
 ghost use Rattle.kernel_ask.specs.Inspection.{IsInspection};
 
 use crate::cursor::word_at;
-use kernel_text::value_text;
 use janus_store::Store;
+use kernel_text::value_text;
 use std::alloc::{AllocError, Global};
 use std::sync::ledger::Ledger;
 

@@ -9,10 +9,10 @@ ghost use Rattle.kernel_text.specs.ValueTexts.{value_text as value_text_of};
 ghost use Rattle.kernel_ask.specs.Shown.{shown_text, IsCellOf, IsShown};
 
 use crate::naming::cell_names;
-use kernel_text::value_text;
 use janus_store::{Store, View};
 use janus_syntax::tree::Cell;
 use janus_syntax::{SyntaxFault, parse_cell};
+use kernel_text::value_text;
 use std::alloc::{AllocError, Global};
 use std::sync::ledger::Ledger;
 

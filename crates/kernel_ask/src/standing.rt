@@ -7,9 +7,9 @@ ghost use Rattle.kernel_ask.specs.EndedAt.{StandsAtEnd};
 ghost use Rattle.kernel_ask.specs.State.{is_busy as is_busy_of, IsState};
 
 use crate::answer::KernelState;
-use kernel_text::value_text;
 use janus_store::Store;
 use kernel_core::{Kernel, Outcome, Phase};
+use kernel_text::value_text;
 use std::alloc::{AllocError, Global};
 use std::sync::ledger::Ledger;
 

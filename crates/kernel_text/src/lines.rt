@@ -4,8 +4,8 @@ ghost use Rattle.std.specs.Io.KnownBytes.{Appends};
 ghost use Rattle.kernel_text.specs.Sending.{SentSome};
 ghost use Rattle.kernel_text.specs.Lines.{counted_text, end_text, failed_text, fault_text, outcome_line as outcome_line_of, place_text, post_fault_line as post_fault_line_of, refusal_text, way_text};
 
-use crate::writing::{WriteFailed, send, send_counted, send_numbered, send_pair};
 use crate::text::as_text;
+use crate::writing::{WriteFailed, send, send_counted, send_numbered, send_pair};
 use kernel_core::{End, Fault, Outcome, PostFault, Refusal, Span};
 use std::alloc::{AllocError, Global};
 use std::io::Write;

@@ -6,8 +6,8 @@ ghost use Rattle.janus_store.specs.Values.{shown};
 ghost use Rattle.kernel_text.specs.Sending.{SentSome};
 ghost use Rattle.kernel_text.specs.ValueTexts.{equated_text, length_text, spaced_text, numbers_text, told_text, value_text as value_text_of};
 
-use crate::writing::{WriteFailed, send, send_counted};
 use crate::text::as_text;
+use crate::writing::{WriteFailed, send, send_counted};
 use itoa::Buffer;
 use janus_store::View;
 use std::alloc::{AllocError, Global};
