@@ -5,10 +5,10 @@ use Rattle.std.proofs.lemmas.Bool.{cases_lt}
 use Rattle.std.proofs.lemmas.List.{length-map, map-append}
 use Rattle.kernel_core.specs.State.{Job as Open, Idle, Border, Inside}
 use Rattle.kernel_core.specs.Request.{Request, is_counted, raised}
-use Rattle.kernel_core.specs.Minutes.{Entry, Posted, Ended, Post, posts_of, posted_in, ended_in, IsNumberOf}
+use Rattle.kernel_core.specs.Minutes.{Entry, Posted, Ended, Post, posts_of}
 use Rattle.kernel_core.specs.Runs.{Machine}
-use Rattle.kernel_core.specs.LegalMinutes.{Account, new_account, EndsFirst, Tells, Give, IsOpen, Agrees, HasLegalMinutes}
-use Rattle.kernel_core.specs.Counters.{counted_to, HasEnd, HasCountedEnd, EndTellsCounted, CounterNeverFalls, CountedIsNext, NoCounterTwice, CounterIsOfBegun}
+use Rattle.kernel_core.specs.LegalMinutes.{Account, new_account, EndsFirst, Give, IsOpen, Agrees, HasLegalMinutes}
+use Rattle.kernel_core.specs.Counters.{counted_to, HasCountedEnd, EndTellsCounted, CounterNeverFalls, CountedIsNext, NoCounterTwice, CounterIsOfBegun}
 use Rattle.kernel_core.specs.declared.outcome.Outcome.{Outcome}
 use Rattle.kernel_core.proofs.Posts.{posts-append}
 use Rattle.kernel_core.proofs.Noted.{give_ended}

@@ -1,6 +1,6 @@
 -- The number of steps that a slice takes: it is the only one, and the counts tell it.
 use Rattle.std.specs.Prelude.{Bool, true, false}
-use Rattle.std.proofs.Common.{◌≡◌, ℕ, ◌+◌, ◌-◌, ◌<◌, ◌≤◌, ◌⊎◌, zero, suc, refl, sym, ap, ◌∙◌, subst, arith, inl, inr}
+use Rattle.std.proofs.Common.{◌≡◌, ℕ, ◌+◌, ◌-◌, ◌<◌, ◌≤◌, zero, suc, sym, ap, ◌∙◌, subst, arith, inl, inr}
 use Rattle.std.proofs.lemmas.Bool.{cases_lt}
 use Rattle.janus_meaning.specs.World.{World}
 use Rattle.janus_machine.specs.Faults.{fault_of}
@@ -8,11 +8,11 @@ use Rattle.kernel_core.specs.Language.{Part}
 use Rattle.kernel_core.specs.Reached.{Reaches, Progress, Went, Ended, Stopped}
 use Rattle.kernel_core.specs.State.{Past, State, Work, Posted, Move, Job, Entered, Idle, Border, Inside, here, code_of, ShownAt}
 use Rattle.kernel_core.specs.Legal.{IsLegal, IsPossibleAt, IsPossibleWork, IsInTimeAt, IsInTime}
-use Rattle.kernel_core.specs.Slices.{HasEnded, Settles, Backs, Comes, SlicesIn, SlicesAt}
+use Rattle.kernel_core.specs.Slices.{HasEnded, Backs, Comes, SlicesIn, SlicesAt}
 use Rattle.kernel_core.specs.Theorems.{end_world}
 use Rattle.kernel_core.specs.Turn.{Why, WasAsked, Faulted, Turn, GoesOn, GoesBack}
 use Rattle.kernel_core.specs.declared.outcome.Sliced.{Sliced}
-use Rattle.kernel_core.specs.StepsOfSlices.{steps_on, steps_back, TakesOn, TakesIn, TakesAt, TakesOneNumber, StaysAt, AreStepsOfNode, IsDoneIn, CountsOn, CountsBack, CountsIn, StepsAreCounted}
+use Rattle.kernel_core.specs.StepsOfSlices.{steps_on, TakesOn, TakesIn, TakesAt, TakesOneNumber, StaysAt, AreStepsOfNode, IsDoneIn, CountsOn, CountsBack, CountsIn, StepsAreCounted}
 use Rattle.kernel_core.proofs.LanguageLaws.{exec_same, stop_no_part}
 use Rattle.kernel_core.proofs.Determined.{reach_same}
 use Rattle.kernel_core.proofs.OnTime.{ran_to_end}
