@@ -64,6 +64,19 @@ fn an_endless_loop_is_interrupted(rt: HostRuntime) -> Result<(), Fail> {
     plays(&rt, rt.alloc(), AN_ENDLESS_LOOP_IS_INTERRUPTED)
 }
 
+/// An endless loop that is asked to stop may go back in one slice of as many steps as it took.
+const AN_ENDLESS_LOOP_GOES_BACK_AT_ONCE: &str = r#"cell int x from x = 0 loop x += 1 until 0: Ok(1)
+begin: Going
+slice 4096: Going
+world: 0 x=512
+ask 4096: Ended(Interrupted(4096))
+world: 0"#;
+
+#[test]
+fn an_endless_loop_goes_back_at_once(rt: HostRuntime) -> Result<(), Fail> {
+    plays(&rt, rt.alloc(), AN_ENDLESS_LOOP_GOES_BACK_AT_ONCE)
+}
+
 /// A loop is undone by its inverse, step by step; an interrupted undo leaves the loop done, and a further one undoes it.
 const A_LOOP_IS_UNDONE_STEP_BY_STEP: &str =
     r#"cell int x int a[2] from x = 0 do x += 1 loop a[1] += x until x = 3: Ok(1)

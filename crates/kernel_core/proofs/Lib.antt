@@ -17,7 +17,9 @@ pub mod Stopping
 pub mod Reach
 pub mod Refusals
 pub mod Determined
+pub mod Steps
 pub mod Posts
 pub mod Noted
+pub mod Counting
 pub mod Writing
 pub mod Depths

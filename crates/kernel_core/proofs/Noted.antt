@@ -50,7 +50,7 @@ ends_one a (job ∷ rest) number o count node b h =
     let counter : b.counter ≡ raised a.counter job = ap (λ (x : Account). x.counter) h.5 ∙ h.3 in
     (ap (λ (x : Account). x.ended) h.5 ∙ h.2, sym (ap (λ (x : Account). suc (length x.waiting)) h.5), omega arith)
 
-give_ended : (a b : Account) (entries : List Entry) → Give a entries b → b.ended ≡ a.ended + ended_in entries
+pub give_ended : (a b : Account) (entries : List Entry) → Give a entries b → b.ended ≡ a.ended + ended_in entries
 give_ended a b [] g = (let same = ap (λ (x : Account). x.ended) g in omega arith)
 give_ended a b (Posted lane job ∷ entries) g =
     let same = ap (λ (x : Account). x.ended) g.1 in

@@ -23,6 +23,7 @@ pub mod Midway
 pub mod LegalState
 pub mod Theorems
 pub mod LegalMinutes
+pub mod Counters
 pub mod Determined
 -- The code's own words: its types read as those of the machine, what its fields keep, and how contracts have states as values.
 pub mod Program

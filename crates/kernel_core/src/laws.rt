@@ -2,7 +2,9 @@
 //! The functions do nothing: their contracts are the laws.
 ghost use Rattle.kernel_core.specs.Determined.{StepIsDetermined, RunIsDetermined};
 ghost use Rattle.kernel_core.specs.Theorems.{NewIsLegal, StaysLegal, GoesBackForItsReason, JobsEnd, OnlyAskedSlicesStop, UndoesAll, UndoGoesUp, RedoGoesDown, GotoGoesThere, RedoGivesBack, SettlesOnTime, NeverFaults, IsMirrored, PathGivesWorld, UndoGoesUpThePath, RedoGoesDownFavourites, ShutRefusesJobs};
+ghost use Rattle.kernel_core.specs.StepsOfSlices.{TakesOneNumber, StepsAreCounted};
 ghost use Rattle.kernel_core.specs.LegalMinutes.{KeepsLegalMinutes};
+ghost use Rattle.kernel_core.specs.Counters.{EndTellsCounted, CounterNeverFalls, CountedIsNext, NoCounterTwice, CounterIsOfBegun};
 
 /// A new machine is legal: its tree is, and no job is open.
 pub fn new_is_legal_law()
@@ -65,6 +67,14 @@ pub fn settles_on_time_law()
     ensures { SettlesOnTime }
 {}
 
+/// The number of steps that a slice takes or goes back is the only one, and the counts of the open job tell it: onward the count
+/// after less that before, or where the cell is done the steps of its node less that before; back the count before less that after, or
+/// where the job settles back the whole count.
+pub fn steps_of_slices_law()
+    ensures one { TakesOneNumber }
+    ensures counted { StepsAreCounted }
+{}
+
 /// Undo and redo of an accepted cell never meet a fault.
 pub fn never_faults_law()
     ensures { NeverFaults }
@@ -111,4 +121,15 @@ pub fn shut_refuses_jobs_law()
 /// job has done.
 pub fn keeps_legal_minutes_law()
     ensures { KeepsLegalMinutes }
+{}
+
+/// The execution counter numbers the cells that are not silent and are to be stored, in the order of their posts. In legal minutes each
+/// end carries the number of such cells that had begun by then; along the minutes these numbers never fall; such a cell carries one more
+/// than how many came before it, and no two carry the same. The counter of the kernel is the number of those that have begun.
+pub fn counters_number_cells_law()
+    ensures told { EndTellsCounted }
+    ensures rising { CounterNeverFalls }
+    ensures next { CountedIsNext }
+    ensures unlike { NoCounterTwice }
+    ensures now { CounterIsOfBegun }
 {}
