@@ -13,6 +13,7 @@ ghost use Rattle.zmtp_peer.specs.Laws.{OctetsAreRead, OctetsHaveOneReading, Refu
 
 mod command;
 mod connection;
+mod counts;
 mod event;
 mod fault;
 mod handshake;

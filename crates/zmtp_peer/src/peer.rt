@@ -10,14 +10,13 @@ ghost use Rattle.zmtp_peer.specs.Subscriptions.{IsWanted};
 ghost use Rattle.zmtp_peer.specs.Opening.{opening_of};
 
 use crate::connection::Connection;
+use crate::counts::Counts;
 use crate::event::PeerEvent;
 use crate::fault::PeerFault;
 use crate::intake::Stage;
 use crate::opening::opening_octets;
 use crate::role::Role;
-use crate::subscriptions::is_wanted;
 use std::alloc::{AllocError, Global};
-use std::collections::BTreeMap;
 use std::marker::Model;
 use zmtp_wire::{Decoder, GREETING_LENGTH, Greeting};
 
@@ -40,14 +39,13 @@ impl Model for Peer {
     ghost Value = { Standing };
 
     ghost use Rattle.zmtp_peer.specs.Connection.{state_in, IsConnection};
-    ghost use Rattle.zmtp_peer.specs.Table.{table_of};
 
     ghost view = { λ p. record {
       role = p.role;
       greeting = take p.greeted p.greeting;
       state = state_in p.connection;
       rest = p.connection.decoder.rest;
-      table = table_of p.connection.counts.entries;
+      table = p.connection.counts;
     } };
 
     ghost invariant = { λ p. (p.greeted ≤ 64) × IsConnection p.connection };
@@ -68,7 +66,7 @@ impl Peer {
                 stage: Stage::Opening,
                 held: Vec::new(alloc),
                 decoder: Decoder::new(alloc),
-                counts: BTreeMap::new(alloc),
+                counts: Counts::new(alloc),
             },
         }
     }
@@ -109,7 +107,7 @@ impl Peer {
         ensures { (fed : List ℕ) → (given : List Event) → Stands fed given self.now →
             (IsTrue result ↔ IsWanted given topic.now) }
     {
-        is_wanted(&self.connection.counts, topic)
+        self.connection.counts.is_wanted(topic)
     }
 
     /// Takes the next octets, and answers the events that they bring.

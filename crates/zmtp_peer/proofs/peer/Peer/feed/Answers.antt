@@ -12,7 +12,6 @@ use Rattle.zmtp_peer.specs.Faults.{fault_of, Wire, want_of_memory}
 use Rattle.zmtp_peer.specs.Events.{Event, Refused, bodies, events_of}
 use Rattle.zmtp_peer.specs.Intake.{IsRefusal, state_at}
 use Rattle.zmtp_peer.specs.Connection.{state_in}
-use Rattle.zmtp_peer.specs.Table.{table_of}
 use Rattle.zmtp_peer.specs.Reading.{Standing, Brings}
 use Rattle.zmtp_peer.proofs.ReadingLemmas.{standing, stands-refused, stands-short, stands-unwelcome, stands-read, stands-same}
 use Rattle.zmtp_peer.proofs.RefusalLemmas.{not-refused, refused-anyhow, never-memory, ok-weaker, err-weaker, whole-front, take-whole, welcome-none}
@@ -30,7 +29,7 @@ returns-then-piece-missing c =
     let kept = inside.connection in
     let greeting : List ℕ = take inside.greeted inside.greeting in
     let now : List ℕ = take (inside.greeted + length c.args.piece.now) c.write_at.new.greeting in
-    let table = table_of kept.counts.entries in
+    let table = kept.counts in
     let going : ¬ (IsRefusal (state_in kept)) = not-refused kept.stage (bodies kept.held.items) c.in_default.not-Refused in
     let after : Standing = standing inside.role now (state_in kept) kept.decoder.rest table in
     let brings = stands-short inside.role greeting (state_in kept) kept.decoder.rest table c.args.piece.now now c.write_at.ensures.written
@@ -53,7 +52,7 @@ returns-in-Err c =
     let front = c.split_at.result.0.now in
     let stream = c.split_at.result.1.now in
     let filled = c.write_at-2.new.greeting in
-    let table = table_of kept.counts.entries in
+    let table = kept.counts in
     let going : ¬ (IsRefusal (state_in kept)) = not-refused kept.stage (bodies kept.held.items) c.in_default.not-Refused in
     let after : Standing = standing inside.role (take 64 filled) (Refused (Wire c.in-Err.fault)) kept.decoder.rest table in
     let all : take 64 filled ≡ filled = take-whole filled c.write_at-2.ensures.size in
@@ -82,11 +81,11 @@ returns-in-Err-read c =
     let filled = c.write_at-2.new.greeting in
     let new = c.read-2.new.self in
     let unread = c.in-Err-read.ensures.unread in
-    let table = table_of kept.counts.entries in
+    let table = kept.counts in
     let going : ¬ (IsRefusal (state_in kept)) = not-refused kept.stage (bodies kept.held.items) c.in_default.not-Refused in
-    let after : Standing = standing inside.role (take inside.greeted filled) (state_in new) new.decoder.rest (table_of new.counts.entries) in
+    let after : Standing = standing inside.role (take inside.greeted filled) (state_in new) new.decoder.rest new.counts in
     let same : state_in new ≡ state_in kept = ap (λ (at : Stage). state_at at (bodies new.held.items)) unread.stage ∙ ap (state_at kept.stage) unread.held in
-    let brings = stands-same inside.role greeting (state_in kept) kept.decoder.rest table (take inside.greeted filled) (state_in new) new.decoder.rest (table_of new.counts.entries)
+    let brings = stands-same inside.role greeting (state_in kept) kept.decoder.rest table (take inside.greeted filled) (state_in new) new.decoder.rest new.counts
     c.write_at-2.ensures.before same unread.rest c.in-Err-read.ensures.uncounted in
     record {
       role = ap (λ (s : Standing). s.role) c.self.view_is;
@@ -108,13 +107,13 @@ returns-in-Ok c =
     let filled = c.write_at-2.new.greeting in
     let new = c.read-2.new.self in
     let events = c.in-Ok.events in
-    let table = table_of kept.counts.entries in
+    let table = kept.counts in
     let going : ¬ (IsRefusal (state_in kept)) = not-refused kept.stage (bodies kept.held.items) c.in_default.not-Refused in
-    let after : Standing = standing inside.role (take 64 filled) (state_in new) new.decoder.rest (table_of new.counts.entries) in
+    let after : Standing = standing inside.role (take 64 filled) (state_in new) new.decoder.rest new.counts in
     let all : take 64 filled ≡ filled = take-whole filled c.write_at-2.ensures.size in
     let size : length (take 64 filled) ≡ 64 = ap length all ∙ c.write_at-2.ensures.size in
     let written : take 64 filled ≡ greeting ++ front = whole-front filled inside.greeting front inside.greeted c.write_at-2.ensures.written (omega (arith, c.split_at.ensures.front_len, c.self.invariant.0)) in
-    let brings = stands-read inside.role greeting (state_in kept) kept.decoder.rest table front stream (take 64 filled) c.in_default-read.field-0 (state_in new) new.decoder.rest (table_of new.counts.entries) (events_of events.items)
+    let brings = stands-read inside.role greeting (state_in kept) kept.decoder.rest table front stream (take 64 filled) c.in_default-read.field-0 (state_in new) new.decoder.rest new.counts (events_of events.items)
     written size (subst (λ (o : List ℕ). IsGreeting o c.in_default-read.field-0) (sym all) c.in_default-read.ensures.greeting) going c.in-Ok.ensures.read c.in-Ok.ensures.counted in
     let here : Brings now c.args.piece.now (events_of events.items) after =
     subst (λ (s : Standing). Brings s c.args.piece.now (events_of events.items) after) c.self.view_is
