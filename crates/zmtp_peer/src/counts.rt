@@ -1,13 +1,14 @@
-//! How often each prefix is counted, and which of them stand at the front of a topic.
+//! How often each prefix is counted.
 ghost use Rattle.std.specs.Prelude.{◌≡◌, ℕ, ◌+◌, ◌-◌, ◌<◌, ◌≤◌, List, OnOk, OnErr, IfSome, IfNone, None, Some, if◌then◌else◌, IsTrue, ◌↔◌, [], length};
 ghost use Rattle.std.specs.BTreeMap.{get};
 ghost use Rattle.std.specs.Map.{count_at, set_value};
 ghost use Rattle.std.specs.Option.{option_map, option_or};
 ghost use Rattle.std.specs.Ordering.{nat_cmp};
 ghost use Rattle.std.specs.Str.{bytes_eq};
-ghost use Rattle.zmtp_peer.specs.Subscriptions.{place_of, count_in, HasWanted, DropsIdle};
+ghost use Rattle.zmtp_peer.specs.Subscriptions.{place_of, count_in, DropsIdle};
 ghost use Rattle.zmtp_peer.specs.Table.{one_at, is_key};
 
+use crate::wanted::Prefixes;
 use std::alloc::{AllocError, Global};
 use std::collections::BTreeMap;
 use std::marker::Model;
@@ -35,6 +36,23 @@ impl Model for Counts {
     ghost invariant = { λ c. (n : ℕ) → count_at (get nat_cmp c.lengths) n ≡ number_of_length n (table_of c.places.entries) };
 }
 
+impl Prefixes for Counts {
+    ghost use Rattle.std.specs.Prelude.{List, ℕ};
+
+    ghost table = { λ t. t };
+
+    fn count_of(&self, prefix: &[u8]) -> u64 {
+        match self.places.get(prefix) {
+            Some(count) => *count,
+            None => 0,
+        }
+    }
+
+    fn next_length(&self, least: usize) -> Option<usize> {
+        length_from(&self.lengths, least)
+    }
+}
+
 impl Counts {
     /// No places.
     pub(crate) fn new(alloc: Global) -> Counts
@@ -43,16 +61,6 @@ impl Counts {
         Counts {
             places: BTreeMap::new(alloc),
             lengths: BTreeMap::new(alloc),
-        }
-    }
-
-    /// How often a prefix is counted.
-    pub(crate) fn count_of(&self, prefix: &[u8]) -> u64
-        ensures { result ≡ count_in self.now prefix.now }
-    {
-        match self.places.get(prefix) {
-            Some(count) => *count,
-            None => 0,
         }
     }
 
@@ -94,35 +102,6 @@ impl Counts {
                 lower(&mut self.lengths, prefix.len());
             }
         }
-    }
-
-    /// Whether a counted prefix stands at the front of a topic.
-    pub(crate) fn is_wanted(&self, topic: &[u8]) -> bool
-        ensures { IsTrue result ↔ HasWanted self.now topic.now }
-    {
-        let mut least = 0;
-        while least <= topic.len() {
-            let Some(length) = self.next_length(least) else {
-                return false;
-            };
-            if length > topic.len() {
-                return false;
-            }
-            if self.count_of(&topic[..length]) > 0 {
-                return true;
-            }
-            least = length + 1;
-        }
-        false
-    }
-
-    /// The least length of a prefix with a place, from a length on.
-    fn next_length(&self, least: usize) -> Option<usize>
-        ensures some { IfSome result (λ next. (least ≤ next)
-            × ((q : List ℕ) → least ≤ length q → length q < next → count_in self.now q ≡ 0)) }
-        ensures none { IfNone result ((q : List ℕ) → least ≤ length q → count_in self.now q ≡ 0) }
-    {
-        length_from(&self.lengths, least)
     }
 }
 

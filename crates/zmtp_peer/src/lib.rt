@@ -23,6 +23,7 @@ mod peer;
 mod role;
 mod subscriptions;
 mod told;
+mod wanted;
 
 pub use event::PeerEvent;
 pub use fault::{PeerFault, Reason};

@@ -16,6 +16,7 @@ use crate::fault::PeerFault;
 use crate::intake::Stage;
 use crate::opening::opening_octets;
 use crate::role::Role;
+use crate::wanted::is_wanted;
 use std::alloc::{AllocError, Global};
 use std::marker::Model;
 use zmtp_wire::{Decoder, GREETING_LENGTH, Greeting};
@@ -101,13 +102,13 @@ impl Peer {
     }
 
     /// Whether the peer has subscribed to a topic: a prefix to which it subscribes, and has not taken that back as often,
-    /// stands at its front. It takes no memory, and one look-up for each beginning
-    /// of the topic.
+    /// stands at its front. It takes no memory, and a look-up for each length that a
+    /// prefix has, up to the topic's.
     pub fn wants(&self, topic: &[u8]) -> bool
         ensures { (fed : List ℕ) → (given : List Event) → Stands fed given self.now →
             (IsTrue result ↔ IsWanted given topic.now) }
     {
-        self.connection.counts.is_wanted(topic)
+        is_wanted(&self.connection.counts, topic)
     }
 
     /// Takes the next octets, and answers the events that they bring.

@@ -9,6 +9,7 @@ ghost use Rattle.zmtp_peer.specs.Subscriptions.{place_of, count_in, counted, cou
 
 use crate::event::PeerEvent;
 use crate::role::Role;
+use crate::wanted::Prefixes;
 use crate::counts::Counts;
 use std::alloc::{AllocError, Global};
 

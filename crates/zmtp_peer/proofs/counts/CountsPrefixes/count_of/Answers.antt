@@ -1,7 +1,7 @@
 use Rattle.std.proofs.Common.{ℕ, List, Option, ap, sym, ◌∙◌, unwrap_or}
 use Rattle.zmtp_peer.specs.Subscriptions.{count_in}
 use Rattle.zmtp_peer.proofs.TableLemmas.{count_in-table_of}
-use Rattle.zmtp_peer.proofs.counts.Counts.count_of.Goals as goal
+use Rattle.zmtp_peer.proofs.counts.CountsPrefixes.count_of.Goals as goal
 
 pub returns-in-Some : goal.returns-in-Some
 returns-in-Some c =

@@ -4,7 +4,7 @@ use Rattle.std.specs.Ordering.{nat_cmp}
 use Rattle.zmtp_peer.specs.Subscriptions.{count_in}
 use Rattle.zmtp_peer.specs.Table.{table_of}
 use Rattle.zmtp_peer.proofs.LengthLemmas.{uncounted, if_some, if_none}
-use Rattle.zmtp_peer.proofs.counts.Counts.next_length.Goals as goal
+use Rattle.zmtp_peer.proofs.counts.CountsPrefixes.next_length.Goals as goal
 
 pub returns-clause-some : goal.returns-clause-some
 returns-clause-some c =
