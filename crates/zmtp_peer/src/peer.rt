@@ -132,6 +132,13 @@ impl Peer {
         if let Stage::Refused(fault) = self.connection.stage {
             return Err(fault);
         }
+        if self.greeted == GREETING_LENGTH {
+            // The greeting was taken, or the peer would be refused.
+            return match self.connection.read(self.alloc, self.role, piece) {
+                Err(AllocError) => Err(PeerFault::MEMORY),
+                Ok(events) => answer(events, &self.connection.stage),
+            };
+        }
         let missing = GREETING_LENGTH - self.greeted;
         if piece.len() < missing {
             write_at(&mut self.greeting, self.greeted, piece);
@@ -149,7 +156,7 @@ impl Peer {
             Err(_) => Err(PeerFault::MEMORY),
             Ok(events) => {
                 self.greeted = GREETING_LENGTH;
-                answer(events, self.connection.stage)
+                answer(events, &self.connection.stage)
             }
         }
     }
@@ -178,13 +185,13 @@ fn write_at(greeting: &mut [u8; 64], at: usize, octets: &[u8])
 }
 
 /// The events, or where there are none the fault for which the peer is refused.
-fn answer(events: Vec<PeerEvent>, stage: Stage) -> Result<Vec<PeerEvent>, PeerFault>
+fn answer(events: Vec<PeerEvent>, stage: &Stage) -> Result<Vec<PeerEvent>, PeerFault>
     ensures events { IfOk result (λ told. told ≡ events) }
-    ensures quiet { IfOk result (λ told. events_of told.items ≡ [] → ¬ (IsRefusal (state_at stage []))) }
-    ensures fault { IfErr result (λ fault. (events.items ≡ []) × (stage ≡ Stage.Refused fault)) }
+    ensures quiet { IfOk result (λ told. events_of told.items ≡ [] → ¬ (IsRefusal (state_at stage.now []))) }
+    ensures fault { IfErr result (λ fault. (events.items ≡ []) × (stage.now ≡ Stage.Refused fault)) }
 {
     match stage {
-        Stage::Refused(fault) if events.is_empty() => Err(fault),
+        Stage::Refused(fault) if events.is_empty() => Err(*fault),
         _ => Ok(events),
     }
 }

@@ -87,8 +87,8 @@ impl Decoder {
         ensures given { (octets : List ℕ) (given : List FrameSeen) → HasGiven self.old octets given → OnOk result (HasGiven self.new (octets ++ piece.now) given) }
 
         // There is memory for what there was, or for four times what came and isn't given; a size that is told takes none.
-        ensures room { self.new.room ≤ max self.old.room (4 * (length self.old.rest.octets + length piece.now)) }
-        ensures given_back { self.old.rest.octets ≡ [] → self.new.room ≤ max ROOM (4 * length piece.now) }
+        ensures room { OnOk result (self.new.room ≤ max self.old.room (4 * (length self.old.rest.octets + length piece.now))) }
+        ensures given_back { OnOk result (self.old.rest.octets ≡ [] → self.new.room ≤ max ROOM (4 * length piece.now)) }
     {
         self.position.at = drop_given(&mut self.buffer, self.position.at);
         self.length_before = self.buffer.len();
@@ -207,13 +207,19 @@ fn drop_front(buffer: &mut Vec<u8>, count: usize)
 fn append(buffer: &mut Vec<u8>, octets: &[u8]) -> Result<(), AllocError>
     ensures ok { OnOk result (buffer.new.items ≡ buffer.old.items ++ octets.now) }
     ensures err { OnErr result (buffer.new.items ≡ buffer.old.items) }
-    ensures room { vec_capacity buffer.new ≤ max (vec_capacity buffer.old) (2 * (vec_len buffer.old + length octets.now)) }
+    ensures room { OnOk result (vec_capacity buffer.new
+        ≤ max (vec_capacity buffer.old) (2 * (vec_len buffer.old + length octets.now))) }
 {
-    if octets.len() > buffer.capacity() - buffer.len() {
-        buffer.reserve_exact(buffer.len() + octets.len())?;
+    let length = buffer.len();
+    if octets.len() > buffer.capacity() - length {
+        buffer.reserve_exact(length + octets.len())?;
     }
-    for octet in octets {
-        buffer.push_reserved(*octet);
+    let reserved = buffer.capacity();
+    buffer.extend_from_slice(octets)?;
+    // There was memory for them. That none was taken on top is nowhere promised, so it is looked at.
+    if buffer.capacity() > reserved {
+        buffer.truncate(length);
+        return Err(AllocError);
     }
     Ok(())
 }
