@@ -3,7 +3,7 @@ use Rattle.std.proofs.Common.{◌≡◌, ℕ, ◌+◌, ◌<◌, ◌≤◌, Bool,
 use Rattle.std.specs.List.{flat_map, list_any}
 use Rattle.std.specs.Option.{option_map, option_or}
 use Rattle.std.specs.Ordering.{eq_by_cmp}
-use Rattle.std.specs.Map.{lookup, set_value, KeepsOthers}
+use Rattle.std.specs.Map.{lookup, KeepsOthers}
 use Rattle.std.specs.Str.{bytes_eq}
 use Rattle.std.specs.declared.alloc.Global.{Global}
 use Rattle.std.specs.declared.vec.Vec.{Vec}

@@ -7,10 +7,10 @@ ghost use Rattle.std.specs.Str.{bytes_eq};
 ghost use Rattle.zmtp_peer.specs.Events.{Subscribe, event_of, events_of, bodies, message_told, told_to_publisher};
 ghost use Rattle.zmtp_peer.specs.Subscriptions.{place_of, count_in, counted, counted_all, IsRoomFor, HasRoom, AddsIdle, DropsIdle, names, is_named, asks, is_asked};
 
+use crate::counts::Counts;
 use crate::event::PeerEvent;
 use crate::role::Role;
 use crate::wanted::Prefixes;
-use crate::counts::Counts;
 use std::alloc::{AllocError, Global};
 
 /// Counts what an event changes.

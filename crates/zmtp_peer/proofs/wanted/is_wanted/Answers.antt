@@ -1,4 +1,4 @@
-use Rattle.std.proofs.Common.{ℕ, ◌+◌, length, take, drop, sym, refl, arith}
+use Rattle.std.proofs.Common.{◌+◌, length, take, drop, sym, refl, arith}
 use Rattle.std.proofs.lemmas.List.{take-append-drop}
 use Rattle.zmtp_peer.proofs.TableLemmas.{none_wanted}
 use Rattle.zmtp_peer.proofs.LengthLemmas.{fronts-uncounted}

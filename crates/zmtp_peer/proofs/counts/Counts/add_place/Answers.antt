@@ -33,7 +33,7 @@ returns-clause-ok c =
           let e = c.in_ok-key.ensures.items in
           let none = subst (λ (r : List ℕ). lookup (is_key r) es ≡ None) (sym e) (sym c.in_default.ensures.value) in
           let here = subst (λ (r : List ℕ). (q : List ℕ) → place_of (table_of fs) q ≡ option_or (place_of (table_of es) q) (if bytes_eq q r then Some 0 else None)) e
-              (placed c.in_ok-key.key.items es fs none w.in-Ok.ensures.updates.1 w.in-Ok.ensures.updates.3) in
+          (placed c.in_ok-key.key.items es fs none w.in-Ok.ensures.updates.1 w.in-Ok.ensures.updates.3) in
           rw (w.result-is, w.self-is) (subst (λ (t : List (List ℕ × ℕ)). (q : List ℕ) → place_of (table_of fs) q ≡ option_or (place_of t q) (if bytes_eq q c.args.prefix.now then Some 0 else None)) c.self.view_is here)
       | in-Err w ↦ rw w.result-is tt
     ]

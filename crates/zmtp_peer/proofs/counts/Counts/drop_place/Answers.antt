@@ -1,4 +1,4 @@
-use Rattle.std.proofs.Common.{◌≡◌, ℕ, ◌-◌, List, length, subst, ap, sym, ◌∙◌}
+use Rattle.std.proofs.Common.{ℕ, ◌-◌, List, length, subst, ap, sym, ◌∙◌}
 use Rattle.zmtp_peer.specs.Subscriptions.{count_in, DropsIdle}
 use Rattle.zmtp_peer.specs.Table.{table_of, one_at}
 use Rattle.std.specs.Str.{bytes_eq}

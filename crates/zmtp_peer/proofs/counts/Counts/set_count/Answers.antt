@@ -13,5 +13,5 @@ invariant_of-self c n = c.self.invariant n ∙ rw c.set_at.ensures (sym (number-
 pub returns : goal.returns
 returns c q =
     let P : List (List ℕ × ℕ) → Type 0 = λ t. place_of (table_of c.set_at.new.places.entries) q
-        ≡ (if bytes_eq q c.args.prefix.now then option_map (λ (n : ℕ). c.args.count) (place_of t q) else place_of t q) in
+    ≡ (if bytes_eq q c.args.prefix.now then option_map (λ (n : ℕ). c.args.count) (place_of t q) else place_of t q) in
     subst P c.self.view_is (rw c.set_at.ensures (place_of-set_value c.args.prefix.now c.args.count c.self.inside.places.entries q))

@@ -11,8 +11,11 @@ returns-clause-some c =
     let inside = c.self.inside in
     if_some c.length_from.result (λ next. (c.args.least ≤ next) × ((n : ℕ) → c.args.least ≤ n → n < next → get nat_cmp inside.lengths n ≡ None))
     (λ next. (c.args.least ≤ next) × ((q : List ℕ) → c.args.least ≤ length q → length q < next → count_in c.args.self.now q ≡ 0))
-    (λ next h. (h.0, λ q from below. subst (λ (t : List (List ℕ × ℕ)). count_in t q ≡ 0) c.self.view_is
-    (uncounted (table_of inside.places.entries) q (get nat_cmp inside.lengths (length q)) (c.self.invariant (length q)) (h.1 (length q) from below)))) c.length_from.ensures.some
+    (λ next h. (
+      h.0,
+      λ q from below. subst (λ (t : List (List ℕ × ℕ)). count_in t q ≡ 0) c.self.view_is
+          (uncounted (table_of inside.places.entries) q (get nat_cmp inside.lengths (length q)) (c.self.invariant (length q)) (h.1 (length q) from below)),
+    )) c.length_from.ensures.some
 
 pub returns-clause-none : goal.returns-clause-none
 returns-clause-none c =
