@@ -5,5 +5,6 @@ pub mod FrameLemmas
 pub mod ReadingLemmas
 pub mod RefusalLemmas
 pub mod LawLemmas
+pub mod LengthLemmas
 pub mod OpeningLemmas
 pub mod MessageLemmas

@@ -243,6 +243,20 @@ stands-read role greeting state rest table front stream new g next behind after_
         ap (λ (o : List ℕ). fed ++ (o ++ stream)) none ∙ ap (λ (o : List ℕ). o ++ stream) streaming.came ∙ append_assoc greeting streaming.stream stream ∙ ap (λ (o : List ℕ). o ++ (streaming.stream ++ stream)) (sym kept) in
         made (told role Opening streaming.frames) (sym streaming.tells) (reads-more role (fed ++ (front ++ stream)) new streaming.stream stream g streaming.frames rest behind state next events same complete welcome streaming.left streaming.reached reads)
 
+-- a peer that read a piece behind its greeting
+pub stands-on : (role : Role) (greeting : List ℕ) (state : State) (rest : Rest) (table : List (List ℕ × ℕ)) (stream new : List ℕ) (next : State) (behind : Rest) (after_table : List (List ℕ × ℕ)) (events : List Event)
+    → new ≡ greeting → length greeting ≡ 64 → ¬ (IsRefusal state) → ReadsPiece role (longer rest stream) state behind next events
+    → ((q : List ℕ) → count_in after_table q ≡ counted_all q (count_in table q) events)
+    → Brings (standing role greeting state rest table) stream events (standing role new next behind after_table)
+stands-on role greeting state rest table stream new next behind after_table events same complete going reads counts fed given h =
+    by_parts (at-parts role fed given greeting state rest going h.leaves)
+  where
+    by_parts : IsGreetingBegun fed given greeting state rest ⊎ IsStreaming role fed given greeting state rest → Stands (fed ++ stream) (given ++ events) (standing role new next behind after_table)
+    by_parts (inl begun) = absurd (omega (arith, begun.short, ap length begun.kept, complete))
+    by_parts (inr streaming) =
+        stands-read role greeting state rest table [] stream new streaming.of next behind after_table events (same ∙ sym (append-nil greeting)) (ap length same ∙ complete)
+        (subst (λ (o : List ℕ). IsGreeting o streaming.of) (sym same) streaming.welcome) going reads counts fed given h
+
 -- a peer of which nothing but the memory was changed
 pub stands-same : (role : Role) (greeting : List ℕ) (state : State) (rest : Rest) (table : List (List ℕ × ℕ)) (new : List ℕ) (next : State) (behind : Rest) (after_table : List (List ℕ × ℕ))
     → new ≡ greeting → next ≡ state → behind ≡ rest → ((q : List ℕ) → count_in after_table q ≡ count_in table q)

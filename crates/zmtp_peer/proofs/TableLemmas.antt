@@ -47,7 +47,7 @@ set_value-absent test (e ∷ es) w h = by_test (test e.0) h (λ rest. set_value-
 abbrev pub keys_cmp : Vec ℕ Global → Vec ℕ Global → Ordering
 keys_cmp x y = slice_cmp nat_cmp x.items y.items
 
-found-is : (p : List ℕ) (k : Vec ℕ Global) → is_key p k ≡ true → p ≡ k.items
+pub found-is : (p : List ℕ) (k : Vec ℕ Global) → is_key p k ≡ true → p ≡ k.items
 found-is p k h = (bytes_eq-Decides p k.items).0 (sym (is_eq-slice_cmp p k.items) ∙ h)
 
 -- a key that is found by one prefix is not found by another
@@ -134,10 +134,13 @@ place_of-set_value p w (e ∷ es) q = by_key (is_key p e.0) refl (place_of-set_v
     by_key true h ih = here (bytes_eq q e.0.items) (bytes_eq q p) (ap (bytes_eq q) (sym (found-is p e.0 h)))
     by_key false h ih = there (bytes_eq q e.0.items) (bytes_eq q p) (λ a b. false≢true (sym h ∙ same_key p q e.0 a b)) ih
 
+-- a count that is set at one prefix, if that has a place
+abbrev pub Sets : List ℕ → ℕ → List (List ℕ × ℕ) → List (List ℕ × ℕ) → Type 0
+Sets p w t u = (q : List ℕ) → place_of u q ≡ (if bytes_eq q p then option_map (λ n. w) (place_of t q) else place_of t q)
+
 -- no place comes or goes
-pub places-set_value : (p : List ℕ) (w : ℕ) (es : List (Vec ℕ Global × ℕ)) (q : List ℕ)
-    → is_some (place_of (table_of (set_value (is_key p) es w)) q) ≡ is_some (place_of (table_of es) q)
-places-set_value p w es q = ap is_some (place_of-set_value p w es q) ∙ by_test (bytes_eq q p) (place_of (table_of es) q)
+pub places-set : (p : List ℕ) (w : ℕ) (t u : List (List ℕ × ℕ)) → Sets p w t u → (q : List ℕ) → is_some (place_of u q) ≡ is_some (place_of t q)
+places-set p w t u sets q = ap is_some (sets q) ∙ by_test (bytes_eq q p) (place_of t q)
   where
     by_test : (b : Bool) (o : Option ℕ) → is_some (cond b (option_map (λ (n : ℕ). w) o) o) ≡ is_some o
     by_test true None = refl
@@ -145,33 +148,30 @@ places-set_value p w es q = ap is_some (place_of-set_value p w es q) ∙ by_test
     by_test false o = refl
 
 -- one more at a prefix that has a place
-pub subscribed : (p : List ℕ) (es : List (Vec ℕ Global × ℕ)) → is_some (place_of (table_of es) p) ≡ true → (q : List ℕ)
-    → count_in (table_of (set_value (is_key p) es (count_in (table_of es) p + 1))) q ≡ counted q (count_in (table_of es) q) (Subscribe p)
-subscribed p es place q = ap (λ o. unwrap_or o 0) (place_of-set_value p (count_in (table_of es) p + 1) es q)
-    ∙ by_test (bytes_eq q p) (λ same. (bytes_eq-Decides q p).0 same)
+pub subscribed : (p : List ℕ) (t u : List (List ℕ × ℕ)) → is_some (place_of t p) ≡ true → Sets p (count_in t p + 1) t u → (q : List ℕ)
+    → count_in u q ≡ counted q (count_in t q) (Subscribe p)
+subscribed p t u place sets q = ap (λ o. unwrap_or o 0) (sets q) ∙ by_test (bytes_eq q p) (λ same. (bytes_eq-Decides q p).0 same)
   where
     some : (o : Option ℕ) → is_some o ≡ true → unwrap_or (option_map (λ (n : ℕ). unwrap_or o 0 + 1) o) 0 ≡ unwrap_or o 0 + 1
     some None h = cc
     some (Some n) h = refl
 
-    by_test : (b : Bool) → (b ≡ true → q ≡ p) → unwrap_or (cond b (option_map (λ (n : ℕ). count_in (table_of es) p + 1) (place_of (table_of es) q)) (place_of (table_of es) q)) 0
-        ≡ cond b (count_in (table_of es) q + 1) (count_in (table_of es) q)
-    by_test true h = subst (λ (r : List ℕ). unwrap_or (option_map (λ (n : ℕ). count_in (table_of es) p + 1) (place_of (table_of es) r)) 0 ≡ count_in (table_of es) r + 1) (sym (h refl)) (some (place_of (table_of es) p) place)
+    by_test : (b : Bool) → (b ≡ true → q ≡ p) → unwrap_or (cond b (option_map (λ (n : ℕ). count_in t p + 1) (place_of t q)) (place_of t q)) 0
+        ≡ cond b (count_in t q + 1) (count_in t q)
+    by_test true h = subst (λ (r : List ℕ). unwrap_or (option_map (λ (n : ℕ). count_in t p + 1) (place_of t r)) 0 ≡ count_in t r + 1) (sym (h refl)) (some (place_of t p) place)
     by_test false h = refl
 
 -- one less at a prefix, if it was counted
-pub cancelled : (p : List ℕ) (es : List (Vec ℕ Global × ℕ)) (q : List ℕ)
-    → count_in (table_of (set_value (is_key p) es (count_in (table_of es) p - 1))) q ≡ counted q (count_in (table_of es) q) (Cancel p)
-cancelled p es q = ap (λ o. unwrap_or o 0) (place_of-set_value p (count_in (table_of es) p - 1) es q)
-    ∙ by_test (bytes_eq q p) (λ same. (bytes_eq-Decides q p).0 same)
+pub cancelled : (p : List ℕ) (t u : List (List ℕ × ℕ)) → Sets p (count_in t p - 1) t u → (q : List ℕ) → count_in u q ≡ counted q (count_in t q) (Cancel p)
+cancelled p t u sets q = ap (λ o. unwrap_or o 0) (sets q) ∙ by_test (bytes_eq q p) (λ same. (bytes_eq-Decides q p).0 same)
   where
     less : (o : Option ℕ) → unwrap_or (option_map (λ (n : ℕ). unwrap_or o 0 - 1) o) 0 ≡ unwrap_or o 0 - 1
     less None = omega arith
     less (Some n) = refl
 
-    by_test : (b : Bool) → (b ≡ true → q ≡ p) → unwrap_or (cond b (option_map (λ (n : ℕ). count_in (table_of es) p - 1) (place_of (table_of es) q)) (place_of (table_of es) q)) 0
-        ≡ cond b (count_in (table_of es) q - 1) (count_in (table_of es) q)
-    by_test true h = subst (λ (r : List ℕ). unwrap_or (option_map (λ (n : ℕ). count_in (table_of es) p - 1) (place_of (table_of es) r)) 0 ≡ count_in (table_of es) r - 1) (sym (h refl)) (less (place_of (table_of es) p))
+    by_test : (b : Bool) → (b ≡ true → q ≡ p) → unwrap_or (cond b (option_map (λ (n : ℕ). count_in t p - 1) (place_of t q)) (place_of t q)) 0
+        ≡ cond b (count_in t q - 1) (count_in t q)
+    by_test true h = subst (λ (r : List ℕ). unwrap_or (option_map (λ (n : ℕ). count_in t p - 1) (place_of t r)) 0 ≡ count_in t r - 1) (sym (h refl)) (less (place_of t p))
     by_test false h = refl
 
 -- less room is needed of a table that counts no more

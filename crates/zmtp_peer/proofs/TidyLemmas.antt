@@ -3,7 +3,7 @@ use Rattle.std.proofs.Common.{◌≡◌, ℕ, ◌+◌, ◌<◌, ◌≤◌, Bool,
 use Rattle.std.specs.List.{flat_map, list_any}
 use Rattle.std.specs.Option.{option_map, option_or}
 use Rattle.std.specs.Ordering.{eq_by_cmp}
-use Rattle.std.specs.Map.{lookup, set_value, KeepsOthers}
+use Rattle.std.specs.Map.{lookup, KeepsOthers}
 use Rattle.std.specs.Str.{bytes_eq}
 use Rattle.std.specs.declared.alloc.Global.{Global}
 use Rattle.std.specs.declared.vec.Vec.{Vec}
@@ -17,7 +17,7 @@ use Rattle.zmtp_peer.specs.declared.role.Role.{Role}
 use Rattle.zmtp_peer.specs.Events.{Event, Ready, Message, Subscribe, Cancel, event_of, events_of, bodies, message_told}
 use Rattle.zmtp_peer.specs.Subscriptions.{place_of, count_in, HasRoom, IsIdle, IsTidy, AddsIdle, DropsIdle, subscribes, names, is_named, is_asked}
 use Rattle.zmtp_peer.specs.Table.{table_of, is_key}
-use Rattle.zmtp_peer.proofs.TableLemmas.{keys_cmp, changed, place_of-set_value}
+use Rattle.zmtp_peer.proofs.TableLemmas.{keys_cmp, changed, Sets}
 
 either : (a b : Bool) → a ≡ true → (a || b) ≡ true
 either a b h = ap (λ x. x || b) h
@@ -32,10 +32,10 @@ neither a b h k = ap (λ x. x || b) h ∙ k
 -- ---- one place
 
 -- a count that is set makes no other place idle
-pub idle-set : (p : List ℕ) (w : ℕ) (es : List (Vec ℕ Global × ℕ)) → AddsIdle (λ q. bytes_eq q p) (table_of es) (table_of (set_value (is_key p) es w))
-idle-set p w es q idle =
+pub idle-set : (p : List ℕ) (w : ℕ) (t u : List (List ℕ × ℕ)) → Sets p w t u → AddsIdle (λ q. bytes_eq q p) t u
+idle-set p w t u sets q idle =
     ⊎_elim (λ same. inr same)
-    (λ differs. inl (sym (cond-false (bytes_eq q p) (option_map (λ (n : ℕ). w) (place_of (table_of es) q)) (place_of (table_of es) q) differs) ∙ sym (place_of-set_value p w es q) ∙ idle))
+    (λ differs. inl (sym (cond-false (bytes_eq q p) (option_map (λ (n : ℕ). w) (place_of t q)) (place_of t q) differs) ∙ sym (sets q) ∙ idle))
     (cases_Bool (bytes_eq q p))
 
 -- nor does a place that is added

@@ -4,17 +4,16 @@ ghost use Rattle.std.specs.List.{flat_map};
 ghost use Rattle.zmtp_wire.specs.Decoding.{fed};
 ghost use Rattle.zmtp_peer.specs.Events.{bodies, events_of, message_told};
 ghost use Rattle.zmtp_peer.specs.Subscriptions.{count_in, counted_all, HasRoom, AddsIdle, IsIdle, IsTidy, is_asked};
-ghost use Rattle.zmtp_peer.specs.Table.{table_of};
 ghost use Rattle.zmtp_peer.specs.Intake.{front_of, told_by, Keeps, IsFresh, TakesFrames};
 ghost use Rattle.zmtp_peer.specs.Connection.{ReadsPiece, IsUnread, IsConnection, IsOpeningEmpty, state_in};
 
+use crate::counts::Counts;
 use crate::event::PeerEvent;
 use crate::intake::{Intake, Stage, take_frames};
 use crate::role::Role;
 use crate::subscriptions::{count_events, drop_places, release, reserve};
 use crate::told::tell;
 use std::alloc::{AllocError, Global};
-use std::collections::BTreeMap;
 use std::mem;
 use zmtp_wire::Decoder;
 
@@ -28,7 +27,7 @@ pub(crate) struct Connection {
     /// What came and isn't a whole frame yet.
     pub(crate) decoder: Decoder,
     /// How often the peer has subscribed to each prefix. One to which it no longer does has no place.
-    pub(crate) counts: BTreeMap<Vec<u8>, u64>,
+    pub(crate) counts: Counts,
 }
 
 /// Takes the frames that came, and all memory that is needed to tell them. The answer is room for the events.
@@ -36,18 +35,18 @@ fn gather(
     alloc: Global,
     role: Role,
     decoder: &mut Decoder,
-    counts: &mut BTreeMap<Vec<u8>, u64>,
+    counts: &mut Counts,
     intake: &mut Intake,
 ) -> Result<Vec<PeerEvent>, AllocError>
     requires { IsFresh intake.old }
     ensures taken { OnOk result (TakesFrames role decoder.old.rest intake.old decoder.new.rest intake.new) }
     ensures empty { IfOk result (λ events. events.items ≡ []) }
     ensures space { IfOk result (λ events. vec_len intake.new.whole + 1 ≤ vec_capacity events) }
-    ensures room { OnOk result (HasRoom (vec_len intake.new.whole + 1) (table_of counts.new.entries)
+    ensures room { OnOk result (HasRoom (vec_len intake.new.whole + 1) counts.new
         (flat_map (message_told role) (map (λ message. bodies message.items) intake.new.whole.items))) }
-    ensures same { (q : List ℕ) → count_in (table_of counts.new.entries) q
-        ≡ count_in (table_of counts.old.entries) q }
-    ensures idle { AddsIdle (is_asked role intake.new.whole.items) (table_of counts.old.entries) (table_of counts.new.entries) }
+    ensures same { (q : List ℕ) → count_in counts.new q
+        ≡ count_in counts.old q }
+    ensures idle { AddsIdle (is_asked role intake.new.whole.items) counts.old counts.new }
     ensures before { decoder.new.before ≡ decoder.old.before }
     ensures kept { Keeps (front_of intake.old) (front_of intake.new) }
     ensures fresh { IsFresh intake.new }
@@ -72,13 +71,13 @@ impl Connection {
         requires { IsConnection self.old }
         ensures read { IfOk result (λ events. ReadsPiece role (fed self.old.decoder piece.now).rest
             (state_in self.old) self.new.decoder.rest (state_in self.new) (events_of events.items)) }
-        ensures counted { IfOk result (λ events. (q : List ℕ) → count_in (table_of self.new.counts.entries) q
-            ≡ counted_all q (count_in (table_of self.old.counts.entries) q) (events_of events.items)) }
+        ensures counted { IfOk result (λ events. (q : List ℕ) → count_in self.new.counts q
+            ≡ counted_all q (count_in self.old.counts q) (events_of events.items)) }
         ensures unread { OnErr result (IsUnread self.old self.new) }
-        ensures uncounted { OnErr result ((q : List ℕ) → count_in (table_of self.new.counts.entries) q
-            ≡ count_in (table_of self.old.counts.entries) q) }
+        ensures uncounted { OnErr result ((q : List ℕ) → count_in self.new.counts q
+            ≡ count_in self.old.counts q) }
         ensures opening { IsOpeningEmpty self.new.stage (bodies self.new.held.items) }
-        ensures tidy { IsTidy (table_of self.new.counts.entries) }
+        ensures tidy { IsTidy self.new.counts }
     {
         if self.decoder.feed(piece).is_err() {
             self.decoder.unfeed();
@@ -98,15 +97,15 @@ impl Connection {
         requires { IsConnection self.old }
         ensures read { IfOk result (λ events. ReadsPiece role self.old.decoder.rest (state_in self.old)
             self.new.decoder.rest (state_in self.new) (events_of events.items)) }
-        ensures counted { IfOk result (λ events. (q : List ℕ) → count_in (table_of self.new.counts.entries) q
-            ≡ counted_all q (count_in (table_of self.old.counts.entries) q) (events_of events.items)) }
+        ensures counted { IfOk result (λ events. (q : List ℕ) → count_in self.new.counts q
+            ≡ counted_all q (count_in self.old.counts q) (events_of events.items)) }
         ensures rest { OnErr result (self.new.decoder.rest ≡ self.old.decoder.before) }
         ensures stage { OnErr result (self.new.stage ≡ self.old.stage) }
         ensures held { OnErr result (bodies self.new.held.items ≡ bodies self.old.held.items) }
-        ensures uncounted { OnErr result ((q : List ℕ) → count_in (table_of self.new.counts.entries) q
-            ≡ count_in (table_of self.old.counts.entries) q) }
+        ensures uncounted { OnErr result ((q : List ℕ) → count_in self.new.counts q
+            ≡ count_in self.old.counts q) }
         ensures opening { IsOpeningEmpty self.new.stage (bodies self.new.held.items) }
-        ensures tidy { IsTidy (table_of self.new.counts.entries) }
+        ensures tidy { IsTidy self.new.counts }
     {
         let kept = self.held.len();
         let mut intake = Intake {
@@ -146,16 +145,16 @@ impl Connection {
     ) -> Vec<PeerEvent>
         requires empty { room.items ≡ [] }
         requires space { vec_len intake.whole + 1 ≤ vec_capacity room }
-        requires room { HasRoom (vec_len intake.whole + 1) (table_of self.old.counts.entries)
+        requires room { HasRoom (vec_len intake.whole + 1) self.old.counts
             (flat_map (message_told role) (map (λ message. bodies message.items) intake.whole.items)) }
-        requires idle { (q : List ℕ) → IsIdle (table_of self.old.counts.entries) q → is_asked role intake.whole.items q ≡ true }
+        requires idle { (q : List ℕ) → IsIdle self.old.counts q → is_asked role intake.whole.items q ≡ true }
         ensures told { events_of result.items ≡ told_by role intake }
         ensures state { self.new.stage ≡ intake.stage }
         ensures held { self.new.held ≡ intake.held }
         ensures decoder { self.new.decoder ≡ self.old.decoder }
-        ensures tidy { IsTidy (table_of self.new.counts.entries) }
-        ensures counted { (q : List ℕ) → count_in (table_of self.new.counts.entries) q
-            ≡ counted_all q (count_in (table_of self.old.counts.entries) q) (events_of result.items) }
+        ensures tidy { IsTidy self.new.counts }
+        ensures counted { (q : List ℕ) → count_in self.new.counts q
+            ≡ counted_all q (count_in self.old.counts q) (events_of result.items) }
     {
         let Intake {
             stage,

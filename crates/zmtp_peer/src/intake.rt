@@ -115,6 +115,12 @@ fn hold(alloc: Global, intake: &mut Intake, more: bool, body: Vec<u8>) -> Result
     ensures last { OnOk result (more ≡ false → (messages_of intake.new ≡ messages_of intake.old ++
         (bodies intake.old.held.items ++ body.items ∷ []) ∷ []) × (intake.new.held.items ≡ [])) }
 {
+    if !more && intake.held.is_empty() {
+        let mut message = Vec::with_capacity(alloc, 1)?;
+        message.push_reserved(body);
+        intake.whole.push(message)?;
+        return Ok(());
+    }
     intake.held.push(body)?;
     if more {
         return Ok(());

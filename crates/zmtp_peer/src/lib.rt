@@ -13,6 +13,7 @@ ghost use Rattle.zmtp_peer.specs.Laws.{OctetsAreRead, OctetsHaveOneReading, Refu
 
 mod command;
 mod connection;
+mod counts;
 mod event;
 mod fault;
 mod handshake;
@@ -22,6 +23,7 @@ mod peer;
 mod role;
 mod subscriptions;
 mod told;
+mod wanted;
 
 pub use event::PeerEvent;
 pub use fault::{PeerFault, Reason};

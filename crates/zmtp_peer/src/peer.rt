@@ -10,14 +10,14 @@ ghost use Rattle.zmtp_peer.specs.Subscriptions.{IsWanted};
 ghost use Rattle.zmtp_peer.specs.Opening.{opening_of};
 
 use crate::connection::Connection;
+use crate::counts::Counts;
 use crate::event::PeerEvent;
 use crate::fault::PeerFault;
 use crate::intake::Stage;
 use crate::opening::opening_octets;
 use crate::role::Role;
-use crate::subscriptions::is_wanted;
+use crate::wanted::is_wanted;
 use std::alloc::{AllocError, Global};
-use std::collections::BTreeMap;
 use std::marker::Model;
 use zmtp_wire::{Decoder, GREETING_LENGTH, Greeting};
 
@@ -40,14 +40,13 @@ impl Model for Peer {
     ghost Value = { Standing };
 
     ghost use Rattle.zmtp_peer.specs.Connection.{state_in, IsConnection};
-    ghost use Rattle.zmtp_peer.specs.Table.{table_of};
 
     ghost view = { λ p. record {
       role = p.role;
       greeting = take p.greeted p.greeting;
       state = state_in p.connection;
       rest = p.connection.decoder.rest;
-      table = table_of p.connection.counts.entries;
+      table = p.connection.counts;
     } };
 
     ghost invariant = { λ p. (p.greeted ≤ 64) × IsConnection p.connection };
@@ -68,7 +67,7 @@ impl Peer {
                 stage: Stage::Opening,
                 held: Vec::new(alloc),
                 decoder: Decoder::new(alloc),
-                counts: BTreeMap::new(alloc),
+                counts: Counts::new(alloc),
             },
         }
     }
@@ -103,8 +102,8 @@ impl Peer {
     }
 
     /// Whether the peer has subscribed to a topic: a prefix to which it subscribes, and has not taken that back as often,
-    /// stands at its front. It takes no memory, and one look-up for each beginning
-    /// of the topic.
+    /// stands at its front. It takes no memory, and a look-up for each length that a
+    /// prefix has, up to the topic's.
     pub fn wants(&self, topic: &[u8]) -> bool
         ensures { (fed : List ℕ) → (given : List Event) → Stands fed given self.now →
             (IsTrue result ↔ IsWanted given topic.now) }
@@ -133,6 +132,13 @@ impl Peer {
         if let Stage::Refused(fault) = self.connection.stage {
             return Err(fault);
         }
+        if self.greeted == GREETING_LENGTH {
+            // The greeting was taken, or the peer would be refused.
+            return match self.connection.read(self.alloc, self.role, piece) {
+                Err(AllocError) => Err(PeerFault::MEMORY),
+                Ok(events) => answer(events, &self.connection.stage),
+            };
+        }
         let missing = GREETING_LENGTH - self.greeted;
         if piece.len() < missing {
             write_at(&mut self.greeting, self.greeted, piece);
@@ -150,7 +156,7 @@ impl Peer {
             Err(_) => Err(PeerFault::MEMORY),
             Ok(events) => {
                 self.greeted = GREETING_LENGTH;
-                answer(events, self.connection.stage)
+                answer(events, &self.connection.stage)
             }
         }
     }
@@ -179,13 +185,13 @@ fn write_at(greeting: &mut [u8; 64], at: usize, octets: &[u8])
 }
 
 /// The events, or where there are none the fault for which the peer is refused.
-fn answer(events: Vec<PeerEvent>, stage: Stage) -> Result<Vec<PeerEvent>, PeerFault>
+fn answer(events: Vec<PeerEvent>, stage: &Stage) -> Result<Vec<PeerEvent>, PeerFault>
     ensures events { IfOk result (λ told. told ≡ events) }
-    ensures quiet { IfOk result (λ told. events_of told.items ≡ [] → ¬ (IsRefusal (state_at stage []))) }
-    ensures fault { IfErr result (λ fault. (events.items ≡ []) × (stage ≡ Stage.Refused fault)) }
+    ensures quiet { IfOk result (λ told. events_of told.items ≡ [] → ¬ (IsRefusal (state_at stage.now []))) }
+    ensures fault { IfErr result (λ fault. (events.items ≡ []) × (stage.now ≡ Stage.Refused fault)) }
 {
     match stage {
-        Stage::Refused(fault) if events.is_empty() => Err(fault),
+        Stage::Refused(fault) if events.is_empty() => Err(*fault),
         _ => Ok(events),
     }
 }

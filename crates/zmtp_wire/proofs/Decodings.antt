@@ -1,12 +1,12 @@
 -- What a decoder was fed and gave, through its calls.
 use Rattle.std.specs.Prelude.{Option, IsErrAnd, IfErr}
 use Rattle.zmtp_wire.specs.declared.frame.Frame as code
-use Rattle.std.proofs.Common.{◌≡◌, ◌≢◌, ℕ, Bool, List, [], ◌∷◌, ◌++◌, Result, Err, Ok, OnOk, sym, subst}
+use Rattle.std.proofs.Common.{◌≡◌, ◌≢◌, ℕ, ◌+◌, ◌-◌, ◌*◌, ◌≤◌, max, inl, inr, arith, Bool, List, [], ◌∷◌, ◌++◌, Result, Err, Ok, OnOk, sym, subst}
 use Rattle.zmtp_wire.specs.declared.fault.WireFault.{WireFault}
 use Rattle.zmtp_wire.specs.declared.fault.WireFault.TheVariants.{BadSignature, OldVersion, BadMechanism, ReservedBits, CommandWithMore, TooLong, Memory}
 use Rattle.zmtp_wire.specs.Frame.{Frame}
 use Rattle.zmtp_wire.specs.Stream.{Rest, whole, Takes, IsFaultAt}
-use Rattle.zmtp_wire.specs.Decoding.{Decoding, fed, HasGiven, Tells}
+use Rattle.zmtp_wire.specs.Decoding.{Decoding, fed, SameButRoom, IsMostlyLeft, HasGiven, Tells}
 use Rattle.zmtp_wire.proofs.Streams.{leaves_longer, leaves_more}
 
 -- a piece more
@@ -14,7 +14,7 @@ pub given_fed : (d : Decoding) (octets piece : List ℕ) (given : List Frame) �
 given_fed d octets piece given has = leaves_longer given (whole octets) d.rest piece has
 
 -- a frame more
-pub given_more : (d : Decoding) (octets : List ℕ) (given : List Frame) (f : Frame) (next : Rest) → HasGiven d octets given → Takes d.rest f next → HasGiven (record { rest = next; before = d.before }) octets (given ++ f ∷ [])
+pub given_more : (d : Decoding) (octets : List ℕ) (given : List Frame) (f : Frame) (next : Rest) → HasGiven d octets given → Takes d.rest f next → HasGiven (record { rest = next; before = d.before; room = d.room }) octets (given ++ f ∷ [])
 given_more d octets given f next has takes = leaves_more given f (whole octets) d.rest next has takes
 
 -- a fault
@@ -28,7 +28,7 @@ tells_fault CommandWithMore d octets given has at = (d.rest, has, at (λ e. cc))
 tells_fault TooLong d octets given has at = (d.rest, has, at (λ e. cc))
 
 -- on success, a piece more
-pub given_on_ok : {T E : Type 0} (r : Result T E) (old new : Decoding) (piece : List ℕ) → OnOk r (new ≡ fed old piece)
+pub given_on_ok : {T E : Type 0} (r : Result T E) (old new : Decoding) (piece : List ℕ) → OnOk r (SameButRoom (fed old piece) new)
     → (octets : List ℕ) (given : List Frame) → HasGiven old octets given → OnOk r (HasGiven new (octets ++ piece) given)
 given_on_ok (Ok x) old new piece e octets given has = subst (λ (d : Decoding). HasGiven d (octets ++ piece) given) (sym e) (given_fed old octets piece given has)
 given_on_ok (Err x) old new piece e octets given has = tt
@@ -48,3 +48,13 @@ pub takes_copy : (rest behind : Rest) (more command : Bool) (body copy : List �
 takes_copy rest behind more command body copy same takes =
     let P : List ℕ → Type 0 = λ b. Takes rest (record { more = more; command = command; body = b }) behind in
     subst P (sym same) takes
+
+-- memory for twice what is kept is memory for four times what isn't given
+pub most-room : (given kept left piece old mid new : ℕ) → IsMostlyLeft given kept → kept - given ≡ left → given ≤ kept → mid ≤ old → new ≤ max mid (2 * (kept + piece)) → new ≤ max old (4 * (left + piece))
+most-room given kept left piece old mid new (inl none) is within less more = omega (arith, none, is, less, more)
+most-room given kept left piece old mid new (inr few) is within less more = omega (arith, few, is, less, more)
+
+-- and where all was given, of what comes
+pub least-room : (given kept piece most mid new : ℕ) → IsMostlyLeft given kept → kept - given ≡ 0 → given ≤ kept → mid ≤ most → new ≤ max mid (2 * (kept + piece)) → new ≤ max most (4 * piece)
+least-room given kept piece most mid new (inl none) is within less more = omega (arith, none, is, less, more)
+least-room given kept piece most mid new (inr few) is within less more = omega (arith, few, is, within, less, more)

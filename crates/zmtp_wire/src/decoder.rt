@@ -1,14 +1,14 @@
 //! The reading of a stream of frames that comes in pieces.
-ghost use Rattle.std.specs.Prelude.{◌≡◌, ◌≢◌, ◌≤◌, ◌↔◌, ◌++◌, [], List, ℕ, drop, length, IfErr, IfNone, IfOk, IfSome, IsErrOf, IsOkUnless, IsTrue, OnErr, OnOk, vec_capacity, vec_len};
+ghost use Rattle.std.specs.Prelude.{◌≡◌, ◌≢◌, ◌+◌, ◌*◌, ◌≤◌, ◌↔◌, ◌++◌, [], List, ℕ, drop, length, max, IfErr, IfNone, IfOk, IfSome, IsErrOf, IsOkUnless, IsTrue, OnErr, OnOk, vec_capacity, vec_len};
 ghost use Rattle.zmtp_wire.specs.Frame.{Frame as FrameSeen, frame_of};
 ghost use Rattle.zmtp_wire.specs.Stream.{Takes, HasFrame, IsPartial, IsFaultAt};
-ghost use Rattle.zmtp_wire.specs.Decoding.{new_decoding, fed, unfed, HasGiven, Tells};
+ghost use Rattle.zmtp_wire.specs.Decoding.{new_decoding, fed, unfed, SameButRoom, IsMostlyLeft, HasGiven, Tells};
 
 use crate::fault::WireFault;
 use crate::frame::Frame;
 use crate::header::Header;
 use crate::tally::Tally;
-use std::alloc::Global;
+use std::alloc::{AllocError, Global};
 use std::marker::Model;
 
 /// How many octets of memory are kept for the next pieces.
@@ -40,7 +40,7 @@ pub struct Decoder {
 }
 
 impl Model for Decoder {
-    ghost use Rattle.std.specs.Prelude.{◌≤◌, drop, take, vec_len};
+    ghost use Rattle.std.specs.Prelude.{◌≤◌, drop, take, vec_capacity, vec_len};
     ghost use Rattle.zmtp_wire.specs.Decoding.{Decoding, IsMostlyLeft};
 
     ghost Value = { Decoding };
@@ -48,6 +48,7 @@ impl Model for Decoder {
     ghost view = { λ d. record {
       rest = record { octets = drop d.position.at d.buffer.items; tally = d.position.tally };
       before = record { octets = drop d.position_before.at (take d.length_before d.buffer.items); tally = d.position_before.tally };
+      room = vec_capacity d.buffer;
     } };
 
     // Of what was kept when the last piece came, less than half was given, or nothing.
@@ -80,15 +81,21 @@ impl Decoder {
     /// # Errors
     /// `Memory` alone. Then nothing came: all is as after an empty piece.
     pub fn feed(&mut self, piece: &[u8]) -> Result<(), WireFault>
-        ensures fed { OnOk result (self.new ≡ fed self.old piece.now) }
+        ensures fed { OnOk result (SameButRoom (fed self.old piece.now) self.new) }
         ensures memory { IsOkUnless result WireFault.Memory }
-        ensures nothing { OnErr result (self.new ≡ fed self.old []) }
+        ensures nothing { OnErr result (SameButRoom (fed self.old []) self.new) }
         ensures given { (octets : List ℕ) (given : List FrameSeen) → HasGiven self.old octets given → OnOk result (HasGiven self.new (octets ++ piece.now) given) }
+
+        // There is memory for what there was, or for four times what came and isn't given; a size that is told takes none.
+        ensures room { OnOk result (self.new.room ≤ max self.old.room (4 * (length self.old.rest.octets + length piece.now))) }
+        ensures given_back { OnOk result (self.old.rest.octets ≡ [] → self.new.room ≤ max ROOM (4 * length piece.now)) }
     {
-        self.begin_piece();
-        match self.buffer.extend_from_slice(piece) {
+        self.position.at = drop_given(&mut self.buffer, self.position.at);
+        self.length_before = self.buffer.len();
+        self.position_before = self.position;
+        match append(&mut self.buffer, piece) {
             Ok(()) => Ok(()),
-            Err(_) => Err(WireFault::Memory),
+            Err(AllocError) => Err(WireFault::Memory),
         }
     }
 
@@ -96,18 +103,10 @@ impl Decoder {
     pub fn settle(&mut self)
         ensures rest { self.new.rest ≡ self.old.rest }
         ensures before { self.new.before ≡ self.old.rest }
+        ensures room { self.new.room ≤ self.old.room }
+        ensures given_back { self.old.rest.octets ≡ [] → self.new.room ≤ ROOM }
     {
-        self.begin_piece();
-    }
-
-    /// Notes what is left before the next piece. What was given is dropped where it is at least half of what is kept.
-    fn begin_piece(&mut self)
-        ensures { self.new ≡ fed self.old [] }
-    {
-        if self.position.at >= self.buffer.len() - self.position.at {
-            drop_front(&mut self.buffer, self.position.at);
-            self.position.at = 0;
-        }
+        self.position.at = drop_given(&mut self.buffer, self.position.at);
         self.length_before = self.buffer.len();
         self.position_before = self.position;
     }
@@ -139,6 +138,7 @@ impl Decoder {
         ensures none { IfOk result (λ found. IfNone found (self.new ≡ self.old)) }
         ensures err { OnErr result (self.new ≡ self.old) }
         ensures before { self.new.before ≡ self.old.before }
+        ensures room { self.new.room ≡ self.old.room }
 
         // What this says of all octets that were fed.
         ensures whole { (octets : List ℕ) (given : List FrameSeen) → HasGiven self.old octets given → Tells octets given result self.new }
@@ -168,11 +168,28 @@ impl Decoder {
     }
 }
 
+/// Drops what was given of a buffer where it is at least half of what is kept, and answers how much of it was given then.
+fn drop_given(buffer: &mut Vec<u8>, given: usize) -> usize
+    requires { given ≤ vec_len buffer.old }
+    ensures rest { drop result buffer.new.items ≡ drop given buffer.old.items }
+    ensures within { result ≤ vec_len buffer.new }
+    ensures mostly { IsMostlyLeft result (vec_len buffer.new) }
+    ensures room { vec_capacity buffer.new ≤ vec_capacity buffer.old }
+    ensures given_back { drop given buffer.old.items ≡ [] → vec_capacity buffer.new ≤ ROOM }
+{
+    if given < buffer.len() - given {
+        return given;
+    }
+    drop_front(buffer, given);
+    0
+}
+
 /// Drops so many octets at the front. Where none is left, memory past what is kept for the next pieces is given back.
 fn drop_front(buffer: &mut Vec<u8>, count: usize)
     requires { count ≤ vec_len buffer.old }
     ensures items { buffer.new.items ≡ drop count buffer.old.items }
-    ensures room { buffer.new.items ≡ [] → vec_capacity buffer.new ≤ ROOM }
+    ensures given_back { buffer.new.items ≡ [] → vec_capacity buffer.new ≤ ROOM }
+    ensures room { vec_capacity buffer.new ≤ vec_capacity buffer.old }
 {
     let rest = buffer.len() - count;
     if rest == 0 {
@@ -184,6 +201,27 @@ fn drop_front(buffer: &mut Vec<u8>, count: usize)
     }
     buffer.copy_within(count.., 0);
     buffer.truncate(rest);
+}
+
+/// Writes octets at the end, with memory for what there was, or for twice what there is then.
+fn append(buffer: &mut Vec<u8>, octets: &[u8]) -> Result<(), AllocError>
+    ensures ok { OnOk result (buffer.new.items ≡ buffer.old.items ++ octets.now) }
+    ensures err { OnErr result (buffer.new.items ≡ buffer.old.items) }
+    ensures room { OnOk result (vec_capacity buffer.new
+        ≤ max (vec_capacity buffer.old) (2 * (vec_len buffer.old + length octets.now))) }
+{
+    let length = buffer.len();
+    if octets.len() > buffer.capacity() - length {
+        buffer.reserve_exact(length + octets.len())?;
+    }
+    let reserved = buffer.capacity();
+    buffer.extend_from_slice(octets)?;
+    // There was memory for them. That none was taken on top is nowhere promised, so it is looked at.
+    if buffer.capacity() > reserved {
+        buffer.truncate(length);
+        return Err(AllocError);
+    }
+    Ok(())
 }
 
 /// A frame at the front of octets: its body as it lies there, how many of the octets the frame takes, and the tally behind it.

@@ -3,7 +3,6 @@ use Rattle.std.specs.List.{flat_map}
 use Rattle.zmtp_peer.specs.declared.event.PeerEvent.{PeerEvent}
 use Rattle.zmtp_peer.specs.Events.{Event, events_of, message_told}
 use Rattle.zmtp_peer.specs.Subscriptions.{HasRoom, is_named}
-use Rattle.zmtp_peer.specs.Table.{table_of}
 use Rattle.zmtp_peer.specs.Intake.{messages_of}
 use Rattle.zmtp_peer.proofs.TableLemmas.{told-room}
 use Rattle.zmtp_peer.proofs.TidyLemmas.{asked-named}
@@ -14,7 +13,7 @@ use Rattle.zmtp_peer.proofs.connection.Connection.keep.Goals as goal
 pub count_events-requires : goal.count_events-requires
 count_events-requires c =
     let events = c.tell-events.result in
-    let table = table_of c.args.self.now.counts.entries in
+    let table = c.args.self.now.counts in
     let intake = c.args.intake in
     let here : HasRoom (length events.items) table (events_of events.items) =
     subst (λ (es : List Event). HasRoom (length events.items) table es) (sym c.tell-events.ensures.told)

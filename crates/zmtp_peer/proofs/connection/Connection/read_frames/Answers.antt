@@ -1,10 +1,9 @@
 use Rattle.zmtp_peer.specs.Subscriptions.{is_asked}
-use Rattle.zmtp_peer.specs.Table.{table_of}
 use Rattle.zmtp_peer.proofs.TidyLemmas.{tidy-again}
 use Rattle.zmtp_peer.proofs.connection.Connection.read_frames.Goals as goal
 
 pub returns-in-Err-clause-tidy : goal.returns-in-Err-clause-tidy
 returns-in-Err-clause-tidy c =
     let gathered = c.gather-gathered.new in
-    tidy-again (is_asked c.args.role gathered.intake.whole.items) (table_of c.args.self.now.counts.entries) (table_of gathered.counts.entries) (table_of c.release.new.counts.entries)
+    tidy-again (is_asked c.args.role gathered.intake.whole.items) c.args.self.now.counts gathered.counts c.release.new.counts
     c.requires.1 c.in-Err.ensures.idle (rw c.deref.ensures.value at c.release.ensures.idle)

@@ -1,9 +1,0 @@
-use Rattle.std.proofs.Common.{ℕ, Option, ap, sym, ◌∙◌, unwrap_or}
-use Rattle.zmtp_peer.proofs.TableLemmas.{count_in-table_of}
-use Rattle.zmtp_peer.proofs.subscriptions.count_of.Goals as goal
-
-pub returns-in-Some : goal.returns-in-Some
-returns-in-Some c = ap (λ (o : Option ℕ). unwrap_or o 0) c.in-Some.ensures.value ∙ sym (count_in-table_of c.args.counts.now.entries c.args.prefix.now)
-
-pub returns-in-None : goal.returns-in-None
-returns-in-None c = ap (λ (o : Option ℕ). unwrap_or o 0) c.in-None.ensures.value ∙ sym (count_in-table_of c.args.counts.now.entries c.args.prefix.now)
