@@ -15,6 +15,7 @@ use Rattle.kernel_ask.specs.declared.done.Done.{Done}
 use Rattle.kernel_ask.specs.declared.answer.Content.{Content}
 use Rattle.kernel_ask.specs.declared.answer.Content.TheVariants as content
 use Rattle.kernel_ask.specs.declared.answer.KernelState.{KernelState}
+use Rattle.kernel_ask.specs.Comms.{is_open}
 use Rattle.kernel_message.specs.Said.{Said, Says}
 use Rattle.kernel_message.specs.Message.{Asker, reply_message, broadcast_message}
 use Rattle.kernel_message.specs.Sent.{numbered}
@@ -24,7 +25,7 @@ use Rattle.kernel_reply.specs.Status.{idle}
 use Rattle.kernel_reply.specs.Problems.{Problem, cell_problem, post_problem}
 use Rattle.kernel_reply.specs.Replies.{kernel_info_reply, complete_reply, inspect_reply, is_complete_reply, history_reply, no_search_reply, interrupt_reply, shutdown_reply}
 use Rattle.kernel_reply.specs.Execution.{execute_input, execute_result, error, execute_broadcasts, execute_reply, error_reply}
-use Rattle.kernel_reply.specs.Comms.{comm_info_reply, comm_msg, comm_close, is_granted, state_shown}
+use Rattle.kernel_reply.specs.Comms.{comm_info_reply, comm_msg, comm_close, state_shown}
 use Rattle.kernel_reply.specs.Moves.{move_shown, unposted_shown}
 use Rattle.kernel_reply.specs.Answers.{only, status_alone, tells, tells_on_comm, is_of_cell, cell_says, completion_says, inspection_says, completeness_says, inputs_say, history_says, comms_say, comm_open_says, state_says, comm_says, job_says, unposted_says, refusal_says, ask_says}
 use Rattle.kernel_reply.specs.Laws.{EndsIdle, JobsEndIdle, AsksEndIdle, RefusalsEndIdle}
@@ -158,7 +159,7 @@ module _ (asker : Asker) (stamp : Stamp) where
 
   comm_open_ends : (r : CommOpen) (c : Content) → Ends (comm_open_says r c)
   comm_open_ends r (content.Comms ids) =
-      either_ends (is_granted (string_bytes r.target_name) (string_bytes r.comm_id) ids.items) status_alone (tells (comm_close (string_bytes r.comm_id)))
+      either_ends (is_open (map string_bytes ids.items) (string_bytes r.comm_id)) status_alone (tells (comm_close (string_bytes r.comm_id)))
       alone_ends (tells_ends (comm_close (string_bytes r.comm_id)))
   comm_open_ends r (content.State s) = alone_ends
   comm_open_ends r (content.Completion c) = alone_ends

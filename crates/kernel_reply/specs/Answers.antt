@@ -17,12 +17,13 @@ use Rattle.kernel_ask.specs.declared.done.Done.{Done}
 use Rattle.kernel_ask.specs.declared.answer.Content.{Content}
 use Rattle.kernel_ask.specs.declared.answer.Content.TheVariants as content
 use Rattle.kernel_ask.specs.declared.answer.KernelState.{KernelState}
+use Rattle.kernel_ask.specs.Comms.{is_open}
 use Rattle.kernel_message.specs.Said.{Said, Says}
 use Rattle.kernel_reply.specs.Status.{idle}
 use Rattle.kernel_reply.specs.Problems.{cell_problem, post_problem}
 use Rattle.kernel_reply.specs.Replies.{kernel_info_reply, complete_reply, inspect_reply, is_complete_reply, history_reply, no_search_reply, interrupt_reply, shutdown_reply}
 use Rattle.kernel_reply.specs.Execution.{execute_reply, error_reply, execute_broadcasts}
-use Rattle.kernel_reply.specs.Comms.{comm_info_reply, comm_msg, comm_close, is_granted, state_shown}
+use Rattle.kernel_reply.specs.Comms.{comm_info_reply, comm_msg, comm_close, state_shown}
 use Rattle.kernel_reply.specs.Moves.{move_shown, unposted_shown}
 
 -- a reply, and the status
@@ -127,10 +128,10 @@ abbrev pub comms_say : Option (List ℕ) → Content → Says
 comms_say name (content.Comms ids) = only (comm_info_reply name (map string_bytes ids.items))
 comms_say name _ = status_alone
 
--- the comms are those after the open; an open that was not granted is answered by a close
+-- the comms are those after the open; a comm that is not open then is closed
 abbrev pub comm_open_says : CommOpen → Content → Says
 comm_open_says r (content.Comms ids) =
-    if is_granted (string_bytes r.target_name) (string_bytes r.comm_id) ids.items
+    if is_open (map string_bytes ids.items) (string_bytes r.comm_id)
     then status_alone else tells (comm_close (string_bytes r.comm_id))
 comm_open_says r _ = status_alone
 

@@ -1,8 +1,6 @@
 -- What is said of comms (Jupyter messaging page: "Comm info", "Custom Messages"): the channel by which cells are undone and redone.
-use Rattle.std.specs.Prelude.{ℕ, Bool, ◌&&◌, true, List, [], ◌∷◌, map, codes, Option, Some, None, String, string_bytes, if◌then◌else◌}
-use Rattle.std.specs.declared.alloc.Global.{Global}
+use Rattle.std.specs.Prelude.{ℕ, Bool, true, List, [], ◌∷◌, map, codes, Option, Some, None, string_bytes, if◌then◌else◌}
 use Rattle.std.specs.Str.{bytes_eq}
-use Rattle.std.specs.List.{list_any}
 use Rattle.serde_json.specs.Data.{Data, object, Members, no_members, put}
 use Rattle.kernel_ask.specs.declared.answer.KernelState.{KernelState}
 use Rattle.kernel_message.specs.Json.{record_of, list, text, count, flag}
@@ -50,14 +48,6 @@ comm_close_content id = record_of ((codes "comm_id", text id) ∷ (codes "data",
 
 abbrev pub comm_close : List ℕ → Said
 comm_close id = says (codes "comm_close") (comm_close_content id)
-
--- the comm is among the open ones
-abbrev pub is_open : List ℕ → List (String Global) → Bool
-is_open id ids = list_any (λ x. bytes_eq (string_bytes x) id) ids
-
--- an open for the target was granted
-abbrev pub is_granted : List ℕ → List ℕ → List (String Global) → Bool
-is_granted target_name id ids = bytes_eq target_name target && is_open id ids
 
 -- ---- the state of the kernel
 

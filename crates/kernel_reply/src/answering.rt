@@ -57,8 +57,8 @@ pub fn answer(
     Ok(send(alloc, request, &drafts, stamp)?)
 }
 
-/// The messages in answer to a request that is answered at once. The answer to a `comm_open` is that of the comms as they are after it,
-/// and one that could not be opened is closed. Where the answer is to another question they are the status alone.
+/// The messages in answer to a request that is answered at once. The answer to a `comm_open` is that of the comms as they are after it:
+/// one that is not open then, for it is for another target or as many are open as may be, is closed. Where the answer is to another question they are the status alone.
 ///
 /// # Errors
 ///

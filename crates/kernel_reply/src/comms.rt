@@ -1,16 +1,18 @@
 //! What is said of comms (Jupyter messaging page: "Comm info", "Custom Messages").
 ghost use Rattle.std.specs.Prelude.{◌≡◌, true, false, map, IfOk, OnOk, string_bytes, option_map};
+ghost use Rattle.std.specs.List.{list_any};
+ghost use Rattle.std.specs.Str.{bytes_eq};
 ghost use Rattle.serde_json.specs.Data.{object, no_members};
 ghost use Rattle.serde_json.specs.View.{view, members_view};
 ghost use Rattle.serde_json.specs.Written.{has_float};
+ghost use Rattle.kernel_ask.specs.Comms.{is_open};
 ghost use Rattle.kernel_message.specs.Draft.{said_of};
 ghost use Rattle.kernel_reply.specs.Comms as table;
 
 use crate::lists::texts;
-use jupyter_msg::CommOpen;
 use kernel_ask::KernelState;
 use kernel_message::{Draft, put_count, put_empty, put_flag, put_text, put_value};
-use serde_json::{Map, Value, json};
+use serde_json::{Map, Value};
 use std::alloc::{AllocError, Global};
 
 /// The one target that comms have here.
@@ -20,7 +22,9 @@ const TARGET: &str = "janus.undo";
 fn comm_shown(alloc: Global) -> Result<Value, AllocError>
     ensures { IfOk result (λ v. view v ≡ table.comm_shown) }
 {
-    json!(in alloc; {"target_name": "janus.undo"})
+    let mut members = Map::new(alloc);
+    put_text(alloc, &mut members, "target_name", TARGET)?;
+    Ok(Value::Object(members))
 }
 
 /// Adds the open comms.
@@ -98,18 +102,18 @@ pub(crate) fn comm_info_reply(
     })
 }
 
-/// Whether the comm is among the open ones.
-fn is_open(id: &str, ids: &[String]) -> bool
-    ensures { result ≡ table.is_open id.now ids.now }
+/// Whether the id is among the ids.
+fn has_id(id: &str, ids: &[String]) -> bool
+    ensures { result ≡ list_any (λ x. bytes_eq id.now (string_bytes x)) ids.now }
 {
-    ids.iter().any(|x| x.as_str() == id)
+    ids.iter().any(|x| id == x.as_str())
 }
 
-/// Whether the open of a comm was granted, by the comms that are open after it.
-pub(crate) fn is_granted(request: &CommOpen, ids: &[String]) -> bool
-    ensures { result ≡ table.is_granted (string_bytes request.now.target_name) (string_bytes request.now.comm_id) ids.now }
+/// Whether the comm is among the open ones.
+pub(crate) fn is_among(id: &str, ids: &[String]) -> bool
+    ensures { result ≡ is_open (map string_bytes ids.now) id.now }
 {
-    request.target_name.as_str() == TARGET && is_open(&request.comm_id, ids)
+    has_id(id, ids)
 }
 
 /// What is said where a comm is closed.

@@ -1,6 +1,6 @@
 //! What holds of all answers. The functions do nothing: their contracts are the laws. That the messages are numbered without a gap in
 //! their order, and that their parent header is the header of the request, are laws of `kernel_message`.
-ghost use Rattle.kernel_reply.specs.Laws.{JobsEndIdle, AsksEndIdle, RefusalsEndIdle};
+ghost use Rattle.kernel_reply.specs.Laws.{JobsEndIdle, AsksEndIdle, RefusalsEndIdle, OpensPastTheLimitClose, OpensOfOpenComms};
 
 /// The last message of an answer to a job is the status idle.
 pub fn jobs_end_idle_law()
@@ -15,4 +15,14 @@ pub fn asks_end_idle_law()
 /// The last message of an answer to a refused post is the status idle.
 pub fn refusals_end_idle_law()
     ensures { RefusalsEndIdle }
+{}
+
+/// An open of a comm while as many are open as may be is answered by a close of it, and opens nothing.
+pub fn opens_past_the_limit_close_law()
+    ensures { OpensPastTheLimitClose }
+{}
+
+/// An open of a comm that is open opens nothing, and is answered by the status alone, whatever its target.
+pub fn opens_of_open_comms_law()
+    ensures { OpensOfOpenComms }
 {}
