@@ -1,6 +1,10 @@
 -- What holds of all answers.
-use Rattle.std.specs.Prelude.{◌≡◌, ℕ, ◌+◌, ◌≤◌, true, false, List, [], ◌∷◌, ◌++◌, length, map, Vec, String, string_bytes}
+use Rattle.std.specs.Prelude.{◌≡◌, ℕ, ◌+◌, ◌≤◌, Bool, true, false, ◌&&◌, List, [], ◌∷◌, ◌++◌, length, map, Vec, String, string_bytes}
 use Rattle.std.specs.declared.alloc.Global.{Global}
+use Rattle.std.specs.Ordering.{nat_cmp, is_gt}
+use Rattle.std.specs.Cmp.Lexicographic.{slice_cmp}
+use Rattle.std.specs.List.{list_all}
+use Rattle.serde_json.specs.Data.{Members, no_members, member}
 use Rattle.jupyter_msg.specs.Octets.{Octets}
 use Rattle.jupyter_msg.specs.declared.request.RequestContent.{RequestContent}
 use Rattle.jupyter_msg.specs.declared.request.RequestContent.TheVariants as request
@@ -16,7 +20,7 @@ use Rattle.kernel_message.specs.Sent.{sent, next_after}
 use Rattle.kernel_message.specs.Laws.{in_order}
 use Rattle.kernel_message.specs.declared.stamp.Stamp.{Stamp}
 use Rattle.kernel_reply.specs.Status.{idle}
-use Rattle.kernel_reply.specs.Comms.{comm_close}
+use Rattle.kernel_reply.specs.Comms.{comm_close, with_comms}
 use Rattle.kernel_reply.specs.Answers.{job_says, ask_says, refusal_says, status_alone, tells}
 
 -- of the messages that are sent the last, with the last number, is the status idle
@@ -51,3 +55,17 @@ OpensPastTheLimitClose = (r : CommOpen) (ids : List (List ℕ)) → comm_limit �
 -- An open of a comm that is open, for whatever target, opens nothing and is answered by the status alone.
 abbrev pub OpensOfOpenComms : Type 0
 OpensOfOpenComms = (r : CommOpen) (ids : List (List ℕ)) → is_open ids (string_bytes r.comm_id) ≡ true → OpensNothing r ids status_alone
+
+-- the names of an object's members, in order
+abbrev pub names : Members → List (List ℕ)
+names no_members = []
+names (member k d ms) = k ∷ names ms
+
+-- each text stands before all later ones, in the order of octets
+abbrev pub is_rising : List (List ℕ) → Bool
+is_rising [] = true
+is_rising (x ∷ xs) = list_all (λ y. is_gt (slice_cmp nat_cmp y x)) xs && is_rising xs
+
+-- Of open comms whose ids rise, the list names each once, in this order, and no other.
+abbrev pub ListsEachCommOnce : Type 0
+ListsEachCommOnce = (ids : List (List ℕ)) → is_rising ids ≡ true → names (with_comms no_members ids) ≡ ids

@@ -1,6 +1,6 @@
 //! What holds of all answers. The functions do nothing: their contracts are the laws. That the messages are numbered without a gap in
 //! their order, and that their parent header is the header of the request, are laws of `kernel_message`.
-ghost use Rattle.kernel_reply.specs.Laws.{JobsEndIdle, AsksEndIdle, RefusalsEndIdle, OpensPastTheLimitClose, OpensOfOpenComms};
+ghost use Rattle.kernel_reply.specs.Laws.{JobsEndIdle, AsksEndIdle, RefusalsEndIdle, OpensPastTheLimitClose, OpensOfOpenComms, ListsEachCommOnce};
 
 /// The last message of an answer to a job is the status idle.
 pub fn jobs_end_idle_law()
@@ -25,4 +25,9 @@ pub fn opens_past_the_limit_close_law()
 /// An open of a comm that is open opens nothing, and is answered by the status alone, whatever its target.
 pub fn opens_of_open_comms_law()
     ensures { OpensOfOpenComms }
+{}
+
+/// The list of open comms whose ids rise names each once, in the order of their octets, and no other.
+pub fn lists_each_comm_once_law()
+    ensures { ListsEachCommOnce }
 {}
