@@ -30,7 +30,7 @@ fn open_comms_are_listed(rt: HostRuntime) -> Result<(), Fail> {
 }
 
 #[test]
-fn an_open_that_is_not_granted_is_closed(rt: HostRuntime) -> Result<(), Fail> {
+fn a_comm_that_is_not_open_after_its_open_is_closed(rt: HostRuntime) -> Result<(), Fail> {
     let alloc = rt.alloc();
     let close: Expected = (
         "comm_close",
@@ -41,6 +41,8 @@ fn an_open_that_is_not_granted_is_closed(rt: HostRuntime) -> Result<(), Fail> {
     let another = "{\"comm_id\":\"c\",\"target_name\":\"janus\",\"data\":{}}";
     let open = Told::Answered(content(alloc, &[], &["c"], Ask::Comms)?);
     check(&rt, alloc, "comm_open", ours, open, &[IDLE])?;
+    let still_open = Told::Answered(content(alloc, &[], &["c"], Ask::Comms)?);
+    check(&rt, alloc, "comm_open", another, still_open, &[IDLE])?;
     let not_open = Told::Answered(content(alloc, &[], &["d"], Ask::Comms)?);
     check(&rt, alloc, "comm_open", ours, not_open, &[close, IDLE])?;
     let another_target = Told::Answered(content(alloc, &[], &["d"], Ask::Comms)?);
@@ -107,6 +109,20 @@ fn an_undo_is_told_and_then_the_state(rt: HostRuntime) -> Result<(), Fail> {
         "{\"comm_id\":\"c\",\"data\":{\"op\":\"state\"}}",
         Told::Answered(state),
         "{\"comm_id\":\"c\",\"data\":{\"busy\":false,\"depth\":1,\"node\":1,\"nodes\":2,\"op\":\"state\",\"redo\":1,\"status\":\"ok\",\"world\":[\"x = 0\"]}}",
+    )
+}
+
+#[test]
+fn a_cell_is_redone(rt: HostRuntime) -> Result<(), Fail> {
+    let alloc = rt.alloc();
+    let before = ["int x", "x += 5", "%undo 1"];
+    let redone = done(alloc, &before, Job::Redo(1), "", &[])?;
+    check_comm(
+        &rt,
+        alloc,
+        "{\"comm_id\":\"c\",\"data\":{\"op\":\"redo\",\"n\":1}}",
+        Told::Ended(redone),
+        "{\"comm_id\":\"c\",\"data\":{\"end\":\"all\",\"node\":2,\"op\":\"redo\",\"redone\":1,\"status\":\"ok\",\"undone\":0}}",
     )
 }
 

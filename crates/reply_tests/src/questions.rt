@@ -173,6 +173,24 @@ fn code_is_judged(rt: HostRuntime) -> Result<(), Fail> {
 }
 
 #[test]
+fn code_that_breaks_off_is_asked_of_a_kernel(rt: HostRuntime) -> Result<(), Fail> {
+    let alloc = rt.alloc();
+    let ask = Ask::IsComplete {
+        code: String::from_str(alloc, "if x")?,
+    };
+    check_reply(
+        &rt,
+        alloc,
+        ("is_complete_request", "{\"code\":\"if x\"}"),
+        content(alloc, &["int x"], &[], ask)?,
+        (
+            "is_complete_reply",
+            "{\"indent\":\"\",\"status\":\"incomplete\"}",
+        ),
+    )
+}
+
+#[test]
 fn the_history_is_told(rt: HostRuntime) -> Result<(), Fail> {
     let alloc = rt.alloc();
     let tail = content(
