@@ -15,15 +15,15 @@ use kernel_message::{Draft, put_count, put_empty, put_flag, put_text, put_value}
 use serde_json::{Map, Value};
 use std::alloc::{AllocError, Global};
 
-/// The one target that comms have here.
-const TARGET: &str = "janus.undo";
+/// The one target that comms have here: whoever opens them opens none for another.
+pub const COMM_TARGET: &str = "janus.undo";
 
 /// An open comm.
 fn comm_shown(alloc: Global) -> Result<Value, AllocError>
     ensures { IfOk result (λ v. view v ≡ table.comm_shown) }
 {
     let mut members = Map::new(alloc);
-    put_text(alloc, &mut members, "target_name", TARGET)?;
+    put_text(alloc, &mut members, "target_name", COMM_TARGET)?;
     Ok(Value::Object(members))
 }
 
@@ -58,7 +58,7 @@ fn asks_target(name: Option<&str>) -> bool
 {
     match name {
         None => true,
-        Some(name) => name == TARGET,
+        Some(name) => name == COMM_TARGET,
     }
 }
 

@@ -7,7 +7,7 @@
 //! their headers and their numbers are those of `kernel_message`. `laws` says what holds of all answers: the status idle is last.
 //!
 //! The contents are those of the Jupyter messaging page (version 5.4); on comms of the target `janus.undo` cells are undone and redone.
-//! Lines and names are those of `kernel_ask`.
+//! Lines are those of `kernel_text`, answers those of `kernel_ask`.
 #![tactic(auto)]
 
 mod answering;
@@ -22,4 +22,5 @@ mod status;
 mod tables;
 
 pub use crate::answering::{answer, answer_ask, opening, refuse};
+pub use crate::comms::COMM_TARGET;
 pub use kernel_message::{Broadcast, Outgoing, Stamp};

@@ -105,7 +105,7 @@ fn ids_of_comms_are_escaped(rt: HostRuntime) -> Result<(), Fail> {
         alloc,
         "comm_open",
         "{\"comm_id\":\"\\t\\\"\\ud83d\\ude00\",\"target_name\":\"\",\"data\":{}}",
-        Told::Answered(Content::Comms(comms.list()?)),
+        Told::Answered(Content::Comms(Comms::new(alloc).list()?)),
         &close,
     )
 }
