@@ -1,5 +1,6 @@
 -- The stream behind the greeting, and what one piece of it brings.
-use Rattle.std.specs.Prelude.{◌≡◌, ℕ, List, []}
+use Rattle.std.specs.Prelude.{◌≡◌, ◌≤◌, ℕ, List, []}
+use Rattle.zmtp_wire.specs.Decoding.{Decoding}
 use Rattle.zmtp_wire.specs.Frame.{Frame}
 use Rattle.zmtp_wire.specs.Stream.{Rest, Leaves}
 use Rattle.zmtp_peer.specs.declared.role.Role.{Role}
@@ -27,10 +28,14 @@ IsOpeningEmpty (stage.Refused fault) held = Unit {0}
 abbrev pub state_in : Connection → State
 state_in connection = state_at connection.stage (bodies connection.held.items)
 
--- before READY nothing is held, and no prefix has a place but those that are subscribed to
+-- where nothing of the stream is left, a large memory was given back: there is some for 131,072 octets at most
+abbrev pub GivesBack : Decoding → Type 0
+GivesBack d = d.rest.octets ≡ [] → d.room ≤ 131_072
+
+-- before READY nothing is held, no prefix has a place but those that are subscribed to, and a large memory was given back
 abbrev pub IsConnection : Connection → Type 0
 IsConnection connection =
-    IsOpeningEmpty connection.stage (bodies connection.held.items) × IsTidy connection.counts
+    IsOpeningEmpty connection.stage (bodies connection.held.items) × IsTidy connection.counts × GivesBack connection.decoder
 
 -- nothing of the connection is changed, but memory may be laid out anew
 pub record IsUnread (old new : Connection) : Type 0 where
