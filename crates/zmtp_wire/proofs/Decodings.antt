@@ -1,7 +1,7 @@
 -- What a decoder was fed and gave, through its calls.
 use Rattle.std.specs.Prelude.{Option, IsErrAnd, IfErr}
 use Rattle.zmtp_wire.specs.declared.frame.Frame as code
-use Rattle.std.proofs.Common.{◌≡◌, ◌≢◌, ℕ, ◌+◌, ◌-◌, ◌*◌, ◌≤◌, max, inl, inr, arith, Bool, List, [], ◌∷◌, ◌++◌, Result, Err, Ok, OnOk, sym, subst}
+use Rattle.std.proofs.Common.{◌≡◌, ◌≢◌, ℕ, ◌+◌, ◌-◌, ◌*◌, ◌≤◌, max, inl, inr, arith, Bool, List, [], ◌∷◌, ◌++◌, Result, Err, Ok, sym, subst}
 use Rattle.zmtp_wire.specs.declared.fault.WireFault.{WireFault}
 use Rattle.zmtp_wire.specs.declared.fault.WireFault.TheVariants.{BadSignature, OldVersion, BadMechanism, ReservedBits, CommandWithMore, TooLong, Memory}
 use Rattle.zmtp_wire.specs.Frame.{Frame}
@@ -27,11 +27,10 @@ tells_fault ReservedBits d octets given has at = (d.rest, has, at (λ e. cc))
 tells_fault CommandWithMore d octets given has at = (d.rest, has, at (λ e. cc))
 tells_fault TooLong d octets given has at = (d.rest, has, at (λ e. cc))
 
--- on success, a piece more
-pub given_on_ok : {T E : Type 0} (r : Result T E) (old new : Decoding) (piece : List ℕ) → OnOk r (SameButRoom (fed old piece) new)
-    → (octets : List ℕ) (given : List Frame) → HasGiven old octets given → OnOk r (HasGiven new (octets ++ piece) given)
-given_on_ok (Ok x) old new piece e octets given has = subst (λ (d : Decoding). HasGiven d (octets ++ piece) given) (sym e) (given_fed old octets piece given has)
-given_on_ok (Err x) old new piece e octets given has = tt
+-- the frames that were given, with a piece more
+pub given_longer : (old new : Decoding) (piece : List ℕ) → SameButRoom (fed old piece) new
+    → (octets : List ℕ) (given : List Frame) → HasGiven old octets given → HasGiven new (octets ++ piece) given
+given_longer old new piece same octets given has = subst (λ (d : Decoding). HasGiven d (octets ++ piece) given) (sym same) (given_fed old octets piece given has)
 
 -- an error that is handed on
 pub err_of : {T : Type 0} (r : Result T WireFault) (fault : WireFault) (Q : WireFault → Type 0) → IsErrAnd r (λ e. e ≡ fault) → Q fault → IfErr r Q

@@ -93,10 +93,8 @@ impl Decoder {
         self.position.at = drop_given(&mut self.buffer, self.position.at);
         self.length_before = self.buffer.len();
         self.position_before = self.position;
-        match append(&mut self.buffer, piece) {
-            Ok(()) => Ok(()),
-            Err(AllocError) => Err(WireFault::Memory),
-        }
+        append(&mut self.buffer, piece)?;
+        Ok(())
     }
 
     /// Gives up what was given: it can't be taken back any more. Where nothing is left, a large memory is given back.

@@ -79,10 +79,7 @@ impl Header {
         let Some((first, behind)) = octets.split_first() else {
             return Ok(None);
         };
-        let flags = match Flags::read(*first) {
-            Ok(flags) => flags,
-            Err(fault) => return Err(fault),
-        };
+        let flags = Flags::read(*first)?;
         let Some((size, body)) = size_at(flags.long, behind) else {
             return Ok(None);
         };
