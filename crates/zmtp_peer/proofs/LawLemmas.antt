@@ -30,7 +30,7 @@ pub refusals_stay : RefusalsStay
 refusals_stay role octets more es fault h = failing-stays role octets more es fault h
 
 -- pieces behind what was fed and given
-cuts-from : (s t : Standing) (ps : List (List ℕ × List Event)) (fed : List ℕ) (given : List Event) → Stands fed given s → Run s ps t
+pub cuts-from : (s t : Standing) (ps : List (List ℕ × List Event)) (fed : List ℕ) (given : List Event) → Stands fed given s → Run s ps t
     → Stands (fed ++ flat_map (λ p. p.0) ps) (given ++ flat_map (λ p. p.1) ps) t
 cuts-from s t [] fed given h run =
     subst (λ (u : Standing). Stands (fed ++ []) (given ++ []) u) (sym run)
@@ -44,7 +44,7 @@ pub no_cut_matters : NoCutMatters
 no_cut_matters s t ps h run = (cuts-from s t ps [] [] h run).reads
 
 -- two lists of frames at one front: one begins the other
-leaves-compare : (fs gs : List Frame) (rest a b : Rest) → Leaves rest fs a → Leaves rest gs b
+pub leaves-compare : (fs gs : List Frame) (rest a b : Rest) → Leaves rest fs a → Leaves rest gs b
     → ((hs : List Frame) × (gs ≡ fs ++ hs) × Leaves a hs b) ⊎ ((hs : List Frame) × (fs ≡ gs ++ hs) × Leaves b hs a)
 leaves-compare [] gs rest a b h k = inl (gs, refl, subst (λ (r : Rest). Leaves r gs b) (sym h) k)
 leaves-compare (f ∷ fs) [] rest a b h k = inr (f ∷ fs, refl, subst (λ (r : Rest). Leaves r (f ∷ fs) a) (sym k) h)
@@ -57,7 +57,7 @@ leaves-compare (f ∷ fs) (g ∷ gs) rest a b h k =
     longer_by f g same (inl (hs, e, l)) = inl (hs, ap (λ (x : Frame). x ∷ gs) (sym same) ∙ ap (λ (xs : List Frame). f ∷ xs) e, l)
     longer_by f g same (inr (hs, e, l)) = inr (hs, ap (λ (x : Frame). x ∷ fs) same ∙ ap (λ (xs : List Frame). g ∷ xs) e, l)
 
-refused-after : (role : Role) (fault : Fault) (fs : List Frame) → after role (Refused fault) fs ≡ Refused fault
+pub refused-after : (role : Role) (fault : Fault) (fs : List Frame) → after role (Refused fault) fs ≡ Refused fault
 refused-after role fault [] = refl
 refused-after role fault (f ∷ fs) = refused-after role fault fs
 
@@ -77,7 +77,7 @@ one-end-in (Open held) rest e d h k = one-end-at rest e d h k
 one-end-in (Refused fault) rest e d h k = h ∙ sym k
 
 -- nothing is read behind an end
-nothing-behind : (rest b : Rest) (e : Ending) (hs : List Frame) → EndsAt rest e → Leaves rest hs b → (hs ≡ []) × (b ≡ rest)
+pub nothing-behind : (rest b : Rest) (e : Ending) (hs : List Frame) → EndsAt rest e → Leaves rest hs b → (hs ≡ []) × (b ≡ rest)
 nothing-behind rest b e [] ends l = (refl, l)
 nothing-behind rest b e (h ∷ hs) (inl (p, a)) l = absurd (partial_or_frame rest h l.0 p l.1)
 nothing-behind rest b e (h ∷ hs) (inr (fault, p, a)) l = absurd (fault_or_frame fault rest h l.0 p l.1)

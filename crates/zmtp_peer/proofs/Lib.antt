@@ -2,9 +2,11 @@ pub mod CommandLemmas
 pub mod TableLemmas
 pub mod TidyLemmas
 pub mod FrameLemmas
+pub mod GivingBack
 pub mod ReadingLemmas
 pub mod RefusalLemmas
 pub mod LawLemmas
 pub mod LengthLemmas
 pub mod OpeningLemmas
 pub mod MessageLemmas
+pub mod FedMessages

@@ -15,20 +15,20 @@ use Rattle.zmtp_peer.proofs.ReadingLemmas.{stands-read}
 use Rattle.zmtp_peer.proofs.OpeningLemmas.{nothing-partial}
 
 -- behind the frames of a message no frame is held
-after-message : (role : Role) (held message : List (List ℕ)) → 0 < length message → after role (Open held) (message_frames message) ≡ Open []
+pub after-message : (role : Role) (held message : List (List ℕ)) → 0 < length message → after role (Open held) (message_frames message) ≡ Open []
 after-message role held [] some = absurd (omega arith)
 after-message role held (body ∷ []) some = refl
 after-message role held (body ∷ other ∷ message) some = after-message role (held ++ body ∷ []) (other ∷ message) (omega arith)
 
 -- and they tell the message with what was held before
-told-message : (role : Role) (held message : List (List ℕ)) → 0 < length message → told role (Open held) (message_frames message) ≡ message_told role (held ++ message)
+pub told-message : (role : Role) (held message : List (List ℕ)) → 0 < length message → told role (Open held) (message_frames message) ≡ message_told role (held ++ message)
 told-message role held [] some = absurd (omega arith)
 told-message role held (body ∷ []) some = append-nil (message_told role (held ++ body ∷ []))
 told-message role held (body ∷ other ∷ message) some =
     told-message role (held ++ body ∷ []) (other ∷ message) (omega arith) ∙ ap (message_told role) (append_assoc held (body ∷ []) (other ∷ message))
 
 -- who doesn't publish is told each message
-message-told : (role : Role) (message : List (List ℕ)) → role ≢ Pub → message_told role message ≡ Message message ∷ []
+pub message-told : (role : Role) (message : List (List ℕ)) → role ≢ Pub → message_told role message ≡ Message message ∷ []
 message-told Router message other = refl
 message-told Pub message other = absurd (other refl)
 message-told Rep message other = refl
@@ -45,7 +45,7 @@ message-piece role message other some within = record {
   ends = inl (nothing-partial, sym (after-message role [] message some), λ refusal. refusal);
 }
 
-streaming-of : (role : Role) (octets : List ℕ) (given : List Event) (greeting : List ℕ) (state : State) (rest : Rest) → state ≡ Open [] → IsAt role octets given greeting state rest
+pub streaming-of : (role : Role) (octets : List ℕ) (given : List Event) (greeting : List ℕ) (state : State) (rest : Rest) → state ≡ Open [] → IsAt role octets given greeting state rest
     → IsStreaming role octets given greeting (Open []) rest
 streaming-of role octets given greeting state rest ready at = subst (λ (s : State). IsAt role octets given greeting s rest) ready at
 
@@ -60,7 +60,7 @@ message-brings s message other between some within fed given h =
     subst (λ (r : Rest). ReadsPiece s.role (longer s.rest (message_octets message)) (Open []) r (Open []) (Message message ∷ [])) (sym between.nothing) from in
     let here : ReadsPiece s.role (longer s.rest (message_octets message)) s.state s.rest s.state (Message message ∷ []) =
     subst (λ (a : State). ReadsPiece s.role (longer s.rest (message_octets message)) a s.rest a (Message message ∷ [])) (sym between.ready) into in
-    stands-read s.role s.greeting s.state s.rest s.table [] (message_octets message) s.greeting streaming.of s.state s.rest s.table (Message message ∷ [])
+    stands-read s.role s.greeting s.state s.rest s.table s.room [] (message_octets message) s.greeting streaming.of s.state s.rest s.table s.room (Message message ∷ [])
     (sym (append-nil s.greeting)) streaming.complete streaming.welcome (λ refusal. subst IsRefusal between.ready refusal) here (λ q. refl) fed given h
 
 pub messages_are_told : MessagesAreTold

@@ -102,8 +102,8 @@ reads-more role octets greeting stream piece g frames rest behind state new even
     )
 
 -- a peer that stands so
-abbrev pub standing : Role → List ℕ → State → Rest → List (List ℕ × ℕ) → Standing
-standing role greeting state rest table = record { role = role; greeting = greeting; state = state; rest = rest; table = table }
+abbrev pub standing : Role → List ℕ → State → Rest → List (List ℕ × ℕ) → ℕ → Standing
+standing role greeting state rest table room = record { role = role; greeting = greeting; state = state; rest = rest; table = table; room = room }
 
 clash : (fault : Fault) → Failing fault ≡ Awaiting → ⊥
 clash fault h = cc
@@ -172,12 +172,12 @@ stands-refused s fault more is fed given h =
     })
 
 -- a peer whose greeting isn't whole yet
-pub stands-short : (role : Role) (greeting : List ℕ) (state : State) (rest : Rest) (table : List (List ℕ × ℕ)) (more new : List ℕ)
-    → new ≡ greeting ++ more → length new < 64 → ¬ (IsRefusal state) → Brings (standing role greeting state rest table) more [] (standing role new state rest table)
-stands-short role greeting state rest table more new is short going fed given h =
-    subst (λ (es : List Event). Stands (fed ++ more) es (standing role new state rest table)) (sym (append-nil given)) (by_parts (at-parts role fed given greeting state rest going h.leaves))
+pub stands-short : (role : Role) (greeting : List ℕ) (state : State) (rest : Rest) (table : List (List ℕ × ℕ)) (room : ℕ) (more new : List ℕ)
+    → new ≡ greeting ++ more → length new < 64 → ¬ (IsRefusal state) → Brings (standing role greeting state rest table room) more [] (standing role new state rest table room)
+stands-short role greeting state rest table room more new is short going fed given h =
+    subst (λ (es : List Event). Stands (fed ++ more) es (standing role new state rest table room)) (sym (append-nil given)) (by_parts (at-parts role fed given greeting state rest going h.leaves))
   where
-    by_parts : IsGreetingBegun fed given greeting state rest ⊎ IsStreaming role fed given greeting state rest → Stands (fed ++ more) given (standing role new state rest table)
+    by_parts : IsGreetingBegun fed given greeting state rest ⊎ IsStreaming role fed given greeting state rest → Stands (fed ++ more) given (standing role new state rest table room)
     by_parts (inl begun) =
         let same : new ≡ fed ++ more = is ∙ ap (λ (o : List ℕ). o ++ more) begun.kept in
         let few : length (fed ++ more) < 64 = subst (λ (o : List ℕ). length o < 64) same short in
@@ -189,13 +189,13 @@ stands-short role greeting state rest table more new is short going fed given h 
     by_parts (inr streaming) = absurd (omega (arith, short, ap length is, length-append greeting more, streaming.complete))
 
 -- a peer whose greeting is refused
-pub stands-unwelcome : (role : Role) (greeting : List ℕ) (state : State) (rest : Rest) (table : List (List ℕ × ℕ)) (front stream new : List ℕ) (fault : WireFault)
+pub stands-unwelcome : (role : Role) (greeting : List ℕ) (state : State) (rest : Rest) (table : List (List ℕ × ℕ)) (room : ℕ) (front stream new : List ℕ) (fault : WireFault)
     → new ≡ greeting ++ front → length new ≡ 64 → IsGreetingFault new fault → ¬ (IsRefusal state)
-    → Brings (standing role greeting state rest table) (front ++ stream) [] (standing role new (Refused (Wire fault)) rest table)
-stands-unwelcome role greeting state rest table front stream new fault is complete refused going fed given h =
-    subst (λ (es : List Event). Stands (fed ++ (front ++ stream)) es (standing role new (Refused (Wire fault)) rest table)) (sym (append-nil given)) (by_parts (at-parts role fed given greeting state rest going h.leaves))
+    → Brings (standing role greeting state rest table room) (front ++ stream) [] (standing role new (Refused (Wire fault)) rest table room)
+stands-unwelcome role greeting state rest table room front stream new fault is complete refused going fed given h =
+    subst (λ (es : List Event). Stands (fed ++ (front ++ stream)) es (standing role new (Refused (Wire fault)) rest table room)) (sym (append-nil given)) (by_parts (at-parts role fed given greeting state rest going h.leaves))
   where
-    by_parts : IsGreetingBegun fed given greeting state rest ⊎ IsStreaming role fed given greeting state rest → Stands (fed ++ (front ++ stream)) given (standing role new (Refused (Wire fault)) rest table)
+    by_parts : IsGreetingBegun fed given greeting state rest ⊎ IsStreaming role fed given greeting state rest → Stands (fed ++ (front ++ stream)) given (standing role new (Refused (Wire fault)) rest table room)
     by_parts (inl begun) =
         let same : fed ++ (front ++ stream) ≡ new ++ stream = sym (append_assoc fed front stream) ∙ ap (λ (o : List ℕ). (o ++ front) ++ stream) (sym begun.kept) ∙ ap (λ (o : List ℕ). o ++ stream) (sym is) in
         let head : take 64 (fed ++ (front ++ stream)) ≡ new = ap (take 64) same ∙ take-front new stream complete in
@@ -213,26 +213,26 @@ stands-unwelcome role greeting state rest table front stream new fault is comple
     by_parts (inr streaming) = absurd (welcome_or_refused new streaming.of fault (subst (λ (o : List ℕ). IsGreeting o streaming.of) (sym (is ∙ ap (λ (o : List ℕ). greeting ++ o) (empty front (omega (arith, complete, ap length is, length-append greeting front, streaming.complete))) ∙ append-nil greeting)) streaming.welcome) refused)
 
 -- a peer that read a piece
-pub stands-read : (role : Role) (greeting : List ℕ) (state : State) (rest : Rest) (table : List (List ℕ × ℕ)) (front stream new : List ℕ) (g : Greeting) (next : State) (behind : Rest) (after_table : List (List ℕ × ℕ)) (events : List Event)
+pub stands-read : (role : Role) (greeting : List ℕ) (state : State) (rest : Rest) (table : List (List ℕ × ℕ)) (room : ℕ) (front stream new : List ℕ) (g : Greeting) (next : State) (behind : Rest) (after_table : List (List ℕ × ℕ)) (later : ℕ) (events : List Event)
     → new ≡ greeting ++ front → length new ≡ 64 → IsGreeting new g → ¬ (IsRefusal state)
     → ReadsPiece role (longer rest stream) state behind next events
     → ((q : List ℕ) → count_in after_table q ≡ counted_all q (count_in table q) events)
-    → Brings (standing role greeting state rest table) (front ++ stream) events (standing role new next behind after_table)
-stands-read role greeting state rest table front stream new g next behind after_table events is complete welcome going reads counts fed given h =
+    → Brings (standing role greeting state rest table room) (front ++ stream) events (standing role new next behind after_table later)
+stands-read role greeting state rest table room front stream new g next behind after_table later events is complete welcome going reads counts fed given h =
     by_parts (at-parts role fed given greeting state rest going h.leaves)
   where
     tallied : (prefix : List ℕ) → count_in after_table prefix ≡ subscriptions (given ++ events) prefix
     tallied prefix = counts prefix ∙ ap (λ n. counted_all prefix n events) (h.counts prefix) ∙ sym (counted_all-append prefix 0 given events)
 
     made : (before : List Event) → before ≡ given → PeerReads role (fed ++ (front ++ stream)) (before ++ events) (ending_of next) × IsAt role (fed ++ (front ++ stream)) (before ++ events) new next behind
-        → Stands (fed ++ (front ++ stream)) (given ++ events) (standing role new next behind after_table)
-    made before same both = subst (λ (es : List Event). Stands (fed ++ (front ++ stream)) es (standing role new next behind after_table)) (ap (λ (es : List Event). es ++ events) same) (record {
+        → Stands (fed ++ (front ++ stream)) (given ++ events) (standing role new next behind after_table later)
+    made before same both = subst (λ (es : List Event). Stands (fed ++ (front ++ stream)) es (standing role new next behind after_table later)) (ap (λ (es : List Event). es ++ events) same) (record {
       reads = both.0;
       leaves = both.1;
       counts = λ prefix. tallied prefix ∙ ap (λ (es : List Event). subscriptions (es ++ events) prefix) (sym same);
     })
 
-    by_parts : IsGreetingBegun fed given greeting state rest ⊎ IsStreaming role fed given greeting state rest → Stands (fed ++ (front ++ stream)) (given ++ events) (standing role new next behind after_table)
+    by_parts : IsGreetingBegun fed given greeting state rest ⊎ IsStreaming role fed given greeting state rest → Stands (fed ++ (front ++ stream)) (given ++ events) (standing role new next behind after_table later)
     by_parts (inl begun) =
         let same : fed ++ (front ++ stream) ≡ new ++ ([] ++ stream) = sym (append_assoc fed front stream) ∙ ap (λ (o : List ℕ). (o ++ front) ++ stream) (sym begun.kept) ∙ ap (λ (o : List ℕ). o ++ stream) (sym is) in
         made [] (sym begun.quiet) (reads-more role (fed ++ (front ++ stream)) new [] stream g [] rest behind state next events same complete welcome begun.nothing begun.opening reads)
@@ -244,27 +244,27 @@ stands-read role greeting state rest table front stream new g next behind after_
         made (told role Opening streaming.frames) (sym streaming.tells) (reads-more role (fed ++ (front ++ stream)) new streaming.stream stream g streaming.frames rest behind state next events same complete welcome streaming.left streaming.reached reads)
 
 -- a peer that read a piece behind its greeting
-pub stands-on : (role : Role) (greeting : List ℕ) (state : State) (rest : Rest) (table : List (List ℕ × ℕ)) (stream new : List ℕ) (next : State) (behind : Rest) (after_table : List (List ℕ × ℕ)) (events : List Event)
+pub stands-on : (role : Role) (greeting : List ℕ) (state : State) (rest : Rest) (table : List (List ℕ × ℕ)) (room : ℕ) (stream new : List ℕ) (next : State) (behind : Rest) (after_table : List (List ℕ × ℕ)) (later : ℕ) (events : List Event)
     → new ≡ greeting → length greeting ≡ 64 → ¬ (IsRefusal state) → ReadsPiece role (longer rest stream) state behind next events
     → ((q : List ℕ) → count_in after_table q ≡ counted_all q (count_in table q) events)
-    → Brings (standing role greeting state rest table) stream events (standing role new next behind after_table)
-stands-on role greeting state rest table stream new next behind after_table events same complete going reads counts fed given h =
+    → Brings (standing role greeting state rest table room) stream events (standing role new next behind after_table later)
+stands-on role greeting state rest table room stream new next behind after_table later events same complete going reads counts fed given h =
     by_parts (at-parts role fed given greeting state rest going h.leaves)
   where
-    by_parts : IsGreetingBegun fed given greeting state rest ⊎ IsStreaming role fed given greeting state rest → Stands (fed ++ stream) (given ++ events) (standing role new next behind after_table)
+    by_parts : IsGreetingBegun fed given greeting state rest ⊎ IsStreaming role fed given greeting state rest → Stands (fed ++ stream) (given ++ events) (standing role new next behind after_table later)
     by_parts (inl begun) = absurd (omega (arith, begun.short, ap length begun.kept, complete))
     by_parts (inr streaming) =
-        stands-read role greeting state rest table [] stream new streaming.of next behind after_table events (same ∙ sym (append-nil greeting)) (ap length same ∙ complete)
+        stands-read role greeting state rest table room [] stream new streaming.of next behind after_table later events (same ∙ sym (append-nil greeting)) (ap length same ∙ complete)
         (subst (λ (o : List ℕ). IsGreeting o streaming.of) (sym same) streaming.welcome) going reads counts fed given h
 
 -- a peer of which nothing but the memory was changed
-pub stands-same : (role : Role) (greeting : List ℕ) (state : State) (rest : Rest) (table : List (List ℕ × ℕ)) (new : List ℕ) (next : State) (behind : Rest) (after_table : List (List ℕ × ℕ))
+pub stands-same : (role : Role) (greeting : List ℕ) (state : State) (rest : Rest) (table : List (List ℕ × ℕ)) (room : ℕ) (new : List ℕ) (next : State) (behind : Rest) (after_table : List (List ℕ × ℕ)) (later : ℕ)
     → new ≡ greeting → next ≡ state → behind ≡ rest → ((q : List ℕ) → count_in after_table q ≡ count_in table q)
-    → Brings (standing role greeting state rest table) [] [] (standing role new next behind after_table)
-stands-same role greeting state rest table new next behind after_table same_greeting same_state same_rest counts fed given h =
-    let one : Stands fed given (standing role greeting state rest after_table) = record { reads = h.reads; leaves = h.leaves; counts = λ prefix. counts prefix ∙ h.counts prefix } in
-    let two = subst (λ (o : List ℕ). Stands fed given (standing role o state rest after_table)) (sym same_greeting) one in
-    let three = subst (λ (s : State). Stands fed given (standing role new s rest after_table)) (sym same_state) two in
-    let four = subst (λ (r : Rest). Stands fed given (standing role new next r after_table)) (sym same_rest) three in
-    subst (λ (o : List ℕ). Stands o (given ++ []) (standing role new next behind after_table)) (sym (append-nil fed))
-    (subst (λ (es : List Event). Stands fed es (standing role new next behind after_table)) (sym (append-nil given)) four)
+    → Brings (standing role greeting state rest table room) [] [] (standing role new next behind after_table later)
+stands-same role greeting state rest table room new next behind after_table later same_greeting same_state same_rest counts fed given h =
+    let one : Stands fed given (standing role greeting state rest after_table later) = record { reads = h.reads; leaves = h.leaves; counts = λ prefix. counts prefix ∙ h.counts prefix } in
+    let two = subst (λ (o : List ℕ). Stands fed given (standing role o state rest after_table later)) (sym same_greeting) one in
+    let three = subst (λ (s : State). Stands fed given (standing role new s rest after_table later)) (sym same_state) two in
+    let four = subst (λ (r : Rest). Stands fed given (standing role new next r after_table later)) (sym same_rest) three in
+    subst (λ (o : List ℕ). Stands o (given ++ []) (standing role new next behind after_table later)) (sym (append-nil fed))
+    (subst (λ (es : List Event). Stands fed es (standing role new next behind after_table later)) (sym (append-nil given)) four)

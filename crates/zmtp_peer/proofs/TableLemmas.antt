@@ -85,6 +85,15 @@ placed p es fs none here others q = changed p (Some 0) es fs here others q ∙ b
     by_test true h o = ap (λ (v : Option ℕ). option_or v (Some 0)) (sym (h refl))
     by_test false h o = or_none (place_of (table_of es) q)
 
+-- the test for a place
+pub place-found : (place : Option ℕ) → is_some place ≡ true → (n : ℕ) × (place ≡ Some n)
+place-found (Some n) is = (n, refl)
+place-found None is = absurd (false≢true is)
+
+pub place-missing : (place : Option ℕ) → is_some place ≡ false → place ≡ None
+place-missing (Some n) is = absurd (false≢true (sym is))
+place-missing None is = refl
+
 -- a prefix that has a place already
 pub present : (p : List ℕ) (n : ℕ) (table : List (List ℕ × ℕ)) → place_of table p ≡ Some n
     → (q : List ℕ) → place_of table q ≡ option_or (place_of table q) (if bytes_eq q p then Some 0 else None)

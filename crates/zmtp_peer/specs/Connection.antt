@@ -9,6 +9,7 @@ use Rattle.zmtp_peer.specs.declared.connection.Connection.{Connection}
 use Rattle.zmtp_peer.specs.Events.{Event, State, bodies, after, told}
 use Rattle.zmtp_peer.specs.Intake.{EndsFrames, state_at}
 use Rattle.zmtp_peer.specs.Subscriptions.{IsTidy}
+use Rattle.zmtp_peer.specs.Reading.{GivesBack}
 
 -- the frames at the front of the rest are taken, and these are the events that they tell
 pub record ReadsPiece (role : Role) (rest : Rest) (old : State) (behind : Rest) (new : State) (events : List Event) : Type 0 where
@@ -27,10 +28,10 @@ IsOpeningEmpty (stage.Refused fault) held = Unit {0}
 abbrev pub state_in : Connection → State
 state_in connection = state_at connection.stage (bodies connection.held.items)
 
--- before READY nothing is held, and no prefix has a place but those that are subscribed to
+-- before READY nothing is held, no prefix has a place but those that are subscribed to, and a large memory was given back
 abbrev pub IsConnection : Connection → Type 0
 IsConnection connection =
-    IsOpeningEmpty connection.stage (bodies connection.held.items) × IsTidy connection.counts
+    IsOpeningEmpty connection.stage (bodies connection.held.items) × IsTidy connection.counts × GivesBack connection.decoder.rest connection.decoder.room
 
 -- nothing of the connection is changed, but memory may be laid out anew
 pub record IsUnread (old new : Connection) : Type 0 where

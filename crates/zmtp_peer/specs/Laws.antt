@@ -61,3 +61,12 @@ MessagesAreTold =
     (s t : Standing) (message : List (List ℕ)) (more : List ℕ) (es : List Event)
     → s.role ≢ Pub → IsBetweenMessages s → 0 < length message → IsWithinLimits message
     → Brings s more es t → Brings s (message_octets message ++ more) (Message message ∷ es) t
+
+-- The other way: where a peer between two messages is fed a message within the limits, as it is written, and anything behind it,
+-- however cut, that message is the next event that it tells, and the others are those that what follows brings without it.
+abbrev pub FedMessagesAreTold : Type 0
+FedMessagesAreTold =
+    (s t : Standing) (ps : List (List ℕ × List Event)) (fed : List ℕ) (given : List Event) (message : List (List ℕ)) (more : List ℕ)
+    → Stands fed given s → s.role ≢ Pub → t.role ≡ s.role → IsBetweenMessages s → 0 < length message → IsWithinLimits message
+    → Run s ps t → flat_map (λ p. p.0) ps ≡ message_octets message ++ more
+    → (es : List Event) × (flat_map (λ p. p.1) ps ≡ Message message ∷ es) × Brings s more es t

@@ -55,14 +55,19 @@ pub record IsGreeted (role : Role) (octets : List ℕ) (events : List Event) (en
 abbrev pub PeerReads : Role → List ℕ → List Event → Ending → Type 0
 PeerReads role octets events ending = IsShort octets events ending ⊎ (IsUnwelcome octets events ending ⊎ IsGreeted role octets events ending)
 
--- how a peer stands: the octets of the greeting, how far the connection is, what has come of the next frame, and how
--- often each prefix is subscribed to
+-- how a peer stands: the octets of the greeting, how far the connection is, what has come of the next frame, how often
+-- each prefix is subscribed to, and for how many octets of the stream there is memory
 pub record Standing : Type 0 where
   pub role : Role
   pub greeting : List ℕ
   pub state : State
   pub rest : Rest
   pub table : List (List ℕ × ℕ)
+  pub room : ℕ
+
+-- where nothing of the stream is left, a large memory was given back: there is some for 131,072 octets at most
+abbrev pub GivesBack : Rest → ℕ → Type 0
+GivesBack rest room = rest.octets ≡ [] → room ≤ 131_072
 
 -- what such a standing awaits
 abbrev pub ending_of : State → Ending

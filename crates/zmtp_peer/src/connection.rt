@@ -6,6 +6,7 @@ ghost use Rattle.zmtp_peer.specs.Events.{bodies, events_of, message_told};
 ghost use Rattle.zmtp_peer.specs.Subscriptions.{count_in, counted_all, HasRoom, AddsIdle, IsIdle, IsTidy, is_asked};
 ghost use Rattle.zmtp_peer.specs.Intake.{front_of, told_by, Keeps, IsFresh, TakesFrames};
 ghost use Rattle.zmtp_peer.specs.Connection.{ReadsPiece, IsUnread, IsConnection, IsOpeningEmpty, state_in};
+ghost use Rattle.zmtp_peer.specs.Reading.{GivesBack};
 
 use crate::counts::Counts;
 use crate::event::PeerEvent;
@@ -57,6 +58,15 @@ fn gather(
     Vec::with_capacity(alloc, most)
 }
 
+/// Takes the last piece back. Where nothing is left then, a large memory is given back.
+fn take_back(decoder: &mut Decoder)
+    ensures rest { decoder.new.rest ≡ decoder.old.before }
+    ensures given_back { GivesBack decoder.new.rest decoder.new.room }
+{
+    decoder.unfeed();
+    decoder.settle();
+}
+
 impl Connection {
     /// Reads the next piece of the stream, and answers the events that it brings.
     ///
@@ -78,9 +88,10 @@ impl Connection {
             ≡ count_in self.old.counts q) }
         ensures opening { IsOpeningEmpty self.new.stage (bodies self.new.held.items) }
         ensures tidy { IsTidy self.new.counts }
+        ensures given_back { GivesBack self.new.decoder.rest self.new.decoder.room }
     {
         if self.decoder.feed(piece).is_err() {
-            self.decoder.unfeed();
+            take_back(&mut self.decoder);
             return Err(AllocError);
         }
         if self.decoder.is_partial() {
@@ -106,6 +117,7 @@ impl Connection {
             ≡ count_in self.old.counts q) }
         ensures opening { IsOpeningEmpty self.new.stage (bodies self.new.held.items) }
         ensures tidy { IsTidy self.new.counts }
+        ensures given_back { GivesBack self.new.decoder.rest self.new.decoder.room }
     {
         let kept = self.held.len();
         let mut intake = Intake {
@@ -123,7 +135,7 @@ impl Connection {
         );
         match gathered {
             Err(_) => {
-                self.decoder.unfeed();
+                take_back(&mut self.decoder);
                 release(&mut self.counts, role, &intake.whole);
                 self.held = intake.taken_back(kept);
                 Err(AllocError)

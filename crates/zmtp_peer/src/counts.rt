@@ -78,7 +78,7 @@ impl Counts {
             ≡ option_or (place_of self.old q) (if bytes_eq q prefix.now then Some 0 else None)) }
         ensures err { OnErr result (self.new ≡ self.old) }
     {
-        if let Some(_) = self.places.get(prefix) {
+        if self.places.contains_key(prefix) {
             return Ok(());
         }
         let key = Vec::from_slice(alloc, prefix)?;

@@ -1,6 +1,7 @@
 //! Why a connection is refused.
 ghost use Rattle.std.specs.Prelude.{◌≡◌, ◌≤◌, length};
 
+use std::alloc::AllocError;
 use thiserror::Error;
 use zmtp_wire::WireFault;
 
@@ -85,5 +86,17 @@ impl PeerFault {
             PeerFault::PeerError(_) => "PeerError",
             PeerFault::NotReady => "NotReady",
         }
+    }
+}
+
+impl From<AllocError> for PeerFault {
+    ghost use Rattle.std.specs.Prelude.{◌≡◌};
+    ghost use Rattle.zmtp_wire.specs.declared.fault.WireFault.TheVariants.{Memory};
+    ghost use Rattle.zmtp_peer.specs.declared.fault.PeerFault.TheVariants.{Wire};
+
+    ghost from_gives = { λ _ e. e ≡ Wire Memory };
+
+    fn from(_: AllocError) -> Self {
+        PeerFault::MEMORY
     }
 }

@@ -9,7 +9,7 @@
 //! Mechanism", and its rules for publishers and subscribers. Greetings, frames and their limits are those of `zmtp_wire`.
 #![tactic(auto)]
 
-ghost use Rattle.zmtp_peer.specs.Laws.{OctetsAreRead, OctetsHaveOneReading, RefusalsStay, NoCutMatters, FoldsGoOn, PartnersAreReady, MessagesAreTold};
+ghost use Rattle.zmtp_peer.specs.Laws.{OctetsAreRead, OctetsHaveOneReading, RefusalsStay, NoCutMatters, FoldsGoOn, PartnersAreReady, MessagesAreTold, FedMessagesAreTold};
 
 mod command;
 mod connection;
@@ -64,4 +64,11 @@ pub fn partners_are_ready_law()
 /// and what follows as if the message weren't there.
 pub fn messages_are_told_law()
     ensures { MessagesAreTold }
+{}
+
+/// Law: where a peer that is ready, stands between two messages and is no publisher is fed a message that `zmtp_wire::write_message`
+/// writes, with anything behind it and however cut, the next event that it tells is that message, and the others are those of what
+/// follows.
+pub fn fed_messages_are_told_law()
+    ensures { FedMessagesAreTold }
 {}

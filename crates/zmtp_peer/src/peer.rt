@@ -5,7 +5,7 @@ ghost use Rattle.zmtp_wire.specs.Greeting.{IsGreeting, IsGreetingFault};
 ghost use Rattle.zmtp_peer.specs.Faults.{Fault, Wire, fault_of, want_of_memory};
 ghost use Rattle.zmtp_peer.specs.Events.{Event, Refused, events_of};
 ghost use Rattle.zmtp_peer.specs.Intake.{IsRefusal, state_at};
-ghost use Rattle.zmtp_peer.specs.Reading.{Stands, Brings};
+ghost use Rattle.zmtp_peer.specs.Reading.{Stands, Brings, GivesBack};
 ghost use Rattle.zmtp_peer.specs.Subscriptions.{IsWanted};
 ghost use Rattle.zmtp_peer.specs.Opening.{opening_of};
 
@@ -47,6 +47,7 @@ impl Model for Peer {
       state = state_in p.connection;
       rest = p.connection.decoder.rest;
       table = p.connection.counts;
+      room = p.connection.decoder.room;
     } };
 
     ghost invariant = { λ p. (p.greeted ≤ 64) × IsConnection p.connection };
@@ -83,10 +84,7 @@ impl Peer {
         ensures octets { IfOk result (λ octets. octets.items ≡ opening_of self.now.role) }
         ensures memory { IfErr result (λ fault. fault_of fault ≡ want_of_memory) }
     {
-        match opening_octets(self.alloc, self.role) {
-            Ok(octets) => Ok(octets),
-            Err(AllocError) => Err(PeerFault::MEMORY),
-        }
+        Ok(opening_octets(self.alloc, self.role)?)
     }
 
     /// The partner's greeting, with its minor version, once all of it came; none where it is refused.
@@ -128,6 +126,8 @@ impl Peer {
         // A refusal is final.
         ensures stays { (fault : Fault) → self.old.state ≡ Refused fault
             → IsErrAnd result (λ told. fault_of told ≡ fault) × (self.new ≡ self.old) }
+        // Where nothing of the stream is left, a large memory was given back, also where memory ran out.
+        ensures given_back { GivesBack self.new.rest self.new.room }
     {
         if let Stage::Refused(fault) = self.connection.stage {
             return Err(fault);

@@ -120,15 +120,11 @@ fn reserve_message(
     let Some(prefix) = subscribed(role, message) else {
         return Ok(());
     };
-    match counts.add_place(alloc, prefix) {
-        Err(_) => Err(AllocError),
-        Ok(()) => {
-            if counts.count_of(prefix) > u64::MAX - more as u64 {
-                return Err(AllocError);
-            }
-            Ok(())
-        }
+    counts.add_place(alloc, prefix)?;
+    if counts.count_of(prefix) > u64::MAX - more as u64 {
+        return Err(AllocError);
     }
+    Ok(())
 }
 
 /// Makes places for all that messages subscribe to.

@@ -1,5 +1,5 @@
 //! What whole messages are told as, by role.
-ghost use Rattle.std.specs.Prelude.{◌≡◌, ◌++◌, ◌∷◌, [], ◌+◌, ◌≤◌, map, option_map, option_to_list, length, vec_len, vec_capacity, if◌then◌else◌};
+ghost use Rattle.std.specs.Prelude.{◌≡◌, ◌++◌, ◌∷◌, [], ◌+◌, ◌<◌, ◌≤◌, drop, map, option_map, option_to_list, length, vec_len, vec_capacity, if◌then◌else◌};
 ghost use Rattle.std.specs.List.{flat_map};
 ghost use Rattle.zmtp_peer.specs.Events.{Ready, event_of, events_of, bodies, message_told, told_to_publisher};
 
@@ -28,15 +28,22 @@ fn subscription(mut message: Vec<Vec<u8>>) -> Option<PeerEvent>
     if message.len() != 1 {
         return None;
     }
-    let mut frame = message.pop()?;
-    if frame.is_empty() {
-        return None;
-    }
-    match frame.remove(0) {
-        1 => Some(PeerEvent::Subscribe(frame)),
-        0 => Some(PeerEvent::Cancel(frame)),
+    let frame = message.pop()?;
+    let first = *frame.first()?;
+    match first {
+        1 => Some(PeerEvent::Subscribe(behind_first(frame))),
+        0 => Some(PeerEvent::Cancel(behind_first(frame))),
         _ => None,
     }
+}
+
+/// The octets behind the first one.
+fn behind_first(mut octets: Vec<u8>) -> Vec<u8>
+    requires { 0 < vec_len octets }
+    ensures { result.items ≡ drop 1 octets.items }
+{
+    octets.remove(0);
+    octets
 }
 
 /// The events of messages, behind READY where it came. They go into the room that was made for them.

@@ -34,14 +34,14 @@ returns-then-self-eq-GREETING_LENGTH c =
     let new = c.read.new.self in
     let table = kept.counts in
     let going : ¬ (IsRefusal (state_in kept)) = not-refused kept.stage (bodies kept.held.items) c.in_default.not-Refused in
-    let after : Standing = standing inside.role greeting (state_in new) new.decoder.rest new.counts in
+    let after : Standing = standing inside.role greeting (state_in new) new.decoder.rest new.counts new.decoder.room in
     let complete : length greeting ≡ 64 = length-take-le inside.greeted inside.greeting (omega (arith, c.self.told, c.self.invariant.0)) ∙ c.if-self-eq-GREETING_LENGTH.true in
     let none_refused : (fault : Fault) → now.state ≡ Refused fault → ⊥ = λ fault is. going (subst IsRefusal (sym is ∙ ap (λ (s : Standing). s.state) (sym c.self.view_is)) tt) in
     elim c.match-read.branch [
       | in-Err w ↦
           let unread = w.in-Err.ensures.unread in
           let same : state_in new ≡ state_in kept = ap (λ (at : Stage). state_at at (bodies new.held.items)) unread.stage ∙ ap (state_at kept.stage) unread.held in
-          let brings = stands-same inside.role greeting (state_in kept) kept.decoder.rest table greeting (state_in new) new.decoder.rest new.counts refl same unread.rest w.in-Err.ensures.uncounted in
+          let brings = stands-same inside.role greeting (state_in kept) kept.decoder.rest table kept.decoder.room greeting (state_in new) new.decoder.rest new.counts new.decoder.room refl same unread.rest w.in-Err.ensures.uncounted in
           rw w.result-is (record {
             role = ap (λ (s : Standing). s.role) c.self.view_is;
             events = tt;
@@ -49,10 +49,11 @@ returns-then-self-eq-GREETING_LENGTH c =
             fault = λ not. absurd (not refl);
             memory = λ _. subst (λ (s : Standing). Brings s [] [] after) c.self.view_is brings;
             stays = λ fault is. absurd (none_refused fault is);
+            given_back = c.read.ensures.given_back;
           })
       | in-Ok w ↦
           let events = w.in-Ok.events in
-          let brings = stands-on inside.role greeting (state_in kept) kept.decoder.rest table piece greeting (state_in new) new.decoder.rest new.counts (events_of events.items) refl complete going w.in-Ok.ensures.read w.in-Ok.ensures.counted in
+          let brings = stands-on inside.role greeting (state_in kept) kept.decoder.rest table kept.decoder.room piece greeting (state_in new) new.decoder.rest new.counts new.decoder.room (events_of events.items) refl complete going w.in-Ok.ensures.read w.in-Ok.ensures.counted in
           let here : Brings now piece (events_of events.items) after = subst (λ (s : Standing). Brings s piece (events_of events.items) after) c.self.view_is brings in
           let reached : (fault : PeerFault) → new.stage ≡ stage.Refused fault → state_in new ≡ Refused (fault_of fault) = λ fault h. ap (λ (at : Stage). state_at at (bodies new.held.items)) h in
           rw w.result-is (record {
@@ -66,6 +67,7 @@ returns-then-self-eq-GREETING_LENGTH c =
             memory = err-weaker w.answer.result (λ fault. (events.items ≡ []) × (new.stage ≡ stage.Refused fault)) (λ fault. fault_of fault ≡ want_of_memory → Brings now [] [] after)
                 (λ fault h is. absurd (never-memory inside.role (longer kept.decoder.rest piece) new.decoder.rest (state_in kept) (state_in new) (events_of events.items) w.in-Ok.ensures.read going (reached fault h.1 ∙ ap Refused is))) w.answer.ensures.fault;
             stays = λ fault is. absurd (none_refused fault is);
+            given_back = c.read.ensures.given_back;
           })
     ]
 
@@ -77,17 +79,18 @@ returns-then-piece-missing c =
     let now : List ℕ = take (inside.greeted + length c.args.piece.now) c.write_at.new.greeting in
     let table = kept.counts in
     let going : ¬ (IsRefusal (state_in kept)) = not-refused kept.stage (bodies kept.held.items) c.in_default.not-Refused in
-    let after : Standing = standing inside.role now (state_in kept) kept.decoder.rest table in
-    let brings = stands-short inside.role greeting (state_in kept) kept.decoder.rest table c.args.piece.now now c.write_at.ensures.written
+    let after : Standing = standing inside.role now (state_in kept) kept.decoder.rest table kept.decoder.room in
+    let brings = stands-short inside.role greeting (state_in kept) kept.decoder.rest table kept.decoder.room c.args.piece.now now c.write_at.ensures.written
     (omega (arith, ap length c.write_at.ensures.written, length-append greeting c.args.piece.now, length-take-le inside.greeted inside.greeting (omega (arith, c.self.told, c.self.invariant.0)), c.if-piece-missing.true)) going in
     record {
       role = ap (λ (s : Standing). s.role) c.self.view_is;
       events = subst (λ (s : Standing). Brings s c.args.piece.now (events_of c.new.result.items) after) c.self.view_is
-          (subst (λ (es : List PeerEvent). Brings (standing inside.role greeting (state_in kept) kept.decoder.rest table) c.args.piece.now (events_of es) after) (sym c.new.ensures.items) brings);
+          (subst (λ (es : List PeerEvent). Brings (standing inside.role greeting (state_in kept) kept.decoder.rest table kept.decoder.room) c.args.piece.now (events_of es) after) (sym c.new.ensures.items) brings);
       quiet = λ _. going;
       fault = tt;
       memory = tt;
       stays = λ fault is. absurd (going (subst IsRefusal (sym is ∙ ap (λ (s : Standing). s.state) (sym c.self.view_is)) tt));
+      given_back = c.self.invariant.1.2;
     }
 
 pub returns-in-Err-read : goal.returns-in-Err-read
@@ -100,11 +103,11 @@ returns-in-Err-read c =
     let filled = c.write_at-2.new.greeting in
     let table = kept.counts in
     let going : ¬ (IsRefusal (state_in kept)) = not-refused kept.stage (bodies kept.held.items) c.in_default.not-Refused in
-    let after : Standing = standing inside.role (take 64 filled) (Refused (Wire c.in-Err-read.fault)) kept.decoder.rest table in
+    let after : Standing = standing inside.role (take 64 filled) (Refused (Wire c.in-Err-read.fault)) kept.decoder.rest table kept.decoder.room in
     let all : take 64 filled ≡ filled = take-whole filled c.write_at-2.ensures.size in
     let size : length (take 64 filled) ≡ 64 = ap length all ∙ c.write_at-2.ensures.size in
     let written : take 64 filled ≡ greeting ++ front = whole-front filled inside.greeting front inside.greeted c.write_at-2.ensures.written (omega (arith, c.split_at.ensures.front_len, c.self.invariant.0)) in
-    let brings = stands-unwelcome inside.role greeting (state_in kept) kept.decoder.rest table front stream (take 64 filled) c.in-Err-read.fault written size
+    let brings = stands-unwelcome inside.role greeting (state_in kept) kept.decoder.rest table kept.decoder.room front stream (take 64 filled) c.in-Err-read.fault written size
     (subst (λ (o : List ℕ). IsGreetingFault o c.in-Err-read.fault) (sym all) c.in-Err-read.ensures.fault) going in
     record {
       role = ap (λ (s : Standing). s.role) c.self.view_is;
@@ -112,11 +115,12 @@ returns-in-Err-read c =
       quiet = tt;
       fault = λ _. (
         subst (λ (s : Standing). Brings s c.args.piece.now [] after) c.self.view_is
-            (subst (λ (o : List ℕ). Brings (standing inside.role greeting (state_in kept) kept.decoder.rest table) o [] after) (sym c.split_at.ensures.by_index.0) brings),
+            (subst (λ (o : List ℕ). Brings (standing inside.role greeting (state_in kept) kept.decoder.rest table kept.decoder.room) o [] after) (sym c.split_at.ensures.by_index.0) brings),
         refl,
       );
       memory = λ is. absurd (welcome-none filled c.in-Err-read.fault c.in-Err-read.ensures.fault is);
       stays = λ fault is. absurd (going (subst IsRefusal (sym is ∙ ap (λ (s : Standing). s.state) (sym c.self.view_is)) tt));
+      given_back = c.self.invariant.1.2;
     }
 
 pub returns-in-Err-read-2 : goal.returns-in-Err-read-2
@@ -129,9 +133,9 @@ returns-in-Err-read-2 c =
     let unread = c.in-Err-read-2.ensures.unread in
     let table = kept.counts in
     let going : ¬ (IsRefusal (state_in kept)) = not-refused kept.stage (bodies kept.held.items) c.in_default.not-Refused in
-    let after : Standing = standing inside.role (take inside.greeted filled) (state_in new) new.decoder.rest new.counts in
+    let after : Standing = standing inside.role (take inside.greeted filled) (state_in new) new.decoder.rest new.counts new.decoder.room in
     let same : state_in new ≡ state_in kept = ap (λ (at : Stage). state_at at (bodies new.held.items)) unread.stage ∙ ap (state_at kept.stage) unread.held in
-    let brings = stands-same inside.role greeting (state_in kept) kept.decoder.rest table (take inside.greeted filled) (state_in new) new.decoder.rest new.counts
+    let brings = stands-same inside.role greeting (state_in kept) kept.decoder.rest table kept.decoder.room (take inside.greeted filled) (state_in new) new.decoder.rest new.counts new.decoder.room
     c.write_at-2.ensures.before same unread.rest c.in-Err-read-2.ensures.uncounted in
     record {
       role = ap (λ (s : Standing). s.role) c.self.view_is;
@@ -140,6 +144,7 @@ returns-in-Err-read-2 c =
       fault = λ not. absurd (not refl);
       memory = λ _. subst (λ (s : Standing). Brings s [] [] after) c.self.view_is brings;
       stays = λ fault is. absurd (going (subst IsRefusal (sym is ∙ ap (λ (s : Standing). s.state) (sym c.self.view_is)) tt));
+      given_back = c.read-3.ensures.given_back;
     }
 
 pub returns-in-Ok-read : goal.returns-in-Ok-read
@@ -155,15 +160,15 @@ returns-in-Ok-read c =
     let events = c.in-Ok-read.events in
     let table = kept.counts in
     let going : ¬ (IsRefusal (state_in kept)) = not-refused kept.stage (bodies kept.held.items) c.in_default.not-Refused in
-    let after : Standing = standing inside.role (take 64 filled) (state_in new) new.decoder.rest new.counts in
+    let after : Standing = standing inside.role (take 64 filled) (state_in new) new.decoder.rest new.counts new.decoder.room in
     let all : take 64 filled ≡ filled = take-whole filled c.write_at-2.ensures.size in
     let size : length (take 64 filled) ≡ 64 = ap length all ∙ c.write_at-2.ensures.size in
     let written : take 64 filled ≡ greeting ++ front = whole-front filled inside.greeting front inside.greeted c.write_at-2.ensures.written (omega (arith, c.split_at.ensures.front_len, c.self.invariant.0)) in
-    let brings = stands-read inside.role greeting (state_in kept) kept.decoder.rest table front stream (take 64 filled) c.in_default-read.field-0 (state_in new) new.decoder.rest new.counts (events_of events.items)
+    let brings = stands-read inside.role greeting (state_in kept) kept.decoder.rest table kept.decoder.room front stream (take 64 filled) c.in_default-read.field-0 (state_in new) new.decoder.rest new.counts new.decoder.room (events_of events.items)
     written size (subst (λ (o : List ℕ). IsGreeting o c.in_default-read.field-0) (sym all) c.in_default-read.ensures.greeting) going c.in-Ok-read.ensures.read c.in-Ok-read.ensures.counted in
     let here : Brings now c.args.piece.now (events_of events.items) after =
     subst (λ (s : Standing). Brings s c.args.piece.now (events_of events.items) after) c.self.view_is
-    (subst (λ (o : List ℕ). Brings (standing inside.role greeting (state_in kept) kept.decoder.rest table) o (events_of events.items) after) (sym c.split_at.ensures.by_index.0) brings) in
+    (subst (λ (o : List ℕ). Brings (standing inside.role greeting (state_in kept) kept.decoder.rest table kept.decoder.room) o (events_of events.items) after) (sym c.split_at.ensures.by_index.0) brings) in
     let reached : (fault : PeerFault) → new.stage ≡ stage.Refused fault → state_in new ≡ Refused (fault_of fault) = λ fault h. ap (λ (at : Stage). state_at at (bodies new.held.items)) h in
     record {
       role = ap (λ (s : Standing). s.role) c.self.view_is;
@@ -176,4 +181,5 @@ returns-in-Ok-read c =
       memory = err-weaker c.answer-in-Ok-read.result (λ fault. (events.items ≡ []) × (new.stage ≡ stage.Refused fault)) (λ fault. fault_of fault ≡ want_of_memory → Brings now [] [] after)
           (λ fault h is. absurd (never-memory inside.role (longer kept.decoder.rest stream) new.decoder.rest (state_in kept) (state_in new) (events_of events.items) c.in-Ok-read.ensures.read going (reached fault h.1 ∙ ap Refused is))) c.answer-in-Ok-read.ensures.fault;
       stays = λ fault is. absurd (going (subst IsRefusal (sym is ∙ ap (λ (s : Standing). s.state) (sym c.self.view_is)) tt));
+      given_back = c.read-3.ensures.given_back;
     }
