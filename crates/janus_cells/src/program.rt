@@ -1,10 +1,11 @@
 //! The program over the words of its command line.
-ghost use Rattle.std.specs.Prelude.{◌≡◌, ◌≢◌, ◌⊎◌, ℕ, List, map, IfOk, IfErr, IfSome, IsErrAnd, OnErr, Err};
+ghost use Rattle.std.specs.Prelude.{◌≡◌, ◌≢◌, ◌⊎◌, ℕ, List, map, IfOk, IfErr, IfSome, IsErrAnd, OnErr, Err, MatchResult, ◌+◌};
 ghost use Rattle.std.specs.Io.KnownBytes.{Appends, Keeps};
 ghost use Rattle.clap.specs.Values.{kind_of};
 ghost use Rattle.janus_cells.specs.CommandLine.{Runs};
 ghost use Rattle.janus_cells.specs.Ending.{AsksForHelp};
 ghost use Rattle.kernel_text.specs.Sending.{SentSome};
+ghost use Rattle.janus_cells.specs.RunFault.{IsServed, IsWhyUnread, TakesAtMost, input_limit};
 ghost use Rattle.janus_cells.specs.Transcript.{IsTranscript};
 
 use crate::fault::RunFault;
@@ -34,6 +35,12 @@ pub fn program<'a, S: AsStr, R: Read, W: Write>(
         (steps : ℕ) × (out : List ℕ) × Runs (map S.text words.now) steps × IsTranscript steps input out
         × SentSome (W.contents writer.old) (W.contents writer.new) out))) }
     ensures unwritten { IfOk result (λ ended. IfErr ended (λ fault. fault ≢ RunFault.Write → Keeps (W.contents writer.old) (W.contents writer.new))) }
+    ensures served { IfOk result (λ ended. MatchResult ended (λ _. IfSome (R.remaining reader.old) IsServed)
+        (λ fault. fault ≡ RunFault.Write → IfSome (R.remaining reader.old) IsServed)) }
+    ensures unread { IfOk result (λ ended. IfErr ended (λ fault. fault ≢ RunFault.Write → IfSome (R.remaining reader.old) (IsWhyUnread fault))) }
+    ensures taken { IfOk result (λ ended. TakesAtMost (input_limit + 1) (R.remaining reader.old) (R.remaining reader.new)) }
+    ensures within { IfOk result (λ ended. MatchResult ended (λ _. TakesAtMost input_limit (R.remaining reader.old) (R.remaining reader.new))
+        (λ fault. fault ≢ RunFault.TooLong → TakesAtMost input_limit (R.remaining reader.old) (R.remaining reader.new))) }
     ensures refused { OnErr result ((reader.new ≡ reader.old) × (writer.new ≡ writer.old)) }
     ensures err { IfErr result (λ error. (n : ℕ) → Runs (map S.text words.now) n → kind_of error ≡ ErrorKind.OutOfMemory) }
     ensures help { AsksForHelp (map S.text words.now) → IsErrAnd result (λ error.
@@ -52,6 +59,8 @@ pub fn without_output<'a, S: AsStr>(
 ) -> Result<Result<(), RunFault>, Error>
     ensures memory { IfOk result (λ ended. ended ≡ Err RunFault.Memory) }
     ensures err { IfErr result (λ error. (n : ℕ) → Runs (map S.text words.now) n → kind_of error ≡ ErrorKind.OutOfMemory) }
+    ensures help { AsksForHelp (map S.text words.now) → IsErrAnd result (λ error.
+        (kind_of error ≡ ErrorKind.OutOfMemory) ⊎ (kind_of error ≡ ErrorKind.DisplayHelp)) }
 {
     match steps_of(alloc, words) {
         Ok(_) => Ok(Err(RunFault::Memory)),
