@@ -311,9 +311,8 @@ pub account_counts : (m : Machine) (k : HasLegalMinutes m) → (k.account.counte
 account_counts m k =
     let f = give_fits [] new_account k.account m.minutes fits_new k.given in
     let size : length (posts_of m.minutes) ≡ length f.done + length f.left = ap length f.all ∙ length-append f.done f.left in
-    let ended = f.ended in
-    (
+    let ended = f.ended in (
       f.counter ∙ sym (counted_before (length f.done) f.done f.left (omega arith)) ∙ ap (λ (ps : List Post). counted_to (length f.done) ps) (sym f.all)
-      ∙ ap (λ (n : ℕ). counted_to n (posts_of m.minutes)) (sym f.ended),
+          ∙ ap (λ (n : ℕ). counted_to n (posts_of m.minutes)) (sym f.ended),
       omega arith,
     )
