@@ -8,3 +8,5 @@ pub mod Known
 pub mod Named
 pub mod Names
 pub mod Sound
+pub mod Walk
+pub mod Numbers

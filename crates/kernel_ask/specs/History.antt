@@ -1,9 +1,12 @@
 -- The input history (Jupyter messaging page, "History"), as a filter of the minutes.
-use Rattle.std.specs.Prelude.{ℕ, ℤ, pos, ◌-◌, Bool, not, ◌&&◌, ◌||◌, nat_le, nat_lt, List, [], ◌∷◌, length, take, drop, suc, Option, Some, None, string_bytes, if◌then◌else◌}
+use Rattle.std.specs.Prelude.{ℕ, ℤ, pos, ◌-◌, Bool, true, false, not, ◌&&◌, ◌||◌, nat_le, nat_lt, List, [], ◌∷◌, length, take, drop, suc, Option, Some, None, string_bytes, if◌then◌else◌}
 use Rattle.std.specs.Ordering.{int_eq}
-use Rattle.std.specs.List.{filter, flat_map}
+use Rattle.std.specs.List.{filter, flat_map, Contains}
 use Rattle.kernel_core.specs.Request.{Request, RunCell, Undo, Redo, Goto}
-use Rattle.kernel_core.specs.Minutes.{Entry, Posted, Ended}
+use Rattle.kernel_core.specs.Minutes.{Entry, Posted, Ended, IsNumberOf}
+use Rattle.kernel_core.specs.Runs.{Machine}
+use Rattle.kernel_core.specs.LegalMinutes.{HasLegalMinutes}
+use Rattle.kernel_core.specs.Counters.{HasEnd}
 use Rattle.kernel_ask.specs.declared.inputs.Input.{Input}
 use Rattle.kernel_ask.specs.declared.inputs.HistoryAsk.{HistoryAsk}
 use Rattle.kernel_ask.specs.declared.inputs.HistoryAsk.TheVariants.{Range, Tail}
@@ -46,3 +49,9 @@ told (Tail n) all = drop (length all - n) all
 -- how an input is seen: its number and its text
 abbrev pub input_of : Input → ℕ × List ℕ
 input_of i = (i.number, string_bytes i.code)
+
+-- Each counted cell that has ended is an input: under the counter that its end carries, with the text of its post.
+abbrev pub CountedEndsAreInputs : Type 0
+CountedEndsAreInputs =
+    (m : Machine) (number count lane : ℕ) (text : List ℕ) → HasLegalMinutes m → HasEnd m.minutes number count →
+    IsNumberOf m.minutes number (record { lane = lane; job = RunCell text false true }) → Contains (inputs m.minutes m.counter) (count, text)

@@ -4,6 +4,7 @@ pub mod Grown
 pub mod Matches
 pub mod Added
 pub mod History
+pub mod Tail
 pub mod Inspection
 pub mod Judgement
 pub mod EndedAt

@@ -1,9 +1,9 @@
-//! The input history.
+//! The inputs of the history, and a range of them.
 ghost use Rattle.std.specs.Prelude.{◌≡◌, ◌++◌, ◌+◌, ◌<◌, ◌^◌, [], ◌∷◌, None, length, map, IfOk, OnOk};
 ghost use Rattle.std.specs.List.{filter};
 ghost use Rattle.std.specs.Option.{MatchOption};
 ghost use Rattle.kernel_core.specs.Written.{entry_of};
-ghost use Rattle.kernel_ask.specs.History.{texts_in, inputs, is_within as is_within_of, is_present as is_present_of, told, input_of};
+ghost use Rattle.kernel_ask.specs.History.{texts_in, inputs, is_within as is_within_of, input_of};
 
 use kernel_core::{Entry, Job};
 use std::alloc::{AllocError, Global};
@@ -30,7 +30,7 @@ pub enum HistoryAsk {
 }
 
 /// The text of a post of a cell that is counted.
-fn counted_code(entry: &Entry) -> Option<&str>
+pub(crate) fn counted_code(entry: &Entry) -> Option<&str>
     ensures { MatchOption result (texts_in (entry_of entry.now) ≡ []) (λ code. texts_in (entry_of entry.now) ≡ code.now ∷ []) }
 {
     match entry {
@@ -69,6 +69,20 @@ fn is_within(start: u64, stop: Option<u64>, n: u64) -> bool
     }
 }
 
+/// Adds an input.
+pub(crate) fn add(
+    alloc: Global,
+    told: &mut Vec<Input>,
+    number: u64,
+    code: &str,
+) -> Result<(), AllocError>
+    ensures { OnOk result (map input_of told.new.items ≡ map input_of told.old.items ++ (number, code.now) ∷ []) }
+{
+    let code = String::from_str(alloc, code)?;
+    told.push(Input { number, code })?;
+    Ok(())
+}
+
 /// Adds an input, if its number is within the range.
 fn tell(
     alloc: Global,
@@ -82,14 +96,13 @@ fn tell(
         ≡ map input_of told.old.items ++ filter (λ i. is_within_of start stop i.0) ((number, code.now) ∷ [])) }
 {
     if is_within(start, stop, number) {
-        let code = String::from_str(alloc, code)?;
-        told.push(Input { number, code })?;
+        add(alloc, told, number, code)?;
     }
     Ok(())
 }
 
 /// The inputs from the start up to the stop, without the stop.
-fn range(
+pub(crate) fn range(
     alloc: Global,
     entries: &[Entry],
     counter: u64,
@@ -111,53 +124,4 @@ fn range(
         }
     }
     Ok(told)
-}
-
-/// How many inputs there are.
-fn count(entries: &[Entry], counter: u64) -> u64
-    ensures { result ≡ length (inputs (map entry_of entries.now) counter) }
-{
-    let mut number = 0;
-    for entry in entries {
-        if number < counter && counted_code(entry).is_some() {
-            number += 1;
-        }
-    }
-    number
-}
-
-/// Whether the session is the present one.
-fn is_present(session: i64) -> bool
-    ensures { result ≡ is_present_of session }
-{
-    session == 0 || session == 1
-}
-
-/// The inputs that are asked for, in rising order.
-pub(crate) fn history_of(
-    alloc: Global,
-    entries: &[Entry],
-    counter: u64,
-    ask: HistoryAsk,
-) -> Result<Vec<Input>, AllocError>
-    ensures { IfOk result (λ v. map input_of v.items ≡ told ask (inputs (map entry_of entries.now) counter)) }
-{
-    match ask {
-        HistoryAsk::Range {
-            session,
-            start,
-            stop,
-        } => {
-            if is_present(session) {
-                range(alloc, entries, counter, start, stop)
-            } else {
-                Ok(Vec::new(alloc))
-            }
-        }
-        HistoryAsk::Tail(0) => Ok(Vec::new(alloc)),
-        HistoryAsk::Tail(n) => {
-            let before = count(entries, counter).saturating_sub(n);
-            range(alloc, entries, counter, before + 1, None)
-        }
-    }
 }

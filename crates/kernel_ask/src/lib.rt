@@ -8,14 +8,17 @@ mod completion;
 mod cursor;
 mod done;
 mod evaluation;
+mod input_history;
 mod inputs;
 mod inspection;
 mod judgement;
+pub mod laws;
 mod lines;
 mod matches;
 mod naming;
 mod shown;
 mod standing;
+mod tail;
 mod wishes;
 
 pub use crate::answer::{Answer, Ask, Completion, Content, HallFault, KernelState};

@@ -8,7 +8,7 @@ use Rattle.kernel_core.specs.Request.{Request, is_counted, raised}
 use Rattle.kernel_core.specs.Minutes.{Entry, Posted, Ended, Post, posts_of}
 use Rattle.kernel_core.specs.Runs.{Machine}
 use Rattle.kernel_core.specs.LegalMinutes.{Account, new_account, EndsFirst, Give, IsOpen, Agrees, HasLegalMinutes}
-use Rattle.kernel_core.specs.Counters.{counted_to, HasCountedEnd, EndTellsCounted, CounterNeverFalls, CountedIsNext, NoCounterTwice, CounterIsOfBegun}
+use Rattle.kernel_core.specs.Counters.{counted_to, HasEnd, HasCountedEnd, EndTellsCounted, CounterNeverFalls, CountedIsNext, NoCounterTwice, CounterIsOfBegun, EndsWithinCounter}
 use Rattle.kernel_core.specs.declared.outcome.Outcome.{Outcome}
 use Rattle.kernel_core.proofs.Posts.{posts-append}
 use Rattle.kernel_core.proofs.Noted.{give_ended}
@@ -49,7 +49,7 @@ raised_one n a e = by_test (is_counted a) e
 -- ---- how many of the first posts are counted
 
 -- later posts are none of them
-counted_before : (n : ℕ) (posts more : List Post) → n ≤ length posts → counted_to n (posts ++ more) ≡ counted_to n posts
+pub counted_before : (n : ℕ) (posts more : List Post) → n ≤ length posts → counted_to n (posts ++ more) ≡ counted_to n posts
 counted_before zero posts more l = refl
 counted_before (suc n) [] more l = absurd (omega arith)
 counted_before (suc n) (post ∷ posts) more l = ap (λ (k : ℕ). raised k post.job) (counted_before n posts more (omega arith))
@@ -60,7 +60,7 @@ counted_next [] more post = refl
 counted_next (p ∷ posts) more post =
     ap (λ (k : ℕ). raised k p.job) (counted_next posts more post) ∙ raised_swap (counted_to (length posts) (posts ++ post ∷ more)) post.job p.job
 
-counted_rises : (n k : ℕ) (posts : List Post) → n ≤ k → counted_to n posts ≤ counted_to k posts
+pub counted_rises : (n k : ℕ) (posts : List Post) → n ≤ k → counted_to n posts ≤ counted_to k posts
 counted_rises zero k posts l = omega arith
 counted_rises (suc n) zero posts l = absurd (omega arith)
 counted_rises (suc n) (suc k) [] l = omega arith
@@ -285,3 +285,34 @@ agreed_counter posts a m (Inside e) f h = open_counter posts a a.waiting m f ref
 
 pub counter_is_of_begun : CounterIsOfBegun
 counter_is_of_begun m k = agreed_counter (posts_of m.minutes) k.account m m.state.job (give_fits [] new_account k.account m.minutes fits_new k.given) k.agrees
+
+open_within : (a : Account) (waiting : List Request) (m : Machine) → IsOpen a waiting m → a.counter ≤ m.counter
+open_within a [] m h = absurd h
+open_within a (job ∷ rest) m h = (let is = h.1 in let more = raised_rises a.counter job in omega arith)
+
+-- the counter of the jobs that have ended is at most that of the kernel
+account_within : (a : Account) (m : Machine) (job : Open) → Agrees a m job → a.counter ≤ m.counter
+account_within a m Idle h = (let same = h.1 in omega arith)
+account_within a m (Border travel) h = open_within a a.waiting m h
+account_within a m (Inside e) h = open_within a a.waiting m h
+
+pub ends_within_counter : EndsWithinCounter
+ends_within_counter m number count k e =
+    let end = end_in m.minutes e.0 e.1 number e.2 count e.3 k.account e.4 k.given in
+    let is = end.counter in
+    let rises = give_rises end.here k.account e.1 end.rest in
+    let within = account_within k.account m m.state.job k.agrees in
+    omega arith
+
+-- ---- the jobs that have ended
+
+-- their counter is the number of counted cells among the first posts, as many as have ended
+pub account_counts : (m : Machine) (k : HasLegalMinutes m) → (k.account.counter ≡ counted_to k.account.ended (posts_of m.minutes)) × (k.account.ended ≤ length (posts_of m.minutes))
+account_counts m k =
+    let f = give_fits [] new_account k.account m.minutes fits_new k.given in
+    let size : length (posts_of m.minutes) ≡ length f.done + length f.left = ap length f.all ∙ length-append f.done f.left in
+    let ended = f.ended in (
+      f.counter ∙ sym (counted_before (length f.done) f.done f.left (omega arith)) ∙ ap (λ (ps : List Post). counted_to (length f.done) ps) (sym f.all)
+          ∙ ap (λ (n : ℕ). counted_to n (posts_of m.minutes)) (sym f.ended),
+      omega arith,
+    )

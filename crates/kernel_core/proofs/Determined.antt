@@ -8,13 +8,13 @@ use Rattle.janus_machine.specs.declared.fault.Fault.{Fault}
 use Rattle.janus_machine.specs.declared.fault.Fault.TheVariants as fault
 use Rattle.kernel_core.specs.Language.{Code, Part}
 use Rattle.kernel_core.specs.Reached.{Reaches, Progress, Went, Ended, Stopped}
-use Rattle.kernel_core.specs.State.{Past, Work, Posted, Move, Job as Open, Idle, Border, Inside, State, here, code_of, is_full}
+use Rattle.kernel_core.specs.State.{Past, Work, Posted, Move, Job as Open, Idle, Border, Inside, State, ShownAt, here, code_of, is_full}
 use Rattle.kernel_core.specs.Legal.{can_undo, can_redo, IsLegal}
 use Rattle.kernel_core.specs.Slices.{cells, stepped, moved, Backs, Arrives, Settles, Comes, Goes, SlicesIn, SlicesAt}
 use Rattle.kernel_core.specs.Begins.{travel_to, Departs, Enters, TakesMove, TakesGoto, TakesCell}
 use Rattle.kernel_core.specs.Runs.{Machine, IsRefusal, IsPost, Run, IsBegin, BeginsAt, Takes, TakesUnless, noted, end_of_begun, end_of_sliced}
 use Rattle.kernel_core.specs.Request.{Request, RunCell, Undo, Redo, Goto, request_of, raised}
-use Rattle.kernel_core.specs.Determined.{TellsWant, StepIsDetermined, RunIsDetermined}
+use Rattle.kernel_core.specs.Determined.{TellsWant, StepIsDetermined, RunIsDetermined, OneWorldIsShown}
 use Rattle.kernel_core.specs.Travel as aim
 use Rattle.kernel_core.proofs.Trees.{meeting_same}
 use Rattle.kernel_core.specs.Travel.{Travel}
@@ -253,3 +253,13 @@ run_is_determined old new other (e ∷ events) (t ∷ answers) (u ∷ others) g 
     let one = step_is_determined old r.0 q.0 e t u g r.1 a.0 q.1 b.0 in
     let rest = run_is_determined r.0 new other events answers others (step_legal old e t r.0 g r.1) r.2 a.1 (subst (λ (m : Machine). Run m events others other) (sym one.1) q.2) b.1 in
     (ap (λ (x : Told). x ∷ answers) one.0 ∙ ap (λ (xs : List Told). u ∷ xs) rest.0, rest.1)
+
+-- ---- the shown world
+
+pub one_world_is_shown : OneWorldIsShown
+one_world_is_shown s v w a b = at s.job a b
+  where
+    at : (job : Open) → ShownAt s.past job v → ShownAt s.past job w → v ≡ w
+    at Idle a b = a ∙ sym b
+    at (Border travel) a b = a ∙ sym b
+    at (Inside e) a b = part_same (code_of s.past e.work) (here s.past) e.count v w a b

@@ -50,3 +50,7 @@ NoCounterTwice =
 abbrev pub CounterIsOfBegun : Type 0
 CounterIsOfBegun =
     (m : Machine) → HasLegalMinutes m → m.counter ≡ counted_to (posted_in m.minutes - length m.queue) (posts_of m.minutes)
+
+-- No end carries more than the counter of the kernel.
+abbrev pub EndsWithinCounter : Type 0
+EndsWithinCounter = (m : Machine) (number count : ℕ) → HasLegalMinutes m → HasEnd m.minutes number count → count ≤ m.counter

@@ -1,5 +1,7 @@
--- Where memory is ample, the machine gives one answer to each event, and goes on to one state.
+-- Where memory is ample, the machine gives one answer to each event, and goes on to one state; and a state shows one world.
 use Rattle.std.specs.Prelude.{◌≡◌, ◌⊎◌, List, [], ◌∷◌, Err}
+use Rattle.janus_meaning.specs.World.{World}
+use Rattle.kernel_core.specs.State.{State, Shown}
 use Rattle.kernel_core.specs.LegalState.{IsLegalState}
 use Rattle.kernel_core.specs.Runs.{Machine, Step, Run}
 use Rattle.kernel_core.specs.Slices.{finished}
@@ -35,3 +37,7 @@ RunIsDetermined =
     (old new other : Machine) (events : List Event) (answers others : List Told) → IsLegalState old.state →
     Run old events answers new → AreAmple answers → Run old events others other → AreAmple others →
     (answers ≡ others) × (new ≡ other)
+
+-- The world that a state shows is the only one.
+abbrev pub OneWorldIsShown : Type 0
+OneWorldIsShown = (s : State) (v w : World) → Shown s v → Shown s w → v ≡ w

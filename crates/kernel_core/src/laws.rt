@@ -1,10 +1,10 @@
 //! The main theorem, over every run of the machine. `run_events` gives such runs, and each state of a kernel is legal.
 //! The functions do nothing: their contracts are the laws.
-ghost use Rattle.kernel_core.specs.Determined.{StepIsDetermined, RunIsDetermined};
+ghost use Rattle.kernel_core.specs.Determined.{StepIsDetermined, RunIsDetermined, OneWorldIsShown};
 ghost use Rattle.kernel_core.specs.Theorems.{NewIsLegal, StaysLegal, GoesBackForItsReason, JobsEnd, OnlyAskedSlicesStop, UndoesAll, UndoGoesUp, RedoGoesDown, GotoGoesThere, RedoGivesBack, SettlesOnTime, NeverFaults, IsMirrored, PathGivesWorld, UndoGoesUpThePath, RedoGoesDownFavourites, ShutRefusesJobs};
 ghost use Rattle.kernel_core.specs.StepsOfSlices.{TakesOneNumber, StepsAreCounted};
 ghost use Rattle.kernel_core.specs.LegalMinutes.{KeepsLegalMinutes};
-ghost use Rattle.kernel_core.specs.Counters.{EndTellsCounted, CounterNeverFalls, CountedIsNext, NoCounterTwice, CounterIsOfBegun};
+ghost use Rattle.kernel_core.specs.Counters.{EndTellsCounted, CounterNeverFalls, CountedIsNext, NoCounterTwice, CounterIsOfBegun, EndsWithinCounter};
 
 /// A new machine is legal: its tree is, and no job is open.
 pub fn new_is_legal_law()
@@ -111,6 +111,11 @@ pub fn run_is_determined_law()
     ensures { RunIsDetermined }
 {}
 
+/// The world that a state shows is the only one: so what is told of the shown world is told of this one alone.
+pub fn one_world_is_shown_law()
+    ensures { OneWorldIsShown }
+{}
+
 /// A shutdown interrupts nothing. From then on the kernel closes: each post is refused as `Closing`, so no job is posted any more;
 /// by `jobs_end_law` each job that is taken is refused too.
 pub fn shut_refuses_jobs_law()
@@ -125,11 +130,13 @@ pub fn keeps_legal_minutes_law()
 
 /// The execution counter numbers the cells that are not silent and are to be stored, in the order of their posts. In legal minutes each
 /// end carries the number of such cells that had begun by then; along the minutes these numbers never fall; such a cell carries one more
-/// than how many came before it, and no two carry the same. The counter of the kernel is the number of those that have begun.
+/// than how many came before it, and no two carry the same. The counter of the kernel is the number of those that have begun, and no end
+/// carries more.
 pub fn counters_number_cells_law()
     ensures told { EndTellsCounted }
     ensures rising { CounterNeverFalls }
     ensures next { CountedIsNext }
     ensures unlike { NoCounterTwice }
     ensures now { CounterIsOfBegun }
+    ensures within { EndsWithinCounter }
 {}

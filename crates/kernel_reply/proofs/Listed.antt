@@ -1,47 +1,90 @@
 -- The list of open comms, as a table.
-use Rattle.std.proofs.Common.{◌≡◌, ℕ, Bool, true, false, ◌&&◌, List, [], ◌∷◌, ◌++◌, refl, ap, ◌∙◌, Ordering, Less, Equal, Greater}
-use Rattle.std.specs.Ordering.{nat_cmp, is_gt, match_ordering}
+use Rattle.std.proofs.Common.{◌≡◌, ℕ, Bool, true, false, IsTrue, nat_eq, List, [], ◌∷◌, ◌⊎◌, refl, sym, ap, ◌∙◌, subst, Contains, if◌then◌else◌, inl, inr}
+use Rattle.std.specs.declared.cmp.Ordering.{Ordering}
+use Rattle.std.specs.declared.cmp.Ordering.TheVariants as ordering
+use Rattle.std.specs.Ordering.{nat_cmp, match_ordering, ordering_reverse}
 use Rattle.std.specs.Cmp.Lexicographic.{slice_cmp}
-use Rattle.std.specs.List.{list_all}
-use Rattle.std.proofs.lemmas.List.{append_assoc}
+use Rattle.std.specs.List.{starts_with, AllByRecursion}
+use Rattle.std.specs.List.Sorted.{IsStrictlySortedBy}
+use Rattle.std.proofs.lemmas.Cmp.{nat_list_cmp_total}
 use Rattle.serde_json.specs.Data.{Data, Members, no_members, member, put}
+use Rattle.kernel_ask.specs.Added.{with_name, with_match, with_matches}
+use Rattle.kernel_ask.proofs.Added.{contains_none, matches_from, matches_there}
 use Rattle.kernel_reply.specs.Comms.{comm_shown, with_comms}
-use Rattle.kernel_reply.specs.Laws.{names, is_rising, ListsEachCommOnce}
+use Rattle.kernel_reply.specs.Laws.{names, NamesEachOnce, ListsEachCommOnce}
 
-both : (a b : Bool) → (a && b) ≡ true → (a ≡ true) × (b ≡ true)
-both true b e = (refl, e)
-both false b e = absurd (cc e)
+-- ---- a member is put at the place of its name
 
--- what all pass, one in the middle passes
-in_the_middle : (p : List ℕ → Bool) (xs ys : List (List ℕ)) (y : List ℕ) → list_all p (xs ++ y ∷ ys) ≡ true → p y ≡ true
-in_the_middle p [] ys y e = (both (p y) (list_all p ys) e).0
-in_the_middle p (x ∷ xs) ys y e = in_the_middle p xs ys y (both (p x) (list_all p (xs ++ y ∷ ys)) e).1
+placed : (o : Ordering) (k l : List ℕ) (d e : Data) (ms rest : Members) (listed : List (List ℕ)) → names rest ≡ listed →
+    names (match_ordering o (member k d (member l e ms)) (member l d ms) (member l e rest)) ≡ match_ordering o (k ∷ l ∷ names ms) (l ∷ names ms) (l ∷ listed)
+placed ordering.Less k l d e ms rest listed h = refl
+placed ordering.Equal k l d e ms rest listed h = refl
+placed ordering.Greater k l d e ms rest listed h = ap (λ ns. l ∷ ns) h
 
--- a later name is put behind a first one
-behind : (o : Ordering) (k l : List ℕ) (d e : Data) (ms rest : Members) → is_gt o ≡ true → match_ordering o (member k d (member l e ms)) (member l d ms) (member l e rest) ≡ member l e rest
-behind Less k l d e ms rest h = absurd (cc h)
-behind Equal k l d e ms rest h = absurd (cc h)
-behind Greater k l d e ms rest h = refl
+names_put : (ms : Members) (k : List ℕ) (d : Data) → names (put k d ms) ≡ with_name (names ms) k
+names_put no_members k d = refl
+names_put (member l e ms) k d = placed (slice_cmp nat_cmp k l) k l d e ms (put k d ms) (with_name (names ms) k) (names_put ms k d)
 
--- a name behind all others is put last
-put_last : (ms : Members) (k : List ℕ) (d : Data) (ks : List (List ℕ)) → is_rising (names ms ++ k ∷ ks) ≡ true → names (put k d ms) ≡ names ms ++ k ∷ []
-put_last no_members k d ks e = refl
-put_last (member l x ms) k d ks e =
-    let parts = both (list_all (λ y. is_gt (slice_cmp nat_cmp y l)) (names ms ++ k ∷ ks)) (is_rising (names ms ++ k ∷ ks)) e in
-    let later : is_gt (slice_cmp nat_cmp k l) ≡ true = in_the_middle (λ y. is_gt (slice_cmp nat_cmp y l)) (names ms) ks k parts.0 in
-    ap names (behind (slice_cmp nat_cmp k l) k l d x ms (put k d ms) later)
-    ∙ ap (λ ns. l ∷ ns) (put_last ms k d ks parts.1)
+-- each text begins with none
+begins : (x : List ℕ) → starts_with nat_eq x [] ≡ true
+begins [] = refl
+begins (c ∷ x) = refl
 
-append_nil : (xs : List (List ℕ)) → xs ≡ xs ++ []
-append_nil [] = refl
-append_nil (x ∷ xs) = ap (λ ys. x ∷ ys) (append_nil xs)
+names_listed : (ms : Members) (ids : List (List ℕ)) → names (with_comms ms ids) ≡ with_matches [] (names ms) ids
+names_listed ms [] = refl
+names_listed ms (id ∷ ids) =
+    names_listed (put id comm_shown ms) ids
+    ∙ ap (λ ns. with_matches [] ns ids) (names_put ms id comm_shown ∙ sym (ap (λ (b : Bool). if b then with_name (names ms) id else names ms) (begins id)))
 
-listed_behind : (ms : Members) (ids : List (List ℕ)) → is_rising (names ms ++ ids) ≡ true → names (with_comms ms ids) ≡ names ms ++ ids
-listed_behind ms [] e = append_nil (names ms)
-listed_behind ms (id ∷ ids) e =
-    let last = put_last ms id comm_shown ids e in
-    let same : names (put id comm_shown ms) ++ ids ≡ names ms ++ id ∷ ids = ap (λ ns. ns ++ ids) last ∙ append_assoc (names ms) (id ∷ []) ids in
-    listed_behind (put id comm_shown ms) ids (ap is_rising same ∙ e) ∙ same
+-- ---- the names rise
+
+later : (x k : List ℕ) (ks : List (List ℕ)) → slice_cmp nat_cmp x k ≡ ordering.Less → AllByRecursion (λ q. slice_cmp nat_cmp k q ≡ ordering.Less) ks → AllByRecursion (λ q. slice_cmp nat_cmp x q ≡ ordering.Less) ks
+later x k [] e h = h
+later x k (y ∷ ks) e h = (nat_list_cmp_total.trans x k y e h.0, later x k ks e h.1)
+
+before_all : (x k : List ℕ) (ks : List (List ℕ)) → slice_cmp nat_cmp x k ≡ ordering.Less → AllByRecursion (λ q. slice_cmp nat_cmp x q ≡ ordering.Less) ks → AllByRecursion (λ q. slice_cmp nat_cmp x q ≡ ordering.Less) (with_name ks k)
+before_all x k [] e h = (e, h)
+before_all x k (y ∷ ks) e h = at (slice_cmp nat_cmp k y) (before_all x k ks e h.1)
+  where
+    at : (o : Ordering) → AllByRecursion (λ q. slice_cmp nat_cmp x q ≡ ordering.Less) (with_name ks k) → AllByRecursion (λ q. slice_cmp nat_cmp x q ≡ ordering.Less) (match_ordering o (k ∷ y ∷ ks) (y ∷ ks) (y ∷ with_name ks k))
+    at ordering.Less rest = (e, h)
+    at ordering.Equal rest = h
+    at ordering.Greater rest = (h.0, rest)
+
+sorted_at : (k x : List ℕ) (ks : List (List ℕ)) (o : Ordering) → slice_cmp nat_cmp k x ≡ o → IsStrictlySortedBy (slice_cmp nat_cmp) (x ∷ ks) → IsStrictlySortedBy (slice_cmp nat_cmp) (with_name ks k) →
+    IsStrictlySortedBy (slice_cmp nat_cmp) (match_ordering o (k ∷ x ∷ ks) (x ∷ ks) (x ∷ with_name ks k))
+unfolding IsStrictlySortedBy
+sorted_at k x ks ordering.Less e h rest = ((e, later k x ks e h.0), h)
+sorted_at k x ks ordering.Equal e h rest = h
+sorted_at k x ks ordering.Greater e h rest = (before_all x k ks (nat_list_cmp_total.antisymm x k ∙ ap ordering_reverse e) h.0, rest)
+
+name_sorted : (ks : List (List ℕ)) (k : List ℕ) → IsStrictlySortedBy (slice_cmp nat_cmp) ks → IsStrictlySortedBy (slice_cmp nat_cmp) (with_name ks k)
+unfolding IsStrictlySortedBy
+name_sorted [] k h = (h, h)
+name_sorted (x ∷ ks) k h = sorted_at k x ks (slice_cmp nat_cmp k x) refl h (name_sorted ks k h.1)
+
+match_sorted : (b : Bool) (known : List (List ℕ)) (k : List ℕ) → IsStrictlySortedBy (slice_cmp nat_cmp) known → IsStrictlySortedBy (slice_cmp nat_cmp) (if b then with_name known k else known)
+match_sorted true known k h = name_sorted known k h
+match_sorted false known k h = h
+
+all_sorted : (known ids : List (List ℕ)) → IsStrictlySortedBy (slice_cmp nat_cmp) known → IsStrictlySortedBy (slice_cmp nat_cmp) (with_matches [] known ids)
+all_sorted known [] h = h
+all_sorted known (id ∷ ids) h = all_sorted (with_match [] known id) ids (match_sorted (starts_with nat_eq id []) known id h)
+
+none_sorted : IsStrictlySortedBy (slice_cmp nat_cmp) []
+unfolding IsStrictlySortedBy
+none_sorted = tt
+
+-- ---- the list
+
+listed_from : (ids : List (List ℕ)) (id : List ℕ) → Contains (with_matches [] [] ids) id → Contains ids id
+listed_from ids id h = elim (matches_from [] [] ids id h) as (λ _. Contains ids id) [ inl none ↦ absurd (contains_none id none) | inr there ↦ there.0 ]
 
 pub lists_each_comm_once : ListsEachCommOnce
-lists_each_comm_once ids e = listed_behind no_members ids e
+lists_each_comm_once ids = record {
+  ordered = subst (λ (ns : List (List ℕ)). IsStrictlySortedBy (slice_cmp nat_cmp) ns) (sym (names_listed no_members ids)) (all_sorted [] ids none_sorted);
+  each = λ id. (
+    λ h. listed_from ids id (subst (λ (ns : List (List ℕ)). Contains ns id) (names_listed no_members ids) h),
+    λ h. subst (λ (ns : List (List ℕ)). Contains ns id) (sym (names_listed no_members ids)) (matches_there [] [] ids id h (begins id)),
+  );
+}

@@ -1,9 +1,10 @@
 -- What holds of all answers.
-use Rattle.std.specs.Prelude.{◌≡◌, ℕ, ◌+◌, ◌≤◌, Bool, true, false, ◌&&◌, List, [], ◌∷◌, ◌++◌, length, map, Vec, String, string_bytes}
+use Rattle.std.specs.Prelude.{◌≡◌, ◌↔◌, ℕ, ◌+◌, ◌≤◌, true, false, List, [], ◌∷◌, ◌++◌, length, map, Vec, String, string_bytes}
 use Rattle.std.specs.declared.alloc.Global.{Global}
-use Rattle.std.specs.Ordering.{nat_cmp, is_gt}
+use Rattle.std.specs.Ordering.{nat_cmp}
 use Rattle.std.specs.Cmp.Lexicographic.{slice_cmp}
-use Rattle.std.specs.List.{list_all}
+use Rattle.std.specs.List.{Contains}
+use Rattle.std.specs.List.Sorted.{IsStrictlySortedBy}
 use Rattle.serde_json.specs.Data.{Members, no_members, member}
 use Rattle.jupyter_msg.specs.Octets.{Octets}
 use Rattle.jupyter_msg.specs.declared.request.RequestContent.{RequestContent}
@@ -61,11 +62,11 @@ abbrev pub names : Members → List (List ℕ)
 names no_members = []
 names (member k d ms) = k ∷ names ms
 
--- each text stands before all later ones, in the order of octets
-abbrev pub is_rising : List (List ℕ) → Bool
-is_rising [] = true
-is_rising (x ∷ xs) = list_all (λ y. is_gt (slice_cmp nat_cmp y x)) xs && is_rising xs
+-- the list names each of the ids once, in the order of their octets, and no other
+pub record NamesEachOnce (ids listed : List (List ℕ)) : Type 0 where
+  pub ordered : IsStrictlySortedBy (slice_cmp nat_cmp) listed
+  pub each : (id : List ℕ) → Contains listed id ↔ Contains ids id
 
--- Of open comms whose ids rise, the list names each once, in this order, and no other.
+-- Whatever ids are handed in, the list of open comms names each of them once.
 abbrev pub ListsEachCommOnce : Type 0
-ListsEachCommOnce = (ids : List (List ℕ)) → is_rising ids ≡ true → names (with_comms no_members ids) ≡ ids
+ListsEachCommOnce = (ids : List (List ℕ)) → NamesEachOnce ids (names (with_comms no_members ids))

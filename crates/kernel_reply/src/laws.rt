@@ -27,7 +27,7 @@ pub fn opens_of_open_comms_law()
     ensures { OpensOfOpenComms }
 {}
 
-/// The list of open comms whose ids rise names each once, in the order of their octets, and no other.
+/// The list of open comms names each of the ids that it is handed once, in the order of their octets, and no other.
 pub fn lists_each_comm_once_law()
     ensures { ListsEachCommOnce }
 {}

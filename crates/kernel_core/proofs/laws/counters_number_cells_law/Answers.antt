@@ -1,4 +1,4 @@
-use Rattle.kernel_core.proofs.Counting.{end_tells_counted, counter_never_falls, counted_is_next, no_counter_twice, counter_is_of_begun}
+use Rattle.kernel_core.proofs.Counting.{end_tells_counted, counter_never_falls, counted_is_next, no_counter_twice, counter_is_of_begun, ends_within_counter}
 use Rattle.kernel_core.proofs.laws.counters_number_cells_law.Goals as goal
 
 pub returns : goal.returns
@@ -8,4 +8,5 @@ returns c = record {
   next = counted_is_next;
   unlike = no_counter_twice;
   now = counter_is_of_begun;
+  within = ends_within_counter;
 }
