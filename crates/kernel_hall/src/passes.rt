@@ -1,5 +1,5 @@
 //! The passes that are still to be given.
-ghost use Rattle.std.specs.Prelude.{◌≡◌, ◌+◌, IfSome, IfNone};
+ghost use Rattle.std.specs.Prelude.{◌≡◌, ◌+◌, ◌≤◌, IfSome, IfNone};
 ghost use Rattle.kernel_hall.specs.Passes.{pass_of};
 
 use crate::pass::Pass;
@@ -39,6 +39,7 @@ impl<L: Ledger> Passes<L> {
     /// One more pass, with no posts, on the next lane; `None` where all are given.
     pub fn next(&mut self) -> Option<Pass<L>>
         ensures pass { IfSome result (λ p. p ≡ pass_of (self.old + 1) 0) }
+        ensures lane { IfSome result (λ p. (1 ≤ p.lane) × (p.lane ≤ 65536)) }
         ensures some { IfSome result (λ p. self.new ≡ self.old + 1) }
         ensures none { IfNone result ((self.old ≡ 65536) × (self.new ≡ self.old)) }
     {

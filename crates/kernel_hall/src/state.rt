@@ -1,10 +1,10 @@
 //! What lies under the lock.
-ghost use Rattle.std.specs.Prelude.{◌≡◌, ◌+◌, ◌-◌, ◌^◌, ◌<◌, [], IfOk, IfErr, OnErr, IfSome, IfNone, suc, length};
+ghost use Rattle.std.specs.Prelude.{◌≡◌, ◌+◌, ◌-◌, ◌^◌, ◌<◌, ◌≤◌, [], IfOk, IfErr, OnErr, IfSome, suc, length, true};
 ghost use Rattle.kernel_core.specs.Request.{request_of};
 ghost use Rattle.kernel_core.specs.Minutes.{posted_in};
 ghost use Rattle.kernel_core.specs.LegalMinutes.{IsLegalMachine};
 ghost use Rattle.kernel_core.specs.Runs.{IsRefusal, posted, shut};
-ghost use Rattle.kernel_ask.specs.Comms.{can_open, opened, is_open, without_id};
+ghost use Rattle.kernel_ask.specs.Answer.{IsAnswer};
 ghost use Rattle.kernel_hall.specs.Passes.{pass_of, ticket_of};
 ghost use Rattle.kernel_hall.specs.Turns.{IsTurn};
 ghost use Rattle.kernel_hall.specs.Ends.{HasEnd};
@@ -13,7 +13,7 @@ use crate::extra::{Extra, fetch, settle_last};
 use crate::pass::{Pass, Ticket};
 use crate::passes::Passes;
 use crate::turn::{Turn, turn_on};
-use kernel_ask::{Comms, Done, Wish};
+use kernel_ask::{Answer, Ask, Comms, Done, HallFault, Wish, ask_on};
 use kernel_bell::{Bell, RunnerSeat};
 use kernel_core::{Job, Kernel, PostFault};
 use std::alloc::Global;
@@ -110,8 +110,10 @@ impl<W: Ledger, L: Ledger> State<W, L> {
         requires own { runner.old.bell ≡ bell.now }
         requires room { runner.old.knows.serial < 2 ^ 64 - 1 }
         ensures turn { IsTurn self.old.kernel.machine runner.old m result self.new.kernel.machine runner.new }
+        ensures legal { IsLegalMachine self.old.kernel.machine }
         ensures comms { self.new.comms ≡ self.old.comms }
     {
+        is_legal(&self.kernel);
         let State { kernel, .. } = self;
         let turn = turn_on(kernel, bell, runner, m);
         if turn.is_end() {
@@ -124,10 +126,29 @@ impl<W: Ledger, L: Ledger> State<W, L> {
     pub fn done(&mut self, number: u64) -> Option<Done>
         ensures number { IfSome result (λ d. d.number ≡ number) }
         ensures end { IfSome result (HasEnd self.old.kernel.machine.minutes) }
+        ensures legal { IsLegalMachine self.old.kernel.machine }
         ensures kernel { self.new.kernel ≡ self.old.kernel }
         ensures comms { self.new.comms ≡ self.old.comms }
     {
+        is_legal(&self.kernel);
         fetch(self.alloc, &self.kernel, &mut self.extras, number)
+    }
+
+    /// Whether there are at least so many minutes.
+    pub(crate) fn has_seen(&self, posts: u64) -> bool
+        ensures { result ≡ true → posts ≤ length self.now.kernel.machine.minutes }
+    {
+        posts <= self.kernel.minutes().len() as u64
+    }
+
+    /// Answers a question: `ask_on` over the kernel and the comms.
+    pub fn ask(&self, ask: Ask) -> Result<Answer, HallFault>
+        ensures answer { IfOk result (IsAnswer self.now.kernel.machine self.now.comms ask) }
+        ensures legal { IsLegalMachine self.now.kernel.machine }
+        ensures refusal { IfErr result (λ f. f ≡ HallFault.Memory) }
+    {
+        is_legal(&self.kernel);
+        ask_on(self.alloc, &self.kernel, &self.comms, ask)
     }
 
     /// Refuses later posts.
@@ -138,4 +159,12 @@ impl<W: Ledger, L: Ledger> State<W, L> {
         let State { kernel, .. } = self;
         kernel.shut();
     }
+}
+
+/// A kernel's state and minutes are legal.
+fn is_legal<W: Ledger>(kernel: &Kernel<W>)
+    ensures { IsLegalMachine kernel.now.machine }
+{
+    let _ = kernel.world();
+    let _ = kernel.minutes();
 }
