@@ -1,0 +1,13 @@
+use Rattle.std.proofs.Common.{◌≡◌, ap, ◌∙◌, arith}
+use Rattle.kernel_core.specs.Request.{request_of}
+use Rattle.kernel_core.specs.Minutes.{posted_in}
+use Rattle.kernel_core.specs.Runs.{Machine, posted}
+use Rattle.kernel_hall.proofs.Posts.{one_more}
+use Rattle.kernel_hall.proofs.state.State.post.Goals as goal
+
+pub invariant_of-self-2 : goal.invariant_of-self-2
+invariant_of-self-2 g c =
+    let old = c.args.self.now.kernel.machine in
+    let more : posted_in c.post.new.self.machine.minutes ≡ _ =
+    ap (λ (m : Machine). posted_in m.minutes) c.in_ok-number.ensures.post.2 ∙ one_more old c.pass.inside.lane (request_of c.in-Ok.copy) in
+    record { counted = omega arith }

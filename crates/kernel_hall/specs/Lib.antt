@@ -1,0 +1,4 @@
+pub mod Changes
+pub mod Passes
+pub mod Turns
+pub mod Ends

@@ -1,0 +1,155 @@
+//! What is made for a job that ends, to be fetched by the first wait for it.
+ghost use Rattle.std.specs.Prelude.{◌≡◌, IfSome, map};
+ghost use Rattle.kernel_core.specs.State.{Idle};
+ghost use Rattle.kernel_core.specs.Written.{entry_of};
+ghost use Rattle.kernel_hall.specs.Ends.{HasEnd};
+
+use kernel_ask::{Done, NamedValue, Wish, evaluate, is_settled, shown_text, stands_at_end};
+use kernel_core::{Entry, Job, Kernel, Outcome};
+use std::alloc::{AllocError, Global};
+use std::mem;
+use std::sync::ledger::Ledger;
+
+/// What stands beside a post, with no fact kept of it: where the minutes have the post and its end, its wishes until it ends, and what
+/// was made as it ended until the first wait.
+#[derive(Drop)]
+pub struct Extra {
+    posted: usize,
+    ended: Option<usize>,
+    wishes: Vec<Wish>,
+    shown: Option<String>,
+    values: Vec<NamedValue>,
+}
+
+impl Extra {
+    /// For a post at this place of the minutes. The memory for the values is taken here: the only error is want of it.
+    pub(crate) fn new(
+        alloc: Global,
+        posted: usize,
+        wishes: Vec<Wish>,
+    ) -> Result<Extra, AllocError> {
+        let values = Vec::with_capacity(alloc, wishes.len())?;
+        Ok(Extra {
+            posted,
+            ended: None,
+            wishes,
+            shown: None,
+            values,
+        })
+    }
+
+    /// Takes down that the job has ended, at this place of the minutes, and makes the shown text and the values. A shown text that
+    /// finds no memory is left out, and a value that finds none says so.
+    fn settle<W: Ledger>(
+        &mut self,
+        alloc: Global,
+        kernel: &Kernel<W>,
+        place: usize,
+        outcome: &Outcome,
+    ) {
+        self.ended = Some(place);
+        let wishes = mem::replace(&mut self.wishes, Vec::new(alloc));
+        if !is_settled(kernel) || !stands_at_end(kernel, outcome) {
+            return;
+        }
+        if let Some(
+            Entry::Posted {
+                lane: _,
+                job: Job::Cell { code, .. },
+            },
+        ) = kernel.minutes().get(self.posted)
+        {
+            self.shown = shown_text(alloc, kernel, outcome, code).unwrap_or(None);
+        }
+        if let Outcome::Ran(_, _) = *outcome {
+            add_values(alloc, kernel, wishes, &mut self.values);
+        }
+    }
+
+    /// What came of the job of this number, if its end stands where it was taken down. What was made for it goes along.
+    fn done(&mut self, alloc: Global, minutes: &[Entry], wanted: u64) -> Option<Done>
+        ensures number { IfSome result (λ d. d.number ≡ wanted) }
+        ensures end { IfSome result (HasEnd (map entry_of minutes.now)) }
+    {
+        let place = self.ended?;
+        let Entry::Ended {
+            number,
+            outcome,
+            count,
+            node,
+        } = minutes.get(place)?
+        else {
+            return None;
+        };
+        if *number != wanted {
+            return None;
+        }
+        Some(Done {
+            number: *number,
+            outcome: *outcome,
+            count: *count,
+            node: *node,
+            shown: self.shown.take(),
+            values: mem::replace(&mut self.values, Vec::new(alloc)),
+        })
+    }
+}
+
+/// Adds the values of the wishes in the world of the position. The room was made with the post.
+fn add_values<W: Ledger>(
+    alloc: Global,
+    kernel: &Kernel<W>,
+    wishes: Vec<Wish>,
+    values: &mut Vec<NamedValue>,
+)
+    requires { kernel.now.machine.state.job ≡ Idle }
+{
+    for wish in wishes {
+        let Wish { name, exp } = wish;
+        let value = evaluate(alloc, kernel, exp.as_str());
+        let _ = values.push(NamedValue { name, value });
+    }
+}
+
+/// Takes down the end that stands last in the minutes.
+pub(crate) fn settle_last<W: Ledger>(alloc: Global, kernel: &Kernel<W>, extras: &mut [Extra]) {
+    let minutes = kernel.minutes();
+    let Some(place) = minutes.len().checked_sub(1) else {
+        return;
+    };
+    let Some(
+        Entry::Ended {
+            number,
+            outcome,
+            ..
+        },
+    ) = minutes.get(place)
+    else {
+        return;
+    };
+    let Some(index) = index_of(*number) else {
+        return;
+    };
+    if let Some(extra) = extras.get_mut(index) {
+        extra.settle(alloc, kernel, place, outcome);
+    }
+}
+
+/// Where the extra of a post stands.
+fn index_of(number: u64) -> Option<usize> {
+    number.checked_sub(1).map(|index| index as usize)
+}
+
+/// What came of the job of this number, if it has ended.
+pub(crate) fn fetch<W: Ledger>(
+    alloc: Global,
+    kernel: &Kernel<W>,
+    extras: &mut [Extra],
+    number: u64,
+) -> Option<Done>
+    ensures number { IfSome result (λ d. d.number ≡ number) }
+    ensures end { IfSome result (HasEnd kernel.now.machine.minutes) }
+{
+    let extra = extras.get_mut(index_of(number)?)?;
+    extra.done(alloc, kernel.minutes(), number)
+}

@@ -1,0 +1,188 @@
+//! The hall that threads share.
+ghost use Rattle.std.specs.Prelude.{◌≡◌, ℕ, ◌+◌, ◌-◌, ◌^◌, ◌≤◌, ◌↔◌, ◌⊎◌, [], List, IfOk, IfErr, length};
+ghost use Rattle.kernel_core.specs.Runs.{Machine};
+ghost use Rattle.kernel_core.specs.LegalMinutes.{IsLegalMachine};
+ghost use Rattle.kernel_ask.specs.Answer.{IsAnswer};
+ghost use Rattle.kernel_hall.specs.Passes.{pass_of, ticket_of};
+ghost use Rattle.kernel_hall.specs.Turns.{IsTurn};
+ghost use Rattle.kernel_hall.specs.Ends.{HasEnd};
+
+use crate::comm::{CommChange, comm_on};
+use crate::pass::{Pass, Ticket};
+use crate::state::State;
+use crate::turn::Turn;
+use kernel_ask::{Answer, Ask, Comms, Done, HallFault, Wish};
+use kernel_bell::{Bell, RunnerSeat};
+use kernel_core::{Job, Kernel, Phase, PostFault};
+use std::alloc::Global;
+use std::marker::Model;
+use std::sync::ledger::{Blank, Ledger};
+use std::sync::{Condvar, Mutex, Wait};
+
+/// One kernel for many threads. Each lock is held for one event of the kernel. Contracts see which bell it has. The type parameters name
+/// the ledger of the kernel's writes and that of the posts: a program picks each once.
+#[derive(Drop)]
+pub struct Hall<W: Ledger, L: Ledger> {
+    state: Mutex<State<W, L>>,
+    /// Something was posted, a job has ended, or the kernel was shut.
+    moved: Condvar,
+    bell: Bell,
+}
+
+impl<W: Ledger, L: Ledger> Model for Hall<W, L> {
+    ghost use Rattle.atomic_table.specs.Seated.{TableId, table_id_coded};
+
+    ghost Value = { TableId };
+
+    ghost coded = { table_id_coded };
+
+    ghost view = { λ h. h.bell };
+}
+
+impl<W: Ledger, L: Ledger> Hall<W, L> {
+    /// A hall round a kernel with no minutes. It takes no memory. The posts are counted in the ledger that is opened by this blank.
+    pub fn new(
+        alloc: Global,
+        blank: Blank,
+        kernel: Kernel<W>,
+        comms: Comms,
+        bell: Bell,
+    ) -> Hall<W, L>
+        requires name { blank.name ≡ L.name }
+        requires parts { (blank.parts ≡ 65537) × (blank.parts ≡ L.parts) }
+        requires fresh { kernel.machine.minutes ≡ [] }
+        ensures { result ≡ bell }
+    {
+        let (book, rest) = blank.open::<L>();
+        let state = State::new(alloc, kernel, comms, book, rest);
+        Hall {
+            state: Mutex::new(state),
+            moved: Condvar::new(),
+            bell,
+        }
+    }
+
+    /// The bell, which is rung outside the lock.
+    pub fn bell(&self) -> &Bell
+        ensures { result.now ≡ self.now }
+    {
+        &self.bell
+    }
+
+    /// A new pass, with no posts. It takes no memory, and is refused as `NoPass` once [`PASSES`](crate::PASSES) are given.
+    pub fn pass<R: Wait>(&self, rt: &R) -> Result<Pass<L>, HallFault>
+        ensures new { IfOk result (λ p. p.posts ≡ 0) }
+        ensures lane { IfOk result (λ p. (1 ≤ p.lane) × (p.lane ≤ 65536)) }
+        ensures refusal { IfErr result (λ f. f ≡ HallFault.NoPass) }
+    {
+        match self.state.lock(rt).passes.next() {
+            Some(pass) => Ok(pass),
+            None => Err(HallFault::NoPass),
+        }
+    }
+
+    /// Posts a job. The pass comes back, and has counted it. A refused post leaves the pass, and drops the job and the wishes.
+    pub fn post<R: Wait>(
+        &self,
+        rt: &R,
+        mut pass: Pass<L>,
+        job: Job,
+        wishes: Vec<Wish>,
+    ) -> Result<(Ticket, Pass<L>), (PostFault, Pass<L>)>
+        ensures ticket { IfOk result (λ r. r.0 ≡ ticket_of pass r.0.number job) }
+        ensures counted { IfOk result (λ r. r.1 ≡ pass_of pass.lane (pass.posts + 1)) }
+        ensures refused { IfErr result (λ r. r.1 ≡ pass) }
+    {
+        let posted = self.state.lock(rt).post(&mut pass, job, wishes);
+        match posted {
+            Ok(ticket) => {
+                self.moved.notify_all();
+                Ok((ticket, pass))
+            }
+            Err(fault) => Err((fault, pass)),
+        }
+    }
+
+    /// One turn of the runner: under the lock one slice of at most `m` steps, with one look at the bell, or one begin. It is `Worn`, and
+    /// does nothing, where the bell's serials are used up.
+    pub fn turn<R: Wait>(&self, rt: &R, runner: &mut RunnerSeat, m: u64) -> Turn
+        requires own { runner.old.bell ≡ self.now }
+        ensures worn { (result ≡ Turn.Worn) ↔ (runner.old.knows.serial ≡ 2 ^ 64 - 1) }
+        ensures same { result ≡ Turn.Worn → runner.new ≡ runner.old }
+        ensures turn { (result ≡ Turn.Worn) ⊎ ((k k' : Machine) × IsLegalMachine k × IsTurn k runner.old m result k' runner.new) }
+        ensures bell { runner.new.bell ≡ runner.old.bell }
+    {
+        if runner.serial() == u64::MAX {
+            return Turn::Worn;
+        }
+        let turn = self.state.lock(rt).turn(&self.bell, runner, m);
+        if turn.is_end() {
+            self.moved.notify_all();
+        }
+        turn
+    }
+
+    /// Waits until the ticket's job has ended, and answers what came of it. The shown text and the values go to the first wait for it.
+    pub fn wait<R: Wait>(&self, rt: &R, ticket: &Ticket) -> Done
+        ensures number { result.number ≡ ticket.now.number }
+        ensures end { (k : Machine) × IsLegalMachine k × HasEnd k.minutes result }
+    {
+        let mut state = self.state.lock(rt);
+        for _ in rt.forever() {
+            if let Some(done) = state.done(ticket.number) {
+                return done;
+            }
+            state = self.moved.wait(rt, state);
+        }
+        unreachable!()
+    }
+
+    /// Answers a question: `ask_on` under the lock, of a kernel with at least as many minutes as the pass has posts, which each is that
+    /// the pass's own hall has. The only refusal is `Memory`.
+    pub fn ask<R: Wait>(&self, rt: &R, pass: &Pass<L>, ask: Ask) -> Result<Answer, HallFault>
+        ensures answer { IfOk result (λ answer. (k : Machine) × (comms : List (List ℕ)) × IsLegalMachine k × (pass.now.posts ≤ length k.minutes) × IsAnswer k comms ask answer) }
+        ensures refusal { IfErr result (λ f. f ≡ HallFault.Memory) }
+    {
+        let mut state = self.state.lock(rt);
+        for _ in rt.forever() {
+            if state.has_seen(pass.posts()) {
+                return state.ask(ask);
+            }
+            state = self.moved.wait(rt, state);
+        }
+        unreachable!()
+    }
+
+    /// Opens or closes a comm, and tells whether it did: `comm_on` under the lock.
+    pub fn comm<R: Wait>(
+        &self,
+        rt: &R,
+        _pass: &Pass<L>,
+        change: CommChange,
+    ) -> Result<bool, HallFault>
+        ensures { IfErr result (λ f. f ≡ HallFault.Memory) }
+    {
+        comm_on(&mut self.state.lock(rt).comms, change)
+    }
+
+    /// From now on each post is refused, and each job that is taken. It interrupts nothing, and takes no memory.
+    pub fn shut<R: Wait>(&self, rt: &R) {
+        self.state.lock(rt).shut();
+        self.moved.notify_all();
+    }
+
+    /// Waits until there is something to do. False where the kernel is shut and nothing is left.
+    pub(crate) fn has_work<R: Wait>(&self, rt: &R) -> bool {
+        let mut state = self.state.lock(rt);
+        for _ in rt.forever() {
+            if state.kernel.phase() != Phase::Idle {
+                return true;
+            }
+            if state.kernel.is_closing() {
+                return false;
+            }
+            state = self.moved.wait(rt, state);
+        }
+        unreachable!()
+    }
+}

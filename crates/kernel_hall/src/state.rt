@@ -1,0 +1,170 @@
+//! What lies under the lock.
+ghost use Rattle.std.specs.Prelude.{◌≡◌, ◌+◌, ◌-◌, ◌^◌, ◌<◌, ◌≤◌, [], IfOk, IfErr, OnErr, IfSome, suc, length, true};
+ghost use Rattle.kernel_core.specs.Request.{request_of};
+ghost use Rattle.kernel_core.specs.Minutes.{posted_in};
+ghost use Rattle.kernel_core.specs.LegalMinutes.{IsLegalMachine};
+ghost use Rattle.kernel_core.specs.Runs.{IsRefusal, posted, shut};
+ghost use Rattle.kernel_ask.specs.Answer.{IsAnswer};
+ghost use Rattle.kernel_hall.specs.Passes.{pass_of, ticket_of};
+ghost use Rattle.kernel_hall.specs.Turns.{IsTurn};
+ghost use Rattle.kernel_hall.specs.Ends.{HasEnd};
+
+use crate::extra::{Extra, fetch, settle_last};
+use crate::pass::{Pass, Ticket};
+use crate::passes::Passes;
+use crate::turn::{Turn, turn_on};
+use kernel_ask::{Answer, Ask, Comms, Done, HallFault, Wish, ask_on};
+use kernel_bell::{Bell, RunnerSeat};
+use kernel_core::{Job, Kernel, PostFault};
+use std::alloc::Global;
+use std::sync::ledger::{Book, Ledger, Share};
+
+/// The lock's value. Its type keeps that the book is the number of posts in the minutes.
+#[derive(Drop)]
+pub struct State<W: Ledger, L: Ledger> {
+    pub(crate) kernel: Kernel<W>,
+    pub(crate) comms: Comms,
+    pub(crate) passes: Passes<L>,
+    pub(crate) extras: Vec<Extra>,
+    pub(crate) alloc: Global,
+    book: Book<L>,
+    pub ghost counted: { book.total ≡ posted_in kernel.machine.minutes },
+}
+
+impl<W: Ledger, L: Ledger> State<W, L> {
+    /// Around a kernel with no minutes, with the book of its posts and all shares in it.
+    pub(crate) fn new(
+        alloc: Global,
+        kernel: Kernel<W>,
+        comms: Comms,
+        book: Book<L>,
+        rest: Share<L>,
+    ) -> State<W, L>
+        requires fresh { kernel.machine.minutes ≡ [] }
+        requires book { book.total ≡ 0 }
+        requires parts { rest.parts ≡ 65537 }
+        requires amount { rest.amount ≡ 0 }
+        ensures kernel { result.kernel ≡ kernel }
+        ensures comms { result.comms ≡ comms }
+    {
+        State {
+            kernel,
+            comms,
+            passes: Passes::new(rest),
+            extras: Vec::new(alloc),
+            alloc,
+            book,
+        }
+    }
+
+    /// Posts a job for a pass, which counts it. A refused post drops the job and the wishes.
+    pub fn post(
+        &mut self,
+        pass: &mut Pass<L>,
+        job: Job,
+        wishes: Vec<Wish>,
+    ) -> Result<Ticket, PostFault>
+        ensures ticket { IfOk result (λ t. t ≡ ticket_of pass.old (suc (posted_in self.old.kernel.machine.minutes)) job) }
+        ensures posted { IfOk result (λ t. self.new.kernel.machine ≡ posted self.old.kernel.machine pass.old.lane (request_of job)) }
+        ensures counted { IfOk result (λ t. pass.new ≡ pass_of pass.old.lane (pass.old.posts + 1)) }
+        ensures refusal { IfErr result (IsRefusal self.old.kernel.machine) }
+        ensures kernel { OnErr result (self.new.kernel.machine ≡ self.old.kernel.machine) }
+        ensures pass { OnErr result (pass.new ≡ pass.old) }
+        ensures comms { self.new.comms ≡ self.old.comms }
+    {
+        let State {
+            kernel,
+            extras,
+            alloc,
+            book,
+            ..
+        } = self;
+        let Pass { lane, posts, share } = pass;
+        if let Some(fault) = kernel.post_fault() {
+            return Err(fault);
+        }
+        let Ok(copy) = job.try_clone() else {
+            return Err(PostFault::Memory);
+        };
+        let Ok(extra) = Extra::new(*alloc, kernel.minutes().len(), wishes) else {
+            return Err(PostFault::Memory);
+        };
+        if extras.reserve(1).is_err() {
+            return Err(PostFault::Memory);
+        }
+        book.audit(share);
+        let number = kernel.post(*lane, copy)?;
+        extras.push_reserved(extra);
+        book.add(share, 1);
+        *posts += 1;
+        Ok(Ticket {
+            lane: *lane,
+            nth: *posts,
+            number,
+            job,
+        })
+    }
+
+    /// One turn of the runner. In a turn that ends a job its shown text and its values are made.
+    pub fn turn(&mut self, bell: &Bell, runner: &mut RunnerSeat, m: u64) -> Turn
+        requires own { runner.old.bell ≡ bell.now }
+        requires room { runner.old.knows.serial < 2 ^ 64 - 1 }
+        ensures turn { IsTurn self.old.kernel.machine runner.old m result self.new.kernel.machine runner.new }
+        ensures legal { IsLegalMachine self.old.kernel.machine }
+        ensures comms { self.new.comms ≡ self.old.comms }
+    {
+        is_legal(&self.kernel);
+        let State { kernel, .. } = self;
+        let turn = turn_on(kernel, bell, runner, m);
+        if turn.is_end() {
+            settle_last(self.alloc, &self.kernel, &mut self.extras);
+        }
+        turn
+    }
+
+    /// What came of the job of this number, if it has ended.
+    pub fn done(&mut self, number: u64) -> Option<Done>
+        ensures number { IfSome result (λ d. d.number ≡ number) }
+        ensures end { IfSome result (HasEnd self.old.kernel.machine.minutes) }
+        ensures legal { IsLegalMachine self.old.kernel.machine }
+        ensures kernel { self.new.kernel ≡ self.old.kernel }
+        ensures comms { self.new.comms ≡ self.old.comms }
+    {
+        is_legal(&self.kernel);
+        fetch(self.alloc, &self.kernel, &mut self.extras, number)
+    }
+
+    /// Whether there are at least so many minutes.
+    pub(crate) fn has_seen(&self, posts: u64) -> bool
+        ensures { result ≡ true → posts ≤ length self.now.kernel.machine.minutes }
+    {
+        posts <= self.kernel.minutes().len() as u64
+    }
+
+    /// Answers a question: `ask_on` over the kernel and the comms.
+    pub fn ask(&self, ask: Ask) -> Result<Answer, HallFault>
+        ensures answer { IfOk result (IsAnswer self.now.kernel.machine self.now.comms ask) }
+        ensures legal { IsLegalMachine self.now.kernel.machine }
+        ensures refusal { IfErr result (λ f. f ≡ HallFault.Memory) }
+    {
+        is_legal(&self.kernel);
+        ask_on(self.alloc, &self.kernel, &self.comms, ask)
+    }
+
+    /// Refuses later posts.
+    pub fn shut(&mut self)
+        ensures shut { self.new.kernel.machine ≡ shut self.old.kernel.machine }
+        ensures comms { self.new.comms ≡ self.old.comms }
+    {
+        let State { kernel, .. } = self;
+        kernel.shut();
+    }
+}
+
+/// A kernel's state and minutes are legal.
+fn is_legal<W: Ledger>(kernel: &Kernel<W>)
+    ensures { IsLegalMachine kernel.now.machine }
+{
+    let _ = kernel.world();
+    let _ = kernel.minutes();
+}
