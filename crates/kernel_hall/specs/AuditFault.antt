@@ -1,0 +1,8 @@
+-- How the audit's faults are told.
+use Rattle.std.specs.Prelude.{ℕ}
+use Rattle.kernel_hall.specs.declared.comparison.AuditFault.{AuditFault}
+use Rattle.kernel_hall.specs.declared.comparison.AuditFault.TheVariants.{PassMissing, TicketUnknown}
+
+abbrev pub number_of : AuditFault → ℕ
+number_of PassMissing = 78
+number_of (TicketUnknown n) = 79
