@@ -1,4 +1,8 @@
-//! The hall: one kernel for many threads.
+//! The hall: one kernel for many threads, under one lock that is held for one event of the kernel at a time.
+//!
+//! To the layer above it promises that a post, a turn of the runner, an answer and a change of the comms are those of the kernel that lies
+//! under the lock, exact on the parts that are lent; and, where the lock is taken, what becomes of the pass, the seat and the ticket that are
+//! handed in. Each post is counted in a ledger, whose book is the number of posts in the minutes. A hall can't be closed yet.
 #![tactic(auto)]
 
 mod comm;

@@ -20,7 +20,7 @@ pub enum Turn {
 
 impl Turn {
     /// Whether it ended a job.
-    pub fn is_end(self) -> bool {
+    pub(crate) fn is_end(self) -> bool {
         match self {
             Turn::Cut(Sliced::Ended(_)) | Turn::Began(Begun::Ended(_)) => true,
             Turn::Cut(_) | Turn::Began(_) | Turn::Worn => false,
