@@ -1,0 +1,4 @@
+mod Tokens
+mod Table
+mod Rules
+mod Theorems

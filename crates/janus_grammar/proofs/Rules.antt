@@ -1,0 +1,259 @@
+-- What is derived by the rules is spelled by the table.
+use Rattle.std.proofs.Common.{◌≡◌, ℕ, zero, suc, ◌+◌, ◌-◌, ◌<◌, List, [], ◌∷◌, Option, Some, None, Bool, true, false, cond, refl, ap, sym, subst, ◌∙◌, arith}
+use Rattle.std.specs.Prelude.{nat_lt}
+use Rattle.std.proofs.lemmas.Bool.{eq-eqb, ltb-true}
+use Rattle.janus_syntax.specs.declared.token.Span.{Span}
+use Rattle.janus_syntax.specs.declared.token.Sign.{Sign}
+use Rattle.janus_syntax.specs.declared.token.Sign.TheVariants as sign
+use Rattle.janus_syntax.specs.declared.token.Word.{Word}
+use Rattle.janus_syntax.specs.declared.token.Word.TheVariants as word
+use Rattle.janus_syntax.specs.declared.operator.Infix.{Infix}
+use Rattle.janus_syntax.specs.Tokens.{Token, Name, Number, Sign_of, Word_of}
+use Rattle.janus_syntax.specs.Tree.{named, Exp, Num, Neg, Stm, Skip, If, Loop, Block, Empty, More, Declaration}
+use Rattle.janus_syntax.specs.Operators.{weakest, joined, sign_infix, operator_at}
+use Rattle.janus_syntax.specs.Forms.{Part, Declarations, Bound, Body, Statements, Else_part, Do_part, Loop_part, Target_index, Whole, Level, Chain, Index, Tree, Class, Seen, seen, The_word, The_sign, A_name, A_number, An_update, Form, done, take, part, close, Rule}
+use Rattle.janus_syntax.specs.Table.{rule, left_out, variable, assignment, declared, skip_block, sign_then, word_then, whole, operand, chains, chain_rule, statement, declaration}
+use Rattle.janus_syntax.specs.Grammar
+use Rattle.janus_syntax.specs.Grammar.{Count, but_limits, entered, closed, Spells}
+use Rattle.janus_grammar.specs.Derivation
+use Rattle.janus_grammar.specs.Derivation.{IsExpression, IsStatement, AreStatements, IsBody, IsOptional, IsDeclaration, AreDeclarations}
+
+-- ---- forms that are spelled, whatever the counts are
+
+abbrev pub Spelled : (p : Part) → Form p → Tree p → List Token → List Token → Type 0
+Spelled p f v from rest = (m : Count) → (m' : Count) × Spells but_limits p f v m from m' rest
+
+pub nothing_more : (p : Part) (v : Tree p) (rest : List Token) → Spelled p (done v) v rest rest
+nothing_more p v rest m = (m, Grammar.nothing_more)
+
+taken : {p : Part} {c : Class} (k : Seen c → Form p) (s : Seen c) (v : Tree p) (t : Token) (from rest : List Token) → seen c t ≡ Some s → Spelled p (k s) v from rest → Spelled p (take c k) v (t ∷ from) rest
+taken k s v t from rest is h m = let x = h m in (x.0, Grammar.token is x.1)
+
+closes : {p : Part} (f : Form p) (v : Tree p) (from rest : List Token) → Spelled p f v from rest → Spelled p (close f) v from rest
+closes f v from rest h m = let x = h (closed m) in (x.0, Grammar.end_of_construct x.1)
+
+-- the tokens are the part q, as the tree u, in whatever form it stands
+abbrev pub IsPart : (q : Part) → Tree q → List Token → List Token → Type 0
+IsPart q u from rest = (p : Part) (k : Tree q → Form p) (v : Tree p) (last : List Token) → Spelled p (k u) v rest last → Spelled p (part q k) v from last
+
+begun : (q : Part) (t : Token) (r : Rule q) (u : Tree q) (from rest : List Token) → rule q t ≡ Some r → Spelled q r.form u from rest → IsPart q u (t ∷ from) rest
+begun q t r u from rest is h p k v last more m = let x = h (entered r m) in let y = more x.0 in (y.0, Grammar.a_part is refl x.1 y.1)
+
+absent : (q : Part) (u : Tree q) (ts : List Token) → left_out q ≡ Some u → IsPart q u ts ts
+absent q u ts is p k v last more m = let y = more m in (y.0, Grammar.no_part is y.1)
+
+-- ---- expressions
+
+-- behind the operand e: operators of level n, with which it is f
+abbrev Continued : ℕ → Exp → Exp → List Token → List Token → Type 0
+Continued zero e f from rest = (e ≡ f) × (rest ≡ from)
+Continued (suc n) e f from rest = IsPart (Chain (suc n) e) f from rest
+
+-- a first token with its rule, and what is behind it
+abbrev Starts : (p : Part) → ℕ → (Exp → Form p) → Tree p → List Token → List Token → Type 0
+Starts p n k v from last = (t : Token) × (behind : List Token) × (r : Rule p) × (from ≡ t ∷ behind) × (operand t (λ e. chains 0 n e k) ≡ Some r) × Spelled p r.form v behind last
+
+-- an expression begins each form that goes on with operators of weaker levels
+abbrev Leads : ℕ → Exp → List Token → List Token → Type 0
+Leads n e from middle = (f : Exp) (rest : List Token) → Continued n e f middle rest → (l : ℕ) (p : Part) (k : Exp → Form p) (v : Tree p) (last : List Token) → Spelled p (chains n l f k) v rest last → Starts p (n + l) k v from last
+
+idle : (n : ℕ) (e : Exp) (ts : List Token) → Continued n e e ts ts
+idle zero e ts = (refl, refl)
+idle (suc n) e ts = absent (Chain (suc n) e) e ts refl
+
+-- where nothing of its own level goes on, it is an operand
+operand_leads : {e : Exp} {from middle : List Token} → ((l : ℕ) (p : Part) (k : Exp → Form p) (v : Tree p) (last : List Token) → Spelled p (chains 0 l e k) v middle last → Starts p l k v from last) → Leads 0 e from middle
+operand_leads {e} {from} {middle} h f rest c l p k v last more =
+    let y = h l p k v last (subst (λ x. Spelled p (chains 0 l x k) v middle last) (sym c.0) (subst (λ ts. Spelled p (chains 0 l f k) v ts last) c.1 more)) in
+    (y.0, y.1, y.2, y.3, subst (λ (i : ℕ). operand y.0 (λ e. chains 0 i e k) ≡ Some y.2) (omega arith) y.4, y.5)
+
+level_is : {n : ℕ} {e : Exp} {from rest : List Token} → Leads n e from rest → IsPart (Level n) e from rest
+level_is {n} {e} {from} {rest} h =
+    let y = h e rest (idle n e rest) 0 (Level n) done e rest (nothing_more (Level n) e rest) in
+    subst (λ ts. IsPart (Level n) e ts rest) (sym y.3) (begun (Level n) y.0 y.2 e y.1 rest (subst (λ (i : ℕ). operand y.0 (λ e. chains 0 i e done) ≡ Some y.2) (omega arith) y.4) y.5)
+
+whole_of : (o : Option (Rule Whole)) (r : Rule Whole) → o ≡ Some r → whole o ≡ Some (record { opens = r.opens; counts = r.counts; is_whole = true; form = r.form })
+whole_of o r e = ap (λ x. whole x) e
+
+pub whole_is : {e : Exp} {from rest : List Token} → Leads weakest e from rest → IsPart Whole e from rest
+whole_is {e} {from} {rest} h =
+    let y = h e rest (idle weakest e rest) 0 Whole done e rest (nothing_more Whole e rest) in
+    let r = y.2 in
+    subst (λ ts. IsPart Whole e ts rest) (sym y.3) (begun Whole y.0 (record { opens = r.opens; counts = r.counts; is_whole = true; form = r.form }) e y.1 rest (whole_of (operand y.0 (λ e. chains 0 weakest e done)) r y.4) y.5)
+
+sign_behind : {p : Part} (s : Sign) (at : Span) (f : Form p) (v : Tree p) (from rest : List Token) → seen (The_sign s) (Sign_of s at) ≡ Some tt → Spelled p f v from rest → Spelled p (sign_then s f) v (Sign_of s at ∷ from) rest
+sign_behind s at f v from rest is h = taken (λ x. f) tt v (Sign_of s at) from rest is h
+
+word_behind : {p : Part} (w : Word) (at : Span) (f : Form p) (v : Tree p) (from rest : List Token) → seen (The_word w) (Word_of w at) ≡ Some tt → Spelled p f v from rest → Spelled p (word_then w f) v (Word_of w at ∷ from) rest
+word_behind w at f v from rest is h = taken (λ x. f) tt v (Word_of w at) from rest is h
+
+-- levels of operators are not 0
+
+abbrev has_level : Option Infix → Bool
+has_level None = true
+has_level (Some o) = nat_lt 0 o.level
+
+signs_have : (s : Sign) → has_level (sign_infix s) ≡ true
+signs_have sign.Times = refl
+signs_have _ = refl
+
+tokens_have : (t : Token) → has_level (operator_at t) ≡ true
+tokens_have (Sign_of s at) = signs_have s
+tokens_have (Name x at) = refl
+tokens_have (Number n at) = refl
+tokens_have (Word_of w at) = refl
+
+not_zero : (t : Token) (o : Infix) → operator_at t ≡ Some o → 0 < o.level
+not_zero t o is = ltb-true 0 o.level (subst (λ x. has_level x ≡ true) is (tokens_have t))
+
+-- an operator of the level, with its right side
+abbrev rule_of : (n : ℕ) (o : Infix) (e : Exp) → Rule (Chain n e)
+rule_of n o e = record { opens = 0; counts = 1; is_whole = false; form = part (Level (n - 1)) (λ r. part (Chain n (joined o.joint e r)) done) }
+
+rule_is : (n : ℕ) (o : Infix) (e : Exp) (t : Token) → operator_at t ≡ Some o → o.level ≡ n → rule (Chain n e) t ≡ Some (rule_of n o e)
+rule_is n o e t is level = ap (λ x. chain_rule x n e) is ∙ ap (λ b. cond b (Some (rule_of n o e)) None) (eq-eqb o.level n level)
+
+operation_leads : (n : ℕ) (o : Infix) (t : Token) (a b : Exp) (from behind middle : List Token) → o.level ≡ n → 0 < n → operator_at t ≡ Some o → Leads n a from (t ∷ behind) → Leads (n - 1) b behind middle → Leads n (joined o.joint a b) from middle
+operation_leads zero o t a b from behind middle level h is x y = absurd (omega (arith, h))
+operation_leads (suc n) o t a b from behind middle level h is x y =
+    λ f rest c. x f rest (begun (Chain (suc n) a) t (rule_of (suc n) o a) f behind rest (rule_is (suc n) o a t is level)
+    (level_is y (Chain (suc n) a) (λ r. part (Chain (suc n) (joined o.joint a r)) done) f rest (c (Chain (suc n) a) done f rest (nothing_more (Chain (suc n) a) f rest))))
+
+pub leads : {n : ℕ} {e : Exp} {from rest : List Token} → IsExpression n e from rest → Leads n e from rest
+leads (Derivation.number {n = n} {at = at} {rest = rest}) = operand_leads (λ l p k v last h. (Number n at, rest, record { opens = 0; counts = 0; is_whole = false; form = chains 0 l (Num n at) k }, refl, refl, h))
+leads (Derivation.variable {x = x} {at = at} {rest = rest}) =
+    operand_leads (λ l p k v last h. (Name x at, rest, record { opens = 0; counts = 0; is_whole = false; form = part Index (λ i. chains 0 l (variable (named x at) i) k) }, refl, refl, absent Index None rest refl p (λ i. chains 0 l (variable (named x at) i) k) v last h))
+leads (Derivation.element {x = x} {at = at} {opening = opening} {closing = closing} {i = i} {from = from} {rest = rest} d) =
+    let inner = level_is (leads d) Index (λ e. sign_then sign.CloseIndex (close (done (Some e)))) (Some i) rest (sign_behind sign.CloseIndex closing (close (done (Some i))) (Some i) rest rest refl (closes (done (Some i)) (Some i) rest rest (nothing_more Index (Some i) rest))) in
+    let index = begun Index (Sign_of sign.OpenIndex opening) (record { opens = 1; counts = 0; is_whole = false; form = part (Level weakest) (λ e. sign_then sign.CloseIndex (close (done (Some e)))) }) (Some i) from rest refl inner in
+    operand_leads (λ l p k v last h. (Name x at, Sign_of sign.OpenIndex opening ∷ from, record { opens = 0; counts = 0; is_whole = false; form = part Index (λ i. chains 0 l (variable (named x at) i) k) }, refl, refl, index p (λ i. chains 0 l (variable (named x at) i) k) v last h))
+leads (Derivation.minus {at = at} {e = e} {from = from} {rest = rest} d) =
+    operand_leads (λ l p k v last h. (Sign_of sign.Minus at, from, record { opens = 1; counts = 1; is_whole = false; form = part (Level 0) (λ e. close (chains 0 l (Neg e) k)) }, refl, refl, level_is (leads d) p (λ e. close (chains 0 l (Neg e) k)) v last (closes (chains 0 l (Neg e) k) v rest last h)))
+leads (Derivation.parentheses {opening = opening} {closing = closing} {e = e} {from = from} {rest = rest} d) =
+    operand_leads (λ l p k v last h. (
+      Sign_of sign.Open opening,
+      from,
+      record { opens = 1; counts = 0; is_whole = false; form = part (Level weakest) (λ e. sign_then sign.Close (close (chains 0 l e k))) },
+      refl,
+      refl,
+      level_is (leads d) p (λ e. sign_then sign.Close (close (chains 0 l e k))) v last (sign_behind sign.Close closing (close (chains 0 l e k)) v rest last refl (closes (chains 0 l e k) v rest last h)),
+    ))
+leads (Derivation.stronger {n = n} {e = e} {from = from} {rest = middle} d) = λ f rest c l p k v last h.
+    let y = leads d e middle (idle n e middle) (suc l) p k v last (c p (λ g. chains (suc n) l g k) v last h) in
+    (y.0, y.1, y.2, y.3, subst (λ (i : ℕ). operand y.0 (λ e. chains 0 i e k) ≡ Some y.2) (omega arith) y.4, y.5)
+leads (Derivation.operation {o = o} {t = t} {a = a} {b = b} {from = from} {behind = behind} {rest = rest} is x y) =
+    operation_leads o.level o t a b from behind rest refl (not_zero t o is) is (leads x) (leads y)
+
+-- ---- statements
+
+-- a statement begins each form that starts with one
+abbrev Begins : Stm → List Token → List Token → Type 0
+Begins s from middle = (p : Part) (k : Stm → Form p) (v : Tree p) (last : List Token) → Spelled p (k s) v middle last →
+    (t : Token) × (behind : List Token) × (r : Rule p) × (from ≡ t ∷ behind) × (statement t k ≡ Some r) × Spelled p r.form v behind last
+
+-- which part a body behind this word is
+abbrev Behind_word : Word → Block → List Token → List Token → Type 0
+Behind_word word.Else b from rest = IsPart Else_part b from rest
+Behind_word word.Do b from rest = IsPart Do_part b from rest
+Behind_word word.Loop b from rest = IsPart Loop_part b from rest
+Behind_word _ b from rest = Unit {0}
+
+mutual
+  pub begins : {s : Stm} {from rest : List Token} → IsStatement s from rest → Begins s from rest
+  begins (IsStatement.skip {at = at} {rest = rest}) = λ p k v last h. (Word_of word.Skip at, rest, record { opens = 0; counts = 0; is_whole = false; form = k Skip }, refl, refl, h)
+  begins (IsStatement.assignment {x = x} {at = at} {t = t} {u = u} {e = e} {from = from} {rest = rest} is d) = λ p k v last h. (
+    Name x at,
+    t ∷ from,
+    record { opens = 0; counts = 0; is_whole = false; form = part Target_index (λ i. take An_update (λ u. part Whole (λ e. k (assignment (named x at) i u e)))) },
+    refl,
+    refl,
+    absent Target_index None (t ∷ from) refl p (λ i. take An_update (λ u. part Whole (λ e. k (assignment (named x at) i u e)))) v last
+        (taken (λ u. part Whole (λ e. k (assignment (named x at) None u e))) u v t from last is (whole_is (leads d) p (λ e. k (assignment (named x at) None u e)) v last h)),
+  )
+  begins (IsStatement.element_assignment {x = x} {at = at} {opening = opening} {closing = closing} {t = t} {u = u} {i = i} {e = e} {from = from} {behind = behind} {rest = rest} is c d) = λ p k v last h.
+      let inner = whole_is (leads c) Target_index (λ e. sign_then sign.CloseIndex (close (done (Some e)))) (Some i) (t ∷ behind) (sign_behind sign.CloseIndex closing (close (done (Some i))) (Some i) (t ∷ behind) (t ∷ behind) refl (closes (done (Some i)) (Some i) (t ∷ behind) (t ∷ behind) (nothing_more Target_index (Some i) (t ∷ behind)))) in (
+        Name x at,
+        Sign_of sign.OpenIndex opening ∷ from,
+        record { opens = 0; counts = 0; is_whole = false; form = part Target_index (λ i. take An_update (λ u. part Whole (λ e. k (assignment (named x at) i u e)))) },
+        refl,
+        refl,
+        begun Target_index (Sign_of sign.OpenIndex opening) (record { opens = 1; counts = 0; is_whole = false; form = part Whole (λ e. sign_then sign.CloseIndex (close (done (Some e)))) }) (Some i) from (t ∷ behind) refl inner p (λ i. take An_update (λ u. part Whole (λ e. k (assignment (named x at) i u e)))) v last
+            (taken (λ u. part Whole (λ e. k (assignment (named x at) (Some i) u e))) u v t behind last is (whole_is (leads d) p (λ e. k (assignment (named x at) (Some i) u e)) v last h)),
+      )
+  begins (IsStatement.branch {at_if = at_if} {at_then = at_then} {at_fi = at_fi} {test = e} {assertion = f} {a = s} {b = t} {from = from} {then = then} {others = others} {last = end} {rest = rest} d a b g) = λ p k v last h. (
+    Word_of word.If at_if,
+    from,
+    record { opens = 1; counts = 0; is_whole = false; form = part Whole (λ e. word_then word.Then (part Body (λ s. part Else_part (λ t. word_then word.Fi (part Whole (λ f. close (k (If e s t f)))))))) },
+    refl,
+    refl,
+    whole_is (leads d) p (λ e. word_then word.Then (part Body (λ s. part Else_part (λ t. word_then word.Fi (part Whole (λ f. close (k (If e s t f)))))))) v last
+        (word_behind word.Then at_then (part Body (λ s. part Else_part (λ t. word_then word.Fi (part Whole (λ f. close (k (If e s t f))))))) v then last refl
+        (body_is a p (λ s. part Else_part (λ t. word_then word.Fi (part Whole (λ f. close (k (If e s t f)))))) v last
+        (optional_is word.Else b p (λ t. word_then word.Fi (part Whole (λ f. close (k (If e s t f))))) v last
+        (word_behind word.Fi at_fi (part Whole (λ f. close (k (If e s t f)))) v end last refl
+        (whole_is (leads g) p (λ f. close (k (If e s t f))) v last (closes (k (If e s t f)) v rest last h)))))),
+  )
+  begins (IsStatement.repetition {at_from = at_from} {at_until = at_until} {assertion = e} {test = f} {a = s} {b = t} {from = from} {first = first} {second = second} {last = end} {rest = rest} d a b g) = λ p k v last h. (
+    Word_of word.From at_from,
+    from,
+    record { opens = 1; counts = 0; is_whole = false; form = part Whole (λ e. part Do_part (λ s. part Loop_part (λ t. word_then word.Until (part Whole (λ f. close (k (Loop e s t f))))))) },
+    refl,
+    refl,
+    whole_is (leads d) p (λ e. part Do_part (λ s. part Loop_part (λ t. word_then word.Until (part Whole (λ f. close (k (Loop e s t f))))))) v last
+        (optional_is word.Do a p (λ s. part Loop_part (λ t. word_then word.Until (part Whole (λ f. close (k (Loop e s t f)))))) v last
+        (optional_is word.Loop b p (λ t. word_then word.Until (part Whole (λ f. close (k (Loop e s t f))))) v last
+        (word_behind word.Until at_until (part Whole (λ f. close (k (Loop e s t f)))) v end last refl
+        (whole_is (leads g) p (λ f. close (k (Loop e s t f))) v last (closes (k (Loop e s t f)) v rest last h))))),
+  )
+
+  pub statements_are : {b : Block} {from rest : List Token} → AreStatements b from rest → IsPart Statements b from rest
+  statements_are (AreStatements.none {rest = rest}) = absent Statements Empty rest refl
+  statements_are (AreStatements.more {s = s} {b = b} {from = from} {behind = middle} {rest = rest} d ds) =
+      let y = begins d Statements (λ s. part Statements (λ b. done (More s b))) (More s b) rest (statements_are ds Statements (λ b. done (More s b)) (More s b) rest (nothing_more Statements (More s b) rest)) in
+      subst (λ ts. IsPart Statements (More s b) ts rest) (sym y.3) (begun Statements y.0 y.2 (More s b) y.1 rest y.4 y.5)
+
+  body_is : {b : Block} {from rest : List Token} → IsBody b from rest → IsPart Body b from rest
+  body_is (IsBody.body {s = s} {b = b} {from = from} {behind = middle} {rest = rest} d ds) =
+      let y = begins d Body (λ s. part Statements (λ b. done (More s b))) (More s b) rest (statements_are ds Body (λ b. done (More s b)) (More s b) rest (nothing_more Body (More s b) rest)) in
+      subst (λ ts. IsPart Body (More s b) ts rest) (sym y.3) (begun Body y.0 y.2 (More s b) y.1 rest y.4 y.5)
+
+  optional_is : (w : Word) {b : Block} {from rest : List Token} → IsOptional w b from rest → Behind_word w b from rest
+  optional_is word.Else (IsOptional.there {at = at} {b = b} {from = from} {rest = rest} d) = begun Else_part (Word_of word.Else at) (record { opens = 0; counts = 0; is_whole = false; form = part Body done }) b from rest refl (body_is d Else_part done b rest (nothing_more Else_part b rest))
+  optional_is word.Else (IsOptional.left_out {rest = rest}) = absent Else_part skip_block rest refl
+  optional_is word.Do (IsOptional.there {at = at} {b = b} {from = from} {rest = rest} d) = begun Do_part (Word_of word.Do at) (record { opens = 0; counts = 0; is_whole = false; form = part Body done }) b from rest refl (body_is d Do_part done b rest (nothing_more Do_part b rest))
+  optional_is word.Do (IsOptional.left_out {rest = rest}) = absent Do_part skip_block rest refl
+  optional_is word.Loop (IsOptional.there {at = at} {b = b} {from = from} {rest = rest} d) = begun Loop_part (Word_of word.Loop at) (record { opens = 0; counts = 0; is_whole = false; form = part Body done }) b from rest refl (body_is d Loop_part done b rest (nothing_more Loop_part b rest))
+  optional_is word.Loop (IsOptional.left_out {rest = rest}) = absent Loop_part skip_block rest refl
+  optional_is _ d = tt
+
+-- ---- declarations
+
+-- a declaration begins each form that starts with one
+pub declares : {d : Declaration} {from middle : List Token} → IsDeclaration d from middle → (p : Part) (k : Declaration → Form p) (v : Tree p) (last : List Token) → Spelled p (k d) v middle last →
+    (t : Token) × (behind : List Token) × (r : Rule p) × (from ≡ t ∷ behind) × (declaration t k ≡ Some r) × Spelled p r.form v behind last
+declares (IsDeclaration.number {at_int = at_int} {at = at} {x = x} {rest = rest}) = λ p k v last h. (
+  Word_of word.Int at_int,
+  Name x at ∷ rest,
+  record { opens = 0; counts = 0; is_whole = false; form = take A_name (λ x. part Bound (λ n. k (declared x n))) },
+  refl,
+  refl,
+  taken {c = A_name} (λ x. part Bound (λ n. k (declared x n))) (named x at) v (Name x at) rest last refl (absent Bound None rest refl p (λ n. k (declared (named x at) n)) v last h),
+)
+declares (IsDeclaration.array {at_int = at_int} {at = at} {opening = opening} {place = place} {closing = closing} {x = x} {n = n} {rest = rest}) = λ p k v last h. (
+  Word_of word.Int at_int,
+  Name x at ∷ Sign_of sign.OpenIndex opening ∷ Number n place ∷ Sign_of sign.CloseIndex closing ∷ rest,
+  record { opens = 0; counts = 0; is_whole = false; form = take A_name (λ x. part Bound (λ n. k (declared x n))) },
+  refl,
+  refl,
+  taken {c = A_name} (λ x. part Bound (λ n. k (declared x n))) (named x at) v (Name x at) (Sign_of sign.OpenIndex opening ∷ Number n place ∷ Sign_of sign.CloseIndex closing ∷ rest) last refl
+      (begun Bound (Sign_of sign.OpenIndex opening) (record { opens = 0; counts = 0; is_whole = false; form = take A_number (λ n. sign_then sign.CloseIndex (done (Some n))) }) (Some (n, place)) (Number n place ∷ Sign_of sign.CloseIndex closing ∷ rest) rest refl
+      (taken {c = A_number} (λ n. sign_then sign.CloseIndex (done (Some n))) (n, place) (Some (n, place)) (Number n place) (Sign_of sign.CloseIndex closing ∷ rest) rest refl
+      (sign_behind sign.CloseIndex closing (done (Some (n, place))) (Some (n, place)) rest rest refl (nothing_more Bound (Some (n, place)) rest)))
+      p (λ n. k (declared (named x at) n)) v last h),
+)
+
+pub declarations_are : {ds : List Declaration} {from rest : List Token} → AreDeclarations ds from rest → IsPart Declarations ds from rest
+declarations_are (AreDeclarations.none {rest = rest}) = absent Declarations [] rest refl
+declarations_are (AreDeclarations.more {d = d} {ds = ds} {from = from} {behind = middle} {rest = rest} a b) =
+    let y = declares a Declarations (λ d. part Declarations (λ ds. done (d ∷ ds))) (d ∷ ds) rest (declarations_are b Declarations (λ ds. done (d ∷ ds)) (d ∷ ds) rest (nothing_more Declarations (d ∷ ds) rest)) in
+    subst (λ ts. IsPart Declarations (d ∷ ds) ts rest) (sym y.3) (begun Declarations y.0 y.2 (d ∷ ds) y.1 rest y.4 y.5)

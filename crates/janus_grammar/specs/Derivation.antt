@@ -1,0 +1,80 @@
+-- The grammar as books print it, a rule a line: which tokens are which tree.
+use Rattle.std.specs.Prelude.{◌≡◌, ℕ, suc, ◌-◌, List, [], ◌∷◌, Some}
+use Rattle.janus_syntax.specs.declared.token.Span.{Span}
+use Rattle.janus_syntax.specs.declared.token.Sign.TheVariants as sign
+use Rattle.janus_syntax.specs.declared.token.Word.{Word}
+use Rattle.janus_syntax.specs.declared.token.Word.TheVariants as word
+use Rattle.janus_syntax.specs.declared.operator.Infix.{Infix}
+use Rattle.janus_syntax.specs.declared.tree.Update.{Update}
+use Rattle.janus_syntax.specs.Tokens.{Token, Name, Number, Sign_of, Word_of}
+use Rattle.janus_syntax.specs.Tree.{named, Exp, Num, Var, Element, Neg, Stm, Skip, Assign, AssignElement, If, Loop, Block, Empty, More, Declaration, Int, Array, Cell, cell_of}
+use Rattle.janus_syntax.specs.Operators.{weakest, joined, operator_at, update_at}
+use Rattle.janus_syntax.specs.Table.{skip_block}
+
+-- ---- expressions
+
+-- `IsExpression n e from rest`: the tokens of from up to rest are e, an expression of level n. Level 0 are the operands; an
+-- expression of any other level is one of the level below, or joins two by an operator of the level, where the left one
+-- may have operators of that level too: they go from left to right.
+pub data IsExpression : ℕ → Exp → List Token → List Token → Type 0 where
+  number : {n : ℕ} {at : Span} {rest : List Token} → IsExpression 0 (Num n at) (Number n at ∷ rest) rest
+  variable : {x : List ℕ} {at : Span} {rest : List Token} → IsExpression 0 (Var (named x at)) (Name x at ∷ rest) rest
+  element : {x : List ℕ} {at opening closing : Span} {i : Exp} {from rest : List Token} →
+      IsExpression weakest i from (Sign_of sign.CloseIndex closing ∷ rest) → IsExpression 0 (Element (named x at) i) (Name x at ∷ Sign_of sign.OpenIndex opening ∷ from) rest
+  minus : {at : Span} {e : Exp} {from rest : List Token} → IsExpression 0 e from rest → IsExpression 0 (Neg e) (Sign_of sign.Minus at ∷ from) rest
+  parentheses : {opening closing : Span} {e : Exp} {from rest : List Token} →
+      IsExpression weakest e from (Sign_of sign.Close closing ∷ rest) → IsExpression 0 e (Sign_of sign.Open opening ∷ from) rest
+  stronger : {n : ℕ} {e : Exp} {from rest : List Token} → IsExpression n e from rest → IsExpression (suc n) e from rest
+  operation : {o : Infix} {t : Token} {a b : Exp} {from behind rest : List Token} → operator_at t ≡ Some o →
+      IsExpression o.level a from (t ∷ behind) → IsExpression (o.level - 1) b behind rest → IsExpression o.level (joined o.joint a b) from rest
+
+-- ---- statements
+
+mutual
+  -- a statement
+  pub data IsStatement : Stm → List Token → List Token → Type 0 where
+    skip : {at : Span} {rest : List Token} → IsStatement Skip (Word_of word.Skip at ∷ rest) rest
+    assignment : {x : List ℕ} {at : Span} {t : Token} {u : Update} {e : Exp} {from rest : List Token} → update_at t ≡ Some u →
+        IsExpression weakest e from rest → IsStatement (Assign (named x at) u e) (Name x at ∷ t ∷ from) rest
+    element_assignment : {x : List ℕ} {at opening closing : Span} {t : Token} {u : Update} {i e : Exp} {from behind rest : List Token} → update_at t ≡ Some u →
+        IsExpression weakest i from (Sign_of sign.CloseIndex closing ∷ t ∷ behind) → IsExpression weakest e behind rest →
+        IsStatement (AssignElement (named x at) i u e) (Name x at ∷ Sign_of sign.OpenIndex opening ∷ from) rest
+    branch : {at_if at_then at_fi : Span} {test assertion : Exp} {a b : Block} {from then others last rest : List Token} →
+        IsExpression weakest test from (Word_of word.Then at_then ∷ then) → IsBody a then others →
+        IsOptional word.Else b others (Word_of word.Fi at_fi ∷ last) → IsExpression weakest assertion last rest →
+        IsStatement (If test a b assertion) (Word_of word.If at_if ∷ from) rest
+    repetition : {at_from at_until : Span} {assertion test : Exp} {a b : Block} {from first second last rest : List Token} →
+        IsExpression weakest assertion from first → IsOptional word.Do a first second →
+        IsOptional word.Loop b second (Word_of word.Until at_until ∷ last) → IsExpression weakest test last rest →
+        IsStatement (Loop assertion a b test) (Word_of word.From at_from ∷ from) rest
+
+  -- none or more
+  pub data AreStatements : Block → List Token → List Token → Type 0 where
+    none : {rest : List Token} → AreStatements Empty rest rest
+    more : {s : Stm} {b : Block} {from behind rest : List Token} → IsStatement s from behind → AreStatements b behind rest → AreStatements (More s b) from rest
+
+  -- one or more
+  pub data IsBody : Block → List Token → List Token → Type 0 where
+    body : {s : Stm} {b : Block} {from behind rest : List Token} → IsStatement s from behind → AreStatements b behind rest → IsBody (More s b) from rest
+
+  -- a word and its body; where it is left out, the body is one `skip`
+  pub data IsOptional : Word → Block → List Token → List Token → Type 0 where
+    there : {w : Word} {at : Span} {b : Block} {from rest : List Token} → IsBody b from rest → IsOptional w b (Word_of w at ∷ from) rest
+    left_out : {w : Word} {rest : List Token} → IsOptional w skip_block rest rest
+
+-- ---- cells
+
+-- a declaration
+pub data IsDeclaration : Declaration → List Token → List Token → Type 0 where
+  number : {at_int at : Span} {x : List ℕ} {rest : List Token} → IsDeclaration (Int (named x at)) (Word_of word.Int at_int ∷ Name x at ∷ rest) rest
+  array : {at_int at opening place closing : Span} {x : List ℕ} {n : ℕ} {rest : List Token} →
+      IsDeclaration (Array (named x at) n place) (Word_of word.Int at_int ∷ Name x at ∷ Sign_of sign.OpenIndex opening ∷ Number n place ∷ Sign_of sign.CloseIndex closing ∷ rest) rest
+
+-- none or more
+pub data AreDeclarations : List Declaration → List Token → List Token → Type 0 where
+  none : {rest : List Token} → AreDeclarations [] rest rest
+  more : {d : Declaration} {ds : List Declaration} {from behind rest : List Token} → IsDeclaration d from behind → AreDeclarations ds behind rest → AreDeclarations (d ∷ ds) from rest
+
+-- declarations, and then statements
+pub data IsCell : Cell → List Token → List Token → Type 0 where
+  cell : {ds : List Declaration} {b : Block} {from middle rest : List Token} → AreDeclarations ds from middle → AreStatements b middle rest → IsCell (cell_of ds b) from rest
