@@ -2,9 +2,9 @@
 use Rattle.std.proofs.Common.{◌≡◌, ℕ, zero, suc, List, [], ◌∷◌, refl}
 use Rattle.std.specs.Prelude.{ℤ, pos, negsuc}
 use Rattle.std.specs.Int.{int_wrap}
-use Rattle.janus_meaning.specs.Fault.{Fault, Fine, Bad, FiAssertion, EntryAssertion, LoopAssertion, DelocalMismatch, PopNotZero, PopEmpty, TopEmpty, DivisionByZero, IndexRange, StackFull, TooManyStacks}
+use Rattle.janus_meaning.specs.Fault.{Fault, Fine, Bad, FiAssertion, EntryAssertion, LoopAssertion, DelocalMismatch, PopNotZero, PopEmpty, TopEmpty, DivisionByZero, IndexRange, StackFull, TooManyStacks, Broken}
 use Rattle.janus_meaning.specs.Word.{Plus, Flip, Add', Sub', Div', Rem', And', Or', More', AtMost', AtLeast', Same', Differ', wrap, changed}
-use Rattle.janus_meaning.specs.Syntax.{Name, Exp, Number, Var, Top, Negate, Binary, And, Or, Stm, Blk, Nil, Cons, Skip, Set, SetAt, Push, Pop, If, From, LocalInt, LocalStack, Proc, inverse_block}
+use Rattle.janus_meaning.specs.Syntax.{Name, Exp, Number, Var, Top, Negate, Binary, And, Or, Stm, Blk, Nil, Cons, Skip, Set, SetAt, Push, Pop, If, From, LocalInt, LocalStack, Call, Proc, ANumber, inverse_block}
 use Rattle.janus_meaning.specs.Store.{Store, Bare, Slot, Num, Arr, Stk}
 use Rattle.janus_meaning.specs.Limit.{frame_limit}
 use Rattle.janus_meaning.specs.Value.{value}
@@ -262,3 +262,37 @@ down (suc k) = pos k ∷ down k
 loop_fills : Ends [] fills (Slot n (Num (pos 0)) (xs_is (pos 0) [])) 767 (Slot n (Num (pos 64)) (xs_is (pos 0) (down 64)))
 unfolding value wrap changed int_wrap stack_has_room
 loop_fills = refl
+
+-- ---- ill-formed trees, run: each breaks at the step that doesn't find what it names
+
+-- x += n, with no name n
+unknown_name_breaks : Stops [] (one (Set x Plus (Var n))) (x_is (pos 0)) 1 Broken
+unfolding value wrap changed int_wrap
+unknown_name_breaks = (_, _, refl, refl)
+
+-- y += 1, with y a stack
+wrong_kind_breaks : Stops [] (one (Set y Plus (num 1))) (xs_is (pos 0) []) 1 Broken
+unfolding value wrap changed int_wrap
+wrong_kind_breaks = (_, _, refl, refl)
+
+-- x += x: the name is lent while its right side is read
+self_use_breaks : Stops [] (one (Set x Plus (Var x))) (x_is (pos 0)) 1 Broken
+unfolding value wrap changed int_wrap
+self_use_breaks = (_, _, refl, refl)
+
+-- local int n = n skip delocal int n = 5
+self_use_of_local_breaks : Stops [] (one (LocalInt n (Var n) (one Skip) (num 5))) (x_is (pos 0)) 1 Broken
+unfolding value wrap changed int_wrap
+self_use_of_local_breaks = (_, _, refl, refl)
+
+-- call f(x), with no procedure f
+no_procedure_breaks : Stops [] (one (Call f (x ∷ []))) (x_is (pos 0)) 1 Broken
+no_procedure_breaks = (_, _, refl, refl)
+
+-- call f(x, x): the second argument is lent already
+same_argument_breaks : Stops (record { name = f; params = (y, ANumber) ∷ (n, ANumber) ∷ []; body = one Skip } ∷ []) (one (Call f (x ∷ x ∷ []))) (x_is (pos 0)) 1 Broken
+same_argument_breaks = (_, _, refl, refl)
+
+-- call f(), with a parameter
+too_few_arguments_breaks : Stops (record { name = f; params = (y, ANumber) ∷ []; body = one Skip } ∷ []) (one (Call f [])) (x_is (pos 0)) 1 Broken
+too_few_arguments_breaks = (_, _, refl, refl)

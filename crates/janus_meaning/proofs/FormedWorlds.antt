@@ -220,6 +220,7 @@ empty_formed = record { values = tt; names = tt; few_names = omega arith; few_st
 
 pub formed_worlds_last : FormedWorldsLast
 formed_worlds_last = record {
+  good = λ w f. values_good w.store f.values;
   first = empty_formed;
   later = λ c w n v f h. record {
     entered_is = entered_formed c w f h;

@@ -94,7 +94,9 @@ pub record KeepsFormed (c : Cell) (w : World) (n : ℕ) (v : World) : Type 0 whe
   pub ended_is : CellRun c w n v → IsFormedWorld v
   pub taken_back_is : (i : ℕ) (u r : World) → CellRun c w n v → WorldExec v (inverse_block c.block) i u → taken_back c u ≡ Fine r → w ≡ r
 
--- The empty world is well formed, and so are all worlds that well-formed cells lead to.
+-- The empty world is well formed, and so are all worlds that well-formed cells lead to. In each of them numbers fit and stacks
+-- are within their limit, which is the premise of going back.
 pub record FormedWorldsLast : Type 0 where
+  pub good : (w : World) → IsFormedWorld w → IsGoodWorld w
   pub first : IsFormedWorld empty_world
   pub later : (c : Cell) (w : World) (n : ℕ) (v : World) → IsFormedWorld w → IsFormedCell c w → KeepsFormed c w n v
