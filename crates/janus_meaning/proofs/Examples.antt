@@ -2,6 +2,7 @@
 use Rattle.std.proofs.Common.{◌≡◌, ℕ, zero, suc, List, [], ◌∷◌, refl}
 use Rattle.std.specs.Prelude.{ℤ, pos, negsuc}
 use Rattle.std.specs.Int.{int_wrap}
+use Rattle.janus_meaning.specs.Outside.{Outside, outside, inside}
 use Rattle.janus_meaning.specs.Fault.{Fault, Fine, Bad, FiAssertion, EntryAssertion, LoopAssertion, DelocalMismatch, PopNotZero, PopEmpty, TopEmpty, DivisionByZero, IndexRange, StackFull, TooManyStacks, Broken}
 use Rattle.janus_meaning.specs.Word.{Plus, Flip, Add', Sub', Div', Rem', And', Or', More', AtMost', AtLeast', Same', Differ', wrap, changed}
 use Rattle.janus_meaning.specs.Syntax.{Name, Exp, Number, Var, Top, Negate, Binary, And, Or, Stm, Blk, Nil, Cons, Skip, Set, SetAt, Push, Pop, If, From, LocalInt, LocalStack, Call, Proc, ANumber, inverse_block}
@@ -18,21 +19,21 @@ use Rattle.janus_meaning.proofs.Interface.{machine_meaning}
 
 -- n steps lead from the block's beginning to its end
 abbrev pub Ends : List Proc → Blk → Store → ℕ → Store → Type 0
-Ends ps b s n r = steps ps frame_limit (stacks_in s) n (BeforeBlock b []) s ≡ To (AfterBlock b []) r
+Ends ps b s n r = steps (outside ps frame_limit (stacks_in s)) n (BeforeBlock b []) s ≡ To (AfterBlock b []) r
 
 -- after j steps the next one meets the fault
 abbrev pub Stops : List Proc → Blk → Store → ℕ → Fault → Type 0
-Stops ps b s j f = (p : Place) × (r : Store) × (steps ps frame_limit (stacks_in s) j (BeforeBlock b []) s ≡ To p r) × (step ps frame_limit (stacks_in s) p r ≡ Halt f)
+Stops ps b s j f = (p : Place) × (r : Store) × (steps (outside ps frame_limit (stacks_in s)) j (BeforeBlock b []) s ≡ To p r) × (step (outside ps frame_limit (stacks_in s)) p r ≡ Halt f)
 
 -- after j steps the store shown is r
 abbrev pub Shows : List Proc → Blk → Store → ℕ → Store → Type 0
-Shows ps b s j m = (p : Place) × (r : Store) × (steps ps frame_limit (stacks_in s) j (BeforeBlock b []) s ≡ To p r) × (shown ps p r ≡ m)
+Shows ps b s j m = (p : Place) × (r : Store) × (steps (outside ps frame_limit (stacks_in s)) j (BeforeBlock b []) s ≡ To p r) × (shown ps p r ≡ m)
 
-pub ends_exec : (ps : List Proc) (b : Blk) (s r : Store) (n : ℕ) → Ends ps b s n r → Exec ps frame_limit (stacks_in s) (Block b) s n r
-ends_exec ps b s r n e = ((machine_meaning ps frame_limit (stacks_in s) b s).ended n r).0 e
+pub ends_exec : (ps : List Proc) (b : Blk) (s r : Store) (n : ℕ) → Ends ps b s n r → Exec (outside ps frame_limit (stacks_in s)) (Block b) s n r
+ends_exec ps b s r n e = ((machine_meaning (outside ps frame_limit (stacks_in s)) b s).ended n r).0 e
 
-pub stops_stop : (ps : List Proc) (b : Blk) (s : Store) (j : ℕ) (f : Fault) → Stops ps b s j f → Stop ps frame_limit (stacks_in s) (Block b) s j f
-stops_stop ps b s j f h = (machine_meaning ps frame_limit (stacks_in s) b s).stopped j f h.0 h.1 h.2 h.3
+pub stops_stop : (ps : List Proc) (b : Blk) (s : Store) (j : ℕ) (f : Fault) → Stops ps b s j f → Stop (outside ps frame_limit (stacks_in s)) (Block b) s j f
+stops_stop ps b s j f h = (machine_meaning (outside ps frame_limit (stacks_in s)) b s).stopped j f h.0 h.1 h.2 h.3
 
 -- ---- abbreviations of the programs
 
@@ -243,11 +244,11 @@ unfolding value wrap changed int_wrap stack_has_room stack_room
 stack_left = (_, _, refl, refl)
 
 -- where 64 stacks live there is no room for another, where 63 live there is
-too_many_stacks : (p : Place) × (r : Store) × (steps [] frame_limit 64 1 (BeforeBlock (one (LocalStack n (one Skip))) []) Bare ≡ To p r) × (step [] frame_limit 64 p r ≡ Halt TooManyStacks)
+too_many_stacks : (p : Place) × (r : Store) × (steps (outside [] frame_limit 64) 1 (BeforeBlock (one (LocalStack n (one Skip))) []) Bare ≡ To p r) × (step (outside [] frame_limit 64) p r ≡ Halt TooManyStacks)
 unfolding value wrap changed int_wrap stack_room
 too_many_stacks = (_, _, refl, refl)
 
-last_stack : steps [] frame_limit 63 7 (BeforeBlock (one (LocalStack n (one Skip))) []) Bare ≡ To (AfterBlock (one (LocalStack n (one Skip))) []) Bare
+last_stack : steps (outside [] frame_limit 63) 7 (BeforeBlock (one (LocalStack n (one Skip))) []) Bare ≡ To (AfterBlock (one (LocalStack n (one Skip))) []) Bare
 unfolding value wrap changed int_wrap stack_room
 last_stack = refl
 

@@ -9,7 +9,7 @@ use Rattle.janus_meaning.specs.Shape.{pick_newest, AreDistinct, different, Shape
 use Rattle.janus_meaning.specs.Formed.{IsStm, IsBlk, IsProc, AreProcs, IsReal}
 use Rattle.janus_meaning.specs.Meaning.{Block}
 use Rattle.janus_meaning.specs.World.{World, Cell, Declaration, DeclareInt, DeclareArray, DeclareStack, declared_name, declare_one, declare, define, entered, taken_back, stacks_in, size_of}
-use Rattle.janus_meaning.specs.Cells.{WorldExec, CellRun, world_after}
+use Rattle.janus_meaning.specs.Cells.{around, WorldExec, CellRun, world_after}
 use Rattle.janus_meaning.specs.FormedWorld.{IsArrayLength, IsValue, HaveValues, IsFormedWorld, declared_kind, with_declared, HasRoom, AreNew, with_heads, IsDefinable, AreDefinable, IsFormedCell}
 use Rattle.janus_meaning.specs.WorldLaw.{FormedCellIsSafe, FormedWorldsLast}
 use Rattle.janus_meaning.proofs.Results.{fine_inj}
@@ -237,6 +237,6 @@ formed_cell_is_safe c w j f formed h stop =
     let block : IsBlk (heads_of (entered c w).procedures) (shape_of (entered c w).store) c.block =
     subst (λ g. IsBlk (heads_of (entered c w).procedures) g c.block) (sym shape) (subst (λ hs. IsBlk hs (with_declared (shape_of w.store) c.declarations) c.block) (sym heads) h.block) in
     ⊎_elim
-    (λ h. well_formed_is_safe (entered c w).procedures frame_limit (stacks_in (entered c w).store) j (Block c.block) (entered c w).store f here.procedures block h.1)
+    (λ h. well_formed_is_safe (around (entered c w)) j (Block c.block) (entered c w).store f here.procedures block h.1)
     (λ h. subst IsReal (sym h.1) tt)
     stop

@@ -1,5 +1,6 @@
 -- What a block shows on the way is good.
 use Rattle.std.proofs.Common.{◌≡◌, ℕ, suc, List, [], ◌∷◌, inl, refl, subst}
+use Rattle.janus_meaning.specs.Outside.{Outside, outside, inside}
 use Rattle.janus_meaning.specs.Fault.{Res, Fine, Bad, or_else, and_then}
 use Rattle.janus_meaning.specs.Syntax.{Name, Blk, Nil, Cons, Proc, names_of, rejoin}
 use Rattle.janus_meaning.specs.Store.{Val, Store, look, find, values, fill, IsGood}
@@ -51,12 +52,12 @@ shown_good ps d k (AfterBlock b fs) s o g = through_good ps d k b fs s o.1 g
 shown_good ps d k (BeforeOne c before after fs) s o g = through_good ps d k (rejoin before (Cons c after)) fs s o.1 g
 shown_good ps d k (AfterOne c before after fs) s o g = through_good ps d k (rejoin before (Cons c after)) fs s o.1 g
 
-block_good : (ps : List Proc) (d k n : ℕ) (b : Blk) (s m : Store) → IsGood s → Part ps d k (Block b) s n m → IsGood m
+block_good : (ps : List Proc) (d k n : ℕ) (b : Blk) (s m : Store) → IsGood s → Part (outside ps d k) (Block b) s n m → IsGood m
 block_good ps d k n b s m g w =
     let q = stands ps d k b s m n w in
     let sound = (back_at ps d k b s q.1 q.0 n g q.2).0 in
     subst IsGood q.3 (shown_good ps d k q.0 q.1 sound.at sound.good)
 
 pub keeps_good : KeepsGood
-keeps_good ps d k n (Block b) s m g w = block_good ps d k n b s m g w
-keeps_good ps d k n (One c) s m g w = block_good ps (suc d) k (suc n) (Cons c Nil) s m g (inl (part_in_block ps d k n c s m w))
+keeps_good out n (Block b) s m g w = block_good out.procedures out.frames out.stacks n b s m g w
+keeps_good out n (One c) s m g w = block_good out.procedures (suc out.frames) out.stacks (suc n) (Cons c Nil) s m g (inl (part_in_block out.procedures out.frames out.stacks n c s m w))

@@ -2,6 +2,7 @@
 use Rattle.std.proofs.Common.{◌≡◌, ℕ, zero, suc, List, [], ◌∷◌, length, Bool, true, false, refl, ap, ◌∙◌, sym}
 use Rattle.std.specs.Prelude.{ℤ, pos, negsuc}
 use Rattle.std.specs.Ordering.{int_eq}
+use Rattle.janus_meaning.specs.Outside.{Outside, outside, inside}
 use Rattle.janus_meaning.specs.Fault.{Res, Fine, Bad, guard, and_then, Broken, DelocalMismatch}
 use Rattle.janus_meaning.specs.Word.{Update, changed}
 use Rattle.janus_meaning.specs.Syntax.{Name, Exp, Stm, Blk, Skip, Set, SetAt, Push, Pop, If, From, LocalInt, LocalStack, Call, Uncall, Proc, names_of}
@@ -106,7 +107,7 @@ Keeps ps s (Into b h r) = cleared_res (outer ps h r) ≡ Fine (cleared s)
 done_keeps : (ps : List Proc) (s : Store) (r : Res Store) (m : Move) → done r ≡ Fine m → ((a : Store) → r ≡ Fine a → cleared a ≡ cleared s) → Keeps ps s m
 done_keeps ps s r m h k = with_parts r (λ s. Fine (Over s)) m h (λ a e e2. by_fine (Keeps ps s) (Over a) m e2 (k a e))
 
-pub begin_keeps : (ps : List Proc) (d k : ℕ) (c : Stm) (s : Store) (m : Move) → begin ps d k c s ≡ Fine m → Keeps ps s m
+pub begin_keeps : (ps : List Proc) (d k : ℕ) (c : Stm) (s : Store) (m : Move) → begin (outside ps d k) c s ≡ Fine m → Keeps ps s m
 begin_keeps ps d k Skip s m h = by_fine (Keeps ps s) (Over s) m h refl
 begin_keeps ps d k (Set x o e) s m h = done_keeps ps s _ m h (λ r. assign_keeps x o e s r)
 begin_keeps ps d k (SetAt a i o e) s m h = done_keeps ps s _ m h (λ r. assign_at_keeps a i o e s r)
@@ -185,12 +186,12 @@ EndsLike ps (Whole t) s r = cleared r ≡ cleared s
 EndsLike ps (Rest b) s r = cleared r ≡ cleared s
 EndsLike ps (Inside h b) s r = cleared_res (outer ps h s) ≡ Fine (cleared r)
 
-pub run_keeps : (ps : List Proc) {d k n : ℕ} {t : Stretch} {s r : Store} → Run ps d k t s n (Done r) → EndsLike ps t s r
+pub run_keeps : (ps : List Proc) {d k n : ℕ} {t : Stretch} {s r : Store} → Run (outside ps d k) t s n (Done r) → EndsLike ps t s r
 run_keeps ps (block_run h w) = run_keeps ps w
 run_keeps ps rest_none = refl
 run_keeps ps (rest_next v w) = run_keeps ps w ∙ run_keeps ps v
-run_keeps ps (one_over {d = d} {k = k} {c = c} {s = s} {m = m} h) = begin_keeps ps d k c s (Over m) h
-run_keeps ps {s = s} {r = r} (one_into {d = d} {k = k} {c = c} {m = m} {b = b} {h = i} h w) =
+run_keeps ps {d = d} {k = k} (one_over {c = c} {s = s} {m = m} h) = begin_keeps ps d k c s (Over m) h
+run_keeps ps {d = d} {k = k} {s = s} {r = r} (one_into {c = c} {m = m} {b = b} {h = i} h w) =
     fine_inj (cleared r) (cleared s) (sym (run_keeps ps w) ∙ begin_keeps ps d k c s (Into b i m) h)
 run_keeps ps {s = s} (in_over {h = i} {b = b} {m = m} {r = r} w h) =
     sym (outer_like ps i m s (run_keeps ps w)) ∙ leave_keeps ps i b m (Over r) h
@@ -198,4 +199,4 @@ run_keeps ps {s = s} (in_again {h = i} {i = j} {b = b} {c = c} {m = m} {r = r} v
     sym (outer_like ps i m s (run_keeps ps v)) ∙ sym (leave_keeps ps i b m (Into c j r) h) ∙ run_keeps ps w
 
 pub keeps_shape : KeepsShape
-keeps_shape ps d k n t s r w = run_keeps ps w
+keeps_shape out n t s r w = run_keeps out.procedures w

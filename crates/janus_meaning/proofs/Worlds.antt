@@ -2,13 +2,14 @@
 use Rattle.std.proofs.Common.{◌≡◌, ℕ, zero, suc, ◌+◌, ◌-◌, ◌<◌, ◌≤◌, List, [], ◌∷◌, ◌⊎◌, inl, inr, refl, ap, ◌∙◌, sym, subst, arith, ⊎_elim}
 use Rattle.std.proofs.lemmas.Bool.{cases_lt}
 use Rattle.std.specs.Prelude.{pos}
+use Rattle.janus_meaning.specs.Outside.{Outside, outside, inside}
 use Rattle.janus_meaning.specs.Fault.{Fault, Fine, StepLimit, Broken, DelocalMismatch, and_then, guard}
 use Rattle.janus_meaning.specs.Syntax.{Blk, Proc, inverse_block}
 use Rattle.janus_meaning.specs.Store.{Num, Arr, Store, zeros, AllFit, IsGood, cleared}
 use Rattle.janus_meaning.specs.Meaning.{Block, Exec, Part, Stop, block_start}
 use Rattle.janus_meaning.specs.World.{World, Cell, Declaration, DeclareInt, DeclareArray, DeclareStack, declare_one, declare, define, entered, must_be_zeros, must_be_first, retire_one, retire, without_newest, undefine, taken_back, stacks_in, size_of, dropped, oldest}
 use Rattle.janus_meaning.specs.Limit.{frame_limit, step_limit}
-use Rattle.janus_meaning.specs.Cells.{WorldExec, WorldPart, WorldStop, IsUnended, store_at, store_after, world_after, IsGoodWorld}
+use Rattle.janus_meaning.specs.Cells.{around, WorldExec, WorldPart, WorldStop, IsUnended, store_at, store_after, world_after, IsGoodWorld}
 use Rattle.janus_meaning.specs.WorldLaw.{WorldsAreFunctions, WorldsBeginAndEnd, WorldsReverse, CellIsTakenBack, WorldsAreDetermined, WorldsStartAndEnd, EnteredIsGood, WorldHasEnded, WorldHasStopped, WorldIsUnderWay, WorldExactlyOne, WorldTrichotomy}
 use Rattle.janus_meaning.specs.Law.{HasEnded, HasStopped, IsUnderWay}
 use Rattle.janus_meaning.proofs.Changes.{int_eq_self, zero_fits}
@@ -30,7 +31,7 @@ module _ (w : World) (b : Blk) where
   world_is v s e f = ap (λ s. record { store = s; procedures = v.procedures }) e ∙ ap (λ q. record { store = s; procedures = q }) f
 
   pub exec_shape : (n : ℕ) (v : World) → WorldExec w b n v → cleared v.store ≡ cleared w.store
-  exec_shape n v e = keeps_shape w.procedures frame_limit (stacks_in w.store) n (Block b) w.store v.store e.ran
+  exec_shape n v e = keeps_shape (around w) n (Block b) w.store v.store e.ran
 
   part_is : (j : ℕ) (v : World) → WorldPart w b j v → v ≡ world_after w b j
   unfolding world_after store_after
@@ -61,7 +62,7 @@ module _ (w : World) (b : Blk) where
       let bad : AtWork ≡ AtEnd = sym c ∙ a in cc)
       h
 
-  stop_then_limit : (n i : ℕ) (f g : Fault) → (n < step_limit) × Stop w.procedures frame_limit (stacks_in w.store) (Block b) w.store n f → (i ≡ step_limit) × (g ≡ StepLimit) × IsUnended w b i → ⊥
+  stop_then_limit : (n i : ℕ) (f g : Fault) → (n < step_limit) × Stop (around w) (Block b) w.store n f → (i ≡ step_limit) × (g ≡ StepLimit) × IsUnended w b i → ⊥
   stop_then_limit n i f g h u =
       let lt : n < i = let z = u.0 in let y = h.0 in omega arith in
       let d = at_halt w.procedures frame_limit (stacks_in w.store) b w.store n i f lt h.1 in
@@ -118,7 +119,7 @@ module _ (w : World) (b : Blk) where
         let both = block_reversal w.procedures frame_limit (stacks_in w.store) n 0 b w.store v.store w.store g e.ran (inl block_start) in
         record {
           limit = e.limit;
-          ran = subst (λ k. Exec v.procedures frame_limit k (Block (inverse_block b)) v.store n w.store) (sym same) (subst (λ ps. Exec ps frame_limit (stacks_in w.store) (Block (inverse_block b)) v.store n w.store) (sym e.procedures) both.0);
+          ran = subst (λ k. Exec (outside v.procedures frame_limit k) (Block (inverse_block b)) v.store n w.store) (sym same) (subst (λ ps. Exec (outside ps frame_limit (stacks_in w.store)) (Block (inverse_block b)) v.store n w.store) (sym e.procedures) both.0);
           procedures = sym e.procedures;
         }
 
@@ -128,7 +129,7 @@ module _ (w : World) (b : Blk) where
         record {
           limit = let z = e.limit in omega arith;
           store = p.store;
-          part = subst (λ k. Part v.procedures frame_limit k (Block (inverse_block b)) v.store (n - j) p.store) (sym same) (subst (λ ps. Part ps frame_limit (stacks_in w.store) (Block (inverse_block b)) v.store (n - j) p.store) (sym e.procedures) both.1);
+          part = subst (λ k. Part (outside v.procedures frame_limit k) (Block (inverse_block b)) v.store (n - j) p.store) (sym same) (subst (λ ps. Part (outside ps frame_limit (stacks_in w.store)) (Block (inverse_block b)) v.store (n - j) p.store) (sym e.procedures) both.1);
           shown = p.shown ∙ ap (λ q. record { store = oldest (size_of w.store) p.store; procedures = q }) (sym e.procedures) ∙ ap (λ m. record { store = oldest m p.store; procedures = v.procedures }) (sym (same_size v.store w.store (exec_shape n v e)));
         }
 
@@ -145,7 +146,7 @@ worlds_reverse w b n v g e =
       back = back;
       through = turned_part w b n v g e;
       safe = λ j f h. (functions v (inverse_block b)).no_stop_and_end j n f w h back;
-      good = keeps_good w.procedures frame_limit (stacks_in w.store) n (Block b) w.store v.store g (inr e.ran);
+      good = keeps_good (around w) n (Block b) w.store v.store g (inr e.ran);
     }
 
 -- ---- declarations and definitions
@@ -198,20 +199,20 @@ cell_is_taken_back c w n v g e = (turned_exec (entered c w) c.block n v (entered
 
 module _ (w : World) (b : Blk) where
   -- past the limit there is nothing but the limit
-  under_way_at_limit : (m : ℕ) → step_limit < m → IsUnderWay w.procedures frame_limit (stacks_in w.store) (Block b) w.store step_limit → WorldHasStopped w b m
+  under_way_at_limit : (m : ℕ) → step_limit < m → IsUnderWay (around w) (Block b) w.store step_limit → WorldHasStopped w b m
   under_way_at_limit m lt u =
       ⊎_elim
       (λ g. (step_limit, StepLimit, lt, inr (refl, refl, (u.0, g))))
       (λ e. absurd (u.2 u.0 e))
       u.1
 
-  part_of_run : (m : ℕ) (r : Store) → m ≤ step_limit → Part w.procedures frame_limit (stacks_in w.store) (Block b) w.store m r → WorldPart w b m (record w { store = oldest (size_of w.store) r })
+  part_of_run : (m : ℕ) (r : Store) → m ≤ step_limit → Part (around w) (Block b) w.store m r → WorldPart w b m (record w { store = oldest (size_of w.store) r })
   part_of_run m r le p = record { limit = le; store = r; part = p; shown = refl }
 
-  exec_of_run : (n : ℕ) (r : Store) → n ≤ step_limit → Exec w.procedures frame_limit (stacks_in w.store) (Block b) w.store n r → WorldExec w b n (record w { store = r })
+  exec_of_run : (n : ℕ) (r : Store) → n ≤ step_limit → Exec (around w) (Block b) w.store n r → WorldExec w b n (record w { store = r })
   exec_of_run n r le e = record { limit = le; ran = e; procedures = refl }
 
-  some_within : (m : ℕ) → m ≤ step_limit → HasEnded w.procedures frame_limit (stacks_in w.store) (Block b) w.store m ⊎ (HasStopped w.procedures frame_limit (stacks_in w.store) (Block b) w.store m ⊎ IsUnderWay w.procedures frame_limit (stacks_in w.store) (Block b) w.store m) → WorldHasEnded w b m ⊎ (WorldHasStopped w b m ⊎ WorldIsUnderWay w b m)
+  some_within : (m : ℕ) → m ≤ step_limit → HasEnded (around w) (Block b) w.store m ⊎ (HasStopped (around w) (Block b) w.store m ⊎ IsUnderWay (around w) (Block b) w.store m) → WorldHasEnded w b m ⊎ (WorldHasStopped w b m ⊎ WorldIsUnderWay w b m)
   some_within m le x =
       ⊎_elim
       (λ e. inl (e.0, record w { store = e.1 }, e.2, exec_of_run e.0 e.1 (let z = e.2 in omega arith) e.3))
@@ -221,7 +222,7 @@ module _ (w : World) (b : Blk) where
       y))
       x
 
-  some_past : (m : ℕ) → step_limit < m → HasEnded w.procedures frame_limit (stacks_in w.store) (Block b) w.store step_limit ⊎ (HasStopped w.procedures frame_limit (stacks_in w.store) (Block b) w.store step_limit ⊎ IsUnderWay w.procedures frame_limit (stacks_in w.store) (Block b) w.store step_limit) → WorldHasEnded w b m ⊎ (WorldHasStopped w b m ⊎ WorldIsUnderWay w b m)
+  some_past : (m : ℕ) → step_limit < m → HasEnded (around w) (Block b) w.store step_limit ⊎ (HasStopped (around w) (Block b) w.store step_limit ⊎ IsUnderWay (around w) (Block b) w.store step_limit) → WorldHasEnded w b m ⊎ (WorldHasStopped w b m ⊎ WorldIsUnderWay w b m)
   some_past m lt x =
       ⊎_elim
       (λ e. inl (e.0, record w { store = e.1 }, (let z = e.2 in omega arith), exec_of_run e.0 e.1 e.2 e.3))

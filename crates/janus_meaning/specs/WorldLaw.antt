@@ -5,6 +5,7 @@ use Rattle.janus_meaning.specs.Syntax.{Blk, Proc, inverse_block}
 use Rattle.janus_meaning.specs.Store.{Store, cleared, IsGood}
 use Rattle.janus_meaning.specs.Formed.{IsReal}
 use Rattle.janus_meaning.specs.FormedWorld.{IsFormedWorld, IsFormedCell}
+use Rattle.janus_meaning.specs.Outside.{Outside}
 use Rattle.janus_meaning.specs.Meaning.{Piece, Exec, Part}
 use Rattle.janus_meaning.specs.World.{World, Cell, empty_world, entered, taken_back}
 use Rattle.janus_meaning.specs.Cells.{WorldExec, WorldPart, WorldStop, CellRun, world_after, IsGoodWorld}
@@ -12,12 +13,12 @@ use Rattle.janus_meaning.specs.Cells.{WorldExec, WorldPart, WorldStop, CellRun, 
 -- A block or a statement leaves all but the values of its store: names, their order and kinds, and lengths of arrays.
 abbrev pub KeepsShape : Type 0
 KeepsShape =
-    (ps : List Proc) (d k n : ℕ) (t : Piece) (s r : Store) → Exec ps d k t s n r → cleared r ≡ cleared s
+    (out : Outside) (n : ℕ) (t : Piece) (s r : Store) → Exec out t s n r → cleared r ≡ cleared s
 
 -- At its end and on the way, numbers fit and stacks are within their limit.
 abbrev pub KeepsGood : Type 0
 KeepsGood =
-    (ps : List Proc) (d k n : ℕ) (t : Piece) (s m : Store) → IsGood s → Part ps d k t s n m → IsGood m
+    (out : Outside) (n : ℕ) (t : Piece) (s m : Store) → IsGood s → Part out t s n m → IsGood m
 
 -- The world after some steps is a function of the world before.
 pub record WorldsAreFunctions (w : World) (b : Blk) : Type 0 where
