@@ -68,6 +68,12 @@ module _ (vs : List Variable) (place : Name → Option ℕ) (h : AreIndexed vs p
       let same : s.0 ≡ v = cc in
       record { at = here; named = ap name (sym same) ∙ s.2; seen = look_some x i v e here; alone = only x i e }
 
+  -- a name stands where its place says
+  pub stands_there : (x : Name) (i : ℕ) → place x ≡ Some i → slice_get (names_in (declared_over spec.Bare vs)) i ≡ Some x
+  stands_there x i e =
+      let s = h.stored x i e in
+      ap (λ l. slice_get (map (λ e. e.0) l) i) (listed-declared spec.Bare vs) ∙ slice_get-map (λ e. e.0) (map pair_of vs) i (pair_of s.0) (slice_get-map pair_of vs i s.0 s.1) ∙ ap Some s.2
+
   -- the name at a place has this place
   pub placed : (i : ℕ) (x : Name) → slice_get (names_in (declared_over spec.Bare vs)) i ≡ Some x → place x ≡ Some i
   placed i x e =

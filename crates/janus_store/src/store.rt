@@ -1,6 +1,6 @@
 //! The declared names with their values, in the order of declaration, and where each name stands there.
 
-ghost use Rattle.std.specs.Prelude.{◌≡◌, ℤ, ◌+◌, List, pos, ◌<◌, IsTrue, ◌↔◌, OnOk, OnErr, slice_get, Some, Bool, false, true};
+ghost use Rattle.std.specs.Prelude.{◌≡◌, ℤ, ◌+◌, List, pos, ◌<◌, IsTrue, ◌↔◌, IfSome, OnOk, OnErr, slice_get, Some, None, Bool, false, true};
 ghost use Rattle.std.specs.Bool.{OnFalse};
 ghost use Rattle.janus_meaning.specs.Syntax.{Name};
 ghost use Rattle.janus_meaning.specs.Fault.{Fine, Bad, Broken, IndexRange, and_then};
@@ -91,6 +91,17 @@ impl<L: Ledger> Store<L> {
         ensures absent { OnFalse result (look name.now self.now ≡ Bad Broken) }
     {
         self.places.contains_key(name)
+    }
+
+    /// Where a name stands in the order of declaration, the oldest being 0, if it is declared.
+    pub fn place(&self, name: &str) -> Option<usize>
+        ensures found { IfSome result (λ place. IsNamed self.now place name.now) }
+        ensures absent { result ≡ None → look name.now self.now ≡ Bad Broken }
+    {
+        match self.places.get(name) {
+            Some(place) => Some(*place),
+            None => None,
+        }
     }
 
     /// The value of a name, if it is declared.

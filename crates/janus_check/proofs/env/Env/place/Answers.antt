@@ -1,10 +1,10 @@
-use Rattle.std.proofs.Common.{◌≡◌, IfSome, None, Some, Option, Bool, true, false, slice_get, map, is_some, List, refl, ap, ◌∙◌, sym, subst}
+use Rattle.std.proofs.Common.{◌≡◌, IfSome, None, Some, Option, true, false, slice_get, is_some, refl, ap, ◌∙◌, sym, subst}
 use Rattle.std.specs.Map.{lookup}
 use Rattle.std.specs.Str.{bytes_eq}
 use Rattle.std.specs.Prelude.{string_bytes}
 use Rattle.janus_meaning.specs.Shape.{kind_at}
 use Rattle.janus_check.specs.Names.{kind_found, names_in, shape_in}
-use Rattle.janus_check.proofs.LookupLemmas.{seen, kind_looked_up, place_found}
+use Rattle.janus_check.proofs.LookupLemmas.{kind_looked_up, place_found}
 use Rattle.janus_check.proofs.env.Env.place.Goals as goal
 
 pub returns-clause-found : goal.returns-clause-found
