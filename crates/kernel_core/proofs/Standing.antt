@@ -1,7 +1,7 @@
 -- What the answers on slices and begins share: how runner, tree and open job go on together.
 use Rattle.std.specs.Result.{is_err, IsOk, OnOk, OnErr}
 use Rattle.std.specs.Prelude.{slice_get}
-use Rattle.std.proofs.Common.{inl, inr, ◌≤◌, Some, Result, Ok, Err, false, ◌≡◌, ℕ, ◌+◌, ◌-◌, ◌<◌, Bool, [], ◌∷◌, ◌++◌, length, set, get_or, zero, suc, refl, sym, ap, ◌∙◌, subst, arith}
+use Rattle.std.proofs.Common.{inl, inr, ◌≤◌, Some, Result, Ok, Err, false, ◌≡◌, ℕ, ◌+◌, ◌-◌, ◌<◌, Bool, List, [], ◌∷◌, ◌++◌, length, set, get_or, zero, suc, refl, sym, ap, ◌∙◌, subst, arith}
 use Rattle.std.proofs.lemmas.Bool.{cases_lt}
 use Rattle.std.proofs.lemmas.List.{get_or_at, length-map}
 use Rattle.std.proofs.lemmas.Option.{slice_get_within}
@@ -69,7 +69,7 @@ kept_idle tree job runner at k e = record {
 
 -- they stand in the nodes alone
 pub placed_nodes : (tree other : Tree) → other.cells.nodes ≡ tree.cells.nodes → ArePlacedNodes tree → ArePlacedNodes other
-placed_nodes tree other e h = rw e h
+placed_nodes tree other e h = subst (λ (nodes : List (Node Cell)). ArePlacedNodes (record other { cells = record other.cells { nodes = nodes } })) (sym e) h
 
 placed_none : (tree : Tree) → past_of tree ≡ new_state.past → ArePlacedNodes tree
 placed_none tree e = λ n cell at.
