@@ -1,5 +1,5 @@
 -- The first fault of a list, found from the front.
-use Rattle.std.proofs.Common.{◌≡◌, ℕ, Bool, true, false, List, [], ◌∷◌, ◌++◌, Option, Some, None, refl, ap, ◌∙◌, sym, subst, nat_lt, All, Contains, if◌then◌else◌, arith, ◌+◌, ◌*◌, ◌<◌, ◌≤◌, lit<, ◌⊎◌, inl, inr, ⊎_elim}
+use Rattle.std.proofs.Common.{◌≡◌, ℕ, Bool, true, false, List, [], ◌∷◌, ◌++◌, Option, Some, None, refl, ap, ◌∙◌, sym, subst, All, Contains, if◌then◌else◌, arith, ◌⊎◌, inl, inr, ⊎_elim}
 use Rattle.std.proofs.lemmas.List.Elements.{All-cons, Contains-append_right}
 use Rattle.std.specs.Prelude.{◌==◌}
 use Rattle.janus_check.specs.declared.fault.CheckFault.{CheckFault}

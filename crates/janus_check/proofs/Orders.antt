@@ -1,6 +1,5 @@
 -- Three numbers compared one after the other.
-use Rattle.std.proofs.Common.{◌≡◌, ℕ, true, false, nat_lt, arith, ◌<◌}
-use Rattle.std.specs.Prelude.{◌&&◌, ◌||◌, ◌==◌}
+use Rattle.std.proofs.Common.{◌≡◌, ℕ, true, false, arith}
 use Rattle.std.proofs.lemmas.Bool.Decides.{nat_tests}
 use Rattle.janus_check.specs.Fault.{is_earlier}
 

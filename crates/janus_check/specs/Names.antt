@@ -1,5 +1,5 @@
 -- The names in sight, as a list of names with their kinds, the newest first.
-use Rattle.std.specs.Prelude.{◌≡◌, ℕ, Bool, is_some, List, [], ◌∷◌, Option, Some, None}
+use Rattle.std.specs.Prelude.{◌≡◌, ℕ, Bool, is_some, List, [], ◌∷◌, map, Option, Some, None}
 use Rattle.janus_meaning.specs.Syntax as tree
 use Rattle.janus_meaning.specs.Shape.{Shape, kind_at}
 use Rattle.janus_check.specs.declared.env.Kind.{Kind}
@@ -26,6 +26,10 @@ over g (e ∷ es) = over ((e.0, meant_kind e.1) ∷ g) es
 -- the names of a list, in order of declaration
 abbrev pub shape_in : List (List ℕ × Kind) → Shape
 shape_in names = over [] names
+
+-- the names alone, in order of declaration
+abbrev pub names_in : List (List ℕ × Kind) → List tree.Name
+names_in names = map (λ e. e.0) names
 
 -- none of the names is in sight when it is declared
 abbrev pub AreNewNames : Shape → List (List ℕ × Kind) → Type 0

@@ -1,31 +1,35 @@
 //! What assignments do to a store.
 
-ghost use Rattle.std.specs.Prelude.{◌≡◌, ◌≢◌};
+ghost use Rattle.std.specs.Prelude.{◌≡◌, ◌≢◌, string_bytes};
 ghost use Rattle.janus_meaning.specs.Fault.{Bad, Broken};
 ghost use Rattle.janus_meaning.specs.Store.{cleared};
 ghost use Rattle.janus_meaning.specs.Moves.{assign as assign_of, assign_at as assign_at_of};
 ghost use Rattle.janus_syntax.specs.View.{update_of};
+ghost use Rattle.janus_store.specs.Stores.{names_in};
 ghost use Rattle.janus_invert.specs.Expressions.{exp_of};
+ghost use Rattle.janus_invert.specs.Placed.{IsAt, IsPlaced};
 ghost use Rattle.janus_evaluation.specs.Results.{IsDone, IsCounted};
 
 use crate::expression::value;
 use crate::fault::ValueFault;
 use crate::operator::changed;
-use janus_invert::code::Exp;
+use janus_invert::code::{Exp, Symbol};
 use janus_store::{Store, Writes};
 use janus_syntax::tree::Update;
 use std::sync::ledger::Ledger;
 
-/// An assignment to a variable, whose right side does not name it. A fault leaves the store.
+/// An assignment to a variable, whose right side does not name it. Names stand at their places. A fault leaves the store.
 pub fn assign<L: Ledger>(
-    name: &str,
+    name: &Symbol,
     update: Update,
     exp: &Exp,
     store: &mut Store<L>,
     writes: &mut Writes<L>,
 ) -> Result<(), ValueFault>
-    requires { assign_of name.now (update_of update) (exp_of exp.now) store.old ≢ Bad Broken }
-    ensures done { IsDone (assign_of name.now (update_of update) (exp_of exp.now) store.old) store.old store.new result }
+    requires safe { assign_of (string_bytes name.now.text) (update_of update) (exp_of exp.now) store.old ≢ Bad Broken }
+    requires at { IsAt (names_in store.old) name.now }
+    requires placed { IsPlaced (names_in store.old) exp.now }
+    ensures done { IsDone (assign_of (string_bytes name.now.text) (update_of update) (exp_of exp.now) store.old) store.old store.new result }
     ensures shape { cleared store.new ≡ cleared store.old }
     ensures counted { IsCounted result writes.old writes.new }
 {
@@ -33,25 +37,28 @@ pub fn assign<L: Ledger>(
         Ok(operand) => operand,
         Err(fault) => return Err(fault),
     };
-    let Some(old) = store.get(name) else {
+    let Some(old) = store.get(name.place) else {
         unreachable!()
     };
-    store.set(name, changed(update, old, operand), writes);
+    store.set(name.place, changed(update, old, operand), writes);
     Ok(())
 }
 
-/// An assignment to an element of an array, which neither index nor right side names. Index and range come before the right
+/// An assignment to an element of an array, which neither index nor right side names. Names stand at their places. Index and range come before the right
 /// side. A fault leaves the store.
 pub fn assign_element<L: Ledger>(
-    name: &str,
+    name: &Symbol,
     index: &Exp,
     update: Update,
     exp: &Exp,
     store: &mut Store<L>,
     writes: &mut Writes<L>,
 ) -> Result<(), ValueFault>
-    requires { assign_at_of name.now (exp_of index.now) (update_of update) (exp_of exp.now) store.old ≢ Bad Broken }
-    ensures done { IsDone (assign_at_of name.now (exp_of index.now) (update_of update) (exp_of exp.now) store.old) store.old store.new result }
+    requires safe { assign_at_of (string_bytes name.now.text) (exp_of index.now) (update_of update) (exp_of exp.now) store.old ≢ Bad Broken }
+    requires at { IsAt (names_in store.old) name.now }
+    requires index_placed { IsPlaced (names_in store.old) index.now }
+    requires placed { IsPlaced (names_in store.old) exp.now }
+    ensures done { IsDone (assign_at_of (string_bytes name.now.text) (exp_of index.now) (update_of update) (exp_of exp.now) store.old) store.old store.new result }
     ensures shape { cleared store.new ≡ cleared store.old }
     ensures counted { IsCounted result writes.old writes.new }
 {
@@ -59,13 +66,13 @@ pub fn assign_element<L: Ledger>(
         Ok(index) => index,
         Err(fault) => return Err(fault),
     };
-    let Some(old) = store.element(name, index) else {
+    let Some(old) = store.element(name.place, index) else {
         return Err(ValueFault::IndexRange);
     };
     let operand = match value(exp, store) {
         Ok(operand) => operand,
         Err(fault) => return Err(fault),
     };
-    store.set_element(name, index, changed(update, old, operand), writes);
+    store.set_element(name.place, index, changed(update, old, operand), writes);
     Ok(())
 }

@@ -4,9 +4,11 @@ ghost use Rattle.std.specs.Prelude.{◌≡◌, ◌≢◌, true};
 ghost use Rattle.std.specs.Prelude.{List, ℤ};
 ghost use Rattle.janus_meaning.specs.Fault.{Fine, Bad, Broken};
 ghost use Rattle.janus_meaning.specs.Store.{Arr, look, element as element_of};
-ghost use Rattle.janus_store.specs.Stores.{IsArray};
+ghost use Rattle.janus_meaning.specs.Syntax.{Name};
+ghost use Rattle.janus_store.specs.Stores.{IsArray, IsNamed, names_in};
 ghost use Rattle.janus_meaning.specs.Value.{value as value_of, test as test_of, both};
 ghost use Rattle.janus_invert.specs.Expressions.{exp_of};
+ghost use Rattle.janus_invert.specs.Placed.{IsPlaced};
 ghost use Rattle.janus_evaluation.specs.Results.{result_of, truth_of};
 
 use crate::fault::ValueFault;
@@ -15,9 +17,11 @@ use janus_invert::code::Exp;
 use janus_store::Store;
 use std::sync::ledger::Ledger;
 
-/// Whether an expression is not 0, or its first fault. Its names are declared, each as what its use wants.
+/// Whether an expression is not 0, or its first fault. Its names are declared, each as what its use wants, and stand at
+/// their places.
 pub fn test<L: Ledger>(exp: &Exp, store: &Store<L>) -> Result<bool, ValueFault>
-    requires { test_of (exp_of exp.now) store.now ≢ Bad Broken }
+    requires safe { test_of (exp_of exp.now) store.now ≢ Bad Broken }
+    requires placed { IsPlaced (names_in store.now) exp.now }
     ensures { truth_of result ≡ test_of (exp_of exp.now) store.now }
 {
     match value(exp, store) {
@@ -26,19 +30,21 @@ pub fn test<L: Ledger>(exp: &Exp, store: &Store<L>) -> Result<bool, ValueFault>
     }
 }
 
-/// The number of an expression, or the first fault from left to right. Its names are declared, each as what its use wants.
+/// The number of an expression, or the first fault from left to right. Its names are declared, each as what its use wants, and stand at
+/// their places.
 pub fn value<L: Ledger>(exp: &Exp, store: &Store<L>) -> Result<i32, ValueFault>
-    requires { value_of (exp_of exp.now) store.now ≢ Bad Broken }
+    requires safe { value_of (exp_of exp.now) store.now ≢ Bad Broken }
+    requires placed { IsPlaced (names_in store.now) exp.now }
     ensures { result_of result ≡ value_of (exp_of exp.now) store.now }
 {
     match exp {
         Exp::Number(number) => Ok(number.cast_signed()),
-        Exp::Variable(name) => match store.get(name.as_str()) {
+        Exp::Variable(name) => match store.get(name.place) {
             Some(number) => Ok(number),
             None => unreachable!(),
         },
         Exp::Element(name, index) => match value(index, store) {
-            Ok(index) => element(name.as_str(), index, store),
+            Ok(index) => element(name.place, index, store),
             Err(fault) => Err(fault),
         },
         Exp::Negative(operand) => match value(operand, store) {
@@ -75,12 +81,12 @@ pub fn value<L: Ledger>(exp: &Exp, store: &Store<L>) -> Result<i32, ValueFault>
     }
 }
 
-/// The element of an array at an index; a fault for an index out of its range.
-fn element<L: Ledger>(name: &str, index: i32, store: &Store<L>) -> Result<i32, ValueFault>
-    requires { IsArray (look name.now store.now) }
-    ensures { (l : List ℤ) → look name.now store.now ≡ Fine (Arr l) → result_of result ≡ element_of l index }
+/// The element at an index of the array at a place; a fault for an index out of its range.
+fn element<L: Ledger>(place: usize, index: i32, store: &Store<L>) -> Result<i32, ValueFault>
+    requires { (x : Name) × IsNamed store.now place x × IsArray (look x store.now) }
+    ensures { (x : Name) (l : List ℤ) → IsNamed store.now place x → look x store.now ≡ Fine (Arr l) → result_of result ≡ element_of l index }
 {
-    match store.element(name, index) {
+    match store.element(place, index) {
         Some(number) => Ok(number),
         None => Err(ValueFault::IndexRange),
     }

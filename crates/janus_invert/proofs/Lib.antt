@@ -3,3 +3,5 @@ pub mod Pairs
 pub mod Trees
 pub mod Flattened
 pub mod Reversed
+pub mod Seen
+pub mod Placing

@@ -61,24 +61,24 @@ module _ (t u : ℕ → tree.Stm) (members others : List ℕ) (m : ℕ) (inv : (
   built_turned : (s r : Statement) → BlocksAreBelow members m s → IsInverse members others s r → built u others r ≡ tree.inverse (built t members s)
   built_turned Skip Skip b h = refl
   built_turned (Assign x o e) (Assign y p f) b h =
-      ap (λ z. tree.Set z (update_of p) (exp_of f)) h.0
-      ∙ ap (λ q. tree.Set (string_bytes x) q (exp_of f)) (opposite_sign o p h.1)
-      ∙ ap (tree.Set (string_bytes x) (opposite (update_of o))) h.2
+      ap (λ z. tree.Set z (update_of p) (exp_of f)) h.0.text
+      ∙ ap (λ q. tree.Set (string_bytes x.text) q (exp_of f)) (opposite_sign o p h.1)
+      ∙ ap (tree.Set (string_bytes x.text) (opposite (update_of o))) h.2.tree
   built_turned (AssignElement x i o e) (AssignElement y j p f) b h =
-      ap (λ z. tree.SetAt z (exp_of j) (update_of p) (exp_of f)) h.0
-      ∙ ap (λ z. tree.SetAt (string_bytes x) z (update_of p) (exp_of f)) h.1
-      ∙ ap (λ q. tree.SetAt (string_bytes x) (exp_of i) q (exp_of f)) (opposite_sign o p h.2)
-      ∙ ap (tree.SetAt (string_bytes x) (exp_of i) (opposite (update_of o))) h.3
+      ap (λ z. tree.SetAt z (exp_of j) (update_of p) (exp_of f)) h.0.text
+      ∙ ap (λ z. tree.SetAt (string_bytes x.text) z (update_of p) (exp_of f)) h.1.tree
+      ∙ ap (λ q. tree.SetAt (string_bytes x.text) (exp_of i) q (exp_of f)) (opposite_sign o p h.2)
+      ∙ ap (tree.SetAt (string_bytes x.text) (exp_of i) (opposite (update_of o))) h.3.tree
   built_turned (If a p q c) (If d r s e) b h =
-      ap (λ z. tree.If z (block_at u others r) (block_at u others s) (exp_of e)) h.0
+      ap (λ z. tree.If z (block_at u others r) (block_at u others s) (exp_of e)) h.0.tree
       ∙ ap (λ z. tree.If (exp_of c) z (block_at u others s) (exp_of e)) (block_turned t u members others m p r b.0 h.1 inv)
       ∙ ap (λ z. tree.If (exp_of c) (tree.inverse_block (block_at t members p)) z (exp_of e)) (block_turned t u members others m q s b.1 h.2 inv)
-      ∙ ap (tree.If (exp_of c) (tree.inverse_block (block_at t members p)) (tree.inverse_block (block_at t members q))) h.3
+      ∙ ap (tree.If (exp_of c) (tree.inverse_block (block_at t members p)) (tree.inverse_block (block_at t members q))) h.3.tree
   built_turned (Loop a p q c) (Loop d r s e) b h =
-      ap (λ z. tree.From z (block_at u others r) (block_at u others s) (exp_of e)) h.0
+      ap (λ z. tree.From z (block_at u others r) (block_at u others s) (exp_of e)) h.0.tree
       ∙ ap (λ z. tree.From (exp_of c) z (block_at u others s) (exp_of e)) (block_turned t u members others m p r b.0 h.1 inv)
       ∙ ap (λ z. tree.From (exp_of c) (tree.inverse_block (block_at t members p)) z (exp_of e)) (block_turned t u members others m q s b.1 h.2 inv)
-      ∙ ap (tree.From (exp_of c) (tree.inverse_block (block_at t members p)) (tree.inverse_block (block_at t members q))) h.3
+      ∙ ap (tree.From (exp_of c) (tree.inverse_block (block_at t members p)) (tree.inverse_block (block_at t members q))) h.3.tree
   built_turned _ _ b h = absurd h
 
 -- ---- code

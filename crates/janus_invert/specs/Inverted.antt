@@ -1,11 +1,11 @@
 -- Flat code and its inverse: the same numbers, each statement inverted, the members of each block backward.
-use Rattle.std.specs.Prelude.{◌≡◌, ℕ, suc, ◌+◌, ◌-◌, ◌<◌, ◌≤◌, List, length, slice_get, slice_index_or, Some, string_bytes}
+use Rattle.std.specs.Prelude.{◌≡◌, ℕ, suc, ◌+◌, ◌-◌, ◌<◌, ◌≤◌, List, length, slice_get, slice_index_or, Some}
 use Rattle.janus_syntax.specs.declared.tree.Update.{Update}
 use Rattle.janus_syntax.specs.declared.tree.Update.TheVariants as update
 use Rattle.janus_invert.specs.declared.code.Block.{Block}
 use Rattle.janus_invert.specs.declared.code.Statement.{Statement}
 use Rattle.janus_invert.specs.declared.code.Statement.TheVariants.{Skip, Assign, AssignElement, If, Loop}
-use Rattle.janus_invert.specs.Expressions.{exp_of}
+use Rattle.janus_invert.specs.Placed.{IsSame, IsCopy}
 
 -- `+=` and `-=` are each other's opposites, `^=` is its own
 abbrev pub IsOpposite : Update → Update → Type 0
@@ -24,13 +24,13 @@ pub record IsBackward (members others : List ℕ) (b c : Block) : Type 0 where
 -- s and its inverse r
 abbrev pub IsInverse : List ℕ → List ℕ → Statement → Statement → Type 0
 IsInverse members others Skip Skip = Unit {0}
-IsInverse members others (Assign x u e) (Assign y v f) = (string_bytes y ≡ string_bytes x) × IsOpposite u v × (exp_of f ≡ exp_of e)
+IsInverse members others (Assign x u e) (Assign y v f) = IsSame x y × IsOpposite u v × IsCopy e f
 IsInverse members others (AssignElement x i u e) (AssignElement y j v f) =
-    (string_bytes y ≡ string_bytes x) × (exp_of j ≡ exp_of i) × IsOpposite u v × (exp_of f ≡ exp_of e)
+    IsSame x y × IsCopy i j × IsOpposite u v × IsCopy e f
 IsInverse members others (If a p q b) (If c r s d) =
-    (exp_of c ≡ exp_of b) × IsBackward members others p r × IsBackward members others q s × (exp_of d ≡ exp_of a)
+    IsCopy b c × IsBackward members others p r × IsBackward members others q s × IsCopy a d
 IsInverse members others (Loop a p q b) (Loop c r s d) =
-    (exp_of c ≡ exp_of b) × IsBackward members others p r × IsBackward members others q s × (exp_of d ≡ exp_of a)
+    IsCopy b c × IsBackward members others p r × IsBackward members others q s × IsCopy a d
 IsInverse members others _ _ = ⊥
 
 pub record AreInverse (members : List ℕ) (statements : List Statement) (body : Block) (others : List ℕ) (inverses : List Statement) (back : Block) : Type 0 where

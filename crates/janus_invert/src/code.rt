@@ -3,13 +3,36 @@
 ghost use Rattle.janus_invert.specs.Flat.{IsDownward, IsDownward-prop};
 
 use janus_syntax::tree::{Operator, Update};
+use std::alloc::AllocError;
+
+/// A name, and where it stands among the names in sight, the oldest being 0. What runs looks at the place alone.
+#[derive(Drop)]
+pub struct Symbol {
+    pub text: String,
+    pub place: usize,
+}
+
+impl Symbol {
+    ghost use Rattle.std.specs.Prelude.{IfOk};
+    ghost use Rattle.janus_invert.specs.Placed.{IsSame};
+
+    /// The same symbol in memory of its own; an error for want of memory.
+    pub(crate) fn copy(&self) -> Result<Symbol, AllocError>
+        ensures { IfOk result (λ copy. IsSame self.now copy) }
+    {
+        Ok(Symbol {
+            text: self.text.clone()?,
+            place: self.place,
+        })
+    }
+}
 
 /// An expression. The right sides of `And` and `Or` are read only where they are needed.
 #[derive(Drop)]
 pub enum Exp {
     Number(u32),
-    Variable(String),
-    Element(String, Box<Exp>),
+    Variable(Symbol),
+    Element(Symbol, Box<Exp>),
     Negative(Box<Exp>),
     Binary(Operator, Box<Exp>, Box<Exp>),
     And(Box<Exp>, Box<Exp>),
@@ -28,9 +51,9 @@ pub struct Block {
 pub enum Statement {
     Skip,
     /// A variable, and what it is changed by.
-    Assign(String, Update, Exp),
+    Assign(Symbol, Update, Exp),
     /// An array, the index of the element, and what that is changed by.
-    AssignElement(String, Exp, Update, Exp),
+    AssignElement(Symbol, Exp, Update, Exp),
     /// The first test, the parts after `then` and `else`, and the test after `fi`.
     If(Exp, Block, Block, Exp),
     /// The test after `from`, the parts after `do` and `loop`, and the test after `until`.

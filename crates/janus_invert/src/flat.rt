@@ -6,11 +6,17 @@ ghost use Rattle.janus_syntax.specs.View.{stm_of, block_of, plain_cell};
 ghost use Rattle.janus_invert.specs.Flat.{IsBelow, BlocksAreBelow, AreBelow, AreBelow-prop, built, ahead, tree_at, block_at};
 ghost use Rattle.janus_invert.specs.CodeBlock.{code_block};
 ghost use Rattle.janus_invert.specs.Grown.{Grows};
+ghost use Rattle.janus_meaning.specs.Syntax.{Name};
+ghost use Rattle.janus_meaning.specs.Shape.{Heads};
+ghost use Rattle.janus_meaning.specs.Formed.{IsBlk};
+ghost use Rattle.janus_check.specs.Names.{names_in, shape_in};
+ghost use Rattle.janus_invert.specs.Placed.{IsPlacedStatement, ArePlaced};
+ghost use Rattle.janus_invert.specs.Sight.{SeesStm, SeesBlk};
 
 use crate::code::{Block, Code, Statement};
-use crate::expression::flat_exp;
+use crate::expression::{flat_exp, symbol};
 use crate::fault::InvertFault;
-use janus_check::Checked;
+use janus_check::{Checked, Env};
 use janus_syntax::tree::Stm;
 use std::alloc::{AllocError, Global};
 
@@ -22,22 +28,27 @@ struct Draft {
     ghost below: { AreBelow members.items statements.items } by { AreBelow-prop members.items statements.items },
 }
 
-/// The flat code of a checked cell's statements; or want of memory.
-pub fn flatten(alloc: Global, checked: &Checked) -> Result<Code, InvertFault>
-    ensures { IfOk result (λ code. code_block code ≡ (plain_cell (cell_in checked.now)).block) }
+/// The flat code of a checked cell's statements; or want of memory. In the scope stand the names in sight of the statements:
+/// those that the cell was checked over, and behind them the cell's own.
+pub fn flatten(alloc: Global, checked: &Checked, scope: &Env) -> Result<Code, InvertFault>
+    requires { (hs : Heads) × IsBlk hs (shape_in scope.now) (plain_cell (cell_in checked.now)).block }
+    ensures block { IfOk result (λ code. code_block code ≡ (plain_cell (cell_in checked.now)).block) }
+    ensures placed { IfOk result (λ code. ArePlaced (names_in scope.now) code.statements.items) }
 {
-    Ok(flat_code(alloc, &checked.cell().statements)?)
+    Ok(flat_code(alloc, &checked.cell().statements, scope)?)
 }
 
 /// The flat code of a block.
-fn flat_code(alloc: Global, block: &[Stm]) -> Result<Code, AllocError>
-    ensures { IfOk result (λ code. code_block code ≡ block_of block.now) }
+fn flat_code(alloc: Global, block: &[Stm], scope: &Env) -> Result<Code, AllocError>
+    requires { SeesBlk (shape_in scope.now) (block_of block.now) }
+    ensures block { IfOk result (λ code. code_block code ≡ block_of block.now) }
+    ensures placed { IfOk result (λ code. ArePlaced (names_in scope.now) code.statements.items) }
 {
     let mut draft = Draft {
         statements: Vec::new(alloc),
         members: Vec::new(alloc),
     };
-    let body = flat_block(alloc, block, &mut draft)?;
+    let body = flat_block(alloc, block, scope, &mut draft)?;
     Ok(Code {
         statements: draft.statements,
         members: draft.members,
@@ -47,14 +58,21 @@ fn flat_code(alloc: Global, block: &[Stm]) -> Result<Code, AllocError>
 
 /// Adds the statements of a block.
 #[cycle(flat)]
-fn flat_block(alloc: Global, block: &[Stm], draft: &mut Draft) -> Result<Block, AllocError>
+fn flat_block(
+    alloc: Global,
+    block: &[Stm],
+    scope: &Env,
+    draft: &mut Draft,
+) -> Result<Block, AllocError>
+    requires { SeesBlk (shape_in scope.now) (block_of block.now) }
     ensures grows { IfOk result (λ b. Grows draft.old.members.items draft.old.statements.items draft.new.members.items draft.new.statements.items) }
     ensures below { IfOk result (λ b. IsBelow draft.new.members.items (length draft.new.statements.items) b) }
     ensures block { IfOk result (λ b. block_at (tree_at draft.new.members.items draft.new.statements.items) draft.new.members.items b ≡ block_of block.now) }
+    ensures placed { IfOk result (λ b. ArePlaced (names_in scope.now) draft.old.statements.items → ArePlaced (names_in scope.now) draft.new.statements.items) }
 {
     let mut numbers = Vec::new(alloc);
     for i in 0..block.len() {
-        numbers.push(flat_statement(alloc, &block[i], draft)?)?;
+        numbers.push(flat_statement(alloc, &block[i], scope, draft)?)?;
     }
     add_block(draft, &numbers)
 }
@@ -65,6 +83,7 @@ fn add_block(draft: &mut Draft, numbers: &[usize]) -> Result<Block, AllocError>
     ensures grows { IfOk result (λ b. Grows draft.old.members.items draft.old.statements.items draft.new.members.items draft.new.statements.items) }
     ensures below { IfOk result (λ b. IsBelow draft.new.members.items (length draft.new.statements.items) b) }
     ensures block { IfOk result (λ b. block_at (tree_at draft.new.members.items draft.new.statements.items) draft.new.members.items b ≡ ahead (tree_at draft.old.members.items draft.old.statements.items) numbers.now 0 (length numbers.now)) }
+    ensures statements { draft.new.statements.items ≡ draft.old.statements.items }
 {
     let start = draft.members.len();
     draft.members.extend_from_slice(numbers)?;
@@ -76,36 +95,43 @@ fn add_block(draft: &mut Draft, numbers: &[usize]) -> Result<Block, AllocError>
 
 /// Adds a statement, behind those of its blocks, and gives its number.
 #[cycle(flat)]
-fn flat_statement(alloc: Global, statement: &Stm, draft: &mut Draft) -> Result<usize, AllocError>
+fn flat_statement(
+    alloc: Global,
+    statement: &Stm,
+    scope: &Env,
+    draft: &mut Draft,
+) -> Result<usize, AllocError>
+    requires { SeesStm (shape_in scope.now) (stm_of statement.now) }
     ensures grows { IfOk result (λ n. Grows draft.old.members.items draft.old.statements.items draft.new.members.items draft.new.statements.items) }
     ensures below { IfOk result (λ n. n < length draft.new.statements.items) }
     ensures tree { IfOk result (λ n. tree_at draft.new.members.items draft.new.statements.items n ≡ stm_of statement.now) }
+    ensures placed { IfOk result (λ b. ArePlaced (names_in scope.now) draft.old.statements.items → ArePlaced (names_in scope.now) draft.new.statements.items) }
 {
     match statement {
         Stm::Skip => add(draft, Statement::Skip),
         Stm::Assign(name, update, exp) => {
-            let name = name.text.clone()?;
-            let exp = flat_exp(alloc, exp)?;
+            let name = symbol(scope, name)?;
+            let exp = flat_exp(alloc, exp, scope)?;
             add(draft, Statement::Assign(name, *update, exp))
         }
         Stm::AssignElement(name, index, update, exp) => {
-            let name = name.text.clone()?;
-            let index = flat_exp(alloc, index)?;
-            let exp = flat_exp(alloc, exp)?;
+            let name = symbol(scope, name)?;
+            let index = flat_exp(alloc, index, scope)?;
+            let exp = flat_exp(alloc, exp, scope)?;
             add(draft, Statement::AssignElement(name, index, *update, exp))
         }
         Stm::If(test, then_part, else_part, last) => {
-            let test = flat_exp(alloc, test)?;
-            let last = flat_exp(alloc, last)?;
-            let then_part = flat_block(alloc, then_part, draft)?;
-            let else_part = flat_block(alloc, else_part, draft)?;
+            let test = flat_exp(alloc, test, scope)?;
+            let last = flat_exp(alloc, last, scope)?;
+            let then_part = flat_block(alloc, then_part, scope, draft)?;
+            let else_part = flat_block(alloc, else_part, scope, draft)?;
             add(draft, Statement::If(test, then_part, else_part, last))
         }
         Stm::Loop(entry, do_part, loop_part, exit) => {
-            let entry = flat_exp(alloc, entry)?;
-            let exit = flat_exp(alloc, exit)?;
-            let do_part = flat_block(alloc, do_part, draft)?;
-            let loop_part = flat_block(alloc, loop_part, draft)?;
+            let entry = flat_exp(alloc, entry, scope)?;
+            let exit = flat_exp(alloc, exit, scope)?;
+            let do_part = flat_block(alloc, do_part, scope, draft)?;
+            let loop_part = flat_block(alloc, loop_part, scope, draft)?;
             add(draft, Statement::Loop(entry, do_part, loop_part, exit))
         }
     }
@@ -117,6 +143,7 @@ fn add(draft: &mut Draft, statement: Statement) -> Result<usize, AllocError>
     ensures grows { IfOk result (λ n. Grows draft.old.members.items draft.old.statements.items draft.new.members.items draft.new.statements.items) }
     ensures below { IfOk result (λ n. n < length draft.new.statements.items) }
     ensures tree { IfOk result (λ n. tree_at draft.new.members.items draft.new.statements.items n ≡ built (tree_at draft.old.members.items draft.old.statements.items) draft.old.members.items statement) }
+    ensures placed { IfOk result (λ n. (xs : List Name) → ArePlaced xs draft.old.statements.items → IsPlacedStatement xs statement → ArePlaced xs draft.new.statements.items) }
 {
     let number = draft.statements.len();
     draft.statements.push(statement)?;

@@ -1,7 +1,8 @@
 //! The inverse of flat code.
 
-ghost use Rattle.std.specs.Prelude.{◌≡◌, ℕ, ◌<◌, ◌≤◌, length, slice_index_or, IfOk};
-ghost use Rattle.janus_meaning.specs.Syntax.{inverse_block};
+ghost use Rattle.std.specs.Prelude.{◌≡◌, ℕ, List, ◌<◌, ◌≤◌, length, slice_index_or, IfOk};
+ghost use Rattle.janus_meaning.specs.Syntax.{Name, inverse_block};
+ghost use Rattle.janus_invert.specs.Placed.{ArePlaced};
 ghost use Rattle.janus_invert.specs.Flat.{BlocksAreBelow};
 ghost use Rattle.janus_invert.specs.Inverted.{IsInverse, IsBackward, AreInverse};
 ghost use Rattle.janus_invert.specs.CodeBlock.{code_block};
@@ -17,6 +18,8 @@ use std::alloc::{AllocError, Global};
 pub fn invert_code(alloc: Global, code: &Code) -> Result<Code, InvertFault>
     ensures block { IfOk result (λ inverse. code_block inverse ≡ inverse_block (code_block code.now)) }
     ensures parts { IfOk result (λ inverse. AreInverse code.now.members.items code.now.statements.items code.now.body inverse.members.items inverse.statements.items inverse.body) }
+    // The names keep their places.
+    ensures placed { IfOk result (λ inverse. (xs : List Name) → ArePlaced xs code.now.statements.items → ArePlaced xs inverse.statements.items) }
 {
     Ok(inverse_code(alloc, code)?)
 }
@@ -25,6 +28,7 @@ pub fn invert_code(alloc: Global, code: &Code) -> Result<Code, InvertFault>
 fn inverse_code(alloc: Global, code: &Code) -> Result<Code, AllocError>
     ensures block { IfOk result (λ inverse. code_block inverse ≡ inverse_block (code_block code.now)) }
     ensures parts { IfOk result (λ inverse. AreInverse code.now.members.items code.now.statements.items code.now.body inverse.members.items inverse.statements.items inverse.body) }
+    ensures placed { IfOk result (λ inverse. (xs : List Name) → ArePlaced xs code.now.statements.items → ArePlaced xs inverse.statements.items) }
 {
     let mut statements = Vec::new(alloc);
     let mut members = Vec::new(alloc);
@@ -55,11 +59,11 @@ fn inverse_one(
     match statement {
         Statement::Skip => Ok(Statement::Skip),
         Statement::Assign(name, update, exp) => {
-            let name = name.clone()?;
+            let name = name.copy()?;
             Ok(Statement::Assign(name, opposite(*update), copy(alloc, exp)?))
         }
         Statement::AssignElement(name, index, update, exp) => {
-            let name = name.clone()?;
+            let name = name.copy()?;
             let index = copy(alloc, index)?;
             Ok(Statement::AssignElement(name, index, opposite(*update), copy(alloc, exp)?))
         }

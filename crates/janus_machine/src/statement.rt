@@ -4,6 +4,8 @@ ghost use Rattle.std.specs.Prelude.{◌≡◌, ◌≢◌, ℕ};
 ghost use Rattle.janus_meaning.specs.Fault.{Res, Bad, Broken};
 ghost use Rattle.janus_meaning.specs.Store.{Store as Values, cleared};
 ghost use Rattle.janus_evaluation.specs.Results.{IsDone as IsAssigned, IsCounted};
+ghost use Rattle.janus_invert.specs.Placed.{IsPlacedStatement};
+ghost use Rattle.janus_store.specs.Stores.{names_in};
 ghost use Rattle.janus_machine.specs.Faults.{IsDone};
 ghost use Rattle.janus_machine.specs.Statements.{run_of};
 
@@ -13,13 +15,14 @@ use janus_invert::Statement;
 use janus_store::{Store, Writes};
 use std::sync::ledger::Ledger;
 
-/// Runs a statement without blocks, or leaves the store at a fault.
+/// Runs a statement without blocks, whose names stand at their places, or leaves the store at a fault.
 pub(crate) fn run<L: Ledger>(
     statement: &Statement,
     store: &mut Store<L>,
     writes: &mut Writes<L>,
 ) -> Result<(), Fault>
-    requires { run_of statement.now store.old ≢ Bad Broken }
+    requires safe { run_of statement.now store.old ≢ Bad Broken }
+    requires placed { IsPlacedStatement (names_in store.old) statement.now }
     ensures done { IsDone (run_of statement.now store.old) store.old store.new result }
     ensures shape { cleared store.new ≡ cleared store.old }
     ensures counted { IsCounted result writes.old writes.new }
@@ -27,10 +30,10 @@ pub(crate) fn run<L: Ledger>(
     match statement {
         Statement::Skip => Ok(()),
         Statement::Assign(name, update, exp) => {
-            done(assign(name.as_str(), *update, exp, store, writes))
+            done(assign(name, *update, exp, store, writes))
         }
         Statement::AssignElement(name, index, update, exp) => {
-            done(assign_element(name.as_str(), index, *update, exp, store, writes))
+            done(assign_element(name, index, *update, exp, store, writes))
         }
         _ => unreachable!(),
     }

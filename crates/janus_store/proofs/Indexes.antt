@@ -1,9 +1,9 @@
 -- Variables with their places by name, as they are declared, written and retired.
-use Rattle.std.proofs.Common.{◌≡◌, ℕ, zero, suc, ◌<◌, Bool, true, false, List, [], ◌∷◌, ◌++◌, length, set, refl, ap, ◌∙◌, sym, subst, arith, ⊎_elim, ◌⊎◌, inl, inr, cond, map, get_or}
+use Rattle.std.proofs.Common.{◌≡◌, ℕ, zero, suc, ◌<◌, ◌≤◌, Bool, true, false, List, [], ◌∷◌, ◌++◌, length, set, refl, ap, ◌∙◌, sym, subst, arith, ⊎_elim, ◌⊎◌, inl, inr, cond, map, get_or}
 use Rattle.std.specs.Prelude.{slice_get, Option, Some, None, string_bytes}
 use Rattle.std.specs.Str.{bytes_eq}
 use Rattle.std.specs.Map.{update}
-use Rattle.std.proofs.lemmas.Bool.{false_from_ne_true}
+use Rattle.std.proofs.lemmas.Bool.{false_from_ne_true, cases_lt}
 use Rattle.std.proofs.lemmas.Option.{slice_get_past, slice_get_within, slice_get_read}
 use Rattle.std.proofs.lemmas.Slice.Eq.{bytes_eq-Decides}
 use Rattle.janus_meaning.specs.Fault.{Fine, Bad, Broken}
@@ -11,9 +11,21 @@ use Rattle.janus_meaning.specs.Syntax.{Name}
 use Rattle.janus_meaning.specs.Store as spec
 use Rattle.janus_meaning.specs.Store.{Num, look}
 use Rattle.janus_store.specs.Inside.{declared_over, AreIndexed}
+use Rattle.janus_store.specs.Stores.{names_in}
 use Rattle.janus_store.specs.Values.{val_of}
 use Rattle.janus_store.specs.declared.store.Variable.{Variable}
-use Rattle.janus_store.proofs.Variables.{name, HasNone, IsOnly, look_past, look_here}
+use Rattle.janus_store.proofs.Variables.{name, HasNone, IsOnly, look_past, look_here, pair_of, listed-declared}
+use Rattle.std.proofs.lemmas.List.{length-map}
+
+pub slice_get-map : {X Y : Type 0} (f : X → Y) (xs : List X) (i : ℕ) (x : X) → slice_get xs i ≡ Some x → slice_get (map f xs) i ≡ Some (f x)
+slice_get-map f [] i x e = let bad : None ≡ Some x = sym (slice_get_past [] i (omega arith)) ∙ e in cc
+slice_get-map f (y ∷ xs) zero x e = let same : y ≡ x = cc in ap (λ y. Some (f y)) same
+slice_get-map f (y ∷ xs) (suc i) x e = slice_get-map f xs i x e
+
+not_past : {X : Type 0} (xs : List X) (i : ℕ) → i < length xs → slice_get xs i ≡ None → ⊥
+not_past [] i lt h = omega arith
+not_past (x ∷ xs) zero lt h = cc
+not_past (x ∷ xs) (suc i) lt h = not_past xs i (omega arith) h
 
 module _ (vs : List Variable) (place : Name → Option ℕ) (h : AreIndexed vs place) where
   pub only : (x : Name) (i : ℕ) → place x ≡ Some i → IsOnly vs x i
@@ -55,6 +67,32 @@ module _ (vs : List Variable) (place : Name → Option ℕ) (h : AreIndexed vs p
       let one : Some s.0 ≡ Some v = sym s.1 ∙ here in
       let same : s.0 ≡ v = cc in
       record { at = here; named = ap name (sym same) ∙ s.2; seen = look_some x i v e here; alone = only x i e }
+
+  -- a name stands where its place says
+  pub stands_there : (x : Name) (i : ℕ) → place x ≡ Some i → slice_get (names_in (declared_over spec.Bare vs)) i ≡ Some x
+  stands_there x i e =
+      let s = h.stored x i e in
+      ap (λ l. slice_get (map (λ e. e.0) l) i) (listed-declared spec.Bare vs) ∙ slice_get-map (λ e. e.0) (map pair_of vs) i (pair_of s.0) (slice_get-map pair_of vs i s.0 s.1) ∙ ap Some s.2
+
+  -- the name at a place has this place
+  pub placed : (i : ℕ) (x : Name) → slice_get (names_in (declared_over spec.Bare vs)) i ≡ Some x → place x ≡ Some i
+  placed i x e =
+      ⊎_elim
+      (λ (q : i < length vs).
+      by (slice_get vs i) refl q)
+      (λ (q : length vs ≤ i).
+      let past : slice_get (names_in (declared_over spec.Bare vs)) i ≡ None = ap (λ l. slice_get (map (λ e. e.0) l) i) (listed-declared spec.Bare vs) ∙ slice_get_past (map (λ e. e.0) (map pair_of vs)) i (omega (arith, q, length-map vs pair_of, length-map (map pair_of vs) (λ e. e.0))) in
+      let bad : None ≡ Some x = sym past ∙ e in cc)
+      (cases_lt i (length vs))
+    where
+      by : (r : Option Variable) → slice_get vs i ≡ r → i < length vs → place x ≡ Some i
+      by None f q = absurd (not_past vs i q f)
+      by (Some v) f q =
+          let named : slice_get (names_in (declared_over spec.Bare vs)) i ≡ Some (name v) =
+          ap (λ l. slice_get (map (λ e. e.0) l) i) (listed-declared spec.Bare vs) ∙ slice_get-map (λ e. e.0) (map pair_of vs) i (pair_of v) (slice_get-map pair_of vs i v f) in
+          let both : Some (name v) ≡ Some x = sym named ∙ e in
+          let same : name v ≡ x = cc in
+          ap place (sym same) ∙ h.found i v f
 
   -- ---- a variable declared, written, retired
 
@@ -192,8 +230,3 @@ same_places vs place next e h = record {
   found = λ i v f. e (string_bytes v.name) ∙ h.found i v f;
   stored = λ x i f. h.stored x i (sym (e x) ∙ f);
 }
-
-pub slice_get-map : {X Y : Type 0} (f : X → Y) (xs : List X) (i : ℕ) (x : X) → slice_get xs i ≡ Some x → slice_get (map f xs) i ≡ Some (f x)
-slice_get-map f [] i x e = let bad : None ≡ Some x = sym (slice_get_past [] i (omega arith)) ∙ e in cc
-slice_get-map f (y ∷ xs) zero x e = let same : y ≡ x = cc in ap (λ y. Some (f y)) same
-slice_get-map f (y ∷ xs) (suc i) x e = slice_get-map f xs i x e

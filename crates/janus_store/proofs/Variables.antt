@@ -2,7 +2,7 @@
 use Rattle.std.proofs.Common.{◌≡◌, ℕ, zero, suc, ◌+◌, true, false, List, [], ◌∷◌, ◌++◌, length, set, refl, ap, ◌∙◌, sym, subst, arith, append_assoc, map}
 use Rattle.std.specs.Prelude.{slice_get, Some, string_bytes}
 use Rattle.std.proofs.lemmas.Bool.{false_from_ne_true}
-use Rattle.std.proofs.lemmas.List.{append-nil}
+use Rattle.std.proofs.lemmas.List.{append-nil, map-append}
 use Rattle.janus_meaning.specs.Fault.{Fine, and_then}
 use Rattle.janus_meaning.specs.Syntax.{Name}
 use Rattle.janus_meaning.specs.Store as spec
@@ -10,7 +10,7 @@ use Rattle.janus_meaning.specs.Store.{Val, Num, Arr, Lent, cleared_val, read_slo
 use Rattle.janus_meaning.specs.World.{size_of, listed}
 use Rattle.janus_meaning.proofs.Stores.{same_name_self, same_name_true}
 use Rattle.janus_meaning.proofs.Results.{with_parts}
-use Rattle.janus_store.specs.Stores.{write}
+use Rattle.janus_store.specs.Stores.{names_in, write}
 use Rattle.janus_store.specs.Values.{val_of}
 use Rattle.janus_store.specs.declared.value.Value.{Value}
 use Rattle.janus_store.specs.declared.value.Value.TheVariants as values
@@ -133,3 +133,12 @@ cleared-written s (w ∷ vs) zero v u e k =
     cleared-declared (spec.Slot (name v) (val_of u) s) (spec.Slot (name w) (val_of w.value) s) vs
     (ap (λ c. spec.Slot (name v) c (cleared s)) k ∙ ap (λ (w : Variable). spec.Slot (name w) (cleared_val (val_of w.value)) (cleared s)) (sym same))
 cleared-written s (w ∷ vs) (suc i) v u e k = cleared-written (spec.Slot (name w) (val_of w.value) s) vs i v u e k
+
+names_cleared : (s : spec.Store) → names_in (cleared s) ≡ names_in s
+names_cleared spec.Bare = refl
+names_cleared (spec.Slot x v s) =
+    map-append (λ (e : Name × Val). e.0) (listed (cleared s)) ((x, cleared_val v) ∷ []) ∙ ap (λ xs. xs ++ x ∷ []) (names_cleared s) ∙ sym (map-append (λ (e : Name × Val). e.0) (listed s) ((x, v) ∷ []))
+
+-- stores that are the same but for the values have the same names
+pub names_of_shape : (s r : spec.Store) → cleared s ≡ cleared r → names_in s ≡ names_in r
+names_of_shape s r e = sym (names_cleared s) ∙ ap names_in e ∙ names_cleared r

@@ -1,8 +1,17 @@
 -- What contracts say of a store.
-use Rattle.std.specs.Prelude.{◌≡◌, ℤ, List, Bool, true, false}
+use Rattle.std.specs.Prelude.{◌≡◌, ℕ, ℤ, List, map, slice_get, Some, Bool, true, false}
 use Rattle.janus_meaning.specs.Fault.{Res, Fine, Bad, and_then}
 use Rattle.janus_meaning.specs.Syntax.{Name}
+use Rattle.janus_meaning.specs.World.{listed}
 use Rattle.janus_meaning.specs.Store.{Val, Num, Arr, Store, Bare, Slot, take, put, element, cleared_val}
+
+-- the names, in the order of declaration
+abbrev pub names_in : Store → List Name
+names_in s = map (λ e. e.0) (listed s)
+
+-- this name stands at this place, the oldest at 0
+abbrev pub IsNamed : Store → ℕ → Name → Type 0
+IsNamed s place x = slice_get (names_in s) place ≡ Some x
 
 -- another value in the slot of a name
 abbrev pub write : Name → Val → Store → Res Store

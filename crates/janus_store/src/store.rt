@@ -1,12 +1,13 @@
-//! The declared names with their values: an ordered map by name, and the order of declaration.
+//! The declared names with their values, in the order of declaration, and where each name stands there.
 
-ghost use Rattle.std.specs.Prelude.{◌≡◌, ℤ, ◌+◌, List, pos, ◌<◌, IsTrue, ◌↔◌, OnOk, OnErr, slice_get, Some, Bool, false, true};
+ghost use Rattle.std.specs.Prelude.{◌≡◌, ℤ, ◌+◌, List, pos, ◌<◌, IsTrue, ◌↔◌, IfSome, OnOk, OnErr, slice_get, Some, None, Bool, false, true};
 ghost use Rattle.std.specs.Bool.{OnFalse};
+ghost use Rattle.janus_meaning.specs.Syntax.{Name};
 ghost use Rattle.janus_meaning.specs.Fault.{Fine, Bad, Broken, IndexRange, and_then};
 ghost use Rattle.janus_meaning.specs.Store.{Bare, Slot, Num, Arr, look, number, element, set_element, zeros, cleared};
 ghost use Rattle.janus_meaning.specs.World.{size_of, listed};
 ghost use Rattle.janus_store.specs.Values.{val_of, shown, found, read_or};
-ghost use Rattle.janus_store.specs.Stores.{IsFirstOnTop, IsNumber, IsArray, HasElementAt, rest_of, is_fine, write};
+ghost use Rattle.janus_store.specs.Stores.{IsFirstOnTop, IsNamed, IsNumber, IsArray, HasElementAt, rest_of, is_fine, write};
 
 use crate::value::{Value, View};
 use crate::writes::Writes;
@@ -92,6 +93,17 @@ impl<L: Ledger> Store<L> {
         self.places.contains_key(name)
     }
 
+    /// Where a name stands in the order of declaration, the oldest being 0, if it is declared.
+    pub fn place(&self, name: &str) -> Option<usize>
+        ensures found { IfSome result (λ place. IsNamed self.now place name.now) }
+        ensures absent { result ≡ None → look name.now self.now ≡ Bad Broken }
+    {
+        match self.places.get(name) {
+            Some(place) => Some(*place),
+            None => None,
+        }
+    }
+
     /// The value of a name, if it is declared.
     pub fn value(&self, name: &str) -> Option<View<'_>>
         ensures { found result ≡ look name.now self.now }
@@ -102,25 +114,20 @@ impl<L: Ledger> Store<L> {
         }
     }
 
-    /// The number of a name; none where the name is not declared, or as an array.
-    pub fn get(&self, name: &str) -> Option<i32>
-        ensures { read_or Broken result ≡ and_then (look name.now self.now) number }
+    /// The number of the name at a place; none where it is an array.
+    pub fn get(&self, place: usize) -> Option<i32>
+        requires { (x : Name) × IsNamed self.now place x }
+        ensures { (x : Name) → IsNamed self.now place x → read_or Broken result ≡ and_then (look x self.now) number }
     {
-        match self.places.get(name) {
-            Some(place) => self.variables[*place].value.number(),
-            None => None,
-        }
+        self.variables[place].value.number()
     }
 
-    /// The element of an array at an index; none where the index is out of its range.
-    pub fn element(&self, name: &str, index: i32) -> Option<i32>
-        requires { IsArray (look name.now self.now) }
-        ensures { (l : List ℤ) → look name.now self.now ≡ Fine (Arr l) → read_or IndexRange result ≡ element l index }
+    /// The element at an index of the array at a place; none where the index is out of its range.
+    pub fn element(&self, place: usize, index: i32) -> Option<i32>
+        requires { (x : Name) × IsNamed self.now place x × IsArray (look x self.now) }
+        ensures { (x : Name) (l : List ℤ) → IsNamed self.now place x → look x self.now ≡ Fine (Arr l) → read_or IndexRange result ≡ element l index }
     {
-        match self.places.get(name) {
-            Some(place) => self.variables[*place].value.element(index),
-            None => unreachable!(),
-        }
+        self.variables[place].value.element(index)
     }
 
     /// The i-th name in the order of declaration, the oldest being 0, with its value.
@@ -178,31 +185,25 @@ impl<L: Ledger> Store<L> {
         }
     }
 
-    /// Another number in place of that of a name.
-    pub fn set(&mut self, name: &str, number: i32, writes: &mut Writes<L>)
-        requires { IsNumber (look name.now self.old) }
-        ensures written { write name.now (Num number) self.old ≡ Fine self.new }
+    /// Another number for the name at a place.
+    pub fn set(&mut self, place: usize, number: i32, writes: &mut Writes<L>)
+        requires { (x : Name) × IsNamed self.old place x × IsNumber (look x self.old) }
+        ensures written { (x : Name) → IsNamed self.old place x → write x (Num number) self.old ≡ Fine self.new }
         ensures shape { cleared self.new ≡ cleared self.old }
         ensures counted { writes.new ≡ writes.old + 1 }
     {
         writes.add();
-        match self.places.get(name) {
-            Some(place) => self.variables[*place].value.set_number(number),
-            None => unreachable!(),
-        }
+        self.variables[place].value.set_number(number);
     }
 
-    /// Another number in place of an element of an array, at an index within its range.
-    pub fn set_element(&mut self, name: &str, index: i32, number: i32, writes: &mut Writes<L>)
-        requires { HasElementAt (look name.now self.old) index }
-        ensures written { (l : List ℤ) → look name.now self.old ≡ Fine (Arr l) → write name.now (Arr (set_element l index number)) self.old ≡ Fine self.new }
+    /// Another number for an element of the array at a place, at an index within its range.
+    pub fn set_element(&mut self, place: usize, index: i32, number: i32, writes: &mut Writes<L>)
+        requires { (x : Name) × IsNamed self.old place x × HasElementAt (look x self.old) index }
+        ensures written { (x : Name) (l : List ℤ) → IsNamed self.old place x → look x self.old ≡ Fine (Arr l) → write x (Arr (set_element l index number)) self.old ≡ Fine self.new }
         ensures shape { cleared self.new ≡ cleared self.old }
         ensures counted { writes.new ≡ writes.old + 1 }
     {
         writes.add();
-        match self.places.get(name) {
-            Some(place) => self.variables[*place].value.set_element(index, number),
-            None => unreachable!(),
-        }
+        self.variables[place].value.set_element(index, number);
     }
 }

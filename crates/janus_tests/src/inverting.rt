@@ -38,18 +38,20 @@ fn inverts_cells(rt: HostRuntime) -> Result<(), Fail> {
     Ok(())
 }
 
-/// The variable that a statement changes, and how.
-fn change(statement: &Statement) -> Option<(&str, Update)> {
+/// The variable that a statement changes, its place, and how.
+fn change(statement: &Statement) -> Option<(&str, usize, Update)> {
     match statement {
-        Statement::Assign(name, update, _) => Some((name.as_str(), *update)),
+        Statement::Assign(name, update, _) => Some((name.text.as_str(), name.place, *update)),
         _ => None,
     }
 }
 
 fn code(alloc: Global) -> Result<Code, Fail> {
     let cell = parse_cell(alloc, "int x int y x += 5 if x then y ^= x else skip fi y")?;
-    let checked = check(alloc, &Env::new(alloc), cell)?;
-    Ok(flatten(alloc, &checked)?)
+    let names = Env::new(alloc);
+    let checked = check(alloc, &names, cell)?;
+    let scope = checked.scope(names)?;
+    Ok(flatten(alloc, &checked, &scope)?)
 }
 
 #[test]
@@ -59,8 +61,8 @@ fn flattens_a_cell(rt: HostRuntime) -> Result<(), Fail> {
     assert_eq!(rt; code.body.start, 2);
     assert_eq!(rt; code.body.end, 4);
     assert_eq!(rt; code.statements.len(), 4);
-    assert_eq!(rt; change(&code.statements[0]), Some(("x", Update::Add)));
-    assert_eq!(rt; change(&code.statements[1]), Some(("y", Update::Xor)));
+    assert_eq!(rt; change(&code.statements[0]), Some(("x", 0, Update::Add)));
+    assert_eq!(rt; change(&code.statements[1]), Some(("y", 1, Update::Xor)));
     assert_eq!(rt; change(&code.statements[3]), None);
     Ok(())
 }
@@ -74,8 +76,8 @@ fn inverts_code(rt: HostRuntime) -> Result<(), Fail> {
     assert_eq!(rt; inverse.statements.len(), 4);
     assert_eq!(rt;
         change(&inverse.statements[0]),
-        Some(("x", Update::Subtract))
+        Some(("x", 0, Update::Subtract))
     );
-    assert_eq!(rt; change(&inverse.statements[1]), Some(("y", Update::Xor)));
+    assert_eq!(rt; change(&inverse.statements[1]), Some(("y", 1, Update::Xor)));
     Ok(())
 }

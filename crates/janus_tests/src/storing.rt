@@ -12,6 +12,14 @@ use std::process::Abort;
 use std::sync::ledger::{Blank, Ledger};
 use std::test::Fail;
 
+/// The number of a name, if it is declared as one.
+fn number<L: Ledger>(store: &Store<L>, name: &str) -> Option<i32> {
+    match store.place(name) {
+        Some(place) => store.get(place),
+        None => None,
+    }
+}
+
 /// Numbers in a store over this ledger.
 fn numbers_in<L: Ledger, R: Abort>(rt: &R, alloc: Global, blank: Blank) -> Result<(), Fail>
     requires name { blank.name ≡ L.name }
@@ -25,16 +33,17 @@ fn numbers_in<L: Ledger, R: Abort>(rt: &R, alloc: Global, blank: Blank) -> Resul
     store.declare("x")?;
     assert!(rt; !store.contains("y"));
     store.declare("y")?;
-    assert_eq!(rt; store.get("x"), Some(0));
-    assert_eq!(rt; store.get("z"), None);
-    store.set("x", 5, &mut writes);
-    assert_eq!(rt; store.get("x"), Some(5));
-    assert_eq!(rt; store.get("y"), Some(0));
+    assert_eq!(rt; number(&store, "x"), Some(0));
+    assert_eq!(rt; store.place("y"), Some(1));
+    assert_eq!(rt; store.place("z"), None);
+    store.set(0, 5, &mut writes);
+    assert_eq!(rt; number(&store, "x"), Some(5));
+    assert_eq!(rt; number(&store, "y"), Some(0));
     assert_eq!(rt; store.len(), 2);
     let (first, _) = store.entry(0);
     assert_eq!(rt; first, "x");
     store.retire();
-    assert_eq!(rt; store.get("y"), None);
+    assert_eq!(rt; store.place("y"), None);
     assert_eq!(rt; store.len(), 1);
     Ok(())
 }
@@ -48,7 +57,7 @@ fn declares_numbers(rt: HostRuntime) -> Result<(), Fail> {
 fn declares_arrays(rt: HostRuntime) -> Result<(), Fail> {
     let mut store = Store::<Brand>::new(rt.alloc());
     store.declare_array("a", 3)?;
-    assert_eq!(rt; store.get("a"), None);
+    assert_eq!(rt; number(&store, "a"), None);
     assert!(rt; matches!(store.value("a"), Some(View::Array([0, 0, 0]))));
     Ok(())
 }
@@ -57,8 +66,10 @@ fn declares_arrays(rt: HostRuntime) -> Result<(), Fail> {
 fn goes_round_a_book(rt: HostRuntime) -> Result<(), Fail> {
     let alloc = rt.alloc();
     let cell = parse_cell(alloc, "int x x += 5 if x then skip fi x")?;
-    let checked = check(alloc, &Env::new(alloc), cell)?;
-    let book = Book::new(alloc, flatten(alloc, &checked)?)?;
+    let names = Env::new(alloc);
+    let checked = check(alloc, &names, cell)?;
+    let scope = checked.scope(names)?;
+    let book = Book::new(alloc, flatten(alloc, &checked, &scope)?)?;
     let mut cursor = Cursor::new();
     assert!(rt; cursor.is_ended());
     cursor.enter(&book);

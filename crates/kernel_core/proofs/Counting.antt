@@ -8,7 +8,7 @@ use Rattle.kernel_core.specs.Request.{Request, is_counted, raised}
 use Rattle.kernel_core.specs.Minutes.{Entry, Posted, Ended, Post, posts_of}
 use Rattle.kernel_core.specs.Runs.{Machine}
 use Rattle.kernel_core.specs.LegalMinutes.{Account, new_account, EndsFirst, Give, IsOpen, Agrees, HasLegalMinutes}
-use Rattle.kernel_core.specs.Counters.{counted_to, HasEnd, HasCountedEnd, EndTellsCounted, CounterNeverFalls, CountedIsNext, NoCounterTwice, CounterIsOfBegun, EndsWithinCounter}
+use Rattle.kernel_core.specs.Counters.{counted_to, HasCountedEnd, EndTellsCounted, CounterNeverFalls, CountedIsNext, NoCounterTwice, CounterIsOfBegun, EndsWithinCounter}
 use Rattle.kernel_core.specs.declared.outcome.Outcome.{Outcome}
 use Rattle.kernel_core.proofs.Posts.{posts-append}
 use Rattle.kernel_core.proofs.Noted.{give_ended}

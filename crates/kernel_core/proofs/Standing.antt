@@ -1,8 +1,11 @@
 -- What the answers on slices and begins share: how runner, tree and open job go on together.
 use Rattle.std.specs.Result.{is_err, IsOk, OnOk, OnErr}
 use Rattle.std.specs.Prelude.{slice_get}
-use Rattle.std.proofs.Common.{◌≤◌, Some, Result, Ok, Err, false, ◌≡◌, ℕ, ◌+◌, ◌-◌, ◌<◌, Bool, [], ◌∷◌, ◌++◌, length, set, get_or, zero, suc, refl, sym, ap, ◌∙◌, subst, arith}
-use Rattle.std.proofs.lemmas.List.{get_or_at}
+use Rattle.std.proofs.Common.{inl, inr, ◌≤◌, Some, Result, Ok, Err, false, ◌≡◌, ℕ, ◌+◌, ◌-◌, ◌<◌, Bool, List, [], ◌∷◌, ◌++◌, length, set, get_or, zero, suc, refl, sym, ap, ◌∙◌, subst, arith}
+use Rattle.std.proofs.lemmas.Bool.{cases_lt}
+use Rattle.std.proofs.lemmas.List.{get_or_at, length-map}
+use Rattle.std.proofs.lemmas.Option.{slice_get_within}
+use Rattle.cell_tree.specs.declared.node.Node.{Node}
 use Rattle.janus_meaning.specs.World.{World, empty_world, entered, Cell as ACell}
 use Rattle.kernel_core.specs.Travel.{next_way, Travel, Aim, Undo, Redo, Goto, Way, Up, Down}
 use Rattle.kernel_core.specs.Language.{IsFormed, IsSound, Code, Forward, Backward, Part, Exec, end_of}
@@ -13,9 +16,9 @@ use Rattle.kernel_core.specs.Fields.{nodes_of, aim_of, travel_of, work_of, job_o
 use Rattle.kernel_core.specs.Legal.{CanGo, IsLegal, IsPossible, IsPossibleWork, IsCounted}
 use Rattle.kernel_core.specs.Slices.{cells, stepped, moved, grown, Arrives, Settles, HasEnded}
 use Rattle.kernel_core.specs.Begins.{Declares}
-use Rattle.kernel_core.specs.Program.{cell_of_program}
+use Rattle.kernel_core.specs.Program.{cell_of_program, IsPlacedIn}
 use Rattle.kernel_core.specs.Runner.{world_of, Stands, IsInside}
-use Rattle.kernel_core.specs.Kept.{is_back, IsCellAt, IsProgramOf, StandsIn, StandsAt, Kept, IsKept, HasRoom, HasPath, HasPathFor}
+use Rattle.kernel_core.specs.Kept.{is_back, IsCellAt, ArePlacedNodes, IsProgramOf, StandsIn, StandsAt, Kept, IsKept, HasRoom, HasPath, HasPathFor}
 use Rattle.kernel_core.specs.declared.runner.Runner.{Runner}
 use Rattle.kernel_core.specs.declared.program.Program.{Program}
 use Rattle.kernel_core.specs.declared.tree.Cell.{Cell}
@@ -30,8 +33,8 @@ use Rattle.kernel_core.specs.declared.job.Open.{Open}
 use Rattle.kernel_core.specs.declared.job.Open.TheVariants.{Idle, Border, Inside}
 use Rattle.kernel_core.proofs.LanguageLaws.{part_none_forward, part_none_backward, exec_end, exec_some}
 use Rattle.kernel_core.proofs.Running.{stands_part}
-use Rattle.kernel_core.proofs.Nodes.{count_of_nodes, cell_there, one_cell}
-use Rattle.kernel_core.proofs.Trees.{worlds-more, legal_up, legal_down, legal_grown, undone_world, redone_world, run_here, parent_sound, IsNext, formed_below, next_below, up_possible, down_possible, way_up, way_down, new_legal, new_worlds}
+use Rattle.kernel_core.proofs.Nodes.{count_of_nodes, cell_there, one_cell, cell_kept, cell_added}
+use Rattle.kernel_core.proofs.Trees.{worlds-more, legal_up, legal_down, legal_grown, world_above_kept, world_above_new, undone_world, redone_world, run_here, parent_sound, IsNext, formed_below, next_below, up_possible, down_possible, way_up, way_down, new_legal, new_worlds}
 
 -- the shown world is the runner's
 pub shown_by : {L : Type 0} (tree : Tree) (job : Open) (runner : Runner L) → StandsAt tree job runner → ShownAt (past_of tree) (job_of job) (world_of runner)
@@ -48,6 +51,7 @@ kept_inside tree work count c turn to runner at k p = record {
   stands = p;
   room = k.room;
   path = k.path;
+  placed = k.placed;
 }
 
 pub kept_idle : {L : Type 0} (tree : Tree) (job : Open) (runner at : Runner L) → Kept tree runner job → world_of at ≡ here (past_of tree) → Kept tree at Idle
@@ -58,7 +62,43 @@ kept_idle tree job runner at k e = record {
   stands = e;
   room = tt;
   path = tt;
+  placed = k.placed;
 }
+
+-- ---- the places of names
+
+-- they stand in the nodes alone
+pub placed_nodes : (tree other : Tree) → other.cells.nodes ≡ tree.cells.nodes → ArePlacedNodes tree → ArePlacedNodes other
+placed_nodes tree other e h = subst (λ (nodes : List (Node Cell)). ArePlacedNodes (record other { cells = record other.cells { nodes = nodes } })) (sym e) h
+
+placed_none : (tree : Tree) → past_of tree ≡ new_state.past → ArePlacedNodes tree
+placed_none tree e = λ n cell at.
+    absurd
+    (let size = count_of_nodes tree in
+    let one : length (nodes_of tree) ≡ 1 = ap (λ (s : Past). length s.nodes) e in
+    let count : length (contents_of tree.cells) ≡ length tree.cells.nodes = length-map tree.cells.nodes (λ (node : Node Cell). node.content) in
+    let place = slice_get_within (contents_of tree.cells) (n - 1) cell at.1 in
+    omega arith)
+
+placed_grown : (tree larger : Tree) (node : Node Cell) (w : World) → IsLegal (past_of tree) → larger.cells.nodes ≡ tree.cells.nodes ++ node ∷ [] →
+    past_of larger ≡ grown (past_of tree) (cell_of_program node.content.program) node.content.steps w → ArePlacedNodes tree → IsPlacedIn (here (past_of tree)) node.content.program → ArePlacedNodes larger
+placed_grown tree larger node w legal nodes past placed new = λ n cell at.
+    let s : Past = past_of tree in
+    let size = count_of_nodes tree in
+    let some : 0 < n = at.0 in
+    let program : ACell = cell_of_program node.content.program in
+    let there : world_at (past_of larger) (node_at (past_of larger) n).parent ≡ world_at (grown (past_of tree) program node.content.steps w) (node_at (grown (past_of tree) program node.content.steps w) n).parent = ap (λ (p : Past). world_at p (node_at p n).parent) past in
+    elim (cases_lt (length tree.cells.nodes) n) [
+      | inl high ↦
+          (let last = cell_added tree larger node n cell nodes at high in
+          let above : world_at (past_of larger) (node_at (past_of larger) n).parent ≡ here (past_of tree) =
+          there ∙ ap (λ (k : ℕ). world_at (grown (past_of tree) program node.content.steps w) (node_at (grown (past_of tree) program node.content.steps w) k).parent) last.0 ∙ world_above_new (past_of tree) program node.content.steps w legal in
+          subst (λ (c : Cell). IsPlacedIn (world_at (past_of larger) (node_at (past_of larger) n).parent) c.program) last.1 (subst (λ (v : World). IsPlacedIn v node.content.program) (sym above) new))
+      | inr low ↦
+          (let known : n < length (nodes_of tree) = omega arith in
+          let above : world_at (past_of larger) (node_at (past_of larger) n).parent ≡ world_at (past_of tree) (node_at (past_of tree) n).parent = there ∙ world_above_kept (past_of tree) program node.content.steps w n legal some known in
+          subst (λ (v : World). IsPlacedIn v cell.program) (sym above) (placed n cell (cell_kept tree larger node n cell nodes at low)))
+    ]
 
 -- ---- a new node
 
@@ -78,9 +118,9 @@ pub kept_grown : {L : Type 0} (tree larger : Tree) (program : ACell) (n : ℕ) (
     larger.cells.favourites ≡ set tree.cells.favourites tree.position (length (nodes_of tree)) ++ 0 ∷ [] →
     larger.position ≡ length (nodes_of tree) →
     IsLegal (past_of tree) → IsFormed program (here (past_of tree)) →
-    Exec (Forward program) (here (past_of tree)) n (world_of runner) →
+    Exec (Forward program) (here (past_of tree)) n (world_of runner) → ArePlacedNodes larger →
     Kept larger runner Idle
-kept_grown tree larger program n runner nodes favourites position legal formed ran =
+kept_grown tree larger program n runner nodes favourites position legal formed ran placed =
     let e = state_grown tree larger program n (world_of runner) nodes favourites position ran in
     let last : get_or (worlds_from [] (nodes_of tree) ++ world_of runner ∷ []) (length (nodes_of tree)) empty_world ≡ world_of runner =
     get_or_at (worlds_from [] (nodes_of tree)) (world_of runner) [] empty_world (length (nodes_of tree)) legal.worlds in
@@ -91,6 +131,7 @@ kept_grown tree larger program n runner nodes favourites position legal formed r
       counted = tt;
       room = tt;
       path = tt;
+      placed = placed;
     }
 
 -- ---- a cell of a travel
@@ -109,11 +150,11 @@ border_job (Inside x) travel e = cc
 
 pub kept_arrived : {L : Type 0} (left : ℕ) (moved-to : Tree) (travel : Travel) (told : Sliced) (job : Open) (runner : Runner L) → left ≡ cells travel →
     IsLegal (past_of moved-to) → world_of runner ≡ here (past_of moved-to) → CanGo travel.aim (nodes_of moved-to) moved-to.cells.favourites moved-to.position travel.up travel.down → IsCounted travel →
-    HasPath travel.aim moved-to travel.down → Arrives left (past_of moved-to) travel told (state_of moved-to job) → Kept moved-to runner job
-kept_arrived zero tree travel told job runner size legal shown can small path a =
+    HasPath travel.aim moved-to travel.down → ArePlacedNodes moved-to → Arrives left (past_of moved-to) travel told (state_of moved-to job) → Kept moved-to runner job
+kept_arrived zero tree travel told job runner size legal shown can small path placed a =
     let e : job ≡ Idle = idle_job job (ap (λ (s : State). s.job) a.1) in
-    rw e (record { legal = legal; possible = tt; counted = tt; stands = shown; room = tt; path = tt })
-kept_arrived (suc left) tree travel told job runner size legal shown can small path a =
+    rw e (record { legal = legal; possible = tt; counted = tt; stands = shown; room = tt; path = tt; placed = placed })
+kept_arrived (suc left) tree travel told job runner size legal shown can small path placed a =
     let at = border_job job _ (ap (λ (s : State). s.job) a.1) in
     let possible : IsPossible (nodes_of tree) tree.cells.favourites tree.position travel = record { some = omega arith; way_there = can } in
     rw at.1 (record {
@@ -123,6 +164,7 @@ kept_arrived (suc left) tree travel told job runner size legal shown can small p
       stands = shown;
       room = tt;
       path = subst (λ (x : Travel). HasPath x.aim tree x.down) (sym at.2) path;
+      placed = placed;
     })
 
 -- a path is kept for a way that is one node shorter
@@ -137,10 +179,10 @@ path_of Redo tree other down e f h = tt
 path_of (Goto n) tree other down e f h = rw (e, f) h
 
 pub kept_up : {L : Type 0} (tree : Tree) (p : ℕ) (travel : Travel) (runner : Runner L) (told : Sliced) (job : Open) → next_way travel ≡ Up → IsLegal (past_of tree) →
-    IsPossible (nodes_of tree) tree.cells.favourites tree.position travel → IsCounted travel → HasPath travel.aim tree travel.down →
+    IsPossible (nodes_of tree) tree.cells.favourites tree.position travel → IsCounted travel → HasPath travel.aim tree travel.down → ArePlacedNodes tree →
     p ≡ (node_at (past_of tree) tree.position).parent → world_of runner ≡ world_at (past_of tree) (node_at (past_of tree) tree.position).parent →
     Arrives (cells (stepped travel)) (past_of (record tree { position = p })) (stepped travel) told (state_of (record tree { position = p }) job) → Kept (record tree { position = p }) runner job
-kept_up tree p travel runner told job way legal possible small path to world a =
+kept_up tree p travel runner told job way legal possible small path placed to world a =
     let can = up_possible (past_of tree) travel way possible in
     let some = possible.some in
     let first = small.0 in
@@ -148,15 +190,15 @@ kept_up tree p travel runner told job way legal possible small path to world a =
     let on : Travel = record travel { up = travel.up - 1; went_up = travel.went_up + 1 } in
     let e : stepped travel ≡ on = rw (way, stepped) refl in
     kept_arrived (cells on) (record tree { position = p }) on told job runner refl (rw to (legal_up (past_of tree) legal)) (rw to world) (rw to can.1) (omega arith, small.1)
-    (path_of travel.aim tree (record tree { position = p }) travel.down refl refl path)
+    (path_of travel.aim tree (record tree { position = p }) travel.down refl refl path) (placed_nodes tree (record tree { position = p }) refl placed)
     (subst (λ (t : Travel). Arrives (cells t) (past_of (record tree { position = p })) t told (state_of (record tree { position = p }) job)) e a)
 
 pub kept_down : {L : Type 0} (tree moved-to : Tree) (c : ℕ) (travel : Travel) (runner : Runner L) (told : Sliced) (job : Open) → next_way travel ≡ Down → IsLegal (past_of tree) →
-    IsPossible (nodes_of tree) tree.cells.favourites tree.position travel → IsCounted travel → HasPath travel.aim tree travel.down →
+    IsPossible (nodes_of tree) tree.cells.favourites tree.position travel → IsCounted travel → HasPath travel.aim tree travel.down → ArePlacedNodes tree →
     c ≡ below (past_of tree) travel → moved-to.cells.nodes ≡ tree.cells.nodes → moved-to.cells.favourites ≡ set tree.cells.favourites tree.position c → moved-to.position ≡ c → moved-to.cells.way ≡ tree.cells.way →
     world_of runner ≡ world_at (past_of tree) (below (past_of tree) travel) →
     Arrives (cells (stepped travel)) (past_of moved-to) (stepped travel) told (state_of moved-to job) → Kept moved-to runner job
-kept_down tree moved-to c travel runner told job way legal possible small path to nodes favourites position kept-path world a =
+kept_down tree moved-to c travel runner told job way legal possible small path placed to nodes favourites position kept-path world a =
     let next = next_below (past_of tree) travel legal way possible in
     let can = down_possible (past_of tree) travel legal way possible in
     let some = possible.some in
@@ -172,7 +214,7 @@ kept_down tree moved-to c travel runner told job way legal possible small path t
     (subst (λ (s : Past). world_of runner ≡ here s) (sym past) world)
     (subst (λ (s : Past). CanGo travel.aim s.nodes s.favourites s.position travel.up (travel.down - 1)) (sym past)
     (subst (λ (u : ℕ). CanGo travel.aim (nodes_of tree) (set tree.cells.favourites tree.position (below (past_of tree) travel)) (below (past_of tree) travel) u (travel.down - 1)) (sym none) can))
-    (small.0, omega arith) kept
+    (small.0, omega arith) kept (placed_nodes tree moved-to nodes placed)
     (subst (λ (t : Travel). Arrives (cells t) (past_of moved-to) t told (state_of moved-to job)) e a)
 
 -- the world at the end of an undone cell, and of a redone one
@@ -208,6 +250,12 @@ pub stands_with : {L : Type 0} (tree : Tree) (work : Work) (count : ℕ) (back :
 stands_with tree work count back runner p of h =
     subst (λ (x : Program). Stands runner x (code_of (past_of tree) (work_of work)) (here (past_of tree)) count back) (same_program tree work h.program p h.of_work of) h.stands
 
+-- a posted cell that ended becomes a node, whose code runs as it stands
+pub placed_more : {L : Type 0} (tree larger : Tree) (program : Program) (n : ℕ) (runner : Runner L) → Kept tree runner (Inside (record { work = RunCell program; count = n; turn = Going })) →
+    larger.cells.nodes ≡ tree.cells.nodes ++ record { parent = tree.position; content = record { program = program; steps = n } } ∷ [] → past_of larger ≡ grown (past_of tree) (cell_of_program program) n (world_of runner) → ArePlacedNodes larger
+placed_more tree larger program n runner k nodes past =
+    placed_grown tree larger (record { parent = tree.position; content = record { program = program; steps = n } }) (world_of runner) k.legal nodes past k.placed (stands_with tree (RunCell program) n false runner program refl k.stands).placed
+
 -- ---- begins
 
 pub kept_entered : {L : Type 0} (tree : Tree) (runner at : Runner L) (travel : CodeTravel) → Kept tree runner (Border travel) → StandsIn tree (Move travel) 0 false at →
@@ -220,6 +268,7 @@ kept_entered tree runner at travel k stands = record {
     stands = stands;
     room = tt;
     path = k.path;
+    placed = k.placed;
   };
   in_time = exec_some (code_of (past_of tree) (state.Move (travel_of travel))) (here (past_of tree));
 }
@@ -228,9 +277,9 @@ kept_entered tree runner at travel k stands = record {
 pub idle_in_time : {L : Type 0} (tree : Tree) (runner : Runner L) → Kept tree runner Idle → IsKept tree runner Idle
 idle_in_time tree runner k = record { kept = k; in_time = tt }
 
-pub kept_begun : {L : Type 0} (tree made : Tree) (runner at : Runner L) (program : Program) → Kept tree runner Idle → past_of made ≡ past_of tree → HasRoom made → IsFormed (cell_of_program program) (here (past_of tree)) →
+pub kept_begun : {L : Type 0} (tree made : Tree) (runner at : Runner L) (program : Program) → Kept tree runner Idle → past_of made ≡ past_of tree → made.cells.nodes ≡ tree.cells.nodes → HasRoom made → IsFormed (cell_of_program program) (here (past_of tree)) →
     Stands at program (Forward (cell_of_program program)) (here (past_of tree)) 0 false → IsKept made at (Inside (record { work = RunCell program; count = 0; turn = Going }))
-kept_begun tree made runner at program k same room formed stands = record {
+kept_begun tree made runner at program k same nodes room formed stands = record {
   kept = record {
     legal = subst (λ (s : Past). IsLegal s) (sym same) k.legal;
     possible = subst (λ (s : Past). IsFormed (cell_of_program program) (here s)) (sym same) formed;
@@ -242,6 +291,7 @@ kept_begun tree made runner at program k same room formed stands = record {
     };
     room = room;
     path = tt;
+    placed = placed_nodes tree made nodes k.placed;
   };
   in_time = exec_some (code_of (past_of made) (state.Posted (cell_of_program program))) (here (past_of made));
 }
@@ -325,6 +375,7 @@ kept_new tree runner e shown = record {
   stands = subst (λ (s : Past). world_of runner ≡ here s) (sym e) shown;
   room = tt;
   path = tt;
+  placed = placed_none tree e;
 }
 
 -- the program of an undo and of a redo, as it is read
@@ -391,6 +442,13 @@ formed_next tree travel cell runner way legal possible shown at =
     let formed : IsFormed (cell_of_program cell.program) (here (past_of tree)) = subst (λ (c : ACell). IsFormed c (here (past_of tree))) (sym (cell_there tree _ cell at)) (formed_below (past_of tree) (below (past_of tree) travel) legal next) in
     subst (λ (w : World). IsFormed (cell_of_program cell.program) w) (sym shown) formed
 
+pub placed_next : {L : Type 0} (tree : Tree) (travel : Travel) (cell : Cell) (runner : Runner L) → next_way travel ≡ Down → IsLegal (past_of tree) → IsPossible (nodes_of tree) tree.cells.favourites tree.position travel →
+    world_of runner ≡ here (past_of tree) → IsCellAt tree (below (past_of tree) travel) cell → ArePlacedNodes tree → IsPlacedIn (world_of runner) cell.program
+placed_next tree travel cell runner way legal possible shown at placed =
+    let next = next_below (past_of tree) travel legal way possible in
+    let above : world_at (past_of tree) (node_at (past_of tree) (below (past_of tree) travel)).parent ≡ world_of runner = ap (λ (k : ℕ). world_at (past_of tree) k) next.parent ∙ sym shown in
+    subst (λ (w : World). IsPlacedIn w cell.program) above (placed (below (past_of tree) travel) cell at)
+
 pub stands_next_down : {L : Type 0} (tree : Tree) (travel : CodeTravel) (cell : Cell) (runner at : Runner L) → next_way (travel_of travel) ≡ Down → world_of runner ≡ here (past_of tree) → IsCellAt tree (below (past_of tree) (travel_of travel)) cell →
     Stands at cell.program (Forward (cell_of_program cell.program)) (world_of runner) 0 false → StandsIn tree (Move travel) 0 false at
 stands_next_down tree travel cell runner at way shown is stands =
@@ -408,9 +466,9 @@ next_up tree travel cell way legal possible read =
     ((up_possible (past_of tree) travel way possible).0, read)
 
 pub ran_above : {L : Type 0} (tree : Tree) (travel : Travel) (cell : Cell) (runner : Runner L) → next_way travel ≡ Up → IsLegal (past_of tree) → IsPossible (nodes_of tree) tree.cells.favourites tree.position travel →
-    world_of runner ≡ here (past_of tree) → IsCellAt tree tree.position cell →
-    (before : World) × (n : ℕ) × Exec (Forward (cell_of_program cell.program)) before n (world_of runner) × IsSound before × IsFormed (cell_of_program cell.program) before
-ran_above tree travel cell runner way legal possible shown at =
+    world_of runner ≡ here (past_of tree) → IsCellAt tree tree.position cell → ArePlacedNodes tree →
+    (before : World) × (n : ℕ) × Exec (Forward (cell_of_program cell.program)) before n (world_of runner) × IsSound before × IsFormed (cell_of_program cell.program) before × IsPlacedIn before cell.program
+ran_above tree travel cell runner way legal possible shown at placed =
     let s : Past = past_of tree in
     let some = (up_possible (past_of tree) travel way possible).0 in
     let run = run_here (past_of tree) legal some in
@@ -421,6 +479,7 @@ ran_above tree travel cell runner way legal possible shown at =
       subst (λ (w : World). Exec (Forward (cell_of_program cell.program)) (world_at (past_of tree) (node_at (past_of tree) tree.position).parent) (node_at (past_of tree) tree.position).steps w) (sym shown) ran,
       parent_sound (past_of tree) legal some,
       subst (λ (c : ACell). IsFormed c (world_at (past_of tree) (node_at (past_of tree) tree.position).parent)) (sym (cell_there tree tree.position cell at)) run.formed,
+      placed tree.position cell at,
     )
 
 pub stands_next_up : {L : Type 0} (tree : Tree) (travel : CodeTravel) (cell : Cell) (runner at : Runner L) → next_way (travel_of travel) ≡ Up → world_of runner ≡ here (past_of tree) → IsCellAt tree tree.position cell →

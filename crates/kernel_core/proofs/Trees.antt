@@ -269,6 +269,20 @@ legal_grown s program n w g formed e =
       favoured = λ j above. favoured_grown s program n w j g above;
     }
 
+-- above the older nodes stand the worlds that stood there, and above the new one the position's
+pub world_above_kept : (s : Past) (program : Cell) (n : ℕ) (w : World) (i : ℕ) → IsLegal s → 0 < i → i < length s.nodes → world_at (grown s program n w) (node_at (grown s program n w) i).parent ≡ world_at s (node_at s i).parent
+world_above_kept s program n w i g above low =
+    let new : Node = record { parent = s.position; cell = program; steps = n } in
+    let run : IsRun s.nodes s.worlds i = g.ran i above low in
+    let known : (node_at s i).parent < length s.worlds = let h = run.parent in rw g.worlds (omega arith) in
+    ap (λ (k : ℕ). get_or (s.worlds ++ w ∷ []) k empty_world) (grown_parent s new i low) ∙ get_or_append_left s.worlds (w ∷ []) empty_world (node_at s i).parent known
+
+pub world_above_new : (s : Past) (program : Cell) (n : ℕ) (w : World) → IsLegal s → world_at (grown s program n w) (node_at (grown s program n w) (length s.nodes)).parent ≡ here s
+world_above_new s program n w g =
+    let new : Node = record { parent = s.position; cell = program; steps = n } in
+    ap (λ (x : Node). get_or (s.worlds ++ w ∷ []) x.parent empty_world) (get_or_at s.nodes new [] root (length s.nodes) refl)
+    ∙ get_or_append_left s.worlds (w ∷ []) empty_world s.position (rw g.worlds g.position)
+
 -- the runs of the position's cell and of its favourite's
 pub run_here : (s : Past) → IsLegal s → 0 < s.position → IsRun s.nodes s.worlds s.position
 run_here s g l = g.ran s.position l g.position

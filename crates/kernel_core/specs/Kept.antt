@@ -1,7 +1,8 @@
 -- What a history keeps of its fields: the runner's store is the shown world.
 use Rattle.std.specs.Prelude.{◌≡◌, ℕ, ◌-◌, ◌<◌, ◌≤◌, Bool, true, false, Some, length, slice_get, slice_index}
 use Rattle.cell_tree.specs.Tree.{contents_of}
-use Rattle.kernel_core.specs.State.{here, ancestor, below, code_of}
+use Rattle.kernel_core.specs.State.{node_at, world_at, here, ancestor, below, code_of}
+use Rattle.kernel_core.specs.Program.{IsPlacedIn}
 use Rattle.kernel_core.specs.Travel.{Up, Down, Aim, Undo, Redo, Goto, next_way}
 use Rattle.kernel_core.specs.Fields.{nodes_of, past_of, aim_of, travel_of, work_of, job_of}
 use Rattle.kernel_core.specs.Legal.{IsLegal, IsPossibleAt, IsInTimeAt, IsCountedAt}
@@ -28,6 +29,10 @@ IsProgramOf tree (Move travel) p = elim (next_way (travel_of travel)) [
   | Up ↦ (cell : Cell) × IsCellAt tree tree.position cell × (p ≡ cell.program)
   | Down ↦ (cell : Cell) × IsCellAt tree (below (past_of tree) (travel_of travel)) cell × (p ≡ cell.program)
 ]
+
+-- the code of each node names each variable by its place, run from the world of the node's parent
+abbrev pub ArePlacedNodes : Tree → Type 0
+ArePlacedNodes tree = (n : ℕ) (cell : Cell) → IsCellAt tree n cell → IsPlacedIn (world_at (past_of tree) (node_at (past_of tree) n).parent) cell.program
 
 abbrev pub is_back : Turn → Bool
 is_back GoesOn = false
@@ -82,6 +87,7 @@ pub record Kept {L : Type 0} (tree : Tree) (runner : Runner L) (job : Open) : Ty
   pub stands : StandsAt tree job runner
   pub room : HasRoomAt tree job
   pub path : HasPathAt tree job
+  pub placed : ArePlacedNodes tree
 
 -- what a history keeps: beside this, its open job has steps to take
 pub record IsKept {L : Type 0} (tree : Tree) (runner : Runner L) (job : Open) : Type 0 where

@@ -82,6 +82,7 @@ pub fn below(tree: &Tree, travel: Travel) -> usize
 pub fn find_way(tree: &mut Tree, target: usize) -> Result<Way, TreeFault>
     requires { IsLegal (past_of tree.old) }
     ensures same { past_of tree.new ≡ past_of tree.old }
+    ensures nodes { tree.new.cells.nodes ≡ tree.old.cells.nodes }
     ensures way { IfOk result (λ way. IsMeeting (nodes_of tree.new) tree.new.position target way.up way.down) }
     ensures path { IfOk result (λ way. HasPath (Goto target) tree.new way.down) }
     ensures no_node { IsErr result ↔ (length (nodes_of tree.old) ≤ target) }

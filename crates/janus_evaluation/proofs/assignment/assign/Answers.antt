@@ -1,4 +1,4 @@
-use Rattle.std.proofs.Common.{◌≡◌, ℤ, ap, ◌∙◌, sym, refl, arith, to_z, of_z, w32}
+use Rattle.std.proofs.Common.{string_bytes, ◌≡◌, ℤ, ap, ◌∙◌, sym, refl, arith, to_z, of_z, w32}
 use Rattle.std.proofs.lemmas.Int.{to_z-of_z}
 use Rattle.janus_meaning.specs.Fault.{Fine, Bad, Broken, and_then}
 use Rattle.janus_meaning.specs.Store.{look, number, Num}
@@ -12,36 +12,39 @@ use Rattle.janus_evaluation.proofs.Assigns.{is_number, value_safe, assign_bad, a
 use Rattle.janus_evaluation.proofs.assignment.assign.Goals as goal
 
 pub value-requires : goal.value-requires
-value-requires g c = value_safe c.args.name.now (update_of c.args.update) (exp_of c.args.exp.now) c.args.store.now c.requires
+value-requires g c = record { safe = value_safe (string_bytes c.args.name.now.text) (update_of c.args.update) (exp_of c.args.exp.now) c.args.store.now c.requires.safe; placed = c.requires.placed }
 
 pub returns-in-Err-clause-done : goal.returns-in-Err-clause-done
 returns-in-Err-clause-done g c =
-    (assign_bad c.args.name.now (update_of c.args.update) (exp_of c.args.exp.now) c.args.store.now (fault_of c.in-Err.fault) c.requires (sym c.in-Err.ensures), refl)
+    (assign_bad (string_bytes c.args.name.now.text) (update_of c.args.update) (exp_of c.args.exp.now) c.args.store.now (fault_of c.in-Err.fault) c.requires.safe (sym c.in-Err.ensures), refl)
 
 pub unreachable-requires : goal.unreachable-requires
 unreachable-requires g c =
     let s = c.args.store.now in
-    let n = is_number c.args.name.now (update_of c.args.update) (exp_of c.args.exp.now) s c.requires in
-    let z : Bad Broken ≡ Fine n.0 = c.in_default.ensures ∙ ap (λ r. and_then r number) n.1 in
+    let n = is_number (string_bytes c.args.name.now.text) (update_of c.args.update) (exp_of c.args.exp.now) s c.requires.safe in
+    let z : Bad Broken ≡ Fine n.0 = c.in_default.ensures (string_bytes c.args.name.now.text) c.requires.at ∙ ap (λ r. and_then r number) n.1 in
     cc
 
 pub set-requires : goal.set-requires
-set-requires g c = is_number c.args.name.now (update_of c.args.update) (exp_of c.args.exp.now) c.args.store.now c.requires
+set-requires g c = (string_bytes c.args.name.now.text, c.requires.at, is_number (string_bytes c.args.name.now.text) (update_of c.args.update) (exp_of c.args.exp.now) c.args.store.now c.requires.safe)
 
 pub returns-clause-done : goal.returns-clause-done
 returns-clause-done g c =
     let s = c.args.store.now in
-    let x = c.args.name.now in
+    let x = string_bytes c.args.name.now.text in
     let o = update_of c.args.update in
     let e = exp_of c.args.exp.now in
-    let n = is_number x o e s c.requires in
+    let n = is_number x o e s c.requires.safe in
     let w : ℤ = c.in-Ok.operand in
     let old : ℤ = c.in-Some.old in
-    let got : Fine old ≡ Fine n.0 = c.in-Some.ensures ∙ ap (λ r. and_then r number) n.1 in
+    let got : Fine old ≡ Fine n.0 = c.in-Some.ensures x c.requires.at ∙ ap (λ r. and_then r number) n.1 in
     let same : old ≡ n.0 = cc in
     let z : to_z w32 (of_z w32 w) ≡ w = grind (arith, to_z-of_z) in
     let zo : to_z w32 (of_z w32 old) ≡ old = grind (arith, to_z-of_z) in
     let m : ℤ = c.changed.result in
     let zc : to_z w32 (of_z w32 m) ≡ m = grind (arith, to_z-of_z) in
     let made : to_z w32 (of_z w32 c.changed.result) ≡ changed o n.0 w = zc ∙ c.changed.ensures ∙ ap (λ v. changed o v (to_z w32 (of_z w32 w))) (zo ∙ same) ∙ ap (changed o n.0) z in
-    assign_fine x o e s n.0 w c.set.new.self c.requires n.1 (sym c.in-Ok.ensures) (ap (λ m. write x (Num m) s) (sym made) ∙ c.set.ensures.written)
+    assign_fine x o e s n.0 w c.set.new.self c.requires.safe n.1 (sym c.in-Ok.ensures) (ap (λ m. write x (Num m) s) (sym made) ∙ c.set.ensures.written x c.requires.at)
+
+pub get-requires : goal.get-requires
+get-requires g c = (string_bytes c.args.name.now.text, c.requires.at)

@@ -6,6 +6,7 @@ use Rattle.janus_invert.specs.CodeBlock.{code_tree, inner_block}
 use Rattle.janus_invert.specs.Inverted.{IsInverse, IsBackward}
 use Rattle.janus_invert.proofs.Pairs.{ArePairs, pairs_more}
 use Rattle.janus_invert.proofs.Reversed.{body_turned, inverse_longer, are_inverse, inverse_downward}
+use Rattle.janus_invert.proofs.Placing.{all_turned}
 use Rattle.janus_invert.proofs.turned.inverse_code.Goals as goal
 
 pub loop-i-preserved : goal.loop-i-preserved
@@ -57,3 +58,12 @@ returns-clause-block c =
     let down = inverse_downward code.members.items code.statements.items code.body c.loop-i.members.items c.backward.new.others.items c.loop-i.statements.items c.in_ok-body.body code.downward many v.inverse c.in_ok-body.ensures.longer back in
     body_turned code.members.items code.statements.items code.body c.backward.new.others.items c.loop-i.statements.items c.in_ok-body.body code.downward.each down.each
     (are_inverse code.members.items code.statements.items code.body c.loop-i.members.items c.backward.new.others.items c.loop-i.statements.items c.in_ok-body.body many v.inverse c.in_ok-body.ensures.longer back) code.downward.whole
+
+pub returns-clause-placed : goal.returns-clause-placed
+returns-clause-placed c =
+    let code = c.args.code.now in
+    let v = c.loop-i.invariant in
+    let many : length c.loop-i.statements.items ≡ length code.statements.items = omega (arith, v.as_many, code.statements.ok.0) in
+    let back : IsBackward code.members.items c.backward.new.others.items code.body c.in_ok-body.body = subst (λ (ms : List ℕ). IsBackward ms c.backward.new.others.items code.body c.in_ok-body.body) c.deref-2.ensures.value c.in_ok-body.ensures.backward in
+    all_turned code.members.items code.statements.items code.body c.backward.new.others.items c.loop-i.statements.items c.in_ok-body.body
+    (are_inverse code.members.items code.statements.items code.body c.loop-i.members.items c.backward.new.others.items c.loop-i.statements.items c.in_ok-body.body many v.inverse c.in_ok-body.ensures.longer back)

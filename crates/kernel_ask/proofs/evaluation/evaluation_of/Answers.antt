@@ -1,5 +1,5 @@
 use Rattle.std.proofs.Common.{◌≡◌, ℕ, List, Err, sym, ap, ◌∙◌, subst}
-use Rattle.janus_meaning.specs.Syntax.{Exp}
+use Rattle.janus_meaning.specs.Syntax.{Name, Exp}
 use Rattle.janus_meaning.specs.Shape.{Shape, shape_of}
 use Rattle.janus_meaning.specs.Store.{Store}
 use Rattle.janus_meaning.specs.Formed.{IsExp}
@@ -8,10 +8,14 @@ use Rattle.janus_syntax.specs.View.{exp_of}
 use Rattle.janus_syntax.specs.Tree as tree
 use Rattle.janus_syntax.specs.Tree.{exp_view}
 use Rattle.janus_syntax.specs.Text.{HasExp}
+use Rattle.janus_check.specs.Names.{shape_in}
 use Rattle.janus_check.specs.Check.{exp_faults}
 use Rattle.janus_check.specs.Fault.{IsFirst}
 use Rattle.janus_check.specs.declared.fault.CheckFault.{CheckFault}
 use Rattle.janus_check.specs.declared.fault.CheckFault.TheVariants as fault
+use Rattle.janus_invert.specs.Placed.{IsPlaced}
+use Rattle.janus_invert.proofs.Seen.{exp_seen}
+use Rattle.kernel_core.proofs.Entries.{same_names}
 use Rattle.kernel_core.specs.Text.{refused_by_check}
 use Rattle.kernel_core.specs.declared.outcome.Refusal.{Refusal}
 use Rattle.kernel_ask.specs.declared.done.ExpFault.TheVariants.{Refused}
@@ -19,11 +23,18 @@ use Rattle.kernel_ask.specs.Evaluation.{IsEvaluated}
 use Rattle.kernel_ask.proofs.Sound.{not_broken}
 use Rattle.kernel_ask.proofs.evaluation.evaluation_of.Goals as goal
 
-pub value-requires : goal.value-requires
-value-requires g c = λ broken.
+pub value-requires-clause-safe : goal.value-requires-clause-safe
+value-requires-clause-safe g c = λ broken.
     let tree : Exp = exp_of c.in-Ok.exp in
     let formed = subst (λ (g : Shape). IsExp g tree) c.in-Ok-names_in_sight.ensures c.in-Ok-check_exp.ensures.well_formed in
-    not_broken tree c.args.store.now formed (ap (λ (e : Exp). value e c.args.store.now) (sym c.in-Ok-flat_exp.ensures) ∙ broken)
+    not_broken tree c.args.store.now formed (ap (λ (e : Exp). value e c.args.store.now) (sym c.in-Ok-flat_exp.ensures.tree) ∙ broken)
+
+pub value-requires-clause-placed : goal.value-requires-clause-placed
+value-requires-clause-placed g c =
+    subst (λ (xs : List Name). IsPlaced xs c.in-Ok-flat_exp.flat) (same_names c.in-Ok-names_in_sight.env c.args.store.now c.requires.kinds c.in-Ok-names_in_sight.ensures) c.in-Ok-flat_exp.ensures.placed
+
+pub flat_exp-requires : goal.flat_exp-requires
+flat_exp-requires g c = exp_seen (shape_in c.in-Ok-names_in_sight.env) (exp_of c.in-Ok.exp) c.in-Ok-check_exp.ensures.well_formed
 
 -- a fault of the check is told as it is, and want of memory as such
 told : (s : Store) (text : List ℕ) (tree : tree.Exp) (fault : CheckFault) (r : Refusal) → HasExp text tree → IsFirst fault (exp_faults (shape_of s) tree) → r ≡ refused_by_check fault →

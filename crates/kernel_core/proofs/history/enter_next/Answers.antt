@@ -1,6 +1,6 @@
 use Rattle.std.proofs.Common.{sym, ◌∙◌, ap}
 use Rattle.kernel_core.specs.Fields.{travel_of, way_of}
-use Rattle.kernel_core.proofs.Standing.{below_there, here_sound, next_down, formed_next, stands_next_down, next_up, ran_above, stands_next_up, declares_next, ok_map}
+use Rattle.kernel_core.proofs.Standing.{below_there, here_sound, next_down, formed_next, placed_next, stands_next_down, next_up, ran_above, stands_next_up, declares_next, ok_map}
 use Rattle.kernel_core.proofs.history.enter_next.Goals as goal
 
 pub enter-requires-clause-formed : goal.enter-requires-clause-formed
@@ -14,7 +14,13 @@ enter-requires-clause-sound g c = here_sound c.args.tree.now c.args.runner.now c
 pub enter_inverse-requires : goal.enter_inverse-requires
 enter_inverse-requires g c =
     ran_above c.args.tree.now (travel_of c.args.travel) c.content.result.now c.args.runner.now (sym c.way.ensures ∙ ap way_of c.in-Up.is) c.requires.legal c.requires.possible c.requires.shown
-    (next_up c.args.tree.now (travel_of c.args.travel) c.content.result.now (sym c.way.ensures ∙ ap way_of c.in-Up.is) c.requires.legal c.requires.possible c.content.ensures)
+    (next_up c.args.tree.now (travel_of c.args.travel) c.content.result.now (sym c.way.ensures ∙ ap way_of c.in-Up.is) c.requires.legal c.requires.possible c.content.ensures) c.requires.placed
+
+pub enter-requires-clause-placed : goal.enter-requires-clause-placed
+enter-requires-clause-placed g c =
+    placed_next c.args.tree.now (travel_of c.args.travel) c.content-in-Down.result.now c.args.runner.now (sym c.way.ensures ∙ ap way_of c.in-Down.is) c.requires.legal c.requires.possible c.requires.shown
+    (next_down c.args.tree.now (travel_of c.args.travel) c.content-in-Down.result.now c.below.result (sym c.way.ensures ∙ ap way_of c.in-Down.is) c.requires.legal c.requires.possible c.below.ensures c.content-in-Down.ensures)
+    c.requires.placed
 
 pub returns-in-Up-clause-ok : goal.returns-in-Up-clause-ok
 returns-in-Up-clause-ok g c =

@@ -1,27 +1,22 @@
-use Rattle.std.proofs.Common.{ap, ◌∙◌, sym, arith}
+use Rattle.std.proofs.Common.{ap, ◌∙◌, sym, subst, arith}
 use Rattle.std.specs.BTreeMap.{get_by_text}
 use Rattle.janus_meaning.specs.Fault.{and_then}
 use Rattle.janus_meaning.specs.Store.{look, number}
-use Rattle.janus_store.proofs.Indexes.{within, found_at, look_none}
+use Rattle.janus_store.specs.Stores.{IsNamed}
+use Rattle.janus_store.proofs.Indexes.{within, found_at, placed}
 use Rattle.janus_store.proofs.store.Store.get.Goals as goal
 
 pub index-requires : goal.index-requires
 index-requires g c =
     let a = c.self.inside in
-    omega (arith, within a.variables.items (get_by_text a.places) c.self.invariant c.args.name.now c.in-Some.place.now (sym c.in-Some.ensures.value), a.variables.ok.0)
+    let x = c.requires.0 in
+    let at = placed a.variables.items (get_by_text a.places) c.self.invariant c.args.place x (subst (λ s. IsNamed s c.args.place x) (sym c.self.view_is) c.requires.1) in
+    omega (arith, within a.variables.items (get_by_text a.places) c.self.invariant x c.args.place at, a.variables.ok.0)
 
-pub returns-in-Some : goal.returns-in-Some
-returns-in-Some g c =
+pub returns : goal.returns
+returns g c = λ x named.
     let a = c.self.inside in
-    let x = c.args.name.now in
-    let i = c.in-Some.place.now in
     let v = c.index.result.now in
-    let f = found_at a.variables.items (get_by_text a.places) c.self.invariant x i v (sym c.in-Some.ensures.value) c.index.ensures in
+    let at = placed a.variables.items (get_by_text a.places) c.self.invariant c.args.place x (subst (λ s. IsNamed s c.args.place x) (sym c.self.view_is) named) in
+    let f = found_at a.variables.items (get_by_text a.places) c.self.invariant x c.args.place v at c.index.ensures in
     c.number.ensures ∙ sym (ap (λ r. and_then r number) f.seen) ∙ ap (λ s. and_then (look x s) number) c.self.view_is
-
-pub returns-in-None : goal.returns-in-None
-returns-in-None g c =
-    let a = c.self.inside in
-    let x = c.args.name.now in
-    sym (ap (λ r. and_then r number) (look_none a.variables.items (get_by_text a.places) c.self.invariant x (sym c.in-None.ensures.value)))
-    ∙ ap (λ s. and_then (look x s) number) c.self.view_is
