@@ -2,7 +2,7 @@
 use Rattle.std.proofs.Common.{◌≡◌, ℕ, zero, suc, ◌+◌, ◌-◌, ◌*◌, ◌<◌, ◌≤◌, false, refl, ap, sym, ◌∙◌, subst, arith, ⊎_elim}
 use Rattle.janus_meaning.specs.World.{World}
 use Rattle.janus_meaning.specs.Limit.{step_limit}
-use Rattle.kernel_core.specs.Language.{Code, Part}
+use Rattle.kernel_core.specs.Language.{Code, CodePart}
 use Rattle.kernel_core.specs.Reached.{Progress, Went, Ended, Stopped, Reaches}
 use Rattle.kernel_core.specs.State.{Past, State, Work, Posted, Move, Entered, Job, Idle, Border, Inside, here, code_of}
 use Rattle.kernel_core.specs.Slices.{cells, stepped, moved, Backs, Arrives, Settles, Comes, SlicesIn, SlicesAt}
@@ -82,8 +82,8 @@ settles_nearer s (Posted cell) c n w told new h = subst (λ t. Nearer (inside (P
 settles_nearer s (Move travel) c n w told new h = arrives_nearer (moved s travel) travel (stepped travel) (cells (stepped travel)) c told new (sym (stepped_left travel (next_way travel) refl)) refl h
 
 -- a part is never past the limit
-part_limit : (code : Code) (w v : World) (j : ℕ) → Part code w j v → j ≤ step_limit
-unfolding Part
+part_limit : (code : Code) (w v : World) (j : ℕ) → CodePart code w j v → j ≤ step_limit
+unfolding CodePart
 part_limit code w v j h = h.limit
 
 comes_nearer : (s : Past) (work : Work) (c : ℕ) (ran : Progress) (w : World) (told : Sliced) (new : State) → Reaches (code_of s work) (here s) (c + step_limit) ran w → Comes s work (c + step_limit) ran w told new → Nearer (inside work c) told new.job

@@ -5,7 +5,7 @@ ghost use Rattle.janus_meaning.specs.Machine.{mirror as mirror_of, BeforeBlock a
 ghost use Rattle.janus_meaning.specs.Limit.{step_limit};
 ghost use Rattle.janus_invert.specs.CodeBlock.{code_block};
 ghost use Rattle.janus_linear.specs.Layout.{block_size};
-ghost use Rattle.janus_machine.specs.Places.{place_of, block_of, has_ended, IsStanding};
+ghost use Rattle.janus_machine.specs.Places.{place_of, block_in, has_ended, IsStanding};
 ghost use Rattle.janus_machine.specs.Counts.{counted};
 ghost use Rattle.janus_machine.specs.declared.book.Direction.TheVariants.{Forward, Inverse};
 
@@ -27,7 +27,7 @@ pub(crate) fn last(linear: &Linear) -> usize
 pub struct Cursor {
     pub(crate) direction: Direction,
     /// How many places of the code come behind this one.
-    pub(crate) left: usize,
+    pub(crate) to_go: usize,
     /// How many steps from the entry of the block it stands.
     pub(crate) count: u64,
     /// It was turned round: its steps take those back that it had taken.
@@ -41,7 +41,7 @@ impl Cursor {
     {
         Cursor {
             direction: Direction::Forward,
-            left: 0,
+            to_go: 0,
             count: 0,
             turned: false,
         }
@@ -57,11 +57,11 @@ impl Cursor {
     /// Goes before the block of a book's code.
     pub fn enter(&mut self, book: &Book)
         ensures stands { IsStanding book.now self.new }
-        ensures place { place_of book.now self.new ≡ Before (block_of book.now Forward) [] }
+        ensures place { place_of book.now self.new ≡ Before (block_in book.now Forward) [] }
         ensures counts { (self.new.count ≡ 0) × (self.new.turned ≡ false) }
     {
         self.direction = Direction::Forward;
-        self.left = last(&book.forward);
+        self.to_go = last(&book.forward);
         self.count = 0;
         self.turned = false;
     }
@@ -69,11 +69,11 @@ impl Cursor {
     /// Goes before the block of a book's inverse code.
     pub fn enter_inverse(&mut self, book: &Book)
         ensures stands { IsStanding book.now self.new }
-        ensures place { place_of book.now self.new ≡ Before (block_of book.now Inverse) [] }
+        ensures place { place_of book.now self.new ≡ Before (block_in book.now Inverse) [] }
         ensures counts { (self.new.count ≡ 0) × (self.new.turned ≡ false) }
     {
         self.direction = Direction::Inverse;
-        self.left = last(&book.inverse);
+        self.to_go = last(&book.inverse);
         self.count = 0;
         self.turned = false;
     }
@@ -82,7 +82,7 @@ impl Cursor {
     pub fn is_ended(&self) -> bool
         ensures { result ≡ has_ended self.now }
     {
-        self.left == 0
+        self.to_go == 0
     }
 
     /// Turns round where it stands: the steps from here go back by the way that the cursor came.
@@ -92,13 +92,13 @@ impl Cursor {
         ensures place { place_of book.now self.new ≡ mirror_of (place_of book.now self.old) }
         ensures counts { (self.new.count ≡ self.old.count) × (self.new.turned ≡ not self.old.turned) }
     {
-        self.left = last(book.linear(self.direction)).saturating_sub(self.left);
+        self.to_go = last(book.linear(self.direction)).saturating_sub(self.to_go);
         self.direction = self.direction.opposite();
         self.turned = !self.turned;
     }
 
     /// How many steps may be taken before the limit: the way back has none.
-    pub(crate) fn left(&self) -> u64
+    pub(crate) fn steps_left(&self) -> u64
         requires few { self.now.count ≤ step_limit }
         ensures forward { self.now.turned ≡ false → result ≡ step_limit - self.now.count }
         ensures back { self.now.turned ≡ true → result ≡ 2 ^ 64 - 1 }

@@ -6,7 +6,8 @@ use Rattle.kernel_core.specs.Slices.{finished_by, finished, cells, stepped, move
 use Rattle.kernel_core.specs.Begins.{travel_to}
 use Rattle.kernel_core.specs.Request.{Undo, Redo}
 use Rattle.kernel_core.specs.Midway.{after, gone}
-use Rattle.kernel_core.specs.Theorems.{descendant, favoured, MoveEnds, EndsUnless, UndoGoesUp, RedoGoesDown, GotoGoesThere, RedoGivesBack}
+use Rattle.kernel_core.specs.Theorems.{MoveEnds, EndsUnless}
+use Rattle.kernel_core.specs.Travels.{descendant, favoured, UndoGoesUp, RedoGoesDown, GotoGoesThere, RedoGivesBack}
 use Rattle.kernel_core.specs.Travel.{Travel, Aim}
 use Rattle.kernel_core.specs.Travel as aim
 use Rattle.kernel_core.specs.declared.outcome.End.{End}

@@ -6,7 +6,7 @@ use Rattle.janus_meaning.specs.World.{World, Cell}
 use Rattle.janus_machine.specs.Faults.{fault_of}
 use Rattle.janus_machine.specs.declared.fault.Fault.{Fault}
 use Rattle.janus_machine.specs.declared.fault.Fault.TheVariants as fault
-use Rattle.kernel_core.specs.Language.{Code, Part}
+use Rattle.kernel_core.specs.Language.{Code, CodePart}
 use Rattle.kernel_core.specs.Reached.{Reaches, Progress, Went, Ended, Stopped}
 use Rattle.kernel_core.specs.State.{Past, Work, Posted, Move, Job as Open, Idle, Border, Inside, State, ShownAt, here, code_of, is_full}
 use Rattle.kernel_core.specs.Legal.{can_undo, can_redo, IsLegal}
@@ -84,7 +84,7 @@ reach_same code w m (Stopped j f) (Ended n) u v p q = absurd (exec_no_stop code 
 reach_same code w m (Stopped i f) (Stopped j g) u v p q =
     let same = stop_same code w i j (fault_of f) (fault_of g) p.1 q.1 in (
       ap (λ (n : ℕ). Stopped n f) same.0 ∙ ap (λ (x : Fault). Stopped j x) (fault_same f g same.1),
-      part_same code w j u v (subst (λ (n : ℕ). Part code w n u) same.0 p.0) q.0,
+      part_same code w j u v (subst (λ (n : ℕ). CodePart code w n u) same.0 p.0) q.0,
     )
 
 -- ---- slices

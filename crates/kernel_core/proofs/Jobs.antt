@@ -1,7 +1,7 @@
 -- What a job keeps from its begin to its end, over any events.
 use Rattle.std.proofs.Common.{◌≡◌, ℕ, ◌+◌, ◌-◌, ◌≤◌, Bool, true, false, List, [], ◌∷◌, length, zero, suc, refl, sym, ap, subst, arith, inl, inr, Result, Ok, Err}
 use Rattle.janus_meaning.specs.World.{World, Cell, entered}
-use Rattle.kernel_core.specs.Language.{Code, Forward, Backward, Part}
+use Rattle.kernel_core.specs.Language.{Code, Forward, Backward, CodePart}
 use Rattle.kernel_core.specs.Reached.{Reaches, Progress, Went, Ended, Stopped, IsUnderWay}
 use Rattle.kernel_core.specs.Text.{Accepts}
 use Rattle.kernel_core.specs.State.{Past, Work, Posted, Move, Job as Open, Idle, Border, Inside, State, here, code_of}
@@ -85,7 +85,7 @@ post_keeps old lane posted (Err fault) new s = ap (λ (m : Machine). m.state) s.
 -- ---- a turn
 
 -- before the first step
-pub part_none : (code : Code) (w : World) → (v : World) × Part code w 0 v
+pub part_none : (code : Code) (w : World) → (v : World) × CodePart code w 0 v
 part_none (Forward cell) w = (entered cell w, part_zero_forward cell w)
 part_none (Backward cell) w = (w, part_zero_backward cell w)
 

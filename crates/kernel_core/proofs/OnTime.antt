@@ -2,24 +2,24 @@
 use Rattle.std.proofs.Common.{◌≡◌, ℕ, ◌+◌, ◌<◌, ◌≤◌, false, inl, inr, refl, sym, ap, subst}
 use Rattle.janus_meaning.specs.World.{World}
 use Rattle.kernel_core.specs.Travel.{next_way, Travel, Way, Up, Down}
-use Rattle.kernel_core.specs.Language.{Exec}
+use Rattle.kernel_core.specs.Language.{CodeExec}
 use Rattle.kernel_core.specs.Reached.{Reaches, Progress, Went, Ended, Stopped}
 use Rattle.kernel_core.specs.State.{Past, Move, State, Job as Open, Entered, Inside, here, below, code_of}
 use Rattle.kernel_core.specs.Legal.{IsPossible, IsPossibleAt, IsInTimeAt, IsLegal}
 use Rattle.kernel_core.specs.Slices.{Settles, Comes, SlicesAt}
 use Rattle.kernel_core.specs.Runs.{Machine}
-use Rattle.kernel_core.specs.Theorems.{steps_of, end_world, IsOnTime, SettlesOnTime, NeverFaults, IsMirrored}
+use Rattle.kernel_core.specs.Travels.{steps_of, end_world, IsOnTime, SettlesOnTime, NeverFaults, IsMirrored}
 use Rattle.kernel_core.specs.Turn.{GoesOn}
 use Rattle.kernel_core.specs.declared.outcome.Sliced.{Sliced}
 use Rattle.kernel_core.proofs.LanguageLaws.{exec_inverted, part_inverted, exec_no_stop, exec_same}
 use Rattle.kernel_core.proofs.Trees.{run_above, run_below, up_possible, next_below}
 
 -- the code of an undo or a redo has this run
-ran_by : (s : Past) (travel : Travel) (way : Way) → IsLegal s → IsPossible s.nodes s.favourites s.position travel → next_way travel ≡ way → Exec (code_of s (Move travel)) (here s) (steps_of s travel) (end_world s travel)
+ran_by : (s : Past) (travel : Travel) (way : Way) → IsLegal s → IsPossible s.nodes s.favourites s.position travel → next_way travel ≡ way → CodeExec (code_of s (Move travel)) (here s) (steps_of s travel) (end_world s travel)
 ran_by s travel Up g p way = rw (way, code_of, steps_of, end_world) (run_above s g (up_possible s travel way p).0)
 ran_by s travel Down g p way = rw (way, code_of, steps_of, end_world) (run_below s (below s travel) g (next_below s travel g way p))
 
-pub ran_to_end : (s : Past) (travel : Travel) → IsLegal s → IsPossible s.nodes s.favourites s.position travel → Exec (code_of s (Move travel)) (here s) (steps_of s travel) (end_world s travel)
+pub ran_to_end : (s : Past) (travel : Travel) → IsLegal s → IsPossible s.nodes s.favourites s.position travel → CodeExec (code_of s (Move travel)) (here s) (steps_of s travel) (end_world s travel)
 ran_to_end s travel g p = ran_by s travel (next_way travel) g p refl
 
 pub never_faults : NeverFaults

@@ -8,7 +8,7 @@ use Rattle.std.proofs.lemmas.Option.{slice_get_within}
 use Rattle.cell_tree.specs.declared.node.Node.{Node}
 use Rattle.janus_meaning.specs.World.{World, empty_world, entered, Cell as ACell}
 use Rattle.kernel_core.specs.Travel.{next_way, Travel, Aim, Undo, Redo, Goto, Way, Up, Down}
-use Rattle.kernel_core.specs.Language.{IsFormed, IsSound, Code, Forward, Backward, Part, Exec, end_of}
+use Rattle.kernel_core.specs.Language.{IsFormed, IsSound, Code, Forward, Backward, CodePart, CodeExec, end_of}
 use Rattle.kernel_core.specs.State as state
 use Rattle.kernel_core.specs.State.{State, Past, new_state, root, node_at, world_at, here, below, code_of, ShownAt, worlds_from}
 use Rattle.cell_tree.specs.Tree.{contents_of, root_alone}
@@ -106,7 +106,7 @@ pub state_grown : (tree larger : Tree) (program : ACell) (n : ℕ) (w : World) �
     nodes_of larger ≡ nodes_of tree ++ record { parent = tree.position; cell = program; steps = n } ∷ [] →
     larger.cells.favourites ≡ set tree.cells.favourites tree.position (length (nodes_of tree)) ++ 0 ∷ [] →
     larger.position ≡ length (nodes_of tree) →
-    Exec (Forward program) (here (past_of tree)) n w →
+    CodeExec (Forward program) (here (past_of tree)) n w →
     past_of larger ≡ grown (past_of tree) program n w
 state_grown tree larger program n w nodes favourites position ran =
     let last : w ≡ end_of program (here (past_of tree)) n = exec_end _ _ _ _ ran in
@@ -118,7 +118,7 @@ pub kept_grown : {L : Type 0} (tree larger : Tree) (program : ACell) (n : ℕ) (
     larger.cells.favourites ≡ set tree.cells.favourites tree.position (length (nodes_of tree)) ++ 0 ∷ [] →
     larger.position ≡ length (nodes_of tree) →
     IsLegal (past_of tree) → IsFormed program (here (past_of tree)) →
-    Exec (Forward program) (here (past_of tree)) n (world_of runner) → ArePlacedNodes larger →
+    CodeExec (Forward program) (here (past_of tree)) n (world_of runner) → ArePlacedNodes larger →
     Kept larger runner Idle
 kept_grown tree larger program n runner nodes favourites position legal formed ran placed =
     let e = state_grown tree larger program n (world_of runner) nodes favourites position ran in
@@ -302,19 +302,19 @@ ok_fact P (Err x) e h = absurd (cc)
 
 -- ---- back at the count 0
 
-pub began_cell : (tree : Tree) (work : Work) (program : Program) (v : World) → work ≡ RunCell program → Part (code_of (past_of tree) (work_of work)) (here (past_of tree)) 0 v → v ≡ entered (cell_of_program program) (here (past_of tree))
+pub began_cell : (tree : Tree) (work : Work) (program : Program) (v : World) → work ≡ RunCell program → CodePart (code_of (past_of tree) (work_of work)) (here (past_of tree)) 0 v → v ≡ entered (cell_of_program program) (here (past_of tree))
 began_cell tree work program v e p = part_none_forward (cell_of_program program) (here (past_of tree)) v (rw e at p)
 
-pub began_up : (tree : Tree) (work : Work) (travel : CodeTravel) (v : World) → work ≡ Move travel → next_way (travel_of travel) ≡ Up → Part (code_of (past_of tree) (work_of work)) (here (past_of tree)) 0 v → v ≡ here (past_of tree)
+pub began_up : (tree : Tree) (work : Work) (travel : CodeTravel) (v : World) → work ≡ Move travel → next_way (travel_of travel) ≡ Up → CodePart (code_of (past_of tree) (work_of work)) (here (past_of tree)) 0 v → v ≡ here (past_of tree)
 began_up tree work travel v e way p =
     let s : Past = past_of tree in
-    let q : Part (code_of (past_of tree) (state.Move (travel_of travel))) (here (past_of tree)) 0 v = rw e at p in
+    let q : CodePart (code_of (past_of tree) (state.Move (travel_of travel))) (here (past_of tree)) 0 v = rw e at p in
     part_none_backward (node_at (past_of tree) tree.position).cell (here (past_of tree)) v (rw (way, code_of) at q)
 
 pub began_down : (tree : Tree) (work : Work) (travel : CodeTravel) (v : World) (cell : Cell) → work ≡ Move travel → next_way (travel_of travel) ≡ Down → IsCellAt tree (below (past_of tree) (travel_of travel)) cell →
-    Part (code_of (past_of tree) (work_of work)) (here (past_of tree)) 0 v → v ≡ entered (cell_of_program cell.program) (here (past_of tree))
+    CodePart (code_of (past_of tree) (work_of work)) (here (past_of tree)) 0 v → v ≡ entered (cell_of_program cell.program) (here (past_of tree))
 began_down tree work travel v cell e way at p =
-    let q : Part (code_of (past_of tree) (state.Move (travel_of travel))) (here (past_of tree)) 0 v = rw e at p in
+    let q : CodePart (code_of (past_of tree) (state.Move (travel_of travel))) (here (past_of tree)) 0 v = rw e at p in
     part_none_forward (node_at (past_of tree) (below (past_of tree) (travel_of travel))).cell (here (past_of tree)) v (rw (way, code_of) at q)
     ∙ ap (λ (c : ACell). entered c (here (past_of tree))) (sym (cell_there tree _ cell at))
 
@@ -467,16 +467,16 @@ next_up tree travel cell way legal possible read =
 
 pub ran_above : {L : Type 0} (tree : Tree) (travel : Travel) (cell : Cell) (runner : Runner L) → next_way travel ≡ Up → IsLegal (past_of tree) → IsPossible (nodes_of tree) tree.cells.favourites tree.position travel →
     world_of runner ≡ here (past_of tree) → IsCellAt tree tree.position cell → ArePlacedNodes tree →
-    (before : World) × (n : ℕ) × Exec (Forward (cell_of_program cell.program)) before n (world_of runner) × IsSound before × IsFormed (cell_of_program cell.program) before × IsPlacedIn before cell.program
+    (before : World) × (n : ℕ) × CodeExec (Forward (cell_of_program cell.program)) before n (world_of runner) × IsSound before × IsFormed (cell_of_program cell.program) before × IsPlacedIn before cell.program
 ran_above tree travel cell runner way legal possible shown at placed =
     let s : Past = past_of tree in
     let some = (up_possible (past_of tree) travel way possible).0 in
     let run = run_here (past_of tree) legal some in
-    let ran : Exec (Forward (cell_of_program cell.program)) (world_at (past_of tree) (node_at (past_of tree) tree.position).parent) (node_at (past_of tree) tree.position).steps (here (past_of tree)) =
-    subst (λ (c : ACell). Exec (Forward c) (world_at (past_of tree) (node_at (past_of tree) tree.position).parent) (node_at (past_of tree) tree.position).steps (here (past_of tree))) (sym (cell_there tree tree.position cell at)) run.ran in (
+    let ran : CodeExec (Forward (cell_of_program cell.program)) (world_at (past_of tree) (node_at (past_of tree) tree.position).parent) (node_at (past_of tree) tree.position).steps (here (past_of tree)) =
+    subst (λ (c : ACell). CodeExec (Forward c) (world_at (past_of tree) (node_at (past_of tree) tree.position).parent) (node_at (past_of tree) tree.position).steps (here (past_of tree))) (sym (cell_there tree tree.position cell at)) run.ran in (
       _,
       _,
-      subst (λ (w : World). Exec (Forward (cell_of_program cell.program)) (world_at (past_of tree) (node_at (past_of tree) tree.position).parent) (node_at (past_of tree) tree.position).steps w) (sym shown) ran,
+      subst (λ (w : World). CodeExec (Forward (cell_of_program cell.program)) (world_at (past_of tree) (node_at (past_of tree) tree.position).parent) (node_at (past_of tree) tree.position).steps w) (sym shown) ran,
       parent_sound (past_of tree) legal some,
       subst (λ (c : ACell). IsFormed c (world_at (past_of tree) (node_at (past_of tree) tree.position).parent)) (sym (cell_there tree tree.position cell at)) run.formed,
       placed tree.position cell at,

@@ -6,7 +6,7 @@ use Rattle.janus_meaning.specs.World.{World}
 use Rattle.janus_meaning.specs.Syntax.{Blk}
 use Rattle.janus_meaning.specs.Cells.{WorldPart}
 use Rattle.janus_meaning.proofs.Worlds.{worlds_are_determined, world_trichotomy, worlds_start_and_end}
-use Rattle.kernel_core.specs.Language.{Code, Forward, start_of, block_of, Part, Exec}
+use Rattle.kernel_core.specs.Language.{Code, Forward, start_of, run_block, CodePart, CodeExec}
 use Rattle.kernel_core.specs.Reached.{Reaches, Progress, Went, Ended, Stopped}
 use Rattle.kernel_core.specs.State.{Past, Work, Posted, Move, Job as Open, Idle, Border, Inside, State, ShownAt, here, code_of, is_full}
 use Rattle.kernel_core.specs.Legal.{CanGo, IsLegal, IsPossible, IsPossibleWork, IsPossibleAt, IsInTime, IsInTimeAt}
@@ -40,21 +40,21 @@ new_is_legal = (record { legal = new_legal; begun = tt; possible = tt; in_time =
 -- ---- the worlds that are shown
 
 -- where a world is shown after some steps, one is after fewer
-part_sooner : (code : Code) (w : World) (j i : ℕ) (v : World) → Part code w j v → i ≤ j → (u : World) × Part code w i u
-unfolding Part
+part_sooner : (code : Code) (w : World) (j i : ℕ) (v : World) → CodePart code w j v → i ≤ j → (u : World) × CodePart code w i u
+unfolding CodePart
 part_sooner code w j i v p l =
     let a : World = start_of code w in
-    let b : Blk = block_of code in
-    elim (world_trichotomy (start_of code w) (block_of code) i).some [
+    let b : Blk = run_block code in
+    elim (world_trichotomy (start_of code w) (run_block code) i).some [
       | inl ended ↦
-          let late : j ≤ ended.0 = (worlds_start_and_end (start_of code w) (block_of code)).in_time ended.0 j ended.1 v ended.3 p in
+          let late : j ≤ ended.0 = (worlds_start_and_end (start_of code w) (run_block code)).in_time ended.0 j ended.1 v ended.3 p in
           let within = ended.2 in
-          (v, subst (λ (n : ℕ). WorldPart (start_of code w) (block_of code) n v) (omega arith) p)
+          (v, subst (λ (n : ℕ). WorldPart (start_of code w) (run_block code) n v) (omega arith) p)
       | inr other ↦ elim other [
         | inl stopped ↦ absurd (
-            (world_trichotomy (start_of code w) (block_of code) j).stopped_or_under_way
+            (world_trichotomy (start_of code w) (run_block code) j).stopped_or_under_way
             (stopped.0, stopped.1, (let early = stopped.2 in omega arith), stopped.3)
-            (v, p, λ u e. (worlds_are_determined (start_of code w) (block_of code)).no_stop_and_end stopped.0 j stopped.1 u stopped.3 e)
+            (v, p, λ u e. (worlds_are_determined (start_of code w) (run_block code)).no_stop_and_end stopped.0 j stopped.1 u stopped.3 e)
             )
         | inr on ↦ (on.0, on.1)
       ]
@@ -62,7 +62,7 @@ part_sooner code w j i v p l =
 
 -- a world is shown after so many steps of the work
 abbrev IsShownIn : Past → Work → ℕ → Type 0
-IsShownIn s work c = (w : World) × Part (code_of s work) (here s) c w
+IsShownIn s work c = (w : World) × CodePart (code_of s work) (here s) c w
 
 -- ---- states
 
@@ -95,7 +95,7 @@ arrives_fit zero s t told new e g can a = fit_idle s new g a.1
 arrives_fit (suc left) s t told new e g can a =
     fit_at (record { past = s; job = Border t }) new a.1 (record { legal = g; possible = record { some = omega arith; way_there = can }; in_time = tt; shown = (here s, refl) })
 
-settles_fit : (s : Past) (work : Work) (n : ℕ) (w : World) (told : Sliced) (new : State) → IsLegal s → IsPossibleWork s work → Exec (code_of s work) (here s) n w → Settles s work n w told new → IsFit new
+settles_fit : (s : Past) (work : Work) (n : ℕ) (w : World) (told : Sliced) (new : State) → IsLegal s → IsPossibleWork s work → CodeExec (code_of s work) (here s) n w → Settles s work n w told new → IsFit new
 settles_fit s (Posted cell) n w told new g p e a = fit_idle _ new (legal_grown s cell n w g p e) a.1
 settles_fit s (Move travel) n w told new g p e a =
     let on = moved_legal s travel g p in

@@ -4,12 +4,12 @@ use Rattle.std.proofs.Common.{◌≡◌, ℕ, ◌+◌, ◌-◌, ◌<◌, ◌≤�
 use Rattle.std.proofs.lemmas.Bool.{cases_lt}
 use Rattle.janus_meaning.specs.World.{World}
 use Rattle.janus_machine.specs.Faults.{fault_of}
-use Rattle.kernel_core.specs.Language.{Part}
+use Rattle.kernel_core.specs.Language.{CodePart}
 use Rattle.kernel_core.specs.Reached.{Reaches, Progress, Went, Ended, Stopped}
 use Rattle.kernel_core.specs.State.{Past, State, Work, Posted, Move, Job, Entered, Idle, Border, Inside, here, code_of, ShownAt}
 use Rattle.kernel_core.specs.Legal.{IsLegal, IsPossibleAt, IsPossibleWork, IsInTimeAt, IsInTime}
 use Rattle.kernel_core.specs.Slices.{HasEnded, Backs, Comes, SlicesIn, SlicesAt}
-use Rattle.kernel_core.specs.Theorems.{end_world}
+use Rattle.kernel_core.specs.Travels.{end_world}
 use Rattle.kernel_core.specs.Turn.{Why, WasAsked, Faulted, Turn, GoesOn, GoesBack}
 use Rattle.kernel_core.specs.declared.outcome.Sliced.{Sliced}
 use Rattle.kernel_core.specs.StepsOfSlices.{steps_on, TakesOn, TakesIn, TakesAt, TakesOneNumber, StaysAt, AreStepsOfNode, IsDoneIn, CountsOn, CountsBack, CountsIn, StepsAreCounted}
@@ -49,7 +49,7 @@ steps_of_node s (Posted cell) n w g p e = tt
 steps_of_node s (Move travel) n w g p e = (exec_same (code_of s (Move travel)) (here s) n _ w (end_world s travel) e (ran_to_end s travel g p)).0
 
 -- a fault that code meets stands no earlier than where it stands
-no_earlier : (s : Past) (work : Work) (c m j : ℕ) (w : World) (fault : _) → IsInTime s work c GoesOn → (v : World) × Part (code_of s work) (here s) c v → Reaches (code_of s work) (here s) m (Stopped j fault) w → c ≤ j
+no_earlier : (s : Past) (work : Work) (c m j : ℕ) (w : World) (fault : _) → IsInTime s work c GoesOn → (v : World) × CodePart (code_of s work) (here s) c v → Reaches (code_of s work) (here s) m (Stopped j fault) w → c ≤ j
 no_earlier s work c m j w fault t v r = elim (cases_lt j c) [
   | inl l ↦ absurd (stop_no_part (code_of s work) (here s) j c v.0 (fault_of fault) r.1 l v.1 (λ u e. (let low : c < c = t c u e in omega arith)))
   | inr l ↦ l
@@ -61,7 +61,7 @@ stop_counts s work c (suc j) k why told new l e b =
     let count : suc j ≡ c + k = omega arith in
     inl (subst (λ (n : ℕ). StaysAt s work n new) count (GoesBack why, b.1))
 
-comes_counts : (s : Past) (work : Work) (c m k : ℕ) (ran : Progress) (w : World) (told : Sliced) (new : State) → IsLegal s → IsPossibleWork s work → IsInTime s work c GoesOn → (v : World) × Part (code_of s work) (here s) c v →
+comes_counts : (s : Past) (work : Work) (c m k : ℕ) (ran : Progress) (w : World) (told : Sliced) (new : State) → IsLegal s → IsPossibleWork s work → IsInTime s work c GoesOn → (v : World) × CodePart (code_of s work) (here s) c v →
     k ≡ steps_on c m ran → Reaches (code_of s work) (here s) (c + m) ran w → Comes s work (c + m) ran w told new → CountsOn s work c k told new
 comes_counts s work c m k Went w told new g p t v e r a =
     let count : c + m ≡ c + k = omega arith in
@@ -73,7 +73,7 @@ comes_counts s work c m k (Ended n) w told new g p t v e r a =
 comes_counts s work c m k (Stopped j fault) w told new g p t v e r a =
     stop_counts s work c j k (Faulted fault j) told new (no_earlier s work c (c + m) j w fault t v r) e a
 
-in_counts : (s : Past) (work : Work) (c : ℕ) (turn : Turn) (m k : ℕ) (asked : Bool) (told : Sliced) (new : State) → IsLegal s → IsPossibleWork s work → IsInTime s work c turn → (v : World) × Part (code_of s work) (here s) c v →
+in_counts : (s : Past) (work : Work) (c : ℕ) (turn : Turn) (m k : ℕ) (asked : Bool) (told : Sliced) (new : State) → IsLegal s → IsPossibleWork s work → IsInTime s work c turn → (v : World) × CodePart (code_of s work) (here s) c v →
     SlicesIn s work c turn m asked told new → TakesIn s work c turn m asked k → CountsIn s work c turn asked k told new
 in_counts s work c GoesOn m k false told new g p t v a b =
     let same = reach_same (code_of s work) (here s) (c + m) a.0 b.0 a.1 b.1 a.2 b.2 in

@@ -5,7 +5,7 @@ use Rattle.std.proofs.lemmas.Bool.{cases_eq}
 use Rattle.std.proofs.lemmas.Bool.Decides.{nat_tests}
 use Rattle.janus_meaning.specs.World.{World, empty_world, Cell, entered}
 use Rattle.kernel_core.specs.Travel.{way_from, next_way, Way, Up, Down, Aim, Undo, Redo, Goto, Travel}
-use Rattle.kernel_core.specs.Language.{Forward, Backward, Exec, IsFormed, IsSound, end_of}
+use Rattle.kernel_core.specs.Language.{Forward, Backward, CodeExec, IsFormed, IsSound, end_of}
 use Rattle.kernel_core.specs.State.{Past, Node, new_state, root, ancestor, node_at, world_at, here, favourite_of, below_by, below, worlds_from}
 use Rattle.kernel_core.specs.Legal.{can_undo, can_redo, IsRun, IsChild, IsLegal, IsWayTo, CanGo, IsPossible, IsMeeting}
 use Rattle.kernel_core.specs.Slices.{cells, stepped, moved, grown}
@@ -140,7 +140,7 @@ run_kept s new w i g above l =
       ran = rw (node, world, parent) run.ran;
     }
 
-run_new : (s : Past) (program : Cell) (n : ℕ) (w : World) (i : ℕ) → IsLegal s → i ≡ length s.nodes → IsFormed program (here s) → Exec (Forward program) (here s) n w →
+run_new : (s : Past) (program : Cell) (n : ℕ) (w : World) (i : ℕ) → IsLegal s → i ≡ length s.nodes → IsFormed program (here s) → CodeExec (Forward program) (here s) n w →
     IsRun (s.nodes ++ record { parent = s.position; cell = program; steps = n } ∷ []) (s.worlds ++ w ∷ []) i
 run_new s program n w i g same formed e =
     let new : Node = record { parent = s.position; cell = program; steps = n } in
@@ -239,7 +239,7 @@ favoured_grown s program n w (suc j) g above =
     ap (λ (k : ℕ). get_or (set s.favourites s.position (length s.nodes) ++ 0 ∷ []) k 0) there ∙ grown_favourite s (ancestor s.nodes s.position (suc j)) g below ∙ g.favoured j some ∙ sym here
 
 -- a cell that ended well is a new node
-pub legal_grown : (s : Past) (program : Cell) (n : ℕ) (w : World) → IsLegal s → IsFormed program (here s) → Exec (Forward program) (here s) n w → IsLegal (grown s program n w)
+pub legal_grown : (s : Past) (program : Cell) (n : ℕ) (w : World) → IsLegal s → IsFormed program (here s) → CodeExec (Forward program) (here s) n w → IsLegal (grown s program n w)
 legal_grown s program n w g formed e =
     let new : Node = record { parent = s.position; cell = program; steps = n } in
     let count : length (s.nodes ++ new ∷ []) ≡ length s.nodes + 1 = length-append s.nodes (new ∷ []) in
@@ -299,7 +299,7 @@ favourite_next s g l =
     let child = g.children s.position g.position l in
     record { some = l; known = child.known; parent = child.parent }
 
-pub run_below : (s : Past) (c : ℕ) → IsLegal s → IsNext s c → Exec (Forward (node_at s c).cell) (here s) (node_at s c).steps (world_at s c)
+pub run_below : (s : Past) (c : ℕ) → IsLegal s → IsNext s c → CodeExec (Forward (node_at s c).cell) (here s) (node_at s c).steps (world_at s c)
 run_below s c g next =
     let run : IsRun s.nodes s.worlds c = g.ran c next.some next.known in
     rw next.parent at run.ran
@@ -310,15 +310,15 @@ formed_below s c g next =
     rw next.parent at run.formed
 
 -- the inverse of the position's cell leads to where that cell's statements began
-pub run_above : (s : Past) → IsLegal s → 0 < s.position → Exec (Backward (node_at s s.position).cell) (here s) (node_at s s.position).steps (entered (node_at s s.position).cell (world_at s (node_at s s.position).parent))
+pub run_above : (s : Past) → IsLegal s → 0 < s.position → CodeExec (Backward (node_at s s.position).cell) (here s) (node_at s s.position).steps (entered (node_at s s.position).cell (world_at s (node_at s s.position).parent))
 run_above s g l = exec_inverted _ _ _ _ (sound_good _ (parent_sound s g l)) (run_here s g l).ran
 
 -- the world at the end of an undone cell, and of a redone one
-pub undone_world : (s : Past) (n : ℕ) (w : World) → IsLegal s → 0 < s.position → Exec (Backward (node_at s s.position).cell) (here s) n w →
+pub undone_world : (s : Past) (n : ℕ) (w : World) → IsLegal s → 0 < s.position → CodeExec (Backward (node_at s s.position).cell) (here s) n w →
     w ≡ entered (node_at s s.position).cell (world_at s (node_at s s.position).parent)
 undone_world s n w g l e = (exec_same _ _ _ _ _ _ e (run_above s g l)).1
 
-pub redone_world : (s : Past) (c n : ℕ) (w : World) → IsLegal s → IsNext s c → Exec (Forward (node_at s c).cell) (here s) n w → w ≡ world_at s c
+pub redone_world : (s : Past) (c n : ℕ) (w : World) → IsLegal s → IsNext s c → CodeExec (Forward (node_at s c).cell) (here s) n w → w ≡ world_at s c
 redone_world s c n w g next e = (exec_same _ _ _ _ _ _ e (run_below s c g next)).1
 
 -- ---- travels

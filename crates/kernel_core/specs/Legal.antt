@@ -1,7 +1,7 @@
 -- Legal trees, and what a state of the machine keeps of its open job.
 use Rattle.std.specs.Prelude.{◌≡◌, ℕ, ◌+◌, ◌^◌, ◌<◌, ◌≤◌, ◌==◌, Bool, true, false, IsTrue, List, length, zero, suc, if◌then◌else◌, get_or}
 use Rattle.janus_meaning.specs.World.{World, empty_world}
-use Rattle.kernel_core.specs.Language.{Forward, Exec, IsFormed, IsSound}
+use Rattle.kernel_core.specs.Language.{Forward, CodeExec, IsFormed, IsSound}
 use Rattle.kernel_core.specs.State.{Past, Node, Work, Posted, Move, Job, Idle, Border, Inside, root, ancestor, node_at, world_at, here, favourite_of, code_of}
 use Rattle.kernel_core.specs.Travel.{Aim, Undo, Redo, Goto, Travel}
 use Rattle.kernel_core.specs.Turn.{Turn, GoesOn, GoesBack}
@@ -21,7 +21,7 @@ pub record IsRun (nodes : List Node) (worlds : List World) (n : ℕ) : Type 0 wh
   pub parent : (get_or nodes n root).parent < n
   pub formed : IsFormed (get_or nodes n root).cell (get_or worlds (get_or nodes n root).parent empty_world)
   pub ran :
-      Exec (Forward (get_or nodes n root).cell) (get_or worlds (get_or nodes n root).parent empty_world) (get_or nodes n root).steps
+      CodeExec (Forward (get_or nodes n root).cell) (get_or worlds (get_or nodes n root).parent empty_world) (get_or nodes n root).steps
       (get_or worlds n empty_world)
 
 -- the favourite of the node n is a child of it
@@ -76,7 +76,7 @@ IsPossibleAt s (Inside e) = IsPossibleWork s e.work
 
 -- a job inside a cell has steps to take: while it goes on, the end of the code is ahead; while it goes back, the count is not 0 yet
 abbrev pub IsInTime : Past → Work → ℕ → Turn → Type 0
-IsInTime s work count GoesOn = (n : ℕ) (w : World) → Exec (code_of s work) (here s) n w → count < n
+IsInTime s work count GoesOn = (n : ℕ) (w : World) → CodeExec (code_of s work) (here s) n w → count < n
 IsInTime s work count (GoesBack why) = 0 < count
 
 abbrev pub IsInTimeAt : Past → Job → Type 0

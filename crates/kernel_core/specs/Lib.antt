@@ -17,11 +17,12 @@ pub mod Extent
 pub mod Request
 pub mod Minutes
 pub mod Runs
-pub mod StepsOfSlices
 pub mod PostFault
 pub mod Midway
 pub mod LegalState
 pub mod Theorems
+pub mod Travels
+pub mod StepsOfSlices
 pub mod LegalMinutes
 pub mod Counters
 pub mod Determined

@@ -2,7 +2,7 @@
 use Rattle.std.specs.Prelude.{◌≡◌, ℕ, ◌+◌, ◌-◌, Bool, true, false, [], ◌∷◌, ◌++◌, length, zero, suc, set}
 use Rattle.janus_meaning.specs.World.{World, Cell}
 use Rattle.kernel_core.specs.Travel.{next_way, Up, Down, Aim, Undo, Redo, Goto, Travel}
-use Rattle.kernel_core.specs.Language.{Exec}
+use Rattle.kernel_core.specs.Language.{CodeExec}
 use Rattle.kernel_core.specs.Reached.{Reaches, Progress, Went, Ended, Stopped}
 use Rattle.kernel_core.specs.State.{Past, State, Work, Posted, Move, Job, Idle, Border, Inside, node_at, here, below, code_of}
 use Rattle.kernel_core.specs.Turn.{Why, WasAsked, Faulted, Turn, GoesOn, GoesBack}
@@ -75,7 +75,7 @@ Settles s (Move travel) n w told new = Arrives (cells (stepped travel)) (moved s
 
 -- the code of the work has come to its end
 abbrev pub HasEnded : Past → Work → ℕ → World → Type 0
-HasEnded s work n w = Exec (code_of s work) (here s) n w
+HasEnded s work n w = CodeExec (code_of s work) (here s) n w
 
 -- what follows where the code came thus far
 abbrev pub Comes : Past → Work → ℕ → Progress → World → Sliced → State → Type 0

@@ -2,7 +2,7 @@
 -- store.
 use Rattle.std.specs.Prelude.{◌≡◌, ℕ, ◌-◌, List, [], ◌∷◌, ◌++◌, length, get_or, zero, suc, Bool, nat_lt}
 use Rattle.janus_meaning.specs.World.{World, empty_world, Cell}
-use Rattle.kernel_core.specs.Language.{empty_cell, Code, Forward, Backward, Part, end_of}
+use Rattle.kernel_core.specs.Language.{empty_cell, Code, Forward, Backward, CodePart, end_of}
 use Rattle.kernel_core.specs.Travel.{Up, Down, Aim, Undo, Redo, Goto, Travel, next_way}
 use Rattle.kernel_core.specs.Turn.{Turn}
 
@@ -94,7 +94,7 @@ code_of s (Move travel) = elim (next_way travel) [
 abbrev pub ShownAt : Past → Job → World → Type 0
 ShownAt s Idle w = w ≡ here s
 ShownAt s (Border travel) w = w ≡ here s
-ShownAt s (Inside e) w = Part (code_of s e.work) (here s) e.count w
+ShownAt s (Inside e) w = CodePart (code_of s e.work) (here s) e.count w
 
 abbrev pub Shown : State → World → Type 0
 Shown s w = ShownAt s.past s.job w

@@ -6,7 +6,7 @@ use Rattle.kernel_core.specs.Reached.{Reaches, Progress, Went, Ended, Stopped}
 use Rattle.kernel_core.specs.State.{Past, State, Work, Posted, Move, Job, Entered, Idle, Border, Inside, here, code_of}
 use Rattle.kernel_core.specs.LegalState.{IsLegalState}
 use Rattle.kernel_core.specs.Slices.{IsSlice, Settles, HasEnded}
-use Rattle.kernel_core.specs.Theorems.{steps_of}
+use Rattle.kernel_core.specs.Travels.{steps_of}
 use Rattle.kernel_core.specs.Turn.{Turn, GoesOn, GoesBack}
 use Rattle.kernel_core.specs.Runs.{Machine, Step, Seen}
 use Rattle.kernel_core.specs.declared.events.Event.{Event}

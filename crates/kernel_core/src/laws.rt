@@ -1,7 +1,8 @@
 //! The main theorem, over every run of the machine. `run_events` gives such runs, and each state of a kernel is legal.
 //! The functions do nothing: their contracts are the laws.
 ghost use Rattle.kernel_core.specs.Determined.{StepIsDetermined, RunIsDetermined, OneWorldIsShown};
-ghost use Rattle.kernel_core.specs.Theorems.{NewIsLegal, StaysLegal, GoesBackForItsReason, JobsEnd, OnlyAskedSlicesStop, UndoesAll, UndoGoesUp, RedoGoesDown, GotoGoesThere, RedoGivesBack, SettlesOnTime, NeverFaults, IsMirrored, PathGivesWorld, UndoGoesUpThePath, RedoGoesDownFavourites, ShutRefusesJobs};
+ghost use Rattle.kernel_core.specs.Theorems.{NewIsLegal, StaysLegal, GoesBackForItsReason, JobsEnd, OnlyAskedSlicesStop, UndoesAll, ShutRefusesJobs};
+ghost use Rattle.kernel_core.specs.Travels.{UndoGoesUp, RedoGoesDown, GotoGoesThere, RedoGivesBack, SettlesOnTime, NeverFaults, IsMirrored, PathGivesWorld, UndoGoesUpThePath, RedoGoesDownFavourites};
 ghost use Rattle.kernel_core.specs.StepsOfSlices.{TakesOneNumber, StepsAreCounted};
 ghost use Rattle.kernel_core.specs.LegalMinutes.{KeepsLegalMinutes};
 ghost use Rattle.kernel_core.specs.Counters.{EndTellsCounted, CounterNeverFalls, CountedIsNext, NoCounterTwice, CounterIsOfBegun, EndsWithinCounter};

@@ -13,7 +13,7 @@
 //! - `Kernel::minutes`: each post, and how each job ended. They are legal: a fold over them that knows nothing of slices gives the
 //!   tree, the position, the favourites and the counter, save what the open job has done (specs/LegalMinutes.antt).
 //! - `run_events`: the answers and the state after any list of events are a run of the machine from the state before.
-//! - `laws`: what this says of undo and redo over any schedule (specs/Theorems.antt), and that want of memory aside each answer
+//! - `laws`: what this says of undo and redo over any schedule (specs/Theorems.antt and Travels.antt), and that want of memory aside each answer
 //!   is the only one (specs/Determined.antt).
 //!
 //! The meaning of a cell is that of `janus_meaning` (Yokoyama and Glück 2007; Yokoyama, Axelsen and Glück 2008), in the form of

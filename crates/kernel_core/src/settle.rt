@@ -1,6 +1,6 @@
 //! The parts of a slice: steps onward and back, and what comes at the end of a cell. None of them takes memory.
 ghost use Rattle.std.specs.Prelude.{◌≡◌, ◌-◌};
-ghost use Rattle.kernel_core.specs.Language.{Part};
+ghost use Rattle.kernel_core.specs.Language.{CodePart};
 ghost use Rattle.kernel_core.specs.State.{Past, here, code_of};
 ghost use Rattle.kernel_core.specs.Travel.{Up, Down, next_way};
 ghost use Rattle.kernel_core.specs.Fields.{past_of, state_of, travel_of, why_of, work_of, job_of};
@@ -14,7 +14,7 @@ ghost use Rattle.kernel_core.specs.Kept.{Kept, IsProgramOf, HasPathFor};
 use crate::job::{Aim, Entered, Open, Travel, Turn, Way, Why, Work};
 use crate::outcome::{End, Outcome, Sliced};
 use crate::program::Program;
-use crate::runner::{Ran, Runner};
+use crate::runner::{Progress, Runner};
 use crate::tree::{Cell, Tree, below};
 use cell_tree::Node;
 use janus_machine::Writes;
@@ -63,7 +63,7 @@ fn settle_back<L: Ledger>(tree: &Tree, runner: &mut Runner<L>, work: &Work)
     requires legal { IsLegal (past_of tree.now) }
     requires possible { IsPossibleWork (past_of tree.now) (work_of work.now) }
     requires path { HasPathFor tree.now work.now }
-    requires back { Part (code_of (past_of tree.now) (work_of work.now)) (here (past_of tree.now)) 0 (world_of runner.old) }
+    requires back { CodePart (code_of (past_of tree.now) (work_of work.now)) (here (past_of tree.now)) 0 (world_of runner.old) }
     ensures { world_of runner.new ≡ here (past_of tree.now) }
 {
     match work {
@@ -227,7 +227,7 @@ pub fn go_on<L: Ledger>(
     ensures written { WritesOn (past_of tree.old) (work_of work) count m writes.old writes.new }
 {
     match runner.run(program_of(tree, &work), writes, m) {
-        Ran::Went => (
+        Progress::Went => (
             Open::Inside(Entered {
                 work,
                 count: runner.count(),
@@ -235,8 +235,8 @@ pub fn go_on<L: Ledger>(
             }),
             Sliced::Going,
         ),
-        Ran::Ended(n) => settle(tree, runner, work, n),
-        Ran::Stopped(j, fault) => {
+        Progress::Ended(n) => settle(tree, runner, work, n),
+        Progress::Stopped(j, fault) => {
             turn_back(tree, runner, writes, work, j, Why::Faulted(fault, j), 0)
         },
     }
