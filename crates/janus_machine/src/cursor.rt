@@ -1,7 +1,7 @@
 //! A place in code.
 
 ghost use Rattle.std.specs.Prelude.{◌≡◌, ◌+◌, ◌-◌, ◌≤◌, ◌^◌, [], true, false, not};
-ghost use Rattle.janus_meaning.specs.Machine.{mirror as mirror_of, BeforeBlock as Before};
+ghost use Rattle.janus_meaning.specs.Stepping.{mirror as mirror_of, BeforeBlock as Before};
 ghost use Rattle.janus_meaning.specs.Limit.{step_limit};
 ghost use Rattle.janus_invert.specs.CodeBlock.{code_block};
 ghost use Rattle.janus_linear.specs.Layout.{block_size};

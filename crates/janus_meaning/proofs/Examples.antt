@@ -11,7 +11,7 @@ use Rattle.janus_meaning.specs.Limit.{frame_limit}
 use Rattle.janus_meaning.specs.Value.{value}
 use Rattle.janus_meaning.specs.Moves.{stack_room, stack_has_room}
 use Rattle.janus_meaning.specs.Meaning.{Block, Exec, Stop}
-use Rattle.janus_meaning.specs.Machine.{BeforeBlock, AfterBlock, To, Halt, Place, step, steps, shown}
+use Rattle.janus_meaning.specs.Stepping.{BeforeBlock, AfterBlock, To, Halt, Place, step, steps, shown}
 use Rattle.janus_meaning.specs.World.{stacks_in}
 use Rattle.janus_meaning.proofs.Interface.{machine_meaning}
 

@@ -6,7 +6,7 @@ use Rattle.janus_meaning.specs.Syntax.{Name, Blk, Nil, Cons, Proc, names_of, rej
 use Rattle.janus_meaning.specs.Store.{Val, Store, look, find, values, fill, IsGood}
 use Rattle.janus_meaning.specs.Moves.{Hole, InThen, InElse, InDo, InLoop, InInt, InStack, InCall, InUncall, rebuild, seen, seen_call}
 use Rattle.janus_meaning.specs.Meaning.{Block, One, Part}
-use Rattle.janus_meaning.specs.Machine.{Frame, Framed, Place, BeforeBlock, AfterBlock, BeforeOne, AfterOne, seen_through, shown}
+use Rattle.janus_meaning.specs.Stepping.{Frame, Framed, Place, BeforeBlock, AfterBlock, BeforeOne, AfterOne, seen_through, shown}
 use Rattle.janus_meaning.specs.WorldLaw.{KeepsGood}
 use Rattle.janus_meaning.proofs.Results.{with_parts, by_fine}
 use Rattle.janus_meaning.proofs.Stores.{AllGood, fill_good}

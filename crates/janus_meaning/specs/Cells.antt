@@ -6,7 +6,7 @@ use Rattle.janus_meaning.specs.Syntax.{Blk, Proc}
 use Rattle.janus_meaning.specs.Store.{Store, IsGood}
 use Rattle.janus_meaning.specs.Outside.{Outside}
 use Rattle.janus_meaning.specs.Meaning.{Run, Going, Whole, Block, Exec, Part, Stop}
-use Rattle.janus_meaning.specs.Machine.{BeforeBlock, Next, To, End, Halt, steps, shown}
+use Rattle.janus_meaning.specs.Stepping.{BeforeBlock, Next, To, End, Halt, steps, shown}
 use Rattle.janus_meaning.specs.World.{World, Cell, entered, stacks_in, size_of, oldest}
 
 -- what stands outside a block that is run in a world: nothing is open round it, and the world's stacks live

@@ -7,7 +7,7 @@ use Rattle.janus_syntax.specs.Forms.{Part, Tree, Class, Seen, seen, Form, done, 
 use Rattle.janus_syntax.specs.Table.{rule, left_out, label}
 use Rattle.janus_syntax.specs.Grammar
 use Rattle.janus_syntax.specs.Grammar.{Count, zero_count, entered, closed, fits, Demands, all, met, Spells, Begins, text_form, IsTree, Next, Wanted, Complete, required, passed_over}
-use Rattle.janus_syntax.specs.Machine.{Stack, bottom, waits, State, at, Step, Go, Accept, Stuck, TooMany, go_if, enter, skip, taken, at_form, hand, step, wanted_behind, wanted, Ended, at_end, follow, run, start, next}
+use Rattle.janus_syntax.specs.Reader.{Stack, bottom, waits, State, at, Step, Go, Accept, Stuck, TooMany, go_if, enter, skip, taken, at_form, hand, step, wanted_behind, wanted, Ended, at_end, follow, run, start, next}
 use Rattle.janus_syntax.proofs.Follow.{may_follow, May, Proper, AllProper}
 use Rattle.janus_syntax.proofs.LeftOut.{no_rule}
 use Rattle.janus_syntax.proofs.KeepsTable.{proper_rule, proper_text}

@@ -9,7 +9,7 @@ use Rattle.janus_syntax.specs.Tree.{Name as Named, named, Exp, Stm, Skip, Assign
 use Rattle.janus_syntax.specs.Forms.{Part, Target_index, Whole, The_sign, An_update, Form, done, take, part, close}
 use Rattle.janus_syntax.specs.Table.{sign_then, assignment}
 use Rattle.janus_syntax.specs.Grammar.{all, depth_limit, Refusal, TooNested}
-use Rattle.janus_syntax.specs.Machine.{Stack, waits}
+use Rattle.janus_syntax.specs.Reader.{Stack, waits}
 use Rattle.janus_syntax.specs.Reading.{TokenGoes, TokenFails, count, Moves, Stops, IsPart, FailsPart, BeginsWithSign}
 use Rattle.janus_syntax.specs.Statements.{IsStm, FailsStm, if_form, from_form, assignment_form, IsIf, FailsIf, IsLoop, FailsLoop, IsAssignment, FailsAssignment}
 use Rattle.janus_syntax.proofs.Agrees.{run_hands, left_behind}

@@ -7,7 +7,7 @@ use Rattle.janus_syntax.specs.Forms.{Part, Tree, Class, Seen, seen, Form, done, 
 use Rattle.janus_syntax.specs.Table.{rule, left_out}
 use Rattle.janus_syntax.specs.Grammar
 use Rattle.janus_syntax.specs.Grammar.{Count, entered, closed, fits, Demands, met, Spells}
-use Rattle.janus_syntax.specs.Machine.{Stack, bottom, waits, State, at, Step, Go, Accept, Stuck, TooMany, go_if, enter, skip, taken, at_form, hand, step}
+use Rattle.janus_syntax.specs.Reader.{Stack, bottom, waits, State, at, Step, Go, Accept, Stuck, TooMany, go_if, enter, skip, taken, at_form, hand, step}
 
 -- a family of forms with tokens that can be drawn back over each rule
 pub record Goes_back (d : Demands) (G : (p : Part) → Form p → Count → List Token → Type 0) : Type 0 where

@@ -9,7 +9,7 @@ use Rattle.janus_syntax.specs.Tree.{Stm, Block, Empty, More, stm_view, block_vie
 use Rattle.janus_syntax.specs.Forms.{Part, Body, Statements, Tree, Form, done, part, Rule}
 use Rattle.janus_syntax.specs.Table.{rule, statement}
 use Rattle.janus_syntax.specs.Grammar.{all, entered, fits, Refusal, Expected}
-use Rattle.janus_syntax.specs.Machine.{Stack, waits, at, Step, Stuck, enter, skip, at_form, hand, follow, run, next}
+use Rattle.janus_syntax.specs.Reader.{Stack, waits, at, Step, Stuck, enter, skip, at_form, hand, follow, run, next}
 use Rattle.janus_syntax.specs.declared.problem.Problem.{Problem}
 use Rattle.janus_syntax.specs.declared.token.Word.{Word}
 use Rattle.janus_syntax.specs.Reading.{Reads, BeginsWith, begun, count, IsPart, FailsPart}

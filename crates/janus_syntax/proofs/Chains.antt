@@ -11,7 +11,7 @@ use Rattle.janus_syntax.specs.Operators.{joined, operator_at}
 use Rattle.janus_syntax.specs.Forms.{Part, Level, Chain, Form, done, part, Rule}
 use Rattle.janus_syntax.specs.Table.{rule, operand, chains, chain_rule}
 use Rattle.janus_syntax.specs.Grammar.{Count, all, entered, fits, depth_limit, operator_limit, Refusal, TooNested}
-use Rattle.janus_syntax.specs.Machine.{Stack, waits, State, at, Stuck, TooMany, go_if, enter, at_form, hand, follow, run, wanted, next, Nested}
+use Rattle.janus_syntax.specs.Reader.{Stack, waits, State, at, Stuck, TooMany, go_if, enter, at_form, hand, follow, run, wanted, next, Nested}
 use Rattle.janus_syntax.specs.Reading.{begun, begin, count, IsExp, FailsExp, seen_operator, IsOperator, IsSoFar, IsChain}
 use Rattle.janus_syntax.proofs.Agrees.{run_hands, run_alike, steps_over, wants_behind}
 

@@ -14,7 +14,7 @@ use Rattle.janus_syntax.specs.Forms.{Part, Body, Statements, Whole, Level, Chain
 use Rattle.janus_syntax.specs.Table.{rule, left_out, chains}
 use Rattle.janus_syntax.specs.Grammar
 use Rattle.janus_syntax.specs.Grammar.{Count, zero_count, entered, closed, fits, depth_limit, operator_limit, Demands, met, Spells, text_form, IsTree}
-use Rattle.janus_syntax.specs.Machine.{Stack, bottom, waits, State, at, start}
+use Rattle.janus_syntax.specs.Reader.{Stack, bottom, waits, State, at, start}
 use Rattle.janus_syntax.proofs.Back.{Behind, At, Goes_back}
 
 no_span : Span

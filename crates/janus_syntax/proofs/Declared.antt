@@ -13,7 +13,7 @@ use Rattle.janus_syntax.specs.Tree.{Name as Named, Exp, Block, Declaration, Int,
 use Rattle.janus_syntax.specs.Forms.{Part, A_cell, Declarations, Statements, Bound, Whole, Tree, The_sign, A_name, A_number, Form, done, take, part}
 use Rattle.janus_syntax.specs.Table.{rule, declared, sign_then}
 use Rattle.janus_syntax.specs.Grammar.{all, operator_limit, IsTree, Refusal, Expected}
-use Rattle.janus_syntax.specs.Machine.{Stack, bottom, waits, at, Outcome, Ended, run, start, outcome_of, next}
+use Rattle.janus_syntax.specs.Reader.{Stack, bottom, waits, at, Outcome, Ended, run, start, outcome_of, next}
 use Rattle.janus_syntax.specs.Reading.{TokenGoes, TokenFails, BeginsWith, BeginsWithSign, count, Stands, Moves, Stops, IsPart, FailsPart}
 use Rattle.janus_syntax.specs.Statements.{is_declaration, begin_declaration, IsDeclaration, FailsDeclaration, IsBound, FailsBound, AtDeclarations, AreDeclared, AtEnd, Refused}
 use Rattle.janus_syntax.proofs.Agrees.{run_hands, left_behind}

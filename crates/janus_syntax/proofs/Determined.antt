@@ -5,7 +5,7 @@ use Rattle.janus_syntax.specs.declared.fault.What.TheVariants as what
 use Rattle.janus_syntax.specs.Tokens.{Token}
 use Rattle.janus_syntax.specs.Forms.{Part, Tree}
 use Rattle.janus_syntax.specs.Grammar.{Demands, all, but_limits, zero_count, IsTree, IsOpen, Wants, Refusal, Expected, TooNested, IsRefused, expected, expected_at_end, too_nested}
-use Rattle.janus_syntax.specs.Machine.{State, Step, Go, Accept, Stuck, TooMany, step, wanted, Outcome, Ended, Failed, Nested, outcome_of, at_end, follow, run, start}
+use Rattle.janus_syntax.specs.Reader.{State, Step, Go, Accept, Stuck, TooMany, step, wanted, Outcome, Ended, Failed, Nested, outcome_of, at_end, follow, run, start}
 use Rattle.janus_syntax.specs.Laws.{OneTree, OneRefusal, NotBoth, OneWanted, WantsIfOpen, OpenIfWants}
 use Rattle.janus_syntax.proofs.Agrees.{reads_cell}
 use Rattle.janus_syntax.proofs.Completes.{Within}

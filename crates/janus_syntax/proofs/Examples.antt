@@ -12,7 +12,7 @@ use Rattle.janus_syntax.specs.Tokens.{Token, Name, Number, Sign_of, Word_of}
 use Rattle.janus_syntax.specs.Tree.{Name as Named, named, Num, Var, Neg, Bin, Skip, Assign, If, Empty, More, cell_of}
 use Rattle.janus_syntax.specs.Forms.{A_cell}
 use Rattle.janus_syntax.specs.Grammar.{all}
-use Rattle.janus_syntax.specs.Machine.{Outcome, Ended, Failed, Nested, run, start}
+use Rattle.janus_syntax.specs.Reader.{Outcome, Ended, Failed, Nested, run, start}
 
 abbrev at : Span
 at = record { start = 0; end = 0 }

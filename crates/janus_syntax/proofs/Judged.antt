@@ -4,7 +4,7 @@ use Rattle.janus_syntax.specs.Tokens.{Token}
 use Rattle.janus_syntax.specs.Forms.{Part, Tree, Class, Seen, seen, Form, done, take, part, close, Rule}
 use Rattle.janus_syntax.specs.Table.{rule, left_out}
 use Rattle.janus_syntax.specs.Grammar.{Count, entered, closed, fits, Demands, met}
-use Rattle.janus_syntax.specs.Machine.{Stack, bottom, waits, State, at, Step, Go, Accept, Stuck, TooMany, go_if, enter, skip, taken, at_form, hand, step}
+use Rattle.janus_syntax.specs.Reader.{Stack, bottom, waits, State, at, Step, Go, Accept, Stuck, TooMany, go_if, enter, skip, taken, at_form, hand, step}
 use Rattle.janus_syntax.proofs.Completes.{Within, within_closed, count_of}
 
 pub data Raw (goal : Part) : Type 0 where

@@ -11,7 +11,7 @@ use Rattle.janus_syntax.specs.Operators.{weakest}
 use Rattle.janus_syntax.specs.Forms.{Part, Level, Index, The_sign, Form, done, part, close}
 use Rattle.janus_syntax.specs.Table.{marked, begins, opens, sign_then, variable}
 use Rattle.janus_syntax.specs.Grammar.{all, fits, depth_limit, operator_limit, Refusal}
-use Rattle.janus_syntax.specs.Machine.{Stack, waits, at, run, wanted, Nested, outcome_of}
+use Rattle.janus_syntax.specs.Reader.{Stack, waits, at, run, wanted, Nested, outcome_of}
 use Rattle.janus_syntax.specs.Reading.{TokenGoes, TokenFails, begun, count, IsExp, FailsExp, IsIndexed, FailsIndexed, BeginsWithSign}
 use Rattle.janus_syntax.proofs.Agrees.{run_hands, left_behind}
 use Rattle.janus_syntax.proofs.LeftOut.{not_index}

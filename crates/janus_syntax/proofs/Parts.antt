@@ -9,7 +9,7 @@ use Rattle.janus_syntax.specs.Operators.{weakest}
 use Rattle.janus_syntax.specs.Forms.{Part, Whole, Tree, Class, Seen, Form, done, take, part, close, Rule}
 use Rattle.janus_syntax.specs.Table.{rule, left_out, begins, opens, whole, operand, chains}
 use Rattle.janus_syntax.specs.Grammar.{all, fits, depth_limit, operator_limit, Refusal}
-use Rattle.janus_syntax.specs.Machine.{Stack, waits, at, Step, Stuck, enter, skip, at_form, hand, follow, run, wanted, Nested}
+use Rattle.janus_syntax.specs.Reader.{Stack, waits, at, Step, Stuck, enter, skip, at_form, hand, follow, run, wanted, Nested}
 use Rattle.janus_syntax.specs.Reading.{TokenGoes, TokenFails, count, Moves, Stops, IsPart, FailsPart, begun, begin, IsExp, FailsExp}
 use Rattle.janus_syntax.proofs.Agrees.{run_goes, run_hands, run_closes, steps_part}
 use Rattle.janus_syntax.proofs.Chains.{go_if_runs, fits_count}

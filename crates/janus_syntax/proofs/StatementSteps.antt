@@ -8,7 +8,7 @@ use Rattle.janus_syntax.specs.Tree.{Exp, Stm, If, Loop, Block}
 use Rattle.janus_syntax.specs.Forms.{Part, Body, Else_part, Do_part, Loop_part, Whole, Tree, The_word, Form, done, part, close}
 use Rattle.janus_syntax.specs.Table.{rule, left_out, begins, word_then, skip_block}
 use Rattle.janus_syntax.specs.Grammar.{all, depth_limit, Refusal}
-use Rattle.janus_syntax.specs.Machine.{waits, next}
+use Rattle.janus_syntax.specs.Reader.{waits, next}
 use Rattle.janus_syntax.specs.Reading.{TokenGoes, TokenFails, count, Moves, IsPart, FailsPart, BeginsWith}
 use Rattle.janus_syntax.specs.Statements.{if_form, from_form, IsIf, FailsIf, IsLoop, FailsLoop, IsOptional, there, left, FailsOptional}
 use Rattle.janus_syntax.proofs.Agrees.{run_hands, left_behind}

@@ -15,7 +15,7 @@ use Rattle.janus_syntax.specs.declared.problem.Problem.TheVariants as problem
 use Rattle.janus_syntax.specs.Tokens.{Token, Name, Number, Sign_of, Word_of, token_of, views}
 use Rattle.janus_syntax.specs.Forms.{The_word, The_sign, Class, Seen, seen, word_number, sign_number, what_of, take}
 use Rattle.janus_syntax.specs.Grammar.{all, Refusal, Expected, TooNested}
-use Rattle.janus_syntax.specs.Machine.{at, follow, run, next, taken}
+use Rattle.janus_syntax.specs.Reader.{at, follow, run, next, taken}
 use Rattle.janus_syntax.specs.Reading.{FailsAs, TokenGoes, TokenFails, BeginsWith, BeginsWithSign}
 use Rattle.janus_syntax.proofs.Agrees.{run_goes, steps_token}
 use Rattle.janus_syntax.proofs.Follow.{no_index}

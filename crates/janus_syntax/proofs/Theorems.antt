@@ -7,7 +7,7 @@ use Rattle.janus_syntax.specs.declared.problem.Problem.TheVariants as problem
 use Rattle.janus_syntax.specs.Tokens.{Token}
 use Rattle.janus_syntax.specs.Forms.{Part, Tree}
 use Rattle.janus_syntax.specs.Grammar.{all, IsTree, Refusal, Expected, TooNested, IsRefused}
-use Rattle.janus_syntax.specs.Machine.{Ended, run, start}
+use Rattle.janus_syntax.specs.Reader.{Ended, run, start}
 use Rattle.janus_syntax.specs.Reading.{Reads, FailsAs, Within, fault_of}
 use Rattle.janus_syntax.specs.Statements.{Refused}
 use Rattle.janus_syntax.specs.Lexical.{AreTokens}

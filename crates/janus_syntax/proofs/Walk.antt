@@ -7,7 +7,7 @@ use Rattle.janus_syntax.specs.Forms.{Part, Tree, Form, done, take, part, close}
 use Rattle.janus_syntax.specs.Table.{left_out, label}
 use Rattle.janus_syntax.specs.Grammar
 use Rattle.janus_syntax.specs.Grammar.{Count, zero_count, closed, fits, Demands, all, met, Spells, Begins, Wants, an_item, the_end, text_form, IsTree, Next, Wanted, Complete, required, passed_over}
-use Rattle.janus_syntax.specs.Machine.{Stack, bottom, waits, State, at, Go, Accept, Stuck, TooMany, step, wanted_behind, wanted, Outcome, Ended, at_end, follow, run, start}
+use Rattle.janus_syntax.specs.Reader.{Stack, bottom, waits, State, at, Go, Accept, Stuck, TooMany, step, wanted_behind, wanted, Outcome, Ended, at_end, follow, run, start}
 use Rattle.janus_syntax.proofs.Agrees.{run_goes, reads_cell, wants, at_end_wants}
 use Rattle.janus_syntax.proofs.KeepsTable.{proper_text}
 use Rattle.janus_syntax.proofs.Back.{Behind, At, Goes_back, back, if_goes, many_goes, same_state}

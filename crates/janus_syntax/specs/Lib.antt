@@ -11,7 +11,7 @@ pub mod Table
 pub mod Grammar
 pub mod Laws
 pub mod Text
-pub mod Machine
+pub mod Reader
 pub mod Reading
 pub mod Statements
 pub mod Printing

@@ -18,7 +18,7 @@ use Rattle.janus_syntax.specs.Forms.{Part, Index, Chain, Tree, Class, Seen, Form
 use Rattle.janus_syntax.specs.Table.{operand, chains, variable}
 use Rattle.janus_syntax.specs.Grammar.{Count, all, entered, fits, operator_limit, Refusal, Expected, TooNested}
 use Rattle.janus_syntax.specs.Text.{place_before}
-use Rattle.janus_syntax.specs.Machine.{Stack, at, run, Outcome, Ended, Failed, Nested, outcome_of}
+use Rattle.janus_syntax.specs.Reader.{Stack, at, run, Outcome, Ended, Failed, Nested, outcome_of}
 
 -- how tokens are refused, unless memory ran out
 abbrev pub FailsAs : (Refusal → Type 0) → Problem → Type 0

@@ -12,7 +12,7 @@ use Rattle.janus_syntax.specs.Tree.{Name as Named, Stm, If, Loop, Block, Empty, 
 use Rattle.janus_syntax.specs.Forms.{Part, Body, Statements, Declarations, Bound, Whole, Else_part, Do_part, Loop_part, Target_index, An_update, Form, take, part, close}
 use Rattle.janus_syntax.specs.Table.{word_then, statement, declaration, declared, assignment, skip_block}
 use Rattle.janus_syntax.specs.Grammar.{all, operator_limit, Refusal, Expected}
-use Rattle.janus_syntax.specs.Machine.{Stack, at, run, start, Outcome, Ended, outcome_of, next}
+use Rattle.janus_syntax.specs.Reader.{Stack, at, run, start, Outcome, Ended, outcome_of, next}
 use Rattle.janus_syntax.specs.Reading.{begun, count, BeginsWith, Stands, Moves, Stops, IsPart, FailsPart}
 
 -- ---- statements

@@ -7,7 +7,7 @@ ghost use Rattle.janus_syntax.specs.Tokens.{views};
 ghost use Rattle.janus_syntax.specs.Operators.{joined};
 ghost use Rattle.janus_syntax.specs.Forms.{Whole};
 ghost use Rattle.janus_syntax.specs.Grammar.{operator_limit, depth_limit};
-ghost use Rattle.janus_syntax.specs.Machine.{next};
+ghost use Rattle.janus_syntax.specs.Reader.{next};
 ghost use Rattle.janus_syntax.specs.Reading.{Reads, IsPart, FailsPart, IsExp, FailsExp, IsOperator, seen_operator, IsIndexed, FailsIndexed};
 
 use crate::fault::What;

@@ -20,7 +20,7 @@
 //! `Forms` (four words in which the grammar is written), `Table` (the grammar, a line for each form), `Grammar` (which tokens
 //! spell which tree, what is wanted behind a beginning, where tokens are refused), `Text` (tokens and text together), `Laws`, `Printing`,
 //! `View` (the trees as trees of the meaning), and `Fault` (what is shown of a refusal). No contract of a public function
-//! names `Machine`, `Reading`, `Statements`, `Printed` or `Scan`: they serve the proofs.
+//! names `Reader`, `Reading`, `Statements`, `Printed` or `Scan`: they serve the proofs.
 //!
 //! A cell here has declarations of numbers and arrays, and assignments, `if`, loops and `skip`. The words of procedures,
 //! calls, locals, stacks and `main` are reserved, but begin nothing.

@@ -2,7 +2,7 @@
 ghost use Rattle.std.specs.Prelude.{◌≡◌, ◌++◌, ◌≤◌, length, List, ℕ};
 ghost use Rattle.sha2.specs.Hashers.{Holds256};
 ghost use Rattle.sha2.specs.Sha256.{sha256};
-ghost use Rattle.jupyter_msg.specs.Hmac.{full_block, block_of, xor_pad, hmac_of};
+ghost use Rattle.jupyter_msg.specs.Hmac.{full_block, key_block, xor_pad, hmac_of};
 
 use sha2::{Digest, Sha256};
 
@@ -26,8 +26,8 @@ fn full_block(octets: &[u8]) -> [u8; BLOCK]
 }
 
 /// The key as one block: a key longer than a block is hashed first.
-fn block_of(key: &[u8]) -> [u8; BLOCK]
-    ensures { result ≡ block_of key.now }
+fn key_block(key: &[u8]) -> [u8; BLOCK]
+    ensures { result ≡ key_block key.now }
 {
     if key.len() > BLOCK {
         full_block(&Sha256::digest(key))
@@ -49,10 +49,10 @@ fn xor_pad(mut block: [u8; BLOCK], pad: u8) -> [u8; BLOCK]
 /// A hasher that has taken the inner block of the key, and the key's block. It is fed the text, and then given to
 /// `finish_hash`.
 pub(crate) fn begin_hash(key: &[u8]) -> (Sha256, [u8; BLOCK])
-    ensures block { result.1 ≡ block_of key.now }
-    ensures inner { Holds256 result.0 (xor_pad 0x36 (block_of key.now)) }
+    ensures block { result.1 ≡ key_block key.now }
+    ensures inner { Holds256 result.0 (xor_pad 0x36 (key_block key.now)) }
 {
-    let block = block_of(key);
+    let block = key_block(key);
     let mut inner = Sha256::new();
     inner.update(xor_pad(block, INNER));
     (inner, block)
