@@ -127,10 +127,15 @@ fn writes_length(rt: &impl Abort, alloc: Global, length: usize, head: &[u8]) -> 
     let octets = frame.write(alloc)?;
     assert_eq!(rt; octets.get(..head.len()), Some(head));
     assert_eq!(rt; octets.len(), head.len().saturating_add(length));
-    let mut decoder = Decoder::new(alloc);
-    decoder.feed(&octets)?;
-    assert!(rt; decoder.next()? == Some(frame));
+    assert!(rt; first_frame(alloc, &octets)? == Some(frame));
     Ok(())
+}
+
+/// The frame at the front of the octets.
+fn first_frame(alloc: Global, octets: &[u8]) -> Result<Option<Frame>, Fail> {
+    let mut decoder = Decoder::new(alloc);
+    decoder.feed(octets)?;
+    Ok(decoder.next()?)
 }
 
 #[test]
@@ -184,8 +189,20 @@ fn writes_message(
         assert_eq!(rt; octets.as_slice(), b"\x08".as_slice());
         return Ok(Some(fault));
     }
+    reads_message(rt, alloc, octets.get(1..).unwrap_or(&[]), count, length)?;
+    Ok(None)
+}
+
+/// The octets are a message with so many bodies of this length.
+fn reads_message(
+    rt: &impl Abort,
+    alloc: Global,
+    octets: &[u8],
+    count: usize,
+    length: usize,
+) -> Result<(), Fail> {
     let mut decoder = Decoder::new(alloc);
-    decoder.feed(octets.get(1..).unwrap_or(&[]))?;
+    decoder.feed(octets)?;
     for place in 1..=count {
         let frame = decoder.next()?;
         assert_eq!(rt;
@@ -194,7 +211,7 @@ fn writes_message(
         );
     }
     assert!(rt; decoder.next()?.is_none());
-    Ok(None)
+    Ok(())
 }
 
 /// A message has up to 1,024 frames, and up to 16,777,216 octets in all of them.

@@ -3,7 +3,10 @@ ghost use Rattle.std.specs.Prelude.{IfOk};
 ghost use Rattle.jupyter_msg.specs.Opened.{IsRead};
 
 use crate::client::{COMM_OPEN, COMPLETE, EXECUTE, KERNEL_INFO, KEY};
-use jupyter_msg::{MsgFault, Opened, Part, Parts, Request, RequestContent, hmac, open, seal, sign};
+use jupyter_msg::{
+    ExecuteRequest, Message, MsgFault, Opened, Part, Parts, Request, RequestContent, hmac, open,
+    seal, sign,
+};
 use std::alloc::{AllocError, Global};
 use std::process::Abort;
 use std::test::Fail;
@@ -91,37 +94,56 @@ fn opens(
 {
     let opened = open(alloc, copy_frames(alloc, frames)?, KEY)?;
     assert_eq!(rt; opened.message.identities.len(), identities);
-    let sealed = seal(alloc, &opened.message, KEY)?;
+    are_frames(rt, &seal(alloc, &opened.message, KEY)?, frames);
+    Ok(opened)
+}
+
+/// The sealed frames are these.
+fn are_frames(rt: &impl Abort, sealed: &[Vec<u8>], frames: &[&[u8]]) {
     assert_eq!(rt; sealed.len(), frames.len());
     for (ours, theirs) in sealed.iter().zip(frames) {
         assert_eq!(rt; ours.as_slice(), *theirs);
     }
-    Ok(opened)
 }
 
 #[test]
 fn opens_what_a_client_wrote(rt: HostRuntime) -> Result<(), Fail> {
     let alloc = rt.alloc();
     let opened = opens(&rt, alloc, &EXECUTE, 0)?;
-    let message = &opened.message;
-    assert_eq!(rt;
-        message.msg_id(alloc)?.as_str(),
-        "8f2ad2ee-5a5e4b9d_18161_0"
-    );
-    assert_eq!(rt; message.session(alloc)?.as_str(), "8f2ad2ee-5a5e4b9d");
-    assert_eq!(rt; message.msg_type(alloc)?.as_str(), "execute_request");
+    has_header(&rt, alloc, &opened.message)?;
     let request = Request::read(alloc, &opened)?;
     assert!(rt; request.identities.is_empty());
     assert_eq!(rt; request.header.as_slice(), EXECUTE[2]);
     let RequestContent::Execute(request) = &request.content else {
         return Err(Fail::from("no execute_request"));
     };
+    asks_to_execute(&rt, request);
+    Ok(())
+}
+
+/// The fields of the client's header.
+fn has_header(rt: &impl Abort, alloc: Global, message: &Message) -> Result<(), Fail> {
+    assert_eq!(rt;
+        message.msg_id(alloc)?.as_str(),
+        "8f2ad2ee-5a5e4b9d_18161_0"
+    );
+    assert_eq!(rt; message.session(alloc)?.as_str(), "8f2ad2ee-5a5e4b9d");
+    assert_eq!(rt; message.msg_type(alloc)?.as_str(), "execute_request");
+    Ok(())
+}
+
+/// The fields of the client's request.
+fn asks_to_execute(rt: &impl Abort, request: &ExecuteRequest) {
     assert_eq!(rt; request.code.as_str(), "int x\nx += 5");
     assert!(rt; !request.silent && request.store_history);
     assert_eq!(rt; request.user_expressions.len(), 1);
     assert_eq!(rt; request.user_expressions[0].name.as_str(), "a");
     assert_eq!(rt; request.user_expressions[0].expression.as_str(), "x * 2");
+}
 
+#[test]
+fn opens_what_has_no_fields(rt: HostRuntime) -> Result<(), Fail> {
+    let alloc = rt.alloc();
     let opened = opens(&rt, alloc, &KERNEL_INFO, 0)?;
     assert!(rt;
         matches!(
@@ -133,7 +155,7 @@ fn opens_what_a_client_wrote(rt: HostRuntime) -> Result<(), Fail> {
 }
 
 #[test]
-fn keeps_identities_and_buffers(rt: HostRuntime) -> Result<(), Fail> {
+fn keeps_identities(rt: HostRuntime) -> Result<(), Fail> {
     let alloc = rt.alloc();
     let opened = opens(&rt, alloc, &COMPLETE, 2)?;
     let request = Request::read(alloc, &opened)?;
@@ -144,7 +166,12 @@ fn keeps_identities_and_buffers(rt: HostRuntime) -> Result<(), Fail> {
     };
     assert_eq!(rt; request.code.as_str(), "unc p");
     assert_eq!(rt; request.cursor, Some(3));
+    Ok(())
+}
 
+#[test]
+fn keeps_buffers(rt: HostRuntime) -> Result<(), Fail> {
+    let alloc = rt.alloc();
     let opened = opens(&rt, alloc, &COMM_OPEN, 0)?;
     assert_eq!(rt; opened.message.buffers.len(), 2);
     assert_eq!(rt;

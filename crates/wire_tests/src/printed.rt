@@ -5,7 +5,7 @@ use zmtp_peer::PeerFault;
 use zmtp_wire::WireFault;
 
 #[test]
-fn faults_are_printed(rt: HostRuntime) -> Result<(), Fail> {
+fn faults_of_the_wire_are_printed(rt: HostRuntime) -> Result<(), Fail> {
     let alloc = rt.alloc();
     let wire = [
         (WireFault::BadSignature, "BadSignature"),
@@ -19,6 +19,12 @@ fn faults_are_printed(rt: HostRuntime) -> Result<(), Fail> {
     for (fault, text) in wire {
         assert_eq!(rt; fault.to_string(alloc)?.as_str(), text);
     }
+    Ok(())
+}
+
+#[test]
+fn faults_of_peers_are_printed(rt: HostRuntime) -> Result<(), Fail> {
+    let alloc = rt.alloc();
     let peer = [
         (PeerFault::MEMORY, "Memory"),
         (PeerFault::NoSocketType, "NoSocketType"),
@@ -29,6 +35,12 @@ fn faults_are_printed(rt: HostRuntime) -> Result<(), Fail> {
     for (fault, text) in peer {
         assert_eq!(rt; fault.to_string(alloc)?.as_str(), text);
     }
+    Ok(())
+}
+
+#[test]
+fn faults_of_messages_are_printed(rt: HostRuntime) -> Result<(), Fail> {
+    let alloc = rt.alloc();
     let messages = [
         (MsgFault::NoDelimiter, "NoDelimiter"),
         (MsgFault::ShortMessage, "ShortMessage"),
