@@ -20,6 +20,15 @@ fn number<L: Ledger>(store: &Store<L>, name: &str) -> Option<i32> {
     }
 }
 
+/// Another number for a name that is declared as one.
+fn set_number<L: Ledger>(store: &mut Store<L>, name: &str, number: i32, writes: &mut Writes<L>) {
+    if let Some(place) = store.place(name) {
+        if store.get(place).is_some() {
+            store.set(place, number, writes);
+        }
+    }
+}
+
 /// Numbers in a store over this ledger.
 fn numbers_in<L: Ledger, R: Abort>(rt: &R, alloc: Global, blank: Blank) -> Result<(), Fail>
     requires name { blank.name ≡ L.name }
@@ -33,18 +42,19 @@ fn numbers_in<L: Ledger, R: Abort>(rt: &R, alloc: Global, blank: Blank) -> Resul
     store.declare("x")?;
     assert!(rt; !store.contains("y"));
     store.declare("y")?;
+    assert!(rt; !store.contains("z"));
+    store.declare("z")?;
     assert_eq!(rt; number(&store, "x"), Some(0));
     assert_eq!(rt; store.place("y"), Some(1));
-    assert_eq!(rt; store.place("z"), None);
-    store.set(0, 5, &mut writes);
-    assert_eq!(rt; number(&store, "x"), Some(5));
-    assert_eq!(rt; number(&store, "y"), Some(0));
-    assert_eq!(rt; store.len(), 2);
+    assert_eq!(rt; store.len(), 3);
     let (first, _) = store.entry(0);
     assert_eq!(rt; first, "x");
     store.retire();
-    assert_eq!(rt; store.place("y"), None);
-    assert_eq!(rt; store.len(), 1);
+    assert_eq!(rt; store.place("z"), None);
+    assert_eq!(rt; store.len(), 2);
+    set_number(&mut store, "x", 5, &mut writes);
+    assert_eq!(rt; number(&store, "x"), Some(5));
+    assert_eq!(rt; number(&store, "y"), Some(0));
     Ok(())
 }
 
