@@ -29,9 +29,7 @@ pub(crate) fn run<L: Ledger>(
 {
     match statement {
         Statement::Skip => Ok(()),
-        Statement::Assign(name, update, exp) => {
-            done(assign(name, *update, exp, store, writes))
-        }
+        Statement::Assign(name, update, exp) => { done(assign(name, *update, exp, store, writes)) }
         Statement::AssignElement(name, index, update, exp) => {
             done(assign_element(name, index, *update, exp, store, writes))
         }
