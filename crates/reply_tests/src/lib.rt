@@ -8,6 +8,8 @@
 #[cfg(test)]
 mod cells;
 #[cfg(test)]
+mod client;
+#[cfg(test)]
 mod comms;
 #[cfg(test)]
 mod frames;
@@ -16,7 +18,11 @@ mod kernels;
 #[cfg(test)]
 mod questions;
 #[cfg(test)]
+mod recorded;
+#[cfg(test)]
 mod requests;
+#[cfg(test)]
+mod session;
 pub mod stamps;
 #[cfg(test)]
 mod texts;
