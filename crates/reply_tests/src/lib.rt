@@ -8,8 +8,6 @@
 #[cfg(test)]
 mod cells;
 #[cfg(test)]
-mod client;
-#[cfg(test)]
 mod comms;
 #[cfg(test)]
 mod frames;

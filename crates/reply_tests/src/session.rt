@@ -2,7 +2,6 @@
 //! that goes out is compared frame by frame.
 ghost use Rattle.std.specs.Prelude.{◌≡◌, ◌<◌, ◌≤◌};
 
-use crate::client;
 use crate::kernels::ended;
 use crate::recorded::{self, Sent};
 use crate::requests::copies;
@@ -17,6 +16,7 @@ use std::marker::Brand;
 use std::process::Abort;
 use std::sync::ledger::{Blank, Ledger};
 use std::test::Fail;
+use wire_tests::client;
 
 /// Runs the cell of a request.
 fn executed<L: Ledger>(
