@@ -89,6 +89,25 @@ fn shown_after<L: Ledger>(
     Ok(None)
 }
 
+/// Posts the job and runs it to its end: what came of it, with the text of its cell and the expressions beside it.
+pub(crate) fn ended<L: Ledger>(
+    alloc: Global,
+    kernel: &mut Kernel<L>,
+    job: Job,
+    code: &str,
+    wishes: &[Wish],
+) -> Result<Done, Fail> {
+    let (number, outcome) = run(kernel, job)?.unwrap_or((0, Outcome::Interrupted(0)));
+    Ok(Done {
+        number,
+        outcome,
+        count: kernel.counter(),
+        node: kernel.position(),
+        shown: shown_after(alloc, kernel, &outcome, code)?,
+        values: values_after(alloc, kernel, &outcome, wishes)?,
+    })
+}
+
 /// What came of a job on a kernel over this ledger.
 fn done_in<L: Ledger>(
     alloc: Global,
@@ -104,15 +123,7 @@ fn done_in<L: Ledger>(
 {
     let mut kernel = Kernel::<L>::new(alloc, blank)?;
     run_lines(alloc, &mut kernel, &before)?;
-    let (number, outcome) = run(&mut kernel, job)?.unwrap_or((0, Outcome::Interrupted(0)));
-    Ok(Done {
-        number,
-        outcome,
-        count: kernel.counter(),
-        node: kernel.position(),
-        shown: shown_after(alloc, &kernel, &outcome, code.as_str())?,
-        values: values_after(alloc, &kernel, &outcome, &wishes)?,
-    })
+    ended(alloc, &mut kernel, job, code.as_str(), &wishes)
 }
 
 /// The answer of a kernel over this ledger, with these comms open.

@@ -16,7 +16,11 @@ mod kernels;
 #[cfg(test)]
 mod questions;
 #[cfg(test)]
+mod recorded;
+#[cfg(test)]
 mod requests;
+#[cfg(test)]
+mod session;
 pub mod stamps;
 #[cfg(test)]
 mod texts;

@@ -6,8 +6,7 @@
 //! printed.
 #![tactic(auto)]
 
-#[cfg(test)]
-mod client;
+pub mod client;
 #[cfg(test)]
 mod connection_files;
 #[cfg(test)]

@@ -17,7 +17,7 @@ use crate::intake::Stage;
 use crate::opening::opening_octets;
 use crate::role::Role;
 use crate::wanted::is_wanted;
-use std::alloc::{AllocError, Global};
+use std::alloc::Global;
 use std::marker::Model;
 use zmtp_wire::{Decoder, GREETING_LENGTH, Greeting};
 
@@ -134,10 +134,8 @@ impl Peer {
         }
         if self.greeted == GREETING_LENGTH {
             // The greeting was taken, or the peer would be refused.
-            return match self.connection.read(self.alloc, self.role, piece) {
-                Err(AllocError) => Err(PeerFault::MEMORY),
-                Ok(events) => answer(events, &self.connection.stage),
-            };
+            let events = self.connection.read(self.alloc, self.role, piece)?;
+            return answer(events, &self.connection.stage);
         }
         let missing = GREETING_LENGTH - self.greeted;
         if piece.len() < missing {
@@ -152,13 +150,9 @@ impl Peer {
             self.connection.stage = Stage::Refused(PeerFault::Wire(fault));
             return Err(PeerFault::Wire(fault));
         }
-        match self.connection.read(self.alloc, self.role, stream) {
-            Err(_) => Err(PeerFault::MEMORY),
-            Ok(events) => {
-                self.greeted = GREETING_LENGTH;
-                answer(events, &self.connection.stage)
-            }
-        }
+        let first = self.connection.read(self.alloc, self.role, stream)?;
+        self.greeted = GREETING_LENGTH;
+        answer(first, &self.connection.stage)
     }
 }
 

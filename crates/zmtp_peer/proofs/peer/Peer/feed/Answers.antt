@@ -1,5 +1,6 @@
 use Rattle.std.proofs.Common.{◌≡◌, ℕ, ◌+◌, List, [], ◌++◌, ap, sym, subst, ◌∙◌, take, length, length-append, arith, refl}
 use Rattle.std.proofs.lemmas.List.{length-take-le}
+use Rattle.std.proofs.lemmas.Result.{err_from_is_err_and}
 use Rattle.zmtp_wire.specs.Greeting.{IsGreeting, IsGreetingFault}
 use Rattle.zmtp_wire.proofs.Streams.{longer}
 use Rattle.zmtp_peer.specs.declared.event.PeerEvent.{PeerEvent}
@@ -8,7 +9,7 @@ use Rattle.std.specs.declared.vec.Vec.{Vec}
 use Rattle.zmtp_peer.specs.declared.fault.PeerFault.{PeerFault}
 use Rattle.zmtp_peer.specs.declared.intake.Stage.TheVariants as stage
 use Rattle.zmtp_peer.specs.declared.intake.Stage.{Stage}
-use Rattle.zmtp_peer.specs.Faults.{Fault, fault_of, Wire, want_of_memory}
+use Rattle.zmtp_peer.specs.Faults.{fault_of, Wire, want_of_memory}
 use Rattle.zmtp_peer.specs.Events.{Event, Refused, bodies, events_of}
 use Rattle.zmtp_peer.specs.Intake.{IsRefusal, state_at}
 use Rattle.zmtp_peer.specs.Connection.{state_in}
@@ -16,13 +17,35 @@ use Rattle.zmtp_peer.specs.Reading.{Standing, Brings}
 use Rattle.zmtp_peer.proofs.ReadingLemmas.{standing, stands-refused, stands-short, stands-unwelcome, stands-read, stands-on, stands-same}
 use Rattle.zmtp_peer.proofs.RefusalLemmas.{not-refused, refused-anyhow, never-memory, ok-weaker, err-weaker, whole-front, take-whole, welcome-none}
 use Rattle.zmtp_peer.proofs.peer.Peer.feed.Goals as goal
-use Rattle.zmtp_peer.proofs.peer.Peer.feed.Goals.{in-Err, in-Ok}
 
 pub returns-in-Refused-clause-fault : goal.returns-in-Refused-clause-fault
 returns-in-Refused-clause-fault c =
     let is : c.args.self.now.state ≡ Refused (fault_of c.in-Refused.fault) =
     ap (λ (s : Standing). s.state) (sym c.self.view_is) ∙ ap (λ (at : Stage). state_at at (bodies c.self.inside.connection.held.items)) c.in-Refused.is in
     (λ _. (stands-refused c.args.self.now (fault_of c.in-Refused.fault) c.args.piece.now is, is))
+
+pub returns-in_err-events : goal.returns-in_err-events
+returns-in_err-events c =
+    let inside = c.self.inside in
+    let kept = inside.connection in
+    let greeting : List ℕ = take inside.greeted inside.greeting in
+    let new = c.read.new.self in
+    let table = kept.counts in
+    let going : ¬ (IsRefusal (state_in kept)) = not-refused kept.stage (bodies kept.held.items) c.in_default.not-Refused in
+    let after : Standing = standing inside.role greeting (state_in new) new.decoder.rest new.counts new.decoder.room in
+    let unread = c.in_err-events.ensures.unread in
+    let same : state_in new ≡ state_in kept = ap (λ (at : Stage). state_at at (bodies new.held.items)) unread.stage ∙ ap (state_at kept.stage) unread.held in
+    let brings = stands-same inside.role greeting (state_in kept) kept.decoder.rest table kept.decoder.room greeting (state_in new) new.decoder.rest new.counts new.decoder.room refl same unread.rest c.in_err-events.ensures.uncounted in
+    let p = err_from_is_err_and c.from_residual.result c.from_residual.ensures.1 in
+    rw (p.1, p.2) (record {
+      role = ap (λ (s : Standing). s.role) c.self.view_is;
+      events = tt;
+      quiet = tt;
+      fault = λ not. absurd (not refl);
+      memory = λ _. subst (λ (s : Standing). Brings s [] [] after) c.self.view_is brings;
+      stays = λ fault is. absurd (going (subst IsRefusal (sym is ∙ ap (λ (s : Standing). s.state) (sym c.self.view_is)) tt));
+      given_back = c.read.ensures.given_back;
+    })
 
 pub returns-then-self-eq-GREETING_LENGTH : goal.returns-then-self-eq-GREETING_LENGTH
 returns-then-self-eq-GREETING_LENGTH c =
@@ -36,40 +59,23 @@ returns-then-self-eq-GREETING_LENGTH c =
     let going : ¬ (IsRefusal (state_in kept)) = not-refused kept.stage (bodies kept.held.items) c.in_default.not-Refused in
     let after : Standing = standing inside.role greeting (state_in new) new.decoder.rest new.counts new.decoder.room in
     let complete : length greeting ≡ 64 = length-take-le inside.greeted inside.greeting (omega (arith, c.self.told, c.self.invariant.0)) ∙ c.if-self-eq-GREETING_LENGTH.true in
-    let none_refused : (fault : Fault) → now.state ≡ Refused fault → ⊥ = λ fault is. going (subst IsRefusal (sym is ∙ ap (λ (s : Standing). s.state) (sym c.self.view_is)) tt) in
-    elim c.match-read.branch [
-      | in-Err w ↦
-          let unread = w.in-Err.ensures.unread in
-          let same : state_in new ≡ state_in kept = ap (λ (at : Stage). state_at at (bodies new.held.items)) unread.stage ∙ ap (state_at kept.stage) unread.held in
-          let brings = stands-same inside.role greeting (state_in kept) kept.decoder.rest table kept.decoder.room greeting (state_in new) new.decoder.rest new.counts new.decoder.room refl same unread.rest w.in-Err.ensures.uncounted in
-          rw w.result-is (record {
-            role = ap (λ (s : Standing). s.role) c.self.view_is;
-            events = tt;
-            quiet = tt;
-            fault = λ not. absurd (not refl);
-            memory = λ _. subst (λ (s : Standing). Brings s [] [] after) c.self.view_is brings;
-            stays = λ fault is. absurd (none_refused fault is);
-            given_back = c.read.ensures.given_back;
-          })
-      | in-Ok w ↦
-          let events = w.in-Ok.events in
-          let brings = stands-on inside.role greeting (state_in kept) kept.decoder.rest table kept.decoder.room piece greeting (state_in new) new.decoder.rest new.counts new.decoder.room (events_of events.items) refl complete going w.in-Ok.ensures.read w.in-Ok.ensures.counted in
-          let here : Brings now piece (events_of events.items) after = subst (λ (s : Standing). Brings s piece (events_of events.items) after) c.self.view_is brings in
-          let reached : (fault : PeerFault) → new.stage ≡ stage.Refused fault → state_in new ≡ Refused (fault_of fault) = λ fault h. ap (λ (at : Stage). state_at at (bodies new.held.items)) h in
-          rw w.result-is (record {
-            role = ap (λ (s : Standing). s.role) c.self.view_is;
-            events = ok-weaker w.answer.result (λ told. told ≡ events) (λ told. Brings now piece (events_of told.items) after)
-                (λ told is. subst (λ (es : Vec PeerEvent Global). Brings now piece (events_of es.items) after) (sym is) here) w.answer.ensures.events;
-            quiet = ok-weaker w.answer.result (λ told. events_of told.items ≡ [] → ¬ (IsRefusal (state_at new.stage []))) (λ told. events_of told.items ≡ [] → ¬ (IsRefusal (state_in new)))
-                (λ told h none refusal. h none (refused-anyhow new.stage (bodies new.held.items) [] refusal)) w.answer.ensures.quiet;
-            fault = err-weaker w.answer.result (λ fault. (events.items ≡ []) × (new.stage ≡ stage.Refused fault)) (λ fault. ¬ (fault_of fault ≡ want_of_memory) → Brings now piece [] after × (state_in new ≡ Refused (fault_of fault)))
-                (λ fault h _. (subst (λ (es : List Event). Brings now piece es after) (ap events_of h.0) here, reached fault h.1)) w.answer.ensures.fault;
-            memory = err-weaker w.answer.result (λ fault. (events.items ≡ []) × (new.stage ≡ stage.Refused fault)) (λ fault. fault_of fault ≡ want_of_memory → Brings now [] [] after)
-                (λ fault h is. absurd (never-memory inside.role (longer kept.decoder.rest piece) new.decoder.rest (state_in kept) (state_in new) (events_of events.items) w.in-Ok.ensures.read going (reached fault h.1 ∙ ap Refused is))) w.answer.ensures.fault;
-            stays = λ fault is. absurd (none_refused fault is);
-            given_back = c.read.ensures.given_back;
-          })
-    ]
+    let events = c.in_ok-events.events in
+    let brings = stands-on inside.role greeting (state_in kept) kept.decoder.rest table kept.decoder.room piece greeting (state_in new) new.decoder.rest new.counts new.decoder.room (events_of events.items) refl complete going c.in_ok-events.ensures.read c.in_ok-events.ensures.counted in
+    let here : Brings now piece (events_of events.items) after = subst (λ (s : Standing). Brings s piece (events_of events.items) after) c.self.view_is brings in
+    let reached : (fault : PeerFault) → new.stage ≡ stage.Refused fault → state_in new ≡ Refused (fault_of fault) = λ fault h. ap (λ (at : Stage). state_at at (bodies new.held.items)) h in
+    record {
+      role = ap (λ (s : Standing). s.role) c.self.view_is;
+      events = ok-weaker c.answer.result (λ told. told ≡ events) (λ told. Brings now piece (events_of told.items) after)
+          (λ told is. subst (λ (es : Vec PeerEvent Global). Brings now piece (events_of es.items) after) (sym is) here) c.answer.ensures.events;
+      quiet = ok-weaker c.answer.result (λ told. events_of told.items ≡ [] → ¬ (IsRefusal (state_at new.stage []))) (λ told. events_of told.items ≡ [] → ¬ (IsRefusal (state_in new)))
+          (λ told h none refusal. h none (refused-anyhow new.stage (bodies new.held.items) [] refusal)) c.answer.ensures.quiet;
+      fault = err-weaker c.answer.result (λ fault. (events.items ≡ []) × (new.stage ≡ stage.Refused fault)) (λ fault. ¬ (fault_of fault ≡ want_of_memory) → Brings now piece [] after × (state_in new ≡ Refused (fault_of fault)))
+          (λ fault h _. (subst (λ (es : List Event). Brings now piece es after) (ap events_of h.0) here, reached fault h.1)) c.answer.ensures.fault;
+      memory = err-weaker c.answer.result (λ fault. (events.items ≡ []) × (new.stage ≡ stage.Refused fault)) (λ fault. fault_of fault ≡ want_of_memory → Brings now [] [] after)
+          (λ fault h is. absurd (never-memory inside.role (longer kept.decoder.rest piece) new.decoder.rest (state_in kept) (state_in new) (events_of events.items) c.in_ok-events.ensures.read going (reached fault h.1 ∙ ap Refused is))) c.answer.ensures.fault;
+      stays = λ fault is. absurd (going (subst IsRefusal (sym is ∙ ap (λ (s : Standing). s.state) (sym c.self.view_is)) tt));
+      given_back = c.read.ensures.given_back;
+    }
 
 pub returns-then-piece-missing : goal.returns-then-piece-missing
 returns-then-piece-missing c =
@@ -93,8 +99,8 @@ returns-then-piece-missing c =
       given_back = c.self.invariant.1.2;
     }
 
-pub returns-in-Err-read : goal.returns-in-Err-read
-returns-in-Err-read c =
+pub returns-in-Err : goal.returns-in-Err
+returns-in-Err c =
     let inside = c.self.inside in
     let kept = inside.connection in
     let greeting : List ℕ = take inside.greeted inside.greeting in
@@ -103,12 +109,12 @@ returns-in-Err-read c =
     let filled = c.write_at-2.new.greeting in
     let table = kept.counts in
     let going : ¬ (IsRefusal (state_in kept)) = not-refused kept.stage (bodies kept.held.items) c.in_default.not-Refused in
-    let after : Standing = standing inside.role (take 64 filled) (Refused (Wire c.in-Err-read.fault)) kept.decoder.rest table kept.decoder.room in
+    let after : Standing = standing inside.role (take 64 filled) (Refused (Wire c.in-Err.fault)) kept.decoder.rest table kept.decoder.room in
     let all : take 64 filled ≡ filled = take-whole filled c.write_at-2.ensures.size in
     let size : length (take 64 filled) ≡ 64 = ap length all ∙ c.write_at-2.ensures.size in
     let written : take 64 filled ≡ greeting ++ front = whole-front filled inside.greeting front inside.greeted c.write_at-2.ensures.written (omega (arith, c.split_at.ensures.front_len, c.self.invariant.0)) in
-    let brings = stands-unwelcome inside.role greeting (state_in kept) kept.decoder.rest table kept.decoder.room front stream (take 64 filled) c.in-Err-read.fault written size
-    (subst (λ (o : List ℕ). IsGreetingFault o c.in-Err-read.fault) (sym all) c.in-Err-read.ensures.fault) going in
+    let brings = stands-unwelcome inside.role greeting (state_in kept) kept.decoder.rest table kept.decoder.room front stream (take 64 filled) c.in-Err.fault written size
+    (subst (λ (o : List ℕ). IsGreetingFault o c.in-Err.fault) (sym all) c.in-Err.ensures.fault) going in
     record {
       role = ap (λ (s : Standing). s.role) c.self.view_is;
       events = tt;
@@ -118,26 +124,27 @@ returns-in-Err-read c =
             (subst (λ (o : List ℕ). Brings (standing inside.role greeting (state_in kept) kept.decoder.rest table kept.decoder.room) o [] after) (sym c.split_at.ensures.by_index.0) brings),
         refl,
       );
-      memory = λ is. absurd (welcome-none filled c.in-Err-read.fault c.in-Err-read.ensures.fault is);
+      memory = λ is. absurd (welcome-none filled c.in-Err.fault c.in-Err.ensures.fault is);
       stays = λ fault is. absurd (going (subst IsRefusal (sym is ∙ ap (λ (s : Standing). s.state) (sym c.self.view_is)) tt));
       given_back = c.self.invariant.1.2;
     }
 
-pub returns-in-Err-read-2 : goal.returns-in-Err-read-2
-returns-in-Err-read-2 c =
+pub returns-in_err-first : goal.returns-in_err-first
+returns-in_err-first c =
     let inside = c.self.inside in
     let kept = inside.connection in
     let greeting : List ℕ = take inside.greeted inside.greeting in
     let filled = c.write_at-2.new.greeting in
     let new = c.read-3.new.self in
-    let unread = c.in-Err-read-2.ensures.unread in
+    let unread = c.in_err-first.ensures.unread in
     let table = kept.counts in
     let going : ¬ (IsRefusal (state_in kept)) = not-refused kept.stage (bodies kept.held.items) c.in_default.not-Refused in
     let after : Standing = standing inside.role (take inside.greeted filled) (state_in new) new.decoder.rest new.counts new.decoder.room in
     let same : state_in new ≡ state_in kept = ap (λ (at : Stage). state_at at (bodies new.held.items)) unread.stage ∙ ap (state_at kept.stage) unread.held in
     let brings = stands-same inside.role greeting (state_in kept) kept.decoder.rest table kept.decoder.room (take inside.greeted filled) (state_in new) new.decoder.rest new.counts new.decoder.room
-    c.write_at-2.ensures.before same unread.rest c.in-Err-read-2.ensures.uncounted in
-    record {
+    c.write_at-2.ensures.before same unread.rest c.in_err-first.ensures.uncounted in
+    let p = err_from_is_err_and c.from_residual-in_err-first.result c.from_residual-in_err-first.ensures.1 in
+    rw (p.1, p.2) (record {
       role = ap (λ (s : Standing). s.role) c.self.view_is;
       events = tt;
       quiet = tt;
@@ -145,10 +152,10 @@ returns-in-Err-read-2 c =
       memory = λ _. subst (λ (s : Standing). Brings s [] [] after) c.self.view_is brings;
       stays = λ fault is. absurd (going (subst IsRefusal (sym is ∙ ap (λ (s : Standing). s.state) (sym c.self.view_is)) tt));
       given_back = c.read-3.ensures.given_back;
-    }
+    })
 
-pub returns-in-Ok-read : goal.returns-in-Ok-read
-returns-in-Ok-read c =
+pub returns : goal.returns
+returns c =
     let inside = c.self.inside in
     let kept = inside.connection in
     let now = c.args.self.now in
@@ -157,7 +164,7 @@ returns-in-Ok-read c =
     let stream = c.split_at.result.1.now in
     let filled = c.write_at-2.new.greeting in
     let new = c.read-3.new.self in
-    let events = c.in-Ok-read.events in
+    let events = c.in_ok-first.first in
     let table = kept.counts in
     let going : ¬ (IsRefusal (state_in kept)) = not-refused kept.stage (bodies kept.held.items) c.in_default.not-Refused in
     let after : Standing = standing inside.role (take 64 filled) (state_in new) new.decoder.rest new.counts new.decoder.room in
@@ -165,21 +172,21 @@ returns-in-Ok-read c =
     let size : length (take 64 filled) ≡ 64 = ap length all ∙ c.write_at-2.ensures.size in
     let written : take 64 filled ≡ greeting ++ front = whole-front filled inside.greeting front inside.greeted c.write_at-2.ensures.written (omega (arith, c.split_at.ensures.front_len, c.self.invariant.0)) in
     let brings = stands-read inside.role greeting (state_in kept) kept.decoder.rest table kept.decoder.room front stream (take 64 filled) c.in_default-read.field-0 (state_in new) new.decoder.rest new.counts new.decoder.room (events_of events.items)
-    written size (subst (λ (o : List ℕ). IsGreeting o c.in_default-read.field-0) (sym all) c.in_default-read.ensures.greeting) going c.in-Ok-read.ensures.read c.in-Ok-read.ensures.counted in
+    written size (subst (λ (o : List ℕ). IsGreeting o c.in_default-read.field-0) (sym all) c.in_default-read.ensures.greeting) going c.in_ok-first.ensures.read c.in_ok-first.ensures.counted in
     let here : Brings now c.args.piece.now (events_of events.items) after =
     subst (λ (s : Standing). Brings s c.args.piece.now (events_of events.items) after) c.self.view_is
     (subst (λ (o : List ℕ). Brings (standing inside.role greeting (state_in kept) kept.decoder.rest table kept.decoder.room) o (events_of events.items) after) (sym c.split_at.ensures.by_index.0) brings) in
     let reached : (fault : PeerFault) → new.stage ≡ stage.Refused fault → state_in new ≡ Refused (fault_of fault) = λ fault h. ap (λ (at : Stage). state_at at (bodies new.held.items)) h in
     record {
       role = ap (λ (s : Standing). s.role) c.self.view_is;
-      events = ok-weaker c.answer-in-Ok-read.result (λ told. told ≡ events) (λ told. Brings now c.args.piece.now (events_of told.items) after)
-          (λ told is. subst (λ (es : Vec PeerEvent Global). Brings now c.args.piece.now (events_of es.items) after) (sym is) here) c.answer-in-Ok-read.ensures.events;
-      quiet = ok-weaker c.answer-in-Ok-read.result (λ told. events_of told.items ≡ [] → ¬ (IsRefusal (state_at new.stage []))) (λ told. events_of told.items ≡ [] → ¬ (IsRefusal (state_in new)))
-          (λ told h none refusal. h none (refused-anyhow new.stage (bodies new.held.items) [] refusal)) c.answer-in-Ok-read.ensures.quiet;
-      fault = err-weaker c.answer-in-Ok-read.result (λ fault. (events.items ≡ []) × (new.stage ≡ stage.Refused fault)) (λ fault. ¬ (fault_of fault ≡ want_of_memory) → Brings now c.args.piece.now [] after × (state_in new ≡ Refused (fault_of fault)))
-          (λ fault h _. (subst (λ (es : List Event). Brings now c.args.piece.now es after) (ap events_of h.0) here, reached fault h.1)) c.answer-in-Ok-read.ensures.fault;
-      memory = err-weaker c.answer-in-Ok-read.result (λ fault. (events.items ≡ []) × (new.stage ≡ stage.Refused fault)) (λ fault. fault_of fault ≡ want_of_memory → Brings now [] [] after)
-          (λ fault h is. absurd (never-memory inside.role (longer kept.decoder.rest stream) new.decoder.rest (state_in kept) (state_in new) (events_of events.items) c.in-Ok-read.ensures.read going (reached fault h.1 ∙ ap Refused is))) c.answer-in-Ok-read.ensures.fault;
+      events = ok-weaker c.answer-2.result (λ told. told ≡ events) (λ told. Brings now c.args.piece.now (events_of told.items) after)
+          (λ told is. subst (λ (es : Vec PeerEvent Global). Brings now c.args.piece.now (events_of es.items) after) (sym is) here) c.answer-2.ensures.events;
+      quiet = ok-weaker c.answer-2.result (λ told. events_of told.items ≡ [] → ¬ (IsRefusal (state_at new.stage []))) (λ told. events_of told.items ≡ [] → ¬ (IsRefusal (state_in new)))
+          (λ told h none refusal. h none (refused-anyhow new.stage (bodies new.held.items) [] refusal)) c.answer-2.ensures.quiet;
+      fault = err-weaker c.answer-2.result (λ fault. (events.items ≡ []) × (new.stage ≡ stage.Refused fault)) (λ fault. ¬ (fault_of fault ≡ want_of_memory) → Brings now c.args.piece.now [] after × (state_in new ≡ Refused (fault_of fault)))
+          (λ fault h _. (subst (λ (es : List Event). Brings now c.args.piece.now es after) (ap events_of h.0) here, reached fault h.1)) c.answer-2.ensures.fault;
+      memory = err-weaker c.answer-2.result (λ fault. (events.items ≡ []) × (new.stage ≡ stage.Refused fault)) (λ fault. fault_of fault ≡ want_of_memory → Brings now [] [] after)
+          (λ fault h is. absurd (never-memory inside.role (longer kept.decoder.rest stream) new.decoder.rest (state_in kept) (state_in new) (events_of events.items) c.in_ok-first.ensures.read going (reached fault h.1 ∙ ap Refused is))) c.answer-2.ensures.fault;
       stays = λ fault is. absurd (going (subst IsRefusal (sym is ∙ ap (λ (s : Standing). s.state) (sym c.self.view_is)) tt));
       given_back = c.read-3.ensures.given_back;
     }
