@@ -2,7 +2,7 @@
 use Rattle.std.proofs.Common.{◌≡◌, ℕ, zero, suc, List, [], ◌∷◌, refl}
 use Rattle.std.specs.Prelude.{ℤ, pos, negsuc}
 use Rattle.std.specs.Int.{int_wrap}
-use Rattle.janus_meaning.specs.Outside.{Outside, outside, inside}
+use Rattle.janus_meaning.specs.Outside.{outside}
 use Rattle.janus_meaning.specs.Fault.{Fault, Fine, Bad, FiAssertion, EntryAssertion, LoopAssertion, DelocalMismatch, PopNotZero, PopEmpty, TopEmpty, DivisionByZero, IndexRange, StackFull, TooManyStacks, Broken}
 use Rattle.janus_meaning.specs.Word.{Plus, Flip, Add', Sub', Div', Rem', And', Or', More', AtMost', AtLeast', Same', Differ', wrap, changed}
 use Rattle.janus_meaning.specs.Syntax.{Name, Exp, Number, Var, Top, Negate, Binary, And, Or, Stm, Blk, Nil, Cons, Skip, Set, SetAt, Push, Pop, If, From, LocalInt, LocalStack, Call, Proc, ANumber, inverse_block}

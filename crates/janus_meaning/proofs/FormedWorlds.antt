@@ -2,7 +2,7 @@
 use Rattle.std.proofs.Common.{◌≡◌, ℕ, zero, suc, ◌≤◌, List, [], ◌∷◌, length, Bool, true, false, Some, refl, ap, ◌∙◌, sym, subst, arith, ⊎_elim}
 use Rattle.std.specs.Prelude.{ℤ}
 use Rattle.janus_meaning.specs.Fault.{Fine}
-use Rattle.janus_meaning.specs.Limit.{frame_limit, name_limit, live_stack_limit, procedure_limit}
+use Rattle.janus_meaning.specs.Limit.{name_limit, live_stack_limit, procedure_limit}
 use Rattle.janus_meaning.specs.Syntax.{Name, Stm, Blk, Skip, Set, SetAt, Push, Pop, If, From, LocalInt, LocalStack, Call, Uncall, Nil, Cons, Proc, Kind, ANumber, AStack, inverse_block}
 use Rattle.janus_meaning.specs.Store.{Val, Num, Arr, Stk, Lent, Store, Bare, Slot, same_name, zeros, AllFit, IsGoodVal, IsGood, cleared_val, cleared}
 use Rattle.janus_meaning.specs.Shape.{pick_newest, AreDistinct, different, Shape, count_stack, stack_count, shape_of, Heads, head_at, head_of, heads_of, kinds_in}

@@ -1,6 +1,6 @@
 -- What a block shows on the way is good.
 use Rattle.std.proofs.Common.{◌≡◌, ℕ, suc, List, [], ◌∷◌, inl, refl, subst}
-use Rattle.janus_meaning.specs.Outside.{Outside, outside, inside}
+use Rattle.janus_meaning.specs.Outside.{outside}
 use Rattle.janus_meaning.specs.Fault.{Res, Fine, Bad, or_else, and_then}
 use Rattle.janus_meaning.specs.Syntax.{Name, Blk, Nil, Cons, Proc, names_of, rejoin}
 use Rattle.janus_meaning.specs.Store.{Val, Store, look, find, values, fill, IsGood}

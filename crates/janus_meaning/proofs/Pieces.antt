@@ -1,7 +1,7 @@
 -- The laws of pieces: those of a statement come from those of the block of it alone, run where one frame more may be opened.
 use Rattle.std.proofs.Common.{◌≡◌, ℕ, zero, suc, ◌+◌, ◌-◌, ◌≤◌, ◌<◌, List, ◌⊎◌, inl, inr, refl, ap, ◌∙◌, sym, subst, arith, ⊎_elim}
 use Rattle.std.proofs.lemmas.Bool.{cases_lt}
-use Rattle.janus_meaning.specs.Outside.{Outside, outside, inside}
+use Rattle.janus_meaning.specs.Outside.{outside}
 use Rattle.janus_meaning.specs.Fault.{Fault}
 use Rattle.janus_meaning.specs.Syntax.{Stm, Nil, Cons, Proc, inverse}
 use Rattle.janus_meaning.specs.Store.{Store, IsGood}

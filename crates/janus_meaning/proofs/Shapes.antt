@@ -2,7 +2,7 @@
 use Rattle.std.proofs.Common.{◌≡◌, ℕ, zero, suc, List, [], ◌∷◌, length, Bool, true, false, refl, ap, ◌∙◌, sym}
 use Rattle.std.specs.Prelude.{ℤ, pos, negsuc}
 use Rattle.std.specs.Ordering.{int_eq}
-use Rattle.janus_meaning.specs.Outside.{Outside, outside, inside}
+use Rattle.janus_meaning.specs.Outside.{outside}
 use Rattle.janus_meaning.specs.Fault.{Res, Fine, Bad, guard, and_then, Broken, DelocalMismatch}
 use Rattle.janus_meaning.specs.Word.{Update, changed}
 use Rattle.janus_meaning.specs.Syntax.{Name, Exp, Stm, Blk, Skip, Set, SetAt, Push, Pop, If, From, LocalInt, LocalStack, Call, Uncall, Proc, names_of}

@@ -2,7 +2,7 @@
 use Rattle.std.proofs.Common.{◌≡◌, ℕ, zero, suc, ◌+◌, ◌-◌, ◌<◌, ◌≤◌, List, [], ◌∷◌, ◌⊎◌, inl, inr, refl, ap, ◌∙◌, sym, subst, arith, ⊎_elim}
 use Rattle.std.proofs.lemmas.Bool.{cases_lt}
 use Rattle.std.specs.Prelude.{pos}
-use Rattle.janus_meaning.specs.Outside.{Outside, outside, inside}
+use Rattle.janus_meaning.specs.Outside.{outside}
 use Rattle.janus_meaning.specs.Fault.{Fault, Fine, StepLimit, Broken, DelocalMismatch, and_then, guard}
 use Rattle.janus_meaning.specs.Syntax.{Blk, Proc, inverse_block}
 use Rattle.janus_meaning.specs.Store.{Num, Arr, Store, zeros, AllFit, IsGood, cleared}

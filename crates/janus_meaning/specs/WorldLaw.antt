@@ -1,7 +1,7 @@
 -- The laws of worlds: what a kernel that keeps one store and a tree of cells stands on.
-use Rattle.std.specs.Prelude.{◌≡◌, ℕ, ◌-◌, ◌<◌, ◌≤◌, ◌⊎◌, List}
+use Rattle.std.specs.Prelude.{◌≡◌, ℕ, ◌-◌, ◌<◌, ◌≤◌, ◌⊎◌}
 use Rattle.janus_meaning.specs.Fault.{Fault, Fine}
-use Rattle.janus_meaning.specs.Syntax.{Blk, Proc, inverse_block}
+use Rattle.janus_meaning.specs.Syntax.{Blk, inverse_block}
 use Rattle.janus_meaning.specs.Store.{Store, cleared, IsGood}
 use Rattle.janus_meaning.specs.Formed.{IsReal}
 use Rattle.janus_meaning.specs.FormedWorld.{IsFormedWorld, IsFormedCell}

@@ -1,20 +1,19 @@
 -- The main theorem in the subject's own words, over runs of the machine.
-use Rattle.std.specs.Prelude.{◌≡◌, ℕ, Bool, true, false, ◌+◌, ◌-◌, ◌<◌, ◌≤◌, List, [], ◌∷◌, length, nat_lt, get_or, IsTrue, zero, suc, set, ◌⊎◌, ◌↔◌, Err}
-use Rattle.janus_meaning.specs.World.{World, empty_world, Cell, entered}
-use Rattle.janus_meaning.specs.Cells.{IsGoodWorld}
+use Rattle.std.specs.Prelude.{◌≡◌, ℕ, Bool, true, false, ◌≤◌, List, [], ◌∷◌, length, nat_lt, IsTrue, ◌⊎◌, ◌↔◌, Err}
+use Rattle.janus_meaning.specs.World.{World, Cell}
 use Rattle.kernel_core.specs.Travel.{next_way, Travel, Up, Down}
-use Rattle.kernel_core.specs.Language.{Forward, Backward, CodePart, CodeExec}
-use Rattle.kernel_core.specs.Reached.{Reaches, Stopped, IsUnderWay, MeetsFault}
-use Rattle.kernel_core.specs.State.{Node, Past, Work, Move, Idle, Inside, State, root, is_full, node_at, world_at, here, ancestor, below, code_of}
-use Rattle.kernel_core.specs.Legal.{can_undo, can_redo, IsPossible, IsLegal, IsMeeting}
+use Rattle.kernel_core.specs.Language.{Forward, CodeExec}
+use Rattle.kernel_core.specs.Reached.{IsUnderWay, MeetsFault}
+use Rattle.kernel_core.specs.State.{Past, Work, Idle, Inside, State, is_full, here, code_of}
+use Rattle.kernel_core.specs.Legal.{can_undo, can_redo, IsLegal, IsMeeting}
 use Rattle.kernel_core.specs.LegalState.{IsLegalState}
-use Rattle.kernel_core.specs.Slices.{finished, cells, grown, Settles}
+use Rattle.kernel_core.specs.Slices.{finished, cells, grown}
 use Rattle.kernel_core.specs.Text.{Accepts, Refuses}
 use Rattle.kernel_core.specs.Begins.{Declares, travel_to}
 use Rattle.kernel_core.specs.Request.{Request, RunCell, Undo, Redo, Goto}
-use Rattle.kernel_core.specs.Runs.{Machine, new_machine, IsNext, shut, Step, Run}
+use Rattle.kernel_core.specs.Runs.{Machine, new_machine, IsNext, shut, Run}
 use Rattle.kernel_core.specs.Midway.{after, gone, count_of, IsReason}
-use Rattle.kernel_core.specs.Turn.{Why, GoesOn, GoesBack}
+use Rattle.kernel_core.specs.Turn.{Why, GoesBack}
 use Rattle.kernel_core.specs.Travel as aim
 use Rattle.kernel_core.specs.declared.outcome.End.{End}
 use Rattle.kernel_core.specs.declared.outcome.End.TheVariants.{All, Asked, NoMemory}
@@ -23,7 +22,6 @@ use Rattle.kernel_core.specs.declared.outcome.Refusal.TheVariants.{HistoryFull, 
 use Rattle.kernel_core.specs.declared.outcome.Outcome.{Outcome}
 use Rattle.kernel_core.specs.declared.outcome.Outcome.TheVariants as outcome
 use Rattle.kernel_core.specs.declared.outcome.Begun.TheVariants as begun
-use Rattle.kernel_core.specs.declared.outcome.Sliced.{Sliced}
 use Rattle.kernel_core.specs.declared.outcome.Sliced.TheVariants as sliced
 use Rattle.kernel_core.specs.Minutes.{posts_of}
 use Rattle.kernel_core.specs.declared.post.PostFault.TheVariants.{Closing as CannotPost}
@@ -31,7 +29,6 @@ use Rattle.kernel_core.specs.declared.events.Event.{Event}
 use Rattle.kernel_core.specs.declared.events.Event.TheVariants as event
 use Rattle.kernel_core.specs.declared.events.Told.{Told}
 use Rattle.kernel_core.specs.declared.events.Told.TheVariants as told
-use Rattle.janus_machine.specs.declared.fault.Fault.{Fault}
 
 -- ---- every state that is reached
 

@@ -1,38 +1,30 @@
 -- Where undo, redo and goto lead, when the cells on their way settle, and what worlds that gives: laws of the machine's runs.
-use Rattle.std.specs.Prelude.{◌≡◌, ℕ, Bool, true, false, ◌+◌, ◌-◌, ◌<◌, ◌≤◌, List, [], ◌∷◌, length, nat_lt, get_or, IsTrue, zero, suc, set, ◌⊎◌, ◌↔◌, Err}
+use Rattle.std.specs.Prelude.{◌≡◌, ℕ, false, ◌+◌, ◌-◌, ◌<◌, ◌≤◌, List, [], ◌∷◌, length, get_or, IsTrue, zero, suc, set, ◌⊎◌, ◌↔◌}
 use Rattle.janus_meaning.specs.World.{World, empty_world, Cell, entered}
 use Rattle.janus_meaning.specs.Cells.{IsGoodWorld}
 use Rattle.kernel_core.specs.Travel.{next_way, Travel, Up, Down}
 use Rattle.kernel_core.specs.Language.{Forward, Backward, CodePart, CodeExec}
-use Rattle.kernel_core.specs.Reached.{Reaches, Stopped, IsUnderWay, MeetsFault}
-use Rattle.kernel_core.specs.State.{Node, Past, Work, Move, Idle, Inside, State, root, is_full, node_at, world_at, here, ancestor, below, code_of}
-use Rattle.kernel_core.specs.Legal.{can_undo, can_redo, IsPossible, IsLegal, IsMeeting}
+use Rattle.kernel_core.specs.Reached.{Reaches, Stopped}
+use Rattle.kernel_core.specs.State.{Node, Past, Move, Idle, Inside, State, root, node_at, world_at, here, ancestor, below, code_of}
+use Rattle.kernel_core.specs.Legal.{can_undo, can_redo, IsPossible, IsLegal}
 use Rattle.kernel_core.specs.LegalState.{IsLegalState}
-use Rattle.kernel_core.specs.Slices.{finished, cells, grown, Settles}
-use Rattle.kernel_core.specs.Text.{Accepts, Refuses}
-use Rattle.kernel_core.specs.Begins.{Declares, travel_to}
-use Rattle.kernel_core.specs.Request.{Request, RunCell, Undo, Redo, Goto}
-use Rattle.kernel_core.specs.Runs.{Machine, new_machine, IsNext, shut, Step, Run}
-use Rattle.kernel_core.specs.Midway.{after, gone, count_of, IsReason}
-use Rattle.kernel_core.specs.Turn.{Why, GoesOn, GoesBack}
+use Rattle.kernel_core.specs.Slices.{Settles}
+use Rattle.kernel_core.specs.Begins.{travel_to}
+use Rattle.kernel_core.specs.Request.{Undo, Redo}
+use Rattle.kernel_core.specs.Runs.{Machine, IsNext, Step, Run}
+use Rattle.kernel_core.specs.Midway.{gone}
+use Rattle.kernel_core.specs.Turn.{GoesOn}
 use Rattle.kernel_core.specs.Travel as aim
-use Rattle.kernel_core.specs.declared.outcome.End.{End}
-use Rattle.kernel_core.specs.declared.outcome.End.TheVariants.{All, Asked, NoMemory}
-use Rattle.kernel_core.specs.declared.outcome.Refusal.{Refusal}
-use Rattle.kernel_core.specs.declared.outcome.Refusal.TheVariants.{HistoryFull, TooFar, NoNode, Closing}
-use Rattle.kernel_core.specs.declared.outcome.Outcome.{Outcome}
+use Rattle.kernel_core.specs.declared.outcome.End.TheVariants.{All}
 use Rattle.kernel_core.specs.declared.outcome.Outcome.TheVariants as outcome
-use Rattle.kernel_core.specs.declared.outcome.Begun.TheVariants as begun
 use Rattle.kernel_core.specs.declared.outcome.Sliced.{Sliced}
 use Rattle.kernel_core.specs.declared.outcome.Sliced.TheVariants as sliced
-use Rattle.kernel_core.specs.Minutes.{posts_of}
-use Rattle.kernel_core.specs.declared.post.PostFault.TheVariants.{Closing as CannotPost}
 use Rattle.kernel_core.specs.declared.events.Event.{Event}
 use Rattle.kernel_core.specs.declared.events.Event.TheVariants as event
 use Rattle.kernel_core.specs.declared.events.Told.{Told}
 use Rattle.kernel_core.specs.declared.events.Told.TheVariants as told
 use Rattle.janus_machine.specs.declared.fault.Fault.{Fault}
-use Rattle.kernel_core.specs.Theorems.{EndsAs, MoveEnds, EndsUnless}
+use Rattle.kernel_core.specs.Theorems.{EndsAs}
 
 -- ---- where a travel leads
 

@@ -1,4 +1,4 @@
-use Rattle.std.proofs.Common.{ap, ◌∙◌, sym, subst, string_bytes}
+use Rattle.std.proofs.Common.{ap, sym, subst, string_bytes}
 use Rattle.janus_meaning.specs.Moves.{assign, assign_at}
 use Rattle.janus_syntax.specs.View.{update_of}
 use Rattle.janus_store.specs.Stores.{names_in}
