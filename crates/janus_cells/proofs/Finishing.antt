@@ -10,7 +10,7 @@ use Rattle.kernel_core.specs.Begins.{Enters}
 use Rattle.kernel_core.specs.Runs.{Machine, IsBegin, BeginsAt, IsSliceOf}
 use Rattle.kernel_core.specs.Travel.{Travel, Way, Up, Down, next_way}
 use Rattle.kernel_core.specs.Turn.{Why, Turn, GoesOn, GoesBack}
-use Rattle.kernel_core.proofs.Trees.{way_up, way_down}
+use Rattle.kernel_core.proofs.TravelTrees.{way_up, way_down}
 use Rattle.kernel_core.specs.declared.outcome.Sliced.{Sliced}
 use Rattle.kernel_core.specs.declared.outcome.Sliced.TheVariants as sliced
 use Rattle.kernel_core.specs.declared.outcome.Begun.{Begun}

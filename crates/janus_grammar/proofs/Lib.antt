@@ -1,4 +1,5 @@
 mod Tokens
 mod Table
+mod StatementTable
 mod Rules
 mod Theorems

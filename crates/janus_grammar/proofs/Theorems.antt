@@ -7,7 +7,7 @@ use Rattle.janus_syntax.specs.Forms.{A_cell, Declarations, Statements, Whole, do
 use Rattle.janus_syntax.specs.Grammar.{Count, Demands, all, but_limits, zero_count, Spells, IsTree}
 use Rattle.janus_grammar.specs.Derivation.{IsExpression, IsCell, cell}
 use Rattle.janus_grammar.specs.Laws.{CellsAreDerived, CellsWithinLimitsAreDerived, ExpressionsAreDerived, ExpressionsWithinLimitsAreDerived}
-use Rattle.janus_grammar.proofs.Table.{means}
+use Rattle.janus_grammar.proofs.StatementTable.{means}
 use Rattle.janus_grammar.proofs.Rules.{nothing_more, leads, whole_is, statements_are, declarations_are}
 
 cell_derived : (d : Demands) (c : Cell) (ts : List Token) → IsTree A_cell d c ts → IsCell c ts []

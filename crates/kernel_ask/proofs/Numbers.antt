@@ -5,7 +5,7 @@ use Rattle.std.proofs.lemmas.List.{length-append, append_assoc}
 use Rattle.kernel_core.specs.Request.{Request, RunCell, raised}
 use Rattle.kernel_core.specs.Minutes.{Entry, Posted, Ended, Post, posts_of}
 use Rattle.kernel_core.specs.Counters.{counted_to}
-use Rattle.kernel_core.proofs.Counting.{counted_is_next, ends_within_counter}
+use Rattle.kernel_core.proofs.CountedCells.{counted_is_next, ends_within_counter}
 use Rattle.kernel_ask.specs.History.{texts_of, texts_in, numbered, inputs, CountedEndsAreInputs}
 use Rattle.kernel_ask.proofs.Added.{contains_first, contains_later}
 use Rattle.kernel_ask.proofs.Walk.{text_counted}

@@ -15,7 +15,8 @@ use Rattle.kernel_core.specs.declared.outcome.Outcome.{Outcome}
 use Rattle.kernel_core.specs.declared.minutes.Entry.{Entry as Kept}
 use Rattle.kernel_core.proofs.Posts.{posts-append, posted-append, entry_count}
 use Rattle.kernel_core.proofs.Noted.{give_ended}
-use Rattle.kernel_core.proofs.Counting.{counted_before, counted_rises, counter_is_of_begun, account_counts}
+use Rattle.kernel_core.proofs.Counting.{counted_before, counted_rises}
+use Rattle.kernel_core.proofs.CountedCells.{counter_is_of_begun, account_counts}
 use Rattle.kernel_ask.specs.History.{texts_of, texts_in, numbered, inputs, told}
 use Rattle.kernel_ask.specs.declared.inputs.HistoryAsk.TheVariants.{Tail}
 use Rattle.kernel_ask.specs.Tail.{AreKept, last_end, counted_in}

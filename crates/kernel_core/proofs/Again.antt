@@ -14,8 +14,8 @@ use Rattle.kernel_core.specs.declared.outcome.End.{End}
 use Rattle.kernel_core.specs.declared.outcome.End.TheVariants.{All}
 use Rattle.kernel_core.specs.declared.outcome.Outcome.{Outcome}
 use Rattle.kernel_core.specs.declared.outcome.Outcome.TheVariants as outcome
-use Rattle.kernel_core.proofs.Trees.{all_above, set_back}
-use Rattle.kernel_core.proofs.Jobs.{jobs_end}
+use Rattle.kernel_core.proofs.TravelTrees.{all_above, set_back}
+use Rattle.kernel_core.proofs.JobsTaken.{jobs_end}
 
 -- ---- what is left of a travel
 

@@ -16,7 +16,7 @@ use Rattle.kernel_core.specs.Runs.{Machine, IsRefusal, IsPost, Run, IsBegin, Beg
 use Rattle.kernel_core.specs.Request.{Request, RunCell, Undo, Redo, Goto, request_of, raised}
 use Rattle.kernel_core.specs.Determined.{TellsWant, StepIsDetermined, RunIsDetermined, OneWorldIsShown}
 use Rattle.kernel_core.specs.Travel as aim
-use Rattle.kernel_core.proofs.Trees.{meeting_same}
+use Rattle.kernel_core.proofs.TravelTrees.{meeting_same}
 use Rattle.kernel_core.specs.Travel.{Travel}
 use Rattle.kernel_core.specs.Turn.{Why, WasAsked, Faulted, Turn, GoesOn, GoesBack}
 use Rattle.kernel_core.specs.declared.outcome.Refusal.{Refusal}

@@ -4,10 +4,13 @@ pub mod Texts
 pub mod Entries
 pub mod Running
 pub mod Trees
+pub mod TravelTrees
 pub mod Nodes
 pub mod Standing
+pub mod NextCells
 pub mod Runs
 pub mod Jobs
+pub mod JobsTaken
 pub mod Again
 pub mod OnTime
 pub mod Paths
@@ -20,6 +23,8 @@ pub mod Determined
 pub mod Steps
 pub mod Posts
 pub mod Noted
+pub mod NotedSteps
 pub mod Counting
+pub mod CountedCells
 pub mod Writing
 pub mod Depths

@@ -12,7 +12,8 @@ use Rattle.kernel_core.specs.Travels.{steps_of, end_world, IsOnTime, SettlesOnTi
 use Rattle.kernel_core.specs.Turn.{GoesOn}
 use Rattle.kernel_core.specs.declared.outcome.Sliced.{Sliced}
 use Rattle.kernel_core.proofs.LanguageLaws.{exec_inverted, part_inverted, exec_no_stop, exec_same}
-use Rattle.kernel_core.proofs.Trees.{run_above, run_below, up_possible, next_below}
+use Rattle.kernel_core.proofs.Trees.{run_above, run_below}
+use Rattle.kernel_core.proofs.TravelTrees.{up_possible, next_below}
 
 -- the code of an undo or a redo has this run
 ran_by : (s : Past) (travel : Travel) (way : Way) → IsLegal s → IsPossible s.nodes s.favourites s.position travel → next_way travel ≡ way → CodeExec (code_of s (Move travel)) (here s) (steps_of s travel) (end_world s travel)

@@ -31,8 +31,10 @@ use Rattle.kernel_core.specs.declared.events.Told.{Told}
 use Rattle.kernel_core.specs.declared.events.Told.TheVariants as told
 use Rattle.kernel_core.proofs.LanguageLaws.{exec_some}
 use Rattle.kernel_core.proofs.Texts.{accepted_formed}
-use Rattle.kernel_core.proofs.Trees.{legal_grown, moved_legal, meeting_way, new_legal}
-use Rattle.kernel_core.proofs.Jobs.{post_keeps, part_none, ThenSliced, ThenBegun, slice_holds, enter_holds, take_holds, ended_idle}
+use Rattle.kernel_core.proofs.Trees.{legal_grown}
+use Rattle.kernel_core.proofs.TravelTrees.{moved_legal, meeting_way, new_legal}
+use Rattle.kernel_core.proofs.Jobs.{post_keeps, part_none, ThenSliced, ThenBegun}
+use Rattle.kernel_core.proofs.JobsTaken.{slice_holds, enter_holds, take_holds, ended_idle}
 
 pub new_is_legal : NewIsLegal
 new_is_legal = (record { legal = new_legal; begun = tt; possible = tt; in_time = tt; shown = (_, refl) }, refl)

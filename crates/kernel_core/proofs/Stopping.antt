@@ -30,7 +30,8 @@ use Rattle.kernel_core.specs.declared.events.Told.TheVariants as told
 use Rattle.kernel_core.proofs.OnTime.{never_faults}
 use Rattle.kernel_core.proofs.Again.{left_of, after_up}
 use Rattle.kernel_core.proofs.Stays.{legal_idle, step_legal}
-use Rattle.kernel_core.proofs.Jobs.{post_keeps, jobs_end}
+use Rattle.kernel_core.proofs.Jobs.{post_keeps}
+use Rattle.kernel_core.proofs.JobsTaken.{jobs_end}
 
 -- the job goes back since a slice was asked: no fault turns a travel
 abbrev StopsIn : Work → Turn → Type 0

@@ -1,7 +1,7 @@
 use Rattle.std.proofs.Common.{◌≡◌, ℕ, ◌≤◌, length, get_or, sym, subst, arith}
 use Rattle.kernel_core.specs.Fields.{past_of}
 use Rattle.kernel_core.proofs.Nodes.{count_of_nodes}
-use Rattle.kernel_core.proofs.Standing.{position_known}
+use Rattle.kernel_core.proofs.NextCells.{position_known}
 use Rattle.kernel_core.proofs.Depths.{Descends, descends_start, descends_more, descends_end, favourite_behind}
 use Rattle.kernel_core.proofs.extent.nodes_below.Goals as goal
 

@@ -1,6 +1,6 @@
 use Rattle.std.proofs.Common.{sym, ◌∙◌, ap}
 use Rattle.kernel_core.specs.Fields.{travel_of, way_of}
-use Rattle.kernel_core.proofs.Standing.{below_there, here_sound, next_down, formed_next, placed_next, stands_next_down, next_up, ran_above, stands_next_up, declares_next, ok_map}
+use Rattle.kernel_core.proofs.NextCells.{below_there, here_sound, next_down, formed_next, placed_next, stands_next_down, next_up, ran_above, stands_next_up, declares_next, ok_map}
 use Rattle.kernel_core.proofs.history.enter_next.Goals as goal
 
 pub enter-requires-clause-formed : goal.enter-requires-clause-formed

@@ -1,4 +1,5 @@
-use Rattle.kernel_core.proofs.Counting.{end_tells_counted, counter_never_falls, counted_is_next, no_counter_twice, counter_is_of_begun, ends_within_counter}
+use Rattle.kernel_core.proofs.Counting.{end_tells_counted}
+use Rattle.kernel_core.proofs.CountedCells.{counter_never_falls, counted_is_next, no_counter_twice, counter_is_of_begun, ends_within_counter}
 use Rattle.kernel_core.proofs.laws.counters_number_cells_law.Goals as goal
 
 pub returns : goal.returns

@@ -1,4 +1,4 @@
-use Rattle.kernel_core.proofs.Noted.{keeps_legal_minutes}
+use Rattle.kernel_core.proofs.NotedSteps.{keeps_legal_minutes}
 use Rattle.kernel_core.proofs.laws.keeps_legal_minutes_law.Goals as goal
 
 pub returns : goal.returns

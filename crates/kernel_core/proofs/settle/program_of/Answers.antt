@@ -1,6 +1,6 @@
 use Rattle.std.proofs.Common.{sym, ap, ◌∙◌}
 use Rattle.kernel_core.specs.Fields.{past_of, work_of, travel_of, way_of}
-use Rattle.kernel_core.proofs.Standing.{work_possible, below_there, cell_of_up, cell_of_down, program_up, program_down}
+use Rattle.kernel_core.proofs.NextCells.{work_possible, below_there, cell_of_up, cell_of_down, program_up, program_down}
 use Rattle.kernel_core.proofs.settle.program_of.Goals as goal
 
 pub returns-in-Up : goal.returns-in-Up

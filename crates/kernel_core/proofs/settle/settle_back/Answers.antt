@@ -2,7 +2,7 @@ use Rattle.std.proofs.Common.{sym, ap, ◌∙◌}
 use Rattle.kernel_core.specs.State.{here}
 use Rattle.kernel_core.specs.Fields.{past_of, work_of, travel_of, way_of}
 use Rattle.kernel_core.specs.Runner.{world_of}
-use Rattle.kernel_core.proofs.Standing.{work_possible, below_there, began_cell, began_down, began_up, cell_of_down}
+use Rattle.kernel_core.proofs.NextCells.{work_possible, below_there, began_cell, began_down, began_up, cell_of_down}
 use Rattle.kernel_core.proofs.settle.settle_back.Goals as goal
 
 pub leave-requires : goal.leave-requires

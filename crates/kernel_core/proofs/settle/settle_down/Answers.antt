@@ -7,8 +7,9 @@ use Rattle.kernel_core.specs.Travel.{Travel}
 use Rattle.kernel_core.specs.declared.tree.Cell.{Cell}
 use Rattle.kernel_core.specs.declared.tree.Tree.{Tree}
 use Rattle.kernel_core.proofs.Nodes.{child_below}
-use Rattle.kernel_core.proofs.Standing.{kept_down, ended_down, settled_down}
-use Rattle.kernel_core.proofs.Trees.{next_below}
+use Rattle.kernel_core.proofs.Standing.{kept_down, ended_down}
+use Rattle.kernel_core.proofs.NextCells.{settled_down}
+use Rattle.kernel_core.proofs.TravelTrees.{next_below}
 use Rattle.kernel_core.proofs.settle.settle_down.Given as given
 use Rattle.kernel_core.proofs.settle.settle_down.Goals as goal
 

@@ -4,8 +4,9 @@ use Rattle.kernel_core.specs.Slices.{Arrives, cells}
 use Rattle.kernel_core.specs.Travel.{Travel}
 use Rattle.kernel_core.specs.Runner.{world_of}
 use Rattle.kernel_core.proofs.Nodes.{parent_there}
-use Rattle.kernel_core.proofs.Standing.{kept_up, up_names, settled_up}
-use Rattle.kernel_core.proofs.Trees.{up_possible}
+use Rattle.kernel_core.proofs.Standing.{kept_up}
+use Rattle.kernel_core.proofs.NextCells.{up_names, settled_up}
+use Rattle.kernel_core.proofs.TravelTrees.{up_possible}
 use Rattle.kernel_core.proofs.settle.settle_up.Goals as goal
 
 pub leave-requires : goal.leave-requires

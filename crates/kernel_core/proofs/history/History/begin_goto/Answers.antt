@@ -4,7 +4,7 @@ use Rattle.kernel_core.specs.State.{Past}
 use Rattle.kernel_core.specs.Fields.{past_of, nodes_of}
 use Rattle.kernel_core.specs.Legal.{IsLegal, CanGo}
 use Rattle.kernel_core.specs.Travel.{Travel}
-use Rattle.kernel_core.proofs.Trees.{meeting_way}
+use Rattle.kernel_core.proofs.TravelTrees.{meeting_way}
 use Rattle.kernel_core.proofs.history.History.begin_goto.Goals as goal
 
 pub depart-job-requires-clause-way : goal.depart-job-requires-clause-way
