@@ -62,22 +62,28 @@ impl Runner<'_> {
 
 /// A ringer, at its bell.
 #[derive(Drop)]
-struct Ringer<'a> {
+pub(crate) struct Ringer<'a> {
     bell: &'a Bell,
     seat: RingerSeat,
     ghost own: { seat.bell ≡ bell.now },
 }
 
-impl Ringer<'_> {
-    fn look(&mut self) -> u64 {
+impl<'a> Ringer<'a> {
+    pub fn new(bell: &'a Bell, seat: RingerSeat) -> Ringer<'a>
+        requires { seat.bell ≡ bell.now }
+    {
+        Ringer { bell, seat }
+    }
+
+    pub fn look(&mut self) -> u64 {
         self.bell.look(&mut self.seat)
     }
 
-    fn raise(&mut self) -> u64 {
+    pub fn raise(&mut self) -> u64 {
         self.bell.raise(&mut self.seat)
     }
 
-    fn ring(&mut self) -> u64 {
+    pub fn ring(&mut self) -> u64 {
         self.bell.ring(&mut self.seat)
     }
 

@@ -6,3 +6,11 @@
 mod bell;
 #[cfg(test)]
 mod board;
+#[cfg(test)]
+mod frontends;
+#[cfg(test)]
+mod halls;
+#[cfg(test)]
+mod jobs;
+#[cfg(test)]
+mod scenes;
