@@ -3,13 +3,13 @@ use Rattle.std.proofs.Common.{◌≡◌, ℕ, zero, suc, List, [], ◌∷◌, re
 use Rattle.std.specs.Prelude.{ℤ, pos, negsuc}
 use Rattle.std.specs.Int.{int_wrap}
 use Rattle.janus_meaning.specs.Outside.{outside}
-use Rattle.janus_meaning.specs.Fault.{Fault, Fine, Bad, FiAssertion, EntryAssertion, LoopAssertion, DelocalMismatch, PopNotZero, PopEmpty, TopEmpty, DivisionByZero, IndexRange, StackFull, TooManyStacks, Broken}
+use Rattle.janus_meaning.specs.Fault.{Fault, Fine, Bad, FiAssertion, EntryAssertion, LoopAssertion, DelocalMismatch, PopNotZero, PopEmpty, TopEmpty, DivisionByZero, IndexRange, StackFull, TooDeep, TooManyStacks, Broken}
 use Rattle.janus_meaning.specs.Word.{Plus, Flip, Add', Sub', Div', Rem', And', Or', More', AtMost', AtLeast', Same', Differ', wrap, changed}
 use Rattle.janus_meaning.specs.Syntax.{Name, Exp, Number, Var, Top, Negate, Binary, And, Or, Stm, Blk, Nil, Cons, Skip, Set, SetAt, Push, Pop, If, From, LocalInt, LocalStack, Call, Proc, ANumber, inverse_block}
 use Rattle.janus_meaning.specs.Store.{Store, Bare, Slot, Num, Arr, Stk}
 use Rattle.janus_meaning.specs.Limit.{frame_limit}
 use Rattle.janus_meaning.specs.Value.{value}
-use Rattle.janus_meaning.specs.Moves.{stack_room, stack_has_room}
+use Rattle.janus_meaning.specs.Moves.{InInt, stack_room, stack_has_room, begin, leave}
 use Rattle.janus_meaning.specs.Meaning.{Block, Exec, Stop}
 use Rattle.janus_meaning.specs.Stepping.{BeforeBlock, AfterBlock, To, Halt, Place, step, steps, shown}
 use Rattle.janus_meaning.specs.World.{stacks_in}
@@ -297,3 +297,29 @@ same_argument_breaks = (_, _, refl, refl)
 -- call f(), with a parameter
 too_few_arguments_breaks : Stops (record { name = f; params = (y, ANumber) ∷ []; body = one Skip } ∷ []) (one (Call f [])) (x_is (pos 0)) 1 Broken
 too_few_arguments_breaks = (_, _, refl, refl)
+
+-- ---- which premise of a step is looked at first
+
+abbrev one_by_zero : Exp
+one_by_zero = Binary Div' (num 1) (num 0)
+
+-- if 1 / 0 then skip fi 1, where no frame may be opened, and where one may
+frame_before_test : begin (outside [] 0 0) (If one_by_zero (one Skip) (one Skip) (num 1)) Bare ≡ Bad TooDeep
+frame_before_test = refl
+
+test_behind_frame : begin (outside [] 1 0) (If one_by_zero (one Skip) (one Skip) (num 1)) Bare ≡ Bad DivisionByZero
+unfolding value wrap changed int_wrap
+test_behind_frame = refl
+
+-- local stack y = nil, where 64 stacks live
+frame_before_stack : begin (outside [] 0 64) (LocalStack y (one Skip)) Bare ≡ Bad TooDeep
+frame_before_stack = refl
+
+stack_behind_frame : begin (outside [] 1 64) (LocalStack y (one Skip)) Bare ≡ Bad TooManyStacks
+unfolding stack_room
+stack_behind_frame = refl
+
+-- delocal int n = 1 / 0, where n is 0
+expression_before_mismatch : leave [] (InInt n (num 0) one_by_zero) (one Skip) (Slot n (Num (pos 0)) Bare) ≡ Bad DivisionByZero
+unfolding value wrap changed int_wrap
+expression_before_mismatch = refl
