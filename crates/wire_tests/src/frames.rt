@@ -248,17 +248,31 @@ fn writes_the_octets_of_a_message(rt: HostRuntime) -> Result<(), Fail> {
     Ok(())
 }
 
-/// A reader refuses the 1,025th frame of a message; commands between its frames don't count.
-#[test]
-fn counts_frames(rt: HostRuntime) -> Result<(), Fail> {
-    let mut decoder = Decoder::new(rt.alloc());
-    for _ in 0..1024 {
+/// Reads so many frames with MORE and the last one of their message, a command before each, and answers the fault of the last one.
+fn counted(rt: &impl Abort, alloc: Global, count: usize) -> Result<Option<WireFault>, Fail> {
+    let mut decoder = Decoder::new(alloc);
+    for _ in 0..count {
         decoder.feed(&[4, 0, 1, 0])?;
         assert_eq!(rt; decoder.next()?.map(|f| f.command), Some(true));
         assert_eq!(rt; decoder.next()?.map(|f| f.more), Some(true));
     }
-    decoder.feed(&[0, 0])?;
-    assert_eq!(rt; decoder.next().err(), Some(WireFault::TooLong));
+    decoder.feed(&[4, 0, 0, 0])?;
+    assert_eq!(rt; decoder.next()?.map(|f| f.command), Some(true));
+    match decoder.next() {
+        Ok(last) => {
+            assert_eq!(rt; last.map(|f| f.more), Some(false));
+            Ok(None)
+        }
+        Err(fault) => Ok(Some(fault)),
+    }
+}
+
+/// A reader refuses the 1,025th frame of a message; commands between its frames don't count.
+#[test]
+fn counts_frames(rt: HostRuntime) -> Result<(), Fail> {
+    let alloc = rt.alloc();
+    assert_eq!(rt; counted(&rt, alloc, 1023)?, None);
+    assert_eq!(rt; counted(&rt, alloc, 1024)?, Some(WireFault::TooLong));
     Ok(())
 }
 

@@ -176,6 +176,18 @@ fn tells_rows_whatever_the_cut(rt: HostRuntime) -> Result<(), Fail> {
     Ok(())
 }
 
+/// The version that libzmq tells is kept once its greeting is whole.
+#[test]
+fn keeps_the_version_of_libzmq(rt: HostRuntime) -> Result<(), Fail> {
+    let mut peer = Peer::new(rt.alloc(), Role::Router);
+    let (front, last) = LIBZMQ_GREETING.split_at(63);
+    peer.feed(front)?;
+    assert!(rt; peer.partner().is_none());
+    peer.feed(last)?;
+    assert_eq!(rt; peer.partner().map(|g| (g.major, g.minor)), Some((3, 1)));
+    Ok(())
+}
+
 /// The opening of a router, and a dealer to which it is fed.
 #[test]
 fn opens(rt: HostRuntime) -> Result<(), Fail> {

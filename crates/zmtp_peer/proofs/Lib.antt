@@ -3,6 +3,7 @@ pub mod TableLemmas
 pub mod TidyLemmas
 pub mod FrameLemmas
 pub mod GivingBack
+pub mod RoomLemmas
 pub mod ReadingLemmas
 pub mod RefusalLemmas
 pub mod LawLemmas

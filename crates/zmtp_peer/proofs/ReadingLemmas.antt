@@ -15,7 +15,7 @@ use Rattle.zmtp_peer.specs.Events.{Event, State, Opening, Open, Refused, after, 
 use Rattle.zmtp_peer.specs.Intake.{IsRefusal, EndsFrames}
 use Rattle.zmtp_peer.specs.Connection.{ReadsPiece}
 use Rattle.zmtp_peer.specs.Subscriptions.{subscriptions, count_in, counted, counted_all}
-use Rattle.zmtp_peer.specs.Reading.{Awaiting, Failing, EndsAt, EndsIn, PeerReads, Standing, ending_of, IsGreetingBegun, IsStreaming, IsAt, Stands, Brings}
+use Rattle.zmtp_peer.specs.Reading.{Room, Awaiting, Failing, EndsAt, EndsIn, PeerReads, Standing, ending_of, IsGreetingBegun, IsStreaming, IsAt, Stands, Brings}
 use Rattle.zmtp_peer.proofs.FrameLemmas.{after-append, told-append}
 
 -- frames behind frames
@@ -102,7 +102,7 @@ reads-more role octets greeting stream piece g frames rest behind state new even
     )
 
 -- a peer that stands so
-abbrev pub standing : Role → List ℕ → State → Rest → List (List ℕ × ℕ) → ℕ → Standing
+abbrev pub standing : Role → List ℕ → State → Rest → List (List ℕ × ℕ) → Room → Standing
 standing role greeting state rest table room = record { role = role; greeting = greeting; state = state; rest = rest; table = table; room = room }
 
 clash : (fault : Fault) → Failing fault ≡ Awaiting → ⊥
@@ -172,7 +172,7 @@ stands-refused s fault more is fed given h =
     })
 
 -- a peer whose greeting isn't whole yet
-pub stands-short : (role : Role) (greeting : List ℕ) (state : State) (rest : Rest) (table : List (List ℕ × ℕ)) (room : ℕ) (more new : List ℕ)
+pub stands-short : (role : Role) (greeting : List ℕ) (state : State) (rest : Rest) (table : List (List ℕ × ℕ)) (room : Room) (more new : List ℕ)
     → new ≡ greeting ++ more → length new < 64 → ¬ (IsRefusal state) → Brings (standing role greeting state rest table room) more [] (standing role new state rest table room)
 stands-short role greeting state rest table room more new is short going fed given h =
     subst (λ (es : List Event). Stands (fed ++ more) es (standing role new state rest table room)) (sym (append-nil given)) (by_parts (at-parts role fed given greeting state rest going h.leaves))
@@ -189,7 +189,7 @@ stands-short role greeting state rest table room more new is short going fed giv
     by_parts (inr streaming) = absurd (omega (arith, short, ap length is, length-append greeting more, streaming.complete))
 
 -- a peer whose greeting is refused
-pub stands-unwelcome : (role : Role) (greeting : List ℕ) (state : State) (rest : Rest) (table : List (List ℕ × ℕ)) (room : ℕ) (front stream new : List ℕ) (fault : WireFault)
+pub stands-unwelcome : (role : Role) (greeting : List ℕ) (state : State) (rest : Rest) (table : List (List ℕ × ℕ)) (room : Room) (front stream new : List ℕ) (fault : WireFault)
     → new ≡ greeting ++ front → length new ≡ 64 → IsGreetingFault new fault → ¬ (IsRefusal state)
     → Brings (standing role greeting state rest table room) (front ++ stream) [] (standing role new (Refused (Wire fault)) rest table room)
 stands-unwelcome role greeting state rest table room front stream new fault is complete refused going fed given h =
@@ -213,7 +213,7 @@ stands-unwelcome role greeting state rest table room front stream new fault is c
     by_parts (inr streaming) = absurd (welcome_or_refused new streaming.of fault (subst (λ (o : List ℕ). IsGreeting o streaming.of) (sym (is ∙ ap (λ (o : List ℕ). greeting ++ o) (empty front (omega (arith, complete, ap length is, length-append greeting front, streaming.complete))) ∙ append-nil greeting)) streaming.welcome) refused)
 
 -- a peer that read a piece
-pub stands-read : (role : Role) (greeting : List ℕ) (state : State) (rest : Rest) (table : List (List ℕ × ℕ)) (room : ℕ) (front stream new : List ℕ) (g : Greeting) (next : State) (behind : Rest) (after_table : List (List ℕ × ℕ)) (later : ℕ) (events : List Event)
+pub stands-read : (role : Role) (greeting : List ℕ) (state : State) (rest : Rest) (table : List (List ℕ × ℕ)) (room : Room) (front stream new : List ℕ) (g : Greeting) (next : State) (behind : Rest) (after_table : List (List ℕ × ℕ)) (later : Room) (events : List Event)
     → new ≡ greeting ++ front → length new ≡ 64 → IsGreeting new g → ¬ (IsRefusal state)
     → ReadsPiece role (longer rest stream) state behind next events
     → ((q : List ℕ) → count_in after_table q ≡ counted_all q (count_in table q) events)
@@ -244,7 +244,7 @@ stands-read role greeting state rest table room front stream new g next behind a
         made (told role Opening streaming.frames) (sym streaming.tells) (reads-more role (fed ++ (front ++ stream)) new streaming.stream stream g streaming.frames rest behind state next events same complete welcome streaming.left streaming.reached reads)
 
 -- a peer that read a piece behind its greeting
-pub stands-on : (role : Role) (greeting : List ℕ) (state : State) (rest : Rest) (table : List (List ℕ × ℕ)) (room : ℕ) (stream new : List ℕ) (next : State) (behind : Rest) (after_table : List (List ℕ × ℕ)) (later : ℕ) (events : List Event)
+pub stands-on : (role : Role) (greeting : List ℕ) (state : State) (rest : Rest) (table : List (List ℕ × ℕ)) (room : Room) (stream new : List ℕ) (next : State) (behind : Rest) (after_table : List (List ℕ × ℕ)) (later : Room) (events : List Event)
     → new ≡ greeting → length greeting ≡ 64 → ¬ (IsRefusal state) → ReadsPiece role (longer rest stream) state behind next events
     → ((q : List ℕ) → count_in after_table q ≡ counted_all q (count_in table q) events)
     → Brings (standing role greeting state rest table room) stream events (standing role new next behind after_table later)
@@ -258,7 +258,7 @@ stands-on role greeting state rest table room stream new next behind after_table
         (subst (λ (o : List ℕ). IsGreeting o streaming.of) (sym same) streaming.welcome) going reads counts fed given h
 
 -- a peer of which nothing but the memory was changed
-pub stands-same : (role : Role) (greeting : List ℕ) (state : State) (rest : Rest) (table : List (List ℕ × ℕ)) (room : ℕ) (new : List ℕ) (next : State) (behind : Rest) (after_table : List (List ℕ × ℕ)) (later : ℕ)
+pub stands-same : (role : Role) (greeting : List ℕ) (state : State) (rest : Rest) (table : List (List ℕ × ℕ)) (room : Room) (new : List ℕ) (next : State) (behind : Rest) (after_table : List (List ℕ × ℕ)) (later : Room)
     → new ≡ greeting → next ≡ state → behind ≡ rest → ((q : List ℕ) → count_in after_table q ≡ count_in table q)
     → Brings (standing role greeting state rest table room) [] [] (standing role new next behind after_table later)
 stands-same role greeting state rest table room new next behind after_table later same_greeting same_state same_rest counts fed given h =

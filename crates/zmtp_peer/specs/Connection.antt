@@ -1,5 +1,5 @@
 -- The stream behind the greeting, and what one piece of it brings.
-use Rattle.std.specs.Prelude.{◌≡◌, ℕ, List, []}
+use Rattle.std.specs.Prelude.{◌≡◌, ℕ, List, [], vec_capacity}
 use Rattle.zmtp_wire.specs.Frame.{Frame}
 use Rattle.zmtp_wire.specs.Stream.{Rest, Leaves}
 use Rattle.zmtp_peer.specs.declared.role.Role.{Role}
@@ -9,7 +9,7 @@ use Rattle.zmtp_peer.specs.declared.connection.Connection.{Connection}
 use Rattle.zmtp_peer.specs.Events.{Event, State, bodies, after, told}
 use Rattle.zmtp_peer.specs.Intake.{EndsFrames, state_at}
 use Rattle.zmtp_peer.specs.Subscriptions.{IsTidy}
-use Rattle.zmtp_peer.specs.Reading.{GivesBack}
+use Rattle.zmtp_peer.specs.Reading.{Room, GivesBack}
 
 -- the frames at the front of the rest are taken, and these are the events that they tell
 pub record ReadsPiece (role : Role) (rest : Rest) (old : State) (behind : Rest) (new : State) (events : List Event) : Type 0 where
@@ -27,6 +27,10 @@ IsOpeningEmpty (stage.Refused fault) held = Unit {0}
 -- how far a connection is
 abbrev pub state_in : Connection → State
 state_in connection = state_at connection.stage (bodies connection.held.items)
+
+-- for how much a connection has memory
+abbrev pub room_in : Connection → Room
+room_in connection = record { octets = connection.decoder.room; frames = vec_capacity connection.held }
 
 -- before READY nothing is held, no prefix has a place but those that are subscribed to, and a large memory was given back
 abbrev pub IsConnection : Connection → Type 0

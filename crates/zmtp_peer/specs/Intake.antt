@@ -1,5 +1,5 @@
 -- What the frames of a piece have brought, before the peer keeps it.
-use Rattle.std.specs.Prelude.{◌≡◌, ℕ, ◌≤◌, false, List, [], ◌∷◌, ◌++◌, length, map, take, if◌then◌else◌, ◌⊎◌}
+use Rattle.std.specs.Prelude.{◌≡◌, ℕ, ◌≤◌, ◌+◌, ◌*◌, max, vec_len, vec_capacity, false, List, [], ◌∷◌, ◌++◌, length, map, take, if◌then◌else◌, ◌⊎◌}
 use Rattle.std.specs.List.{flat_map}
 use Rattle.zmtp_wire.specs.declared.fault.WireFault.{WireFault}
 use Rattle.zmtp_wire.specs.Frame.{Frame}
@@ -48,6 +48,13 @@ IsFreshAt (stage.Refused fault) intake = Unit {0}
 
 abbrev pub IsFresh : Intake → Type 0
 IsFresh intake = IsFreshAt intake.stage intake
+
+-- At most so many messages became whole, and at most so many frames are held on top; there is memory for what there was, or for
+-- twice the frames.
+pub record GrowsBy (n : ℕ) (old new : Intake) : Type 0 where
+  pub whole : vec_len new.whole ≤ vec_len old.whole + n
+  pub held : vec_len new.held ≤ vec_len old.held + n
+  pub room : vec_capacity new.held ≤ max (vec_capacity old.held) (2 * (vec_len old.held + n))
 
 -- whether a state is a refusal
 abbrev pub IsRefusal : State → Type 0

@@ -1,5 +1,5 @@
 -- What all octets of a connection tell, from its first octet on.
-use Rattle.std.specs.Prelude.{◌≡◌, ℕ, ◌<◌, ◌≤◌, List, [], ◌++◌, length, take, drop, ◌⊎◌}
+use Rattle.std.specs.Prelude.{◌≡◌, ℕ, ◌<◌, ◌≤◌, ◌+◌, ◌*◌, List, [], ◌++◌, length, take, drop, max, ◌⊎◌}
 use Rattle.zmtp_wire.specs.declared.fault.WireFault.{WireFault}
 use Rattle.zmtp_wire.specs.declared.greeting.Greeting.{Greeting}
 use Rattle.zmtp_wire.specs.Greeting.{IsGreeting, IsGreetingFault}
@@ -55,19 +55,41 @@ pub record IsGreeted (role : Role) (octets : List ℕ) (events : List Event) (en
 abbrev pub PeerReads : Role → List ℕ → List Event → Ending → Type 0
 PeerReads role octets events ending = IsShort octets events ending ⊎ (IsUnwelcome octets events ending ⊎ IsGreeted role octets events ending)
 
+-- for how many octets of the stream there is memory, and for how many frames of a message that isn't whole yet
+pub record Room : Type 0 where
+  pub octets : ℕ
+  pub frames : ℕ
+
 -- how a peer stands: the octets of the greeting, how far the connection is, what has come of the next frame, how often
--- each prefix is subscribed to, and for how many octets of the stream there is memory
+-- each prefix is subscribed to, and for how much there is memory
 pub record Standing : Type 0 where
   pub role : Role
   pub greeting : List ℕ
   pub state : State
   pub rest : Rest
   pub table : List (List ℕ × ℕ)
-  pub room : ℕ
+  pub room : Room
 
 -- where nothing of the stream is left, a large memory was given back: there is some for 131,072 octets at most
 abbrev pub GivesBack : Rest → ℕ → Type 0
 GivesBack rest room = rest.octets ≡ [] → room ≤ 131_072
+
+-- how many frames of a message are held
+abbrev pub held_in : State → ℕ
+held_in Opening = 0
+held_in (Open held) = length held
+held_in (Refused fault) = 0
+
+-- Behind so many octets that were not given before, and so many frames that were held, there is memory for what there was, or by
+-- their number: for four times the octets, for twice the frames and octets, and for an event an octet and one more.
+pub record ReservesFor (octets frames : ℕ) (old new : Room) (events : ℕ) : Type 0 where
+  pub stream : new.octets ≤ max old.octets (4 * octets)
+  pub held : new.frames ≤ max old.frames (2 * (frames + octets))
+  pub told : events ≤ octets + 1
+
+-- that is so behind a piece
+abbrev pub Reserves : List ℕ → Standing → Standing → ℕ → Type 0
+Reserves piece old new events = ReservesFor (length old.rest.octets + length piece) (held_in old.state) old.room new.room events
 
 -- what such a standing awaits
 abbrev pub ending_of : State → Ending

@@ -4,9 +4,9 @@ ghost use Rattle.std.specs.List.{flat_map};
 ghost use Rattle.zmtp_wire.specs.Decoding.{fed};
 ghost use Rattle.zmtp_peer.specs.Events.{bodies, events_of, message_told};
 ghost use Rattle.zmtp_peer.specs.Subscriptions.{count_in, counted_all, HasRoom, AddsIdle, IsIdle, IsTidy, is_asked};
-ghost use Rattle.zmtp_peer.specs.Intake.{front_of, told_by, Keeps, IsFresh, TakesFrames};
-ghost use Rattle.zmtp_peer.specs.Connection.{ReadsPiece, IsUnread, IsConnection, IsOpeningEmpty, state_in};
-ghost use Rattle.zmtp_peer.specs.Reading.{GivesBack};
+ghost use Rattle.zmtp_peer.specs.Intake.{front_of, told_by, Keeps, IsFresh, GrowsBy, TakesFrames};
+ghost use Rattle.zmtp_peer.specs.Connection.{ReadsPiece, IsUnread, IsConnection, IsOpeningEmpty, state_in, room_in};
+ghost use Rattle.zmtp_peer.specs.Reading.{GivesBack, ReservesFor};
 
 use crate::counts::Counts;
 use crate::event::PeerEvent;
@@ -42,14 +42,16 @@ fn gather(
     requires { IsFresh intake.old }
     ensures taken { OnOk result (TakesFrames role decoder.old.rest intake.old decoder.new.rest intake.new) }
     ensures empty { IfOk result (λ events. events.items ≡ []) }
-    ensures space { IfOk result (λ events. vec_len intake.new.whole + 1 ≤ vec_capacity events) }
+    ensures space { IfOk result (λ events. vec_capacity events ≡ vec_len intake.new.whole + 1) }
     ensures room { OnOk result (HasRoom (vec_len intake.new.whole + 1) counts.new
         (flat_map (message_told role) (map (λ message. bodies message.items) intake.new.whole.items))) }
     ensures same { (q : List ℕ) → count_in counts.new q
         ≡ count_in counts.old q }
     ensures idle { AddsIdle (is_asked role intake.new.whole.items) counts.old counts.new }
     ensures before { decoder.new.before ≡ decoder.old.before }
+    ensures stream { decoder.new.room ≡ decoder.old.room }
     ensures kept { Keeps (front_of intake.old) (front_of intake.new) }
+    ensures grows { OnOk result (GrowsBy (length decoder.old.rest.octets) intake.old intake.new) }
     ensures fresh { IsFresh intake.new }
 {
     take_frames(alloc, role, decoder, intake)?;
@@ -89,6 +91,8 @@ impl Connection {
         ensures opening { IsOpeningEmpty self.new.stage (bodies self.new.held.items) }
         ensures tidy { IsTidy self.new.counts }
         ensures given_back { GivesBack self.new.decoder.rest self.new.decoder.room }
+        ensures room { IfOk result (λ events. ReservesFor (length self.old.decoder.rest.octets + length piece.now)
+            (vec_len self.old.held) (room_in self.old) (room_in self.new) (vec_capacity events)) }
     {
         if self.decoder.feed(piece).is_err() {
             take_back(&mut self.decoder);
@@ -118,6 +122,8 @@ impl Connection {
         ensures opening { IsOpeningEmpty self.new.stage (bodies self.new.held.items) }
         ensures tidy { IsTidy self.new.counts }
         ensures given_back { GivesBack self.new.decoder.rest self.new.decoder.room }
+        ensures room { IfOk result (λ events. ReservesFor (length self.old.decoder.rest.octets)
+            (vec_len self.old.held) (room_in self.old) (room_in self.new) (vec_capacity events)) }
     {
         let kept = self.held.len();
         let mut intake = Intake {
@@ -163,6 +169,7 @@ impl Connection {
         ensures told { events_of result.items ≡ told_by role intake }
         ensures state { self.new.stage ≡ intake.stage }
         ensures held { self.new.held ≡ intake.held }
+        ensures capacity { vec_capacity result ≡ vec_capacity room }
         ensures decoder { self.new.decoder ≡ self.old.decoder }
         ensures tidy { IsTidy self.new.counts }
         ensures counted { (q : List ℕ) → count_in self.new.counts q

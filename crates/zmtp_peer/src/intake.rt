@@ -1,9 +1,9 @@
 //! What the frames of one piece bring. The peer keeps none of it until all memory is there.
-ghost use Rattle.std.specs.Prelude.{◌≡◌, ◌++◌, ◌∷◌, [], ℕ, ◌≤◌, ◌≢◌, OnOk, OnErr, true, false};
+ghost use Rattle.std.specs.Prelude.{◌≡◌, ◌++◌, ◌∷◌, [], ℕ, ◌+◌, ◌*◌, ◌≤◌, ◌≢◌, OnOk, OnErr, length, max, true, false, vec_len, vec_capacity};
 ghost use Rattle.zmtp_peer.specs.declared.role.Role.{Role};
 ghost use Rattle.zmtp_wire.specs.Frame.{frame_of};
 ghost use Rattle.zmtp_peer.specs.Events.{after_frame, frame_told, bodies};
-ghost use Rattle.zmtp_peer.specs.Intake.{state_of, told_by, front_of, messages_of, Keeps, IsFresh, TakesFrames};
+ghost use Rattle.zmtp_peer.specs.Intake.{state_of, told_by, front_of, messages_of, Keeps, IsFresh, GrowsBy, TakesFrames};
 
 use crate::fault::PeerFault;
 use crate::handshake::{first_refusal, later_refusal};
@@ -48,6 +48,7 @@ pub(crate) fn take_frame(
     ensures told { OnOk result (told_by role intake.new
         ≡ told_by role intake.old ++ frame_told role (state_of intake.old) (frame_of frame)) }
     ensures kept { Keeps (front_of intake.old) (front_of intake.new) }
+    ensures grows { OnOk result (GrowsBy 1 intake.old intake.new) }
     ensures fresh { IsFresh intake.new }
 {
     match intake.stage {
@@ -74,7 +75,8 @@ fn take_first(role: Role, intake: &mut Intake, frame: &Frame)
     ensures state { state_of intake.new ≡ after_frame role (state_of intake.old) (frame_of frame.now) }
     ensures told { told_by role intake.new
         ≡ told_by role intake.old ++ frame_told role (state_of intake.old) (frame_of frame.now) }
-    ensures kept { front_of intake.new ≡ front_of intake.old }
+    ensures held { intake.new.held ≡ intake.old.held }
+    ensures whole { intake.new.whole ≡ intake.old.whole }
     ensures fresh { IsFresh intake.new }
 {
     if !frame.command {
@@ -114,6 +116,7 @@ fn hold(alloc: Global, intake: &mut Intake, more: bool, body: Vec<u8>) -> Result
         × (intake.new.held.items ≡ intake.old.held.items ++ body ∷ [])) }
     ensures last { OnOk result (more ≡ false → (messages_of intake.new ≡ messages_of intake.old ++
         (bodies intake.old.held.items ++ body.items ∷ []) ∷ []) × (intake.new.held.items ≡ [])) }
+    ensures grows { OnOk result (GrowsBy 1 intake.old intake.new) }
 {
     if !more && intake.held.is_empty() {
         let mut message = Vec::with_capacity(alloc, 1)?;
@@ -121,7 +124,7 @@ fn hold(alloc: Global, intake: &mut Intake, more: bool, body: Vec<u8>) -> Result
         intake.whole.push(message)?;
         return Ok(());
     }
-    intake.held.push(body)?;
+    add_frame(&mut intake.held, body)?;
     if more {
         return Ok(());
     }
@@ -135,6 +138,20 @@ fn hold(alloc: Global, intake: &mut Intake, more: bool, body: Vec<u8>) -> Result
     }
 }
 
+/// Adds a frame, with memory for what there was, or for twice the frames that there are then.
+fn add_frame(held: &mut Vec<Vec<u8>>, body: Vec<u8>) -> Result<(), AllocError>
+    ensures ok { OnOk result (held.new.items ≡ held.old.items ++ body ∷ []) }
+    ensures err { OnErr result (held.new.items ≡ held.old.items) }
+    ensures length { OnOk result (vec_len held.new ≡ vec_len held.old + 1) }
+    ensures room { OnOk result (vec_capacity held.new ≤ max (vec_capacity held.old) (2 * (vec_len held.old + 1))) }
+{
+    if held.len() == held.capacity() {
+        held.reserve_exact(held.len() + 1)?;
+    }
+    held.push_reserved(body);
+    Ok(())
+}
+
 /// Takes frames until no whole one is left or the peer is refused.
 pub(crate) fn take_frames(
     alloc: Global,
@@ -145,7 +162,9 @@ pub(crate) fn take_frames(
     requires { IsFresh intake.old }
     ensures taken { OnOk result (TakesFrames role decoder.old.rest intake.old decoder.new.rest intake.new) }
     ensures before { decoder.new.before ≡ decoder.old.before }
+    ensures room { decoder.new.room ≡ decoder.old.room }
     ensures kept { Keeps (front_of intake.old) (front_of intake.new) }
+    ensures grows { OnOk result (GrowsBy (length decoder.old.rest.octets) intake.old intake.new) }
     ensures fresh { IsFresh intake.new }
 {
     loop {

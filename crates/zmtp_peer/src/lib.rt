@@ -60,8 +60,8 @@ pub fn partners_are_ready_law()
     ensures { PartnersAreReady }
 {}
 
-/// Law: a peer that is ready and stands between two messages is told each message that `zmtp_wire::write_message` writes, exactly,
-/// and what follows as if the message weren't there.
+/// Law: a peer that is ready, stands between two messages and is no publisher is told each message that `zmtp_wire::write_message`
+/// writes, exactly, and what follows as if the message weren't there.
 pub fn messages_are_told_law()
     ensures { MessagesAreTold }
 {}

@@ -1,11 +1,11 @@
 //! A peer: one end of a connection, in one role.
-ghost use Rattle.std.specs.Prelude.{◌≡◌, ◌≢◌, ℕ, List, ◌+◌, ◌<◌, ◌≤◌, ◌↔◌, ◌⊎◌, [], ◌++◌, IfOk, IfErr, IfSome, IfNone, IsErrAnd, IsTrue, take, length};
+ghost use Rattle.std.specs.Prelude.{◌≡◌, ◌≢◌, ℕ, List, ◌+◌, ◌<◌, ◌≤◌, ◌↔◌, ◌⊎◌, [], ◌++◌, IfOk, IfErr, IfSome, IfNone, IsErrAnd, IsTrue, take, length, vec_capacity};
 ghost use Rattle.zmtp_wire.specs.declared.fault.WireFault.{WireFault};
 ghost use Rattle.zmtp_wire.specs.Greeting.{IsGreeting, IsGreetingFault};
 ghost use Rattle.zmtp_peer.specs.Faults.{Fault, Wire, fault_of, want_of_memory};
 ghost use Rattle.zmtp_peer.specs.Events.{Event, Refused, events_of};
 ghost use Rattle.zmtp_peer.specs.Intake.{IsRefusal, state_at};
-ghost use Rattle.zmtp_peer.specs.Reading.{Stands, Brings, GivesBack};
+ghost use Rattle.zmtp_peer.specs.Reading.{Stands, Brings, GivesBack, Reserves};
 ghost use Rattle.zmtp_peer.specs.Subscriptions.{IsWanted};
 ghost use Rattle.zmtp_peer.specs.Opening.{opening_of};
 
@@ -39,7 +39,7 @@ impl Model for Peer {
 
     ghost Value = { Standing };
 
-    ghost use Rattle.zmtp_peer.specs.Connection.{state_in, IsConnection};
+    ghost use Rattle.zmtp_peer.specs.Connection.{state_in, room_in, IsConnection};
 
     ghost view = { λ p. record {
       role = p.role;
@@ -47,7 +47,7 @@ impl Model for Peer {
       state = state_in p.connection;
       rest = p.connection.decoder.rest;
       table = p.connection.counts;
-      room = p.connection.decoder.room;
+      room = room_in p.connection;
     } };
 
     ghost invariant = { λ p. (p.greeted ≤ 64) × IsConnection p.connection };
@@ -127,7 +127,10 @@ impl Peer {
         ensures stays { (fault : Fault) → self.old.state ≡ Refused fault
             → IsErrAnd result (λ told. fault_of told ≡ fault) × (self.new ≡ self.old) }
         // Where nothing of the stream is left, a large memory was given back, also where memory ran out.
-        ensures given_back { GivesBack self.new.rest self.new.room }
+        ensures given_back { GivesBack self.new.rest self.new.room.octets }
+        // Memory is reserved for what came alone; a size that is told takes none.
+        ensures room { IfOk result (λ events. Reserves piece.now self.old self.new (vec_capacity events)) }
+        ensures fault_room { IfErr result (λ fault. fault_of fault ≢ want_of_memory → Reserves piece.now self.old self.new 0) }
     {
         if let Stage::Refused(fault) = self.connection.stage {
             return Err(fault);

@@ -60,6 +60,7 @@ pub(crate) fn tell(
         ≡ (if ready then Ready ∷ [] else []) ++ flat_map (message_told role) (map (λ message. bodies
         message.items) messages.items) }
     ensures few { vec_len result ≤ vec_len messages + 1 }
+    ensures capacity { vec_capacity result ≡ vec_capacity events }
 {
     if ready {
         events.push_reserved(PeerEvent::Ready);

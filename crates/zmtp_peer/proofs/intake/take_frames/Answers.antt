@@ -1,16 +1,25 @@
-use Rattle.std.proofs.Common.{◌∙◌}
+use Rattle.std.proofs.Common.{◌∙◌, ◌<◌, ◌-◌, length, arith}
 use Rattle.zmtp_wire.specs.Frame.{frame_of}
 use Rattle.zmtp_peer.specs.Intake.{front_of}
-use Rattle.zmtp_peer.proofs.FrameLemmas.{taken-more, keeps-then}
+use Rattle.zmtp_peer.proofs.FrameLemmas.{taken-more, keeps-then, takes-shorter}
+use Rattle.zmtp_peer.proofs.RoomLemmas.{grows-more}
 use Rattle.zmtp_peer.proofs.intake.take_frames.Goals as goal
 
 pub loop-intake-preserved : goal.loop-intake-preserved
 loop-intake-preserved c =
     let so_far = c.loop-intake.invariant in
+    let first = length c.args.decoder.now.rest.octets in
+    let before = length c.loop-intake.decoder.rest.octets in
+    let now = length c.next.new.self.rest.octets in
+    let shorter : now < before = takes-shorter c.loop-intake.decoder.rest (frame_of c.in-Ok-Some.frame) c.next.new.self.rest (rw c.in-Ok-Some.field-0-is at c.in-Ok-Some.ensures.frame) in
     record {
       taken = taken-more c.args.role c.args.decoder.now.rest c.args.intake.now c.loop-intake.decoder.rest c.next.new.self.rest c.loop-intake.intake c.take_frame.new.intake (frame_of c.in-Ok-Some.frame) so_far.taken
           (rw c.in-Ok-Some.field-0-is at c.in-Ok-Some.ensures.frame) c.in_ok-take_frame-in-Ok-Some.ensures.state c.in_ok-take_frame-in-Ok-Some.ensures.told;
       before = c.next.ensures.before ∙ so_far.before;
       kept = keeps-then (front_of c.args.intake.now) (front_of c.loop-intake.intake) (front_of c.take_frame.new.intake) so_far.kept c.take_frame.ensures.kept;
       fresh = c.take_frame.ensures.fresh;
+      room = c.next.ensures.room ∙ so_far.room;
+      less = omega (arith, so_far.less, shorter);
+      grows = grows-more (first - before) (first - now) c.args.intake.now c.loop-intake.intake c.take_frame.new.intake so_far.grows c.in_ok-take_frame-in-Ok-Some.ensures.grows
+          (omega (arith, so_far.less, shorter));
     }

@@ -12,4 +12,5 @@ invariant-loop-i l = record {
   same : vec_len l.messages ≡ vec_len l.fn.messages;
   few : vec_len l.events ≤ l.i + 1;
   room : vec_len l.messages + 1 ≤ vec_capacity l.events;
+  capacity : vec_capacity l.events ≡ vec_capacity l.fn.events;
 }
