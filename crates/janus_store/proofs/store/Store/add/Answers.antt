@@ -19,7 +19,7 @@ invariant_of-self-in_err-insert g c =
     let a = c.self.inside in
     let same = c.in_err-insert.ensures.err in
     subst (λ (l : List Variable). AreIndexed l (get_by_text c.insert.new.self)) (sym c.reserve.ensures.items)
-    (same_places a.variables.items (get_by_text a.places) (get_by_text c.insert.new.self) (λ x. ap (λ es. lookup (is_at (λ k. slice_cmp nat_cmp x (string_bytes k))) es) same) c.self.invariant)
+    (same_places a.variables.items (get_by_text a.places) (get_by_text c.insert.new.self) (λ x. ap (λ es. lookup (is_at (λ k. slice_cmp nat_cmp x (string_bytes k))) es) same) c.self.invariant.indexed)
 
 pub invariant_of-self-2 : goal.invariant_of-self-2
 invariant_of-self-2 g c =
@@ -28,13 +28,13 @@ invariant_of-self-2 g c =
     let k = string_bytes c.in_ok-key.key in
     let y : Variable = record { name = c.in_ok-name.name; value = c.args.value } in
     let key : k ≡ c.args.name.now = c.in_ok-key.ensures.ok in
-    let new = no_place vs (get_by_text a.places) c.self.invariant k (ap (λ x. look x (declared_over Bare vs)) key ∙ ap (look c.args.name.now) c.self.view_is ∙ c.requires) in
+    let new = no_place vs (get_by_text a.places) c.self.invariant.indexed k (ap (λ x. look x (declared_over Bare vs)) key ∙ ap (look c.args.name.now) c.self.view_is ∙ c.requires) in
     let named : string_bytes c.in_ok-name.name ≡ k = search rules in
     let len : c.len.result ≡ length vs = omega (arith, ap length c.reserve.ensures.items, c.reserve.new.self.ok.0) in
     let updates = btree_map_updates_text k a.places c.insert.new.self (Some c.len.result) c.in_ok-insert.ensures.updates in
     let whole : c.push_reserved.new.self.items ≡ vs ++ y ∷ [] = c.push_reserved.ensures.items ∙ ap (λ l. l ++ y ∷ []) c.reserve.ensures.items in
     subst (λ (l : List Variable). AreIndexed l (get_by_text c.insert.new.self)) (sym whole)
-    (declared vs (get_by_text a.places) c.self.invariant y k (get_by_text c.insert.new.self) named new (λ x. updates x ∙ ap (λ n. update bytes_eq (get_by_text a.places) k (Some n) x) len))
+    (declared vs (get_by_text a.places) c.self.invariant.indexed y k (get_by_text c.insert.new.self) named new (λ x. updates x ∙ ap (λ n. update bytes_eq (get_by_text a.places) k (Some n) x) len))
 
 pub returns-clause-ok : goal.returns-clause-ok
 returns-clause-ok g c =

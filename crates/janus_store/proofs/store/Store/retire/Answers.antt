@@ -12,7 +12,7 @@ pub invariant_of-self : goal.invariant_of-self
 invariant_of-self g c =
     let a = c.self.inside in
     let v = c.in-Some.variable in
-    retired a.variables.items (get_by_text a.places) c.self.invariant c.pop.new.self.items v c.as_str.result.now (get_by_text c.remove.new.self) c.in-Some.ensures.items (sym (c.as_str.ensures.value ∙ c.into_name-name.ensures))
+    retired a.variables.items (get_by_text a.places) c.self.invariant.indexed c.pop.new.self.items v c.as_str.result.now (get_by_text c.remove.new.self) c.in-Some.ensures.items (sym (c.as_str.ensures.value ∙ c.into_name-name.ensures))
     (btree_map_updates_text c.as_str.result.now a.places c.remove.new.self _ c.remove.ensures.updates)
 
 pub returns-in-Some : goal.returns-in-Some
