@@ -7,7 +7,7 @@ ghost use Rattle.janus_meaning.specs.Fault.{Fine, Bad, Broken, IndexRange, TopEm
 ghost use Rattle.janus_meaning.specs.Store.{Bare, Slot, Num, Arr, Stk, look, number, element, set_element, zeros, cleared};
 ghost use Rattle.janus_meaning.specs.Limit.{live_stack_limit, stack_limit};
 ghost use Rattle.janus_meaning.specs.Value.{first, is_none};
-ghost use Rattle.janus_meaning.specs.World.{size_of, listed, stacks_in, stacks_with};
+ghost use Rattle.janus_meaning.specs.World.{size_of, listed, stacks_in};
 ghost use Rattle.janus_store.specs.Values.{first_of, shown, found, read_or};
 ghost use Rattle.janus_store.specs.Stores.{IsFirstOnTop, IsNamed, IsNumber, IsArray, IsStack, IsOpenStack, IsHeldStack, HasElementAt, rest_of, is_fine, write};
 
@@ -221,7 +221,7 @@ impl<L: Ledger> Store<L> {
     /// Declares a name with the value that it begins with; an error for want of memory leaves the store.
     fn add(&mut self, name: &str, declared: Declared) -> Result<(), AllocError>
         requires absent { look name.now self.old ≡ Bad Broken }
-        requires room { stacks_with (first_of declared) (stacks_in self.old) ≤ live_stack_limit }
+        requires room { first_of declared ≡ Stk [] → stacks_in self.old < live_stack_limit }
         ensures ok { OnOk result (self.new ≡ Slot name.now (first_of declared) self.old) }
         ensures err { OnErr result (self.new ≡ self.old) }
     {
@@ -240,7 +240,8 @@ impl<L: Ledger> Store<L> {
         requires { IsFirstOnTop self.old }
         ensures { self.new ≡ rest_of self.old }
     {
-        if let Some(Variable { name, value }) = self.variables.pop() {
+        if let Some(variable) = self.variables.pop() {
+            let Variable { name, value } = variable;
             let _ = self.places.remove(name.as_str());
             self.spares.take_back(value);
         }

@@ -3,6 +3,7 @@ use Rattle.std.proofs.Common.{w32, to_z, of_z, ◌≡◌, ap, ◌∙◌, sym, su
 use Rattle.std.specs.BTreeMap.{get_by_text}
 use Rattle.janus_meaning.specs.Fault.{Fine}
 use Rattle.janus_meaning.specs.Store.{look, Arr, Bare, cleared, element, set_element}
+use Rattle.janus_meaning.proofs.Cleared.{same_stacks}
 use Rattle.janus_store.specs.Values.{val_of}
 use Rattle.janus_store.specs.Stores.{IsNamed, write}
 use Rattle.janus_store.proofs.Variables.{write_here, cleared-written}
@@ -34,7 +35,11 @@ invariant_of-self g c =
     let v = c.index_mut.result.now in
     let at = placed a.variables.items (get_by_text a.places) c.self.invariant.indexed c.args.place x (subst (λ s. IsNamed s c.args.place x) (sym c.self.view_is) c.requires.1) in
     let f = found_at a.variables.items (get_by_text a.places) c.self.invariant.indexed x c.args.place v at c.index_mut.ensures.value in
-    written a.variables.items (get_by_text a.places) c.self.invariant.indexed c.args.place v _ f.at refl
+    let shape = cleared-written Bare a.variables.items c.args.place v c.set_element.new.self f.at c.set_element.ensures.extent in
+    record {
+      indexed = written a.variables.items (get_by_text a.places) c.self.invariant.indexed c.args.place v _ f.at refl;
+      stacks = omega (arith, c.self.invariant.stacks, same_stacks _ _ shape);
+    }
 
 pub returns-clause-written : goal.returns-clause-written
 returns-clause-written g c = λ x l named e.
