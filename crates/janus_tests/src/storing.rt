@@ -37,7 +37,7 @@ fn numbers_in<L: Ledger, R: Abort>(rt: &R, alloc: Global, blank: Blank) -> Resul
 {
     let mut writes = Writes::<L>::new(blank);
     let mut store = Store::new(alloc)?;
-    assert!(rt; store.is_empty());
+    assert!(rt; store.has_no_names());
     assert!(rt; !store.contains("x"));
     store.declare("x")?;
     assert!(rt; !store.contains("y"));
