@@ -1,6 +1,6 @@
 //! The names that are declared already.
 ghost use Rattle.std.specs.Prelude.{◌≡◌, ◌↔◌, Some, None, IsTrue, IfSome, OnOk, OnErr, [], ◌∷◌, ◌++◌, length, slice_get, string_bytes, ◌<◌, ◌^◌};
-ghost use Rattle.janus_meaning.specs.Shape.{kind_at};
+ghost use Rattle.janus_meaning.specs.Shape.{kind_at, stack_count};
 ghost use Rattle.janus_check.specs.Names.{kind_found, names_in, shape_in};
 
 use indexmap::IndexMap;
@@ -12,24 +12,28 @@ use std::marker::Model;
 pub enum Kind {
     Number,
     Array,
+    Stack,
 }
 
 /// The declared names with their kinds. Contracts see them as a list, in order of declaration.
 #[derive(Drop)]
 pub struct Env {
     names: IndexMap<String, Kind>,
+    /// How many of them are stacks.
+    stacks: usize,
 }
 
 impl Model for Env {
-    ghost use Rattle.std.specs.Prelude.{List, [], ℕ, map, string_bytes};
-    ghost use Rattle.janus_check.specs.Names.{AreNewNames};
+    ghost use Rattle.std.specs.Prelude.{List, [], ℕ, ◌≡◌, map, string_bytes};
+    ghost use Rattle.janus_meaning.specs.Shape.{stack_count};
+    ghost use Rattle.janus_check.specs.Names.{AreNewNames, shape_in};
     ghost use Rattle.janus_check.specs.declared.env.Kind.{Kind};
 
     ghost Value = { List (List ℕ × Kind) };
 
     ghost view = { λ e. map (λ entry. (string_bytes entry.0, entry.1)) e.names.entries };
 
-    ghost invariant = { λ e. AreNewNames [] (map (λ entry. (string_bytes entry.0, entry.1)) e.names.entries) };
+    ghost invariant = { λ e. AreNewNames [] (map (λ entry. (string_bytes entry.0, entry.1)) e.names.entries) × (e.stacks ≡ stack_count (shape_in (map (λ entry. (string_bytes entry.0, entry.1)) e.names.entries))) };
 }
 
 impl Env {
@@ -39,6 +43,7 @@ impl Env {
     {
         Env {
             names: IndexMap::new(alloc),
+            stacks: 0,
         }
     }
 
@@ -49,6 +54,10 @@ impl Env {
         ensures err { OnErr result (self.new ≡ self.old) }
     {
         self.names.insert(name, kind)?;
+        if kind == Kind::Stack {
+            let _more = self.names.len();
+            self.stacks += 1;
+        }
         Ok(())
     }
 
@@ -73,6 +82,15 @@ impl Env {
         ensures small { result < 2 ^ 63 }
     {
         self.names.len()
+    }
+
+    /// How many of the names are stacks.
+    pub fn stacks(&self) -> usize
+        ensures count { result ≡ stack_count (shape_in self.now) }
+        ensures small { result < 2 ^ 63 }
+    {
+        let _names = self.names.len();
+        self.stacks
     }
 
     /// Whether there are none.

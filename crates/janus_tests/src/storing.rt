@@ -36,7 +36,7 @@ fn numbers_in<L: Ledger, R: Abort>(rt: &R, alloc: Global, blank: Blank) -> Resul
     requires some { 0 < L.parts }
 {
     let mut writes = Writes::<L>::new(blank);
-    let mut store = Store::new(alloc);
+    let mut store = Store::new(alloc)?;
     assert!(rt; store.is_empty());
     assert!(rt; !store.contains("x"));
     store.declare("x")?;

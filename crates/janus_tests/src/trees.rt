@@ -41,6 +41,14 @@ fn shown_exp(alloc: Global, exp: &Exp) -> Result<String, AllocError> {
             let name = &name.text;
             format!(in alloc; "[{name} {index}]")
         }
+        Exp::Empty(name) => {
+            let name = &name.text;
+            format!(in alloc; "(empty {name})")
+        }
+        Exp::Top(name) => {
+            let name = &name.text;
+            format!(in alloc; "(top {name})")
+        }
         Exp::Negative(operand) => {
             let operand = shown_exp(alloc, operand)?;
             format!(in alloc; "(neg {operand})")
@@ -79,6 +87,14 @@ fn shown_stm(alloc: Global, statement: &Stm) -> Result<String, AllocError> {
             let exp = shown_exp(alloc, exp)?;
             let (name, update) = (&name.text, update_text(*update));
             format!(in alloc; "{name}[{index}] {update} {exp};")
+        }
+        Stm::Push(variable, stack) => {
+            let (variable, stack) = (&variable.text, &stack.text);
+            format!(in alloc; "push {variable} {stack};")
+        }
+        Stm::Pop(variable, stack) => {
+            let (variable, stack) = (&variable.text, &stack.text);
+            format!(in alloc; "pop {variable} {stack};")
         }
         Stm::If(test, then_part, else_part, last) => {
             let test = shown_exp(alloc, test)?;
@@ -120,6 +136,10 @@ fn shown(alloc: Global, text: &str) -> Result<String, SyntaxFault> {
             Declaration::Array(name, length, _) => {
                 let name = &name.text;
                 format!(in alloc; "int {name} {length};")?
+            }
+            Declaration::Stack(name) => {
+                let name = &name.text;
+                format!(in alloc; "stack {name};")?
             }
         })?;
     }
