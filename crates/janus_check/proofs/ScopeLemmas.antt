@@ -59,8 +59,8 @@ length-shape es = let e = length-over [] es in e ∙ omega arith
 -- ---- how many stacks
 
 stack_one : (k : tree.Kind) (n m : ℕ) → count_stack k n + m ≡ n + (count_stack k 0 + m)
-stack_one tree.ANumber n m = refl
-stack_one tree.AnArray n m = refl
+stack_one tree.ANumber n m = omega arith
+stack_one tree.AnArray n m = omega arith
 stack_one tree.AStack n m = omega arith
 
 pub stacks-over : (g : Shape) (es : List (List ℕ × Kind)) → stack_count (over g es) ≡ stack_count g + stack_count (shape_in es)

@@ -1,7 +1,7 @@
 //! The names that are declared already.
 ghost use Rattle.std.specs.Prelude.{◌≡◌, ◌↔◌, Some, None, IsTrue, IfSome, OnOk, OnErr, [], ◌∷◌, ◌++◌, length, slice_get, string_bytes, ◌<◌, ◌^◌};
-ghost use Rattle.janus_meaning.specs.Shape.{kind_at, stack_count};
-ghost use Rattle.janus_check.specs.Names.{kind_found, names_in, shape_in};
+ghost use Rattle.janus_meaning.specs.Shape.{kind_at, count_stack, stack_count};
+ghost use Rattle.janus_check.specs.Names.{kind_found, meant_kind, names_in, shape_in};
 
 use indexmap::IndexMap;
 use std::alloc::{AllocError, Global};
@@ -53,11 +53,9 @@ impl Env {
         ensures ok { OnOk result (self.new ≡ self.old ++ (string_bytes name, kind) ∷ []) }
         ensures err { OnErr result (self.new ≡ self.old) }
     {
+        let stacks = self.stacks_with(kind);
         self.names.insert(name, kind)?;
-        if kind == Kind::Stack {
-            let _more = self.names.len();
-            self.stacks += 1;
-        }
+        self.stacks = stacks;
         Ok(())
     }
 
@@ -89,8 +87,18 @@ impl Env {
         ensures count { result ≡ stack_count (shape_in self.now) }
         ensures small { result < 2 ^ 63 }
     {
-        let _names = self.names.len();
+        let _names = self.len();
         self.stacks
+    }
+
+    /// How many of the names are stacks, with one name more of this kind.
+    fn stacks_with(&self, kind: Kind) -> usize
+        ensures { result ≡ count_stack (meant_kind kind) (stack_count (shape_in self.now)) }
+    {
+        match kind {
+            Kind::Number | Kind::Array => self.stacks(),
+            Kind::Stack => self.stacks() + 1,
+        }
     }
 
     /// Whether there are none.
