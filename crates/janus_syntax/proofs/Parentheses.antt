@@ -1,5 +1,5 @@
 -- Names in parentheses, over plain lists: a token behind the other.
-use Rattle.std.proofs.Common.{◌<◌, List, length, ◌∙◌, arith}
+use Rattle.std.proofs.Common.{List, ◌∙◌, arith}
 use Rattle.janus_syntax.specs.declared.token.Sign.TheVariants as sign
 use Rattle.janus_syntax.specs.Tokens.{Token}
 use Rattle.janus_syntax.specs.Tree.{Name as Named}
