@@ -89,7 +89,12 @@ fn put_read(line: &mut Line, word: Word, stack: &Name) -> Result<(), AllocError>
 }
 
 /// What goes between a variable and a stack: a word, and behind it both names in parentheses.
-fn put_transfer(line: &mut Line, word: Word, variable: &Name, stack: &Name) -> Result<(), AllocError>
+fn put_transfer(
+    line: &mut Line,
+    word: Word,
+    variable: &Name,
+    stack: &Name,
+) -> Result<(), AllocError>
     ensures { IfOk result (λ u. line_view line.new ≡ with_pieces (line_view line.old) (transfer_pieces word (string_bytes variable.now.text) (string_bytes stack.now.text))) }
 {
     put_head(line, word)?;
