@@ -1,4 +1,4 @@
-use Rattle.std.proofs.Common.{string_bytes, ◌≡◌, ◌<◌, ◌≤◌, ◌∷◌, ℤ, List, pos, negsuc, zero, suc, true, false, length, ap, ◌∙◌, sym, subst, refl, arith, to_z, of_z, w32}
+use Rattle.std.proofs.Common.{string_bytes, ◌≡◌, ◌<◌, ◌≤◌, ◌∷◌, ℤ, List, pos, true, false, length, ap, ◌∙◌, sym, subst, refl, arith, to_z, of_z, w32}
 use Rattle.std.specs.Prelude.{slice_get, Some}
 use Rattle.std.specs.Ordering.{int_eq}
 use Rattle.std.proofs.lemmas.Int.{to_z-of_z}
@@ -7,14 +7,14 @@ use Rattle.janus_meaning.specs.Syntax.{Name}
 use Rattle.janus_meaning.specs.Limit.{stack_limit}
 use Rattle.janus_meaning.specs.Store.{look, number, Num, Stk}
 use Rattle.janus_store.specs.Stores.{names_in, write}
+use Rattle.std.proofs.lemmas.Bool.{false_from_ne_true}
+use Rattle.janus_meaning.proofs.Changes.{int_eq_true}
 use Rattle.janus_store.proofs.Variables.{names_of_shape}
 use Rattle.janus_evaluation.proofs.Transfers.{popped_number, popped_pair, values_there, number_still, pop_not_zero, pop_empty, pop_fine, some_values, no_values}
 use Rattle.janus_evaluation.proofs.transfer.pop.Goals as goal
 
 not_zero : (n : ℤ) → (n ≡ pos 0 → ⊥) → int_eq n (pos 0) ≡ false
-not_zero (pos zero) h = absurd (h refl)
-not_zero (pos (suc n)) h = refl
-not_zero (negsuc n) h = refl
+not_zero n h = false_from_ne_true (int_eq n (pos 0)) (λ e. h (int_eq_true n (pos 0) e))
 
 pub get-requires : goal.get-requires
 get-requires g c = (string_bytes c.args.variable.now.text, c.requires.variable)
