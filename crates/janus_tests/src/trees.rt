@@ -148,7 +148,7 @@ fn shown(alloc: Global, text: &str) -> Result<String, SyntaxFault> {
 }
 
 /// Texts of cells, their trees, and how these are printed.
-const CELLS: [(&str, &str, &str); 12] = [
+const CELLS: [(&str, &str, &str); 13] = [
     ("", "", ""),
     (" // nothing\n//", "", ""),
     (
@@ -160,6 +160,11 @@ const CELLS: [(&str, &str, &str); 12] = [
         "int x if x then x+=(1) fi x",
         "int x;if x {x += 1;} {skip;} x;",
         "int x if x then x += 1 else skip fi x",
+    ),
+    (
+        "stack s int x push(x,s)pop( x , s )x+=-empty(s)*top (s)",
+        "stack s;int x;push x s;pop x s;x += (* (neg (empty s)) (top s));",
+        "stack s int x push(x, s) pop(x, s) x += -empty(s) * top(s)",
     ),
     (
         "int a[007]int b[65536]a[b[1]+2]^=b[-c]",
