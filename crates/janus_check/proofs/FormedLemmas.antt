@@ -2,21 +2,21 @@
 use Rattle.std.proofs.Common.{◌≡◌, ℕ, ◌<◌, ◌≤◌, Bool, true, false, not, is_some, List, [], ◌∷◌, ◌++◌, length, map, Option, Some, None, refl, ap, ◌∙◌, sym, subst, arith, if◌then◌else◌}
 use Rattle.std.specs.Prelude.{nat_le, nat_lt, ◌||◌, ◌&&◌}
 use Rattle.std.proofs.lemmas.Bool.Decides.{nat_tests}
-use Rattle.janus_meaning.specs.Limit.{name_limit, array_limit}
+use Rattle.janus_meaning.specs.Limit.{name_limit, live_stack_limit, array_limit}
 use Rattle.janus_meaning.specs.Syntax as tree
 use Rattle.janus_meaning.specs.Store.{same_name}
 use Rattle.janus_meaning.specs.World as world
-use Rattle.janus_meaning.specs.Shape.{Shape, kind_at, without, Heads}
+use Rattle.janus_meaning.specs.Shape.{Shape, kind_at, stack_count, without, Heads}
 use Rattle.janus_meaning.specs.Formed.{IsExp, IsStm, IsBlk}
 use Rattle.janus_meaning.specs.FormedWorld.{AreNew, with_declared, IsArrayLength}
 use Rattle.janus_meaning.proofs.Stores.{same_name_true}
 use Rattle.janus_meaning.proofs.Scopes.{without_same, without_other}
-use Rattle.janus_syntax.specs.Tree.{Name, named, Exp, Num, Var, Element, Neg, Bin, And, Or, Stm, Skip, Assign, AssignElement, If, Loop, Block, Empty, More, Declaration, Int, Array, Cell, cell_of}
+use Rattle.janus_syntax.specs.Tree.{Name, named, Exp, Num, Var, Element, EmptyOf, TopOf, Neg, Bin, And, Or, Stm, Skip, Assign, AssignElement, Push, Pop, If, Loop, Block, Empty, More, Declaration, Int, Array, StackOf, Cell, cell_of}
 use Rattle.janus_syntax.specs.View.{text_of, plain_exp, plain_stm, plain_block, plain_declaration}
 use Rattle.janus_syntax.specs.declared.token.Span.{Span}
 use Rattle.janus_check.specs.declared.fault.CheckFault.{CheckFault}
 use Rattle.janus_check.specs.Names.{is_in, shape_in}
-use Rattle.janus_check.specs.Check.{fault_if, is_full, extended, name_faults, is_array_length, declaration_faults, declarations_faults, after_declarations, same_kind, is_other, use_faults, exp_faults, self_fault, self_faults, side_faults, stm_faults, block_faults, cell_faults}
+use Rattle.janus_check.specs.Check.{fault_if, is_full, has_all_stacks, extended, name_faults, is_array_length, declaration_faults, declarations_faults, after_declarations, same_kind, is_other, use_faults, exp_faults, self_fault, self_faults, side_faults, stm_faults, block_faults, cell_faults}
 use Rattle.janus_check.specs.WellFormed.{IsWellFormed, FaultsAreExact}
 
 -- ---- lists of faults
@@ -101,6 +101,8 @@ pub exp_formed : (g : Shape) (e : Exp) → exp_faults g e ≡ [] → IsExp g (pl
 exp_formed g (Num n at) h = tt
 exp_formed g (Var y) h = use_formed g tree.ANumber y h
 exp_formed g (Element a i) h = (use_formed g tree.AnArray a (left_nil _ _ h), exp_formed g i (right_nil (use_faults g tree.AnArray a) _ h))
+exp_formed g (EmptyOf y) h = use_formed g tree.AStack y h
+exp_formed g (TopOf y) h = use_formed g tree.AStack y h
 exp_formed g (Neg e) h = exp_formed g e h
 exp_formed g (Bin op l r) h = (exp_formed g l (left_nil _ _ h), exp_formed g r (right_nil (exp_faults g l) _ h))
 exp_formed g (And l r) h = (exp_formed g l (left_nil _ _ h), exp_formed g r (right_nil (exp_faults g l) _ h))
@@ -110,6 +112,8 @@ pub exp_no_faults : (g : Shape) (e : Exp) → IsExp g (plain_exp e) → exp_faul
 exp_no_faults g (Num n at) h = refl
 exp_no_faults g (Var y) h = use_no_faults g tree.ANumber y h
 exp_no_faults g (Element a i) h = both_nil _ _ (use_no_faults g tree.AnArray a h.0) (exp_no_faults g i h.1)
+exp_no_faults g (EmptyOf y) h = use_no_faults g tree.AStack y h
+exp_no_faults g (TopOf y) h = use_no_faults g tree.AStack y h
 exp_no_faults g (Neg e) h = exp_no_faults g e h
 exp_no_faults g (Bin op l r) h = both_nil _ _ (exp_no_faults g l h.0) (exp_no_faults g r h.1)
 exp_no_faults g (And l r) h = both_nil _ _ (exp_no_faults g l h.0) (exp_no_faults g r h.1)
@@ -121,6 +125,8 @@ within_formed g x (Num n at) h s = tt
 within_formed g x (Var y) h s = apart_formed g x tree.ANumber y h s
 within_formed g x (Element a i) h s =
     (apart_formed g x tree.AnArray a (left_nil _ _ h) (left_nil _ _ s), within_formed g x i (right_nil (use_faults g tree.AnArray a) _ h) (right_nil (self_fault x a) _ s))
+within_formed g x (EmptyOf y) h s = apart_formed g x tree.AStack y h s
+within_formed g x (TopOf y) h s = apart_formed g x tree.AStack y h s
 within_formed g x (Neg e) h s = within_formed g x e h s
 within_formed g x (Bin op l r) h s = (within_formed g x l (left_nil _ _ h) (left_nil _ _ s), within_formed g x r (right_nil (exp_faults g l) _ h) (right_nil (self_faults x l) _ s))
 within_formed g x (And l r) h s = (within_formed g x l (left_nil _ _ h) (left_nil _ _ s), within_formed g x r (right_nil (exp_faults g l) _ h) (right_nil (self_faults x l) _ s))
@@ -143,6 +149,8 @@ within_no_faults g x (Element y i) h =
     let a = apart_no_faults g x tree.AnArray y h.0 in
     let w = within_no_faults g x i h.1 in
     record { exp = both_nil _ _ a.used w.exp; self = both_nil _ _ a.self w.self }
+within_no_faults g x (EmptyOf y) h = let a = apart_no_faults g x tree.AStack y h in record { exp = a.used; self = a.self }
+within_no_faults g x (TopOf y) h = let a = apart_no_faults g x tree.AStack y h in record { exp = a.used; self = a.self }
 within_no_faults g x (Neg e) h = let w = within_no_faults g x e h in record { exp = w.exp; self = w.self }
 within_no_faults g x (Bin op l r) h = let t = two g x l r (within_no_faults g x l h.0) (within_no_faults g x r h.1) in record { exp = t.0; self = t.1 }
 within_no_faults g x (And l r) h = let t = two g x l r (within_no_faults g x l h.0) (within_no_faults g x r h.1) in record { exp = t.0; self = t.1 }
@@ -173,6 +181,8 @@ mutual
   stm_formed hs g (AssignElement a i o e) h =
       let front = left_nil (use_faults g tree.AnArray a ++ side_faults g (text_of a) i) _ h in
       (use_formed g tree.AnArray a (left_nil _ _ front), side_formed g (text_of a) i (right_nil (use_faults g tree.AnArray a) _ front), side_formed g (text_of a) e (right_nil (use_faults g tree.AnArray a ++ side_faults g (text_of a) i) _ h))
+  stm_formed hs g (Push x y) h = (use_formed g tree.ANumber x (left_nil _ _ h), use_formed g tree.AStack y (right_nil (use_faults g tree.ANumber x) _ h))
+  stm_formed hs g (Pop x y) h = (use_formed g tree.ANumber x (left_nil _ _ h), use_formed g tree.AStack y (right_nil (use_faults g tree.ANumber x) _ h))
   stm_formed hs g (If a s t b) h =
       let f = four (exp_faults g a) (block_faults g s) (block_faults g t) (exp_faults g b) h in
       (exp_formed g a f.0, block_formed hs g s f.1, block_formed hs g t f.2, exp_formed g b f.3)
@@ -190,6 +200,8 @@ mutual
   stm_no_faults hs g (Assign x o e) h = both_nil _ _ (use_no_faults g tree.ANumber x h.0) (side_no_faults g (text_of x) e h.1)
   stm_no_faults hs g (AssignElement a i o e) h =
       both_nil (use_faults g tree.AnArray a ++ side_faults g (text_of a) i) _ (both_nil _ _ (use_no_faults g tree.AnArray a h.0) (side_no_faults g (text_of a) i h.1)) (side_no_faults g (text_of a) e h.2)
+  stm_no_faults hs g (Push x y) h = both_nil _ _ (use_no_faults g tree.ANumber x h.0) (use_no_faults g tree.AStack y h.1)
+  stm_no_faults hs g (Pop x y) h = both_nil _ _ (use_no_faults g tree.ANumber x h.0) (use_no_faults g tree.AStack y h.1)
   stm_no_faults hs g (If a s t b) h =
       all_four (exp_faults g a) (block_faults g s) (block_faults g t) (exp_faults g b) (exp_no_faults g a h.0) (block_no_faults hs g s h.1) (block_no_faults hs g t h.2) (exp_no_faults g b h.3)
   stm_no_faults hs g (Loop a s t b) h =
@@ -213,6 +225,12 @@ room_for n h = grind (arith, nat_tests)
 
 no_limit : (n : ℕ) → n < name_limit → nat_le name_limit n ≡ false
 no_limit n h = grind (arith, nat_tests)
+
+stack_room_for : (n : ℕ) → nat_le live_stack_limit n ≡ false → n < live_stack_limit
+stack_room_for n h = grind (arith, nat_tests)
+
+no_stack_limit : (n : ℕ) → n < live_stack_limit → nat_le live_stack_limit n ≡ false
+no_stack_limit n h = grind (arith, nat_tests)
 
 length_by : (n : ℕ) (p q : Bool) → nat_lt 0 n ≡ p → nat_le n array_limit ≡ q → (p && q) ≡ true → IsArrayLength n
 length_by n true true h k e = (grind (arith, nat_tests), grind (arith, nat_tests))
@@ -259,6 +277,18 @@ declares g (Array (named x at) n place ∷ ds) h =
       new = (record { name = none_out (kind_at x g) out; room = room_for (length g) space; extent = within_length n (not_false (is_array_length n) long) }, d.new);
       names = ap (λ n. after_declarations n ds) next ∙ d.names;
     }
+declares g (StackOf (named x at) ∷ ds) h =
+    let whole = left_nil (declaration_faults g (StackOf (named x at))) _ h in
+    let here = left_nil (name_faults g x at) _ whole in
+    let few = no_fault (has_all_stacks g) _ (right_nil (name_faults g x at) _ whole) in
+    let out = no_fault (is_in x g) _ (left_nil _ _ here) in
+    let space = no_fault (is_full g) _ (right_nil (fault_if (is_in x g) _) _ here) in
+    let next = added g x tree.AStack out space in
+    let d = declares ((x, tree.AStack) ∷ g) ds (subst (λ n. declarations_faults n ds ≡ []) next (right_nil (declaration_faults g (StackOf (named x at))) _ h)) in
+    record {
+      new = (record { name = none_out (kind_at x g) out; room = room_for (length g) space; extent = stack_room_for (stack_count g) few }, d.new);
+      names = ap (λ n. after_declarations n ds) next ∙ d.names;
+    }
 
 name_no_faults : (g : Shape) (x : tree.Name) (at : Span) → is_in x g ≡ false → is_full g ≡ false → name_faults g x at ≡ []
 name_no_faults g x at out space = both_nil _ _ (fault_if_false (is_in x g) _ out) (fault_if_false (is_full g) _ space)
@@ -277,6 +307,13 @@ declares_no_faults g (Array (named x at) n place ∷ ds) h =
     let space = no_limit (length g) h.0.room in
     let next = added g x tree.AnArray out space in
     let here = both_nil _ _ (name_no_faults g x at out space) (fault_if_false (not (is_array_length n)) _ (ap not (is_length n h.0.extent))) in
+    (both_nil _ _ here (ap (λ n. declarations_faults n ds) next ∙ rest.0), ap (λ n. after_declarations n ds) next ∙ rest.1)
+declares_no_faults g (StackOf (named x at) ∷ ds) h =
+    let rest = declares_no_faults ((x, tree.AStack) ∷ g) ds h.1 in
+    let out : is_in x g ≡ false = ap is_some h.0.name in
+    let space = no_limit (length g) h.0.room in
+    let next = added g x tree.AStack out space in
+    let here = both_nil _ _ (name_no_faults g x at out space) (fault_if_false (has_all_stacks g) _ (no_stack_limit (stack_count g) h.0.extent)) in
     (both_nil _ _ here (ap (λ n. declarations_faults n ds) next ∙ rest.0), ap (λ n. after_declarations n ds) next ∙ rest.1)
 
 -- ---- cells

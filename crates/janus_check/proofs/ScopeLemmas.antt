@@ -1,8 +1,8 @@
 -- Names over older ones: what is in sight, how many there are, and one more.
-use Rattle.std.proofs.Common.{◌≡◌, ℕ, ◌+◌, Bool, true, false, List, [], ◌∷◌, ◌++◌, Option, Some, None, length, refl, ap, ◌∙◌, sym, is_some, arith}
+use Rattle.std.proofs.Common.{◌≡◌, ℕ, ◌+◌, ◌≤◌, suc, Bool, true, false, List, [], ◌∷◌, ◌++◌, Option, Some, None, length, refl, ap, ◌∙◌, sym, is_some, arith}
 use Rattle.janus_meaning.specs.Syntax as tree
 use Rattle.janus_meaning.specs.Store.{same_name}
-use Rattle.janus_meaning.specs.Shape.{Shape, kind_at, pick_newest}
+use Rattle.janus_meaning.specs.Shape.{Shape, kind_at, pick_newest, stack_count, count_stack}
 use Rattle.janus_check.specs.Names.{meant_kind, kind_found, is_in, over, shape_in}
 use Rattle.janus_check.specs.declared.env.Kind.{Kind}
 
@@ -55,3 +55,28 @@ over-append g (e ∷ xs) ys = over-append ((e.0, meant_kind e.1) ∷ g) xs ys
 
 pub length-shape : (es : List (List ℕ × Kind)) → length (shape_in es) ≡ length es
 length-shape es = let e = length-over [] es in e ∙ omega arith
+
+-- ---- how many stacks
+
+stack_one : (k : tree.Kind) (n m : ℕ) → count_stack k n + m ≡ n + (count_stack k 0 + m)
+stack_one tree.ANumber n m = omega arith
+stack_one tree.AnArray n m = omega arith
+stack_one tree.AStack n m = omega arith
+
+pub stacks-over : (g : Shape) (es : List (List ℕ × Kind)) → stack_count (over g es) ≡ stack_count g + stack_count (shape_in es)
+stacks-over g [] = omega arith
+stacks-over g (e ∷ es) =
+    let k = meant_kind e.1 in
+    stacks-over ((e.0, k) ∷ g) es ∙ stack_one k (stack_count g) (stack_count (shape_in es)) ∙ ap (λ n. stack_count g + n) (sym (stacks-over ((e.0, k) ∷ []) es))
+
+stack_bound : (k : tree.Kind) (n m : ℕ) → n ≤ m → count_stack k n ≤ suc m
+stack_bound tree.ANumber n m h = omega (arith, h)
+stack_bound tree.AnArray n m h = omega (arith, h)
+stack_bound tree.AStack n m h = omega (arith, h)
+
+pub stacks_within : (g : Shape) → stack_count g ≤ length g
+stacks_within [] = omega arith
+stacks_within (e ∷ g) = stack_bound e.1 (stack_count g) (length g) (stacks_within g)
+
+pub stacks-append : (es : List (List ℕ × Kind)) (x : List ℕ) (k : Kind) → stack_count (shape_in (es ++ (x, k) ∷ [])) ≡ count_stack (meant_kind k) (stack_count (shape_in es))
+stacks-append es x k = ap stack_count (over-append [] es ((x, k) ∷ []))

@@ -1,11 +1,11 @@
 -- Which cells are well formed over the names in sight, by the faults that a cell has.
 use Rattle.std.specs.Prelude.{ℕ, Bool, true, false, not, ◌&&◌, ◌||◌, nat_le, nat_lt, List, [], ◌∷◌, ◌++◌, length, Option, Some, None, if◌then◌else◌}
-use Rattle.janus_meaning.specs.Limit.{name_limit, array_limit}
+use Rattle.janus_meaning.specs.Limit.{name_limit, live_stack_limit, array_limit}
 use Rattle.janus_meaning.specs.Syntax as tree
 use Rattle.janus_meaning.specs.Store.{same_name}
-use Rattle.janus_meaning.specs.Shape.{Shape, kind_at}
+use Rattle.janus_meaning.specs.Shape.{Shape, kind_at, stack_count}
 use Rattle.janus_syntax.specs.declared.token.Span.{Span}
-use Rattle.janus_syntax.specs.Tree.{Name, named, Exp, Num, Var, Element, Neg, Bin, And, Or, Stm, Skip, Assign, AssignElement, If, Loop, Block, Empty, More, Declaration, Int, Array, Cell, cell_of}
+use Rattle.janus_syntax.specs.Tree.{Name, named, Exp, Num, Var, Element, EmptyOf, TopOf, Neg, Bin, And, Or, Stm, Skip, Assign, AssignElement, Push, Pop, If, Loop, Block, Empty, More, Declaration, Int, Array, StackOf, Cell, cell_of}
 use Rattle.janus_syntax.specs.View.{text_of}
 use Rattle.janus_check.specs.Names.{is_in}
 use Rattle.janus_check.specs.declared.fault.CheckFault.{CheckFault}
@@ -31,6 +31,10 @@ extended g x k = if is_in x g || is_full g then g else (x, k) ∷ g
 abbrev pub name_faults : Shape → tree.Name → Span → List CheckFault
 name_faults g x at = fault_if (is_in x g) (Declared at) ++ fault_if (is_full g) (TooMany at)
 
+-- no more stacks may be declared
+abbrev pub has_all_stacks : Shape → Bool
+has_all_stacks g = nat_le live_stack_limit (stack_count g)
+
 -- an array may be so long
 abbrev pub is_array_length : ℕ → Bool
 is_array_length n = nat_lt 0 n && nat_le n array_limit
@@ -38,10 +42,12 @@ is_array_length n = nat_lt 0 n && nat_le n array_limit
 abbrev pub declaration_faults : Shape → Declaration → List CheckFault
 declaration_faults g (Int (named x at)) = name_faults g x at
 declaration_faults g (Array (named x at) n place) = name_faults g x at ++ fault_if (not (is_array_length n)) (ArrayLength place)
+declaration_faults g (StackOf (named x at)) = name_faults g x at ++ fault_if (has_all_stacks g) (TooMany at)
 
 abbrev pub after_declaration : Shape → Declaration → Shape
 after_declaration g (Int x) = extended g (text_of x) tree.ANumber
 after_declaration g (Array x n place) = extended g (text_of x) tree.AnArray
+after_declaration g (StackOf x) = extended g (text_of x) tree.AStack
 
 abbrev pub declarations_faults : Shape → List Declaration → List CheckFault
 declarations_faults g [] = []
@@ -73,6 +79,8 @@ abbrev pub exp_faults : Shape → Exp → List CheckFault
 exp_faults g (Num n at) = []
 exp_faults g (Var y) = use_faults g tree.ANumber y
 exp_faults g (Element a i) = use_faults g tree.AnArray a ++ exp_faults g i
+exp_faults g (EmptyOf y) = use_faults g tree.AStack y
+exp_faults g (TopOf y) = use_faults g tree.AStack y
 exp_faults g (Neg e) = exp_faults g e
 exp_faults g (Bin op l r) = exp_faults g l ++ exp_faults g r
 exp_faults g (And l r) = exp_faults g l ++ exp_faults g r
@@ -86,6 +94,8 @@ abbrev pub self_faults : tree.Name → Exp → List CheckFault
 self_faults x (Num n at) = []
 self_faults x (Var y) = self_fault x y
 self_faults x (Element a i) = self_fault x a ++ self_faults x i
+self_faults x (EmptyOf y) = self_fault x y
+self_faults x (TopOf y) = self_fault x y
 self_faults x (Neg e) = self_faults x e
 self_faults x (Bin op l r) = self_faults x l ++ self_faults x r
 self_faults x (And l r) = self_faults x l ++ self_faults x r
@@ -100,6 +110,8 @@ abbrev mutual
   stm_faults g Skip = []
   stm_faults g (Assign x u e) = use_faults g tree.ANumber x ++ side_faults g (text_of x) e
   stm_faults g (AssignElement a i u e) = use_faults g tree.AnArray a ++ side_faults g (text_of a) i ++ side_faults g (text_of a) e
+  stm_faults g (Push x y) = use_faults g tree.ANumber x ++ use_faults g tree.AStack y
+  stm_faults g (Pop x y) = use_faults g tree.ANumber x ++ use_faults g tree.AStack y
   stm_faults g (If a s t b) = exp_faults g a ++ block_faults g s ++ block_faults g t ++ exp_faults g b
   stm_faults g (Loop a s t b) = exp_faults g a ++ block_faults g s ++ block_faults g t ++ exp_faults g b
 

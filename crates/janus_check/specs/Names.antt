@@ -3,11 +3,12 @@ use Rattle.std.specs.Prelude.{◌≡◌, ℕ, Bool, is_some, List, [], ◌∷◌
 use Rattle.janus_meaning.specs.Syntax as tree
 use Rattle.janus_meaning.specs.Shape.{Shape, kind_at}
 use Rattle.janus_check.specs.declared.env.Kind.{Kind}
-use Rattle.janus_check.specs.declared.env.Kind.TheVariants.{Number, Array}
+use Rattle.janus_check.specs.declared.env.Kind.TheVariants.{Number, Array, Stack}
 
 abbrev pub meant_kind : Kind → tree.Kind
 meant_kind Number = tree.ANumber
 meant_kind Array = tree.AnArray
+meant_kind Stack = tree.AStack
 
 -- the kind that a look-up finds, if it finds one
 abbrev pub kind_found : Option Kind → Option tree.Kind

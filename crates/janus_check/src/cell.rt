@@ -4,7 +4,7 @@ ghost use Rattle.janus_syntax.specs.Tree.{cell_view, declaration_view, declarati
 ghost use Rattle.janus_syntax.specs.View.{name_of};
 ghost use Rattle.janus_check.specs.Names.{shape_in, over, meant_kind};
 ghost use Rattle.janus_check.specs.Fault.{IsFirst, first_from};
-ghost use Rattle.janus_check.specs.Check.{is_full, fault_if, name_faults, extended, cell_faults, declaration_faults, declarations_faults, after_declaration, after_declarations, is_array_length};
+ghost use Rattle.janus_check.specs.Check.{is_full, has_all_stacks, fault_if, name_faults, extended, cell_faults, declaration_faults, declarations_faults, after_declaration, after_declarations, is_array_length};
 ghost use Rattle.janus_check.specs.WellFormed.{IsWellFormed};
 ghost use Rattle.janus_check.specs.Checked.{cell_in};
 ghost use Rattle.janus_check.specs.declared.fault.CheckFault.TheVariants.{Declared, TooMany, ArrayLength, Memory as NoMemory};
@@ -20,6 +20,9 @@ use std::alloc::{AllocError, Global};
 
 /// How many names may be declared.
 const NAME_LIMIT: usize = 256;
+
+/// How many stacks may be declared.
+const STACK_LIMIT: usize = 64;
 
 /// How long an array may be.
 const ARRAY_LIMIT: u32 = 65_536;
@@ -62,6 +65,11 @@ fn declare(
         Declaration::Array(name, length, at) => {
             let next = declare_name(env, own, name, Kind::Array, first)?;
             Ok(length_fault(*length, *at, next))
+        }
+        Declaration::Stack(name) => {
+            let full = has_all_stacks(env, own);
+            let next = declare_name(env, own, name, Kind::Stack, first)?;
+            Ok(stack_fault(full, name.span, next))
         }
     }
 }
@@ -116,6 +124,24 @@ fn length_fault(length: u32, at: Span, first: Option<CheckFault>) -> Option<Chec
     } else {
         first
     }
+}
+
+/// The first fault after the declaration of a stack at this place, where no more of them may be declared or not.
+fn stack_fault(full: bool, at: Span, first: Option<CheckFault>) -> Option<CheckFault>
+    ensures { result ≡ first_from first (fault_if full (TooMany at)) }
+{
+    if full {
+        sooner(first, CheckFault::TooMany(at))
+    } else {
+        first
+    }
+}
+
+/// Whether no more stacks may be declared.
+fn has_all_stacks(env: &Env, own: &Env) -> bool
+    ensures { result ≡ has_all_stacks (over (shape_in env.now) own.now) }
+{
+    env.stacks() + own.stacks() >= STACK_LIMIT
 }
 
 /// Whether no more names may be declared.

@@ -74,5 +74,6 @@ fn add_name(scope: &mut Env, declaration: &Declaration) -> Result<(), AllocError
     match declaration {
         Declaration::Int(name) => scope.declare(name.text.clone()?, Kind::Number),
         Declaration::Array(name, _, _) => scope.declare(name.text.clone()?, Kind::Array),
+        Declaration::Stack(name) => scope.declare(name.text.clone()?, Kind::Stack),
     }
 }

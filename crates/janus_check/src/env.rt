@@ -1,7 +1,7 @@
 //! The names that are declared already.
 ghost use Rattle.std.specs.Prelude.{◌≡◌, ◌↔◌, Some, None, IsTrue, IfSome, OnOk, OnErr, [], ◌∷◌, ◌++◌, length, slice_get, string_bytes, ◌<◌, ◌^◌};
-ghost use Rattle.janus_meaning.specs.Shape.{kind_at};
-ghost use Rattle.janus_check.specs.Names.{kind_found, names_in, shape_in};
+ghost use Rattle.janus_meaning.specs.Shape.{kind_at, count_stack, stack_count};
+ghost use Rattle.janus_check.specs.Names.{kind_found, meant_kind, names_in, shape_in};
 
 use indexmap::IndexMap;
 use std::alloc::{AllocError, Global};
@@ -12,24 +12,28 @@ use std::marker::Model;
 pub enum Kind {
     Number,
     Array,
+    Stack,
 }
 
 /// The declared names with their kinds. Contracts see them as a list, in order of declaration.
 #[derive(Drop)]
 pub struct Env {
     names: IndexMap<String, Kind>,
+    /// How many of them are stacks.
+    stacks: usize,
 }
 
 impl Model for Env {
-    ghost use Rattle.std.specs.Prelude.{List, [], ℕ, map, string_bytes};
-    ghost use Rattle.janus_check.specs.Names.{AreNewNames};
+    ghost use Rattle.std.specs.Prelude.{List, [], ℕ, ◌≡◌, map, string_bytes};
+    ghost use Rattle.janus_meaning.specs.Shape.{stack_count};
+    ghost use Rattle.janus_check.specs.Names.{AreNewNames, shape_in};
     ghost use Rattle.janus_check.specs.declared.env.Kind.{Kind};
 
     ghost Value = { List (List ℕ × Kind) };
 
     ghost view = { λ e. map (λ entry. (string_bytes entry.0, entry.1)) e.names.entries };
 
-    ghost invariant = { λ e. AreNewNames [] (map (λ entry. (string_bytes entry.0, entry.1)) e.names.entries) };
+    ghost invariant = { λ e. AreNewNames [] (map (λ entry. (string_bytes entry.0, entry.1)) e.names.entries) × (e.stacks ≡ stack_count (shape_in (map (λ entry. (string_bytes entry.0, entry.1)) e.names.entries))) };
 }
 
 impl Env {
@@ -39,6 +43,7 @@ impl Env {
     {
         Env {
             names: IndexMap::new(alloc),
+            stacks: 0,
         }
     }
 
@@ -48,7 +53,9 @@ impl Env {
         ensures ok { OnOk result (self.new ≡ self.old ++ (string_bytes name, kind) ∷ []) }
         ensures err { OnErr result (self.new ≡ self.old) }
     {
+        let stacks = self.stacks_with(kind);
         self.names.insert(name, kind)?;
+        self.stacks = stacks;
         Ok(())
     }
 
@@ -73,6 +80,25 @@ impl Env {
         ensures small { result < 2 ^ 63 }
     {
         self.names.len()
+    }
+
+    /// How many of the names are stacks.
+    pub fn stacks(&self) -> usize
+        ensures count { result ≡ stack_count (shape_in self.now) }
+        ensures small { result < 2 ^ 63 }
+    {
+        let _names = self.len();
+        self.stacks
+    }
+
+    /// How many of the names are stacks, with one name more of this kind.
+    fn stacks_with(&self, kind: Kind) -> usize
+        ensures { result ≡ count_stack (meant_kind kind) (stack_count (shape_in self.now)) }
+    {
+        match kind {
+            Kind::Number | Kind::Array => self.stacks(),
+            Kind::Stack => self.stacks() + 1,
+        }
     }
 
     /// Whether there are none.

@@ -42,6 +42,7 @@ pub(crate) fn exp_fault(
             let next = use_fault(env, own, Kind::Array, name, first);
             exp_fault(env, own, index, next)
         }
+        Exp::Empty(name) | Exp::Top(name) => use_fault(env, own, Kind::Stack, name, first),
         Exp::Negative(operand) => exp_fault(env, own, operand, first),
         Exp::Binary(_, left, right) => {
             let next = exp_fault(env, own, left, first);
@@ -80,6 +81,7 @@ fn self_uses(target: &Name, exp: &Exp, first: Option<CheckFault>) -> Option<Chec
             let next = self_use(target, name, first);
             self_uses(target, index, next)
         }
+        Exp::Empty(name) | Exp::Top(name) => self_use(target, name, first),
         Exp::Negative(operand) => self_uses(target, operand, first),
         Exp::Binary(_, left, right) => {
             let next = self_uses(target, left, first);

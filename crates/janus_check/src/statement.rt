@@ -27,6 +27,10 @@ fn stm_fault(env: &Env, own: &Env, stm: &Stm, first: Option<CheckFault>) -> Opti
             let next = side_fault(env, own, name, index, next);
             side_fault(env, own, name, exp, next)
         }
+        Stm::Push(variable, stack) | Stm::Pop(variable, stack) => {
+            let next = use_fault(env, own, Kind::Number, variable, first);
+            use_fault(env, own, Kind::Stack, stack, next)
+        }
         Stm::If(test, then_part, else_part, last) => {
             let next = exp_fault(env, own, test, first);
             let next = block_fault(env, own, then_part, next);

@@ -1,11 +1,11 @@
 -- The value of an expression from those of its parts.
 use Rattle.std.proofs.Common.{◌≡◌, ℕ, ℤ, pos, neg_ℤ, Bool, true, false, List, [], ◌∷◌, refl, ap, ◌∙◌, sym}
 use Rattle.janus_meaning.specs.Fault.{Fault, Res, Fine, Bad, Broken, and_then}
-use Rattle.janus_meaning.specs.Word.{Operator, wrap, nonzero, operate}
-use Rattle.janus_meaning.specs.Syntax.{Name, Exp, Var, At, Negate, Binary, And, Or}
-use Rattle.janus_meaning.specs.Store.{Val, Num, Arr, Stk, Lent, Store, Bare, Slot, same_name, look, look_at, number, array, element}
-use Rattle.janus_meaning.specs.Value.{value, both, either}
-use Rattle.janus_store.specs.Stores.{IsArray}
+use Rattle.janus_meaning.specs.Word.{Operator, wrap, bit, nonzero, operate}
+use Rattle.janus_meaning.specs.Syntax.{Name, Exp, Var, At, Empty, Top, Negate, Binary, And, Or}
+use Rattle.janus_meaning.specs.Store.{Val, Num, Arr, Stk, Lent, Store, Bare, Slot, same_name, look, look_at, number, array, stack, element}
+use Rattle.janus_meaning.specs.Value.{value, both, either, first, is_none}
+use Rattle.janus_store.specs.Stores.{IsArray, IsStack}
 
 -- nothing but `Broken` keeps a name from being found
 
@@ -51,6 +51,37 @@ module _ (s : Store) where
 
   pub element_bad : (a : Name) (i : Exp) (l : List ℤ) (f : Fault) → look a s ≡ Fine (Arr l) → value i s ≡ Bad f → value (At a i) s ≡ Bad f
   element_bad a i l f h e = element_value a i ∙ ap (at_of i) h ∙ ap (λ r. and_then r (λ k. element l k)) e
+
+  -- what is read of a stack
+  abbrev off : (List ℤ → Res ℤ) → Res Val → Res ℤ
+  off read r = and_then r (λ v. and_then (stack v) read)
+
+  stack_by : (read : List ℤ → Res ℤ) (r : Res Val) → ((f : Fault) → r ≡ Bad f → f ≡ Broken) → (off read r ≡ Bad Broken → ⊥) → IsStack r
+  stack_by read (Bad f) h safe = absurd (safe (ap Bad (h f refl)))
+  stack_by read (Fine (Num n)) h safe = absurd (safe refl)
+  stack_by read (Fine (Arr l)) h safe = absurd (safe refl)
+  stack_by read (Fine (Stk l)) h safe = (l, refl)
+  stack_by read (Fine Lent) h safe = absurd (safe refl)
+
+  empty_value : (x : Name) → value (Empty x) s ≡ off (λ l. Fine (wrap (bit (is_none l)))) (look x s)
+  unfolding value
+  empty_value x = refl
+
+  top_value : (x : Name) → value (Top x) s ≡ off first (look x s)
+  unfolding value
+  top_value x = refl
+
+  pub empty_is_stack : (x : Name) → (value (Empty x) s ≡ Bad Broken → ⊥) → IsStack (look x s)
+  empty_is_stack x safe = stack_by (λ l. Fine (wrap (bit (is_none l)))) (look x s) (look_bad x s) (λ h. safe (empty_value x ∙ h))
+
+  pub top_is_stack : (x : Name) → (value (Top x) s ≡ Bad Broken → ⊥) → IsStack (look x s)
+  top_is_stack x safe = stack_by first (look x s) (look_bad x s) (λ h. safe (top_value x ∙ h))
+
+  pub empty_is : (x : Name) (l : List ℤ) → look x s ≡ Fine (Stk l) → value (Empty x) s ≡ Fine (wrap (bit (is_none l)))
+  empty_is x l h = empty_value x ∙ ap (off (λ l. Fine (wrap (bit (is_none l))))) h
+
+  pub top_is : (x : Name) (l : List ℤ) → look x s ≡ Fine (Stk l) → value (Top x) s ≡ first l
+  top_is x l h = top_value x ∙ ap (off first) h
 
   pub negative_is : (e : Exp) (r : Res ℤ) → value e s ≡ r → value (Negate e) s ≡ and_then r (λ v. Fine (wrap (neg_ℤ v)))
   unfolding value

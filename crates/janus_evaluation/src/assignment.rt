@@ -8,7 +8,7 @@ ghost use Rattle.janus_syntax.specs.View.{update_of};
 ghost use Rattle.janus_store.specs.Stores.{names_in};
 ghost use Rattle.janus_invert.specs.Expressions.{exp_of};
 ghost use Rattle.janus_invert.specs.Placed.{IsAt, IsPlaced};
-ghost use Rattle.janus_evaluation.specs.Results.{IsDone, IsCounted};
+ghost use Rattle.janus_evaluation.specs.Results.{IsDone, IsCounted, IsWrittenOnce};
 
 use crate::expression::value;
 use crate::fault::ValueFault;
@@ -32,6 +32,7 @@ pub fn assign<L: Ledger>(
     ensures done { IsDone (assign_of (string_bytes name.now.text) (update_of update) (exp_of exp.now) store.old) store.old store.new result }
     ensures shape { cleared store.new ≡ cleared store.old }
     ensures counted { IsCounted result writes.old writes.new }
+    ensures once { IsWrittenOnce result writes.old writes.new }
 {
     let operand = match value(exp, store) {
         Ok(operand) => operand,
@@ -61,6 +62,7 @@ pub fn assign_element<L: Ledger>(
     ensures done { IsDone (assign_at_of (string_bytes name.now.text) (exp_of index.now) (update_of update) (exp_of exp.now) store.old) store.old store.new result }
     ensures shape { cleared store.new ≡ cleared store.old }
     ensures counted { IsCounted result writes.old writes.new }
+    ensures once { IsWrittenOnce result writes.old writes.new }
 {
     let index = match value(index, store) {
         Ok(index) => index,

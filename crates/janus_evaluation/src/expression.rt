@@ -3,10 +3,10 @@
 ghost use Rattle.std.specs.Prelude.{◌≡◌, ◌≢◌, true};
 ghost use Rattle.std.specs.Prelude.{List, ℤ};
 ghost use Rattle.janus_meaning.specs.Fault.{Fine, Bad, Broken};
-ghost use Rattle.janus_meaning.specs.Store.{Arr, look, element as element_of};
+ghost use Rattle.janus_meaning.specs.Store.{Arr, Stk, look, element as element_of};
 ghost use Rattle.janus_meaning.specs.Syntax.{Name};
-ghost use Rattle.janus_store.specs.Stores.{IsArray, IsNamed, names_in};
-ghost use Rattle.janus_meaning.specs.Value.{value as value_of, test as test_of, both};
+ghost use Rattle.janus_store.specs.Stores.{IsArray, IsStack, IsNamed, names_in};
+ghost use Rattle.janus_meaning.specs.Value.{value as value_of, test as test_of, both, first as first_of};
 ghost use Rattle.janus_invert.specs.Expressions.{exp_of};
 ghost use Rattle.janus_invert.specs.Placed.{IsPlaced};
 ghost use Rattle.janus_evaluation.specs.Results.{result_of, truth_of};
@@ -47,6 +47,8 @@ pub fn value<L: Ledger>(exp: &Exp, store: &Store<L>) -> Result<i32, ValueFault>
             Ok(index) => element(name.place, index, store),
             Err(fault) => Err(fault),
         },
+        Exp::Empty(name) => Ok(bit_of(store.is_empty(name.place))),
+        Exp::Top(name) => top(name.place, store),
         Exp::Negative(operand) => match value(operand, store) {
             Ok(number) => Ok(negative(number)),
             Err(fault) => Err(fault),
@@ -89,6 +91,17 @@ fn element<L: Ledger>(place: usize, index: i32, store: &Store<L>) -> Result<i32,
     match store.element(place, index) {
         Some(number) => Ok(number),
         None => Err(ValueFault::IndexRange),
+    }
+}
+
+/// The newest value of the stack at a place; a fault where it is empty.
+fn top<L: Ledger>(place: usize, store: &Store<L>) -> Result<i32, ValueFault>
+    requires { (x : Name) × IsNamed store.now place x × IsStack (look x store.now) }
+    ensures { (x : Name) (l : List ℤ) → IsNamed store.now place x → look x store.now ≡ Fine (Stk l) → result_of result ≡ first_of l }
+{
+    match store.top(place) {
+        Some(number) => Ok(number),
+        None => Err(ValueFault::TopEmpty),
     }
 }
 

@@ -1,7 +1,8 @@
-//! The numbers of expressions, and what assignments do to a store.
+//! The numbers of expressions, and what assignments, pushes and pops do to a store.
 //!
 //! To the layer above it promises that an expression of flat code has in a store the number, or the first fault, that the
-//! meaning gives it, and that an assignment changes its variable or element alone, or nothing at a fault. Numbers have 32 bits
+//! meaning gives it, and that an assignment changes its variable or element alone, a push or a pop its variable and its stack alone,
+//! and each of them nothing at a fault. Numbers have 32 bits
 //! in two's complement; operators are those of Janus (Yokoyama, Axelsen and Glück 2008), division truncates towards zero as
 //! in C.
 #![tactic(auto)]
@@ -10,7 +11,9 @@ mod assignment;
 mod expression;
 mod fault;
 mod operator;
+mod transfer;
 
 pub use crate::assignment::{assign, assign_element};
 pub use crate::expression::{test, value};
 pub use crate::fault::ValueFault;
+pub use crate::transfer::{pop, push};

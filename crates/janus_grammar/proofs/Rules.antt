@@ -9,10 +9,10 @@ use Rattle.janus_syntax.specs.declared.token.Word.{Word}
 use Rattle.janus_syntax.specs.declared.token.Word.TheVariants as word
 use Rattle.janus_syntax.specs.declared.operator.Infix.{Infix}
 use Rattle.janus_syntax.specs.Tokens.{Token, Name, Number, Sign_of, Word_of}
-use Rattle.janus_syntax.specs.Tree.{named, Exp, Num, Neg, Stm, Skip, If, Loop, Block, Empty, More, Declaration}
+use Rattle.janus_syntax.specs.Tree.{Name as Named, named, Exp, Num, EmptyOf, TopOf, Neg, Stm, Skip, Push, Pop, If, Loop, Block, Empty, More, Declaration, StackOf}
 use Rattle.janus_syntax.specs.Operators.{weakest, joined, sign_infix, operator_at}
 use Rattle.janus_syntax.specs.Forms.{Part, Declarations, Bound, Body, Statements, Else_part, Do_part, Loop_part, Target_index, Whole, Level, Chain, Index, Tree, Class, Seen, seen, The_word, The_sign, A_name, A_number, An_update, Form, done, take, part, close, Rule}
-use Rattle.janus_syntax.specs.Table.{rule, left_out, variable, assignment, declared, skip_block, sign_then, word_then, whole, operand, chains, chain_rule, statement, declaration}
+use Rattle.janus_syntax.specs.Table.{rule, left_out, variable, assignment, declared, skip_block, sign_then, word_then, stack_then, variable_and_stack_then, whole, operand, chains, chain_rule, statement, declaration}
 use Rattle.janus_syntax.specs.Grammar
 use Rattle.janus_syntax.specs.Grammar.{Count, but_limits, entered, closed, Spells}
 use Rattle.janus_grammar.specs.Derivation
@@ -87,6 +87,22 @@ sign_behind s at f v from rest is h = taken (λ x. f) tt v (Sign_of s at) from r
 word_behind : {p : Part} (w : Word) (at : Span) (f : Form p) (v : Tree p) (from rest : List Token) → seen (The_word w) (Word_of w at) ≡ Some tt → Spelled p f v from rest → Spelled p (word_then w f) v (Word_of w at ∷ from) rest
 word_behind w at f v from rest is h = taken (λ x. f) tt v (Word_of w at) from rest is h
 
+-- names in parentheses
+
+stack_behind : {p : Part} (opening at closing : Span) (x : List ℕ) (f : Named → Form p) (v : Tree p) (from rest : List Token) → Spelled p (f (named x at)) v from rest → Spelled p (stack_then f) v (Sign_of sign.Open opening ∷ Name x at ∷ Sign_of sign.Close closing ∷ from) rest
+stack_behind opening at closing x f v from rest h =
+    sign_behind sign.Open opening (take A_name (λ s. sign_then sign.Close (f s))) v (Name x at ∷ Sign_of sign.Close closing ∷ from) rest refl
+    (taken {c = A_name} (λ s. sign_then sign.Close (f s)) (named x at) v (Name x at) (Sign_of sign.Close closing ∷ from) rest refl (sign_behind sign.Close closing (f (named x at)) v from rest refl h))
+
+pair_behind : {p : Part} (opening at comma place closing : Span) (x y : List ℕ) (f : Named → Named → Form p) (v : Tree p) (from rest : List Token) → Spelled p (f (named x at) (named y place)) v from rest →
+    Spelled p (variable_and_stack_then f) v (Sign_of sign.Open opening ∷ Name x at ∷ Sign_of sign.Comma comma ∷ Name y place ∷ Sign_of sign.Close closing ∷ from) rest
+pair_behind opening at comma place closing x y f v from rest h =
+    let behind : List Token = Name y place ∷ Sign_of sign.Close closing ∷ from in
+    sign_behind sign.Open opening (take A_name (λ z. sign_then sign.Comma (take A_name (λ s. sign_then sign.Close (f z s))))) v (Name x at ∷ Sign_of sign.Comma comma ∷ behind) rest refl
+    (taken {c = A_name} (λ z. sign_then sign.Comma (take A_name (λ s. sign_then sign.Close (f z s)))) (named x at) v (Name x at) (Sign_of sign.Comma comma ∷ behind) rest refl
+    (sign_behind sign.Comma comma (take A_name (λ s. sign_then sign.Close (f (named x at) s))) v behind rest refl
+    (taken {c = A_name} (λ s. sign_then sign.Close (f (named x at) s)) (named y place) v (Name y place) (Sign_of sign.Close closing ∷ from) rest refl (sign_behind sign.Close closing (f (named x at) (named y place)) v from rest refl h))))
+
 -- levels of operators are not 0
 
 abbrev has_level : Option Infix → Bool
@@ -127,6 +143,24 @@ leads (Derivation.element {x = x} {at = at} {opening = opening} {closing = closi
     let inner = level_is (leads d) Index (λ e. sign_then sign.CloseIndex (close (done (Some e)))) (Some i) rest (sign_behind sign.CloseIndex closing (close (done (Some i))) (Some i) rest rest refl (closes (done (Some i)) (Some i) rest rest (nothing_more Index (Some i) rest))) in
     let index = begun Index (Sign_of sign.OpenIndex opening) (record { opens = 1; counts = 0; is_whole = false; form = part (Level weakest) (λ e. sign_then sign.CloseIndex (close (done (Some e)))) }) (Some i) from rest refl inner in
     operand_leads (λ l p k v last h. (Name x at, Sign_of sign.OpenIndex opening ∷ from, record { opens = 0; counts = 0; is_whole = false; form = part Index (λ i. chains 0 l (variable (named x at) i) k) }, refl, refl, index p (λ i. chains 0 l (variable (named x at) i) k) v last h))
+leads (Derivation.emptiness {at_empty = at_empty} {opening = opening} {at = at} {closing = closing} {s = x} {rest = rest}) =
+    operand_leads (λ l p k v last h. (
+      Word_of word.Empty at_empty,
+      Sign_of sign.Open opening ∷ Name x at ∷ Sign_of sign.Close closing ∷ rest,
+      record { opens = 0; counts = 0; is_whole = false; form = stack_then (λ s. chains 0 l (EmptyOf s) k) },
+      refl,
+      refl,
+      stack_behind opening at closing x (λ s. chains 0 l (EmptyOf s) k) v rest last h,
+    ))
+leads (Derivation.top {at_top = at_top} {opening = opening} {at = at} {closing = closing} {s = x} {rest = rest}) =
+    operand_leads (λ l p k v last h. (
+      Word_of word.Top at_top,
+      Sign_of sign.Open opening ∷ Name x at ∷ Sign_of sign.Close closing ∷ rest,
+      record { opens = 0; counts = 0; is_whole = false; form = stack_then (λ s. chains 0 l (TopOf s) k) },
+      refl,
+      refl,
+      stack_behind opening at closing x (λ s. chains 0 l (TopOf s) k) v rest last h,
+    ))
 leads (Derivation.minus {at = at} {e = e} {from = from} {rest = rest} d) =
     operand_leads (λ l p k v last h. (Sign_of sign.Minus at, from, record { opens = 1; counts = 1; is_whole = false; form = part (Level 0) (λ e. close (chains 0 l (Neg e) k)) }, refl, refl, level_is (leads d) p (λ e. close (chains 0 l (Neg e) k)) v last (closes (chains 0 l (Neg e) k) v rest last h)))
 leads (Derivation.parentheses {opening = opening} {closing = closing} {e = e} {from = from} {rest = rest} d) =
@@ -180,6 +214,22 @@ mutual
         begun Target_index (Sign_of sign.OpenIndex opening) (record { opens = 1; counts = 0; is_whole = false; form = part Whole (λ e. sign_then sign.CloseIndex (close (done (Some e)))) }) (Some i) from (t ∷ behind) refl inner p (λ i. take An_update (λ u. part Whole (λ e. k (assignment (named x at) i u e)))) v last
             (taken (λ u. part Whole (λ e. k (assignment (named x at) (Some i) u e))) u v t behind last is (whole_is (leads d) p (λ e. k (assignment (named x at) (Some i) u e)) v last h)),
       )
+  begins (IsStatement.push {at_push = at_push} {opening = opening} {at = at} {comma = comma} {place = place} {closing = closing} {x = x} {s = y} {rest = rest}) = λ p k v last h. (
+    Word_of word.Push at_push,
+    Sign_of sign.Open opening ∷ Name x at ∷ Sign_of sign.Comma comma ∷ Name y place ∷ Sign_of sign.Close closing ∷ rest,
+    record { opens = 0; counts = 0; is_whole = false; form = variable_and_stack_then (λ z s. k (Push z s)) },
+    refl,
+    refl,
+    pair_behind opening at comma place closing x y (λ z s. k (Push z s)) v rest last h,
+  )
+  begins (IsStatement.pop {at_pop = at_pop} {opening = opening} {at = at} {comma = comma} {place = place} {closing = closing} {x = x} {s = y} {rest = rest}) = λ p k v last h. (
+    Word_of word.Pop at_pop,
+    Sign_of sign.Open opening ∷ Name x at ∷ Sign_of sign.Comma comma ∷ Name y place ∷ Sign_of sign.Close closing ∷ rest,
+    record { opens = 0; counts = 0; is_whole = false; form = variable_and_stack_then (λ z s. k (Pop z s)) },
+    refl,
+    refl,
+    pair_behind opening at comma place closing x y (λ z s. k (Pop z s)) v rest last h,
+  )
   begins (IsStatement.branch {at_if = at_if} {at_then = at_then} {at_fi = at_fi} {test = e} {assertion = f} {a = s} {b = t} {from = from} {then = then} {others = others} {last = end} {rest = rest} d a b g) = λ p k v last h. (
     Word_of word.If at_if,
     from,
@@ -250,6 +300,14 @@ declares (IsDeclaration.array {at_int = at_int} {at = at} {opening = opening} {p
       (taken {c = A_number} (λ n. sign_then sign.CloseIndex (done (Some n))) (n, place) (Some (n, place)) (Number n place) (Sign_of sign.CloseIndex closing ∷ rest) rest refl
       (sign_behind sign.CloseIndex closing (done (Some (n, place))) (Some (n, place)) rest rest refl (nothing_more Bound (Some (n, place)) rest)))
       p (λ n. k (declared (named x at) n)) v last h),
+)
+declares (IsDeclaration.stack {at_stack = at_stack} {at = at} {s = x} {rest = rest}) = λ p k v last h. (
+  Word_of word.Stack at_stack,
+  Name x at ∷ rest,
+  record { opens = 0; counts = 0; is_whole = false; form = take A_name (λ s. k (StackOf s)) },
+  refl,
+  refl,
+  taken {c = A_name} (λ s. k (StackOf s)) (named x at) v (Name x at) rest last refl h,
 )
 
 pub declarations_are : {ds : List Declaration} {from rest : List Token} → AreDeclarations ds from rest → IsPart Declarations ds from rest

@@ -8,15 +8,15 @@ use Rattle.janus_syntax.specs.declared.token.Word.TheVariants as word
 use Rattle.janus_syntax.specs.declared.operator.Infix.{Infix}
 use Rattle.janus_syntax.specs.declared.tree.Update.{Update}
 use Rattle.janus_syntax.specs.Tokens.{Token, Name, Number, Sign_of, Word_of}
-use Rattle.janus_syntax.specs.Tree.{Name as Named, named, Exp, Num, Neg, Stm, Skip, If, Loop, Block, Empty, More, Declaration}
+use Rattle.janus_syntax.specs.Tree.{Name as Named, named, Exp, Num, EmptyOf, TopOf, Neg, Stm, Skip, Push, Pop, If, Loop, Block, Empty, More, Declaration, StackOf}
 use Rattle.janus_syntax.specs.Operators.{weakest, joined, operator_at, update_at}
 use Rattle.janus_syntax.specs.Forms.{Part, A_cell, Declarations, Bound, Body, Statements, Else_part, Do_part, Loop_part, Target_index, Whole, Level, Chain, Index, Tree, Seen, seen, The_sign, A_name, A_number, An_update, Form, done, take, part, close, Rule}
-use Rattle.janus_syntax.specs.Table.{rule, left_out, variable, assignment, declared, nothing, skip_block, word_then, sign_then, whole, operand, chains, chain_rule, statement, declaration}
+use Rattle.janus_syntax.specs.Table.{rule, left_out, variable, assignment, declared, nothing, skip_block, word_then, sign_then, stack_then, variable_and_stack_then, whole, operand, chains, chain_rule, statement, declaration}
 use Rattle.janus_syntax.specs.Grammar
 use Rattle.janus_syntax.specs.Grammar.{Count, Demands, Spells}
 use Rattle.janus_grammar.specs.Derivation
 use Rattle.janus_grammar.specs.Derivation.{IsExpression, IsStatement, AreStatements, IsBody, IsOptional, IsDeclaration, AreDeclarations, IsCell, there, left_out as no_words, cell, body}
-use Rattle.janus_grammar.proofs.Tokens.{then_is, fi_is, until_is, close_is, close_index_is}
+use Rattle.janus_grammar.proofs.Tokens.{then_is, fi_is, until_is, open_is, comma_is, close_is, close_index_is}
 
 -- behind a name: an index, if there is one
 pub data IsIndexed : Option Exp → List Token → List Token → Type 0 where
@@ -73,6 +73,62 @@ left_out_derived (Level n) u ts e = absurd cc
 left_out_derived (Chain n x) u ts e = let same : x ≡ u = cc in λ start h. subst (λ y. IsExpression n y start ts) same h
 left_out_derived Index u ts e = let same : None ≡ u = cc in subst (λ i. IsIndexed i ts ts) same without
 
+-- ---- names in parentheses
+
+name_is : (t : Token) (s : Named) → seen A_name t ≡ Some s → (x : List ℕ) × (at : Span) × (t ≡ Name x at) × (named x at ≡ s)
+name_is (Name x at) s e = (x, at, refl, cc)
+name_is (Number n at) s e = absurd cc
+name_is (Sign_of r at) s e = absurd cc
+name_is (Word_of w at) s e = absurd cc
+
+-- a stack, and what the form behind it means
+stack_derived : {p : Part} (k : Named → Form p) (v : Tree p) (from rest : List Token) → Means (stack_then k) v from rest →
+    (opening : Span) × (x : List ℕ) × (at : Span) × (closing : Span) × (behind : List Token) × (from ≡ Sign_of sign.Open opening ∷ Name x at ∷ Sign_of sign.Close closing ∷ behind) × Means (k (named x at)) v behind rest
+stack_derived k v from rest h =
+    let (t1, u1, b1, w1, is1, h1) = h in
+    let (t2, s, b2, w2, is2, h2) = h1 in
+    let (t3, u3, b3, w3, is3, more) = h2 in
+    let o = open_is from t1 u1 b1 w1 is1 in
+    let n = name_is t2 s is2 in
+    let c = close_is b2 t3 u3 b3 w3 is3 in (
+      o.0,
+      n.0,
+      n.1,
+      c.0,
+      b3,
+      o.1 ∙ ap (λ ts. Sign_of sign.Open o.0 ∷ ts) (w2 ∙ ap (λ t. t ∷ b2) n.2 ∙ ap (λ ts. Name n.0 n.1 ∷ ts) c.1),
+      subst (λ y. Means (k y) v b3 rest) (sym n.3) more,
+    )
+
+-- a variable and a stack, and what the form behind them means
+pair_derived : {p : Part} (k : Named → Named → Form p) (v : Tree p) (from rest : List Token) → Means (variable_and_stack_then k) v from rest →
+    (opening : Span) × (x : List ℕ) × (at : Span) × (comma : Span) × (y : List ℕ) × (place : Span) × (closing : Span) × (behind : List Token)
+    × (from ≡ Sign_of sign.Open opening ∷ Name x at ∷ Sign_of sign.Comma comma ∷ Name y place ∷ Sign_of sign.Close closing ∷ behind) × Means (k (named x at) (named y place)) v behind rest
+pair_derived k v from rest h =
+    let (t1, u1, b1, w1, is1, h1) = h in
+    let (t2, s, b2, w2, is2, h2) = h1 in
+    let (t3, u3, b3, w3, is3, h3) = h2 in
+    let (t4, r, b4, w4, is4, h4) = h3 in
+    let (t5, u5, b5, w5, is5, more) = h4 in
+    let o = open_is from t1 u1 b1 w1 is1 in
+    let n = name_is t2 s is2 in
+    let m = comma_is b2 t3 u3 b3 w3 is3 in
+    let l = name_is t4 r is4 in
+    let c = close_is b4 t5 u5 b5 w5 is5 in
+    let behind_comma : b3 ≡ Name l.0 l.1 ∷ Sign_of sign.Close c.0 ∷ b5 = w4 ∙ ap (λ t. t ∷ b4) l.2 ∙ ap (λ ts. Name l.0 l.1 ∷ ts) c.1 in
+    let behind_open : b1 ≡ Name n.0 n.1 ∷ Sign_of sign.Comma m.0 ∷ Name l.0 l.1 ∷ Sign_of sign.Close c.0 ∷ b5 = w2 ∙ ap (λ t. t ∷ b2) n.2 ∙ ap (λ ts. Name n.0 n.1 ∷ ts) (m.1 ∙ ap (λ ts. Sign_of sign.Comma m.0 ∷ ts) behind_comma) in (
+      o.0,
+      n.0,
+      n.1,
+      m.0,
+      l.0,
+      l.1,
+      c.0,
+      b5,
+      o.1 ∙ ap (λ ts. Sign_of sign.Open o.0 ∷ ts) behind_open,
+      subst (λ y. Means (k y (named l.0 l.1)) v b5 rest) (sym n.3) (subst (λ y. Means (k s y) v b5 rest) (sym l.3) more),
+    )
+
 -- ---- expressions
 
 -- an expression, and what the form behind it means
@@ -102,7 +158,15 @@ operand_derived {p} (Sign_of sign.Minus at) k r v from rest is h =
     let (e, middle, d, more) = form_as a r v from rest is h in
     (Neg e, middle, Derivation.minus d, more)
 operand_derived (Sign_of _ at) k r v from rest is h = absurd cc
-operand_derived (Word_of w at) k r v from rest is h = absurd cc
+operand_derived {p} (Word_of word.Empty at) k r v from rest is h =
+    let a : Rule p = record { opens = 0; counts = 0; is_whole = false; form = stack_then (λ s. k (EmptyOf s)) } in
+    let (opening, x, place, closing, behind, whole, more) = stack_derived (λ s. k (EmptyOf s)) v from rest (form_as a r v from rest is h) in
+    (EmptyOf (named x place), behind, subst (λ ts. IsExpression 0 (EmptyOf (named x place)) (Word_of word.Empty at ∷ ts) behind) (sym whole) Derivation.emptiness, more)
+operand_derived {p} (Word_of word.Top at) k r v from rest is h =
+    let a : Rule p = record { opens = 0; counts = 0; is_whole = false; form = stack_then (λ s. k (TopOf s)) } in
+    let (opening, x, place, closing, behind, whole, more) = stack_derived (λ s. k (TopOf s)) v from rest (form_as a r v from rest is h) in
+    (TopOf (named x place), behind, subst (λ ts. IsExpression 0 (TopOf (named x place)) (Word_of word.Top at ∷ ts) behind) (sym whole) Derivation.top, more)
+operand_derived (Word_of _ at) k r v from rest is h = absurd cc
 
 chains_derived : {p : Part} (l n : ℕ) (e : Exp) (k : Exp → Form p) (v : Tree p) (start from rest : List Token) → IsExpression l e start from → Means (chains l n e k) v from rest → Front (l + n) k v start rest
 chains_derived l zero e k v start from rest d h = (e, from, subst (λ (i : ℕ). IsExpression i e start from) (omega arith) d, h)
@@ -198,6 +262,14 @@ statement_derived {p} (Word_of word.From at) k r v from rest is h =
 statement_derived {p} (Word_of word.Skip at) k r v from rest is h =
     let a : Rule p = record { opens = 0; counts = 0; is_whole = false; form = k Skip } in
     (Skip, from, IsStatement.skip, form_as a r v from rest is h)
+statement_derived {p} (Word_of word.Push at) k r v from rest is h =
+    let a : Rule p = record { opens = 0; counts = 0; is_whole = false; form = variable_and_stack_then (λ x s. k (Push x s)) } in
+    let (opening, x, on, comma, y, place, closing, behind, whole, more) = pair_derived (λ x s. k (Push x s)) v from rest (form_as a r v from rest is h) in
+    (Push (named x on) (named y place), behind, subst (λ ts. IsStatement (Push (named x on) (named y place)) (Word_of word.Push at ∷ ts) behind) (sym whole) IsStatement.push, more)
+statement_derived {p} (Word_of word.Pop at) k r v from rest is h =
+    let a : Rule p = record { opens = 0; counts = 0; is_whole = false; form = variable_and_stack_then (λ x s. k (Pop x s)) } in
+    let (opening, x, on, comma, y, place, closing, behind, whole, more) = pair_derived (λ x s. k (Pop x s)) v from rest (form_as a r v from rest is h) in
+    (Pop (named x on) (named y place), behind, subst (λ ts. IsStatement (Pop (named x on) (named y place)) (Word_of word.Pop at ∷ ts) behind) (sym whole) IsStatement.pop, more)
 statement_derived (Word_of _ at) k r v from rest is h = absurd cc
 statement_derived (Sign_of s at) k r v from rest is h = absurd cc
 statement_derived (Number n at) k r v from rest is h = absurd cc
@@ -246,6 +318,12 @@ declared_derived at (Number i place) x n from behind rest is w b = absurd cc
 declared_derived at (Sign_of s place) x n from behind rest is w b = absurd cc
 declared_derived at (Word_of w' place) x n from behind rest is w b = absurd cc
 
+stack_declared : (at : Span) (t : Token) (s : Named) (from behind : List Token) → seen A_name t ≡ Some s → from ≡ t ∷ behind → IsDeclaration (StackOf s) (Word_of word.Stack at ∷ from) behind
+stack_declared at t s from behind is w =
+    let n = name_is t s is in
+    subst (λ y. IsDeclaration (StackOf y) (Word_of word.Stack at ∷ from) behind) n.3
+    (subst (λ ts. IsDeclaration (StackOf (named n.0 n.1)) (Word_of word.Stack at ∷ ts) behind) (sym (w ∙ ap (λ x. x ∷ behind) n.2)) IsDeclaration.stack)
+
 declaration_derived : {p : Part} (t : Token) (k : Declaration → Form p) (r : Rule p) (v : Tree p) (from rest : List Token) → declaration t k ≡ Some r → Means r.form v from rest →
     (d : Declaration) × (middle : List Token) × IsDeclaration d (t ∷ from) middle × Means (k d) v middle rest
 declaration_derived {p} (Word_of word.Int at) k r v from rest is h =
@@ -253,6 +331,10 @@ declaration_derived {p} (Word_of word.Int at) k r v from rest is h =
     let (t, x, behind, whole, names, h1) = form_as a r v from rest is h in
     let (n, middle, b, more) = h1 in
     (declared x n, middle, declared_derived at t x n from behind middle names whole b, more)
+declaration_derived {p} (Word_of word.Stack at) k r v from rest is h =
+    let a : Rule p = record { opens = 0; counts = 0; is_whole = false; form = take A_name (λ s. k (StackOf s)) } in
+    let (t, s, behind, whole, names, more) = form_as a r v from rest is h in
+    (StackOf s, behind, stack_declared at t s from behind names whole, more)
 declaration_derived (Word_of _ at) k r v from rest is h = absurd cc
 declaration_derived (Name x at) k r v from rest is h = absurd cc
 declaration_derived (Sign_of s at) k r v from rest is h = absurd cc

@@ -36,6 +36,20 @@ until_is ts (Name x at) s behind e is = absurd cc
 until_is ts (Number n at) s behind e is = absurd cc
 until_is ts (Sign_of r at) s behind e is = absurd cc
 
+pub open_is : (ts : List Token) (t : Token) (s : Unit {0}) (behind : List Token) → ts ≡ t ∷ behind → seen (The_sign sign.Open) t ≡ Some s → BeginsWithSign sign.Open ts behind
+open_is ts (Sign_of sign.Open at) s behind e is = (at, e)
+open_is ts (Sign_of _ at) s behind e is = absurd cc
+open_is ts (Name x at) s behind e is = absurd cc
+open_is ts (Number n at) s behind e is = absurd cc
+open_is ts (Word_of w at) s behind e is = absurd cc
+
+pub comma_is : (ts : List Token) (t : Token) (s : Unit {0}) (behind : List Token) → ts ≡ t ∷ behind → seen (The_sign sign.Comma) t ≡ Some s → BeginsWithSign sign.Comma ts behind
+comma_is ts (Sign_of sign.Comma at) s behind e is = (at, e)
+comma_is ts (Sign_of _ at) s behind e is = absurd cc
+comma_is ts (Name x at) s behind e is = absurd cc
+comma_is ts (Number n at) s behind e is = absurd cc
+comma_is ts (Word_of w at) s behind e is = absurd cc
+
 pub close_is : (ts : List Token) (t : Token) (s : Unit {0}) (behind : List Token) → ts ≡ t ∷ behind → seen (The_sign sign.Close) t ≡ Some s → BeginsWithSign sign.Close ts behind
 close_is ts (Sign_of sign.Close at) s behind e is = (at, e)
 close_is ts (Sign_of _ at) s behind e is = absurd cc

@@ -7,7 +7,7 @@ use Rattle.janus_syntax.specs.declared.token.Word.TheVariants as word
 use Rattle.janus_syntax.specs.declared.operator.Infix.{Infix}
 use Rattle.janus_syntax.specs.declared.tree.Update.{Update}
 use Rattle.janus_syntax.specs.Tokens.{Token, Name, Number, Sign_of, Word_of}
-use Rattle.janus_syntax.specs.Tree.{named, Exp, Num, Var, Element, Neg, Stm, Skip, Assign, AssignElement, If, Loop, Block, Empty, More, Declaration, Int, Array, Cell, cell_of}
+use Rattle.janus_syntax.specs.Tree.{named, Exp, Num, Var, Element, EmptyOf, TopOf, Neg, Stm, Skip, Assign, AssignElement, Push, Pop, If, Loop, Block, Empty, More, Declaration, Int, Array, StackOf, Cell, cell_of}
 use Rattle.janus_syntax.specs.Operators.{weakest, joined, operator_at, update_at}
 use Rattle.janus_syntax.specs.Table.{skip_block}
 
@@ -21,6 +21,10 @@ pub data IsExpression : ℕ → Exp → List Token → List Token → Type 0 whe
   variable : {x : List ℕ} {at : Span} {rest : List Token} → IsExpression 0 (Var (named x at)) (Name x at ∷ rest) rest
   element : {x : List ℕ} {at opening closing : Span} {i : Exp} {from rest : List Token} →
       IsExpression weakest i from (Sign_of sign.CloseIndex closing ∷ rest) → IsExpression 0 (Element (named x at) i) (Name x at ∷ Sign_of sign.OpenIndex opening ∷ from) rest
+  emptiness : {at_empty opening at closing : Span} {s : List ℕ} {rest : List Token} →
+      IsExpression 0 (EmptyOf (named s at)) (Word_of word.Empty at_empty ∷ Sign_of sign.Open opening ∷ Name s at ∷ Sign_of sign.Close closing ∷ rest) rest
+  top : {at_top opening at closing : Span} {s : List ℕ} {rest : List Token} →
+      IsExpression 0 (TopOf (named s at)) (Word_of word.Top at_top ∷ Sign_of sign.Open opening ∷ Name s at ∷ Sign_of sign.Close closing ∷ rest) rest
   minus : {at : Span} {e : Exp} {from rest : List Token} → IsExpression 0 e from rest → IsExpression 0 (Neg e) (Sign_of sign.Minus at ∷ from) rest
   parentheses : {opening closing : Span} {e : Exp} {from rest : List Token} →
       IsExpression weakest e from (Sign_of sign.Close closing ∷ rest) → IsExpression 0 e (Sign_of sign.Open opening ∷ from) rest
@@ -39,6 +43,10 @@ mutual
     element_assignment : {x : List ℕ} {at opening closing : Span} {t : Token} {u : Update} {i e : Exp} {from behind rest : List Token} → update_at t ≡ Some u →
         IsExpression weakest i from (Sign_of sign.CloseIndex closing ∷ t ∷ behind) → IsExpression weakest e behind rest →
         IsStatement (AssignElement (named x at) i u e) (Name x at ∷ Sign_of sign.OpenIndex opening ∷ from) rest
+    push : {at_push opening at comma place closing : Span} {x s : List ℕ} {rest : List Token} →
+        IsStatement (Push (named x at) (named s place)) (Word_of word.Push at_push ∷ Sign_of sign.Open opening ∷ Name x at ∷ Sign_of sign.Comma comma ∷ Name s place ∷ Sign_of sign.Close closing ∷ rest) rest
+    pop : {at_pop opening at comma place closing : Span} {x s : List ℕ} {rest : List Token} →
+        IsStatement (Pop (named x at) (named s place)) (Word_of word.Pop at_pop ∷ Sign_of sign.Open opening ∷ Name x at ∷ Sign_of sign.Comma comma ∷ Name s place ∷ Sign_of sign.Close closing ∷ rest) rest
     branch : {at_if at_then at_fi : Span} {test assertion : Exp} {a b : Block} {from then others last rest : List Token} →
         IsExpression weakest test from (Word_of word.Then at_then ∷ then) → IsBody a then others →
         IsOptional word.Else b others (Word_of word.Fi at_fi ∷ last) → IsExpression weakest assertion last rest →
@@ -69,6 +77,7 @@ pub data IsDeclaration : Declaration → List Token → List Token → Type 0 wh
   number : {at_int at : Span} {x : List ℕ} {rest : List Token} → IsDeclaration (Int (named x at)) (Word_of word.Int at_int ∷ Name x at ∷ rest) rest
   array : {at_int at opening place closing : Span} {x : List ℕ} {n : ℕ} {rest : List Token} →
       IsDeclaration (Array (named x at) n place) (Word_of word.Int at_int ∷ Name x at ∷ Sign_of sign.OpenIndex opening ∷ Number n place ∷ Sign_of sign.CloseIndex closing ∷ rest) rest
+  stack : {at_stack at : Span} {s : List ℕ} {rest : List Token} → IsDeclaration (StackOf (named s at)) (Word_of word.Stack at_stack ∷ Name s at ∷ rest) rest
 
 -- none or more
 pub data AreDeclarations : List Declaration → List Token → List Token → Type 0 where

@@ -8,7 +8,7 @@ use Rattle.janus_syntax.specs.declared.tree.Update.TheVariants.{Add, Subtract, X
 use Rattle.janus_syntax.specs.declared.tree.Exp as code_exp
 use Rattle.janus_syntax.specs.declared.tree.Stm as code_stm
 use Rattle.janus_syntax.proofs.Views.{view_if, view_loop}
-use Rattle.janus_syntax.specs.Tree.{Stm, Skip, Assign, AssignElement, If, Loop, Block, Empty, More, cell_of, exp_view, stm_view, block_view}
+use Rattle.janus_syntax.specs.Tree.{Stm, Skip, Assign, AssignElement, Push, Pop, If, Loop, Block, Empty, More, cell_of, exp_view, stm_view, block_view}
 use Rattle.janus_invert.specs.Cells.{opposite_of, inverse_stm, turned, InverseCellTwice}
 
 -- ---- twice is the identity
@@ -23,6 +23,8 @@ mutual
   inverse_twice Skip = refl
   inverse_twice (Assign x u e) = ap (λ u. Assign x u e) (opposite_twice u)
   inverse_twice (AssignElement x i u e) = ap (λ u. AssignElement x i u e) (opposite_twice u)
+  inverse_twice (Push x y) = refl
+  inverse_twice (Pop x y) = refl
   inverse_twice (If a s t b) = ap (λ r. If a r (turned (turned t Empty) Empty) b) (turned_twice s Empty) ∙ ap (λ r. If a s r b) (turned_twice t Empty)
   inverse_twice (Loop a s t b) = ap (λ r. Loop a r (turned (turned t Empty) Empty) b) (turned_twice s Empty) ∙ ap (λ r. Loop a s r b) (turned_twice t Empty)
 
@@ -70,6 +72,8 @@ mutual
   inverse_plain Skip = refl
   inverse_plain (Assign x u e) = ap (λ o. tree.Set (text_of x) o (plain_exp e)) (opposite_plain u)
   inverse_plain (AssignElement x i u e) = ap (λ o. tree.SetAt (text_of x) (plain_exp i) o (plain_exp e)) (opposite_plain u)
+  inverse_plain (Push x y) = refl
+  inverse_plain (Pop x y) = refl
   inverse_plain (If a s t b) =
       ap (λ r. tree.If (plain_exp b) r (plain_block (turned t Empty)) (plain_exp a)) (turned_plain s Empty)
       ∙ ap (λ r. tree.If (plain_exp b) (tree.turn (plain_block s) tree.Nil) r (plain_exp a)) (turned_plain t Empty)

@@ -12,7 +12,7 @@ use Rattle.janus_syntax.specs.View.{operator_of}
 use Rattle.janus_meaning.specs.Syntax as tree
 use Rattle.janus_invert.specs.Expressions.{exp_of}
 use Rattle.janus_invert.specs.declared.code.Statement.{Statement}
-use Rattle.janus_invert.specs.declared.code.Statement.TheVariants.{Skip, Assign, AssignElement, If, Loop}
+use Rattle.janus_invert.specs.declared.code.Statement.TheVariants.{Skip, Assign, AssignElement, Push, Pop, If, Loop}
 use Rattle.janus_invert.specs.Placed.{IsAt, IsPlaced, IsSame, IsCopy, IsPlacedStatement, ArePlaced}
 use Rattle.janus_invert.specs.Inverted.{IsInverse, AreInverse}
 use Rattle.janus_invert.proofs.Pairs.{last_or_before}
@@ -34,6 +34,8 @@ statement_turned : (members others : List ℕ) (xs : List Name) (s r : Statement
 statement_turned members others xs Skip Skip v p = tt
 statement_turned members others xs (Assign x u e) (Assign y w f) v p = (same_at xs x y v.0 p.0, v.2.placed xs p.1)
 statement_turned members others xs (AssignElement x i u e) (AssignElement y j w f) v p = (same_at xs x y v.0 p.0, v.1.placed xs p.1, v.3.placed xs p.2)
+statement_turned members others xs (Push x y) (Pop v w) h p = (same_at xs x v h.0 p.0, same_at xs y w h.1 p.1)
+statement_turned members others xs (Pop x y) (Push v w) h p = (same_at xs x v h.0 p.0, same_at xs y w h.1 p.1)
 statement_turned members others xs (If a k l b) (If c m n d) v p = (v.0.placed xs p.1, v.3.placed xs p.0)
 statement_turned members others xs (Loop a k l b) (Loop c m n d) v p = (v.0.placed xs p.1, v.3.placed xs p.0)
 statement_turned members others xs _ _ v p = absurd v

@@ -10,7 +10,7 @@ use Rattle.janus_syntax.specs.declared.tree.Update.{Update}
 use Rattle.janus_syntax.specs.declared.tree.Update.TheVariants as update
 use Rattle.janus_invert.specs.declared.code.Block.{Block}
 use Rattle.janus_invert.specs.declared.code.Statement.{Statement}
-use Rattle.janus_invert.specs.declared.code.Statement.TheVariants.{Skip, Assign, AssignElement, If, Loop}
+use Rattle.janus_invert.specs.declared.code.Statement.TheVariants.{Skip, Assign, AssignElement, Push, Pop, If, Loop}
 use Rattle.janus_invert.specs.Expressions.{exp_of}
 use Rattle.janus_invert.specs.Flat.{ahead, block_at, built, tree_at, IsBelow, BlocksAreBelow, AreBelow, IsDownward}
 use Rattle.janus_invert.specs.Inverted.{IsOpposite, IsBackward, IsInverse, AreInverse}
@@ -69,6 +69,8 @@ module _ (t u : ℕ → tree.Stm) (members others : List ℕ) (m : ℕ) (inv : (
       ∙ ap (λ z. tree.SetAt (string_bytes x.text) z (update_of p) (exp_of f)) h.1.tree
       ∙ ap (λ q. tree.SetAt (string_bytes x.text) (exp_of i) q (exp_of f)) (opposite_sign o p h.2)
       ∙ ap (tree.SetAt (string_bytes x.text) (exp_of i) (opposite (update_of o))) h.3.tree
+  built_turned (Push x y) (Pop v w) b h = ap (λ z. tree.Pop z (string_bytes w.text)) h.0.text ∙ ap (tree.Pop (string_bytes x.text)) h.1.text
+  built_turned (Pop x y) (Push v w) b h = ap (λ z. tree.Push z (string_bytes w.text)) h.0.text ∙ ap (tree.Push (string_bytes x.text)) h.1.text
   built_turned (If a p q c) (If d r s e) b h =
       ap (λ z. tree.If z (block_at u others r) (block_at u others s) (exp_of e)) h.0.tree
       ∙ ap (λ z. tree.If (exp_of c) z (block_at u others s) (exp_of e)) (block_turned t u members others m p r b.0 h.1 inv)
@@ -130,6 +132,8 @@ pub inverse_below : (members others : List ℕ) (n : ℕ) (s r : Statement) → 
 inverse_below members others n Skip Skip b h = tt
 inverse_below members others n (Assign x o e) (Assign y p f) b h = tt
 inverse_below members others n (AssignElement x i o e) (AssignElement y j p f) b h = tt
+inverse_below members others n (Push x y) (Pop v w) b h = tt
+inverse_below members others n (Pop x y) (Push v w) b h = tt
 inverse_below members others n (If a p q c) (If d r s e) b h = (backward_below members others n p r b.0 h.1, backward_below members others n q s b.1 h.2)
 inverse_below members others n (Loop a p q c) (Loop d r s e) b h = (backward_below members others n p r b.0 h.1, backward_below members others n q s b.1 h.2)
 inverse_below members others n _ _ b h = absurd h
@@ -153,6 +157,8 @@ pub inverse_longer : (members others more : List ℕ) (s r : Statement) → IsLo
 inverse_longer members others more Skip Skip l h = tt
 inverse_longer members others more (Assign x o e) (Assign y p f) l h = h
 inverse_longer members others more (AssignElement x i o e) (AssignElement y j p f) l h = h
+inverse_longer members others more (Push x y) (Pop v w) l h = h
+inverse_longer members others more (Pop x y) (Push v w) l h = h
 inverse_longer members others more (If a p q c) (If d r s e) l h = (h.0, backward_longer members others more p r l h.1, backward_longer members others more q s l h.2, h.3)
 inverse_longer members others more (Loop a p q c) (Loop d r s e) l h = (h.0, backward_longer members others more p r l h.1, backward_longer members others more q s l h.2, h.3)
 inverse_longer members others more _ _ l h = absurd h

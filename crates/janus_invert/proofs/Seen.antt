@@ -63,8 +63,8 @@ mutual
   stm_seen hs g Skip h = tt
   stm_seen hs g (Set x o e) h = ((tree.ANumber, h.0), side_seen x g e h.1)
   stm_seen hs g (SetAt a i o e) h = ((tree.AnArray, h.0), side_seen a g i h.1, side_seen a g e h.2)
-  stm_seen hs g (Push x y) h = tt
-  stm_seen hs g (Pop x y) h = tt
+  stm_seen hs g (Push x y) h = ((tree.ANumber, h.0), (tree.AStack, h.1))
+  stm_seen hs g (Pop x y) h = ((tree.ANumber, h.0), (tree.AStack, h.1))
   stm_seen hs g (If a s t b) h = (exp_seen g a h.0, block_seen hs g s h.1, block_seen hs g t h.2, exp_seen g b h.3)
   stm_seen hs g (From a s t b) h = (exp_seen g a h.0, block_seen hs g s h.1, block_seen hs g t h.2, exp_seen g b h.3)
   stm_seen hs g (LocalInt x a s b) h = tt

@@ -2,7 +2,7 @@
 use Rattle.std.specs.Prelude.{◌≡◌}
 use Rattle.janus_syntax.specs.declared.tree.Update.{Update}
 use Rattle.janus_syntax.specs.declared.tree.Update.TheVariants.{Add, Subtract, Xor}
-use Rattle.janus_syntax.specs.Tree.{Stm, Skip, Assign, AssignElement, If, Loop, Block, Empty, More, Cell, cell_of}
+use Rattle.janus_syntax.specs.Tree.{Stm, Skip, Assign, AssignElement, Push, Pop, If, Loop, Block, Empty, More, Cell, cell_of}
 
 abbrev pub opposite_of : Update → Update
 opposite_of Add = Subtract
@@ -15,6 +15,8 @@ abbrev mutual
   inverse_stm Skip = Skip
   inverse_stm (Assign x u e) = Assign x (opposite_of u) e
   inverse_stm (AssignElement x i u e) = AssignElement x i (opposite_of u) e
+  inverse_stm (Push x y) = Pop x y
+  inverse_stm (Pop x y) = Push x y
   inverse_stm (If a s t b) = If b (turned s Empty) (turned t Empty) a
   inverse_stm (Loop a s t b) = Loop b (turned s Empty) (turned t Empty) a
 

@@ -4,7 +4,7 @@ use Rattle.janus_syntax.specs.declared.tree.Update.{Update}
 use Rattle.janus_syntax.specs.declared.tree.Update.TheVariants as update
 use Rattle.janus_invert.specs.declared.code.Block.{Block}
 use Rattle.janus_invert.specs.declared.code.Statement.{Statement}
-use Rattle.janus_invert.specs.declared.code.Statement.TheVariants.{Skip, Assign, AssignElement, If, Loop}
+use Rattle.janus_invert.specs.declared.code.Statement.TheVariants.{Skip, Assign, AssignElement, Push, Pop, If, Loop}
 use Rattle.janus_invert.specs.Placed.{IsSame, IsCopy}
 
 -- `+=` and `-=` are each other's opposites, `^=` is its own
@@ -27,6 +27,8 @@ IsInverse members others Skip Skip = Unit {0}
 IsInverse members others (Assign x u e) (Assign y v f) = IsSame x y × IsOpposite u v × IsCopy e f
 IsInverse members others (AssignElement x i u e) (AssignElement y j v f) =
     IsSame x y × IsCopy i j × IsOpposite u v × IsCopy e f
+IsInverse members others (Push x y) (Pop v w) = IsSame x v × IsSame y w
+IsInverse members others (Pop x y) (Push v w) = IsSame x v × IsSame y w
 IsInverse members others (If a p q b) (If c r s d) =
     IsCopy b c × IsBackward members others p r × IsBackward members others q s × IsCopy a d
 IsInverse members others (Loop a p q b) (Loop c r s d) =

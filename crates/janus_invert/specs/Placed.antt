@@ -3,9 +3,9 @@ use Rattle.std.specs.Prelude.{◌≡◌, ℕ, List, slice_get, Some, string_byte
 use Rattle.janus_meaning.specs.Syntax.{Name}
 use Rattle.janus_invert.specs.declared.code.Symbol.{Symbol}
 use Rattle.janus_invert.specs.declared.code.Exp.{Exp}
-use Rattle.janus_invert.specs.declared.code.Exp.TheVariants.{Number, Variable, Element', Negative', Binary', And', Or'}
+use Rattle.janus_invert.specs.declared.code.Exp.TheVariants.{Number, Variable, Element', Empty, Top, Negative', Binary', And', Or'}
 use Rattle.janus_invert.specs.declared.code.Statement.{Statement}
-use Rattle.janus_invert.specs.declared.code.Statement.TheVariants.{Skip, Assign, AssignElement, If, Loop}
+use Rattle.janus_invert.specs.declared.code.Statement.TheVariants.{Skip, Assign, AssignElement, Push, Pop, If, Loop}
 use Rattle.janus_invert.specs.Expressions.{exp_of}
 
 -- among these names the symbol's text stands at its place
@@ -17,6 +17,8 @@ abbrev pub IsPlaced : List Name → Exp → Type 0
 IsPlaced xs (Number n) = Unit {0}
 IsPlaced xs (Variable x) = IsAt xs x
 IsPlaced xs (Element' a p i) = IsAt xs a × IsPlaced xs i
+IsPlaced xs (Empty x) = IsAt xs x
+IsPlaced xs (Top x) = IsAt xs x
 IsPlaced xs (Negative' p e) = IsPlaced xs e
 IsPlaced xs (Binary' o p l q r) = IsPlaced xs l × IsPlaced xs r
 IsPlaced xs (And' p l q r) = IsPlaced xs l × IsPlaced xs r
@@ -27,6 +29,8 @@ abbrev pub IsPlacedStatement : List Name → Statement → Type 0
 IsPlacedStatement xs Skip = Unit {0}
 IsPlacedStatement xs (Assign x u e) = IsAt xs x × IsPlaced xs e
 IsPlacedStatement xs (AssignElement a i u e) = IsAt xs a × IsPlaced xs i × IsPlaced xs e
+IsPlacedStatement xs (Push x y) = IsAt xs x × IsAt xs y
+IsPlacedStatement xs (Pop x y) = IsAt xs x × IsAt xs y
 IsPlacedStatement xs (If a p q b) = IsPlaced xs a × IsPlaced xs b
 IsPlacedStatement xs (Loop a p q b) = IsPlaced xs a × IsPlaced xs b
 

@@ -17,14 +17,14 @@ SeesExp g (Binary o l r) = SeesExp g l × SeesExp g r
 SeesExp g (And l r) = SeesExp g l × SeesExp g r
 SeesExp g (Or l r) = SeesExp g l × SeesExp g r
 
--- of the statements that flat code has: no locals, stacks and calls
+-- of the statements that flat code has: no locals and calls
 abbrev mutual
   pub SeesStm : Shape → Stm → Type 0
   SeesStm g Skip = Unit {0}
   SeesStm g (Set x o e) = IsSeen g x × SeesExp g e
   SeesStm g (SetAt a i o e) = IsSeen g a × SeesExp g i × SeesExp g e
-  SeesStm g (Push x y) = Unit {0}
-  SeesStm g (Pop x y) = Unit {0}
+  SeesStm g (Push x y) = IsSeen g x × IsSeen g y
+  SeesStm g (Pop x y) = IsSeen g x × IsSeen g y
   SeesStm g (If a s t b) = SeesExp g a × SeesBlk g s × SeesBlk g t × SeesExp g b
   SeesStm g (From a s t b) = SeesExp g a × SeesBlk g s × SeesBlk g t × SeesExp g b
   SeesStm g (LocalInt x a s b) = Unit {0}

@@ -33,6 +33,10 @@ pub enum Exp {
     Number(u32),
     Variable(Symbol),
     Element(Symbol, Box<Exp>),
+    /// Whether a stack has no value.
+    Empty(Symbol),
+    /// The newest value of a stack.
+    Top(Symbol),
     Negative(Box<Exp>),
     Binary(Operator, Box<Exp>, Box<Exp>),
     And(Box<Exp>, Box<Exp>),
@@ -54,6 +58,10 @@ pub enum Statement {
     Assign(Symbol, Update, Exp),
     /// An array, the index of the element, and what that is changed by.
     AssignElement(Symbol, Exp, Update, Exp),
+    /// A variable, whose number goes onto the stack.
+    Push(Symbol, Symbol),
+    /// A variable, which takes the newest value of the stack.
+    Pop(Symbol, Symbol),
     /// The first test, the parts after `then` and `else`, and the test after `fi`.
     If(Exp, Block, Block, Exp),
     /// The test after `from`, the parts after `do` and `loop`, and the test after `until`.

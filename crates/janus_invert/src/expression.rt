@@ -40,6 +40,8 @@ pub fn flat_exp(alloc: Global, exp: &tree::Exp, scope: &Env) -> Result<Exp, Allo
             let index = Box::new(alloc, flat_exp(alloc, index, scope)?)?;
             Ok(Exp::Element(symbol(scope, name)?, index))
         }
+        tree::Exp::Empty(name) => Ok(Exp::Empty(symbol(scope, name)?)),
+        tree::Exp::Top(name) => Ok(Exp::Top(symbol(scope, name)?)),
         tree::Exp::Negative(operand) => {
             let operand = flat_exp(alloc, operand, scope)?;
             Ok(Exp::Negative(Box::new(alloc, operand)?))
@@ -73,6 +75,8 @@ pub(crate) fn copy(alloc: Global, exp: &Exp) -> Result<Exp, AllocError>
             let index = Box::new(alloc, copy(alloc, index)?)?;
             Ok(Exp::Element(name.copy()?, index))
         }
+        Exp::Empty(name) => Ok(Exp::Empty(name.copy()?)),
+        Exp::Top(name) => Ok(Exp::Top(name.copy()?)),
         Exp::Negative(operand) => {
             let operand = copy(alloc, operand)?;
             Ok(Exp::Negative(Box::new(alloc, operand)?))

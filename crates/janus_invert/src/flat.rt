@@ -120,6 +120,16 @@ fn flat_statement(
             let exp = flat_exp(alloc, exp, scope)?;
             add(draft, Statement::AssignElement(name, index, *update, exp))
         }
+        Stm::Push(variable, stack) => {
+            let variable = symbol(scope, variable)?;
+            let stack = symbol(scope, stack)?;
+            add(draft, Statement::Push(variable, stack))
+        }
+        Stm::Pop(variable, stack) => {
+            let variable = symbol(scope, variable)?;
+            let stack = symbol(scope, stack)?;
+            add(draft, Statement::Pop(variable, stack))
+        }
         Stm::If(test, then_part, else_part, last) => {
             let test = flat_exp(alloc, test, scope)?;
             let last = flat_exp(alloc, last, scope)?;

@@ -56,6 +56,7 @@ fn copy(declaration: &Declaration) -> Result<Declaration, AllocError>
         Declaration::Array(name, length, span) => {
             Ok(Declaration::Array(name.copy()?, *length, *span))
         }
+        Declaration::Stack(name) => Ok(Declaration::Stack(name.copy()?)),
     }
 }
 
@@ -86,6 +87,14 @@ fn inverse_statement(alloc: Global, statement: &Stm) -> Result<Stm, AllocError>
             let name = name.copy()?;
             let index = index.copy(alloc)?;
             Ok(Stm::AssignElement(name, index, opposite(*update), exp.copy(alloc)?))
+        }
+        Stm::Push(variable, stack) => {
+            let variable = variable.copy()?;
+            Ok(Stm::Pop(variable, stack.copy()?))
+        }
+        Stm::Pop(variable, stack) => {
+            let variable = variable.copy()?;
+            Ok(Stm::Push(variable, stack.copy()?))
         }
         Stm::If(test, then_part, else_part, last) => {
             let then_part = inverse_statements(alloc, then_part)?;

@@ -67,6 +67,14 @@ fn inverse_one(
             let index = copy(alloc, index)?;
             Ok(Statement::AssignElement(name, index, opposite(*update), copy(alloc, exp)?))
         }
+        Statement::Push(variable, stack) => {
+            let variable = variable.copy()?;
+            Ok(Statement::Pop(variable, stack.copy()?))
+        }
+        Statement::Pop(variable, stack) => {
+            let variable = variable.copy()?;
+            Ok(Statement::Push(variable, stack.copy()?))
+        }
         Statement::If(test, then_part, else_part, last) => {
             let then_part = backward(members, *then_part, others)?;
             let else_part = backward(members, *else_part, others)?;

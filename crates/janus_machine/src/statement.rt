@@ -10,7 +10,7 @@ ghost use Rattle.janus_machine.specs.Faults.{IsDone};
 ghost use Rattle.janus_machine.specs.Statements.{run_of};
 
 use crate::fault::{Fault, told};
-use janus_evaluation::{ValueFault, assign, assign_element};
+use janus_evaluation::{ValueFault, assign, assign_element, pop, push};
 use janus_invert::Statement;
 use janus_store::{Store, Writes};
 use std::sync::ledger::Ledger;
@@ -33,11 +33,13 @@ pub(crate) fn run<L: Ledger>(
         Statement::AssignElement(name, index, update, exp) => {
             done(assign_element(name, index, *update, exp, store, writes))
         }
+        Statement::Push(variable, stack) => done(push(variable, stack, store, writes)),
+        Statement::Pop(variable, stack) => done(pop(variable, stack, store, writes)),
         _ => unreachable!(),
     }
 }
 
-/// What an assignment came to, with its fault as the machine tells it.
+/// What an assignment, a push or a pop came to, with its fault as the machine tells it.
 fn done(assigned: Result<(), ValueFault>) -> Result<(), Fault>
     ensures counted { (old new : ℕ) → IsCounted assigned old new → IsCounted result old new }
     ensures done { (r : Res Values) (s t : Values) → IsAssigned r s t assigned → IsDone r s t result }

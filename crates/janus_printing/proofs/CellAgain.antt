@@ -3,7 +3,7 @@ use Rattle.std.proofs.Common.{◌≡◌, ℕ, List, [], ◌∷◌, Some, None, m
 use Rattle.janus_syntax.specs.declared.token.Sign.TheVariants as sign
 use Rattle.janus_syntax.specs.declared.token.Word.TheVariants as word
 use Rattle.janus_syntax.specs.Tokens.{Token, Name, Number, Sign_of, Word_of}
-use Rattle.janus_syntax.specs.Tree.{named, Exp, Declaration, Int, Array, Cell, cell_of}
+use Rattle.janus_syntax.specs.Tree.{named, Exp, Declaration, Int, Array, StackOf, Cell, cell_of}
 use Rattle.janus_syntax.specs.Forms.{Part, A_cell, Declarations, Bound, Statements, Whole, Tree, A_name, A_number, The_sign, Form, done, take, part}
 use Rattle.janus_syntax.specs.Table.{rule, declared, sign_then, declaration}
 use Rattle.janus_syntax.specs.Grammar.{all, IsTree}
@@ -47,6 +47,14 @@ declaration_again (Array (named x place) n at) ts rest (at1, t1, e1, (at2, t2, e
           (token_to {p = Bound} (The_sign sign.CloseIndex) (λ z. done (Some (n, at4))) tt (Some (n, at4)) 0 0 (Sign_of sign.CloseIndex shut) t4 rest rest (e5 ∙ ap (λ l. Sign_of sign.CloseIndex shut ∷ l) s) refl
           (done_to {p = Bound} (Some (n, at4)) 0 rest))))
           onward));
+    }
+declaration_again (StackOf (named x place)) ts rest (at, t1, e1, (at2, t2, e2, s)) =
+    record {
+      again = StackOf (named x at2);
+      same = refl;
+      starts = λ {p} k v d' end onward.
+          begins_to (λ t. declaration t k) (take A_name (λ y. k (StackOf y))) v 0 d' (Word_of word.Stack at) ts t1 end e1 refl (omega arith)
+          (token_to A_name (λ y. k (StackOf y)) (named x at2) v 0 d' (Name x at2) t1 rest end (e2 ∙ ap (λ l. Name x at2 ∷ l) s) refl onward);
     }
 
 declarations_again : (xs : List Declaration) (ts rest : List Token) → Spelled (declarations_pieces xs) ts rest → DeclarationsAgain xs ts rest

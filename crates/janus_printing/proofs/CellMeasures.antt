@@ -4,7 +4,7 @@ use Rattle.janus_syntax.specs.declared.token.Span.{Span}
 use Rattle.janus_syntax.specs.declared.token.Sign.TheVariants as sign
 use Rattle.janus_syntax.specs.declared.token.Word.TheVariants as word
 use Rattle.janus_syntax.specs.Tokens.{Token, Name, Number, Sign_of, Word_of}
-use Rattle.janus_syntax.specs.Tree.{Name as Named, named, Exp, Declaration, Cell, cell_of}
+use Rattle.janus_syntax.specs.Tree.{Name as Named, named, Exp, Declaration, StackOf, Cell, cell_of}
 use Rattle.janus_syntax.specs.Forms.{Part, A_cell, Declarations, Bound, Statements, Whole, Tree, A_name, A_number, seen, Form, done, take, part, Rule}
 use Rattle.janus_syntax.specs.Table.{rule, declared, sign_then, declaration}
 use Rattle.janus_syntax.specs.Grammar.{Count, all, Spells}
@@ -14,7 +14,7 @@ use Rattle.janus_syntax.specs.Text.{HasTree, HasExp}
 use Rattle.janus_printing.proofs.Inside.{inside}
 use Rattle.janus_printing.proofs.Fits.{FitsWhole, FitsDeclaration, FitsDeclarations, FitsCell}
 use Rattle.janus_printing.proofs.Good.{IsGood, AreGood, good_tokens}
-use Rattle.janus_printing.proofs.Measures.{recount, Runs, runs_as, good_behind, shorter_behind}
+use Rattle.janus_printing.proofs.Measures.{recount, Runs, runs_as, good_behind, shorter_behind, name_fits}
 use Rattle.janus_printing.proofs.ExpressionMeasures.{whole_read}
 use Rattle.janus_printing.proofs.BlockMeasures.{statements_read}
 use Rattle.janus_printing.proofs.StatementMeasures.{blocks_measured}
@@ -115,6 +115,13 @@ declaration_read {p} d used k v (Word_of word.Int at) r from m' rest g e run =
     let b = bounded name.token name.value d used k v name.behind m' rest name.is good.0 good.1 (recount (d + 0) d (used + 0) used (omega arith) (omega arith) name.onward) in
     let less' = b.shorter in
     record { tree = b.tree; total = b.total; middle = b.middle; fits = b.fits; shorter = omega (arith, less, less'); good = b.good; onward = b.onward }
+declaration_read {p} d used k v (Word_of word.Stack at) r from m' rest g e run =
+    let a : Rule p = record { opens = 0; counts = 0; is_whole = false; form = take A_name (λ s. k (StackOf s)) } in
+    let here = runs_as a r (count d used) v from m' rest e run in
+    let name = inside here.1 in
+    let less = shorter_behind from name.behind name.token name.whole in
+    let good = good_behind from name.behind name.token name.whole g in
+    record { tree = StackOf name.value; total = used; middle = name.behind; fits = name_fits name.token name.value name.is good.0; shorter = omega (arith, less); good = good.1; onward = recount (d + 0) d (used + 0) used (omega arith) (omega arith) name.onward }
 declaration_read d used k v (Word_of _ at) r from m' rest g e run = absurd cc
 declaration_read d used k v (Name x at) r from m' rest g e run = absurd cc
 declaration_read d used k v (Number i at) r from m' rest g e run = absurd cc

@@ -3,19 +3,20 @@ use Rattle.std.proofs.Common.{◌≡◌, ℕ, zero, suc, ◌+◌, ◌-◌, ◌<�
 use Rattle.std.specs.Prelude.{nat_eq}
 use Rattle.janus_syntax.specs.declared.token.Span.{Span}
 use Rattle.janus_syntax.specs.declared.token.Sign.TheVariants as sign
+use Rattle.janus_syntax.specs.declared.token.Word.TheVariants as word
 use Rattle.janus_syntax.specs.declared.operator.Infix.{Infix}
 use Rattle.janus_syntax.specs.Tokens.{Token, Name, Number, Sign_of, Word_of}
-use Rattle.janus_syntax.specs.Tree.{named, Exp, Num, Var, Element, Neg}
+use Rattle.janus_syntax.specs.Tree.{named, Exp, Num, Var, Element, EmptyOf, TopOf, Neg}
 use Rattle.janus_syntax.specs.Operators.{weakest, joined, operator_at}
 use Rattle.janus_syntax.specs.Forms.{Part, Chain, Level, Index, Whole, Tree, Form, done, part, close, Rule}
-use Rattle.janus_syntax.specs.Table.{rule, left_out, variable, sign_then, whole, operand, chains, chain_rule}
+use Rattle.janus_syntax.specs.Table.{rule, left_out, variable, sign_then, stack_then, whole, operand, chains, chain_rule}
 use Rattle.janus_syntax.specs.Grammar.{Count, all, fits, operator_limit, Spells}
 use Rattle.janus_syntax.specs.Reading.{count}
 use Rattle.janus_syntax.proofs.Keeps.{chain_level}
 use Rattle.janus_printing.proofs.Inside.{inside}
 use Rattle.janus_printing.proofs.Fits.{operators, FitsExp, FitsWhole, fits_less, fits_operand}
 use Rattle.janus_printing.proofs.Good.{IsGood, AreGood}
-use Rattle.janus_printing.proofs.Measures.{recount, Runs, runs_as, few_of, good_behind, shorter_behind, joint_level, joined_operators, chain_fits, IsRead, IsMeasured, LevelsMeasured, level_read, close_behind}
+use Rattle.janus_printing.proofs.Measures.{recount, Runs, runs_as, few_of, good_behind, shorter_behind, joint_level, joined_operators, chain_fits, IsRead, IsMeasured, LevelsMeasured, level_read, close_behind, stack_read}
 
 -- ---- operands
 
@@ -124,7 +125,35 @@ operand_read n known {p} d used k v (Sign_of sign.Minus at) r from m' rest h is 
       onward = recount (d + 1 - 1) d (used + 1 + operators inner.tree) (used + suc (operators inner.tree)) (omega arith) (omega arith) (inside inner.onward);
     }
 operand_read n known d used k v (Sign_of _ at) r from m' rest h is g e run = absurd cc
-operand_read n known d used k v (Word_of w at) r from m' rest h is g e run = absurd cc
+operand_read n known {p} d used k v (Word_of word.Empty at) r from m' rest h is g e run =
+    let a : Rule p = record { opens = 0; counts = 0; is_whole = false; form = stack_then (λ s. k (EmptyOf s)) } in
+    let here = runs_as a r (count d used) v from m' rest e run in
+    let few = few_of (d + 0) (used + 0) here.0 in
+    let s = stack_read (λ y. k (EmptyOf y)) v (count (d + 0) (used + 0)) from m' rest g here.1 in
+    record {
+      tree = EmptyOf s.name;
+      middle = s.middle;
+      fits = s.fits;
+      few = few.1;
+      shorter = s.shorter;
+      good = s.good;
+      onward = recount (d + 0) d (used + 0) (used + 0) (omega arith) refl s.onward;
+    }
+operand_read n known {p} d used k v (Word_of word.Top at) r from m' rest h is g e run =
+    let a : Rule p = record { opens = 0; counts = 0; is_whole = false; form = stack_then (λ s. k (TopOf s)) } in
+    let here = runs_as a r (count d used) v from m' rest e run in
+    let few = few_of (d + 0) (used + 0) here.0 in
+    let s = stack_read (λ y. k (TopOf y)) v (count (d + 0) (used + 0)) from m' rest g here.1 in
+    record {
+      tree = TopOf s.name;
+      middle = s.middle;
+      fits = s.fits;
+      few = few.1;
+      shorter = s.shorter;
+      good = s.good;
+      onward = recount (d + 0) d (used + 0) (used + 0) (omega arith) refl s.onward;
+    }
+operand_read n known d used k v (Word_of _ at) r from m' rest h is g e run = absurd cc
 
 -- ---- operators
 

@@ -5,14 +5,15 @@ use Rattle.std.proofs.lemmas.Bool.{ltb-false, eq-eqb}
 use Rattle.janus_meaning.specs.Syntax as plain
 use Rattle.janus_syntax.specs.declared.token.Span.{Span}
 use Rattle.janus_syntax.specs.declared.token.Sign.TheVariants as sign
+use Rattle.janus_syntax.specs.declared.token.Word.TheVariants as word
 use Rattle.janus_syntax.specs.declared.tree.Operator.TheVariants as operator
 use Rattle.janus_syntax.specs.declared.operator.Joint.{Joint}
 use Rattle.janus_syntax.specs.declared.operator.Joint.TheVariants as joint
-use Rattle.janus_syntax.specs.Tokens.{Token, Name, Number, Sign_of}
-use Rattle.janus_syntax.specs.Tree.{named, Exp, Num, Var, Element, Neg, Bin, And, Or}
+use Rattle.janus_syntax.specs.Tokens.{Token, Name, Number, Sign_of, Word_of}
+use Rattle.janus_syntax.specs.Tree.{named, Exp, Num, Var, Element, EmptyOf, TopOf, Neg, Bin, And, Or}
 use Rattle.janus_syntax.specs.Operators.{weakest, joined, sign_infix}
 use Rattle.janus_syntax.specs.Forms.{Part, Chain, Level, Index, Tree, Form, done, part, close, Rule}
-use Rattle.janus_syntax.specs.Table.{rule, variable, sign_then, whole, operand, chains, chain_rule}
+use Rattle.janus_syntax.specs.Table.{rule, variable, sign_then, stack_then, whole, operand, chains, chain_rule}
 use Rattle.janus_syntax.specs.Grammar
 use Rattle.janus_syntax.specs.Grammar.{Count, all, entered, closed, fits, depth_limit, operator_limit, Spells}
 use Rattle.janus_syntax.specs.Reading.{count}
@@ -22,7 +23,7 @@ use Rattle.janus_syntax.proofs.Chains.{fits_count}
 use Rattle.janus_printing.proofs.Inside.{inside}
 use Rattle.janus_printing.proofs.Fits.{operators, Parenthesized, FitsInfix, FitsExp}
 use Rattle.janus_printing.proofs.Measures.{recount, joint_sign, joined_operators}
-use Rattle.janus_printing.proofs.Spelled.{Spelled, in_two, Starts, part_there, sign_there, chains_over}
+use Rattle.janus_printing.proofs.Spelled.{Spelled, in_two, Starts, part_there, sign_there, stack_there, chains_over}
 
 -- the form behind an expression where operators of this level may stand
 abbrev pub onward : {p : Part} → ℕ → ℕ → Exp → (Exp → Form p) → Form p
@@ -106,6 +107,40 @@ element_again x i place at opened shut level d ts t1 t2 t3 rest h e1 e2 inner e3
         whole = e1;
         is = refl;
         runs = (fits_count (d + 0) (u + 0) (omega (arith, h)) (omega (arith, few)), recount d (d + 0) u (u + 0) (omega arith) (omega arith) whole_of);
+      };
+}
+
+empty_again : (x : List ℕ) (place on opened at shut : Span) (level d : ℕ) (ts t1 t2 t3 rest : List Token) → d ≤ depth_limit → ts ≡ Word_of word.Empty on ∷ t1 → t1 ≡ Sign_of sign.Open opened ∷ t2 → t2 ≡ Name x at ∷ t3 → t3 ≡ Sign_of sign.Close shut ∷ rest →
+    IsReadAgain (EmptyOf (named x place)) level d ts rest
+empty_again x place on opened at shut level d ts t1 t2 t3 rest h e1 e2 e3 e4 = record {
+  again = EmptyOf (named x at);
+  same = refl;
+  starts = λ {p} n u k v m' end weaker few s.
+      let after = recount d (d + 0) (u + 0) (u + 0) (omega arith) refl (to_operators level n (EmptyOf (named x at)) k v _ m' rest end weaker s) in
+      record {
+        token = Word_of word.Empty on;
+        behind = t1;
+        rule_of = record { opens = 0; counts = 0; is_whole = false; form = stack_then (λ y. chains 0 n (EmptyOf y) k) };
+        whole = e1;
+        is = refl;
+        runs = (fits_count (d + 0) (u + 0) (omega (arith, h)) (omega (arith, few)), stack_there (λ y. chains 0 n (EmptyOf y) k) x v _ m' opened at shut t1 t2 t3 rest end e2 e3 e4 after);
+      };
+}
+
+top_again : (x : List ℕ) (place on opened at shut : Span) (level d : ℕ) (ts t1 t2 t3 rest : List Token) → d ≤ depth_limit → ts ≡ Word_of word.Top on ∷ t1 → t1 ≡ Sign_of sign.Open opened ∷ t2 → t2 ≡ Name x at ∷ t3 → t3 ≡ Sign_of sign.Close shut ∷ rest →
+    IsReadAgain (TopOf (named x place)) level d ts rest
+top_again x place on opened at shut level d ts t1 t2 t3 rest h e1 e2 e3 e4 = record {
+  again = TopOf (named x at);
+  same = refl;
+  starts = λ {p} n u k v m' end weaker few s.
+      let after = recount d (d + 0) (u + 0) (u + 0) (omega arith) refl (to_operators level n (TopOf (named x at)) k v _ m' rest end weaker s) in
+      record {
+        token = Word_of word.Top on;
+        behind = t1;
+        rule_of = record { opens = 0; counts = 0; is_whole = false; form = stack_then (λ y. chains 0 n (TopOf y) k) };
+        whole = e1;
+        is = refl;
+        runs = (fits_count (d + 0) (u + 0) (omega (arith, h)) (omega (arith, few)), stack_there (λ y. chains 0 n (TopOf y) k) x v _ m' opened at shut t1 t2 t3 rest end e2 e3 e4 after);
       };
 }
 
@@ -275,6 +310,10 @@ exp_again (Element (named x place) i) level d ts rest h (name, few, f) (at, t1, 
     let two = in_two (exp_pieces i weakest) (A_sign sign.CloseIndex ∷ []) t2 rest s in
     let shut = two.2 in
     element_again x i place at opened shut.0 level d ts t1 t2 two.0 rest few e1 e2 (exp_again i weakest (suc d) t2 two.0 few f two.1) (subst (λ more. two.0 ≡ Sign_of sign.CloseIndex shut.0 ∷ more) shut.3 shut.2)
+exp_again (EmptyOf (named x place)) level d ts rest h f (on, t1, e1, (opened, t2, e2, (at, t3, e3, (shut, t4, e4, s)))) =
+    empty_again x place on opened at shut level d ts t1 t2 t3 rest h e1 e2 e3 (e4 ∙ ap (λ l. Sign_of sign.Close shut ∷ l) s)
+exp_again (TopOf (named x place)) level d ts rest h f (on, t1, e1, (opened, t2, e2, (at, t3, e3, (shut, t4, e4, s)))) =
+    top_again x place on opened at shut level d ts t1 t2 t3 rest h e1 e2 e3 (e4 ∙ ap (λ l. Sign_of sign.Close shut ∷ l) s)
 exp_again (Neg e) level d ts rest h (few, f) (at, t1, e1, s) = minus_again e at level d ts t1 rest few e1 (exp_again e 0 (suc d) t1 rest few f s)
 exp_again (Bin op l r) level d ts rest h f s = infix_again (joint.Binary op) l r (exp_again l) (exp_again r) level d ts rest h f s
 exp_again (And l r) level d ts rest h f s = infix_again joint.And l r (exp_again l) (exp_again r) level d ts rest h f s

@@ -5,7 +5,7 @@ use Rattle.std.specs.Prelude.{nat_lt}
 use Rattle.std.proofs.lemmas.Bool.{ltb-true, lt-ltb}
 use Rattle.janus_syntax.specs.declared.token.Sign.{Sign}
 use Rattle.janus_syntax.specs.declared.token.Sign.TheVariants as sign
-use Rattle.janus_syntax.specs.Tree.{Name, named, Exp, Num, Var, Element, Neg, Bin, And, Or, Stm, Skip, Assign, AssignElement, If, Loop, Block, Empty, More, Declaration, Int, Array, Cell, cell_of}
+use Rattle.janus_syntax.specs.Tree.{Name, named, Exp, Num, Var, Element, EmptyOf, TopOf, Neg, Bin, And, Or, Stm, Skip, Assign, AssignElement, Push, Pop, If, Loop, Block, Empty, More, Declaration, Int, Array, StackOf, Cell, cell_of}
 use Rattle.janus_syntax.specs.Operators.{weakest}
 use Rattle.janus_syntax.specs.Lexical.{IsNameText, NotReserved, largest_number}
 use Rattle.janus_syntax.specs.Grammar.{depth_limit, operator_limit}
@@ -19,6 +19,8 @@ abbrev pub operators : Exp → ℕ
 operators (Num n at) = 0
 operators (Var x) = 0
 operators (Element x i) = operators i
+operators (EmptyOf x) = 0
+operators (TopOf x) = 0
 operators (Neg e) = suc (operators e)
 operators (Bin op l r) = suc (operators l + operators r)
 operators (And l r) = suc (operators l + operators r)
@@ -38,6 +40,8 @@ abbrev pub FitsExp : Exp → ℕ → ℕ → Type 0
 FitsExp (Num n at) level d = n ≤ largest_number
 FitsExp (Var x) level d = IsName x
 FitsExp (Element x i) level d = IsName x × (suc d ≤ depth_limit) × FitsExp i weakest (suc d)
+FitsExp (EmptyOf x) level d = IsName x
+FitsExp (TopOf x) level d = IsName x
 FitsExp (Neg e) level d = (suc d ≤ depth_limit) × FitsExp e 0 (suc d)
 FitsExp (Bin op l r) level d = FitsInfix (operator_sign op) (FitsExp l) (FitsExp r) level d
 FitsExp (And l r) level d = FitsInfix sign.And (FitsExp l) (FitsExp r) level d
@@ -56,6 +60,8 @@ abbrev mutual
   FitsStm Skip d = Unit {0}
   FitsStm (Assign x u e) d = IsName x × FitsWhole e d
   FitsStm (AssignElement x i u e) d = IsName x × (suc d ≤ depth_limit) × FitsWhole i (suc d) × FitsWhole e d
+  FitsStm (Push x s) d = IsName x × IsName s
+  FitsStm (Pop x s) d = IsName x × IsName s
   FitsStm (If e s t f) d = (suc d ≤ depth_limit) × FitsWhole e (suc d) × (IsBody s × FitsBlock s (suc d)) × (IsBody t × FitsBlock t (suc d)) × FitsWhole f (suc d)
   FitsStm (Loop e s t f) d = (suc d ≤ depth_limit) × FitsWhole e (suc d) × (IsBody s × FitsBlock s (suc d)) × (IsBody t × FitsBlock t (suc d)) × FitsWhole f (suc d)
 
@@ -66,6 +72,7 @@ abbrev mutual
 abbrev pub FitsDeclaration : Declaration → Type 0
 FitsDeclaration (Int x) = IsName x
 FitsDeclaration (Array x n at) = IsName x × (n ≤ largest_number)
+FitsDeclaration (StackOf x) = IsName x
 
 abbrev pub FitsDeclarations : List Declaration → Type 0
 FitsDeclarations [] = Unit {0}
@@ -94,6 +101,8 @@ pub fits_less : (e : Exp) (level level' d d' : ℕ) → level ≤ level' → d' 
 fits_less (Num n at) level level' d d' h k f = f
 fits_less (Var x) level level' d d' h k f = f
 fits_less (Element x i) level level' d d' h k (name, few, f) = (name, omega (arith, few, k), fits_less i weakest weakest (suc d) (suc d') (omega arith) (omega (arith, k)) f)
+fits_less (EmptyOf x) level level' d d' h k f = f
+fits_less (TopOf x) level level' d d' h k f = f
 fits_less (Neg e) level level' d d' h k (few, f) = (omega (arith, few, k), fits_less e 0 0 (suc d) (suc d') (omega arith) (omega (arith, k)) f)
 fits_less (Bin op l r) level level' d d' h k f = infix_less (operator_sign op) (FitsExp l) (FitsExp r) level level' d d' (λ m n i. fits_less l _ _ n m (omega arith) i) (λ m n i. fits_less r _ _ n m (omega arith) i) h k f
 fits_less (And l r) level level' d d' h k f = infix_less sign.And (FitsExp l) (FitsExp r) level level' d d' (λ m n i. fits_less l _ _ n m (omega arith) i) (λ m n i. fits_less r _ _ n m (omega arith) i) h k f
@@ -114,6 +123,8 @@ pub fits_operand : (e : Exp) (d : ℕ) → suc d ≤ depth_limit → FitsExp e w
 fits_operand (Num n at) d h f = f
 fits_operand (Var x) d h f = f
 fits_operand (Element x i) d h f = fits_less (Element x i) 0 0 (suc d) d (omega arith) (omega arith) f
+fits_operand (EmptyOf x) d h f = f
+fits_operand (TopOf x) d h f = f
 fits_operand (Neg e) d h f = fits_less (Neg e) 0 0 (suc d) d (omega arith) (omega arith) f
 fits_operand (Bin op l r) d h f = infix_operand (nat_lt weakest (sign_level (operator_sign op))) (nat_lt 0 (sign_level (operator_sign op))) _ d (both_less l r _ _) h f
 fits_operand (And l r) d h f = infix_operand (nat_lt weakest (sign_level sign.And)) (nat_lt 0 (sign_level sign.And)) _ d (both_less l r _ _) h f

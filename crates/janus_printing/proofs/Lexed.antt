@@ -5,11 +5,12 @@ use Rattle.std.proofs.lemmas.Bool.{eqb-true}
 use Rattle.janus_syntax.specs.declared.token.Span.{Span}
 use Rattle.janus_syntax.specs.declared.token.Sign.{Sign}
 use Rattle.janus_syntax.specs.declared.token.Sign.TheVariants as sign
+use Rattle.janus_syntax.specs.declared.token.Word.TheVariants as word
 use Rattle.janus_syntax.specs.Spelling.{sign_text}
 use Rattle.janus_syntax.specs.Tokens.{Token}
 use Rattle.janus_syntax.specs.Lexical
 use Rattle.janus_syntax.specs.Lexical.{goes_on_name, of_name, of_number, IsNameText, IsNumberText, Item, IsSpelled, NoLonger, IsFront, IsToken, between, Lexes}
-use Rattle.janus_syntax.specs.Printing.{Piece, A_name, A_number, A_sign, A_word, A_minus, piece_text, leans, holds}
+use Rattle.janus_syntax.specs.Printing.{Piece, A_name, A_number, A_sign, A_word, A_minus, An_opening, piece_text, leans, holds}
 use Rattle.janus_syntax.proofs.Fronts.{StopsAt}
 use Rattle.janus_syntax.proofs.Longest.{name_longest, word_longest, number_longest, space_spelled, one_space, extends, sign_longest, open_longest, open_index_longest, minus_longest}
 use Rattle.janus_printing.proofs.Spelled.{placed, Spelled}
@@ -60,6 +61,7 @@ apart (A_number n ∷ ps) = apart_at 32 _ refl refl refl
 apart (A_sign s ∷ ps) = apart_sign s ps
 apart (A_word w ∷ ps) = apart_at 32 _ refl refl refl
 apart (A_minus ∷ ps) = apart_at 32 _ refl refl refl
+apart (An_opening ∷ ps) = apart_at 40 _ refl refl refl
 
 -- ---- the first item of a text
 
@@ -85,8 +87,11 @@ operand_no_equals (A_name x ∷ ps) f b = name_no_equals x _ f.0.0
 operand_no_equals (A_number n ∷ ps) f b = let few = f.0 in number_no_equals (fmt.decimal n) _ (decimal_stands n (omega (arith, few))).0
 operand_no_equals (A_sign sign.Open ∷ ps) f b = refl
 operand_no_equals (A_sign _ ∷ ps) f b = absurd b
-operand_no_equals (A_word w ∷ ps) f b = absurd b
+operand_no_equals (A_word word.Empty ∷ ps) f b = refl
+operand_no_equals (A_word word.Top ∷ ps) f b = refl
+operand_no_equals (A_word _ ∷ ps) f b = absurd b
 operand_no_equals (A_minus ∷ ps) f b = refl
+operand_no_equals (An_opening ∷ ps) f b = absurd b
 
 -- a piece as an item of a text
 abbrev item : Piece → Item
@@ -95,6 +100,7 @@ item (A_number n) = Lexical.A_number n
 item (A_sign s) = Lexical.A_sign s
 item (A_word w) = Lexical.A_word w
 item A_minus = Lexical.A_sign sign.Minus
+item An_opening = Lexical.A_sign sign.Open
 
 -- the piece is the longest item in front of the others, and its token
 record IsFirst (p : Piece) (ps : List Piece) : Type 0 where
@@ -136,6 +142,7 @@ first (A_number n) ps (few, f) =
 first (A_sign s) ps f = record { spelled = refl; longest = first_sign s ps; token = λ at. refl }
 first (A_word w) ps f = record { spelled = refl; longest = word_longest w _ (apart ps).name; token = λ at. refl }
 first A_minus ps (b, f) = record { spelled = refl; longest = minus_longest _ (operand_no_equals ps f b); token = λ at. refl }
+first An_opening ps f = record { spelled = refl; longest = open_longest _; token = λ at. refl }
 
 others_fine : (p : Piece) (ps : List Piece) → AreFine (p ∷ ps) → AreFine ps
 others_fine (A_name x) ps f = f.1
@@ -143,6 +150,7 @@ others_fine (A_number n) ps f = f.1
 others_fine (A_sign s) ps f = f
 others_fine (A_word w) ps f = f
 others_fine A_minus ps f = f.1
+others_fine An_opening ps f = f
 
 -- ---- all tokens
 

@@ -8,15 +8,15 @@ use Rattle.janus_syntax.specs.declared.operator.Joint.{Joint}
 use Rattle.janus_syntax.specs.declared.operator.Joint.TheVariants as joint
 use Rattle.janus_syntax.specs.declared.operator.Infix.{Infix}
 use Rattle.janus_syntax.specs.Tokens.{Token, Name, Number, Sign_of, Word_of}
-use Rattle.janus_syntax.specs.Tree.{Exp}
+use Rattle.janus_syntax.specs.Tree.{Name as Named, named, Exp}
 use Rattle.janus_syntax.specs.Operators.{joined, sign_infix, operator_at}
-use Rattle.janus_syntax.specs.Forms.{Part, Level, Tree, Form, part, close, Rule}
-use Rattle.janus_syntax.specs.Table.{rule, left_out, sign_then}
+use Rattle.janus_syntax.specs.Forms.{Part, Level, Tree, A_name, seen, Form, part, close, Rule}
+use Rattle.janus_syntax.specs.Table.{rule, left_out, sign_then, stack_then, variable_and_stack_then}
 use Rattle.janus_syntax.specs.Grammar.{Count, all, entered, fits, depth_limit, operator_limit, Spells}
 use Rattle.janus_syntax.specs.Reading.{count}
 use Rattle.janus_syntax.specs.Printing.{operator_sign, sign_level}
 use Rattle.janus_printing.proofs.Inside.{inside}
-use Rattle.janus_printing.proofs.Fits.{operators, FitsInfix, FitsExp}
+use Rattle.janus_printing.proofs.Fits.{IsName, operators, FitsInfix, FitsExp}
 use Rattle.janus_printing.proofs.Good.{IsGood, AreGood}
 
 -- ---- counts and rules
@@ -154,3 +154,72 @@ close_behind s f v d u from m' rest g is =
     let t = inside is in
     let less = shorter_behind from t.behind t.token t.whole in
     (t.behind, omega (arith, less), (good_behind from t.behind t.token t.whole g).1, recount (d + 1 - 1) d u u (omega arith) refl (inside t.onward))
+
+-- ---- names in parentheses
+
+pub name_fits : (t : Token) (x : Named) → seen A_name t ≡ Some x → IsGood t → IsName x
+name_fits (Name y at) x e g = let same : named y at ≡ x = cc in subst IsName same g
+name_fits (Number n at) x e g = absurd cc
+name_fits (Sign_of s at) x e g = absurd cc
+name_fits (Word_of w at) x e g = absurd cc
+
+-- a stack was read
+pub record IsStack {p : Part} (k : Named → Form p) (c : Count) (v : Tree p) (from : List Token) (m' : Count) (rest : List Token) : Type 0 where
+  pub name : Named
+  pub middle : List Token
+  pub fits : IsName name
+  pub shorter : length middle ≤ length from
+  pub good : AreGood middle
+  pub onward : Spells all p (k name) v c middle m' rest
+
+pub stack_read : {p : Part} (k : Named → Form p) (v : Tree p) (c : Count) (from : List Token) (m' : Count) (rest : List Token) → AreGood from → Spells all p (stack_then k) v c from m' rest → IsStack k c v from m' rest
+stack_read k v c from m' rest g s =
+    let a = inside s in
+    let b = inside a.onward in
+    let shut = inside b.onward in
+    let g1 = good_behind from a.behind a.token a.whole g in
+    let g2 = good_behind a.behind b.behind b.token b.whole g1.1 in
+    let g3 = good_behind b.behind shut.behind shut.token shut.whole g2.1 in
+    let l1 = shorter_behind from a.behind a.token a.whole in
+    let l2 = shorter_behind a.behind b.behind b.token b.whole in
+    let l3 = shorter_behind b.behind shut.behind shut.token shut.whole in
+    record { name = b.value; middle = shut.behind; fits = name_fits b.token b.value b.is g2.0; shorter = omega (arith, l1, l2, l3); good = g3.1; onward = shut.onward }
+
+-- a variable and a stack were read
+pub record AreVariableAndStack {p : Part} (k : Named → Named → Form p) (c : Count) (v : Tree p) (from : List Token) (m' : Count) (rest : List Token) : Type 0 where
+  pub variable : Named
+  pub stack : Named
+  pub middle : List Token
+  pub variable_fits : IsName variable
+  pub stack_fits : IsName stack
+  pub shorter : length middle ≤ length from
+  pub good : AreGood middle
+  pub onward : Spells all p (k variable stack) v c middle m' rest
+
+pub pair_read : {p : Part} (k : Named → Named → Form p) (v : Tree p) (c : Count) (from : List Token) (m' : Count) (rest : List Token) → AreGood from → Spells all p (variable_and_stack_then k) v c from m' rest → AreVariableAndStack k c v from m' rest
+pair_read k v c from m' rest g s =
+    let a = inside s in
+    let b = inside a.onward in
+    let comma = inside b.onward in
+    let g1 = good_behind from a.behind a.token a.whole g in
+    let g2 = good_behind a.behind b.behind b.token b.whole g1.1 in
+    let g3 = good_behind b.behind comma.behind comma.token comma.whole g2.1 in
+    let l1 = shorter_behind from a.behind a.token a.whole in
+    let l2 = shorter_behind a.behind b.behind b.token b.whole in
+    let l3 = shorter_behind b.behind comma.behind comma.token comma.whole in
+    let name = inside comma.onward in
+    let shut = inside name.onward in
+    let g4 = good_behind comma.behind name.behind name.token name.whole g3.1 in
+    let g5 = good_behind name.behind shut.behind shut.token shut.whole g4.1 in
+    let l4 = shorter_behind comma.behind name.behind name.token name.whole in
+    let l5 = shorter_behind name.behind shut.behind shut.token shut.whole in
+    record {
+      variable = b.value;
+      stack = name.value;
+      middle = shut.behind;
+      variable_fits = name_fits b.token b.value b.is g2.0;
+      stack_fits = name_fits name.token name.value name.is g4.0;
+      shorter = omega (arith, l1, l2, l3, l4, l5);
+      good = g5.1;
+      onward = shut.onward;
+    }

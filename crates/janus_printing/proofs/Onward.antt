@@ -1,10 +1,12 @@
 -- Derivations of statements put together, whatever the count of operators.
 use Rattle.std.proofs.Common.{◌≡◌, ℕ, suc, ◌+◌, ◌-◌, ◌≤◌, List, ◌∷◌, Option, Some, Bool, true, false, cond, refl, ap, sym, subst, arith}
-use Rattle.janus_syntax.specs.Tokens.{Token}
-use Rattle.janus_syntax.specs.Tree.{Exp}
+use Rattle.janus_syntax.specs.declared.token.Span.{Span}
+use Rattle.janus_syntax.specs.declared.token.Sign.TheVariants as sign
+use Rattle.janus_syntax.specs.Tokens.{Token, Name, Sign_of}
+use Rattle.janus_syntax.specs.Tree.{Name as Named, named, Exp}
 use Rattle.janus_syntax.specs.Operators.{weakest}
-use Rattle.janus_syntax.specs.Forms.{Part, Whole, Tree, Class, Seen, seen, Form, done, take, part, close, Rule}
-use Rattle.janus_syntax.specs.Table.{rule, left_out, whole, chains}
+use Rattle.janus_syntax.specs.Forms.{Part, Whole, Tree, Class, The_sign, A_name, Seen, seen, Form, done, take, part, close, Rule}
+use Rattle.janus_syntax.specs.Table.{rule, left_out, sign_then, variable_and_stack_then, whole, chains}
 use Rattle.janus_syntax.specs.Grammar
 use Rattle.janus_syntax.specs.Grammar.{Count, all, entered, closed, fits, depth_limit, operator_limit, Spells}
 use Rattle.janus_syntax.specs.Reading.{count}
@@ -40,6 +42,17 @@ pub token_to : {p : Part} (c : Class) (k : Seen c → Form p) (s : Seen c) (v : 
 token_to {p} c k s v d d' t from more end e is onward u h =
     let x = onward u h in
     (x.0, x.1, subst (λ ts. Spells all p (take c k) v (count d u) ts (count d' x.0) end) (sym e) (Grammar.token is x.2))
+
+-- the names of a variable and a stack in parentheses
+pub pair_to : {p : Part} (k : Named → Named → Form p) (x y : List ℕ) (v : Tree p) (d d' : ℕ) (opened at comma place shut : Span) (from t1 t2 t3 t4 more end : List Token) →
+    from ≡ Sign_of sign.Open opened ∷ t1 → t1 ≡ Name x at ∷ t2 → t2 ≡ Sign_of sign.Comma comma ∷ t3 → t3 ≡ Name y place ∷ t4 → t4 ≡ Sign_of sign.Close shut ∷ more →
+    SpellsTo (k (named x at) (named y place)) v d more d' end → SpellsTo (variable_and_stack_then k) v d from d' end
+pair_to k x y v d d' opened at comma place shut from t1 t2 t3 t4 more end e1 e2 e3 e4 e5 onward =
+    token_to (The_sign sign.Open) (λ z. take A_name (λ a. sign_then sign.Comma (take A_name (λ b. sign_then sign.Close (k a b))))) tt v d d' (Sign_of sign.Open opened) from t1 end e1 refl
+    (token_to A_name (λ a. sign_then sign.Comma (take A_name (λ b. sign_then sign.Close (k a b)))) (named x at) v d d' (Name x at) t1 t2 end e2 refl
+    (token_to (The_sign sign.Comma) (λ z. take A_name (λ b. sign_then sign.Close (k (named x at) b))) tt v d d' (Sign_of sign.Comma comma) t2 t3 end e3 refl
+    (token_to A_name (λ b. sign_then sign.Close (k (named x at) b)) (named y place) v d d' (Name y place) t3 t4 end e4 refl
+    (token_to (The_sign sign.Close) (λ z. k (named x at) (named y place)) tt v d d' (Sign_of sign.Close shut) t4 more end e5 refl onward))))
 
 pub close_to : {p : Part} (f : Form p) (v : Tree p) (d d' : ℕ) (from end : List Token) → SpellsTo f v d from d' end → SpellsTo (close f) v (suc d) from d' end
 close_to f v d d' from end onward u h =

@@ -5,12 +5,13 @@ use Rattle.std.proofs.lemmas.Bool.{lt-ltb}
 use Rattle.std.proofs.lemmas.List.{append-nil}
 use Rattle.janus_syntax.specs.declared.token.Sign.{Sign}
 use Rattle.janus_syntax.specs.declared.token.Sign.TheVariants as sign
+use Rattle.janus_syntax.specs.declared.token.Word.TheVariants as word
 use Rattle.janus_syntax.specs.declared.operator.Joint.{Joint}
 use Rattle.janus_syntax.specs.declared.operator.Joint.TheVariants as joint
-use Rattle.janus_syntax.specs.Tree.{named, Exp, Num, Var, Element, Neg, Bin, And, Or, Stm, Skip, Assign, AssignElement, If, Loop, Block, Empty, More, Declaration, Int, Array, Cell, cell_of}
+use Rattle.janus_syntax.specs.Tree.{named, Exp, Num, Var, Element, EmptyOf, TopOf, Neg, Bin, And, Or, Stm, Skip, Assign, AssignElement, Push, Pop, If, Loop, Block, Empty, More, Declaration, Int, Array, StackOf, Cell, cell_of}
 use Rattle.janus_syntax.specs.Operators.{weakest}
 use Rattle.janus_syntax.specs.Lexical.{IsNameText, NotReserved, largest_number}
-use Rattle.janus_syntax.specs.Printing.{Piece, A_name, A_number, A_sign, A_word, A_minus, piece_text, leans, holds, Printed, with_piece, with_pieces, sign_level, if_needed, infix_pieces, exp_pieces, whole_pieces, stm_pieces, block_pieces, declaration_pieces, declarations_pieces, cell_pieces}
+use Rattle.janus_syntax.specs.Printing.{Piece, A_name, A_number, A_sign, A_word, A_minus, An_opening, piece_text, leans, holds, Printed, with_piece, with_pieces, sign_level, if_needed, infix_pieces, exp_pieces, whole_pieces, stm_pieces, block_pieces, declaration_pieces, declarations_pieces, cell_pieces}
 use Rattle.janus_printing.proofs.Fits.{Parenthesized, FitsInfix, FitsExp, FitsStm, FitsBlock, FitsDeclaration, FitsDeclarations, FitsCell}
 use Rattle.janus_printing.proofs.Measures.{joint_sign}
 use Rattle.janus_printing.proofs.Expressions.{operator_is}
@@ -40,6 +41,8 @@ BeginsOperand (A_name x ∷ ps) = Unit {0}
 BeginsOperand (A_number n ∷ ps) = Unit {0}
 BeginsOperand (A_sign sign.Open ∷ ps) = Unit {0}
 BeginsOperand (A_minus ∷ ps) = Unit {0}
+BeginsOperand (A_word word.Empty ∷ ps) = Unit {0}
+BeginsOperand (A_word word.Top ∷ ps) = Unit {0}
 BeginsOperand _ = ⊥
 
 -- names are names, numbers are not too large, and a prefix minus stands in front of an operand
@@ -50,6 +53,7 @@ AreFine (A_number n ∷ ps) = (n ≤ largest_number) × AreFine ps
 AreFine (A_sign s ∷ ps) = AreFine ps
 AreFine (A_word w ∷ ps) = AreFine ps
 AreFine (A_minus ∷ ps) = BeginsOperand ps × AreFine ps
+AreFine (An_opening ∷ ps) = AreFine ps
 
 begins_both : (a b : List Piece) → BeginsOperand a → BeginsOperand (a ++ b)
 begins_both [] b h = absurd h
@@ -57,8 +61,11 @@ begins_both (A_name x ∷ a) b h = tt
 begins_both (A_number n ∷ a) b h = tt
 begins_both (A_sign sign.Open ∷ a) b h = tt
 begins_both (A_sign _ ∷ a) b h = absurd h
-begins_both (A_word w ∷ a) b h = absurd h
+begins_both (A_word word.Empty ∷ a) b h = tt
+begins_both (A_word word.Top ∷ a) b h = tt
+begins_both (A_word _ ∷ a) b h = absurd h
 begins_both (A_minus ∷ a) b h = tt
+begins_both (An_opening ∷ a) b h = absurd h
 
 fine_both : (a b : List Piece) → AreFine a → AreFine b → AreFine (a ++ b)
 fine_both [] b f g = g
@@ -67,6 +74,7 @@ fine_both (A_number n ∷ a) b (h, f) g = (h, fine_both a b f g)
 fine_both (A_sign s ∷ a) b f g = fine_both a b f g
 fine_both (A_word w ∷ a) b f g = fine_both a b f g
 fine_both (A_minus ∷ a) b (h, f) g = (begins_both a b h, fine_both a b f g)
+fine_both (An_opening ∷ a) b f g = fine_both a b f g
 
 -- ---- expressions
 
@@ -100,6 +108,8 @@ operand_begins : (e : Exp) → BeginsOperand (exp_pieces e 0)
 operand_begins (Num n at) = tt
 operand_begins (Var (named x at)) = tt
 operand_begins (Element (named x at) i) = tt
+operand_begins (EmptyOf (named x at)) = tt
+operand_begins (TopOf (named x at)) = tt
 operand_begins (Neg e) = tt
 operand_begins (Bin op l r) = infix_operand (joint.Binary op) (exp_pieces l) (exp_pieces r)
 operand_begins (And l r) = infix_operand joint.And (exp_pieces l) (exp_pieces r)
@@ -109,6 +119,8 @@ pub fine_exp : (e : Exp) → FineAt e
 fine_exp (Num n at) level d f = (f, tt)
 fine_exp (Var (named x at)) level d f = (f, tt)
 fine_exp (Element (named x at) i) level d (name, few, f) = (name, fine_both (exp_pieces i weakest) _ (fine_exp i weakest (suc d) f) tt)
+fine_exp (EmptyOf (named x at)) level d f = (f, tt)
+fine_exp (TopOf (named x at)) level d f = (f, tt)
 fine_exp (Neg e) level d (few, f) = (operand_begins e, fine_exp e 0 (suc d) f)
 fine_exp (Bin op l r) level d f = fine_infix (joint_sign (joint.Binary op)) l r (fine_exp l) (fine_exp r) level d f
 fine_exp (And l r) level d f = fine_infix sign.And l r (fine_exp l) (fine_exp r) level d f
@@ -121,6 +133,8 @@ mutual
   fine_stm Skip d f = tt
   fine_stm (Assign (named x at) u e) d (name, f) = (name, fine_exp e weakest d f.0)
   fine_stm (AssignElement (named x at) i u e) d (name, few, f, g) = (name, fine_both (whole_pieces i) _ (fine_exp i weakest (suc d) f.0) (fine_exp e weakest d g.0))
+  fine_stm (Push (named x at) (named s place)) d (f, g) = (f, (g, tt))
+  fine_stm (Pop (named x at) (named s place)) d (f, g) = (f, (g, tt))
   fine_stm (If e s t f) d (few, a, b, c, g) = fine_both (whole_pieces e) _ (fine_exp e weakest (suc d) a.0) (fine_both (block_pieces s) _ (fine_block s (suc d) b.1) (fine_both (block_pieces t) _ (fine_block t (suc d) c.1) (fine_exp f weakest (suc d) g.0)))
   fine_stm (Loop e s t f) d (few, a, b, c, g) = fine_both (whole_pieces e) _ (fine_exp e weakest (suc d) a.0) (fine_both (block_pieces s) _ (fine_block s (suc d) b.1) (fine_both (block_pieces t) _ (fine_block t (suc d) c.1) (fine_exp f weakest (suc d) g.0)))
 
@@ -131,6 +145,7 @@ mutual
 fine_declaration : (x : Declaration) → FitsDeclaration x → AreFine (declaration_pieces x)
 fine_declaration (Int (named x at)) f = (f, tt)
 fine_declaration (Array (named x at) n place) (f, g) = (f, (g, tt))
+fine_declaration (StackOf (named x at)) f = (f, tt)
 
 fine_declarations : (xs : List Declaration) → FitsDeclarations xs → AreFine (declarations_pieces xs)
 fine_declarations [] f = tt

@@ -6,12 +6,12 @@ use Rattle.janus_syntax.specs.declared.token.Sign.{Sign}
 use Rattle.janus_syntax.specs.declared.token.Sign.TheVariants as sign
 use Rattle.janus_syntax.specs.declared.token.Word.{Word}
 use Rattle.janus_syntax.specs.Tokens.{Token, Name, Number, Sign_of, Word_of}
-use Rattle.janus_syntax.specs.Tree.{Exp}
-use Rattle.janus_syntax.specs.Forms.{Part, Tree, The_word, The_sign, seen, Form, part, Rule}
-use Rattle.janus_syntax.specs.Table.{rule, chains, word_then, sign_then}
+use Rattle.janus_syntax.specs.Tree.{Name as Named, named, Exp}
+use Rattle.janus_syntax.specs.Forms.{Part, Tree, The_word, The_sign, A_name as Name_class, seen, Form, take, part, Rule}
+use Rattle.janus_syntax.specs.Table.{rule, chains, word_then, sign_then, stack_then}
 use Rattle.janus_syntax.specs.Grammar
 use Rattle.janus_syntax.specs.Grammar.{Count, all, Spells}
-use Rattle.janus_syntax.specs.Printing.{Piece, A_name, A_number, A_sign, A_word, A_minus}
+use Rattle.janus_syntax.specs.Printing.{Piece, A_name, A_number, A_sign, A_word, A_minus, An_opening}
 use Rattle.janus_printing.proofs.Measures.{Runs}
 
 -- a piece as a token at a place
@@ -21,6 +21,7 @@ placed (A_number n) at = Number n at
 placed (A_sign s) at = Sign_of s at
 placed (A_word w) at = Word_of w at
 placed A_minus at = Sign_of sign.Minus at
+placed An_opening at = Sign_of sign.Open at
 
 -- the tokens up to the rest are those pieces
 abbrev pub Spelled : List Piece → List Token → List Token → Type 0
@@ -50,6 +51,14 @@ word_there {p} w f v c m' at from more rest e is s = subst (λ ts. Spells all p 
 
 pub sign_there : {p : Part} (r : Sign) (f : Form p) (v : Tree p) (c m' : Count) (at : Span) (from more rest : List Token) → from ≡ Sign_of r at ∷ more → seen (The_sign r) (Sign_of r at) ≡ Some tt → Spells all p f v c more m' rest → Spells all p (sign_then r f) v c from m' rest
 sign_there {p} r f v c m' at from more rest e is s = subst (λ ts. Spells all p (sign_then r f) v c ts m' rest) (sym e) (Grammar.token is s)
+
+-- the name of a stack in parentheses
+pub stack_there : {p : Part} (k : Named → Form p) (x : List ℕ) (v : Tree p) (c m' : Count) (opened at shut : Span) (from t1 t2 more rest : List Token) → from ≡ Sign_of sign.Open opened ∷ t1 → t1 ≡ Name x at ∷ t2 → t2 ≡ Sign_of sign.Close shut ∷ more →
+    Spells all p (k (named x at)) v c more m' rest → Spells all p (stack_then k) v c from m' rest
+stack_there {p} k x v c m' opened at shut from t1 t2 more rest e1 e2 e3 s =
+    let shut_behind : Spells all p (sign_then sign.Close (k (named x at))) v c t2 m' rest = sign_there sign.Close (k (named x at)) v c m' shut t2 more rest e3 refl s in
+    let name_behind : Spells all p (take Name_class (λ y. sign_then sign.Close (k y))) v c t1 m' rest = subst (λ ts. Spells all p (take Name_class (λ y. sign_then sign.Close (k y))) v c ts m' rest) (sym e2) (Grammar.token {c = Name_class} refl shut_behind) in
+    sign_there sign.Open (take Name_class (λ y. sign_then sign.Close (k y))) v c m' opened from t1 rest e1 refl name_behind
 
 -- ---- operators
 

@@ -5,15 +5,15 @@ use Rattle.janus_syntax.specs.declared.token.Sign.TheVariants as sign
 use Rattle.janus_syntax.specs.declared.token.Word.TheVariants as word
 use Rattle.janus_syntax.specs.declared.tree.Update.{Update}
 use Rattle.janus_syntax.specs.Tokens.{Token, Name, Number, Sign_of, Word_of}
-use Rattle.janus_syntax.specs.Tree.{named, Exp, Stm, Skip, If, Loop, Block, More}
+use Rattle.janus_syntax.specs.Tree.{named, Exp, Stm, Skip, Push, Pop, If, Loop, Block, More}
 use Rattle.janus_syntax.specs.Forms.{Part, Body, Statements, Else_part, Do_part, Loop_part, Target_index, Whole, Tree, An_update, Form, done, take, part, close, Rule}
-use Rattle.janus_syntax.specs.Table.{rule, assignment, word_then, sign_then, statement}
+use Rattle.janus_syntax.specs.Table.{rule, assignment, word_then, sign_then, variable_and_stack_then, statement}
 use Rattle.janus_syntax.specs.Grammar.{Count, all, depth_limit, Spells}
 use Rattle.janus_syntax.specs.Reading.{count}
 use Rattle.janus_printing.proofs.Inside.{inside}
 use Rattle.janus_printing.proofs.Fits.{FitsWhole, FitsStm, FitsBlock}
 use Rattle.janus_printing.proofs.Good.{IsGood, AreGood}
-use Rattle.janus_printing.proofs.Measures.{recount, Runs, runs_as, few_of, good_behind, shorter_behind, close_behind}
+use Rattle.janus_printing.proofs.Measures.{recount, Runs, runs_as, few_of, good_behind, shorter_behind, close_behind, pair_read}
 use Rattle.janus_printing.proofs.ExpressionMeasures.{whole_read}
 use Rattle.janus_printing.proofs.BlockMeasures.{IsStm, IsMeasured, BlocksMeasured, word_behind, body_read, statements_read, else_is, do_is, loop_is, optional_read}
 
@@ -150,6 +150,16 @@ stm_read n known {p} d used k v (Word_of word.Skip at) r from m' rest h is g e r
     let a : Rule p = record { opens = 0; counts = 0; is_whole = false; form = k Skip } in
     let here = runs_as a r (count d used) v from m' rest e run in
     record { tree = Skip; total = used; middle = from; fits = tt; shorter = omega arith; good = g; onward = recount (d + 0) d (used + 0) used (omega arith) (omega arith) here.1 }
+stm_read n known {p} d used k v (Word_of word.Push at) r from m' rest h is g e run =
+    let a : Rule p = record { opens = 0; counts = 0; is_whole = false; form = variable_and_stack_then (λ x s. k (Push x s)) } in
+    let here = runs_as a r (count d used) v from m' rest e run in
+    let s = pair_read (λ x y. k (Push x y)) v (count (d + 0) (used + 0)) from m' rest g here.1 in
+    record { tree = Push s.variable s.stack; total = used; middle = s.middle; fits = (s.variable_fits, s.stack_fits); shorter = s.shorter; good = s.good; onward = recount (d + 0) d (used + 0) used (omega arith) (omega arith) s.onward }
+stm_read n known {p} d used k v (Word_of word.Pop at) r from m' rest h is g e run =
+    let a : Rule p = record { opens = 0; counts = 0; is_whole = false; form = variable_and_stack_then (λ x s. k (Pop x s)) } in
+    let here = runs_as a r (count d used) v from m' rest e run in
+    let s = pair_read (λ x y. k (Pop x y)) v (count (d + 0) (used + 0)) from m' rest g here.1 in
+    record { tree = Pop s.variable s.stack; total = used; middle = s.middle; fits = (s.variable_fits, s.stack_fits); shorter = s.shorter; good = s.good; onward = recount (d + 0) d (used + 0) used (omega arith) (omega arith) s.onward }
 stm_read n known d used k v (Word_of _ at) r from m' rest h is g e run = absurd cc
 stm_read n known d used k v (Number i at) r from m' rest h is g e run = absurd cc
 stm_read n known d used k v (Sign_of s at) r from m' rest h is g e run = absurd cc

@@ -8,15 +8,15 @@ use Rattle.janus_syntax.specs.declared.token.Word.TheVariants as word
 use Rattle.janus_syntax.specs.declared.tree.Update.{Update}
 use Rattle.janus_syntax.specs.declared.tree.Update.TheVariants as update
 use Rattle.janus_syntax.specs.Tokens.{Token, Name, Sign_of, Word_of}
-use Rattle.janus_syntax.specs.Tree.{named, Exp, Stm, Skip, Assign, AssignElement, If, Loop, Block, Empty, More}
+use Rattle.janus_syntax.specs.Tree.{named, Exp, Stm, Skip, Assign, AssignElement, Push, Pop, If, Loop, Block, Empty, More}
 use Rattle.janus_syntax.specs.Forms.{Part, Body, Statements, Else_part, Do_part, Loop_part, Target_index, Whole, Tree, The_word, The_sign, An_update, seen, Form, done, take, part, close}
-use Rattle.janus_syntax.specs.Table.{rule, assignment, word_then, sign_then, statement}
+use Rattle.janus_syntax.specs.Table.{rule, assignment, word_then, sign_then, variable_and_stack_then, statement}
 use Rattle.janus_syntax.specs.Grammar.{depth_limit}
 use Rattle.janus_syntax.specs.Printing.{A_sign, A_word, update_sign, whole_pieces, stm_pieces, block_pieces}
 use Rattle.janus_syntax.specs.View.{plain_stm, plain_block, update_of}
 use Rattle.janus_printing.proofs.Fits.{FitsWhole, FitsStm, FitsBlock, IsBody}
 use Rattle.janus_printing.proofs.Spelled.{Spelled, in_two}
-use Rattle.janus_printing.proofs.Onward.{SpellsTo, StartsTo, done_to, part_to, left_to, token_to, close_to, begins_to, opens_to, whole_again}
+use Rattle.janus_printing.proofs.Onward.{SpellsTo, StartsTo, done_to, part_to, left_to, token_to, pair_to, close_to, begins_to, opens_to, whole_again}
 
 -- these tokens are read as that statement
 pub record StmAgain (s : Stm) (d : ℕ) (ts rest : List Token) : Type 0 where
@@ -145,6 +145,24 @@ skip_again d ts rest h (at, more, e, s) = record {
   starts = λ {p} k v d' end onward. begins_to (λ t. statement t k) (k Skip) v d d' (Word_of word.Skip at) ts rest end (e ∙ ap (λ x. Word_of word.Skip at ∷ x) s) refl h onward;
 }
 
+push_again : (x s : List ℕ) (at place : Span) (d : ℕ) (ts rest : List Token) → d ≤ depth_limit → Spelled (stm_pieces (Push (named x at) (named s place))) ts rest → StmAgain (Push (named x at) (named s place)) d ts rest
+push_again x s at place d ts rest h (on, t1, e1, (opened, t2, e2, (of_x, t3, e3, (comma, t4, e4, (of_s, t5, e5, (shut, t6, e6, last)))))) = record {
+  again = Push (named x of_x) (named s of_s);
+  same = refl;
+  starts = λ {p} k v d' end onward.
+      begins_to (λ t. statement t k) (variable_and_stack_then (λ a b. k (Push a b))) v d d' (Word_of word.Push on) ts t1 end e1 refl h
+      (pair_to (λ a b. k (Push a b)) x s v d d' opened of_x comma of_s shut t1 t2 t3 t4 t5 rest end e2 e3 e4 e5 (e6 ∙ ap (λ l. Sign_of sign.Close shut ∷ l) last) onward);
+}
+
+pop_again : (x s : List ℕ) (at place : Span) (d : ℕ) (ts rest : List Token) → d ≤ depth_limit → Spelled (stm_pieces (Pop (named x at) (named s place))) ts rest → StmAgain (Pop (named x at) (named s place)) d ts rest
+pop_again x s at place d ts rest h (on, t1, e1, (opened, t2, e2, (of_x, t3, e3, (comma, t4, e4, (of_s, t5, e5, (shut, t6, e6, last)))))) = record {
+  again = Pop (named x of_x) (named s of_s);
+  same = refl;
+  starts = λ {p} k v d' end onward.
+      begins_to (λ t. statement t k) (variable_and_stack_then (λ a b. k (Pop a b))) v d d' (Word_of word.Pop on) ts t1 end e1 refl h
+      (pair_to (λ a b. k (Pop a b)) x s v d d' opened of_x comma of_s shut t1 t2 t3 t4 t5 rest end e2 e3 e4 e5 (e6 ∙ ap (λ l. Sign_of sign.Close shut ∷ l) last) onward);
+}
+
 more_again : (s : Stm) (b : Block) (d : ℕ) (ts middle rest : List Token) → StmAgain s d ts middle → BlockAgain b d middle rest → BlockAgain (More s b) d ts rest
 more_again s b d ts middle rest first others = record {
   again = More first.again others.again;
@@ -166,6 +184,8 @@ mutual
   stm_again Skip d ts rest h f s = skip_again d ts rest h s
   stm_again (Assign (named x place) u e) d ts rest h (name, f) s = assign_again x place u e d ts rest h f s
   stm_again (AssignElement (named x place) i u e) d ts rest h (name, few, f, g) s = assign_element_again x place i u e d ts rest h few f g s
+  stm_again (Push (named x at) (named y place)) d ts rest h f s = push_again x y at place d ts rest h s
+  stm_again (Pop (named x at) (named y place)) d ts rest h f s = pop_again x y at place d ts rest h s
   stm_again (If e s t f) d ts rest h fs p = if_again e s t f (block_again s) (block_again t) d ts rest h fs p
   stm_again (Loop e s t f) d ts rest h fs p = loop_again e s t f (block_again s) (block_again t) d ts rest h fs p
 

@@ -1,3 +1,4 @@
 pub mod Variables
 pub mod Indexes
 pub mod Elements
+pub mod Counted

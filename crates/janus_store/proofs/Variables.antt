@@ -39,6 +39,7 @@ this_name x y e = subst (λ y. same_name x y ≡ true) (sym e) (same_name_self x
 read_value : (v : Value) → read_slot (val_of v) ≡ Fine (val_of v)
 read_value (values.Number n) = refl
 read_value (values.Array l) = refl
+read_value (values.Stack l) = refl
 
 pub look_past : (x : Name) (s : spec.Store) (vs : List Variable) → HasNone vs x → look x (declared_over s vs) ≡ look x s
 look_past x s [] h = refl
@@ -62,10 +63,12 @@ look_here x s (w ∷ vs) (suc i) v e n only =
 taken_slot : (y : Name) (v : Value) (s : spec.Store) → spec.take_slot y (val_of v) s ≡ Fine (val_of v, spec.Slot y Lent s)
 taken_slot y (values.Number n) s = refl
 taken_slot y (values.Array l) s = refl
+taken_slot y (values.Stack l) s = refl
 
 put_value : (y : Name) (w : Value) (s : spec.Store) → spec.put_slot y Lent s (val_of w) ≡ Fine (spec.Slot y (val_of w) s)
 put_value y (values.Number n) s = refl
 put_value y (values.Array l) s = refl
+put_value y (values.Stack l) s = refl
 
 write_top : (x y : Name) (v w : Value) (s : spec.Store) → y ≡ x → write x (val_of w) (spec.Slot y (val_of v) s) ≡ Fine (spec.Slot y (val_of w) s)
 write_top x y v w s e =

@@ -1,8 +1,10 @@
 -- How the fields of a store are read.
-use Rattle.std.specs.Prelude.{◌≡◌, ℕ, List, [], ◌∷◌, slice_get, Option, Some, string_bytes}
+use Rattle.std.specs.Prelude.{◌≡◌, ℕ, ◌+◌, List, [], ◌∷◌, slice_get, Option, Some, string_bytes}
 use Rattle.std.specs.BTreeMap.{get_by_text}
+use Rattle.janus_meaning.specs.Limit.{live_stack_limit}
 use Rattle.janus_meaning.specs.Syntax.{Name}
 use Rattle.janus_meaning.specs.Store as spec
+use Rattle.janus_meaning.specs.World.{stacks_in}
 use Rattle.janus_store.specs.Values.{val_of}
 use Rattle.janus_store.specs.declared.store.Variable.{Variable}
 use Rattle.janus_store.specs.declared.store.Store.TheInside.{Inside}
@@ -20,5 +22,7 @@ pub record AreIndexed (vs : List Variable) (place : Name → Option ℕ) : Type 
   pub found : (i : ℕ) (v : Variable) → slice_get vs i ≡ Some v → place (string_bytes v.name) ≡ Some i
   pub stored : (x : Name) (i : ℕ) → place x ≡ Some i → (v : Variable) × (slice_get vs i ≡ Some v) × (string_bytes v.name ≡ x)
 
-abbrev pub IsIndexed : {L : Type 0} → Inside L → Type 0
-IsIndexed a = AreIndexed a.variables.items (get_by_text a.places)
+-- Each stack that may live is a variable's or a spare one.
+pub record IsKept {L : Type 0} (a : Inside L) : Type 0 where
+  pub indexed : AreIndexed a.variables.items (get_by_text a.places)
+  pub stacks : a.spares + stacks_in (store_of a) ≡ live_stack_limit

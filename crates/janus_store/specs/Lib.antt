@@ -1,3 +1,4 @@
+pub mod Stacks
 pub mod Values
 pub mod Stores
 pub mod Inside

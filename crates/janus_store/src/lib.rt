@@ -1,11 +1,13 @@
-//! The store: the declared names with their numbers and arrays, by name and in the order of declaration.
+//! The store: the declared names with their numbers, arrays and stacks, by name and in the order of declaration.
 //!
 //! To the layer above it promises a map: a name's value is read and written alone, a write changes no other name, and the
 //! newest name can be taken away again. What runs reads and writes by the place of a name, the oldest being 0, and compares no
-//! text. Only a declaration takes memory. Contracts see it as a store of `janus_meaning`,
-//! where a value is taken out of its slot and put back.
+//! text. The memory of all stacks is taken with the store, and after that only a declaration takes memory. Contracts see it as a
+//! store of `janus_meaning`, where a value is taken out of its slot and put back.
 #![tactic(auto)]
 
+mod spares;
+mod stack;
 mod store;
 mod value;
 mod writes;

@@ -1,15 +1,19 @@
 //! The declared names with their values, in the order of declaration, and where each name stands there.
 
-ghost use Rattle.std.specs.Prelude.{◌≡◌, ℤ, ◌+◌, List, pos, ◌<◌, IsTrue, ◌↔◌, IfSome, OnOk, OnErr, slice_get, Some, None, Bool, false, true};
+ghost use Rattle.std.specs.Prelude.{◌≡◌, ℤ, ◌+◌, List, [], ◌∷◌, pos, ◌<◌, ◌≤◌, length, IsTrue, ◌↔◌, IfSome, IfOk, OnOk, OnErr, slice_get, Some, None, Bool, false, true};
 ghost use Rattle.std.specs.Bool.{OnFalse};
 ghost use Rattle.janus_meaning.specs.Syntax.{Name};
-ghost use Rattle.janus_meaning.specs.Fault.{Fine, Bad, Broken, IndexRange, and_then};
-ghost use Rattle.janus_meaning.specs.Store.{Bare, Slot, Num, Arr, look, number, element, set_element, zeros, cleared};
-ghost use Rattle.janus_meaning.specs.World.{size_of, listed};
-ghost use Rattle.janus_store.specs.Values.{val_of, shown, found, read_or};
-ghost use Rattle.janus_store.specs.Stores.{IsFirstOnTop, IsNamed, IsNumber, IsArray, HasElementAt, rest_of, is_fine, write};
+ghost use Rattle.janus_meaning.specs.Fault.{Fine, Bad, Broken, IndexRange, TopEmpty, and_then};
+ghost use Rattle.janus_meaning.specs.Store.{Bare, Slot, Num, Arr, Stk, look, number, element, set_element, zeros, cleared};
+ghost use Rattle.janus_meaning.specs.Limit.{live_stack_limit, stack_limit};
+ghost use Rattle.janus_meaning.specs.Value.{first, is_none};
+ghost use Rattle.janus_meaning.specs.World.{size_of, listed, stacks_in};
+ghost use Rattle.janus_store.specs.Values.{first_of, shown, found, read_or};
+ghost use Rattle.janus_store.specs.Stores.{IsFirstOnTop, IsNamed, IsNumber, IsArray, IsStack, IsOpenStack, IsHeldStack, HasElementAt, rest_of, is_fine, write};
 
-use crate::value::{Value, View};
+use crate::spares::Spares;
+use crate::stack::{STACK_LIMIT, Stack};
+use crate::value::{Declared, Value, View};
 use crate::writes::Writes;
 use std::alloc::{AllocError, Global};
 use std::collections::BTreeMap;
@@ -23,24 +27,16 @@ struct Variable {
     value: Value,
 }
 
-impl Variable {
-    ghost use Rattle.std.specs.Prelude.{string_bytes};
-
-    /// The name, without the value.
-    fn into_name(self) -> String
-        ensures { string_bytes result ≡ string_bytes self.name }
-    {
-        self.name
-    }
-}
-
-/// The declared names with their values. Each write is counted in the store's own ledger.
+/// The declared names with their values, and the memory of all stacks that may live. Each write is counted in the store's own
+/// ledger.
 #[derive(Drop)]
 pub struct Store<L: Ledger> {
     /// In the order of declaration.
     variables: Vec<Variable>,
     /// Where each name stands among the variables.
     places: BTreeMap<String, usize>,
+    /// The stacks that no variable has.
+    spares: Spares,
     ledger: PhantomData<L>,
 }
 
@@ -52,23 +48,29 @@ impl<L: Ledger> Model for Store<L> {
 
     ghost coded = { store_code };
 
-    ghost use Rattle.janus_store.specs.Inside.{store_of, IsIndexed};
+    ghost use Rattle.janus_store.specs.Inside.{store_of, IsKept};
 
     ghost view = { store_of };
 
-    ghost invariant = { IsIndexed };
+    ghost invariant = { IsKept };
 }
 
 impl<L: Ledger> Store<L> {
-    /// No names. It takes no memory.
-    pub fn new(alloc: Global) -> Store<L>
-        ensures { result ≡ Bare }
+    /// No names. It takes the memory of all stacks that may live.
+    ///
+    /// # Errors
+    ///
+    /// `AllocError` where there is no memory.
+    pub fn new(alloc: Global) -> Result<Store<L>, AllocError>
+        ensures { IfOk result (λ s. s ≡ Bare) }
     {
-        Store {
+        let spares = Spares::new(alloc)?;
+        Ok(Store {
             variables: Vec::new(alloc),
             places: BTreeMap::new(alloc),
+            spares,
             ledger: PhantomData,
-        }
+        })
     }
 
     /// How many names are declared.
@@ -79,7 +81,7 @@ impl<L: Ledger> Store<L> {
     }
 
     /// Whether no name is declared.
-    pub fn is_empty(&self) -> bool
+    pub fn has_no_names(&self) -> bool
         ensures { IsTrue result ↔ (size_of self.now ≡ 0) }
     {
         self.variables.is_empty()
@@ -114,7 +116,7 @@ impl<L: Ledger> Store<L> {
         }
     }
 
-    /// The number of the name at a place; none where it is an array.
+    /// The number of the name at a place; none where it is an array or a stack.
     pub fn get(&self, place: usize) -> Option<i32>
         requires { (x : Name) × IsNamed self.now place x }
         ensures { (x : Name) → IsNamed self.now place x → read_or Broken result ≡ and_then (look x self.now) number }
@@ -128,6 +130,53 @@ impl<L: Ledger> Store<L> {
         ensures { (x : Name) (l : List ℤ) → IsNamed self.now place x → look x self.now ≡ Fine (Arr l) → read_or IndexRange result ≡ element l index }
     {
         self.variables[place].value.element(index)
+    }
+
+    /// The stack at a place.
+    fn stack(&self, place: usize) -> &Stack
+        requires { (x : Name) × IsNamed self.now place x × IsStack (look x self.now) }
+        ensures { (x : Name) (l : List ℤ) → IsNamed self.now place x → look x self.now ≡ Fine (Stk l) → result.now ≡ l }
+    {
+        self.variables[place].value.stack()
+    }
+
+    /// The value on top of the stack at a place; none where the stack is empty.
+    pub fn top(&self, place: usize) -> Option<i32>
+        requires { (x : Name) × IsNamed self.now place x × IsStack (look x self.now) }
+        ensures { (x : Name) (l : List ℤ) → IsNamed self.now place x → look x self.now ≡ Fine (Stk l) → read_or TopEmpty result ≡ first l }
+    {
+        self.stack(place).top()
+    }
+
+    /// How many values the stack at a place has.
+    pub fn length(&self, place: usize) -> usize
+        requires { (x : Name) × IsNamed self.now place x × IsStack (look x self.now) }
+        ensures { (x : Name) (l : List ℤ) → IsNamed self.now place x → look x self.now ≡ Fine (Stk l) → result ≡ length l }
+    {
+        self.stack(place).length()
+    }
+
+    /// Whether the stack at a place has no value.
+    pub fn is_empty(&self, place: usize) -> bool
+        requires { (x : Name) × IsNamed self.now place x × IsStack (look x self.now) }
+        ensures { (x : Name) (l : List ℤ) → IsNamed self.now place x → look x self.now ≡ Fine (Stk l) → result ≡ is_none l }
+    {
+        self.stack(place).length() == 0
+    }
+
+    /// Whether the stack at a place takes no value more.
+    pub fn is_full(&self, place: usize) -> bool
+        requires { (x : Name) × IsNamed self.now place x × IsStack (look x self.now) }
+        ensures { (x : Name) (l : List ℤ) → IsNamed self.now place x → look x self.now ≡ Fine (Stk l) → IsTrue result ↔ (stack_limit ≤ length l) }
+    {
+        self.stack(place).length() >= STACK_LIMIT
+    }
+
+    /// How many stacks more can be declared.
+    pub fn stacks_left(&self) -> usize
+        ensures { result + stacks_in self.now ≡ live_stack_limit }
+    {
+        self.spares.len()
     }
 
     /// The i-th name in the order of declaration, the oldest being 0, with its value.
@@ -145,7 +194,7 @@ impl<L: Ledger> Store<L> {
         ensures ok { OnOk result (self.new ≡ Slot name.now (Num (pos 0)) self.old) }
         ensures err { OnErr result (self.new ≡ self.old) }
     {
-        self.add(name, Value::Number(0))
+        self.add(name, Declared::Number)
     }
 
     /// Declares an array of this length, whose elements are 0 then. An error for want of memory leaves the store.
@@ -156,13 +205,24 @@ impl<L: Ledger> Store<L> {
     {
         let alloc = *self.variables.allocator();
         let items = vec![in alloc; 0i32; length]?;
-        self.add(name, Value::Array(items))
+        self.add(name, Declared::Array(items))
     }
 
-    /// Declares a name with a value; an error for want of memory leaves the store.
-    fn add(&mut self, name: &str, value: Value) -> Result<(), AllocError>
-        requires { look name.now self.old ≡ Bad Broken }
-        ensures ok { OnOk result (self.new ≡ Slot name.now (val_of value) self.old) }
+    /// Declares a stack, which is empty then. Its own memory was taken with the store; an error for want of memory leaves the store.
+    pub fn declare_stack(&mut self, name: &str) -> Result<(), AllocError>
+        requires absent { look name.now self.old ≡ Bad Broken }
+        requires room { stacks_in self.old < live_stack_limit }
+        ensures ok { OnOk result (self.new ≡ Slot name.now (Stk []) self.old) }
+        ensures err { OnErr result (self.new ≡ self.old) }
+    {
+        self.add(name, Declared::Stack)
+    }
+
+    /// Declares a name with the value that it begins with; an error for want of memory leaves the store.
+    fn add(&mut self, name: &str, declared: Declared) -> Result<(), AllocError>
+        requires absent { look name.now self.old ≡ Bad Broken }
+        requires room { first_of declared ≡ Stk [] → stacks_in self.old < live_stack_limit }
+        ensures ok { OnOk result (self.new ≡ Slot name.now (first_of declared) self.old) }
         ensures err { OnErr result (self.new ≡ self.old) }
     {
         let alloc = *self.variables.allocator();
@@ -170,6 +230,7 @@ impl<L: Ledger> Store<L> {
         let name = key.clone()?;
         self.variables.reserve(1)?;
         self.places.insert(key, self.variables.len())?;
+        let value = self.spares.first_value(declared);
         self.variables.push_reserved(Variable { name, value });
         Ok(())
     }
@@ -180,8 +241,9 @@ impl<L: Ledger> Store<L> {
         ensures { self.new ≡ rest_of self.old }
     {
         if let Some(variable) = self.variables.pop() {
-            let name = variable.into_name();
+            let Variable { name, value } = variable;
             let _ = self.places.remove(name.as_str());
+            self.spares.take_back(value);
         }
     }
 
@@ -205,5 +267,28 @@ impl<L: Ledger> Store<L> {
     {
         writes.add();
         self.variables[place].value.set_element(index, number);
+    }
+
+    /// One number more, on top of the stack at a place.
+    pub fn push(&mut self, place: usize, number: i32, writes: &mut Writes<L>)
+        requires { (x : Name) × IsNamed self.old place x × IsOpenStack (look x self.old) }
+        ensures written { (x : Name) (l : List ℤ) → IsNamed self.old place x → look x self.old ≡ Fine (Stk l) → write x (Stk (number ∷ l)) self.old ≡ Fine self.new }
+        ensures shape { cleared self.new ≡ cleared self.old }
+        ensures counted { writes.new ≡ writes.old + 1 }
+    {
+        writes.add();
+        self.variables[place].value.push(number);
+    }
+
+    /// Takes the number from the top of the stack at a place.
+    pub fn pop(&mut self, place: usize, writes: &mut Writes<L>) -> i32
+        requires { (x : Name) × IsNamed self.old place x × IsHeldStack (look x self.old) }
+        ensures top { (x : Name) (n : ℤ) (l : List ℤ) → IsNamed self.old place x → look x self.old ≡ Fine (Stk (n ∷ l)) → result ≡ n }
+        ensures written { (x : Name) (n : ℤ) (l : List ℤ) → IsNamed self.old place x → look x self.old ≡ Fine (Stk (n ∷ l)) → write x (Stk l) self.old ≡ Fine self.new }
+        ensures shape { cleared self.new ≡ cleared self.old }
+        ensures counted { writes.new ≡ writes.old + 1 }
+    {
+        writes.add();
+        self.variables[place].value.pop()
     }
 }

@@ -1,15 +1,27 @@
 //! A variable's value.
 
-ghost use Rattle.std.specs.Prelude.{◌≡◌, ℤ, length};
+ghost use Rattle.std.specs.Prelude.{◌≡◌, ℤ, ◌∷◌};
 ghost use Rattle.janus_meaning.specs.Fault.{Fine, Bad, Broken, IndexRange};
-ghost use Rattle.janus_meaning.specs.Store.{Val, Num, Arr, number, element, set_element, cleared_val};
-ghost use Rattle.janus_store.specs.Values.{val_of, shown, read_or, HasElement};
+ghost use Rattle.janus_meaning.specs.Store.{Val, Num, Arr, Stk, number, element, set_element, cleared_val};
+ghost use Rattle.janus_store.specs.Values.{val_of, shown, read_or, HasElement, IsStackValue, TakesOneMore, HasTop};
+
+use crate::stack::Stack;
 
 /// What a variable holds.
 #[derive(Drop)]
 pub(crate) enum Value {
     Number(i32),
     Array(Vec<i32>),
+    Stack(Stack),
+}
+
+/// What a name is declared as.
+#[derive(Drop)]
+pub(crate) enum Declared {
+    Number,
+    /// Its elements.
+    Array(Vec<i32>),
+    Stack,
 }
 
 /// A value that is lent to be read.
@@ -18,6 +30,8 @@ pub enum View<'a> {
     Number(i32),
     /// The elements, from index 0 on.
     Array(&'a [i32]),
+    /// The values, the bottom first.
+    Stack(&'a [i32]),
 }
 
 impl Value {
@@ -28,6 +42,7 @@ impl Value {
         match self {
             Value::Number(number) => View::Number(*number),
             Value::Array(items) => View::Array(items),
+            Value::Stack(stack) => View::Stack(stack.values()),
         }
     }
 
@@ -37,7 +52,7 @@ impl Value {
     {
         match self {
             Value::Number(number) => Some(*number),
-            Value::Array(_) => None,
+            Value::Array(_) | Value::Stack(_) => None,
         }
     }
 
@@ -46,7 +61,7 @@ impl Value {
         ensures { (l : _) → val_of self.now ≡ Arr l → read_or IndexRange result ≡ element l index }
     {
         match self {
-            Value::Number(_) => None,
+            Value::Number(_) | Value::Stack(_) => None,
             Value::Array(items) => element_of(items, index),
         }
     }
@@ -58,7 +73,7 @@ impl Value {
     {
         match self {
             Value::Number(old) => *old = number,
-            Value::Array(_) => unreachable!(),
+            Value::Array(_) | Value::Stack(_) => unreachable!(),
         }
     }
 
@@ -69,8 +84,41 @@ impl Value {
         ensures extent { cleared_val (val_of self.new) ≡ cleared_val (val_of self.old) }
     {
         match self {
-            Value::Number(_) => unreachable!(),
+            Value::Number(_) | Value::Stack(_) => unreachable!(),
             Value::Array(items) => items[index as usize] = number,
+        }
+    }
+
+    /// The stack, of a stack.
+    pub(crate) fn stack(&self) -> &Stack
+        requires { IsStackValue (val_of self.now) }
+        ensures { val_of self.now ≡ Stk result.now }
+    {
+        match self {
+            Value::Number(_) | Value::Array(_) => unreachable!(),
+            Value::Stack(stack) => stack,
+        }
+    }
+
+    /// One value more on a stack that is not full.
+    pub(crate) fn push(&mut self, number: i32)
+        requires { TakesOneMore (val_of self.old) }
+        ensures { (l : _) → val_of self.old ≡ Stk l → val_of self.new ≡ Stk (number ∷ l) }
+    {
+        match self {
+            Value::Number(_) | Value::Array(_) => unreachable!(),
+            Value::Stack(stack) => stack.push(number),
+        }
+    }
+
+    /// Takes the value from the top of a stack that is not empty.
+    pub(crate) fn pop(&mut self) -> i32
+        requires { HasTop (val_of self.old) }
+        ensures { (n : _) (l : _) → val_of self.old ≡ Stk (n ∷ l) → (result ≡ n) × (val_of self.new ≡ Stk l) }
+    {
+        match self {
+            Value::Number(_) | Value::Array(_) => unreachable!(),
+            Value::Stack(stack) => stack.pop(),
         }
     }
 }

@@ -5,12 +5,12 @@ use Rattle.janus_syntax.specs.declared.token.Sign.TheVariants as sign
 use Rattle.janus_syntax.specs.declared.token.Word.TheVariants as word
 use Rattle.janus_syntax.specs.declared.tree.Update.{Update}
 use Rattle.janus_syntax.specs.Tokens.{Token, Name, Sign_of, Word_of}
-use Rattle.janus_syntax.specs.Tree.{Name as Named, named, Exp, Stm, Skip, Assign, AssignElement}
+use Rattle.janus_syntax.specs.Tree.{Name as Named, named, Exp, Stm, Skip, Assign, AssignElement, Push, Pop}
 use Rattle.janus_syntax.specs.Forms.{Part, Target_index, Whole, The_sign, An_update, Form, done, take, part, close}
-use Rattle.janus_syntax.specs.Table.{sign_then, assignment}
+use Rattle.janus_syntax.specs.Table.{sign_then, variable_and_stack_then, assignment}
 use Rattle.janus_syntax.specs.Grammar.{all, depth_limit, Refusal, TooNested}
 use Rattle.janus_syntax.specs.Reader.{Stack, waits}
-use Rattle.janus_syntax.specs.Reading.{TokenGoes, TokenFails, count, Moves, Stops, IsPart, FailsPart, BeginsWithSign}
+use Rattle.janus_syntax.specs.Reading.{TokenGoes, TokenFails, IsVariableAndStack, FailsVariableAndStack, count, Moves, Stops, IsPart, FailsPart, BeginsWithSign}
 use Rattle.janus_syntax.specs.Statements.{IsStm, FailsStm, if_form, from_form, assignment_form, IsIf, FailsIf, IsLoop, FailsLoop, IsAssignment, FailsAssignment}
 use Rattle.janus_syntax.proofs.Agrees.{run_hands, left_behind}
 use Rattle.janus_syntax.proofs.LeftOut.{no_target}
@@ -134,6 +134,30 @@ name_stops x place d rest r room f = record { begins = refl; stops = λ g p k S 
 
 pub skip_is : (place : Span) (d : ℕ) (rest : List Token) → d ≤ depth_limit → IsStm d Skip (Word_of word.Skip place ∷ rest) rest
 skip_is place d rest room = record { begins = refl; goes = λ g p k S u h. (u, h, begun_plain (k Skip) S d u rest room h); shorter = omega arith }
+
+pub push_is : (place : Span) (d : ℕ) {x s : Named} {rest after : List Token} → d ≤ depth_limit → IsVariableAndStack x s rest after → IsStm d (Push x s) (Word_of word.Push place ∷ rest) after
+push_is place d {x} {s} {rest} room i =
+    record {
+      begins = refl;
+      goes = λ g p k S u h. (u, h, begun_plain (variable_and_stack_then (λ y t. k (Push y t))) S d u rest room h ∙ i.goes g p (λ y t. k (Push y t)) S (count d u));
+      shorter = let y = i.shorter in omega (arith, y);
+    }
+
+pub push_stops : (place : Span) (d : ℕ) (rest : List Token) (r : Refusal) → d ≤ depth_limit → FailsVariableAndStack rest r → FailsStm d (Word_of word.Push place ∷ rest) r
+push_stops place d rest r room f =
+    record { begins = refl; stops = λ g p k S u h. begun_plain (variable_and_stack_then (λ y t. k (Push y t))) S d u rest room h ∙ f g p (λ y t. k (Push y t)) S (count d u) }
+
+pub pop_is : (place : Span) (d : ℕ) {x s : Named} {rest after : List Token} → d ≤ depth_limit → IsVariableAndStack x s rest after → IsStm d (Pop x s) (Word_of word.Pop place ∷ rest) after
+pop_is place d {x} {s} {rest} room i =
+    record {
+      begins = refl;
+      goes = λ g p k S u h. (u, h, begun_plain (variable_and_stack_then (λ y t. k (Pop y t))) S d u rest room h ∙ i.goes g p (λ y t. k (Pop y t)) S (count d u));
+      shorter = let y = i.shorter in omega (arith, y);
+    }
+
+pub pop_stops : (place : Span) (d : ℕ) (rest : List Token) (r : Refusal) → d ≤ depth_limit → FailsVariableAndStack rest r → FailsStm d (Word_of word.Pop place ∷ rest) r
+pop_stops place d rest r room f =
+    record { begins = refl; stops = λ g p k S u h. begun_plain (variable_and_stack_then (λ y t. k (Pop y t))) S d u rest room h ∙ f g p (λ y t. k (Pop y t)) S (count d u) }
 
 pub if_begins : (place : Span) {d : ℕ} {s : Stm} {rest after : List Token} → d < depth_limit → IsIf (d + 1) s rest after → IsStm d s (Word_of word.If place ∷ rest) after
 if_begins place {d} {s} {rest} {after} room i =

@@ -9,7 +9,7 @@ use Rattle.janus_syntax.specs.declared.token.Token as code_token
 use Rattle.janus_syntax.specs.declared.fault.What.TheVariants as what
 use Rattle.janus_syntax.specs.declared.tree.Declaration as code_declaration
 use Rattle.janus_syntax.specs.Tokens.{Token, Name, Number, Sign_of, Word_of, views}
-use Rattle.janus_syntax.specs.Tree.{Name as Named, Exp, Block, Declaration, Int, Array, cell_of, declaration_view, declarations_view}
+use Rattle.janus_syntax.specs.Tree.{Name as Named, Exp, Block, Declaration, Int, Array, StackOf, cell_of, declaration_view, declarations_view}
 use Rattle.janus_syntax.specs.Forms.{Part, A_cell, Declarations, Statements, Bound, Whole, Tree, The_sign, A_name, A_number, Form, done, take, part}
 use Rattle.janus_syntax.specs.Table.{rule, declared, sign_then}
 use Rattle.janus_syntax.specs.Grammar.{all, operator_limit, IsTree, Refusal, Expected}
@@ -97,13 +97,34 @@ declaration_stops_bound {x} {from} {behind} e b i f =
     subst (λ ts. FailsDeclaration ts e) (sym b.is)
     (record { begins = refl; stops = λ g p k S u h. int_begins k S u b.at behind h ∙ i.goes g p (λ y. part Bound (λ n. k (declared y n))) S (count 0 u) ∙ f p k g S u h })
 
-pub other_begins : (from : List Token) → ((behind : List Token) → BeginsWith word.Int from behind → ⊥) → is_declaration (next from) ≡ false
-other_begins [] h = refl
-other_begins (Name x place ∷ rest) h = refl
-other_begins (Number n place ∷ rest) h = refl
-other_begins (Sign_of s place ∷ rest) h = refl
-other_begins (Word_of word.Int place ∷ rest) h = absurd (h rest (record { at = place; is = refl }))
-other_begins (Word_of _ place ∷ rest) h = refl
+-- the declaration of a stack
+abbrev stack_form : {p : Part} → (Declaration → Form p) → Form p
+stack_form k = take A_name (λ s. k (StackOf s))
+
+stack_begins : {goal p : Part} (k : Declaration → Form p) (S : Stack goal p) (u : ℕ) (place : Span) (behind : List Token) → u ≤ operator_limit → begin_declaration (Word_of word.Stack place ∷ behind) k S u ≡ run all behind (at (stack_form k) S (count 0 u))
+stack_begins k S u place behind h = begun_plain (stack_form k) S 0 u behind (omega arith) h
+
+pub stack_is : {s : Named} {from behind rest : List Token} → BeginsWith word.Stack from behind → TokenGoes A_name s behind rest → IsDeclaration (StackOf s) from rest
+stack_is {s} {from} {behind} {rest} b i =
+    subst (λ ts. IsDeclaration (StackOf s) ts rest) (sym b.is)
+    (record {
+      begins = refl;
+      goes = λ g p k S u h. (u, h, stack_begins k S u b.at behind h ∙ i.goes g p (λ y. k (StackOf y)) S (count 0 u));
+      shorter = let l = i.shorter in omega (arith, l);
+    })
+
+pub stack_stops : {from behind : List Token} (e : Refusal) → BeginsWith word.Stack from behind → TokenFails A_name behind e → FailsDeclaration from e
+stack_stops {from} {behind} e b f =
+    subst (λ ts. FailsDeclaration ts e) (sym b.is) (record { begins = refl; stops = λ g p k S u h. stack_begins k S u b.at behind h ∙ f g p (λ y. k (StackOf y)) S (count 0 u) })
+
+pub other_begins : (from : List Token) → ((behind : List Token) → BeginsWith word.Int from behind → ⊥) → ((behind : List Token) → BeginsWith word.Stack from behind → ⊥) → is_declaration (next from) ≡ false
+other_begins [] h i = refl
+other_begins (Name x place ∷ rest) h i = refl
+other_begins (Number n place ∷ rest) h i = refl
+other_begins (Sign_of s place ∷ rest) h i = refl
+other_begins (Word_of word.Int place ∷ rest) h i = absurd (h rest (record { at = place; is = refl }))
+other_begins (Word_of word.Stack place ∷ rest) h i = absurd (i rest (record { at = place; is = refl }))
+other_begins (Word_of _ place ∷ rest) h i = refl
 
 -- ---- declarations
 
@@ -116,6 +137,7 @@ no_declaration (Name x place ∷ rest) h t e = let same : Name x place ≡ t = c
 no_declaration (Number n place ∷ rest) h t e = let same : Number n place ≡ t = cc in subst (λ y. rule Declarations y ≡ None) same refl
 no_declaration (Sign_of s place ∷ rest) h t e = let same : Sign_of s place ≡ t = cc in subst (λ y. rule Declarations y ≡ None) same refl
 no_declaration (Word_of word.Int place ∷ rest) h t e = absurd cc
+no_declaration (Word_of word.Stack place ∷ rest) h t e = absurd cc
 no_declaration (Word_of w place ∷ rest) h t e = let same : Word_of w place ≡ t = cc in subst (λ y. rule Declarations y ≡ None) same refl
 
 declarations_begin : {goal p : Part} (k : List Declaration → Form p) (S : Stack goal p) (u : ℕ) (from : List Token) → u ≤ operator_limit → is_declaration (next from) ≡ true →
@@ -127,6 +149,9 @@ declarations_begin k S u (Sign_of s place ∷ rest) i h = absurd cc
 declarations_begin k S u (Word_of word.Int place ∷ rest) i h =
     begins_part Declarations k S 0 u (Word_of word.Int place) rest (named_form one_more_form) refl (omega arith) i
     ∙ sym (int_begins one_more_form (waits {q = Declarations} k S) u place rest i)
+declarations_begin k S u (Word_of word.Stack place ∷ rest) i h =
+    begins_part Declarations k S 0 u (Word_of word.Stack place) rest (stack_form one_more_form) refl (omega arith) i
+    ∙ sym (stack_begins one_more_form (waits {q = Declarations} k S) u place rest i)
 declarations_begin k S u (Word_of _ place ∷ rest) i h = absurd cc
 
 pub view_push : (ds : List code_declaration.Declaration) (d : code_declaration.Declaration) → declarations_view (ds ++ d ∷ []) ≡ declarations_view ds ++ declaration_view d ∷ []

@@ -9,7 +9,7 @@ use Rattle.janus_syntax.specs.declared.tree.Operator.TheVariants as operator
 use Rattle.janus_syntax.specs.declared.tree.Update.TheVariants as update
 use Rattle.janus_syntax.specs.declared.fault.What.TheVariants as what
 use Rattle.janus_syntax.specs.Tokens.{Token, Name, Number, Sign_of, Word_of}
-use Rattle.janus_syntax.specs.Tree.{Name as Named, named, Num, Var, Neg, Bin, Skip, Assign, If, Empty, More, cell_of}
+use Rattle.janus_syntax.specs.Tree.{Name as Named, named, Num, Var, EmptyOf, TopOf, Neg, Bin, Skip, Assign, Push, Pop, If, Empty, More, Int, StackOf, cell_of}
 use Rattle.janus_syntax.specs.Forms.{A_cell}
 use Rattle.janus_syntax.specs.Grammar.{all}
 use Rattle.janus_syntax.specs.Reader.{Outcome, Ended, Failed, Nested, run, start}
@@ -72,6 +72,36 @@ group_wants = refl
 declared_wants : answer (w word.Int ∷ x ∷ s sign.OpenIndex ∷ n 3 ∷ s sign.CloseIndex ∷ n 1 ∷ []) ≡ Failed what.End 1
 declared_wants = refl
 
+-- `push` wants `(`, a name, `,`, a name, `)`; so `top`, with one name; `stack` wants a name, and `stack y` the end
+push_wants : answer (w word.Push ∷ []) ≡ Ended None (what.Sign sign.Open)
+push_wants = refl
+
+push_wants_name : answer (w word.Push ∷ s sign.Open ∷ n 1 ∷ []) ≡ Failed what.Name 1
+push_wants_name = refl
+
+push_wants_comma : answer (w word.Push ∷ s sign.Open ∷ x ∷ s sign.Close ∷ []) ≡ Failed (what.Sign sign.Comma) 1
+push_wants_comma = refl
+
+push_wants_stack : answer (w word.Push ∷ s sign.Open ∷ x ∷ s sign.Comma ∷ []) ≡ Ended None what.Name
+push_wants_stack = refl
+
+pop_wants_close : answer (w word.Pop ∷ s sign.Open ∷ x ∷ s sign.Comma ∷ y ∷ []) ≡ Ended None (what.Sign sign.Close)
+pop_wants_close = refl
+
+top_wants_close : answer (x ∷ s sign.PlusEquals ∷ w word.Top ∷ s sign.Open ∷ y ∷ s sign.Plus ∷ []) ≡ Failed (what.Sign sign.Close) 1
+top_wants_close = refl
+
+stack_wants : answer (w word.Stack ∷ w word.Int ∷ []) ≡ Failed what.Name 1
+stack_wants = refl
+
+stack_wants_end : answer (w word.Stack ∷ y ∷ s sign.OpenIndex ∷ []) ≡ Failed what.End 1
+stack_wants_end = refl
+
+-- stack y int x push(x, y) x += top(y) - empty(y) pop(x, y)
+stacks : answer (w word.Stack ∷ y ∷ w word.Int ∷ x ∷ w word.Push ∷ s sign.Open ∷ x ∷ s sign.Comma ∷ y ∷ s sign.Close ∷ x ∷ s sign.PlusEquals ∷ w word.Top ∷ s sign.Open ∷ y ∷ s sign.Close ∷ s sign.Minus ∷ w word.Empty ∷ s sign.Open ∷ y ∷ s sign.Close ∷ w word.Pop ∷ s sign.Open ∷ x ∷ s sign.Comma ∷ y ∷ s sign.Close ∷ []) ≡
+    Ended (Some (cell_of (StackOf Y ∷ Int X ∷ []) (More (Push X Y) (More (Assign X update.Add (Bin operator.Subtract (TopOf Y) (EmptyOf Y))) (More (Pop X Y) Empty))))) what.End
+stacks = refl
+
 -- x += 1 - 2 * -x - 3
 left_to_right : answer (x ∷ s sign.PlusEquals ∷ n 1 ∷ s sign.Minus ∷ n 2 ∷ s sign.Times ∷ s sign.Minus ∷ x ∷ s sign.Minus ∷ n 3 ∷ []) ≡
     Ended (Some (cell_of [] (More (Assign X update.Add (Bin operator.Subtract (Bin operator.Subtract (Num 1 at) (Bin operator.Multiply (Num 2 at) (Neg (Var X)))) (Num 3 at))) Empty))) what.End
@@ -85,6 +115,10 @@ left_out_else = refl
 -- 64 nested `(` are read, the 65th is refused; so the 65th prefix minus, and the 257th operator
 deep : answer (x ∷ s sign.PlusEquals ∷ times 64 (s sign.Open ∷ []) ++ n 1 ∷ times 64 (s sign.Close ∷ [])) ≡ Ended (Some (cell_of [] (More (Assign X update.Add (Num 1 at)) Empty))) what.End
 deep = refl
+
+-- the `(` of a stack's name does not count
+deep_top : answer (x ∷ s sign.PlusEquals ∷ times 64 (s sign.Open ∷ []) ++ w word.Top ∷ s sign.Open ∷ y ∷ s sign.Close ∷ times 64 (s sign.Close ∷ [])) ≡ Ended (Some (cell_of [] (More (Assign X update.Add (TopOf Y)) Empty))) what.End
+deep_top = refl
 
 too_deep : answer (x ∷ s sign.PlusEquals ∷ times 65 (s sign.Open ∷ []) ++ n 1 ∷ []) ≡ Nested 2
 too_deep = refl

@@ -54,6 +54,7 @@ after_body _ = false
 abbrev pub after_declarations : Token → Bool
 after_declarations (Name x at) = true
 after_declarations (Word_of word.Int at) = false
+after_declarations (Word_of word.Stack at) = false
 after_declarations (Word_of _ at) = true
 after_declarations _ = false
 

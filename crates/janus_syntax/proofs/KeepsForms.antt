@@ -15,7 +15,9 @@ use Rattle.janus_syntax.proofs.KeepsTokens.{ends_word, fi_body, else_body, updat
 pub proper_operand : {p : Part} (t : Token) (k : Exp → Form p) → ((e : Exp) → Proper (k e)) → ((e : Exp) (t' : Token) → May (k e) t' → ends_at 0 t' ≡ true) → AllProper (operand t k)
 proper_operand (Number v at) k h ends = h _
 proper_operand (Name x at) k h ends = λ i. (h _, λ t m. no_index_of 0 t (ends _ t m))
-proper_operand (Word_of w at) k h ends = tt
+proper_operand (Word_of word.Empty at) k h ends = λ z s z'. h _
+proper_operand (Word_of word.Top at) k h ends = λ z s z'. h _
+proper_operand (Word_of _ at) k h ends = tt
 proper_operand (Sign_of sign.Open at) k h ends = λ e. ((λ z. h e), λ t m. ends_close t (seen_sign sign.Close t m.0 m.1))
 proper_operand (Sign_of sign.Minus at) k h ends = λ e. (h _, λ t m. ends _ t m)
 proper_operand (Sign_of _ at) k h ends = tt
@@ -28,10 +30,13 @@ proper_statement (Word_of word.If at) k h ends = λ e. ((λ z s. ((λ b. ((λ z 
 proper_statement (Word_of word.From at) k h ends =
     λ e. ((λ s. ((λ b. ((λ z f. (h _, λ t m. ends_statement t (ends _ t m))), λ t m. seen_word word.Until t m.0 m.1)), λ t m. loop_follows t m)), λ t m. do_follows t m)
 proper_statement (Word_of word.Skip at) k h ends = h _
+proper_statement (Word_of word.Push at) k h ends = λ z x z' s z''. h _
+proper_statement (Word_of word.Pop at) k h ends = λ z x z' s z''. h _
 proper_statement (Word_of _ at) k h ends = tt
 
 pub proper_declaration : {p : Part} (t : Token) (k : Declaration → Form p) → ((d : Declaration) → Proper (k d)) → ((d : Declaration) (t' : Token) → May (k d) t' → after_statement t' ≡ true) → AllProper (declaration t k)
 proper_declaration (Word_of word.Int at) k h ends = λ x n. (h _, λ t m. ends _ t m)
+proper_declaration (Word_of word.Stack at) k h ends = λ s. h _
 proper_declaration (Word_of _ at) k h ends = tt
 proper_declaration (Name x at) k h ends = tt
 proper_declaration (Number n at) k h ends = tt

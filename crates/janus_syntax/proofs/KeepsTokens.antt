@@ -47,6 +47,7 @@ declarations_after (Sign_of s at) e = absurd cc
 
 pub body_declarations : (t : Token) → after_body t ≡ true → after_declarations t ≡ true
 body_declarations (Word_of word.Int at) e = absurd cc
+body_declarations (Word_of word.Stack at) e = absurd cc
 body_declarations (Word_of _ at) e = refl
 body_declarations (Name x at) e = absurd cc
 body_declarations (Number n at) e = absurd cc
@@ -54,6 +55,7 @@ body_declarations (Sign_of s at) e = absurd cc
 
 pub statement_declarations : {p : Part} (t : Token) (k : Stm → Form p) (r : Rule p) → statement t k ≡ Some r → after_declarations t ≡ true
 statement_declarations (Word_of word.Int at) k r e = absurd cc
+statement_declarations (Word_of word.Stack at) k r e = absurd cc
 statement_declarations (Word_of _ at) k r e = refl
 statement_declarations (Name x at) k r e = refl
 statement_declarations (Number n at) k r e = absurd cc

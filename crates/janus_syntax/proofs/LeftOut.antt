@@ -16,6 +16,8 @@ no_statement : {p : Part} → (t : Token) (k : Stm → Form p) → after_body t 
 no_statement (Word_of word.If at) k e = absurd cc
 no_statement (Word_of word.From at) k e = absurd cc
 no_statement (Word_of word.Skip at) k e = absurd cc
+no_statement (Word_of word.Push at) k e = absurd cc
+no_statement (Word_of word.Pop at) k e = absurd cc
 no_statement (Word_of _ at) k e = refl
 no_statement (Name x at) k e = absurd cc
 no_statement (Number n at) k e = refl
@@ -23,6 +25,7 @@ no_statement (Sign_of s at) k e = refl
 
 no_declaration : {p : Part} → (t : Token) (k : Declaration → Form p) → after_declarations t ≡ true → declaration t k ≡ None
 no_declaration (Word_of word.Int at) k e = absurd cc
+no_declaration (Word_of word.Stack at) k e = absurd cc
 no_declaration (Word_of _ at) k e = refl
 no_declaration (Name x at) k e = refl
 no_declaration (Number n at) k e = refl

@@ -9,6 +9,7 @@ pub mod EveryText
 pub mod TextLaws
 pub mod Theorems
 pub mod Parts
+pub mod Parentheses
 pub mod StatementSteps
 pub mod Assignments
 pub mod Blocks

@@ -11,7 +11,7 @@ use Rattle.janus_syntax.specs.declared.token.Word.TheVariants as word
 use Rattle.janus_syntax.specs.declared.tree.Update.{Update}
 use Rattle.janus_syntax.specs.declared.tree.Update.TheVariants as update
 use Rattle.janus_syntax.specs.Spelling.{sign_text, word_text}
-use Rattle.janus_syntax.specs.Tree.{named, Exp, Num, Var, Element, Neg, Bin, And, Or, Stm, Skip, Assign, AssignElement, If, Loop, Block, Empty, More, Declaration, Int, Array, Cell, cell_of}
+use Rattle.janus_syntax.specs.Tree.{named, Exp, Num, Var, Element, EmptyOf, TopOf, Neg, Bin, And, Or, Stm, Skip, Assign, AssignElement, Push, Pop, If, Loop, Block, Empty, More, Declaration, Int, Array, StackOf, Cell, cell_of}
 use Rattle.janus_syntax.specs.Operators.{sign_infix, weakest}
 
 -- a token as it is printed, with no place
@@ -21,6 +21,7 @@ pub data Piece : Type 0 where
   A_sign : Sign → Piece
   A_word : Word → Piece
   A_minus : Piece  -- prefix minus
+  An_opening : Piece  -- the `(` behind a word, before names
 
 abbrev pub piece_text : Piece → List ℕ
 piece_text (A_name x) = x
@@ -28,6 +29,7 @@ piece_text (A_number n) = decimal n
 piece_text (A_sign s) = sign_text s
 piece_text (A_word w) = word_text w
 piece_text A_minus = codes "-"
+piece_text An_opening = sign_text sign.Open
 
 -- no space stands before it
 abbrev pub leans : Piece → Bool
@@ -35,6 +37,7 @@ leans (A_sign sign.Close) = true
 leans (A_sign sign.CloseIndex) = true
 leans (A_sign sign.Comma) = true
 leans (A_sign sign.OpenIndex) = true
+leans An_opening = true
 leans _ = false
 
 -- no space stands behind it
@@ -42,6 +45,7 @@ abbrev pub holds : Piece → Bool
 holds (A_sign sign.Open) = true
 holds (A_sign sign.OpenIndex) = true
 holds A_minus = true
+holds An_opening = true
 holds _ = false
 
 -- what is printed so far, and whether no space may follow
@@ -94,11 +98,20 @@ infix_pieces level s left right =
     let weaker = nat_lt level (sign_level s) in
     if_needed weaker sign.Open ++ (left (sign_level s) ++ A_sign s ∷ (right (sign_level s - 1) ++ if_needed weaker sign.Close))
 
+-- a word, and behind it the names of a stack, or of a variable and a stack, in parentheses
+abbrev pub read_pieces : Word → List ℕ → List Piece
+read_pieces w s = A_word w ∷ An_opening ∷ A_name s ∷ A_sign sign.Close ∷ []
+
+abbrev pub transfer_pieces : Word → List ℕ → List ℕ → List Piece
+transfer_pieces w x s = A_word w ∷ An_opening ∷ A_name x ∷ A_sign sign.Comma ∷ A_name s ∷ A_sign sign.Close ∷ []
+
 -- an expression in a place for operators of at most that level
 abbrev pub exp_pieces : Exp → ℕ → List Piece
 exp_pieces (Num n place) level = A_number n ∷ []
 exp_pieces (Var (named x place)) level = A_name x ∷ []
 exp_pieces (Element (named x place) i) level = A_name x ∷ A_sign sign.OpenIndex ∷ (exp_pieces i weakest ++ A_sign sign.CloseIndex ∷ [])
+exp_pieces (EmptyOf (named x place)) level = read_pieces word.Empty x
+exp_pieces (TopOf (named x place)) level = read_pieces word.Top x
 exp_pieces (Neg e) level = A_minus ∷ exp_pieces e 0
 exp_pieces (Bin op l r) level = infix_pieces level (operator_sign op) (exp_pieces l) (exp_pieces r)
 exp_pieces (And l r) level = infix_pieces level sign.And (exp_pieces l) (exp_pieces r)
@@ -120,6 +133,8 @@ abbrev mutual
   stm_pieces Skip = A_word word.Skip ∷ []
   stm_pieces (Assign (named x place) u e) = A_name x ∷ A_sign (update_sign u) ∷ whole_pieces e
   stm_pieces (AssignElement (named x place) i u e) = A_name x ∷ A_sign sign.OpenIndex ∷ (whole_pieces i ++ A_sign sign.CloseIndex ∷ A_sign (update_sign u) ∷ whole_pieces e)
+  stm_pieces (Push (named x place) (named y at)) = transfer_pieces word.Push x y
+  stm_pieces (Pop (named x place) (named y at)) = transfer_pieces word.Pop x y
   stm_pieces (If e s t f) = A_word word.If ∷ (whole_pieces e ++ A_word word.Then ∷ (block_pieces s ++ A_word word.Else ∷ (block_pieces t ++ A_word word.Fi ∷ whole_pieces f)))
   stm_pieces (Loop e s t f) = A_word word.From ∷ (whole_pieces e ++ A_word word.Do ∷ (block_pieces s ++ A_word word.Loop ∷ (block_pieces t ++ A_word word.Until ∷ whole_pieces f)))
 
@@ -130,6 +145,7 @@ abbrev mutual
 abbrev pub declaration_pieces : Declaration → List Piece
 declaration_pieces (Int (named x place)) = A_word word.Int ∷ A_name x ∷ []
 declaration_pieces (Array (named x place) n at) = A_word word.Int ∷ A_name x ∷ A_sign sign.OpenIndex ∷ A_number n ∷ A_sign sign.CloseIndex ∷ []
+declaration_pieces (StackOf (named x place)) = A_word word.Stack ∷ A_name x ∷ []
 
 abbrev pub declarations_pieces : List Declaration → List Piece
 declarations_pieces [] = []

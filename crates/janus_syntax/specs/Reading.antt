@@ -15,7 +15,7 @@ use Rattle.janus_syntax.specs.Tokens.{Token, Sign_of, Word_of}
 use Rattle.janus_syntax.specs.Tree.{Name as Named, Exp}
 use Rattle.janus_syntax.specs.Operators.{operator_at}
 use Rattle.janus_syntax.specs.Forms.{Part, Index, Chain, Tree, Class, Seen, Form, take, part, Rule}
-use Rattle.janus_syntax.specs.Table.{operand, chains, variable}
+use Rattle.janus_syntax.specs.Table.{stack_then, variable_and_stack_then, operand, chains, variable}
 use Rattle.janus_syntax.specs.Grammar.{Count, all, entered, fits, operator_limit, Refusal, Expected, TooNested}
 use Rattle.janus_syntax.specs.Text.{place_before}
 use Rattle.janus_syntax.specs.Reader.{Stack, at, run, Outcome, Ended, Failed, Nested, outcome_of}
@@ -50,6 +50,22 @@ pub record TokenGoes (c : Class) (v : Seen c) (from rest : List Token) : Type 0 
 
 abbrev pub TokenFails : Class → List Token → Refusal → Type 0
 TokenFails c from e = (goal p : Part) (k : Seen c → Form p) (S : Stack goal p) (m : Count) → run all from (at (take c k) S m) ≡ outcome_of e
+
+-- a stack's name in parentheses at the front
+pub record IsStack (s : Named) (from rest : List Token) : Type 0 where
+  pub goes : (goal p : Part) (k : Named → Form p) (S : Stack goal p) (m : Count) → run all from (at (stack_then k) S m) ≡ run all rest (at (k s) S m)
+  pub shorter : length rest < length from
+
+abbrev pub FailsStack : List Token → Refusal → Type 0
+FailsStack from e = (goal p : Part) (k : Named → Form p) (S : Stack goal p) (m : Count) → run all from (at (stack_then k) S m) ≡ outcome_of e
+
+-- the names of a variable and a stack in parentheses at the front
+pub record IsVariableAndStack (x s : Named) (from rest : List Token) : Type 0 where
+  pub goes : (goal p : Part) (k : Named → Named → Form p) (S : Stack goal p) (m : Count) → run all from (at (variable_and_stack_then k) S m) ≡ run all rest (at (k x s) S m)
+  pub shorter : length rest < length from
+
+abbrev pub FailsVariableAndStack : List Token → Refusal → Type 0
+FailsVariableAndStack from e = (goal p : Part) (k : Named → Named → Form p) (S : Stack goal p) (m : Count) → run all from (at (variable_and_stack_then k) S m) ≡ outcome_of e
 
 -- this word at the front
 pub record BeginsWith (w : Word) (from behind : List Token) : Type 0 where

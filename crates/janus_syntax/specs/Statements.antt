@@ -23,6 +23,8 @@ is_statement (Some (Name x place)) = true
 is_statement (Some (Word_of word.If place)) = true
 is_statement (Some (Word_of word.From place)) = true
 is_statement (Some (Word_of word.Skip place)) = true
+is_statement (Some (Word_of word.Push place)) = true
+is_statement (Some (Word_of word.Pop place)) = true
 is_statement _ = false
 
 abbrev pub begin_statement : {goal p : Part} → List Token → (Stm → Form p) → Stack goal p → ℕ → ℕ → Outcome goal
@@ -117,6 +119,7 @@ FailsOptional w depth from e = (behind : List Token) × BeginsWith w from behind
 
 abbrev pub is_declaration : Option Token → Bool
 is_declaration (Some (Word_of word.Int place)) = true
+is_declaration (Some (Word_of word.Stack place)) = true
 is_declaration _ = false
 
 abbrev pub begin_declaration : {goal p : Part} → List Token → (Declaration → Form p) → Stack goal p → ℕ → Outcome goal

@@ -12,7 +12,7 @@ use Rattle.janus_syntax.specs.declared.tree.Update.{Update}
 use Rattle.janus_syntax.specs.declared.fault.What.{What}
 use Rattle.janus_syntax.specs.declared.fault.What.TheVariants as what
 use Rattle.janus_syntax.specs.Tokens.{Token, Name, Number, Sign_of, Word_of}
-use Rattle.janus_syntax.specs.Tree.{Name as Named, named, Exp, Num, Var, Element, Neg, Stm, Skip, Assign, AssignElement, If, Loop, Block, Empty, More, Declaration, Int, Array, Cell, cell_of}
+use Rattle.janus_syntax.specs.Tree.{Name as Named, named, Exp, Num, Var, Element, EmptyOf, TopOf, Neg, Stm, Skip, Assign, AssignElement, Push, Pop, If, Loop, Block, Empty, More, Declaration, Int, Array, StackOf, Cell, cell_of}
 use Rattle.janus_syntax.specs.Operators.{weakest, joined, operator_at}
 use Rattle.janus_syntax.specs.Forms.{Part, A_cell, Declarations, Bound, Body, Statements, Else_part, Do_part, Loop_part, Target_index, Whole, Level, Chain, Index, Tree, The_word, The_sign, A_name, A_number, An_update, Form, done, take, part, close, Rule}
 
@@ -41,6 +41,13 @@ word_then w f = take (The_word w) (λ v. f)
 abbrev pub sign_then : {p : Part} → Sign → Form p → Form p
 sign_then s f = take (The_sign s) (λ v. f)
 
+-- names in parentheses: of a stack; of a variable and a stack
+abbrev pub stack_then : {p : Part} → (Named → Form p) → Form p
+stack_then k = sign_then sign.Open (take A_name (λ s. sign_then sign.Close (k s)))
+
+abbrev pub variable_and_stack_then : {p : Part} → (Named → Named → Form p) → Form p
+variable_and_stack_then k = sign_then sign.Open (take A_name (λ x. sign_then sign.Comma (take A_name (λ s. sign_then sign.Close (k x s)))))
+
 -- trees of optional parts
 
 abbrev pub variable : Named → Option Exp → Exp
@@ -67,6 +74,8 @@ operand (Number n at) k = begins (k (Num n at))
 operand (Name x at) k = begins (part Index (λ i. k (variable (named x at) i)))
 operand (Sign_of sign.Open _) k = opens (part (Level weakest) (λ e. sign_then sign.Close (close (k e))))
 operand (Sign_of sign.Minus _) k = marked 1 1 (part (Level 0) (λ e. close (k (Neg e))))
+operand (Word_of word.Empty _) k = begins (stack_then (λ s. k (EmptyOf s)))
+operand (Word_of word.Top _) k = begins (stack_then (λ s. k (TopOf s)))
 operand _ k = None
 
 -- Behind the operand e: operators of the next level, then of the one behind it, so many levels on.
@@ -85,10 +94,13 @@ statement (Name x at) k = begins (part Target_index (λ i. take An_update (λ u.
 statement (Word_of word.If _) k = opens (part Whole (λ e. word_then word.Then (part Body (λ s. part Else_part (λ t. word_then word.Fi (part Whole (λ f. close (k (If e s t f)))))))))
 statement (Word_of word.From _) k = opens (part Whole (λ e. part Do_part (λ s. part Loop_part (λ t. word_then word.Until (part Whole (λ f. close (k (Loop e s t f))))))))
 statement (Word_of word.Skip _) k = begins (k Skip)
+statement (Word_of word.Push _) k = begins (variable_and_stack_then (λ x s. k (Push x s)))
+statement (Word_of word.Pop _) k = begins (variable_and_stack_then (λ x s. k (Pop x s)))
 statement _ k = None
 
 abbrev pub declaration : {p : Part} → Token → (Declaration → Form p) → Option (Rule p)
 declaration (Word_of word.Int _) k = begins (take A_name (λ x. part Bound (λ n. k (declared x n))))
+declaration (Word_of word.Stack _) k = begins (take A_name (λ s. k (StackOf s)))
 declaration _ k = None
 
 -- What a part is behind its first token.

@@ -21,6 +21,8 @@ pub data Exp : Type 0 where
   Num : ℕ → Span → Exp
   Var : Name → Exp
   Element : Name → Exp → Exp
+  EmptyOf : Name → Exp
+  TopOf : Name → Exp
   Neg : Exp → Exp
   Bin : Operator → Exp → Exp → Exp
   And : Exp → Exp → Exp
@@ -32,6 +34,8 @@ mutual
     Skip : Stm
     Assign : Name → Update → Exp → Stm
     AssignElement : Name → Exp → Update → Exp → Stm
+    Push : Name → Name → Stm
+    Pop : Name → Name → Stm
     If : Exp → Block → Block → Exp → Stm
     Loop : Exp → Block → Block → Exp → Stm
 
@@ -42,6 +46,7 @@ mutual
 pub data Declaration : Type 0 where
   Int : Name → Declaration
   Array : Name → ℕ → Span → Declaration
+  StackOf : Name → Declaration
 
 -- a cell: the declarations, and the statements
 pub data Cell : Type 0 where
@@ -56,6 +61,8 @@ abbrev pub exp_view : code_exp.Exp → Exp
 exp_view (exps.Number n at) = Num n at
 exp_view (exps.Variable x) = Var (name_view x)
 exp_view (exps.Element' x p i) = Element (name_view x) (exp_view i)
+exp_view (exps.Empty x) = EmptyOf (name_view x)
+exp_view (exps.Top x) = TopOf (name_view x)
 exp_view (exps.Negative' p e) = Neg (exp_view e)
 exp_view (exps.Binary' op p l q r) = Bin op (exp_view l) (exp_view r)
 exp_view (exps.And' p l q r) = And (exp_view l) (exp_view r)
@@ -66,6 +73,8 @@ abbrev mutual
   stm_view stms.Skip = Skip
   stm_view (stms.Assign x u e) = Assign (name_view x) u (exp_view e)
   stm_view (stms.AssignElement x i u e) = AssignElement (name_view x) (exp_view i) u (exp_view e)
+  stm_view (stms.Push x y) = Push (name_view x) (name_view y)
+  stm_view (stms.Pop x y) = Pop (name_view x) (name_view y)
   stm_view (stms.If' e s ss t ts f) = If (exp_view e) (row_view ss) (row_view ts) (exp_view f)
   stm_view (stms.Loop' e s ss t ts f) = Loop (exp_view e) (row_view ss) (row_view ts) (exp_view f)
 
@@ -81,6 +90,7 @@ block_view (s ∷ ss) = More (stm_view s) (block_view ss)
 abbrev pub declaration_view : code_declaration.Declaration → Declaration
 declaration_view (declarations.Int x) = Int (name_view x)
 declaration_view (declarations.Array x n at) = Array (name_view x) n at
+declaration_view (declarations.Stack x) = StackOf (name_view x)
 
 abbrev pub declarations_view : List code_declaration.Declaration → List Declaration
 declarations_view ds = map declaration_view ds

@@ -3,7 +3,7 @@ use Rattle.std.specs.Prelude.{List, [], map, pos, string_bytes}
 use Rattle.janus_meaning.specs.Syntax as tree
 use Rattle.janus_meaning.specs.Word as word
 use Rattle.janus_meaning.specs.World as world
-use Rattle.janus_syntax.specs.Tree.{Name, named, Exp, Num, Var, Element, Neg, Bin, And, Or, Stm, Skip, Assign, AssignElement, If, Loop, Block, Empty, More, Declaration, Int, Array, Cell, cell_of, exp_view, stm_view, block_view}
+use Rattle.janus_syntax.specs.Tree.{Name, named, Exp, Num, Var, Element, EmptyOf, TopOf, Neg, Bin, And, Or, Stm, Skip, Assign, AssignElement, Push, Pop, If, Loop, Block, Empty, More, Declaration, Int, Array, StackOf, Cell, cell_of, exp_view, stm_view, block_view}
 use Rattle.janus_syntax.specs.declared.tree.Name as code_name
 use Rattle.janus_syntax.specs.declared.tree.Operator.{Operator}
 use Rattle.janus_syntax.specs.declared.tree.Operator.TheVariants as operators
@@ -42,6 +42,8 @@ abbrev pub plain_exp : Exp → tree.Exp
 plain_exp (Num n at) = tree.Number (pos n)
 plain_exp (Var x) = tree.Var (text_of x)
 plain_exp (Element a i) = tree.At (text_of a) (plain_exp i)
+plain_exp (EmptyOf x) = tree.Empty (text_of x)
+plain_exp (TopOf x) = tree.Top (text_of x)
 plain_exp (Neg e) = tree.Negate (plain_exp e)
 plain_exp (Bin op l r) = tree.Binary (operator_of op) (plain_exp l) (plain_exp r)
 plain_exp (And l r) = tree.And (plain_exp l) (plain_exp r)
@@ -52,6 +54,8 @@ abbrev mutual
   plain_stm Skip = tree.Skip
   plain_stm (Assign x u e) = tree.Set (text_of x) (update_of u) (plain_exp e)
   plain_stm (AssignElement a i u e) = tree.SetAt (text_of a) (plain_exp i) (update_of u) (plain_exp e)
+  plain_stm (Push x y) = tree.Push (text_of x) (text_of y)
+  plain_stm (Pop x y) = tree.Pop (text_of x) (text_of y)
   plain_stm (If a s t b) = tree.If (plain_exp a) (plain_block s) (plain_block t) (plain_exp b)
   plain_stm (Loop a s t b) = tree.From (plain_exp a) (plain_block s) (plain_block t) (plain_exp b)
 
@@ -62,6 +66,7 @@ abbrev mutual
 abbrev pub plain_declaration : Declaration → world.Declaration
 plain_declaration (Int x) = world.DeclareInt (text_of x)
 plain_declaration (Array a n at) = world.DeclareArray (text_of a) n
+plain_declaration (StackOf x) = world.DeclareStack (text_of x)
 
 -- a cell as one of the meaning
 abbrev pub plain_cell : Cell → world.Cell

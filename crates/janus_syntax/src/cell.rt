@@ -21,12 +21,16 @@ use std::alloc::Global;
 fn declaration(tokens: &[Token]) -> Result<Option<(Declaration, &[Token])>, Problem>
     ensures { Reads (IsDeclarationOrOther (views tokens.now)) (FailsDeclaration (views tokens.now)) result }
 {
-    let Some(rest) = word_at(Word::Int, tokens) else {
+    if let Some(rest) = word_at(Word::Int, tokens) {
+        let (name, rest) = name(rest)?;
+        let (declaration, rest) = bound(name, rest)?;
+        return Ok(Some((declaration, rest)));
+    }
+    let Some(rest) = word_at(Word::Stack, tokens) else {
         return Ok(None);
     };
-    let (name, rest) = name(rest)?;
-    let (declaration, rest) = bound(name, rest)?;
-    Ok(Some((declaration, rest)))
+    let (stack, rest) = name(rest)?;
+    Ok(Some((Declaration::Stack(stack), rest)))
 }
 
 /// The declaration of `name`, behind that name: an array, if a length stands here.

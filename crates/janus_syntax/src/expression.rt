@@ -11,10 +11,10 @@ ghost use Rattle.janus_syntax.specs.Reader.{next};
 ghost use Rattle.janus_syntax.specs.Reading.{Reads, IsPart, FailsPart, IsExp, FailsExp, IsOperator, seen_operator, IsIndexed, FailsIndexed};
 
 use crate::fault::What;
-use crate::item::{behind_sign, sign_at};
+use crate::item::{behind_sign, sign_at, stack};
 use crate::operator::{Infix, Joint, infix_of};
 use crate::problem::Problem;
-use crate::token::{Sign, Token, TokenKind};
+use crate::token::{Sign, Token, TokenKind, Word};
 use crate::tree::{Exp, Name};
 use std::alloc::{AllocError, Global};
 
@@ -88,10 +88,20 @@ fn operand(
                 left: tokens.len(),
             }),
         },
-        _ => Err(Problem::Expected {
-            what: What::Expression,
-            left: tokens.len(),
-        }),
+        TokenKind::Word(word) => match word {
+            Word::Empty => {
+                let (stack, rest) = stack(rest)?;
+                Ok((Exp::Empty(stack), used, rest))
+            }
+            Word::Top => {
+                let (stack, rest) = stack(rest)?;
+                Ok((Exp::Top(stack), used, rest))
+            }
+            _ => Err(Problem::Expected {
+                what: What::Expression,
+                left: tokens.len(),
+            }),
+        },
     }
 }
 

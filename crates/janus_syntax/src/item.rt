@@ -4,7 +4,7 @@ ghost use Rattle.std.specs.Prelude.{◌≡◌, List, IfSome, IfNone};
 ghost use Rattle.janus_syntax.specs.Tree.{name_view};
 ghost use Rattle.janus_syntax.specs.Tokens.{Token as AToken, views};
 ghost use Rattle.janus_syntax.specs.Forms.{The_word, The_sign, A_name, A_number, An_update};
-ghost use Rattle.janus_syntax.specs.Reading.{Reads, TokenGoes, TokenFails, BeginsWith, BeginsWithSign};
+ghost use Rattle.janus_syntax.specs.Reading.{Reads, TokenGoes, TokenFails, IsStack, FailsStack, IsVariableAndStack, FailsVariableAndStack, BeginsWith, BeginsWithSign};
 
 use crate::fault::What;
 use crate::operator;
@@ -85,6 +85,28 @@ pub(crate) fn name(tokens: &[Token]) -> Result<(Name, &[Token]), Problem>
             left: tokens.len(),
         }),
     }
+}
+
+/// The name of a stack in parentheses, and the tokens behind them.
+pub(crate) fn stack(tokens: &[Token]) -> Result<(Name, &[Token]), Problem>
+    ensures { Reads (λ x. IsStack (name_view x.0) (views tokens.now) (views x.1.now)) (FailsStack (views tokens.now)) result }
+{
+    let rest = behind_sign(Sign::Open, tokens)?;
+    let (stack, rest) = name(rest)?;
+    let rest = behind_sign(Sign::Close, rest)?;
+    Ok((stack, rest))
+}
+
+/// The names of a variable and a stack in parentheses, and the tokens behind them.
+pub(crate) fn variable_and_stack(tokens: &[Token]) -> Result<(Name, Name, &[Token]), Problem>
+    ensures { Reads (λ x. IsVariableAndStack (name_view x.0) (name_view x.1) (views tokens.now) (views x.2.now)) (FailsVariableAndStack (views tokens.now)) result }
+{
+    let rest = behind_sign(Sign::Open, tokens)?;
+    let (variable, rest) = name(rest)?;
+    let rest = behind_sign(Sign::Comma, rest)?;
+    let (stack, rest) = name(rest)?;
+    let rest = behind_sign(Sign::Close, rest)?;
+    Ok((variable, stack, rest))
 }
 
 /// A number, where it stands, and the tokens behind it.

@@ -1,9 +1,9 @@
 //! From a tree to its text.
 
-ghost use Rattle.std.specs.Prelude.{◌≡◌, IfOk, string_bytes};
+ghost use Rattle.std.specs.Prelude.{◌≡◌, IfOk, string_bytes, [], ◌∷◌};
 ghost use Rattle.janus_syntax.specs.Tree.{exp_view, stm_view, block_view, declaration_view, declarations_view, cell_view};
 ghost use Rattle.janus_syntax.specs.Printed.{line_view};
-ghost use Rattle.janus_syntax.specs.Printing.{A_name, A_number, A_sign, A_word, with_text, with_piece, with_pieces, if_needed, operator_sign, sign_level, exp_pieces, update_sign, whole_pieces, stm_pieces, block_pieces, declaration_pieces, declarations_pieces, printed, printed_exp};
+ghost use Rattle.janus_syntax.specs.Printing.{A_name, A_number, A_sign, A_word, An_opening, read_pieces, transfer_pieces, with_text, with_piece, with_pieces, if_needed, operator_sign, sign_level, exp_pieces, update_sign, whole_pieces, stm_pieces, block_pieces, declaration_pieces, declarations_pieces, printed, printed_exp};
 
 use crate::operator::infix_of;
 use crate::token::{Sign, Word};
@@ -71,6 +71,39 @@ fn put_number(alloc: Global, line: &mut Line, number: u32) -> Result<(), AllocEr
     put(line, false, &digits, false)
 }
 
+/// A word, and behind it `(`.
+fn put_head(line: &mut Line, word: Word) -> Result<(), AllocError>
+    ensures { IfOk result (λ u. line_view line.new ≡ with_pieces (line_view line.old) (A_word word ∷ An_opening ∷ [])) }
+{
+    put_word(line, word)?;
+    put(line, true, Sign::Open.text(), true)
+}
+
+/// What is read of a stack: a word, and behind it the stack's name in parentheses.
+fn put_read(line: &mut Line, word: Word, stack: &Name) -> Result<(), AllocError>
+    ensures { IfOk result (λ u. line_view line.new ≡ with_pieces (line_view line.old) (read_pieces word (string_bytes stack.now.text))) }
+{
+    put_head(line, word)?;
+    put_name(line, stack)?;
+    put_sign(line, Sign::Close)
+}
+
+/// What goes between a variable and a stack: a word, and behind it both names in parentheses.
+fn put_transfer(
+    line: &mut Line,
+    word: Word,
+    variable: &Name,
+    stack: &Name,
+) -> Result<(), AllocError>
+    ensures { IfOk result (λ u. line_view line.new ≡ with_pieces (line_view line.old) (transfer_pieces word (string_bytes variable.now.text) (string_bytes stack.now.text))) }
+{
+    put_head(line, word)?;
+    put_name(line, variable)?;
+    put_sign(line, Sign::Comma)?;
+    put_name(line, stack)?;
+    put_sign(line, Sign::Close)
+}
+
 /// The sign of an operator.
 fn sign_of(operator: Operator) -> Sign
     ensures { result ≡ operator_sign operator }
@@ -117,6 +150,8 @@ fn put_exp(alloc: Global, line: &mut Line, exp: &Exp, level: u8) -> Result<(), A
             put_sign(line, Sign::CloseIndex)?;
             Ok(())
         }
+        Exp::Empty(name) => put_read(line, Word::Empty, name),
+        Exp::Top(name) => put_read(line, Word::Top, name),
         Exp::Negative(operand) => {
             put(line, false, "-", true)?;
             put_exp(alloc, line, operand, 0)
@@ -189,6 +224,8 @@ fn put_stm(alloc: Global, line: &mut Line, statement: &Stm) -> Result<(), AllocE
             put_whole(alloc, line, exp)?;
             Ok(())
         }
+        Stm::Push(variable, stack) => put_transfer(line, Word::Push, variable, stack),
+        Stm::Pop(variable, stack) => put_transfer(line, Word::Pop, variable, stack),
         Stm::If(test, then_part, else_part, assertion) => {
             put_word(line, Word::If)?;
             put_whole(alloc, line, test)?;
@@ -235,14 +272,21 @@ fn put_declaration(
 ) -> Result<(), AllocError>
     ensures { IfOk result (λ u. line_view line.new ≡ with_pieces (line_view line.old) (declaration_pieces (declaration_view declaration.now))) }
 {
-    put_word(line, Word::Int)?;
     match declaration {
-        Declaration::Int(name) => put_name(line, name),
+        Declaration::Int(name) => {
+            put_word(line, Word::Int)?;
+            put_name(line, name)
+        }
         Declaration::Array(name, length, _) => {
+            put_word(line, Word::Int)?;
             put_name(line, name)?;
             put_sign(line, Sign::OpenIndex)?;
             put_number(alloc, line, *length)?;
             put_sign(line, Sign::CloseIndex)
+        }
+        Declaration::Stack(name) => {
+            put_word(line, Word::Stack)?;
+            put_name(line, name)
         }
     }
 }

@@ -10,7 +10,7 @@ ghost use Rattle.janus_syntax.specs.Statements.{IsStmOrOther, FailsStm, IsAssign
 
 use crate::expression::{DEPTH_LIMIT, whole_expression};
 use crate::fault::What;
-use crate::item::{behind_sign, behind_word, sign_at, update, word_at};
+use crate::item::{behind_sign, behind_word, sign_at, update, variable_and_stack, word_at};
 use crate::problem::Problem;
 use crate::token::{Sign, Token, TokenKind, Word};
 use crate::tree::{Name, Stm};
@@ -40,6 +40,14 @@ fn statement(
         }
         TokenKind::Word(word) => match word {
             Word::Skip => Ok(Some((Stm::Skip, rest))),
+            Word::Push => {
+                let (variable, stack, rest) = variable_and_stack(rest)?;
+                Ok(Some((Stm::Push(variable, stack), rest)))
+            }
+            Word::Pop => {
+                let (variable, stack, rest) = variable_and_stack(rest)?;
+                Ok(Some((Stm::Pop(variable, stack), rest)))
+            }
             Word::If => {
                 if depth == DEPTH_LIMIT {
                     return Err(Problem::TooNested { left: tokens.len() });

@@ -54,6 +54,10 @@ pub enum Exp {
     Number(u32, Span),
     Variable(Name),
     Element(Name, Box<Exp>),
+    /// Whether a stack has no value.
+    Empty(Name),
+    /// The newest value of a stack.
+    Top(Name),
     Negative(Box<Exp>),
     Binary(Operator, Box<Exp>, Box<Exp>),
     And(Box<Exp>, Box<Exp>),
@@ -73,6 +77,8 @@ impl Exp {
                 let index = index.copy(alloc)?;
                 Ok(Exp::Element(name, Box::new(alloc, index)?))
             }
+            Exp::Empty(name) => Ok(Exp::Empty(name.copy()?)),
+            Exp::Top(name) => Ok(Exp::Top(name.copy()?)),
             Exp::Negative(operand) => {
                 let operand = operand.copy(alloc)?;
                 Ok(Exp::Negative(Box::new(alloc, operand)?))
@@ -112,6 +118,10 @@ pub enum Stm {
     Assign(Name, Update, Exp),
     /// An array, the index of the element, and what that is changed by.
     AssignElement(Name, Exp, Update, Exp),
+    /// A variable, whose number goes onto the stack.
+    Push(Name, Name),
+    /// A variable, which takes the newest value of the stack.
+    Pop(Name, Name),
     /// The first test, the parts after `then` and `else`, and the test after `fi`.
     If(Exp, Vec<Stm>, Vec<Stm>, Exp),
     /// The test after `from`, the parts after `do` and `loop`, and the test after `until`.
@@ -124,6 +134,7 @@ pub enum Declaration {
     Int(Name),
     /// An array, how long it is, and where that number stands.
     Array(Name, u32, Span),
+    Stack(Name),
 }
 
 /// A cell: its declarations and behind them its statements.

@@ -165,5 +165,9 @@ fn writes_lines(rt: HostRuntime) -> Result<(), Fail> {
         "{cut}"
     );
     assert_eq!(rt; cut.len(), "a[33] =".len() + 64 + 4);
+    let stack = value_text(alloc, "s", View::Stack(&[3, 7]))?;
+    assert_eq!(rt; stack.as_str(), "s(2) = 7 3");
+    let high = value_text(alloc, "s", View::Stack(&many))?;
+    assert_eq!(rt; high.len(), "s(33) =".len() + 64 + 4);
     Ok(())
 }

@@ -20,6 +20,7 @@ fn world_text<L: Ledger>(alloc: Global, kernel: &Kernel<L>) -> Result<String, Al
         text.push_str(&match value {
             View::Number(number) => format!(in alloc; " {name}={number}")?,
             View::Array(numbers) => format!(in alloc; " {name}={numbers:?}")?,
+            View::Stack(values) => format!(in alloc; " {name}=stack{values:?}")?,
         })?;
     }
     Ok(text)

@@ -61,12 +61,33 @@ fn tells_the_first_fault(rt: HostRuntime) -> Result<(), Fail> {
         ("x[0] += a", Some(CheckFault::WrongKind(at(0, 1)))),
         ("a[1] += -a", Some(CheckFault::WrongKind(at(9, 10)))),
         (
+            "stack s push(x, s) x += top(y)",
+            Some(CheckFault::WrongKind(at(28, 29))),
+        ),
+        ("stack s pop(s, s)", Some(CheckFault::WrongKind(at(12, 13)))),
+        (
             "from x loop if y then skip fi a until z",
             Some(CheckFault::WrongKind(at(30, 31))),
         ),
     ] {
         assert_eq!(rt; fault_of(alloc, &["x", "y", "a"], text)?, fault, "{text}");
     }
+    Ok(())
+}
+
+#[test]
+fn counts_the_stacks(rt: HostRuntime) -> Result<(), Fail> {
+    let alloc = rt.alloc();
+    let mut text = String::from_str(alloc, "int x")?;
+    for i in 0..64u32 {
+        text.push_str(" stack s")?;
+        text.push_str(&i.to_string(alloc)?)?;
+    }
+    assert_eq!(rt; fault_of(alloc, &[], &text)?, None);
+    let start = text.len();
+    text.push_str(" stack t push(x, t)")?;
+    let too_many = Some(CheckFault::TooMany(at(start + 7, start + 8)));
+    assert_eq!(rt; fault_of(alloc, &[], &text)?, too_many);
     Ok(())
 }
 

@@ -7,10 +7,14 @@ use std::alloc::Global;
 use std::test::Fail;
 
 /// Cells with their inverses.
-const INVERSES: [(&str, &str); 4] = [
+const INVERSES: [(&str, &str); 5] = [
     (
         "int x int a[2] x += 5 a[x] ^= x + 1 skip",
         "int x int a[2] skip a[x] ^= x + 1 x -= 5",
+    ),
+    (
+        "int x stack s push(x, s) x += empty(s)",
+        "int x stack s x -= empty(s) pop(x, s)",
     ),
     (
         "if x then y += 1 y -= z else skip fi y",

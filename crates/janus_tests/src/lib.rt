@@ -22,6 +22,8 @@ mod reading;
 #[cfg(test)]
 mod schedules;
 #[cfg(test)]
+mod stacks;
+#[cfg(test)]
 mod storing;
 #[cfg(test)]
 mod trees;

@@ -36,8 +36,9 @@ fn numbers_in<L: Ledger, R: Abort>(rt: &R, alloc: Global, blank: Blank) -> Resul
     requires some { 0 < L.parts }
 {
     let mut writes = Writes::<L>::new(blank);
-    let mut store = Store::new(alloc);
-    assert!(rt; store.is_empty());
+    let mut store = Store::new(alloc)?;
+    assert!(rt; store.has_no_names());
+    assert_eq!(rt; store.stacks_left(), 64);
     assert!(rt; !store.contains("x"));
     store.declare("x")?;
     assert!(rt; !store.contains("y"));
@@ -65,7 +66,7 @@ fn declares_numbers(rt: HostRuntime) -> Result<(), Fail> {
 
 #[test]
 fn declares_arrays(rt: HostRuntime) -> Result<(), Fail> {
-    let mut store = Store::<Brand>::new(rt.alloc());
+    let mut store = Store::<Brand>::new(rt.alloc())?;
     store.declare_array("a", 3)?;
     assert_eq!(rt; number(&store, "a"), None);
     assert!(rt; matches!(store.value("a"), Some(View::Array([0, 0, 0]))));

@@ -41,6 +41,14 @@ fn shown_exp(alloc: Global, exp: &Exp) -> Result<String, AllocError> {
             let name = &name.text;
             format!(in alloc; "[{name} {index}]")
         }
+        Exp::Empty(name) => {
+            let name = &name.text;
+            format!(in alloc; "(empty {name})")
+        }
+        Exp::Top(name) => {
+            let name = &name.text;
+            format!(in alloc; "(top {name})")
+        }
         Exp::Negative(operand) => {
             let operand = shown_exp(alloc, operand)?;
             format!(in alloc; "(neg {operand})")
@@ -79,6 +87,14 @@ fn shown_stm(alloc: Global, statement: &Stm) -> Result<String, AllocError> {
             let exp = shown_exp(alloc, exp)?;
             let (name, update) = (&name.text, update_text(*update));
             format!(in alloc; "{name}[{index}] {update} {exp};")
+        }
+        Stm::Push(variable, stack) => {
+            let (variable, stack) = (&variable.text, &stack.text);
+            format!(in alloc; "push {variable} {stack};")
+        }
+        Stm::Pop(variable, stack) => {
+            let (variable, stack) = (&variable.text, &stack.text);
+            format!(in alloc; "pop {variable} {stack};")
         }
         Stm::If(test, then_part, else_part, last) => {
             let test = shown_exp(alloc, test)?;
@@ -121,6 +137,10 @@ fn shown(alloc: Global, text: &str) -> Result<String, SyntaxFault> {
                 let name = &name.text;
                 format!(in alloc; "int {name} {length};")?
             }
+            Declaration::Stack(name) => {
+                let name = &name.text;
+                format!(in alloc; "stack {name};")?
+            }
         })?;
     }
     out.push_str(&shown_block(alloc, &cell.statements)?)?;
@@ -128,7 +148,7 @@ fn shown(alloc: Global, text: &str) -> Result<String, SyntaxFault> {
 }
 
 /// Texts of cells, their trees, and how these are printed.
-const CELLS: [(&str, &str, &str); 12] = [
+const CELLS: [(&str, &str, &str); 13] = [
     ("", "", ""),
     (" // nothing\n//", "", ""),
     (
@@ -140,6 +160,11 @@ const CELLS: [(&str, &str, &str); 12] = [
         "int x if x then x+=(1) fi x",
         "int x;if x {x += 1;} {skip;} x;",
         "int x if x then x += 1 else skip fi x",
+    ),
+    (
+        "stack s int x push(x,s)pop( x , s )x+=-empty(s)*top (s)",
+        "stack s;int x;push x s;pop x s;x += (* (neg (empty s)) (top s));",
+        "stack s int x push(x, s) pop(x, s) x += -empty(s) * top(s)",
     ),
     (
         "int a[007]int b[65536]a[b[1]+2]^=b[-c]",

@@ -25,6 +25,7 @@ fn exp_names(name: &str, exp: &Exp, found: bool) -> bool
             let next = is_name(name, used, found);
             exp_names(name, index, next)
         }
+        Exp::Empty(used) | Exp::Top(used) => is_name(name, used, found),
         Exp::Negative(operand) => exp_names(name, operand, found),
         Exp::Binary(_, left, right) => {
             let next = exp_names(name, left, found);
@@ -56,6 +57,10 @@ fn stm_names(name: &str, stm: &Stm, found: bool) -> bool
             let next = is_name(name, used, found);
             let next = exp_names(name, index, next);
             exp_names(name, exp, next)
+        }
+        Stm::Push(variable, stack) | Stm::Pop(variable, stack) => {
+            let next = is_name(name, variable, found);
+            is_name(name, stack, next)
         }
         Stm::If(test, then_part, else_part, last) => {
             let next = exp_names(name, test, found);
@@ -91,6 +96,7 @@ fn declaration_names(name: &str, declaration: &Declaration, found: bool) -> bool
     match declaration {
         Declaration::Int(used) => is_name(name, used, found),
         Declaration::Array(used, _, _) => is_name(name, used, found),
+        Declaration::Stack(used) => is_name(name, used, found),
     }
 }
 

@@ -1,7 +1,7 @@
 //! User expressions.
 ghost use Rattle.std.specs.Prelude.{IfOk};
 ghost use Rattle.janus_meaning.specs.Shape.{AreDistinct, shape_of};
-ghost use Rattle.kernel_core.specs.Language.{HoldNoStacks};
+ghost use Rattle.janus_meaning.specs.FormedWorld.{HaveValues};
 ghost use Rattle.kernel_ask.specs.Evaluation.{AreValues};
 
 use crate::done::{NamedValue, Wish};
@@ -16,7 +16,7 @@ pub(crate) fn values_of<L: Ledger>(
     store: &Store<L>,
     wishes: &[Wish],
 ) -> Result<Vec<NamedValue>, AllocError>
-    requires kinds { HoldNoStacks store.now }
+    requires values { HaveValues store.now }
     requires distinct { AreDistinct (shape_of store.now) }
     ensures { IfOk result (λ v. AreValues store.now wishes.now v.items) }
 {

@@ -113,7 +113,7 @@ impl<L: Ledger> History<L> {
         ensures { IfOk result (λ history. history ≡ new_state) }
     {
         let cells = Cells::new(alloc)?;
-        let runner = Runner::new(alloc);
+        let runner = Runner::new(alloc)?;
         Ok(History {
             tree: Tree { cells, position: 0 },
             runner,

@@ -37,6 +37,6 @@ told_text (Arr l) = length_text (length l) ++ numbers_text l
 told_text (Stk l) = height_text (length l) ++ numbers_text l
 told_text Lent = []
 
--- the value text of a name and its value, as `x = 5` and `a[3] = 1 2 3`
+-- the value text of a name and its value, as `x = 5`, `a[3] = 1 2 3` and `s(2) = 7 3`
 abbrev pub value_text : Name × Val → List ℕ
 value_text entry = entry.0 ++ told_text entry.1

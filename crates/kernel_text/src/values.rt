@@ -1,10 +1,11 @@
-//! Value texts: a name and its value, as `x = 5` and `a[3] = 1 2 3`.
-ghost use Rattle.std.specs.Prelude.{◌≡◌, ◌++◌, codes, length, string_bytes, IfOk, OnOk, OnErr};
+//! Value texts: a name and its value, as `x = 5`, `a[3] = 1 2 3` and `s(2) = 7 3`.
+ghost use Rattle.std.specs.Prelude.{◌≡◌, ◌≤◌, ◌++◌, codes, length, reverse, take, string_bytes, IfOk, OnOk, OnErr};
 ghost use Rattle.std.specs.Fmt.{signed_decimal};
 ghost use Rattle.std.specs.Io.KnownBytes.{Appends};
+ghost use Rattle.janus_meaning.specs.Store.{Stk};
 ghost use Rattle.janus_store.specs.Values.{shown};
 ghost use Rattle.kernel_text.specs.Sending.{SentSome};
-ghost use Rattle.kernel_text.specs.ValueTexts.{equated_text, length_text, spaced_text, numbers_text, told_text, value_text as value_text_of};
+ghost use Rattle.kernel_text.specs.ValueTexts.{equated_text, length_text, height_text, spaced_text, numbers_text, told_text, value_text as value_text_of};
 
 use crate::text::as_text;
 use crate::writing::{WriteFailed, send, send_counted};
@@ -85,6 +86,48 @@ fn send_array<W: Write>(writer: &mut W, numbers: &[i32]) -> Result<(), WriteFail
     send_numbers(writer, numbers)
 }
 
+/// Writes the newest values of a stack, as many as the count says, the top first, and a space before each.
+fn send_tops<W: Write>(writer: &mut W, values: &[i32], count: usize) -> Result<(), WriteFailed>
+    requires { count ≤ length values.now }
+    ensures ok { OnOk result (Appends (W.contents writer.old) (W.contents writer.new) (spaced_text (take count (reverse values.now)))) }
+    ensures err { OnErr result (SentSome (W.contents writer.old) (W.contents writer.new) (spaced_text (take count (reverse values.now)))) }
+{
+    for i in 0..count {
+        send_spaced(writer, values[values.len() - 1 - i])?;
+    }
+    Ok(())
+}
+
+/// Writes the newest values of a stack, the top first, and whether there are more.
+fn send_values<W: Write>(writer: &mut W, values: &[i32]) -> Result<(), WriteFailed>
+    ensures ok { OnOk result (Appends (W.contents writer.old) (W.contents writer.new) (numbers_text (reverse values.now))) }
+    ensures err { OnErr result (SentSome (W.contents writer.old) (W.contents writer.new) (numbers_text (reverse values.now))) }
+{
+    if values.len() <= SHOWN_VALUES {
+        return send_tops(writer, values, values.len());
+    }
+    send_tops(writer, values, SHOWN_VALUES)?;
+    send(writer, b" ...")
+}
+
+/// Writes how high a stack is, and an equals sign.
+fn send_height<W: Write>(writer: &mut W, height: usize) -> Result<(), WriteFailed>
+    ensures ok { OnOk result (Appends (W.contents writer.old) (W.contents writer.new) (height_text height)) }
+    ensures err { OnErr result (SentSome (W.contents writer.old) (W.contents writer.new) (height_text height)) }
+{
+    send_counted(writer, "(", height as u64)?;
+    send(writer, b") =")
+}
+
+/// Writes how high a stack is, and its values, the top first.
+fn send_stack<W: Write>(writer: &mut W, values: &[i32]) -> Result<(), WriteFailed>
+    ensures ok { OnOk result (Appends (W.contents writer.old) (W.contents writer.new) (told_text (Stk (reverse values.now)))) }
+    ensures err { OnErr result (SentSome (W.contents writer.old) (W.contents writer.new) (told_text (Stk (reverse values.now)))) }
+{
+    send_height(writer, values.len())?;
+    send_values(writer, values)
+}
+
 /// Writes what stands behind a name: its value.
 fn send_told<W: Write>(writer: &mut W, value: View<'_>) -> Result<(), WriteFailed>
     ensures ok { OnOk result (Appends (W.contents writer.old) (W.contents writer.new) (told_text (shown value.entry))) }
@@ -93,10 +136,12 @@ fn send_told<W: Write>(writer: &mut W, value: View<'_>) -> Result<(), WriteFaile
     match value {
         View::Number(number) => send_equated(writer, number),
         View::Array(numbers) => send_array(writer, numbers),
+        View::Stack(values) => send_stack(writer, values),
     }
 }
 
-/// Writes the value text of a name and its value: `x = 5`, or `a[3] = 1 2 3` with the first [`SHOWN_VALUES`] elements.
+/// Writes the value text of a name and its value: `x = 5`, or `a[3] = 1 2 3` with the first [`SHOWN_VALUES`] elements, or
+/// `s(2) = 7 3` with the newest [`SHOWN_VALUES`] values, the top first.
 ///
 /// # Errors
 /// The writer failed, and a beginning of the text went out.
@@ -108,8 +153,7 @@ pub fn send_value<W: Write>(writer: &mut W, name: &str, value: View<'_>) -> Resu
     send_told(writer, value)
 }
 
-/// The value text of a name and its value: `x = 5`, or `a[3] = 1 2 3` with the first [`SHOWN_VALUES`] elements. The only error
-/// is want of memory.
+/// The value text of a name and its value, as [`send_value`] writes it. The only error is want of memory.
 pub fn value_text(alloc: Global, name: &str, value: View<'_>) -> Result<String, AllocError>
     ensures { IfOk result (λ text. string_bytes text ≡ value_text_of (name.now, shown value.entry)) }
 {

@@ -3,7 +3,7 @@ use Rattle.std.proofs.lemmas.Int.{to_z-of_z}
 use Rattle.janus_meaning.specs.Fault.{Fine, Bad, Broken, and_then}
 use Rattle.janus_meaning.specs.Syntax as tree
 use Rattle.janus_meaning.specs.Value.{value, both}
-use Rattle.janus_meaning.specs.Word.{wrap, nonzero, operate}
+use Rattle.janus_meaning.specs.Word.{wrap, bit, nonzero, operate}
 use Rattle.janus_meaning.specs.Store.{look, number, element}
 use Rattle.janus_store.specs.Stores.{names_in}
 use Rattle.janus_syntax.specs.View.{operator_of}
@@ -12,7 +12,7 @@ use Rattle.janus_invert.specs.Placed.{IsPlaced}
 use Rattle.janus_evaluation.specs.Results.{fault_of}
 use Rattle.janus_evaluation.proofs.Numbers.{wrap_number, bit_wraps}
 use Rattle.janus_evaluation.proofs.Sizes.{exp_size}
-use Rattle.janus_evaluation.proofs.Values.{variable_is, is_array, element_is, element_bad, negative_is, binary_is, binary_right, and_is, and_at, or_is, or_at}
+use Rattle.janus_evaluation.proofs.Values.{variable_is, is_array, empty_is_stack, top_is_stack, empty_is, top_is, element_is, element_bad, negative_is, binary_is, binary_right, and_is, and_at, or_is, or_at}
 use Rattle.janus_evaluation.proofs.expression.+value.Goals as goal
 
 pub unreachable-requires : goal.unreachable-requires
@@ -247,3 +247,33 @@ returns-in-Err-value-5 g t c =
     let l = exp_of c.in-Or.left.value in
     let r = exp_of c.in-Or.right.value in
     sym (or_is s l r (Bad (fault_of c.in-Err-value-5.fault)) (sym (c.in-Err-value-5.ensures ∙ ap (λ e. value (exp_of e) s) c.deref-in-Or.ensures))) ∙ ap (λ e. value (exp_of e) s) (sym c.in-Or.is)
+
+pub is_empty-requires : goal.is_empty-requires
+is_empty-requires g t c =
+    let s = c.args.store.now in
+    let x = string_bytes c.in-Empty.name.text in
+    (x, subst (IsPlaced (names_in s)) c.in-Empty.is c.requires.placed, empty_is_stack s x (λ q. c.requires.safe (ap (λ e. value (exp_of e) s) c.in-Empty.is ∙ q)))
+
+pub returns-in-Empty : goal.returns-in-Empty
+returns-in-Empty g t c =
+    let s = c.args.store.now in
+    let x = string_bytes c.in-Empty.name.text in
+    let l = empty_is_stack s x (λ q. c.requires.safe (ap (λ e. value (exp_of e) s) c.in-Empty.is ∙ q)) in
+    let at = subst (IsPlaced (names_in s)) c.in-Empty.is c.requires.placed in
+    let n : ℤ = c.bit_of.result in
+    let z : to_z w32 (of_z w32 n) ≡ n = grind (arith, to_z-of_z) in
+    ap Fine (z ∙ c.bit_of.ensures ∙ ap (λ b. wrap (bit b)) (c.is_empty.ensures x l.0 at l.1)) ∙ sym (empty_is s x l.0 l.1) ∙ ap (λ e. value (exp_of e) s) (sym c.in-Empty.is)
+
+pub top-requires : goal.top-requires
+top-requires g t c =
+    let s = c.args.store.now in
+    let x = string_bytes c.in-Top.name.text in
+    (x, subst (IsPlaced (names_in s)) c.in-Top.is c.requires.placed, top_is_stack s x (λ q. c.requires.safe (ap (λ e. value (exp_of e) s) c.in-Top.is ∙ q)))
+
+pub returns-in-Top : goal.returns-in-Top
+returns-in-Top g t c =
+    let s = c.args.store.now in
+    let x = string_bytes c.in-Top.name.text in
+    let l = top_is_stack s x (λ q. c.requires.safe (ap (λ e. value (exp_of e) s) c.in-Top.is ∙ q)) in
+    let at = subst (IsPlaced (names_in s)) c.in-Top.is c.requires.placed in
+    c.top.ensures x l.0 at l.1 ∙ sym (top_is s x l.0 l.1) ∙ ap (λ e. value (exp_of e) s) (sym c.in-Top.is)

@@ -1,5 +1,5 @@
 use Rattle.std.proofs.Common.{ap, sym, subst, string_bytes}
-use Rattle.janus_meaning.specs.Moves.{assign, assign_at}
+use Rattle.janus_meaning.specs.Moves.{assign, assign_at, push, pop}
 use Rattle.janus_syntax.specs.View.{update_of}
 use Rattle.janus_store.specs.Stores.{names_in}
 use Rattle.janus_invert.specs.Expressions.{exp_of}
@@ -41,3 +41,29 @@ returns-in-AssignElement-clause-done g c =
     let e = exp_of c.in-AssignElement.exp in
     let is = sym (ap (λ z. run_of z s) c.in-AssignElement.is) in
     subst (λ r. IsDone r s t c.done-in-AssignElement.result) is (c.done-in-AssignElement.ensures.done (assign_at (string_bytes c.in-AssignElement.name.text) i o e s) s t c.assign_element.ensures.done)
+
+pub push-requires-clause-variable : goal.push-requires-clause-variable
+push-requires-clause-variable g c = (subst (IsPlacedStatement (names_in c.args.store.now)) c.in-Push.is c.requires.placed).0
+
+pub push-requires-clause-stack : goal.push-requires-clause-stack
+push-requires-clause-stack g c = (subst (IsPlacedStatement (names_in c.args.store.now)) c.in-Push.is c.requires.placed).1
+
+pub returns-in-Push-clause-done : goal.returns-in-Push-clause-done
+returns-in-Push-clause-done g c =
+    let s = c.args.store.now in
+    let t = c.push.new.store in
+    let is = sym (ap (λ z. run_of z s) c.in-Push.is) in
+    subst (λ r. IsDone r s t c.done-in-Push.result) is (c.done-in-Push.ensures.done (push (string_bytes c.in-Push.variable.text) (string_bytes c.in-Push.stack.text) s) s t c.push.ensures.done)
+
+pub pop-requires-clause-variable : goal.pop-requires-clause-variable
+pop-requires-clause-variable g c = (subst (IsPlacedStatement (names_in c.args.store.now)) c.in-Pop.is c.requires.placed).0
+
+pub pop-requires-clause-stack : goal.pop-requires-clause-stack
+pop-requires-clause-stack g c = (subst (IsPlacedStatement (names_in c.args.store.now)) c.in-Pop.is c.requires.placed).1
+
+pub returns-in-Pop-clause-done : goal.returns-in-Pop-clause-done
+returns-in-Pop-clause-done g c =
+    let s = c.args.store.now in
+    let t = c.pop.new.store in
+    let is = sym (ap (λ z. run_of z s) c.in-Pop.is) in
+    subst (λ r. IsDone r s t c.done-in-Pop.result) is (c.done-in-Pop.ensures.done (pop (string_bytes c.in-Pop.variable.text) (string_bytes c.in-Pop.stack.text) s) s t c.pop.ensures.done)

@@ -8,7 +8,7 @@ use Rattle.janus_syntax.specs.Statements.{IsStmOrOther, FailsStm, IsAssignment, 
 use Rattle.janus_syntax.proofs.Views.{view_if, view_loop}
 use Rattle.janus_syntax.proofs.Steps.{first_token, passes_on}
 use Rattle.janus_syntax.proofs.StatementSteps.{if_is, if_stops_then, if_stops_body, if_stops_else, if_stops_fi, if_stops_end, from_is, from_stops_do, from_stops_loop, from_stops_until, from_stops_end}
-use Rattle.janus_syntax.proofs.Assignments.{name_begins, name_stops, skip_is, if_begins, from_begins}
+use Rattle.janus_syntax.proofs.Assignments.{name_begins, name_stops, skip_is, push_is, pop_is, if_begins, from_begins}
 use Rattle.janus_syntax.proofs.Blocks.{view_push, so_far_begins, so_far_goes_on, so_far_fails, so_far_ends, body_stops_first, body_result, optional_result}
 use Rattle.janus_syntax.proofs.statement.+statement.Goals as goal
 
@@ -99,6 +99,16 @@ pub statement-returns-in-Skip : goal.statement-returns-in-Skip
 statement-returns-in-Skip t c =
     let e = first_token c.args.tokens.now c.in-Some.rest.now c.in-Some.first.now (kinds.Word word.Skip) c.in-Some.ensures.cases (c.in-Word.is ∙ ap kinds.Word c.in-Skip.is) in
     rw e (skip_is _ c.args.depth (views c.in-Some.rest.now) c.requires)
+
+pub statement-returns-in_ok-variable-in-Push : goal.statement-returns-in_ok-variable-in-Push
+statement-returns-in_ok-variable-in-Push t c =
+    let e = first_token c.args.tokens.now c.in-Some.rest.now c.in-Some.first.now (kinds.Word word.Push) c.in-Some.ensures.cases (c.in-Word.is ∙ ap kinds.Word c.in-Push.is) in
+    rw e (push_is _ c.args.depth c.requires c.in_ok-variable-in-Push.ensures)
+
+pub statement-returns-in_ok-variable-in-Pop : goal.statement-returns-in_ok-variable-in-Pop
+statement-returns-in_ok-variable-in-Pop t c =
+    let e = first_token c.args.tokens.now c.in-Some.rest.now c.in-Some.first.now (kinds.Word word.Pop) c.in-Some.ensures.cases (c.in-Word.is ∙ ap kinds.Word c.in-Pop.is) in
+    rw e (pop_is _ c.args.depth c.requires c.in_ok-variable-in-Pop.ensures)
 
 pub statement-returns-in_ok-stm-in-If : goal.statement-returns-in_ok-stm-in-If
 statement-returns-in_ok-stm-in-If t c =

@@ -15,6 +15,7 @@ use Rattle.janus_check.specs.declared.fault.CheckFault.{CheckFault}
 use Rattle.janus_check.specs.declared.fault.CheckFault.TheVariants as fault
 use Rattle.janus_invert.specs.Placed.{IsPlaced}
 use Rattle.janus_invert.proofs.Seen.{exp_seen}
+use Rattle.kernel_core.proofs.Declared.{values_lend_nothing}
 use Rattle.kernel_core.proofs.Entries.{same_names}
 use Rattle.kernel_core.specs.Text.{refused_by_check}
 use Rattle.kernel_core.specs.declared.outcome.Refusal.{Refusal}
@@ -31,7 +32,7 @@ value-requires-clause-safe g c = λ broken.
 
 pub value-requires-clause-placed : goal.value-requires-clause-placed
 value-requires-clause-placed g c =
-    subst (λ (xs : List Name). IsPlaced xs c.in-Ok-flat_exp.flat) (same_names c.in-Ok-names_in_sight.env c.args.store.now c.requires.kinds c.in-Ok-names_in_sight.ensures) c.in-Ok-flat_exp.ensures.placed
+    subst (λ (xs : List Name). IsPlaced xs c.in-Ok-flat_exp.flat) (same_names c.in-Ok-names_in_sight.env c.args.store.now (values_lend_nothing c.args.store.now c.requires.values) c.in-Ok-names_in_sight.ensures) c.in-Ok-flat_exp.ensures.placed
 
 pub flat_exp-requires : goal.flat_exp-requires
 flat_exp-requires g c = exp_seen (shape_in c.in-Ok-names_in_sight.env) (exp_of c.in-Ok.exp) c.in-Ok-check_exp.ensures.well_formed

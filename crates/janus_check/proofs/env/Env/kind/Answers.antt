@@ -6,5 +6,5 @@ use Rattle.janus_check.proofs.env.Env.kind.Goals as goal
 
 pub returns : goal.returns
 returns c =
-    ap kind_found (c.copied.ensures ∙ c.get.ensures.value) ∙ kind_looked_up c.args.name.now c.self.inside.names.entries c.self.invariant
+    ap kind_found (c.copied.ensures ∙ c.get.ensures.value) ∙ kind_looked_up c.args.name.now c.self.inside.names.entries c.self.invariant.0
     ∙ ap (λ s. kind_at c.args.name.now (shape_in s)) c.self.view_is

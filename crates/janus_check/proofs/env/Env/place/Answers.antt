@@ -19,4 +19,4 @@ none_found r (Some b) e h = let bad : false ≡ true = sym (ap is_some h) ∙ e 
 pub returns-clause-missing : goal.returns-clause-missing
 returns-clause-missing c = λ h.
     let none : lookup (λ k. bytes_eq c.args.name.now (string_bytes k)) c.self.inside.names.entries ≡ None = none_found c.get_index_of.result _ c.get_index_of.ensures.found h in
-    ap (λ s. kind_at c.args.name.now (shape_in s)) (sym c.self.view_is) ∙ sym (kind_looked_up c.args.name.now c.self.inside.names.entries c.self.invariant) ∙ ap kind_found none
+    ap (λ s. kind_at c.args.name.now (shape_in s)) (sym c.self.view_is) ∙ sym (kind_looked_up c.args.name.now c.self.inside.names.entries c.self.invariant.0) ∙ ap kind_found none

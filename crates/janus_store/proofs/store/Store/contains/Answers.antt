@@ -20,7 +20,7 @@ pub returns-clause-declared : goal.returns-clause-declared
 returns-clause-declared g c =
     let a = c.self.inside in
     let x = c.args.name.now in
-    c.contains_key.ensures ∙ by_place a.variables.items (get_by_text a.places) x (get_by_text a.places x) c.self.invariant refl
+    c.contains_key.ensures ∙ by_place a.variables.items (get_by_text a.places) x (get_by_text a.places x) c.self.invariant.indexed refl
     ∙ ap (λ s. is_fine (look x s)) c.self.view_is
 
 absent_by : (vs : List Variable) (place : Name → Option ℕ) (x : Name) (r : Option ℕ) → AreIndexed vs place → place x ≡ r → is_some r ≡ false → look x (declared_over Bare vs) ≡ Bad Broken
@@ -32,4 +32,4 @@ returns-clause-absent g c =
     let a = c.self.inside in
     let x = c.args.name.now in
     OnFalse_from c.contains_key.result (look x c.args.self.now ≡ Bad Broken)
-    (λ no. sym (ap (look x) c.self.view_is) ∙ absent_by a.variables.items (get_by_text a.places) x (get_by_text a.places x) c.self.invariant refl (sym c.contains_key.ensures ∙ no))
+    (λ no. sym (ap (look x) c.self.view_is) ∙ absent_by a.variables.items (get_by_text a.places) x (get_by_text a.places x) c.self.invariant.indexed refl (sym c.contains_key.ensures ∙ no))

@@ -3,6 +3,7 @@ use Rattle.std.proofs.Common.{w32, to_z, of_z, ◌≡◌, ap, ◌∙◌, sym, su
 use Rattle.std.specs.BTreeMap.{get_by_text}
 use Rattle.janus_meaning.specs.Fault.{Fine}
 use Rattle.janus_meaning.specs.Store.{look, Arr, Bare, cleared, element, set_element}
+use Rattle.janus_meaning.proofs.Cleared.{same_stacks}
 use Rattle.janus_store.specs.Values.{val_of}
 use Rattle.janus_store.specs.Stores.{IsNamed, write}
 use Rattle.janus_store.proofs.Variables.{write_here, cleared-written}
@@ -13,16 +14,16 @@ pub index_mut-requires : goal.index_mut-requires
 index_mut-requires g c =
     let a = c.self.inside in
     let x = c.requires.0 in
-    let at = placed a.variables.items (get_by_text a.places) c.self.invariant c.args.place x (subst (λ s. IsNamed s c.args.place x) (sym c.self.view_is) c.requires.1) in
-    omega (arith, within a.variables.items (get_by_text a.places) c.self.invariant x c.args.place at, a.variables.ok.0)
+    let at = placed a.variables.items (get_by_text a.places) c.self.invariant.indexed c.args.place x (subst (λ s. IsNamed s c.args.place x) (sym c.self.view_is) c.requires.1) in
+    omega (arith, within a.variables.items (get_by_text a.places) c.self.invariant.indexed x c.args.place at, a.variables.ok.0)
 
 pub set_element-requires : goal.set_element-requires
 set_element-requires g c =
     let a = c.self.inside in
     let x = c.requires.0 in
     let v = c.index_mut.result.now in
-    let at = placed a.variables.items (get_by_text a.places) c.self.invariant c.args.place x (subst (λ s. IsNamed s c.args.place x) (sym c.self.view_is) c.requires.1) in
-    let f = found_at a.variables.items (get_by_text a.places) c.self.invariant x c.args.place v at c.index_mut.ensures.value in
+    let at = placed a.variables.items (get_by_text a.places) c.self.invariant.indexed c.args.place x (subst (λ s. IsNamed s c.args.place x) (sym c.self.view_is) c.requires.1) in
+    let f = found_at a.variables.items (get_by_text a.places) c.self.invariant.indexed x c.args.place v at c.index_mut.ensures.value in
     let e = c.requires.2 in
     let both : Fine (val_of v.value) ≡ Fine (Arr e.0) = sym f.seen ∙ ap (look x) c.self.view_is ∙ e.2 in
     (e.0, e.1, cc, ap (element e.0) (to_z-of_z w32 c.args.index c.ranges.index) ∙ e.3)
@@ -32,16 +33,20 @@ invariant_of-self g c =
     let a = c.self.inside in
     let x = c.requires.0 in
     let v = c.index_mut.result.now in
-    let at = placed a.variables.items (get_by_text a.places) c.self.invariant c.args.place x (subst (λ s. IsNamed s c.args.place x) (sym c.self.view_is) c.requires.1) in
-    let f = found_at a.variables.items (get_by_text a.places) c.self.invariant x c.args.place v at c.index_mut.ensures.value in
-    written a.variables.items (get_by_text a.places) c.self.invariant c.args.place v _ f.at refl
+    let at = placed a.variables.items (get_by_text a.places) c.self.invariant.indexed c.args.place x (subst (λ s. IsNamed s c.args.place x) (sym c.self.view_is) c.requires.1) in
+    let f = found_at a.variables.items (get_by_text a.places) c.self.invariant.indexed x c.args.place v at c.index_mut.ensures.value in
+    let shape = cleared-written Bare a.variables.items c.args.place v c.set_element.new.self f.at c.set_element.ensures.extent in
+    record {
+      indexed = written a.variables.items (get_by_text a.places) c.self.invariant.indexed c.args.place v _ f.at refl;
+      stacks = omega (arith, c.self.invariant.stacks, same_stacks _ _ shape);
+    }
 
 pub returns-clause-written : goal.returns-clause-written
 returns-clause-written g c = λ x l named e.
     let a = c.self.inside in
     let v = c.index_mut.result.now in
-    let at = placed a.variables.items (get_by_text a.places) c.self.invariant c.args.place x (subst (λ s. IsNamed s c.args.place x) (sym c.self.view_is) named) in
-    let f = found_at a.variables.items (get_by_text a.places) c.self.invariant x c.args.place v at c.index_mut.ensures.value in
+    let at = placed a.variables.items (get_by_text a.places) c.self.invariant.indexed c.args.place x (subst (λ s. IsNamed s c.args.place x) (sym c.self.view_is) named) in
+    let f = found_at a.variables.items (get_by_text a.places) c.self.invariant.indexed x c.args.place v at c.index_mut.ensures.value in
     let both : Fine (val_of v.value) ≡ Fine (Arr l) = sym f.seen ∙ ap (look x) c.self.view_is ∙ e in
     let same : val_of v.value ≡ Arr l = cc in
     ap (λ n. write x (Arr (set_element l n c.args.number)) c.args.self.now) (sym (to_z-of_z w32 c.args.index c.ranges.index))
@@ -54,6 +59,6 @@ returns-clause-shape g c =
     let a = c.self.inside in
     let x = c.requires.0 in
     let v = c.index_mut.result.now in
-    let at = placed a.variables.items (get_by_text a.places) c.self.invariant c.args.place x (subst (λ s. IsNamed s c.args.place x) (sym c.self.view_is) c.requires.1) in
-    let f = found_at a.variables.items (get_by_text a.places) c.self.invariant x c.args.place v at c.index_mut.ensures.value in
+    let at = placed a.variables.items (get_by_text a.places) c.self.invariant.indexed c.args.place x (subst (λ s. IsNamed s c.args.place x) (sym c.self.view_is) c.requires.1) in
+    let f = found_at a.variables.items (get_by_text a.places) c.self.invariant.indexed x c.args.place v at c.index_mut.ensures.value in
     cleared-written Bare a.variables.items c.args.place v c.set_element.new.self f.at c.set_element.ensures.extent ∙ ap cleared c.self.view_is

@@ -3,7 +3,7 @@ use Rattle.std.specs.Cmp.{unsigned_Decides}
 use Rattle.janus_meaning.specs.Store.{Bare}
 use Rattle.janus_meaning.specs.World.{size_of}
 use Rattle.janus_store.proofs.Variables.{size-declared}
-use Rattle.janus_store.proofs.store.Store.is_empty.Goals as goal
+use Rattle.janus_store.proofs.store.Store.has_no_names.Goals as goal
 
 pub returns : goal.returns
 returns g c =

@@ -1,0 +1,10 @@
+use Rattle.std.proofs.Common.{ap, ◌∙◌, arith}
+use Rattle.janus_meaning.specs.Shape.{stack_count}
+use Rattle.janus_check.specs.Names.{shape_in}
+use Rattle.janus_check.proofs.ScopeLemmas.{stacks_within, length-shape}
+use Rattle.janus_check.proofs.env.Env.stacks.Goals as goal
+
+pub returns-clause-small : goal.returns-clause-small
+returns-clause-small c =
+    let count = c.self.invariant.1 ∙ ap (λ s. stack_count (shape_in s)) c.self.view_is in
+    omega (arith, count, stacks_within (shape_in c.args.self.now), length-shape c.args.self.now, c.len-names.ensures.count, c.len-names.ensures.small)
