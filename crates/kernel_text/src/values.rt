@@ -14,7 +14,7 @@ use janus_store::View;
 use std::alloc::{AllocError, Global};
 use std::io::Write;
 
-/// How many values of an array are shown; ` ...` stands for those behind them.
+/// How many values of an array or a stack are shown; ` ...` stands for those behind them.
 pub const SHOWN_VALUES: usize = 32;
 
 /// Writes a number in decimal digits, behind a `-` where it is below 0.
