@@ -6,3 +6,5 @@
 mod bell;
 #[cfg(test)]
 mod board;
+#[cfg(test)]
+mod hall;
