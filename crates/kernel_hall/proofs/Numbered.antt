@@ -1,5 +1,7 @@
 -- Entries by their numbers, as the machine's minutes have them.
 use Rattle.std.proofs.Common.{◌≡◌, ℕ, ◌+◌, ◌<◌, ◌≤◌, true, List, [], ◌∷◌, ◌++◌, map, take, length, zero, suc, refl, ap, sym, ◌∙◌, arith, slice_get, Some, None, Bool, false, IsTrue, ◌↔◌}
+use Rattle.std.proofs.Common.{◌==◌}
+use Rattle.std.proofs.lemmas.Bool.Decides.{nat_tests}
 use Rattle.kernel_core.specs.declared.minutes.Entry.{Entry}
 use Rattle.kernel_core.specs.declared.minutes.Entry.TheVariants.{Posted, Ended}
 use Rattle.kernel_core.specs.declared.outcome.Outcome.{Outcome}
@@ -101,3 +103,20 @@ ended_none es n o count node order h = (λ y. absurd (cc), λ s. let q = ended_a
 -- what a test denies is not so
 pub not_so : {A : Type 0} (b : Bool) → b ≡ false → (IsTrue b ↔ A) → A → ⊥
 not_so b e t a = let yes = t.1 a in cc
+
+abbrev node_of : minutes.Entry → ℕ
+node_of (minutes.Posted lane job) = 0
+node_of (minutes.Ended n o count node) = node
+
+-- an end with the same number, outcome and count is that end where the node is the same
+pub end_iff : (e : Entry) (n m : ℕ) (o p : Outcome) (c d k l : ℕ) → e ≡ Ended n o c k → n ≡ m → o ≡ p → c ≡ d → IsTrue (k == l) ↔ (entry_of e ≡ minutes.Ended m p d l)
+end_iff e n m o p c d k l is number outcome count = (
+  λ y. let node : k ≡ l = grind (arith, nat_tests) in ap entry_of is ∙ all node,
+  λ y. let node : k ≡ l = ap node_of (sym (ap entry_of is) ∙ y) in grind (arith, nat_tests),
+)
+  where
+    all : k ≡ l → minutes.Ended n o c k ≡ minutes.Ended m p d l
+    all node = cc
+
+pub no_both : {A : Type 0} (b : Bool) → b ≡ false → b ≡ true → A
+no_both b e t = absurd (cc)

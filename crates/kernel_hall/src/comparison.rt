@@ -10,6 +10,7 @@ ghost use Rattle.kernel_hall.specs.Marks.{IsMark, EndsInOrder};
 use crate::mark::{Kind, Mark, numbered};
 use crate::order::{by_lane, by_number, shared_number, swapped_number};
 use crate::pass::{Pass, Ticket};
+use crate::same::same_outcome;
 use kernel_ask::Done;
 use kernel_core::{Entry, Job};
 use std::sync::ledger::Ledger;
@@ -236,7 +237,7 @@ fn is_end(entry: &Entry, done: &Done) -> bool
             node,
         } => {
             *number == done.number
-                && *outcome == done.outcome
+                && same_outcome(*outcome, done.outcome)
                 && *count == done.count
                 && *node == done.node
         }

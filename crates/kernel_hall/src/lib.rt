@@ -15,6 +15,7 @@ mod minutes;
 mod order;
 mod pass;
 mod passes;
+mod same;
 mod state;
 mod turn;
 mod worker;
