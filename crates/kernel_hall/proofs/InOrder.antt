@@ -30,4 +30,4 @@ from_there a b (Ended n p c m ∷ entries) g (suc at) number o count node h =
     omega arith
 
 pub in_order : (m : Machine) → HasLegalMinutes m → EndsInOrder m.minutes
-in_order m k = λ at number o count node h. from_there new_account k.account m.minutes k.given at number o count node h
+in_order m k = λ at number o count node h. let there = from_there new_account k.account m.minutes k.given at number o count node h in omega arith

@@ -1,4 +1,4 @@
-use Rattle.std.proofs.Common.{rules, arith, ◌∙◌}
+use Rattle.std.proofs.Common.{rules, arith}
 use Rattle.std.proofs.lemmas.List.Sorted.{answers_always}
 use Rattle.kernel_hall.proofs.Tickets.{same_shared, by_lane_then}
 use Rattle.kernel_hall.proofs.order.by_lane.Goals as goal
