@@ -1,5 +1,5 @@
 -- In legal minutes each end has the number that it has among the ends.
-use Rattle.std.proofs.Common.{◌≡◌, ℕ, ◌+◌, List, [], ◌∷◌, ◌∙◌, ap, arith, slice_get, subst, suc, Some, take, zero}
+use Rattle.std.proofs.Common.{◌≡◌, ℕ, ◌+◌, List, [], ◌∷◌, ap, arith, slice_get, subst, suc, Some, take, zero}
 use Rattle.kernel_core.specs.Request.{Request}
 use Rattle.kernel_core.specs.Minutes.{Entry, Posted, Ended, ended_in}
 use Rattle.kernel_core.specs.Runs.{Machine}

@@ -1,5 +1,5 @@
 -- Entries by their numbers, as the machine's minutes have them.
-use Rattle.std.proofs.Common.{◌≡◌, ℕ, ◌+◌, ◌<◌, ◌≤◌, true, List, [], ◌∷◌, ◌++◌, map, take, length, zero, suc, refl, ap, sym, ◌∙◌, arith, slice_get, Some, None, Bool, false, IsTrue, ◌↔◌}
+use Rattle.std.proofs.Common.{◌≡◌, ℕ, true, List, [], ◌∷◌, ◌++◌, map, take, length, zero, suc, refl, ap, sym, ◌∙◌, arith, slice_get, Some, None, Bool, false, IsTrue, ◌↔◌}
 use Rattle.std.proofs.Common.{◌==◌}
 use Rattle.std.proofs.lemmas.Bool.Decides.{nat_tests}
 use Rattle.kernel_core.specs.declared.minutes.Entry.{Entry}
