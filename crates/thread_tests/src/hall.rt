@@ -1,7 +1,7 @@
 //! The hall, from one thread.
 ghost use Rattle.std.specs.Prelude.{◌≡◌, ◌<◌, IfOk};
 
-use kernel_ask::{Ask, Comms, Content, Done};
+use kernel_ask::{Answer, Ask, Comms, Content, Done};
 use kernel_bell::{Bell, RunnerSeat};
 use kernel_core::{Begun, Job, Kernel, Outcome, Sliced};
 use kernel_hall::{AuditFault, Hall, Pass, SLICE, Ticket, Turn};
@@ -54,16 +54,21 @@ fn run_cell<W: Ledger, L: Ledger, R: Wait + Abort>(
     Ok((pass, ticket, done))
 }
 
+/// Whether these lines are this one.
+fn is_line(lines: &[String], line: &str) -> bool {
+    match lines {
+        [one] => one.as_str() == line,
+        _ => false,
+    }
+}
+
 /// Whether the state that a hall answers is the one after that cell.
 fn is_five<W: Ledger, L: Ledger, R: Wait>(rt: &R, hall: &Hall<W, L>, pass: &Pass<L>) -> bool {
-    let Ok(answer) = hall.ask(rt, pass, Ask::State) else {
+    let Ok(Answer { seen, content }) = hall.ask(rt, pass, Ask::State) else {
         return false;
     };
-    let Content::State(state) = answer.content else {
-        return false;
-    };
-    match state.world.as_slice() {
-        [shown] => answer.seen == 2 && state.node == 1 && shown.as_str() == "x = 5",
+    match content {
+        Content::State(state) => { seen == 2 && state.node == 1 && is_line(&state.world, "x = 5") }
         _ => false,
     }
 }
