@@ -6,5 +6,3 @@
 mod bell;
 #[cfg(test)]
 mod board;
-#[cfg(test)]
-mod hall;
