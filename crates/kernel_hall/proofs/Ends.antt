@@ -1,5 +1,5 @@
 -- The ends of jobs in the minutes, as they are told.
-use Rattle.std.proofs.Common.{◌≡◌, ℕ, ◌+◌, List, [], ◌∷◌, map, zero, suc, refl, ap, sym, subst, slice_get, Some, IfSome, Option}
+use Rattle.std.proofs.Common.{◌≡◌, ℕ, List, [], ◌∷◌, map, zero, suc, ap, subst, slice_get, Some}
 use Rattle.kernel_core.specs.declared.minutes.Entry.{Entry}
 use Rattle.kernel_core.specs.Minutes as minutes
 use Rattle.kernel_core.specs.Written.{entry_of}

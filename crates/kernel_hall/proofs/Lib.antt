@@ -1,2 +1,7 @@
 pub mod Posts
 pub mod Ends
+pub mod Filtered
+pub mod Numbered
+pub mod InOrder
+pub mod Orders
+pub mod Tickets

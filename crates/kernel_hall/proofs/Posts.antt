@@ -1,7 +1,7 @@
 -- How the posts in the minutes are counted.
-use Rattle.std.proofs.Common.{◌≡◌, ℕ, ◌+◌, [], ◌∷◌, ◌++◌, length, suc, ap, ◌∙◌, arith, length-append, Ok}
+use Rattle.std.proofs.Common.{◌≡◌, ℕ, ◌+◌, [], ◌∷◌, length, ap, ◌∙◌, length-append}
 use Rattle.kernel_core.specs.Request.{Request}
-use Rattle.kernel_core.specs.Minutes.{Posted, Post, posts_of, posted_in}
+use Rattle.kernel_core.specs.Minutes.{Posted, posts_of, posted_in}
 use Rattle.kernel_core.specs.Runs.{Machine, posted}
 use Rattle.kernel_core.proofs.Posts.{posts-append}
 

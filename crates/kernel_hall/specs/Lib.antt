@@ -1,4 +1,8 @@
-pub mod Changes
 pub mod Passes
 pub mod Turns
+pub mod Changes
 pub mod Ends
+pub mod Audit
+pub mod AuditFault
+pub mod Marks
+pub mod Orders

@@ -1,5 +1,5 @@
 -- What contracts see of a pass, and the tickets of its posts.
-use Rattle.std.specs.Prelude.{◌≡◌, ℕ, ◌+◌}
+use Rattle.std.specs.Prelude.{ℕ, ◌+◌}
 use Rattle.kernel_core.specs.declared.post.Job.{Job}
 use Rattle.kernel_hall.specs.declared.pass.Ticket.{Ticket}
 

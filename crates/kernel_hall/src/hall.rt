@@ -6,8 +6,11 @@ ghost use Rattle.kernel_ask.specs.Answer.{IsAnswer};
 ghost use Rattle.kernel_hall.specs.Passes.{pass_of, ticket_of};
 ghost use Rattle.kernel_hall.specs.Turns.{IsTurn};
 ghost use Rattle.kernel_hall.specs.Ends.{HasEnd};
+ghost use Rattle.kernel_hall.specs.Audit.{Audited, IsAuditFault};
 
 use crate::comm::{CommChange, comm_on};
+use crate::comparison::AuditFault;
+use crate::minutes::Minutes;
 use crate::pass::{Pass, Ticket};
 use crate::state::State;
 use crate::turn::Turn;
@@ -169,6 +172,22 @@ impl<W: Ledger, L: Ledger> Hall<W, L> {
     pub fn shut<R: Wait>(&self, rt: &R) {
         self.state.lock(rt).shut();
         self.moved.notify_all();
+    }
+
+    /// Ends the hall, once its threads are joined, and compares its minutes with what the frontends came away with: `State::close` of the
+    /// kernel. All that it is handed is spent either way. It takes no memory.
+    pub fn close(
+        self,
+        passes: Vec<Pass<L>>,
+        tickets: Vec<Ticket>,
+        dones: Vec<Done>,
+    ) -> Result<Minutes<W>, AuditFault>
+        ensures legal { IfOk result (λ m. IsLegalMachine m) }
+        ensures audited { IfOk result (λ m. Audited m.minutes passes.items tickets.items dones.items) }
+        ensures fault { IfErr result (λ f. (k : Machine) × IsLegalMachine k × IsAuditFault k.minutes passes.items tickets.items dones.items f) }
+    {
+        let Hall { state, .. } = self;
+        state.into_inner().close(passes, tickets, dones)
     }
 
     /// Waits until there is something to do. False where the kernel is shut and nothing is left.

@@ -2,22 +2,30 @@
 //!
 //! To the layer above it promises that a post, a turn of the runner, an answer and a change of the comms are those of the kernel that lies
 //! under the lock, exact on the parts that are lent; and, where the lock is taken, what becomes of the pass, the seat and the ticket that are
-//! handed in. Each post is counted in a ledger, whose book is the number of posts in the minutes. A hall can't be closed yet.
+//! handed in. Each post is counted in a ledger, whose book is the number of posts in the minutes. As
+//! a hall is closed, what the frontends came away with is compared with the minutes.
 #![tactic(auto)]
 
 mod comm;
+mod comparison;
 mod extra;
 mod hall;
+mod mark;
+mod minutes;
+mod order;
 mod pass;
 mod passes;
+mod same;
 mod state;
 mod turn;
 mod worker;
 
 pub use comm::{CommChange, comm_on};
+pub use comparison::{AuditFault, audit};
 pub use extra::Extra;
 pub use hall::Hall;
 pub use kernel_ask::{Answer, Ask, Comms, Done, HallFault, Wish, ask_on};
+pub use minutes::Minutes;
 pub use pass::{Pass, Ticket};
 pub use passes::{PASSES, Passes};
 pub use state::State;

@@ -8,8 +8,11 @@ ghost use Rattle.kernel_ask.specs.Answer.{IsAnswer};
 ghost use Rattle.kernel_hall.specs.Passes.{pass_of, ticket_of};
 ghost use Rattle.kernel_hall.specs.Turns.{IsTurn};
 ghost use Rattle.kernel_hall.specs.Ends.{HasEnd};
+ghost use Rattle.kernel_hall.specs.Audit.{Audited, IsAuditFault};
 
+use crate::comparison::{AuditFault, audit};
 use crate::extra::{Extra, fetch, settle_last};
+use crate::minutes::Minutes;
 use crate::pass::{Pass, Ticket};
 use crate::passes::Passes;
 use crate::turn::{Turn, turn_on};
@@ -158,6 +161,29 @@ impl<W: Ledger, L: Ledger> State<W, L> {
     {
         let State { kernel, .. } = self;
         kernel.shut();
+    }
+
+    /// Compares the minutes with what the frontends came away with. All of it is spent, the kernel too where something is missing or
+    /// untrue: as `PassMissing` where the posts of the passes don't add up to those of the minutes, else as `TicketUnknown` with a
+    /// number at which a ticket or an end doesn't stand, which two tickets share, or which is smaller than that of an earlier post of
+    /// its pass. It takes no memory.
+    pub fn close(
+        self,
+        passes: Vec<Pass<L>>,
+        mut tickets: Vec<Ticket>,
+        mut dones: Vec<Done>,
+    ) -> Result<Minutes<W>, AuditFault>
+        ensures minutes { IfOk result (λ m. m ≡ self.kernel.machine) }
+        ensures audited { IfOk result (λ m. Audited self.kernel.machine.minutes passes.items tickets.items dones.items) }
+        ensures fault { IfErr result (IsAuditFault self.kernel.machine.minutes passes.items tickets.items dones.items) }
+        ensures legal { IsLegalMachine self.kernel.machine }
+    {
+        is_legal(&self.kernel);
+        let State { kernel, .. } = self;
+        match audit(kernel.minutes(), &passes, &mut tickets, &mut dones) {
+            Ok(()) => Ok(Minutes { kernel }),
+            Err(fault) => Err(fault),
+        }
     }
 }
 

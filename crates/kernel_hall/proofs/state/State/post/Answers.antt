@@ -1,7 +1,7 @@
 use Rattle.std.proofs.Common.{◌≡◌, ap, ◌∙◌, arith}
 use Rattle.kernel_core.specs.Request.{request_of}
 use Rattle.kernel_core.specs.Minutes.{posted_in}
-use Rattle.kernel_core.specs.Runs.{Machine, posted}
+use Rattle.kernel_core.specs.Runs.{Machine}
 use Rattle.kernel_hall.proofs.Posts.{one_more}
 use Rattle.kernel_hall.proofs.state.State.post.Goals as goal
 
