@@ -6,11 +6,12 @@ use Rattle.std.proofs.lemmas.Bool.{eq-eqb, leb-true, le-leb, and_parts, and_from
 use Rattle.janus_syntax.specs.declared.token.Span.{Span}
 use Rattle.janus_syntax.specs.declared.token.Sign.TheVariants as sign
 use Rattle.janus_syntax.specs.declared.token.Word.TheVariants as word
+use Rattle.janus_syntax.specs.declared.tree.Kind.TheVariants as kind
 use Rattle.janus_syntax.specs.declared.tree.Update.TheVariants as update
 use Rattle.janus_syntax.specs.Tokens.{Token, Name, Number, Sign_of, Word_of}
 use Rattle.janus_syntax.specs.Tree.{named, Exp, Num}
 use Rattle.janus_syntax.specs.Operators.{weakest}
-use Rattle.janus_syntax.specs.Forms.{Part, Body, Statements, Whole, Level, Chain, Tree, Class, The_word, The_sign, A_name, A_number, An_update, Seen, seen, word_number, sign_number, Form, done, take, part, close, Rule}
+use Rattle.janus_syntax.specs.Forms.{Part, Body, Statements, Whole, Level, Chain, Tree, Class, The_word, The_sign, A_name, A_number, An_update, Same_kind, Same_name, Seen, seen, agrees, same_text, word_number, sign_number, Form, done, take, part, close, Rule}
 use Rattle.janus_syntax.specs.Table.{rule, left_out, chains}
 use Rattle.janus_syntax.specs.Grammar
 use Rattle.janus_syntax.specs.Grammar.{Count, zero_count, entered, closed, fits, depth_limit, operator_limit, Demands, met, Spells, text_form, IsTree}
@@ -61,6 +62,11 @@ record Sample (c : Class) : Type 0 where
   pub token : Token
   pub value : Seen c
   pub is : seen c token ≡ Some value
+  pub fit : agrees c value ≡ true
+
+same_text_itself : (xs : List ℕ) → same_text xs xs ≡ true
+same_text_itself [] = refl
+same_text_itself (x ∷ xs) = and_from (nat_eq x x) (same_text xs xs) (eq-eqb x x refl) (same_text_itself xs)
 
 abbrev some_unit : Option (Unit {0})
 some_unit = Some tt
@@ -70,17 +76,24 @@ equal_some n = ap (λ b. cond b some_unit None) (eq-eqb n n refl)
 
 sample : (c : Class) → Sample c
 unfolding no_span
-sample (The_word w) = record { token = Word_of w no_span; value = tt; is = equal_some (word_number w) }
-sample (The_sign s) = record { token = Sign_of s no_span; value = tt; is = equal_some (sign_number s) }
-sample A_name = record { token = Name (120 ∷ []) no_span; value = named (120 ∷ []) no_span; is = refl }
-sample A_number = record { token = Number 0 no_span; value = (0, no_span); is = refl }
-sample An_update = record { token = Sign_of sign.PlusEquals no_span; value = update.Add; is = refl }
+sample (The_word w) = record { token = Word_of w no_span; value = tt; is = equal_some (word_number w); fit = refl }
+sample (The_sign s) = record { token = Sign_of s no_span; value = tt; is = equal_some (sign_number s); fit = refl }
+sample A_name = record { token = Name (120 ∷ []) no_span; value = named (120 ∷ []) no_span; is = refl; fit = refl }
+sample A_number = record { token = Number 0 no_span; value = (0, no_span); is = refl; fit = refl }
+sample An_update = record { token = Sign_of sign.PlusEquals no_span; value = update.Add; is = refl; fit = refl }
+sample (Same_kind kind.Int) = record { token = Word_of word.Int no_span; value = kind.Int; is = refl; fit = refl }
+sample (Same_kind kind.Stack) = record { token = Word_of word.Stack no_span; value = kind.Stack; is = refl; fit = refl }
+sample (Same_name (named x place)) = record { token = Name x no_span; value = named x no_span; is = refl; fit = same_text_itself x }
+
+met_true : (b x : Bool) → x ≡ true → met b x ≡ true
+met_true true x e = e
+met_true false x e = refl
 
 completes_take : (d : Demands) (p : Part) (c : Class) (k : Seen c → Form p) (m : Count) → ((s : Seen c) → Completes d p (k s) m) → Completes d p (take c k) m
 completes_take d p c k m h =
     let s = sample c in
     let r = h s.value in
-    record { tree = r.tree; count = r.count; within = r.within; tokens = λ rest. s.token ∷ r.tokens rest; spells = λ rest. Grammar.token s.is (r.spells rest) }
+    record { tree = r.tree; count = r.count; within = r.within; tokens = λ rest. s.token ∷ r.tokens rest; spells = λ rest. Grammar.token s.is (met_true d.agreement (agrees c s.value) s.fit) (r.spells rest) }
 
 -- operators are left out
 completes_chains : (d : Demands) (p : Part) (l n : ℕ) (e : Exp) (k : Exp → Form p) (m : Count) → ((f : Exp) → Completes d p (k f) m) → Completes d p (chains l n e k) m
@@ -168,7 +181,7 @@ module _ {goal : Part} where
 
 pub not_begun_back : (d : Demands) → Goes_back d NotBegun
 not_begun_back d = record {
-  over_token = λ c k s t m ts is a. a;
+  over_token = λ c k s t m ts is ok a. a;
   over_close = λ f m ts a. a;
   inside = λ q k r t m ts is ok a. a;
   behind = λ q k r u t m m1 ts rest is ok sp a. a;

@@ -1,12 +1,14 @@
 -- The language in which the grammar's table is written. A part of a cell is told by its first token; behind that
 -- it has a form: tokens of a class and further parts in a row, and at its end the part's tree.
-use Rattle.std.specs.Prelude.{ℕ, List, Option, Some, None, Bool, cond, nat_eq}
+use Rattle.std.specs.Prelude.{ℕ, List, [], ◌∷◌, Option, Some, None, Bool, true, false, cond, nat_eq, ◌&&◌}
 use Rattle.janus_syntax.specs.declared.token.Span.{Span}
 use Rattle.janus_syntax.specs.declared.token.Sign.{Sign}
 use Rattle.janus_syntax.specs.declared.token.Sign.TheVariants as sign
 use Rattle.janus_syntax.specs.declared.token.Word.{Word}
 use Rattle.janus_syntax.specs.declared.token.Word.TheVariants as word
 use Rattle.janus_syntax.specs.declared.tree.Update.{Update}
+use Rattle.janus_syntax.specs.declared.tree.Kind.{Kind}
+use Rattle.janus_syntax.specs.declared.tree.Kind.TheVariants as kind
 use Rattle.janus_syntax.specs.declared.fault.What.{What}
 use Rattle.janus_syntax.specs.declared.fault.What.TheVariants as what
 use Rattle.janus_syntax.specs.Tokens.{Token, Name, Number, Sign_of, Word_of}
@@ -52,6 +54,8 @@ pub data Class : Type 0 where
   A_name : Class
   A_number : Class
   An_update : Class
+  Same_kind : Kind → Class  -- any kind, but it has to be this one
+  Same_name : Named → Class  -- any name, but it has to be this one
 
 -- what a token of a class is
 abbrev pub Seen : Class → Type 0
@@ -60,6 +64,8 @@ Seen (The_sign s) = Unit {0}
 Seen A_name = Named
 Seen A_number = ℕ × Span
 Seen An_update = Update
+Seen (Same_kind k) = Kind
+Seen (Same_name x) = Named
 
 abbrev pub word_number : Word → ℕ
 word_number word.Call = 0
@@ -111,6 +117,28 @@ sign_number sign.OpenIndex = 21
 sign_number sign.CloseIndex = 22
 sign_number sign.Comma = 23
 
+-- the same octets
+abbrev pub same_text : List ℕ → List ℕ → Bool
+same_text [] [] = true
+same_text [] (d ∷ ds) = false
+same_text (c ∷ cs) [] = false
+same_text (c ∷ cs) (d ∷ ds) = nat_eq c d && same_text cs ds
+
+abbrev pub same_name : Named → Named → Bool
+same_name (named x at) (named y place) = same_text x y
+
+abbrev pub same_kind : Kind → Kind → Bool
+same_kind kind.Int kind.Int = true
+same_kind kind.Int kind.Stack = false
+same_kind kind.Stack kind.Int = false
+same_kind kind.Stack kind.Stack = true
+
+-- the kind of a word
+abbrev pub word_kind : Word → Option Kind
+word_kind word.Int = Some kind.Int
+word_kind word.Stack = Some kind.Stack
+word_kind _ = None
+
 -- a token as one of a class
 abbrev pub seen : (c : Class) → Token → Option (Seen c)
 seen (The_word w) (Word_of v _) = cond (nat_eq (word_number w) (word_number v)) (Some tt) None
@@ -122,6 +150,16 @@ seen A_name _ = None
 seen A_number (Number n at) = Some (n, at)
 seen A_number _ = None
 seen An_update t = update_at t
+seen (Same_kind k) (Word_of v _) = word_kind v
+seen (Same_kind k) _ = None
+seen (Same_name x) (Name y at) = Some (named y at)
+seen (Same_name x) _ = None
+
+-- whether it is the one that it has to be
+abbrev pub agrees : (c : Class) → Seen c → Bool
+agrees (Same_kind k) j = same_kind k j
+agrees (Same_name x) y = same_name x y
+agrees _ v = true
 
 -- how a class is told
 abbrev pub what_of : Class → What
@@ -130,6 +168,8 @@ what_of (The_sign s) = what.Sign s
 what_of A_name = what.Name
 what_of A_number = what.Number
 what_of An_update = what.Operator
+what_of (Same_kind k) = what.Kind
+what_of (Same_name x) = what.Name
 
 -- a form of a part's tree
 pub data Form (p : Part) : Type 0 where

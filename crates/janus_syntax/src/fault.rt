@@ -58,6 +58,9 @@ pub enum SyntaxFault {
     /// operator of one whole expression.
     #[error("TooNested")]
     TooNested(Span),
+    /// A kind or a name behind `delocal` that differs from the one behind its `local`.
+    #[error("DelocalName")]
+    DelocalName(Span),
     /// There was no memory.
     #[error("Memory")]
     Memory,
@@ -73,6 +76,7 @@ impl SyntaxFault {
             SyntaxFault::Expected(_, _) => 31,
             SyntaxFault::NumberTooLarge(_) => 32,
             SyntaxFault::TooNested(_) => 33,
+            SyntaxFault::DelocalName(_) => 34,
             SyntaxFault::Memory => 35,
         }
     }
@@ -86,6 +90,7 @@ impl SyntaxFault {
             SyntaxFault::Expected(_, _) => "Expected",
             SyntaxFault::NumberTooLarge(_) => "NumberTooLarge",
             SyntaxFault::TooNested(_) => "TooNested",
+            SyntaxFault::DelocalName(_) => "DelocalName",
             SyntaxFault::Memory => "Memory",
         }
     }
@@ -99,6 +104,7 @@ impl SyntaxFault {
             SyntaxFault::Expected(_, span) => Some(*span),
             SyntaxFault::NumberTooLarge(span) => Some(*span),
             SyntaxFault::TooNested(span) => Some(*span),
+            SyntaxFault::DelocalName(span) => Some(*span),
             SyntaxFault::Memory => None,
         }
     }

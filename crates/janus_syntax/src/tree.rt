@@ -110,6 +110,13 @@ pub enum Update {
     Xor,
 }
 
+/// What a local is: a number or a stack.
+#[derive(Clone, Copy, PartialEq, Eq, Debug)]
+pub enum Kind {
+    Int,
+    Stack,
+}
+
 /// A statement. A part of an `if` or a loop that is left out in the text is the block with one `Skip`.
 #[derive(Drop)]
 pub enum Stm {
