@@ -11,11 +11,12 @@ use Rattle.janus_syntax.specs.declared.tree.Update.TheVariants as update
 use Rattle.janus_syntax.specs.Tokens.{Token, Name, Number, Sign_of, Word_of}
 use Rattle.janus_syntax.specs.Tree.{named, Exp, Num}
 use Rattle.janus_syntax.specs.Operators.{weakest}
-use Rattle.janus_syntax.specs.Forms.{Part, Body, Statements, Whole, Level, Chain, Tree, Class, The_word, The_sign, A_name, A_number, An_update, Same_kind, Same_name, Seen, seen, agrees, same_text, word_number, sign_number, Form, done, take, part, close, Rule}
+use Rattle.janus_syntax.specs.Forms.{Part, Body, Statements, Local, Whole, Level, Chain, Tree, Class, The_word, The_sign, A_name, A_number, An_update, Same_kind, Same_name, Seen, seen, agrees, word_number, sign_number, Form, done, take, part, close, Rule}
 use Rattle.janus_syntax.specs.Table.{rule, left_out, chains}
 use Rattle.janus_syntax.specs.Grammar
 use Rattle.janus_syntax.specs.Grammar.{Count, zero_count, entered, closed, fits, depth_limit, operator_limit, Demands, met, Spells, text_form, IsTree}
 use Rattle.janus_syntax.specs.Reader.{Stack, bottom, waits, State, at, start}
+use Rattle.janus_meaning.proofs.Stores.{same_name_self}
 use Rattle.janus_syntax.proofs.Back.{Behind, At, Goes_back}
 
 no_span : Span
@@ -64,10 +65,6 @@ record Sample (c : Class) : Type 0 where
   pub is : seen c token ≡ Some value
   pub fit : agrees c value ≡ true
 
-same_text_itself : (xs : List ℕ) → same_text xs xs ≡ true
-same_text_itself [] = refl
-same_text_itself (x ∷ xs) = and_from (nat_eq x x) (same_text xs xs) (eq-eqb x x refl) (same_text_itself xs)
-
 abbrev some_unit : Option (Unit {0})
 some_unit = Some tt
 
@@ -83,7 +80,7 @@ sample A_number = record { token = Number 0 no_span; value = (0, no_span); is = 
 sample An_update = record { token = Sign_of sign.PlusEquals no_span; value = update.Add; is = refl; fit = refl }
 sample (Same_kind kind.Int) = record { token = Word_of word.Int no_span; value = kind.Int; is = refl; fit = refl }
 sample (Same_kind kind.Stack) = record { token = Word_of word.Stack no_span; value = kind.Stack; is = refl; fit = refl }
-sample (Same_name (named x place)) = record { token = Name x no_span; value = named x no_span; is = refl; fit = same_text_itself x }
+sample (Same_name (named x place)) = record { token = Name x no_span; value = named x no_span; is = refl; fit = same_name_self x }
 
 met_true : (b x : Bool) → x ≡ true → met b x ≡ true
 met_true true x e = e
@@ -132,6 +129,19 @@ unfolding no_span
 least d Whole m e = record { token = Number 0 no_span; begun = _; is = refl; low = refl; few = refl; completes = λ n h. completes_chains d Whole 0 weakest (Num 0 no_span) done n (λ f. completes_done d Whole f n h) }
 least d (Level l) m e = record { token = Number 0 no_span; begun = _; is = refl; low = refl; few = refl; completes = λ n h. completes_chains d (Level l) 0 l (Num 0 no_span) done n (λ f. completes_done d (Level l) f n h) }
 least d Body m e = least_body d m
+least d Local m e =
+    record {
+      token = Word_of word.Stack no_span;
+      begun = _;
+      is = refl;
+      low = refl;
+      few = refl;
+      completes = λ n h.
+          completes_take d Local A_name _ n (λ x. completes_take d Local (The_sign sign.Equals) _ n (λ a. completes_take d Local (The_word word.Nil) _ n (λ b.
+          completes_part d Local Body _ n (least_body d n) h (λ u i j.
+          completes_take d Local (The_word word.Delocal) _ i (λ a. completes_take d Local (Same_kind kind.Stack) _ i (λ k. completes_take d Local (Same_name x) _ i (λ y.
+          completes_take d Local (The_sign sign.Equals) _ i (λ b. completes_take d Local (The_word word.Nil) _ i (λ c. completes_done d Local _ i j)))))))));
+    }
 least d _ m e = absurd cc
 
 completes_or : (d : Demands) (p q : Part) (k : Tree q → Form p) (m : Count) (o : Option (Tree q)) → left_out q ≡ o → Within d.limits m → ((u : Tree q) (n : Count) → Within d.limits n → Completes d p (k u) n) → Completes d p (part q k) m

@@ -2,6 +2,7 @@ pub mod Scanning
 pub mod Fronts
 pub mod Longest
 pub mod Lexing
+pub mod Locals
 pub mod OneLexing
 pub mod Places
 pub mod OneBad

@@ -1,6 +1,7 @@
 -- The language in which the grammar's table is written. A part of a cell is told by its first token; behind that
 -- it has a form: tokens of a class and further parts in a row, and at its end the part's tree.
-use Rattle.std.specs.Prelude.{ℕ, List, [], ◌∷◌, Option, Some, None, Bool, true, false, cond, nat_eq, ◌&&◌}
+use Rattle.std.specs.Prelude.{ℕ, List, Option, Some, None, Bool, true, false, cond, nat_eq}
+use Rattle.janus_meaning.specs.Store.{same_name}
 use Rattle.janus_syntax.specs.declared.token.Span.{Span}
 use Rattle.janus_syntax.specs.declared.token.Sign.{Sign}
 use Rattle.janus_syntax.specs.declared.token.Sign.TheVariants as sign
@@ -12,7 +13,7 @@ use Rattle.janus_syntax.specs.declared.tree.Kind.TheVariants as kind
 use Rattle.janus_syntax.specs.declared.fault.What.{What}
 use Rattle.janus_syntax.specs.declared.fault.What.TheVariants as what
 use Rattle.janus_syntax.specs.Tokens.{Token, Name, Number, Sign_of, Word_of}
-use Rattle.janus_syntax.specs.Tree.{Name as Named, named, Exp, Block, Declaration, Cell}
+use Rattle.janus_syntax.specs.Tree.{Name as Named, named, Exp, Stm, Block, Declaration, Cell}
 use Rattle.janus_syntax.specs.Operators.{update_at}
 
 -- the parts of a cell
@@ -25,6 +26,7 @@ pub data Part : Type 0 where
   Else_part : Part
   Do_part : Part
   Loop_part : Part
+  Local : Part  -- behind `local`
   Target_index : Part  -- behind the name that an assignment begins with
   Whole : Part  -- a whole expression
   Level : ℕ → Part  -- an expression with no operator of a weaker level outside parentheses; 0: an operand
@@ -41,6 +43,7 @@ Tree Statements = Block
 Tree Else_part = Block
 Tree Do_part = Block
 Tree Loop_part = Block
+Tree Local = Stm
 Tree Target_index = Option Exp
 Tree Whole = Exp
 Tree (Level n) = Exp
@@ -117,15 +120,9 @@ sign_number sign.OpenIndex = 21
 sign_number sign.CloseIndex = 22
 sign_number sign.Comma = 23
 
--- the same octets
-abbrev pub same_text : List ℕ → List ℕ → Bool
-same_text [] [] = true
-same_text [] (d ∷ ds) = false
-same_text (c ∷ cs) [] = false
-same_text (c ∷ cs) (d ∷ ds) = nat_eq c d && same_text cs ds
-
-abbrev pub same_name : Named → Named → Bool
-same_name (named x at) (named y place) = same_text x y
+-- the same name, wherever it stands
+abbrev pub same_named : Named → Named → Bool
+same_named (named x at) (named y place) = same_name x y
 
 abbrev pub same_kind : Kind → Kind → Bool
 same_kind kind.Int kind.Int = true
@@ -158,7 +155,7 @@ seen (Same_name x) _ = None
 -- whether it is the one that it has to be
 abbrev pub agrees : (c : Class) → Seen c → Bool
 agrees (Same_kind k) j = same_kind k j
-agrees (Same_name x) y = same_name x y
+agrees (Same_name x) y = same_named x y
 agrees _ v = true
 
 -- how a class is told
