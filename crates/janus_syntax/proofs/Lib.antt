@@ -24,6 +24,7 @@ pub mod Keeps
 pub mod KeepsTokens
 pub mod KeepsForms
 pub mod KeepsTable
+pub mod Agreed
 pub mod Agrees
 pub mod Back
 pub mod Completes
