@@ -18,8 +18,7 @@ use Rattle.janus_syntax.specs.Forms.{Part, Declarations, Bound, Body, Statements
 use Rattle.janus_syntax.specs.Table.{rule, left_out, variable, assignment, declared, skip_block, sign_then, word_then, stack_then, variable_and_stack_then, delocal_then, local_int, local_stack, whole, operand, chains, chain_rule, statement, declaration}
 use Rattle.janus_syntax.specs.Grammar
 use Rattle.janus_syntax.specs.Grammar.{Count, but_limits, entered, closed, Spells}
-use Rattle.janus_syntax.proofs.Agreed.{agreed, agreed_is, is_agreed}
-use Rattle.janus_grammar.proofs.Tokens.{kind_word}
+use Rattle.janus_syntax.proofs.Agreed.{agreed, agreed_is, is_agreed, kind_word, kind_agreed}
 use Rattle.janus_grammar.specs.Derivation
 use Rattle.janus_grammar.specs.Derivation.{IsExpression, IsStatement, AreStatements, IsBody, IsOptional, IsDeclaration, AreDeclarations}
 
@@ -109,16 +108,12 @@ pair_behind opening at comma place closing x y f v from rest h =
     (taken {c = A_name} (λ s. sign_then sign.Close (f (named x at) s)) (named y place) v (Name y place) (Sign_of sign.Close closing ∷ from) rest refl (sign_behind sign.Close closing (f (named x at) (named y place)) v from rest refl h))))
 
 -- `delocal`, a kind, a name and `=`
-same_kind_seen : (j : Kind) (at : Span) → agreed (Same_kind j) (Word_of (kind_word j) at) ≡ Some j
-same_kind_seen kind.Int at = refl
-same_kind_seen kind.Stack at = refl
-
 delocal_behind : {p : Part} (j : Kind) (x : List ℕ) (there at_delocal at_kind place equals : Span) (f : Named → Form p) (v : Tree p) (from rest : List Token) → Spelled p (f (named x place)) v from rest →
     Spelled p (delocal_then j (named x there) f) v (Word_of word.Delocal at_delocal ∷ Word_of (kind_word j) at_kind ∷ Name x place ∷ Sign_of sign.Equals equals ∷ from) rest
 delocal_behind j x there at_delocal at_kind place equals f v from rest h =
     let behind : List Token = Sign_of sign.Equals equals ∷ from in
     word_behind word.Delocal at_delocal (take (Same_kind j) (λ i. take (Same_name (named x there)) (λ y. sign_then sign.Equals (f y)))) v (Word_of (kind_word j) at_kind ∷ Name x place ∷ behind) rest refl
-    (taken {c = Same_kind j} (λ i. take (Same_name (named x there)) (λ y. sign_then sign.Equals (f y))) j v (Word_of (kind_word j) at_kind) (Name x place ∷ behind) rest (same_kind_seen j at_kind)
+    (taken {c = Same_kind j} (λ i. take (Same_name (named x there)) (λ y. sign_then sign.Equals (f y))) j v (Word_of (kind_word j) at_kind) (Name x place ∷ behind) rest (kind_agreed j at_kind)
     (taken {c = Same_name (named x there)} (λ y. sign_then sign.Equals (f y)) (named x place) v (Name x place) behind rest (is_agreed (Same_name (named x there)) (Name x place) (named x place) refl (same_name_self x))
     (sign_behind sign.Equals equals (f (named x place)) v from rest refl h)))
 
@@ -278,16 +273,15 @@ mutual
         (word_behind word.Until at_until (part Whole (λ f. close (k (Loop e s t f)))) v end last refl
         (whole_is (leads g) p (λ f. close (k (Loop e s t f))) v last (closes (k (Loop e s t f)) v rest last h))))),
   )
-
   begins (IsStatement.local_number {at_local = at_local} {at_int = at_int} {at = at} {equals = equals} {at_delocal = at_delocal} {at_kind = at_kind} {place = place} {equals_again = again} {x = x} {first = e} {test = f} {b = b} {from = from} {behind = behind} {last = end} {rest = rest} d a g) = λ p k v last h.
       let s : Stm = LocalInt (named x at) e b (named x place) f in
       let form : Named → Form Local = λ y. part Whole (λ e. part Body (λ b. delocal_then kind.Int y (λ z. part Whole (λ f. done (LocalInt y e b z f))))) in
       let inner : Spelled Local (local_int done) s (Name x at ∷ Sign_of sign.Equals equals ∷ from) rest =
-          head_behind x at equals form s from rest
-          (whole_is (leads d) Local (λ e. part Body (λ b. delocal_then kind.Int (named x at) (λ z. part Whole (λ f. done (LocalInt (named x at) e b z f))))) s rest
-          (body_is a Local (λ b. delocal_then kind.Int (named x at) (λ z. part Whole (λ f. done (LocalInt (named x at) e b z f)))) s rest
-          (delocal_behind kind.Int x at at_delocal at_kind place again (λ z. part Whole (λ f. done (LocalInt (named x at) e b z f))) s end rest
-          (whole_is (leads g) Local (λ f. done (LocalInt (named x at) e b (named x place) f)) s rest (nothing_more Local s rest))))) in (
+      head_behind x at equals form s from rest
+      (whole_is (leads d) Local (λ e. part Body (λ b. delocal_then kind.Int (named x at) (λ z. part Whole (λ f. done (LocalInt (named x at) e b z f))))) s rest
+      (body_is a Local (λ b. delocal_then kind.Int (named x at) (λ z. part Whole (λ f. done (LocalInt (named x at) e b z f)))) s rest
+      (delocal_behind kind.Int x at at_delocal at_kind place again (λ z. part Whole (λ f. done (LocalInt (named x at) e b z f))) s end rest
+      (whole_is (leads g) Local (λ f. done (LocalInt (named x at) e b (named x place) f)) s rest (nothing_more Local s rest))))) in (
         Word_of word.Local at_local,
         Word_of word.Int at_int ∷ Name x at ∷ Sign_of sign.Equals equals ∷ from,
         record { opens = 1; counts = 0; is_whole = false; form = part Local (λ s. close (k s)) },
@@ -299,11 +293,11 @@ mutual
       let s : Stm = LocalStack (named x at) b (named x place) in
       let form : Named → Form Local = λ y. word_then word.Nil (part Body (λ b. delocal_then kind.Stack y (λ z. word_then word.Nil (done (LocalStack y b z))))) in
       let inner : Spelled Local (local_stack done) s (Name x at ∷ Sign_of sign.Equals equals ∷ Word_of word.Nil at_nil ∷ from) rest =
-          head_behind x at equals form s (Word_of word.Nil at_nil ∷ from) rest
-          (word_behind word.Nil at_nil (part Body (λ b. delocal_then kind.Stack (named x at) (λ z. word_then word.Nil (done (LocalStack (named x at) b z))))) s from rest refl
-          (body_is a Local (λ b. delocal_then kind.Stack (named x at) (λ z. word_then word.Nil (done (LocalStack (named x at) b z)))) s rest
-          (delocal_behind kind.Stack x at at_delocal at_kind place again (λ z. word_then word.Nil (done (LocalStack (named x at) b z))) s (Word_of word.Nil nil_again ∷ rest) rest
-          (word_behind word.Nil nil_again (done s) s rest rest refl (nothing_more Local s rest))))) in (
+      head_behind x at equals form s (Word_of word.Nil at_nil ∷ from) rest
+      (word_behind word.Nil at_nil (part Body (λ b. delocal_then kind.Stack (named x at) (λ z. word_then word.Nil (done (LocalStack (named x at) b z))))) s from rest refl
+      (body_is a Local (λ b. delocal_then kind.Stack (named x at) (λ z. word_then word.Nil (done (LocalStack (named x at) b z)))) s rest
+      (delocal_behind kind.Stack x at at_delocal at_kind place again (λ z. word_then word.Nil (done (LocalStack (named x at) b z))) s (Word_of word.Nil nil_again ∷ rest) rest
+      (word_behind word.Nil nil_again (done s) s rest rest refl (nothing_more Local s rest))))) in (
         Word_of word.Local at_local,
         Word_of word.Stack at_stack ∷ Name x at ∷ Sign_of sign.Equals equals ∷ Word_of word.Nil at_nil ∷ from,
         record { opens = 1; counts = 0; is_whole = false; form = part Local (λ s. close (k s)) },

@@ -12,14 +12,14 @@ use Rattle.janus_syntax.specs.declared.tree.Kind.TheVariants as kind
 use Rattle.janus_syntax.specs.Tokens.{Token, Name, Number, Sign_of, Word_of}
 use Rattle.janus_syntax.specs.Tree.{Name as Named, named, Exp, Num, EmptyOf, TopOf, Neg, Stm, Skip, Push, Pop, If, Loop, LocalInt, LocalStack, Block, Empty, More, Declaration, StackOf}
 use Rattle.janus_syntax.specs.Operators.{weakest, joined, operator_at, update_at}
-use Rattle.janus_syntax.specs.Forms.{Part, A_cell, Declarations, Bound, Body, Statements, Else_part, Do_part, Loop_part, Local, Target_index, Whole, Level, Chain, Index, Tree, Class, Seen, seen, agrees, The_sign, A_name, A_number, An_update, Form, done, take, part, close, Rule}
+use Rattle.janus_syntax.specs.Forms.{Part, A_cell, Declarations, Bound, Body, Statements, Else_part, Do_part, Loop_part, Local, Target_index, Whole, Level, Chain, Index, Tree, Seen, seen, agrees, The_sign, A_name, A_number, An_update, Form, done, take, part, close, Rule}
 use Rattle.janus_syntax.specs.Table.{rule, left_out, variable, assignment, declared, nothing, skip_block, word_then, sign_then, stack_then, variable_and_stack_then, delocal_then, local_int, local_stack, whole, operand, chains, chain_rule, statement, declaration}
 use Rattle.janus_syntax.specs.Grammar
 use Rattle.janus_syntax.specs.Grammar.{Count, Demands, met, Spells}
 use Rattle.janus_grammar.specs.Derivation
 use Rattle.janus_grammar.specs.Derivation.{IsExpression, IsStatement, AreStatements, IsBody, IsOptional, IsDeclaration, AreDeclarations, IsCell, there, left_out as no_words, cell, body}
-use Rattle.janus_syntax.proofs.Agreed.{agreed, is_agreed}
-use Rattle.janus_grammar.proofs.Tokens.{delocal_is, equals_is, nil_is, kind_word, same_kind_is, same_name_is, then_is, fi_is, until_is, open_is, comma_is, close_is, close_index_is}
+use Rattle.janus_syntax.proofs.Agreed.{agreed, is_agreed, kind_word}
+use Rattle.janus_grammar.proofs.Tokens.{delocal_is, equals_is, nil_is, same_kind_is, same_name_is, then_is, fi_is, until_is, open_is, comma_is, close_is, close_index_is}
 
 -- behind a name: an index, if there is one
 pub data IsIndexed : Option Exp → List Token → List Token → Type 0 where

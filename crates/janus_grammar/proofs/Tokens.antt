@@ -1,7 +1,7 @@
 -- Fixed tokens: what a token of such a class is.
 use Rattle.std.proofs.Common.{◌≡◌, ℕ, List, ◌∷◌, Some, true, ap, sym, subst, ◌∙◌}
 use Rattle.janus_meaning.proofs.Stores.{same_name_true}
-use Rattle.janus_syntax.proofs.Agreed.{agreed, one_of}
+use Rattle.janus_syntax.proofs.Agreed.{agreed, one_of, kind_word}
 use Rattle.janus_syntax.specs.declared.token.Span.{Span}
 use Rattle.janus_syntax.specs.declared.token.Sign.{Sign}
 use Rattle.janus_syntax.specs.declared.token.Sign.TheVariants as sign
@@ -91,11 +91,6 @@ equals_is ts (Number n at) s behind e is = absurd cc
 equals_is ts (Word_of w at) s behind e is = absurd cc
 
 -- ---- kinds and names that have to be the same
-
--- the word of a kind
-abbrev pub kind_word : Kind → Word
-kind_word kind.Int = word.Int
-kind_word kind.Stack = word.Stack
 
 pub same_kind_is : (j : Kind) (ts : List Token) (t : Token) (i : Kind) (behind : List Token) → ts ≡ t ∷ behind → agreed (Same_kind j) t ≡ Some i → BeginsWithWord (kind_word j) ts behind
 same_kind_is kind.Int ts (Word_of word.Int at) i behind e is = (at, e)

@@ -2,10 +2,8 @@
 use Rattle.std.proofs.Common.{◌≡◌, ℕ, suc, ◌+◌, ◌-◌, ◌≤◌, List, ◌∷◌, Option, Some, Bool, true, false, cond, refl, ap, sym, subst, arith}
 use Rattle.janus_syntax.specs.declared.token.Span.{Span}
 use Rattle.janus_syntax.specs.declared.token.Sign.TheVariants as sign
-use Rattle.janus_syntax.specs.declared.token.Word.{Word}
 use Rattle.janus_syntax.specs.declared.token.Word.TheVariants as word
 use Rattle.janus_syntax.specs.declared.tree.Kind.{Kind}
-use Rattle.janus_syntax.specs.declared.tree.Kind.TheVariants as kind
 use Rattle.janus_syntax.specs.Tokens.{Token, Name, Sign_of, Word_of}
 use Rattle.janus_syntax.specs.Tree.{Name as Named, named, Exp}
 use Rattle.janus_syntax.specs.Operators.{weakest}
@@ -17,7 +15,7 @@ use Rattle.janus_syntax.specs.Reading.{count}
 use Rattle.janus_syntax.specs.Printing.{whole_pieces}
 use Rattle.janus_syntax.specs.View.{plain_exp}
 use Rattle.janus_meaning.specs.Store.{same_name}
-use Rattle.janus_syntax.proofs.Agreed.{agreed, agreed_is, is_agreed}
+use Rattle.janus_syntax.proofs.Agreed.{agreed, agreed_is, is_agreed, kind_word, kind_agreed}
 use Rattle.janus_syntax.proofs.Chains.{fits_count}
 use Rattle.janus_printing.proofs.Fits.{operators, FitsWhole}
 use Rattle.janus_printing.proofs.Measures.{recount, Runs}
@@ -60,15 +58,6 @@ pair_to k x y v d d' opened at comma place shut from t1 t2 t3 t4 more end e1 e2 
     (token_to (The_sign sign.Comma) (λ z. take A_name (λ b. sign_then sign.Close (k (named x at) b))) tt v d d' (Sign_of sign.Comma comma) t2 t3 end e3 refl
     (token_to A_name (λ b. sign_then sign.Close (k (named x at) b)) (named y place) v d d' (Name y place) t3 t4 end e4 refl
     (token_to (The_sign sign.Close) (λ z. k (named x at) (named y place)) tt v d d' (Sign_of sign.Close shut) t4 more end e5 refl onward))))
-
--- the word of a kind
-abbrev pub kind_word : Kind → Word
-kind_word kind.Int = word.Int
-kind_word kind.Stack = word.Stack
-
-kind_agreed : (j : Kind) (at : Span) → agreed (Same_kind j) (Word_of (kind_word j) at) ≡ Some j
-kind_agreed kind.Int at = refl
-kind_agreed kind.Stack at = refl
 
 -- the name of a local and `=`
 pub head_to : {p : Part} (k : Named → Form p) (x : List ℕ) (v : Tree p) (d d' : ℕ) (at equals : Span) (from t1 more end : List Token) → from ≡ Name x at ∷ t1 → t1 ≡ Sign_of sign.Equals equals ∷ more → SpellsTo (k (named x at)) v d more d' end →

@@ -1,6 +1,11 @@
 -- Tokens of a class that are the ones that they have to be.
 use Rattle.std.proofs.Common.{◌≡◌, Option, Some, None, Bool, true, false, cond, refl, ap, subst, ◌∙◌}
-use Rattle.janus_syntax.specs.Tokens.{Token}
+use Rattle.janus_syntax.specs.declared.token.Span.{Span}
+use Rattle.janus_syntax.specs.declared.token.Word.{Word}
+use Rattle.janus_syntax.specs.declared.token.Word.TheVariants as word
+use Rattle.janus_syntax.specs.declared.tree.Kind.{Kind}
+use Rattle.janus_syntax.specs.declared.tree.Kind.TheVariants as kind
+use Rattle.janus_syntax.specs.Tokens.{Token, Word_of}
 use Rattle.janus_syntax.specs.Forms.{Class, Seen, seen, agrees, The_word, The_sign, A_name, A_number, An_update, Same_kind, Same_name}
 
 abbrev pub the_one : (c : Class) → Option (Seen c) → Option (Seen c)
@@ -41,3 +46,12 @@ is_agreed A_number t s is fit = is
 is_agreed An_update t s is fit = is
 is_agreed (Same_kind j) t s is fit = is_the_one (Same_kind j) (seen (Same_kind j) t) s is fit
 is_agreed (Same_name x) t s is fit = is_the_one (Same_name x) (seen (Same_name x) t) s is fit
+
+-- the word of a kind
+abbrev pub kind_word : Kind → Word
+kind_word kind.Int = word.Int
+kind_word kind.Stack = word.Stack
+
+pub kind_agreed : (j : Kind) (at : Span) → agreed (Same_kind j) (Word_of (kind_word j) at) ≡ Some j
+kind_agreed kind.Int at = refl
+kind_agreed kind.Stack at = refl

@@ -8,8 +8,8 @@ use crate::token::{Sign, Span, Word};
 use std::alloc::{AllocError, AllocFailed};
 use thiserror::Error;
 
-/// What has to come next where the reading of a cell or an expression cannot go on. The forms that are read so far want no
-/// `Kind`.
+/// What has to come next where the reading of a cell or an expression cannot go on. A `Kind` is `int` or `stack`, where both
+/// may stand.
 #[derive(Clone, Copy, PartialEq, Eq, Debug)]
 pub enum What {
     Statement,
@@ -54,8 +54,8 @@ pub enum SyntaxFault {
     /// A number past 2147483647.
     #[error("NumberTooLarge")]
     NumberTooLarge(Span),
-    /// A token that opens a 65th construct (`if`, `from`, `(` of grouping, `[` of an index, prefix minus), or the 257th
-    /// operator of one whole expression.
+    /// A token that opens a 65th construct (`if`, `from`, `local`, `(` of grouping, `[` of an index, prefix minus), or the
+    /// 257th operator of one whole expression.
     #[error("TooNested")]
     TooNested(Span),
     /// A kind or a name behind `delocal` that differs from the one behind its `local`.
