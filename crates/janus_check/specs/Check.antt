@@ -22,7 +22,7 @@ fault_if false f = []
 abbrev pub is_full : Shape → Bool
 is_full g = nat_le name_limit (length g)
 
--- The names in sight with one more. One that is there already stays as it is. One past the limit is left out: its own
+-- The names in sight with one more. One that is there already stays as it is. One past the limit of names is left out: its own
 -- fault stands in the text before all of its uses.
 abbrev pub extended : Shape → tree.Name → tree.Kind → Shape
 extended g x k = if is_in x g || is_full g then g else (x, k) ∷ g

@@ -21,7 +21,7 @@ pub enum CheckFault {
     /// The assigned name in its own index or right side.
     #[error("SelfUse")]
     SelfUse(Span),
-    /// The name past the limit of declared names.
+    /// The name past the limit of declared names, or the stack's past that of stacks.
     #[error("TooMany")]
     TooMany(Span),
     /// An array's length that isn't 1 to 65,536.

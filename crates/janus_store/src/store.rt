@@ -208,7 +208,7 @@ impl<L: Ledger> Store<L> {
         self.add(name, Declared::Array(items))
     }
 
-    /// Declares a stack, which is empty then. Its own memory was taken with the store; an error for want of memory leaves the store.
+    /// Declares a stack, which is empty then, where fewer than 64 are declared. Its own memory was taken with the store; an error for want of memory leaves the store.
     pub fn declare_stack(&mut self, name: &str) -> Result<(), AllocError>
         requires absent { look name.now self.old ≡ Bad Broken }
         requires room { stacks_in self.old < live_stack_limit }
@@ -269,7 +269,7 @@ impl<L: Ledger> Store<L> {
         self.variables[place].value.set_element(index, number);
     }
 
-    /// One number more, on top of the stack at a place.
+    /// One number more, on top of the stack at a place, which isn't full.
     pub fn push(&mut self, place: usize, number: i32, writes: &mut Writes<L>)
         requires { (x : Name) × IsNamed self.old place x × IsOpenStack (look x self.old) }
         ensures written { (x : Name) (l : List ℤ) → IsNamed self.old place x → look x self.old ≡ Fine (Stk l) → write x (Stk (number ∷ l)) self.old ≡ Fine self.new }
@@ -280,7 +280,7 @@ impl<L: Ledger> Store<L> {
         self.variables[place].value.push(number);
     }
 
-    /// Takes the number from the top of the stack at a place.
+    /// Takes the number from the top of the stack at a place, which isn't empty.
     pub fn pop(&mut self, place: usize, writes: &mut Writes<L>) -> i32
         requires { (x : Name) × IsNamed self.old place x × IsHeldStack (look x self.old) }
         ensures top { (x : Name) (n : ℤ) (l : List ℤ) → IsNamed self.old place x → look x self.old ≡ Fine (Stk (n ∷ l)) → result ≡ n }

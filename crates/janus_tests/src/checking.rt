@@ -64,10 +64,7 @@ fn tells_the_first_fault(rt: HostRuntime) -> Result<(), Fail> {
             "stack s push(x, s) x += top(y)",
             Some(CheckFault::WrongKind(at(28, 29))),
         ),
-        (
-            "stack s pop(s, s)",
-            Some(CheckFault::WrongKind(at(12, 13))),
-        ),
+        ("stack s pop(s, s)", Some(CheckFault::WrongKind(at(12, 13)))),
         (
             "from x loop if y then skip fi a until z",
             Some(CheckFault::WrongKind(at(30, 31))),

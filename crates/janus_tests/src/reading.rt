@@ -59,7 +59,7 @@ fn at(start: usize, end: usize) -> Span {
 }
 
 /// Texts that are no cell, with the item that is wanted there.
-const WANTED: [(&str, What, usize, usize); 29] = [
+const WANTED: [(&str, What, usize, usize); 30] = [
     ("x += 1 int y", What::End, 7, 10),
     ("int x += 1", What::End, 6, 8),
     ("skip call p()", What::End, 5, 9),
@@ -76,7 +76,8 @@ const WANTED: [(&str, What, usize, usize); 29] = [
     ("a[", What::Expression, 2, 2),
     ("x += 1 - ", What::Expression, 9, 9),
     ("x += )", What::Expression, 5, 6),
-    ("x += top(s)", What::Expression, 5, 8),
+    ("x += top s", What::Sign(Sign::Open), 9, 10),
+    ("push(x)", What::Sign(Sign::Comma), 6, 7),
     ("x += (1", What::Sign(Sign::Close), 7, 7),
     ("x += (1 x", What::Sign(Sign::Close), 8, 9),
     ("x += a[1", What::Sign(Sign::CloseIndex), 8, 8),

@@ -56,7 +56,7 @@ pub top_at : (l : List ℤ) (count i : ℕ) → i < count → count ≤ length l
 top_at l count i h k = taken_at (reverse l) count i (pos 0) h (omega (arith, length-reverse l)) ∙ ap Some (get_or-reverse l i (pos 0) (omega arith))
 
 pub all_tops : (l : List ℤ) → length l ≤ 32 → spaced_text (take (length l) (reverse l)) ≡ numbers_text (reverse l)
-all_tops l h = ap spaced_text (take_all (reverse l) (length l) (omega (arith, length-reverse l))) ∙ sym (few_text (reverse l) (omega (arith, length-reverse l)))
+all_tops l h = ap spaced_text (take_all (length l) (reverse l) (omega (arith, length-reverse l))) ∙ sym (few_text (reverse l) (omega (arith, length-reverse l)))
 
 pub more_tops : (l : List ℤ) → 32 < length l → numbers_text (reverse l) ≡ spaced_text (take 32 (reverse l)) ++ codes " ..."
 more_tops l h = more_text (reverse l) (omega (arith, length-reverse l))

@@ -1,7 +1,7 @@
 -- What is written one after the other is written together.
 use Rattle.std.proofs.Common.{◌≡◌, ℕ, List, [], ◌++◌, Option, Some, None, sym, ap, ◌∙◌, subst, append_assoc, append-nil, ◌+◌, take, drop, length, ◌-◌}
 use Rattle.std.proofs.Math.Seq.{take-add}
-use Rattle.std.specs.Prelude.{Result, Ok, Err, OnErr}
+use Rattle.std.specs.Prelude.{Result, Ok, Err, OnOk, OnErr}
 use Rattle.std.specs.Option.{unwrap_or}
 use Rattle.std.specs.Io.KnownBytes.{Appends, Keeps}
 use Rattle.std.proofs.lemmas.List.{take-append-drop, take_rest}
@@ -47,6 +47,10 @@ sent_then a b c xs ys p (part, rest, e, q) =
 pub some_then : {E : Type 0} (a b c : Option (List ℕ)) (xs ys zs : List ℕ) (r : Result (Unit {0}) E) → zs ≡ xs ++ ys → Appends a b xs → OnErr r (SentSome b c ys) → OnErr r (SentSome a c zs)
 some_then a b c xs ys zs (Ok x) e p q = tt
 some_then a b c xs ys zs (Err f) e p q = subst (SentSome a c) (sym e) (sent_then a b c xs ys p q)
+
+pub all_then : {E : Type 0} (a b c : Option (List ℕ)) (xs ys zs : List ℕ) (r : Result (Unit {0}) E) → zs ≡ xs ++ ys → Appends a b xs → OnOk r (Appends b c ys) → OnOk r (Appends a c zs)
+all_then a b c xs ys zs (Ok x) e p q = subst (Appends a c) (sym e) (appends_join a b c xs ys p q)
+all_then a b c xs ys zs (Err f) e p q = tt
 
 -- the same of a first write that failed
 pub some_first : {E : Type 0} (a b : Option (List ℕ)) (xs ys zs : List ℕ) (r : Result (Unit {0}) E) → zs ≡ xs ++ ys → SentSome a b xs → OnErr r (SentSome a b zs)

@@ -2,6 +2,7 @@
 ghost use Rattle.std.specs.Prelude.{◌≡◌, ◌≤◌, ◌++◌, codes, length, reverse, take, string_bytes, IfOk, OnOk, OnErr};
 ghost use Rattle.std.specs.Fmt.{signed_decimal};
 ghost use Rattle.std.specs.Io.KnownBytes.{Appends};
+ghost use Rattle.janus_meaning.specs.Store.{Stk};
 ghost use Rattle.janus_store.specs.Values.{shown};
 ghost use Rattle.kernel_text.specs.Sending.{SentSome};
 ghost use Rattle.kernel_text.specs.ValueTexts.{equated_text, length_text, height_text, spaced_text, numbers_text, told_text, value_text as value_text_of};
@@ -13,7 +14,7 @@ use janus_store::View;
 use std::alloc::{AllocError, Global};
 use std::io::Write;
 
-/// How many values of an array are shown; ` ...` stands for those behind them.
+/// How many values of an array or a stack are shown; ` ...` stands for those behind them.
 pub const SHOWN_VALUES: usize = 32;
 
 /// Writes a number in decimal digits, behind a `-` where it is below 0.
@@ -120,8 +121,8 @@ fn send_height<W: Write>(writer: &mut W, height: usize) -> Result<(), WriteFaile
 
 /// Writes how high a stack is, and its values, the top first.
 fn send_stack<W: Write>(writer: &mut W, values: &[i32]) -> Result<(), WriteFailed>
-    ensures ok { OnOk result (Appends (W.contents writer.old) (W.contents writer.new) (height_text (length values.now) ++ numbers_text (reverse values.now))) }
-    ensures err { OnErr result (SentSome (W.contents writer.old) (W.contents writer.new) (height_text (length values.now) ++ numbers_text (reverse values.now))) }
+    ensures ok { OnOk result (Appends (W.contents writer.old) (W.contents writer.new) (told_text (Stk (reverse values.now)))) }
+    ensures err { OnErr result (SentSome (W.contents writer.old) (W.contents writer.new) (told_text (Stk (reverse values.now)))) }
 {
     send_height(writer, values.len())?;
     send_values(writer, values)

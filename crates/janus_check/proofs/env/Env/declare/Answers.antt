@@ -17,5 +17,5 @@ invariant_of-self-2 c =
     let more = seen_last c.self.inside.names c.insert.new.self.entries c.args.name c.args.kind c.self.invariant.0 absent c.in_ok-insert.ensures.entries in (
       subst (AreNewNames []) (sym more) (new_more [] (map seen c.self.inside.names.entries) (string_bytes c.args.name) c.args.kind c.self.invariant.0 absent),
       c.stacks_with-stacks.ensures ∙ ap (λ s. count_stack (meant_kind c.args.kind) (stack_count (shape_in s))) (sym c.self.view_is)
-      ∙ sym (ap (λ s. stack_count (shape_in s)) more ∙ stacks-append (map seen c.self.inside.names.entries) (string_bytes c.args.name) c.args.kind),
+          ∙ sym (ap (λ s. stack_count (shape_in s)) more ∙ stacks-append (map seen c.self.inside.names.entries) (string_bytes c.args.name) c.args.kind),
     )
