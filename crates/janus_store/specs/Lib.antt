@@ -1,3 +1,4 @@
+pub mod Held
 pub mod Stacks
 pub mod Values
 pub mod Stores
