@@ -167,18 +167,7 @@ fn writes_lines(rt: HostRuntime) -> Result<(), Fail> {
     assert_eq!(rt; cut.len(), "a[33] =".len() + 64 + 4);
     let stack = value_text(alloc, "s", View::Stack(&[3, 7]))?;
     assert_eq!(rt; stack.as_str(), "s(2) = 7 3");
-    assert_eq!(rt;
-        value_text(alloc, "s", View::Stack(&[]))?.as_str(),
-        "s(0) ="
-    );
-    let mut values = Vec::new(alloc);
-    for i in 0..33i32 {
-        values.push(i)?;
-    }
-    let high = value_text(alloc, "s", View::Stack(&values))?;
-    assert!(rt;
-        high.starts_with("s(33) = 32 31 30 ") && high.ends_with(" 2 1 ..."),
-        "{high}"
-    );
+    let high = value_text(alloc, "s", View::Stack(&many))?;
+    assert_eq!(rt; high.len(), "s(33) =".len() + 64 + 4);
     Ok(())
 }

@@ -18,9 +18,9 @@ slice 99: Ended(Ran(2, 9))
 world: 2 x=7 s=stack[5, 5]
 undo 2: Ok(3)
 begin: Going
-slice 2: Going
-world: 2 x=0 s=stack[5, 5, 7]
-slice 7: Border
+slice 4: Going
+world: 2 x=7 s=stack[5, 5]
+slice 5: Border
 world: 1 x=5 s=stack[5]
 begin: Going
 slice 99: Ended(Undid(2, All))
