@@ -2,7 +2,7 @@
 ghost use Rattle.std.specs.Prelude.{◌≡◌, IfSome, map};
 ghost use Rattle.kernel_core.specs.State.{Idle};
 ghost use Rattle.kernel_core.specs.Written.{entry_of};
-ghost use Rattle.kernel_hall.specs.Ends.{HasEnd};
+ghost use Rattle.kernel_audit.specs.Ends.{HasEnd};
 
 use kernel_ask::{Done, NamedValue, Wish, evaluate, is_settled, shown_text, stands_at_end};
 use kernel_core::{Entry, Job, Kernel, Outcome};
