@@ -1,1 +1,2 @@
 pub mod Posts
+pub mod Extras

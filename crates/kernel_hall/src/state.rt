@@ -7,6 +7,7 @@ ghost use Rattle.kernel_core.specs.Runs.{IsRefusal, posted, shut};
 ghost use Rattle.kernel_ask.specs.Answer.{IsAnswer};
 ghost use Rattle.kernel_audit.specs.Passes.{pass_of, ticket_of};
 ghost use Rattle.kernel_hall.specs.Turns.{IsTurn};
+ghost use Rattle.kernel_hall.specs.Extras.{IsTold};
 ghost use Rattle.kernel_audit.specs.Ends.{HasEnd};
 ghost use Rattle.kernel_audit.specs.Audit.{Audited, IsAuditFault};
 
@@ -121,10 +122,11 @@ impl<W: Ledger, L: Ledger> State<W, L> {
         turn
     }
 
-    /// What came of the job of this number, if it has ended.
+    /// What came of the job of this number, if it has ended. What was made as it ended is told once.
     pub fn done(&mut self, number: u64) -> Option<Done>
         ensures number { IfSome result (λ d. d.number ≡ number) }
         ensures end { IfSome result (HasEnd self.old.kernel.machine.minutes) }
+        ensures told { IfSome result (λ d. IsTold self.old.extras.items number d self.new.extras.items) }
         ensures legal { IsLegalMachine self.old.kernel.machine }
         ensures kernel { self.new.kernel ≡ self.old.kernel }
         ensures comms { self.new.comms ≡ self.old.comms }

@@ -120,10 +120,12 @@ pub(crate) fn is_world<W: Ledger, L: Ledger, R: Wait>(
     line: &str,
 ) -> bool {
     match hall.ask(rt, pass, Ask::State) {
-        Ok(Answer {
-            seen,
-            content: Content::State(state),
-        }) => seen == minutes && is_one(&state.world, line),
+        Ok(
+            Answer {
+                seen,
+                content: Content::State(state),
+            },
+        ) => seen == minutes && is_one(&state.world, line),
         _ => false,
     }
 }

@@ -82,20 +82,18 @@ fn open_comm<W: Ledger, L: Ledger, R: Wait>(
     hall: &Hall<W, L>,
     pass: &Pass<L>,
 ) -> Result<Result<bool, HallFault>, AllocError> {
-    Ok(hall.comm(
-        rt,
-        pass,
-        CommChange::Open(String::from_str(alloc, "k")?),
-    ))
+    Ok(hall.comm(rt, pass, CommChange::Open(String::from_str(alloc, "k")?)))
 }
 
 /// Whether that comm is the open one.
 fn is_listed<W: Ledger, L: Ledger, R: Wait>(rt: &R, hall: &Hall<W, L>, pass: &Pass<L>) -> bool {
     match hall.ask(rt, pass, Ask::Comms) {
-        Ok(Answer {
-            seen: 0,
-            content: Content::Comms(ids),
-        }) => is_one(&ids, "k"),
+        Ok(
+            Answer {
+                seen: 0,
+                content: Content::Comms(ids),
+            },
+        ) => is_one(&ids, "k"),
         _ => false,
     }
 }

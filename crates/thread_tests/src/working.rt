@@ -140,11 +140,7 @@ fn ask_beside_a_cell<
     W: Ledger + Send + Sync,
     L: Ledger + Send + Sync,
     R: Threads + Wait + Abort + Sync,
->(
-    rt: &R,
-    alloc: Global,
-    desk: Desk<W, L>,
-) -> Result<(), Fail> {
+>(rt: &R, alloc: Global, desk: Desk<W, L>) -> Result<(), Fail> {
     let Desk { hall, seat } = desk;
     let marks = Marks {
         is_held: AtomicBool::new(false),
@@ -212,11 +208,7 @@ fn posted<W: Ledger, L: Ledger, R: Wait>(
 }
 
 /// Each pass posts from a thread of its own. How many of these threads failed.
-fn post_from_threads<
-    W: Ledger + Send + Sync,
-    L: Ledger + Send + Sync,
-    R: Threads + Wait + Sync,
->(
+fn post_from_threads<W: Ledger + Send + Sync, L: Ledger + Send + Sync, R: Threads + Wait + Sync>(
     rt: &R,
     alloc: Global,
     hall: &Hall<W, L>,
@@ -245,11 +237,7 @@ fn post_from_many<
     W: Ledger + Send + Sync,
     L: Ledger + Send + Sync,
     R: Threads + Wait + Abort + Sync,
->(
-    rt: &R,
-    alloc: Global,
-    desk: Desk<W, L>,
-) -> Result<(), Fail> {
+>(rt: &R, alloc: Global, desk: Desk<W, L>) -> Result<(), Fail> {
     let Desk { hall, seat } = desk;
     let mut passes = Vec::new(alloc);
     for _ in 0..POSTERS {
@@ -282,11 +270,7 @@ enum Scene {
     PostFromMany,
 }
 
-fn play_in<
-    W: Ledger + Send + Sync,
-    L: Ledger + Send + Sync,
-    R: Threads + Wait + Abort + Sync,
->(
+fn play_in<W: Ledger + Send + Sync, L: Ledger + Send + Sync, R: Threads + Wait + Abort + Sync>(
     rt: &R,
     alloc: Global,
     writes: Blank,
@@ -304,11 +288,7 @@ fn play_in<
 }
 
 /// Tries something in a new hall.
-fn play<R: Threads + Wait + Abort + Sync>(
-    rt: &R,
-    alloc: Global,
-    scene: Scene,
-) -> Result<(), Fail> {
+fn play<R: Threads + Wait + Abort + Sync>(rt: &R, alloc: Global, scene: Scene) -> Result<(), Fail> {
     play_in::<Brand, Brand, R>(rt, alloc, Blank::new(1), Blank::new(65_537), scene)
 }
 
