@@ -25,15 +25,13 @@ const POSTERS: u32 = 32;
 /// So many jobs each of them posts.
 const EACH: u32 = 20;
 
-/// What the worker and the frontends tell each other.
-#[derive(Drop)]
-struct Marks {
-    /// The worker has taken its first slice.
-    is_held: AtomicBool,
-    /// It may go on.
-    is_free: AtomicBool,
-    /// How many waits were too long.
-    late: AtomicU64,
+/// What the worker and the frontends tell each other: that the worker has taken its first slice, that it may go on, and how many waits
+/// were too long.
+#[derive(Clone, Copy)]
+struct Marks<'a> {
+    is_held: &'a AtomicBool,
+    is_free: &'a AtomicBool,
+    late: &'a AtomicU64,
 }
 
 /// Waits until it is true.
@@ -50,8 +48,15 @@ fn await_mark(mark: &AtomicBool, late: &AtomicU64) {
 /// A gate that holds the worker after its first slice.
 #[derive(Drop)]
 struct Hold<'a> {
-    marks: &'a Marks,
+    marks: Marks<'a>,
     is_over: bool,
+}
+
+fn holding(marks: Marks<'_>) -> Hold<'_> {
+    Hold {
+        marks,
+        is_over: false,
+    }
 }
 
 impl Gate for Hold<'_> {
@@ -59,7 +64,7 @@ impl Gate for Hold<'_> {
         if moment == Moment::AfterSlice && !self.is_over {
             self.is_over = true;
             self.marks.is_held.store(true, Ordering::SeqCst);
-            await_mark(&self.marks.is_free, &self.marks.late);
+            await_mark(self.marks.is_free, self.marks.late);
         }
     }
 }
@@ -92,14 +97,14 @@ fn ask_meanwhile<W: Ledger, L: Ledger, R: Wait + Abort>(
     rt: &R,
     alloc: Global,
     hall: &Hall<W, L>,
-    marks: &Marks,
+    marks: Marks<'_>,
 ) -> Result<Away<L>, AllocError> {
     let (first, second, third) = (pass(rt, hall), pass(rt, hall), pass(rt, hall));
     let long = cell(alloc, "int x from x = 0 do x += 1 until x = 5000")?;
     let (looped, first) = post(rt, alloc, hall, first, long);
     let (added, second) = post(rt, alloc, hall, second, cell(alloc, "x += 1")?);
     let (undone, first) = post(rt, alloc, hall, first, Job::Undo(1));
-    await_mark(&marks.is_held, &marks.late);
+    await_mark(marks.is_held, marks.late);
     assert!(rt; is_world(rt, hall, &third, 3, "x = 512"));
     marks.is_free.store(true, Ordering::SeqCst);
     let tickets = Vec::from_array(alloc, [looped, added, undone])?;
@@ -136,100 +141,107 @@ fn closed<W: Ledger, L: Ledger, R: Abort>(rt: &R, hall: Hall<W, L>, away: Away<L
 }
 
 /// The worker runs beside the frontends, and is held after its first slice until the question is answered.
+fn held_beside<
+    'a,
+    W: Ledger + Send + Sync,
+    L: Ledger + Send + Sync,
+    R: Threads + Wait + Abort + Sync,
+>(
+    rt: &R,
+    alloc: Global,
+    worker: Worker<'a, W, L>,
+    marks: Marks<'a>,
+) -> Result<Away<L>, AllocError> {
+    let hall = worker.hall;
+    thread::scope(thread::scope_env(), rt, |scope| {
+        let started = scope.spawn(move || worker.serve(rt, holding(marks)));
+        assert!(rt; started.is_ok());
+        let away = ask_meanwhile(rt, alloc, hall, marks);
+        hall.shut(rt);
+        away
+    })
+}
+
 fn ask_beside_a_cell<
     W: Ledger + Send + Sync,
     L: Ledger + Send + Sync,
     R: Threads + Wait + Abort + Sync,
 >(rt: &R, alloc: Global, desk: Desk<W, L>) -> Result<(), Fail> {
     let Desk { hall, seat } = desk;
+    let (is_held, is_free) = (AtomicBool::new(false), AtomicBool::new(false));
+    let late = AtomicU64::new(0);
     let marks = Marks {
-        is_held: AtomicBool::new(false),
-        is_free: AtomicBool::new(false),
-        late: AtomicU64::new(0),
+        is_held: &is_held,
+        is_free: &is_free,
+        late: &late,
     };
-    let (lent, seen) = (&hall, &marks);
-    let worker = Worker { hall: lent, seat };
-    let gate = Hold {
-        marks: seen,
-        is_over: false,
-    };
-    let away = thread::scope(thread::scope_env(), rt, |scope| {
-        let started = scope.spawn(move || worker.serve(rt, gate));
-        assert!(rt; started.is_ok());
-        let away = ask_meanwhile(rt, alloc, lent, seen);
-        lent.shut(rt);
-        away
-    })?;
-    assert!(rt; marks.late.load(Ordering::SeqCst) == 0 && are_three(&away.dones));
+    let away = held_beside(rt, alloc, Worker { hall: &hall, seat }, marks)?;
+    assert!(rt; late.load(Ordering::SeqCst) == 0 && are_three(&away.dones));
     assert!(rt; closed(rt, hall, away) == 6);
     Ok(())
 }
 
-/// Posts jobs, and then waits for them all.
+/// Posts jobs of a new pass, and waits for each. Counts those that ended as they should.
 fn frontend<W: Ledger, L: Ledger, R: Wait>(
     rt: &R,
     alloc: Global,
     hall: &Hall<W, L>,
-    pass: Pass<L>,
-    all: &Mutex<Away<L>>,
-) -> Result<(), AllocError> {
-    let (pass, tickets) = posted(rt, alloc, hall, pass)?;
-    let dones = ends(rt, alloc, hall, &tickets)?;
-    let mut guard = all.lock(rt);
-    let all = &mut *guard;
-    all.passes.push(pass)?;
-    for ticket in tickets {
-        all.tickets.push(ticket)?;
-    }
-    for done in dones {
-        all.dones.push(done)?;
-    }
-    Ok(())
-}
-
-/// The tickets of a frontend's jobs, and its pass.
-fn posted<W: Ledger, L: Ledger, R: Wait>(
-    rt: &R,
-    alloc: Global,
-    hall: &Hall<W, L>,
-    mut pass: Pass<L>,
-) -> Result<(Pass<L>, Vec<Ticket>), AllocError> {
-    let mut tickets = Vec::new(alloc);
+    ended: &AtomicU64,
+) -> Option<Pass<L>> {
+    let mut pass = hall.pass(rt).ok()?;
     for _ in 0..EACH {
-        match hall.post(rt, pass, Job::Undo(0), Vec::new(alloc)) {
-            Ok((ticket, next)) => {
-                tickets.push(ticket)?;
-                pass = next;
-            }
-            Err((_, next)) => pass = next,
+        let (ticket, next) = hall.post(rt, pass, Job::Undo(0), Vec::new(alloc)).ok()?;
+        pass = next;
+        let done = hall.wait(rt, &ticket);
+        if done.outcome == Outcome::Undid(0, End::All) {
+            ended.fetch_add(1, Ordering::SeqCst);
         }
     }
-    Ok((pass, tickets))
+    Some(pass)
 }
 
-/// Each pass posts from a thread of its own. How many of these threads failed.
-fn post_from_threads<W: Ledger + Send + Sync, L: Ledger + Send + Sync, R: Threads + Wait + Sync>(
+/// Hands in the pass of a frontend.
+fn hand_in<L: Ledger, R: Wait>(rt: &R, passes: &Mutex<Vec<Pass<L>>>, pass: Option<Pass<L>>) {
+    if let Some(pass) = pass {
+        let _pushed = passes.lock(rt).push(pass);
+    }
+}
+
+/// Threads post, each with a pass of its own, beside the worker.
+fn posted_beside<
+    'a,
+    W: Ledger + Send + Sync,
+    L: Ledger + Send + Sync,
+    R: Threads + Wait + Abort + Sync,
+>(
     rt: &R,
     alloc: Global,
-    hall: &Hall<W, L>,
-    passes: Vec<Pass<L>>,
-    all: &Mutex<Away<L>>,
-) -> u64 {
-    let failed = AtomicU64::new(0);
-    let failed_seen = &failed;
+    worker: Worker<'a, W, L>,
+    passes: &Mutex<Vec<Pass<L>>>,
+    ended: &AtomicU64,
+) {
+    let hall = worker.hall;
     thread::scope(thread::scope_env(), rt, |scope| {
-        for pass in passes {
+        let started = scope.spawn(move || worker.serve(rt, Open));
+        assert!(rt; started.is_ok());
+        post_from_threads(rt, alloc, hall, passes, ended);
+        hall.shut(rt);
+    });
+}
+
+fn post_from_threads<
+    W: Ledger + Send + Sync,
+    L: Ledger + Send + Sync,
+    R: Threads + Wait + Abort + Sync,
+>(rt: &R, alloc: Global, hall: &Hall<W, L>, passes: &Mutex<Vec<Pass<L>>>, ended: &AtomicU64) {
+    thread::scope(thread::scope_env(), rt, |scope| {
+        for _ in 0..POSTERS {
             let started = scope.spawn(move || {
-                if frontend(rt, alloc, hall, pass, all).is_err() {
-                    failed_seen.fetch_add(1, Ordering::SeqCst);
-                }
+                hand_in(rt, passes, frontend(rt, alloc, hall, ended));
             });
-            if started.is_err() {
-                failed_seen.fetch_add(1, Ordering::SeqCst);
-            }
+            assert!(rt; started.is_ok());
         }
     });
-    failed.into_inner()
 }
 
 /// Many threads post, and nothing of it is lost.
@@ -237,30 +249,18 @@ fn post_from_many<
     W: Ledger + Send + Sync,
     L: Ledger + Send + Sync,
     R: Threads + Wait + Abort + Sync,
->(rt: &R, alloc: Global, desk: Desk<W, L>) -> Result<(), Fail> {
+>(rt: &R, alloc: Global, desk: Desk<W, L>) {
     let Desk { hall, seat } = desk;
-    let mut passes = Vec::new(alloc);
-    for _ in 0..POSTERS {
-        passes.push(pass(rt, &hall))?;
-    }
-    let all = Mutex::new(Away {
-        passes: Vec::new(alloc),
+    let passes = Mutex::new(Vec::new(alloc));
+    let ended = AtomicU64::new(0);
+    posted_beside(rt, alloc, Worker { hall: &hall, seat }, &passes, &ended);
+    assert!(rt; ended.into_inner() == 640);
+    let away = Away {
+        passes: passes.into_inner(),
         tickets: Vec::new(alloc),
         dones: Vec::new(alloc),
-    });
-    let (lent, all_seen) = (&hall, &all);
-    let worker = Worker { hall: lent, seat };
-    let failed = thread::scope(thread::scope_env(), rt, |scope| {
-        let started = scope.spawn(move || worker.serve(rt, Open));
-        assert!(rt; started.is_ok());
-        let failed = post_from_threads(rt, alloc, lent, passes, all_seen);
-        lent.shut(rt);
-        failed
-    });
-    let away = all.into_inner();
-    assert!(rt; failed == 0 && away.tickets.len() == 640 && away.dones.len() == 640);
+    };
     assert!(rt; closed(rt, hall, away) == 1280);
-    Ok(())
 }
 
 /// What is tried in a hall.
@@ -283,7 +283,10 @@ fn play_in<W: Ledger + Send + Sync, L: Ledger + Send + Sync, R: Threads + Wait +
     let desk = Desk::<W, L>::new(alloc, writes, posts)?;
     match scene {
         Scene::AskBesideACell => ask_beside_a_cell(rt, alloc, desk),
-        Scene::PostFromMany => post_from_many(rt, alloc, desk),
+        Scene::PostFromMany => {
+            post_from_many(rt, alloc, desk);
+            Ok(())
+        }
     }
 }
 
