@@ -2,16 +2,16 @@
 ghost use Rattle.std.specs.Prelude.{◌≡◌, ◌<◌};
 
 use crate::desk::{Away, Desk, cell, ends, is_world, pass, post};
-use kernel_ask::Done;
+use kernel_ask::{Ask, Done};
 use kernel_bell::RunnerSeat;
 use kernel_core::{End, Job, Outcome};
-use kernel_hall::{Gate, Hall, Moment, Pass, Ticket, work};
+use kernel_hall::{Gate, Hall, Moment, work};
 use std::alloc::{AllocError, Global};
 use std::marker::Brand;
 use std::process::Abort;
-use std::sync::atomic::{AtomicBool, AtomicU64, Ordering};
+use std::sync::Wait;
+use std::sync::atomic::{AtomicU64, Ordering};
 use std::sync::ledger::{Blank, Ledger};
-use std::sync::{Mutex, Wait};
 use std::test::Fail;
 use std::thread;
 use std::thread::Threads;
@@ -25,47 +25,46 @@ const POSTERS: u32 = 32;
 /// So many jobs each of them posts.
 const EACH: u32 = 20;
 
-/// What the worker and the frontends tell each other: that the worker has taken its first slice, that it may go on, and how many waits
-/// were too long.
-#[derive(Clone, Copy)]
-struct Marks<'a> {
-    is_held: &'a AtomicBool,
-    is_free: &'a AtomicBool,
-    late: &'a AtomicU64,
-}
+/// What the worker and a frontend tell each other by a word: nothing yet, that the worker has taken its first slice, and that it may go
+/// on; or that one of them waited for too long.
+const HELD: u64 = 1;
 
-/// Waits until it is true.
-fn await_mark(mark: &AtomicBool, late: &AtomicU64) {
+const FREE: u64 = 2;
+
+const LATE: u64 = 3;
+
+/// Waits until the word is this.
+fn await_word(word: &AtomicU64, wanted: u64) {
     for _ in 0..TURNS {
-        if mark.load(Ordering::SeqCst) {
+        if word.load(Ordering::SeqCst) == wanted {
             return;
         }
         thread::yield_now();
     }
-    late.fetch_add(1, Ordering::SeqCst);
+    word.store(LATE, Ordering::SeqCst);
 }
 
 /// A gate that holds the worker after its first slice.
 #[derive(Drop)]
 struct Hold<'a> {
-    marks: Marks<'a>,
+    word: &'a AtomicU64,
     is_over: bool,
-}
-
-fn holding(marks: Marks<'_>) -> Hold<'_> {
-    Hold {
-        marks,
-        is_over: false,
-    }
 }
 
 impl Gate for Hold<'_> {
     fn pass(&mut self, moment: Moment) {
         if moment == Moment::AfterSlice && !self.is_over {
             self.is_over = true;
-            self.marks.is_held.store(true, Ordering::SeqCst);
-            await_mark(self.marks.is_free, self.marks.late);
+            self.word.store(HELD, Ordering::SeqCst);
+            await_word(self.word, FREE);
         }
+    }
+}
+
+fn holding(word: &AtomicU64) -> Hold<'_> {
+    Hold {
+        word,
+        is_over: false,
     }
 }
 
@@ -97,16 +96,16 @@ fn ask_meanwhile<W: Ledger, L: Ledger, R: Wait + Abort>(
     rt: &R,
     alloc: Global,
     hall: &Hall<W, L>,
-    marks: Marks<'_>,
+    word: &AtomicU64,
 ) -> Result<Away<L>, AllocError> {
     let (first, second, third) = (pass(rt, hall), pass(rt, hall), pass(rt, hall));
     let long = cell(alloc, "int x from x = 0 do x += 1 until x = 5000")?;
     let (looped, first) = post(rt, alloc, hall, first, long);
     let (added, second) = post(rt, alloc, hall, second, cell(alloc, "x += 1")?);
     let (undone, first) = post(rt, alloc, hall, first, Job::Undo(1));
-    await_mark(marks.is_held, marks.late);
+    await_word(word, HELD);
     assert!(rt; is_world(rt, hall, &third, 3, "x = 512"));
-    marks.is_free.store(true, Ordering::SeqCst);
+    word.store(FREE, Ordering::SeqCst);
     let tickets = Vec::from_array(alloc, [looped, added, undone])?;
     let dones = ends(rt, alloc, hall, &tickets)?;
     assert!(rt; is_world(rt, hall, &third, 6, "x = 5000"));
@@ -150,13 +149,13 @@ fn held_beside<
     rt: &R,
     alloc: Global,
     worker: Worker<'a, W, L>,
-    marks: Marks<'a>,
+    word: &'a AtomicU64,
 ) -> Result<Away<L>, AllocError> {
     let hall = worker.hall;
     thread::scope(thread::scope_env(), rt, |scope| {
-        let started = scope.spawn(move || worker.serve(rt, holding(marks)));
+        let started = scope.spawn(move || worker.serve(rt, holding(word)));
         assert!(rt; started.is_ok());
-        let away = ask_meanwhile(rt, alloc, hall, marks);
+        let away = ask_meanwhile(rt, alloc, hall, word);
         hall.shut(rt);
         away
     })
@@ -168,99 +167,87 @@ fn ask_beside_a_cell<
     R: Threads + Wait + Abort + Sync,
 >(rt: &R, alloc: Global, desk: Desk<W, L>) -> Result<(), Fail> {
     let Desk { hall, seat } = desk;
-    let (is_held, is_free) = (AtomicBool::new(false), AtomicBool::new(false));
-    let late = AtomicU64::new(0);
-    let marks = Marks {
-        is_held: &is_held,
-        is_free: &is_free,
-        late: &late,
-    };
-    let away = held_beside(rt, alloc, Worker { hall: &hall, seat }, marks)?;
-    assert!(rt; late.load(Ordering::SeqCst) == 0 && are_three(&away.dones));
+    let word = AtomicU64::new(0);
+    let away = held_beside(rt, alloc, Worker { hall: &hall, seat }, &word)?;
+    assert!(rt; word.load(Ordering::SeqCst) == FREE && are_three(&away.dones));
     assert!(rt; closed(rt, hall, away) == 6);
     Ok(())
 }
 
-/// Posts jobs of a new pass, and waits for each. Counts those that ended as they should.
-fn frontend<W: Ledger, L: Ledger, R: Wait>(
-    rt: &R,
+/// A frontend's side of a hall.
+#[derive(Drop)]
+struct Frontend<'a, W: Ledger, L: Ledger> {
+    hall: &'a Hall<W, L>,
     alloc: Global,
-    hall: &Hall<W, L>,
-    ended: &AtomicU64,
-) -> Option<Pass<L>> {
-    let mut pass = hall.pass(rt).ok()?;
-    for _ in 0..EACH {
-        let (ticket, next) = hall.post(rt, pass, Job::Undo(0), Vec::new(alloc)).ok()?;
-        pass = next;
-        let done = hall.wait(rt, &ticket);
-        if done.outcome == Outcome::Undid(0, End::All) {
-            ended.fetch_add(1, Ordering::SeqCst);
+}
+
+impl<W: Ledger, L: Ledger> Frontend<'_, W, L> {
+    /// Posts jobs of a new pass, and waits for each.
+    fn post_all<R: Wait + Abort>(self, rt: &R) {
+        let Frontend { hall, alloc } = self;
+        let mut own = pass(rt, hall);
+        for _ in 0..EACH {
+            let (ticket, next) = post(rt, alloc, hall, own, Job::Undo(0));
+            own = next;
+            assert!(rt; hall.wait(rt, &ticket).outcome == Outcome::Undid(0, End::All));
         }
     }
-    Some(pass)
 }
 
-/// Hands in the pass of a frontend.
-fn hand_in<L: Ledger, R: Wait>(rt: &R, passes: &Mutex<Vec<Pass<L>>>, pass: Option<Pass<L>>) {
-    if let Some(pass) = pass {
-        let _pushed = passes.lock(rt).push(pass);
-    }
-}
-
-/// Threads post, each with a pass of its own, beside the worker.
-fn posted_beside<
-    'a,
-    W: Ledger + Send + Sync,
-    L: Ledger + Send + Sync,
-    R: Threads + Wait + Abort + Sync,
->(
-    rt: &R,
-    alloc: Global,
-    worker: Worker<'a, W, L>,
-    passes: &Mutex<Vec<Pass<L>>>,
-    ended: &AtomicU64,
-) {
-    let hall = worker.hall;
-    thread::scope(thread::scope_env(), rt, |scope| {
-        let started = scope.spawn(move || worker.serve(rt, Open));
-        assert!(rt; started.is_ok());
-        post_from_threads(rt, alloc, hall, passes, ended);
-        hall.shut(rt);
-    });
-}
-
+/// Each frontend posts from a thread of its own.
 fn post_from_threads<
     W: Ledger + Send + Sync,
     L: Ledger + Send + Sync,
     R: Threads + Wait + Abort + Sync,
->(rt: &R, alloc: Global, hall: &Hall<W, L>, passes: &Mutex<Vec<Pass<L>>>, ended: &AtomicU64) {
+>(rt: &R, frontends: Vec<Frontend<'_, W, L>>) {
     thread::scope(thread::scope_env(), rt, |scope| {
-        for _ in 0..POSTERS {
-            let started = scope.spawn(move || {
-                hand_in(rt, passes, frontend(rt, alloc, hall, ended));
-            });
+        for frontend in frontends {
+            let started = scope.spawn(move || frontend.post_all(rt));
             assert!(rt; started.is_ok());
         }
     });
 }
 
-/// Many threads post, and nothing of it is lost.
+/// So many frontends of a hall.
+fn frontends<W: Ledger, L: Ledger>(
+    alloc: Global,
+    hall: &Hall<W, L>,
+) -> Result<Vec<Frontend<'_, W, L>>, AllocError> {
+    let mut all = Vec::new(alloc);
+    for _ in 0..POSTERS {
+        all.push(Frontend { hall, alloc })?;
+    }
+    Ok(all)
+}
+
+/// Threads post beside the worker.
+fn posted_beside<
+    'a,
+    W: Ledger + Send + Sync,
+    L: Ledger + Send + Sync,
+    R: Threads + Wait + Abort + Sync,
+>(rt: &R, alloc: Global, worker: Worker<'a, W, L>) {
+    let hall = worker.hall;
+    thread::scope(thread::scope_env(), rt, |scope| {
+        let started = scope.spawn(move || worker.serve(rt, Open));
+        assert!(rt; started.is_ok());
+        post_from_threads(rt, frontends);
+        hall.shut(rt);
+    });
+}
+
+/// Many threads post, and nothing of it is lost: the minutes have each post and its end.
 fn post_from_many<
     W: Ledger + Send + Sync,
     L: Ledger + Send + Sync,
     R: Threads + Wait + Abort + Sync,
 >(rt: &R, alloc: Global, desk: Desk<W, L>) {
     let Desk { hall, seat } = desk;
-    let passes = Mutex::new(Vec::new(alloc));
-    let ended = AtomicU64::new(0);
-    posted_beside(rt, alloc, Worker { hall: &hall, seat }, &passes, &ended);
-    assert!(rt; ended.into_inner() == 640);
-    let away = Away {
-        passes: passes.into_inner(),
-        tickets: Vec::new(alloc),
-        dones: Vec::new(alloc),
-    };
-    assert!(rt; closed(rt, hall, away) == 1280);
+    posted_beside(rt, alloc, Worker { hall: &hall, seat });
+    let last = pass(rt, &hall);
+    let answer = hall.ask(rt, &last, Ask::Comms).ok().expect(rt, "an answer");
+    assert!(rt; last.lane() == 33 && answer.seen == 1280);
+    Ok(())
 }
 
 /// What is tried in a hall.
@@ -283,10 +270,7 @@ fn play_in<W: Ledger + Send + Sync, L: Ledger + Send + Sync, R: Threads + Wait +
     let desk = Desk::<W, L>::new(alloc, writes, posts)?;
     match scene {
         Scene::AskBesideACell => ask_beside_a_cell(rt, alloc, desk),
-        Scene::PostFromMany => {
-            post_from_many(rt, alloc, desk);
-            Ok(())
-        }
+        Scene::PostFromMany => post_from_many(rt, alloc, desk),
     }
 }
 
