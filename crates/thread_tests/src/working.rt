@@ -19,11 +19,8 @@ use std::thread::Threads;
 /// Nobody waits for more turns than these.
 const TURNS: u32 = 1_000_000;
 
-/// So many threads post.
-const POSTERS: u32 = 32;
-
-/// So many jobs each of them posts.
-const EACH: u32 = 20;
+/// So many jobs each thread posts.
+const EACH: u32 = 200;
 
 /// What the worker and a frontend tell each other by a word: nothing yet, that the worker has taken its first slice, and that it may go
 /// on; or that one of them waited for too long.
@@ -174,14 +171,21 @@ fn ask_beside_a_cell<
     Ok(())
 }
 
-/// A frontend's side of a hall.
+/// Frontends' side of a hall.
 #[derive(Drop)]
 struct Frontend<'a, W: Ledger, L: Ledger> {
     hall: &'a Hall<W, L>,
     alloc: Global,
 }
 
-impl<W: Ledger, L: Ledger> Frontend<'_, W, L> {
+impl<'a, W: Ledger, L: Ledger> Frontend<'a, W, L> {
+    fn again(&self) -> Frontend<'a, W, L> {
+        Frontend {
+            hall: self.hall,
+            alloc: self.alloc,
+        }
+    }
+
     /// Posts jobs of a new pass, and waits for each.
     fn post_all<R: Wait + Abort>(self, rt: &R) {
         let Frontend { hall, alloc } = self;
@@ -194,30 +198,34 @@ impl<W: Ledger, L: Ledger> Frontend<'_, W, L> {
     }
 }
 
-/// Each frontend posts from a thread of its own.
-fn post_from_threads<
+/// Two threads post.
+fn post_by_two<
+    'a,
     W: Ledger + Send + Sync,
     L: Ledger + Send + Sync,
     R: Threads + Wait + Abort + Sync,
->(rt: &R, frontends: Vec<Frontend<'_, W, L>>) {
+>(rt: &R, frontend: Frontend<'a, W, L>) {
+    let other = frontend.again();
     thread::scope(thread::scope_env(), rt, |scope| {
-        for frontend in frontends {
-            let started = scope.spawn(move || frontend.post_all(rt));
-            assert!(rt; started.is_ok());
-        }
+        let started = scope.spawn(move || other.post_all(rt));
+        assert!(rt; started.is_ok());
+        frontend.post_all(rt);
     });
 }
 
-/// So many frontends of a hall.
-fn frontends<W: Ledger, L: Ledger>(
-    alloc: Global,
-    hall: &Hall<W, L>,
-) -> Result<Vec<Frontend<'_, W, L>>, AllocError> {
-    let mut all = Vec::new(alloc);
-    for _ in 0..POSTERS {
-        all.push(Frontend { hall, alloc })?;
-    }
-    Ok(all)
+/// Four threads post.
+fn post_by_four<
+    'a,
+    W: Ledger + Send + Sync,
+    L: Ledger + Send + Sync,
+    R: Threads + Wait + Abort + Sync,
+>(rt: &R, frontend: Frontend<'a, W, L>) {
+    let other = frontend.again();
+    thread::scope(thread::scope_env(), rt, |scope| {
+        let started = scope.spawn(move || post_by_two(rt, other));
+        assert!(rt; started.is_ok());
+        post_by_two(rt, frontend);
+    });
 }
 
 /// Threads post beside the worker.
@@ -226,35 +234,38 @@ fn posted_beside<
     W: Ledger + Send + Sync,
     L: Ledger + Send + Sync,
     R: Threads + Wait + Abort + Sync,
->(rt: &R, alloc: Global, worker: Worker<'a, W, L>) {
+>(rt: &R, worker: Worker<'a, W, L>, frontend: Frontend<'a, W, L>) {
     let hall = worker.hall;
     thread::scope(thread::scope_env(), rt, |scope| {
         let started = scope.spawn(move || worker.serve(rt, Open));
         assert!(rt; started.is_ok());
-        post_from_threads(rt, frontends);
+        post_by_four(rt, frontend);
         hall.shut(rt);
     });
 }
 
-/// Many threads post, and nothing of it is lost: the minutes have each post and its end.
-fn post_from_many<
+/// Threads post, and nothing of it is lost: the minutes have each post and its end.
+fn post_from_threads<
     W: Ledger + Send + Sync,
     L: Ledger + Send + Sync,
     R: Threads + Wait + Abort + Sync,
 >(rt: &R, alloc: Global, desk: Desk<W, L>) {
     let Desk { hall, seat } = desk;
-    posted_beside(rt, alloc, Worker { hall: &hall, seat });
+    posted_beside(
+        rt,
+        Worker { hall: &hall, seat },
+        Frontend { hall: &hall, alloc },
+    );
     let last = pass(rt, &hall);
     let answer = hall.ask(rt, &last, Ask::Comms).ok().expect(rt, "an answer");
-    assert!(rt; last.lane() == 33 && answer.seen == 1280);
-    Ok(())
+    assert!(rt; last.lane() == 5 && answer.seen == 1600);
 }
 
 /// What is tried in a hall.
 #[derive(Clone, Copy)]
 enum Scene {
     AskBesideACell,
-    PostFromMany,
+    PostFromThreads,
 }
 
 fn play_in<W: Ledger + Send + Sync, L: Ledger + Send + Sync, R: Threads + Wait + Abort + Sync>(
@@ -270,7 +281,10 @@ fn play_in<W: Ledger + Send + Sync, L: Ledger + Send + Sync, R: Threads + Wait +
     let desk = Desk::<W, L>::new(alloc, writes, posts)?;
     match scene {
         Scene::AskBesideACell => ask_beside_a_cell(rt, alloc, desk),
-        Scene::PostFromMany => post_from_many(rt, alloc, desk),
+        Scene::PostFromThreads => {
+            post_from_threads(rt, alloc, desk);
+            Ok(())
+        }
     }
 }
 
@@ -286,5 +300,5 @@ fn a_question_is_answered_while_a_cell_runs(rt: HostRuntime) -> Result<(), Fail>
 
 #[test]
 fn threads_that_post_lose_nothing(rt: HostRuntime) -> Result<(), Fail> {
-    play(&rt, rt.alloc(), Scene::PostFromMany)
+    play(&rt, rt.alloc(), Scene::PostFromThreads)
 }
