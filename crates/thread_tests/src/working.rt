@@ -1,116 +1,64 @@
-//! Halls with a worker on a thread of its own.
+//! A hall's worker, with a gate that asks between two slices.
 ghost use Rattle.std.specs.Prelude.{◌≡◌, ◌<◌};
 
 use crate::desk::{Away, Desk, cell, ends, is_world, pass, post};
 use kernel_ask::{Ask, Done};
-use kernel_bell::RunnerSeat;
 use kernel_core::{End, Job, Outcome};
-use kernel_hall::{Gate, Hall, Moment, work};
-use std::alloc::{AllocError, Global};
+use kernel_hall::{Gate, Hall, Moment, Pass, Ticket, work};
+use std::alloc::Global;
 use std::marker::Brand;
 use std::process::Abort;
 use std::sync::Wait;
-use std::sync::atomic::{AtomicU64, Ordering};
 use std::sync::ledger::{Blank, Ledger};
 use std::test::Fail;
-use std::thread;
-use std::thread::Threads;
 
-/// Nobody waits for more turns than these.
-const TURNS: u32 = 1_000_000;
+/// A gate that asks for the world after the first slice, and shuts the hall once all three jobs have ended. A worker that held the lock
+/// there would not come back.
+#[derive(Drop)]
+struct Asking<'a, W: Ledger, L: Ledger, R: Wait> {
+    rt: &'a R,
+    hall: &'a Hall<W, L>,
+    pass: &'a Pass<L>,
+    is_asked: bool,
+    is_answered: bool,
+}
 
-/// So many jobs each thread posts.
-const EACH: u32 = 200;
-
-/// What the worker and a frontend tell each other by a word: nothing yet, that the worker has taken its first slice, and that it may go
-/// on; or that one of them waited for too long.
-const HELD: u64 = 1;
-
-const FREE: u64 = 2;
-
-const LATE: u64 = 3;
-
-/// Waits until the word is this.
-fn await_word(word: &AtomicU64, wanted: u64) {
-    for _ in 0..TURNS {
-        if word.load(Ordering::SeqCst) == wanted {
+impl<W: Ledger, L: Ledger, R: Wait> Gate for Asking<'_, W, L, R> {
+    fn pass(&mut self, moment: Moment) {
+        if moment == Moment::BeforeBegin {
             return;
         }
-        thread::yield_now();
-    }
-    word.store(LATE, Ordering::SeqCst);
-}
-
-/// A gate that holds the worker after its first slice.
-#[derive(Drop)]
-struct Hold<'a> {
-    word: &'a AtomicU64,
-    is_over: bool,
-}
-
-impl Gate for Hold<'_> {
-    fn pass(&mut self, moment: Moment) {
-        if moment == Moment::AfterSlice && !self.is_over {
-            self.is_over = true;
-            self.word.store(HELD, Ordering::SeqCst);
-            await_word(self.word, FREE);
+        if !self.is_asked {
+            self.is_asked = true;
+            self.is_answered = is_world(self.rt, self.hall, self.pass, 3, "x = 512");
+        }
+        if minutes(self.rt, self.hall, self.pass) == 6 {
+            self.hall.shut(self.rt);
         }
     }
 }
 
-fn holding(word: &AtomicU64) -> Hold<'_> {
-    Hold {
-        word,
-        is_over: false,
+/// How many minutes the hall has; 0 where there is no answer.
+fn minutes<W: Ledger, L: Ledger, R: Wait>(rt: &R, hall: &Hall<W, L>, pass: &Pass<L>) -> usize {
+    match hall.ask(rt, pass, Ask::Comms) {
+        Ok(answer) => answer.seen,
+        Err(_) => 0,
     }
 }
 
-/// A gate that holds nobody.
-#[derive(Drop)]
-struct Open;
-
-impl Gate for Open {
-    fn pass(&mut self, _moment: Moment) {}
-}
-
-/// The worker's side of a hall.
-#[derive(Drop)]
-struct Worker<'a, W: Ledger, L: Ledger> {
-    hall: &'a Hall<W, L>,
-    seat: RunnerSeat,
-    ghost own: { seat.bell ≡ hall.now },
-}
-
-impl<W: Ledger, L: Ledger> Worker<'_, W, L> {
-    fn serve<R: Wait, G: Gate + Drop>(self, rt: &R, mut gate: G) {
-        let Worker { hall, seat } = self;
-        work(hall, rt, seat, &mut gate);
-    }
-}
-
-/// Three passes: the first posts a loop and, behind a cell of the second, an undo. While the loop runs the third asks for the world.
-fn ask_meanwhile<W: Ledger, L: Ledger, R: Wait + Abort>(
+/// Two passes: the first posts a loop and, behind a cell of the second, an undo.
+fn three_jobs<W: Ledger, L: Ledger, R: Wait + Abort>(
     rt: &R,
     alloc: Global,
     hall: &Hall<W, L>,
-    word: &AtomicU64,
-) -> Result<Away<L>, AllocError> {
-    let (first, second, third) = (pass(rt, hall), pass(rt, hall), pass(rt, hall));
+) -> Result<(Vec<Pass<L>>, Vec<Ticket>), Fail> {
+    let (first, second) = (pass(rt, hall), pass(rt, hall));
     let long = cell(alloc, "int x from x = 0 do x += 1 until x = 5000")?;
     let (looped, first) = post(rt, alloc, hall, first, long);
     let (added, second) = post(rt, alloc, hall, second, cell(alloc, "x += 1")?);
     let (undone, first) = post(rt, alloc, hall, first, Job::Undo(1));
-    await_word(word, HELD);
-    assert!(rt; is_world(rt, hall, &third, 3, "x = 512"));
-    word.store(FREE, Ordering::SeqCst);
-    let tickets = Vec::from_array(alloc, [looped, added, undone])?;
-    let dones = ends(rt, alloc, hall, &tickets)?;
-    assert!(rt; is_world(rt, hall, &third, 6, "x = 5000"));
-    Ok(Away {
-        passes: Vec::from_array(alloc, [first, second, third])?,
-        tickets,
-        dones,
-    })
+    let passes = Vec::from_array(alloc, [first, second])?;
+    Ok((passes, Vec::from_array(alloc, [looped, added, undone])?))
 }
 
 /// Whether these are the outcomes of the three jobs.
@@ -136,169 +84,52 @@ fn closed<W: Ledger, L: Ledger, R: Abort>(rt: &R, hall: Hall<W, L>, away: Away<L
     closed.ok().expect(rt, "minutes").entries().len()
 }
 
-/// The worker runs beside the frontends, and is held after its first slice until the question is answered.
-fn held_beside<
-    'a,
-    W: Ledger + Send + Sync,
-    L: Ledger + Send + Sync,
-    R: Threads + Wait + Abort + Sync,
->(
+/// A third pass asks between two slices of the loop.
+fn ask_between_slices<W: Ledger, L: Ledger, R: Wait + Abort>(
     rt: &R,
     alloc: Global,
-    worker: Worker<'a, W, L>,
-    word: &'a AtomicU64,
-) -> Result<Away<L>, AllocError> {
-    let hall = worker.hall;
-    thread::scope(thread::scope_env(), rt, |scope| {
-        let started = scope.spawn(move || worker.serve(rt, holding(word)));
-        assert!(rt; started.is_ok());
-        let away = ask_meanwhile(rt, alloc, hall, word);
-        hall.shut(rt);
-        away
-    })
-}
-
-fn ask_beside_a_cell<
-    W: Ledger + Send + Sync,
-    L: Ledger + Send + Sync,
-    R: Threads + Wait + Abort + Sync,
->(rt: &R, alloc: Global, desk: Desk<W, L>) -> Result<(), Fail> {
+    desk: Desk<W, L>,
+) -> Result<(), Fail> {
     let Desk { hall, seat } = desk;
-    let word = AtomicU64::new(0);
-    let away = held_beside(rt, alloc, Worker { hall: &hall, seat }, &word)?;
-    assert!(rt; word.load(Ordering::SeqCst) == FREE && are_three(&away.dones));
+    let (passes, tickets) = three_jobs(rt, alloc, &hall)?;
+    let third = pass(rt, &hall);
+    let mut gate = Asking {
+        rt,
+        hall: &hall,
+        pass: &third,
+        is_asked: false,
+        is_answered: false,
+    };
+    work(&hall, rt, seat, &mut gate);
+    assert!(rt; gate.is_answered && is_world(rt, &hall, &third, 6, "x = 5000"));
+    let dones = ends(rt, alloc, &hall, &tickets)?;
+    assert!(rt; are_three(&dones));
+    let away = Away {
+        passes,
+        tickets,
+        dones,
+    };
     assert!(rt; closed(rt, hall, away) == 6);
     Ok(())
 }
 
-/// Frontends' side of a hall.
-#[derive(Drop)]
-struct Frontend<'a, W: Ledger, L: Ledger> {
-    hall: &'a Hall<W, L>,
-    alloc: Global,
-}
-
-impl<'a, W: Ledger, L: Ledger> Frontend<'a, W, L> {
-    fn again(&self) -> Frontend<'a, W, L> {
-        Frontend {
-            hall: self.hall,
-            alloc: self.alloc,
-        }
-    }
-
-    /// Posts jobs of a new pass, and waits for each.
-    fn post_all<R: Wait + Abort>(self, rt: &R) {
-        let Frontend { hall, alloc } = self;
-        let mut own = pass(rt, hall);
-        for _ in 0..EACH {
-            let (ticket, next) = post(rt, alloc, hall, own, Job::Undo(0));
-            own = next;
-            assert!(rt; hall.wait(rt, &ticket).outcome == Outcome::Undid(0, End::All));
-        }
-    }
-}
-
-/// Two threads post.
-fn post_by_two<
-    'a,
-    W: Ledger + Send + Sync,
-    L: Ledger + Send + Sync,
-    R: Threads + Wait + Abort + Sync,
->(rt: &R, frontend: Frontend<'a, W, L>) {
-    let other = frontend.again();
-    thread::scope(thread::scope_env(), rt, |scope| {
-        let started = scope.spawn(move || other.post_all(rt));
-        assert!(rt; started.is_ok());
-        frontend.post_all(rt);
-    });
-}
-
-/// Four threads post.
-fn post_by_four<
-    'a,
-    W: Ledger + Send + Sync,
-    L: Ledger + Send + Sync,
-    R: Threads + Wait + Abort + Sync,
->(rt: &R, frontend: Frontend<'a, W, L>) {
-    let other = frontend.again();
-    thread::scope(thread::scope_env(), rt, |scope| {
-        let started = scope.spawn(move || post_by_two(rt, other));
-        assert!(rt; started.is_ok());
-        post_by_two(rt, frontend);
-    });
-}
-
-/// Threads post beside the worker.
-fn posted_beside<
-    'a,
-    W: Ledger + Send + Sync,
-    L: Ledger + Send + Sync,
-    R: Threads + Wait + Abort + Sync,
->(rt: &R, worker: Worker<'a, W, L>, frontend: Frontend<'a, W, L>) {
-    let hall = worker.hall;
-    thread::scope(thread::scope_env(), rt, |scope| {
-        let started = scope.spawn(move || worker.serve(rt, Open));
-        assert!(rt; started.is_ok());
-        post_by_four(rt, frontend);
-        hall.shut(rt);
-    });
-}
-
-/// Threads post, and nothing of it is lost: the minutes have each post and its end.
-fn post_from_threads<
-    W: Ledger + Send + Sync,
-    L: Ledger + Send + Sync,
-    R: Threads + Wait + Abort + Sync,
->(rt: &R, alloc: Global, desk: Desk<W, L>) {
-    let Desk { hall, seat } = desk;
-    posted_beside(
-        rt,
-        Worker { hall: &hall, seat },
-        Frontend { hall: &hall, alloc },
-    );
-    let last = pass(rt, &hall);
-    let answer = hall.ask(rt, &last, Ask::Comms).ok().expect(rt, "an answer");
-    assert!(rt; last.lane() == 5 && answer.seen == 1600);
-}
-
-/// What is tried in a hall.
-#[derive(Clone, Copy)]
-enum Scene {
-    AskBesideACell,
-    PostFromThreads,
-}
-
-fn play_in<W: Ledger + Send + Sync, L: Ledger + Send + Sync, R: Threads + Wait + Abort + Sync>(
+fn play_in<W: Ledger, L: Ledger, R: Wait + Abort>(
     rt: &R,
     alloc: Global,
     writes: Blank,
     posts: Blank,
-    scene: Scene,
 ) -> Result<(), Fail>
     requires writes { (writes.name ≡ W.name) × (writes.parts ≡ W.parts) × (0 < W.parts) }
     requires posts { (posts.name ≡ L.name) × (posts.parts ≡ 65537) × (posts.parts ≡ L.parts) }
 {
-    let desk = Desk::<W, L>::new(alloc, writes, posts)?;
-    match scene {
-        Scene::AskBesideACell => ask_beside_a_cell(rt, alloc, desk),
-        Scene::PostFromThreads => {
-            post_from_threads(rt, alloc, desk);
-            Ok(())
-        }
-    }
+    ask_between_slices(rt, alloc, Desk::<W, L>::new(alloc, writes, posts)?)
 }
 
-/// Tries something in a new hall.
-fn play<R: Threads + Wait + Abort + Sync>(rt: &R, alloc: Global, scene: Scene) -> Result<(), Fail> {
-    play_in::<Brand, Brand, R>(rt, alloc, Blank::new(1), Blank::new(65_537), scene)
+fn play<R: Wait + Abort>(rt: &R, alloc: Global) -> Result<(), Fail> {
+    play_in::<Brand, Brand, R>(rt, alloc, Blank::new(1), Blank::new(65_537))
 }
 
 #[test]
 fn a_question_is_answered_while_a_cell_runs(rt: HostRuntime) -> Result<(), Fail> {
-    play(&rt, rt.alloc(), Scene::AskBesideACell)
-}
-
-#[test]
-fn threads_that_post_lose_nothing(rt: HostRuntime) -> Result<(), Fail> {
-    play(&rt, rt.alloc(), Scene::PostFromThreads)
+    play(&rt, rt.alloc())
 }
