@@ -3,6 +3,7 @@ ghost use Rattle.std.specs.Prelude.{◌≡◌, ◌<◌};
 
 use crate::desk::{Away, Desk, cell, ends, is_world, pass, post};
 use kernel_ask::{Ask, Done};
+use kernel_bell::RunnerSeat;
 use kernel_core::{End, Job, Outcome};
 use kernel_hall::{Gate, Hall, Moment, Pass, Ticket, work};
 use std::alloc::Global;
@@ -84,6 +85,18 @@ fn closed<W: Ledger, L: Ledger, R: Abort>(rt: &R, hall: Hall<W, L>, away: Away<L
     closed.ok().expect(rt, "minutes").entries().len()
 }
 
+/// The worker passes the gate until the hall is shut: whether the gate was answered.
+fn is_answered<'a, W: Ledger, L: Ledger, R: Wait>(
+    seat: RunnerSeat,
+    mut gate: Asking<'a, W, L, R>,
+) -> bool
+    requires { seat.bell ≡ gate.hall.now }
+{
+    let (rt, hall) = (gate.rt, gate.hall);
+    work(hall, rt, seat, &mut gate);
+    gate.is_answered
+}
+
 /// A third pass asks between two slices of the loop.
 fn ask_between_slices<W: Ledger, L: Ledger, R: Wait + Abort>(
     rt: &R,
@@ -93,15 +106,15 @@ fn ask_between_slices<W: Ledger, L: Ledger, R: Wait + Abort>(
     let Desk { hall, seat } = desk;
     let (passes, tickets) = three_jobs(rt, alloc, &hall)?;
     let third = pass(rt, &hall);
-    let mut gate = Asking {
+    let gate = Asking {
         rt,
         hall: &hall,
         pass: &third,
         is_asked: false,
         is_answered: false,
     };
-    work(&hall, rt, seat, &mut gate);
-    assert!(rt; gate.is_answered && is_world(rt, &hall, &third, 6, "x = 5000"));
+    assert!(rt; is_answered(seat, gate));
+    assert!(rt; is_world(rt, &hall, &third, 6, "x = 5000"));
     let dones = ends(rt, alloc, &hall, &tickets)?;
     assert!(rt; are_three(&dones));
     let away = Away {
