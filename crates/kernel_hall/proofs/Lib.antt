@@ -1,7 +1,2 @@
 pub mod Posts
-pub mod Ends
-pub mod Filtered
-pub mod Numbered
-pub mod InOrder
-pub mod Orders
-pub mod Tickets
+pub mod Extras

@@ -1,8 +1,9 @@
 //! What is made for a job that ends, to be fetched by the first wait for it.
-ghost use Rattle.std.specs.Prelude.{◌≡◌, IfSome, map};
+ghost use Rattle.std.specs.Prelude.{◌≡◌, ◌-◌, [], IfSome, None, map};
 ghost use Rattle.kernel_core.specs.State.{Idle};
 ghost use Rattle.kernel_core.specs.Written.{entry_of};
-ghost use Rattle.kernel_hall.specs.Ends.{HasEnd};
+ghost use Rattle.kernel_audit.specs.Ends.{HasEnd};
+ghost use Rattle.kernel_hall.specs.Extras.{IsTold};
 
 use kernel_ask::{Done, NamedValue, Wish, evaluate, is_settled, shown_text, stands_at_end};
 use kernel_core::{Entry, Job, Kernel, Outcome};
@@ -70,6 +71,10 @@ impl Extra {
     fn done(&mut self, alloc: Global, minutes: &[Entry], wanted: u64) -> Option<Done>
         ensures number { IfSome result (λ d. d.number ≡ wanted) }
         ensures end { IfSome result (HasEnd (map entry_of minutes.now)) }
+        ensures shown { IfSome result (λ d. d.shown ≡ self.old.shown) }
+        ensures values { IfSome result (λ d. d.values ≡ self.old.values) }
+        ensures none_shown { IfSome result (λ d. self.new.shown ≡ None) }
+        ensures no_values { IfSome result (λ d. self.new.values.items ≡ []) }
     {
         let place = self.ended?;
         let Entry::Ended {
@@ -136,7 +141,9 @@ pub(crate) fn settle_last<W: Ledger>(alloc: Global, kernel: &Kernel<W>, extras: 
 }
 
 /// Where the extra of a post stands.
-fn index_of(number: u64) -> Option<usize> {
+fn index_of(number: u64) -> Option<usize>
+    ensures { IfSome result (λ index. index ≡ number - 1) }
+{
     number.checked_sub(1).map(|index| index as usize)
 }
 
@@ -149,7 +156,11 @@ pub(crate) fn fetch<W: Ledger>(
 ) -> Option<Done>
     ensures number { IfSome result (λ d. d.number ≡ number) }
     ensures end { IfSome result (HasEnd kernel.now.machine.minutes) }
+    ensures told { IfSome result (λ d. IsTold extras.old number d extras.new) }
 {
-    let extra = extras.get_mut(index_of(number)?)?;
-    extra.done(alloc, kernel.minutes(), number)
+    let index = index_of(number)?;
+    if index >= extras.len() {
+        return None;
+    }
+    extras[index].done(alloc, kernel.minutes(), number)
 }

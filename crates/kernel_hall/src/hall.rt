@@ -3,18 +3,17 @@ ghost use Rattle.std.specs.Prelude.{◌≡◌, ℕ, ◌+◌, ◌-◌, ◌^◌, �
 ghost use Rattle.kernel_core.specs.Runs.{Machine};
 ghost use Rattle.kernel_core.specs.LegalMinutes.{IsLegalMachine};
 ghost use Rattle.kernel_ask.specs.Answer.{IsAnswer};
-ghost use Rattle.kernel_hall.specs.Passes.{pass_of, ticket_of};
+ghost use Rattle.kernel_audit.specs.Passes.{pass_of, ticket_of};
 ghost use Rattle.kernel_hall.specs.Turns.{IsTurn};
-ghost use Rattle.kernel_hall.specs.Ends.{HasEnd};
-ghost use Rattle.kernel_hall.specs.Audit.{Audited, IsAuditFault};
+ghost use Rattle.kernel_audit.specs.Ends.{HasEnd};
+ghost use Rattle.kernel_audit.specs.Audit.{Audited, IsAuditFault};
 
 use crate::comm::{CommChange, comm_on};
-use crate::comparison::AuditFault;
 use crate::minutes::Minutes;
-use crate::pass::{Pass, Ticket};
 use crate::state::State;
 use crate::turn::Turn;
 use kernel_ask::{Answer, Ask, Comms, Done, HallFault, Wish};
+use kernel_audit::{AuditFault, Pass, Ticket};
 use kernel_bell::{Bell, RunnerSeat};
 use kernel_core::{Job, Kernel, Phase, PostFault};
 use std::alloc::Global;

@@ -7,26 +7,20 @@
 #![tactic(auto)]
 
 mod comm;
-mod comparison;
 mod extra;
 mod hall;
-mod mark;
 mod minutes;
-mod order;
-mod pass;
 mod passes;
-mod same;
 mod state;
 mod turn;
 mod worker;
 
 pub use comm::{CommChange, comm_on};
-pub use comparison::{AuditFault, audit};
 pub use extra::Extra;
 pub use hall::Hall;
 pub use kernel_ask::{Answer, Ask, Comms, Done, HallFault, Wish, ask_on};
+pub use kernel_audit::{AuditFault, Pass, Ticket, audit};
 pub use minutes::Minutes;
-pub use pass::{Pass, Ticket};
 pub use passes::{PASSES, Passes};
 pub use state::State;
 pub use turn::{Turn, turn_on};

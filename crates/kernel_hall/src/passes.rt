@@ -1,8 +1,8 @@
 //! The passes that are still to be given.
 ghost use Rattle.std.specs.Prelude.{◌≡◌, ◌+◌, ◌≤◌, IfSome, IfNone};
-ghost use Rattle.kernel_hall.specs.Passes.{pass_of};
+ghost use Rattle.kernel_audit.specs.Passes.{pass_of};
 
-use crate::pass::Pass;
+use kernel_audit::Pass;
 use std::marker::Model;
 use std::sync::ledger::{Ledger, Share};
 
@@ -48,10 +48,6 @@ impl<L: Ledger> Passes<L> {
         }
         let share = self.rest.split_off(1, 0);
         self.given += 1;
-        Some(Pass {
-            lane: self.given,
-            posts: 0,
-            share,
-        })
+        Some(Pass::new(self.given, share))
     }
 }

@@ -5,18 +5,18 @@ ghost use Rattle.kernel_core.specs.Minutes.{posted_in};
 ghost use Rattle.kernel_core.specs.LegalMinutes.{IsLegalMachine};
 ghost use Rattle.kernel_core.specs.Runs.{IsRefusal, posted, shut};
 ghost use Rattle.kernel_ask.specs.Answer.{IsAnswer};
-ghost use Rattle.kernel_hall.specs.Passes.{pass_of, ticket_of};
+ghost use Rattle.kernel_audit.specs.Passes.{pass_of, ticket_of};
 ghost use Rattle.kernel_hall.specs.Turns.{IsTurn};
-ghost use Rattle.kernel_hall.specs.Ends.{HasEnd};
-ghost use Rattle.kernel_hall.specs.Audit.{Audited, IsAuditFault};
+ghost use Rattle.kernel_hall.specs.Extras.{IsTold};
+ghost use Rattle.kernel_audit.specs.Ends.{HasEnd};
+ghost use Rattle.kernel_audit.specs.Audit.{Audited, IsAuditFault};
 
-use crate::comparison::{AuditFault, audit};
 use crate::extra::{Extra, fetch, settle_last};
 use crate::minutes::Minutes;
-use crate::pass::{Pass, Ticket};
 use crate::passes::Passes;
 use crate::turn::{Turn, turn_on};
 use kernel_ask::{Answer, Ask, Comms, Done, HallFault, Wish, ask_on};
+use kernel_audit::{AuditFault, Pass, Ticket, audit};
 use kernel_bell::{Bell, RunnerSeat};
 use kernel_core::{Job, Kernel, PostFault};
 use std::alloc::Global;
@@ -82,7 +82,6 @@ impl<W: Ledger, L: Ledger> State<W, L> {
             book,
             ..
         } = self;
-        let Pass { lane, posts, share } = pass;
         if let Some(fault) = kernel.post_fault() {
             return Err(fault);
         }
@@ -95,14 +94,12 @@ impl<W: Ledger, L: Ledger> State<W, L> {
         if extras.reserve(1).is_err() {
             return Err(PostFault::Memory);
         }
-        book.audit(share);
-        let number = kernel.post(*lane, copy)?;
+        let number = kernel.post(pass.lane(), copy)?;
         extras.push_reserved(extra);
-        book.add(share, 1);
-        *posts += 1;
+        pass.count(book);
         Ok(Ticket {
-            lane: *lane,
-            nth: *posts,
+            lane: pass.lane(),
+            nth: pass.posts(),
             number,
             job,
         })
@@ -125,10 +122,11 @@ impl<W: Ledger, L: Ledger> State<W, L> {
         turn
     }
 
-    /// What came of the job of this number, if it has ended.
+    /// What came of the job of this number, if it has ended. What was made as it ended is told once.
     pub fn done(&mut self, number: u64) -> Option<Done>
         ensures number { IfSome result (λ d. d.number ≡ number) }
         ensures end { IfSome result (HasEnd self.old.kernel.machine.minutes) }
+        ensures told { IfSome result (λ d. IsTold self.old.extras.items number d self.new.extras.items) }
         ensures legal { IsLegalMachine self.old.kernel.machine }
         ensures kernel { self.new.kernel ≡ self.old.kernel }
         ensures comms { self.new.comms ≡ self.old.comms }

@@ -6,3 +6,11 @@
 mod bell;
 #[cfg(test)]
 mod board;
+#[cfg(test)]
+mod closing;
+#[cfg(test)]
+mod desk;
+#[cfg(test)]
+mod hall;
+#[cfg(test)]
+mod working;

@@ -1,6 +1,6 @@
 use Rattle.std.proofs.Common.{subst, sym}
-use Rattle.kernel_hall.specs.Marks.{EndsInOrder}
-use Rattle.kernel_hall.proofs.InOrder.{in_order}
+use Rattle.kernel_audit.specs.Marks.{EndsInOrder}
+use Rattle.kernel_audit.proofs.InOrder.{in_order}
 use Rattle.kernel_hall.proofs.state.State.close.Goals as goal
 
 pub audit-requires : goal.audit-requires

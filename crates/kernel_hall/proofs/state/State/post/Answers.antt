@@ -9,5 +9,5 @@ pub invariant_of-self-2 : goal.invariant_of-self-2
 invariant_of-self-2 g c =
     let old = c.args.self.now.kernel.machine in
     let more : posted_in c.post.new.self.machine.minutes ≡ _ =
-    ap (λ (m : Machine). posted_in m.minutes) c.in_ok-number.ensures.post.2 ∙ one_more old c.pass.inside.lane (request_of c.in-Ok.copy) in
+    ap (λ (m : Machine). posted_in m.minutes) c.in_ok-number.ensures.post.2 ∙ one_more old c.lane.result (request_of c.in-Ok.copy) in
     record { counted = omega arith }

@@ -1,0 +1,17 @@
+//! The audit at the end of a hall: whether the minutes hold what the frontends came away with.
+//!
+//! A frontend has a pass, which counts its posts, a ticket for each post that was taken, and what it was told of the ends of jobs. To the
+//! layer above the audit promises that it passes exactly what the minutes hold, and that what it finds missing or untrue is so. A pass
+//! holds one part of a ledger, whose book the owner of the minutes keeps, so that no pass counts a post that the book hasn't.
+#![tactic(auto)]
+
+mod comparison;
+mod fault;
+mod mark;
+mod order;
+mod pass;
+mod same;
+
+pub use comparison::audit;
+pub use fault::AuditFault;
+pub use pass::{Pass, Ticket};

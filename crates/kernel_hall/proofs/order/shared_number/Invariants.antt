@@ -1,6 +1,0 @@
-use Rattle.std.proofs.Common.{ℕ, ◌+◌, ◌<◌, slice_index_or}
-use Rattle.kernel_hall.specs.declared.pass.Ticket.{Ticket}
-use Rattle.kernel_hall.proofs.order.shared_number.Given as goal
-
-abbrev pub invariant-loop-i : goal.invariant-loop-i
-invariant-loop-i l = (k : ℕ) (d : Ticket) → k + 1 < l.i → (slice_index_or l.tickets k d).number < (slice_index_or l.tickets (k + 1) d).number

@@ -1,0 +1,131 @@
+//! Halls for tests.
+ghost use Rattle.std.specs.Prelude.{◌≡◌, ◌<◌};
+
+use kernel_ask::{Answer, Ask, Comms, Content, Done, Wish};
+use kernel_bell::{Bell, RunnerSeat};
+use kernel_core::{Begun, Job, Kernel, Outcome, Sliced};
+use kernel_hall::{Hall, Pass, SLICE, Ticket, Turn};
+use std::alloc::{AllocError, Global};
+use std::process::Abort;
+use std::sync::Wait;
+use std::sync::ledger::{Blank, Ledger};
+
+/// A hall, and its runner's seat.
+#[derive(Drop)]
+pub(crate) struct Desk<W: Ledger, L: Ledger> {
+    pub hall: Hall<W, L>,
+    pub seat: RunnerSeat,
+    ghost own: { seat.bell ≡ hall },
+}
+
+impl<W: Ledger, L: Ledger> Desk<W, L> {
+    /// A hall round a new kernel.
+    pub fn new(alloc: Global, writes: Blank, posts: Blank) -> Result<Desk<W, L>, AllocError>
+        requires writes { (writes.name ≡ W.name) × (writes.parts ≡ W.parts) × (0 < W.parts) }
+        requires posts { (posts.name ≡ L.name) × (posts.parts ≡ 65537) × (posts.parts ≡ L.parts) }
+    {
+        let kernel = Kernel::new(alloc, writes)?;
+        let (bell, seat, _) = Bell::new(alloc, 1)?;
+        let hall = Hall::new(alloc, posts, kernel, Comms::new(alloc), bell);
+        Ok(Desk { hall, seat })
+    }
+
+    fn turn<R: Wait>(&mut self, rt: &R) -> Turn {
+        self.hall.turn(rt, &mut self.seat, SLICE)
+    }
+
+    /// Takes turns until a job ends, ten at most: its outcome.
+    pub fn run<R: Wait>(&mut self, rt: &R) -> Option<Outcome> {
+        for _ in 0..10 {
+            match self.turn(rt) {
+                Turn::Cut(Sliced::Ended(outcome)) | Turn::Began(Begun::Ended(outcome)) => {
+                    return Some(outcome);
+                }
+                _ => {}
+            }
+        }
+        None
+    }
+
+    /// Runs so many jobs.
+    pub fn run_all<R: Wait>(&mut self, rt: &R, jobs: u32) {
+        for _ in 0..jobs {
+            let _outcome = self.run(rt);
+        }
+    }
+}
+
+/// What frontends came away with.
+#[derive(Drop)]
+pub(crate) struct Away<L: Ledger> {
+    pub passes: Vec<Pass<L>>,
+    pub tickets: Vec<Ticket>,
+    pub dones: Vec<Done>,
+}
+
+/// A new pass.
+pub(crate) fn pass<W: Ledger, L: Ledger, R: Wait + Abort>(rt: &R, hall: &Hall<W, L>) -> Pass<L> {
+    hall.pass(rt).ok().expect(rt, "a pass")
+}
+
+/// Posts a job that is taken.
+pub(crate) fn post<W: Ledger, L: Ledger, R: Wait + Abort>(
+    rt: &R,
+    alloc: Global,
+    hall: &Hall<W, L>,
+    pass: Pass<L>,
+    job: Job,
+) -> (Ticket, Pass<L>) {
+    let wishes: Vec<Wish> = Vec::new(alloc);
+    hall.post(rt, pass, job, wishes).ok().expect(rt, "a post")
+}
+
+/// A cell that is counted.
+pub(crate) fn cell(alloc: Global, code: &str) -> Result<Job, AllocError> {
+    Ok(Job::Cell {
+        code: String::from_str(alloc, code)?,
+        silent: false,
+        store: true,
+    })
+}
+
+/// What came of the jobs of these tickets.
+pub(crate) fn ends<W: Ledger, L: Ledger, R: Wait>(
+    rt: &R,
+    alloc: Global,
+    hall: &Hall<W, L>,
+    tickets: &[Ticket],
+) -> Result<Vec<Done>, AllocError> {
+    let mut dones = Vec::new(alloc);
+    for ticket in tickets {
+        dones.push(hall.wait(rt, ticket))?;
+    }
+    Ok(dones)
+}
+
+/// Whether these texts are this one.
+pub(crate) fn is_one(texts: &[String], text: &str) -> bool {
+    match texts {
+        [one] => one.as_str() == text,
+        _ => false,
+    }
+}
+
+/// Whether the hall answers, with so many minutes, that its world is this line.
+pub(crate) fn is_world<W: Ledger, L: Ledger, R: Wait>(
+    rt: &R,
+    hall: &Hall<W, L>,
+    pass: &Pass<L>,
+    minutes: usize,
+    line: &str,
+) -> bool {
+    match hall.ask(rt, pass, Ask::State) {
+        Ok(
+            Answer {
+                seen,
+                content: Content::State(state),
+            },
+        ) => seen == minutes && is_one(&state.world, line),
+        _ => false,
+    }
+}

@@ -1,0 +1,203 @@
+//! The hall, from one thread.
+ghost use Rattle.std.specs.Prelude.{◌≡◌, ◌<◌};
+
+use crate::desk::{Desk, cell, is_one, is_world, pass, post};
+use kernel_ask::{Answer, Ask, Content, Done, HallFault, Wish};
+use kernel_core::{Job, Outcome, PostFault, Refusal};
+use kernel_hall::{CommChange, Gate, Hall, Moment, PASSES, Pass, work};
+use std::alloc::{AllocError, Global};
+use std::marker::Brand;
+use std::process::Abort;
+use std::sync::Wait;
+use std::sync::ledger::{Blank, Ledger};
+use std::test::Fail;
+
+/// What is tried in a hall.
+#[derive(Clone, Copy)]
+enum Scene {
+    AllPasses,
+    FirstWait,
+    Comms,
+    Shut,
+    /// A cell `int x x +=` this, after which the world is asked for.
+    State(&'static str, &'static str),
+}
+
+/// Each pass has the next lane, and there are no more than these.
+fn all_passes<W: Ledger, L: Ledger, R: Wait + Abort>(rt: &R, hall: &Hall<W, L>) {
+    for given in 0..PASSES {
+        let next = pass(rt, hall);
+        assert!(rt; next.lane() == given + 1 && next.posts() == 0);
+    }
+    assert!(rt; hall.pass(rt).err() == Some(HallFault::NoPass));
+}
+
+/// Whether this was told of the cell, beside what was made for it.
+fn is_five(done: &Done) -> bool {
+    done.number == 1 && done.outcome == Outcome::Ran(1, 3) && done.count == 1 && done.node == 1
+}
+
+/// Whether what is shown is this text.
+fn is_shown(done: &Done, text: &str) -> bool {
+    match &done.shown {
+        Some(shown) => shown.as_str() == text,
+        None => false,
+    }
+}
+
+/// Whether there is one value, with this name and number.
+fn is_valued(done: &Done, name: &str, number: i32) -> bool {
+    match done.values.as_slice() {
+        [one] => one.name.as_str() == name && one.value == Ok(number),
+        _ => false,
+    }
+}
+
+/// The shown text and the values go to the first wait alone.
+fn first_wait<W: Ledger, L: Ledger, R: Wait + Abort>(
+    rt: &R,
+    alloc: Global,
+    desk: &mut Desk<W, L>,
+) -> Result<(), Fail> {
+    let wish = Wish {
+        name: String::from_str(alloc, "a")?,
+        exp: String::from_str(alloc, "x * 2")?,
+    };
+    let wishes = Vec::from_array(alloc, [wish])?;
+    let job = cell(alloc, "int x x += 5")?;
+    let posted = desk.hall.post(rt, pass(rt, &desk.hall), job, wishes);
+    let (ticket, _) = posted.ok().expect(rt, "a post");
+    assert!(rt; desk.run(rt) == Some(Outcome::Ran(1, 3)));
+    let first = desk.hall.wait(rt, &ticket);
+    assert!(rt; is_five(&first) && is_shown(&first, "x = 5") && is_valued(&first, "a", 10));
+    let second = desk.hall.wait(rt, &ticket);
+    assert!(rt; is_five(&second) && second.shown.is_none() && second.values.is_empty());
+    Ok(())
+}
+
+/// Opens the comm `k`.
+fn open_comm<W: Ledger, L: Ledger, R: Wait>(
+    rt: &R,
+    alloc: Global,
+    hall: &Hall<W, L>,
+    pass: &Pass<L>,
+) -> Result<Result<bool, HallFault>, AllocError> {
+    Ok(hall.comm(rt, pass, CommChange::Open(String::from_str(alloc, "k")?)))
+}
+
+/// Whether that comm is the open one.
+fn is_listed<W: Ledger, L: Ledger, R: Wait>(rt: &R, hall: &Hall<W, L>, pass: &Pass<L>) -> bool {
+    match hall.ask(rt, pass, Ask::Comms) {
+        Ok(
+            Answer {
+                seen: 0,
+                content: Content::Comms(ids),
+            },
+        ) => is_one(&ids, "k"),
+        _ => false,
+    }
+}
+
+/// A comm is opened once, is listed, and is closed once.
+fn comms<W: Ledger, L: Ledger, R: Wait + Abort>(
+    rt: &R,
+    alloc: Global,
+    hall: &Hall<W, L>,
+) -> Result<(), Fail> {
+    let pass = pass(rt, hall);
+    assert!(rt; open_comm(rt, alloc, hall, &pass)? == Ok(true));
+    assert!(rt; open_comm(rt, alloc, hall, &pass)? == Ok(false));
+    assert!(rt; is_listed(rt, hall, &pass));
+    let id = String::from_str(alloc, "k")?;
+    assert!(rt; hall.comm(rt, &pass, CommChange::Close(id)) == Ok(true));
+    assert!(rt; !is_listed(rt, hall, &pass));
+    Ok(())
+}
+
+/// A gate that holds nobody.
+#[derive(Drop)]
+struct Open;
+
+impl Gate for Open {
+    fn pass(&mut self, _moment: Moment) {}
+}
+
+/// After a shutdown a post is refused and the pass comes back, a job that waits is refused, and the worker ends.
+fn shut<W: Ledger, L: Ledger, R: Wait + Abort>(rt: &R, alloc: Global, desk: Desk<W, L>) {
+    let Desk { hall, seat } = desk;
+    let (ticket, first) = post(rt, alloc, &hall, pass(rt, &hall), Job::Undo(0));
+    hall.shut(rt);
+    let refused = hall.post(rt, first, Job::Undo(0), Vec::new(alloc));
+    let (fault, first) = refused.err().expect(rt, "a refusal");
+    assert!(rt; fault == PostFault::Closing && first.lane() == 1 && first.posts() == 1);
+    work(&hall, rt, seat, &mut Open);
+    let done = hall.wait(rt, &ticket);
+    assert!(rt; done.outcome == Outcome::Refused(Refusal::Closing));
+}
+
+/// A hall answers of its own world.
+fn own_state<W: Ledger, L: Ledger, R: Wait + Abort>(
+    rt: &R,
+    alloc: Global,
+    desk: &mut Desk<W, L>,
+    code: &str,
+    line: &str,
+) -> Result<(), Fail> {
+    let pass = pass(rt, &desk.hall);
+    let (_, pass) = post(rt, alloc, &desk.hall, pass, cell(alloc, code)?);
+    assert!(rt; desk.run(rt) == Some(Outcome::Ran(1, 3)));
+    assert!(rt; is_world(rt, &desk.hall, &pass, 2, line));
+    Ok(())
+}
+
+fn play_in<W: Ledger, L: Ledger, R: Wait + Abort>(
+    rt: &R,
+    alloc: Global,
+    writes: Blank,
+    posts: Blank,
+    scene: Scene,
+) -> Result<(), Fail>
+    requires writes { (writes.name ≡ W.name) × (writes.parts ≡ W.parts) × (0 < W.parts) }
+    requires posts { (posts.name ≡ L.name) × (posts.parts ≡ 65537) × (posts.parts ≡ L.parts) }
+{
+    let mut desk = Desk::<W, L>::new(alloc, writes, posts)?;
+    match scene {
+        Scene::AllPasses => all_passes(rt, &desk.hall),
+        Scene::FirstWait => first_wait(rt, alloc, &mut desk)?,
+        Scene::Comms => comms(rt, alloc, &desk.hall)?,
+        Scene::Shut => shut(rt, alloc, desk),
+        Scene::State(code, line) => own_state(rt, alloc, &mut desk, code, line)?,
+    }
+    Ok(())
+}
+
+/// Tries something in a new hall.
+fn play<R: Wait + Abort>(rt: &R, alloc: Global, scene: Scene) -> Result<(), Fail> {
+    play_in::<Brand, Brand, R>(rt, alloc, Blank::new(1), Blank::new(65_537), scene)
+}
+
+#[test]
+fn each_pass_has_the_next_lane(rt: HostRuntime) -> Result<(), Fail> {
+    play(&rt, rt.alloc(), Scene::AllPasses)
+}
+
+#[test]
+fn the_first_wait_has_what_is_shown(rt: HostRuntime) -> Result<(), Fail> {
+    play(&rt, rt.alloc(), Scene::FirstWait)
+}
+
+#[test]
+fn a_comm_is_opened_listed_and_closed(rt: HostRuntime) -> Result<(), Fail> {
+    play(&rt, rt.alloc(), Scene::Comms)
+}
+
+#[test]
+fn a_shut_hall_refuses_and_its_worker_ends(rt: HostRuntime) -> Result<(), Fail> {
+    play(&rt, rt.alloc(), Scene::Shut)
+}
+
+#[test]
+fn a_hall_answers_of_its_own_world(rt: HostRuntime) -> Result<(), Fail> {
+    play(&rt, rt.alloc(), Scene::State("int x x += 1", "x = 1"))?;
+    play(&rt, rt.alloc(), Scene::State("int x x += 2", "x = 2"))
+}
