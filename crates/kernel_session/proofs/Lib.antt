@@ -1,0 +1,4 @@
+pub mod ActsLemmas
+pub mod TalkLemmas
+pub mod RequestLemmas
+pub mod SessionLemmas
