@@ -1,5 +1,5 @@
 -- What one request brings, from its parts.
-use Rattle.std.proofs.Common.{◌≡◌, ℕ, ◌<◌, ◌≤◌, List, [], ◌∷◌, ◌++◌, map, Option, Some, None, Result, Ok, Err, OnOk, OnErr, inl, inr, refl, sym, ap, ◌∙◌, subst, append_assoc, append-nil, ◌⊎◌}
+use Rattle.std.proofs.Common.{◌≡◌, ℕ, ◌<◌, ◌≤◌, List, [], ◌∷◌, ◌++◌, map, Option, Some, None, Result, Ok, Err, IfOk, IfErr, OnOk, OnErr, inl, inr, refl, sym, ap, ◌∙◌, subst, append_assoc, append-nil, ◌⊎◌}
 use Rattle.std.proofs.lemmas.List.{map-append}
 use Rattle.std.specs.Io.KnownBytes.{Appends}
 use Rattle.jupyter_msg.specs.Octets.{Octets}
@@ -228,3 +228,11 @@ module _ {W D : Type 0} (contents : W → Option (List ℕ)) (leads : D → Call
 
   pub request_worn : (w : W) (d : D) (r : Request) (stamp : Stamp) → last_next < stamp.next → Serves w w d d d r stamp stamp stamp Worn
   request_worn w d r stamp past = ([], acts_none contents leads w d, inr record { past = past; quiet = refl; worn = refl })
+
+pub if_ok : {A E : Type 0} (r : Result A E) (P Q : A → Type 0) → ((x : A) → P x → Q x) → IfOk r P → IfOk r Q
+if_ok (Ok x) P Q f p = f x p
+if_ok (Err e) P Q f p = tt
+
+pub if_err : {A E : Type 0} (r : Result A E) (P Q : E → Type 0) → ((e : E) → P e → Q e) → IfErr r P → IfErr r Q
+if_err (Ok x) P Q f p = tt
+if_err (Err e) P Q f p = f e p

@@ -1,6 +1,7 @@
 -- A session goes on event by event.
 use Rattle.std.proofs.Common.{◌≡◌, ◌≢◌, ℕ, List, [], ◌∷◌, ◌++◌, Option, inl, inr, ◌⊎◌, refl, sym, ap, ◌∙◌, subst, append_assoc, append-nil}
-use Rattle.zmtp_peer.specs.Events.{Event}
+use Rattle.zmtp_peer.specs.declared.event.PeerEvent.{PeerEvent}
+use Rattle.zmtp_peer.specs.Events.{Event, event_of}
 use Rattle.kernel_message.specs.declared.stamp.Stamp.{Stamp}
 use Rattle.kernel_session.specs.declared.socket.Socket.{Socket}
 use Rattle.kernel_session.specs.declared.flow.Flow.TheVariants.{Going}
@@ -34,6 +35,30 @@ taken_both : (es1 es2 xs ys u v : List Event) → es1 ≡ xs ++ u → u ≡ [] �
 taken_both es1 es2 xs ys u v p none q =
     ap (λ (t : List Event). t ++ es2) (p ∙ ap (λ (t : List Event). xs ++ t) none ∙ append-nil xs)
     ∙ ap (λ (t : List Event). xs ++ t) q ∙ sym (append_assoc xs ys v)
+
+-- ---- one event
+
+module _ {W D : Type 0} (contents : W → Option (List ℕ)) (leads : D → Call → D → Type 0) (key : List ℕ) (w w' : W) (d d' : D) (stamp : Stamp)
+    (socket s : Socket) (on : socket ≡ s) (event e : PeerEvent) (is : event ≡ e) where
+  step_is : (actions : List Action) (new : State) → IsStep s key stamp (event_of e) actions new → IsStep socket key stamp (event_of event) actions new
+  step_is actions new p =
+      subst (λ (t : Socket). IsStep t key stamp (event_of event) actions new) (sym on)
+      (subst (λ (x : PeerEvent). IsStep s key stamp (event_of x) actions new) (sym is) p)
+
+  pub takes_event : (actions : List Action) (new : State) → IsStep s key stamp (event_of e) actions new
+      → Acts contents leads w w' d d' actions → Takes contents leads socket key w w' d d' stamp (event_of event) new
+  takes_event actions new p q = record { actions = actions; step = step_is actions new p; acts = q }
+
+  pub breaks_event : (actions done : List Action) (new : State) → IsStep s key stamp (event_of e) actions new
+      → Acts contents leads w w' d d' done → IsStartOf done actions → Breaks contents leads socket key w w' d d' stamp (event_of event)
+  breaks_event actions done new p q r = record {
+    done = done;
+    acts = q;
+    begun = inl record { actions = actions; new = new; step = step_is actions new p; start = r };
+  }
+
+  pub breaks_none : Acts contents leads w w' d d' [] → Breaks contents leads socket key w w' d d' stamp (event_of event)
+  breaks_none q = record { done = []; acts = q; begun = inr refl }
 
 module _ {W D : Type 0} (contents : W → Option (List ℕ)) (leads : D → Call → D → Type 0) (socket : Socket) (key : List ℕ) where
   abbrev pub DoneAll : List Action → W → W → D → D → State → State → List Event → Type 0
@@ -108,7 +133,7 @@ module _ {W D : Type 0} (contents : W → Option (List ℕ)) (leads : D → Call
     session = p.session;
     done = before ++ p.actions;
     acts = p.acts;
-    start = ([], refl);
+    start = ([], sym (append-nil (before ++ p.actions)));
   }
 
   pub cut_one : (w w' : W) (d d' : D) (stamp : Stamp) (e : Event)

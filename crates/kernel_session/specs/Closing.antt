@@ -26,6 +26,14 @@ pub record IsFarewell (events : List Event) (actions : List Action) : Type 0 whe
   pub shown : AreShown events kept octets
   pub brings : actions ≡ asks (Kept kept ∷ []) ++ sends octets
 
+-- the broadcasts that the desk keeps, and those that the peer wants of the first of them
+pub record IsFarewellPart (events : List Event) (actions : List Action) : Type 0 where
+  pub front : List Frames
+  pub later : List Frames
+  pub octets : List ℕ
+  pub shown : AreShown events front octets
+  pub brings : actions ≡ asks (Kept (front ++ later) ∷ []) ++ sends octets
+
 -- what the end of the input brings after these events
 abbrev pub Closes : Socket → List Event → List Action → Type 0
 Closes Iopub events actions = IsFarewell events actions
@@ -33,3 +41,11 @@ Closes Shell events actions = actions ≡ []
 Closes Control events actions = actions ≡ []
 Closes Stdin events actions = actions ≡ []
 Closes Heartbeat events actions = actions ≡ []
+
+-- a beginning of that
+abbrev pub ClosesPart : Socket → List Event → List Action → Type 0
+ClosesPart Iopub events actions = IsFarewellPart events actions
+ClosesPart Shell events actions = actions ≡ []
+ClosesPart Control events actions = actions ≡ []
+ClosesPart Stdin events actions = actions ≡ []
+ClosesPart Heartbeat events actions = actions ≡ []

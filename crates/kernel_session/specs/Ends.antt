@@ -13,7 +13,7 @@ use Rattle.kernel_session.specs.declared.fault.ServeFault.TheVariants.{Read, Wri
 use Rattle.kernel_session.specs.Call.{Call}
 use Rattle.kernel_session.specs.Action.{Action, Acts, IsStartOf}
 use Rattle.kernel_session.specs.Session.{State, going, role_of, IsStep, IsSession}
-use Rattle.kernel_session.specs.Closing.{Closes}
+use Rattle.kernel_session.specs.Closing.{Closes, ClosesPart}
 
 -- a fault in the midst of the events
 abbrev pub IsMidway : ServeFault → Type 0
@@ -80,7 +80,7 @@ module _ {W D : Type 0} (contents : W → Option (List ℕ)) (leads : D → Call
     pub new : State
     pub session : IsSession socket key old events actions new
     pub closing : List Action
-    pub closes : Closes socket events closing
+    pub closes : ClosesPart socket events closing
     pub done : List Action
     pub acts : Acts contents leads writer writer' desk desk' done
     pub start : IsStartOf done (before ++ actions ++ closing)

@@ -1,14 +1,14 @@
 //! One connection, from octets to octets.
-ghost use Rattle.std.specs.Prelude.{◌≡◌, ℕ, List, [], ◌++◌, IfOk, IfErr, OnOk, OnErr};
+ghost use Rattle.std.specs.Prelude.{◌≡◌, ◌≢◌, ◌⊎◌, ℕ, List, [], ◌++◌, IfOk, IfErr, OnOk, OnErr};
 ghost use Rattle.std.specs.Io.KnownBytes.{Appends, Consumes};
 ghost use Rattle.zmtp_peer.specs.Events.{Event};
-ghost use Rattle.zmtp_peer.specs.Intake.{IsRefusal};
+ghost use Rattle.zmtp_peer.specs.Faults.{fault_of, want_of_memory};
 ghost use Rattle.zmtp_peer.specs.Opening.{opening_of};
-ghost use Rattle.zmtp_peer.specs.Reading.{Stands, Brings};
+ghost use Rattle.zmtp_peer.specs.Reading.{Stands, Brings, Awaiting, ending_of};
 ghost use Rattle.kernel_board.specs.Frames.{Frames};
 ghost use Rattle.kernel_session.specs.Action.{Action, Acts, SentSome, sends};
 ghost use Rattle.kernel_session.specs.Parts.{ActedPart};
-ghost use Rattle.kernel_session.specs.Closing.{Closes, IsFarewell, IsShown, AreShown};
+ghost use Rattle.kernel_session.specs.Closing.{Closes, ClosesPart, IsFarewell, IsFarewellPart, IsShown, AreShown};
 ghost use Rattle.kernel_session.specs.Session.{going, role_of};
 ghost use Rattle.kernel_session.specs.Ends.{IsMidway, comes_to, stops_by, ends_by};
 
@@ -28,6 +28,29 @@ use zmtp_wire::WireFault;
 /// How many octets are read at once, at most.
 const ROOM: usize = 8192;
 
+/// Why the connection ends at a fault of the peer.
+fn stop(fault: PeerFault) -> ServeFault
+    ensures { ((fault_of fault ≡ want_of_memory) × (result ≡ ServeFault.Memory))
+        ⊎ ((fault_of fault ≢ want_of_memory) × (result ≡ ServeFault.Peer fault)) }
+{
+    match fault {
+        PeerFault::Wire(WireFault::Memory) => ServeFault::Memory,
+        PeerFault::Wire(
+            WireFault::BadSignature
+            | WireFault::OldVersion
+            | WireFault::BadMechanism
+            | WireFault::ReservedBits
+            | WireFault::CommandWithMore
+            | WireFault::TooLong,
+        )
+        | PeerFault::NoSocketType
+        | PeerFault::WrongPair
+        | PeerFault::BadMetadata
+        | PeerFault::PeerError(_)
+        | PeerFault::NotReady => ServeFault::Peer(fault),
+    }
+}
+
 /// Takes the next piece of what the peer sends.
 fn advance<W: Write, D: Desk>(
     alloc: Global,
@@ -41,27 +64,29 @@ fn advance<W: Write, D: Desk>(
 ) -> Result<Flow, ServeFault>
     ensures ok { IfOk result (λ flow. (events : List Event) × Brings peer.old piece.now events peer.new
         × comes_to W.contents D.leads socket key.now [] writer.old writer.new desk.old desk.new (going stamp.old) stamp.new flow events) }
-    ensures quiet { IfOk result (λ flow. flow ≡ Flow.Going → ¬ (IsRefusal peer.new.state)) }
+    ensures quiet { IfOk result (λ flow. flow ≡ Flow.Going → (fed : List ℕ) → (given : List Event) → Stands fed given peer.old
+        → ending_of peer.new.state ≡ Awaiting) }
     ensures err { IfErr result (λ fault. stops_by W.contents D.leads socket key.now writer.old writer.new desk.old desk.new
         stamp.old stamp.new peer.old piece.now peer.new fault) }
     ensures role { peer.new.role ≡ peer.old.role }
 {
     let mut events = match peer.feed(piece) {
         Ok(events) => events,
-        Err(PeerFault::Wire(WireFault::Memory)) => return Err(ServeFault::Memory),
-        Err(fault) => return Err(ServeFault::Peer(fault)),
+        Err(fault) => return Err(stop(fault)),
     };
-    let flow = take_all(alloc, socket, key, writer, desk, stamp, &mut events)?;
+    let flow = match take_all(alloc, socket, key, writer, desk, stamp, &mut events) {
+        Ok(flow) => flow,
+        Err(fault) => return Err(fault),
+    };
     match flow {
         Flow::Going => {}
-        Flow::Closed | Flow::Worn | Flow::Starved => return Ok(flow),
+        _ => return Ok(flow),
     }
     // A fault behind the events is told by a call of its own.
     octets_have_one_reading_law();
     match peer.feed(&[]) {
         Ok(_) => Ok(Flow::Going),
-        Err(PeerFault::Wire(WireFault::Memory)) => Err(ServeFault::Memory),
-        Err(fault) => Err(ServeFault::Peer(fault)),
+        Err(fault) => Err(stop(fault)),
     }
 }
 
@@ -93,12 +118,16 @@ fn show_all<W: Write>(
 ) -> Result<(), ServeFault>
     ensures ok { OnOk result ((fed : List ℕ) → (given : List Event) → Stands fed given peer.now → (octets : List ℕ)
         × AreShown given broadcasts.now octets × Appends (W.contents writer.old) (W.contents writer.new) octets) }
-    ensures err { OnErr result ((fed : List ℕ) → (given : List Event) → Stands fed given peer.now → (octets : List ℕ)
-        × AreShown given broadcasts.now octets × SentSome (W.contents writer.old) (W.contents writer.new) octets) }
+    ensures err { OnErr result ((fed : List ℕ) → (given : List Event) → Stands fed given peer.now → (front : List Frames) × (more : List Frames)
+        × (broadcasts.now ≡ front ++ more) × (octets : List ℕ) × AreShown given front octets
+        × SentSome (W.contents writer.old) (W.contents writer.new) octets) }
     ensures midway { IfErr result IsMidway }
 {
     for broadcast in broadcasts {
-        show(alloc, peer, writer, broadcast)?;
+        match show(alloc, peer, writer, broadcast) {
+            Ok(()) => {}
+            Err(fault) => return Err(fault),
+        }
     }
     Ok(())
 }
@@ -113,7 +142,7 @@ fn show_kept<W: Write, D: Desk>(
     ensures ok { OnOk result ((fed : List ℕ) → (given : List Event) → Stands fed given peer.now → (closing : List Action)
         × IsFarewell given closing × Acts W.contents D.leads writer.old writer.new desk.old desk.new closing) }
     ensures err { OnErr result ((fed : List ℕ) → (given : List Event) → Stands fed given peer.now → (closing : List Action)
-        × IsFarewell given closing × ActedPart W.contents D.leads writer.old writer.new desk.old desk.new closing) }
+        × IsFarewellPart given closing × ActedPart W.contents D.leads writer.old writer.new desk.old desk.new closing) }
     ensures midway { IfErr result IsMidway }
 {
     let kept = match desk.broadcasts(alloc) {
@@ -134,7 +163,7 @@ fn close<W: Write, D: Desk>(
     ensures ok { OnOk result ((fed : List ℕ) → (given : List Event) → Stands fed given peer.now → (closing : List Action)
         × Closes socket given closing × Acts W.contents D.leads writer.old writer.new desk.old desk.new closing) }
     ensures err { OnErr result ((fed : List ℕ) → (given : List Event) → Stands fed given peer.now → (closing : List Action)
-        × Closes socket given closing × ActedPart W.contents D.leads writer.old writer.new desk.old desk.new closing) }
+        × ClosesPart socket given closing × ActedPart W.contents D.leads writer.old writer.new desk.old desk.new closing) }
     ensures midway { IfErr result IsMidway }
 {
     match socket {
@@ -180,7 +209,10 @@ pub fn serve<R: Read, W: Write, D: Desk>(
         (going stamp.old) stamp.new result input (R.remaining reader.new) }
 {
     let mut peer = Peer::new(alloc, socket.role());
-    send_opening(writer, &peer)?;
+    match send_opening(writer, &peer) {
+        Ok(()) => {}
+        Err(fault) => return Err(fault),
+    }
     let mut room = [0u8; ROOM];
     // A loop is proved to end, so this one counts its reads.
     for _ in 0..u64::MAX {
@@ -205,7 +237,10 @@ pub fn serve<R: Read, W: Write, D: Desk>(
             Err(fault) => return Err(fault),
         }
         if count == 0 {
-            return close(alloc, socket, &peer, writer, desk);
+            match close(alloc, socket, &peer, writer, desk) {
+                Ok(()) => return Ok(()),
+                Err(fault) => return Err(fault),
+            }
         }
     }
     Err(ServeFault::Read)

@@ -2,7 +2,9 @@
 ghost use Rattle.std.specs.Prelude.{◌≡◌, ◌⊎◌, List, [], IfOk, IfErr, IfSome, IfNone, OnErr, MatchOption};
 ghost use Rattle.jupyter_msg.specs.Octets.{octets};
 ghost use Rattle.zmtp_peer.specs.Events.{event_of, events_of};
-ghost use Rattle.kernel_session.specs.Action.{Action, Acts};
+ghost use Rattle.std.specs.Io.KnownBytes.{Appends};
+ghost use Rattle.zmtp_wire.specs.Message.{message_octets};
+ghost use Rattle.kernel_session.specs.Action.{Action, Acts, SentSome};
 ghost use Rattle.kernel_session.specs.Parts.{ActedPart};
 ghost use Rattle.kernel_session.specs.Session.{State, IsAsked, IsPassedOver, IsTurn, going};
 ghost use Rattle.kernel_session.specs.Ends.{IsMidway, Takes, Breaks, Cut, comes_to};
@@ -20,15 +22,22 @@ use std::io::Write;
 use std::mem;
 use zmtp_peer::PeerEvent;
 
+/// A message, and what it asks.
+#[derive(Drop)]
+struct Asked {
+    message: Message,
+    request: Request,
+}
+
 /// What a message asks, with the message; nothing where it is refused, or where the socket doesn't serve it.
 fn read_request(
     alloc: Global,
     socket: Socket,
     key: &[u8],
     frames: Vec<Vec<u8>>,
-) -> Result<Option<(Message, Request)>, ServeFault>
-    ensures asked { IfOk result (λ read. IfSome read (λ r. IsAsked socket key.now (octets frames.items) r.1)) }
-    ensures header { IfOk result (λ read. IfSome read (λ r. r.1.header.items ≡ r.0.header.items)) }
+) -> Result<Option<Asked>, ServeFault>
+    ensures asked { IfOk result (λ read. IfSome read (λ r. IsAsked socket key.now (octets frames.items) r.request)) }
+    ensures header { IfOk result (λ read. IfSome read (λ r. r.request.header.items ≡ r.message.header.items)) }
     ensures none { IfOk result (λ read. IfNone read (IsPassedOver socket key.now (octets frames.items))) }
     ensures midway { IfErr result IsMidway }
 {
@@ -42,10 +51,14 @@ fn read_request(
         Err(MsgFault::Memory) => return Err(ServeFault::Memory),
         Err(_) => return Ok(None),
     };
-    if !socket.serves(request.content.request_type()) {
-        return Ok(None);
+    if socket.serves(request.content.request_type()) {
+        Ok(Some(Asked {
+            message: opened.message,
+            request,
+        }))
+    } else {
+        Ok(None)
     }
-    Ok(Some((opened.message, request)))
 }
 
 /// Takes a message on shell or control.
@@ -66,10 +79,28 @@ fn take_turn<W: Write, D: Desk>(
     ensures midway { IfErr result IsMidway }
 {
     let read = read_request(alloc, socket, key, frames)?;
-    let Some((message, request)) = read else {
-        return Ok(Flow::Going);
+    let asked = match read {
+        Some(asked) => asked,
+        None => return Ok(Flow::Going),
     };
-    take_request(alloc, key, writer, desk, stamp, &message, &request)
+    take_request(alloc, key, writer, desk, stamp, &asked.message, &asked.request)
+}
+
+/// Sends a message back.
+fn echo<W: Write>(
+    alloc: Global,
+    writer: &mut W,
+    frames: &[Vec<u8>],
+) -> Result<Flow, ServeFault>
+    ensures ok { IfOk result (λ flow. (flow ≡ Flow.Going)
+        × Appends (W.contents writer.old) (W.contents writer.new) (message_octets (octets frames.now))) }
+    ensures err { OnErr result (SentSome (W.contents writer.old) (W.contents writer.new) (message_octets (octets frames.now))) }
+    ensures midway { IfErr result IsMidway }
+{
+    match send_message(alloc, writer, frames) {
+        Ok(()) => Ok(Flow::Going),
+        Err(fault) => Err(fault),
+    }
 }
 
 /// Takes an event.
@@ -96,10 +127,7 @@ fn take_event<W: Write, D: Desk>(
     match socket {
         Socket::Shell => take_turn(alloc, Socket::Shell, key, writer, desk, stamp, frames),
         Socket::Control => take_turn(alloc, Socket::Control, key, writer, desk, stamp, frames),
-        Socket::Heartbeat => match send_message(alloc, writer, &frames) {
-            Ok(()) => Ok(Flow::Going),
-            Err(fault) => Err(fault),
-        },
+        Socket::Heartbeat => echo(alloc, writer, &frames),
         Socket::Iopub => Ok(Flow::Going),
         Socket::Stdin => Ok(Flow::Going),
     }
@@ -123,10 +151,13 @@ pub(crate) fn take_all<W: Write, D: Desk>(
 {
     for i in 0..events.len() {
         let event = mem::replace(&mut events[i], PeerEvent::Ready);
-        let flow = take_event(alloc, socket, key, writer, desk, stamp, event)?;
+        let flow = match take_event(alloc, socket, key, writer, desk, stamp, event) {
+            Ok(flow) => flow,
+            Err(fault) => return Err(fault),
+        };
         match flow {
             Flow::Going => {}
-            Flow::Closed | Flow::Worn | Flow::Starved => return Ok(flow),
+            _ => return Ok(flow),
         }
     }
     Ok(Flow::Going)
