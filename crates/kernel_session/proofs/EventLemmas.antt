@@ -1,5 +1,5 @@
 -- What one event brings, from its parts.
-use Rattle.std.proofs.Common.{◌≡◌, ℕ, suc, ◌+◌, ◌<◌, List, [], ◌∷◌, ◌++◌, length, get_or, drop, drop-cons, add-one, append_assoc, Option, Result, Ok, Err, IfOk, OnErr, ◌⊎◌, inl, inr, refl, sym, ap, ◌∙◌, subst}
+use Rattle.std.proofs.Common.{◌≡◌, ℕ, suc, ◌+◌, ◌<◌, List, [], ◌∷◌, ◌++◌, length, get_or, drop, drop-cons, add-one, append_assoc, Option, Result, IfOk, OnErr, ◌⊎◌, inl, inr, refl, sym, ap, ◌∙◌, subst}
 use Rattle.std.proofs.lemmas.List.{map-append}
 use Rattle.std.specs.Io.KnownBytes.{Appends}
 use Rattle.jupyter_msg.specs.declared.request.Request.{Request}
@@ -13,10 +13,10 @@ use Rattle.kernel_session.specs.declared.flow.Flow.{Flow}
 use Rattle.kernel_session.specs.declared.flow.Flow.TheVariants.{Going}
 use Rattle.kernel_session.specs.Call.{Call}
 use Rattle.kernel_session.specs.Action.{Action, Sent, Acts, SentSome, sends}
-use Rattle.kernel_session.specs.Session.{State, going, IsAsked, IsPassedOver, IsTurn, IsStep}
+use Rattle.kernel_session.specs.Session.{State, going, IsAsked, IsTurn, IsStep}
 use Rattle.kernel_session.specs.Parts.{ActedPart}
 use Rattle.kernel_session.specs.Ends.{Takes, Breaks, Whole, Cut}
-use Rattle.kernel_session.proofs.ActsLemmas.{acts_none, acts_sends}
+use Rattle.kernel_session.proofs.ActsLemmas.{acts_sends}
 use Rattle.kernel_session.proofs.RequestLemmas.{if_ok, on_err, Serves, ServesPart}
 use Rattle.kernel_session.proofs.SessionLemmas.{takes_event, breaks_event, breaks_none, whole_one, cut_one, whole_whole, whole_cut, whole_over, cut_over}
 
@@ -57,8 +57,8 @@ module _ {W D : Type 0} (contents : W → Option (List ℕ)) (leads : D → Call
     turn_breaks step result p =
         on_err result TurnsPart (Breaks contents leads socket key w w' d d' stamp (event_of event))
         (λ q. elim q [
-          inl x ↦ breaks_event contents leads key w w' d d' stamp socket s on event e is x.0 x.3.0 x.1 (step x.0 x.1 x.2) x.3.1 x.3.2
-        | inr x ↦ breaks_none contents leads key w w' d d' stamp socket s on event e is x
+          | inl x ↦ breaks_event contents leads key w w' d d' stamp socket s on event e is x.0 x.3.0 x.1 (step x.0 x.1 x.2) x.3.1 x.3.2
+          | inr x ↦ breaks_none contents leads key w w' d d' stamp socket s on event e is x
         ]) p
 
 module _ {W D : Type 0} (contents : W → Option (List ℕ)) (leads : D → Call → D → Type 0) (key : List ℕ) (w w' : W) (d : D)
@@ -71,21 +71,21 @@ module _ {W D : Type 0} (contents : W → Option (List ℕ)) (leads : D → Call
       if_ok result (λ (flow : Flow). (flow ≡ Going) × Appends (contents w) (contents w') (message_octets frames))
       (λ (flow : Flow). Takes contents leads socket key w w' d d stamp (event_of event) (record { stamp = stamp; flow = flow }))
       (λ flow q.
-        takes_event contents leads key w w' d d stamp socket Heartbeat on event e is (sends (message_octets frames)) _
-        (subst (λ (x : Event). IsStep Heartbeat key stamp x (sends (message_octets frames)) (record { stamp = stamp; flow = flow })) (sym says)
-        (refl, λ i. record { stamp = stamp; flow = q.0 i }))
-        (acts_sends contents leads w w' d (message_octets frames) q.1)) p
+      takes_event contents leads key w w' d d stamp socket Heartbeat on event e is (sends (message_octets frames)) _
+      (subst (λ (x : Event). IsStep Heartbeat key stamp x (sends (message_octets frames)) (record { stamp = stamp; flow = flow })) (sym says)
+      (refl, λ i. record { stamp = stamp; flow = q.0 i }))
+      (acts_sends contents leads w w' d (message_octets frames) q.1)) p
 
   pub echo_breaks : {E : Type 0} (result : Result Flow E) → OnErr result (SentSome (contents w) (contents w') (message_octets frames))
       → OnErr result (Breaks contents leads socket key w w' d d stamp (event_of event))
   echo_breaks result p =
       on_err result (SentSome (contents w) (contents w') (message_octets frames)) (Breaks contents leads socket key w w' d d stamp (event_of event))
       (λ q.
-        breaks_event contents leads key w w' d d stamp socket Heartbeat on event e is (sends (message_octets frames)) (sends q.0)
-        (record { stamp = stamp; flow = Going })
-        (subst (λ (x : Event). IsStep Heartbeat key stamp x (sends (message_octets frames)) (record { stamp = stamp; flow = Going })) (sym says) (refl, refl))
-        (acts_sends contents leads w w' d q.0 q.3)
-        (sends q.1, ap (λ (x : List ℕ). sends x) q.2 ∙ map-append Sent q.0 q.1)) p
+      breaks_event contents leads key w w' d d stamp socket Heartbeat on event e is (sends (message_octets frames)) (sends q.0)
+      (record { stamp = stamp; flow = Going })
+      (subst (λ (x : Event). IsStep Heartbeat key stamp x (sends (message_octets frames)) (record { stamp = stamp; flow = Going })) (sym says) (refl, refl))
+      (acts_sends contents leads w w' d q.0 q.3)
+      (sends q.1, ap (λ (x : List ℕ). sends x) q.2 ∙ map-append Sent q.0 q.1)) p
 
 -- ---- one event after the other
 

@@ -1,11 +1,10 @@
 -- How a connection goes on by its pieces, and how it ends by its last one.
-use Rattle.std.proofs.Common.{◌≡◌, ◌≢◌, ◌≤◌, arith, ℕ, List, [], ◌∷◌, ◌++◌, Option, Ok, Err, inl, inr, ◌⊎◌, refl, sym, ap, ◌∙◌, subst, subst₂, append_assoc, append-nil}
-use Rattle.std.specs.Io.KnownBytes.{IsAtEnd}
+use Rattle.std.proofs.Common.{◌≡◌, ◌≢◌, ◌≤◌, arith, ℕ, List, [], ◌∷◌, ◌++◌, Option, Err, inl, inr, ◌⊎◌, refl, sym, ap, ◌∙◌, subst, subst₂, append_assoc, append-nil}
 use Rattle.zmtp_peer.specs.declared.fault.PeerFault.{PeerFault}
 use Rattle.zmtp_peer.specs.Faults.{fault_of, want_of_memory}
 use Rattle.zmtp_peer.specs.Events.{Event, State as PeerState, Opening, Open, Refused}
 use Rattle.zmtp_peer.specs.Intake.{IsRefusal}
-use Rattle.zmtp_peer.specs.Reading.{Ending, Awaiting, Failing, PeerReads, Standing, Stands, Brings, ending_of}
+use Rattle.zmtp_peer.specs.Reading.{Ending, Awaiting, PeerReads, Standing, Stands, Brings, ending_of}
 use Rattle.zmtp_peer.specs.Laws.{OctetsHaveOneReading}
 use Rattle.kernel_message.specs.declared.stamp.Stamp.{Stamp}
 use Rattle.kernel_session.specs.declared.socket.Socket.{Socket}
@@ -14,11 +13,11 @@ use Rattle.kernel_session.specs.declared.flow.Flow.TheVariants.{Going}
 use Rattle.kernel_session.specs.declared.fault.ServeFault.{ServeFault}
 use Rattle.kernel_session.specs.declared.fault.ServeFault.TheVariants.{Read, Write, Peer, Memory}
 use Rattle.kernel_session.specs.Call.{Call}
-use Rattle.kernel_session.specs.Action.{Action, Acts, IsStartOf}
+use Rattle.kernel_session.specs.Action.{Action, Acts}
 use Rattle.kernel_session.specs.Closing.{Closes, ClosesPart}
 use Rattle.kernel_session.specs.Parts.{ActedPart}
 use Rattle.kernel_session.specs.Session.{State, going, role_of, IsSession}
-use Rattle.kernel_session.specs.Ends.{Whole, WholeToEnd, Cut, CutAtEnd, IsMidway, stops_by, comes_to, comes_to_end, is_cut, ends_by}
+use Rattle.kernel_session.specs.Ends.{Cut, IsMidway, stops_by, comes_to, comes_to_end, is_cut, ends_by}
 use Rattle.kernel_session.proofs.ActsLemmas.{acts_none, acts_join}
 use Rattle.kernel_session.proofs.RequestLemmas.{starts_with}
 use Rattle.kernel_session.proofs.SessionLemmas.{whole_none, whole_whole, whole_cut, cut_none, cut_whole}
@@ -86,9 +85,9 @@ module _ {W D : Type 0} (contents : W → Option (List ℕ)) (leads : D → Call
       → stops_by contents leads socket key w w d d stamp stamp a piece c told
   stops_first w d a c piece fault told memory other so =
       elim so [
-        inl p ↦ subst (λ (f : ServeFault). stops_by contents leads socket key w w d d stamp stamp a piece c f) (sym p.1)
+        | inl p ↦ subst (λ (f : ServeFault). stops_by contents leads socket key w w d d stamp stamp a piece c f) (sym p.1)
             ([], piece, refl, [], memory p.0, cut_none contents leads socket key [] [] w w d d (going stamp) [] (acts_none contents leads w d) ([], refl))
-      | inr p ↦ subst (λ (f : ServeFault). stops_by contents leads socket key w w d d stamp stamp a piece c f) (sym p.1)
+        | inr p ↦ subst (λ (f : ServeFault). stops_by contents leads socket key w w d d stamp stamp a piece c f) (sym p.1)
             ([], (other p.0).0, p.0, (other p.0).1, whole_none contents leads socket key [] w w d d (going stamp) (acts_none contents leads w d))
       ]
 
@@ -110,10 +109,15 @@ module _ {W D : Type 0} (contents : W → Option (List ℕ)) (leads : D → Call
   stops_behind w w' d d' a b c piece es fault told flow on p whole memory other so =
       let done = subst (λ (f : Flow). comes_to contents leads socket key [] w w' d d' (going stamp) stamp2 f es) on whole in
       elim so [
-        inl q ↦ subst (λ (f : ServeFault). stops_by contents leads socket key w w' d d' stamp stamp2 a piece c f) (sym q.1)
-            (piece, [], sym (append-nil piece), es, brings_on a b c piece es p (memory q.0),
-            cut_whole contents leads socket key [] w w' d d' (going stamp) (going stamp2) es done)
-      | inr q ↦ subst (λ (f : ServeFault). stops_by contents leads socket key w w' d d' stamp stamp2 a piece c f) (sym q.1)
+        | inl q ↦ subst (λ (f : ServeFault). stops_by contents leads socket key w w' d d' stamp stamp2 a piece c f) (sym q.1) (
+          piece,
+          [],
+          sym (append-nil piece),
+          es,
+          brings_on a b c piece es p (memory q.0),
+          cut_whole contents leads socket key [] w w' d d' (going stamp) (going stamp2) es done,
+        )
+        | inr q ↦ subst (λ (f : ServeFault). stops_by contents leads socket key w w' d d' stamp stamp2 a piece c f) (sym q.1)
             (es, brings_on a b c piece es p (other q.0).0, q.0, (other q.0).1, done)
       ]
 

@@ -2,12 +2,11 @@
 use Rattle.std.proofs.Common.{◌≡◌, ℕ, ◌<◌, ◌≤◌, List, [], ◌∷◌, ◌++◌, map, Option, Some, None, Result, Ok, Err, IfOk, IfErr, OnOk, OnErr, inl, inr, refl, sym, ap, ◌∙◌, subst, append_assoc, append-nil, ◌⊎◌}
 use Rattle.std.proofs.lemmas.List.{map-append}
 use Rattle.std.specs.Io.KnownBytes.{Appends}
-use Rattle.jupyter_msg.specs.Octets.{Octets}
 use Rattle.jupyter_msg.specs.Message.{frames_of}
 use Rattle.jupyter_msg.specs.declared.request.Request.{Request}
 use Rattle.kernel_message.specs.declared.stamp.Stamp.{Stamp}
-use Rattle.kernel_message.specs.Message.{asker_of, broadcast_message}
-use Rattle.kernel_message.specs.Sent.{Sent, sent}
+use Rattle.kernel_message.specs.Message.{broadcast_message}
+use Rattle.kernel_message.specs.Sent.{Sent}
 use Rattle.kernel_reply.specs.Status.{busy}
 use Rattle.kernel_session.specs.declared.talk.Told.{Told}
 use Rattle.kernel_session.specs.declared.flow.Flow.{Flow}
@@ -15,7 +14,7 @@ use Rattle.kernel_session.specs.declared.flow.Flow.TheVariants.{Starved, Worn}
 use Rattle.kernel_session.specs.Call.{Call, Published, Dated, Leads}
 use Rattle.kernel_session.specs.Action.{Action, Sent as SentOctet, Called, Acts, IsStartOf, SentSome, sends, asks}
 use Rattle.kernel_session.specs.Talk.{Heard, IsHeld, talk, says_of}
-use Rattle.kernel_session.specs.Session.{State, IsDated, IsServed, IsWorn, opened, asking, busy_frames, reply_octets, answered, outgoing, stamp_behind, flow_behind, state_behind, ends_with, served, last_next}
+use Rattle.kernel_session.specs.Session.{State, IsServed, IsWorn, opened, asking, busy_frames, reply_octets, answered, outgoing, stamp_behind, flow_behind, state_behind, ends_with, served, last_next}
 use Rattle.kernel_session.specs.Parts.{LedPart, ActedPart, IsBegun, IsDatedAlone, IsTakenUp, IsTakenUpPart}
 use Rattle.kernel_session.proofs.ActsLemmas.{leads_join, acts_none, acts_join, acts_asks, acts_sends}
 use Rattle.kernel_session.proofs.TalkLemmas.{nobody}
@@ -99,23 +98,23 @@ module _ {W D : Type 0} (contents : W → Option (List ℕ)) (leads : D → Call
     out_led p q =
         let reply = sends (reply_octets key s.reply) in
         subst (λ (x : Sent). ActedPart contents leads w w' d d' (goes_out x)) same (
-        reply ++ asks q.0,
-        acts_join contents leads w w' w' d d d' _ _ (acts_sends contents leads w w' d _ p) (acts_asks contents leads w' d d' _ q.3),
-        starts_with reply (asks q.0) (asks (map (λ b. Published (frames_of key b)) s.broadcasts))
-            (subst (λ (x : List Call). IsStartOf (asks q.0) (asks x)) (sym q.2) (asks_start q.0 q.1)),
-      )
+          reply ++ asks q.0,
+          acts_join contents leads w w' w' d d d' _ _ (acts_sends contents leads w w' d _ p) (acts_asks contents leads w' d d' _ q.3),
+          starts_with reply (asks q.0) (asks (map (λ b. Published (frames_of key b)) s.broadcasts))
+              (subst (λ (x : List Call). IsStartOf (asks q.0) (asks x)) (sym q.2) (asks_start q.0 q.1)),
+        )
 
     pub out_cut : SentSome (contents w) (contents w') (reply_octets key s.reply) → ActedPart contents leads w w' d d (goes_out t)
     out_cut p =
         let rest = asks (map (λ b. Published (frames_of key b)) s.broadcasts) in
         subst (λ (x : Sent). ActedPart contents leads w w' d d (goes_out x)) same (
-        sends p.0,
-        acts_sends contents leads w w' d p.0 p.3,
-        (
-          sends p.1 ++ rest,
-          ap (λ (x : List ℕ). sends x ++ rest) p.2 ∙ ap (λ (x : List Action). x ++ rest) (map-append SentOctet p.0 p.1) ∙ append_assoc (sends p.0) (sends p.1) rest,
-        ),
-      )
+          sends p.0,
+          acts_sends contents leads w w' d p.0 p.3,
+          (
+            sends p.1 ++ rest,
+            ap (λ (x : List ℕ). sends x ++ rest) p.2 ∙ ap (λ (x : List Action). x ++ rest) (map-append SentOctet p.0 p.1) ∙ append_assoc (sends p.0) (sends p.1) rest,
+          ),
+        )
 
   module _ (w w' : W) (d d1 d2 : D) (r : Request) (stamp stamp1 stamp2 : Stamp) where
     abbrev pub Serves : Flow → Type 0

@@ -1,5 +1,5 @@
 -- A session goes on event by event.
-use Rattle.std.proofs.Common.{◌≡◌, ◌≢◌, ℕ, List, [], ◌∷◌, ◌++◌, Option, inl, inr, ◌⊎◌, refl, sym, ap, ◌∙◌, subst, append_assoc, append-nil}
+use Rattle.std.proofs.Common.{◌≡◌, ◌≢◌, ℕ, List, [], ◌∷◌, ◌++◌, Option, inl, inr, refl, sym, ap, ◌∙◌, subst, append_assoc, append-nil}
 use Rattle.zmtp_peer.specs.declared.event.PeerEvent.{PeerEvent}
 use Rattle.zmtp_peer.specs.Events.{Event, event_of}
 use Rattle.kernel_message.specs.declared.stamp.Stamp.{Stamp}
@@ -9,7 +9,7 @@ use Rattle.kernel_session.specs.Call.{Call}
 use Rattle.kernel_session.specs.Action.{Action, Acts, IsStartOf}
 use Rattle.kernel_session.specs.Session.{State, going, IsStep, IsSession}
 use Rattle.kernel_session.specs.Ends.{Takes, Begins, Breaks, Whole, Cut}
-use Rattle.kernel_session.proofs.ActsLemmas.{acts_none, acts_join}
+use Rattle.kernel_session.proofs.ActsLemmas.{acts_join}
 
 pub session_join : (socket : Socket) (key : List ℕ) (old : State) (xs ys : List Event) (a b : List Action) (mid new : State)
     → IsSession socket key old xs a mid → IsSession socket key mid ys b new → IsSession socket key old (xs ++ ys) (a ++ b) new
@@ -140,8 +140,8 @@ module _ {W D : Type 0} (contents : W → Option (List ℕ)) (leads : D → Call
       → Breaks contents leads socket key w w' d d' stamp e → DonePart [] w w' d d' (going stamp) (e ∷ [])
   cut_one w w' d d' stamp e p =
       elim p.begun [
-        inl b ↦ begun_part w w' d d' stamp e p.done p.acts b
-      | inr none ↦ cut_none [] p.done w w' d d' (going stamp) (e ∷ []) p.acts ([], sym (append-nil p.done ∙ none))
+        | inl b ↦ begun_part w w' d d' stamp e p.done p.acts b
+        | inr none ↦ cut_none [] p.done w w' d d' (going stamp) (e ∷ []) p.acts ([], sym (append-nil p.done ∙ none))
       ]
 
   pub whole_whole : (before : List Action) (w w1 w2 : W) (d d1 d2 : D) (s s1 s2 : State) (es1 es2 : List Event)

@@ -1,7 +1,6 @@
 -- What a request has the desk do, from what was said to it.
-use Rattle.std.proofs.Common.{◌≡◌, ◌≢◌, ℕ, Bool, true, false, List, [], ◌∷◌, ◌++◌, Option, Some, Result, Ok, Err, IfOk, refl, sym, ap, ◌∙◌, subst, if◌then◌else◌}
+use Rattle.std.proofs.Common.{◌≡◌, ℕ, Bool, true, false, List, [], ◌∷◌, Option, Some, Result, Ok, Err, IfOk, refl, sym, subst, if◌then◌else◌}
 use Rattle.std.specs.Str.{bytes_eq}
-use Rattle.kernel_core.specs.Request.{Request}
 use Rattle.kernel_core.specs.declared.post.PostFault.{PostFault}
 use Rattle.kernel_core.specs.declared.post.PostFault.TheVariants as post_fault
 use Rattle.kernel_ask.specs.declared.done.Done.{Done}
@@ -12,8 +11,8 @@ use Rattle.kernel_session.specs.declared.talk.Told.{Told}
 use Rattle.kernel_session.specs.declared.talk.Told.TheVariants.{Answered}
 use Rattle.kernel_reply.specs.Comms.{target as undo_target}
 use Rattle.kernel_session.specs.Question.{Comms, Open}
-use Rattle.kernel_session.specs.Call.{Call, Asked, Leads}
-use Rattle.kernel_session.specs.Talk.{Heard, Talk, IsHeld, ask, post, before, is_listed, if_open, change_then_list, open_comm, close_comm, follow, talk}
+use Rattle.kernel_session.specs.Call.{Call, Asked}
+use Rattle.kernel_session.specs.Talk.{Heard, Talk, IsHeld, ask, before, is_listed, if_open, change_then_list, open_comm, follow, talk}
 use Rattle.jupyter_msg.specs.declared.comm.CommAsk.{CommAsk}
 use Rattle.jupyter_msg.specs.declared.comm.CommAsk.TheVariants as comm
 use Rattle.jupyter_msg.specs.declared.request.RequestContent.{RequestContent}

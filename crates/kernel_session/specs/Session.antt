@@ -20,7 +20,7 @@ use Rattle.zmtp_peer.specs.Events.{Event}
 use Rattle.kernel_message.specs.declared.stamp.Stamp.{Stamp}
 use Rattle.kernel_message.specs.Message.{asker_of, broadcast_message}
 use Rattle.kernel_message.specs.Said.{Says}
-use Rattle.kernel_message.specs.Sent.{Sent, sent, next_after}
+use Rattle.kernel_message.specs.Sent.{sent, next_after}
 use Rattle.kernel_reply.specs.Status as status
 use Rattle.kernel_board.specs.Frames.{Frames}
 use Rattle.kernel_session.specs.declared.socket.Socket.{Socket}

@@ -83,15 +83,19 @@ fn take_turn<W: Write, D: Desk>(
         Some(asked) => asked,
         None => return Ok(Flow::Going),
     };
-    take_request(alloc, key, writer, desk, stamp, &asked.message, &asked.request)
+    take_request(
+        alloc,
+        key,
+        writer,
+        desk,
+        stamp,
+        &asked.message,
+        &asked.request,
+    )
 }
 
 /// Sends a message back.
-fn echo<W: Write>(
-    alloc: Global,
-    writer: &mut W,
-    frames: &[Vec<u8>],
-) -> Result<Flow, ServeFault>
+fn echo<W: Write>(alloc: Global, writer: &mut W, frames: &[Vec<u8>]) -> Result<Flow, ServeFault>
     ensures ok { IfOk result (λ flow. (flow ≡ Flow.Going)
         × Appends (W.contents writer.old) (W.contents writer.new) (message_octets (octets frames.now))) }
     ensures err { OnErr result (SentSome (W.contents writer.old) (W.contents writer.new) (message_octets (octets frames.now))) }

@@ -246,10 +246,7 @@ fn shut<D: Desk>(desk: &mut D) -> Option<Told>
 }
 
 /// Asks for the completion of a name.
-fn complete<D: Desk>(
-    desk: &mut D,
-    request: &CompleteRequest,
-) -> Result<Option<Told>, AllocError>
+fn complete<D: Desk>(desk: &mut D, request: &CompleteRequest) -> Result<Option<Told>, AllocError>
     ensures ok { IfOk result (λ told. (a : Result Answer HallFault)
         × IsHeld D.leads desk.old (ask_talk (Complete (string_bytes request.now.code) request.now.cursor) a) told desk.new) }
     ensures err { OnErr result (desk.new ≡ desk.old) }
@@ -260,10 +257,7 @@ fn complete<D: Desk>(
 }
 
 /// Asks what is known of a name.
-fn inspect<D: Desk>(
-    desk: &mut D,
-    request: &InspectRequest,
-) -> Result<Option<Told>, AllocError>
+fn inspect<D: Desk>(desk: &mut D, request: &InspectRequest) -> Result<Option<Told>, AllocError>
     ensures ok { IfOk result (λ told. (a : Result Answer HallFault)
         × IsHeld D.leads desk.old (ask_talk (Inspect (string_bytes request.now.code) request.now.cursor) a) told desk.new) }
     ensures err { OnErr result (desk.new ≡ desk.old) }
@@ -274,10 +268,7 @@ fn inspect<D: Desk>(
 }
 
 /// Asks whether code can be executed as it stands.
-fn judge<D: Desk>(
-    desk: &mut D,
-    request: &IsCompleteRequest,
-) -> Result<Option<Told>, AllocError>
+fn judge<D: Desk>(desk: &mut D, request: &IsCompleteRequest) -> Result<Option<Told>, AllocError>
     ensures ok { IfOk result (λ told. (a : Result Answer HallFault)
         × IsHeld D.leads desk.old (ask_talk (IsComplete (string_bytes request.now.code)) a) told desk.new) }
     ensures err { OnErr result (desk.new ≡ desk.old) }

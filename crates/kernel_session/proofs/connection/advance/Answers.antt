@@ -1,4 +1,4 @@
-use Rattle.std.proofs.Common.{List, [], refl, sym, subst}
+use Rattle.std.proofs.Common.{List, [], sym, subst}
 use Rattle.zmtp_peer.specs.declared.event.PeerEvent.{PeerEvent}
 use Rattle.zmtp_peer.specs.Events.{events_of}
 use Rattle.zmtp_peer.specs.Reading.{Brings}
@@ -28,7 +28,7 @@ returns-in-Ok-feed-clause-ok g c =
       quiet_on c.octets_have_one_reading_law.ensures c.args.peer.now c.feed.new.self c.feed-2.new.self c.args.piece.now es
           (events_of c.in-Ok-feed.field-0.items) c.in-Ok-feed.ensures.role brings c.in-Ok-feed.ensures.events,
       subst (λ (f : Flow). comes_to g.W.Write.contents g.D.Desk.leads c.args.socket c.args.key.now [] c.args.writer.now c.take_all.new.writer c.args.desk.now c.take_all.new.desk
-      (going c.args.stamp.now) c.take_all.new.stamp f es) c.in-Going.is c.in-Ok-take_all.ensures.ok,
+          (going c.args.stamp.now) c.take_all.new.stamp f es) c.in-Going.is c.in-Ok-take_all.ensures.ok,
     )
 
 pub returns-in-Ok-feed-clause-quiet : goal.returns-in-Ok-feed-clause-quiet

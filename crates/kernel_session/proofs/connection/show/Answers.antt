@@ -28,8 +28,8 @@ returns-clause-ok g c fed given st = (
   [],
   inr (
     λ w.
-      let t : c.wants.result ≡ true = (c.wants.ensures fed given st).1 (subst (λ (x : List ℕ). IsWanted given x) (sym c.topic.ensures) w) in
-      let f : true ≡ false = sym t ∙ c.if-wants.false in cc,
+        let t : c.wants.result ≡ true = (c.wants.ensures fed given st).1 (subst (λ (x : List ℕ). IsWanted given x) (sym c.topic.ensures) w) in
+        let f : true ≡ false = sym t ∙ c.if-wants.false in cc,
     refl,
   ),
   appends_none (g.W.Write.contents c.args.writer.now),

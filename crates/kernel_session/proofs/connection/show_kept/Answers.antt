@@ -23,11 +23,11 @@ returns-clause-ok g c =
     on_ok c.show_all.result
     ((fed : List ℕ) (given : List Event) → Stands fed given c.args.peer.now → (octets : List ℕ) × AreShown given kept octets × Appends old new octets)
     ((fed : List ℕ) (given : List Event) → Stands fed given c.args.peer.now → (closing : List Action) × IsFarewell given closing
-        × Acts g.W.Write.contents g.D.Desk.leads c.args.writer.now c.show_all.new.writer c.args.desk.now c.broadcasts.new.self closing)
+    × Acts g.W.Write.contents g.D.Desk.leads c.args.writer.now c.show_all.new.writer c.args.desk.now c.broadcasts.new.self closing)
     (λ p fed given st.
-      let q = p fed given st in
-      farewell_whole g.W.Write.contents g.D.Desk.leads c.args.writer.now c.show_all.new.writer c.args.desk.now c.broadcasts.new.self given kept
-      (subst (λ (x : List Frames). g.D.Desk.leads c.args.desk.now (Kept x) c.broadcasts.new.self) (sym c.deref.ensures.value) c.in-Ok.ensures.ok) q.0 q.1 q.2)
+    let q = p fed given st in
+    farewell_whole g.W.Write.contents g.D.Desk.leads c.args.writer.now c.show_all.new.writer c.args.desk.now c.broadcasts.new.self given kept
+    (subst (λ (x : List Frames). g.D.Desk.leads c.args.desk.now (Kept x) c.broadcasts.new.self) (sym c.deref.ensures.value) c.in-Ok.ensures.ok) q.0 q.1 q.2)
     c.show_all.ensures.ok
 
 pub returns-clause-err : goal.returns-clause-err
@@ -37,11 +37,11 @@ returns-clause-err g c =
     let kept = c.deref.result.now in
     on_err c.show_all.result
     ((fed : List ℕ) (given : List Event) → Stands fed given c.args.peer.now → (front : List Frames) × (more : List Frames) × (kept ≡ front ++ more)
-        × (octets : List ℕ) × AreShown given front octets × SentSome old new octets)
+    × (octets : List ℕ) × AreShown given front octets × SentSome old new octets)
     ((fed : List ℕ) (given : List Event) → Stands fed given c.args.peer.now → (closing : List Action) × IsFarewellPart given closing
-        × ActedPart g.W.Write.contents g.D.Desk.leads c.args.writer.now c.show_all.new.writer c.args.desk.now c.broadcasts.new.self closing)
+    × ActedPart g.W.Write.contents g.D.Desk.leads c.args.writer.now c.show_all.new.writer c.args.desk.now c.broadcasts.new.self closing)
     (λ p fed given st.
-      let q = p fed given st in
-      farewell_part g.W.Write.contents g.D.Desk.leads c.args.writer.now c.show_all.new.writer c.args.desk.now c.broadcasts.new.self given q.0 q.1
-      (subst (λ (x : List Frames). g.D.Desk.leads c.args.desk.now (Kept x) c.broadcasts.new.self) (sym c.deref.ensures.value ∙ q.2) c.in-Ok.ensures.ok) q.3 q.4 q.5)
+    let q = p fed given st in
+    farewell_part g.W.Write.contents g.D.Desk.leads c.args.writer.now c.show_all.new.writer c.args.desk.now c.broadcasts.new.self given q.0 q.1
+    (subst (λ (x : List Frames). g.D.Desk.leads c.args.desk.now (Kept x) c.broadcasts.new.self) (sym c.deref.ensures.value ∙ q.2) c.in-Ok.ensures.ok) q.3 q.4 q.5)
     c.show_all.ensures.err

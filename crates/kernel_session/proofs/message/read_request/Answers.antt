@@ -1,4 +1,4 @@
-use Rattle.std.proofs.Common.{◌∙◌, sym, ap, inl, inr}
+use Rattle.std.proofs.Common.{◌∙◌, sym, ap, inr}
 use Rattle.jupyter_msg.specs.Octets.{octets_of}
 use Rattle.jupyter_msg.specs.Requests.{type_of}
 use Rattle.kernel_session.specs.Session.{serves}

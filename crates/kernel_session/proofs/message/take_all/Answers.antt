@@ -1,7 +1,7 @@
-use Rattle.std.proofs.Common.{◌≡◌, ◌+◌, ◌<◌, length, List, [], ◌∷◌, ◌++◌, drop, refl, sym, ap, ◌∙◌, length-set, arith}
+use Rattle.std.proofs.Common.{◌+◌, ◌<◌, length, List, [], ◌∷◌, ◌++◌, drop, refl, sym, ap, ◌∙◌, length-set, arith}
 use Rattle.std.proofs.lemmas.List.{drop-set-lt}
 use Rattle.zmtp_peer.specs.declared.event.PeerEvent.{PeerEvent}
-use Rattle.zmtp_peer.specs.Events.{Event, event_of, events_of}
+use Rattle.zmtp_peer.specs.Events.{event_of, events_of}
 use Rattle.kernel_session.specs.declared.flow.Flow.TheVariants.{Going}
 use Rattle.kernel_session.specs.Session.{going}
 use Rattle.kernel_session.proofs.ActsLemmas.{acts_none}

@@ -1,4 +1,4 @@
-use Rattle.std.proofs.Common.{List, ℕ, ap, refl, subst, IfOk, OnErr, ◌≡◌}
+use Rattle.std.proofs.Common.{refl, subst, IfOk, OnErr, ◌≡◌}
 use Rattle.std.specs.Io.KnownBytes.{Appends}
 use Rattle.jupyter_msg.specs.Octets.{octets}
 use Rattle.zmtp_wire.specs.Message.{message_octets}

@@ -1,4 +1,4 @@
-use Rattle.std.proofs.Common.{◌≡◌, List, [], ◌∷◌, ◌∙◌, subst}
+use Rattle.std.proofs.Common.{◌≡◌, [], ◌∷◌, ◌∙◌, subst}
 use Rattle.jupyter_msg.specs.Octets.{Octets, octets_of}
 use Rattle.jupyter_msg.specs.Message.{frames_of}
 use Rattle.kernel_session.specs.Call.{Published, Leads}

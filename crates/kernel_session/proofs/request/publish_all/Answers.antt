@@ -1,4 +1,4 @@
-use Rattle.std.proofs.Common.{◌≡◌, ◌+◌, ℕ, List, [], ◌∷◌, ◌++◌, map, take, drop, get_or, sym, ap, ◌∙◌, subst}
+use Rattle.std.proofs.Common.{◌≡◌, ◌+◌, List, [], ◌∷◌, ◌++◌, map, take, drop, get_or, sym, ap, ◌∙◌, subst}
 use Rattle.std.proofs.lemmas.List.{take_more, map-append, take-append-drop}
 use Rattle.jupyter_msg.specs.Octets.{Octets}
 use Rattle.jupyter_msg.specs.Message.{frames_of}
@@ -27,8 +27,8 @@ returns-in_err-publish-clause-err g c =
     let all = c.args.broadcasts.now in
     let f = λ (o : Octets). Published (frames_of c.args.key.now o) in
     on_fail c.from_residual.result (LedPart g.D.Desk.leads c.args.desk.now (map f all) c.publish.new.desk) (
-    map f (take i all),
-    map f (drop i all),
-    ap (map f) (sym (take-append-drop i all)) ∙ map-append f (take i all) (drop i all),
-    subst (λ x. Leads g.D.Desk.leads c.args.desk.now (map f (take i all)) x) (sym c.in_err-publish.ensures.err) c.loop-broadcast.invariant,
+      map f (take i all),
+      map f (drop i all),
+      ap (map f) (sym (take-append-drop i all)) ∙ map-append f (take i all) (drop i all),
+      subst (λ x. Leads g.D.Desk.leads c.args.desk.now (map f (take i all)) x) (sym c.in_err-publish.ensures.err) c.loop-broadcast.invariant,
     )

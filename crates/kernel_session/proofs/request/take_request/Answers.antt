@@ -1,4 +1,4 @@
-use Rattle.std.proofs.Common.{Option, sym, subst, arith}
+use Rattle.std.proofs.Common.{Option, subst, arith}
 use Rattle.kernel_session.specs.declared.talk.Told.{Told}
 use Rattle.kernel_session.specs.Parts.{IsTakenUp}
 use Rattle.kernel_session.proofs.RequestLemmas.{on_fail, ServesPart, request_whole, request_cut, request_starved, request_unasked}

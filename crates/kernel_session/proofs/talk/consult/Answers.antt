@@ -1,4 +1,4 @@
-use Rattle.std.proofs.Common.{List, [], ◌∷◌, Some, refl, ap, string_bytes}
+use Rattle.std.proofs.Common.{[], ◌∷◌, Some, refl, ap, string_bytes}
 use Rattle.jupyter_msg.specs.Requests.{expressions_of}
 use Rattle.jupyter_msg.specs.declared.request.RequestContent.TheVariants as request
 use Rattle.kernel_core.specs.Request.{RunCell}

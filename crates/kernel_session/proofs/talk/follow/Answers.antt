@@ -1,4 +1,4 @@
-use Rattle.std.proofs.Common.{List, [], Some, refl, sym, ap, subst}
+use Rattle.std.proofs.Common.{List, Some, refl, sym, ap, subst}
 use Rattle.jupyter_msg.specs.declared.comm.CommAsk.{CommAsk}
 use Rattle.kernel_ask.specs.declared.done.Wish.{Wish}
 use Rattle.kernel_core.specs.Request.{Undo, Redo, Goto}

@@ -1,4 +1,4 @@
-use Rattle.std.proofs.Common.{List, ℕ, Bool, sym, ap, ◌∙◌, subst, string_bytes}
+use Rattle.std.proofs.Common.{List, ℕ, sym, ap, ◌∙◌, subst, string_bytes}
 use Rattle.std.specs.Str.{bytes_eq}
 use Rattle.kernel_reply.specs.Comms.{target as undo_target}
 use Rattle.kernel_session.specs.Question.{Open}
