@@ -1,0 +1,108 @@
+-- What is done one after the other is done together.
+use Rattle.std.proofs.Common.{◌≡◌, ℕ, List, [], ◌∷◌, ◌++◌, Option, Some, None, refl, sym, ap, ◌∙◌, subst, append_assoc, append-nil, ◌+◌, take, drop, length, ◌-◌}
+use Rattle.std.proofs.Math.Seq.{take-add}
+use Rattle.std.specs.Io.KnownBytes.{Appends, Consumes, Keeps}
+use Rattle.std.proofs.lemmas.List.{take-append-drop, take_rest}
+use Rattle.kernel_session.specs.Action.{SentSome}
+use Rattle.kernel_session.specs.Call.{Call, Leads}
+use Rattle.kernel_session.specs.Action.{Action, Sent, Called, Acts, sends, asks, sent_of, calls_of}
+
+pub appends_none : (a : Option (List ℕ)) → Appends a a []
+appends_none None = tt
+appends_none (Some x) = sym (append-nil x)
+
+pub appends_join : (a b c : Option (List ℕ)) (xs ys : List ℕ) → Appends a b xs → Appends b c ys → Appends a c (xs ++ ys)
+appends_join None b c xs ys p q = tt
+appends_join (Some x) None c xs ys p q = absurd p
+appends_join (Some x) (Some y) None xs ys p q = absurd q
+appends_join (Some x) (Some y) (Some z) xs ys p q = q ∙ ap (λ l. l ++ ys) p ∙ append_assoc x xs ys
+
+pub appends_kept : (a b c : Option (List ℕ)) (xs : List ℕ) → Appends a b xs → Keeps b c → Appends a c xs
+appends_kept None b c xs p q = tt
+appends_kept (Some x) None c xs p q = absurd p
+appends_kept (Some x) (Some y) None xs p q = absurd q
+appends_kept (Some x) (Some y) (Some z) xs p q = q ∙ p
+
+pub consumes_none : (a : Option (List ℕ)) → Consumes a a []
+consumes_none None = tt
+consumes_none (Some x) = refl
+
+pub consumes_join : (a b c : Option (List ℕ)) (xs ys : List ℕ) → Consumes a b xs → Consumes b c ys → Consumes a c (xs ++ ys)
+consumes_join None b c xs ys p q = tt
+consumes_join (Some x) None c xs ys p q = absurd p
+consumes_join (Some x) (Some y) None xs ys p q = absurd q
+consumes_join (Some x) (Some y) (Some z) xs ys p q = p ∙ ap (λ l. xs ++ l) q ∙ sym (append_assoc xs ys z)
+
+pub consumes_kept : (a b c : Option (List ℕ)) (xs : List ℕ) → Consumes a b xs → Keeps b c → Consumes a c xs
+consumes_kept None b c xs p q = tt
+consumes_kept (Some x) None c xs p q = absurd p
+consumes_kept (Some x) (Some y) None xs p q = absurd q
+consumes_kept (Some x) (Some y) (Some z) xs p q = p ∙ ap (λ l. xs ++ l) (sym q)
+
+-- a write of some of what was left
+pub appends_more : (a b c : Option (List ℕ)) (xs : List ℕ) (at n : ℕ) → Appends a b (take at xs) → Appends b c (take n (take (length xs - at) (drop at xs)))
+    → Appends a c (take (at + n) xs)
+appends_more a b c xs at n p q =
+    let e : take at xs ++ take n (take (length xs - at) (drop at xs)) ≡ take (at + n) xs =
+    ap (λ t. take at xs ++ take n t) (take_rest xs at) ∙ sym (take-add at n xs) in
+    subst (Appends a c) e (appends_join a b c _ _ p q)
+
+pub sent_some : (a b : Option (List ℕ)) (xs : List ℕ) (at : ℕ) → Appends a b (take at xs) → SentSome a b xs
+sent_some a b xs at p = (take at xs, drop at xs, sym (take-append-drop at xs), p)
+
+module _ {D : Type 0} (leads : D → Call → D → Type 0) where
+  pub leads_join : (a b c : D) (xs ys : List Call) → Leads leads a xs b → Leads leads b ys c → Leads leads a (xs ++ ys) c
+  leads_join a b c [] ys p q = subst (λ d. Leads leads d ys c) p q
+  leads_join a b c (x ∷ xs) ys p q = (p.0, p.1, leads_join p.0 b c xs ys p.2 q)
+
+  pub leads_one : (a b : D) (x : Call) → leads a x b → Leads leads a (x ∷ []) b
+  leads_one a b x p = (b, p, refl)
+
+pub sent_of-append : (xs ys : List Action) → sent_of (xs ++ ys) ≡ sent_of xs ++ sent_of ys
+sent_of-append [] ys = refl
+sent_of-append (Sent x ∷ xs) ys = ap (λ t. x ∷ t) (sent_of-append xs ys)
+sent_of-append (Called c ∷ xs) ys = sent_of-append xs ys
+
+pub calls_of-append : (xs ys : List Action) → calls_of (xs ++ ys) ≡ calls_of xs ++ calls_of ys
+calls_of-append [] ys = refl
+calls_of-append (Sent x ∷ xs) ys = calls_of-append xs ys
+calls_of-append (Called c ∷ xs) ys = ap (λ t. c ∷ t) (calls_of-append xs ys)
+
+pub sent_of-sends : (xs : List ℕ) → sent_of (sends xs) ≡ xs
+sent_of-sends [] = refl
+sent_of-sends (x ∷ xs) = ap (λ t. x ∷ t) (sent_of-sends xs)
+
+pub calls_of-sends : (xs : List ℕ) → calls_of (sends xs) ≡ []
+calls_of-sends [] = refl
+calls_of-sends (x ∷ xs) = calls_of-sends xs
+
+pub sent_of-asks : (cs : List Call) → sent_of (asks cs) ≡ []
+sent_of-asks [] = refl
+sent_of-asks (c ∷ cs) = sent_of-asks cs
+
+pub calls_of-asks : (cs : List Call) → calls_of (asks cs) ≡ cs
+calls_of-asks [] = refl
+calls_of-asks (c ∷ cs) = ap (λ t. c ∷ t) (calls_of-asks cs)
+
+module _ {W D : Type 0} (contents : W → Option (List ℕ)) (leads : D → Call → D → Type 0) where
+  pub acts_none : (w : W) (d : D) → Acts contents leads w w d d []
+  acts_none w d = record { sent = appends_none (contents w); called = refl }
+
+  pub acts_join : (w w1 w2 : W) (d d1 d2 : D) (xs ys : List Action) → Acts contents leads w w1 d d1 xs
+      → Acts contents leads w1 w2 d1 d2 ys → Acts contents leads w w2 d d2 (xs ++ ys)
+  acts_join w w1 w2 d d1 d2 xs ys p q = record {
+    sent = subst (Appends (contents w) (contents w2)) (sym (sent_of-append xs ys)) (appends_join _ _ _ _ _ p.sent q.sent);
+    called = subst (λ t. Leads leads d t d2) (sym (calls_of-append xs ys)) (leads_join leads _ _ _ _ _ p.called q.called);
+  }
+
+  pub acts_asks : (w : W) (d d' : D) (cs : List Call) → Leads leads d cs d' → Acts contents leads w w d d' (asks cs)
+  acts_asks w d d' cs p = record {
+    sent = subst (Appends (contents w) (contents w)) (sym (sent_of-asks cs)) (appends_none (contents w));
+    called = subst (λ t. Leads leads d t d') (sym (calls_of-asks cs)) p;
+  }
+
+  pub acts_sends : (w w' : W) (d : D) (xs : List ℕ) → Appends (contents w) (contents w') xs → Acts contents leads w w' d d (sends xs)
+  acts_sends w w' d xs p = record {
+    sent = subst (Appends (contents w) (contents w')) (sym (sent_of-sends xs)) p;
+    called = subst (λ t. Leads leads d t d) (sym (calls_of-sends xs)) refl;
+  }

@@ -1,0 +1,7 @@
+pub mod ActsLemmas
+pub mod TalkLemmas
+pub mod RequestLemmas
+pub mod SessionLemmas
+pub mod EventLemmas
+pub mod PieceLemmas
+pub mod ClosingLemmas

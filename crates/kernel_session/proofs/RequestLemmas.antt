@@ -1,0 +1,237 @@
+-- What one request brings, from its parts.
+use Rattle.std.proofs.Common.{◌≡◌, ℕ, ◌<◌, ◌≤◌, List, [], ◌∷◌, ◌++◌, map, Option, Some, None, Result, Ok, Err, IfOk, IfErr, OnOk, OnErr, inl, inr, refl, sym, ap, ◌∙◌, subst, append_assoc, append-nil, ◌⊎◌}
+use Rattle.std.proofs.lemmas.List.{map-append}
+use Rattle.std.specs.Io.KnownBytes.{Appends}
+use Rattle.jupyter_msg.specs.Message.{frames_of}
+use Rattle.jupyter_msg.specs.declared.request.Request.{Request}
+use Rattle.kernel_message.specs.declared.stamp.Stamp.{Stamp}
+use Rattle.kernel_message.specs.Message.{broadcast_message}
+use Rattle.kernel_message.specs.Sent.{Sent}
+use Rattle.kernel_reply.specs.Status.{busy}
+use Rattle.kernel_session.specs.declared.talk.Told.{Told}
+use Rattle.kernel_session.specs.declared.flow.Flow.{Flow}
+use Rattle.kernel_session.specs.declared.flow.Flow.TheVariants.{Starved, Worn}
+use Rattle.kernel_session.specs.Call.{Call, Published, Dated, Leads}
+use Rattle.kernel_session.specs.Action.{Action, Sent as SentOctet, Called, Acts, IsStartOf, SentSome, sends, asks}
+use Rattle.kernel_session.specs.Talk.{Heard, IsHeld, talk, says_of}
+use Rattle.kernel_session.specs.Session.{State, IsServed, IsWorn, opened, asking, busy_frames, reply_octets, answered, outgoing, stamp_behind, flow_behind, state_behind, ends_with, served, last_next}
+use Rattle.kernel_session.specs.Parts.{LedPart, ActedPart, IsBegun, IsDatedAlone, IsTakenUp, IsTakenUpPart}
+use Rattle.kernel_session.proofs.ActsLemmas.{leads_join, acts_none, acts_join, acts_asks, acts_sends}
+use Rattle.kernel_session.proofs.TalkLemmas.{nobody}
+
+pub on_ok : {A E : Type 0} (r : Result A E) (P Q : Type 0) → (P → Q) → OnOk r P → OnOk r Q
+on_ok (Ok x) P Q f p = f p
+on_ok (Err e) P Q f p = tt
+
+pub on_err : {A E : Type 0} (r : Result A E) (P Q : Type 0) → (P → Q) → OnErr r P → OnErr r Q
+on_err (Ok x) P Q f p = tt
+on_err (Err e) P Q f p = f p
+
+pub on_fail : {A E : Type 0} (r : Result A E) (P : Type 0) → P → OnErr r P
+on_fail (Ok x) P p = tt
+on_fail (Err e) P p = p
+
+pub starts_with : (first done all : List Action) → IsStartOf done all → IsStartOf (first ++ done) (first ++ all)
+starts_with first done all p = (p.0, ap (λ t. first ++ t) p.1 ∙ sym (append_assoc first done p.0))
+
+-- some calls are some actions
+pub asks_start : (done more : List Call) → IsStartOf (asks done) (asks (done ++ more))
+asks_start done more = (asks more, map-append Called done more)
+
+module _ {D : Type 0} (leads : D → Call → D → Type 0) (d d1 d2 : D) (key header : List ℕ) (r : Request) (stamp stamp1 : Stamp) where
+  abbrev opening : List ℕ → Stamp → List Call
+  opening h dated = Dated stamp.date dated.date ∷ Published (frames_of key (broadcast_message h dated dated.next busy)) ∷ []
+
+  -- the calls of a request that was begun
+  begun_for : (p : IsBegun leads d d1 key header stamp stamp1) → r.header.items ≡ header → Leads leads d (opening r.header.items p.dated) d1
+  begun_for p e = subst (λ (x : List ℕ). Leads leads d (opening x p.dated) d1) (sym e) p.called
+
+  pub taken_up : IsBegun leads d d1 key header stamp stamp1 → r.header.items ≡ header → (told : Option Told) (h : Heard)
+      → IsHeld leads d1 (talk r.content h) told d2 → IsTakenUp leads d d2 key r stamp stamp1 told
+  taken_up p e told h q = record {
+    dated = p.dated;
+    is_dated = p.is_dated;
+    heard = h;
+    called = leads_join leads d d1 d2 (opening r.header.items p.dated) (talk r.content h).calls (begun_for p e) q.0;
+    tells = q.1;
+    moved = p.moved;
+  }
+
+  pub dated_part : IsDatedAlone leads d d1 stamp → IsTakenUpPart leads d d1 key r stamp
+  dated_part p = record {
+    dated = p.dated;
+    is_dated = p.is_dated;
+    heard = nobody;
+    called = (Dated stamp.date p.dated.date ∷ [], Published (busy_frames key r p.dated) ∷ (talk r.content nobody).calls, refl, p.called);
+  }
+
+  pub begun_part : IsBegun leads d d1 key header stamp stamp1 → r.header.items ≡ header → d2 ≡ d1 → IsTakenUpPart leads d d2 key r stamp
+  begun_part p e same = record {
+    dated = p.dated;
+    is_dated = p.is_dated;
+    heard = nobody;
+    called = (
+      opening r.header.items p.dated,
+      (talk r.content nobody).calls,
+      refl,
+      subst (λ (x : D). Leads leads d (opening r.header.items p.dated) x) (sym same) (begun_for p e),
+    );
+  }
+
+module _ {W D : Type 0} (contents : W → Option (List ℕ)) (leads : D → Call → D → Type 0) (key : List ℕ) where
+  abbrev pub goes_out : Sent → List Action
+  goes_out s = sends (reply_octets key s.reply) ++ asks (map (λ b. Published (frames_of key b)) s.broadcasts)
+
+  -- nothing was done
+  pub none_done : (w : W) (d : D) (all : List Action) → ActedPart contents leads w w d d all
+  none_done w d all = ([], acts_none contents leads w d, (all, refl))
+
+  module _ (w w' : W) (d d' : D) (s t : Sent) (same : s ≡ t) where
+    pub out_whole : Appends (contents w) (contents w') (reply_octets key s.reply) → Leads leads d (map (λ b. Published (frames_of key b)) s.broadcasts) d'
+        → Acts contents leads w w' d d' (goes_out t)
+    out_whole p q =
+        subst (λ (x : Sent). Acts contents leads w w' d d' (goes_out x)) same
+        (acts_join contents leads w w' w' d d d' _ _ (acts_sends contents leads w w' d _ p) (acts_asks contents leads w' d d' _ q))
+
+    pub out_led : Appends (contents w) (contents w') (reply_octets key s.reply) → LedPart leads d (map (λ b. Published (frames_of key b)) s.broadcasts) d'
+        → ActedPart contents leads w w' d d' (goes_out t)
+    out_led p q =
+        let reply = sends (reply_octets key s.reply) in
+        subst (λ (x : Sent). ActedPart contents leads w w' d d' (goes_out x)) same (
+          reply ++ asks q.0,
+          acts_join contents leads w w' w' d d d' _ _ (acts_sends contents leads w w' d _ p) (acts_asks contents leads w' d d' _ q.3),
+          starts_with reply (asks q.0) (asks (map (λ b. Published (frames_of key b)) s.broadcasts))
+              (subst (λ (x : List Call). IsStartOf (asks q.0) (asks x)) (sym q.2) (asks_start q.0 q.1)),
+        )
+
+    pub out_cut : SentSome (contents w) (contents w') (reply_octets key s.reply) → ActedPart contents leads w w' d d (goes_out t)
+    out_cut p =
+        let rest = asks (map (λ b. Published (frames_of key b)) s.broadcasts) in
+        subst (λ (x : Sent). ActedPart contents leads w w' d d (goes_out x)) same (
+          sends p.0,
+          acts_sends contents leads w w' d p.0 p.3,
+          (
+            sends p.1 ++ rest,
+            ap (λ (x : List ℕ). sends x ++ rest) p.2 ∙ ap (λ (x : List Action). x ++ rest) (map-append SentOctet p.0 p.1) ∙ append_assoc (sends p.0) (sends p.1) rest,
+          ),
+        )
+
+  module _ (w w' : W) (d d1 d2 : D) (r : Request) (stamp stamp1 stamp2 : Stamp) where
+    abbrev pub Serves : Flow → Type 0
+    Serves flow =
+        (actions : List Action) × Acts contents leads w w' d d2 actions
+        × (IsServed key r stamp actions (record { stamp = stamp2; flow = flow }) ⊎ IsWorn stamp actions (record { stamp = stamp2; flow = flow }))
+
+    abbrev pub ServesPart : Type 0
+    ServesPart =
+        (actions : List Action) × (new : State) × IsServed key r stamp actions new × ActedPart contents leads w w' d d2 actions
+
+    pub request_whole : stamp.next ≤ last_next → (told : Told) → IsTakenUp leads d d1 key r stamp stamp1 (Some told)
+        → Acts contents leads w w' d1 d2 (answered key r stamp1 (says_of r.content told)) → stamp2 ≡ stamp_behind r stamp1 (Some told)
+        → (flow : Flow) → flow ≡ ends_with r.content → Serves flow
+    request_whole fits told p q moved flow ends =
+        let t = talk r.content p.heard in
+        let out : outgoing key r stamp1 (Some told) ≡ outgoing key r (opened p.dated) t.told =
+        ap (λ (s : Stamp). outgoing key r s (Some told)) p.moved ∙ ap (λ (o : Option Told). outgoing key r (opened p.dated) o) p.tells in
+        let end : stamp2 ≡ stamp_behind r (opened p.dated) t.told =
+        moved ∙ ap (λ (s : Stamp). stamp_behind r s (Some told)) p.moved ∙ ap (λ (o : Option Told). stamp_behind r (opened p.dated) o) p.tells in
+        let on : flow ≡ flow_behind r t.told = ends ∙ ap (λ (o : Option Told). flow_behind r o) p.tells in (
+          served key r stamp p.dated t,
+          acts_join contents leads w w w' d d1 d2 _ _ (acts_asks contents leads w d d1 (asking key r stamp p.dated t) p.called)
+              (subst (λ (x : List Action). Acts contents leads w w' d1 d2 x) out q),
+          inl record {
+            numbered = fits;
+            dated = p.dated;
+            is_dated = p.is_dated;
+            heard = p.heard;
+            brings = refl;
+            reaches = λ i. record { stamp = end i; flow = on i };
+          },
+        )
+
+    pub request_cut : stamp.next ≤ last_next → (told : Told) → IsTakenUp leads d d1 key r stamp stamp1 (Some told)
+        → ActedPart contents leads w w' d1 d2 (answered key r stamp1 (says_of r.content told)) → ServesPart
+    request_cut fits told p q =
+        let t = talk r.content p.heard in
+        let first = asks (asking key r stamp p.dated t) in
+        let out : outgoing key r stamp1 (Some told) ≡ outgoing key r (opened p.dated) t.told =
+        ap (λ (s : Stamp). outgoing key r s (Some told)) p.moved ∙ ap (λ (o : Option Told). outgoing key r (opened p.dated) o) p.tells in (
+          served key r stamp p.dated t,
+          state_behind r (opened p.dated) t.told,
+          record {
+            numbered = fits;
+            dated = p.dated;
+            is_dated = p.is_dated;
+            heard = p.heard;
+            brings = refl;
+            reaches = refl;
+          },
+          (
+            first ++ q.0,
+            acts_join contents leads w w w' d d1 d2 _ _ (acts_asks contents leads w d d1 (asking key r stamp p.dated t) p.called) q.1,
+            starts_with first q.0 _ (subst (λ (x : List Action). IsStartOf q.0 x) out q.2),
+          ),
+        )
+
+  -- the desk found no memory
+  pub request_starved : (w : W) (d d1 : D) (r : Request) (stamp stamp1 : Stamp) → stamp.next ≤ last_next
+      → IsTakenUp leads d d1 key r stamp stamp1 None → Serves w w d d d1 r stamp stamp1 stamp1 Starved
+  request_starved w d d1 r stamp stamp1 fits p =
+      let t = talk r.content p.heard in
+      let none : t.told ≡ None = sym p.tells in
+      let first = asks (asking key r stamp p.dated t) in
+      let out : served key r stamp p.dated t ≡ first =
+      ap (λ (o : Option Told). first ++ outgoing key r (opened p.dated) o) none ∙ append-nil first in
+      let end : stamp1 ≡ stamp_behind r (opened p.dated) t.told = p.moved ∙ ap (λ (o : Option Told). stamp_behind r (opened p.dated) o) p.tells in
+      let on : Starved ≡ flow_behind r t.told = ap (λ (o : Option Told). flow_behind r o) p.tells in (
+        served key r stamp p.dated t,
+        subst (λ (x : List Action). Acts contents leads w w d d1 x) (sym out) (acts_asks contents leads w d d1 (asking key r stamp p.dated t) p.called),
+        inl record {
+          numbered = fits;
+          dated = p.dated;
+          is_dated = p.is_dated;
+          heard = p.heard;
+          brings = refl;
+          reaches = λ i. record { stamp = end i; flow = on i };
+        },
+      )
+
+  pub request_unasked : (w : W) (d d1 : D) (r : Request) (stamp stamp2 : Stamp) → stamp.next ≤ last_next
+      → IsTakenUpPart leads d d1 key r stamp → ServesPart w w d d d1 r stamp stamp stamp2
+  request_unasked w d d1 r stamp stamp2 fits p =
+      let t = talk r.content p.heard in
+      let all = asks (asking key r stamp p.dated t) in
+      let later = outgoing key r (opened p.dated) t.told in
+      let done = p.called.0 in
+      let more = p.called.1 in (
+        served key r stamp p.dated t,
+        state_behind r (opened p.dated) t.told,
+        record {
+          numbered = fits;
+          dated = p.dated;
+          is_dated = p.is_dated;
+          heard = p.heard;
+          brings = refl;
+          reaches = refl;
+        },
+        (
+          asks done,
+          acts_asks contents leads w d d1 done p.called.3,
+          (
+            asks more ++ later,
+            ap (λ (x : List Call). asks x ++ later) p.called.2 ∙ ap (λ (x : List Action). x ++ later) (map-append Called done more)
+                ∙ append_assoc (asks done) (asks more) later,
+          ),
+        ),
+      )
+
+  pub request_worn : (w : W) (d : D) (r : Request) (stamp : Stamp) → last_next < stamp.next → Serves w w d d d r stamp stamp stamp Worn
+  request_worn w d r stamp past = ([], acts_none contents leads w d, inr record { past = past; quiet = refl; worn = refl })
+
+pub if_ok : {A E : Type 0} (r : Result A E) (P Q : A → Type 0) → ((x : A) → P x → Q x) → IfOk r P → IfOk r Q
+if_ok (Ok x) P Q f p = f x p
+if_ok (Err e) P Q f p = tt
+
+pub if_err : {A E : Type 0} (r : Result A E) (P Q : E → Type 0) → ((e : E) → P e → Q e) → IfErr r P → IfErr r Q
+if_err (Ok x) P Q f p = tt
+if_err (Err e) P Q f p = f e p

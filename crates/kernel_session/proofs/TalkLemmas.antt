@@ -1,0 +1,111 @@
+-- What a request has the desk do, from what was said to it.
+use Rattle.std.proofs.Common.{◌≡◌, ℕ, Bool, true, false, List, [], ◌∷◌, Option, Some, Result, Ok, Err, IfOk, refl, sym, subst, if◌then◌else◌}
+use Rattle.std.specs.Str.{bytes_eq}
+use Rattle.kernel_core.specs.declared.post.PostFault.{PostFault}
+use Rattle.kernel_core.specs.declared.post.PostFault.TheVariants as post_fault
+use Rattle.kernel_ask.specs.declared.done.Done.{Done}
+use Rattle.kernel_ask.specs.declared.answer.Answer.{Answer}
+use Rattle.kernel_ask.specs.declared.answer.HallFault.{HallFault}
+use Rattle.kernel_ask.specs.declared.answer.HallFault.TheVariants as hall_fault
+use Rattle.kernel_session.specs.declared.talk.Told.{Told}
+use Rattle.kernel_session.specs.declared.talk.Told.TheVariants.{Answered}
+use Rattle.kernel_reply.specs.Comms.{target as undo_target}
+use Rattle.kernel_session.specs.Question.{Comms, Open}
+use Rattle.kernel_session.specs.Call.{Call, Asked}
+use Rattle.kernel_session.specs.Talk.{Heard, Talk, IsHeld, ask, before, is_listed, if_open, change_then_list, open_comm, follow, talk}
+use Rattle.jupyter_msg.specs.declared.comm.CommAsk.{CommAsk}
+use Rattle.jupyter_msg.specs.declared.comm.CommAsk.TheVariants as comm
+use Rattle.jupyter_msg.specs.declared.request.RequestContent.{RequestContent}
+
+-- what was not asked is taken as refused
+pub unasked : Result Answer HallFault
+unasked = Err hall_fault.Memory
+
+pub unchanged : Result Bool HallFault
+unchanged = Err hall_fault.Memory
+
+pub unposted : Result Done PostFault
+unposted = Err post_fault.Memory
+
+abbrev pub nobody : Heard
+nobody = record { comms = unasked; changed = unchanged; job = unposted; answer = unasked }
+
+abbrev pub heard_answer : Result Answer HallFault → Heard
+heard_answer a = record { comms = unasked; changed = unchanged; job = unposted; answer = a }
+
+abbrev pub heard_change : Result Bool HallFault → Result Answer HallFault → Heard
+heard_change b a = record { comms = unasked; changed = b; job = unposted; answer = a }
+
+abbrev pub heard_job : Result Done PostFault → Result Answer HallFault → Heard
+heard_job j a = record { comms = unasked; changed = unchanged; job = j; answer = a }
+
+-- the open comms were told too
+abbrev pub heard_comms : Result Answer HallFault → Heard → Heard
+heard_comms a h = record h { comms = a }
+
+module _ {D : Type 0} (leads : D → Call → D → Type 0) (d d1 : D) where
+  pub open_held : (d2 : D) (id : List ℕ) (a : Answer) (t : Talk) (told : Option Told) → is_listed id a.content ≡ true
+      → leads d (Asked Comms (Ok a)) d1 → IsHeld leads d1 t told d2 → IsHeld leads d (if_open id (Ok a) t) told d2
+  open_held d2 id a t told e p q =
+      subst (λ (b : Bool). IsHeld leads d (if b then before (Asked Comms (Ok a) ∷ []) t else ask Comms (Ok a)) told d2) (sym e)
+      ((d1, p, q.0), q.1)
+
+  pub closed_held : (id : List ℕ) (a : Answer) (t : Talk) → is_listed id a.content ≡ false
+      → leads d (Asked Comms (Ok a)) d1 → IsHeld leads d (if_open id (Ok a) t) (Some (Answered a)) d1
+  closed_held id a t e p =
+      subst (λ (b : Bool). IsHeld leads d (if b then before (Asked Comms (Ok a) ∷ []) t else ask Comms (Ok a)) (Some (Answered a)) d1) (sym e)
+      ((d1, p, refl), refl)
+
+  pub target_held : (target id : List ℕ) (b : Result Bool HallFault) (a : Result Answer HallFault) (told : Option Told)
+      → bytes_eq target undo_target ≡ true → IsHeld leads d (change_then_list (Open id) b a) told d1
+      → IsHeld leads d (open_comm target id (heard_change b a)) told d1
+  target_held target id b a told e p =
+      subst (λ (t : Bool). IsHeld leads d (if t then change_then_list (Open id) b a else ask Comms a) told d1) (sym e) p
+
+  pub other_held : (target id : List ℕ) (a : Result Answer HallFault) (told : Option Told)
+      → bytes_eq target undo_target ≡ false → IsHeld leads d (ask Comms a) told d1
+      → IsHeld leads d (open_comm target id (heard_answer a)) told d1
+  other_held target id a told e p =
+      subst (λ (t : Bool). IsHeld leads d (if t then change_then_list (Open id) unchanged a else ask Comms a) told d1) (sym e) p
+
+-- what follows does not depend on the list of comms
+pub follow-comms : (asked : CommAsk) (a : Result Answer HallFault) (h : Heard) → follow asked (heard_comms a h) ≡ follow asked h
+follow-comms (comm.Undo k) a h = refl
+follow-comms (comm.Redo k) a h = refl
+follow-comms (comm.Goto n) a h = refl
+follow-comms comm.State a h = refl
+follow-comms comm.Other a h = refl
+
+module _ {D : Type 0} (leads : D → Call → D → Type 0) (d d' : D) where
+  abbrev pub Held : RequestContent → Option Told → Type 0
+  Held content told = (h : Heard) × IsHeld leads d (talk content h) told d'
+
+  -- the talk of a request, told by its kind
+  pub held_as : (content x : RequestContent) → content ≡ x → (told : Option Told) (h : Heard) (t : Talk) → talk x h ≡ t → IsHeld leads d t told d'
+      → Held content told
+  held_as content x e told h t same p =
+      (h, subst (λ (y : RequestContent). IsHeld leads d (talk y h) told d') (sym e) (subst (λ (y : Talk). IsHeld leads d y told d') (sym same) p))
+
+  pub held_heard : {E : Type 0} (content x : RequestContent) → content ≡ x → (t : Heard → Talk) → ((h : Heard) → talk x h ≡ t h)
+      → (r : Result (Option Told) E) → IfOk r (λ told. (h : Heard) × IsHeld leads d (t h) told d') → IfOk r (Held content)
+  held_heard content x e t same (Ok told) p = held_as content x e told p.0 (t p.0) (same p.0) p.1
+  held_heard content x e t same (Err f) p = tt
+
+  pub held_answer : {E : Type 0} (content x : RequestContent) → content ≡ x → (t : Result Answer HallFault → Talk)
+      → ((a : Result Answer HallFault) → talk x (heard_answer a) ≡ t a)
+      → (r : Result (Option Told) E) → IfOk r (λ told. (a : Result Answer HallFault) × IsHeld leads d (t a) told d') → IfOk r (Held content)
+  held_answer content x e t same (Ok told) p = held_as content x e told (heard_answer p.0) (t p.0) (same p.0) p.1
+  held_answer content x e t same (Err f) p = tt
+
+  pub held_change : {E : Type 0} (content x : RequestContent) → content ≡ x → (t : Result Bool HallFault → Talk)
+      → ((b : Result Bool HallFault) → talk x (heard_change b unasked) ≡ t b)
+      → (r : Result (Option Told) E) → IfOk r (λ told. (b : Result Bool HallFault) × IsHeld leads d (t b) told d') → IfOk r (Held content)
+  held_change content x e t same (Ok told) p = held_as content x e told (heard_change p.0 unasked) (t p.0) (same p.0) p.1
+  held_change content x e t same (Err f) p = tt
+
+  pub held_job : {E : Type 0} (content x : RequestContent) → content ≡ x → (t : Result Done PostFault → Result Answer HallFault → Talk)
+      → ((j : Result Done PostFault) (a : Result Answer HallFault) → talk x (heard_job j a) ≡ t j a)
+      → (r : Result (Option Told) E) → IfOk r (λ told. (j : Result Done PostFault) × (a : Result Answer HallFault) × IsHeld leads d (t j a) told d')
+      → IfOk r (Held content)
+  held_job content x e t same (Ok told) p = held_as content x e told (heard_job p.0 p.1) (t p.0 p.1) (same p.0 p.1) p.2
+  held_job content x e t same (Err f) p = tt

@@ -1,0 +1,48 @@
+use Rattle.std.proofs.Common.{refl, subst, IfOk, OnErr, ◌≡◌}
+use Rattle.std.specs.Io.KnownBytes.{Appends}
+use Rattle.jupyter_msg.specs.Octets.{octets}
+use Rattle.zmtp_wire.specs.Message.{message_octets}
+use Rattle.zmtp_peer.specs.declared.event.PeerEvent.TheVariants.{Message}
+use Rattle.kernel_session.specs.declared.socket.Socket.TheVariants.{Shell, Control}
+use Rattle.kernel_session.specs.declared.flow.Flow.TheVariants.{Going}
+use Rattle.kernel_session.specs.Action.{SentSome}
+use Rattle.kernel_session.proofs.EventLemmas.{turn_takes, turn_breaks, echo_takes, echo_breaks}
+use Rattle.kernel_session.proofs.message.take_event.Goals as goal
+
+pub returns-in-Shell-clause-ok : goal.returns-in-Shell-clause-ok
+returns-in-Shell-clause-ok g c =
+    turn_takes g.W.Write.contents g.D.Desk.leads c.args.key.now c.args.writer.now c.take_turn.new.writer c.args.desk.now c.take_turn.new.desk
+    c.args.stamp.now c.take_turn.new.stamp Shell (octets c.in-Message.frames.items) c.args.socket c.in-Shell.is c.args.event
+    (Message c.in-Message.frames) c.in-Message.is (λ actions new p. p) c.take_turn.result c.take_turn.ensures.ok
+
+pub returns-in-Shell-clause-err : goal.returns-in-Shell-clause-err
+returns-in-Shell-clause-err g c =
+    turn_breaks g.W.Write.contents g.D.Desk.leads c.args.key.now c.args.writer.now c.take_turn.new.writer c.args.desk.now c.take_turn.new.desk
+    c.args.stamp.now c.take_turn.new.stamp Shell (octets c.in-Message.frames.items) c.args.socket c.in-Shell.is c.args.event
+    (Message c.in-Message.frames) c.in-Message.is (λ actions new p. p) c.take_turn.result c.take_turn.ensures.err
+
+pub returns-in-Control-clause-ok : goal.returns-in-Control-clause-ok
+returns-in-Control-clause-ok g c =
+    turn_takes g.W.Write.contents g.D.Desk.leads c.args.key.now c.args.writer.now c.take_turn-in-Control.new.writer c.args.desk.now c.take_turn-in-Control.new.desk
+    c.args.stamp.now c.take_turn-in-Control.new.stamp Control (octets c.in-Message.frames.items) c.args.socket c.in-Control.is c.args.event
+    (Message c.in-Message.frames) c.in-Message.is (λ actions new p. p) c.take_turn-in-Control.result c.take_turn-in-Control.ensures.ok
+
+pub returns-in-Control-clause-err : goal.returns-in-Control-clause-err
+returns-in-Control-clause-err g c =
+    turn_breaks g.W.Write.contents g.D.Desk.leads c.args.key.now c.args.writer.now c.take_turn-in-Control.new.writer c.args.desk.now c.take_turn-in-Control.new.desk
+    c.args.stamp.now c.take_turn-in-Control.new.stamp Control (octets c.in-Message.frames.items) c.args.socket c.in-Control.is c.args.event
+    (Message c.in-Message.frames) c.in-Message.is (λ actions new p. p) c.take_turn-in-Control.result c.take_turn-in-Control.ensures.err
+
+pub returns-in-Heartbeat-clause-ok : goal.returns-in-Heartbeat-clause-ok
+returns-in-Heartbeat-clause-ok g c =
+    echo_takes g.W.Write.contents g.D.Desk.leads c.args.key.now c.args.writer.now c.echo.new.writer c.args.desk.now c.args.stamp.now c.args.socket
+    c.in-Heartbeat.is c.args.event (Message c.in-Message.frames) c.in-Message.is (octets c.in-Message.frames.items) refl c.echo.result
+    (subst (λ x. IfOk c.echo.result (λ flow. (flow ≡ Going)
+    × Appends (g.W.Write.contents c.args.writer.now) (g.W.Write.contents c.echo.new.writer) (message_octets (octets x)))) c.deref.ensures.value c.echo.ensures.ok)
+
+pub returns-in-Heartbeat-clause-err : goal.returns-in-Heartbeat-clause-err
+returns-in-Heartbeat-clause-err g c =
+    echo_breaks g.W.Write.contents g.D.Desk.leads c.args.key.now c.args.writer.now c.echo.new.writer c.args.desk.now c.args.stamp.now c.args.socket
+    c.in-Heartbeat.is c.args.event (Message c.in-Message.frames) c.in-Message.is (octets c.in-Message.frames.items) refl c.echo.result
+    (subst (λ x. OnErr c.echo.result (SentSome (g.W.Write.contents c.args.writer.now) (g.W.Write.contents c.echo.new.writer) (message_octets (octets x))))
+    c.deref.ensures.value c.echo.ensures.err)

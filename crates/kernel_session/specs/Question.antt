@@ -1,0 +1,41 @@
+-- What a connection asks of its desk, without where it lies in memory.
+use Rattle.std.specs.Prelude.{ℕ, List, Option, map, string_bytes}
+use Rattle.kernel_ask.specs.declared.inputs.HistoryAsk.{HistoryAsk}
+use Rattle.kernel_ask.specs.declared.answer.Ask.{Ask}
+use Rattle.kernel_ask.specs.declared.answer.Ask.TheVariants as ask
+use Rattle.kernel_ask.specs.declared.done.Wish.{Wish}
+use Rattle.kernel_hall.specs.declared.comm.CommChange.{CommChange}
+use Rattle.kernel_hall.specs.declared.comm.CommChange.TheVariants as comm
+
+-- a question, with its texts as octets
+pub data Question : Type 0 where
+  Complete : List ℕ → Option ℕ → Question
+  Inspect : List ℕ → Option ℕ → Question
+  IsComplete : List ℕ → Question
+  History : HistoryAsk → Question
+  Comms : Question
+  State : Question
+
+abbrev pub question_of : Ask → Question
+question_of (ask.Complete code cursor) = Complete (string_bytes code) cursor
+question_of (ask.Inspect code cursor) = Inspect (string_bytes code) cursor
+question_of (ask.IsComplete code) = IsComplete (string_bytes code)
+question_of (ask.History range) = History range
+question_of ask.Comms = Comms
+question_of ask.State = State
+
+-- a change of the open comms, by the id of one
+pub data Change : Type 0 where
+  Open : List ℕ → Change
+  Close : List ℕ → Change
+
+abbrev pub change_of : CommChange → Change
+change_of (comm.Open id) = Open (string_bytes id)
+change_of (comm.Close id) = Close (string_bytes id)
+
+-- user expressions, by name and text
+abbrev pub Wishes : Type 0
+Wishes = List (List ℕ × List ℕ)
+
+abbrev pub wishes_of : List Wish → Wishes
+wishes_of wishes = map (λ w. (string_bytes w.name, string_bytes w.exp)) wishes

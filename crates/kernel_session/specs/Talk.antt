@@ -1,0 +1,132 @@
+-- What a request has the desk do, by what the desk says (Jupyter messaging page, version 5.4; the comms of the target `janus.undo`).
+use Rattle.std.specs.Prelude.{◌≡◌, ℕ, Bool, false, List, [], ◌∷◌, ◌++◌, string_bytes, Option, Some, None, Result, Ok, Err, if◌then◌else◌}
+use Rattle.std.specs.List.{list_any}
+use Rattle.std.specs.Str.{bytes_eq}
+use Rattle.jupyter_msg.specs.declared.request.RequestContent.{RequestContent}
+use Rattle.jupyter_msg.specs.declared.request.RequestContent.TheVariants as request
+use Rattle.jupyter_msg.specs.declared.history.HistoryRequest.{HistoryRequest}
+use Rattle.jupyter_msg.specs.declared.history.HistoryAccess.{HistoryAccess}
+use Rattle.jupyter_msg.specs.declared.history.HistoryAccess.TheVariants.{Range, Tail, Search}
+use Rattle.jupyter_msg.specs.declared.comm.CommAsk.{CommAsk}
+use Rattle.jupyter_msg.specs.declared.comm.CommAsk.TheVariants as comm
+use Rattle.jupyter_msg.specs.Requests.{expressions_of}
+use Rattle.kernel_core.specs.Request.{Request, RunCell, Undo, Redo, Goto}
+use Rattle.kernel_core.specs.declared.post.PostFault.{PostFault}
+use Rattle.kernel_ask.specs.declared.inputs.HistoryAsk.TheVariants as asked
+use Rattle.kernel_ask.specs.declared.done.Done.{Done}
+use Rattle.kernel_ask.specs.declared.answer.Answer.{Answer}
+use Rattle.kernel_ask.specs.declared.answer.Content.{Content}
+use Rattle.kernel_ask.specs.declared.answer.Content.TheVariants as content
+use Rattle.kernel_ask.specs.declared.answer.HallFault.{HallFault}
+use Rattle.kernel_message.specs.Said.{Says}
+use Rattle.kernel_reply.specs.Answers.{job_says, ask_says, refusal_says}
+use Rattle.kernel_reply.specs.Comms.{target as undo_target}
+use Rattle.kernel_session.specs.declared.talk.Told.{Told}
+use Rattle.kernel_session.specs.declared.talk.Told.TheVariants.{Ended, Unposted, Answered}
+use Rattle.kernel_session.specs.Question.{Question, Complete, Inspect, IsComplete, History, Comms, State, Change, Open, Close, Wishes}
+use Rattle.kernel_session.specs.Call.{Call, Posted, Asked, Changed, Rang, Shut, Leads}
+
+-- what the desk says to one request, as far as it is asked
+pub record Heard : Type 0 where
+  pub comms : Result Answer HallFault  -- the open comms
+  pub changed : Result Bool HallFault
+  pub job : Result Done PostFault
+  pub answer : Result Answer HallFault
+
+-- the calls, and what the request is answered from; nothing where the desk found no memory
+pub record Talk : Type 0 where
+  pub calls : List Call
+  pub told : Option Told
+
+abbrev pub before : List Call → Talk → Talk
+before calls talk = record { calls = calls ++ talk.calls; told = talk.told }
+
+-- an answer that nothing is read of
+abbrev pub no_answer : Answer
+no_answer = record { seen = 0; content = content.Inspection None }
+
+-- nothing is asked but these calls
+abbrev pub only : List Call → Talk
+only calls = record { calls = calls; told = Some (Answered no_answer) }
+
+abbrev pub answered : Result Answer HallFault → Option Told
+answered (Ok a) = Some (Answered a)
+answered (Err fault) = None
+
+abbrev pub ask : Question → Result Answer HallFault → Talk
+ask q a = record { calls = Asked q a ∷ []; told = answered a }
+
+-- a post that is refused is told with the state
+abbrev pub unposted : PostFault → Result Answer HallFault → Option Told
+unposted fault (Ok a) = Some (Unposted fault a)
+unposted fault (Err e) = None
+
+abbrev pub post : Request → Wishes → Result Done PostFault → Result Answer HallFault → Talk
+post job wishes (Ok done) a = record { calls = Posted job wishes (Ok done) ∷ []; told = Some (Ended done) }
+post job wishes (Err fault) a =
+    record { calls = Posted job wishes (Err fault) ∷ Asked State a ∷ []; told = unposted fault a }
+
+-- a history is not searched
+abbrev pub history : HistoryRequest → HistoryAccess → Result Answer HallFault → Talk
+history r Range a = ask (History (asked.Range r.session r.start r.stop)) a
+history r Tail a = ask (History (asked.Tail r.n)) a
+history r Search a = only []
+
+-- after a change of the comms their list is asked for
+abbrev pub change_then_list : Change → Result Bool HallFault → Result Answer HallFault → Talk
+change_then_list c (Ok b) a = before (Changed c (Ok b) ∷ []) (ask Comms a)
+change_then_list c (Err fault) a = record { calls = Changed c (Err fault) ∷ []; told = None }
+
+-- a comm is opened for the one target alone
+abbrev pub open_comm : List ℕ → List ℕ → Heard → Talk
+open_comm target id h =
+    if bytes_eq target undo_target then change_then_list (Open id) h.changed h.answer else ask Comms h.answer
+
+abbrev pub close_comm : List ℕ → Result Bool HallFault → Talk
+close_comm id (Ok b) = only (Changed (Close id) (Ok b) ∷ [])
+close_comm id (Err fault) = record { calls = Changed (Close id) (Err fault) ∷ []; told = None }
+
+-- the comm is among those that the desk has told as open
+abbrev pub is_listed : List ℕ → Content → Bool
+is_listed id (content.Comms ids) = list_any (λ x. bytes_eq id (string_bytes x)) ids.items
+is_listed id _ = false
+
+-- on a comm that is open, the talk; on any other nothing more
+abbrev pub if_open : List ℕ → Result Answer HallFault → Talk → Talk
+if_open id (Ok a) talk =
+    if is_listed id a.content then before (Asked Comms (Ok a) ∷ []) talk else ask Comms (Ok a)
+if_open id (Err fault) talk = ask Comms (Err fault)
+
+-- a move is a job; other data asks nothing
+abbrev pub follow : CommAsk → Heard → Talk
+follow (comm.Undo k) h = post (Undo k) [] h.job h.answer
+follow (comm.Redo k) h = post (Redo k) [] h.job h.answer
+follow (comm.Goto n) h = post (Goto n) [] h.job h.answer
+follow comm.State h = ask State h.answer
+follow comm.Other h = only []
+
+-- THE TALK: what each request has the desk do
+abbrev pub talk : RequestContent → Heard → Talk
+talk request.KernelInfo h = only []
+talk (request.Execute r) h =
+    post (RunCell (string_bytes r.code) r.silent r.store_history) (expressions_of r.user_expressions.items) h.job h.answer
+talk (request.Complete r) h = ask (Complete (string_bytes r.code) r.cursor) h.answer
+talk (request.Inspect r) h = ask (Inspect (string_bytes r.code) r.cursor) h.answer
+talk (request.IsComplete r) h = ask (IsComplete (string_bytes r.code)) h.answer
+talk (request.History r) h = history r r.access h.answer
+talk (request.CommInfo r) h = ask Comms h.answer
+talk request.Interrupt h = only (Rang ∷ [])
+talk (request.Shutdown r) h = only (Shut ∷ Rang ∷ [])
+talk (request.CommOpen r) h = open_comm (string_bytes r.target_name) (string_bytes r.comm_id) h
+talk (request.CommMessage r) h = if_open (string_bytes r.comm_id) h.comms (follow r.ask h)
+talk (request.CommClose r) h = close_comm (string_bytes r.comm_id) h.changed
+
+-- the desk was asked so, and this was told
+abbrev pub IsHeld : {D : Type 0} → (D → Call → D → Type 0) → D → Talk → Option Told → D → Type 0
+IsHeld leads old t told new = Leads leads old t.calls new × (told ≡ t.told)
+
+-- what is said in answer, by the tables of the replies
+abbrev pub says_of : RequestContent → Told → Says
+says_of r (Ended done) = job_says r done
+says_of r (Unposted fault a) = refusal_says r fault a.content
+says_of r (Answered a) = ask_says r a.content

@@ -1,0 +1,14 @@
+//! How a session goes on.
+
+/// How a session goes on.
+#[derive(Clone, Copy, Debug, PartialEq, Eq)]
+pub enum Flow {
+    /// The next event is taken.
+    Going,
+    /// A shutdown was answered.
+    Closed,
+    /// No number is left for a request.
+    Worn,
+    /// The desk found no memory to answer.
+    Starved,
+}

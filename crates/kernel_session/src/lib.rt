@@ -1,0 +1,35 @@
+//! One connection of a kernel, from octets to octets: what is read is turned into events, each request is served by the kernel behind
+//! the connection, and what goes out and what is asked of that kernel is the session of what came in.
+//!
+//! [`serve`] is the connection, over any reader, any writer and any [`Desk`], which is the kernel as a connection sees it. To the layer
+//! above it promises (specs/Ends.antt, by its answer) that the octets written and the calls made of the desk, in their one order, are the
+//! opening of the socket's role and then the session of the events that the octets read tell; that they are a beginning of that after a
+//! write fault and after want of memory; and on iopub that at the end of the input the broadcasts that the desk keeps go out, as far as the
+//! peer has subscribed to them. A message that is refused brings nothing, and the connection goes on; a fault of the peer ends it without
+//! a word; a shutdown ends it once it is answered.
+//!
+//! The session is defined event by event (specs/: `Question`, `Call`, `Action`, `Talk`, `Session`, `Closing`, `Ends`, in this order). Its
+//! sources are RFC 23 for what octets tell, as `zmtp_peer` has it, and the Jupyter messaging page (version 5.4) for what a message asks
+//! and what is answered, as `jupyter_msg` and `kernel_reply` have it. `talk` says what each request has the desk do, `IsServed` what it
+//! brings, `IsSession` what the events bring one after the other. A desk's own relation `leads` says what it may answer, so the session
+//! of one desk is had by its relation.
+//!
+//! No contract can say that a stream failed: that `Read` and `Write` come only where one did is tested, not proved.
+#![tactic(auto)]
+
+mod connection;
+mod desk;
+mod fault;
+mod flow;
+mod message;
+mod request;
+mod send;
+mod socket;
+mod talk;
+
+pub use connection::serve;
+pub use desk::Desk;
+pub use fault::ServeFault;
+pub use flow::Flow;
+pub use socket::Socket;
+pub use talk::Told;

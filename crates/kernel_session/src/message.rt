@@ -1,0 +1,168 @@
+//! The events of a connection, one after the other.
+ghost use Rattle.std.specs.Prelude.{◌≡◌, ◌⊎◌, List, [], IfOk, IfErr, IfSome, IfNone, OnErr, MatchOption};
+ghost use Rattle.jupyter_msg.specs.Octets.{octets};
+ghost use Rattle.zmtp_peer.specs.Events.{event_of, events_of};
+ghost use Rattle.std.specs.Io.KnownBytes.{Appends};
+ghost use Rattle.zmtp_wire.specs.Message.{message_octets};
+ghost use Rattle.kernel_session.specs.Action.{Action, Acts, SentSome};
+ghost use Rattle.kernel_session.specs.Parts.{ActedPart};
+ghost use Rattle.kernel_session.specs.Session.{State, IsAsked, IsPassedOver, IsTurn, going};
+ghost use Rattle.kernel_session.specs.Ends.{IsMidway, Takes, Breaks, Cut, comes_to};
+
+use crate::desk::Desk;
+use crate::fault::ServeFault;
+use crate::flow::Flow;
+use crate::request::take_request;
+use crate::send::send_message;
+use crate::socket::Socket;
+use jupyter_msg::{Message, MsgFault, Request, open};
+use kernel_message::Stamp;
+use std::alloc::Global;
+use std::io::Write;
+use std::mem;
+use zmtp_peer::PeerEvent;
+
+/// A message, and what it asks.
+#[derive(Drop)]
+struct Asked {
+    message: Message,
+    request: Request,
+}
+
+/// What a message asks, with the message; nothing where it is refused, or where the socket doesn't serve it.
+fn read_request(
+    alloc: Global,
+    socket: Socket,
+    key: &[u8],
+    frames: Vec<Vec<u8>>,
+) -> Result<Option<Asked>, ServeFault>
+    ensures asked { IfOk result (λ read. IfSome read (λ r. IsAsked socket key.now (octets frames.items) r.request)) }
+    ensures header { IfOk result (λ read. IfSome read (λ r. r.request.header.items ≡ r.message.header.items)) }
+    ensures none { IfOk result (λ read. IfNone read (IsPassedOver socket key.now (octets frames.items))) }
+    ensures midway { IfErr result IsMidway }
+{
+    let opened = match open(alloc, frames, key) {
+        Ok(opened) => opened,
+        Err(MsgFault::Memory) => return Err(ServeFault::Memory),
+        Err(_) => return Ok(None),
+    };
+    let request = match Request::read(alloc, &opened) {
+        Ok(request) => request,
+        Err(MsgFault::Memory) => return Err(ServeFault::Memory),
+        Err(_) => return Ok(None),
+    };
+    if socket.serves(request.content.request_type()) {
+        Ok(Some(Asked {
+            message: opened.message,
+            request,
+        }))
+    } else {
+        Ok(None)
+    }
+}
+
+/// Takes a message on shell or control.
+fn take_turn<W: Write, D: Desk>(
+    alloc: Global,
+    socket: Socket,
+    key: &[u8],
+    writer: &mut W,
+    desk: &mut D,
+    stamp: &mut Stamp,
+    frames: Vec<Vec<u8>>,
+) -> Result<Flow, ServeFault>
+    ensures ok { IfOk result (λ flow. (actions : List Action) × IsTurn socket key.now stamp.old (octets frames.items) actions (record { stamp = stamp.new; flow = flow })
+        × Acts W.contents D.leads writer.old writer.new desk.old desk.new actions) }
+    ensures err { OnErr result (((actions : List Action) × (new : State) × IsTurn socket key.now stamp.old (octets frames.items) actions new
+        × ActedPart W.contents D.leads writer.old writer.new desk.old desk.new actions)
+        ⊎ Acts W.contents D.leads writer.old writer.new desk.old desk.new []) }
+    ensures midway { IfErr result IsMidway }
+{
+    let read = read_request(alloc, socket, key, frames)?;
+    let asked = match read {
+        Some(asked) => asked,
+        None => return Ok(Flow::Going),
+    };
+    take_request(
+        alloc,
+        key,
+        writer,
+        desk,
+        stamp,
+        &asked.message,
+        &asked.request,
+    )
+}
+
+/// Sends a message back.
+fn echo<W: Write>(alloc: Global, writer: &mut W, frames: &[Vec<u8>]) -> Result<Flow, ServeFault>
+    ensures ok { IfOk result (λ flow. (flow ≡ Flow.Going)
+        × Appends (W.contents writer.old) (W.contents writer.new) (message_octets (octets frames.now))) }
+    ensures err { OnErr result (SentSome (W.contents writer.old) (W.contents writer.new) (message_octets (octets frames.now))) }
+    ensures midway { IfErr result IsMidway }
+{
+    match send_message(alloc, writer, frames) {
+        Ok(()) => Ok(Flow::Going),
+        Err(fault) => Err(fault),
+    }
+}
+
+/// Takes an event.
+fn take_event<W: Write, D: Desk>(
+    alloc: Global,
+    socket: Socket,
+    key: &[u8],
+    writer: &mut W,
+    desk: &mut D,
+    stamp: &mut Stamp,
+    event: PeerEvent,
+) -> Result<Flow, ServeFault>
+    ensures ok { IfOk result (λ flow. Takes W.contents D.leads socket key.now writer.old writer.new desk.old desk.new
+        stamp.old (event_of event) (record { stamp = stamp.new; flow = flow })) }
+    ensures err { OnErr result (Breaks W.contents D.leads socket key.now writer.old writer.new desk.old desk.new stamp.old (event_of event)) }
+    ensures midway { IfErr result IsMidway }
+{
+    let frames = match event {
+        PeerEvent::Message(frames) => frames,
+        PeerEvent::Ready | PeerEvent::Subscribe(_) | PeerEvent::Cancel(_) => {
+            return Ok(Flow::Going);
+        }
+    };
+    match socket {
+        Socket::Shell => take_turn(alloc, Socket::Shell, key, writer, desk, stamp, frames),
+        Socket::Control => take_turn(alloc, Socket::Control, key, writer, desk, stamp, frames),
+        Socket::Heartbeat => echo(alloc, writer, &frames),
+        Socket::Iopub => Ok(Flow::Going),
+        Socket::Stdin => Ok(Flow::Going),
+    }
+}
+
+/// Takes events in order, up to the end of the session. They are taken out of their places.
+pub(crate) fn take_all<W: Write, D: Desk>(
+    alloc: Global,
+    socket: Socket,
+    key: &[u8],
+    writer: &mut W,
+    desk: &mut D,
+    stamp: &mut Stamp,
+    events: &mut [PeerEvent],
+) -> Result<Flow, ServeFault>
+    ensures ok { IfOk result (λ flow. comes_to W.contents D.leads socket key.now [] writer.old writer.new desk.old desk.new
+        (going stamp.old) stamp.new flow (events_of events.old)) }
+    ensures err { OnErr result (Cut W.contents D.leads socket key.now [] writer.old writer.new desk.old desk.new
+        (going stamp.old) (events_of events.old)) }
+    ensures midway { IfErr result IsMidway }
+{
+    for i in 0..events.len() {
+        let event = mem::replace(&mut events[i], PeerEvent::Ready);
+        let flow = match take_event(alloc, socket, key, writer, desk, stamp, event) {
+            Ok(flow) => flow,
+            Err(fault) => return Err(fault),
+        };
+        match flow {
+            Flow::Going => {}
+            _ => return Ok(flow),
+        }
+    }
+    Ok(Flow::Going)
+}

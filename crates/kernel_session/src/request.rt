@@ -1,0 +1,227 @@
+//! One request, from the status busy to the status idle.
+ghost use Rattle.std.specs.Prelude.{◌≡◌, ◌≤◌, ◌-◌, ◌^◌, ◌⊎◌, List, [], ◌∷◌, ◌++◌, map, option_map, Some, IfOk, IfErr, OnOk, OnErr};
+ghost use Rattle.std.specs.Io.KnownBytes.{Appends};
+ghost use Rattle.jupyter_msg.specs.Octets.{octets, octets_of};
+ghost use Rattle.jupyter_msg.specs.Message.{frames_of};
+ghost use Rattle.kernel_message.specs.Message.{asker_of};
+ghost use Rattle.kernel_message.specs.Sent.{sent, sent_of, next_after};
+ghost use Rattle.kernel_session.specs.Call.{Leads, Published};
+ghost use Rattle.kernel_session.specs.Action.{Action, Acts, IsStartOf, SentSome};
+ghost use Rattle.kernel_session.specs.Talk.{says_of};
+ghost use Rattle.kernel_session.specs.Session.{State, IsServed, IsWorn, answered, reply_octets, stamp_behind, ends_with};
+ghost use Rattle.kernel_session.specs.Parts.{LedPart, IsBegun, IsDatedAlone, IsTakenUp, IsTakenUpPart, ActedPart};
+ghost use Rattle.kernel_session.specs.Ends.{IsMidway};
+
+use crate::desk::Desk;
+use crate::fault::ServeFault;
+use crate::flow::Flow;
+use crate::send::send_message;
+use crate::talk::{Told, consult};
+use jupyter_msg::{Message, Request, RequestContent, seal};
+use kernel_board::Broadcast;
+use kernel_message::{Outgoing, Stamp};
+use kernel_reply::{answer, answer_ask, opening, refuse};
+use std::alloc::Global;
+use std::io::Write;
+
+/// The greatest number that a request may begin with: its messages have numbers too.
+const LAST_NEXT: u64 = u64::MAX - 15;
+
+/// Seals a message and publishes it. An `Err` tells that there was no memory; then the desk was not called.
+fn publish<D: Desk>(
+    alloc: Global,
+    desk: &mut D,
+    key: &[u8],
+    message: &Message,
+) -> Result<(), ServeFault>
+    ensures ok { OnOk result (Leads D.leads desk.old (Published (frames_of key.now (octets_of message.now)) ∷ []) desk.new) }
+    ensures err { OnErr result (desk.new ≡ desk.old) }
+    ensures midway { IfErr result IsMidway }
+{
+    let Ok(frames) = seal(alloc, message, key) else {
+        return Err(ServeFault::Memory);
+    };
+    let Ok(broadcast) = Broadcast::new(alloc, frames) else {
+        return Err(ServeFault::Memory);
+    };
+    desk.publish(broadcast);
+    Ok(())
+}
+
+/// Publishes each in turn.
+fn publish_all<D: Desk>(
+    alloc: Global,
+    desk: &mut D,
+    key: &[u8],
+    broadcasts: &[kernel_message::Broadcast],
+) -> Result<(), ServeFault>
+    ensures ok { OnOk result (Leads D.leads desk.old (map (λ b. Published (frames_of key.now b)) broadcasts.now) desk.new) }
+    ensures err { OnErr result (LedPart D.leads desk.old (map (λ b. Published (frames_of key.now b)) broadcasts.now) desk.new) }
+    ensures midway { IfErr result IsMidway }
+{
+    for broadcast in broadcasts {
+        publish(alloc, desk, key, broadcast.message())?;
+    }
+    Ok(())
+}
+
+/// Sets the date, and publishes the status busy.
+fn begin<D: Desk>(
+    alloc: Global,
+    key: &[u8],
+    desk: &mut D,
+    stamp: &mut Stamp,
+    message: &Message,
+) -> Result<(), ServeFault>
+    requires { stamp.old.next ≤ 2 ^ 64 - 16 }
+    ensures ok { OnOk result (IsBegun D.leads desk.old desk.new key.now message.now.header.items stamp.old stamp.new) }
+    ensures err { OnErr result (IsDatedAlone D.leads desk.old desk.new stamp.old) }
+    ensures midway { IfErr result IsMidway }
+{
+    desk.date(stamp);
+    let Ok(busy) = opening(alloc, message, stamp) else {
+        return Err(ServeFault::Memory);
+    };
+    publish(alloc, desk, key, busy.message())
+}
+
+/// Sets the date, publishes the status busy and has the desk do what the request asks.
+fn take_up<D: Desk>(
+    alloc: Global,
+    key: &[u8],
+    desk: &mut D,
+    stamp: &mut Stamp,
+    message: &Message,
+    request: &Request,
+) -> Result<Option<Told>, ServeFault>
+    requires numbered { stamp.old.next ≤ 2 ^ 64 - 16 }
+    requires header { request.now.header.items ≡ message.now.header.items }
+    ensures ok { IfOk result (λ told. IsTakenUp D.leads desk.old desk.new key.now request.now stamp.old stamp.new told) }
+    ensures err { OnErr result (IsTakenUpPart D.leads desk.old desk.new key.now request.now stamp.old) }
+    ensures midway { IfErr result IsMidway }
+{
+    begin(alloc, key, desk, stamp, message)?;
+    match consult(alloc, desk, &request.content) {
+        Ok(told) => Ok(told),
+        Err(_) => Err(ServeFault::Memory),
+    }
+}
+
+/// The messages in answer to a request.
+fn outgoing(
+    alloc: Global,
+    stamp: &mut Stamp,
+    request: &Request,
+    told: &Told,
+) -> Result<Outgoing, ServeFault>
+    requires { stamp.old.next ≤ 2 ^ 64 - 15 }
+    ensures sent { IfOk result (λ out. sent_of out
+        ≡ sent (asker_of request.now) stamp.old (says_of request.now.content told.now)) }
+    ensures next { OnOk result (stamp.new
+        ≡ record stamp.old { next = next_after stamp.old (says_of request.now.content told.now) }) }
+    ensures midway { IfErr result IsMidway }
+{
+    let out = match told {
+        Told::Ended(done) => answer(alloc, request, done, stamp),
+        Told::Unposted(fault, state) => refuse(alloc, request, fault, state, stamp),
+        Told::Answered(told) => answer_ask(alloc, request, told, stamp),
+    };
+    match out {
+        Ok(out) => Ok(out),
+        Err(_) => Err(ServeFault::Memory),
+    }
+}
+
+/// Seals a reply and writes it, if there is one.
+fn send_reply<W: Write>(
+    alloc: Global,
+    key: &[u8],
+    writer: &mut W,
+    reply: &Option<Message>,
+) -> Result<(), ServeFault>
+    ensures ok { OnOk result (Appends (W.contents writer.old) (W.contents writer.new) (reply_octets key.now (option_map octets_of reply.now))) }
+    ensures err { OnErr result (SentSome (W.contents writer.old) (W.contents writer.new) (reply_octets key.now (option_map octets_of reply.now))) }
+    ensures midway { IfErr result IsMidway }
+{
+    let Some(reply) = reply else {
+        return Ok(());
+    };
+    let Ok(frames) = seal(alloc, reply, key) else {
+        return Err(ServeFault::Memory);
+    };
+    send_message(alloc, writer, &frames)
+}
+
+/// Answers a request: writes the reply, and publishes the broadcasts behind it.
+fn finish<W: Write, D: Desk>(
+    alloc: Global,
+    key: &[u8],
+    writer: &mut W,
+    desk: &mut D,
+    stamp: &mut Stamp,
+    request: &Request,
+    told: &Told,
+) -> Result<(), ServeFault>
+    requires { stamp.old.next ≤ 2 ^ 64 - 15 }
+    ensures ok { OnOk result (Acts W.contents D.leads writer.old writer.new desk.old desk.new
+        (answered key.now request.now stamp.old (says_of request.now.content told.now))) }
+    ensures stamp { OnOk result (stamp.new ≡ stamp_behind request.now stamp.old (Some told.now)) }
+    ensures err { OnErr result (ActedPart W.contents D.leads writer.old writer.new desk.old desk.new
+        (answered key.now request.now stamp.old (says_of request.now.content told.now))) }
+    ensures midway { IfErr result IsMidway }
+{
+    let out = outgoing(alloc, stamp, request, told)?;
+    send_reply(alloc, key, writer, &out.reply)?;
+    publish_all(alloc, desk, key, &out.broadcasts)
+}
+
+/// How a session goes on once the request is answered.
+fn flow_after(content: &RequestContent) -> Flow
+    ensures { result ≡ ends_with content.now }
+{
+    match content {
+        RequestContent::Shutdown(_) => Flow::Closed,
+        RequestContent::KernelInfo
+        | RequestContent::Execute(_)
+        | RequestContent::Complete(_)
+        | RequestContent::Inspect(_)
+        | RequestContent::IsComplete(_)
+        | RequestContent::History(_)
+        | RequestContent::CommInfo(_)
+        | RequestContent::Interrupt
+        | RequestContent::CommOpen(_)
+        | RequestContent::CommMessage(_)
+        | RequestContent::CommClose(_) => Flow::Going,
+    }
+}
+
+/// Serves a request that was read of the message.
+pub(crate) fn take_request<W: Write, D: Desk>(
+    alloc: Global,
+    key: &[u8],
+    writer: &mut W,
+    desk: &mut D,
+    stamp: &mut Stamp,
+    message: &Message,
+    request: &Request,
+) -> Result<Flow, ServeFault>
+    requires header { request.now.header.items ≡ message.now.header.items }
+    ensures ok { IfOk result (λ flow. (actions : List Action)
+        × Acts W.contents D.leads writer.old writer.new desk.old desk.new actions
+        × (IsServed key.now request.now stamp.old actions (record { stamp = stamp.new; flow = flow })
+        ⊎ IsWorn stamp.old actions (record { stamp = stamp.new; flow = flow }))) }
+    ensures err { OnErr result ((actions : List Action) × (new : State) × IsServed key.now request.now stamp.old actions new
+        × ActedPart W.contents D.leads writer.old writer.new desk.old desk.new actions) }
+    ensures midway { IfErr result IsMidway }
+{
+    if stamp.next > LAST_NEXT {
+        return Ok(Flow::Worn);
+    }
+    let told = take_up(alloc, key, desk, stamp, message, request)?;
+    let told = match told {
+        Some(told) => told,
+        None => return Ok(Flow::Starved),
+    };
+    finish(alloc, key, writer, desk, stamp, request, &told)?;
+    Ok(flow_after(&request.content))
+}

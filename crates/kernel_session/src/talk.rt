@@ -1,0 +1,304 @@
+//! What a request has the desk do.
+ghost use Rattle.std.specs.Prelude.{◌≡◌, ◌++◌, ◌∷◌, [], Bool, IfOk, OnOk, OnErr, Result, string_bytes};
+ghost use Rattle.std.specs.List.{list_any};
+ghost use Rattle.std.specs.Str.{bytes_eq};
+ghost use Rattle.jupyter_msg.specs.Requests.{expressions_of};
+ghost use Rattle.kernel_core.specs.Request.{request_of, RunCell};
+ghost use Rattle.kernel_core.specs.declared.post.PostFault.{PostFault};
+ghost use Rattle.kernel_ask.specs.declared.done.Done.{Done};
+ghost use Rattle.kernel_ask.specs.declared.answer.Answer.{Answer};
+ghost use Rattle.kernel_ask.specs.declared.answer.HallFault.{HallFault};
+ghost use Rattle.kernel_session.specs.Question.{question_of, change_of, wishes_of, Complete, Inspect, IsComplete};
+ghost use Rattle.kernel_reply.specs.Comms.{target as undo_target};
+ghost use Rattle.kernel_session.specs.Call.{Rang, Shut};
+ghost use Rattle.kernel_session.specs.Talk.{Heard, IsHeld, ask as ask_talk, post as post_talk, answered as answered_by, is_listed as is_listed_in, history as history_talk, change_then_list as change_talk, open_comm as open_talk, close_comm as close_talk, follow as follow_talk, if_open, talk, only, no_answer as no_answer_is};
+
+use crate::desk::Desk;
+use jupyter_msg::{
+    CommAsk, CommMessage, CommOpen, CompleteRequest, ExecuteRequest, HistoryAccess, HistoryRequest,
+    InspectRequest, IsCompleteRequest, RequestContent, UserExpression,
+};
+use kernel_ask::{Answer, Ask, Content, Done, HallFault, HistoryAsk, Wish};
+use kernel_core::{Job, PostFault};
+use kernel_hall::CommChange;
+use kernel_reply::COMM_TARGET;
+use std::alloc::{AllocError, Global};
+
+/// What a request is answered from.
+#[derive(Debug, Drop)]
+pub enum Told {
+    /// It became a job, which ended so.
+    Ended(Done),
+    /// It became a job that was refused as it was posted, for this reason and in this state.
+    Unposted(PostFault, Answer),
+    /// It was answered at once.
+    Answered(Answer),
+}
+
+/// An answer that nothing is read of.
+fn no_answer() -> Answer
+    ensures { result ≡ no_answer_is }
+{
+    Answer {
+        seen: 0,
+        content: Content::Inspection(None),
+    }
+}
+
+/// What an answer of the desk tells; nothing where it found no memory.
+fn answered(answer: Result<Answer, HallFault>) -> Option<Told>
+    ensures { result ≡ answered_by answer }
+{
+    match answer {
+        Ok(answer) => Some(Told::Answered(answer)),
+        Err(_) => None,
+    }
+}
+
+/// Asks the desk one question.
+fn ask<D: Desk>(desk: &mut D, question: Ask) -> Option<Told>
+    ensures { (a : Result Answer HallFault) × IsHeld D.leads desk.old (ask_talk (question_of question) a) result desk.new }
+{
+    answered(desk.ask(question))
+}
+
+/// Posts a job, and asks for the state where it is refused.
+fn post<D: Desk>(desk: &mut D, job: Job, wishes: Vec<Wish>) -> Option<Told>
+    ensures { (j : Result Done PostFault) × (a : Result Answer HallFault)
+        × IsHeld D.leads desk.old (post_talk (request_of job) (wishes_of wishes.items) j a) result desk.new }
+{
+    match desk.job(job, wishes) {
+        Ok(done) => Some(Told::Ended(done)),
+        Err(fault) => match desk.ask(Ask::State) {
+            Ok(answer) => Some(Told::Unposted(fault, answer)),
+            Err(_) => None,
+        },
+    }
+}
+
+/// Adds one user expression of a request.
+fn push_wish(wishes: &mut Vec<Wish>, expression: &UserExpression) -> Result<(), AllocError>
+    ensures { OnOk result (wishes_of wishes.new.items
+        ≡ wishes_of wishes.old.items ++ expressions_of (expression.now ∷ [])) }
+{
+    wishes.push(Wish {
+        name: expression.name.clone()?,
+        exp: expression.expression.clone()?,
+    })?;
+    Ok(())
+}
+
+/// The user expressions of a request.
+fn wishes(alloc: Global, expressions: &[UserExpression]) -> Result<Vec<Wish>, AllocError>
+    ensures { IfOk result (λ v. wishes_of v.items ≡ expressions_of expressions.now) }
+{
+    let mut wishes = Vec::new(alloc);
+    for expression in expressions {
+        push_wish(&mut wishes, expression)?;
+    }
+    Ok(wishes)
+}
+
+/// Posts the cell of a request.
+fn execute<D: Desk>(
+    alloc: Global,
+    desk: &mut D,
+    request: &ExecuteRequest,
+) -> Result<Option<Told>, AllocError>
+    ensures ok { IfOk result (λ told. (j : Result Done PostFault) × (a : Result Answer HallFault)
+        × IsHeld D.leads desk.old (post_talk (RunCell (string_bytes request.now.code) request.now.silent request.now.store_history)
+        (expressions_of request.now.user_expressions.items) j a) told desk.new) }
+    ensures err { OnErr result (desk.new ≡ desk.old) }
+{
+    let wishes = wishes(alloc, &request.user_expressions)?;
+    let job = Job::Cell {
+        code: request.code.clone()?,
+        silent: request.silent,
+        store: request.store_history,
+    };
+    Ok(post(desk, job, wishes))
+}
+
+/// Asks for the history, unless it is to be searched.
+fn history<D: Desk>(desk: &mut D, request: &HistoryRequest) -> Option<Told>
+    ensures { (a : Result Answer HallFault) × IsHeld D.leads desk.old (history_talk request.now request.now.access a) result desk.new }
+{
+    match request.access {
+        HistoryAccess::Range => {
+            let range = HistoryAsk::Range {
+                session: request.session,
+                start: request.start,
+                stop: request.stop,
+            };
+            ask(desk, Ask::History(range))
+        }
+        HistoryAccess::Tail => ask(desk, Ask::History(HistoryAsk::Tail(request.n))),
+        HistoryAccess::Search => Some(Told::Answered(no_answer())),
+    }
+}
+
+/// Changes the comms, and asks for them after it.
+fn change_then_list<D: Desk>(desk: &mut D, change: CommChange) -> Option<Told>
+    ensures { (b : Result Bool HallFault) × (a : Result Answer HallFault)
+        × IsHeld D.leads desk.old (change_talk (change_of change) b a) result desk.new }
+{
+    match desk.comm(change) {
+        Ok(_) => ask(desk, Ask::Comms),
+        Err(_) => None,
+    }
+}
+
+/// Whether comms are opened for this target.
+fn is_undo_target(name: &str) -> bool
+    ensures { result ≡ bytes_eq name.now undo_target }
+{
+    name == COMM_TARGET
+}
+
+/// Opens a comm, if it is for the one target, and asks for the comms after it.
+fn open_comm<D: Desk>(desk: &mut D, request: &CommOpen) -> Result<Option<Told>, AllocError>
+    ensures ok { IfOk result (λ told. (h : Heard)
+        × IsHeld D.leads desk.old (open_talk (string_bytes request.now.target_name) (string_bytes request.now.comm_id) h) told desk.new) }
+    ensures err { OnErr result (desk.new ≡ desk.old) }
+{
+    if is_undo_target(request.target_name.as_str()) {
+        let id = request.comm_id.clone()?;
+        return Ok(change_then_list(desk, CommChange::Open(id)));
+    }
+    Ok(ask(desk, Ask::Comms))
+}
+
+/// Closes a comm.
+fn close_comm<D: Desk>(desk: &mut D, id: &String) -> Result<Option<Told>, AllocError>
+    ensures ok { IfOk result (λ told. (b : Result Bool HallFault) × IsHeld D.leads desk.old (close_talk (string_bytes id.now) b) told desk.new) }
+    ensures err { OnErr result (desk.new ≡ desk.old) }
+{
+    match desk.comm(CommChange::Close(id.clone()?)) {
+        Ok(_) => Ok(Some(Told::Answered(no_answer()))),
+        Err(_) => Ok(None),
+    }
+}
+
+/// Whether the id is among the ids.
+fn has_id(id: &str, ids: &[String]) -> bool
+    ensures { result ≡ list_any (λ x. bytes_eq id.now (string_bytes x)) ids.now }
+{
+    ids.iter().any(|x| id == x.as_str())
+}
+
+/// Whether the comm is among those that the desk has told as open.
+fn is_listed(id: &str, content: &Content) -> bool
+    ensures { result ≡ is_listed_in id.now content.now }
+{
+    match content {
+        Content::Comms(ids) => has_id(id, ids),
+        Content::Completion(_)
+        | Content::Inspection(_)
+        | Content::Completeness(_)
+        | Content::History(_)
+        | Content::State(_) => false,
+    }
+}
+
+/// Does what is asked on an open comm.
+fn follow<D: Desk>(alloc: Global, desk: &mut D, asked: CommAsk) -> Option<Told>
+    ensures { (h : Heard) × IsHeld D.leads desk.old (follow_talk asked h) result desk.new }
+{
+    match asked {
+        CommAsk::Undo(k) => post(desk, Job::Undo(k), Vec::new(alloc)),
+        CommAsk::Redo(k) => post(desk, Job::Redo(k), Vec::new(alloc)),
+        CommAsk::Goto(n) => post(desk, Job::Goto(n), Vec::new(alloc)),
+        CommAsk::State => ask(desk, Ask::State),
+        CommAsk::Other => Some(Told::Answered(no_answer())),
+    }
+}
+
+/// Does what a message on a comm asks, if the comm is open.
+fn on_comm<D: Desk>(alloc: Global, desk: &mut D, request: &CommMessage) -> Option<Told>
+    ensures { (h : Heard) × IsHeld D.leads desk.old (if_open (string_bytes request.now.comm_id) h.comms (follow_talk request.now.ask h)) result desk.new }
+{
+    let open = match desk.ask(Ask::Comms) {
+        Ok(answer) => answer,
+        Err(_) => return None,
+    };
+    if is_listed(request.comm_id.as_str(), &open.content) {
+        follow(alloc, desk, request.ask)
+    } else {
+        Some(Told::Answered(open))
+    }
+}
+
+/// Interrupts the open job.
+fn interrupt<D: Desk>(desk: &mut D) -> Option<Told>
+    ensures { IsHeld D.leads desk.old (only (Rang ∷ [])) result desk.new }
+{
+    desk.ring();
+    Some(Told::Answered(no_answer()))
+}
+
+/// Shuts the desk, and interrupts the open job.
+fn shut<D: Desk>(desk: &mut D) -> Option<Told>
+    ensures { IsHeld D.leads desk.old (only (Shut ∷ Rang ∷ [])) result desk.new }
+{
+    desk.shut();
+    desk.ring();
+    Some(Told::Answered(no_answer()))
+}
+
+/// Asks for the completion of a name.
+fn complete<D: Desk>(desk: &mut D, request: &CompleteRequest) -> Result<Option<Told>, AllocError>
+    ensures ok { IfOk result (λ told. (a : Result Answer HallFault)
+        × IsHeld D.leads desk.old (ask_talk (Complete (string_bytes request.now.code) request.now.cursor) a) told desk.new) }
+    ensures err { OnErr result (desk.new ≡ desk.old) }
+{
+    let code = request.code.clone()?;
+    let cursor = request.cursor;
+    Ok(ask(desk, Ask::Complete { code, cursor }))
+}
+
+/// Asks what is known of a name.
+fn inspect<D: Desk>(desk: &mut D, request: &InspectRequest) -> Result<Option<Told>, AllocError>
+    ensures ok { IfOk result (λ told. (a : Result Answer HallFault)
+        × IsHeld D.leads desk.old (ask_talk (Inspect (string_bytes request.now.code) request.now.cursor) a) told desk.new) }
+    ensures err { OnErr result (desk.new ≡ desk.old) }
+{
+    let code = request.code.clone()?;
+    let cursor = request.cursor;
+    Ok(ask(desk, Ask::Inspect { code, cursor }))
+}
+
+/// Asks whether code can be executed as it stands.
+fn judge<D: Desk>(desk: &mut D, request: &IsCompleteRequest) -> Result<Option<Told>, AllocError>
+    ensures ok { IfOk result (λ told. (a : Result Answer HallFault)
+        × IsHeld D.leads desk.old (ask_talk (IsComplete (string_bytes request.now.code)) a) told desk.new) }
+    ensures err { OnErr result (desk.new ≡ desk.old) }
+{
+    let code = request.code.clone()?;
+    Ok(ask(desk, Ask::IsComplete { code }))
+}
+
+/// Has the desk do what a request asks, and answers what the request is answered from; nothing where the desk found no memory. An
+/// `Err` tells that there was no memory here; then the desk was not called.
+pub(crate) fn consult<D: Desk>(
+    alloc: Global,
+    desk: &mut D,
+    content: &RequestContent,
+) -> Result<Option<Told>, AllocError>
+    ensures ok { IfOk result (λ told. (h : Heard) × IsHeld D.leads desk.old (talk content.now h) told desk.new) }
+    ensures err { OnErr result (desk.new ≡ desk.old) }
+{
+    match content {
+        RequestContent::KernelInfo => Ok(Some(Told::Answered(no_answer()))),
+        RequestContent::Execute(request) => execute(alloc, desk, request),
+        RequestContent::Complete(request) => complete(desk, request),
+        RequestContent::Inspect(request) => inspect(desk, request),
+        RequestContent::IsComplete(request) => judge(desk, request),
+        RequestContent::History(request) => Ok(history(desk, request)),
+        RequestContent::CommInfo(_) => Ok(ask(desk, Ask::Comms)),
+        RequestContent::Interrupt => Ok(interrupt(desk)),
+        RequestContent::Shutdown(_) => Ok(shut(desk)),
+        RequestContent::CommOpen(request) => open_comm(desk, request),
+        RequestContent::CommMessage(request) => Ok(on_comm(alloc, desk, request)),
+        RequestContent::CommClose(request) => close_comm(desk, &request.comm_id),
+    }
+}

@@ -1,0 +1,247 @@
+//! Whole connections, and connections whose streams fail.
+use crate::desk::NoKernel;
+use crate::rows::{
+    ANSWERED, BEAT, BEAT_BACK, BROADCASTS, BROKEN, EXECUTION, PUBLISHER, QUESTION, ROUTER,
+    SHUT_DOWN, SHUT_DOWN_ANSWERED, SUBSCRIPTION,
+};
+use crate::streams::{Pieces, Taken};
+use kernel_message::Stamp;
+use kernel_session::{ServeFault, Socket, serve};
+use std::alloc::{AllocError, Global};
+use std::process::Abort;
+use std::test::Fail;
+use zmtp_peer::PeerFault;
+use zmtp_wire::{WireFault, write_message};
+
+/// The stamp of session `k` and connection 1.
+fn stamp(alloc: Global) -> Result<Stamp, AllocError> {
+    Ok(Stamp {
+        session: String::from_str(alloc, "k")?,
+        connection: 1,
+        next: 0,
+        date: *b"2025-01-01T00:00:00Z",
+    })
+}
+
+/// Serves a connection in pieces of a size, with so many reads and writes before the streams fail: how it ended, and what went out.
+fn served(
+    desk: &mut NoKernel,
+    socket: Socket,
+    octets: &[u8],
+    size: usize,
+    reads_left: u64,
+    writes_left: u64,
+) -> Result<(Result<(), ServeFault>, Vec<u8>), Fail> {
+    let alloc = desk.alloc;
+    let mut stamp = stamp(alloc)?;
+    let mut reader = Pieces {
+        octets,
+        size,
+        reads_left,
+    };
+    let mut writer = Taken {
+        octets: Vec::new(alloc),
+        writes_left,
+    };
+    let ended = serve(
+        alloc,
+        socket,
+        b"",
+        &mut reader,
+        &mut writer,
+        desk,
+        &mut stamp,
+    );
+    Ok((ended, writer.octets))
+}
+
+/// Serves a connection whose streams don't fail, and compares how it ended and what went out.
+fn check(
+    rt: &impl Abort,
+    desk: &mut NoKernel,
+    socket: Socket,
+    octets: &[u8],
+    size: usize,
+    want: Result<(), ServeFault>,
+    out: &[u8],
+) -> Result<(), Fail> {
+    let (ended, written) = served(desk, socket, octets, size, 10000, 10000)?;
+    assert_eq!(rt; ended, want);
+    assert_eq!(rt; written.as_slice(), out);
+    Ok(())
+}
+
+/// Compares what was published.
+fn check_published(rt: &impl Abort, desk: &NoKernel, want: &[&[u8]]) -> Result<(), Fail> {
+    assert_eq!(rt; desk.kept.len(), want.len());
+    for (broadcast, octets) in desk.kept.iter().zip(want) {
+        let mut written = Vec::new(desk.alloc);
+        if !broadcast.frames().is_empty() {
+            write_message(&mut written, broadcast.frames())?;
+        }
+        assert_eq!(rt; written.as_slice(), *octets);
+    }
+    Ok(())
+}
+
+#[test]
+fn a_question_is_answered_in_pieces_of_any_size(rt: HostRuntime) -> Result<(), Fail> {
+    for size in [1, 7, 10000] {
+        let mut desk = NoKernel::new(rt.alloc());
+        check(
+            &rt,
+            &mut desk,
+            Socket::Shell,
+            QUESTION,
+            size,
+            Ok(()),
+            ANSWERED,
+        )?;
+        check_published(&rt, &desk, &BROADCASTS)?;
+    }
+    Ok(())
+}
+
+#[test]
+fn a_shutdown_is_answered_and_ends_the_connection(rt: HostRuntime) -> Result<(), Fail> {
+    for size in [1, 10000] {
+        let mut desk = NoKernel::new(rt.alloc());
+        check(
+            &rt,
+            &mut desk,
+            Socket::Shell,
+            SHUT_DOWN,
+            size,
+            Ok(()),
+            SHUT_DOWN_ANSWERED,
+        )?;
+        assert!(rt; desk.is_shut);
+        assert!(rt; desk.is_rung);
+        assert_eq!(rt; desk.kept.len(), 4);
+    }
+    Ok(())
+}
+
+#[test]
+fn control_passes_execution_over(rt: HostRuntime) -> Result<(), Fail> {
+    let mut desk = NoKernel::new(rt.alloc());
+    check(
+        &rt,
+        &mut desk,
+        Socket::Control,
+        EXECUTION,
+        10000,
+        Ok(()),
+        ROUTER,
+    )?;
+    check_published(&rt, &desk, &[])?;
+    check(
+        &rt,
+        &mut desk,
+        Socket::Control,
+        QUESTION,
+        10000,
+        Ok(()),
+        ANSWERED,
+    )
+}
+
+#[test]
+fn a_beat_is_sent_back_and_stdin_passes_over(rt: HostRuntime) -> Result<(), Fail> {
+    let mut desk = NoKernel::new(rt.alloc());
+    check(
+        &rt,
+        &mut desk,
+        Socket::Heartbeat,
+        BEAT,
+        1,
+        Ok(()),
+        BEAT_BACK,
+    )?;
+    check(&rt, &mut desk, Socket::Stdin, QUESTION, 1, Ok(()), ROUTER)?;
+    check_published(&rt, &desk, &[])
+}
+
+#[test]
+fn a_subscriber_gets_what_the_desk_keeps(rt: HostRuntime) -> Result<(), Fail> {
+    let mut desk = NoKernel::new(rt.alloc());
+    check(
+        &rt,
+        &mut desk,
+        Socket::Iopub,
+        SUBSCRIPTION,
+        1,
+        Ok(()),
+        PUBLISHER,
+    )?;
+    check(&rt, &mut desk, Socket::Shell, QUESTION, 1, Ok(()), ANSWERED)?;
+    let (ended, written) = served(&mut desk, Socket::Iopub, SUBSCRIPTION, 1, 10000, 10000)?;
+    assert_eq!(rt; ended, Ok(()));
+    let mut want = PUBLISHER.to_vec(rt.alloc())?;
+    for octets in BROADCASTS {
+        want.extend_from_slice(octets)?;
+    }
+    assert_eq!(rt; written.as_slice(), want.as_slice());
+    Ok(())
+}
+
+#[test]
+fn a_fault_behind_a_message_ends_the_connection(rt: HostRuntime) -> Result<(), Fail> {
+    let mut desk = NoKernel::new(rt.alloc());
+    let fault = ServeFault::Peer(PeerFault::Wire(WireFault::ReservedBits));
+    check(
+        &rt,
+        &mut desk,
+        Socket::Shell,
+        BROKEN,
+        10000,
+        Err(fault),
+        ANSWERED,
+    )
+}
+
+#[test]
+fn a_reader_that_fails_leaves_a_beginning(rt: HostRuntime) -> Result<(), Fail> {
+    for reads in 0..8u64 {
+        let mut desk = NoKernel::new(rt.alloc());
+        let (ended, written) = served(&mut desk, Socket::Shell, QUESTION, 50, reads, 10000)?;
+        assert_eq!(rt;
+            ended,
+            if reads < 5 {
+                Err(ServeFault::Read)
+            } else {
+                Ok(())
+            }
+        );
+        assert!(rt; ANSWERED.starts_with(&written));
+    }
+    Ok(())
+}
+
+#[test]
+fn a_writer_that_fails_leaves_a_beginning(rt: HostRuntime) -> Result<(), Fail> {
+    for writes in 0..4u64 {
+        let mut desk = NoKernel::new(rt.alloc());
+        let (ended, written) = served(&mut desk, Socket::Shell, QUESTION, 50, 10000, writes)?;
+        assert_eq!(rt;
+            ended,
+            if writes < 2 {
+                Err(ServeFault::Write)
+            } else {
+                Ok(())
+            }
+        );
+        assert!(rt; ANSWERED.starts_with(&written));
+        assert_eq!(rt;
+            desk.kept.len(),
+            if writes == 0 {
+                0
+            } else if writes == 1 {
+                1
+            } else {
+                2
+            }
+        );
+    }
+    Ok(())
+}
