@@ -7,7 +7,7 @@ ghost use Rattle.janus_meaning.specs.Moves.{assign as assign_of, assign_at as as
 ghost use Rattle.janus_syntax.specs.View.{update_of};
 ghost use Rattle.janus_store.specs.Stores.{names_in};
 ghost use Rattle.janus_invert.specs.Expressions.{exp_of};
-ghost use Rattle.janus_invert.specs.Placed.{IsAt, IsPlaced};
+ghost use Rattle.janus_invert.specs.Numbered.{HasItsNumber, HasNumbers};
 ghost use Rattle.janus_evaluation.specs.Results.{IsDone, IsCounted, IsWrittenOnce};
 
 use crate::expression::value;
@@ -27,8 +27,8 @@ pub fn assign<L: Ledger>(
     writes: &mut Writes<L>,
 ) -> Result<(), ValueFault>
     requires safe { assign_of (string_bytes name.now.text) (update_of update) (exp_of exp.now) store.old ≢ Bad Broken }
-    requires at { IsAt (names_in store.old) name.now }
-    requires placed { IsPlaced (names_in store.old) exp.now }
+    requires at { HasItsNumber (names_in store.old) name.now }
+    requires numbered { HasNumbers (names_in store.old) exp.now }
     ensures done { IsDone (assign_of (string_bytes name.now.text) (update_of update) (exp_of exp.now) store.old) store.old store.new result }
     ensures shape { cleared store.new ≡ cleared store.old }
     ensures counted { IsCounted result writes.old writes.new }
@@ -56,9 +56,9 @@ pub fn assign_element<L: Ledger>(
     writes: &mut Writes<L>,
 ) -> Result<(), ValueFault>
     requires safe { assign_at_of (string_bytes name.now.text) (exp_of index.now) (update_of update) (exp_of exp.now) store.old ≢ Bad Broken }
-    requires at { IsAt (names_in store.old) name.now }
-    requires index_placed { IsPlaced (names_in store.old) index.now }
-    requires placed { IsPlaced (names_in store.old) exp.now }
+    requires at { HasItsNumber (names_in store.old) name.now }
+    requires index_placed { HasNumbers (names_in store.old) index.now }
+    requires numbered { HasNumbers (names_in store.old) exp.now }
     ensures done { IsDone (assign_at_of (string_bytes name.now.text) (exp_of index.now) (update_of update) (exp_of exp.now) store.old) store.old store.new result }
     ensures shape { cleared store.new ≡ cleared store.old }
     ensures counted { IsCounted result writes.old writes.new }

@@ -8,7 +8,7 @@ ghost use Rattle.janus_meaning.specs.Syntax.{Name};
 ghost use Rattle.janus_store.specs.Stores.{IsArray, IsStack, IsNamed, names_in};
 ghost use Rattle.janus_meaning.specs.Value.{value as value_of, test as test_of, both, first as first_of};
 ghost use Rattle.janus_invert.specs.Expressions.{exp_of};
-ghost use Rattle.janus_invert.specs.Placed.{IsPlaced};
+ghost use Rattle.janus_invert.specs.Numbered.{HasNumbers};
 ghost use Rattle.janus_evaluation.specs.Results.{result_of, truth_of};
 
 use crate::fault::ValueFault;
@@ -21,7 +21,7 @@ use std::sync::ledger::Ledger;
 /// their places.
 pub fn test<L: Ledger>(exp: &Exp, store: &Store<L>) -> Result<bool, ValueFault>
     requires safe { test_of (exp_of exp.now) store.now ≢ Bad Broken }
-    requires placed { IsPlaced (names_in store.now) exp.now }
+    requires numbered { HasNumbers (names_in store.now) exp.now }
     ensures { truth_of result ≡ test_of (exp_of exp.now) store.now }
 {
     match value(exp, store) {
@@ -34,7 +34,7 @@ pub fn test<L: Ledger>(exp: &Exp, store: &Store<L>) -> Result<bool, ValueFault>
 /// their places.
 pub fn value<L: Ledger>(exp: &Exp, store: &Store<L>) -> Result<i32, ValueFault>
     requires safe { value_of (exp_of exp.now) store.now ≢ Bad Broken }
-    requires placed { IsPlaced (names_in store.now) exp.now }
+    requires numbered { HasNumbers (names_in store.now) exp.now }
     ensures { result_of result ≡ value_of (exp_of exp.now) store.now }
 {
     match exp {

@@ -5,7 +5,7 @@ ghost use Rattle.janus_meaning.specs.Fault.{Bad, Broken};
 ghost use Rattle.janus_meaning.specs.Store.{cleared};
 ghost use Rattle.janus_meaning.specs.Moves.{push as push_of, pop as pop_of};
 ghost use Rattle.janus_store.specs.Stores.{names_in};
-ghost use Rattle.janus_invert.specs.Placed.{IsAt};
+ghost use Rattle.janus_invert.specs.Numbered.{HasItsNumber};
 ghost use Rattle.janus_evaluation.specs.Results.{IsDone, IsCounted};
 
 use crate::fault::ValueFault;
@@ -22,8 +22,8 @@ pub fn push<L: Ledger>(
     writes: &mut Writes<L>,
 ) -> Result<(), ValueFault>
     requires safe { push_of (string_bytes variable.now.text) (string_bytes stack.now.text) store.old ≢ Bad Broken }
-    requires variable { IsAt (names_in store.old) variable.now }
-    requires stack { IsAt (names_in store.old) stack.now }
+    requires variable { HasItsNumber (names_in store.old) variable.now }
+    requires stack { HasItsNumber (names_in store.old) stack.now }
     ensures done { IsDone (push_of (string_bytes variable.now.text) (string_bytes stack.now.text) store.old) store.old store.new result }
     ensures shape { cleared store.new ≡ cleared store.old }
     ensures counted { IsCounted result writes.old writes.new }
@@ -48,8 +48,8 @@ pub fn pop<L: Ledger>(
     writes: &mut Writes<L>,
 ) -> Result<(), ValueFault>
     requires safe { pop_of (string_bytes variable.now.text) (string_bytes stack.now.text) store.old ≢ Bad Broken }
-    requires variable { IsAt (names_in store.old) variable.now }
-    requires stack { IsAt (names_in store.old) stack.now }
+    requires variable { HasItsNumber (names_in store.old) variable.now }
+    requires stack { HasItsNumber (names_in store.old) stack.now }
     ensures done { IsDone (pop_of (string_bytes variable.now.text) (string_bytes stack.now.text) store.old) store.old store.new result }
     ensures shape { cleared store.new ≡ cleared store.old }
     ensures counted { IsCounted result writes.old writes.new }

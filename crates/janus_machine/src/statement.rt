@@ -4,7 +4,7 @@ ghost use Rattle.std.specs.Prelude.{◌≡◌, ◌≢◌, ℕ};
 ghost use Rattle.janus_meaning.specs.Fault.{Res, Bad, Broken};
 ghost use Rattle.janus_meaning.specs.Store.{Store as Values, cleared};
 ghost use Rattle.janus_evaluation.specs.Results.{IsDone as IsAssigned, IsCounted};
-ghost use Rattle.janus_invert.specs.Placed.{IsPlacedStatement};
+ghost use Rattle.janus_invert.specs.Numbered.{StatementHasNumbers};
 ghost use Rattle.janus_store.specs.Stores.{names_in};
 ghost use Rattle.janus_machine.specs.Faults.{IsDone};
 ghost use Rattle.janus_machine.specs.Statements.{run_of};
@@ -22,7 +22,7 @@ pub(crate) fn run<L: Ledger>(
     writes: &mut Writes<L>,
 ) -> Result<(), Fault>
     requires safe { run_of statement.now store.old ≢ Bad Broken }
-    requires placed { IsPlacedStatement (names_in store.old) statement.now }
+    requires numbered { StatementHasNumbers (names_in store.old) statement.now }
     ensures done { IsDone (run_of statement.now store.old) store.old store.new result }
     ensures shape { cleared store.new ≡ cleared store.old }
     ensures counted { IsCounted result writes.old writes.new }

@@ -9,6 +9,10 @@ Name = List ℕ
 abbrev pub IsNumbered : List Name → ℕ → Name → Type 0
 IsNumbered xs k x = slice_get xs k ≡ Some x
 
+-- the name has a number
+abbrev pub IsMet : List Name → Name → Type 0
+IsMet xs x = (k : ℕ) × IsNumbered xs k x
+
 -- the name has no number
 abbrev pub IsUnmet : List Name → Name → Type 0
 IsUnmet xs x = (k : ℕ) → IsNumbered xs k x → ⊥

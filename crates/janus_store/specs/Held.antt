@@ -43,10 +43,6 @@ IsName h k x = IsNumbered h.names k x
 abbrev pub IsInSight : Held → ℕ → Type 0
 IsInSight h k = (x : Name) × (v : Val) × IsName h k x × (look x h.sight ≡ Fine v)
 
--- a name is among those that were met
-abbrev pub IsMet : List Name → Name → Type 0
-IsMet xs x = (k : ℕ) × IsNumbered xs k x
-
 -- one name more is declared, with its first value, and has a number
 pub record Declares (old new : Held) (x : Name) (v : Val) : Type 0 where
   pub sight : new.sight ≡ Slot x v old.sight

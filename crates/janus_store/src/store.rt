@@ -7,8 +7,8 @@ ghost use Rattle.janus_meaning.specs.Store.{Store as Values, Slot, Num, Arr, Stk
 ghost use Rattle.janus_meaning.specs.Limit.{live_stack_limit, stack_limit};
 ghost use Rattle.janus_meaning.specs.Value.{first, is_none};
 ghost use Rattle.janus_meaning.specs.World.{size_of, listed, stacks_in};
-ghost use Rattle.janus_names.specs.Numbers.{GoOn};
-ghost use Rattle.janus_store.specs.Held.{IsName, IsMet, IsWhole, IsInSight, HasLocalRoom, shown_store, empty_held, Declares, KeepsSight, IsLike, opened, with_sight};
+ghost use Rattle.janus_names.specs.Numbers.{GoOn, IsMet};
+ghost use Rattle.janus_store.specs.Held.{IsName, IsWhole, IsInSight, HasLocalRoom, shown_store, empty_held, Declares, KeepsSight, IsLike, opened, with_sight};
 ghost use Rattle.janus_store.specs.Values.{first_of, shown, found, read_or};
 ghost use Rattle.janus_store.specs.Stores.{IsFirstOnTop, IsNumber, IsArray, IsStack, IsOpenStack, IsHeldStack, HasElementAt, rest_of, write};
 ghost use Rattle.janus_store.specs.declared.store.Variable.{Variable};

@@ -12,7 +12,7 @@ use Rattle.janus_evaluation.proofs.Assigns.{is_number, value_safe, assign_bad, a
 use Rattle.janus_evaluation.proofs.assignment.assign.Goals as goal
 
 pub value-requires : goal.value-requires
-value-requires g c = record { safe = value_safe (string_bytes c.args.name.now.text) (update_of c.args.update) (exp_of c.args.exp.now) c.args.store.now c.requires.safe; placed = c.requires.placed }
+value-requires g c = record { safe = value_safe (string_bytes c.args.name.now.text) (update_of c.args.update) (exp_of c.args.exp.now) c.args.store.now c.requires.safe; numbered = c.requires.numbered }
 
 pub returns-in-Err-clause-done : goal.returns-in-Err-clause-done
 returns-in-Err-clause-done g c =

@@ -12,7 +12,7 @@ use Rattle.janus_evaluation.proofs.Assigns.{assigned_is_array, index_bad, range_
 use Rattle.janus_evaluation.proofs.assignment.assign_element.Goals as goal
 
 pub value-requires : goal.value-requires
-value-requires g c = record { safe = λ h. c.requires.safe (index_bad (string_bytes c.args.name.now.text) (exp_of c.args.index.now) (update_of c.args.update) (exp_of c.args.exp.now) c.args.store.now Broken c.requires.safe h); placed = c.requires.index_placed }
+value-requires g c = record { safe = λ h. c.requires.safe (index_bad (string_bytes c.args.name.now.text) (exp_of c.args.index.now) (update_of c.args.update) (exp_of c.args.exp.now) c.args.store.now Broken c.requires.safe h); numbered = c.requires.index_placed }
 
 pub returns-in-Err-clause-done : goal.returns-in-Err-clause-done
 returns-in-Err-clause-done g c =
@@ -45,7 +45,7 @@ value-requires-2 g c =
     let l = assigned_is_array a i o e s c.requires.safe in
     let z : to_z w32 (of_z w32 k) ≡ k = grind (arith, to_z-of_z) in
     let some : element l.0 k ≡ Fine c.in-Some.old = sym (c.in-Some.ensures a l.0 c.requires.at l.1 ∙ ap (element l.0) z) in
-    record { safe = λ h. c.requires.safe (right_bad a i o e s l.0 k c.in-Some.old Broken c.requires.safe l.1 (sym c.in-Ok.ensures) some h); placed = c.requires.placed }
+    record { safe = λ h. c.requires.safe (right_bad a i o e s l.0 k c.in-Some.old Broken c.requires.safe l.1 (sym c.in-Ok.ensures) some h); numbered = c.requires.numbered }
 
 pub returns-in-Err-value-clause-done : goal.returns-in-Err-value-clause-done
 returns-in-Err-value-clause-done g c =
