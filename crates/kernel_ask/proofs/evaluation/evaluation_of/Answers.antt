@@ -44,6 +44,7 @@ told s text e (fault.Declared at) r has first is = rw is (record { tree = e; is_
 told s text e (fault.Unknown at) r has first is = rw is (record { tree = e; is_tree = has; first = first })
 told s text e (fault.WrongKind at) r has first is = rw is (record { tree = e; is_tree = has; first = first })
 told s text e (fault.SelfUse at) r has first is = rw is (record { tree = e; is_tree = has; first = first })
+told s text e (fault.Shadow at) r has first is = rw is (record { tree = e; is_tree = has; first = first })
 told s text e (fault.TooMany at) r has first is = rw is (record { tree = e; is_tree = has; first = first })
 told s text e (fault.ArrayLength at) r has first is = rw is (record { tree = e; is_tree = has; first = first })
 told s text e fault.Memory r has first is = rw is tt

@@ -3,7 +3,7 @@ use Rattle.janus_meaning.specs.Shape.{kind_at}
 use Rattle.janus_syntax.specs.View.{name_of}
 use Rattle.janus_check.specs.Names.{shape_in, kind_found}
 use Rattle.janus_check.proofs.ScopeLemmas.{kind_own, kind_older}
-use Rattle.janus_check.proofs.sight.kind_in_sight.Goals as goal
+use Rattle.janus_check.proofs.sight.kind_declared.Goals as goal
 
 pub returns-in-Some : goal.returns-in-Some
 returns-in-Some c =
