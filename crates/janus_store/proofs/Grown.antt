@@ -7,7 +7,7 @@ use Rattle.janus_meaning.specs.Syntax.{Name}
 use Rattle.janus_names.specs.Numbers.{IsNumbered, HaveOneNumber, Adds, GoOn}
 use Rattle.janus_store.specs.declared.store.Variable.{Variable}
 use Rattle.janus_store.proofs.Numbers.{declared_grown, within_names}
-use Rattle.janus_store.proofs.Laid.{IsLaid, laid_grown, sight_of}
+use Rattle.janus_store.proofs.Laid.{IsLaid, laid_grown, sight_of, as_many, met}
 
 module _ (xs ys : List Name) (ns : List ℕ) (vs : List Variable) (h : IsLaid xs ns vs) (k : ℕ) (x : Name) (named : IsNumbered ys k x) (one : HaveOneNumber ys) (adds : Adds xs ys k x) where
   -- the name had a number
@@ -15,7 +15,7 @@ module _ (xs ys : List Name) (ns : List ℕ) (vs : List Variable) (h : IsLaid xs
   old_names n =
       ⊎_elim
       (λ (e : ys ≡ xs). e)
-      (λ (e : (k ≡ length xs) × (ys ≡ xs ++ x ∷ [])). absurd (n (e.0 ∙ sym h.as_many)))
+      (λ (e : (k ≡ length xs) × (ys ≡ xs ++ x ∷ [])). absurd (n (e.0 ∙ sym (as_many xs ns vs h))))
       adds
 
   -- it has one now
@@ -24,7 +24,7 @@ module _ (xs ys : List Name) (ns : List ℕ) (vs : List Variable) (h : IsLaid xs
       ⊎_elim
       (λ (e : ys ≡ xs).
       let lt : k < length xs = within_names xs k x (ap (λ l. slice_get l k) (sym e) ∙ named) in
-      let l : length ns ≡ length xs = h.as_many in
+      let l : length ns ≡ length xs = as_many xs ns vs h in
       absurd (omega arith))
       (λ (e : (k ≡ length xs) × (ys ≡ xs ++ x ∷ [])). e.1)
       adds
@@ -39,7 +39,7 @@ module _ (xs ys : List Name) (ns : List ℕ) (vs : List Variable) (h : IsLaid xs
   same_sight =
       ⊎_elim
       (λ (e : ys ≡ xs). ap (λ l. sight_of l vs) e)
-      (λ (e : (k ≡ length xs) × (ys ≡ xs ++ x ∷ [])). ap (λ l. sight_of l vs) e.1 ∙ declared_grown xs (x ∷ []) spec.Bare vs h.met)
+      (λ (e : (k ≡ length xs) × (ys ≡ xs ++ x ∷ [])). ap (λ l. sight_of l vs) e.1 ∙ declared_grown xs (x ∷ []) spec.Bare vs (met xs ns vs h))
       adds
 
   pub names_go_on : GoOn xs ys

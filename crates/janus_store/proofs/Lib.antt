@@ -1,4 +1,5 @@
 pub mod Variables
+pub mod Rows
 pub mod Indexes
 pub mod Numbers
 pub mod Laid

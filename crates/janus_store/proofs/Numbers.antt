@@ -1,6 +1,6 @@
 -- The places of numbers: where the variable of a name stands.
-use Rattle.std.proofs.Common.{◌≡◌, ℕ, zero, suc, ◌<◌, Bool, true, false, List, [], ◌∷◌, ◌++◌, length, refl, ap, ◌∙◌, sym, subst, arith}
-use Rattle.std.specs.Prelude.{slice_get, slice_set, slice_index_or, Some, None}
+use Rattle.std.proofs.Common.{◌≡◌, ℕ, zero, suc, ◌<◌, ◌+◌, Bool, true, false, List, [], ◌∷◌, ◌++◌, length, refl, ap, ◌∙◌, sym, subst, arith, ⊎_elim}
+use Rattle.std.specs.Prelude.{slice_get, slice_index_or, Option, Some, None}
 use Rattle.std.proofs.lemmas.Bool.{false_from_ne_true}
 use Rattle.std.proofs.lemmas.Option.{slice_get_past, slice_get_within}
 use Rattle.janus_meaning.specs.Syntax.{Name}
@@ -8,9 +8,26 @@ use Rattle.janus_meaning.specs.Store as spec
 use Rattle.janus_meaning.specs.Store.{same_name}
 use Rattle.janus_meaning.proofs.Stores.{same_name_self, same_name_true}
 use Rattle.janus_names.specs.Numbers.{IsNumbered, HaveOneNumber}
-use Rattle.janus_store.specs.Inside.{declared_over, AreIndexed, name_among, place_by, place_before, at_name}
+use Rattle.janus_store.specs.Inside.{declared_over, name_among, newest_from, AreHidden, none_of}
 use Rattle.janus_store.specs.Values.{val_of}
 use Rattle.janus_store.specs.declared.store.Variable.{Variable}
+use Rattle.janus_store.proofs.Rows.{At, met_from, none_long, none_there, found_from, stored_from}
+use Rattle.janus_store.proofs.Indexes.{AreIndexed}
+
+-- a place that is told as the one behind it, where 0 is none
+abbrev pub place_before : ℕ → Option ℕ
+place_before zero = None
+place_before (suc i) = Some i
+
+abbrev pub at_name : Bool → ℕ → Option ℕ → Option ℕ
+at_name true n other = place_before n
+at_name false n other = other
+
+-- where the variable of a name stands, by the places of the numbers
+abbrev pub place_by : List Name → List ℕ → Name → Option ℕ
+place_by [] ns x = None
+place_by (y ∷ xs) [] x = None
+place_by (y ∷ xs) (n ∷ ns) x = at_name (same_name x y) n (place_by xs ns x)
 
 one_in_tail : (y : Name) (xs : List Name) → HaveOneNumber (y ∷ xs) → HaveOneNumber xs
 one_in_tail y xs h j k x e f = let s : suc j ≡ suc k = h (suc j) (suc k) x e f in omega arith
@@ -55,43 +72,15 @@ stands xs ns k x i h l e f =
     let n : s.0 ≡ suc i = before_is s.0 i (sym (told_at xs ns k x s.0 h e s.1) ∙ f) in
     s.1 ∙ ap Some n
 
--- ---- another place for a number
-
-set_at : (ns : List ℕ) (k n : ℕ) → k < length ns → slice_get (slice_set ns k n) k ≡ Some n
-set_at [] k n lt = absurd (omega arith)
-set_at (m ∷ ns) zero n lt = refl
-set_at (m ∷ ns) (suc k) n lt = set_at ns k n (omega arith)
-
-pub set_long : (ns : List ℕ) (k n : ℕ) → length (slice_set ns k n) ≡ length ns
-set_long [] k n = refl
-set_long (m ∷ ns) zero n = refl
-set_long (m ∷ ns) (suc k) n = ap suc (set_long ns k n)
-
-pub placed_anew : (xs : List Name) (ns : List ℕ) (k : ℕ) (x : Name) (n : ℕ) → HaveOneNumber xs → length ns ≡ length xs → IsNumbered xs k x → place_by xs (slice_set ns k n) x ≡ place_before n
-placed_anew xs ns k x n h l e =
-    let lt : k < length xs = slice_get_within xs k x e in
-    told_at xs (slice_set ns k n) k x n h e (set_at ns k n (omega arith))
-
-pub others_stay : (xs : List Name) (ns : List ℕ) (k : ℕ) (x : Name) (n : ℕ) (c : Name) → IsNumbered xs k x → (c ≡ x → ⊥) → place_by xs (slice_set ns k n) c ≡ place_by xs ns c
-others_stay [] ns k x n c e d = refl
-others_stay (y ∷ xs) [] k x n c e d = refl
-others_stay (y ∷ xs) (m ∷ ns) zero x n c e d =
-    let same : y ≡ x = cc in
-    let far = other c y (λ z. d (z ∙ same)) in
-    ap (λ b. at_name b n (place_by xs ns c)) far ∙ sym (ap (λ b. at_name b m (place_by xs ns c)) far)
-others_stay (y ∷ xs) (m ∷ ns) (suc k) x n c e d = ap (at_name (same_name c y) m) (others_stay xs ns k x n c e d)
-
--- ---- one name more
-
-none_more : (b : Bool) → at_name b 0 None ≡ None
-none_more true = refl
-none_more false = refl
-
-pub place_grown : (xs : List Name) (ns : List ℕ) (x c : Name) → length ns ≡ length xs → place_by (xs ++ x ∷ []) (ns ++ 0 ∷ []) c ≡ place_by xs ns c
-place_grown [] [] x c l = none_more (same_name c x)
-place_grown [] (m ∷ ns) x c l = let bad : suc (length ns) ≡ 0 = l in absurd (omega arith)
-place_grown (y ∷ xs) [] x c l = let bad : 0 ≡ suc (length xs) = l in absurd (omega arith)
-place_grown (y ∷ xs) (m ∷ ns) x c l = let e : suc (length ns) ≡ suc (length xs) = l in ap (at_name (same_name c y) m) (place_grown xs ns x c (omega arith))
+-- a place of a name is that of a number
+pub told_of : (xs : List Name) (ns : List ℕ) (x : Name) (i : ℕ) → place_by xs ns x ≡ Some i → (k : ℕ) × IsNumbered xs k x × (slice_get ns k ≡ Some (suc i))
+told_of [] ns x i e = cc
+told_of (y ∷ xs) [] x i e = cc
+told_of (y ∷ xs) (n ∷ ns) x i e = by (told_of xs ns x i) (same_name x y) refl e
+  where
+    by : (place_by xs ns x ≡ Some i → (k : ℕ) × IsNumbered xs k x × (slice_get ns k ≡ Some (suc i))) → (b : Bool) → same_name x y ≡ b → at_name b n (place_by xs ns x) ≡ Some i → (k : ℕ) × IsNumbered (y ∷ xs) k x × (slice_get (n ∷ ns) k ≡ Some (suc i))
+    by more true f g = (0, ap Some (sym (same_name_true x y f)), ap Some (before_is n i g))
+    by more false f g = let r = more g in (suc r.0, r.1, r.2)
 
 pub index_grown : (xs ys : List Name) (k : ℕ) → k < length xs → slice_index_or (xs ++ ys) k [] ≡ slice_index_or xs k []
 index_grown [] ys k lt = absurd (omega arith)
@@ -106,14 +95,6 @@ declared_grown xs ys s [] h = refl
 declared_grown xs ys s (v ∷ vs) h =
     ap (λ x. declared_over (xs ++ ys) (spec.Slot x (val_of v.value) s) vs) (named_grown xs ys v (h 0 v refl))
     ∙ declared_grown xs ys (spec.Slot (name_among xs v) (val_of v.value) s) vs (λ i w e. h (suc i) w e)
-
-pub indexed_grown : (xs : List Name) (ns : List ℕ) (x : Name) (vs : List Variable) → length ns ≡ length xs → ((i : ℕ) (v : Variable) → slice_get vs i ≡ Some v → v.name < length xs) → AreIndexed xs vs (place_by xs ns) → AreIndexed (xs ++ x ∷ []) vs (place_by (xs ++ x ∷ []) (ns ++ 0 ∷ []))
-indexed_grown xs ns x vs l met h = record {
-  found = λ i v e. place_grown xs ns x (name_among (xs ++ x ∷ []) v) l ∙ ap (place_by xs ns) (named_grown xs (x ∷ []) v (met i v e)) ∙ h.found i v e;
-  stored = λ y i e.
-      let s = h.stored y i (sym (place_grown xs ns x y l) ∙ e) in
-      (s.0, s.1, named_grown xs (x ∷ []) s.0 (met i s.0 s.1) ∙ s.2);
-}
 
 -- a number's name is the one that a variable of this number has
 pub name_of_number : (xs : List Name) (k : ℕ) (x : Name) (v : Variable) → IsNumbered xs k x → v.name ≡ k → name_among xs v ≡ x
@@ -131,3 +112,21 @@ numbered_name xs v lt = at xs v.name lt
     at [] k lt = absurd (omega arith)
     at (y ∷ xs) zero lt = refl
     at (y ∷ xs) (suc k) lt = at xs k (omega arith)
+
+-- the places of a row of variables
+pub row_indexed : (xs : List Name) (vs : List Variable) → HaveOneNumber xs → AreHidden 0 (none_of xs) vs → AreIndexed xs vs (place_by xs (newest_from 0 (none_of xs) vs))
+row_indexed xs vs one h = record {
+  found = λ i v e.
+      let f = found_from 0 (none_of xs) vs h i v e in
+      let lt : v.name < length xs = let m : v.name < length (none_of xs) = met_from 0 (none_of xs) vs h i v e in omega (arith, none_long xs) in
+      let z : suc (0 + f.0) ≡ suc f.0 = omega arith in
+      (f.0, told_at xs (newest_from 0 (none_of xs) vs) v.name (name_among xs v) (suc f.0) one (numbered_name xs v lt) (f.1 ∙ ap Some z), f.2);
+  stored = λ x i e.
+      let k = told_of xs (newest_from 0 (none_of xs) vs) x i e in
+      ⊎_elim
+      (λ (q : slice_get (none_of xs) k.0 ≡ Some (suc i)). absurd (none_there xs k.0 i q))
+      (λ (q : At vs 0 k.0 i).
+      let z : q.nth ≡ i = omega (arith, q.place) in
+      (q.variable, ap (slice_get vs) (sym z) ∙ q.there, name_of_number xs k.0 x q.variable k.1 q.name))
+      (stored_from 0 (none_of xs) vs h k.0 i k.2);
+}

@@ -8,13 +8,15 @@ use Rattle.janus_meaning.specs.Store as spec
 use Rattle.janus_meaning.specs.Store.{look}
 use Rattle.janus_meaning.specs.World.{dropped, oldest, size_of, listed}
 use Rattle.janus_names.specs.Numbers.{IsNumbered, IsUnmet}
-use Rattle.janus_store.specs.Inside.{declared_over, name_among, place_by}
+use Rattle.janus_store.specs.Inside.{declared_over, name_among, newest_from, none_of}
 use Rattle.janus_store.specs.Values.{val_of}
 use Rattle.janus_store.specs.declared.store.Variable.{Variable}
-use Rattle.janus_store.proofs.Variables.{HasNone, look_past, look_here, size-declared, listed-declared, pair_of}
-use Rattle.janus_store.proofs.Indexes.{only, none, slice_get-map}
-use Rattle.janus_store.proofs.Numbers.{told_at, numbered_name}
-use Rattle.janus_store.proofs.Laid.{IsLaid, at_number, seen_at}
+use Rattle.janus_store.proofs.Variables.{HasNone, look_past, size-declared, listed-declared, pair_of}
+use Rattle.std.proofs.lemmas.List.{length-take}
+use Rattle.janus_store.proofs.Rows.{hidden_take}
+use Rattle.janus_store.proofs.Indexes.{none, slice_get-map}
+use Rattle.janus_store.proofs.Numbers.{place_by, told_at, numbered_name}
+use Rattle.janus_store.proofs.Laid.{IsLaid, indexed, met, fits, seen_at}
 
 dropped_next : (n : ℕ) (s : spec.Store) → dropped (suc n) s ≡ dropped 1 (dropped n s)
 dropped_next zero s = refl
@@ -64,20 +66,27 @@ module _ (xs : List Name) (ns : List ℕ) (vs : List Variable) (h : IsLaid xs ns
   gone n = ap (look x) (oldest_over xs d vs le) ∙ look_past xs x spec.Bare (take d vs) n
 
   pub unmet_gone : IsUnmet xs x → look x (oldest d (declared_over xs spec.Bare vs)) ≡ Bad Broken
-  unmet_gone u = gone (λ j v e same. let a = among_taken d vs j v e in u v.name (numbered_name xs v (h.met j v a.0) ∙ ap Some same))
+  unmet_gone u = gone (λ j v e same. let a = among_taken d vs j v e in u v.name (numbered_name xs v (met xs ns vs h j v a.0) ∙ ap Some same))
 
-  pub none_gone : (k : ℕ) → IsNumbered xs k x → slice_get ns k ≡ Some 0 → look x (oldest d (declared_over xs spec.Bare vs)) ≡ Bad Broken
-  none_gone k e f = gone (λ j v g same. none xs vs (place_by xs ns) h.indexed x (told_at xs ns k x 0 h.one_number e f) j v (among_taken d vs j v g).0 same)
+  -- the declared variables alone
+  oldest_laid : IsLaid xs (newest_from 0 (none_of xs) (take d vs)) (take d vs)
+  oldest_laid = record { one_number = h.one_number; newest = refl; hidden = hidden_take 0 (none_of xs) vs d h.hidden }
 
-  pub local_gone : (k i : ℕ) → IsNumbered xs k x → slice_get ns k ≡ Some (suc i) → d < suc i → look x (oldest d (declared_over xs spec.Bare vs)) ≡ Bad Broken
-  local_gone k i e f lt = gone (λ j v g same.
-      let a = among_taken d vs j v g in
-      let at : j ≡ i = only xs vs (place_by xs ns) h.indexed x i (at_number xs ns vs h k x i e f) j v a.0 same in
-      let low : j < d = a.1 in
-      omega arith)
+  pub none_gone : (k : ℕ) → IsNumbered xs k x → slice_get (newest_from 0 (none_of xs) (take d vs)) k ≡ Some 0 → look x (oldest d (declared_over xs spec.Bare vs)) ≡ Bad Broken
+  none_gone k e f =
+      let o = oldest_laid in
+      gone (λ j v g same. none xs (take d vs) (place_by xs (newest_from 0 (none_of xs) (take d vs))) (indexed xs _ (take d vs) o) x (told_at xs (newest_from 0 (none_of xs) (take d vs)) k x 0 h.one_number e f) j v g same)
 
-  pub shown_at : (k i : ℕ) (v : Variable) → IsNumbered xs k x → slice_get ns k ≡ Some (suc i) → i < d → v ≡ get_or vs i v → look x (oldest d (declared_over xs spec.Bare vs)) ≡ Fine (val_of v.value)
-  shown_at k i v e f lt read =
-      let s = seen_at xs ns vs h k x i v e f read in
-      ap (look x) (oldest_over xs d vs le)
-      ∙ look_here xs x spec.Bare (take d vs) i v (taken_has d vs i v s.at lt) s.named (λ j w g same. s.alone j w (among_taken d vs j w g).0 same)
+  pub shown_at : (k i : ℕ) (v : Variable) → IsNumbered xs k x → slice_get (newest_from 0 (none_of xs) (take d vs)) k ≡ Some (suc i) → v ≡ get_or vs i v → look x (oldest d (declared_over xs spec.Bare vs)) ≡ Fine (val_of v.value)
+  shown_at k i v e f read =
+      let o = oldest_laid in
+      let within = fits xs _ (take d vs) o k x i e f in
+      let lt : i < d = omega (arith, within, length-take d vs) in
+      let at : slice_get (take d vs) i ≡ Some v = taken_has d vs i v (slice_get_read vs (length vs) i v refl (omega arith) read) lt in
+      let s = seen_at xs _ (take d vs) o k x i v e f (sym (get_or_of (take d vs) i v v at)) in
+      ap (look x) (oldest_over xs d vs le) ∙ s.seen
+    where
+      get_or_of : (ws : List Variable) (i : ℕ) (w e : Variable) → slice_get ws i ≡ Some w → get_or ws i e ≡ w
+      get_or_of [] i w e g = let bad : None ≡ Some w = sym (slice_get_past [] i (omega arith)) ∙ g in cc
+      get_or_of (u ∷ ws) zero w e g = let s : u ≡ w = cc in s
+      get_or_of (u ∷ ws) (suc i) w e g = get_or_of ws i w e g

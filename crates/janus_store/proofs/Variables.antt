@@ -1,5 +1,5 @@
 -- The store that variables show: reading, writing and the newest name.
-use Rattle.std.proofs.Common.{◌≡◌, ℕ, zero, suc, ◌+◌, true, false, List, [], ◌∷◌, ◌++◌, length, set, refl, ap, ◌∙◌, sym, subst, arith, append_assoc, map}
+use Rattle.std.proofs.Common.{◌≤◌, ◌≡◌, ℕ, zero, suc, ◌+◌, true, false, List, [], ◌∷◌, ◌++◌, length, set, refl, ap, ◌∙◌, sym, subst, arith, append_assoc, map}
 use Rattle.std.specs.Prelude.{slice_get, Some}
 use Rattle.std.proofs.lemmas.Bool.{false_from_ne_true}
 use Rattle.std.proofs.lemmas.List.{append-nil, map-append}
@@ -25,9 +25,9 @@ module _ (xs : List Name) where
     abbrev pub HasNone : List Variable → Name → Type 0
     HasNone vs x = (j : ℕ) (v : Variable) → slice_get vs j ≡ Some v → name v ≡ x → ⊥
 
-    -- the one at i is the only one with the name x
-    abbrev pub IsOnly : List Variable → Name → ℕ → Type 0
-    IsOnly vs x i = (j : ℕ) (v : Variable) → slice_get vs j ≡ Some v → name v ≡ x → j ≡ i
+    -- none behind the one at i has the name x
+    abbrev pub IsNewest : List Variable → Name → ℕ → Type 0
+    IsNewest vs x i = (j : ℕ) (v : Variable) → slice_get vs j ≡ Some v → name v ≡ x → j ≤ i
 
     other_name : (x y : Name) → (y ≡ x → ⊥) → same_name x y ≡ false
     other_name x y h = false_from_ne_true (same_name x y) (λ e. h (sym (same_name_true x y e)))
@@ -48,16 +48,16 @@ module _ (xs : List Name) where
         look_past x (spec.Slot (name v) (val_of v.value) s) vs (λ j w e. h (suc j) w e)
         ∙ ap (λ b. look_at b (val_of v.value) (look x s)) (other_name x (name v) (h 0 v refl))
 
-    pub look_here : (x : Name) (s : spec.Store) (vs : List Variable) (i : ℕ) (v : Variable) → slice_get vs i ≡ Some v → name v ≡ x → IsOnly vs x i → look x (declared_over xs s vs) ≡ Fine (val_of v.value)
+    pub look_here : (x : Name) (s : spec.Store) (vs : List Variable) (i : ℕ) (v : Variable) → slice_get vs i ≡ Some v → name v ≡ x → IsNewest vs x i → look x (declared_over xs s vs) ≡ Fine (val_of v.value)
     look_here x s [] i v e n only = cc
     look_here x s (w ∷ vs) zero v e n only =
         let same : w ≡ v = cc in
-        look_past x (spec.Slot (name w) (val_of w.value) s) vs (λ j u f g. let bad : suc j ≡ 0 = only (suc j) u f g in omega arith)
+        look_past x (spec.Slot (name w) (val_of w.value) s) vs (λ j u f g. let bad : suc j ≤ 0 = only (suc j) u f g in omega arith)
         ∙ ap (λ (w : Variable). look x (spec.Slot (name w) (val_of w.value) s)) same
         ∙ ap (λ b. look_at b (val_of v.value) (look x s)) (this_name x (name v) n)
         ∙ read_value v.value
     look_here x s (w ∷ vs) (suc i) v e n only =
-        look_here x (spec.Slot (name w) (val_of w.value) s) vs i v e n (λ j u f g. let up : suc j ≡ suc i = only (suc j) u f g in omega arith)
+        look_here x (spec.Slot (name w) (val_of w.value) s) vs i v e n (λ j u f g. let up : suc j ≤ suc i = only (suc j) u f g in omega arith)
 
     -- ---- writing
 
@@ -92,15 +92,15 @@ module _ (xs : List Name) where
         write_past x u (spec.Slot (name v) (val_of v.value) r) (spec.Slot (name v) (val_of v.value) q) vs (λ j w f. h (suc j) w f)
         (write_below x (name v) u (val_of v.value) r q (other_name x (name v) (h 0 v refl)) e)
 
-    pub write_here : (x : Name) (u : Value) (s : spec.Store) (vs : List Variable) (i : ℕ) (v : Variable) → slice_get vs i ≡ Some v → name v ≡ x → IsOnly vs x i → write x (val_of u) (declared_over xs s vs) ≡ Fine (declared_over xs s (set vs i (record { name = v.name; value = u })))
+    pub write_here : (x : Name) (u : Value) (s : spec.Store) (vs : List Variable) (i : ℕ) (v : Variable) → slice_get vs i ≡ Some v → name v ≡ x → IsNewest vs x i → write x (val_of u) (declared_over xs s vs) ≡ Fine (declared_over xs s (set vs i (record { name = v.name; hidden = v.hidden; value = u })))
     write_here x u s [] i v e z only = cc
     write_here x u s (w ∷ vs) zero v e z only =
         let same : w ≡ v = cc in
         write_past x (val_of u) (spec.Slot (name w) (val_of w.value) s) (spec.Slot (name v) (val_of u) s) vs
-        (λ j t f g. let bad : suc j ≡ 0 = only (suc j) t f g in omega arith)
+        (λ j t f g. let bad : suc j ≤ 0 = only (suc j) t f g in omega arith)
         (ap (λ (w : Variable). write x (val_of u) (spec.Slot (name w) (val_of w.value) s)) same ∙ write_top x (name v) v.value u s z)
     write_here x u s (w ∷ vs) (suc i) v e z only =
-        write_here x u (spec.Slot (name w) (val_of w.value) s) vs i v e z (λ j t f g. let up : suc j ≡ suc i = only (suc j) t f g in omega arith)
+        write_here x u (spec.Slot (name w) (val_of w.value) s) vs i v e z (λ j t f g. let up : suc j ≤ suc i = only (suc j) t f g in omega arith)
 
     -- ---- the newest name, and all names
 
@@ -130,7 +130,7 @@ module _ (xs : List Name) where
         cleared-declared (spec.Slot (name v) (val_of v.value) s) (spec.Slot (name v) (val_of v.value) r) vs (ap (spec.Slot (name v) (cleared_val (val_of v.value))) e)
 
     -- another value of this kind and length leaves them
-    pub cleared-written : (s : spec.Store) (vs : List Variable) (i : ℕ) (v : Variable) (u : Value) → slice_get vs i ≡ Some v → cleared_val (val_of u) ≡ cleared_val (val_of v.value) → cleared (declared_over xs s (set vs i (record { name = v.name; value = u }))) ≡ cleared (declared_over xs s vs)
+    pub cleared-written : (s : spec.Store) (vs : List Variable) (i : ℕ) (v : Variable) (u : Value) → slice_get vs i ≡ Some v → cleared_val (val_of u) ≡ cleared_val (val_of v.value) → cleared (declared_over xs s (set vs i (record { name = v.name; hidden = v.hidden; value = u }))) ≡ cleared (declared_over xs s vs)
     cleared-written s [] i v u e k = cc
     cleared-written s (w ∷ vs) zero v u e k =
         let same : w ≡ v = cc in

@@ -1,5 +1,5 @@
 -- How the fields of a store are read.
-use Rattle.std.specs.Prelude.{◌≡◌, ℕ, zero, suc, ◌+◌, ◌<◌, ◌≤◌, List, [], ◌∷◌, Bool, true, false, length, slice_get, slice_index_or, Option, Some, None, vec_len, vec_capacity}
+use Rattle.std.specs.Prelude.{◌≡◌, ℕ, suc, ◌+◌, ◌≤◌, List, [], ◌∷◌, slice_get, slice_set, slice_index_or, Some, vec_len, vec_capacity}
 use Rattle.janus_meaning.specs.Limit.{live_stack_limit}
 use Rattle.janus_meaning.specs.Syntax.{Name}
 use Rattle.janus_meaning.specs.Store as spec
@@ -22,33 +22,27 @@ declared_over xs s (v ∷ vs) = declared_over xs (spec.Slot (name_among xs v) (v
 abbrev pub held_of : {L : Type 0} → Inside L → Held
 held_of a = record { sight = declared_over a.names spec.Bare a.variables.items; declared = a.declared; names = a.names }
 
--- a place that is told as the one behind it, where 0 is none
-abbrev pub place_before : ℕ → Option ℕ
-place_before zero = None
-place_before (suc i) = Some i
+-- no variables yet: no number has a place
+abbrev pub none_of : List Name → List ℕ
+none_of [] = []
+none_of (x ∷ xs) = 0 ∷ none_of xs
 
-abbrev pub at_name : Bool → ℕ → Option ℕ → Option ℕ
-at_name true n other = place_before n
-at_name false n other = other
+-- The places of the numbers, each the one behind its newest variable, as the variables from the i-th on are put over these.
+unfoldable pub newest_from : ℕ → List ℕ → List Variable → List ℕ
+newest_from i ns [] = ns
+newest_from i ns (v ∷ vs) = newest_from (suc i) (slice_set ns v.name (suc i)) vs
 
--- where the variable of a name stands, by the places of the numbers
-abbrev pub place_by : List Name → List ℕ → Name → Option ℕ
-place_by [] ns x = None
-place_by (y ∷ xs) [] x = None
-place_by (y ∷ xs) (n ∷ ns) x = at_name (spec.same_name x y) n (place_by xs ns x)
+-- each variable knows which place its number had before it came: that of an older variable with its name, or 0
+abbrev pub AreHidden : ℕ → List ℕ → List Variable → Type 0
+AreHidden i ns [] = Unit {0}
+AreHidden i ns (v ∷ vs) = (slice_get ns v.name ≡ Some v.hidden) × AreHidden (suc i) (slice_set ns v.name (suc i)) vs
 
--- Each variable's name has its place, and each place of a name is that of a variable with that name.
-pub record AreIndexed (xs : List Name) (vs : List Variable) (place : Name → Option ℕ) : Type 0 where
-  pub found : (i : ℕ) (v : Variable) → slice_get vs i ≡ Some v → place (name_among xs v) ≡ Some i
-  pub stored : (x : Name) (i : ℕ) → place x ≡ Some i → (v : Variable) × (slice_get vs i ≡ Some v) × (name_among xs v ≡ x)
-
--- Each number has a place for its variable, and each variable a name that was met. Each stack that may live is a variable's or a
--- spare one. There is room for as many locals as may be open.
+-- Each number has the place of its newest variable. Each stack that may live is a variable's or a spare one. There is room for as many
+-- locals as may be open.
 pub record IsKept {L : Type 0} (a : Inside L) : Type 0 where
   pub one_number : HaveOneNumber a.names
-  pub as_many : length a.newest.items ≡ length a.names
-  pub met : (i : ℕ) (v : Variable) → slice_get a.variables.items i ≡ Some v → v.name < length a.names
-  pub indexed : AreIndexed a.names a.variables.items (place_by a.names a.newest.items)
+  pub newest : a.newest.items ≡ newest_from 0 (none_of a.names) a.variables.items
+  pub hidden : AreHidden 0 (none_of a.names) a.variables.items
   pub stacks : a.spares + stacks_in (held_of a).sight ≡ live_stack_limit
   pub declared : a.declared ≤ vec_len a.variables
   pub room : a.declared + local_limit ≤ vec_capacity a.variables

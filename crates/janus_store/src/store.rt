@@ -1,6 +1,7 @@
 //! The declared names with their values, in the order of declaration, the locals above them, and the numbers of names.
 
-ghost use Rattle.std.specs.Prelude.{◌≡◌, ℤ, ℕ, suc, ◌+◌, ◌-◌, List, [], ◌∷◌, ◌++◌, pos, ◌<◌, ◌≤◌, length, vec_len, vec_capacity, slice_set, IsTrue, ◌↔◌, IfOk, OnOk, OnErr, slice_get, Some};
+ghost use Rattle.std.specs.Prelude.{◌≡◌, ℤ, ℕ, suc, ◌+◌, ◌-◌, List, [], ◌∷◌, ◌++◌, pos, ◌<◌, ◌≤◌, length, vec_len, vec_capacity, slice_set, slice_index, IsTrue, ◌↔◌, IfOk, OnOk, OnErr, slice_get, Some};
+ghost use Rattle.std.specs.Prelude.{◌^◌, take};
 ghost use Rattle.janus_meaning.specs.Syntax.{Name};
 ghost use Rattle.janus_meaning.specs.Fault.{Fine, Bad, Broken, IndexRange, TopEmpty, and_then};
 ghost use Rattle.janus_meaning.specs.Store.{Store as Values, Slot, Num, Arr, Stk, look, number, element, set_element, zeros};
@@ -12,6 +13,7 @@ ghost use Rattle.janus_store.specs.Held.{IsName, IsWhole, IsInSight, HasLocalRoo
 ghost use Rattle.janus_store.specs.Values.{first_of, shown, found, read_or};
 ghost use Rattle.janus_store.specs.Stores.{IsFirstOnTop, IsNumber, IsArray, IsStack, IsOpenStack, IsHeldStack, HasElementAt, rest_of, write};
 ghost use Rattle.janus_store.specs.declared.store.Variable.{Variable};
+ghost use Rattle.janus_store.specs.Inside.{newest_from, none_of, AreHidden};
 
 use crate::spares::Spares;
 use crate::stack::{STACK_LIMIT, Stack};
@@ -33,6 +35,8 @@ const LOCAL_LIMIT: usize = 16_384;
 struct Variable {
     /// The number of its name.
     name: usize,
+    /// The place behind the older variable of this name that it hides, or 0.
+    hidden: usize,
     value: Value,
 }
 
@@ -43,7 +47,7 @@ pub struct Store<L: Ledger> {
     names: Names,
     /// In the order of declaration, and behind them the locals.
     variables: Vec<Variable>,
-    /// For each number the place behind its variable among these, or 0 where its name is out of sight.
+    /// For each number the place behind its newest variable among these, or 0 where its name is out of sight.
     newest: Vec<usize>,
     /// How many of the variables are declared.
     declared: usize,
@@ -115,8 +119,8 @@ impl<L: Ledger> Store<L> {
         let Some(number) = self.names.number(name) else {
             return None;
         };
-        let behind = self.newest[number];
-        if behind == 0 || behind > self.declared {
+        let behind = declared_place(&self.newest, &self.variables, self.declared, number);
+        if behind == 0 {
             return None;
         }
         Some(self.variables[behind - 1].value.view())
@@ -281,9 +285,9 @@ impl<L: Ledger> Store<L> {
         self.declared -= 1;
     }
 
-    /// Opens a local of this number's name, which is out of sight, with a number.
+    /// Opens a local of this number's name with a number. While it is open it hides an older variable of its name.
     pub fn enter_local(&mut self, name: usize, number: i32)
-        requires absent { (x : Name) × IsName self.old name x × (look x self.old.sight ≡ Bad Broken) }
+        requires named { (x : Name) × IsName self.old name x }
         requires room { HasLocalRoom self.old }
         ensures { (x : Name) → IsName self.old name x → self.new ≡ opened x (Num number) self.old }
     {
@@ -305,9 +309,9 @@ impl<L: Ledger> Store<L> {
         value.only_number()
     }
 
-    /// Opens a local stack of this number's name, which is out of sight, where fewer than 64 live.
+    /// Opens a local stack of this number's name, where fewer than 64 live. While it is open it hides an older variable of its name.
     pub fn enter_local_stack(&mut self, name: usize)
-        requires absent { (x : Name) × IsName self.old name x × (look x self.old.sight ≡ Bad Broken) }
+        requires named { (x : Name) × IsName self.old name x }
         requires room { HasLocalRoom self.old }
         requires few { stacks_in self.old.sight < live_stack_limit }
         ensures { (x : Name) → IsName self.old name x → self.new ≡ opened x (Stk []) self.old }
@@ -384,29 +388,55 @@ fn place(newest: &[usize], name: usize) -> usize
     newest[name] - 1
 }
 
+/// The place behind the declared variable of a number, or 0 where it has none: locals that hide it are passed over.
+fn declared_place(
+    newest: &[usize],
+    variables: &[Variable],
+    declared: usize,
+    name: usize,
+) -> usize
+    requires few { declared ≤ length variables.now }
+    requires in_memory { length variables.now < 2 ^ 58 }
+    requires newest { (xs : List Name) × (newest.now ≡ newest_from 0 (none_of xs) variables.now) × AreHidden 0 (none_of xs) variables.now }
+    requires met { name < length newest.now }
+    ensures place { (xs : List Name) → newest.now ≡ newest_from 0 (none_of xs) variables.now → AreHidden 0 (none_of xs) variables.now → slice_get (newest_from 0 (none_of xs) (take declared variables.now)) name ≡ Some result }
+    ensures low { result ≤ declared }
+{
+    let mut behind = newest[name];
+    while behind > declared {
+        behind = variables[behind - 1].hidden;
+    }
+    behind
+}
+
 /// Puts a variable behind the others, as the one of its name.
 fn put(newest: &mut Vec<usize>, variables: &mut Vec<Variable>, name: usize, value: Value)
     requires met { name < vec_len newest.old }
     requires room { vec_len variables.old < vec_capacity variables.old }
-    ensures variables { variables.new.items ≡ variables.old.items ++ (record { name = name; value = value }) ∷ [] }
+    ensures variables { variables.new.items ≡ variables.old.items ++ (record { name = name; hidden = slice_index newest.old.items name; value = value }) ∷ [] }
     ensures room { vec_capacity variables.new ≡ vec_capacity variables.old }
     ensures newest { newest.new.items ≡ slice_set newest.old.items name (suc (length variables.old.items)) }
 {
+    let hidden = newest[name];
     newest[name] = variables.len() + 1;
-    variables.push_reserved(Variable { name, value });
+    variables.push_reserved(Variable {
+        name,
+        hidden,
+        value,
+    });
 }
 
-/// Takes the last variable away, whose name goes out of sight.
+/// Takes the last variable away. What it hid is in sight again.
 fn remove(newest: &mut Vec<usize>, variables: &mut Vec<Variable>) -> Variable
     requires some { 0 < vec_len variables.old }
     requires met { (i : ℕ) (v : Variable) → slice_get variables.old.items i ≡ Some v → v.name < vec_len newest.old }
     ensures variables { variables.old.items ≡ variables.new.items ++ result ∷ [] }
     ensures room { vec_capacity variables.new ≡ vec_capacity variables.old }
-    ensures newest { newest.new.items ≡ slice_set newest.old.items result.name 0 }
+    ensures newest { newest.new.items ≡ slice_set newest.old.items result.name result.hidden }
 {
     match variables.pop() {
         Some(variable) => {
-            newest[variable.name] = 0;
+            newest[variable.name] = variable.hidden;
             variable
         }
         None => unreachable!(),

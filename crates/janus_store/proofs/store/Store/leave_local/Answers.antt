@@ -6,7 +6,7 @@ use Rattle.janus_store.specs.Held.{Held}
 use Rattle.janus_store.specs.Values.{val_of}
 use Rattle.janus_store.specs.Inside.{name_among}
 use Rattle.janus_store.proofs.Variables.{declared-append, size-declared}
-use Rattle.janus_store.proofs.Laid.{laid_of, laid_removed, held_is, sight_of}
+use Rattle.janus_store.proofs.Laid.{laid_of, as_many, met, laid_removed, held_is, sight_of}
 use Rattle.std.proofs.Common.{length-append}
 use Rattle.janus_store.proofs.store.Store.leave_local.Goals as goal
 
@@ -49,9 +49,8 @@ invariant_of-self g c =
     let kept : stacks_in (sight_of xs vs) ≡ stacks_in (sight_of xs ws) = slots ∙ ap (λ v. stacks_with v (stacks_in (sight_of xs ws))) same in
     record {
       one_number = laid.one_number;
-      as_many = laid.as_many;
-      met = laid.met;
-      indexed = laid.indexed;
+      newest = laid.newest;
+      hidden = laid.hidden;
       stacks = omega (arith, c.self.invariant.stacks, kept);
       declared = omega (arith, c.requires.local, ap (λ (h : Held). h.declared) c.self.view_is, ap size_of sight, size-declared xs Bare vs, c.remove-value.new.variables.ok.0, ap length c.remove-value.ensures.variables, length-append ws (y ∷ []));
       room = omega (arith, c.self.invariant.room, c.remove-value.ensures.room);
@@ -77,3 +76,9 @@ returns g c = λ x n r e.
     let both_numbers : Num c.only_number.result ≡ Num n = sym c.only_number.ensures ∙ same in
     let num : c.only_number.result ≡ n = cc in
     (to_z-of_z w32 c.only_number.result (record { sfits = c.only_number.type_inv }) ∙ num, held_is _ _ rest (ap (λ (h : Held). h.declared) c.self.view_is) names)
+
+pub remove-value-requires-clause-met : goal.remove-value-requires-clause-met
+remove-value-requires-clause-met g c = λ i v e.
+    let a = c.self.inside in
+    let h = laid_of a c.self.invariant in
+    omega (arith, met a.names a.newest.items a.variables.items h i v e, as_many a.names a.newest.items a.variables.items h, a.newest.ok.0)

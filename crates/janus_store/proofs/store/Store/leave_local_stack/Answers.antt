@@ -7,7 +7,7 @@ use Rattle.janus_store.specs.Values.{val_of}
 use Rattle.janus_store.specs.Inside.{name_among}
 use Rattle.janus_store.proofs.Variables.{declared-append, size-declared}
 use Rattle.janus_store.proofs.Counted.{has_place, retired_one}
-use Rattle.janus_store.proofs.Laid.{laid_of, laid_removed, held_is, sight_of}
+use Rattle.janus_store.proofs.Laid.{laid_of, as_many, met, laid_removed, held_is, sight_of}
 use Rattle.std.proofs.Common.{length-append}
 use Rattle.janus_store.proofs.store.Store.leave_local_stack.Goals as goal
 
@@ -62,9 +62,8 @@ invariant_of-self g c =
     let top : c.args.self.now.sight ≡ Slot (name_among xs y) (val_of y.value) (sight_of xs ws) = sym sight ∙ ap (sight_of xs) c.remove-value.ensures.variables ∙ declared-append xs Bare ws y in
     record {
       one_number = laid.one_number;
-      as_many = laid.as_many;
-      met = laid.met;
-      indexed = laid.indexed;
+      newest = laid.newest;
+      hidden = laid.hidden;
       stacks = omega (arith, c.take_back.ensures, retired_one (val_of y.value) a.spares (stacks_in (sight_of xs ws)) live_stack_limit (omega (arith, slots, c.self.invariant.stacks)));
       declared = omega (arith, c.requires.local, ap (λ (h : Held). h.declared) c.self.view_is, ap size_of sight, size-declared xs Bare vs, c.remove-value.new.variables.ok.0, ap length c.remove-value.ensures.variables, length-append ws (y ∷ []));
       room = omega (arith, c.self.invariant.room, c.remove-value.ensures.room);
@@ -87,3 +86,9 @@ returns g c = λ x r e.
     let both : Slot (name_among xs y) (val_of y.value) (sight_of xs ws) ≡ Slot x (Stk []) r = sym top ∙ e in
     let rest : sight_of xs ws ≡ r = cc in
     held_is _ _ rest (ap (λ (h : Held). h.declared) c.self.view_is) names
+
+pub remove-value-requires-clause-met : goal.remove-value-requires-clause-met
+remove-value-requires-clause-met g c = λ i v e.
+    let a = c.self.inside in
+    let h = laid_of a c.self.invariant in
+    omega (arith, met a.names a.newest.items a.variables.items h i v e, as_many a.names a.newest.items a.variables.items h, a.newest.ok.0)

@@ -33,9 +33,8 @@ invariant_of-self-2 g c =
         let laid = laid_new xs ys ns vs h k x named one adds w.push_reserved.new.self.items (w.if-number-len.true ∙ len) (w.push_reserved.ensures.items ∙ ap (λ l. l ++ 0 ∷ []) c.reserve.ensures.items) in
         subst (λ (b : Inside g.row.L.Denot). IsKept b) (sym w.self-inside-is) (record {
           one_number = laid.one_number;
-          as_many = laid.as_many;
-          met = laid.met;
-          indexed = laid.indexed;
+          newest = laid.newest;
+          hidden = laid.hidden;
           stacks = omega (arith, c.self.invariant.stacks, stacks);
           declared = c.self.invariant.declared;
           room = c.self.invariant.room;
@@ -45,9 +44,8 @@ invariant_of-self-2 g c =
         let laid = subst (λ (l : List ℕ). IsLaid ys l vs) (sym c.reserve.ensures.items) met in
         subst (λ (b : Inside g.row.L.Denot). IsKept b) (sym w.self-inside-is) (record {
           one_number = laid.one_number;
-          as_many = laid.as_many;
-          met = laid.met;
-          indexed = laid.indexed;
+          newest = laid.newest;
+          hidden = laid.hidden;
           stacks = omega (arith, c.self.invariant.stacks, stacks);
           declared = c.self.invariant.declared;
           room = c.self.invariant.room;

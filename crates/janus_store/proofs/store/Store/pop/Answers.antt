@@ -74,12 +74,11 @@ invariant_of-self g c =
     let same : val_of v.value ≡ (Stk (c.requires.2.0 ∷ c.requires.2.1)) = cc in
     let popped = c.pop.ensures c.requires.2.0 c.requires.2.1 same in
     let shape = cleared-written xs Bare vs c.place-at.result v c.pop.new.self f.at (ap cleared_val popped.1 ∙ sym (ap cleared_val same)) in
-    let laid = laid_written xs ns vs h c.place-at.result v (record { name = v.name; value = c.pop.new.self }) f.at refl in
+    let laid = laid_written xs ns vs h c.place-at.result v (record { name = v.name; hidden = v.hidden; value = c.pop.new.self }) f.at refl refl in
     record {
       one_number = laid.one_number;
-      as_many = laid.as_many;
-      met = laid.met;
-      indexed = laid.indexed;
+      newest = laid.newest;
+      hidden = laid.hidden;
       stacks = omega (arith, c.self.invariant.stacks, same_stacks _ _ shape);
       declared = c.self.invariant.declared;
       room = c.self.invariant.room;

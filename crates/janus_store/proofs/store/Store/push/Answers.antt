@@ -73,12 +73,11 @@ invariant_of-self g c =
     let both : Fine (val_of v.value) ≡ Fine (Stk c.requires.2.0) = sym f.seen ∙ ap (look x) sight ∙ c.requires.2.1 in
     let same : val_of v.value ≡ (Stk c.requires.2.0) = cc in
     let shape = cleared-written xs Bare vs c.place-at.result v c.push.new.self f.at (ap cleared_val (c.push.ensures c.requires.2.0 same) ∙ sym (ap cleared_val same)) in
-    let laid = laid_written xs ns vs h c.place-at.result v (record { name = v.name; value = c.push.new.self }) f.at refl in
+    let laid = laid_written xs ns vs h c.place-at.result v (record { name = v.name; hidden = v.hidden; value = c.push.new.self }) f.at refl refl in
     record {
       one_number = laid.one_number;
-      as_many = laid.as_many;
-      met = laid.met;
-      indexed = laid.indexed;
+      newest = laid.newest;
+      hidden = laid.hidden;
       stacks = omega (arith, c.self.invariant.stacks, same_stacks _ _ shape);
       declared = c.self.invariant.declared;
       room = c.self.invariant.room;

@@ -1,44 +1,39 @@
-use Rattle.std.proofs.Common.{◌≡◌, ℕ, ◌≤◌, suc, refl, ap, ◌∙◌, sym, arith, length}
-use Rattle.std.specs.Prelude.{slice_get, Some, slice_index_or}
+use Rattle.std.proofs.Common.{◌≡◌, suc, ◌-◌, ◌≤◌, length, take, refl, ap, ◌∙◌, sym, subst, arith}
+use Rattle.std.specs.Prelude.{slice_get, Some}
 use Rattle.janus_meaning.specs.Fault.{Fine}
 use Rattle.janus_meaning.specs.Store.{look}
-use Rattle.janus_store.specs.Held.{Held}
+use Rattle.janus_store.specs.Held.{Held, shown_store}
+use Rattle.janus_store.specs.Inside.{newest_from, AreHidden, none_of}
 use Rattle.janus_store.proofs.Numbers.{within_names}
-use Rattle.janus_store.proofs.Laid.{laid_of, sight_of}
-use Rattle.janus_store.proofs.Oldest.{unmet_gone, none_gone, local_gone, shown_at}
-use Rattle.janus_store.specs.Held.{shown_store}
-use Rattle.std.proofs.Common.{zero, ◌-◌}
-use Rattle.std.proofs.lemmas.Option.{slice_get_read}
-use Rattle.janus_store.proofs.store.Store.value.Goals.{then-behind-eq0-via-then-behind-eq0, then-behind-eq0-via-else-behind-eq0+then-behind-self}
+use Rattle.janus_store.proofs.Laid.{laid_of, as_many}
+use Rattle.janus_store.proofs.Oldest.{unmet_gone, none_gone, shown_at}
 use Rattle.janus_store.proofs.store.Store.value.Goals as goal
-
--- a number that isn't 0 is the one behind another
-some_before : (n : ℕ) → (n ≡ 0 → ⊥) → (i : ℕ) × (n ≡ suc i)
-some_before zero h = absurd (h refl)
-some_before (suc i) h = (i, refl)
 
 pub returns-in_default : goal.returns-in_default
 returns-in_default g c =
     let a = c.self.inside in
-    let xs = a.names in
-    let ns = a.newest.items in
-    let vs = a.variables.items in
     let h = laid_of a c.self.invariant in
-    let sight : sight_of xs vs ≡ c.args.self.now.sight = ap (λ (h : Held). h.sight) c.self.view_is in
-    let names = ap (λ (h : Held). h.names) c.self.view_is in
-    sym (unmet_gone xs ns vs h a.declared (omega (arith, c.self.invariant.declared, a.variables.ok.0)) c.args.name.now (c.in_default.ensures.unmet refl))
+    sym (unmet_gone a.names a.newest.items a.variables.items h a.declared (omega (arith, c.self.invariant.declared, a.variables.ok.0)) c.args.name.now (c.in_default.ensures.unmet refl))
     ∙ ap (λ (h : Held). look c.args.name.now (shown_store h)) c.self.view_is
 
-pub index-behind-requires : goal.index-behind-requires
-index-behind-requires g c =
+pub declared_place-behind-requires : goal.declared_place-behind-requires
+declared_place-behind-requires g c =
     let a = c.self.inside in
     let xs = a.names in
     let ns = a.newest.items in
     let vs = a.variables.items in
     let h = laid_of a c.self.invariant in
-    let sight : sight_of xs vs ≡ c.args.self.now.sight = ap (λ (h : Held). h.sight) c.self.view_is in
-    let names = ap (λ (h : Held). h.names) c.self.view_is in
-    omega (arith, within_names xs c.in-Some.number c.args.name.now c.in-Some.ensures.met, c.self.invariant.as_many, a.newest.ok.0)
+    let k = c.in-Some.number in
+    let x = c.args.name.now in
+    let named = c.in-Some.ensures.met in
+    let le : a.declared ≤ length vs = omega (arith, c.self.invariant.declared, a.variables.ok.0) in
+    let variables : c.deref-2.result.now ≡ vs = c.deref-2.ensures.value in
+    record {
+      few = omega (arith, le, ap length variables);
+      in_memory = omega (arith, c.deref-2.type_inv.1);
+      newest = (xs, c.deref.ensures.value ∙ h.newest ∙ ap (newest_from 0 (none_of xs)) (sym variables), subst (AreHidden 0 (none_of xs)) (sym variables) h.hidden);
+      met = omega (arith, within_names xs k x named, as_many xs ns vs h, ap length c.deref.ensures.value);
+    }
 
 pub returns-then-behind-eq0 : goal.returns-then-behind-eq0
 returns-then-behind-eq0 g c =
@@ -47,22 +42,30 @@ returns-then-behind-eq0 g c =
     let ns = a.newest.items in
     let vs = a.variables.items in
     let h = laid_of a c.self.invariant in
-    let sight : sight_of xs vs ≡ c.args.self.now.sight = ap (λ (h : Held). h.sight) c.self.view_is in
-    let names = ap (λ (h : Held). h.names) c.self.view_is in
     let k = c.in-Some.number in
     let x = c.args.name.now in
-    let n = c.index-behind.result.now in
     let named = c.in-Some.ensures.met in
     let le : a.declared ≤ length vs = omega (arith, c.self.invariant.declared, a.variables.ok.0) in
-    let at : slice_get ns k ≡ Some n = slice_get_read ns (length ns) k n refl (omega (arith, within_names xs k x named, c.self.invariant.as_many)) c.index-behind.ensures in
-    let shown = ap (λ (h : Held). look x (shown_store h)) c.self.view_is in
-    elim c.then-behind-eq0.branch [
-      then-behind-eq0-via-then-behind-eq0 w ↦
-        sym (none_gone xs ns vs h a.declared le x k named (at ∙ ap Some w.if-behind-eq0.true)) ∙ shown
-    | then-behind-eq0-via-else-behind-eq0+then-behind-self w ↦
-        let some = some_before n w.if-behind-eq0.false in
-        sym (local_gone xs ns vs h a.declared le x k some.0 named (at ∙ ap Some some.1) (omega (arith, w.if-behind-self.true, some.1))) ∙ shown
-    ]
+    let variables : c.deref-2.result.now ≡ vs = c.deref-2.ensures.value in
+    let behind = c.declared_place-behind.ensures.place xs (c.deref.ensures.value ∙ h.newest ∙ ap (newest_from 0 (none_of xs)) (sym variables)) (subst (AreHidden 0 (none_of xs)) (sym variables) h.hidden) in
+    let place : slice_get (newest_from 0 (none_of xs) (take a.declared vs)) k ≡ Some c.declared_place-behind.result = ap (λ l. slice_get (newest_from 0 (none_of xs) (take a.declared l)) k) (sym variables) ∙ behind in
+    sym (none_gone xs ns vs h a.declared le x k named (place ∙ ap Some c.if-behind-eq0.true)) ∙ ap (λ (h : Held). look x (shown_store h)) c.self.view_is
+
+pub index-requires : goal.index-requires
+index-requires g c =
+    let a = c.self.inside in
+    let xs = a.names in
+    let ns = a.newest.items in
+    let vs = a.variables.items in
+    let h = laid_of a c.self.invariant in
+    let k = c.in-Some.number in
+    let x = c.args.name.now in
+    let named = c.in-Some.ensures.met in
+    let le : a.declared ≤ length vs = omega (arith, c.self.invariant.declared, a.variables.ok.0) in
+    let variables : c.deref-2.result.now ≡ vs = c.deref-2.ensures.value in
+    let behind = c.declared_place-behind.ensures.place xs (c.deref.ensures.value ∙ h.newest ∙ ap (newest_from 0 (none_of xs)) (sym variables)) (subst (AreHidden 0 (none_of xs)) (sym variables) h.hidden) in
+    let place : slice_get (newest_from 0 (none_of xs) (take a.declared vs)) k ≡ Some c.declared_place-behind.result = ap (λ l. slice_get (newest_from 0 (none_of xs) (take a.declared l)) k) (sym variables) ∙ behind in
+    omega (arith, c.declared_place-behind.ensures.low, le, c.if-behind-eq0.false)
 
 pub returns : goal.returns
 returns g c =
@@ -71,17 +74,13 @@ returns g c =
     let ns = a.newest.items in
     let vs = a.variables.items in
     let h = laid_of a c.self.invariant in
-    let sight : sight_of xs vs ≡ c.args.self.now.sight = ap (λ (h : Held). h.sight) c.self.view_is in
-    let names = ap (λ (h : Held). h.names) c.self.view_is in
     let k = c.in-Some.number in
     let x = c.args.name.now in
-    let n = c.index-behind.result.now in
     let named = c.in-Some.ensures.met in
     let le : a.declared ≤ length vs = omega (arith, c.self.invariant.declared, a.variables.ok.0) in
-    let at : slice_get ns k ≡ Some n = slice_get_read ns (length ns) k n refl (omega (arith, within_names xs k x named, c.self.invariant.as_many)) c.index-behind.ensures in
-    let shown = ap (λ (h : Held). look x (shown_store h)) c.self.view_is in
-    let some = some_before n c.if-behind-eq0.false in
-    let i : n - 1 ≡ some.0 = omega (arith, some.1) in
-    let v = c.index.result.now in
-    ap Fine c.view.ensures
-    ∙ sym (shown_at xs ns vs h a.declared le x k some.0 v named (at ∙ ap Some some.1) (omega (arith, c.if-behind-self.false, some.1)) (c.index.ensures ∙ ap (λ j. slice_index_or vs j v) i)) ∙ shown
+    let variables : c.deref-2.result.now ≡ vs = c.deref-2.ensures.value in
+    let behind = c.declared_place-behind.ensures.place xs (c.deref.ensures.value ∙ h.newest ∙ ap (newest_from 0 (none_of xs)) (sym variables)) (subst (AreHidden 0 (none_of xs)) (sym variables) h.hidden) in
+    let place : slice_get (newest_from 0 (none_of xs) (take a.declared vs)) k ≡ Some c.declared_place-behind.result = ap (λ l. slice_get (newest_from 0 (none_of xs) (take a.declared l)) k) (sym variables) ∙ behind in
+    let i = c.declared_place-behind.result - 1 in
+    let on : c.declared_place-behind.result ≡ suc i = omega (arith, c.if-behind-eq0.false) in
+    ap Fine c.view.ensures ∙ sym (shown_at xs ns vs h a.declared le x k i c.index.result.now named (place ∙ ap Some on) c.index.ensures) ∙ ap (λ (h : Held). look x (shown_store h)) c.self.view_is
