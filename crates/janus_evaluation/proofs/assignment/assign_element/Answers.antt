@@ -1,9 +1,8 @@
-use Rattle.std.proofs.Common.{string_bytes, ◌≡◌, ℤ, List, ap, ◌∙◌, sym, subst, refl, arith, to_z, of_z, w32}
+use Rattle.std.proofs.Common.{string_bytes, ◌≡◌, ℤ, ap, ◌∙◌, sym, refl, arith, to_z, of_z, w32}
 use Rattle.std.proofs.lemmas.Int.{to_z-of_z}
 use Rattle.janus_meaning.specs.Fault.{Fine, Bad, Broken, IndexRange}
-use Rattle.janus_meaning.specs.Store.{look, element, set_element, Num, Arr}
+use Rattle.janus_meaning.specs.Store.{element, set_element, Arr}
 use Rattle.janus_meaning.specs.Word.{changed}
-use Rattle.janus_meaning.specs.Value.{value}
 use Rattle.janus_syntax.specs.View.{update_of}
 use Rattle.janus_invert.specs.Expressions.{exp_of}
 use Rattle.janus_store.specs.Stores.{write}

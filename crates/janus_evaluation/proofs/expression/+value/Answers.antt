@@ -1,10 +1,10 @@
-use Rattle.std.proofs.Common.{◌≡◌, ◌<◌, ◌%◌, ◌^◌, refl, ℕ, ap, ◌∙◌, sym, subst, arith, ℤ, pos, neg_ℤ, true, false, string_bytes, to_z, of_z, w32}
+use Rattle.std.proofs.Common.{◌≡◌, refl, ap, ◌∙◌, sym, subst, arith, ℤ, neg_ℤ, true, false, string_bytes, to_z, of_z, w32}
 use Rattle.std.proofs.lemmas.Int.{to_z-of_z}
-use Rattle.janus_meaning.specs.Fault.{Fine, Bad, Broken, and_then}
+use Rattle.janus_meaning.specs.Fault.{Fine, Bad, Broken}
 use Rattle.janus_meaning.specs.Syntax as tree
 use Rattle.janus_meaning.specs.Value.{value, both}
 use Rattle.janus_meaning.specs.Word.{wrap, bit, nonzero, operate}
-use Rattle.janus_meaning.specs.Store.{look, number, element, Num}
+use Rattle.janus_meaning.specs.Store.{element, Num}
 use Rattle.janus_syntax.specs.View.{operator_of}
 use Rattle.janus_invert.specs.Expressions.{exp_of}
 use Rattle.janus_invert.specs.Numbered.{HasNumbers}

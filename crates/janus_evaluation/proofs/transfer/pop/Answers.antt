@@ -1,10 +1,9 @@
-use Rattle.std.proofs.Common.{string_bytes, ◌≡◌, ◌<◌, ◌≤◌, ◌∷◌, ℤ, List, pos, true, false, length, ap, ◌∙◌, sym, subst, refl, arith, to_z, of_z, w32}
-use Rattle.std.specs.Prelude.{slice_get, Some}
+use Rattle.std.proofs.Common.{string_bytes, ◌≡◌, ℤ, List, pos, false, ap, ◌∙◌, sym, refl, arith, to_z, of_z, w32}
+use Rattle.std.specs.Prelude.{slice_get}
 use Rattle.std.specs.Ordering.{int_eq}
 use Rattle.std.proofs.lemmas.Int.{to_z-of_z}
 use Rattle.janus_meaning.specs.Fault.{Fine, Bad, Broken, and_then}
 use Rattle.janus_meaning.specs.Syntax.{Name}
-use Rattle.janus_meaning.specs.Limit.{stack_limit}
 use Rattle.janus_meaning.specs.Store.{look, number, Num, Stk}
 use Rattle.janus_store.specs.Stores.{write}
 use Rattle.std.proofs.lemmas.Bool.{false_from_ne_true}

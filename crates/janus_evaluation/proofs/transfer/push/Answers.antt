@@ -1,11 +1,9 @@
-use Rattle.std.proofs.Common.{string_bytes, ◌≡◌, ◌<◌, ◌≤◌, ◌∷◌, ℤ, List, pos, true, false, length, ap, ◌∙◌, sym, subst, refl, arith, to_z, of_z, w32}
-use Rattle.std.specs.Prelude.{slice_get, Some}
-use Rattle.std.specs.Ordering.{int_eq}
+use Rattle.std.proofs.Common.{string_bytes, ◌≡◌, ◌∷◌, ℤ, List, ap, ◌∙◌, sym, refl, arith, to_z, of_z, w32}
+use Rattle.std.specs.Prelude.{slice_get}
 use Rattle.std.proofs.lemmas.Int.{to_z-of_z}
 use Rattle.janus_meaning.specs.Fault.{Fine, Bad, Broken, and_then}
 use Rattle.janus_meaning.specs.Syntax.{Name}
-use Rattle.janus_meaning.specs.Limit.{stack_limit}
-use Rattle.janus_meaning.specs.Store.{look, number, Num, Stk}
+use Rattle.janus_meaning.specs.Store.{number, Num, Stk}
 use Rattle.janus_store.specs.Stores.{write}
 use Rattle.janus_evaluation.proofs.Transfers.{pushed_pair, number_there, values_there, number_still, push_full, push_fine, below_limit}
 use Rattle.janus_evaluation.proofs.transfer.push.Goals as goal
