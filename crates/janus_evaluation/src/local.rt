@@ -8,7 +8,7 @@ ghost use Rattle.janus_meaning.specs.World.{size_of};
 ghost use Rattle.janus_store.specs.Held.{HasLocalRoom};
 ghost use Rattle.janus_invert.specs.Expressions.{exp_of};
 ghost use Rattle.janus_invert.specs.Numbered.{HasItsNumber, HasNumbers};
-ghost use Rattle.janus_evaluation.specs.Locals.{number_opened, stack_opened, HasLocals, KeepsNames};
+ghost use Rattle.janus_evaluation.specs.Locals.{number_opened, stack_opened, KeepsNames};
 ghost use Rattle.janus_evaluation.specs.Results.{IsDone};
 
 use crate::expression::value;
@@ -50,7 +50,6 @@ pub fn close_number<L: Ledger>(
     requires at { HasItsNumber store.old.names name.now }
     requires numbered { HasNumbers store.old.names last.now }
     requires local { store.old.declared < size_of store.old.sight }
-    requires few { HasLocals store.old }
     ensures done { IsDone (drop_int (string_bytes name.now.text) (exp_of last.now) store.old.sight) store.old.sight store.new.sight result }
     ensures names { KeepsNames store.old store.new }
 {

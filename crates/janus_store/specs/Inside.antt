@@ -37,12 +37,13 @@ abbrev pub AreHidden : ℕ → List ℕ → List Variable → Type 0
 AreHidden i ns [] = Unit {0}
 AreHidden i ns (v ∷ vs) = (slice_get ns v.name ≡ Some v.hidden) × AreHidden (suc i) (slice_set ns v.name (suc i)) vs
 
--- Each number has the place of its newest variable. Each stack that may live is a variable's or a spare one. There is room for as many
--- locals as may be open.
+-- Each number has the place of its newest variable. Each stack that may live is a variable's or a spare one. No more
+-- locals are open than may be, and there is room for as many.
 pub record IsKept {L : Type 0} (a : Inside L) : Type 0 where
   pub one_number : HaveOneNumber a.names
   pub newest : a.newest.items ≡ newest_from 0 (none_of a.names) a.variables.items
   pub hidden : AreHidden 0 (none_of a.names) a.variables.items
   pub stacks : a.spares + stacks_in (held_of a).sight ≡ live_stack_limit
   pub declared : a.declared ≤ vec_len a.variables
+  pub few : vec_len a.variables ≤ a.declared + local_limit
   pub room : a.declared + local_limit ≤ vec_capacity a.variables

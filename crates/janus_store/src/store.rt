@@ -303,7 +303,8 @@ impl<L: Ledger> Store<L> {
     pub fn leave_local(&mut self) -> i32
         requires local { self.old.declared < size_of self.old.sight }
         requires number { (x : Name) × (n : ℤ) × (r : Values) × (self.old.sight ≡ Slot x (Num n) r) }
-        ensures { (x : Name) (n : ℤ) (r : Values) → self.old.sight ≡ Slot x (Num n) r → (result ≡ n) × (self.new ≡ with_sight r self.old) }
+        ensures left { (x : Name) (n : ℤ) (r : Values) → self.old.sight ≡ Slot x (Num n) r → (result ≡ n) × (self.new ≡ with_sight r self.old) }
+        ensures room { HasLocalRoom self.new }
     {
         let Variable { value, .. } = remove(&mut self.newest, &mut self.variables);
         value.only_number()

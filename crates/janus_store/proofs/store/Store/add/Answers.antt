@@ -63,6 +63,7 @@ invariant_of-self-2 g c =
       hidden = laid.hidden;
       stacks = omega (arith, slots, declared_one (val_of y.value) a.spares c.first_value-value.new.self (stacks_in (sight_of xs vs)) live_stack_limit c.self.invariant.stacks c.first_value-value.ensures.left);
       declared = omega (arith, whole, c.put.new.variables.ok.0, ap length vars, length-append vs (y ∷ []));
+      few = omega (arith, whole, c.put.new.variables.ok.0, ap length vars, length-append vs (y ∷ []));
       room = omega (arith, whole, c.in_ok-reserve.ensures.ok, c.reserve.new.self.ok.0, ap length c.reserve.ensures.items, c.put.ensures.room);
     }
 

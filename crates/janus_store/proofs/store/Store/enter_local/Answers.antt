@@ -46,6 +46,7 @@ invariant_of-self g c =
       hidden = laid.hidden;
       stacks = omega (arith, c.self.invariant.stacks, slots);
       declared = omega (arith, c.self.invariant.declared, a.variables.ok.0, c.put.new.variables.ok.0, ap length c.put.ensures.variables, length-append vs (y ∷ []));
+      few = omega (arith, c.requires.room, ap (λ (h : Held). h.declared) c.self.view_is, size-declared xs Bare vs, ap size_of sight, a.variables.ok.0, c.self.invariant.declared, a.variables.ok.0, c.put.new.variables.ok.0, ap length c.put.ensures.variables, length-append vs (y ∷ []));
       room = omega (arith, c.self.invariant.room, c.put.ensures.room);
     }
 

@@ -57,6 +57,7 @@ invariant_of-self g c =
       hidden = laid.hidden;
       stacks = omega (arith, slots, declared_one (val_of y.value) a.spares c.first_value-value.new.self (stacks_in (sight_of xs vs)) live_stack_limit c.self.invariant.stacks c.first_value-value.ensures.left);
       declared = omega (arith, c.self.invariant.declared, a.variables.ok.0, c.put.new.variables.ok.0, ap length c.put.ensures.variables, length-append vs (y ∷ []));
+      few = omega (arith, c.requires.room, ap (λ (h : Held). h.declared) c.self.view_is, size-declared xs Bare vs, ap size_of sight, a.variables.ok.0, c.self.invariant.declared, a.variables.ok.0, c.put.new.variables.ok.0, ap length c.put.ensures.variables, length-append vs (y ∷ []));
       room = omega (arith, c.self.invariant.room, c.put.ensures.room);
     }
 

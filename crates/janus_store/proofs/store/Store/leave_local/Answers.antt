@@ -53,11 +53,12 @@ invariant_of-self g c =
       hidden = laid.hidden;
       stacks = omega (arith, c.self.invariant.stacks, kept);
       declared = omega (arith, c.requires.local, ap (λ (h : Held). h.declared) c.self.view_is, ap size_of sight, size-declared xs Bare vs, c.remove-value.new.variables.ok.0, ap length c.remove-value.ensures.variables, length-append ws (y ∷ []));
+      few = omega (arith, c.self.invariant.few, a.variables.ok.0, c.requires.local, ap (λ (h : Held). h.declared) c.self.view_is, ap size_of sight, size-declared xs Bare vs, c.remove-value.new.variables.ok.0, ap length c.remove-value.ensures.variables, length-append ws (y ∷ []));
       room = omega (arith, c.self.invariant.room, c.remove-value.ensures.room);
     }
 
-pub returns : goal.returns
-returns g c = λ x n r e.
+pub returns-clause-left : goal.returns-clause-left
+returns-clause-left g c = λ x n r e.
     let a = c.self.inside in
     let xs = a.names in
     let ns = a.newest.items in
@@ -82,3 +83,11 @@ remove-value-requires-clause-met g c = λ i v e.
     let a = c.self.inside in
     let h = laid_of a c.self.invariant in
     omega (arith, met a.names a.newest.items a.variables.items h i v e, as_many a.names a.newest.items a.variables.items h, a.newest.ok.0)
+
+pub returns-clause-room : goal.returns-clause-room
+returns-clause-room g c =
+    let a = c.self.inside in
+    let xs = a.names in
+    let ws = c.remove-value.new.variables.items in
+    let y = c.remove-value.result in
+    omega (arith, c.self.invariant.few, a.variables.ok.0, size-declared xs Bare ws, ap length c.remove-value.ensures.variables, length-append ws (y ∷ []))

@@ -1,4 +1,4 @@
-use Rattle.std.proofs.Common.{◌≡◌, List, [], ap, ◌∙◌, sym, subst, arith}
+use Rattle.std.proofs.Common.{◌≡◌, List, [], length, ap, ◌∙◌, sym, subst, arith}
 use Rattle.std.specs.Prelude.{Some, None}
 use Rattle.std.proofs.lemmas.Option.{slice_get_past}
 use Rattle.janus_meaning.specs.World.{stacks_in}
@@ -24,5 +24,6 @@ invariant_of-result g c =
       hidden = subst (λ (l : List Variable). AreHidden 0 (none_of c.new-2.result) l) (sym vars) tt;
       stacks = omega (arith, slots, c.in_ok-spares.ensures);
       declared = omega arith;
+      few = omega (arith, c.in_ok-variables.variables.ok.0, ap length vars);
       room = omega (arith, c.in_ok-variables.ensures.capacity);
     }

@@ -37,6 +37,7 @@ invariant_of-self-2 g c =
           hidden = laid.hidden;
           stacks = omega (arith, c.self.invariant.stacks, stacks);
           declared = c.self.invariant.declared;
+          few = c.self.invariant.few;
           room = c.self.invariant.room;
         })
     | else-number-len w ↦
@@ -48,6 +49,7 @@ invariant_of-self-2 g c =
           hidden = laid.hidden;
           stacks = omega (arith, c.self.invariant.stacks, stacks);
           declared = c.self.invariant.declared;
+          few = c.self.invariant.few;
           room = c.self.invariant.room;
         })
     ]

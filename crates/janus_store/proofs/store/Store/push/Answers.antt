@@ -80,6 +80,7 @@ invariant_of-self g c =
       hidden = laid.hidden;
       stacks = omega (arith, c.self.invariant.stacks, same_stacks _ _ shape);
       declared = c.self.invariant.declared;
+      few = c.self.invariant.few;
       room = c.self.invariant.room;
     }
 

@@ -68,6 +68,7 @@ invariant_of-self g c =
       hidden = laid.hidden;
       stacks = omega (arith, c.take_back.ensures, retired_one (val_of y.value) a.spares (stacks_in (sight_of xs ws)) live_stack_limit (omega (arith, slots, c.self.invariant.stacks)));
       declared = omega (arith, c.requires.whole, ap (λ (h : Held). h.declared) c.self.view_is, ap size_of sight, size-declared xs Bare vs, c.remove-value.new.variables.ok.0, ap length c.remove-value.ensures.variables, length-append ws (y ∷ []));
+      few = omega (arith, c.self.invariant.few, a.variables.ok.0, c.requires.whole, ap (λ (h : Held). h.declared) c.self.view_is, ap size_of sight, size-declared xs Bare vs, c.remove-value.new.variables.ok.0, ap length c.remove-value.ensures.variables, length-append ws (y ∷ []));
       room = omega (arith, c.self.invariant.room, c.remove-value.ensures.room);
     }
 
