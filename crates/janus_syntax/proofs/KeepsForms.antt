@@ -30,6 +30,8 @@ proper_statement (Word_of word.If at) k h ends = λ e. ((λ z s. ((λ b. ((λ z 
 proper_statement (Word_of word.From at) k h ends =
     λ e. ((λ s. ((λ b. ((λ z f. (h _, λ t m. ends_statement t (ends _ t m))), λ t m. seen_word word.Until t m.0 m.1)), λ t m. loop_follows t m)), λ t m. do_follows t m)
 proper_statement (Word_of word.Local at) k h ends = λ s. (h s, λ t m. ends s t m)
+proper_statement (Word_of word.Call at) k h ends = λ f z xs. ((λ z. h _), λ t m. seen_sign sign.Close t m.0 m.1)
+proper_statement (Word_of word.Uncall at) k h ends = λ f z xs. ((λ z. h _), λ t m. seen_sign sign.Close t m.0 m.1)
 proper_statement (Word_of word.Skip at) k h ends = h _
 proper_statement (Word_of word.Push at) k h ends = λ z x z' s z''. h _
 proper_statement (Word_of word.Pop at) k h ends = λ z x z' s z''. h _

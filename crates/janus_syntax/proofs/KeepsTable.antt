@@ -8,7 +8,7 @@ use Rattle.janus_syntax.specs.declared.operator.Infix.{Infix}
 use Rattle.janus_syntax.specs.Tokens.{Token, Name, Number, Sign_of, Word_of}
 use Rattle.janus_syntax.specs.Tree.{Exp, Block, Cell, cell_of}
 use Rattle.janus_syntax.specs.Operators.{weakest, joined, operator_at}
-use Rattle.janus_syntax.specs.Forms.{Part, A_cell, Declarations, Bound, Body, Statements, Else_part, Do_part, Loop_part, Local, Target_index, Whole, Level, Chain, Index, done, part, Rule}
+use Rattle.janus_syntax.specs.Forms.{Part, A_cell, Declarations, Bound, Body, Statements, Else_part, Do_part, Loop_part, Local, Names, More_names, Target_index, Whole, Level, Chain, Index, done, part, Rule}
 use Rattle.janus_syntax.specs.Grammar.{text_form}
 use Rattle.janus_syntax.specs.Table.{rule, whole, operand, counts, chain_rule}
 use Rattle.janus_syntax.proofs.Follow.{ends_at, after_declarations, May, Proper, AllProper}
@@ -81,6 +81,15 @@ proper_rule Local (Word_of _ at) = tt
 proper_rule Local (Name x at) = tt
 proper_rule Local (Number n at) = tt
 proper_rule Local (Sign_of s at) = tt
+proper_rule Names (Name x at) = λ xs. (tt, λ t m. m)
+proper_rule Names (Word_of w at) = tt
+proper_rule Names (Number n at) = tt
+proper_rule Names (Sign_of s at) = tt
+proper_rule More_names (Sign_of sign.Comma at) = λ x xs. (tt, λ t m. m)
+proper_rule More_names (Sign_of _ at) = tt
+proper_rule More_names (Name x at) = tt
+proper_rule More_names (Number n at) = tt
+proper_rule More_names (Word_of w at) = tt
 proper_rule Target_index (Sign_of sign.OpenIndex at) = λ e. ((λ z. tt), λ t m. ends_close_index t (seen_sign sign.CloseIndex t m.0 m.1))
 proper_rule Target_index (Sign_of _ at) = tt
 proper_rule Target_index (Name x at) = tt

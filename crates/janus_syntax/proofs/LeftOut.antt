@@ -8,9 +8,9 @@ use Rattle.janus_syntax.specs.declared.operator.Infix.{Infix}
 use Rattle.janus_syntax.specs.Tokens.{Token, Name, Number, Sign_of, Word_of}
 use Rattle.janus_syntax.specs.Tree.{Exp, Stm, Declaration}
 use Rattle.janus_syntax.specs.Operators.{joined, operator_at}
-use Rattle.janus_syntax.specs.Forms.{Part, A_cell, Declarations, Bound, Body, Statements, Else_part, Do_part, Loop_part, Local, Target_index, Whole, Level, Chain, Index, Tree, Form, done, part}
+use Rattle.janus_syntax.specs.Forms.{Part, A_cell, Declarations, Bound, Body, Statements, Else_part, Do_part, Loop_part, Local, Names, More_names, Target_index, Whole, Level, Chain, Index, Tree, Form, done, part}
 use Rattle.janus_syntax.specs.Table.{rule, left_out, counts, chain_rule, statement, declaration}
-use Rattle.janus_syntax.proofs.Follow.{is_word, no_index, weaker_than, after_statement, after_body, after_declarations, may_follow}
+use Rattle.janus_syntax.proofs.Follow.{is_word, is_sign, no_index, weaker_than, after_statement, after_body, after_declarations, may_follow}
 
 no_statement : {p : Part} → (t : Token) (k : Stm → Form p) → after_body t ≡ true → statement t k ≡ None
 no_statement (Word_of word.If at) k e = absurd cc
@@ -19,6 +19,8 @@ no_statement (Word_of word.Skip at) k e = absurd cc
 no_statement (Word_of word.Local at) k e = absurd cc
 no_statement (Word_of word.Push at) k e = absurd cc
 no_statement (Word_of word.Pop at) k e = absurd cc
+no_statement (Word_of word.Call at) k e = absurd cc
+no_statement (Word_of word.Uncall at) k e = absurd cc
 no_statement (Word_of _ at) k e = refl
 no_statement (Name x at) k e = absurd cc
 no_statement (Number n at) k e = refl
@@ -65,6 +67,19 @@ no_loop (Sign_of s at) e = refl
 no_loop (Name x at) e = refl
 no_loop (Number n at) e = refl
 
+no_names : (t : Token) → is_sign sign.Close t ≡ true → rule Names t ≡ None
+no_names (Name x at) e = absurd cc
+no_names (Word_of w at) e = refl
+no_names (Sign_of s at) e = refl
+no_names (Number n at) e = refl
+
+no_more_names : (t : Token) → is_sign sign.Close t ≡ true → rule More_names t ≡ None
+no_more_names (Word_of w at) e = refl
+no_more_names (Name x at) e = refl
+no_more_names (Number n at) e = refl
+no_more_names (Sign_of sign.Comma at) e = absurd cc
+no_more_names (Sign_of _ at) e = refl
+
 pub no_target : (t : Token) → no_index t ≡ true → rule Target_index t ≡ None
 no_target (Sign_of sign.OpenIndex at) e = absurd cc
 no_target (Sign_of _ at) e = refl
@@ -96,6 +111,8 @@ no_rule Else_part t u e h = no_else t h
 no_rule Do_part t u e h = no_do t h
 no_rule Loop_part t u e h = no_loop t h
 no_rule Local t u e h = absurd cc
+no_rule Names t u e h = no_names t h
+no_rule More_names t u e h = no_more_names t h
 no_rule Target_index t u e h = no_target t h
 no_rule Whole t u e h = absurd cc
 no_rule (Level n) t u e h = absurd cc

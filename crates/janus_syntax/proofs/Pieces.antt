@@ -44,3 +44,7 @@ assigned_row x o z u a b l0 l1 l2 l3 l4 l5 l6 e1 e2 e3 e4 e5 e6 =
 pub local_row : (h a b g c : List Piece) (l0 l1 l2 l3 l4 l5 : Printed) → l1 ≡ with_pieces l0 h → l2 ≡ with_pieces l1 a → l3 ≡ with_pieces l2 b → l4 ≡ with_pieces l3 g → l5 ≡ with_pieces l4 c → l5 ≡ with_pieces l0 (h ++ (a ++ (b ++ (g ++ c))))
 local_row h a b g c l0 l1 l2 l3 l4 l5 e1 e2 e3 e4 e5 =
     behind h (a ++ (b ++ (g ++ c))) l0 l1 l5 e1 (behind a (b ++ (g ++ c)) l1 l2 l5 e2 (behind b (g ++ c) l2 l3 l5 e3 (behind g c l3 l4 l5 e4 e5)))
+
+-- a word, a name, and names in parentheses
+pub call_row : (v x o z : Piece) (a : List Piece) (l0 l1 l2 l3 l4 l5 : Printed) → l1 ≡ with_piece l0 v → l2 ≡ with_piece l1 x → l3 ≡ with_piece l2 o → l4 ≡ with_pieces l3 a → l5 ≡ with_piece l4 z → l5 ≡ with_pieces l0 (v ∷ x ∷ o ∷ (a ++ z ∷ []))
+call_row v x o z a l0 l1 l2 l3 l4 l5 e1 e2 e3 e4 e5 = piece_behind v (x ∷ o ∷ (a ++ z ∷ [])) l0 l1 l5 e1 (element_row x o z a l1 l2 l3 l4 l5 e2 e3 e4 e5)

@@ -27,6 +27,8 @@ pub data Part : Type 0 where
   Do_part : Part
   Loop_part : Part
   Local : Part  -- behind `local`
+  Names : Part  -- names parted by commas, or none
+  More_names : Part  -- behind a name: a comma and a name, or several
   Target_index : Part  -- behind the name that an assignment begins with
   Whole : Part  -- a whole expression
   Level : ℕ → Part  -- an expression with no operator of a weaker level outside parentheses; 0: an operand
@@ -44,6 +46,8 @@ Tree Else_part = Block
 Tree Do_part = Block
 Tree Loop_part = Block
 Tree Local = Stm
+Tree Names = List Named
+Tree More_names = List Named
 Tree Target_index = Option Exp
 Tree Whole = Exp
 Tree (Level n) = Exp

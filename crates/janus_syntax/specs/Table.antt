@@ -1,7 +1,7 @@
 -- The grammar's table: what each part is, by its first token, and which parts may be left out, as which tree.
 -- A rule is read aloud along its line: `if`, a whole expression e, `then`, a body s, the `else` part t, `fi`, a
 -- whole expression f: If e s t f.
-use Rattle.std.specs.Prelude.{ℕ, zero, suc, ◌-◌, [], ◌∷◌, Option, Some, None, true, false, cond, nat_eq}
+use Rattle.std.specs.Prelude.{ℕ, zero, suc, ◌-◌, List, [], ◌∷◌, Option, Some, None, true, false, cond, nat_eq}
 use Rattle.janus_syntax.specs.declared.token.Span.{Span}
 use Rattle.janus_syntax.specs.declared.token.Sign.{Sign}
 use Rattle.janus_syntax.specs.declared.token.Sign.TheVariants as sign
@@ -14,9 +14,9 @@ use Rattle.janus_syntax.specs.declared.tree.Kind.TheVariants as kind
 use Rattle.janus_syntax.specs.declared.fault.What.{What}
 use Rattle.janus_syntax.specs.declared.fault.What.TheVariants as what
 use Rattle.janus_syntax.specs.Tokens.{Token, Name, Number, Sign_of, Word_of}
-use Rattle.janus_syntax.specs.Tree.{Name as Named, named, Exp, Num, Var, Element, EmptyOf, TopOf, Neg, Stm, Skip, Assign, AssignElement, Push, Pop, If, Loop, LocalInt, LocalStack, Block, Empty, More, Declaration, Int, Array, StackOf, Cell, cell_of}
+use Rattle.janus_syntax.specs.Tree.{Name as Named, named, Exp, Num, Var, Element, EmptyOf, TopOf, Neg, Stm, Skip, Assign, AssignElement, Push, Pop, If, Loop, LocalInt, LocalStack, Call, Uncall, Block, Empty, More, Declaration, Int, Array, StackOf, Cell, cell_of}
 use Rattle.janus_syntax.specs.Operators.{weakest, joined, operator_at}
-use Rattle.janus_syntax.specs.Forms.{Part, A_cell, Declarations, Bound, Body, Statements, Else_part, Do_part, Loop_part, Local, Target_index, Whole, Level, Chain, Index, Tree, The_word, The_sign, A_name, A_number, An_update, Same_kind, Same_name, Form, done, take, part, close, Rule}
+use Rattle.janus_syntax.specs.Forms.{Part, A_cell, Declarations, Bound, Body, Statements, Else_part, Do_part, Loop_part, Local, Names, More_names, Target_index, Whole, Level, Chain, Index, Tree, The_word, The_sign, A_name, A_number, An_update, Same_kind, Same_name, Form, done, take, part, close, Rule}
 
 -- rules with and without marks
 abbrev pub marked : {p : Part} → ℕ → ℕ → Form p → Option (Rule p)
@@ -60,6 +60,10 @@ local_int k = take A_name (λ x. sign_then sign.Equals (part Whole (λ e. part B
 
 abbrev pub local_stack : {p : Part} → (Stm → Form p) → Form p
 local_stack k = take A_name (λ x. sign_then sign.Equals (word_then word.Nil (part Body (λ s. delocal_then kind.Stack x (λ y. word_then word.Nil (k (LocalStack x s y)))))))
+
+-- a name, and behind it names in parentheses
+abbrev pub call_then : {p : Part} → (Named → List Named → Form p) → Form p
+call_then k = take A_name (λ f. sign_then sign.Open (part Names (λ xs. sign_then sign.Close (k f xs))))
 
 -- trees of optional parts
 
@@ -107,6 +111,8 @@ statement (Name x at) k = begins (part Target_index (λ i. take An_update (λ u.
 statement (Word_of word.If _) k = opens (part Whole (λ e. word_then word.Then (part Body (λ s. part Else_part (λ t. word_then word.Fi (part Whole (λ f. close (k (If e s t f)))))))))
 statement (Word_of word.From _) k = opens (part Whole (λ e. part Do_part (λ s. part Loop_part (λ t. word_then word.Until (part Whole (λ f. close (k (Loop e s t f))))))))
 statement (Word_of word.Local _) k = opens (part Local (λ s. close (k s)))
+statement (Word_of word.Call _) k = begins (call_then (λ f xs. k (Call f xs)))
+statement (Word_of word.Uncall _) k = begins (call_then (λ f xs. k (Uncall f xs)))
 statement (Word_of word.Skip _) k = begins (k Skip)
 statement (Word_of word.Push _) k = begins (variable_and_stack_then (λ x s. k (Push x s)))
 statement (Word_of word.Pop _) k = begins (variable_and_stack_then (λ x s. k (Pop x s)))
@@ -134,6 +140,10 @@ rule Loop_part _ = None
 rule Local (Word_of word.Int _) = begins (local_int done)
 rule Local (Word_of word.Stack _) = begins (local_stack done)
 rule Local _ = None
+rule Names (Name x at) = begins (part More_names (λ xs. done (named x at ∷ xs)))
+rule Names _ = None
+rule More_names (Sign_of sign.Comma _) = begins (take A_name (λ x. part More_names (λ xs. done (x ∷ xs))))
+rule More_names _ = None
 rule Target_index (Sign_of sign.OpenIndex _) = opens (part Whole (λ e. sign_then sign.CloseIndex (close (done (Some e)))))
 rule Target_index _ = None
 rule Whole t = whole (operand t (λ e. chains 0 weakest e done))
@@ -153,6 +163,8 @@ left_out Else_part = Some skip_block
 left_out Do_part = Some skip_block
 left_out Loop_part = Some skip_block
 left_out Local = None
+left_out Names = Some []
+left_out More_names = Some []
 left_out Target_index = Some None
 left_out Whole = None
 left_out (Level n) = None

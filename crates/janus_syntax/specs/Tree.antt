@@ -40,6 +40,8 @@ mutual
     Loop : Exp → Block → Block → Exp → Stm
     LocalInt : Name → Exp → Block → Name → Exp → Stm
     LocalStack : Name → Block → Name → Stm
+    Call : Name → List Name → Stm
+    Uncall : Name → List Name → Stm
 
   pub data Block : Type 0 where
     Empty : Block
@@ -58,6 +60,9 @@ pub data Cell : Type 0 where
 
 abbrev pub name_view : code_name.Name → Name
 name_view x = named (string_bytes x.text) x.span
+
+abbrev pub names_view : List code_name.Name → List Name
+names_view xs = map name_view xs
 
 abbrev pub exp_view : code_exp.Exp → Exp
 exp_view (exps.Number n at) = Num n at
@@ -81,6 +86,8 @@ abbrev mutual
   stm_view (stms.Loop' e s ss t ts f) = Loop (exp_view e) (row_view ss) (row_view ts) (exp_view f)
   stm_view (stms.LocalInt' x e s ss y f) = LocalInt (name_view x) (exp_view e) (row_view ss) (name_view y) (exp_view f)
   stm_view (stms.LocalStack' x s ss y) = LocalStack (name_view x) (row_view ss) (name_view y)
+  stm_view (stms.Call f xs) = Call (name_view f) (names_view xs.items)
+  stm_view (stms.Uncall f xs) = Uncall (name_view f) (names_view xs.items)
 
   -- the statements of a Vec inside a statement
   pub row_view : {m : _} → code_stm.Row_of-Stm m → Block

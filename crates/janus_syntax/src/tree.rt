@@ -138,6 +138,10 @@ pub enum Stm {
     LocalInt(Name, Exp, Vec<Stm>, Name, Exp),
     /// A local stack, empty at both ends: its name, the statements in which it stands, and the same name behind `delocal`.
     LocalStack(Name, Vec<Stm>, Name),
+    /// A call: the procedure's name, and the arguments.
+    Call(Name, Vec<Name>),
+    /// A call of the inverse: the procedure's name, and the arguments.
+    Uncall(Name, Vec<Name>),
 }
 
 /// What a cell declares.

@@ -1,5 +1,5 @@
 //! Texts, their trees, and the trees as they are printed.
-use janus_syntax::tree::{Declaration, Exp, Operator, Stm, Update};
+use janus_syntax::tree::{Declaration, Exp, Name, Operator, Stm, Update};
 use janus_syntax::{SyntaxFault, parse_cell, parse_exp, print_cell, print_exp};
 use std::alloc::{AllocError, Global};
 use std::test::Fail;
@@ -122,7 +122,27 @@ fn shown_stm(alloc: Global, statement: &Stm) -> Result<String, AllocError> {
             let (name, again) = (&name.text, &again.text);
             format!(in alloc; "local {name} {{{body}}} {again};")
         }
+        Stm::Call(name, arguments) => {
+            let names = shown_names(alloc, arguments)?;
+            let name = &name.text;
+            format!(in alloc; "call {name}{names};")
+        }
+        Stm::Uncall(name, arguments) => {
+            let names = shown_names(alloc, arguments)?;
+            let name = &name.text;
+            format!(in alloc; "uncall {name}{names};")
+        }
     }
+}
+
+/// The names, each behind a space.
+fn shown_names(alloc: Global, names: &[Name]) -> Result<String, AllocError> {
+    let mut out = String::new(alloc);
+    for name in names {
+        out.push(' ')?;
+        out.push_str(&name.text)?;
+    }
+    Ok(out)
 }
 
 /// The statements of a block.
@@ -160,7 +180,7 @@ fn shown(alloc: Global, text: &str) -> Result<String, SyntaxFault> {
 }
 
 /// Texts of cells, their trees, and how these are printed.
-const CELLS: [(&str, &str, &str); 15] = [
+const CELLS: [(&str, &str, &str); 16] = [
     ("", "", ""),
     (" // nothing\n//", "", ""),
     (
@@ -222,6 +242,11 @@ const CELLS: [(&str, &str, &str); 15] = [
         "local stack s=nil local int t=3 push(t,s)pop(t,s)delocal int t=3 delocal stack s=nil",
         "local s {local t 3 {push t s;pop t s;} t 3;} s;",
         "local stack s = nil local int t = 3 push(t, s) pop(t, s) delocal int t = 3 delocal stack s = nil",
+    ),
+    (
+        "call p()uncall p ( x )call q(x,y,z)",
+        "call p;uncall p x;call q x y z;",
+        "call p() uncall p(x) call q(x, y, z)",
     ),
     (
         "x += 1 // + 2\n- 3 // é €\r\n",
