@@ -11,7 +11,7 @@ use Rattle.janus_syntax.specs.declared.token.Word.TheVariants as word
 use Rattle.janus_syntax.specs.declared.tree.Update.{Update}
 use Rattle.janus_syntax.specs.declared.tree.Update.TheVariants as update
 use Rattle.janus_syntax.specs.Spelling.{sign_text, word_text}
-use Rattle.janus_syntax.specs.Tree.{Name, named, Exp, Num, Var, Element, EmptyOf, TopOf, Neg, Bin, And, Or, Stm, Skip, Assign, AssignElement, Push, Pop, If, Loop, LocalInt, LocalStack, Call, Uncall, Block, Empty, More, Declaration, Int, Array, StackOf, Cell, cell_of}
+use Rattle.janus_syntax.specs.Tree.{Name, named, Exp, Num, Var, Element, EmptyOf, TopOf, Neg, Bin, And, Or, Stm, Skip, Assign, AssignElement, Push, Pop, If, Loop, LocalInt, LocalStack, Call, Uncall, Block, Empty, More, Declaration, Int, Array, StackOf, Parameter, IntParameter, ArrayParameter, StackParameter, Procedure, procedure_of, Cell, cell_of}
 use Rattle.janus_syntax.specs.Operators.{sign_infix, weakest}
 
 -- a token as it is printed, with no place
@@ -172,14 +172,38 @@ abbrev pub declarations_pieces : List Declaration → List Piece
 declarations_pieces [] = []
 declarations_pieces (d ∷ ds) = declaration_pieces d ++ declarations_pieces ds
 
+-- parameters parted by commas
+abbrev pub parameter_pieces : Parameter → List Piece
+parameter_pieces (IntParameter (named x place)) = A_word word.Int ∷ A_name x ∷ []
+parameter_pieces (ArrayParameter (named x place)) = A_word word.Int ∷ A_name x ∷ A_sign sign.OpenIndex ∷ A_sign sign.CloseIndex ∷ []
+parameter_pieces (StackParameter (named x place)) = A_word word.Stack ∷ A_name x ∷ []
+
+abbrev pub more_parameters_pieces : List Parameter → List Piece
+more_parameters_pieces [] = []
+more_parameters_pieces (x ∷ xs) = A_sign sign.Comma ∷ (parameter_pieces x ++ more_parameters_pieces xs)
+
+abbrev pub parameters_pieces : List Parameter → List Piece
+parameters_pieces [] = []
+parameters_pieces (x ∷ xs) = parameter_pieces x ++ more_parameters_pieces xs
+
+abbrev pub procedure_pieces : Procedure → List Piece
+procedure_pieces (procedure_of (named f place) xs b) = A_word word.Procedure ∷ A_name f ∷ An_opening ∷ (parameters_pieces xs ++ A_sign sign.Close ∷ block_pieces b)
+
+abbrev pub procedures_pieces : List Procedure → List Piece
+procedures_pieces [] = []
+procedures_pieces (p ∷ ps) = procedure_pieces p ++ procedures_pieces ps
+
 abbrev pub cell_pieces : Cell → List Piece
-cell_pieces (cell_of ds b) = declarations_pieces ds ++ block_pieces b
+cell_pieces (cell_of ds b ps) = declarations_pieces ds ++ (block_pieces b ++ procedures_pieces ps)
 
 abbrev pub no_text : Printed
 no_text = record { text = []; tight = true }
 
 abbrev pub printed_exp : Exp → List ℕ
 printed_exp e = (with_pieces no_text (exp_pieces e weakest)).text
+
+abbrev pub printed_procedure : Procedure → List ℕ
+printed_procedure p = (with_pieces no_text (procedure_pieces p)).text
 
 abbrev pub printed : Cell → List ℕ
 printed c = (with_pieces no_text (cell_pieces c)).text

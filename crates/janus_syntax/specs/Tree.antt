@@ -10,6 +10,9 @@ use Rattle.janus_syntax.specs.declared.tree.Stm as code_stm
 use Rattle.janus_syntax.specs.declared.tree.Stm.TheVariants as stms
 use Rattle.janus_syntax.specs.declared.tree.Declaration as code_declaration
 use Rattle.janus_syntax.specs.declared.tree.Declaration.TheVariants as declarations
+use Rattle.janus_syntax.specs.declared.tree.Parameter as code_parameter
+use Rattle.janus_syntax.specs.declared.tree.Parameter.TheVariants as parameters
+use Rattle.janus_syntax.specs.declared.tree.Procedure as code_procedure
 use Rattle.janus_syntax.specs.declared.tree.Cell as code_cell
 
 -- a name is its octets, and the place where they stand
@@ -52,9 +55,18 @@ pub data Declaration : Type 0 where
   Array : Name → ℕ → Span → Declaration
   StackOf : Name → Declaration
 
--- a cell: the declarations, and the statements
+pub data Parameter : Type 0 where
+  IntParameter : Name → Parameter
+  ArrayParameter : Name → Parameter
+  StackParameter : Name → Parameter
+
+-- the name, the parameters, and the body
+pub data Procedure : Type 0 where
+  procedure_of : Name → List Parameter → Block → Procedure
+
+-- a cell: the declarations, the statements, and the procedures
 pub data Cell : Type 0 where
-  cell_of : List Declaration → Block → Cell
+  cell_of : List Declaration → Block → List Procedure → Cell
 
 -- how the code's values are seen
 
@@ -106,5 +118,19 @@ declaration_view (declarations.Stack x) = StackOf (name_view x)
 abbrev pub declarations_view : List code_declaration.Declaration → List Declaration
 declarations_view ds = map declaration_view ds
 
+abbrev pub parameter_view : code_parameter.Parameter → Parameter
+parameter_view (parameters.Int x) = IntParameter (name_view x)
+parameter_view (parameters.Array x) = ArrayParameter (name_view x)
+parameter_view (parameters.Stack x) = StackParameter (name_view x)
+
+abbrev pub parameters_view : List code_parameter.Parameter → List Parameter
+parameters_view xs = map parameter_view xs
+
+abbrev pub procedure_view : code_procedure.Procedure → Procedure
+procedure_view p = procedure_of (name_view p.name) (parameters_view p.parameters.items) (block_view p.body.items)
+
+abbrev pub procedures_view : List code_procedure.Procedure → List Procedure
+procedures_view ps = map procedure_view ps
+
 abbrev pub cell_view : code_cell.Cell → Cell
-cell_view c = cell_of (declarations_view c.declarations.items) (block_view c.statements.items)
+cell_view c = cell_of (declarations_view c.declarations.items) (block_view c.statements.items) (procedures_view c.procedures.items)

@@ -42,7 +42,7 @@ fn names(alloc: Global, tokens: &[Token]) -> Result<(Vec<Name>, &[Token]), Probl
 }
 
 /// The name at the front and the tokens behind it, if one stands there; the only error is want of memory.
-fn name_at(tokens: &[Token]) -> Result<Option<(Name, &[Token])>, AllocError>
+pub(crate) fn name_at(tokens: &[Token]) -> Result<Option<(Name, &[Token])>, AllocError>
     ensures { IfOk result (IsNameOrOther (views tokens.now)) }
 {
     let Some((first, rest)) = tokens.split_first() else {

@@ -1,13 +1,13 @@
 //! From a tree to its text.
 
 ghost use Rattle.std.specs.Prelude.{◌≡◌, IfOk, string_bytes, [], ◌∷◌};
-ghost use Rattle.janus_syntax.specs.Tree.{names_view, exp_view, stm_view, block_view, declaration_view, declarations_view, cell_view};
+ghost use Rattle.janus_syntax.specs.Tree.{names_view, exp_view, stm_view, block_view, declaration_view, declarations_view, parameter_view, parameters_view, procedure_view, procedures_view, cell_view};
 ghost use Rattle.janus_syntax.specs.Printed.{line_view};
-ghost use Rattle.janus_syntax.specs.Printing.{A_name, A_number, A_sign, A_word, An_opening, read_pieces, transfer_pieces, binding_pieces, more_names_pieces, names_pieces, call_pieces, with_text, with_piece, with_pieces, if_needed, operator_sign, sign_level, exp_pieces, update_sign, whole_pieces, stm_pieces, block_pieces, declaration_pieces, declarations_pieces, printed, printed_exp};
+ghost use Rattle.janus_syntax.specs.Printing.{A_name, A_number, A_sign, A_word, An_opening, read_pieces, transfer_pieces, binding_pieces, more_names_pieces, names_pieces, call_pieces, with_text, with_piece, with_pieces, if_needed, operator_sign, sign_level, exp_pieces, update_sign, whole_pieces, stm_pieces, block_pieces, declaration_pieces, declarations_pieces, parameter_pieces, more_parameters_pieces, parameters_pieces, procedure_pieces, procedures_pieces, printed, printed_procedure, printed_exp};
 
 use crate::operator::infix_of;
 use crate::token::{Sign, Word};
-use crate::tree::{Cell, Declaration, Exp, Name, Operator, Stm, Update};
+use crate::tree::{Cell, Declaration, Exp, Name, Operator, Parameter, Procedure, Stm, Update};
 use std::alloc::{AllocError, Global};
 
 /// A line as far as it is printed.
@@ -381,6 +381,90 @@ fn put_declarations(
     Ok(())
 }
 
+/// A parameter.
+fn put_parameter(line: &mut Line, parameter: &Parameter) -> Result<(), AllocError>
+    ensures { IfOk result (λ u. line_view line.new ≡ with_pieces (line_view line.old) (parameter_pieces (parameter_view parameter.now))) }
+{
+    match parameter {
+        Parameter::Int(name) => {
+            put_word(line, Word::Int)?;
+            put_name(line, name)
+        }
+        Parameter::Array(name) => {
+            put_word(line, Word::Int)?;
+            put_name(line, name)?;
+            put_sign(line, Sign::OpenIndex)?;
+            put_sign(line, Sign::CloseIndex)
+        }
+        Parameter::Stack(name) => {
+            put_word(line, Word::Stack)?;
+            put_name(line, name)
+        }
+    }
+}
+
+/// A comma and a parameter, for each of the parameters.
+fn put_more_parameters(line: &mut Line, parameters: &[Parameter]) -> Result<(), AllocError>
+    ensures { IfOk result (λ u. line_view line.new ≡ with_pieces (line_view line.old) (more_parameters_pieces (parameters_view parameters.now))) }
+{
+    for i in 0..parameters.len() {
+        put_sign(line, Sign::Comma)?;
+        put_parameter(line, &parameters[i])?;
+    }
+    Ok(())
+}
+
+/// Parameters, parted by commas.
+fn put_parameters(line: &mut Line, parameters: &[Parameter]) -> Result<(), AllocError>
+    ensures { IfOk result (λ u. line_view line.new ≡ with_pieces (line_view line.old) (parameters_pieces (parameters_view parameters.now))) }
+{
+    let Some((first, rest)) = parameters.split_first() else {
+        return Ok(());
+    };
+    put_parameter(line, first)?;
+    put_more_parameters(line, rest)?;
+    Ok(())
+}
+
+/// A procedure.
+fn put_procedure(alloc: Global, line: &mut Line, procedure: &Procedure) -> Result<(), AllocError>
+    ensures { IfOk result (λ u. line_view line.new ≡ with_pieces (line_view line.old) (procedure_pieces (procedure_view procedure.now))) }
+{
+    put_word(line, Word::Procedure)?;
+    put_name(line, &procedure.name)?;
+    put_opening(line)?;
+    put_parameters(line, &procedure.parameters)?;
+    put_sign(line, Sign::Close)?;
+    put_block(alloc, line, &procedure.body)?;
+    Ok(())
+}
+
+/// All procedures.
+fn put_procedures(
+    alloc: Global,
+    line: &mut Line,
+    procedures: &[Procedure],
+) -> Result<(), AllocError>
+    ensures { IfOk result (λ u. line_view line.new ≡ with_pieces (line_view line.old) (procedures_pieces (procedures_view procedures.now))) }
+{
+    for i in 0..procedures.len() {
+        put_procedure(alloc, line, &procedures[i])?;
+    }
+    Ok(())
+}
+
+/// The procedure as it is printed, as in the print of a cell; an error for want of memory.
+pub fn print_procedure(alloc: Global, procedure: &Procedure) -> Result<String, AllocError>
+    ensures { IfOk result (λ text. string_bytes text ≡ printed_procedure (procedure_view procedure.now)) }
+{
+    let mut line = Line {
+        text: String::new(alloc),
+        tight: true,
+    };
+    put_procedure(alloc, &mut line, procedure)?;
+    Ok(line.text)
+}
+
 /// The cell as it is printed: one line, all parts told, with parentheses only where precedence needs them; an error for want
 /// of memory.
 pub fn print_cell(alloc: Global, cell: &Cell) -> Result<String, AllocError>
@@ -392,6 +476,7 @@ pub fn print_cell(alloc: Global, cell: &Cell) -> Result<String, AllocError>
     };
     put_declarations(alloc, &mut line, &cell.declarations)?;
     put_block(alloc, &mut line, &cell.statements)?;
+    put_procedures(alloc, &mut line, &cell.procedures)?;
     Ok(line.text)
 }
 

@@ -211,7 +211,11 @@ fn optional_body(
 
 /// One statement or more, and the tokens behind them.
 #[cycle(statement)]
-fn body(alloc: Global, tokens: &[Token], depth: usize) -> Result<(Vec<Stm>, &[Token]), Problem>
+pub(crate) fn body(
+    alloc: Global,
+    tokens: &[Token],
+    depth: usize,
+) -> Result<(Vec<Stm>, &[Token]), Problem>
     requires { depth ≤ depth_limit }
     ensures { Reads (λ x. IsPart Body depth (block_view x.0.items) (views tokens.now) (views x.1.now)) (FailsPart Body depth (views tokens.now)) result }
 {
