@@ -1,5 +1,5 @@
 //! Texts, their trees, and the trees as they are printed.
-use janus_syntax::tree::{Declaration, Exp, Name, Operator, Stm, Update};
+use janus_syntax::tree::{Declaration, Exp, Name, Operator, Parameter, Procedure, Stm, Update};
 use janus_syntax::{SyntaxFault, parse_cell, parse_exp, print_cell, print_exp};
 use std::alloc::{AllocError, Global};
 use std::test::Fail;
@@ -176,11 +176,39 @@ fn shown(alloc: Global, text: &str) -> Result<String, SyntaxFault> {
         })?;
     }
     out.push_str(&shown_block(alloc, &cell.statements)?)?;
+    for i in 0..cell.procedures.len() {
+        out.push_str(&shown_procedure(alloc, &cell.procedures[i])?)?;
+    }
+    Ok(out)
+}
+
+/// A procedure: its name, its parameters and its body.
+fn shown_procedure(alloc: Global, procedure: &Procedure) -> Result<String, AllocError> {
+    let name = &procedure.name.text;
+    let mut out = format!(in alloc; "procedure {name}")?;
+    for parameter in &procedure.parameters {
+        out.push_str(&match parameter {
+            Parameter::Int(name) => {
+                let name = &name.text;
+                format!(in alloc; " int {name}")?
+            }
+            Parameter::Array(name) => {
+                let name = &name.text;
+                format!(in alloc; " array {name}")?
+            }
+            Parameter::Stack(name) => {
+                let name = &name.text;
+                format!(in alloc; " stack {name}")?
+            }
+        })?;
+    }
+    let body = shown_block(alloc, &procedure.body)?;
+    out.push_str(&format!(in alloc; " {{{body}}};")?)?;
     Ok(out)
 }
 
 /// Texts of cells, their trees, and how these are printed.
-const CELLS: [(&str, &str, &str); 16] = [
+const CELLS: [(&str, &str, &str); 18] = [
     ("", "", ""),
     (" // nothing\n//", "", ""),
     (
@@ -247,6 +275,16 @@ const CELLS: [(&str, &str, &str); 16] = [
         "call p()uncall p ( x )call q(x,y,z)",
         "call p;uncall p x;call q x y z;",
         "call p() uncall p(x) call q(x, y, z)",
+    ),
+    (
+        "int x skip procedure p()skip x+=1 procedure q ( int a[ ] , stack s,int y)call p()",
+        "int x;skip;procedure p {skip;x += 1;};procedure q array a stack s int y {call p;};",
+        "int x skip procedure p() skip x += 1 procedure q(int a[], stack s, int y) call p()",
+    ),
+    (
+        "procedure p(int x)x+=1 procedure main()int y call p(y) procedure q()skip",
+        "int y;call p y;procedure p int x {x += 1;};procedure q {skip;};",
+        "int y call p(y) procedure p(int x) x += 1 procedure q() skip",
     ),
     (
         "x += 1 // + 2\n- 3 // é €\r\n",
