@@ -1,5 +1,5 @@
 //! What lies under the lock.
-ghost use Rattle.std.specs.Prelude.{◌≡◌, ◌+◌, ◌-◌, ◌^◌, ◌<◌, ◌≤◌, [], IfOk, IfErr, OnErr, IfSome, suc, length, true};
+ghost use Rattle.std.specs.Prelude.{◌≡◌, ◌+◌, ◌-◌, ◌^◌, ◌<◌, ◌≤◌, ◌↔◌, IsTrue, [], IfOk, IfErr, OnErr, IfSome, suc, length, true};
 ghost use Rattle.kernel_core.specs.Request.{request_of};
 ghost use Rattle.kernel_core.specs.Minutes.{posted_in};
 ghost use Rattle.kernel_core.specs.LegalMinutes.{IsLegalMachine};
@@ -137,7 +137,7 @@ impl<W: Ledger, L: Ledger> State<W, L> {
 
     /// Whether there are at least so many minutes.
     pub(crate) fn has_seen(&self, posts: u64) -> bool
-        ensures { result ≡ true → posts ≤ length self.now.kernel.machine.minutes }
+        ensures { IsTrue result ↔ (posts ≤ length self.now.kernel.machine.minutes) }
     {
         posts <= self.kernel.minutes().len() as u64
     }

@@ -1,4 +1,5 @@
--- What goes on between one connection and its desk: the octets that go out and the calls that are made, in one order.
+-- What goes on between one connection and its desk: the octets that go out and the calls that are made, in one list: a contract binds the order
+-- of the octets, that of the calls, and through a write that fails how they follow each other.
 use Rattle.std.specs.Prelude.{◌≡◌, ℕ, List, [], ◌∷◌, ◌++◌, map, Option}
 use Rattle.std.specs.Io.KnownBytes.{Appends}
 use Rattle.kernel_session.specs.Call.{Call, Leads}

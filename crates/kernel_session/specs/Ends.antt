@@ -111,7 +111,7 @@ module _ {W D : Type 0} (contents : W → Option (List ℕ)) (leads : D → Call
     abbrev pub Reading : (List Event → Ending → Type 0) → List ℕ → Type 0
     Reading P input = (events : List Event) × (ending : Ending) × PeerReads (role_of socket) input events ending × P events ending
 
-    -- HOW A CONNECTION ENDS, by its answer, for the octets that it read. Where memory ran out for what was read last, that is left out.
+    -- HOW A CONNECTION ENDS, by its answer, for the octets that it read. Where memory ran out, for some beginning of them.
     abbrev pub ends_by : Result (Unit {0}) ServeFault → List ℕ → Option (List ℕ) → Type 0
     ends_by (Ok done) input left =
         Reading (λ events ending. ((ending ≡ Awaiting) × comes_to_end events × IsAtEnd left) ⊎ comes_to Closed events) input

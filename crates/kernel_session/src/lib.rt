@@ -2,10 +2,12 @@
 //! the connection, and what goes out and what is asked of that kernel is the session of what came in.
 //!
 //! [`serve`] is the connection, over any reader, any writer and any [`Desk`], which is the kernel as a connection sees it. To the layer
-//! above it promises (specs/Ends.antt, by its answer) that the octets written and the calls made of the desk, in their one order, are the
-//! opening of the socket's role and then the session of the events that the octets read tell; that they are a beginning of that after a
-//! write fault and after want of memory; and on iopub that at the end of the input the broadcasts that the desk keeps go out, as far as the
-//! peer has subscribed to them. A message that is refused brings nothing, and the connection goes on; a fault of the peer ends it without
+//! above it promises (specs/Ends.antt, by its answer) that the octets written, and the calls made of the desk, are those of the opening of
+//! the socket's role and then of the session of the events that the octets read tell, each in their order; that they are a beginning of that
+//! after a write fault, which also binds how octets and calls follow each other, and after want of memory a beginning of the session of
+//! some beginning of the input; and on iopub that at the end of the input the broadcasts that the desk keeps go out, as far as the
+//! peer has subscribed to them: where a write fails or memory is wanting among these, those that went out were wanted at the end of some
+//! beginning of the input. A message that is refused brings nothing, and the connection goes on; a fault of the peer ends it without
 //! a word; a shutdown ends it once it is answered.
 //!
 //! The session is defined event by event (specs/: `Question`, `Call`, `Action`, `Talk`, `Session`, `Closing`, `Ends`, in this order). Its
@@ -14,7 +16,7 @@
 //! brings, `IsSession` what the events bring one after the other. A desk's own relation `leads` says what it may answer, so the session
 //! of one desk is had by its relation.
 //!
-//! No contract can say that a stream failed: that `Read` and `Write` come only where one did is tested, not proved.
+//! No contract says when `serve` reads: that it answers each request before it reads the next is neither proved nor tested. No contract can say that a stream failed: that `Read` and `Write` come only where one did is tested, not proved.
 #![tactic(auto)]
 
 mod connection;

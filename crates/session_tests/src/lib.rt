@@ -1,6 +1,6 @@
 //! Tests of whole connections over memory, octet for octet and in pieces of any size, and of streams that fail.
 //!
-//! Contracts say that what goes out is the session of what came in. These rows show that the session means what it is to mean, by octets
+//! Contracts say that what goes out is the session of what came in. These tests show that the session means what it is to mean, by octets
 //! that were worked out by hand, and that `Read` and `Write` come only where a stream failed, which no contract can say.
 #![tactic(auto)]
 

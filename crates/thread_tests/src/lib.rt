@@ -1,5 +1,5 @@
-//! Tests of the crates that threads share: their worked rows, and runs on threads. The threads end by themselves, after bounded turns, and
-//! the tests hold whatever the schedule is.
+//! Tests of the crates that threads share: calls with answers worked out by hand, and runs of bell and board on threads. These threads end by
+//! themselves, after bounded turns, and the tests hold under any schedule in which nobody waits for so many turns.
 #![tactic(auto)]
 
 #[cfg(test)]
