@@ -53,7 +53,7 @@ pub record Audited (entries : List Entry) (passes : List PassOf) (tickets : List
   pub true_tickets : AreTrue entries tickets
   pub ended : All (HasEnd entries) dones
 
--- the posts do not add up; or something that was told for this number is not so
+-- the posts do not add up; or they do, and something that was told for this number is not so
 abbrev pub IsAuditFault : List Entry → List PassOf → List Ticket → List Done → AuditFault → Type 0
 IsAuditFault entries passes tickets dones PassMissing = AddsUp entries passes → ⊥
-IsAuditFault entries passes tickets dones (TicketUnknown n) = IsUntrue entries tickets n ⊎ IsNotEnded entries dones n
+IsAuditFault entries passes tickets dones (TicketUnknown n) = AddsUp entries passes × (IsUntrue entries tickets n ⊎ IsNotEnded entries dones n)
