@@ -13,4 +13,6 @@ mod desk;
 #[cfg(test)]
 mod hall;
 #[cfg(test)]
+mod posting;
+#[cfg(test)]
 mod working;
