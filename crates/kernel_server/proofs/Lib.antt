@@ -1,0 +1,3 @@
+pub mod Nearing
+pub mod Turns
+pub mod Ending

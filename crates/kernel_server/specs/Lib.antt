@@ -1,0 +1,3 @@
+pub mod Pace
+pub mod Jobs
+pub mod Lone
