@@ -110,6 +110,18 @@ fn shown_stm(alloc: Global, statement: &Stm) -> Result<String, AllocError> {
             let loop_part = shown_block(alloc, loop_part)?;
             format!(in alloc; "from {first} {{{do_part}}} {{{loop_part}}} {last};")
         }
+        Stm::LocalInt(name, first, body, again, last) => {
+            let first = shown_exp(alloc, first)?;
+            let last = shown_exp(alloc, last)?;
+            let body = shown_block(alloc, body)?;
+            let (name, again) = (&name.text, &again.text);
+            format!(in alloc; "local {name} {first} {{{body}}} {again} {last};")
+        }
+        Stm::LocalStack(name, body, again) => {
+            let body = shown_block(alloc, body)?;
+            let (name, again) = (&name.text, &again.text);
+            format!(in alloc; "local {name} {{{body}}} {again};")
+        }
     }
 }
 
@@ -148,7 +160,7 @@ fn shown(alloc: Global, text: &str) -> Result<String, SyntaxFault> {
 }
 
 /// Texts of cells, their trees, and how these are printed.
-const CELLS: [(&str, &str, &str); 13] = [
+const CELLS: [(&str, &str, &str); 15] = [
     ("", "", ""),
     (" // nothing\n//", "", ""),
     (
@@ -200,6 +212,16 @@ const CELLS: [(&str, &str, &str); 13] = [
         "if x then if y then skip else x+=1 fi y else from 1 do skip loop if 0 then x-=1 fi 0 until 1 fi 0 skip",
         "if x {if y {skip;} {x += 1;} y;} {from 1 {skip;} {if 0 {x -= 1;} {skip;} 0;} 1;} 0;skip;",
         "if x then if y then skip else x += 1 fi y else from 1 do skip loop if 0 then x -= 1 else skip fi 0 until 1 fi 0 skip",
+    ),
+    (
+        "local int t=x=1=2 x+=t skip delocal int t=-0 skip",
+        "local t (= (= x 1) 2) {x += t;skip;} t (neg 0);skip;",
+        "local int t = x = 1 = 2 x += t skip delocal int t = -0 skip",
+    ),
+    (
+        "local stack s=nil local int t=3 push(t,s)pop(t,s)delocal int t=3 delocal stack s=nil",
+        "local s {local t 3 {push t s;pop t s;} t 3;} s;",
+        "local stack s = nil local int t = 3 push(t, s) pop(t, s) delocal int t = 3 delocal stack s = nil",
     ),
     (
         "x += 1 // + 2\n- 3 // é €\r\n",

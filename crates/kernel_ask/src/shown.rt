@@ -92,6 +92,7 @@ fn cell_of(alloc: Global, code: &str) -> Result<Option<Cell>, AllocError>
         Err(SyntaxFault::Expected(_, _)) => Ok(None),
         Err(SyntaxFault::NumberTooLarge(_)) => Ok(None),
         Err(SyntaxFault::TooNested(_)) => Ok(None),
+        Err(SyntaxFault::DelocalName(_)) => Ok(None),
     }
 }
 

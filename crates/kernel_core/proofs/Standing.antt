@@ -18,7 +18,7 @@ use Rattle.kernel_core.specs.Slices.{cells, stepped, moved, grown, Arrives, Sett
 use Rattle.kernel_core.specs.Begins.{Declares}
 use Rattle.kernel_core.specs.Program.{cell_of_program, IsPlacedIn}
 use Rattle.kernel_core.specs.Runner.{world_of, Stands, IsInside}
-use Rattle.kernel_core.specs.Kept.{is_back, IsCellAt, ArePlacedNodes, IsProgramOf, StandsIn, StandsAt, Kept, IsKept, HasRoom, HasPath, HasPathFor}
+use Rattle.kernel_core.specs.Kept.{is_back, IsCellAt, NodesHaveNumbers, IsProgramOf, StandsIn, StandsAt, Kept, IsKept, HasRoom, HasPath, HasPathFor}
 use Rattle.kernel_core.specs.declared.runner.Runner.{Runner}
 use Rattle.kernel_core.specs.declared.program.Program.{Program}
 use Rattle.kernel_core.specs.declared.tree.Cell.{Cell}
@@ -51,7 +51,7 @@ kept_inside tree work count c turn to runner at k p = record {
   stands = p;
   room = k.room;
   path = k.path;
-  placed = k.placed;
+  numbered = k.numbered;
 }
 
 pub kept_idle : {L : Type 0} (tree : Tree) (job : Open) (runner at : Runner L) → Kept tree runner job → world_of at ≡ here (past_of tree) → Kept tree at Idle
@@ -62,16 +62,16 @@ kept_idle tree job runner at k e = record {
   stands = e;
   room = tt;
   path = tt;
-  placed = k.placed;
+  numbered = k.numbered;
 }
 
 -- ---- the places of names
 
 -- they stand in the nodes alone
-pub placed_nodes : (tree other : Tree) → other.cells.nodes ≡ tree.cells.nodes → ArePlacedNodes tree → ArePlacedNodes other
-placed_nodes tree other e h = subst (λ (nodes : List (Node Cell)). ArePlacedNodes (record other { cells = record other.cells { nodes = nodes } })) (sym e) h
+pub placed_nodes : (tree other : Tree) → other.cells.nodes ≡ tree.cells.nodes → NodesHaveNumbers tree → NodesHaveNumbers other
+placed_nodes tree other e h = subst (λ (nodes : List (Node Cell)). NodesHaveNumbers (record other { cells = record other.cells { nodes = nodes } })) (sym e) h
 
-placed_none : (tree : Tree) → past_of tree ≡ new_state.past → ArePlacedNodes tree
+placed_none : (tree : Tree) → past_of tree ≡ new_state.past → NodesHaveNumbers tree
 placed_none tree e = λ n cell at.
     absurd
     (let size = count_of_nodes tree in
@@ -81,8 +81,8 @@ placed_none tree e = λ n cell at.
     omega arith)
 
 placed_grown : (tree larger : Tree) (node : Node Cell) (w : World) → IsLegal (past_of tree) → larger.cells.nodes ≡ tree.cells.nodes ++ node ∷ [] →
-    past_of larger ≡ grown (past_of tree) (cell_of_program node.content.program) node.content.steps w → ArePlacedNodes tree → IsPlacedIn (here (past_of tree)) node.content.program → ArePlacedNodes larger
-placed_grown tree larger node w legal nodes past placed new = λ n cell at.
+    past_of larger ≡ grown (past_of tree) (cell_of_program node.content.program) node.content.steps w → NodesHaveNumbers tree → IsPlacedIn (here (past_of tree)) node.content.program → NodesHaveNumbers larger
+placed_grown tree larger node w legal nodes past numbered new = λ n cell at.
     let s : Past = past_of tree in
     let size = count_of_nodes tree in
     let some : 0 < n = at.0 in
@@ -97,7 +97,7 @@ placed_grown tree larger node w legal nodes past placed new = λ n cell at.
       | inr low ↦
           (let known : n < length (nodes_of tree) = omega arith in
           let above : world_at (past_of larger) (node_at (past_of larger) n).parent ≡ world_at (past_of tree) (node_at (past_of tree) n).parent = there ∙ world_above_kept (past_of tree) program node.content.steps w n legal some known in
-          subst (λ (v : World). IsPlacedIn v cell.program) (sym above) (placed n cell (cell_kept tree larger node n cell nodes at low)))
+          subst (λ (v : World). IsPlacedIn v cell.program) (sym above) (numbered n cell (cell_kept tree larger node n cell nodes at low)))
     ]
 
 -- ---- a new node
@@ -118,9 +118,9 @@ pub kept_grown : {L : Type 0} (tree larger : Tree) (program : ACell) (n : ℕ) (
     larger.cells.favourites ≡ set tree.cells.favourites tree.position (length (nodes_of tree)) ++ 0 ∷ [] →
     larger.position ≡ length (nodes_of tree) →
     IsLegal (past_of tree) → IsFormed program (here (past_of tree)) →
-    CodeExec (Forward program) (here (past_of tree)) n (world_of runner) → ArePlacedNodes larger →
+    CodeExec (Forward program) (here (past_of tree)) n (world_of runner) → NodesHaveNumbers larger →
     Kept larger runner Idle
-kept_grown tree larger program n runner nodes favourites position legal formed ran placed =
+kept_grown tree larger program n runner nodes favourites position legal formed ran numbered =
     let e = state_grown tree larger program n (world_of runner) nodes favourites position ran in
     let last : get_or (worlds_from [] (nodes_of tree) ++ world_of runner ∷ []) (length (nodes_of tree)) empty_world ≡ world_of runner =
     get_or_at (worlds_from [] (nodes_of tree)) (world_of runner) [] empty_world (length (nodes_of tree)) legal.worlds in
@@ -131,7 +131,7 @@ kept_grown tree larger program n runner nodes favourites position legal formed r
       counted = tt;
       room = tt;
       path = tt;
-      placed = placed;
+      numbered = numbered;
     }
 
 -- ---- a cell of a travel
@@ -150,11 +150,11 @@ border_job (Inside x) travel e = cc
 
 pub kept_arrived : {L : Type 0} (left : ℕ) (moved-to : Tree) (travel : Travel) (told : Sliced) (job : Open) (runner : Runner L) → left ≡ cells travel →
     IsLegal (past_of moved-to) → world_of runner ≡ here (past_of moved-to) → CanGo travel.aim (nodes_of moved-to) moved-to.cells.favourites moved-to.position travel.up travel.down → IsCounted travel →
-    HasPath travel.aim moved-to travel.down → ArePlacedNodes moved-to → Arrives left (past_of moved-to) travel told (state_of moved-to job) → Kept moved-to runner job
-kept_arrived zero tree travel told job runner size legal shown can small path placed a =
+    HasPath travel.aim moved-to travel.down → NodesHaveNumbers moved-to → Arrives left (past_of moved-to) travel told (state_of moved-to job) → Kept moved-to runner job
+kept_arrived zero tree travel told job runner size legal shown can small path numbered a =
     let e : job ≡ Idle = idle_job job (ap (λ (s : State). s.job) a.1) in
-    rw e (record { legal = legal; possible = tt; counted = tt; stands = shown; room = tt; path = tt; placed = placed })
-kept_arrived (suc left) tree travel told job runner size legal shown can small path placed a =
+    rw e (record { legal = legal; possible = tt; counted = tt; stands = shown; room = tt; path = tt; numbered = numbered })
+kept_arrived (suc left) tree travel told job runner size legal shown can small path numbered a =
     let at = border_job job _ (ap (λ (s : State). s.job) a.1) in
     let possible : IsPossible (nodes_of tree) tree.cells.favourites tree.position travel = record { some = omega arith; way_there = can } in
     rw at.1 (record {
@@ -164,7 +164,7 @@ kept_arrived (suc left) tree travel told job runner size legal shown can small p
       stands = shown;
       room = tt;
       path = subst (λ (x : Travel). HasPath x.aim tree x.down) (sym at.2) path;
-      placed = placed;
+      numbered = numbered;
     })
 
 -- a path is kept for a way that is one node shorter
@@ -179,10 +179,10 @@ path_of Redo tree other down e f h = tt
 path_of (Goto n) tree other down e f h = rw (e, f) h
 
 pub kept_up : {L : Type 0} (tree : Tree) (p : ℕ) (travel : Travel) (runner : Runner L) (told : Sliced) (job : Open) → next_way travel ≡ Up → IsLegal (past_of tree) →
-    IsPossible (nodes_of tree) tree.cells.favourites tree.position travel → IsCounted travel → HasPath travel.aim tree travel.down → ArePlacedNodes tree →
+    IsPossible (nodes_of tree) tree.cells.favourites tree.position travel → IsCounted travel → HasPath travel.aim tree travel.down → NodesHaveNumbers tree →
     p ≡ (node_at (past_of tree) tree.position).parent → world_of runner ≡ world_at (past_of tree) (node_at (past_of tree) tree.position).parent →
     Arrives (cells (stepped travel)) (past_of (record tree { position = p })) (stepped travel) told (state_of (record tree { position = p }) job) → Kept (record tree { position = p }) runner job
-kept_up tree p travel runner told job way legal possible small path placed to world a =
+kept_up tree p travel runner told job way legal possible small path numbered to world a =
     let can = up_possible (past_of tree) travel way possible in
     let some = possible.some in
     let first = small.0 in
@@ -190,15 +190,15 @@ kept_up tree p travel runner told job way legal possible small path placed to wo
     let on : Travel = record travel { up = travel.up - 1; went_up = travel.went_up + 1 } in
     let e : stepped travel ≡ on = rw (way, stepped) refl in
     kept_arrived (cells on) (record tree { position = p }) on told job runner refl (rw to (legal_up (past_of tree) legal)) (rw to world) (rw to can.1) (omega arith, small.1)
-    (path_of travel.aim tree (record tree { position = p }) travel.down refl refl path) (placed_nodes tree (record tree { position = p }) refl placed)
+    (path_of travel.aim tree (record tree { position = p }) travel.down refl refl path) (placed_nodes tree (record tree { position = p }) refl numbered)
     (subst (λ (t : Travel). Arrives (cells t) (past_of (record tree { position = p })) t told (state_of (record tree { position = p }) job)) e a)
 
 pub kept_down : {L : Type 0} (tree moved-to : Tree) (c : ℕ) (travel : Travel) (runner : Runner L) (told : Sliced) (job : Open) → next_way travel ≡ Down → IsLegal (past_of tree) →
-    IsPossible (nodes_of tree) tree.cells.favourites tree.position travel → IsCounted travel → HasPath travel.aim tree travel.down → ArePlacedNodes tree →
+    IsPossible (nodes_of tree) tree.cells.favourites tree.position travel → IsCounted travel → HasPath travel.aim tree travel.down → NodesHaveNumbers tree →
     c ≡ below (past_of tree) travel → moved-to.cells.nodes ≡ tree.cells.nodes → moved-to.cells.favourites ≡ set tree.cells.favourites tree.position c → moved-to.position ≡ c → moved-to.cells.way ≡ tree.cells.way →
     world_of runner ≡ world_at (past_of tree) (below (past_of tree) travel) →
     Arrives (cells (stepped travel)) (past_of moved-to) (stepped travel) told (state_of moved-to job) → Kept moved-to runner job
-kept_down tree moved-to c travel runner told job way legal possible small path placed to nodes favourites position kept-path world a =
+kept_down tree moved-to c travel runner told job way legal possible small path numbered to nodes favourites position kept-path world a =
     let next = next_below (past_of tree) travel legal way possible in
     let can = down_possible (past_of tree) travel legal way possible in
     let some = possible.some in
@@ -214,7 +214,7 @@ kept_down tree moved-to c travel runner told job way legal possible small path p
     (subst (λ (s : Past). world_of runner ≡ here s) (sym past) world)
     (subst (λ (s : Past). CanGo travel.aim s.nodes s.favourites s.position travel.up (travel.down - 1)) (sym past)
     (subst (λ (u : ℕ). CanGo travel.aim (nodes_of tree) (set tree.cells.favourites tree.position (below (past_of tree) travel)) (below (past_of tree) travel) u (travel.down - 1)) (sym none) can))
-    (small.0, omega arith) kept (placed_nodes tree moved-to nodes placed)
+    (small.0, omega arith) kept (placed_nodes tree moved-to nodes numbered)
     (subst (λ (t : Travel). Arrives (cells t) (past_of moved-to) t told (state_of moved-to job)) e a)
 
 -- the world at the end of an undone cell, and of a redone one
@@ -252,9 +252,9 @@ stands_with tree work count back runner p of h =
 
 -- a posted cell that ended becomes a node, whose code runs as it stands
 pub placed_more : {L : Type 0} (tree larger : Tree) (program : Program) (n : ℕ) (runner : Runner L) → Kept tree runner (Inside (record { work = RunCell program; count = n; turn = Going })) →
-    larger.cells.nodes ≡ tree.cells.nodes ++ record { parent = tree.position; content = record { program = program; steps = n } } ∷ [] → past_of larger ≡ grown (past_of tree) (cell_of_program program) n (world_of runner) → ArePlacedNodes larger
+    larger.cells.nodes ≡ tree.cells.nodes ++ record { parent = tree.position; content = record { program = program; steps = n } } ∷ [] → past_of larger ≡ grown (past_of tree) (cell_of_program program) n (world_of runner) → NodesHaveNumbers larger
 placed_more tree larger program n runner k nodes past =
-    placed_grown tree larger (record { parent = tree.position; content = record { program = program; steps = n } }) (world_of runner) k.legal nodes past k.placed (stands_with tree (RunCell program) n false runner program refl k.stands).placed
+    placed_grown tree larger (record { parent = tree.position; content = record { program = program; steps = n } }) (world_of runner) k.legal nodes past k.numbered (stands_with tree (RunCell program) n false runner program refl k.stands).numbered
 
 -- ---- begins
 
@@ -268,7 +268,7 @@ kept_entered tree runner at travel k stands = record {
     stands = stands;
     room = tt;
     path = k.path;
-    placed = k.placed;
+    numbered = k.numbered;
   };
   in_time = exec_some (code_of (past_of tree) (state.Move (travel_of travel))) (here (past_of tree));
 }
@@ -291,7 +291,7 @@ kept_begun tree made runner at program k same nodes room formed stands = record 
     };
     room = room;
     path = tt;
-    placed = placed_nodes tree made nodes k.placed;
+    numbered = placed_nodes tree made nodes k.numbered;
   };
   in_time = exec_some (code_of (past_of made) (state.Posted (cell_of_program program))) (here (past_of made));
 }
@@ -375,7 +375,7 @@ kept_new tree runner e shown = record {
   stands = subst (λ (s : Past). world_of runner ≡ here s) (sym e) shown;
   room = tt;
   path = tt;
-  placed = placed_none tree e;
+  numbered = placed_none tree e;
 }
 
 -- the program of an undo and of a redo, as it is read
@@ -443,11 +443,11 @@ formed_next tree travel cell runner way legal possible shown at =
     subst (λ (w : World). IsFormed (cell_of_program cell.program) w) (sym shown) formed
 
 pub placed_next : {L : Type 0} (tree : Tree) (travel : Travel) (cell : Cell) (runner : Runner L) → next_way travel ≡ Down → IsLegal (past_of tree) → IsPossible (nodes_of tree) tree.cells.favourites tree.position travel →
-    world_of runner ≡ here (past_of tree) → IsCellAt tree (below (past_of tree) travel) cell → ArePlacedNodes tree → IsPlacedIn (world_of runner) cell.program
-placed_next tree travel cell runner way legal possible shown at placed =
+    world_of runner ≡ here (past_of tree) → IsCellAt tree (below (past_of tree) travel) cell → NodesHaveNumbers tree → IsPlacedIn (world_of runner) cell.program
+placed_next tree travel cell runner way legal possible shown at numbered =
     let next = next_below (past_of tree) travel legal way possible in
     let above : world_at (past_of tree) (node_at (past_of tree) (below (past_of tree) travel)).parent ≡ world_of runner = ap (λ (k : ℕ). world_at (past_of tree) k) next.parent ∙ sym shown in
-    subst (λ (w : World). IsPlacedIn w cell.program) above (placed (below (past_of tree) travel) cell at)
+    subst (λ (w : World). IsPlacedIn w cell.program) above (numbered (below (past_of tree) travel) cell at)
 
 pub stands_next_down : {L : Type 0} (tree : Tree) (travel : CodeTravel) (cell : Cell) (runner at : Runner L) → next_way (travel_of travel) ≡ Down → world_of runner ≡ here (past_of tree) → IsCellAt tree (below (past_of tree) (travel_of travel)) cell →
     Stands at cell.program (Forward (cell_of_program cell.program)) (world_of runner) 0 false → StandsIn tree (Move travel) 0 false at
@@ -466,9 +466,9 @@ next_up tree travel cell way legal possible read =
     ((up_possible (past_of tree) travel way possible).0, read)
 
 pub ran_above : {L : Type 0} (tree : Tree) (travel : Travel) (cell : Cell) (runner : Runner L) → next_way travel ≡ Up → IsLegal (past_of tree) → IsPossible (nodes_of tree) tree.cells.favourites tree.position travel →
-    world_of runner ≡ here (past_of tree) → IsCellAt tree tree.position cell → ArePlacedNodes tree →
+    world_of runner ≡ here (past_of tree) → IsCellAt tree tree.position cell → NodesHaveNumbers tree →
     (before : World) × (n : ℕ) × CodeExec (Forward (cell_of_program cell.program)) before n (world_of runner) × IsSound before × IsFormed (cell_of_program cell.program) before × IsPlacedIn before cell.program
-ran_above tree travel cell runner way legal possible shown at placed =
+ran_above tree travel cell runner way legal possible shown at numbered =
     let s : Past = past_of tree in
     let some = (up_possible (past_of tree) travel way possible).0 in
     let run = run_here (past_of tree) legal some in
@@ -479,7 +479,7 @@ ran_above tree travel cell runner way legal possible shown at placed =
       subst (λ (w : World). CodeExec (Forward (cell_of_program cell.program)) (world_at (past_of tree) (node_at (past_of tree) tree.position).parent) (node_at (past_of tree) tree.position).steps w) (sym shown) ran,
       parent_sound (past_of tree) legal some,
       subst (λ (c : ACell). IsFormed c (world_at (past_of tree) (node_at (past_of tree) tree.position).parent)) (sym (cell_there tree tree.position cell at)) run.formed,
-      placed tree.position cell at,
+      numbered tree.position cell at,
     )
 
 pub stands_next_up : {L : Type 0} (tree : Tree) (travel : CodeTravel) (cell : Cell) (runner at : Runner L) → next_way (travel_of travel) ≡ Up → world_of runner ≡ here (past_of tree) → IsCellAt tree tree.position cell →

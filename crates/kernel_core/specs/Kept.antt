@@ -31,8 +31,8 @@ IsProgramOf tree (Move travel) p = elim (next_way (travel_of travel)) [
 ]
 
 -- the code of each node names each variable by its place, run from the world of the node's parent
-abbrev pub ArePlacedNodes : Tree → Type 0
-ArePlacedNodes tree = (n : ℕ) (cell : Cell) → IsCellAt tree n cell → IsPlacedIn (world_at (past_of tree) (node_at (past_of tree) n).parent) cell.program
+abbrev pub NodesHaveNumbers : Tree → Type 0
+NodesHaveNumbers tree = (n : ℕ) (cell : Cell) → IsCellAt tree n cell → IsPlacedIn (world_at (past_of tree) (node_at (past_of tree) n).parent) cell.program
 
 abbrev pub is_back : Turn → Bool
 is_back GoesOn = false
@@ -87,7 +87,7 @@ pub record Kept {L : Type 0} (tree : Tree) (runner : Runner L) (job : Open) : Ty
   pub stands : StandsAt tree job runner
   pub room : HasRoomAt tree job
   pub path : HasPathAt tree job
-  pub placed : ArePlacedNodes tree
+  pub numbered : NodesHaveNumbers tree
 
 -- what a history keeps: beside this, its open job has steps to take
 pub record IsKept {L : Type 0} (tree : Tree) (runner : Runner L) (job : Open) : Type 0 where

@@ -9,7 +9,7 @@ ghost use Rattle.kernel_core.specs.StepsOfSlices.{WritesOnSlice};
 ghost use Rattle.kernel_core.specs.Begins.{TakesCell, TakesMove, TakesGoto, Departs, Enters, Declares, travel_to};
 ghost use Rattle.kernel_core.specs.Runner.{world_of};
 ghost use Rattle.kernel_core.specs.Extent.{IsExtent};
-ghost use Rattle.kernel_core.specs.Kept.{HasRoom, HasPath, ArePlacedNodes, Kept, IsKept, StandsAt};
+ghost use Rattle.kernel_core.specs.Kept.{HasRoom, HasPath, NodesHaveNumbers, Kept, IsKept, StandsAt};
 
 use crate::extent::{Extent, extent_of};
 use crate::job::{Aim, Entered, Open, Stage, Travel, Turn, Way, Why, Work};
@@ -61,7 +61,7 @@ fn enter_next<L: Ledger>(
     requires possible { IsPossible (nodes_of tree.now) tree.now.cells.favourites tree.now.position (travel_of travel) }
     requires path { HasPath (aim_of travel.aim) tree.now travel.down }
     requires shown { world_of runner.old ≡ here (past_of tree.now) }
-    requires placed { ArePlacedNodes tree.now }
+    requires numbered { NodesHaveNumbers tree.now }
     ensures ok { OnOk result (StandsAt tree.now (Open.Inside (record { work = Work.Move travel; count = 0; turn = Turn.Going })) runner.new) }
     ensures err { OnErr result (world_of runner.new ≡ world_of runner.old) }
     ensures declares { OnErr result (Declares (past_of tree.now) (travel_of travel)) }

@@ -13,7 +13,7 @@ use Rattle.janus_check.specs.Check.{exp_faults}
 use Rattle.janus_check.specs.Fault.{IsFirst}
 use Rattle.janus_check.specs.declared.fault.CheckFault.{CheckFault}
 use Rattle.janus_check.specs.declared.fault.CheckFault.TheVariants as fault
-use Rattle.janus_invert.specs.Placed.{IsPlaced}
+use Rattle.janus_invert.specs.Numbered.{HasNumbers}
 use Rattle.janus_invert.proofs.Seen.{exp_seen}
 use Rattle.kernel_core.proofs.Declared.{values_lend_nothing}
 use Rattle.kernel_core.proofs.Entries.{same_names}
@@ -30,9 +30,9 @@ value-requires-clause-safe g c = λ broken.
     let formed = subst (λ (g : Shape). IsExp g tree) c.in-Ok-names_in_sight.ensures c.in-Ok-check_exp.ensures.well_formed in
     not_broken tree c.args.store.now formed (ap (λ (e : Exp). value e c.args.store.now) (sym c.in-Ok-flat_exp.ensures.tree) ∙ broken)
 
-pub value-requires-clause-placed : goal.value-requires-clause-placed
-value-requires-clause-placed g c =
-    subst (λ (xs : List Name). IsPlaced xs c.in-Ok-flat_exp.flat) (same_names c.in-Ok-names_in_sight.env c.args.store.now (values_lend_nothing c.args.store.now c.requires.values) c.in-Ok-names_in_sight.ensures) c.in-Ok-flat_exp.ensures.placed
+pub value-requires-clause-numbered : goal.value-requires-clause-numbered
+value-requires-clause-numbered g c =
+    subst (λ (xs : List Name). HasNumbers xs c.in-Ok-flat_exp.flat) (same_names c.in-Ok-names_in_sight.env c.args.store.now (values_lend_nothing c.args.store.now c.requires.values) c.in-Ok-names_in_sight.ensures) c.in-Ok-flat_exp.ensures.numbered
 
 pub flat_exp-requires : goal.flat_exp-requires
 flat_exp-requires g c = exp_seen (shape_in c.in-Ok-names_in_sight.env) (exp_of c.in-Ok.exp) c.in-Ok-check_exp.ensures.well_formed
@@ -44,6 +44,7 @@ told s text e (fault.Declared at) r has first is = rw is (record { tree = e; is_
 told s text e (fault.Unknown at) r has first is = rw is (record { tree = e; is_tree = has; first = first })
 told s text e (fault.WrongKind at) r has first is = rw is (record { tree = e; is_tree = has; first = first })
 told s text e (fault.SelfUse at) r has first is = rw is (record { tree = e; is_tree = has; first = first })
+told s text e (fault.Shadow at) r has first is = rw is (record { tree = e; is_tree = has; first = first })
 told s text e (fault.TooMany at) r has first is = rw is (record { tree = e; is_tree = has; first = first })
 told s text e (fault.ArrayLength at) r has first is = rw is (record { tree = e; is_tree = has; first = first })
 told s text e fault.Memory r has first is = rw is tt

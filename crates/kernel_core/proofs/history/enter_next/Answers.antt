@@ -14,13 +14,13 @@ enter-requires-clause-sound g c = here_sound c.args.tree.now c.args.runner.now c
 pub enter_inverse-requires : goal.enter_inverse-requires
 enter_inverse-requires g c =
     ran_above c.args.tree.now (travel_of c.args.travel) c.content.result.now c.args.runner.now (sym c.way.ensures ∙ ap way_of c.in-Up.is) c.requires.legal c.requires.possible c.requires.shown
-    (next_up c.args.tree.now (travel_of c.args.travel) c.content.result.now (sym c.way.ensures ∙ ap way_of c.in-Up.is) c.requires.legal c.requires.possible c.content.ensures) c.requires.placed
+    (next_up c.args.tree.now (travel_of c.args.travel) c.content.result.now (sym c.way.ensures ∙ ap way_of c.in-Up.is) c.requires.legal c.requires.possible c.content.ensures) c.requires.numbered
 
-pub enter-requires-clause-placed : goal.enter-requires-clause-placed
-enter-requires-clause-placed g c =
+pub enter-requires-clause-numbered : goal.enter-requires-clause-numbered
+enter-requires-clause-numbered g c =
     placed_next c.args.tree.now (travel_of c.args.travel) c.content-in-Down.result.now c.args.runner.now (sym c.way.ensures ∙ ap way_of c.in-Down.is) c.requires.legal c.requires.possible c.requires.shown
     (next_down c.args.tree.now (travel_of c.args.travel) c.content-in-Down.result.now c.below.result (sym c.way.ensures ∙ ap way_of c.in-Down.is) c.requires.legal c.requires.possible c.below.ensures c.content-in-Down.ensures)
-    c.requires.placed
+    c.requires.numbered
 
 pub returns-in-Up-clause-ok : goal.returns-in-Up-clause-ok
 returns-in-Up-clause-ok g c =

@@ -11,9 +11,9 @@ use Rattle.kernel_core.proofs.program.Program.of_checked.Goals as goal
 pub flatten-requires : goal.flatten-requires
 flatten-requires c = ([], c.in_ok-scope.ensures.formed [])
 
-pub returns-clause-placed : goal.returns-clause-placed
-returns-clause-placed c = λ w h e.
+pub returns-clause-numbered : goal.returns-clause-numbered
+returns-clause-numbered c = λ w h e.
     let declarations = c.in_ok-declarations.ensures ∙ ap (λ l. map plain_declaration (declarations_view l)) c.deref.ensures.value ∙ ap (λ (t : Cell). (plain_cell t).declarations) c.cell.ensures in
     let program : Program = record { declarations = c.in_ok-declarations.declarations; book = c.in_ok-book.book } in
     let same = same_cell program (cell_in c.args.checked.now) declarations (c.in_ok-book.ensures.block ∙ c.in-Ok.ensures.block) in
-    placed_in c.args.names c.in_ok-scope.scope (cell_in c.args.checked.now) w program same (values_lend_nothing w.store h) e c.in_ok-scope.ensures.names (c.in_ok-book.ensures.placed (names_in c.in_ok-scope.scope) c.in-Ok.ensures.placed)
+    placed_in c.args.names c.in_ok-scope.scope (cell_in c.args.checked.now) w program same (values_lend_nothing w.store h) e c.in_ok-scope.ensures.names (c.in_ok-book.ensures.numbered (names_in c.in_ok-scope.scope) c.in-Ok.ensures.numbered)
