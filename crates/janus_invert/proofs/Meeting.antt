@@ -43,7 +43,7 @@ seen_without x y (e ∷ g) h = by (seen_without x y g) (same_name x e.0) refl
         front behind (same_name y e.0) refl (ap (λ b. pick_newest b e.1 (kind_at y (without x g))) refl ∙ f)
 
 -- one name more that was met
-with_local : (x : Name) (k : Kind) (g : Shape) (xs : List Name) → AreMet g xs → IsMet xs x → AreMet ((x, k) ∷ g) xs
+pub with_local : (x : Name) (k : Kind) (g : Shape) (xs : List Name) → AreMet g xs → IsMet xs x → AreMet ((x, k) ∷ g) xs
 with_local x k g xs h m y j e = by (same_name y x) refl
   where
     by : (b : Bool) → same_name y x ≡ b → IsMet xs y

@@ -5,14 +5,14 @@ use Rattle.janus_meaning.specs.Fault.{Fine}
 use Rattle.janus_meaning.specs.Syntax.{Name}
 use Rattle.janus_meaning.specs.Store as spec
 use Rattle.janus_meaning.specs.Store.{look}
-use Rattle.janus_names.specs.Numbers.{IsNumbered, HaveOneNumber}
+use Rattle.janus_names.specs.Numbers.{IsNumbered, HaveOneNumber, IsMet}
 use Rattle.janus_store.specs.Held.{Held}
 use Rattle.janus_store.specs.Inside.{declared_over, IsKept, newest_from, AreHidden, none_of}
 use Rattle.janus_store.specs.declared.store.Variable.{Variable}
 use Rattle.janus_store.specs.declared.store.Store.TheInside.{Inside}
 use Rattle.janus_store.proofs.Rows.{newest_long, newest_put, newest_written, newest_grown, hidden_put, hidden_front, hidden_written, none_long, none_grown, met_from, set_back}
 use Rattle.janus_store.proofs.Indexes.{AreIndexed, Found, found_at, within, has_place}
-use Rattle.janus_store.proofs.Numbers.{place_by, told_at, stands, row_indexed}
+use Rattle.janus_store.proofs.Numbers.{place_by, told_at, stands, row_indexed, numbered_by}
 
 -- what is kept of the names and of the places of variables
 pub record IsLaid (xs : List Name) (ns : List ℕ) (vs : List Variable) : Type 0 where
@@ -41,6 +41,12 @@ module _ (xs : List Name) (ns : List ℕ) (vs : List Variable) (h : IsLaid xs ns
   in_sight k x v e f =
       let p = has_place xs vs (place_by xs ns) indexed x v (place_by xs ns x) refl f in
       (p.0, stands xs ns k x p.0 h.one_number as_many e p.1)
+
+  -- and a number
+  pub known : (x : Name) (v : spec.Val) → look x (sight_of xs vs) ≡ Fine v → IsMet xs x
+  known x v f =
+      let p = has_place xs vs (place_by xs ns) indexed x v (place_by xs ns x) refl f in
+      numbered_by xs ns x p.0 p.1
 
   pub at_number : (k : ℕ) (x : Name) (i : ℕ) → IsNumbered xs k x → slice_get ns k ≡ Some (suc i) → place_by xs ns x ≡ Some i
   at_number k x i e f = told_at xs ns k x (suc i) h.one_number e f

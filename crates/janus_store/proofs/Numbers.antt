@@ -7,7 +7,7 @@ use Rattle.janus_meaning.specs.Syntax.{Name}
 use Rattle.janus_meaning.specs.Store as spec
 use Rattle.janus_meaning.specs.Store.{same_name}
 use Rattle.janus_meaning.proofs.Stores.{same_name_self, same_name_true}
-use Rattle.janus_names.specs.Numbers.{IsNumbered, HaveOneNumber}
+use Rattle.janus_names.specs.Numbers.{IsNumbered, HaveOneNumber, IsMet}
 use Rattle.janus_store.specs.Inside.{declared_over, name_among, newest_from, AreHidden, none_of}
 use Rattle.janus_store.specs.Values.{val_of}
 use Rattle.janus_store.specs.declared.store.Variable.{Variable}
@@ -130,3 +130,13 @@ row_indexed xs vs one h = record {
       (q.variable, ap (slice_get vs) (sym z) ∙ q.there, name_of_number xs k.0 x q.variable k.1 q.name))
       (stored_from 0 (none_of xs) vs h k.0 i k.2);
 }
+
+-- a name that has a place has a number
+pub numbered_by : (xs : List Name) (ns : List ℕ) (x : Name) (i : ℕ) → place_by xs ns x ≡ Some i → IsMet xs x
+numbered_by [] ns x i e = cc
+numbered_by (y ∷ xs) [] x i e = cc
+numbered_by (y ∷ xs) (n ∷ ns) x i e = by (λ f. numbered_by xs ns x i f) (same_name x y) refl
+  where
+    by : (place_by xs ns x ≡ Some i → IsMet xs x) → (b : Bool) → same_name x y ≡ b → IsMet (y ∷ xs) x
+    by below true s = (0, ap Some (sym (same_name_true x y s)))
+    by below false s = let t = below (sym (ap (λ b. at_name b n (place_by xs ns x)) s) ∙ e) in (suc t.0, t.1)

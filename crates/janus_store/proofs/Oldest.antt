@@ -1,5 +1,5 @@
 -- The declared names among the variables: the oldest ones.
-use Rattle.std.proofs.Common.{◌≡◌, ℕ, zero, suc, ◌-◌, ◌<◌, ◌≤◌, List, [], ◌∷◌, length, take, get_or, refl, ap, ◌∙◌, sym, arith}
+use Rattle.std.proofs.Common.{◌≡◌, ℕ, zero, suc, ◌-◌, ◌<◌, ◌≤◌, List, [], ◌∷◌, length, take, get_or, refl, ap, ◌∙◌, sym, subst, arith}
 use Rattle.std.specs.Prelude.{slice_get, Some, None}
 use Rattle.std.proofs.lemmas.Option.{slice_get_past, slice_get_read}
 use Rattle.janus_meaning.specs.Fault.{Fine, Bad, Broken}
@@ -8,7 +8,9 @@ use Rattle.janus_meaning.specs.Store as spec
 use Rattle.janus_meaning.specs.Store.{look}
 use Rattle.janus_meaning.specs.World.{dropped, oldest, size_of, listed}
 use Rattle.janus_names.specs.Numbers.{IsNumbered, IsUnmet}
-use Rattle.janus_store.specs.Inside.{declared_over, name_among, newest_from, none_of}
+use Rattle.janus_store.specs.Held.{Held, shown_store}
+use Rattle.janus_store.specs.Inside.{declared_over, name_among, newest_from, none_of, held_of, IsKept}
+use Rattle.janus_store.specs.declared.store.Store.TheInside.{Inside}
 use Rattle.janus_store.specs.Values.{val_of}
 use Rattle.janus_store.specs.declared.store.Variable.{Variable}
 use Rattle.janus_store.proofs.Variables.{HasNone, look_past, size-declared, listed-declared, pair_of}
@@ -42,6 +44,18 @@ pub oldest_over : (xs : List Name) (d : ℕ) (vs : List Variable) → d ≤ leng
 oldest_over xs d vs le =
     let z : size_of (declared_over xs spec.Bare vs) ≡ length vs = omega (arith, size-declared xs spec.Bare vs) in
     ap (λ n. dropped (n - d) (declared_over xs spec.Bare vs)) z ∙ take_over xs spec.Bare d vs le
+
+-- there are as many as are declared
+pub oldest_size : (xs : List Name) (d : ℕ) (vs : List Variable) → d ≤ length vs → size_of (oldest d (declared_over xs spec.Bare vs)) ≡ d
+oldest_size xs d vs le =
+    let e : size_of (oldest d (declared_over xs spec.Bare vs)) ≡ size_of (declared_over xs spec.Bare (take d vs)) = ap size_of (oldest_over xs d vs le) in
+    omega (arith, e, size-declared xs spec.Bare (take d vs), length-take d vs)
+
+pub shown_size : {L : Type 0} (a : Inside L) → IsKept a → size_of (shown_store (held_of a)) ≡ a.declared
+shown_size a k = oldest_size a.names a.declared a.variables.items (omega (arith, k.declared, a.variables.ok.0))
+
+pub shown_here : {L : Type 0} (a : Inside L) (h : Held) → held_of a ≡ h → IsKept a → size_of (shown_store h) ≡ a.declared
+shown_here a h e k = subst (λ h. size_of (shown_store h) ≡ a.declared) e (shown_size a k)
 
 among_taken : (d : ℕ) (vs : List Variable) (j : ℕ) (v : Variable) → slice_get (take d vs) j ≡ Some v → (slice_get vs j ≡ Some v) × (j < d)
 among_taken zero vs j v e = let bad : None ≡ Some v = sym (slice_get_past [] j (omega arith)) ∙ e in cc

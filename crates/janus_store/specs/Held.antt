@@ -6,7 +6,7 @@ use Rattle.janus_meaning.specs.Syntax.{Name}
 use Rattle.janus_meaning.specs.Store.{Store, Bare, Slot, Val, look, cleared}
 use Rattle.janus_meaning.specs.World.{size_of, oldest}
 use Rattle.janus_meaning.specs.Codes.{store_code}
-use Rattle.janus_names.specs.Numbers.{IsNumbered, GoOn}
+use Rattle.janus_names.specs.Numbers.{IsNumbered, IsMet, GoOn}
 
 -- how many locals may be open
 abbrev pub local_limit : ℕ
@@ -42,6 +42,10 @@ IsName h k x = IsNumbered h.names k x
 -- a number's name is in sight
 abbrev pub IsInSight : Held → ℕ → Type 0
 IsInSight h k = (x : Name) × (v : Val) × IsName h k x × (look x h.sight ≡ Fine v)
+
+-- each name in sight was met
+abbrev pub AreKnown : Held → Type 0
+AreKnown h = (x : Name) (v : Val) → look x h.sight ≡ Fine v → IsMet h.names x
 
 -- one name more is declared, with its first value, and has a number
 pub record Declares (old new : Held) (x : Name) (v : Val) : Type 0 where

@@ -9,7 +9,7 @@ ghost use Rattle.janus_meaning.specs.Limit.{live_stack_limit, stack_limit};
 ghost use Rattle.janus_meaning.specs.Value.{first, is_none};
 ghost use Rattle.janus_meaning.specs.World.{size_of, listed, stacks_in};
 ghost use Rattle.janus_names.specs.Numbers.{GoOn, IsMet};
-ghost use Rattle.janus_store.specs.Held.{IsName, IsWhole, IsInSight, HasLocalRoom, shown_store, empty_held, Declares, KeepsSight, IsLike, opened, with_sight};
+ghost use Rattle.janus_store.specs.Held.{IsName, IsWhole, IsInSight, HasLocalRoom, shown_store, empty_held, Declares, KeepsSight, IsLike, AreKnown, opened, with_sight};
 ghost use Rattle.janus_store.specs.Values.{first_of, shown, found, read_or};
 ghost use Rattle.janus_store.specs.Stores.{IsFirstOnTop, IsNumber, IsArray, IsStack, IsOpenStack, IsHeldStack, HasElementAt, rest_of, write};
 ghost use Rattle.janus_store.specs.declared.store.Variable.{Variable};
@@ -93,21 +93,23 @@ impl<L: Ledger> Store<L> {
 
     /// How many names are declared.
     pub fn len(&self) -> usize
-        ensures { result ≡ self.now.declared }
+        ensures declared { result ≡ self.now.declared }
+        ensures shown { result ≡ size_of (shown_store self.now) }
     {
         self.declared
     }
 
     /// Whether no name is declared.
     pub fn has_no_names(&self) -> bool
-        ensures { IsTrue result ↔ (self.now.declared ≡ 0) }
+        ensures { IsTrue result ↔ (size_of (shown_store self.now) ≡ 0) }
     {
-        self.declared == 0
+        self.len() == 0
     }
 
-    /// The names that were met, each with its number.
+    /// The names that were met, each with its number. All names in sight are among them.
     pub fn names(&self) -> &Names
-        ensures { result.now ≡ self.now.names }
+        ensures names { result.now ≡ self.now.names }
+        ensures known { AreKnown self.now }
     {
         &self.names
     }
@@ -128,7 +130,7 @@ impl<L: Ledger> Store<L> {
 
     /// The i-th name in the order of declaration, the oldest being 0, with its value.
     pub fn entry(&self, i: usize) -> (&str, View<'_>)
-        requires { i < self.now.declared }
+        requires { i < size_of (shown_store self.now) }
         ensures { slice_get (listed (shown_store self.now)) i ≡ Some (result.0.now, shown result.1) }
     {
         let variable = &self.variables[i];

@@ -7,7 +7,9 @@ ghost use Rattle.kernel_core.specs.Legal.{IsLegal, IsPossible, IsCounted, CanGo,
 ghost use Rattle.kernel_core.specs.Slices.{IsSlice, cells};
 ghost use Rattle.kernel_core.specs.StepsOfSlices.{WritesOnSlice};
 ghost use Rattle.kernel_core.specs.Begins.{TakesCell, TakesMove, TakesGoto, Departs, Enters, Declares, travel_to};
-ghost use Rattle.kernel_core.specs.Runner.{world_of};
+ghost use Rattle.janus_names.specs.Numbers.{GoOn};
+ghost use Rattle.janus_store.specs.Held.{IsWhole};
+ghost use Rattle.kernel_core.specs.Runner.{world_of, Becomes};
 ghost use Rattle.kernel_core.specs.Extent.{IsExtent};
 ghost use Rattle.kernel_core.specs.Kept.{HasRoom, HasPath, NodesHaveNumbers, Kept, IsKept, StandsAt};
 
@@ -61,9 +63,11 @@ fn enter_next<L: Ledger>(
     requires possible { IsPossible (nodes_of tree.now) tree.now.cells.favourites tree.now.position (travel_of travel) }
     requires path { HasPath (aim_of travel.aim) tree.now travel.down }
     requires shown { world_of runner.old ≡ here (past_of tree.now) }
-    requires numbered { NodesHaveNumbers tree.now }
+    requires whole { IsWhole runner.old.store }
+    requires numbered { NodesHaveNumbers tree.now runner.old }
     ensures ok { OnOk result (StandsAt tree.now (Open.Inside (record { work = Work.Move travel; count = 0; turn = Turn.Going })) runner.new) }
-    ensures err { OnErr result (world_of runner.new ≡ world_of runner.old) }
+    ensures err { OnErr result (Becomes runner.old.store runner.new.store runner.old.store.sight) }
+    ensures names { GoOn runner.old.store.names runner.new.store.names }
     ensures declares { OnErr result (Declares (past_of tree.now) (travel_of travel)) }
 {
     match travel.way() {
@@ -151,7 +155,7 @@ impl<L: Ledger> History<L> {
         if is_full(&self.tree) {
             return Begun::Ended(Outcome::Refused(Refusal::HistoryFull));
         }
-        let program = match Program::of_text(alloc, text, &self.runner) {
+        let program = match Program::of_text(alloc, text, &mut self.runner) {
             Ok(program) => program,
             Err(refusal) => return Begun::Ended(Outcome::Refused(refusal)),
         };
