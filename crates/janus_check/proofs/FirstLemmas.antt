@@ -3,7 +3,7 @@ use Rattle.std.proofs.Common.{◌≡◌, ℕ, Bool, true, false, List, [], ◌�
 use Rattle.std.proofs.lemmas.List.Elements.{All-cons, Contains-append_right}
 use Rattle.std.specs.Prelude.{◌==◌}
 use Rattle.janus_check.specs.declared.fault.CheckFault.{CheckFault}
-use Rattle.janus_check.specs.declared.fault.CheckFault.TheVariants.{Declared, Unknown, WrongKind, SelfUse, TooMany, ArrayLength, Memory}
+use Rattle.janus_check.specs.declared.fault.CheckFault.TheVariants.{Declared, Unknown, WrongKind, SelfUse, Shadow, TooMany, ArrayLength, Memory}
 use Rattle.janus_syntax.specs.declared.token.Span.{Span}
 use Rattle.janus_check.proofs.Orders.{earlier-self, earlier-other, earlier-through, same-first, same-second, same-third}
 use Rattle.janus_check.specs.Fault.{number_of, start_of, end_of, comes_before, IsFirst, sooner_of, first_from}
@@ -15,6 +15,10 @@ first_from-append f (x ∷ xs) ys = first_from-append (Some (sooner_of f x)) xs 
 -- what is found in two parts, one after the other
 pub two_parts : (f n r : Option CheckFault) (xs ys : List CheckFault) → n ≡ first_from f xs → r ≡ first_from n ys → r ≡ first_from f (xs ++ ys)
 two_parts f n r xs ys p q = q ∙ ap (λ o. first_from o ys) p ∙ sym (first_from-append f xs ys)
+
+-- what is found in four parts, one after the other
+pub four_parts : (f n m k r : Option CheckFault) (a s t b : List CheckFault) → n ≡ first_from f a → m ≡ first_from n s → k ≡ first_from m t → r ≡ first_from k b → r ≡ first_from f (a ++ s ++ t ++ b)
+four_parts f n m k r a s t b p q u w = two_parts f k r (a ++ s ++ t) b (two_parts f m k (a ++ s) t (two_parts f n m a s p q) u) w
 
 -- once there is a fault, there is one
 first_some : (f : CheckFault) (fs : List CheckFault) → (h : CheckFault) × (first_from (Some f) fs ≡ Some h)
@@ -95,12 +99,13 @@ place_of (Declared at) = at
 place_of (Unknown at) = at
 place_of (WrongKind at) = at
 place_of (SelfUse at) = at
+place_of (Shadow at) = at
 place_of (TooMany at) = at
 place_of (ArrayLength at) = at
 
 -- the fault of a number at a place
 abbrev told : ℕ → Span → CheckFault
-told n at = if n == 35 then Memory else if n == 40 then Declared at else if n == 41 then Unknown at else if n == 42 then WrongKind at else if n == 43 then SelfUse at else if n == 48 then TooMany at else ArrayLength at
+told n at = if n == 35 then Memory else if n == 40 then Declared at else if n == 41 then Unknown at else if n == 42 then WrongKind at else if n == 43 then SelfUse at else if n == 46 then Shadow at else if n == 48 then TooMany at else ArrayLength at
 
 told_is : (f : CheckFault) → f ≡ told (number_of f) (place_of f)
 told_is Memory = refl
@@ -108,6 +113,7 @@ told_is (Declared at) = refl
 told_is (Unknown at) = refl
 told_is (WrongKind at) = refl
 told_is (SelfUse at) = refl
+told_is (Shadow at) = refl
 told_is (TooMany at) = refl
 told_is (ArrayLength at) = refl
 
@@ -117,6 +123,7 @@ place_is (Declared at) = refl
 place_is (Unknown at) = refl
 place_is (WrongKind at) = refl
 place_is (SelfUse at) = refl
+place_is (Shadow at) = refl
 place_is (TooMany at) = refl
 place_is (ArrayLength at) = refl
 

@@ -11,12 +11,13 @@ use Rattle.janus_meaning.specs.Formed.{IsExp, IsStm, IsBlk}
 use Rattle.janus_meaning.specs.FormedWorld.{AreNew, with_declared, IsArrayLength}
 use Rattle.janus_meaning.proofs.Stores.{same_name_true}
 use Rattle.janus_meaning.proofs.Scopes.{without_same, without_other}
-use Rattle.janus_syntax.specs.Tree.{Name, named, Exp, Num, Var, Element, EmptyOf, TopOf, Neg, Bin, And, Or, Stm, Skip, Assign, AssignElement, Push, Pop, If, Loop, Block, Empty, More, Declaration, Int, Array, StackOf, Cell, cell_of}
+use Rattle.janus_syntax.specs.Tree.{Name, named, Exp, Num, Var, Element, EmptyOf, TopOf, Neg, Bin, And, Or, Stm, Skip, Assign, AssignElement, Push, Pop, If, Loop, LocalInt, LocalStack, Block, Empty, More, Declaration, Int, Array, StackOf, Cell, cell_of}
 use Rattle.janus_syntax.specs.View.{text_of, plain_exp, plain_stm, plain_block, plain_declaration}
 use Rattle.janus_syntax.specs.declared.token.Span.{Span}
 use Rattle.janus_check.specs.declared.fault.CheckFault.{CheckFault}
+use Rattle.janus_check.specs.declared.fault.CheckFault.TheVariants.{SelfUse}
 use Rattle.janus_check.specs.Names.{is_in, shape_in}
-use Rattle.janus_check.specs.Check.{fault_if, is_full, has_all_stacks, extended, name_faults, is_array_length, declaration_faults, declarations_faults, after_declarations, same_kind, is_other, use_faults, exp_faults, self_fault, self_faults, side_faults, stm_faults, block_faults, cell_faults}
+use Rattle.janus_check.specs.Check.{fault_if, is_full, has_all_stacks, extended, name_faults, is_array_length, declaration_faults, declarations_faults, after_declarations, same_kind, is_other, faults_of, use_faults, exp_faults, side_use_faults, side_faults, end_use_faults, end_faults, shadow_faults, stm_faults, block_faults, cell_faults}
 use Rattle.janus_check.specs.WellFormed.{IsWellFormed, FaultsAreExact}
 
 -- ---- lists of faults
@@ -78,86 +79,94 @@ use_no_faults : (g : Shape) (k : tree.Kind) (y : Name) → kind_at (text_of y) g
 use_no_faults g k (named y at) h =
     both_nil _ _ (fault_if_false (not (is_in y g)) _ (ap (λ c. not (is_some c)) h)) (fault_if_false (is_other k (kind_at y g)) _ (ap (is_other k) h ∙ ap not (same_kind_self k)))
 
--- a use beside the assigned name
-apart_formed : (g : Shape) (x : tree.Name) (k : tree.Kind) (y : Name) → use_faults g k y ≡ [] → self_fault x y ≡ [] → kind_at (text_of y) (without x g) ≡ Some k
-apart_formed g x k (named y at) h s = without_other y x g (no_fault (same_name y x) _ s) ∙ use_formed g k (named y at) h
+-- ---- expressions
 
-record Apart (g : Shape) (x : tree.Name) (k : tree.Kind) (y : Name) : Type 0 where
-  used : use_faults g k y ≡ []
-  self : self_fault x y ≡ []
+-- A use has no faults exactly where the name is in sight, of its kind.
+record AreUses (u : tree.Kind → Name → List CheckFault) (g : Shape) : Type 0 where
+  formed : (k : tree.Kind) (y : Name) → u k y ≡ [] → kind_at (text_of y) g ≡ Some k
+  no_faults : (k : tree.Kind) (y : Name) → kind_at (text_of y) g ≡ Some k → u k y ≡ []
 
-apart_by : (g : Shape) (x : tree.Name) (k : tree.Kind) (y : tree.Name) (at : Span) (b : Bool) → same_name y x ≡ b → kind_at y (without x g) ≡ Some k → Apart g x k (named y at)
+names_formed : (u : tree.Kind → Name → List CheckFault) (g : Shape) → AreUses u g → (e : Exp) → faults_of u e ≡ [] → IsExp g (plain_exp e)
+names_formed u g w (Num n at) h = tt
+names_formed u g w (Var y) h = w.formed tree.ANumber y h
+names_formed u g w (Element a i) h = (w.formed tree.AnArray a (left_nil _ _ h), names_formed u g w i (right_nil (u tree.AnArray a) _ h))
+names_formed u g w (EmptyOf y) h = w.formed tree.AStack y h
+names_formed u g w (TopOf y) h = w.formed tree.AStack y h
+names_formed u g w (Neg e) h = names_formed u g w e h
+names_formed u g w (Bin op l r) h = (names_formed u g w l (left_nil _ _ h), names_formed u g w r (right_nil (faults_of u l) _ h))
+names_formed u g w (And l r) h = (names_formed u g w l (left_nil _ _ h), names_formed u g w r (right_nil (faults_of u l) _ h))
+names_formed u g w (Or l r) h = (names_formed u g w l (left_nil _ _ h), names_formed u g w r (right_nil (faults_of u l) _ h))
+
+names_no_faults : (u : tree.Kind → Name → List CheckFault) (g : Shape) → AreUses u g → (e : Exp) → IsExp g (plain_exp e) → faults_of u e ≡ []
+names_no_faults u g w (Num n at) h = refl
+names_no_faults u g w (Var y) h = w.no_faults tree.ANumber y h
+names_no_faults u g w (Element a i) h = both_nil _ _ (w.no_faults tree.AnArray a h.0) (names_no_faults u g w i h.1)
+names_no_faults u g w (EmptyOf y) h = w.no_faults tree.AStack y h
+names_no_faults u g w (TopOf y) h = w.no_faults tree.AStack y h
+names_no_faults u g w (Neg e) h = names_no_faults u g w e h
+names_no_faults u g w (Bin op l r) h = both_nil _ _ (names_no_faults u g w l h.0) (names_no_faults u g w r h.1)
+names_no_faults u g w (And l r) h = both_nil _ _ (names_no_faults u g w l h.0) (names_no_faults u g w r h.1)
+names_no_faults u g w (Or l r) h = both_nil _ _ (names_no_faults u g w l h.0) (names_no_faults u g w r h.1)
+
+-- anywhere
+uses : (g : Shape) → AreUses (use_faults g) g
+uses g = record { formed = use_formed g; no_faults = use_no_faults g }
+
+pub exp_formed : (g : Shape) (e : Exp) → exp_faults g e ≡ [] → IsExp g (plain_exp e)
+exp_formed g = names_formed (use_faults g) g (uses g)
+
+pub exp_no_faults : (g : Shape) (e : Exp) → IsExp g (plain_exp e) → exp_faults g e ≡ []
+exp_no_faults g = names_no_faults (use_faults g) g (uses g)
+
+-- where x is assigned
+apart_formed : (g : Shape) (x : tree.Name) (k : tree.Kind) (y : Name) → side_use_faults g x k y ≡ [] → kind_at (text_of y) (without x g) ≡ Some k
+apart_formed g x k (named y at) h =
+    without_other y x g (no_fault (same_name y x) _ (right_nil (use_faults g k (named y at)) _ h)) ∙ use_formed g k (named y at) (left_nil _ _ h)
+
+apart_by : (g : Shape) (x : tree.Name) (k : tree.Kind) (y : tree.Name) (at : Span) (b : Bool) → same_name y x ≡ b → kind_at y (without x g) ≡ Some k → side_use_faults g x k (named y at) ≡ []
 apart_by g x k y at true s h =
     let bad : None ≡ Some k = sym (without_same x g) ∙ ap (λ z. kind_at z (without x g)) (sym (same_name_true y x s)) ∙ h in
     cc
-apart_by g x k y at false s h = record { used = use_no_faults g k (named y at) (sym (without_other y x g s) ∙ h); self = fault_if_false (same_name y x) _ s }
+apart_by g x k y at false s h = both_nil _ _ (use_no_faults g k (named y at) (sym (without_other y x g s) ∙ h)) (fault_if_false (same_name y x) _ s)
 
-apart_no_faults : (g : Shape) (x : tree.Name) (k : tree.Kind) (y : Name) → kind_at (text_of y) (without x g) ≡ Some k → Apart g x k y
+apart_no_faults : (g : Shape) (x : tree.Name) (k : tree.Kind) (y : Name) → kind_at (text_of y) (without x g) ≡ Some k → side_use_faults g x k y ≡ []
 apart_no_faults g x k (named y at) h = apart_by g x k y at (same_name y x) refl h
 
--- ---- expressions
-
-pub exp_formed : (g : Shape) (e : Exp) → exp_faults g e ≡ [] → IsExp g (plain_exp e)
-exp_formed g (Num n at) h = tt
-exp_formed g (Var y) h = use_formed g tree.ANumber y h
-exp_formed g (Element a i) h = (use_formed g tree.AnArray a (left_nil _ _ h), exp_formed g i (right_nil (use_faults g tree.AnArray a) _ h))
-exp_formed g (EmptyOf y) h = use_formed g tree.AStack y h
-exp_formed g (TopOf y) h = use_formed g tree.AStack y h
-exp_formed g (Neg e) h = exp_formed g e h
-exp_formed g (Bin op l r) h = (exp_formed g l (left_nil _ _ h), exp_formed g r (right_nil (exp_faults g l) _ h))
-exp_formed g (And l r) h = (exp_formed g l (left_nil _ _ h), exp_formed g r (right_nil (exp_faults g l) _ h))
-exp_formed g (Or l r) h = (exp_formed g l (left_nil _ _ h), exp_formed g r (right_nil (exp_faults g l) _ h))
-
-pub exp_no_faults : (g : Shape) (e : Exp) → IsExp g (plain_exp e) → exp_faults g e ≡ []
-exp_no_faults g (Num n at) h = refl
-exp_no_faults g (Var y) h = use_no_faults g tree.ANumber y h
-exp_no_faults g (Element a i) h = both_nil _ _ (use_no_faults g tree.AnArray a h.0) (exp_no_faults g i h.1)
-exp_no_faults g (EmptyOf y) h = use_no_faults g tree.AStack y h
-exp_no_faults g (TopOf y) h = use_no_faults g tree.AStack y h
-exp_no_faults g (Neg e) h = exp_no_faults g e h
-exp_no_faults g (Bin op l r) h = both_nil _ _ (exp_no_faults g l h.0) (exp_no_faults g r h.1)
-exp_no_faults g (And l r) h = both_nil _ _ (exp_no_faults g l h.0) (exp_no_faults g r h.1)
-exp_no_faults g (Or l r) h = both_nil _ _ (exp_no_faults g l h.0) (exp_no_faults g r h.1)
-
--- an index or a right side, where x is assigned
-within_formed : (g : Shape) (x : tree.Name) (e : Exp) → exp_faults g e ≡ [] → self_faults x e ≡ [] → IsExp (without x g) (plain_exp e)
-within_formed g x (Num n at) h s = tt
-within_formed g x (Var y) h s = apart_formed g x tree.ANumber y h s
-within_formed g x (Element a i) h s =
-    (apart_formed g x tree.AnArray a (left_nil _ _ h) (left_nil _ _ s), within_formed g x i (right_nil (use_faults g tree.AnArray a) _ h) (right_nil (self_fault x a) _ s))
-within_formed g x (EmptyOf y) h s = apart_formed g x tree.AStack y h s
-within_formed g x (TopOf y) h s = apart_formed g x tree.AStack y h s
-within_formed g x (Neg e) h s = within_formed g x e h s
-within_formed g x (Bin op l r) h s = (within_formed g x l (left_nil _ _ h) (left_nil _ _ s), within_formed g x r (right_nil (exp_faults g l) _ h) (right_nil (self_faults x l) _ s))
-within_formed g x (And l r) h s = (within_formed g x l (left_nil _ _ h) (left_nil _ _ s), within_formed g x r (right_nil (exp_faults g l) _ h) (right_nil (self_faults x l) _ s))
-within_formed g x (Or l r) h s = (within_formed g x l (left_nil _ _ h) (left_nil _ _ s), within_formed g x r (right_nil (exp_faults g l) _ h) (right_nil (self_faults x l) _ s))
+side_uses : (g : Shape) (x : tree.Name) → AreUses (side_use_faults g x) (without x g)
+side_uses g x = record { formed = apart_formed g x; no_faults = apart_no_faults g x }
 
 side_formed : (g : Shape) (x : tree.Name) (e : Exp) → side_faults g x e ≡ [] → IsExp (without x g) (plain_exp e)
-side_formed g x e h = within_formed g x e (left_nil _ _ h) (right_nil (exp_faults g e) _ h)
-
-record Within (g : Shape) (x : tree.Name) (e : Exp) : Type 0 where
-  exp : exp_faults g e ≡ []
-  self : self_faults x e ≡ []
-
-abbrev two : (g : Shape) (x : tree.Name) (l r : Exp) → Within g x l → Within g x r → (exp_faults g l ++ exp_faults g r ≡ []) × (self_faults x l ++ self_faults x r ≡ [])
-two g x l r p q = (both_nil _ _ p.exp q.exp, both_nil _ _ p.self q.self)
-
-within_no_faults : (g : Shape) (x : tree.Name) (e : Exp) → IsExp (without x g) (plain_exp e) → Within g x e
-within_no_faults g x (Num n at) h = record { exp = refl; self = refl }
-within_no_faults g x (Var y) h = let a = apart_no_faults g x tree.ANumber y h in record { exp = a.used; self = a.self }
-within_no_faults g x (Element y i) h =
-    let a = apart_no_faults g x tree.AnArray y h.0 in
-    let w = within_no_faults g x i h.1 in
-    record { exp = both_nil _ _ a.used w.exp; self = both_nil _ _ a.self w.self }
-within_no_faults g x (EmptyOf y) h = let a = apart_no_faults g x tree.AStack y h in record { exp = a.used; self = a.self }
-within_no_faults g x (TopOf y) h = let a = apart_no_faults g x tree.AStack y h in record { exp = a.used; self = a.self }
-within_no_faults g x (Neg e) h = let w = within_no_faults g x e h in record { exp = w.exp; self = w.self }
-within_no_faults g x (Bin op l r) h = let t = two g x l r (within_no_faults g x l h.0) (within_no_faults g x r h.1) in record { exp = t.0; self = t.1 }
-within_no_faults g x (And l r) h = let t = two g x l r (within_no_faults g x l h.0) (within_no_faults g x r h.1) in record { exp = t.0; self = t.1 }
-within_no_faults g x (Or l r) h = let t = two g x l r (within_no_faults g x l h.0) (within_no_faults g x r h.1) in record { exp = t.0; self = t.1 }
+side_formed g x = names_formed (side_use_faults g x) (without x g) (side_uses g x)
 
 side_no_faults : (g : Shape) (x : tree.Name) (e : Exp) → IsExp (without x g) (plain_exp e) → side_faults g x e ≡ []
-side_no_faults g x e h = let w = within_no_faults g x e h in both_nil _ _ w.exp w.self
+side_no_faults g x = names_no_faults (side_use_faults g x) (without x g) (side_uses g x)
+
+-- at an end of a local, whose name is out of sight
+end_formed_by : (g : Shape) (k : tree.Kind) (y : Name) (at : Span) (b : Bool) → (if b then SelfUse at ∷ [] else use_faults g k y) ≡ [] → kind_at (text_of y) g ≡ Some k
+end_formed_by g k y at true h = cc
+end_formed_by g k y at false h = use_formed g k y h
+
+end_use_formed : (g : Shape) (x : tree.Name) (k : tree.Kind) (y : Name) → end_use_faults g x k y ≡ [] → kind_at (text_of y) g ≡ Some k
+end_use_formed g x k (named y at) h = end_formed_by g k (named y at) at (same_name y x) h
+
+end_by : (g : Shape) (x : tree.Name) (k : tree.Kind) (y : tree.Name) (at : Span) (b : Bool) → same_name y x ≡ b → kind_at x g ≡ None → kind_at y g ≡ Some k → end_use_faults g x k (named y at) ≡ []
+end_by g x k y at true s out h =
+    let bad : None ≡ Some k = sym out ∙ ap (λ z. kind_at z g) (sym (same_name_true y x s)) ∙ h in
+    cc
+end_by g x k y at false s out h = ap (λ b. if b then SelfUse at ∷ [] else use_faults g k (named y at)) s ∙ use_no_faults g k (named y at) h
+
+end_use_no_faults : (g : Shape) (x : tree.Name) → kind_at x g ≡ None → (k : tree.Kind) (y : Name) → kind_at (text_of y) g ≡ Some k → end_use_faults g x k y ≡ []
+end_use_no_faults g x out k (named y at) h = end_by g x k y at (same_name y x) refl out h
+
+end_uses : (g : Shape) (x : tree.Name) → kind_at x g ≡ None → AreUses (end_use_faults g x) g
+end_uses g x out = record { formed = end_use_formed g x; no_faults = end_use_no_faults g x out }
+
+-- a local's name without faults is new
+shadow_formed : (g : Shape) (x : Name) → shadow_faults g x ≡ [] → kind_at (text_of x) g ≡ None
+shadow_formed g (named x at) h = none_out (kind_at x g) (no_fault (is_in x g) _ h)
+
+shadow_no_faults : (g : Shape) (x : Name) → kind_at (text_of x) g ≡ None → shadow_faults g x ≡ []
+shadow_no_faults g (named x at) h = fault_if_false (is_in x g) _ (ap is_some h)
 
 -- ---- statements
 
@@ -189,6 +198,14 @@ mutual
   stm_formed hs g (Loop a s t b) h =
       let f = four (exp_faults g a) (block_faults g s) (block_faults g t) (exp_faults g b) h in
       (exp_formed g a f.0, block_formed hs g s f.1, block_formed hs g t f.2, exp_formed g b f.3)
+  stm_formed hs g (LocalInt x a s y b) h =
+      let inner = (text_of x, tree.ANumber) ∷ g in
+      let f = four (shadow_faults g x) (end_faults g (text_of x) a) (block_faults inner s) (end_faults g (text_of x) b) h in
+      let out = shadow_formed g x f.0 in
+      let ends = names_formed (end_use_faults g (text_of x)) g (end_uses g (text_of x) out) in
+      (out, ends a f.1, block_formed hs inner s f.2, ends b f.3)
+  stm_formed hs g (LocalStack x s y) h =
+      (shadow_formed g x (left_nil _ _ h), block_formed hs ((text_of x, tree.AStack) ∷ g) s (right_nil (shadow_faults g x) _ h))
 
   block_formed : (hs : Heads) (g : Shape) (b : Block) → block_faults g b ≡ [] → IsBlk hs g (plain_block b)
   block_formed hs g Empty h = tt
@@ -206,6 +223,12 @@ mutual
       all_four (exp_faults g a) (block_faults g s) (block_faults g t) (exp_faults g b) (exp_no_faults g a h.0) (block_no_faults hs g s h.1) (block_no_faults hs g t h.2) (exp_no_faults g b h.3)
   stm_no_faults hs g (Loop a s t b) h =
       all_four (exp_faults g a) (block_faults g s) (block_faults g t) (exp_faults g b) (exp_no_faults g a h.0) (block_no_faults hs g s h.1) (block_no_faults hs g t h.2) (exp_no_faults g b h.3)
+  stm_no_faults hs g (LocalInt x a s y b) h =
+      let inner = (text_of x, tree.ANumber) ∷ g in
+      let ends = names_no_faults (end_use_faults g (text_of x)) g (end_uses g (text_of x) h.0) in
+      all_four (shadow_faults g x) (end_faults g (text_of x) a) (block_faults inner s) (end_faults g (text_of x) b) (shadow_no_faults g x h.0) (ends a h.1) (block_no_faults hs inner s h.2) (ends b h.3)
+  stm_no_faults hs g (LocalStack x s y) h =
+      both_nil _ _ (shadow_no_faults g x h.0) (block_no_faults hs ((text_of x, tree.AStack) ∷ g) s h.1)
 
   block_no_faults : (hs : Heads) (g : Shape) (b : Block) → IsBlk hs g (plain_block b) → block_faults g b ≡ []
   block_no_faults hs g Empty h = refl

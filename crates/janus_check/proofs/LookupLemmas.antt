@@ -17,7 +17,7 @@ use Rattle.janus_meaning.specs.Syntax as tree
 use Rattle.janus_meaning.specs.Store.{same_name}
 use Rattle.janus_meaning.specs.Shape.{Shape, kind_at, pick_newest}
 use Rattle.janus_meaning.proofs.Stores.{same_name_true}
-use Rattle.janus_check.specs.Names.{meant_kind, kind_found, names_in, over, shape_in, AreNewNames}
+use Rattle.janus_check.specs.Names.{meant_kind, kind_found, over, shape_in, AreNewNames}
 use Rattle.janus_check.specs.declared.env.Kind.{Kind}
 
 -- an entry of the code as contracts see it
@@ -89,25 +89,3 @@ inserted_last m x k new absent =
 pub seen_last : {Y S : Type 0} (m : IndexMap (String Y) Kind S) (more : List (String Y × Kind)) (x : String Y) (k : Kind) → AreNewNames [] (map seen m.entries) → kind_at (string_bytes x) (shape_in (map seen m.entries)) ≡ None →
     more ≡ insert_entry string_eq m.entries x k → map seen more ≡ map seen m.entries ++ (string_bytes x, k) ∷ []
 seen_last m more x k new absent e = ap (map seen) (e ∙ inserted_last m x k new absent) ∙ map-append seen m.entries ((x, k) ∷ [])
-
--- the key that a look-up meets is the name that is looked up
-names_key : {Y : Type 0} (es : List (String Y × Kind)) (i : ℕ) (k : String Y) → slice_get (keys_of es) i ≡ Some k → slice_get (names_in (map seen es)) i ≡ Some (string_bytes k)
-names_key [] i k h = let bad : None ≡ Some k = sym (slice_get_past [] i (omega arith)) ∙ h in cc
-names_key (e ∷ es) zero k h = let same : e.0 ≡ k = cc in ap (λ k. Some (string_bytes k)) same
-names_key (e ∷ es) (suc i) k h = names_key es i k h
-
-within_is_some : {X : Type 0} (xs : List X) (i : ℕ) → i < length xs → slice_get xs i ≡ None → ⊥
-within_is_some [] i lt h = omega arith
-within_is_some (x ∷ xs) zero lt h = cc
-within_is_some (x ∷ xs) (suc i) lt h = within_is_some xs i (omega arith) h
-
-key_at : {Y : Type 0} (x : List ℕ) (es : List (String Y × Kind)) (i : ℕ) (r : Option (String Y)) → i < length (keys_of es) → slice_get (keys_of es) i ≡ r → lookup_key (λ k. bytes_eq x (string_bytes k)) es ≡ r → slice_get (names_in (map seen es)) i ≡ Some x
-key_at x es i None lt h f = absurd (within_is_some (keys_of es) i lt h)
-key_at x es i (Some k) lt h f =
-    names_key es i k h ∙ ap Some (sym ((bytes_eq-Decides x (string_bytes k)).0 (lookup_key_passes (λ k. bytes_eq x (string_bytes k)) es k f)))
-
-pub place_found : {Y : Type 0} (x : List ℕ) (es : List (String Y × Kind)) (r : Option ℕ) → r ≡ position (λ k. bytes_eq x (string_bytes k)) (keys_of es) → IfSome r (λ i. slice_get (names_in (map seen es)) i ≡ Some x)
-place_found x es None e = tt
-place_found x es (Some i) e =
-    let f = Found-position (λ k. bytes_eq x (string_bytes k)) es i (sym e) in
-    key_at x es i (slice_get (keys_of es) i) (omega (arith, f.within, length-map es (λ e. e.0))) refl f.key

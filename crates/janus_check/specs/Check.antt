@@ -5,11 +5,11 @@ use Rattle.janus_meaning.specs.Syntax as tree
 use Rattle.janus_meaning.specs.Store.{same_name}
 use Rattle.janus_meaning.specs.Shape.{Shape, kind_at, stack_count}
 use Rattle.janus_syntax.specs.declared.token.Span.{Span}
-use Rattle.janus_syntax.specs.Tree.{Name, named, Exp, Num, Var, Element, EmptyOf, TopOf, Neg, Bin, And, Or, Stm, Skip, Assign, AssignElement, Push, Pop, If, Loop, Block, Empty, More, Declaration, Int, Array, StackOf, Cell, cell_of}
+use Rattle.janus_syntax.specs.Tree.{Name, named, Exp, Num, Var, Element, EmptyOf, TopOf, Neg, Bin, And, Or, Stm, Skip, Assign, AssignElement, Push, Pop, If, Loop, LocalInt, LocalStack, Block, Empty, More, Declaration, Int, Array, StackOf, Cell, cell_of}
 use Rattle.janus_syntax.specs.View.{text_of}
 use Rattle.janus_check.specs.Names.{is_in}
 use Rattle.janus_check.specs.declared.fault.CheckFault.{CheckFault}
-use Rattle.janus_check.specs.declared.fault.CheckFault.TheVariants.{Declared, Unknown, WrongKind, SelfUse, TooMany, ArrayLength}
+use Rattle.janus_check.specs.declared.fault.CheckFault.TheVariants.{Declared, Unknown, WrongKind, SelfUse, Shadow, TooMany, ArrayLength}
 
 -- a fault, where there is one
 abbrev pub fault_if : Bool → CheckFault → List CheckFault
@@ -74,37 +74,48 @@ is_other k (Some found) = not (same_kind found k)
 abbrev pub use_faults : Shape → tree.Kind → Name → List CheckFault
 use_faults g k (named y at) = fault_if (not (is_in y g)) (Unknown at) ++ fault_if (is_other k (kind_at y g)) (WrongKind at)
 
+-- the faults of the names in an expression, each used as one of a kind
+abbrev pub faults_of : (tree.Kind → Name → List CheckFault) → Exp → List CheckFault
+faults_of u (Num n at) = []
+faults_of u (Var y) = u tree.ANumber y
+faults_of u (Element a i) = u tree.AnArray a ++ faults_of u i
+faults_of u (EmptyOf y) = u tree.AStack y
+faults_of u (TopOf y) = u tree.AStack y
+faults_of u (Neg e) = faults_of u e
+faults_of u (Bin op l r) = faults_of u l ++ faults_of u r
+faults_of u (And l r) = faults_of u l ++ faults_of u r
+faults_of u (Or l r) = faults_of u l ++ faults_of u r
+
 -- the faults of an expression
 abbrev pub exp_faults : Shape → Exp → List CheckFault
-exp_faults g (Num n at) = []
-exp_faults g (Var y) = use_faults g tree.ANumber y
-exp_faults g (Element a i) = use_faults g tree.AnArray a ++ exp_faults g i
-exp_faults g (EmptyOf y) = use_faults g tree.AStack y
-exp_faults g (TopOf y) = use_faults g tree.AStack y
-exp_faults g (Neg e) = exp_faults g e
-exp_faults g (Bin op l r) = exp_faults g l ++ exp_faults g r
-exp_faults g (And l r) = exp_faults g l ++ exp_faults g r
-exp_faults g (Or l r) = exp_faults g l ++ exp_faults g r
+exp_faults g e = faults_of (use_faults g) e
 
--- the uses of the assigned name x in its own index or right side
+-- a use of the assigned name x in its own index or right side
 abbrev pub self_fault : tree.Name → Name → List CheckFault
 self_fault x (named y at) = fault_if (same_name y x) (SelfUse at)
 
-abbrev pub self_faults : tree.Name → Exp → List CheckFault
-self_faults x (Num n at) = []
-self_faults x (Var y) = self_fault x y
-self_faults x (Element a i) = self_fault x a ++ self_faults x i
-self_faults x (EmptyOf y) = self_fault x y
-self_faults x (TopOf y) = self_fault x y
-self_faults x (Neg e) = self_faults x e
-self_faults x (Bin op l r) = self_faults x l ++ self_faults x r
-self_faults x (And l r) = self_faults x l ++ self_faults x r
-self_faults x (Or l r) = self_faults x l ++ self_faults x r
+-- the faults of a use where x is assigned
+abbrev pub side_use_faults : Shape → tree.Name → tree.Kind → Name → List CheckFault
+side_use_faults g x k y = use_faults g k y ++ self_fault x y
 
--- the faults of an expression in which the assigned name x may not be used
+-- the faults of an index or a right side where x is assigned
 abbrev pub side_faults : Shape → tree.Name → Exp → List CheckFault
-side_faults g x e = exp_faults g e ++ self_faults x e
+side_faults g x e = faults_of (side_use_faults g x) e
 
+-- The faults of a use in one of the two expressions of a local named x. The local itself is out of sight there, and so
+-- is told as such alone.
+abbrev pub end_use_faults : Shape → tree.Name → tree.Kind → Name → List CheckFault
+end_use_faults g x k (named y at) = if same_name y x then SelfUse at ∷ [] else use_faults g k (named y at)
+
+-- the faults of one of the two expressions of a local named x
+abbrev pub end_faults : Shape → tree.Name → Exp → List CheckFault
+end_faults g x e = faults_of (end_use_faults g x) e
+
+-- the faults of a local's name
+abbrev pub shadow_faults : Shape → Name → List CheckFault
+shadow_faults g (named x at) = fault_if (is_in x g) (Shadow at)
+
+-- In a local's statements its name is in sight, newest of all; what stands behind `delocal` adds nothing.
 abbrev mutual
   pub stm_faults : Shape → Stm → List CheckFault
   stm_faults g Skip = []
@@ -114,6 +125,8 @@ abbrev mutual
   stm_faults g (Pop x y) = use_faults g tree.ANumber x ++ use_faults g tree.AStack y
   stm_faults g (If a s t b) = exp_faults g a ++ block_faults g s ++ block_faults g t ++ exp_faults g b
   stm_faults g (Loop a s t b) = exp_faults g a ++ block_faults g s ++ block_faults g t ++ exp_faults g b
+  stm_faults g (LocalInt x a s y b) = shadow_faults g x ++ end_faults g (text_of x) a ++ block_faults ((text_of x, tree.ANumber) ∷ g) s ++ end_faults g (text_of x) b
+  stm_faults g (LocalStack x s y) = shadow_faults g x ++ block_faults ((text_of x, tree.AStack) ∷ g) s
 
   pub block_faults : Shape → Block → List CheckFault
   block_faults g Empty = []

@@ -2,7 +2,7 @@
 use Rattle.std.specs.Prelude.{◌≡◌, ℕ, Bool, false, ◌&&◌, ◌||◌, ◌==◌, nat_lt, Option, Some, None, List, [], ◌∷◌, codes, Contains, All, if◌then◌else◌}
 use Rattle.janus_syntax.specs.declared.token.Span.{Span}
 use Rattle.janus_check.specs.declared.fault.CheckFault.{CheckFault}
-use Rattle.janus_check.specs.declared.fault.CheckFault.TheVariants.{Declared, Unknown, WrongKind, SelfUse, TooMany, ArrayLength, Memory}
+use Rattle.janus_check.specs.declared.fault.CheckFault.TheVariants.{Declared, Unknown, WrongKind, SelfUse, Shadow, TooMany, ArrayLength, Memory}
 
 abbrev pub number_of : CheckFault → ℕ
 number_of Memory = 35
@@ -10,6 +10,7 @@ number_of (Declared at) = 40
 number_of (Unknown at) = 41
 number_of (WrongKind at) = 42
 number_of (SelfUse at) = 43
+number_of (Shadow at) = 46
 number_of (TooMany at) = 48
 number_of (ArrayLength at) = 49
 
@@ -19,6 +20,7 @@ fault_name (Declared at) = codes "Declared"
 fault_name (Unknown at) = codes "Unknown"
 fault_name (WrongKind at) = codes "WrongKind"
 fault_name (SelfUse at) = codes "SelfUse"
+fault_name (Shadow at) = codes "Shadow"
 fault_name (TooMany at) = codes "TooMany"
 fault_name (ArrayLength at) = codes "ArrayLength"
 
@@ -28,6 +30,7 @@ span_of (Declared at) = Some at
 span_of (Unknown at) = Some at
 span_of (WrongKind at) = Some at
 span_of (SelfUse at) = Some at
+span_of (Shadow at) = Some at
 span_of (TooMany at) = Some at
 span_of (ArrayLength at) = Some at
 
@@ -37,6 +40,7 @@ start_of (Declared at) = at.start
 start_of (Unknown at) = at.start
 start_of (WrongKind at) = at.start
 start_of (SelfUse at) = at.start
+start_of (Shadow at) = at.start
 start_of (TooMany at) = at.start
 start_of (ArrayLength at) = at.start
 
@@ -46,6 +50,7 @@ end_of (Declared at) = at.end
 end_of (Unknown at) = at.end
 end_of (WrongKind at) = at.end
 end_of (SelfUse at) = at.end
+end_of (Shadow at) = at.end
 end_of (TooMany at) = at.end
 end_of (ArrayLength at) = at.end
 

@@ -1,5 +1,6 @@
 pub mod Fault
 pub mod Names
 pub mod Check
+pub mod Sight
 pub mod WellFormed
 pub mod Checked

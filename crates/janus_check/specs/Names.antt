@@ -28,10 +28,6 @@ over g (e ∷ es) = over ((e.0, meant_kind e.1) ∷ g) es
 abbrev pub shape_in : List (List ℕ × Kind) → Shape
 shape_in names = over [] names
 
--- the names alone, in order of declaration
-abbrev pub names_in : List (List ℕ × Kind) → List tree.Name
-names_in names = map (λ e. e.0) names
-
 -- none of the names is in sight when it is declared
 abbrev pub AreNewNames : Shape → List (List ℕ × Kind) → Type 0
 AreNewNames g [] = Unit {0}

@@ -12,7 +12,7 @@ ghost use Rattle.janus_check.specs.declared.fault.CheckFault.TheVariants.{Declar
 use crate::checked::Checked;
 use crate::env::{Env, Kind};
 use crate::fault::{CheckFault, sooner};
-use crate::sight::kind_in_sight;
+use crate::sight::{Sight, kind_declared};
 use crate::statement::block_fault;
 use janus_syntax::token::Span;
 use janus_syntax::tree::{Cell, Declaration, Name};
@@ -47,7 +47,8 @@ fn first_fault(alloc: Global, env: &Env, cell: &Cell) -> Result<Option<CheckFaul
 {
     let mut own = Env::new(alloc);
     let first = declare_all(env, &mut own, &cell.declarations, None)?;
-    Ok(block_fault(env, &own, &cell.statements, first))
+    let sight = Sight::Declared(&*env, &own);
+    Ok(block_fault(&cell.statements, &sight, first))
 }
 
 /// The first fault after one more declaration, whose name is then declared if there is room for it.
@@ -86,7 +87,7 @@ fn declare_name(
     ensures fault { IfOk result (λ next. next ≡ first_from first (name_faults (over (shape_in env.now) own.old) (name_of name.now) name.now.span)) }
     ensures names { OnOk result (over (shape_in env.now) own.new ≡ extended (over (shape_in env.now) own.old) (name_of name.now) (meant_kind kind)) }
 {
-    let known = kind_in_sight(env, own, name).is_some();
+    let known = kind_declared(env, own, name).is_some();
     let full = is_full(env, own);
     let next = declaration_fault(known, full, name.span, first);
     if !known && !full {

@@ -1,7 +1,7 @@
 //! The names that are declared already.
-ghost use Rattle.std.specs.Prelude.{◌≡◌, ◌↔◌, Some, None, IsTrue, IfSome, OnOk, OnErr, [], ◌∷◌, ◌++◌, length, slice_get, string_bytes, ◌<◌, ◌^◌};
+ghost use Rattle.std.specs.Prelude.{◌≡◌, ◌↔◌, None, IsTrue, OnOk, OnErr, [], ◌∷◌, ◌++◌, length, string_bytes, ◌<◌, ◌^◌};
 ghost use Rattle.janus_meaning.specs.Shape.{kind_at, count_stack, stack_count};
-ghost use Rattle.janus_check.specs.Names.{kind_found, meant_kind, names_in, shape_in};
+ghost use Rattle.janus_check.specs.Names.{kind_found, meant_kind, shape_in};
 
 use indexmap::IndexMap;
 use std::alloc::{AllocError, Global};
@@ -64,14 +64,6 @@ impl Env {
         ensures { kind_found result ≡ kind_at name.now (shape_in self.now) }
     {
         self.names.get(name).copied()
-    }
-
-    /// Where a name stands in the order of declaration, the oldest being 0, if it is there.
-    pub fn place(&self, name: &str) -> Option<usize>
-        ensures found { IfSome result (λ place. slice_get (names_in self.now) place ≡ Some name.now) }
-        ensures missing { result ≡ None → kind_at name.now (shape_in self.now) ≡ None }
-    {
-        self.names.get_index_of(name)
     }
 
     /// How many names there are.

@@ -18,9 +18,12 @@ pub enum CheckFault {
     /// A name whose kind doesn't fit its use.
     #[error("WrongKind")]
     WrongKind(Span),
-    /// The assigned name in its own index or right side.
+    /// The assigned name in its own index or right side, or a local's name in one of its own two expressions.
     #[error("SelfUse")]
     SelfUse(Span),
+    /// A local's name that is in sight already.
+    #[error("Shadow")]
+    Shadow(Span),
     /// The name past the limit of declared names, or the stack's past that of stacks.
     #[error("TooMany")]
     TooMany(Span),
@@ -43,6 +46,7 @@ impl CheckFault {
             CheckFault::Unknown(_) => 41,
             CheckFault::WrongKind(_) => 42,
             CheckFault::SelfUse(_) => 43,
+            CheckFault::Shadow(_) => 46,
             CheckFault::TooMany(_) => 48,
             CheckFault::ArrayLength(_) => 49,
         }
@@ -58,6 +62,7 @@ impl CheckFault {
             CheckFault::Unknown(_) => "Unknown",
             CheckFault::WrongKind(_) => "WrongKind",
             CheckFault::SelfUse(_) => "SelfUse",
+            CheckFault::Shadow(_) => "Shadow",
             CheckFault::TooMany(_) => "TooMany",
             CheckFault::ArrayLength(_) => "ArrayLength",
         }
@@ -73,6 +78,7 @@ impl CheckFault {
             CheckFault::Unknown(at) => Some(at),
             CheckFault::WrongKind(at) => Some(at),
             CheckFault::SelfUse(at) => Some(at),
+            CheckFault::Shadow(at) => Some(at),
             CheckFault::TooMany(at) => Some(at),
             CheckFault::ArrayLength(at) => Some(at),
         }

@@ -2,8 +2,9 @@
 //!
 //! A cell is checked over the names that are declared already. What passes is a `Checked`, and it is exactly the
 //! cells without a fault of the table: a name declared twice, a name out of sight or of another kind, an assigned name
-//! in its own index or right side, too many names or stacks, an array's length out of its range. Of several faults the one that stands
-//! first in the text is told, and at one place the one with the smaller number. What passes meets the well-formedness on which the laws of `janus_meaning` stand.
+//! in its own index or right side, a local's name in its own two expressions or in sight already, too many names or stacks,
+//! an array's length out of its range. Of several faults the one that stands first in the text is told, and at one place the
+//! one with the smaller number. What passes meets the well-formedness on which the laws of `janus_meaning` stand.
 //!
 //! The rules are those of Janus (Yokoyama and Glück 2007; Yokoyama, Axelsen and Glück 2008), with this kernel's
 //! limits.

@@ -1,47 +1,58 @@
 //! The check of statements and blocks.
 ghost use Rattle.std.specs.Prelude.{◌≡◌};
 ghost use Rattle.janus_syntax.specs.Tree.{stm_view, block_view};
-ghost use Rattle.janus_check.specs.Names.{shape_in, over};
 ghost use Rattle.janus_check.specs.Fault.{first_from};
 ghost use Rattle.janus_check.specs.Check.{stm_faults, block_faults};
+ghost use Rattle.janus_check.specs.Sight.{in_sight};
 
-use crate::env::{Env, Kind};
-use crate::expression::{exp_fault, side_fault};
+use crate::env::Kind;
+use crate::expression::{Standing, exp_fault};
 use crate::fault::CheckFault;
-use crate::sight::use_fault;
+use crate::sight::{Sight, shadow_fault, use_fault};
 use janus_syntax::tree::Stm;
 
 /// The first fault after a statement.
 #[cycle(stm_fault)]
-fn stm_fault(env: &Env, own: &Env, stm: &Stm, first: Option<CheckFault>) -> Option<CheckFault>
-    ensures { result ≡ first_from first (stm_faults (over (shape_in env.now) own.now) (stm_view stm.now)) }
+fn stm_fault(stm: &Stm, sight: &Sight, first: Option<CheckFault>) -> Option<CheckFault>
+    ensures { result ≡ first_from first (stm_faults (in_sight sight.now) (stm_view stm.now)) }
 {
     match stm {
         Stm::Skip => first,
         Stm::Assign(name, _, exp) => {
-            let next = use_fault(env, own, Kind::Number, name, first);
-            side_fault(env, own, name, exp, next)
+            let next = use_fault(sight, Kind::Number, name, first);
+            exp_fault(exp, &Standing::Assigning(&*sight, &*name), next)
         }
         Stm::AssignElement(name, index, _, exp) => {
-            let next = use_fault(env, own, Kind::Array, name, first);
-            let next = side_fault(env, own, name, index, next);
-            side_fault(env, own, name, exp, next)
+            let side = Standing::Assigning(&*sight, &*name);
+            let next = use_fault(sight, Kind::Array, name, first);
+            let next = exp_fault(index, &side, next);
+            exp_fault(exp, &side, next)
         }
         Stm::Push(variable, stack) | Stm::Pop(variable, stack) => {
-            let next = use_fault(env, own, Kind::Number, variable, first);
-            use_fault(env, own, Kind::Stack, stack, next)
+            let next = use_fault(sight, Kind::Number, variable, first);
+            use_fault(sight, Kind::Stack, stack, next)
         }
         Stm::If(test, then_part, else_part, last) => {
-            let next = exp_fault(env, own, test, first);
-            let next = block_fault(env, own, then_part, next);
-            let next = block_fault(env, own, else_part, next);
-            exp_fault(env, own, last, next)
+            let next = exp_fault(test, &Standing::Free(&*sight), first);
+            let next = block_fault(then_part, sight, next);
+            let next = block_fault(else_part, sight, next);
+            exp_fault(last, &Standing::Free(&*sight), next)
         }
         Stm::Loop(entry, do_part, loop_part, exit) => {
-            let next = exp_fault(env, own, entry, first);
-            let next = block_fault(env, own, do_part, next);
-            let next = block_fault(env, own, loop_part, next);
-            exp_fault(env, own, exit, next)
+            let next = exp_fault(entry, &Standing::Free(&*sight), first);
+            let next = block_fault(do_part, sight, next);
+            let next = block_fault(loop_part, sight, next);
+            exp_fault(exit, &Standing::Free(&*sight), next)
+        }
+        Stm::LocalInt(name, begin, body, _, end) => {
+            let next = shadow_fault(sight, name, first);
+            let next = exp_fault(begin, &Standing::EndOfLocal(&*sight, &*name), next);
+            let next = block_fault(body, &Sight::Local(&*name, Kind::Number, &*sight), next);
+            exp_fault(end, &Standing::EndOfLocal(&*sight, &*name), next)
+        }
+        Stm::LocalStack(name, body, _) => {
+            let next = shadow_fault(sight, name, first);
+            block_fault(body, &Sight::Local(&*name, Kind::Stack, &*sight), next)
         }
     }
 }
@@ -49,16 +60,15 @@ fn stm_fault(env: &Env, own: &Env, stm: &Stm, first: Option<CheckFault>) -> Opti
 /// The first fault after the statements.
 #[cycle(stm_fault)]
 pub(crate) fn block_fault(
-    env: &Env,
-    own: &Env,
     statements: &[Stm],
+    sight: &Sight,
     first: Option<CheckFault>,
 ) -> Option<CheckFault>
-    ensures { result ≡ first_from first (block_faults (over (shape_in env.now) own.now) (block_view statements.now)) }
+    ensures { result ≡ first_from first (block_faults (in_sight sight.now) (block_view statements.now)) }
 {
     let mut next = first;
     for i in 0..statements.len() {
-        next = stm_fault(env, own, &statements[i], next);
+        next = stm_fault(&statements[i], sight, next);
     }
     next
 }

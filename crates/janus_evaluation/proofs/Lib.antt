@@ -1,4 +1,5 @@
 pub mod Assigns
+pub mod Ends
 pub mod Numbers
 pub mod Sizes
 pub mod Transfers

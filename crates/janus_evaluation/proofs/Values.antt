@@ -1,11 +1,11 @@
 -- The value of an expression from those of its parts.
-use Rattle.std.proofs.Common.{◌≡◌, ℕ, ℤ, pos, neg_ℤ, Bool, true, false, List, [], ◌∷◌, refl, ap, ◌∙◌, sym}
+use Rattle.std.proofs.Common.{◌≡◌, ℤ, neg_ℤ, Bool, true, false, List, refl, ap, ◌∙◌}
 use Rattle.janus_meaning.specs.Fault.{Fault, Res, Fine, Bad, Broken, and_then}
 use Rattle.janus_meaning.specs.Word.{Operator, wrap, bit, nonzero, operate}
 use Rattle.janus_meaning.specs.Syntax.{Name, Exp, Var, At, Empty, Top, Negate, Binary, And, Or}
 use Rattle.janus_meaning.specs.Store.{Val, Num, Arr, Stk, Lent, Store, Bare, Slot, same_name, look, look_at, number, array, stack, element}
 use Rattle.janus_meaning.specs.Value.{value, both, either, first, is_none}
-use Rattle.janus_store.specs.Stores.{IsArray, IsStack}
+use Rattle.janus_store.specs.Stores.{IsNumber, IsArray, IsStack}
 
 -- nothing but `Broken` keeps a name from being found
 
@@ -27,6 +27,17 @@ module _ (s : Store) where
   pub variable_is : (x : Name) → value (Var x) s ≡ and_then (look x s) number
   unfolding value
   variable_is x = refl
+
+  number_by : (r : Res Val) → ((f : Fault) → r ≡ Bad f → f ≡ Broken) → (and_then r number ≡ Bad Broken → ⊥) → IsNumber r
+  number_by (Bad f) h safe = absurd (safe (ap Bad (h f refl)))
+  number_by (Fine (Num n)) h safe = (n, refl)
+  number_by (Fine (Arr l)) h safe = absurd (safe refl)
+  number_by (Fine (Stk l)) h safe = absurd (safe refl)
+  number_by (Fine Lent) h safe = absurd (safe refl)
+
+  -- the name of a variable is that of a number
+  pub is_number : (x : Name) → (value (Var x) s ≡ Bad Broken → ⊥) → IsNumber (look x s)
+  is_number x safe = number_by (look x s) (look_bad x s) (λ h. safe (variable_is x ∙ h))
 
   abbrev at_of : Exp → Res Val → Res ℤ
   at_of i r = and_then r (λ v. and_then (array v) (λ l. and_then (value i s) (λ k. element l k)))

@@ -2,12 +2,11 @@
 
 ghost use Rattle.std.specs.Prelude.{◌≡◌, ◌≢◌, string_bytes};
 ghost use Rattle.janus_meaning.specs.Fault.{Bad, Broken};
-ghost use Rattle.janus_meaning.specs.Store.{cleared};
 ghost use Rattle.janus_meaning.specs.Moves.{assign as assign_of, assign_at as assign_at_of};
 ghost use Rattle.janus_syntax.specs.View.{update_of};
-ghost use Rattle.janus_store.specs.Stores.{names_in};
+ghost use Rattle.janus_store.specs.Held.{IsLike};
 ghost use Rattle.janus_invert.specs.Expressions.{exp_of};
-ghost use Rattle.janus_invert.specs.Placed.{IsAt, IsPlaced};
+ghost use Rattle.janus_invert.specs.Numbered.{HasItsNumber, HasNumbers};
 ghost use Rattle.janus_evaluation.specs.Results.{IsDone, IsCounted, IsWrittenOnce};
 
 use crate::expression::value;
@@ -18,7 +17,7 @@ use janus_store::{Store, Writes};
 use janus_syntax::tree::Update;
 use std::sync::ledger::Ledger;
 
-/// An assignment to a variable, whose right side does not name it. Names stand at their places. A fault leaves the store.
+/// An assignment to a variable, whose right side does not name it. Names have their numbers. A fault leaves the store.
 pub fn assign<L: Ledger>(
     name: &Symbol,
     update: Update,
@@ -26,11 +25,11 @@ pub fn assign<L: Ledger>(
     store: &mut Store<L>,
     writes: &mut Writes<L>,
 ) -> Result<(), ValueFault>
-    requires safe { assign_of (string_bytes name.now.text) (update_of update) (exp_of exp.now) store.old ≢ Bad Broken }
-    requires at { IsAt (names_in store.old) name.now }
-    requires placed { IsPlaced (names_in store.old) exp.now }
-    ensures done { IsDone (assign_of (string_bytes name.now.text) (update_of update) (exp_of exp.now) store.old) store.old store.new result }
-    ensures shape { cleared store.new ≡ cleared store.old }
+    requires safe { assign_of (string_bytes name.now.text) (update_of update) (exp_of exp.now) store.old.sight ≢ Bad Broken }
+    requires at { HasItsNumber store.old.names name.now }
+    requires numbered { HasNumbers store.old.names exp.now }
+    ensures done { IsDone (assign_of (string_bytes name.now.text) (update_of update) (exp_of exp.now) store.old.sight) store.old.sight store.new.sight result }
+    ensures shape { IsLike store.old store.new }
     ensures counted { IsCounted result writes.old writes.new }
     ensures once { IsWrittenOnce result writes.old writes.new }
 {
@@ -38,14 +37,14 @@ pub fn assign<L: Ledger>(
         Ok(operand) => operand,
         Err(fault) => return Err(fault),
     };
-    let Some(old) = store.get(name.place) else {
+    let Some(old) = store.get(name.number) else {
         unreachable!()
     };
-    store.set(name.place, changed(update, old, operand), writes);
+    store.set(name.number, changed(update, old, operand), writes);
     Ok(())
 }
 
-/// An assignment to an element of an array, which neither index nor right side names. Names stand at their places. Index and range come before the right
+/// An assignment to an element of an array, which neither index nor right side names. Names have their numbers. Index and range come before the right
 /// side. A fault leaves the store.
 pub fn assign_element<L: Ledger>(
     name: &Symbol,
@@ -55,12 +54,12 @@ pub fn assign_element<L: Ledger>(
     store: &mut Store<L>,
     writes: &mut Writes<L>,
 ) -> Result<(), ValueFault>
-    requires safe { assign_at_of (string_bytes name.now.text) (exp_of index.now) (update_of update) (exp_of exp.now) store.old ≢ Bad Broken }
-    requires at { IsAt (names_in store.old) name.now }
-    requires index_placed { IsPlaced (names_in store.old) index.now }
-    requires placed { IsPlaced (names_in store.old) exp.now }
-    ensures done { IsDone (assign_at_of (string_bytes name.now.text) (exp_of index.now) (update_of update) (exp_of exp.now) store.old) store.old store.new result }
-    ensures shape { cleared store.new ≡ cleared store.old }
+    requires safe { assign_at_of (string_bytes name.now.text) (exp_of index.now) (update_of update) (exp_of exp.now) store.old.sight ≢ Bad Broken }
+    requires at { HasItsNumber store.old.names name.now }
+    requires index_placed { HasNumbers store.old.names index.now }
+    requires numbered { HasNumbers store.old.names exp.now }
+    ensures done { IsDone (assign_at_of (string_bytes name.now.text) (exp_of index.now) (update_of update) (exp_of exp.now) store.old.sight) store.old.sight store.new.sight result }
+    ensures shape { IsLike store.old store.new }
     ensures counted { IsCounted result writes.old writes.new }
     ensures once { IsWrittenOnce result writes.old writes.new }
 {
@@ -68,13 +67,13 @@ pub fn assign_element<L: Ledger>(
         Ok(index) => index,
         Err(fault) => return Err(fault),
     };
-    let Some(old) = store.element(name.place, index) else {
+    let Some(old) = store.element(name.number, index) else {
         return Err(ValueFault::IndexRange);
     };
     let operand = match value(exp, store) {
         Ok(operand) => operand,
         Err(fault) => return Err(fault),
     };
-    store.set_element(name.place, index, changed(update, old, operand), writes);
+    store.set_element(name.number, index, changed(update, old, operand), writes);
     Ok(())
 }

@@ -5,10 +5,11 @@ ghost use Rattle.std.specs.Prelude.{List, ℤ};
 ghost use Rattle.janus_meaning.specs.Fault.{Fine, Bad, Broken};
 ghost use Rattle.janus_meaning.specs.Store.{Arr, Stk, look, element as element_of};
 ghost use Rattle.janus_meaning.specs.Syntax.{Name};
-ghost use Rattle.janus_store.specs.Stores.{IsArray, IsStack, IsNamed, names_in};
+ghost use Rattle.janus_store.specs.Stores.{IsArray, IsStack};
+ghost use Rattle.janus_store.specs.Held.{IsName};
 ghost use Rattle.janus_meaning.specs.Value.{value as value_of, test as test_of, both, first as first_of};
 ghost use Rattle.janus_invert.specs.Expressions.{exp_of};
-ghost use Rattle.janus_invert.specs.Placed.{IsPlaced};
+ghost use Rattle.janus_invert.specs.Numbered.{HasNumbers};
 ghost use Rattle.janus_evaluation.specs.Results.{result_of, truth_of};
 
 use crate::fault::ValueFault;
@@ -17,12 +18,12 @@ use janus_invert::code::Exp;
 use janus_store::Store;
 use std::sync::ledger::Ledger;
 
-/// Whether an expression is not 0, or its first fault. Its names are declared, each as what its use wants, and stand at
-/// their places.
+/// Whether an expression is not 0, or its first fault. Its names are declared, each as what its use wants, and have their
+/// numbers.
 pub fn test<L: Ledger>(exp: &Exp, store: &Store<L>) -> Result<bool, ValueFault>
-    requires safe { test_of (exp_of exp.now) store.now ≢ Bad Broken }
-    requires placed { IsPlaced (names_in store.now) exp.now }
-    ensures { truth_of result ≡ test_of (exp_of exp.now) store.now }
+    requires safe { test_of (exp_of exp.now) store.now.sight ≢ Bad Broken }
+    requires numbered { HasNumbers store.now.names exp.now }
+    ensures { truth_of result ≡ test_of (exp_of exp.now) store.now.sight }
 {
     match value(exp, store) {
         Ok(number) => Ok(holds(number)),
@@ -30,25 +31,25 @@ pub fn test<L: Ledger>(exp: &Exp, store: &Store<L>) -> Result<bool, ValueFault>
     }
 }
 
-/// The number of an expression, or the first fault from left to right. Its names are declared, each as what its use wants, and stand at
-/// their places.
+/// The number of an expression, or the first fault from left to right. Its names are declared, each as what its use wants, and have their
+/// numbers.
 pub fn value<L: Ledger>(exp: &Exp, store: &Store<L>) -> Result<i32, ValueFault>
-    requires safe { value_of (exp_of exp.now) store.now ≢ Bad Broken }
-    requires placed { IsPlaced (names_in store.now) exp.now }
-    ensures { result_of result ≡ value_of (exp_of exp.now) store.now }
+    requires safe { value_of (exp_of exp.now) store.now.sight ≢ Bad Broken }
+    requires numbered { HasNumbers store.now.names exp.now }
+    ensures { result_of result ≡ value_of (exp_of exp.now) store.now.sight }
 {
     match exp {
         Exp::Number(number) => Ok(number.cast_signed()),
-        Exp::Variable(name) => match store.get(name.place) {
+        Exp::Variable(name) => match store.get(name.number) {
             Some(number) => Ok(number),
             None => unreachable!(),
         },
         Exp::Element(name, index) => match value(index, store) {
-            Ok(index) => element(name.place, index, store),
+            Ok(index) => element(name.number, index, store),
             Err(fault) => Err(fault),
         },
-        Exp::Empty(name) => Ok(bit_of(store.is_empty(name.place))),
-        Exp::Top(name) => top(name.place, store),
+        Exp::Empty(name) => Ok(bit_of(store.is_empty(name.number))),
+        Exp::Top(name) => top(name.number, store),
         Exp::Negative(operand) => match value(operand, store) {
             Ok(number) => Ok(negative(number)),
             Err(fault) => Err(fault),
@@ -83,23 +84,23 @@ pub fn value<L: Ledger>(exp: &Exp, store: &Store<L>) -> Result<i32, ValueFault>
     }
 }
 
-/// The element at an index of the array at a place; a fault for an index out of its range.
-fn element<L: Ledger>(place: usize, index: i32, store: &Store<L>) -> Result<i32, ValueFault>
-    requires { (x : Name) × IsNamed store.now place x × IsArray (look x store.now) }
-    ensures { (x : Name) (l : List ℤ) → IsNamed store.now place x → look x store.now ≡ Fine (Arr l) → result_of result ≡ element_of l index }
+/// The element at an index of the array of a number; a fault for an index out of its range.
+fn element<L: Ledger>(name: usize, index: i32, store: &Store<L>) -> Result<i32, ValueFault>
+    requires { (x : Name) × IsName store.now name x × IsArray (look x store.now.sight) }
+    ensures { (x : Name) (l : List ℤ) → IsName store.now name x → look x store.now.sight ≡ Fine (Arr l) → result_of result ≡ element_of l index }
 {
-    match store.element(place, index) {
+    match store.element(name, index) {
         Some(number) => Ok(number),
         None => Err(ValueFault::IndexRange),
     }
 }
 
-/// The newest value of the stack at a place; a fault where it is empty.
-fn top<L: Ledger>(place: usize, store: &Store<L>) -> Result<i32, ValueFault>
-    requires { (x : Name) × IsNamed store.now place x × IsStack (look x store.now) }
-    ensures { (x : Name) (l : List ℤ) → IsNamed store.now place x → look x store.now ≡ Fine (Stk l) → result_of result ≡ first_of l }
+/// The newest value of the stack of a number; a fault where it is empty.
+fn top<L: Ledger>(name: usize, store: &Store<L>) -> Result<i32, ValueFault>
+    requires { (x : Name) × IsName store.now name x × IsStack (look x store.now.sight) }
+    ensures { (x : Name) (l : List ℤ) → IsName store.now name x → look x store.now.sight ≡ Fine (Stk l) → result_of result ≡ first_of l }
 {
-    match store.top(place) {
+    match store.top(name) {
         Some(number) => Ok(number),
         None => Err(ValueFault::TopEmpty),
     }

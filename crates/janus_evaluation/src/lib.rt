@@ -10,10 +10,12 @@
 mod assignment;
 mod expression;
 mod fault;
+mod local;
 mod operator;
 mod transfer;
 
 pub use crate::assignment::{assign, assign_element};
 pub use crate::expression::{test, value};
 pub use crate::fault::ValueFault;
+pub use crate::local::{close_number, close_stack, open_number, open_stack};
 pub use crate::transfer::{pop, push};

@@ -8,13 +8,17 @@ use Rattle.janus_syntax.specs.declared.token.Sign.TheVariants as sign
 use Rattle.janus_syntax.specs.declared.token.Word.{Word}
 use Rattle.janus_syntax.specs.declared.token.Word.TheVariants as word
 use Rattle.janus_syntax.specs.declared.operator.Infix.{Infix}
+use Rattle.janus_syntax.specs.declared.tree.Kind.{Kind}
+use Rattle.janus_syntax.specs.declared.tree.Kind.TheVariants as kind
+use Rattle.janus_meaning.proofs.Stores.{same_name_self}
 use Rattle.janus_syntax.specs.Tokens.{Token, Name, Number, Sign_of, Word_of}
-use Rattle.janus_syntax.specs.Tree.{Name as Named, named, Exp, Num, EmptyOf, TopOf, Neg, Stm, Skip, Push, Pop, If, Loop, Block, Empty, More, Declaration, StackOf}
+use Rattle.janus_syntax.specs.Tree.{Name as Named, named, Exp, Num, EmptyOf, TopOf, Neg, Stm, Skip, Push, Pop, If, Loop, LocalInt, LocalStack, Block, Empty, More, Declaration, StackOf}
 use Rattle.janus_syntax.specs.Operators.{weakest, joined, sign_infix, operator_at}
-use Rattle.janus_syntax.specs.Forms.{Part, Declarations, Bound, Body, Statements, Else_part, Do_part, Loop_part, Target_index, Whole, Level, Chain, Index, Tree, Class, Seen, seen, The_word, The_sign, A_name, A_number, An_update, Form, done, take, part, close, Rule}
-use Rattle.janus_syntax.specs.Table.{rule, left_out, variable, assignment, declared, skip_block, sign_then, word_then, stack_then, variable_and_stack_then, whole, operand, chains, chain_rule, statement, declaration}
+use Rattle.janus_syntax.specs.Forms.{Part, Declarations, Bound, Body, Statements, Else_part, Do_part, Loop_part, Local, Target_index, Whole, Level, Chain, Index, Tree, Class, Seen, seen, The_word, The_sign, A_name, A_number, An_update, Same_kind, Same_name, Form, done, take, part, close, Rule}
+use Rattle.janus_syntax.specs.Table.{rule, left_out, variable, assignment, declared, skip_block, sign_then, word_then, stack_then, variable_and_stack_then, delocal_then, local_int, local_stack, whole, operand, chains, chain_rule, statement, declaration}
 use Rattle.janus_syntax.specs.Grammar
 use Rattle.janus_syntax.specs.Grammar.{Count, but_limits, entered, closed, Spells}
+use Rattle.janus_syntax.proofs.Agreed.{agreed, agreed_is, is_agreed, kind_word, kind_agreed}
 use Rattle.janus_grammar.specs.Derivation
 use Rattle.janus_grammar.specs.Derivation.{IsExpression, IsStatement, AreStatements, IsBody, IsOptional, IsDeclaration, AreDeclarations}
 
@@ -26,8 +30,8 @@ Spelled p f v from rest = (m : Count) → (m' : Count) × Spells but_limits p f 
 pub nothing_more : (p : Part) (v : Tree p) (rest : List Token) → Spelled p (done v) v rest rest
 nothing_more p v rest m = (m, Grammar.nothing_more)
 
-taken : {p : Part} {c : Class} (k : Seen c → Form p) (s : Seen c) (v : Tree p) (t : Token) (from rest : List Token) → seen c t ≡ Some s → Spelled p (k s) v from rest → Spelled p (take c k) v (t ∷ from) rest
-taken k s v t from rest is h m = let x = h m in (x.0, Grammar.token is x.1)
+taken : {p : Part} {c : Class} (k : Seen c → Form p) (s : Seen c) (v : Tree p) (t : Token) (from rest : List Token) → agreed c t ≡ Some s → Spelled p (k s) v from rest → Spelled p (take c k) v (t ∷ from) rest
+taken {c = c} k s v t from rest is h m = let x = h m in let y = agreed_is c t s is in (x.0, Grammar.token y.0 y.1 x.1)
 
 closes : {p : Part} (f : Form p) (v : Tree p) (from rest : List Token) → Spelled p f v from rest → Spelled p (close f) v from rest
 closes f v from rest h m = let x = h (closed m) in (x.0, Grammar.end_of_construct x.1)
@@ -102,6 +106,20 @@ pair_behind opening at comma place closing x y f v from rest h =
     (taken {c = A_name} (λ z. sign_then sign.Comma (take A_name (λ s. sign_then sign.Close (f z s)))) (named x at) v (Name x at) (Sign_of sign.Comma comma ∷ behind) rest refl
     (sign_behind sign.Comma comma (take A_name (λ s. sign_then sign.Close (f (named x at) s))) v behind rest refl
     (taken {c = A_name} (λ s. sign_then sign.Close (f (named x at) s)) (named y place) v (Name y place) (Sign_of sign.Close closing ∷ from) rest refl (sign_behind sign.Close closing (f (named x at) (named y place)) v from rest refl h))))
+
+-- `delocal`, a kind, a name and `=`
+delocal_behind : {p : Part} (j : Kind) (x : List ℕ) (there at_delocal at_kind place equals : Span) (f : Named → Form p) (v : Tree p) (from rest : List Token) → Spelled p (f (named x place)) v from rest →
+    Spelled p (delocal_then j (named x there) f) v (Word_of word.Delocal at_delocal ∷ Word_of (kind_word j) at_kind ∷ Name x place ∷ Sign_of sign.Equals equals ∷ from) rest
+delocal_behind j x there at_delocal at_kind place equals f v from rest h =
+    let behind : List Token = Sign_of sign.Equals equals ∷ from in
+    word_behind word.Delocal at_delocal (take (Same_kind j) (λ i. take (Same_name (named x there)) (λ y. sign_then sign.Equals (f y)))) v (Word_of (kind_word j) at_kind ∷ Name x place ∷ behind) rest refl
+    (taken {c = Same_kind j} (λ i. take (Same_name (named x there)) (λ y. sign_then sign.Equals (f y))) j v (Word_of (kind_word j) at_kind) (Name x place ∷ behind) rest (kind_agreed j at_kind)
+    (taken {c = Same_name (named x there)} (λ y. sign_then sign.Equals (f y)) (named x place) v (Name x place) behind rest (is_agreed (Same_name (named x there)) (Name x place) (named x place) refl (same_name_self x))
+    (sign_behind sign.Equals equals (f (named x place)) v from rest refl h)))
+
+-- the name of a local and `=`
+head_behind : {p : Part} (x : List ℕ) (at equals : Span) (f : Named → Form p) (v : Tree p) (from rest : List Token) → Spelled p (f (named x at)) v from rest → Spelled p (take A_name (λ y. sign_then sign.Equals (f y))) v (Name x at ∷ Sign_of sign.Equals equals ∷ from) rest
+head_behind x at equals f v from rest h = taken {c = A_name} (λ y. sign_then sign.Equals (f y)) (named x at) v (Name x at) (Sign_of sign.Equals equals ∷ from) rest refl (sign_behind sign.Equals equals (f (named x at)) v from rest refl h)
 
 -- levels of operators are not 0
 
@@ -255,6 +273,38 @@ mutual
         (word_behind word.Until at_until (part Whole (λ f. close (k (Loop e s t f)))) v end last refl
         (whole_is (leads g) p (λ f. close (k (Loop e s t f))) v last (closes (k (Loop e s t f)) v rest last h))))),
   )
+  begins (IsStatement.local_number {at_local = at_local} {at_int = at_int} {at = at} {equals = equals} {at_delocal = at_delocal} {at_kind = at_kind} {place = place} {equals_again = again} {x = x} {first = e} {test = f} {b = b} {from = from} {behind = behind} {last = end} {rest = rest} d a g) = λ p k v last h.
+      let s : Stm = LocalInt (named x at) e b (named x place) f in
+      let form : Named → Form Local = λ y. part Whole (λ e. part Body (λ b. delocal_then kind.Int y (λ z. part Whole (λ f. done (LocalInt y e b z f))))) in
+      let inner : Spelled Local (local_int done) s (Name x at ∷ Sign_of sign.Equals equals ∷ from) rest =
+      head_behind x at equals form s from rest
+      (whole_is (leads d) Local (λ e. part Body (λ b. delocal_then kind.Int (named x at) (λ z. part Whole (λ f. done (LocalInt (named x at) e b z f))))) s rest
+      (body_is a Local (λ b. delocal_then kind.Int (named x at) (λ z. part Whole (λ f. done (LocalInt (named x at) e b z f)))) s rest
+      (delocal_behind kind.Int x at at_delocal at_kind place again (λ z. part Whole (λ f. done (LocalInt (named x at) e b z f))) s end rest
+      (whole_is (leads g) Local (λ f. done (LocalInt (named x at) e b (named x place) f)) s rest (nothing_more Local s rest))))) in (
+        Word_of word.Local at_local,
+        Word_of word.Int at_int ∷ Name x at ∷ Sign_of sign.Equals equals ∷ from,
+        record { opens = 1; counts = 0; is_whole = false; form = part Local (λ s. close (k s)) },
+        refl,
+        refl,
+        begun Local (Word_of word.Int at_int) (record { opens = 0; counts = 0; is_whole = false; form = local_int done }) s (Name x at ∷ Sign_of sign.Equals equals ∷ from) rest refl inner p (λ s. close (k s)) v last (closes (k s) v rest last h),
+      )
+  begins (IsStatement.local_stack {at_local = at_local} {at_stack = at_stack} {at = at} {equals = equals} {at_nil = at_nil} {at_delocal = at_delocal} {at_kind = at_kind} {place = place} {equals_again = again} {nil_again = nil_again} {x = x} {b = b} {from = from} {rest = rest} a) = λ p k v last h.
+      let s : Stm = LocalStack (named x at) b (named x place) in
+      let form : Named → Form Local = λ y. word_then word.Nil (part Body (λ b. delocal_then kind.Stack y (λ z. word_then word.Nil (done (LocalStack y b z))))) in
+      let inner : Spelled Local (local_stack done) s (Name x at ∷ Sign_of sign.Equals equals ∷ Word_of word.Nil at_nil ∷ from) rest =
+      head_behind x at equals form s (Word_of word.Nil at_nil ∷ from) rest
+      (word_behind word.Nil at_nil (part Body (λ b. delocal_then kind.Stack (named x at) (λ z. word_then word.Nil (done (LocalStack (named x at) b z))))) s from rest refl
+      (body_is a Local (λ b. delocal_then kind.Stack (named x at) (λ z. word_then word.Nil (done (LocalStack (named x at) b z)))) s rest
+      (delocal_behind kind.Stack x at at_delocal at_kind place again (λ z. word_then word.Nil (done (LocalStack (named x at) b z))) s (Word_of word.Nil nil_again ∷ rest) rest
+      (word_behind word.Nil nil_again (done s) s rest rest refl (nothing_more Local s rest))))) in (
+        Word_of word.Local at_local,
+        Word_of word.Stack at_stack ∷ Name x at ∷ Sign_of sign.Equals equals ∷ Word_of word.Nil at_nil ∷ from,
+        record { opens = 1; counts = 0; is_whole = false; form = part Local (λ s. close (k s)) },
+        refl,
+        refl,
+        begun Local (Word_of word.Stack at_stack) (record { opens = 0; counts = 0; is_whole = false; form = local_stack done }) s (Name x at ∷ Sign_of sign.Equals equals ∷ Word_of word.Nil at_nil ∷ from) rest refl inner p (λ s. close (k s)) v last (closes (k s) v rest last h),
+      )
 
   pub statements_are : {b : Block} {from rest : List Token} → AreStatements b from rest → IsPart Statements b from rest
   statements_are (AreStatements.none {rest = rest}) = absent Statements Empty rest refl

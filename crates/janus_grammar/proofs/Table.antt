@@ -7,16 +7,19 @@ use Rattle.janus_syntax.specs.declared.token.Sign.TheVariants as sign
 use Rattle.janus_syntax.specs.declared.token.Word.TheVariants as word
 use Rattle.janus_syntax.specs.declared.operator.Infix.{Infix}
 use Rattle.janus_syntax.specs.declared.tree.Update.{Update}
+use Rattle.janus_syntax.specs.declared.tree.Kind.{Kind}
+use Rattle.janus_syntax.specs.declared.tree.Kind.TheVariants as kind
 use Rattle.janus_syntax.specs.Tokens.{Token, Name, Number, Sign_of, Word_of}
-use Rattle.janus_syntax.specs.Tree.{Name as Named, named, Exp, Num, EmptyOf, TopOf, Neg, Stm, Skip, Push, Pop, If, Loop, Block, Empty, More, Declaration, StackOf}
+use Rattle.janus_syntax.specs.Tree.{Name as Named, named, Exp, Num, EmptyOf, TopOf, Neg, Stm, Skip, Push, Pop, If, Loop, LocalInt, LocalStack, Block, Empty, More, Declaration, StackOf}
 use Rattle.janus_syntax.specs.Operators.{weakest, joined, operator_at, update_at}
-use Rattle.janus_syntax.specs.Forms.{Part, A_cell, Declarations, Bound, Body, Statements, Else_part, Do_part, Loop_part, Target_index, Whole, Level, Chain, Index, Tree, Seen, seen, The_sign, A_name, A_number, An_update, Form, done, take, part, close, Rule}
-use Rattle.janus_syntax.specs.Table.{rule, left_out, variable, assignment, declared, nothing, skip_block, word_then, sign_then, stack_then, variable_and_stack_then, whole, operand, chains, chain_rule, statement, declaration}
+use Rattle.janus_syntax.specs.Forms.{Part, A_cell, Declarations, Bound, Body, Statements, Else_part, Do_part, Loop_part, Local, Target_index, Whole, Level, Chain, Index, Tree, Seen, seen, agrees, The_sign, A_name, A_number, An_update, Form, done, take, part, close, Rule}
+use Rattle.janus_syntax.specs.Table.{rule, left_out, variable, assignment, declared, nothing, skip_block, word_then, sign_then, stack_then, variable_and_stack_then, delocal_then, local_int, local_stack, whole, operand, chains, chain_rule, statement, declaration}
 use Rattle.janus_syntax.specs.Grammar
-use Rattle.janus_syntax.specs.Grammar.{Count, Demands, Spells}
+use Rattle.janus_syntax.specs.Grammar.{Count, Demands, met, Spells}
 use Rattle.janus_grammar.specs.Derivation
 use Rattle.janus_grammar.specs.Derivation.{IsExpression, IsStatement, AreStatements, IsBody, IsOptional, IsDeclaration, AreDeclarations, IsCell, there, left_out as no_words, cell, body}
-use Rattle.janus_grammar.proofs.Tokens.{then_is, fi_is, until_is, open_is, comma_is, close_is, close_index_is}
+use Rattle.janus_syntax.proofs.Agreed.{agreed, is_agreed, kind_word}
+use Rattle.janus_grammar.proofs.Tokens.{delocal_is, equals_is, nil_is, same_kind_is, same_name_is, then_is, fi_is, until_is, open_is, comma_is, close_is, close_index_is}
 
 -- behind a name: an index, if there is one
 pub data IsIndexed : Option Exp → List Token → List Token → Type 0 where
@@ -40,6 +43,7 @@ Derived Statements b from rest = AreStatements b from rest
 Derived Else_part b from rest = IsOptional word.Else b from rest
 Derived Do_part b from rest = IsOptional word.Do b from rest
 Derived Loop_part b from rest = IsOptional word.Loop b from rest
+Derived Local s from rest = (at : Span) → IsStatement s (Word_of word.Local at ∷ from) rest
 Derived Target_index i from rest = IsIndexed i from rest
 Derived Whole e from rest = IsExpression weakest e from rest
 Derived (Level n) e from rest = IsExpression n e from rest
@@ -49,7 +53,7 @@ Derived Index i from rest = IsIndexed i from rest
 -- what they say of a form
 abbrev pub Means : {p : Part} → Form p → Tree p → List Token → List Token → Type 0
 Means (done u) v from rest = (v ≡ u) × (rest ≡ from)
-Means (take c k) v from rest = (t : Token) × (s : Seen c) × (behind : List Token) × (from ≡ t ∷ behind) × (seen c t ≡ Some s) × Means (k s) v behind rest
+Means (take c k) v from rest = (t : Token) × (s : Seen c) × (behind : List Token) × (from ≡ t ∷ behind) × (agreed c t ≡ Some s) × Means (k s) v behind rest
 Means (part q k) v from rest = (u : Tree q) × (middle : List Token) × Derived q u from middle × Means (k u) v middle rest
 Means (close f) v from rest = Means f v from rest
 
@@ -67,6 +71,7 @@ left_out_derived Statements u ts e = let same : Empty ≡ u = cc in subst (λ b.
 left_out_derived Else_part u ts e = let same : skip_block ≡ u = cc in subst (λ b. IsOptional word.Else b ts ts) same no_words
 left_out_derived Do_part u ts e = let same : skip_block ≡ u = cc in subst (λ b. IsOptional word.Do b ts ts) same no_words
 left_out_derived Loop_part u ts e = let same : skip_block ≡ u = cc in subst (λ b. IsOptional word.Loop b ts ts) same no_words
+left_out_derived Local u ts e = absurd cc
 left_out_derived Target_index u ts e = let same : None ≡ u = cc in subst (λ i. IsIndexed i ts ts) same without
 left_out_derived Whole u ts e = absurd cc
 left_out_derived (Level n) u ts e = absurd cc
@@ -259,6 +264,10 @@ statement_derived {p} (Word_of word.If at) k r v from rest is h =
 statement_derived {p} (Word_of word.From at) k r v from rest is h =
     let a : Rule p = record { opens = 1; counts = 0; is_whole = false; form = part Whole (λ e. part Do_part (λ s. part Loop_part (λ t. word_then word.Until (part Whole (λ f. close (k (Loop e s t f))))))) } in
     loop_derived at k v from rest (form_as a r v from rest is h)
+statement_derived {p} (Word_of word.Local at) k r v from rest is h =
+    let a : Rule p = record { opens = 1; counts = 0; is_whole = false; form = part Local (λ s. close (k s)) } in
+    let (s, middle, d, more) = form_as a r v from rest is h in
+    (s, middle, d at, more)
 statement_derived {p} (Word_of word.Skip at) k r v from rest is h =
     let a : Rule p = record { opens = 0; counts = 0; is_whole = false; form = k Skip } in
     (Skip, from, IsStatement.skip, form_as a r v from rest is h)
@@ -402,6 +411,87 @@ loop_part_derived (Sign_of s at) r b from rest is h = absurd cc
 loop_part_derived (Name x at) r b from rest is h = absurd cc
 loop_part_derived (Number n at) r b from rest is h = absurd cc
 
+-- ---- locals
+
+-- the name of a local and `=`, and what the form behind them means
+head_derived : {p : Part} (k : Named → Form p) (v : Tree p) (from rest : List Token) → Means (take A_name (λ x. sign_then sign.Equals (k x))) v from rest →
+    (x : List ℕ) × (at : Span) × (equals : Span) × (behind : List Token) × (from ≡ Name x at ∷ Sign_of sign.Equals equals ∷ behind) × Means (k (named x at)) v behind rest
+head_derived k v from rest h =
+    let (t1, x, b1, w1, is1, h1) = h in
+    let (t2, u2, b2, w2, is2, more) = h1 in
+    let n = name_is t1 x is1 in
+    let q = equals_is b1 t2 u2 b2 w2 is2 in (
+      n.0,
+      n.1,
+      q.0,
+      b2,
+      w1 ∙ ap (λ t. t ∷ b1) n.2 ∙ ap (λ ts. Name n.0 n.1 ∷ ts) q.1,
+      subst (λ y. Means (k y) v b2 rest) (sym n.3) more,
+    )
+
+-- `delocal`, the same kind, the same name and `=`, and what the form behind them means
+delocal_derived : {p : Part} (j : Kind) (x : List ℕ) (on : Span) (k : Named → Form p) (v : Tree p) (from rest : List Token) → Means (delocal_then j (named x on) k) v from rest →
+    (at_delocal : Span) × (at_kind : Span) × (place : Span) × (equals : Span) × (behind : List Token)
+    × (from ≡ Word_of word.Delocal at_delocal ∷ Word_of (kind_word j) at_kind ∷ Name x place ∷ Sign_of sign.Equals equals ∷ behind) × Means (k (named x place)) v behind rest
+delocal_derived j x on k v from rest h =
+    let (t1, u1, b1, w1, is1, h1) = h in
+    let (t2, i, b2, w2, is2, h2) = h1 in
+    let (t3, y, b3, w3, is3, h3) = h2 in
+    let (t4, u4, b4, w4, is4, more) = h3 in
+    let d = delocal_is from t1 u1 b1 w1 is1 in
+    let l = same_kind_is j b1 t2 i b2 w2 is2 in
+    let n = same_name_is x on t3 y is3 in
+    let q = equals_is b3 t4 u4 b4 w4 is4 in
+    let behind_kind : b2 ≡ Name x n.0 ∷ Sign_of sign.Equals q.0 ∷ b4 = w3 ∙ ap (λ t. t ∷ b3) n.1 ∙ ap (λ ts. Name x n.0 ∷ ts) q.1 in (
+      d.0,
+      l.0,
+      n.0,
+      q.0,
+      b4,
+      d.1 ∙ ap (λ ts. Word_of word.Delocal d.0 ∷ ts) (l.1 ∙ ap (λ ts. Word_of (kind_word j) l.0 ∷ ts) behind_kind),
+      subst (λ z. Means (k z) v b4 rest) (sym n.2) more,
+    )
+
+int_derived : (at_int : Span) (s : Stm) (from rest : List Token) → Means (local_int {p = Local} done) s from rest → (at : Span) → IsStatement s (Word_of word.Local at ∷ Word_of word.Int at_int ∷ from) rest
+int_derived at_int s from rest h at =
+    let (x, on, equals, b1, w1, h1) = head_derived {p = Local} (λ x. part Whole (λ e. part Body (λ b. delocal_then kind.Int x (λ y. part Whole (λ f. done (LocalInt x e b y f)))))) s from rest h in
+    let (e, m1, d1, h2) = h1 in
+    let (b, m2, d2, h3) = h2 in
+    let (at_delocal, at_kind, place, again, b2, w2, h4) = delocal_derived {p = Local} kind.Int x on (λ y. part Whole (λ f. done (LocalInt (named x on) e b y f))) s m2 rest h3 in
+    let (f, m3, d3, h5) = h4 in
+    subst (λ ts. IsStatement s (Word_of word.Local at ∷ Word_of word.Int at_int ∷ ts) rest) (sym w1)
+    (subst (λ z. IsStatement z (Word_of word.Local at ∷ Word_of word.Int at_int ∷ Name x on ∷ Sign_of sign.Equals equals ∷ b1) rest) (sym h5.0)
+    (subst (λ ts. IsStatement (LocalInt (named x on) e b (named x place) f) (Word_of word.Local at ∷ Word_of word.Int at_int ∷ Name x on ∷ Sign_of sign.Equals equals ∷ b1) ts) (sym h5.1)
+    (IsStatement.local_number d1 (subst (λ ts. IsBody b m1 ts) w2 d2) d3)))
+
+stack_local_derived : (at_stack : Span) (s : Stm) (from rest : List Token) → Means (local_stack {p = Local} done) s from rest → (at : Span) → IsStatement s (Word_of word.Local at ∷ Word_of word.Stack at_stack ∷ from) rest
+stack_local_derived at_stack s from rest h at =
+    let (x, on, equals, b1, w1, h1) = head_derived {p = Local} (λ x. word_then word.Nil (part Body (λ b. delocal_then kind.Stack x (λ y. word_then word.Nil (done (LocalStack x b y)))))) s from rest h in
+    let (t1, u1, b2, w2, is1, h2) = h1 in
+    let (b, m1, d1, h3) = h2 in
+    let (at_delocal, at_kind, place, again, b3, w3, h4) = delocal_derived {p = Local} kind.Stack x on (λ y. word_then word.Nil (done (LocalStack (named x on) b y))) s m1 rest h3 in
+    let (t2, u2, b4, w4, is2, h5) = h4 in
+    let n = nil_is b1 t1 u1 b2 w2 is1 in
+    let o = nil_is b3 t2 u2 b4 w4 is2 in
+    let front : from ≡ Name x on ∷ Sign_of sign.Equals equals ∷ Word_of word.Nil n.0 ∷ b2 = w1 ∙ ap (λ ts. Name x on ∷ Sign_of sign.Equals equals ∷ ts) n.1 in
+    let back : m1 ≡ Word_of word.Delocal at_delocal ∷ Word_of word.Stack at_kind ∷ Name x place ∷ Sign_of sign.Equals again ∷ Word_of word.Nil o.0 ∷ b4 = w3 ∙ ap (λ ts. Word_of word.Delocal at_delocal ∷ Word_of word.Stack at_kind ∷ Name x place ∷ Sign_of sign.Equals again ∷ ts) o.1 in
+    subst (λ ts. IsStatement s (Word_of word.Local at ∷ Word_of word.Stack at_stack ∷ ts) rest) (sym front)
+    (subst (λ z. IsStatement z (Word_of word.Local at ∷ Word_of word.Stack at_stack ∷ Name x on ∷ Sign_of sign.Equals equals ∷ Word_of word.Nil n.0 ∷ b2) rest) (sym h5.0)
+    (subst (λ ts. IsStatement (LocalStack (named x on) b (named x place)) (Word_of word.Local at ∷ Word_of word.Stack at_stack ∷ Name x on ∷ Sign_of sign.Equals equals ∷ Word_of word.Nil n.0 ∷ b2) ts) (sym h5.1)
+    (IsStatement.local_stack (subst (λ ts. IsBody b b2 ts) back d1))))
+
+local_derived : (t : Token) (r : Rule Local) (s : Stm) (from rest : List Token) → rule Local t ≡ Some r → Means r.form s from rest → (at : Span) → IsStatement s (Word_of word.Local at ∷ t ∷ from) rest
+local_derived (Word_of word.Int at_int) r s from rest is h =
+    let a : Rule Local = record { opens = 0; counts = 0; is_whole = false; form = local_int done } in
+    int_derived at_int s from rest (form_as a r s from rest is h)
+local_derived (Word_of word.Stack at_stack) r s from rest is h =
+    let a : Rule Local = record { opens = 0; counts = 0; is_whole = false; form = local_stack done } in
+    stack_local_derived at_stack s from rest (form_as a r s from rest is h)
+local_derived (Word_of _ at) r s from rest is h = absurd cc
+local_derived (Sign_of o at) r s from rest is h = absurd cc
+local_derived (Name x at) r s from rest is h = absurd cc
+local_derived (Number n at) r s from rest is h = absurd cc
+
 -- a part behind its first token
 rule_derived : (q : Part) (t : Token) (r : Rule q) (u : Tree q) (from rest : List Token) → rule q t ≡ Some r → Means r.form u from rest → Derived q u (t ∷ from) rest
 rule_derived A_cell t r u from rest is h = absurd cc
@@ -424,15 +514,22 @@ rule_derived Statements t r u from rest is h =
 rule_derived Else_part t r u from rest is h = else_derived t r u from rest is h
 rule_derived Do_part t r u from rest is h = do_derived t r u from rest is h
 rule_derived Loop_part t r u from rest is h = loop_part_derived t r u from rest is h
+rule_derived Local t r u from rest is h = local_derived t r u from rest is h
 rule_derived Target_index t r u from rest is h = target_derived t r u from rest is h
 rule_derived Whole t r u from rest is h = whole_derived t (operand t (λ e. chains 0 weakest e done)) r u from rest refl is h
 rule_derived (Level n) t r u from rest is h = level_derived n t r u from rest is h
 rule_derived (Chain n e) t r u from rest is h = chain_derived n e t (operator_at t) r u from rest refl is h
 rule_derived Index t r u from rest is h = index_derived t r u from rest is h
 
-pub means : {d : Demands} {p : Part} {f : Form p} {v : Tree p} {m m' : Count} {from rest : List Token} → Spells d p f v m from m' rest → Means f v from rest
-means Grammar.nothing_more = (refl, refl)
-means (Grammar.token {s = s} {t = t} {from = from} is more) = (t, s, from, refl, is, means more)
-means (Grammar.end_of_construct more) = means more
-means (Grammar.a_part {q = q} {r = r} {u = u} {t = t} {from = from} {middle = middle} is ok inner more) = (u, middle, rule_derived q t r u from middle is (means inner), means more)
-means (Grammar.no_part {q = q} {u = u} {from = from} is more) = (u, from, left_out_derived q u from is, means more)
+-- what is demanded holds
+demanded : (b x : Bool) → b ≡ true → met b x ≡ true → x ≡ true
+demanded true x e h = h
+demanded false x e h = absurd cc
+
+-- where it is demanded that `delocal` agrees with its `local`
+pub means : {d : Demands} {p : Part} {f : Form p} {v : Tree p} {m m' : Count} {from rest : List Token} → d.agreement ≡ true → Spells d p f v m from m' rest → Means f v from rest
+means a Grammar.nothing_more = (refl, refl)
+means {d} a (Grammar.token {c = c} {s = s} {t = t} {from = from} is ok more) = (t, s, from, refl, is_agreed c t s is (demanded d.agreement (agrees c s) a ok), means a more)
+means a (Grammar.end_of_construct more) = means a more
+means a (Grammar.a_part {q = q} {r = r} {u = u} {t = t} {from = from} {middle = middle} is ok inner more) = (u, middle, rule_derived q t r u from middle is (means a inner), means a more)
+means a (Grammar.no_part {q = q} {u = u} {from = from} is more) = (u, from, left_out_derived q u from is, means a more)

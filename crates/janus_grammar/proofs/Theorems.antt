@@ -1,5 +1,5 @@
 -- The table and the rules say the same.
-use Rattle.std.proofs.Common.{◌≡◌, List, [], refl, sym, subst}
+use Rattle.std.proofs.Common.{◌≡◌, List, [], true, refl, sym, subst}
 use Rattle.janus_syntax.specs.Tokens.{Token}
 use Rattle.janus_syntax.specs.Tree.{Exp, Cell, cell_of}
 use Rattle.janus_syntax.specs.Operators.{weakest}
@@ -10,9 +10,9 @@ use Rattle.janus_grammar.specs.Laws.{CellsAreDerived, CellsWithinLimitsAreDerive
 use Rattle.janus_grammar.proofs.Table.{means}
 use Rattle.janus_grammar.proofs.Rules.{nothing_more, leads, whole_is, statements_are, declarations_are}
 
-cell_derived : (d : Demands) (c : Cell) (ts : List Token) → IsTree A_cell d c ts → IsCell c ts []
-cell_derived d c ts t =
-    let (ds, m1, a, h1) = means t.1 in
+cell_derived : (d : Demands) → d.agreement ≡ true → (c : Cell) (ts : List Token) → IsTree A_cell d c ts → IsCell c ts []
+cell_derived d agreement c ts t =
+    let (ds, m1, a, h1) = means agreement t.1 in
     let (b, m2, s, h2) = h1 in
     subst (λ x. IsCell x ts []) (sym h2.0) (subst (λ rest. IsCell (cell_of ds b) ts rest) (sym h2.1) (cell a s))
 
@@ -23,18 +23,18 @@ cell_spelled c ts rest (cell {ds = ds} {b = b} {from = from} {middle = middle} a
     (declarations_are a A_cell (λ ds. part Statements (λ b. done (cell_of ds b))) (cell_of ds b) rest end zero_count)
 
 pub cells_are_derived : CellsAreDerived
-cells_are_derived c ts = (cell_derived but_limits c ts, λ d. cell_spelled c ts [] d refl)
+cells_are_derived c ts = (cell_derived but_limits refl c ts, λ d. cell_spelled c ts [] d refl)
 
 pub cells_within_limits : CellsWithinLimitsAreDerived
-cells_within_limits c ts = cell_derived all c ts
+cells_within_limits c ts = cell_derived all refl c ts
 
-expression_derived : (d : Demands) (e : Exp) (ts : List Token) → IsTree Whole d e ts → IsExpression weakest e ts []
-expression_derived d e ts t =
-    let (x, m, a, h) = means t.1 in
+expression_derived : (d : Demands) → d.agreement ≡ true → (e : Exp) (ts : List Token) → IsTree Whole d e ts → IsExpression weakest e ts []
+expression_derived d agreement e ts t =
+    let (x, m, a, h) = means agreement t.1 in
     subst (λ y. IsExpression weakest y ts []) (sym h.0) (subst (λ rest. IsExpression weakest x ts rest) (sym h.1) a)
 
 pub expressions_are_derived : ExpressionsAreDerived
-expressions_are_derived e ts = (expression_derived but_limits e ts, λ d. whole_is (leads d) Whole done e [] (nothing_more Whole e []) zero_count)
+expressions_are_derived e ts = (expression_derived but_limits refl e ts, λ d. whole_is (leads d) Whole done e [] (nothing_more Whole e []) zero_count)
 
 pub expressions_within_limits : ExpressionsWithinLimitsAreDerived
-expressions_within_limits e ts = expression_derived all e ts
+expressions_within_limits e ts = expression_derived all refl e ts

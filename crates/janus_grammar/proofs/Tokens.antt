@@ -1,12 +1,17 @@
 -- Fixed tokens: what a token of such a class is.
-use Rattle.std.proofs.Common.{◌≡◌, List, ◌∷◌, Some}
+use Rattle.std.proofs.Common.{◌≡◌, ℕ, List, ◌∷◌, Some, true, ap, sym, subst, ◌∙◌}
+use Rattle.janus_meaning.proofs.Stores.{same_name_true}
+use Rattle.janus_syntax.proofs.Agreed.{agreed, one_of, kind_word}
 use Rattle.janus_syntax.specs.declared.token.Span.{Span}
 use Rattle.janus_syntax.specs.declared.token.Sign.{Sign}
 use Rattle.janus_syntax.specs.declared.token.Sign.TheVariants as sign
 use Rattle.janus_syntax.specs.declared.token.Word.{Word}
 use Rattle.janus_syntax.specs.declared.token.Word.TheVariants as word
+use Rattle.janus_syntax.specs.declared.tree.Kind.{Kind}
+use Rattle.janus_syntax.specs.declared.tree.Kind.TheVariants as kind
+use Rattle.janus_syntax.specs.Tree.{Name as Named, named}
 use Rattle.janus_syntax.specs.Tokens.{Token, Name, Number, Sign_of, Word_of}
-use Rattle.janus_syntax.specs.Forms.{The_word, The_sign, seen}
+use Rattle.janus_syntax.specs.Forms.{seen, same_named, The_word, The_sign, Same_kind, Same_name}
 
 -- the tokens begin with this word
 abbrev pub BeginsWithWord : Word → List Token → List Token → Type 0
@@ -63,3 +68,46 @@ close_index_is ts (Sign_of _ at) s behind e is = absurd cc
 close_index_is ts (Name x at) s behind e is = absurd cc
 close_index_is ts (Number n at) s behind e is = absurd cc
 close_index_is ts (Word_of w at) s behind e is = absurd cc
+
+pub delocal_is : (ts : List Token) (t : Token) (s : Unit {0}) (behind : List Token) → ts ≡ t ∷ behind → seen (The_word word.Delocal) t ≡ Some s → BeginsWithWord word.Delocal ts behind
+delocal_is ts (Word_of word.Delocal at) s behind e is = (at, e)
+delocal_is ts (Word_of _ at) s behind e is = absurd cc
+delocal_is ts (Name x at) s behind e is = absurd cc
+delocal_is ts (Number n at) s behind e is = absurd cc
+delocal_is ts (Sign_of r at) s behind e is = absurd cc
+
+pub nil_is : (ts : List Token) (t : Token) (s : Unit {0}) (behind : List Token) → ts ≡ t ∷ behind → seen (The_word word.Nil) t ≡ Some s → BeginsWithWord word.Nil ts behind
+nil_is ts (Word_of word.Nil at) s behind e is = (at, e)
+nil_is ts (Word_of _ at) s behind e is = absurd cc
+nil_is ts (Name x at) s behind e is = absurd cc
+nil_is ts (Number n at) s behind e is = absurd cc
+nil_is ts (Sign_of r at) s behind e is = absurd cc
+
+pub equals_is : (ts : List Token) (t : Token) (s : Unit {0}) (behind : List Token) → ts ≡ t ∷ behind → seen (The_sign sign.Equals) t ≡ Some s → BeginsWithSign sign.Equals ts behind
+equals_is ts (Sign_of sign.Equals at) s behind e is = (at, e)
+equals_is ts (Sign_of _ at) s behind e is = absurd cc
+equals_is ts (Name x at) s behind e is = absurd cc
+equals_is ts (Number n at) s behind e is = absurd cc
+equals_is ts (Word_of w at) s behind e is = absurd cc
+
+-- ---- kinds and names that have to be the same
+
+pub same_kind_is : (j : Kind) (ts : List Token) (t : Token) (i : Kind) (behind : List Token) → ts ≡ t ∷ behind → agreed (Same_kind j) t ≡ Some i → BeginsWithWord (kind_word j) ts behind
+same_kind_is kind.Int ts (Word_of word.Int at) i behind e is = (at, e)
+same_kind_is kind.Int ts (Word_of _ at) i behind e is = absurd cc
+same_kind_is kind.Stack ts (Word_of word.Stack at) i behind e is = (at, e)
+same_kind_is kind.Stack ts (Word_of _ at) i behind e is = absurd cc
+same_kind_is j ts (Name x at) i behind e is = absurd cc
+same_kind_is j ts (Number n at) i behind e is = absurd cc
+same_kind_is j ts (Sign_of r at) i behind e is = absurd cc
+
+pub same_name_is : (x : List ℕ) (there : Span) (t : Token) (y : Named) → agreed (Same_name (named x there)) t ≡ Some y → (place : Span) × (t ≡ Name x place) × (named x place ≡ y)
+same_name_is x there (Name z place) y e =
+    let r = one_of (Same_name (named x there)) (Some (named z place)) y e in
+    let h = r.0 in
+    let same : named z place ≡ y = cc in
+    let text : x ≡ z = same_name_true x z (subst (λ n. same_named (named x there) n ≡ true) (sym same) r.1) in
+    (place, ap (λ n. Name n place) (sym text), ap (λ n. named n place) text ∙ same)
+same_name_is x there (Number n place) y e = absurd cc
+same_name_is x there (Sign_of r place) y e = absurd cc
+same_name_is x there (Word_of w place) y e = absurd cc

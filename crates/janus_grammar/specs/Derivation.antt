@@ -7,7 +7,7 @@ use Rattle.janus_syntax.specs.declared.token.Word.TheVariants as word
 use Rattle.janus_syntax.specs.declared.operator.Infix.{Infix}
 use Rattle.janus_syntax.specs.declared.tree.Update.{Update}
 use Rattle.janus_syntax.specs.Tokens.{Token, Name, Number, Sign_of, Word_of}
-use Rattle.janus_syntax.specs.Tree.{named, Exp, Num, Var, Element, EmptyOf, TopOf, Neg, Stm, Skip, Assign, AssignElement, Push, Pop, If, Loop, Block, Empty, More, Declaration, Int, Array, StackOf, Cell, cell_of}
+use Rattle.janus_syntax.specs.Tree.{named, Exp, Num, Var, Element, EmptyOf, TopOf, Neg, Stm, Skip, Assign, AssignElement, Push, Pop, If, Loop, LocalInt, LocalStack, Block, Empty, More, Declaration, Int, Array, StackOf, Cell, cell_of}
 use Rattle.janus_syntax.specs.Operators.{weakest, joined, operator_at, update_at}
 use Rattle.janus_syntax.specs.Table.{skip_block}
 
@@ -55,6 +55,13 @@ mutual
         IsExpression weakest assertion from first → IsOptional word.Do a first second →
         IsOptional word.Loop b second (Word_of word.Until at_until ∷ last) → IsExpression weakest test last rest →
         IsStatement (Loop assertion a b test) (Word_of word.From at_from ∷ from) rest
+    local_number : {at_local at_int at equals at_delocal at_kind place equals_again : Span} {x : List ℕ} {first test : Exp} {b : Block} {from behind last rest : List Token} →
+        IsExpression weakest first from behind →
+        IsBody b behind (Word_of word.Delocal at_delocal ∷ Word_of word.Int at_kind ∷ Name x place ∷ Sign_of sign.Equals equals_again ∷ last) → IsExpression weakest test last rest →
+        IsStatement (LocalInt (named x at) first b (named x place) test) (Word_of word.Local at_local ∷ Word_of word.Int at_int ∷ Name x at ∷ Sign_of sign.Equals equals ∷ from) rest
+    local_stack : {at_local at_stack at equals at_nil at_delocal at_kind place equals_again nil_again : Span} {x : List ℕ} {b : Block} {from rest : List Token} →
+        IsBody b from (Word_of word.Delocal at_delocal ∷ Word_of word.Stack at_kind ∷ Name x place ∷ Sign_of sign.Equals equals_again ∷ Word_of word.Nil nil_again ∷ rest) →
+        IsStatement (LocalStack (named x at) b (named x place)) (Word_of word.Local at_local ∷ Word_of word.Stack at_stack ∷ Name x at ∷ Sign_of sign.Equals equals ∷ Word_of word.Nil at_nil ∷ from) rest
 
   -- none or more
   pub data AreStatements : Block → List Token → List Token → Type 0 where

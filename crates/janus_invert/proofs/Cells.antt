@@ -2,13 +2,14 @@
 use Rattle.std.proofs.Common.{◌≡◌, Vec, Global, ℕ, suc, ◌-◌, ◌<◌, ◌≤◌, List, [], ◌∷◌, ◌++◌, length, get_or, drop, drop-cons, refl, ap, ◌∙◌, sym, arith}
 use Rattle.janus_meaning.specs.Syntax as tree
 use Rattle.janus_meaning.specs.Word.{opposite}
-use Rattle.janus_syntax.specs.View.{text_of, plain_exp, plain_stm, plain_block, block_of, update_of}
+use Rattle.janus_syntax.specs.View.{name_of, text_of, plain_exp, plain_stm, plain_block, block_of, update_of}
 use Rattle.janus_syntax.specs.declared.tree.Update.{Update}
 use Rattle.janus_syntax.specs.declared.tree.Update.TheVariants.{Add, Subtract, Xor}
+use Rattle.janus_syntax.specs.declared.tree.Name as code_name
 use Rattle.janus_syntax.specs.declared.tree.Exp as code_exp
 use Rattle.janus_syntax.specs.declared.tree.Stm as code_stm
-use Rattle.janus_syntax.proofs.Views.{view_if, view_loop}
-use Rattle.janus_syntax.specs.Tree.{Stm, Skip, Assign, AssignElement, Push, Pop, If, Loop, Block, Empty, More, cell_of, exp_view, stm_view, block_view}
+use Rattle.janus_syntax.proofs.Views.{view_if, view_loop, view_local_int, view_local_stack}
+use Rattle.janus_syntax.specs.Tree.{named, name_view, Stm, Skip, Assign, AssignElement, Push, Pop, If, Loop, LocalInt, LocalStack, Block, Empty, More, cell_of, exp_view, stm_view, block_view}
 use Rattle.janus_invert.specs.Cells.{opposite_of, inverse_stm, turned, InverseCellTwice}
 
 -- ---- twice is the identity
@@ -27,6 +28,8 @@ mutual
   inverse_twice (Pop x y) = refl
   inverse_twice (If a s t b) = ap (λ r. If a r (turned (turned t Empty) Empty) b) (turned_twice s Empty) ∙ ap (λ r. If a s r b) (turned_twice t Empty)
   inverse_twice (Loop a s t b) = ap (λ r. Loop a r (turned (turned t Empty) Empty) b) (turned_twice s Empty) ∙ ap (λ r. Loop a s r b) (turned_twice t Empty)
+  inverse_twice (LocalInt x a s y b) = ap (λ r. LocalInt x a r y b) (turned_twice s Empty)
+  inverse_twice (LocalStack x s y) = ap (λ r. LocalStack x r y) (turned_twice s Empty)
 
   turned_twice : (b acc : Block) → turned (turned b acc) Empty ≡ turned acc b
   turned_twice Empty acc = refl
@@ -80,6 +83,8 @@ mutual
   inverse_plain (Loop a s t b) =
       ap (λ r. tree.From (plain_exp b) r (plain_block (turned t Empty)) (plain_exp a)) (turned_plain s Empty)
       ∙ ap (λ r. tree.From (plain_exp b) (tree.turn (plain_block s) tree.Nil) r (plain_exp a)) (turned_plain t Empty)
+  inverse_plain (LocalInt x a s y b) = ap (λ r. tree.LocalInt (text_of x) (plain_exp b) r (plain_exp a)) (turned_plain s Empty)
+  inverse_plain (LocalStack x s y) = ap (tree.LocalStack (text_of x)) (turned_plain s Empty)
 
   turned_plain : (b acc : Block) → plain_block (turned b acc) ≡ tree.turn (plain_block b) (plain_block acc)
   turned_plain Empty acc = refl
@@ -109,3 +114,25 @@ loop_turned a b c d v w x y e f g h =
     ∙ ap (λ s. Loop (exp_view b) (turned (block_view v.items) Empty) s (exp_view c)) h
     ∙ ap (Loop (exp_view b) (turned (block_view v.items) Empty) (turned (block_view w.items) Empty)) e
     ∙ ap inverse_stm (sym (view_loop a b v w))
+
+pub local_int_turned : (m n x y : code_name.Name) (a b c d : code_exp.Exp) (v w : Vec code_stm.Stm Global) → name_view x ≡ name_view m → name_view y ≡ name_view n → exp_view c ≡ exp_view a → exp_view d ≡ exp_view b → block_view w.items ≡ turned (block_view v.items) Empty → stm_view (code_stm.LocalInt x d w y c) ≡ inverse_stm (stm_view (code_stm.LocalInt m a v n b))
+local_int_turned m n x y a b c d v w i j e f g =
+    view_local_int x y d c w
+    ∙ ap (λ z. LocalInt z (exp_view d) (block_view w.items) (name_view y) (exp_view c)) i
+    ∙ ap (λ z. LocalInt (name_view m) z (block_view w.items) (name_view y) (exp_view c)) f
+    ∙ ap (λ z. LocalInt (name_view m) (exp_view b) z (name_view y) (exp_view c)) g
+    ∙ ap (λ z. LocalInt (name_view m) (exp_view b) (turned (block_view v.items) Empty) z (exp_view c)) j
+    ∙ ap (LocalInt (name_view m) (exp_view b) (turned (block_view v.items) Empty) (name_view n)) e
+    ∙ ap inverse_stm (sym (view_local_int m n a b v))
+
+pub local_stack_turned : (m n x y : code_name.Name) (v w : Vec code_stm.Stm Global) → name_view x ≡ name_view m → name_view y ≡ name_view n → block_view w.items ≡ turned (block_view v.items) Empty → stm_view (code_stm.LocalStack x w y) ≡ inverse_stm (stm_view (code_stm.LocalStack m v n))
+local_stack_turned m n x y v w i j g =
+    view_local_stack x y w
+    ∙ ap (λ z. LocalStack z (block_view w.items) (name_view y)) i
+    ∙ ap (λ z. LocalStack (name_view m) z (name_view y)) g
+    ∙ ap (LocalStack (name_view m) (turned (block_view v.items) Empty)) j
+    ∙ ap inverse_stm (sym (view_local_stack m n v))
+
+-- a copy of a name, at its place
+pub name_copied : (x y : code_name.Name) → name_of y ≡ name_of x → y.span ≡ x.span → name_view y ≡ name_view x
+name_copied x y e f = ap (λ t. named t y.span) e ∙ ap (named (name_of x)) f

@@ -5,15 +5,16 @@ use Rattle.std.proofs.Math.ListN.{get_or-append}
 use Rattle.std.proofs.Math.Seq.{get_or-append_seam}
 use Rattle.std.proofs.lemmas.Bool.{cases_lt}
 use Rattle.janus_meaning.specs.Syntax as tree
+use Rattle.janus_syntax.specs.declared.tree.Name as code_name
 use Rattle.janus_syntax.specs.declared.tree.Exp as code_exp
 use Rattle.janus_syntax.specs.declared.tree.Stm as code_stm
-use Rattle.janus_syntax.specs.View.{stm_of, block_of, plain_stm, exp_of as plain}
-use Rattle.janus_syntax.proofs.Views.{view_if, view_loop}
+use Rattle.janus_syntax.specs.View.{name_of, stm_of, block_of, plain_stm, exp_of as plain}
+use Rattle.janus_syntax.proofs.Views.{view_if, view_loop, view_local_int, view_local_stack}
 use Rattle.janus_invert.specs.declared.code.Exp as flat_exp
-use Rattle.janus_meaning.specs.Shape.{Shape}
-use Rattle.janus_invert.proofs.Seen.{stm_weight, block_weight}
+use Rattle.janus_meaning.specs.Syntax.{Name}
+use Rattle.janus_invert.proofs.Meeting.{stm_weight, block_weight}
 use Rattle.janus_invert.specs.Expressions.{exp_of}
-use Rattle.janus_invert.specs.Sight.{SeesStm, SeesBlk}
+use Rattle.janus_invert.specs.Met.{MeetsStm, MeetsBlk}
 
 pub if_ok : {T E : Type 0} {P Q : T → Type 0} (r : Result T E) → ((x : T) → P x → Q x) → IfOk r P → IfOk r Q
 if_ok (Ok x) f p = f x p
@@ -23,26 +24,56 @@ pub always_ok : {T E : Type 0} {P : T → Type 0} (r : Result T E) → ((x : T) 
 always_ok (Ok x) f = f x
 always_ok (Err e) f = tt
 
--- what is seen of a statement with blocks is seen of its blocks, which weigh less
-pub record Parts (g : Shape) (s : code_stm.Stm) (ss ts : List code_stm.Stm) : Type 0 where
-  pub first : SeesBlk g (block_of ss)
-  pub second : SeesBlk g (block_of ts)
+-- what was met of a statement with blocks was met of its blocks, which weigh less
+pub record Parts (xs : List Name) (s : code_stm.Stm) (ss ts : List code_stm.Stm) : Type 0 where
+  pub first : MeetsBlk xs (block_of ss)
+  pub second : MeetsBlk xs (block_of ts)
   pub first_lighter : block_weight (block_of ss) < stm_weight (stm_of s)
   pub second_lighter : block_weight (block_of ts) < stm_weight (stm_of s)
 
-pub if_parts : (g : Shape) (s : code_stm.Stm) (a b : code_exp.Exp) (v w : Vec code_stm.Stm Global) → s ≡ code_stm.If a v w b → SeesStm g (stm_of s) → Parts g s v.items w.items
-if_parts g s a b v w e h =
+pub if_parts : (xs : List Name) (s : code_stm.Stm) (a b : code_exp.Exp) (v w : Vec code_stm.Stm Global) → s ≡ code_stm.If a v w b → MeetsStm xs (stm_of s) → Parts xs s v.items w.items
+if_parts xs s a b v w e h =
     let is = ap stm_of e ∙ ap plain_stm (view_if a b v w) in
-    let seen = subst (SeesStm g) is h in
+    let seen = subst (MeetsStm xs) is h in
     let weight = ap stm_weight is in
     record { first = seen.1; second = seen.2; first_lighter = omega (arith, weight); second_lighter = omega (arith, weight) }
 
-pub loop_parts : (g : Shape) (s : code_stm.Stm) (a b : code_exp.Exp) (v w : Vec code_stm.Stm Global) → s ≡ code_stm.Loop a v w b → SeesStm g (stm_of s) → Parts g s v.items w.items
-loop_parts g s a b v w e h =
+pub loop_parts : (xs : List Name) (s : code_stm.Stm) (a b : code_exp.Exp) (v w : Vec code_stm.Stm Global) → s ≡ code_stm.Loop a v w b → MeetsStm xs (stm_of s) → Parts xs s v.items w.items
+loop_parts xs s a b v w e h =
     let is = ap stm_of e ∙ ap plain_stm (view_loop a b v w) in
-    let seen = subst (SeesStm g) is h in
+    let seen = subst (MeetsStm xs) is h in
     let weight = ap stm_weight is in
     record { first = seen.1; second = seen.2; first_lighter = omega (arith, weight); second_lighter = omega (arith, weight) }
+
+pub record Part (xs : List Name) (s : code_stm.Stm) (ss : List code_stm.Stm) : Type 0 where
+  pub block : MeetsBlk xs (block_of ss)
+  pub lighter : block_weight (block_of ss) < stm_weight (stm_of s)
+
+pub local_int_part : (xs : List Name) (s : code_stm.Stm) (x y : code_name.Name) (a b : code_exp.Exp) (v : Vec code_stm.Stm Global) → s ≡ code_stm.LocalInt x a v y b → MeetsStm xs (stm_of s) → Part xs s v.items
+local_int_part xs s x y a b v e h =
+    let is = ap stm_of e ∙ ap plain_stm (view_local_int x y a b v) in
+    let met = subst (MeetsStm xs) is h in
+    let weight = ap stm_weight is in
+    record { block = met.2; lighter = omega (arith, weight) }
+
+pub local_stack_part : (xs : List Name) (s : code_stm.Stm) (x y : code_name.Name) (v : Vec code_stm.Stm Global) → s ≡ code_stm.LocalStack x v y → MeetsStm xs (stm_of s) → Part xs s v.items
+local_stack_part xs s x y v e h =
+    let is = ap stm_of e ∙ ap plain_stm (view_local_stack x y v) in
+    let met = subst (MeetsStm xs) is h in
+    let weight = ap stm_weight is in
+    record { block = met.1; lighter = omega (arith, weight) }
+
+pub local_int_flat : (x y : code_name.Name) (a b : code_exp.Exp) (z : Name) (f g : flat_exp.Exp) (v : Vec code_stm.Stm Global) (s : tree.Blk) → z ≡ name_of x → exp_of f ≡ plain a → exp_of g ≡ plain b → s ≡ block_of v.items → tree.LocalInt z (exp_of f) s (exp_of g) ≡ stm_of (code_stm.LocalInt x a v y b)
+local_int_flat x y a b z f g v s n h i j =
+    ap (λ z. tree.LocalInt z (exp_of f) s (exp_of g)) n
+    ∙ ap (λ e. tree.LocalInt (name_of x) e s (exp_of g)) h
+    ∙ ap (tree.LocalInt (name_of x) (plain a) s) i
+    ∙ ap (λ s. tree.LocalInt (name_of x) (plain a) s (plain b)) j
+    ∙ ap plain_stm (sym (view_local_int x y a b v))
+
+pub local_stack_flat : (x y : code_name.Name) (z : Name) (v : Vec code_stm.Stm Global) (s : tree.Blk) → z ≡ name_of x → s ≡ block_of v.items → tree.LocalStack z s ≡ stm_of (code_stm.LocalStack x v y)
+local_stack_flat x y z v s n j =
+    ap (λ z. tree.LocalStack z s) n ∙ ap (tree.LocalStack (name_of x)) j ∙ ap plain_stm (sym (view_local_stack x y v))
 
 pub if_flat : (a b : code_exp.Exp) (f g : flat_exp.Exp) (v w : Vec code_stm.Stm Global) (s t : tree.Blk) → exp_of f ≡ plain a → exp_of g ≡ plain b → s ≡ block_of v.items → t ≡ block_of w.items → tree.If (exp_of f) s t (exp_of g) ≡ stm_of (code_stm.If a v w b)
 if_flat a b f g v w s t h i j k =

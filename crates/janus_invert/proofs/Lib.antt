@@ -3,5 +3,5 @@ pub mod Pairs
 pub mod Trees
 pub mod Flattened
 pub mod Reversed
-pub mod Seen
+pub mod Meeting
 pub mod Placing

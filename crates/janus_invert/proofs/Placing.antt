@@ -1,5 +1,5 @@
 -- Placed statements, one more of them, and those of the inverse.
-use Rattle.std.proofs.Common.{◌≡◌, Box, Global, ℕ, ◌<◌, List, [], ◌∷◌, ◌++◌, length, get_or, refl, ap, ◌∙◌, sym, subst, arith, ⊎_elim, ◌⊎◌}
+use Rattle.std.proofs.Common.{◌≡◌, Box, Global, ℕ, ◌<◌, List, [], ◌∷◌, ◌++◌, length, get_or, refl, ap, ◌∙◌, sym, subst, arith, ⊎_elim}
 use Rattle.std.specs.Prelude.{slice_get, Some, string_bytes}
 use Rattle.std.proofs.lemmas.Option.{slice_get_within, slice_get-get_or}
 use Rattle.janus_meaning.specs.Syntax.{Name}
@@ -12,35 +12,37 @@ use Rattle.janus_syntax.specs.View.{operator_of}
 use Rattle.janus_meaning.specs.Syntax as tree
 use Rattle.janus_invert.specs.Expressions.{exp_of}
 use Rattle.janus_invert.specs.declared.code.Statement.{Statement}
-use Rattle.janus_invert.specs.declared.code.Statement.TheVariants.{Skip, Assign, AssignElement, Push, Pop, If, Loop}
-use Rattle.janus_invert.specs.Placed.{IsAt, IsPlaced, IsSame, IsCopy, IsPlacedStatement, ArePlaced}
+use Rattle.janus_invert.specs.declared.code.Statement.TheVariants.{Skip, Assign, AssignElement, Push, Pop, If, Loop, LocalInt, LocalStack}
+use Rattle.janus_invert.specs.Numbered.{HasItsNumber, HasNumbers, IsSame, IsCopy, StatementHasNumbers, HaveNumbers}
 use Rattle.janus_invert.specs.Inverted.{IsInverse, AreInverse}
 use Rattle.janus_invert.proofs.Pairs.{last_or_before}
 
-pub none_placed : (xs : List Name) → ArePlaced xs []
+pub none_placed : (xs : List Name) → HaveNumbers xs []
 none_placed xs n s e = cc
 
-pub one_more_placed : (xs : List Name) (ss : List Statement) (s : Statement) → ArePlaced xs ss → IsPlacedStatement xs s → ArePlaced xs (ss ++ s ∷ [])
+pub one_more_placed : (xs : List Name) (ss : List Statement) (s : Statement) → HaveNumbers xs ss → StatementHasNumbers xs s → HaveNumbers xs (ss ++ s ∷ [])
 one_more_placed xs ss s h p n r e =
     ⊎_elim
     (λ (q : slice_get ss n ≡ Some r). h n r q)
-    (λ (q : (n ≡ length ss) × (s ≡ r)). subst (IsPlacedStatement xs) q.1 p)
+    (λ (q : (n ≡ length ss) × (s ≡ r)). subst (StatementHasNumbers xs) q.1 p)
     (last_or_before ss s r n e)
 
-pub same_at : (xs : List Name) (x y : Symbol) → IsSame x y → IsAt xs x → IsAt xs y
-same_at xs x y same at = ap (slice_get xs) same.place ∙ at ∙ ap Some (sym same.text)
+pub same_at : (xs : List Name) (x y : Symbol) → IsSame x y → HasItsNumber xs x → HasItsNumber xs y
+same_at xs x y same at = ap (slice_get xs) same.number ∙ at ∙ ap Some (sym same.text)
 
-statement_turned : (members others : List ℕ) (xs : List Name) (s r : Statement) → IsInverse members others s r → IsPlacedStatement xs s → IsPlacedStatement xs r
+statement_turned : (members others : List ℕ) (xs : List Name) (s r : Statement) → IsInverse members others s r → StatementHasNumbers xs s → StatementHasNumbers xs r
 statement_turned members others xs Skip Skip v p = tt
-statement_turned members others xs (Assign x u e) (Assign y w f) v p = (same_at xs x y v.0 p.0, v.2.placed xs p.1)
-statement_turned members others xs (AssignElement x i u e) (AssignElement y j w f) v p = (same_at xs x y v.0 p.0, v.1.placed xs p.1, v.3.placed xs p.2)
+statement_turned members others xs (Assign x u e) (Assign y w f) v p = (same_at xs x y v.0 p.0, v.2.numbered xs p.1)
+statement_turned members others xs (AssignElement x i u e) (AssignElement y j w f) v p = (same_at xs x y v.0 p.0, v.1.numbered xs p.1, v.3.numbered xs p.2)
 statement_turned members others xs (Push x y) (Pop v w) h p = (same_at xs x v h.0 p.0, same_at xs y w h.1 p.1)
 statement_turned members others xs (Pop x y) (Push v w) h p = (same_at xs x v h.0 p.0, same_at xs y w h.1 p.1)
-statement_turned members others xs (If a k l b) (If c m n d) v p = (v.0.placed xs p.1, v.3.placed xs p.0)
-statement_turned members others xs (Loop a k l b) (Loop c m n d) v p = (v.0.placed xs p.1, v.3.placed xs p.0)
+statement_turned members others xs (If a k l b) (If c m n d) v p = (v.0.numbered xs p.1, v.3.numbered xs p.0)
+statement_turned members others xs (Loop a k l b) (Loop c m n d) v p = (v.0.numbered xs p.1, v.3.numbered xs p.0)
+statement_turned members others xs (LocalInt x a k b) (LocalInt y c m d) v p = (same_at xs x y v.0 p.0, v.1.numbered xs p.2, v.3.numbered xs p.1)
+statement_turned members others xs (LocalStack x k) (LocalStack y m) v p = same_at xs x y v.0 p
 statement_turned members others xs _ _ v p = absurd v
 
-pub all_turned : (members : List ℕ) (ss : List Statement) (body : Block) (others : List ℕ) (rs : List Statement) (back : Block) → AreInverse members ss body others rs back → (xs : List Name) → ArePlaced xs ss → ArePlaced xs rs
+pub all_turned : (members : List ℕ) (ss : List Statement) (body : Block) (others : List ℕ) (rs : List Statement) (back : Block) → AreInverse members ss body others rs back → (xs : List Name) → HaveNumbers xs ss → HaveNumbers xs rs
 all_turned members ss body others rs back v xs p n r e =
     let lt : n < length ss = omega (arith, slice_get_within rs n r e, v.as_many) in
     let s = get_or ss n r in
@@ -53,7 +55,7 @@ all_turned members ss body others rs back v xs p n r e =
 pub copy_through : (a b c d : Exp) → a ≡ b → d ≡ c → IsCopy a c → IsCopy b d
 copy_through a b c d e f h = record {
   tree = ap exp_of f ∙ h.tree ∙ ap exp_of e;
-  placed = λ xs p. subst (IsPlaced xs) (sym f) (h.placed xs (subst (IsPlaced xs) (sym e) p));
+  numbered = λ xs p. subst (HasNumbers xs) (sym f) (h.numbered xs (subst (HasNumbers xs) (sym e) p));
 }
 
 pub copy_of : (a b c : Exp) → a ≡ b → IsCopy b c → IsCopy a c
@@ -62,26 +64,26 @@ copy_of a b c e h = copy_through b a c c (sym e) refl h
 pub element_copy : (x y : Symbol) (b c : Box Exp Global) → IsSame x y → IsCopy b.value c.value → IsCopy (views.Element x b) (views.Element y c)
 element_copy x y b c h k = record {
   tree = ap (λ x. tree.At x (exp_of c.value)) h.text ∙ ap (tree.At (string_bytes x.text)) k.tree;
-  placed = λ xs p. (same_at xs x y h p.0, k.placed xs p.1);
+  numbered = λ xs p. (same_at xs x y h p.0, k.numbered xs p.1);
 }
 
 pub negative_copy : (b c : Box Exp Global) → IsCopy b.value c.value → IsCopy (views.Negative b) (views.Negative c)
-negative_copy b c k = record { tree = ap tree.Negate k.tree; placed = λ xs p. k.placed xs p }
+negative_copy b c k = record { tree = ap tree.Negate k.tree; numbered = λ xs p. k.numbered xs p }
 
 pub binary_copy : (o : Operator) (a b c d : Box Exp Global) → IsCopy a.value c.value → IsCopy b.value d.value → IsCopy (views.Binary o a b) (views.Binary o c d)
 binary_copy o a b c d h k = record {
   tree = ap (λ l. tree.Binary (operator_of o) l (exp_of d.value)) h.tree ∙ ap (tree.Binary (operator_of o) (exp_of a.value)) k.tree;
-  placed = λ xs p. (h.placed xs p.0, k.placed xs p.1);
+  numbered = λ xs p. (h.numbered xs p.0, k.numbered xs p.1);
 }
 
 pub and_copy : (a b c d : Box Exp Global) → IsCopy a.value c.value → IsCopy b.value d.value → IsCopy (views.And a b) (views.And c d)
 and_copy a b c d h k = record {
   tree = ap (λ l. tree.And l (exp_of d.value)) h.tree ∙ ap (tree.And (exp_of a.value)) k.tree;
-  placed = λ xs p. (h.placed xs p.0, k.placed xs p.1);
+  numbered = λ xs p. (h.numbered xs p.0, k.numbered xs p.1);
 }
 
 pub or_copy : (a b c d : Box Exp Global) → IsCopy a.value c.value → IsCopy b.value d.value → IsCopy (views.Or a b) (views.Or c d)
 or_copy a b c d h k = record {
   tree = ap (λ l. tree.Or l (exp_of d.value)) h.tree ∙ ap (tree.Or (exp_of a.value)) k.tree;
-  placed = λ xs p. (h.placed xs p.0, k.placed xs p.1);
+  numbered = λ xs p. (h.numbered xs p.0, k.numbered xs p.1);
 }

@@ -10,7 +10,7 @@ use Rattle.janus_syntax.specs.declared.tree.Update.{Update}
 use Rattle.janus_syntax.specs.declared.tree.Update.TheVariants as update
 use Rattle.janus_invert.specs.declared.code.Block.{Block}
 use Rattle.janus_invert.specs.declared.code.Statement.{Statement}
-use Rattle.janus_invert.specs.declared.code.Statement.TheVariants.{Skip, Assign, AssignElement, Push, Pop, If, Loop}
+use Rattle.janus_invert.specs.declared.code.Statement.TheVariants.{Skip, Assign, AssignElement, Push, Pop, If, Loop, LocalInt, LocalStack}
 use Rattle.janus_invert.specs.Expressions.{exp_of}
 use Rattle.janus_invert.specs.Flat.{ahead, block_at, built, tree_at, IsBelow, BlocksAreBelow, AreBelow, IsDownward}
 use Rattle.janus_invert.specs.Inverted.{IsOpposite, IsBackward, IsInverse, AreInverse}
@@ -81,6 +81,14 @@ module _ (t u : ℕ → tree.Stm) (members others : List ℕ) (m : ℕ) (inv : (
       ∙ ap (λ z. tree.From (exp_of c) z (block_at u others s) (exp_of e)) (block_turned t u members others m p r b.0 h.1 inv)
       ∙ ap (λ z. tree.From (exp_of c) (tree.inverse_block (block_at t members p)) z (exp_of e)) (block_turned t u members others m q s b.1 h.2 inv)
       ∙ ap (tree.From (exp_of c) (tree.inverse_block (block_at t members p)) (tree.inverse_block (block_at t members q))) h.3.tree
+  built_turned (LocalInt x a p c) (LocalInt y d r e) b h =
+      ap (λ z. tree.LocalInt z (exp_of d) (block_at u others r) (exp_of e)) h.0.text
+      ∙ ap (λ z. tree.LocalInt (string_bytes x.text) z (block_at u others r) (exp_of e)) h.1.tree
+      ∙ ap (λ z. tree.LocalInt (string_bytes x.text) (exp_of c) z (exp_of e)) (block_turned t u members others m p r b h.2 inv)
+      ∙ ap (tree.LocalInt (string_bytes x.text) (exp_of c) (tree.inverse_block (block_at t members p))) h.3.tree
+  built_turned (LocalStack x p) (LocalStack y r) b h =
+      ap (λ z. tree.LocalStack z (block_at u others r)) h.0.text
+      ∙ ap (tree.LocalStack (string_bytes x.text)) (block_turned t u members others m p r b h.1 inv)
   built_turned _ _ b h = absurd h
 
 -- ---- code
@@ -136,6 +144,8 @@ inverse_below members others n (Push x y) (Pop v w) b h = tt
 inverse_below members others n (Pop x y) (Push v w) b h = tt
 inverse_below members others n (If a p q c) (If d r s e) b h = (backward_below members others n p r b.0 h.1, backward_below members others n q s b.1 h.2)
 inverse_below members others n (Loop a p q c) (Loop d r s e) b h = (backward_below members others n p r b.0 h.1, backward_below members others n q s b.1 h.2)
+inverse_below members others n (LocalInt x a p c) (LocalInt y d r e) b h = backward_below members others n p r b h.2
+inverse_below members others n (LocalStack x p) (LocalStack y r) b h = backward_below members others n p r b h.1
 inverse_below members others n _ _ b h = absurd h
 
 pub whole_below : (members others : List ℕ) (n m : ℕ) (b c : Block) → m ≡ n → IsBelow members n b → IsBackward members others b c → IsBelow others m c
@@ -161,6 +171,8 @@ inverse_longer members others more (Push x y) (Pop v w) l h = h
 inverse_longer members others more (Pop x y) (Push v w) l h = h
 inverse_longer members others more (If a p q c) (If d r s e) l h = (h.0, backward_longer members others more p r l h.1, backward_longer members others more q s l h.2, h.3)
 inverse_longer members others more (Loop a p q c) (Loop d r s e) l h = (h.0, backward_longer members others more p r l h.1, backward_longer members others more q s l h.2, h.3)
+inverse_longer members others more (LocalInt x a p c) (LocalInt y d r e) l h = (h.0, h.1, backward_longer members others more p r l h.2, h.3)
+inverse_longer members others more (LocalStack x p) (LocalStack y r) l h = (h.0, backward_longer members others more p r l h.1)
 inverse_longer members others more _ _ l h = absurd h
 
 -- ---- what the loop over all statements has made, and the whole block behind it

@@ -2,7 +2,7 @@
 use Rattle.std.specs.Prelude.{◌≡◌}
 use Rattle.janus_syntax.specs.declared.tree.Update.{Update}
 use Rattle.janus_syntax.specs.declared.tree.Update.TheVariants.{Add, Subtract, Xor}
-use Rattle.janus_syntax.specs.Tree.{Stm, Skip, Assign, AssignElement, Push, Pop, If, Loop, Block, Empty, More, Cell, cell_of}
+use Rattle.janus_syntax.specs.Tree.{Stm, Skip, Assign, AssignElement, Push, Pop, If, Loop, LocalInt, LocalStack, Block, Empty, More, Cell, cell_of}
 
 abbrev pub opposite_of : Update → Update
 opposite_of Add = Subtract
@@ -19,6 +19,8 @@ abbrev mutual
   inverse_stm (Pop x y) = Push x y
   inverse_stm (If a s t b) = If b (turned s Empty) (turned t Empty) a
   inverse_stm (Loop a s t b) = Loop b (turned s Empty) (turned t Empty) a
+  inverse_stm (LocalInt x a s y b) = LocalInt x b (turned s Empty) y a
+  inverse_stm (LocalStack x s y) = LocalStack x (turned s Empty) y
 
   -- the inverse of a block, and behind it `done`
   pub turned : Block → Block → Block

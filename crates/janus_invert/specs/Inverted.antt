@@ -4,8 +4,8 @@ use Rattle.janus_syntax.specs.declared.tree.Update.{Update}
 use Rattle.janus_syntax.specs.declared.tree.Update.TheVariants as update
 use Rattle.janus_invert.specs.declared.code.Block.{Block}
 use Rattle.janus_invert.specs.declared.code.Statement.{Statement}
-use Rattle.janus_invert.specs.declared.code.Statement.TheVariants.{Skip, Assign, AssignElement, Push, Pop, If, Loop}
-use Rattle.janus_invert.specs.Placed.{IsSame, IsCopy}
+use Rattle.janus_invert.specs.declared.code.Statement.TheVariants.{Skip, Assign, AssignElement, Push, Pop, If, Loop, LocalInt, LocalStack}
+use Rattle.janus_invert.specs.Numbered.{IsSame, IsCopy}
 
 -- `+=` and `-=` are each other's opposites, `^=` is its own
 abbrev pub IsOpposite : Update → Update → Type 0
@@ -33,6 +33,9 @@ IsInverse members others (If a p q b) (If c r s d) =
     IsCopy b c × IsBackward members others p r × IsBackward members others q s × IsCopy a d
 IsInverse members others (Loop a p q b) (Loop c r s d) =
     IsCopy b c × IsBackward members others p r × IsBackward members others q s × IsCopy a d
+IsInverse members others (LocalInt x a p b) (LocalInt y c r d) =
+    IsSame x y × IsCopy b c × IsBackward members others p r × IsCopy a d
+IsInverse members others (LocalStack x p) (LocalStack y r) = IsSame x y × IsBackward members others p r
 IsInverse members others _ _ = ⊥
 
 pub record AreInverse (members : List ℕ) (statements : List Statement) (body : Block) (others : List ℕ) (inverses : List Statement) (back : Block) : Type 0 where

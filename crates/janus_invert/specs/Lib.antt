@@ -1,7 +1,7 @@
 pub mod Cells
 pub mod Expressions
-pub mod Placed
-pub mod Sight
+pub mod Numbered
+pub mod Met
 pub mod Flat
 pub mod CodeBlock
 pub mod Grown

@@ -5,16 +5,16 @@ ghost use Rattle.janus_invert.specs.Flat.{IsDownward, IsDownward-prop};
 use janus_syntax::tree::{Operator, Update};
 use std::alloc::AllocError;
 
-/// A name, and where it stands among the names in sight, the oldest being 0. What runs looks at the place alone.
+/// A name with its number among the names that were met. What runs looks at the number alone.
 #[derive(Drop)]
 pub struct Symbol {
     pub text: String,
-    pub place: usize,
+    pub number: usize,
 }
 
 impl Symbol {
     ghost use Rattle.std.specs.Prelude.{IfOk};
-    ghost use Rattle.janus_invert.specs.Placed.{IsSame};
+    ghost use Rattle.janus_invert.specs.Numbered.{IsSame};
 
     /// The same symbol in memory of its own; an error for want of memory.
     pub(crate) fn copy(&self) -> Result<Symbol, AllocError>
@@ -22,7 +22,7 @@ impl Symbol {
     {
         Ok(Symbol {
             text: self.text.clone()?,
-            place: self.place,
+            number: self.number,
         })
     }
 }
@@ -66,6 +66,10 @@ pub enum Statement {
     If(Exp, Block, Block, Exp),
     /// The test after `from`, the parts after `do` and `loop`, and the test after `until`.
     Loop(Exp, Block, Block, Exp),
+    /// A local number: what it begins with, the block in which it stands, and what it ends with.
+    LocalInt(Symbol, Exp, Block, Exp),
+    /// A local stack, empty at both ends, and the block in which it stands.
+    LocalStack(Symbol, Block),
 }
 
 /// Flat code. A statement stands behind those of its blocks.

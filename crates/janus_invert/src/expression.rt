@@ -1,64 +1,64 @@
 //! The expressions of flat code.
 
 ghost use Rattle.std.specs.Prelude.{◌≡◌, IfOk, string_bytes};
-ghost use Rattle.janus_check.specs.Names.{names_in, shape_in};
+ghost use Rattle.janus_names.specs.Numbers.{IsMet};
 ghost use Rattle.janus_syntax.specs.View.{name_of, exp_of as plain};
 ghost use Rattle.janus_invert.specs.Expressions.{exp_of};
-ghost use Rattle.janus_invert.specs.Placed.{IsAt, IsPlaced, IsCopy};
-ghost use Rattle.janus_invert.specs.Sight.{IsSeen, SeesExp};
+ghost use Rattle.janus_invert.specs.Numbered.{HasItsNumber, HasNumbers, IsCopy};
+ghost use Rattle.janus_invert.specs.Met.{MeetsExp};
 
 use crate::code::{Exp, Symbol};
-use janus_check::Env;
+use janus_names::Names;
 use janus_syntax::tree;
 use std::alloc::{AllocError, Global};
 
-/// A name in sight with its place; an error for want of memory.
-pub(crate) fn symbol(scope: &Env, name: &tree::Name) -> Result<Symbol, AllocError>
-    requires { IsSeen (shape_in scope.now) (name_of name.now) }
+/// A name that was met with its number; an error for want of memory.
+pub(crate) fn symbol(names: &Names, name: &tree::Name) -> Result<Symbol, AllocError>
+    requires { IsMet names.now (name_of name.now) }
     ensures text { IfOk result (λ symbol. string_bytes symbol.text ≡ name_of name.now) }
-    ensures placed { IfOk result (λ symbol. IsAt (names_in scope.now) symbol) }
+    ensures numbered { IfOk result (λ symbol. HasItsNumber names.now symbol) }
 {
-    match scope.place(&name.text) {
-        Some(place) => Ok(Symbol {
+    match names.number(&name.text) {
+        Some(number) => Ok(Symbol {
             text: name.text.clone()?,
-            place,
+            number,
         }),
         None => unreachable!(),
     }
 }
 
-/// An expression of a cell, whose names are in sight, with the places of its names among those; an error for want of memory.
-pub fn flat_exp(alloc: Global, exp: &tree::Exp, scope: &Env) -> Result<Exp, AllocError>
-    requires { SeesExp (shape_in scope.now) (plain exp.now) }
+/// An expression whose names were met, with their numbers; an error for want of memory.
+pub fn flat_exp(alloc: Global, exp: &tree::Exp, names: &Names) -> Result<Exp, AllocError>
+    requires { MeetsExp names.now (plain exp.now) }
     ensures tree { IfOk result (λ flat. exp_of flat ≡ plain exp.now) }
-    ensures placed { IfOk result (λ flat. IsPlaced (names_in scope.now) flat) }
+    ensures numbered { IfOk result (λ flat. HasNumbers names.now flat) }
 {
     match exp {
         tree::Exp::Number(number, _) => Ok(Exp::Number(*number)),
-        tree::Exp::Variable(name) => Ok(Exp::Variable(symbol(scope, name)?)),
+        tree::Exp::Variable(name) => Ok(Exp::Variable(symbol(names, name)?)),
         tree::Exp::Element(name, index) => {
-            let index = Box::new(alloc, flat_exp(alloc, index, scope)?)?;
-            Ok(Exp::Element(symbol(scope, name)?, index))
+            let index = Box::new(alloc, flat_exp(alloc, index, names)?)?;
+            Ok(Exp::Element(symbol(names, name)?, index))
         }
-        tree::Exp::Empty(name) => Ok(Exp::Empty(symbol(scope, name)?)),
-        tree::Exp::Top(name) => Ok(Exp::Top(symbol(scope, name)?)),
+        tree::Exp::Empty(name) => Ok(Exp::Empty(symbol(names, name)?)),
+        tree::Exp::Top(name) => Ok(Exp::Top(symbol(names, name)?)),
         tree::Exp::Negative(operand) => {
-            let operand = flat_exp(alloc, operand, scope)?;
+            let operand = flat_exp(alloc, operand, names)?;
             Ok(Exp::Negative(Box::new(alloc, operand)?))
         }
         tree::Exp::Binary(operator, left, right) => {
-            let left = Box::new(alloc, flat_exp(alloc, left, scope)?)?;
-            let right = Box::new(alloc, flat_exp(alloc, right, scope)?)?;
+            let left = Box::new(alloc, flat_exp(alloc, left, names)?)?;
+            let right = Box::new(alloc, flat_exp(alloc, right, names)?)?;
             Ok(Exp::Binary(*operator, left, right))
         }
         tree::Exp::And(left, right) => {
-            let left = Box::new(alloc, flat_exp(alloc, left, scope)?)?;
-            let right = Box::new(alloc, flat_exp(alloc, right, scope)?)?;
+            let left = Box::new(alloc, flat_exp(alloc, left, names)?)?;
+            let right = Box::new(alloc, flat_exp(alloc, right, names)?)?;
             Ok(Exp::And(left, right))
         }
         tree::Exp::Or(left, right) => {
-            let left = Box::new(alloc, flat_exp(alloc, left, scope)?)?;
-            let right = Box::new(alloc, flat_exp(alloc, right, scope)?)?;
+            let left = Box::new(alloc, flat_exp(alloc, left, names)?)?;
+            let right = Box::new(alloc, flat_exp(alloc, right, names)?)?;
             Ok(Exp::Or(left, right))
         }
     }

@@ -7,16 +7,14 @@ ghost use Rattle.janus_invert.specs.Flat.{IsBelow, BlocksAreBelow, AreBelow, Are
 ghost use Rattle.janus_invert.specs.CodeBlock.{code_block};
 ghost use Rattle.janus_invert.specs.Grown.{Grows};
 ghost use Rattle.janus_meaning.specs.Syntax.{Name};
-ghost use Rattle.janus_meaning.specs.Shape.{Heads};
-ghost use Rattle.janus_meaning.specs.Formed.{IsBlk};
-ghost use Rattle.janus_check.specs.Names.{names_in, shape_in};
-ghost use Rattle.janus_invert.specs.Placed.{IsPlacedStatement, ArePlaced};
-ghost use Rattle.janus_invert.specs.Sight.{SeesStm, SeesBlk};
+ghost use Rattle.janus_invert.specs.Numbered.{StatementHasNumbers, HaveNumbers};
+ghost use Rattle.janus_invert.specs.Met.{MeetsStm, MeetsBlk};
 
 use crate::code::{Block, Code, Statement};
 use crate::expression::{flat_exp, symbol};
 use crate::fault::InvertFault;
-use janus_check::{Checked, Env};
+use janus_check::Checked;
+use janus_names::Names;
 use janus_syntax::tree::Stm;
 use std::alloc::{AllocError, Global};
 
@@ -28,27 +26,26 @@ struct Draft {
     ghost below: { AreBelow members.items statements.items } by { AreBelow-prop members.items statements.items },
 }
 
-/// The flat code of a checked cell's statements; or want of memory. In the scope stand the names in sight of the statements:
-/// those that the cell was checked over, and behind them the cell's own.
-pub fn flatten(alloc: Global, checked: &Checked, scope: &Env) -> Result<Code, InvertFault>
-    requires { (hs : Heads) × IsBlk hs (shape_in scope.now) (plain_cell (cell_in checked.now)).block }
+/// The flat code of a checked cell's statements; or want of memory. All their names were met, those of locals too.
+pub fn flatten(alloc: Global, checked: &Checked, names: &Names) -> Result<Code, InvertFault>
+    requires { MeetsBlk names.now (plain_cell (cell_in checked.now)).block }
     ensures block { IfOk result (λ code. code_block code ≡ (plain_cell (cell_in checked.now)).block) }
-    ensures placed { IfOk result (λ code. ArePlaced (names_in scope.now) code.statements.items) }
+    ensures numbered { IfOk result (λ code. HaveNumbers names.now code.statements.items) }
 {
-    Ok(flat_code(alloc, &checked.cell().statements, scope)?)
+    Ok(flat_code(alloc, &checked.cell().statements, names)?)
 }
 
 /// The flat code of a block.
-fn flat_code(alloc: Global, block: &[Stm], scope: &Env) -> Result<Code, AllocError>
-    requires { SeesBlk (shape_in scope.now) (block_of block.now) }
+fn flat_code(alloc: Global, block: &[Stm], names: &Names) -> Result<Code, AllocError>
+    requires { MeetsBlk names.now (block_of block.now) }
     ensures block { IfOk result (λ code. code_block code ≡ block_of block.now) }
-    ensures placed { IfOk result (λ code. ArePlaced (names_in scope.now) code.statements.items) }
+    ensures numbered { IfOk result (λ code. HaveNumbers names.now code.statements.items) }
 {
     let mut draft = Draft {
         statements: Vec::new(alloc),
         members: Vec::new(alloc),
     };
-    let body = flat_block(alloc, block, scope, &mut draft)?;
+    let body = flat_block(alloc, block, names, &mut draft)?;
     Ok(Code {
         statements: draft.statements,
         members: draft.members,
@@ -61,18 +58,18 @@ fn flat_code(alloc: Global, block: &[Stm], scope: &Env) -> Result<Code, AllocErr
 fn flat_block(
     alloc: Global,
     block: &[Stm],
-    scope: &Env,
+    names: &Names,
     draft: &mut Draft,
 ) -> Result<Block, AllocError>
-    requires { SeesBlk (shape_in scope.now) (block_of block.now) }
+    requires { MeetsBlk names.now (block_of block.now) }
     ensures grows { IfOk result (λ b. Grows draft.old.members.items draft.old.statements.items draft.new.members.items draft.new.statements.items) }
     ensures below { IfOk result (λ b. IsBelow draft.new.members.items (length draft.new.statements.items) b) }
     ensures block { IfOk result (λ b. block_at (tree_at draft.new.members.items draft.new.statements.items) draft.new.members.items b ≡ block_of block.now) }
-    ensures placed { IfOk result (λ b. ArePlaced (names_in scope.now) draft.old.statements.items → ArePlaced (names_in scope.now) draft.new.statements.items) }
+    ensures numbered { IfOk result (λ b. HaveNumbers names.now draft.old.statements.items → HaveNumbers names.now draft.new.statements.items) }
 {
     let mut numbers = Vec::new(alloc);
     for i in 0..block.len() {
-        numbers.push(flat_statement(alloc, &block[i], scope, draft)?)?;
+        numbers.push(flat_statement(alloc, &block[i], names, draft)?)?;
     }
     add_block(draft, &numbers)
 }
@@ -98,51 +95,63 @@ fn add_block(draft: &mut Draft, numbers: &[usize]) -> Result<Block, AllocError>
 fn flat_statement(
     alloc: Global,
     statement: &Stm,
-    scope: &Env,
+    names: &Names,
     draft: &mut Draft,
 ) -> Result<usize, AllocError>
-    requires { SeesStm (shape_in scope.now) (stm_of statement.now) }
+    requires { MeetsStm names.now (stm_of statement.now) }
     ensures grows { IfOk result (λ n. Grows draft.old.members.items draft.old.statements.items draft.new.members.items draft.new.statements.items) }
     ensures below { IfOk result (λ n. n < length draft.new.statements.items) }
     ensures tree { IfOk result (λ n. tree_at draft.new.members.items draft.new.statements.items n ≡ stm_of statement.now) }
-    ensures placed { IfOk result (λ b. ArePlaced (names_in scope.now) draft.old.statements.items → ArePlaced (names_in scope.now) draft.new.statements.items) }
+    ensures numbered { IfOk result (λ b. HaveNumbers names.now draft.old.statements.items → HaveNumbers names.now draft.new.statements.items) }
 {
     match statement {
         Stm::Skip => add(draft, Statement::Skip),
         Stm::Assign(name, update, exp) => {
-            let name = symbol(scope, name)?;
-            let exp = flat_exp(alloc, exp, scope)?;
+            let name = symbol(names, name)?;
+            let exp = flat_exp(alloc, exp, names)?;
             add(draft, Statement::Assign(name, *update, exp))
         }
         Stm::AssignElement(name, index, update, exp) => {
-            let name = symbol(scope, name)?;
-            let index = flat_exp(alloc, index, scope)?;
-            let exp = flat_exp(alloc, exp, scope)?;
+            let name = symbol(names, name)?;
+            let index = flat_exp(alloc, index, names)?;
+            let exp = flat_exp(alloc, exp, names)?;
             add(draft, Statement::AssignElement(name, index, *update, exp))
         }
         Stm::Push(variable, stack) => {
-            let variable = symbol(scope, variable)?;
-            let stack = symbol(scope, stack)?;
+            let variable = symbol(names, variable)?;
+            let stack = symbol(names, stack)?;
             add(draft, Statement::Push(variable, stack))
         }
         Stm::Pop(variable, stack) => {
-            let variable = symbol(scope, variable)?;
-            let stack = symbol(scope, stack)?;
+            let variable = symbol(names, variable)?;
+            let stack = symbol(names, stack)?;
             add(draft, Statement::Pop(variable, stack))
         }
         Stm::If(test, then_part, else_part, last) => {
-            let test = flat_exp(alloc, test, scope)?;
-            let last = flat_exp(alloc, last, scope)?;
-            let then_part = flat_block(alloc, then_part, scope, draft)?;
-            let else_part = flat_block(alloc, else_part, scope, draft)?;
+            let test = flat_exp(alloc, test, names)?;
+            let last = flat_exp(alloc, last, names)?;
+            let then_part = flat_block(alloc, then_part, names, draft)?;
+            let else_part = flat_block(alloc, else_part, names, draft)?;
             add(draft, Statement::If(test, then_part, else_part, last))
         }
         Stm::Loop(entry, do_part, loop_part, exit) => {
-            let entry = flat_exp(alloc, entry, scope)?;
-            let exit = flat_exp(alloc, exit, scope)?;
-            let do_part = flat_block(alloc, do_part, scope, draft)?;
-            let loop_part = flat_block(alloc, loop_part, scope, draft)?;
+            let entry = flat_exp(alloc, entry, names)?;
+            let exit = flat_exp(alloc, exit, names)?;
+            let do_part = flat_block(alloc, do_part, names, draft)?;
+            let loop_part = flat_block(alloc, loop_part, names, draft)?;
             add(draft, Statement::Loop(entry, do_part, loop_part, exit))
+        }
+        Stm::LocalInt(name, first, block, _, last) => {
+            let name = symbol(names, name)?;
+            let first = flat_exp(alloc, first, names)?;
+            let last = flat_exp(alloc, last, names)?;
+            let block = flat_block(alloc, block, names, draft)?;
+            add(draft, Statement::LocalInt(name, first, block, last))
+        }
+        Stm::LocalStack(name, block, _) => {
+            let name = symbol(names, name)?;
+            let block = flat_block(alloc, block, names, draft)?;
+            add(draft, Statement::LocalStack(name, block))
         }
     }
 }
@@ -153,7 +162,7 @@ fn add(draft: &mut Draft, statement: Statement) -> Result<usize, AllocError>
     ensures grows { IfOk result (λ n. Grows draft.old.members.items draft.old.statements.items draft.new.members.items draft.new.statements.items) }
     ensures below { IfOk result (λ n. n < length draft.new.statements.items) }
     ensures tree { IfOk result (λ n. tree_at draft.new.members.items draft.new.statements.items n ≡ built (tree_at draft.old.members.items draft.old.statements.items) draft.old.members.items statement) }
-    ensures placed { IfOk result (λ n. (xs : List Name) → ArePlaced xs draft.old.statements.items → IsPlacedStatement xs statement → ArePlaced xs draft.new.statements.items) }
+    ensures numbered { IfOk result (λ n. (xs : List Name) → HaveNumbers xs draft.old.statements.items → StatementHasNumbers xs statement → HaveNumbers xs draft.new.statements.items) }
 {
     let number = draft.statements.len();
     draft.statements.push(statement)?;

@@ -108,5 +108,17 @@ fn inverse_statement(alloc: Global, statement: &Stm) -> Result<Stm, AllocError>
             let entry = entry.copy(alloc)?;
             Ok(Stm::Loop(exit.copy(alloc)?, do_part, loop_part, entry))
         }
+        Stm::LocalInt(name, first, block, end, last) => {
+            let block = inverse_statements(alloc, block)?;
+            let name = name.copy()?;
+            let end = end.copy()?;
+            let first = first.copy(alloc)?;
+            Ok(Stm::LocalInt(name, last.copy(alloc)?, block, end, first))
+        }
+        Stm::LocalStack(name, block, end) => {
+            let block = inverse_statements(alloc, block)?;
+            let name = name.copy()?;
+            Ok(Stm::LocalStack(name, block, end.copy()?))
+        }
     }
 }

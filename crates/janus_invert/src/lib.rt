@@ -2,7 +2,7 @@
 //!
 //! To the layer above it promises that `invert` gives the inverse of a cell's statements, that flat code stands for one
 //! block, that `flatten` gives code that stands for the cell's block, and that `invert_code` gives code that stands for the
-//! inverse of that block. In flat code each name stands with its place among the names in sight, so that what runs compares no text.
+//! inverse of that block. In flat code each name stands with the number under which it was met, so that what runs compares no text.
 //! The inverse of a statement is that of Yokoyama and Glück (2007), "A reversible programming language and its invertible
 //! self-interpreter": `+=` and `-=` exchange, `^=` stays; an `if` exchanges its test and its assertion, a loop its entry and its
 //! exit, and their blocks stay where they are, each inverted; `skip` stays; a block is reversed with each of its statements inverted.

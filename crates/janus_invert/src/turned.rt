@@ -2,7 +2,7 @@
 
 ghost use Rattle.std.specs.Prelude.{◌≡◌, ℕ, List, ◌<◌, ◌≤◌, length, slice_index_or, IfOk};
 ghost use Rattle.janus_meaning.specs.Syntax.{Name, inverse_block};
-ghost use Rattle.janus_invert.specs.Placed.{ArePlaced};
+ghost use Rattle.janus_invert.specs.Numbered.{HaveNumbers};
 ghost use Rattle.janus_invert.specs.Flat.{BlocksAreBelow};
 ghost use Rattle.janus_invert.specs.Inverted.{IsInverse, IsBackward, AreInverse};
 ghost use Rattle.janus_invert.specs.CodeBlock.{code_block};
@@ -18,8 +18,8 @@ use std::alloc::{AllocError, Global};
 pub fn invert_code(alloc: Global, code: &Code) -> Result<Code, InvertFault>
     ensures block { IfOk result (λ inverse. code_block inverse ≡ inverse_block (code_block code.now)) }
     ensures parts { IfOk result (λ inverse. AreInverse code.now.members.items code.now.statements.items code.now.body inverse.members.items inverse.statements.items inverse.body) }
-    // The names keep their places.
-    ensures placed { IfOk result (λ inverse. (xs : List Name) → ArePlaced xs code.now.statements.items → ArePlaced xs inverse.statements.items) }
+    // The names keep their numbers.
+    ensures numbered { IfOk result (λ inverse. (xs : List Name) → HaveNumbers xs code.now.statements.items → HaveNumbers xs inverse.statements.items) }
 {
     Ok(inverse_code(alloc, code)?)
 }
@@ -28,7 +28,7 @@ pub fn invert_code(alloc: Global, code: &Code) -> Result<Code, InvertFault>
 fn inverse_code(alloc: Global, code: &Code) -> Result<Code, AllocError>
     ensures block { IfOk result (λ inverse. code_block inverse ≡ inverse_block (code_block code.now)) }
     ensures parts { IfOk result (λ inverse. AreInverse code.now.members.items code.now.statements.items code.now.body inverse.members.items inverse.statements.items inverse.body) }
-    ensures placed { IfOk result (λ inverse. (xs : List Name) → ArePlaced xs code.now.statements.items → ArePlaced xs inverse.statements.items) }
+    ensures numbered { IfOk result (λ inverse. (xs : List Name) → HaveNumbers xs code.now.statements.items → HaveNumbers xs inverse.statements.items) }
 {
     let mut statements = Vec::new(alloc);
     let mut members = Vec::new(alloc);
@@ -86,6 +86,16 @@ fn inverse_one(
             let loop_part = backward(members, *loop_part, others)?;
             let entry = copy(alloc, entry)?;
             Ok(Statement::Loop(copy(alloc, exit)?, do_part, loop_part, entry))
+        }
+        Statement::LocalInt(name, first, block, last) => {
+            let block = backward(members, *block, others)?;
+            let name = name.copy()?;
+            let first = copy(alloc, first)?;
+            Ok(Statement::LocalInt(name, copy(alloc, last)?, block, first))
+        }
+        Statement::LocalStack(name, block) => {
+            let block = backward(members, *block, others)?;
+            Ok(Statement::LocalStack(name.copy()?, block))
         }
     }
 }

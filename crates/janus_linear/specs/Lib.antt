@@ -3,4 +3,5 @@ pub mod ActionCodes
 pub mod Layout
 pub mod Instructions
 pub mod Laid
+pub mod Open
 pub mod Law

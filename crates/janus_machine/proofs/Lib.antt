@@ -1,3 +1,4 @@
+pub mod Acts
 pub mod Counting
 pub mod Courses
 pub mod Mirrors

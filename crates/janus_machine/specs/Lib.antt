@@ -6,3 +6,4 @@ pub mod Mirrored
 pub mod Counts
 pub mod Steps
 pub mod Law
+pub mod Open

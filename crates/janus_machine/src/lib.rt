@@ -12,6 +12,7 @@ mod book;
 mod cursor;
 mod fault;
 pub mod laws;
+mod local;
 mod machine;
 mod statement;
 

@@ -2,10 +2,10 @@
 
 ghost use Rattle.std.specs.Prelude.{◌≡◌, ◌≢◌, ℕ};
 ghost use Rattle.janus_meaning.specs.Fault.{Res, Bad, Broken};
-ghost use Rattle.janus_meaning.specs.Store.{Store as Values, cleared};
+ghost use Rattle.janus_meaning.specs.Store.{Store as Values};
 ghost use Rattle.janus_evaluation.specs.Results.{IsDone as IsAssigned, IsCounted};
-ghost use Rattle.janus_invert.specs.Placed.{IsPlacedStatement};
-ghost use Rattle.janus_store.specs.Stores.{names_in};
+ghost use Rattle.janus_invert.specs.Numbered.{StatementHasNumbers};
+ghost use Rattle.janus_evaluation.specs.Locals.{KeepsNames};
 ghost use Rattle.janus_machine.specs.Faults.{IsDone};
 ghost use Rattle.janus_machine.specs.Statements.{run_of};
 
@@ -15,16 +15,16 @@ use janus_invert::Statement;
 use janus_store::{Store, Writes};
 use std::sync::ledger::Ledger;
 
-/// Runs a statement without blocks, whose names stand at their places, or leaves the store at a fault.
+/// Runs a statement without blocks, whose names have their numbers, or leaves the store at a fault.
 pub(crate) fn run<L: Ledger>(
     statement: &Statement,
     store: &mut Store<L>,
     writes: &mut Writes<L>,
 ) -> Result<(), Fault>
-    requires safe { run_of statement.now store.old ≢ Bad Broken }
-    requires placed { IsPlacedStatement (names_in store.old) statement.now }
-    ensures done { IsDone (run_of statement.now store.old) store.old store.new result }
-    ensures shape { cleared store.new ≡ cleared store.old }
+    requires safe { run_of statement.now store.old.sight ≢ Bad Broken }
+    requires numbered { StatementHasNumbers store.old.names statement.now }
+    ensures done { IsDone (run_of statement.now store.old.sight) store.old.sight store.new.sight result }
+    ensures names { KeepsNames store.old store.new }
     ensures counted { IsCounted result writes.old writes.new }
 {
     match statement {
@@ -40,7 +40,7 @@ pub(crate) fn run<L: Ledger>(
 }
 
 /// What an assignment, a push or a pop came to, with its fault as the machine tells it.
-fn done(assigned: Result<(), ValueFault>) -> Result<(), Fault>
+pub(crate) fn done(assigned: Result<(), ValueFault>) -> Result<(), Fault>
     ensures counted { (old new : ℕ) → IsCounted assigned old new → IsCounted result old new }
     ensures done { (r : Res Values) (s t : Values) → IsAssigned r s t assigned → IsDone r s t result }
 {

@@ -1,7 +1,7 @@
 -- What stands behind a form in a derivation, told by the form.
 use Rattle.std.proofs.Common.{◌≡◌, List, ◌∷◌, ◌⊎◌, inl, inr, Some, true, refl}
 use Rattle.janus_syntax.specs.Tokens.{Token}
-use Rattle.janus_syntax.specs.Forms.{Part, Tree, Class, Seen, seen, Form, done, take, part, close, Rule}
+use Rattle.janus_syntax.specs.Forms.{Part, Tree, Class, Seen, seen, agrees, Form, done, take, part, close, Rule}
 use Rattle.janus_syntax.specs.Table.{rule, left_out}
 use Rattle.janus_syntax.specs.Grammar
 use Rattle.janus_syntax.specs.Grammar.{Count, entered, closed, fits, Demands, all, met, Spells}
@@ -13,6 +13,7 @@ pub record Taken {p : Part} (c : Class) (k : Seen c → Form p) (v : Tree p) (m 
   pub value : Seen c
   pub whole : from ≡ token ∷ behind
   pub is : seen c token ≡ Some value
+  pub fit : agrees c value ≡ true
   pub onward : Spells all p (k value) v m behind m' rest
 
 -- a part that is there
@@ -49,7 +50,7 @@ Inside {p} (close f) v m from m' rest = Spells all p f v (closed m) from m' rest
 
 pub inside : {p : Part} {f : Form p} {v : Tree p} {m m' : Count} {from rest : List Token} → Spells all p f v m from m' rest → Inside f v m from m' rest
 inside Grammar.nothing_more = record { tree = refl; counts = refl; rests = refl }
-inside (Grammar.token {s = s} {t = t} {from = from} is more) = record { token = t; behind = from; value = s; whole = refl; is = is; onward = more }
+inside (Grammar.token {s = s} {t = t} {from = from} is ok more) = record { token = t; behind = from; value = s; whole = refl; is = is; fit = ok; onward = more }
 inside (Grammar.end_of_construct more) = more
 inside (Grammar.a_part {r = r} {u = u} {t = t} {m1 = m1} {from = from} {middle = middle} is ok inner more) =
     inl (record { token = t; behind = from; rule_of = r; tree = u; between = m1; middle = middle; whole = refl; is = is; few = ok; inner = inner; onward = more })

@@ -4,19 +4,20 @@ use Rattle.std.specs.Prelude.{nat_lt, nat_le}
 use Rattle.std.proofs.lemmas.Bool.{ltb-true, leb-true, and_parts}
 use Rattle.janus_syntax.specs.declared.token.Sign.{Sign}
 use Rattle.janus_syntax.specs.declared.token.Sign.TheVariants as sign
+use Rattle.janus_syntax.specs.declared.tree.Kind.{Kind}
 use Rattle.janus_syntax.specs.declared.operator.Joint.{Joint}
 use Rattle.janus_syntax.specs.declared.operator.Joint.TheVariants as joint
 use Rattle.janus_syntax.specs.declared.operator.Infix.{Infix}
 use Rattle.janus_syntax.specs.Tokens.{Token, Name, Number, Sign_of, Word_of}
 use Rattle.janus_syntax.specs.Tree.{Name as Named, named, Exp}
 use Rattle.janus_syntax.specs.Operators.{joined, sign_infix, operator_at}
-use Rattle.janus_syntax.specs.Forms.{Part, Level, Tree, A_name, seen, Form, part, close, Rule}
-use Rattle.janus_syntax.specs.Table.{rule, left_out, sign_then, stack_then, variable_and_stack_then}
+use Rattle.janus_syntax.specs.Forms.{Part, Level, Tree, A_name, seen, Same_name, Form, take, part, close, Rule}
+use Rattle.janus_syntax.specs.Table.{rule, left_out, sign_then, stack_then, variable_and_stack_then, delocal_then}
 use Rattle.janus_syntax.specs.Grammar.{Count, all, entered, fits, depth_limit, operator_limit, Spells}
 use Rattle.janus_syntax.specs.Reading.{count}
 use Rattle.janus_syntax.specs.Printing.{operator_sign, sign_level}
 use Rattle.janus_printing.proofs.Inside.{inside}
-use Rattle.janus_printing.proofs.Fits.{IsName, operators, FitsInfix, FitsExp}
+use Rattle.janus_printing.proofs.Fits.{IsName, IsAgain, operators, FitsInfix, FitsExp}
 use Rattle.janus_printing.proofs.Good.{IsGood, AreGood}
 
 -- ---- counts and rules
@@ -223,3 +224,47 @@ pair_read k v c from m' rest g s =
       good = g5.1;
       onward = shut.onward;
     }
+
+-- ---- the names of locals
+
+same_name_fits : (t : Token) (x y : Named) → seen (Same_name x) t ≡ Some y → IsGood t → IsName y
+same_name_fits (Name z at) x y e g = let same : named z at ≡ y = cc in subst IsName same g
+same_name_fits (Number n at) x y e g = absurd cc
+same_name_fits (Sign_of s at) x y e g = absurd cc
+same_name_fits (Word_of w at) x y e g = absurd cc
+
+-- the name of a local and `=` were read
+pub head_read : {p : Part} (k : Named → Form p) (v : Tree p) (c : Count) (from : List Token) (m' : Count) (rest : List Token) → AreGood from → Spells all p (take A_name (λ x. sign_then sign.Equals (k x))) v c from m' rest → IsStack k c v from m' rest
+head_read k v c from m' rest g s =
+    let a = inside s in
+    let b = inside a.onward in
+    let g1 = good_behind from a.behind a.token a.whole g in
+    let g2 = good_behind a.behind b.behind b.token b.whole g1.1 in
+    let l1 = shorter_behind from a.behind a.token a.whole in
+    let l2 = shorter_behind a.behind b.behind b.token b.whole in
+    record { name = a.value; middle = b.behind; fits = name_fits a.token a.value a.is g1.0; shorter = omega (arith, l1, l2); good = g2.1; onward = b.onward }
+
+-- `delocal`, a kind, the name x again and `=` were read
+pub record IsDelocal {p : Part} (x : Named) (k : Named → Form p) (c : Count) (v : Tree p) (from : List Token) (m' : Count) (rest : List Token) : Type 0 where
+  pub name : Named
+  pub middle : List Token
+  pub fits : IsAgain x name
+  pub shorter : length middle ≤ length from
+  pub good : AreGood middle
+  pub onward : Spells all p (k name) v c middle m' rest
+
+pub delocal_read : {p : Part} (j : Kind) (x : Named) (k : Named → Form p) (v : Tree p) (c : Count) (from : List Token) (m' : Count) (rest : List Token) → AreGood from → Spells all p (delocal_then j x k) v c from m' rest → IsDelocal x k c v from m' rest
+delocal_read j x k v c from m' rest g s =
+    let a = inside s in
+    let b = inside a.onward in
+    let name = inside b.onward in
+    let equals = inside name.onward in
+    let g1 = good_behind from a.behind a.token a.whole g in
+    let g2 = good_behind a.behind b.behind b.token b.whole g1.1 in
+    let g3 = good_behind b.behind name.behind name.token name.whole g2.1 in
+    let g4 = good_behind name.behind equals.behind equals.token equals.whole g3.1 in
+    let l1 = shorter_behind from a.behind a.token a.whole in
+    let l2 = shorter_behind a.behind b.behind b.token b.whole in
+    let l3 = shorter_behind b.behind name.behind name.token name.whole in
+    let l4 = shorter_behind name.behind equals.behind equals.token equals.whole in
+    record { name = name.value; middle = equals.behind; fits = (same_name_fits name.token x name.value name.is g3.0, name.fit); shorter = omega (arith, l1, l2, l3, l4); good = g4.1; onward = equals.onward }

@@ -2,16 +2,20 @@
 use Rattle.std.proofs.Common.{◌≡◌, ℕ, suc, ◌+◌, ◌-◌, ◌≤◌, List, ◌∷◌, Option, Some, Bool, true, false, cond, refl, ap, sym, subst, arith}
 use Rattle.janus_syntax.specs.declared.token.Span.{Span}
 use Rattle.janus_syntax.specs.declared.token.Sign.TheVariants as sign
-use Rattle.janus_syntax.specs.Tokens.{Token, Name, Sign_of}
+use Rattle.janus_syntax.specs.declared.token.Word.TheVariants as word
+use Rattle.janus_syntax.specs.declared.tree.Kind.{Kind}
+use Rattle.janus_syntax.specs.Tokens.{Token, Name, Sign_of, Word_of}
 use Rattle.janus_syntax.specs.Tree.{Name as Named, named, Exp}
 use Rattle.janus_syntax.specs.Operators.{weakest}
-use Rattle.janus_syntax.specs.Forms.{Part, Whole, Tree, Class, The_sign, A_name, Seen, seen, Form, done, take, part, close, Rule}
-use Rattle.janus_syntax.specs.Table.{rule, left_out, sign_then, variable_and_stack_then, whole, chains}
+use Rattle.janus_syntax.specs.Forms.{Part, Whole, Tree, Class, The_word, The_sign, A_name, Same_kind, Same_name, Seen, Form, done, take, part, close, Rule}
+use Rattle.janus_syntax.specs.Table.{rule, left_out, sign_then, variable_and_stack_then, delocal_then, whole, chains}
 use Rattle.janus_syntax.specs.Grammar
 use Rattle.janus_syntax.specs.Grammar.{Count, all, entered, closed, fits, depth_limit, operator_limit, Spells}
 use Rattle.janus_syntax.specs.Reading.{count}
 use Rattle.janus_syntax.specs.Printing.{whole_pieces}
 use Rattle.janus_syntax.specs.View.{plain_exp}
+use Rattle.janus_meaning.specs.Store.{same_name}
+use Rattle.janus_syntax.proofs.Agreed.{agreed, agreed_is, is_agreed, kind_word, kind_agreed}
 use Rattle.janus_syntax.proofs.Chains.{fits_count}
 use Rattle.janus_printing.proofs.Fits.{operators, FitsWhole}
 use Rattle.janus_printing.proofs.Measures.{recount, Runs}
@@ -38,10 +42,11 @@ part_to k w v d d1 d' from middle end s more_to u h =
 pub left_to : {p q : Part} (k : Tree q → Form p) (w : Tree q) (v : Tree p) (d d' : ℕ) (from end : List Token) → left_out q ≡ Some w → SpellsTo (k w) v d from d' end → SpellsTo (part q k) v d from d' end
 left_to k w v d d' from end is onward u h = let more = onward u h in (more.0, more.1, Grammar.no_part is more.2)
 
-pub token_to : {p : Part} (c : Class) (k : Seen c → Form p) (s : Seen c) (v : Tree p) (d d' : ℕ) (t : Token) (from more end : List Token) → from ≡ t ∷ more → seen c t ≡ Some s → SpellsTo (k s) v d more d' end → SpellsTo (take c k) v d from d' end
+pub token_to : {p : Part} (c : Class) (k : Seen c → Form p) (s : Seen c) (v : Tree p) (d d' : ℕ) (t : Token) (from more end : List Token) → from ≡ t ∷ more → agreed c t ≡ Some s → SpellsTo (k s) v d more d' end → SpellsTo (take c k) v d from d' end
 token_to {p} c k s v d d' t from more end e is onward u h =
     let x = onward u h in
-    (x.0, x.1, subst (λ ts. Spells all p (take c k) v (count d u) ts (count d' x.0) end) (sym e) (Grammar.token is x.2))
+    let seen_as = agreed_is c t s is in
+    (x.0, x.1, subst (λ ts. Spells all p (take c k) v (count d u) ts (count d' x.0) end) (sym e) (Grammar.token seen_as.0 seen_as.1 x.2))
 
 -- the names of a variable and a stack in parentheses
 pub pair_to : {p : Part} (k : Named → Named → Form p) (x y : List ℕ) (v : Tree p) (d d' : ℕ) (opened at comma place shut : Span) (from t1 t2 t3 t4 more end : List Token) →
@@ -53,6 +58,23 @@ pair_to k x y v d d' opened at comma place shut from t1 t2 t3 t4 more end e1 e2 
     (token_to (The_sign sign.Comma) (λ z. take A_name (λ b. sign_then sign.Close (k (named x at) b))) tt v d d' (Sign_of sign.Comma comma) t2 t3 end e3 refl
     (token_to A_name (λ b. sign_then sign.Close (k (named x at) b)) (named y place) v d d' (Name y place) t3 t4 end e4 refl
     (token_to (The_sign sign.Close) (λ z. k (named x at) (named y place)) tt v d d' (Sign_of sign.Close shut) t4 more end e5 refl onward))))
+
+-- the name of a local and `=`
+pub head_to : {p : Part} (k : Named → Form p) (x : List ℕ) (v : Tree p) (d d' : ℕ) (at equals : Span) (from t1 more end : List Token) → from ≡ Name x at ∷ t1 → t1 ≡ Sign_of sign.Equals equals ∷ more → SpellsTo (k (named x at)) v d more d' end →
+    SpellsTo (take A_name (λ y. sign_then sign.Equals (k y))) v d from d' end
+head_to k x v d d' at equals from t1 more end e1 e2 onward =
+    token_to A_name (λ y. sign_then sign.Equals (k y)) (named x at) v d d' (Name x at) from t1 end e1 refl
+    (token_to (The_sign sign.Equals) (λ z. k (named x at)) tt v d d' (Sign_of sign.Equals equals) t1 more end e2 refl onward)
+
+-- `delocal`, the same kind, the same name and `=`
+pub delocal_to : {p : Part} (j : Kind) (k : Named → Form p) (x y : List ℕ) (there : Span) (v : Tree p) (d d' : ℕ) (at_delocal at_kind at equals : Span) (from t1 t2 t3 more end : List Token) →
+    from ≡ Word_of word.Delocal at_delocal ∷ t1 → t1 ≡ Word_of (kind_word j) at_kind ∷ t2 → t2 ≡ Name y at ∷ t3 → t3 ≡ Sign_of sign.Equals equals ∷ more → same_name x y ≡ true →
+    SpellsTo (k (named y at)) v d more d' end → SpellsTo (delocal_then j (named x there) k) v d from d' end
+delocal_to j k x y there v d d' at_delocal at_kind at equals from t1 t2 t3 more end e1 e2 e3 e4 same onward =
+    token_to (The_word word.Delocal) (λ z. take (Same_kind j) (λ i. take (Same_name (named x there)) (λ b. sign_then sign.Equals (k b)))) tt v d d' (Word_of word.Delocal at_delocal) from t1 end e1 refl
+    (token_to (Same_kind j) (λ i. take (Same_name (named x there)) (λ b. sign_then sign.Equals (k b))) j v d d' (Word_of (kind_word j) at_kind) t1 t2 end e2 (kind_agreed j at_kind)
+    (token_to (Same_name (named x there)) (λ b. sign_then sign.Equals (k b)) (named y at) v d d' (Name y at) t2 t3 end e3 (is_agreed (Same_name (named x there)) (Name y at) (named y at) refl same)
+    (token_to (The_sign sign.Equals) (λ z. k (named y at)) tt v d d' (Sign_of sign.Equals equals) t3 more end e4 refl onward)))
 
 pub close_to : {p : Part} (f : Form p) (v : Tree p) (d d' : ℕ) (from end : List Token) → SpellsTo f v d from d' end → SpellsTo (close f) v (suc d) from d' end
 close_to f v d d' from end onward u h =

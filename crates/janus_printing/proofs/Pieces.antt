@@ -8,7 +8,7 @@ use Rattle.janus_syntax.specs.declared.token.Sign.TheVariants as sign
 use Rattle.janus_syntax.specs.declared.token.Word.TheVariants as word
 use Rattle.janus_syntax.specs.declared.operator.Joint.{Joint}
 use Rattle.janus_syntax.specs.declared.operator.Joint.TheVariants as joint
-use Rattle.janus_syntax.specs.Tree.{named, Exp, Num, Var, Element, EmptyOf, TopOf, Neg, Bin, And, Or, Stm, Skip, Assign, AssignElement, Push, Pop, If, Loop, Block, Empty, More, Declaration, Int, Array, StackOf, Cell, cell_of}
+use Rattle.janus_syntax.specs.Tree.{named, Exp, Num, Var, Element, EmptyOf, TopOf, Neg, Bin, And, Or, Stm, Skip, Assign, AssignElement, Push, Pop, If, Loop, LocalInt, LocalStack, Block, Empty, More, Declaration, Int, Array, StackOf, Cell, cell_of}
 use Rattle.janus_syntax.specs.Operators.{weakest}
 use Rattle.janus_syntax.specs.Lexical.{IsNameText, NotReserved, largest_number}
 use Rattle.janus_syntax.specs.Printing.{Piece, A_name, A_number, A_sign, A_word, A_minus, An_opening, piece_text, leans, holds, Printed, with_piece, with_pieces, sign_level, if_needed, infix_pieces, exp_pieces, whole_pieces, stm_pieces, block_pieces, declaration_pieces, declarations_pieces, cell_pieces}
@@ -137,6 +137,8 @@ mutual
   fine_stm (Pop (named x at) (named s place)) d (f, g) = (f, (g, tt))
   fine_stm (If e s t f) d (few, a, b, c, g) = fine_both (whole_pieces e) _ (fine_exp e weakest (suc d) a.0) (fine_both (block_pieces s) _ (fine_block s (suc d) b.1) (fine_both (block_pieces t) _ (fine_block t (suc d) c.1) (fine_exp f weakest (suc d) g.0)))
   fine_stm (Loop e s t f) d (few, a, b, c, g) = fine_both (whole_pieces e) _ (fine_exp e weakest (suc d) a.0) (fine_both (block_pieces s) _ (fine_block s (suc d) b.1) (fine_both (block_pieces t) _ (fine_block t (suc d) c.1) (fine_exp f weakest (suc d) g.0)))
+  fine_stm (LocalInt (named x at) e s (named y place) f) d (few, name, a, b, c, g) = (name, fine_both (whole_pieces e) _ (fine_exp e weakest (suc d) a.0) (fine_both (block_pieces s) _ (fine_block s (suc d) b.1) (c.0, fine_exp f weakest (suc d) g.0)))
+  fine_stm (LocalStack (named x at) s (named y place)) d (few, name, b, c) = (name, fine_both (block_pieces s) _ (fine_block s (suc d) b.1) (c.0, tt))
 
   fine_block : (b : Block) (d : ℕ) → FitsBlock b d → AreFine (block_pieces b)
   fine_block Empty d f = tt

@@ -3,17 +3,18 @@ use Rattle.std.proofs.Common.{◌≡◌, ℕ, zero, suc, ◌+◌, ◌-◌, ◌�
 use Rattle.janus_syntax.specs.declared.token.Span.{Span}
 use Rattle.janus_syntax.specs.declared.token.Sign.TheVariants as sign
 use Rattle.janus_syntax.specs.declared.token.Word.TheVariants as word
+use Rattle.janus_syntax.specs.declared.tree.Kind.TheVariants as kind
 use Rattle.janus_syntax.specs.declared.tree.Update.{Update}
 use Rattle.janus_syntax.specs.Tokens.{Token, Name, Number, Sign_of, Word_of}
-use Rattle.janus_syntax.specs.Tree.{named, Exp, Stm, Skip, Push, Pop, If, Loop, Block, More}
-use Rattle.janus_syntax.specs.Forms.{Part, Body, Statements, Else_part, Do_part, Loop_part, Target_index, Whole, Tree, An_update, Form, done, take, part, close, Rule}
-use Rattle.janus_syntax.specs.Table.{rule, assignment, word_then, sign_then, variable_and_stack_then, statement}
+use Rattle.janus_syntax.specs.Tree.{named, Exp, Stm, Skip, Push, Pop, If, Loop, LocalInt, LocalStack, Block, More}
+use Rattle.janus_syntax.specs.Forms.{Part, Body, Statements, Else_part, Do_part, Loop_part, Local, Target_index, Whole, Tree, An_update, Form, done, take, part, close, Rule}
+use Rattle.janus_syntax.specs.Table.{rule, left_out, assignment, word_then, sign_then, variable_and_stack_then, delocal_then, local_int, local_stack, statement}
 use Rattle.janus_syntax.specs.Grammar.{Count, all, depth_limit, Spells}
 use Rattle.janus_syntax.specs.Reading.{count}
 use Rattle.janus_printing.proofs.Inside.{inside}
 use Rattle.janus_printing.proofs.Fits.{FitsWhole, FitsStm, FitsBlock}
 use Rattle.janus_printing.proofs.Good.{IsGood, AreGood}
-use Rattle.janus_printing.proofs.Measures.{recount, Runs, runs_as, few_of, good_behind, shorter_behind, close_behind, pair_read}
+use Rattle.janus_printing.proofs.Measures.{recount, Runs, runs_as, few_of, good_behind, shorter_behind, close_behind, pair_read, head_read, delocal_read}
 use Rattle.janus_printing.proofs.ExpressionMeasures.{whole_read}
 use Rattle.janus_printing.proofs.BlockMeasures.{IsStm, IsMeasured, BlocksMeasured, word_behind, body_read, statements_read, else_is, do_is, loop_is, optional_read}
 
@@ -130,6 +131,101 @@ loop_read n known d used k v from m' rest h g few s =
       onward = recount (suc d - 1) d f.total f.total (omega arith) refl (inside f.onward);
     }
 
+-- ---- locals
+
+-- the local of the part behind `local`
+record IsLocal (d : ℕ) (s : Stm) (from : List Token) (m' : Count) (rest : List Token) : Type 0 where
+  total : ℕ
+  fits : FitsStm s d
+  counts : m' ≡ count (suc d) total
+  shorter : length rest ≤ length from
+  good : AreGood rest
+
+int_read : (n : ℕ) → BlocksMeasured n → (d used : ℕ) (s : Stm) (from : List Token) (m' : Count) (rest : List Token) → length from ≤ n → AreGood from → suc d ≤ depth_limit → Spells all Local (local_int done) s (count (suc d) used) from m' rest → IsLocal d s from m' rest
+int_read n known d used s from m' rest h g few derivation =
+    let x = head_read {p = Local} (λ x. part Whole (λ e. part Body (λ b. delocal_then kind.Int x (λ y. part Whole (λ f. done (LocalInt x e b y f)))))) s (count (suc d) used) from m' rest g derivation in
+    let less1 = x.shorter in
+    let e = whole_read {p = Local} (suc d) used (λ e. part Body (λ b. delocal_then kind.Int x.name (λ y. part Whole (λ f. done (LocalInt x.name e b y f))))) s x.middle m' rest x.good x.onward in
+    let less2 = e.shorter in
+    let b = body_read n known {p = Local} (suc d) e.total (λ b. delocal_then kind.Int x.name (λ y. part Whole (λ f. done (LocalInt x.name e.tree b y f)))) s e.middle m' rest (omega (arith, h, less1, less2)) e.good e.onward in
+    let less3 = b.shorter in
+    let y = delocal_read {p = Local} kind.Int x.name (λ y. part Whole (λ f. done (LocalInt x.name e.tree b.tree y f))) s (count (suc d) b.total) b.middle m' rest b.good b.onward in
+    let less4 = y.shorter in
+    let f = whole_read {p = Local} (suc d) b.total (λ f. done (LocalInt x.name e.tree b.tree y.name f)) s y.middle m' rest y.good y.onward in
+    let less5 = f.shorter in
+    let end = inside f.onward in
+    let rests = ap length end.rests in
+    record {
+      total = f.total;
+      fits = subst (λ z. FitsStm z d) (sym end.tree) (few, x.fits, e.fits, (b.body, b.fits), y.fits, f.fits);
+      counts = end.counts;
+      shorter = omega (arith, less1, less2, less3, less4, less5, rests);
+      good = subst AreGood (sym end.rests) f.good;
+    }
+
+stack_read : (n : ℕ) → BlocksMeasured n → (d used : ℕ) (s : Stm) (from : List Token) (m' : Count) (rest : List Token) → length from ≤ n → AreGood from → suc d ≤ depth_limit → Spells all Local (local_stack done) s (count (suc d) used) from m' rest → IsLocal d s from m' rest
+stack_read n known d used s from m' rest h g few derivation =
+    let x = head_read {p = Local} (λ x. word_then word.Nil (part Body (λ b. delocal_then kind.Stack x (λ y. word_then word.Nil (done (LocalStack x b y)))))) s (count (suc d) used) from m' rest g derivation in
+    let less1 = x.shorter in
+    let nil = word_behind {p = Local} word.Nil (part Body (λ b. delocal_then kind.Stack x.name (λ y. word_then word.Nil (done (LocalStack x.name b y))))) s (count (suc d) used) x.middle m' rest x.good x.onward in
+    let less2 = nil.1 in
+    let b = body_read n known {p = Local} (suc d) used (λ b. delocal_then kind.Stack x.name (λ y. word_then word.Nil (done (LocalStack x.name b y)))) s nil.0 m' rest (omega (arith, h, less1, less2)) nil.2 nil.3 in
+    let less3 = b.shorter in
+    let y = delocal_read {p = Local} kind.Stack x.name (λ y. word_then word.Nil (done (LocalStack x.name b.tree y))) s (count (suc d) b.total) b.middle m' rest b.good b.onward in
+    let less4 = y.shorter in
+    let last = word_behind {p = Local} word.Nil (done (LocalStack x.name b.tree y.name)) s (count (suc d) b.total) y.middle m' rest y.good y.onward in
+    let less5 = last.1 in
+    let end = inside last.3 in
+    let rests = ap length end.rests in
+    record {
+      total = b.total;
+      fits = subst (λ z. FitsStm z d) (sym end.tree) (few, x.fits, (b.body, b.fits), y.fits);
+      counts = end.counts;
+      shorter = omega (arith, less1, less2, less3, less4, less5, rests);
+      good = subst AreGood (sym end.rests) last.2;
+    }
+
+local_measured : (n : ℕ) → BlocksMeasured n → (d used : ℕ) (t : Token) (r : Rule Local) (s : Stm) (from : List Token) (m' : Count) (rest : List Token) → length from ≤ n → AreGood from → suc d ≤ depth_limit → rule Local t ≡ Some r →
+    Runs r (count (suc d) used) s from m' rest → IsLocal d s from m' rest
+local_measured n known d used (Word_of word.Int at) r s from m' rest h g few is run =
+    let a : Rule Local = record { opens = 0; counts = 0; is_whole = false; form = local_int done } in
+    let here = runs_as a r (count (suc d) used) s from m' rest is run in
+    int_read n known d used s from m' rest h g few (recount (suc d + 0) (suc d) (used + 0) used (omega arith) (omega arith) here.1)
+local_measured n known d used (Word_of word.Stack at) r s from m' rest h g few is run =
+    let a : Rule Local = record { opens = 0; counts = 0; is_whole = false; form = local_stack done } in
+    let here = runs_as a r (count (suc d) used) s from m' rest is run in
+    stack_read n known d used s from m' rest h g few (recount (suc d + 0) (suc d) (used + 0) used (omega arith) (omega arith) here.1)
+local_measured n known d used (Word_of _ at) r s from m' rest h g few is run = absurd cc
+local_measured n known d used (Name x at) r s from m' rest h g few is run = absurd cc
+local_measured n known d used (Number i at) r s from m' rest h g few is run = absurd cc
+local_measured n known d used (Sign_of o at) r s from m' rest h g few is run = absurd cc
+
+no_local : (s : Stm) → left_out Local ≡ Some s → ⊥
+no_local s h = cc
+
+local_read : (n : ℕ) → BlocksMeasured n → {p : Part} (d used : ℕ) (k : Stm → Form p) (v : Tree p) (from : List Token) (m' : Count) (rest : List Token) → length from ≤ n → AreGood from → suc d ≤ depth_limit →
+    Spells all p (part Local (λ s. close (k s))) v (count (suc d) used) from m' rest → IsStm k d v from m' rest
+local_read n known {p} d used k v from m' rest h g few s =
+    elim (inside s) [
+      | inr left ↦ absurd (no_local left.tree left.is)
+      | inl there ↦
+          let less = shorter_behind from there.behind there.token there.whole in
+          let good = good_behind from there.behind there.token there.whole g in
+          let is = local_measured n known d used there.token there.rule_of there.tree there.behind there.between there.middle (omega (arith, less, h)) good.1 few there.is (there.few, there.inner) in
+          let less' = is.shorter in
+          record {
+            tree = there.tree;
+            total = is.total;
+            middle = there.middle;
+            fits = is.fits;
+            shorter = omega (arith, less, less');
+            good = is.good;
+            onward = recount (suc d - 1) d is.total is.total (omega arith) refl (inside (subst (λ c. Spells all p (close (k there.tree)) v c there.middle m' rest) is.counts there.onward));
+          }
+    ]
+
+-- ---- a statement by its first token
+
 stm_read : (n : ℕ) → BlocksMeasured n → {p : Part} (d used : ℕ) (k : Stm → Form p) (v : Tree p) (t : Token) (r : Rule p) (from : List Token) (m' : Count) (rest : List Token) → length from ≤ n → IsGood t → AreGood from →
     statement t k ≡ Some r → Runs r (count d used) v from m' rest → IsStm k d v from m' rest
 stm_read n known {p} d used k v (Name x at) r from m' rest h is g e run =
@@ -146,6 +242,11 @@ stm_read n known {p} d used k v (Word_of word.From at) r from m' rest h is g e r
     let here = runs_as a r (count d used) v from m' rest e run in
     let few = few_of (d + 1) (used + 0) here.0 in
     loop_read n known d used k v from m' rest h g (omega (arith, few.0)) (recount (d + 1) (suc d) (used + 0) used (omega arith) (omega arith) here.1)
+stm_read n known {p} d used k v (Word_of word.Local at) r from m' rest h is g e run =
+    let a : Rule p = record { opens = 1; counts = 0; is_whole = false; form = part Local (λ s. close (k s)) } in
+    let here = runs_as a r (count d used) v from m' rest e run in
+    let few = few_of (d + 1) (used + 0) here.0 in
+    local_read n known d used k v from m' rest h g (omega (arith, few.0)) (recount (d + 1) (suc d) (used + 0) used (omega arith) (omega arith) here.1)
 stm_read n known {p} d used k v (Word_of word.Skip at) r from m' rest h is g e run =
     let a : Rule p = record { opens = 0; counts = 0; is_whole = false; form = k Skip } in
     let here = runs_as a r (count d used) v from m' rest e run in

@@ -1,22 +1,23 @@
 -- The tokens that spell the print of statements spell those statements, places aside.
-use Rattle.std.proofs.Common.{◌≡◌, ℕ, suc, ◌≤◌, List, ◌∷◌, ◌++◌, Some, None, false, refl, ap, sym, subst, ◌∙◌}
+use Rattle.std.proofs.Common.{◌≡◌, ℕ, suc, ◌≤◌, List, [], ◌∷◌, ◌++◌, Some, None, false, refl, ap, sym, subst, ◌∙◌}
 use Rattle.janus_meaning.specs.Syntax as plain
 use Rattle.janus_syntax.specs.declared.token.Span.{Span}
 use Rattle.janus_syntax.specs.declared.token.Sign.TheVariants as sign
 use Rattle.janus_syntax.specs.declared.token.Word.{Word}
 use Rattle.janus_syntax.specs.declared.token.Word.TheVariants as word
+use Rattle.janus_syntax.specs.declared.tree.Kind.TheVariants as kind
 use Rattle.janus_syntax.specs.declared.tree.Update.{Update}
 use Rattle.janus_syntax.specs.declared.tree.Update.TheVariants as update
 use Rattle.janus_syntax.specs.Tokens.{Token, Name, Sign_of, Word_of}
-use Rattle.janus_syntax.specs.Tree.{named, Exp, Stm, Skip, Assign, AssignElement, Push, Pop, If, Loop, Block, Empty, More}
-use Rattle.janus_syntax.specs.Forms.{Part, Body, Statements, Else_part, Do_part, Loop_part, Target_index, Whole, Tree, The_word, The_sign, An_update, seen, Form, done, take, part, close}
-use Rattle.janus_syntax.specs.Table.{rule, assignment, word_then, sign_then, variable_and_stack_then, statement}
+use Rattle.janus_syntax.specs.Tree.{named, Exp, Stm, Skip, Assign, AssignElement, Push, Pop, If, Loop, LocalInt, LocalStack, Block, Empty, More}
+use Rattle.janus_syntax.specs.Forms.{Part, Body, Statements, Else_part, Do_part, Loop_part, Local, Target_index, Whole, Tree, The_word, The_sign, An_update, seen, Form, done, take, part, close}
+use Rattle.janus_syntax.specs.Table.{rule, assignment, word_then, sign_then, variable_and_stack_then, delocal_then, local_int, local_stack, statement}
 use Rattle.janus_syntax.specs.Grammar.{depth_limit}
-use Rattle.janus_syntax.specs.Printing.{A_sign, A_word, update_sign, whole_pieces, stm_pieces, block_pieces}
+use Rattle.janus_syntax.specs.Printing.{A_sign, A_word, update_sign, binding_pieces, whole_pieces, stm_pieces, block_pieces}
 use Rattle.janus_syntax.specs.View.{plain_stm, plain_block, update_of}
 use Rattle.janus_printing.proofs.Fits.{FitsWhole, FitsStm, FitsBlock, IsBody}
 use Rattle.janus_printing.proofs.Spelled.{Spelled, in_two}
-use Rattle.janus_printing.proofs.Onward.{SpellsTo, StartsTo, done_to, part_to, left_to, token_to, pair_to, close_to, begins_to, opens_to, whole_again}
+use Rattle.janus_printing.proofs.Onward.{SpellsTo, StartsTo, done_to, part_to, left_to, token_to, pair_to, head_to, delocal_to, close_to, begins_to, opens_to, whole_again}
 
 -- these tokens are read as that statement
 pub record StmAgain (s : Stm) (d : ℕ) (ts rest : List Token) : Type 0 where
@@ -136,6 +137,60 @@ loop_again e s t f reads_s reads_t d ts rest h (few, fits_e, fits_s, fits_t, fit
           (rf.spells (λ g. close (k (Loop re.again rs.again rt.again g))) v d' end (close_to (k (Loop re.again rs.again rt.again rf.again)) v d d' rest end onward))))));
     }
 
+local_int_again : (x : List ℕ) (place : Span) (e : Exp) (s : Block) (y : List ℕ) (at : Span) (f : Exp) → BlockReads s → (d : ℕ) (ts rest : List Token) → FitsStm (LocalInt (named x place) e s (named y at) f) d →
+    Spelled (stm_pieces (LocalInt (named x place) e s (named y at) f)) ts rest → StmAgain (LocalInt (named x place) e s (named y at) f) d ts rest
+local_int_again x place e s y at f reads_s d ts rest (few, name, fits_e, fits_s, again_y, fits_f) (on, t1, e1, (on_kind, t2, e2, (of_x, t3, e3, (equals, t4, e4, p1)))) =
+    let c1 = in_two (whole_pieces e) (block_pieces s ++ (binding_pieces word.Delocal word.Int y ++ whole_pieces f)) t4 rest p1 in
+    let c2 = in_two (block_pieces s) (binding_pieces word.Delocal word.Int y ++ whole_pieces f) c1.0 rest c1.2 in
+    let (off, t5, e5, q1) = c2.2 in
+    let (off_kind, t6, e6, q2) = q1 in
+    let (of_y, t7, e7, q3) = q2 in
+    let (equals_again, t8, e8, p2) = q3 in
+    let re = whole_again e (suc d) t4 c1.0 few fits_e c1.1 in
+    let rs = reads_s (suc d) c1.0 c2.0 few fits_s.1 c2.1 in
+    let rf = whole_again f (suc d) t8 rest few fits_f p2 in
+    let w : Stm = LocalInt (named x of_x) re.again rs.again (named y of_y) rf.again in
+    record {
+      again = w;
+      same = (λ n. plain.LocalInt x (re.same n) (rs.same n) (rf.same n));
+      starts = λ {p} k v d' end onward.
+          opens_to (λ t. statement t k) (part Local (λ b. close (k b))) v d d' (Word_of word.Local on) ts t1 end e1 refl few
+          (part_to {q = Local} (λ b. close (k b)) w v (suc d) (suc d) d' t1 rest end
+          (begins_to (rule Local) (local_int done) w (suc d) (suc d) (Word_of word.Int on_kind) t1 t2 rest e2 refl few
+          (head_to {p = Local} (λ a. part Whole (λ b. part Body (λ c. delocal_then kind.Int a (λ z. part Whole (λ g. done (LocalInt a b c z g)))))) x w (suc d) (suc d) of_x equals t2 t3 t4 rest e3 e4
+          (re.spells {p = Local} (λ b. part Body (λ c. delocal_then kind.Int (named x of_x) (λ z. part Whole (λ g. done (LocalInt (named x of_x) b c z g))))) w (suc d) rest
+          (rs.body fits_s.0 {p = Local} (λ c. delocal_then kind.Int (named x of_x) (λ z. part Whole (λ g. done (LocalInt (named x of_x) re.again c z g)))) w (suc d) rest
+          (delocal_to {p = Local} kind.Int (λ z. part Whole (λ g. done (LocalInt (named x of_x) re.again rs.again z g))) x y of_x w (suc d) (suc d) off off_kind of_y equals_again c2.0 t5 t6 t7 t8 rest e5 e6 e7 e8 again_y.1
+          (rf.spells {p = Local} (λ g. done (LocalInt (named x of_x) re.again rs.again (named y of_y) g)) w (suc d) rest (done_to {p = Local} w (suc d) rest)))))))
+          (close_to (k w) v d d' rest end onward));
+    }
+
+local_stack_again : (x : List ℕ) (place : Span) (s : Block) (y : List ℕ) (at : Span) → BlockReads s → (d : ℕ) (ts rest : List Token) → FitsStm (LocalStack (named x place) s (named y at)) d →
+    Spelled (stm_pieces (LocalStack (named x place) s (named y at))) ts rest → StmAgain (LocalStack (named x place) s (named y at)) d ts rest
+local_stack_again x place s y at reads_s d ts rest (few, name, fits_s, again_y) (on, t1, e1, (on_kind, t2, e2, (of_x, t3, e3, (equals, t4, e4, (on_nil, t5, e5, p1))))) =
+    let c = in_two (block_pieces s) (binding_pieces word.Delocal word.Stack y ++ A_word word.Nil ∷ []) t5 rest p1 in
+    let (off, t6, e6, q1) = c.2 in
+    let (off_kind, t7, e7, q2) = q1 in
+    let (of_y, t8, e8, q3) = q2 in
+    let (equals_again, t9, e9, q4) = q3 in
+    let (off_nil, t10, e10, last) = q4 in
+    let rs = reads_s (suc d) t5 c.0 few fits_s.1 c.1 in
+    let w : Stm = LocalStack (named x of_x) rs.again (named y of_y) in
+    record {
+      again = w;
+      same = (λ n. plain.LocalStack x (rs.same n));
+      starts = λ {p} k v d' end onward.
+          opens_to (λ t. statement t k) (part Local (λ b. close (k b))) v d d' (Word_of word.Local on) ts t1 end e1 refl few
+          (part_to {q = Local} (λ b. close (k b)) w v (suc d) (suc d) d' t1 rest end
+          (begins_to (rule Local) (local_stack done) w (suc d) (suc d) (Word_of word.Stack on_kind) t1 t2 rest e2 refl few
+          (head_to {p = Local} (λ a. word_then word.Nil (part Body (λ b. delocal_then kind.Stack a (λ z. word_then word.Nil (done (LocalStack a b z)))))) x w (suc d) (suc d) of_x equals t2 t3 t4 rest e3 e4
+          (token_to {p = Local} (The_word word.Nil) (λ u. part Body (λ b. delocal_then kind.Stack (named x of_x) (λ z. word_then word.Nil (done (LocalStack (named x of_x) b z))))) tt w (suc d) (suc d) (Word_of word.Nil on_nil) t4 t5 rest e5 refl
+          (rs.body fits_s.0 {p = Local} (λ b. delocal_then kind.Stack (named x of_x) (λ z. word_then word.Nil (done (LocalStack (named x of_x) b z)))) w (suc d) rest
+          (delocal_to {p = Local} kind.Stack (λ z. word_then word.Nil (done (LocalStack (named x of_x) rs.again z))) x y of_x w (suc d) (suc d) off off_kind of_y equals_again c.0 t6 t7 t8 t9 rest e6 e7 e8 e9 again_y.1
+          (token_to {p = Local} (The_word word.Nil) (λ u. done w) tt w (suc d) (suc d) (Word_of word.Nil off_nil) t9 rest rest (e10 ∙ ap (λ l. Word_of word.Nil off_nil ∷ l) last) refl (done_to {p = Local} w (suc d) rest)))))))
+          (close_to (k w) v d d' rest end onward));
+    }
+
 -- ---- statements and blocks
 
 skip_again : (d : ℕ) (ts rest : List Token) → d ≤ depth_limit → Spelled (stm_pieces Skip) ts rest → StmAgain Skip d ts rest
@@ -188,6 +243,8 @@ mutual
   stm_again (Pop (named x at) (named y place)) d ts rest h f s = pop_again x y at place d ts rest h s
   stm_again (If e s t f) d ts rest h fs p = if_again e s t f (block_again s) (block_again t) d ts rest h fs p
   stm_again (Loop e s t f) d ts rest h fs p = loop_again e s t f (block_again s) (block_again t) d ts rest h fs p
+  stm_again (LocalInt (named x place) e s (named y at) f) d ts rest h fs p = local_int_again x place e s y at f (block_again s) d ts rest fs p
+  stm_again (LocalStack (named x place) s (named y at)) d ts rest h fs p = local_stack_again x place s y at (block_again s) d ts rest fs p
 
   pub block_again : (b : Block) (d : ℕ) (ts rest : List Token) → d ≤ depth_limit → FitsBlock b d → Spelled (block_pieces b) ts rest → BlockAgain b d ts rest
   block_again Empty d ts rest h f s = record {

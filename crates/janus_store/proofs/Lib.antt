@@ -1,4 +1,9 @@
 pub mod Variables
+pub mod Rows
 pub mod Indexes
+pub mod Numbers
+pub mod Laid
+pub mod Grown
+pub mod Oldest
 pub mod Elements
 pub mod Counted

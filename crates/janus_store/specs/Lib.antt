@@ -1,4 +1,5 @@
 pub mod Stacks
 pub mod Values
 pub mod Stores
+pub mod Held
 pub mod Inside

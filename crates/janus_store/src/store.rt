@@ -1,73 +1,91 @@
-//! The declared names with their values, in the order of declaration, and where each name stands there.
+//! The declared names with their values, in the order of declaration, the locals above them, and the numbers of names.
 
-ghost use Rattle.std.specs.Prelude.{◌≡◌, ℤ, ◌+◌, List, [], ◌∷◌, pos, ◌<◌, ◌≤◌, length, IsTrue, ◌↔◌, IfSome, IfOk, OnOk, OnErr, slice_get, Some, None, Bool, false, true};
-ghost use Rattle.std.specs.Bool.{OnFalse};
+ghost use Rattle.std.specs.Prelude.{◌≡◌, ℤ, ℕ, suc, ◌+◌, ◌-◌, List, [], ◌∷◌, ◌++◌, pos, ◌<◌, ◌≤◌, length, vec_len, vec_capacity, slice_set, slice_index, IsTrue, ◌↔◌, IfOk, OnOk, OnErr, slice_get, Some};
+ghost use Rattle.std.specs.Prelude.{◌^◌, take};
 ghost use Rattle.janus_meaning.specs.Syntax.{Name};
 ghost use Rattle.janus_meaning.specs.Fault.{Fine, Bad, Broken, IndexRange, TopEmpty, and_then};
-ghost use Rattle.janus_meaning.specs.Store.{Bare, Slot, Num, Arr, Stk, look, number, element, set_element, zeros, cleared};
+ghost use Rattle.janus_meaning.specs.Store.{Store as Values, Slot, Num, Arr, Stk, look, number, element, set_element, zeros};
 ghost use Rattle.janus_meaning.specs.Limit.{live_stack_limit, stack_limit};
 ghost use Rattle.janus_meaning.specs.Value.{first, is_none};
 ghost use Rattle.janus_meaning.specs.World.{size_of, listed, stacks_in};
+ghost use Rattle.janus_names.specs.Numbers.{GoOn, IsMet};
+ghost use Rattle.janus_store.specs.Held.{IsName, IsWhole, IsInSight, HasLocalRoom, shown_store, empty_held, Declares, KeepsSight, IsLike, AreKnown, opened, with_sight};
 ghost use Rattle.janus_store.specs.Values.{first_of, shown, found, read_or};
-ghost use Rattle.janus_store.specs.Stores.{IsFirstOnTop, IsNamed, IsNumber, IsArray, IsStack, IsOpenStack, IsHeldStack, HasElementAt, rest_of, is_fine, write};
+ghost use Rattle.janus_store.specs.Stores.{IsFirstOnTop, IsNumber, IsArray, IsStack, IsOpenStack, IsHeldStack, HasElementAt, rest_of, write};
+ghost use Rattle.janus_store.specs.declared.store.Variable.{Variable};
+ghost use Rattle.janus_store.specs.Inside.{newest_from, none_of, AreHidden};
 
 use crate::spares::Spares;
 use crate::stack::{STACK_LIMIT, Stack};
 use crate::value::{Declared, Value, View};
 use crate::writes::Writes;
+use janus_names::Names;
 use std::alloc::{AllocError, Global};
-use std::collections::BTreeMap;
 use std::marker::{Model, PhantomData};
 use std::sync::ledger::Ledger;
 
-/// A declared name with its value.
+/// So many names may be declared.
+const NAME_LIMIT: usize = 256;
+
+/// So many locals may be open.
+const LOCAL_LIMIT: usize = 16_384;
+
+/// A name with its value.
 #[derive(Drop)]
 struct Variable {
-    name: String,
+    /// The number of its name.
+    name: usize,
+    /// The place behind the older variable of this name that it hides, or 0.
+    hidden: usize,
     value: Value,
 }
 
-/// The declared names with their values, and the memory of all stacks that may live. Each write is counted in the store's own
-/// ledger.
+/// The declared names and the open locals with their values, the numbers of all names that were met, and the memory of all stacks and
+/// locals that may live. Each write is counted in the store's own ledger.
 #[derive(Drop)]
 pub struct Store<L: Ledger> {
-    /// In the order of declaration.
+    names: Names,
+    /// In the order of declaration, and behind them the locals.
     variables: Vec<Variable>,
-    /// Where each name stands among the variables.
-    places: BTreeMap<String, usize>,
+    /// For each number the place behind its newest variable among these, or 0 where its name is out of sight.
+    newest: Vec<usize>,
+    /// How many of the variables are declared.
+    declared: usize,
     /// The stacks that no variable has.
     spares: Spares,
     ledger: PhantomData<L>,
 }
 
 impl<L: Ledger> Model for Store<L> {
-    ghost use Rattle.janus_meaning.specs.Store.{Store};
-    ghost use Rattle.janus_meaning.specs.Codes.{store_code};
+    ghost use Rattle.janus_store.specs.Held.{Held, held_code};
 
-    ghost Value = { Store };
+    ghost Value = { Held };
 
-    ghost coded = { store_code };
+    ghost coded = { held_code };
 
-    ghost use Rattle.janus_store.specs.Inside.{store_of, IsKept};
+    ghost use Rattle.janus_store.specs.Inside.{held_of, IsKept};
 
-    ghost view = { store_of };
+    ghost view = { held_of };
 
     ghost invariant = { IsKept };
 }
 
 impl<L: Ledger> Store<L> {
-    /// No names. It takes the memory of all stacks that may live.
+    /// No names. It takes the memory of all stacks that may live and of all locals that may be open.
     ///
     /// # Errors
     ///
     /// `AllocError` where there is no memory.
     pub fn new(alloc: Global) -> Result<Store<L>, AllocError>
-        ensures { IfOk result (λ s. s ≡ Bare) }
+        ensures { IfOk result (λ s. s ≡ empty_held) }
     {
         let spares = Spares::new(alloc)?;
+        let variables = Vec::with_capacity(alloc, NAME_LIMIT + LOCAL_LIMIT)?;
         Ok(Store {
-            variables: Vec::new(alloc),
-            places: BTreeMap::new(alloc),
+            names: Names::new(alloc),
+            variables,
+            newest: Vec::new(alloc),
+            declared: 0,
             spares,
             ledger: PhantomData,
         })
@@ -75,220 +93,355 @@ impl<L: Ledger> Store<L> {
 
     /// How many names are declared.
     pub fn len(&self) -> usize
-        ensures { result ≡ size_of self.now }
+        ensures declared { result ≡ self.now.declared }
+        ensures shown { result ≡ size_of (shown_store self.now) }
     {
-        self.variables.len()
+        self.declared
     }
 
     /// Whether no name is declared.
     pub fn has_no_names(&self) -> bool
-        ensures { IsTrue result ↔ (size_of self.now ≡ 0) }
+        ensures { IsTrue result ↔ (size_of (shown_store self.now) ≡ 0) }
     {
-        self.variables.is_empty()
+        self.len() == 0
     }
 
-    /// Whether a name is declared.
-    pub fn contains(&self, name: &str) -> bool
-        ensures declared { result ≡ is_fine (look name.now self.now) }
-        ensures absent { OnFalse result (look name.now self.now ≡ Bad Broken) }
+    /// The names that were met, each with its number. All names in sight are among them.
+    pub fn names(&self) -> &Names
+        ensures names { result.now ≡ self.now.names }
+        ensures known { AreKnown self.now }
     {
-        self.places.contains_key(name)
+        &self.names
     }
 
-    /// Where a name stands in the order of declaration, the oldest being 0, if it is declared.
-    pub fn place(&self, name: &str) -> Option<usize>
-        ensures found { IfSome result (λ place. IsNamed self.now place name.now) }
-        ensures absent { result ≡ None → look name.now self.now ≡ Bad Broken }
-    {
-        match self.places.get(name) {
-            Some(place) => Some(*place),
-            None => None,
-        }
-    }
-
-    /// The value of a name, if it is declared.
+    /// The value of a name, if it is declared; locals are out of this sight.
     pub fn value(&self, name: &str) -> Option<View<'_>>
-        ensures { found result ≡ look name.now self.now }
+        ensures { found result ≡ look name.now (shown_store self.now) }
     {
-        match self.places.get(name) {
-            Some(place) => Some(self.variables[*place].value.view()),
-            None => None,
+        let Some(number) = self.names.number(name) else {
+            return None;
+        };
+        let behind = declared_place(&self.newest, &self.variables, self.declared, number);
+        if behind == 0 {
+            return None;
         }
-    }
-
-    /// The number of the name at a place; none where it is an array or a stack.
-    pub fn get(&self, place: usize) -> Option<i32>
-        requires { (x : Name) × IsNamed self.now place x }
-        ensures { (x : Name) → IsNamed self.now place x → read_or Broken result ≡ and_then (look x self.now) number }
-    {
-        self.variables[place].value.number()
-    }
-
-    /// The element at an index of the array at a place; none where the index is out of its range.
-    pub fn element(&self, place: usize, index: i32) -> Option<i32>
-        requires { (x : Name) × IsNamed self.now place x × IsArray (look x self.now) }
-        ensures { (x : Name) (l : List ℤ) → IsNamed self.now place x → look x self.now ≡ Fine (Arr l) → read_or IndexRange result ≡ element l index }
-    {
-        self.variables[place].value.element(index)
-    }
-
-    /// The stack at a place.
-    fn stack(&self, place: usize) -> &Stack
-        requires { (x : Name) × IsNamed self.now place x × IsStack (look x self.now) }
-        ensures { (x : Name) (l : List ℤ) → IsNamed self.now place x → look x self.now ≡ Fine (Stk l) → result.now ≡ l }
-    {
-        self.variables[place].value.stack()
-    }
-
-    /// The value on top of the stack at a place; none where the stack is empty.
-    pub fn top(&self, place: usize) -> Option<i32>
-        requires { (x : Name) × IsNamed self.now place x × IsStack (look x self.now) }
-        ensures { (x : Name) (l : List ℤ) → IsNamed self.now place x → look x self.now ≡ Fine (Stk l) → read_or TopEmpty result ≡ first l }
-    {
-        self.stack(place).top()
-    }
-
-    /// How many values the stack at a place has.
-    pub fn length(&self, place: usize) -> usize
-        requires { (x : Name) × IsNamed self.now place x × IsStack (look x self.now) }
-        ensures { (x : Name) (l : List ℤ) → IsNamed self.now place x → look x self.now ≡ Fine (Stk l) → result ≡ length l }
-    {
-        self.stack(place).length()
-    }
-
-    /// Whether the stack at a place has no value.
-    pub fn is_empty(&self, place: usize) -> bool
-        requires { (x : Name) × IsNamed self.now place x × IsStack (look x self.now) }
-        ensures { (x : Name) (l : List ℤ) → IsNamed self.now place x → look x self.now ≡ Fine (Stk l) → result ≡ is_none l }
-    {
-        self.stack(place).length() == 0
-    }
-
-    /// Whether the stack at a place takes no value more.
-    pub fn is_full(&self, place: usize) -> bool
-        requires { (x : Name) × IsNamed self.now place x × IsStack (look x self.now) }
-        ensures { (x : Name) (l : List ℤ) → IsNamed self.now place x → look x self.now ≡ Fine (Stk l) → IsTrue result ↔ (stack_limit ≤ length l) }
-    {
-        self.stack(place).length() >= STACK_LIMIT
-    }
-
-    /// How many stacks more can be declared.
-    pub fn stacks_left(&self) -> usize
-        ensures { result + stacks_in self.now ≡ live_stack_limit }
-    {
-        self.spares.len()
+        Some(self.variables[behind - 1].value.view())
     }
 
     /// The i-th name in the order of declaration, the oldest being 0, with its value.
     pub fn entry(&self, i: usize) -> (&str, View<'_>)
-        requires { i < size_of self.now }
-        ensures { slice_get (listed self.now) i ≡ Some (result.0.now, shown result.1) }
+        requires { i < size_of (shown_store self.now) }
+        ensures { slice_get (listed (shown_store self.now)) i ≡ Some (result.0.now, shown result.1) }
     {
         let variable = &self.variables[i];
-        (variable.name.as_str(), variable.value.view())
+        (self.names.name(variable.name), variable.value.view())
     }
 
-    /// Declares a number, which is 0 then. An error for want of memory leaves the store.
-    pub fn declare(&mut self, name: &str) -> Result<(), AllocError>
-        requires { look name.now self.old ≡ Bad Broken }
-        ensures ok { OnOk result (self.new ≡ Slot name.now (Num (pos 0)) self.old) }
+    /// The number of the name of a number; none where it is an array or a stack.
+    pub fn get(&self, name: usize) -> Option<i32>
+        requires { IsInSight self.now name }
+        ensures { (x : Name) → IsName self.now name x → read_or Broken result ≡ and_then (look x self.now.sight) number }
+    {
+        self.variables[place(&self.newest, name)].value.number()
+    }
+
+    /// The element at an index of the array of a number; none where the index is out of its range.
+    pub fn element(&self, name: usize, index: i32) -> Option<i32>
+        requires { (x : Name) × IsName self.now name x × IsArray (look x self.now.sight) }
+        ensures { (x : Name) (l : List ℤ) → IsName self.now name x → look x self.now.sight ≡ Fine (Arr l) → read_or IndexRange result ≡ element l index }
+    {
+        self.variables[place(&self.newest, name)].value.element(index)
+    }
+
+    /// The stack of a number.
+    fn stack(&self, name: usize) -> &Stack
+        requires { (x : Name) × IsName self.now name x × IsStack (look x self.now.sight) }
+        ensures { (x : Name) (l : List ℤ) → IsName self.now name x → look x self.now.sight ≡ Fine (Stk l) → result.now ≡ l }
+    {
+        self.variables[place(&self.newest, name)].value.stack()
+    }
+
+    /// The value on top of the stack of a number; none where the stack is empty.
+    pub fn top(&self, name: usize) -> Option<i32>
+        requires { (x : Name) × IsName self.now name x × IsStack (look x self.now.sight) }
+        ensures { (x : Name) (l : List ℤ) → IsName self.now name x → look x self.now.sight ≡ Fine (Stk l) → read_or TopEmpty result ≡ first l }
+    {
+        self.stack(name).top()
+    }
+
+    /// How many values the stack of a number has.
+    pub fn length(&self, name: usize) -> usize
+        requires { (x : Name) × IsName self.now name x × IsStack (look x self.now.sight) }
+        ensures { (x : Name) (l : List ℤ) → IsName self.now name x → look x self.now.sight ≡ Fine (Stk l) → result ≡ length l }
+    {
+        self.stack(name).length()
+    }
+
+    /// Whether the stack of a number has no value.
+    pub fn is_empty(&self, name: usize) -> bool
+        requires { (x : Name) × IsName self.now name x × IsStack (look x self.now.sight) }
+        ensures { (x : Name) (l : List ℤ) → IsName self.now name x → look x self.now.sight ≡ Fine (Stk l) → result ≡ is_none l }
+    {
+        self.stack(name).length() == 0
+    }
+
+    /// Whether the stack of a number takes no value more.
+    pub fn is_full(&self, name: usize) -> bool
+        requires { (x : Name) × IsName self.now name x × IsStack (look x self.now.sight) }
+        ensures { (x : Name) (l : List ℤ) → IsName self.now name x → look x self.now.sight ≡ Fine (Stk l) → IsTrue result ↔ (stack_limit ≤ length l) }
+    {
+        self.stack(name).length() >= STACK_LIMIT
+    }
+
+    /// How many stacks more may live.
+    pub fn stacks_left(&self) -> usize
+        ensures { result + stacks_in self.now.sight ≡ live_stack_limit }
+    {
+        self.spares.len()
+    }
+
+    /// Gives a name a number, if it has none. An error for want of memory leaves the store.
+    pub fn meet(&mut self, name: &str) -> Result<(), AllocError>
+        ensures met { IfOk result (λ _. IsMet self.new.names name.now) }
+        ensures goes_on { GoOn self.old.names self.new.names }
+        ensures same { self.new ≡ record self.old { names = self.new.names } }
+    {
+        let _number = self.number_of(name)?;
+        Ok(())
+    }
+
+    /// The number of a name, which is given one if it has none. An error for want of memory leaves the store.
+    fn number_of(&mut self, name: &str) -> Result<usize, AllocError>
+        ensures number { IfOk result (λ number. IsName self.new number name.now) }
+        ensures goes_on { GoOn self.old.names self.new.names }
+        ensures same { self.new ≡ record self.old { names = self.new.names } }
         ensures err { OnErr result (self.new ≡ self.old) }
+    {
+        let Store { names, newest, .. } = self;
+        newest.reserve(1)?;
+        let number = names.add(name)?;
+        if number == newest.len() {
+            newest.push_reserved(0);
+        }
+        Ok(number)
+    }
+
+    /// Declares a number, which is 0 then. An error for want of memory leaves what is declared.
+    pub fn declare(&mut self, name: &str) -> Result<(), AllocError>
+        requires absent { look name.now self.old.sight ≡ Bad Broken }
+        requires whole { IsWhole self.old }
+        ensures ok { OnOk result (Declares self.old self.new name.now (Num (pos 0))) }
+        ensures err { OnErr result (KeepsSight self.old self.new) }
     {
         self.add(name, Declared::Number)
     }
 
-    /// Declares an array of this length, whose elements are 0 then. An error for want of memory leaves the store.
+    /// Declares an array of this length, whose elements are 0 then. An error for want of memory leaves what is declared.
     pub fn declare_array(&mut self, name: &str, length: usize) -> Result<(), AllocError>
-        requires { look name.now self.old ≡ Bad Broken }
-        ensures ok { OnOk result (self.new ≡ Slot name.now (Arr (zeros length)) self.old) }
-        ensures err { OnErr result (self.new ≡ self.old) }
+        requires absent { look name.now self.old.sight ≡ Bad Broken }
+        requires whole { IsWhole self.old }
+        ensures ok { OnOk result (Declares self.old self.new name.now (Arr (zeros length))) }
+        ensures err { OnErr result (KeepsSight self.old self.new) }
     {
         let alloc = *self.variables.allocator();
         let items = vec![in alloc; 0i32; length]?;
         self.add(name, Declared::Array(items))
     }
 
-    /// Declares a stack, which is empty then, where fewer than 64 are declared. Its own memory was taken with the store; an error for want of memory leaves the store.
+    /// Declares a stack, which is empty then, where fewer than 64 live. Its own memory was taken with the store; an error for want of
+    /// memory leaves what is declared.
     pub fn declare_stack(&mut self, name: &str) -> Result<(), AllocError>
-        requires absent { look name.now self.old ≡ Bad Broken }
-        requires room { stacks_in self.old < live_stack_limit }
-        ensures ok { OnOk result (self.new ≡ Slot name.now (Stk []) self.old) }
-        ensures err { OnErr result (self.new ≡ self.old) }
+        requires absent { look name.now self.old.sight ≡ Bad Broken }
+        requires whole { IsWhole self.old }
+        requires room { stacks_in self.old.sight < live_stack_limit }
+        ensures ok { OnOk result (Declares self.old self.new name.now (Stk [])) }
+        ensures err { OnErr result (KeepsSight self.old self.new) }
     {
         self.add(name, Declared::Stack)
     }
 
-    /// Declares a name with the value that it begins with; an error for want of memory leaves the store.
+    /// Declares a name with the value that it begins with; an error for want of memory leaves what is declared.
     fn add(&mut self, name: &str, declared: Declared) -> Result<(), AllocError>
-        requires absent { look name.now self.old ≡ Bad Broken }
-        requires room { first_of declared ≡ Stk [] → stacks_in self.old < live_stack_limit }
-        ensures ok { OnOk result (self.new ≡ Slot name.now (first_of declared) self.old) }
-        ensures err { OnErr result (self.new ≡ self.old) }
+        requires absent { look name.now self.old.sight ≡ Bad Broken }
+        requires whole { IsWhole self.old }
+        requires room { first_of declared ≡ Stk [] → stacks_in self.old.sight < live_stack_limit }
+        ensures ok { OnOk result (Declares self.old self.new name.now (first_of declared)) }
+        ensures err { OnErr result (KeepsSight self.old self.new) }
     {
-        let alloc = *self.variables.allocator();
-        let key = String::from_str(alloc, name)?;
-        let name = key.clone()?;
-        self.variables.reserve(1)?;
-        self.places.insert(key, self.variables.len())?;
+        let name = self.number_of(name)?;
+        self.variables.reserve(LOCAL_LIMIT + 1)?;
         let value = self.spares.first_value(declared);
-        self.variables.push_reserved(Variable { name, value });
+        put(&mut self.newest, &mut self.variables, name, value);
+        self.declared += 1;
         Ok(())
     }
 
-    /// Takes the newest name away, which has the value that it was declared with.
+    /// Takes the newest name away, which has the value that it was declared with. No local is open.
     pub fn retire(&mut self)
-        requires { IsFirstOnTop self.old }
-        ensures { self.new ≡ rest_of self.old }
+        requires first { IsFirstOnTop self.old.sight }
+        requires whole { IsWhole self.old }
+        ensures { self.new ≡ record { sight = rest_of self.old.sight; declared = self.old.declared - 1; names = self.old.names } }
     {
-        if let Some(variable) = self.variables.pop() {
-            let Variable { name, value } = variable;
-            let _ = self.places.remove(name.as_str());
-            self.spares.take_back(value);
+        let Variable { value, .. } = remove(&mut self.newest, &mut self.variables);
+        self.spares.take_back(value);
+        self.declared -= 1;
+    }
+
+    /// Opens a local of this number's name with a number. While it is open it hides an older variable of its name.
+    pub fn enter_local(&mut self, name: usize, number: i32)
+        requires named { (x : Name) × IsName self.old name x }
+        requires room { HasLocalRoom self.old }
+        ensures { (x : Name) → IsName self.old name x → self.new ≡ opened x (Num number) self.old }
+    {
+        put(
+            &mut self.newest,
+            &mut self.variables,
+            name,
+            Value::Number(number),
+        );
+    }
+
+    /// Closes the newest local, a number, and gives it.
+    pub fn leave_local(&mut self) -> i32
+        requires local { self.old.declared < size_of self.old.sight }
+        requires number { (x : Name) × (n : ℤ) × (r : Values) × (self.old.sight ≡ Slot x (Num n) r) }
+        ensures left { (x : Name) (n : ℤ) (r : Values) → self.old.sight ≡ Slot x (Num n) r → (result ≡ n) × (self.new ≡ with_sight r self.old) }
+        ensures room { HasLocalRoom self.new }
+    {
+        let Variable { value, .. } = remove(&mut self.newest, &mut self.variables);
+        value.only_number()
+    }
+
+    /// Opens a local stack of this number's name, where fewer than 64 live. While it is open it hides an older variable of its name.
+    pub fn enter_local_stack(&mut self, name: usize)
+        requires named { (x : Name) × IsName self.old name x }
+        requires room { HasLocalRoom self.old }
+        requires few { stacks_in self.old.sight < live_stack_limit }
+        ensures { (x : Name) → IsName self.old name x → self.new ≡ opened x (Stk []) self.old }
+    {
+        let value = self.spares.first_value(Declared::Stack);
+        put(&mut self.newest, &mut self.variables, name, value);
+    }
+
+    /// Closes the newest local, an empty stack.
+    pub fn leave_local_stack(&mut self)
+        requires local { self.old.declared < size_of self.old.sight }
+        requires empty { (x : Name) × (r : Values) × (self.old.sight ≡ Slot x (Stk []) r) }
+        ensures { (x : Name) (r : Values) → self.old.sight ≡ Slot x (Stk []) r → self.new ≡ with_sight r self.old }
+    {
+        let Variable { value, .. } = remove(&mut self.newest, &mut self.variables);
+        self.spares.take_back(value);
+    }
+
+    /// Another number for the name of a number.
+    pub fn set(&mut self, name: usize, number: i32, writes: &mut Writes<L>)
+        requires { (x : Name) × IsName self.old name x × IsNumber (look x self.old.sight) }
+        ensures written { (x : Name) → IsName self.old name x → write x (Num number) self.old.sight ≡ Fine self.new.sight }
+        ensures shape { IsLike self.old self.new }
+        ensures counted { writes.new ≡ writes.old + 1 }
+    {
+        writes.add();
+        let at = place(&self.newest, name);
+        self.variables[at].value.set_number(number);
+    }
+
+    /// Another number for an element of the array of a number, at an index within its range.
+    pub fn set_element(&mut self, name: usize, index: i32, number: i32, writes: &mut Writes<L>)
+        requires { (x : Name) × IsName self.old name x × HasElementAt (look x self.old.sight) index }
+        ensures written { (x : Name) (l : List ℤ) → IsName self.old name x → look x self.old.sight ≡ Fine (Arr l) → write x (Arr (set_element l index number)) self.old.sight ≡ Fine self.new.sight }
+        ensures shape { IsLike self.old self.new }
+        ensures counted { writes.new ≡ writes.old + 1 }
+    {
+        writes.add();
+        let at = place(&self.newest, name);
+        self.variables[at].value.set_element(index, number);
+    }
+
+    /// One number more, on top of the stack of a number, which isn't full.
+    pub fn push(&mut self, name: usize, number: i32, writes: &mut Writes<L>)
+        requires { (x : Name) × IsName self.old name x × IsOpenStack (look x self.old.sight) }
+        ensures written { (x : Name) (l : List ℤ) → IsName self.old name x → look x self.old.sight ≡ Fine (Stk l) → write x (Stk (number ∷ l)) self.old.sight ≡ Fine self.new.sight }
+        ensures shape { IsLike self.old self.new }
+        ensures counted { writes.new ≡ writes.old + 1 }
+    {
+        writes.add();
+        let at = place(&self.newest, name);
+        self.variables[at].value.push(number);
+    }
+
+    /// Takes the number from the top of the stack of a number, which isn't empty.
+    pub fn pop(&mut self, name: usize, writes: &mut Writes<L>) -> i32
+        requires { (x : Name) × IsName self.old name x × IsHeldStack (look x self.old.sight) }
+        ensures top { (x : Name) (n : ℤ) (l : List ℤ) → IsName self.old name x → look x self.old.sight ≡ Fine (Stk (n ∷ l)) → result ≡ n }
+        ensures written { (x : Name) (n : ℤ) (l : List ℤ) → IsName self.old name x → look x self.old.sight ≡ Fine (Stk (n ∷ l)) → write x (Stk l) self.old.sight ≡ Fine self.new.sight }
+        ensures shape { IsLike self.old self.new }
+        ensures counted { writes.new ≡ writes.old + 1 }
+    {
+        writes.add();
+        let at = place(&self.newest, name);
+        self.variables[at].value.pop()
+    }
+}
+
+/// Where the variable of a number stands, which has one.
+fn place(newest: &[usize], name: usize) -> usize
+    requires { (i : ℕ) × (slice_get newest.now name ≡ Some (suc i)) }
+    ensures { slice_get newest.now name ≡ Some (suc result) }
+{
+    newest[name] - 1
+}
+
+/// The place behind the declared variable of a number, or 0 where it has none: locals that hide it are passed over.
+fn declared_place(
+    newest: &[usize],
+    variables: &[Variable],
+    declared: usize,
+    name: usize,
+) -> usize
+    requires few { declared ≤ length variables.now }
+    requires in_memory { length variables.now < 2 ^ 58 }
+    requires newest { (xs : List Name) × (newest.now ≡ newest_from 0 (none_of xs) variables.now) × AreHidden 0 (none_of xs) variables.now }
+    requires met { name < length newest.now }
+    ensures place { (xs : List Name) → newest.now ≡ newest_from 0 (none_of xs) variables.now → AreHidden 0 (none_of xs) variables.now → slice_get (newest_from 0 (none_of xs) (take declared variables.now)) name ≡ Some result }
+    ensures low { result ≤ declared }
+{
+    let mut behind = newest[name];
+    while behind > declared {
+        behind = variables[behind - 1].hidden;
+    }
+    behind
+}
+
+/// Puts a variable behind the others, as the one of its name.
+fn put(newest: &mut Vec<usize>, variables: &mut Vec<Variable>, name: usize, value: Value)
+    requires met { name < vec_len newest.old }
+    requires room { vec_len variables.old < vec_capacity variables.old }
+    ensures variables { variables.new.items ≡ variables.old.items ++ (record { name = name; hidden = slice_index newest.old.items name; value = value }) ∷ [] }
+    ensures room { vec_capacity variables.new ≡ vec_capacity variables.old }
+    ensures newest { newest.new.items ≡ slice_set newest.old.items name (suc (length variables.old.items)) }
+{
+    let hidden = newest[name];
+    newest[name] = variables.len() + 1;
+    variables.push_reserved(Variable {
+        name,
+        hidden,
+        value,
+    });
+}
+
+/// Takes the last variable away. What it hid is in sight again.
+fn remove(newest: &mut Vec<usize>, variables: &mut Vec<Variable>) -> Variable
+    requires some { 0 < vec_len variables.old }
+    requires met { (i : ℕ) (v : Variable) → slice_get variables.old.items i ≡ Some v → v.name < vec_len newest.old }
+    ensures variables { variables.old.items ≡ variables.new.items ++ result ∷ [] }
+    ensures room { vec_capacity variables.new ≡ vec_capacity variables.old }
+    ensures newest { newest.new.items ≡ slice_set newest.old.items result.name result.hidden }
+{
+    match variables.pop() {
+        Some(variable) => {
+            newest[variable.name] = variable.hidden;
+            variable
         }
-    }
-
-    /// Another number for the name at a place.
-    pub fn set(&mut self, place: usize, number: i32, writes: &mut Writes<L>)
-        requires { (x : Name) × IsNamed self.old place x × IsNumber (look x self.old) }
-        ensures written { (x : Name) → IsNamed self.old place x → write x (Num number) self.old ≡ Fine self.new }
-        ensures shape { cleared self.new ≡ cleared self.old }
-        ensures counted { writes.new ≡ writes.old + 1 }
-    {
-        writes.add();
-        self.variables[place].value.set_number(number);
-    }
-
-    /// Another number for an element of the array at a place, at an index within its range.
-    pub fn set_element(&mut self, place: usize, index: i32, number: i32, writes: &mut Writes<L>)
-        requires { (x : Name) × IsNamed self.old place x × HasElementAt (look x self.old) index }
-        ensures written { (x : Name) (l : List ℤ) → IsNamed self.old place x → look x self.old ≡ Fine (Arr l) → write x (Arr (set_element l index number)) self.old ≡ Fine self.new }
-        ensures shape { cleared self.new ≡ cleared self.old }
-        ensures counted { writes.new ≡ writes.old + 1 }
-    {
-        writes.add();
-        self.variables[place].value.set_element(index, number);
-    }
-
-    /// One number more, on top of the stack at a place, which isn't full.
-    pub fn push(&mut self, place: usize, number: i32, writes: &mut Writes<L>)
-        requires { (x : Name) × IsNamed self.old place x × IsOpenStack (look x self.old) }
-        ensures written { (x : Name) (l : List ℤ) → IsNamed self.old place x → look x self.old ≡ Fine (Stk l) → write x (Stk (number ∷ l)) self.old ≡ Fine self.new }
-        ensures shape { cleared self.new ≡ cleared self.old }
-        ensures counted { writes.new ≡ writes.old + 1 }
-    {
-        writes.add();
-        self.variables[place].value.push(number);
-    }
-
-    /// Takes the number from the top of the stack at a place, which isn't empty.
-    pub fn pop(&mut self, place: usize, writes: &mut Writes<L>) -> i32
-        requires { (x : Name) × IsNamed self.old place x × IsHeldStack (look x self.old) }
-        ensures top { (x : Name) (n : ℤ) (l : List ℤ) → IsNamed self.old place x → look x self.old ≡ Fine (Stk (n ∷ l)) → result ≡ n }
-        ensures written { (x : Name) (n : ℤ) (l : List ℤ) → IsNamed self.old place x → look x self.old ≡ Fine (Stk (n ∷ l)) → write x (Stk l) self.old ≡ Fine self.new }
-        ensures shape { cleared self.new ≡ cleared self.old }
-        ensures counted { writes.new ≡ writes.old + 1 }
-    {
-        writes.add();
-        self.variables[place].value.pop()
+        None => unreachable!(),
     }
 }

@@ -56,6 +56,17 @@ impl Value {
         }
     }
 
+    /// The number, of a number.
+    pub(crate) fn only_number(&self) -> i32
+        requires { (n : ℤ) × (val_of self.now ≡ Num n) }
+        ensures { val_of self.now ≡ Num result }
+    {
+        match self {
+            Value::Number(number) => *number,
+            Value::Array(_) | Value::Stack(_) => unreachable!(),
+        }
+    }
+
     /// The element of an array at an index, if the index is within its range.
     pub(crate) fn element(&self, index: i32) -> Option<i32>
         ensures { (l : _) → val_of self.now ≡ Arr l → read_or IndexRange result ≡ element l index }

@@ -3,11 +3,11 @@ use Rattle.std.proofs.Common.{◌≡◌, suc, List, [], ◌∷◌, length, Optio
 use Rattle.janus_syntax.specs.declared.fault.What.{What}
 use Rattle.janus_syntax.specs.declared.fault.What.TheVariants as what
 use Rattle.janus_syntax.specs.Tokens.{Token}
-use Rattle.janus_syntax.specs.Forms.{Part, Tree, Class, Seen, seen, Form, done, take, part, close, Rule}
+use Rattle.janus_syntax.specs.Forms.{Part, Tree, Class, Seen, seen, agrees, Form, done, take, part, close, Rule}
 use Rattle.janus_syntax.specs.Table.{rule, left_out, label}
 use Rattle.janus_syntax.specs.Grammar
 use Rattle.janus_syntax.specs.Grammar.{Count, zero_count, entered, closed, fits, Demands, all, met, Spells, Begins, text_form, IsTree, Next, Wanted, Complete, required, passed_over}
-use Rattle.janus_syntax.specs.Reader.{Stack, bottom, waits, State, at, Step, Go, Accept, Stuck, TooMany, go_if, enter, skip, taken, at_form, hand, step, wanted_behind, wanted, Ended, at_end, follow, run, start, next}
+use Rattle.janus_syntax.specs.Reader.{Stack, bottom, waits, State, at, Step, Go, Accept, Stuck, TooMany, Differs, go_if, enter, skip, taken, at_form, hand, step, wanted_behind, wanted, Ended, at_end, follow, run, start, next}
 use Rattle.janus_syntax.proofs.Follow.{may_follow, May, Proper, AllProper}
 use Rattle.janus_syntax.proofs.LeftOut.{no_rule}
 use Rattle.janus_syntax.proofs.KeepsTable.{proper_rule, proper_text}
@@ -22,14 +22,14 @@ Fits p rest = (t : Token) → next rest ≡ Some t → may_follow p t ≡ true
 -- what a form's tokens begin with
 pub first : {d : Demands} {p : Part} {f : Form p} {v : Tree p} {m m' : Count} {from rest : List Token} → Spells d p f v m from m' rest → Fits p rest → (t : Token) → next from ≡ Some t → May f t
 first Grammar.nothing_more h t e = h t e
-first (Grammar.token {c = c} {s = s} {t = u} is more) h t e = let same : u ≡ t = cc in (s, subst (λ x. seen c x ≡ Some s) same is)
+first (Grammar.token {c = c} {s = s} {t = u} is ok more) h t e = let same : u ≡ t = cc in (s, subst (λ x. seen c x ≡ Some s) same is)
 first (Grammar.end_of_construct more) h t e = first more h t e
 first (Grammar.a_part {q = q} {r = r} {t = u} is ok inner more) h t e = let same : u ≡ t = cc in inl (r, subst (λ x. rule q x ≡ Some r) same is)
 first (Grammar.no_part {u = u} is more) h t e = inr (u, is, first more h t e)
 
 pub first_begins : {d : Demands} {p : Part} {f : Form p} {w : What} {m : Count} {front : List Token} → Begins d p f w m front → (t : Token) → next front ≡ Some t → May f t
 first_begins (Grammar.here is) t e = absurd cc
-first_begins (Grammar.token {c = c} {s = s} {t = u} is more) t e = let same : u ≡ t = cc in (s, subst (λ x. seen c x ≡ Some s) same is)
+first_begins (Grammar.token {c = c} {s = s} {t = u} is ok more) t e = let same : u ≡ t = cc in (s, subst (λ x. seen c x ≡ Some s) same is)
 first_begins (Grammar.end_of_construct more) t e = first_begins more t e
 first_begins (Grammar.inside {q = q} {r = r} {t = u} is ok more) t e = let same : u ≡ t = cc in inl (r, subst (λ x. rule q x ≡ Some r) same is)
 first_begins (Grammar.behind {q = q} {r = r} {t = u} is ok inner more) t e = let same : u ≡ t = cc in inl (r, subst (λ x. rule q x ≡ Some r) same is)
@@ -51,8 +51,8 @@ module _ {goal : Part} where
   go_met b s x e = ap (λ c. go_if c s x) e
 
   pub steps_token : (d : Demands) {p : Part} (c : Class) (k : Seen c → Form p) (S : Stack goal p) (m : Count) (t : Token) (s : Seen c) →
-      seen c t ≡ Some s → step d (at (take c k) S m) (Some t) ≡ Go (at (k s) S m)
-  steps_token d c k S m t s is = ap (λ o. taken c o k S m) is
+      seen c t ≡ Some s → met d.agreement (agrees c s) ≡ true → step d (at (take c k) S m) (Some t) ≡ Go (at (k s) S m)
+  steps_token d c k S m t s is ok = ap (λ o. taken c d o k S m) is ∙ go_met (met d.agreement (agrees c s)) (at (k s) S m) Differs ok
 
   pub steps_part : (d : Demands) {p q : Part} (k : Tree q → Form p) (S : Stack goal p) (m : Count) (t : Token) (r : Rule q) →
       rule q t ≡ Some r → met d.limits (fits (entered r m)) ≡ true → step d (at (part q k) S m) (Some t) ≡ Go (at r.form (waits k S) (entered r m))
@@ -91,8 +91,8 @@ module _ {goal : Part} where
   pub reads : {d : Demands} {p : Part} {f : Form p} {v : Tree p} {m m' : Count} {from rest : List Token} → Spells d p f v m from m' rest → Proper f → Fits p rest → (S : Stack goal p) →
       run d from (at f S m) ≡ run d rest (at (done v) S m')
   reads Grammar.nothing_more g h S = refl
-  reads {d} (Grammar.token {c = c} {k = k} {s = s} {t = t} {m = m} {from = from} is more) g h S =
-      run_goes d t from (at (take c k) S m) (at (k s) S m) (steps_token d c k S m t s is)
+  reads {d} (Grammar.token {c = c} {k = k} {s = s} {t = t} {m = m} {from = from} is ok more) g h S =
+      run_goes d t from (at (take c k) S m) (at (k s) S m) (steps_token d c k S m t s is ok)
       ∙ reads more (g s) h S
   reads {d} (Grammar.end_of_construct {f = f} {m = m} {from = from} more) g h S = run_closes d f S m from ∙ reads more g h S
   reads {d} (Grammar.a_part {q = q} {k = k} {r = r} {u = u} {t = t} {m = m} {m1 = m1} {from = from} {middle = middle} is ok inner more) g h S =
@@ -118,6 +118,7 @@ module _ {goal : Part} where
   at_end_wants w (Accept c) = (Some c, refl)
   at_end_wants w Stuck = (None, refl)
   at_end_wants w TooMany = (None, refl)
+  at_end_wants w Differs = (None, refl)
 
   abbrev pub EndsWanting : Demands → List Token → State goal → What → Type 0
   EndsWanting d front s w = (a : Option (Tree goal)) × (run d front s ≡ Ended a w)
@@ -129,8 +130,8 @@ module _ {goal : Part} where
   wants {d} (Grammar.here {f = f} {w = w} {m = m} is) g S =
       let r = at_end_wants (wanted (at f S m)) (step d (at f S m) None) in
       (r.0, r.1 ∙ ap (λ n. Ended r.0 (wanted_behind S n)) is)
-  wants {d} (Grammar.token {c = c} {k = k} {s = s} {w = w} {t = t} {m = m} {front = front} is more) g S =
-      through d (t ∷ front) front (at (take c k) S m) (at (k s) S m) w (run_goes d t front (at (take c k) S m) (at (k s) S m) (steps_token d c k S m t s is)) (wants more (g s) S)
+  wants {d} (Grammar.token {c = c} {k = k} {s = s} {w = w} {t = t} {m = m} {front = front} is ok more) g S =
+      through d (t ∷ front) front (at (take c k) S m) (at (k s) S m) w (run_goes d t front (at (take c k) S m) (at (k s) S m) (steps_token d c k S m t s is ok)) (wants more (g s) S)
   wants {d} (Grammar.end_of_construct {f = f} {w = w} {m = m} {front = front} more) g S =
       through d front front (at (close f) S m) (at f S (closed m)) w (run_closes d f S m front) (wants more g S)
   wants {d} (Grammar.inside {q = q} {k = k} {r = r} {w = w} {t = t} {m = m} {front = front} is ok more) g S =

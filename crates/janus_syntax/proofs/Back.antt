@@ -3,16 +3,16 @@
 -- one for both.
 use Rattle.std.proofs.Common.{◌≡◌, List, [], ◌∷◌, Option, Some, None, Bool, true, false, refl, sym, subst, ◌⊎◌, inl, inr}
 use Rattle.janus_syntax.specs.Tokens.{Token}
-use Rattle.janus_syntax.specs.Forms.{Part, Tree, Class, Seen, seen, Form, done, take, part, close, Rule}
+use Rattle.janus_syntax.specs.Forms.{Part, Tree, Class, Seen, seen, agrees, Form, done, take, part, close, Rule}
 use Rattle.janus_syntax.specs.Table.{rule, left_out}
 use Rattle.janus_syntax.specs.Grammar
 use Rattle.janus_syntax.specs.Grammar.{Count, entered, closed, fits, Demands, met, Spells}
-use Rattle.janus_syntax.specs.Reader.{Stack, bottom, waits, State, at, Step, Go, Accept, Stuck, TooMany, go_if, enter, skip, taken, at_form, hand, step}
+use Rattle.janus_syntax.specs.Reader.{Stack, bottom, waits, State, at, Step, Go, Accept, Stuck, TooMany, Differs, go_if, enter, skip, taken, at_form, hand, step}
 
 -- a family of forms with tokens that can be drawn back over each rule
 pub record Goes_back (d : Demands) (G : (p : Part) → Form p → Count → List Token → Type 0) : Type 0 where
   pub over_token : {p : Part} (c : Class) (k : Seen c → Form p) (s : Seen c) (t : Token) (m : Count) (ts : List Token) →
-      seen c t ≡ Some s → G p (k s) m ts → G p (take c k) m (t ∷ ts)
+      seen c t ≡ Some s → met d.agreement (agrees c s) ≡ true → G p (k s) m ts → G p (take c k) m (t ∷ ts)
   pub over_close : {p : Part} (f : Form p) (m : Count) (ts : List Token) → G p f (closed m) ts → G p (close f) m ts
   pub inside : {p : Part} (q : Part) (k : Tree q → Form p) (r : Rule q) (t : Token) (m : Count) (ts : List Token) →
       rule q t ≡ Some r → met d.limits (fits (entered r m)) ≡ true → G q r.form (entered r m) ts → G p (part q k) m (t ∷ ts)
@@ -40,15 +40,18 @@ module _ {goal : Part} where
   pub many_goes : (y : State goal) → TooMany ≡ Go y → ⊥
   many_goes y e = cc
 
+  pub differs_goes : (y : State goal) → Differs ≡ Go y → ⊥
+  differs_goes y e = cc
+
   module _ (d : Demands) (G : (p : Part) → Form p → Count → List Token → Type 0) (g : Goes_back d G) (E : Tree goal → List Token → Type 0) where
     back_token : {p : Part} (c : Class) (k : Seen c → Form p) (S : Stack goal p) (m : Count) (t : Token) (ts : List Token) (s' : State goal) (o : Option (Seen c)) →
-        seen c t ≡ o → taken c o k S m ≡ Go s' → At d G E s' ts → At d G E (at (take c k) S m) (t ∷ ts)
+        seen c t ≡ o → taken c d o k S m ≡ Go s' → At d G E s' ts → At d G E (at (take c k) S m) (t ∷ ts)
     back_token c k S m t ts s' None is e h = absurd cc
     back_token c k S m t ts s' (Some s) is e h =
-        let r = same_state (at (k s) S m) s' e in
-        elim (subst (λ x. At d G E x ts) (sym r) h) [
-          | inl a ↦ inl (g.over_token c k s t m ts is a)
-          | inr (u, m', rest, sp, b) ↦ inr (u, m', rest, Grammar.token is sp, b)
+        let r = if_goes (met d.agreement (agrees c s)) (at (k s) S m) s' Differs differs_goes e in
+        elim (subst (λ x. At d G E x ts) (sym r.1) h) [
+          | inl a ↦ inl (g.over_token c k s t m ts is r.0 a)
+          | inr (u, m', rest, sp, b) ↦ inr (u, m', rest, Grammar.token is r.0 sp, b)
         ]
 
     back_enter : {p : Part} (q : Part) (k : Tree q → Form p) (S : Stack goal p) (m : Count) (t : Token) (ts : List Token) (s' : State goal) (r : Rule q) →

@@ -6,15 +6,17 @@ use Rattle.std.proofs.lemmas.Bool.{eq-eqb, leb-true, le-leb, and_parts, and_from
 use Rattle.janus_syntax.specs.declared.token.Span.{Span}
 use Rattle.janus_syntax.specs.declared.token.Sign.TheVariants as sign
 use Rattle.janus_syntax.specs.declared.token.Word.TheVariants as word
+use Rattle.janus_syntax.specs.declared.tree.Kind.TheVariants as kind
 use Rattle.janus_syntax.specs.declared.tree.Update.TheVariants as update
 use Rattle.janus_syntax.specs.Tokens.{Token, Name, Number, Sign_of, Word_of}
 use Rattle.janus_syntax.specs.Tree.{named, Exp, Num}
 use Rattle.janus_syntax.specs.Operators.{weakest}
-use Rattle.janus_syntax.specs.Forms.{Part, Body, Statements, Whole, Level, Chain, Tree, Class, The_word, The_sign, A_name, A_number, An_update, Seen, seen, word_number, sign_number, Form, done, take, part, close, Rule}
+use Rattle.janus_syntax.specs.Forms.{Part, Body, Statements, Local, Whole, Level, Chain, Tree, Class, The_word, The_sign, A_name, A_number, An_update, Same_kind, Same_name, Seen, seen, agrees, word_number, sign_number, Form, done, take, part, close, Rule}
 use Rattle.janus_syntax.specs.Table.{rule, left_out, chains}
 use Rattle.janus_syntax.specs.Grammar
 use Rattle.janus_syntax.specs.Grammar.{Count, zero_count, entered, closed, fits, depth_limit, operator_limit, Demands, met, Spells, text_form, IsTree}
 use Rattle.janus_syntax.specs.Reader.{Stack, bottom, waits, State, at, start}
+use Rattle.janus_meaning.proofs.Stores.{same_name_self}
 use Rattle.janus_syntax.proofs.Back.{Behind, At, Goes_back}
 
 no_span : Span
@@ -61,6 +63,7 @@ record Sample (c : Class) : Type 0 where
   pub token : Token
   pub value : Seen c
   pub is : seen c token ≡ Some value
+  pub fit : agrees c value ≡ true
 
 abbrev some_unit : Option (Unit {0})
 some_unit = Some tt
@@ -70,17 +73,24 @@ equal_some n = ap (λ b. cond b some_unit None) (eq-eqb n n refl)
 
 sample : (c : Class) → Sample c
 unfolding no_span
-sample (The_word w) = record { token = Word_of w no_span; value = tt; is = equal_some (word_number w) }
-sample (The_sign s) = record { token = Sign_of s no_span; value = tt; is = equal_some (sign_number s) }
-sample A_name = record { token = Name (120 ∷ []) no_span; value = named (120 ∷ []) no_span; is = refl }
-sample A_number = record { token = Number 0 no_span; value = (0, no_span); is = refl }
-sample An_update = record { token = Sign_of sign.PlusEquals no_span; value = update.Add; is = refl }
+sample (The_word w) = record { token = Word_of w no_span; value = tt; is = equal_some (word_number w); fit = refl }
+sample (The_sign s) = record { token = Sign_of s no_span; value = tt; is = equal_some (sign_number s); fit = refl }
+sample A_name = record { token = Name (120 ∷ []) no_span; value = named (120 ∷ []) no_span; is = refl; fit = refl }
+sample A_number = record { token = Number 0 no_span; value = (0, no_span); is = refl; fit = refl }
+sample An_update = record { token = Sign_of sign.PlusEquals no_span; value = update.Add; is = refl; fit = refl }
+sample (Same_kind kind.Int) = record { token = Word_of word.Int no_span; value = kind.Int; is = refl; fit = refl }
+sample (Same_kind kind.Stack) = record { token = Word_of word.Stack no_span; value = kind.Stack; is = refl; fit = refl }
+sample (Same_name (named x place)) = record { token = Name x no_span; value = named x no_span; is = refl; fit = same_name_self x }
+
+met_true : (b x : Bool) → x ≡ true → met b x ≡ true
+met_true true x e = e
+met_true false x e = refl
 
 completes_take : (d : Demands) (p : Part) (c : Class) (k : Seen c → Form p) (m : Count) → ((s : Seen c) → Completes d p (k s) m) → Completes d p (take c k) m
 completes_take d p c k m h =
     let s = sample c in
     let r = h s.value in
-    record { tree = r.tree; count = r.count; within = r.within; tokens = λ rest. s.token ∷ r.tokens rest; spells = λ rest. Grammar.token s.is (r.spells rest) }
+    record { tree = r.tree; count = r.count; within = r.within; tokens = λ rest. s.token ∷ r.tokens rest; spells = λ rest. Grammar.token s.is (met_true d.agreement (agrees c s.value) s.fit) (r.spells rest) }
 
 -- operators are left out
 completes_chains : (d : Demands) (p : Part) (l n : ℕ) (e : Exp) (k : Exp → Form p) (m : Count) → ((f : Exp) → Completes d p (k f) m) → Completes d p (chains l n e k) m
@@ -119,6 +129,19 @@ unfolding no_span
 least d Whole m e = record { token = Number 0 no_span; begun = _; is = refl; low = refl; few = refl; completes = λ n h. completes_chains d Whole 0 weakest (Num 0 no_span) done n (λ f. completes_done d Whole f n h) }
 least d (Level l) m e = record { token = Number 0 no_span; begun = _; is = refl; low = refl; few = refl; completes = λ n h. completes_chains d (Level l) 0 l (Num 0 no_span) done n (λ f. completes_done d (Level l) f n h) }
 least d Body m e = least_body d m
+least d Local m e =
+    record {
+      token = Word_of word.Stack no_span;
+      begun = _;
+      is = refl;
+      low = refl;
+      few = refl;
+      completes = λ n h.
+          completes_take d Local A_name _ n (λ x. completes_take d Local (The_sign sign.Equals) _ n (λ a. completes_take d Local (The_word word.Nil) _ n (λ b.
+          completes_part d Local Body _ n (least_body d n) h (λ u i j.
+          completes_take d Local (The_word word.Delocal) _ i (λ a. completes_take d Local (Same_kind kind.Stack) _ i (λ k. completes_take d Local (Same_name x) _ i (λ y.
+          completes_take d Local (The_sign sign.Equals) _ i (λ b. completes_take d Local (The_word word.Nil) _ i (λ c. completes_done d Local _ i j)))))))));
+    }
 least d _ m e = absurd cc
 
 completes_or : (d : Demands) (p q : Part) (k : Tree q → Form p) (m : Count) (o : Option (Tree q)) → left_out q ≡ o → Within d.limits m → ((u : Tree q) (n : Count) → Within d.limits n → Completes d p (k u) n) → Completes d p (part q k) m
@@ -168,7 +191,7 @@ module _ {goal : Part} where
 
 pub not_begun_back : (d : Demands) → Goes_back d NotBegun
 not_begun_back d = record {
-  over_token = λ c k s t m ts is a. a;
+  over_token = λ c k s t m ts is ok a. a;
   over_close = λ f m ts a. a;
   inside = λ q k r t m ts is ok a. a;
   behind = λ q k r u t m m1 ts rest is ok sp a. a;

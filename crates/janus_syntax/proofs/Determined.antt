@@ -4,8 +4,8 @@ use Rattle.janus_syntax.specs.declared.fault.What.{What}
 use Rattle.janus_syntax.specs.declared.fault.What.TheVariants as what
 use Rattle.janus_syntax.specs.Tokens.{Token}
 use Rattle.janus_syntax.specs.Forms.{Part, Tree}
-use Rattle.janus_syntax.specs.Grammar.{Demands, all, but_limits, zero_count, IsTree, IsOpen, Wants, Refusal, Expected, TooNested, IsRefused, expected, expected_at_end, too_nested}
-use Rattle.janus_syntax.specs.Reader.{State, Step, Go, Accept, Stuck, TooMany, step, wanted, Outcome, Ended, Failed, Nested, outcome_of, at_end, follow, run, start}
+use Rattle.janus_syntax.specs.Grammar.{Demands, all, none, but_limits, but_agreement, zero_count, IsTree, IsOpen, Wants, Refusal, Expected, TooNested, DelocalName, IsRefused, expected, expected_at_end, too_nested, delocal_name}
+use Rattle.janus_syntax.specs.Reader.{State, Step, Go, Accept, Stuck, TooMany, Differs, step, wanted, Outcome, Ended, Failed, Nested, Unlike, outcome_of, at_end, follow, run, start}
 use Rattle.janus_syntax.specs.Laws.{OneTree, OneRefusal, NotBoth, OneWanted, WantsIfOpen, OpenIfWants}
 use Rattle.janus_syntax.proofs.Agrees.{reads_cell}
 use Rattle.janus_syntax.proofs.Completes.{Within}
@@ -30,11 +30,11 @@ module _ {goal : Part} where
   dead_not_open d s front t x w e h = not_open d t w (dead_steps d s t (judge d x) (judged d s (Some t) ∙ ap (judge d) e) h)
 
   determined_expected : (s : State goal) (front : List Token) (t : Token) (behind tokens : List Token) (x : Raw goal) → tokens ≡ front ++ t ∷ behind → Walk all (start goal) front s → raw s (Some t) ≡ x →
-      (IsOpen goal but_limits (front ++ t ∷ []) → ⊥) → run all tokens (start goal) ≡ Failed (wanted s) (suc (length behind))
+      (IsOpen goal none (front ++ t ∷ []) → ⊥) → run all tokens (start goal) ≡ Failed (wanted s) (suc (length behind))
   determined_expected s front t behind tokens Dead whole w e n = outcome_at front t behind tokens Dead whole w e
   determined_expected s front t behind tokens (Accepts c) whole w e n = outcome_at front t behind tokens (Accepts c) whole w e
-  determined_expected s front t behind tokens (Enters b m) whole w e n = absurd (n (goes_open but_limits s m front t (Enters b m) (walk_fewer but_limits w) e refl refl))
-  determined_expected s front t behind tokens (Takes m) whole w e n = absurd (n (goes_open but_limits s m front t (Takes m) (walk_fewer but_limits w) e refl refl))
+  determined_expected s front t behind tokens (Enters b m) whole w e n = absurd (n (goes_open none s m front t (Enters b m) (walk_fewer none w) e refl refl))
+  determined_expected s front t behind tokens (Takes b m) whole w e n = absurd (n (goes_open none s m front t (Takes b m) (walk_fewer none w) e refl refl))
 
   determined_nested : (s : State goal) (front : List Token) (t : Token) (behind tokens : List Token) (x : Raw goal) → tokens ≡ front ++ t ∷ behind → Walk all (start goal) front s → raw s (Some t) ≡ x →
       IsOpen goal but_limits (front ++ t ∷ []) → (IsOpen goal all (front ++ t ∷ []) → ⊥) → run all tokens (start goal) ≡ Nested (suc (length behind))
@@ -42,7 +42,17 @@ module _ {goal : Part} where
   determined_nested s front t behind tokens (Accepts c) whole w e o n = absurd (dead_not_open but_limits s front t (Accepts c) (walk_fewer but_limits w) e (λ n h. cc) o)
   determined_nested s front t behind tokens (Enters true m) whole w e o n = absurd (n (goes_open all s m front t (Enters true m) w e refl refl))
   determined_nested s front t behind tokens (Enters false m) whole w e o n = outcome_at front t behind tokens (Enters false m) whole w e
-  determined_nested s front t behind tokens (Takes m) whole w e o n = absurd (n (goes_open all s m front t (Takes m) w e refl refl))
+  determined_nested s front t behind tokens (Takes true m) whole w e o n = absurd (n (goes_open all s m front t (Takes true m) w e refl refl))
+  determined_nested s front t behind tokens (Takes false m) whole w e o n = absurd (dead_not_open but_limits s front t (Takes false m) (walk_fewer but_limits w) e (λ n h. cc) o)
+
+  determined_differs : (s : State goal) (front : List Token) (t : Token) (behind tokens : List Token) (x : Raw goal) → tokens ≡ front ++ t ∷ behind → Walk all (start goal) front s → raw s (Some t) ≡ x →
+      IsOpen goal but_agreement (front ++ t ∷ []) → (IsOpen goal all (front ++ t ∷ []) → ⊥) → run all tokens (start goal) ≡ Unlike (suc (length behind))
+  determined_differs s front t behind tokens Dead whole w e o n = absurd (dead_not_open but_agreement s front t Dead (walk_fewer but_agreement w) e (λ n h. cc) o)
+  determined_differs s front t behind tokens (Accepts c) whole w e o n = absurd (dead_not_open but_agreement s front t (Accepts c) (walk_fewer but_agreement w) e (λ n h. cc) o)
+  determined_differs s front t behind tokens (Enters true m) whole w e o n = absurd (n (goes_open all s m front t (Enters true m) w e refl refl))
+  determined_differs s front t behind tokens (Enters false m) whole w e o n = absurd (dead_not_open but_agreement s front t (Enters false m) (walk_fewer but_agreement w) e (λ n h. cc) o)
+  determined_differs s front t behind tokens (Takes true m) whole w e o n = absurd (n (goes_open all s m front t (Takes true m) w e refl refl))
+  determined_differs s front t behind tokens (Takes false m) whole w e o n = outcome_at front t behind tokens (Takes false m) whole w e
 
   determined_end : (s : State goal) (tokens : List Token) (x : Step goal) → Walk all (start goal) tokens s → step all s None ≡ x → ((c : Tree goal) → IsTree goal all c tokens → ⊥) → run all tokens (start goal) ≡ at_end (wanted s) x
   determined_end s tokens x w e n = ap (λ ts. run all ts (start goal)) (sym (append_nothing tokens)) ∙ walk_run w [] ∙ ap (at_end (wanted s)) e
@@ -52,6 +62,7 @@ module _ {goal : Part} where
   no_cell s tokens (Go m) w e n = refl
   no_cell s tokens Stuck w e n = refl
   no_cell s tokens TooMany w e n = refl
+  no_cell s tokens Differs w e n = refl
 
   pub determined : (tokens : List Token) (e : Refusal) → IsRefused goal tokens e → run all tokens (start goal) ≡ outcome_of e
   determined tokens e (expected {w} front t behind whole wants n) =
@@ -63,23 +74,34 @@ module _ {goal : Part} where
   determined tokens e (too_nested front t behind whole wants o n) =
       let r = wants_state all wants.0 front wants.1 in
       determined_nested r.0 front t behind tokens (raw r.0 (Some t)) whole r.1 refl o n
+  determined tokens e (delocal_name front t behind whole wants o n) =
+      let r = wants_state all wants.0 front wants.1 in
+      determined_differs r.0 front t behind tokens (raw r.0 (Some t)) whole r.1 refl o n
 
 pub same_refusal : {goal : Part} (e f : Refusal) → outcome_of {goal = goal} e ≡ outcome_of f → e ≡ f
 same_refusal (Expected v zero) (Expected w zero) h = cc
 same_refusal (Expected v zero) (Expected w (suc n)) h = absurd cc
 same_refusal (Expected v zero) (TooNested n) h = absurd cc
+same_refusal (Expected v zero) (DelocalName n) h = absurd cc
 same_refusal (Expected v (suc m)) (Expected w zero) h = absurd cc
 same_refusal (Expected v (suc m)) (Expected w (suc n)) h = cc
 same_refusal (Expected v (suc m)) (TooNested n) h = absurd cc
+same_refusal (Expected v (suc m)) (DelocalName n) h = absurd cc
 same_refusal (TooNested m) (Expected w zero) h = absurd cc
 same_refusal (TooNested m) (Expected w (suc n)) h = absurd cc
 same_refusal (TooNested m) (TooNested n) h = cc
+same_refusal (TooNested m) (DelocalName n) h = absurd cc
+same_refusal (DelocalName m) (Expected w zero) h = absurd cc
+same_refusal (DelocalName m) (Expected w (suc n)) h = absurd cc
+same_refusal (DelocalName m) (TooNested n) h = absurd cc
+same_refusal (DelocalName m) (DelocalName n) h = cc
 
 module _ {goal : Part} where
   pub no_read : (e : Refusal) (c : Tree goal) (w : What) → outcome_of e ≡ Ended (Some c) w → ⊥
   no_read (Expected v zero) c w h = cc
   no_read (Expected v (suc n)) c w h = cc
   no_read (TooNested n) c w h = cc
+  no_read (DelocalName n) c w h = cc
 
 parts_append : (front behind more : List Token) (t : Token) → (front ++ t ∷ []) ++ (behind ++ more) ≡ (front ++ t ∷ behind) ++ more
 parts_append [] behind more t = refl

@@ -9,10 +9,10 @@ use Rattle.janus_syntax.specs.declared.tree.Operator.TheVariants as operator
 use Rattle.janus_syntax.specs.declared.tree.Update.TheVariants as update
 use Rattle.janus_syntax.specs.declared.fault.What.TheVariants as what
 use Rattle.janus_syntax.specs.Tokens.{Token, Name, Number, Sign_of, Word_of}
-use Rattle.janus_syntax.specs.Tree.{Name as Named, named, Num, Var, EmptyOf, TopOf, Neg, Bin, Skip, Assign, Push, Pop, If, Empty, More, Int, StackOf, cell_of}
+use Rattle.janus_syntax.specs.Tree.{Name as Named, named, Num, Var, EmptyOf, TopOf, Neg, Bin, Skip, Assign, Push, Pop, If, LocalInt, LocalStack, Empty, More, Int, StackOf, cell_of}
 use Rattle.janus_syntax.specs.Forms.{A_cell}
 use Rattle.janus_syntax.specs.Grammar.{all}
-use Rattle.janus_syntax.specs.Reader.{Outcome, Ended, Failed, Nested, run, start}
+use Rattle.janus_syntax.specs.Reader.{Outcome, Ended, Failed, Nested, Unlike, run, start}
 
 abbrev at : Span
 at = record { start = 0; end = 0 }
@@ -135,3 +135,65 @@ too_long = refl
 -- constructs that have ended do not count
 many_minus : answer (x ∷ s sign.PlusEquals ∷ n 1 ∷ times 100 (s sign.Times ∷ s sign.Minus ∷ x ∷ []) ++ w word.Fi ∷ []) ≡ Failed what.End 1
 many_minus = refl
+
+-- ---- locals
+
+-- `local` wants a kind, `local int` a name, `local int x` `=`, `local stack x =` `nil`, `local int x = 1` a statement
+local_wants : answer (w word.Local ∷ []) ≡ Ended None what.Kind
+local_wants = refl
+
+local_wants_kind : answer (w word.Local ∷ x ∷ []) ≡ Failed what.Kind 1
+local_wants_kind = refl
+
+local_wants_name : answer (w word.Local ∷ w word.Int ∷ w word.Int ∷ []) ≡ Failed what.Name 1
+local_wants_name = refl
+
+local_wants_equals : answer (w word.Local ∷ w word.Int ∷ x ∷ s sign.PlusEquals ∷ []) ≡ Failed (what.Sign sign.Equals) 1
+local_wants_equals = refl
+
+local_wants_nil : answer (w word.Local ∷ w word.Stack ∷ x ∷ s sign.Equals ∷ n 1 ∷ []) ≡ Failed (what.Word word.Nil) 1
+local_wants_nil = refl
+
+local_wants_statement : answer (w word.Local ∷ w word.Int ∷ x ∷ s sign.Equals ∷ n 1 ∷ w word.Delocal ∷ []) ≡ Failed what.Statement 1
+local_wants_statement = refl
+
+-- local int x = 1 skip delocal
+abbrev local_front : List Token
+local_front = w word.Local ∷ w word.Int ∷ x ∷ s sign.Equals ∷ n 1 ∷ w word.Skip ∷ w word.Delocal ∷ []
+
+-- it wants a kind, and behind that a name; another kind and another name are refused where they stand
+delocal_wants_kind : answer (local_front ++ x ∷ []) ≡ Failed what.Kind 1
+delocal_wants_kind = refl
+
+delocal_wants_name : answer (local_front ++ w word.Int ∷ n 1 ∷ []) ≡ Failed what.Name 1
+delocal_wants_name = refl
+
+another_kind : answer (local_front ++ w word.Stack ∷ n 1 ∷ []) ≡ Unlike 2
+another_kind = refl
+
+another_name : answer (local_front ++ w word.Int ∷ y ∷ n 1 ∷ []) ≡ Unlike 2
+another_name = refl
+
+delocal_wants_equals : answer (local_front ++ w word.Int ∷ x ∷ n 1 ∷ []) ≡ Failed (what.Sign sign.Equals) 1
+delocal_wants_equals = refl
+
+-- the first `=` is no relation, a second one is
+local_number : answer (w word.Local ∷ w word.Int ∷ x ∷ s sign.Equals ∷ n 1 ∷ s sign.Equals ∷ n 2 ∷ w word.Skip ∷ w word.Delocal ∷ w word.Int ∷ x ∷ s sign.Equals ∷ n 0 ∷ []) ≡
+    Ended (Some (cell_of [] (More (LocalInt X (Bin operator.Equal (Num 1 at) (Num 2 at)) (More Skip Empty) X (Num 0 at)) Empty))) what.End
+local_number = refl
+
+local_stack : answer (w word.Local ∷ w word.Stack ∷ x ∷ s sign.Equals ∷ w word.Nil ∷ w word.Skip ∷ w word.Delocal ∷ w word.Stack ∷ x ∷ s sign.Equals ∷ w word.Nil ∷ []) ≡ Ended (Some (cell_of [] (More (LocalStack X (More Skip Empty) X) Empty))) what.End
+local_stack = refl
+
+-- the 65th of locals in one another is refused at its `local`; of what stands in one, 63 may be open
+abbrev locals : ℕ → List Token
+locals k = times k (w word.Local ∷ w word.Int ∷ x ∷ s sign.Equals ∷ n 1 ∷ [])
+
+deep_locals : answer (locals 64 ++ w word.Skip ∷ []) ≡ Ended None (what.Word word.Delocal)
+deep_locals = refl
+
+too_deep_locals : answer (locals 65) ≡ Nested 5
+too_deep_locals = refl
+
+too_deep_in_a_local : answer (w word.Local ∷ w word.Int ∷ x ∷ s sign.Equals ∷ times 64 (s sign.Open ∷ [])) ≡ Nested 1
+too_deep_in_a_local = refl

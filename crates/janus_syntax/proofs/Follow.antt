@@ -9,7 +9,7 @@ use Rattle.janus_syntax.specs.declared.token.Word.TheVariants as word
 use Rattle.janus_syntax.specs.declared.operator.Infix.{Infix}
 use Rattle.janus_syntax.specs.Tokens.{Token, Name, Sign_of, Word_of}
 use Rattle.janus_syntax.specs.Operators.{weakest, operator_at}
-use Rattle.janus_syntax.specs.Forms.{Part, A_cell, Declarations, Bound, Body, Statements, Else_part, Do_part, Loop_part, Target_index, Whole, Level, Chain, Index, Tree, Seen, seen, word_number, sign_number, Form, done, take, part, close, Rule}
+use Rattle.janus_syntax.specs.Forms.{Part, A_cell, Declarations, Bound, Body, Statements, Else_part, Do_part, Loop_part, Local, Target_index, Whole, Level, Chain, Index, Tree, Seen, seen, word_number, sign_number, Form, done, take, part, close, Rule}
 use Rattle.janus_syntax.specs.Table.{rule, left_out}
 
 -- Tests of tokens.
@@ -45,6 +45,7 @@ ends_body word.Else = true
 ends_body word.Fi = true
 ends_body word.Loop = true
 ends_body word.Until = true
+ends_body word.Delocal = true
 ends_body _ = false
 
 abbrev pub after_body : Token → Bool
@@ -68,6 +69,7 @@ may_follow Statements t = after_body t
 may_follow Else_part t = is_word word.Fi t
 may_follow Do_part t = is_word word.Loop t || is_word word.Until t
 may_follow Loop_part t = is_word word.Until t
+may_follow Local t = after_statement t
 may_follow Target_index t = no_index t
 may_follow Whole t = ends_at weakest t
 may_follow (Level n) t = ends_at n t

@@ -1,27 +1,27 @@
--- A step, apart from the demands: what it would be, and whether it is within the limits.
+-- A step, apart from the demands: what it would be, and whether it is within the limits and in agreement.
 use Rattle.std.proofs.Common.{◌≡◌, Option, Some, None, Bool, refl}
 use Rattle.janus_syntax.specs.Tokens.{Token}
-use Rattle.janus_syntax.specs.Forms.{Part, Tree, Class, Seen, seen, Form, done, take, part, close, Rule}
+use Rattle.janus_syntax.specs.Forms.{Part, Tree, Class, Seen, seen, agrees, Form, done, take, part, close, Rule}
 use Rattle.janus_syntax.specs.Table.{rule, left_out}
 use Rattle.janus_syntax.specs.Grammar.{Count, entered, closed, fits, Demands, met}
-use Rattle.janus_syntax.specs.Reader.{Stack, bottom, waits, State, at, Step, Go, Accept, Stuck, TooMany, go_if, enter, skip, taken, at_form, hand, step}
+use Rattle.janus_syntax.specs.Reader.{Stack, bottom, waits, State, at, Step, Accept, Stuck, TooMany, Differs, go_if, enter, skip, taken, at_form, hand, step}
 use Rattle.janus_syntax.proofs.Completes.{Within, within_closed, count_of}
 
 pub data Raw (goal : Part) : Type 0 where
   Enters : Bool → State goal → Raw goal  -- within the limits?
-  Takes : State goal → Raw goal
+  Takes : Bool → State goal → Raw goal  -- in agreement?
   Accepts : Tree goal → Raw goal
   Dead : Raw goal
 
 module _ {goal : Part} where
   abbrev pub judge : Demands → Raw goal → Step goal
   judge d (Enters b s) = go_if (met d.limits b) s TooMany
-  judge d (Takes s) = Go s
+  judge d (Takes b s) = go_if (met d.agreement b) s Differs
   judge d (Accepts c) = Accept c
   judge d Dead = Stuck
 
   abbrev raw_taken : {p : Part} → (c : Class) → Option (Seen c) → (Seen c → Form p) → Stack goal p → Count → Raw goal
-  raw_taken c (Some s) k S m = Takes (at (k s) S m)
+  raw_taken c (Some s) k S m = Takes (agrees c s) (at (k s) S m)
   raw_taken c None k S m = Dead
 
   abbrev raw_skip : {T : Type 0} → Option T → (T → Raw goal) → Raw goal
@@ -48,7 +48,7 @@ module _ {goal : Part} where
   abbrev pub raw : State goal → Option Token → Raw goal
   raw (at f S m) t = raw_form f S m t (raw_hand S t)
 
-  taken_judged : (d : Demands) {p : Part} (c : Class) (o : Option (Seen c)) (k : Seen c → Form p) (S : Stack goal p) (m : Count) → taken c o k S m ≡ judge d (raw_taken c o k S m)
+  taken_judged : (d : Demands) {p : Part} (c : Class) (o : Option (Seen c)) (k : Seen c → Form p) (S : Stack goal p) (m : Count) → taken c d o k S m ≡ judge d (raw_taken c o k S m)
   taken_judged d c (Some s) k S m = refl
   taken_judged d c None k S m = refl
 
@@ -84,7 +84,7 @@ module _ {goal : Part} where
 
   abbrev pub Keeps : Bool → Raw goal → Type 0
   Keeps b (Enters ok s) = ok ≡ fits (count_of s)
-  Keeps b (Takes s) = Within b (count_of s)
+  Keeps b (Takes ok s) = Within b (count_of s)
   Keeps b (Accepts c) = Unit {0}
   Keeps b Dead = Unit {0}
 

@@ -29,6 +29,7 @@ proper_statement (Name x at) k h ends = λ i. ((λ u e. (h _, λ t m. ends_state
 proper_statement (Word_of word.If at) k h ends = λ e. ((λ z s. ((λ b. ((λ z f. (h _, λ t m. ends_statement t (ends _ t m))), λ t m. seen_word word.Fi t m.0 m.1)), λ t m. elim m [ inl (r, is) ↦ else_body t r is | inr (u, is, m) ↦ fi_body t (seen_word word.Fi t m.0 m.1) ])), λ t m. ends_word word.Then t m)
 proper_statement (Word_of word.From at) k h ends =
     λ e. ((λ s. ((λ b. ((λ z f. (h _, λ t m. ends_statement t (ends _ t m))), λ t m. seen_word word.Until t m.0 m.1)), λ t m. loop_follows t m)), λ t m. do_follows t m)
+proper_statement (Word_of word.Local at) k h ends = λ s. (h s, λ t m. ends s t m)
 proper_statement (Word_of word.Skip at) k h ends = h _
 proper_statement (Word_of word.Push at) k h ends = λ z x z' s z''. h _
 proper_statement (Word_of word.Pop at) k h ends = λ z x z' s z''. h _

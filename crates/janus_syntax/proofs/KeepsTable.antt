@@ -8,12 +8,12 @@ use Rattle.janus_syntax.specs.declared.operator.Infix.{Infix}
 use Rattle.janus_syntax.specs.Tokens.{Token, Name, Number, Sign_of, Word_of}
 use Rattle.janus_syntax.specs.Tree.{Exp, Block, Cell, cell_of}
 use Rattle.janus_syntax.specs.Operators.{weakest, joined, operator_at}
-use Rattle.janus_syntax.specs.Forms.{Part, A_cell, Declarations, Bound, Body, Statements, Else_part, Do_part, Loop_part, Target_index, Whole, Level, Chain, Index, done, part, Rule}
+use Rattle.janus_syntax.specs.Forms.{Part, A_cell, Declarations, Bound, Body, Statements, Else_part, Do_part, Loop_part, Local, Target_index, Whole, Level, Chain, Index, done, part, Rule}
 use Rattle.janus_syntax.specs.Grammar.{text_form}
 use Rattle.janus_syntax.specs.Table.{rule, whole, operand, counts, chain_rule}
 use Rattle.janus_syntax.proofs.Follow.{ends_at, after_declarations, May, Proper, AllProper}
-use Rattle.janus_syntax.proofs.Keeps.{seen_sign, ends_close_index, ends_weaker, ends_chain, proper_chains, may_chains, positive, operator_positive}
-use Rattle.janus_syntax.proofs.KeepsTokens.{begins_statement, begins_declaration, body_after, declarations_after, statement_declarations, fi_body, until_body, loop_or_until_body}
+use Rattle.janus_syntax.proofs.Keeps.{seen_word, seen_sign, ends_statement, ends_close_index, ends_weaker, ends_chain, proper_chains, may_chains, positive, operator_positive}
+use Rattle.janus_syntax.proofs.KeepsTokens.{delocal_body, begins_statement, begins_declaration, body_after, declarations_after, statement_declarations, fi_body, until_body, loop_or_until_body}
 use Rattle.janus_syntax.proofs.KeepsForms.{proper_operand, proper_statement, proper_declaration}
 
 -- Statements to the end, and declarations before them.
@@ -75,6 +75,12 @@ proper_rule Loop_part (Word_of _ at) = tt
 proper_rule Loop_part (Name x at) = tt
 proper_rule Loop_part (Number n at) = tt
 proper_rule Loop_part (Sign_of s at) = tt
+proper_rule Local (Word_of word.Int at) = λ x a e. ((λ b. ((λ c j y d f. (tt, λ t m. ends_statement t m)), λ t m. delocal_body t (seen_word word.Delocal t m.0 m.1))), λ t m. elim m [ inl (r, is) ↦ ends_statement t (begins_statement t _ r is) | inr (u, is, m) ↦ absurd cc ])
+proper_rule Local (Word_of word.Stack at) = λ x a c b. ((λ d j y f g. tt), λ t m. delocal_body t (seen_word word.Delocal t m.0 m.1))
+proper_rule Local (Word_of _ at) = tt
+proper_rule Local (Name x at) = tt
+proper_rule Local (Number n at) = tt
+proper_rule Local (Sign_of s at) = tt
 proper_rule Target_index (Sign_of sign.OpenIndex at) = λ e. ((λ z. tt), λ t m. ends_close_index t (seen_sign sign.CloseIndex t m.0 m.1))
 proper_rule Target_index (Sign_of _ at) = tt
 proper_rule Target_index (Name x at) = tt

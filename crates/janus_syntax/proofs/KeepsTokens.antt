@@ -76,6 +76,13 @@ until_body (Name x at) e = absurd cc
 until_body (Number n at) e = absurd cc
 until_body (Sign_of s at) e = absurd cc
 
+pub delocal_body : (t : Token) → is_word word.Delocal t ≡ true → after_body t ≡ true
+delocal_body (Word_of word.Delocal at) e = refl
+delocal_body (Word_of _ at) e = absurd cc
+delocal_body (Name x at) e = absurd cc
+delocal_body (Number n at) e = absurd cc
+delocal_body (Sign_of s at) e = absurd cc
+
 pub else_body : (t : Token) (r : Rule Else_part) → rule Else_part t ≡ Some r → after_body t ≡ true
 else_body (Word_of word.Else at) r e = refl
 else_body (Word_of _ at) r e = absurd cc

@@ -8,7 +8,7 @@ use Rattle.janus_syntax.specs.declared.operator.Infix.{Infix}
 use Rattle.janus_syntax.specs.Tokens.{Token, Name, Number, Sign_of, Word_of}
 use Rattle.janus_syntax.specs.Tree.{Exp, Stm, Declaration}
 use Rattle.janus_syntax.specs.Operators.{joined, operator_at}
-use Rattle.janus_syntax.specs.Forms.{Part, A_cell, Declarations, Bound, Body, Statements, Else_part, Do_part, Loop_part, Target_index, Whole, Level, Chain, Index, Tree, Form, done, part}
+use Rattle.janus_syntax.specs.Forms.{Part, A_cell, Declarations, Bound, Body, Statements, Else_part, Do_part, Loop_part, Local, Target_index, Whole, Level, Chain, Index, Tree, Form, done, part}
 use Rattle.janus_syntax.specs.Table.{rule, left_out, counts, chain_rule, statement, declaration}
 use Rattle.janus_syntax.proofs.Follow.{is_word, no_index, weaker_than, after_statement, after_body, after_declarations, may_follow}
 
@@ -16,6 +16,7 @@ no_statement : {p : Part} → (t : Token) (k : Stm → Form p) → after_body t 
 no_statement (Word_of word.If at) k e = absurd cc
 no_statement (Word_of word.From at) k e = absurd cc
 no_statement (Word_of word.Skip at) k e = absurd cc
+no_statement (Word_of word.Local at) k e = absurd cc
 no_statement (Word_of word.Push at) k e = absurd cc
 no_statement (Word_of word.Pop at) k e = absurd cc
 no_statement (Word_of _ at) k e = refl
@@ -94,6 +95,7 @@ no_rule Statements t u e h = no_statement t _ h
 no_rule Else_part t u e h = no_else t h
 no_rule Do_part t u e h = no_do t h
 no_rule Loop_part t u e h = no_loop t h
+no_rule Local t u e h = absurd cc
 no_rule Target_index t u e h = no_target t h
 no_rule Whole t u e h = absurd cc
 no_rule (Level n) t u e h = absurd cc

@@ -117,6 +117,7 @@ part_fails Z text part at end fault.Memory h here large_at = tt
 part_fails Z text part at end (fault.BadToken q) h here large_at = absurd h
 part_fails Z text part at end (fault.Expected w q) h here large_at = absurd h
 part_fails Z text part at end (fault.TooNested q) h here large_at = absurd h
+part_fails Z text part at end (fault.DelocalName q) h here large_at = absurd h
 
 pub only_lexed : (text : List ℕ) {Z : Type 0} (r : Result (Vec code_token.Token Z) SyntaxFault) → IsLexed text r → (ts : List Token) → AreTokens text ts → IsOnly ts r
 only_lexed text (Ok found) h ts q = only_tokens text (views found.items) ts h q
@@ -125,6 +126,7 @@ only_lexed text (Err (fault.NumberTooLarge at)) h ts q = absurd (not_large text 
 only_lexed text (Err fault.Memory) h ts q = tt
 only_lexed text (Err (fault.Expected w at)) h ts q = absurd h
 only_lexed text (Err (fault.TooNested at)) h ts q = absurd h
+only_lexed text (Err (fault.DelocalName at)) h ts q = absurd h
 
 none_there : (xs : List ℕ) → true ≡ (length xs == 0) → xs ≡ []
 none_there [] e = refl

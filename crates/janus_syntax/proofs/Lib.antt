@@ -2,6 +2,7 @@ pub mod Scanning
 pub mod Fronts
 pub mod Longest
 pub mod Lexing
+pub mod Locals
 pub mod OneLexing
 pub mod Places
 pub mod OneBad
@@ -23,6 +24,7 @@ pub mod Keeps
 pub mod KeepsTokens
 pub mod KeepsForms
 pub mod KeepsTable
+pub mod Agreed
 pub mod Agrees
 pub mod Back
 pub mod Completes

@@ -39,3 +39,8 @@ pub assigned_row : (x o z u : Piece) (a b : List Piece) (l0 l1 l2 l3 l4 l5 l6 : 
     l6 ≡ with_pieces l0 (x ∷ o ∷ (a ++ z ∷ u ∷ b))
 assigned_row x o z u a b l0 l1 l2 l3 l4 l5 l6 e1 e2 e3 e4 e5 e6 =
     piece_behind x (o ∷ (a ++ z ∷ u ∷ b)) l0 l1 l6 e1 (piece_behind o (a ++ z ∷ u ∷ b) l1 l2 l6 e2 (behind a (z ∷ u ∷ b) l2 l3 l6 e3 (piece_behind z (u ∷ b) l3 l4 l6 e4 (piece_behind u b l4 l5 l6 e5 e6))))
+
+-- a local: two bindings, with what stands behind each
+pub local_row : (h a b g c : List Piece) (l0 l1 l2 l3 l4 l5 : Printed) → l1 ≡ with_pieces l0 h → l2 ≡ with_pieces l1 a → l3 ≡ with_pieces l2 b → l4 ≡ with_pieces l3 g → l5 ≡ with_pieces l4 c → l5 ≡ with_pieces l0 (h ++ (a ++ (b ++ (g ++ c))))
+local_row h a b g c l0 l1 l2 l3 l4 l5 e1 e2 e3 e4 e5 =
+    behind h (a ++ (b ++ (g ++ c))) l0 l1 l5 e1 (behind a (b ++ (g ++ c)) l1 l2 l5 e2 (behind b (g ++ c) l2 l3 l5 e3 (behind g c l3 l4 l5 e4 e5)))

@@ -4,8 +4,8 @@ use Rattle.janus_syntax.specs.declared.fault.What.{What}
 use Rattle.janus_syntax.specs.declared.fault.What.TheVariants as what
 use Rattle.janus_syntax.specs.Tokens.{Token}
 use Rattle.janus_syntax.specs.Forms.{Part, Tree}
-use Rattle.janus_syntax.specs.Grammar.{Demands, all, but_limits, zero_count, IsTree, IsOpen, Refusal, Expected, TooNested, IsRefused, expected, expected_at_end, too_nested}
-use Rattle.janus_syntax.specs.Reader.{State, Step, Go, Accept, Stuck, TooMany, step, wanted, Outcome, Ended, at_end, follow, run, start}
+use Rattle.janus_syntax.specs.Grammar.{Demands, all, none, but_limits, but_agreement, zero_count, IsTree, IsOpen, Refusal, Expected, TooNested, DelocalName, IsRefused, expected, expected_at_end, too_nested, delocal_name}
+use Rattle.janus_syntax.specs.Reader.{State, Step, Go, Accept, Stuck, TooMany, Differs, step, wanted, Outcome, Ended, at_end, follow, run, start}
 use Rattle.janus_syntax.specs.Laws.{TreeOrRefusal}
 use Rattle.janus_syntax.proofs.Agrees.{reads_cell}
 use Rattle.janus_syntax.proofs.Back.{end}
@@ -36,6 +36,7 @@ module _ {goal : Part} where
   halts d (Accept k) w left go c v h e = cc
   halts d Stuck w left go c v h e = cc
   halts d TooMany w left go c v h e = cc
+  halts d Differs w left go c v h e = cc
 
   pub not_open : (d : Demands) {s : State goal} {front : List Token} (t : Token) → Walk d (start goal) front s → ((n : State goal) → step d s (Some t) ≡ Go n → ⊥) → IsOpen goal d (front ++ t ∷ []) → ⊥
   not_open d {s} {front} t w h (more, c, is) =
@@ -72,17 +73,20 @@ module _ {goal : Part} where
   answer_end s tokens (Go n) w e = inr (Expected (wanted s) 0, expected_at_end (wants_front all w) (unfinished s tokens (Go n) w e refl))
   answer_end s tokens Stuck w e = inr (Expected (wanted s) 0, expected_at_end (wants_front all w) (unfinished s tokens Stuck w e refl))
   answer_end s tokens TooMany w e = inr (Expected (wanted s) 0, expected_at_end (wants_front all w) (unfinished s tokens TooMany w e refl))
+  answer_end s tokens Differs w e = inr (Expected (wanted s) 0, expected_at_end (wants_front all w) (unfinished s tokens Differs w e refl))
 
   answer_token : (s : State goal) (front : List Token) (t : Token) (behind tokens : List Token) (x : Raw goal) → tokens ≡ front ++ t ∷ behind → Walk all (start goal) front s → raw s (Some t) ≡ x → no_steps all s t → Answer goal tokens
   unfolding Answer
   answer_token s front t behind tokens Dead whole w e n =
-      inr (Expected (wanted s) (suc (length behind)), expected front t behind whole (wants_front all w) (not_open but_limits t (walk_fewer but_limits w) (dead_steps but_limits s t Stuck (judged but_limits s (Some t) ∙ ap (judge but_limits) e) (λ n h. cc))))
+      inr (Expected (wanted s) (suc (length behind)), expected front t behind whole (wants_front all w) (not_open none t (walk_fewer none w) (dead_steps none s t Stuck (judged none s (Some t) ∙ ap (judge none) e) (λ n h. cc))))
   answer_token s front t behind tokens (Accepts c) whole w e n =
-      inr (Expected (wanted s) (suc (length behind)), expected front t behind whole (wants_front all w) (not_open but_limits t (walk_fewer but_limits w) (dead_steps but_limits s t (Accept c) (judged but_limits s (Some t) ∙ ap (judge but_limits) e) (λ n h. cc))))
+      inr (Expected (wanted s) (suc (length behind)), expected front t behind whole (wants_front all w) (not_open none t (walk_fewer none w) (dead_steps none s t (Accept c) (judged none s (Some t) ∙ ap (judge none) e) (λ n h. cc))))
   answer_token s front t behind tokens (Enters true m) whole w e n = absurd (n m (judged all s (Some t) ∙ ap (judge all) e))
-  answer_token s front t behind tokens (Takes m) whole w e n = absurd (n m (judged all s (Some t) ∙ ap (judge all) e))
+  answer_token s front t behind tokens (Takes true m) whole w e n = absurd (n m (judged all s (Some t) ∙ ap (judge all) e))
   answer_token s front t behind tokens (Enters false m) whole w e n =
       inr (TooNested (suc (length behind)), too_nested front t behind whole (wanted s, wants_front all w) (step_open but_limits t (walk_fewer but_limits w) (judged but_limits s (Some t) ∙ ap (judge but_limits) e) refl) (not_open all t w n))
+  answer_token s front t behind tokens (Takes false m) whole w e n =
+      inr (DelocalName (suc (length behind)), delocal_name front t behind whole (wanted s, wants_front all w) (step_open but_agreement t (walk_fewer but_agreement w) (judged but_agreement s (Some t) ∙ ap (judge but_agreement) e) refl) (not_open all t w n))
 
   answer_ending : (tokens : List Token) (out : Outcome goal) → Ending all (start goal) tokens out → Answer goal tokens
   answer_ending tokens out (at_the_end {s'} w) = answer_end s' tokens (step all s' None) w refl

@@ -13,8 +13,8 @@ use Rattle.janus_syntax.specs.declared.fault.What.TheVariants as what
 use Rattle.janus_syntax.specs.declared.problem.Problem.{Problem}
 use Rattle.janus_syntax.specs.declared.problem.Problem.TheVariants as problem
 use Rattle.janus_syntax.specs.Tokens.{Token, Name, Number, Sign_of, Word_of, token_of, views}
-use Rattle.janus_syntax.specs.Forms.{The_word, The_sign, Class, Seen, seen, word_number, sign_number, what_of, take}
-use Rattle.janus_syntax.specs.Grammar.{all, Refusal, Expected, TooNested}
+use Rattle.janus_syntax.specs.Forms.{The_word, The_sign, Class, Seen, seen, agrees, word_number, sign_number, what_of, take}
+use Rattle.janus_syntax.specs.Grammar.{all, Refusal, Expected, TooNested, DelocalName}
 use Rattle.janus_syntax.specs.Reader.{at, follow, run, next, taken}
 use Rattle.janus_syntax.specs.Reading.{FailsAs, TokenGoes, TokenFails, BeginsWith, BeginsWithSign}
 use Rattle.janus_syntax.proofs.Agrees.{run_goes, steps_token}
@@ -29,15 +29,16 @@ first_token tokens rest first k h e = ap views h.0 ∙ ap (λ x. token_of x firs
 pub passes_on : (fails whole_fails : Refusal → Type 0) (e : Problem) → FailsAs fails e → ((out : Refusal) → fails out → whole_fails out) → FailsAs whole_fails e
 passes_on fails whole_fails (problem.Expected w left) h f = f (Expected w left) h
 passes_on fails whole_fails (problem.TooNested left) h f = f (TooNested left) h
+passes_on fails whole_fails (problem.DelocalName left) h f = f (DelocalName left) h
 passes_on fails whole_fails problem.Memory h f = tt
 
 -- ---- tokens of a class
 
-pub token_goes : (c : Class) (v : Seen c) (t : Token) (rest : List Token) → seen c t ≡ Some v → TokenGoes c v (t ∷ rest) rest
-token_goes c v t rest is = record { goes = λ g p k S m. run_goes all t rest (at (take c k) S m) (at (k v) S m) (steps_token all c k S m t v is); shorter = omega arith }
+pub token_goes : (c : Class) (v : Seen c) (t : Token) (rest : List Token) → seen c t ≡ Some v → agrees c v ≡ true → TokenGoes c v (t ∷ rest) rest
+token_goes c v t rest is fit = record { goes = λ g p k S m. run_goes all t rest (at (take c k) S m) (at (k v) S m) (steps_token all c k S m t v is fit); shorter = omega arith }
 
 pub token_fails : (c : Class) (t : Token) (rest : List Token) → seen c t ≡ None → TokenFails c (t ∷ rest) (Expected (what_of c) (suc (length rest)))
-token_fails c t rest is g p k S m = ap (λ o. follow (λ n. run all rest n) (what_of c) (suc (length rest)) (taken c o k S m)) is
+token_fails c t rest is g p k S m = ap (λ o. follow (λ n. run all rest n) (what_of c) (suc (length rest)) (taken c all o k S m)) is
 
 pub end_fails : (c : Class) → TokenFails c [] (Expected (what_of c) 0)
 end_fails c g p k S m = refl
@@ -94,10 +95,10 @@ other_word w (Number n place) rest h = refl
 other_word w (Sign_of s place) rest h = refl
 
 pub sign_goes : (s : Sign) (from rest : List Token) → BeginsWithSign s from rest → TokenGoes (The_sign s) tt from rest
-sign_goes s from rest b = subst (λ ts. TokenGoes (The_sign s) tt ts rest) (sym b.is) (token_goes (The_sign s) tt (Sign_of s b.at) rest (seen_the_sign s b.at))
+sign_goes s from rest b = subst (λ ts. TokenGoes (The_sign s) tt ts rest) (sym b.is) (token_goes (The_sign s) tt (Sign_of s b.at) rest (seen_the_sign s b.at) refl)
 
 pub word_goes : (w : Word) (from rest : List Token) → BeginsWith w from rest → TokenGoes (The_word w) tt from rest
-word_goes w from rest b = subst (λ ts. TokenGoes (The_word w) tt ts rest) (sym b.is) (token_goes (The_word w) tt (Word_of w b.at) rest (seen_the_word w b.at))
+word_goes w from rest b = subst (λ ts. TokenGoes (The_word w) tt ts rest) (sym b.is) (token_goes (The_word w) tt (Word_of w b.at) rest (seen_the_word w b.at) refl)
 
 pub sign_fails : (s : Sign) (from : List Token) (left : ℕ) → left ≡ length from → ((behind : List Token) → BeginsWithSign s from behind → ⊥) → TokenFails (The_sign s) from (Expected (what.Sign s) left)
 sign_fails s [] left e h = subst (λ n. TokenFails (The_sign s) [] (Expected (what.Sign s) n)) (sym e) (end_fails (The_sign s))

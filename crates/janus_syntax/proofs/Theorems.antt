@@ -6,7 +6,7 @@ use Rattle.janus_syntax.specs.declared.problem.Problem.{Problem}
 use Rattle.janus_syntax.specs.declared.problem.Problem.TheVariants as problem
 use Rattle.janus_syntax.specs.Tokens.{Token}
 use Rattle.janus_syntax.specs.Forms.{Part, Tree}
-use Rattle.janus_syntax.specs.Grammar.{all, IsTree, Refusal, Expected, TooNested, IsRefused}
+use Rattle.janus_syntax.specs.Grammar.{all, IsTree, Refusal, Expected, TooNested, DelocalName, IsRefused}
 use Rattle.janus_syntax.specs.Reader.{Ended, run, start}
 use Rattle.janus_syntax.specs.Reading.{Reads, FailsAs, Within, fault_of}
 use Rattle.janus_syntax.specs.Statements.{Refused}
@@ -39,6 +39,7 @@ pub refusal : {X : Type 0} (goal : Part) (view : X → Tree goal) (ts : List Tok
 refusal goal view ts (Ok x) h = h
 refusal goal view ts (Err (problem.Expected w left)) h = is_refused goal ts (Expected w left) h
 refusal goal view ts (Err (problem.TooNested left)) h = is_refused goal ts (TooNested left) h
+refusal goal view ts (Err (problem.DelocalName left)) h = is_refused goal ts (DelocalName left) h
 refusal goal view ts (Err problem.Memory) h = tt
 
 pub only_answer : {X : Type 0} (goal : Part) (view : X → Tree goal) (ts : List Token) (r : Result X Problem) → Reads (λ x. IsTree goal all (view x) ts) (Refused goal ts) r → (tree : Tree goal) → IsTree goal all tree ts →
@@ -46,6 +47,7 @@ pub only_answer : {X : Type 0} (goal : Part) (view : X → Tree goal) (ts : List
 only_answer goal view ts (Ok x) h tree q = determined.one_tree goal all ts (view x) tree h q
 only_answer goal view ts (Err (problem.Expected w left)) h tree q = determined.no_read (Expected w left) tree what.End (sym h ∙ reads_cell all tree ts q)
 only_answer goal view ts (Err (problem.TooNested left)) h tree q = determined.no_read (TooNested left) tree what.End (sym h ∙ reads_cell all tree ts q)
+only_answer goal view ts (Err (problem.DelocalName left)) h tree q = determined.no_read (DelocalName left) tree what.End (sym h ∙ reads_cell all tree ts q)
 only_answer goal view ts (Err problem.Memory) h tree q = tt
 
 -- from places in the tokens to places in the text
@@ -56,6 +58,7 @@ in_range e ts left (before front rest whole n) h = let size = ap length whole �
 pub within : (goal : Part) (ts : List Token) (p : Problem) → FailsAs (IsRefused goal ts) p → Within p (length ts)
 within goal ts (problem.Expected w left) h = in_range (Expected w left) ts left (stands_before goal ts (Expected w left) h) refl
 within goal ts (problem.TooNested left) h = in_range (TooNested left) ts left (stands_before goal ts (TooNested left) h) refl
+within goal ts (problem.DelocalName left) h = in_range (DelocalName left) ts left (stands_before goal ts (DelocalName left) h) refl
 within goal ts problem.Memory h = tt
 
 refused_before : (goal : Part) (text : List ℕ) (ts : List Token) (w : What) (left : ℕ) → AreTokens text ts → IsRefused goal ts (Expected w left) → Before (Expected w left) ts → Refuses goal text (fault_of (length text) ts (problem.Expected w left))
@@ -66,9 +69,14 @@ nested_before : (goal : Part) (text : List ℕ) (ts : List Token) (left : ℕ) �
 nested_before goal text ts left l q (before front rest whole n) =
     record { tokens = ts; front = front; rest = rest; are_tokens = l; whole = whole; refused = subst (λ i. IsRefused goal ts (TooNested i)) n q; place = ap (place_before (length text)) (rest_is ts front rest left whole n) }
 
+delocal_before : (goal : Part) (text : List ℕ) (ts : List Token) (left : ℕ) → AreTokens text ts → IsRefused goal ts (DelocalName left) → Before (DelocalName left) ts → Refuses goal text (fault_of (length text) ts (problem.DelocalName left))
+delocal_before goal text ts left l q (before front rest whole n) =
+    record { tokens = ts; front = front; rest = rest; are_tokens = l; whole = whole; refused = subst (λ i. IsRefused goal ts (DelocalName i)) n q; place = ap (place_before (length text)) (rest_is ts front rest left whole n) }
+
 pub refuses : (goal : Part) (text : List ℕ) (ts : List Token) (p : Problem) → AreTokens text ts → FailsAs (IsRefused goal ts) p → Refuses goal text (fault_of (length text) ts p)
 refuses goal text ts (problem.Expected w left) l h = refused_before goal text ts w left l h (stands_before goal ts (Expected w left) h)
 refuses goal text ts (problem.TooNested left) l h = nested_before goal text ts left l h (stands_before goal ts (TooNested left) h)
+refuses goal text ts (problem.DelocalName left) l h = delocal_before goal text ts left l h (stands_before goal ts (DelocalName left) h)
 refuses goal text ts problem.Memory l h = tt
 
 -- the text's tree is that of its tokens
@@ -78,9 +86,11 @@ tree_of_tokens goal text ts v l q = subst (λ us. IsTree goal all v us) (only_to
 pub only_cell : (tree : Cell) (end : ℕ) (ts : List Token) (p : Problem) → FailsAs (λ e. ⊥) p → IsOnlyTree tree (Err (fault_of end ts p))
 only_cell tree end ts (problem.Expected w left) h = h
 only_cell tree end ts (problem.TooNested left) h = h
+only_cell tree end ts (problem.DelocalName left) h = h
 only_cell tree end ts problem.Memory h = tt
 
 pub only_exp : (tree : Exp) (end : ℕ) (ts : List Token) (p : Problem) → FailsAs (λ e. ⊥) p → IsOnlyExp tree (Err (fault_of end ts p))
 only_exp tree end ts (problem.Expected w left) h = h
 only_exp tree end ts (problem.TooNested left) h = h
+only_exp tree end ts (problem.DelocalName left) h = h
 only_exp tree end ts problem.Memory h = tt

@@ -7,10 +7,10 @@ use Rattle.janus_syntax.specs.Forms.{Part, Tree, Form, done, take, part, close}
 use Rattle.janus_syntax.specs.Table.{left_out, label}
 use Rattle.janus_syntax.specs.Grammar
 use Rattle.janus_syntax.specs.Grammar.{Count, zero_count, closed, fits, Demands, all, met, Spells, Begins, Wants, an_item, the_end, text_form, IsTree, Next, Wanted, Complete, required, passed_over}
-use Rattle.janus_syntax.specs.Reader.{Stack, bottom, waits, State, at, Go, Accept, Stuck, TooMany, step, wanted_behind, wanted, Outcome, Ended, at_end, follow, run, start}
+use Rattle.janus_syntax.specs.Reader.{Stack, bottom, waits, State, at, Go, Accept, Stuck, TooMany, Differs, step, wanted_behind, wanted, Outcome, Ended, at_end, follow, run, start}
 use Rattle.janus_syntax.proofs.Agrees.{run_goes, reads_cell, wants, at_end_wants}
 use Rattle.janus_syntax.proofs.KeepsTable.{proper_text}
-use Rattle.janus_syntax.proofs.Back.{Behind, At, Goes_back, back, if_goes, many_goes, same_state}
+use Rattle.janus_syntax.proofs.Back.{Behind, At, Goes_back, back, if_goes, many_goes, differs_goes}
 use Rattle.janus_syntax.proofs.Completes.{Within, count_of}
 use Rattle.janus_syntax.proofs.Judged.{Raw, Enters, Takes, Accepts, Dead, judge, raw, judged, Keeps, keeps}
 
@@ -34,7 +34,7 @@ module _ {goal : Part} where
   raw_within d (Enters b s) s' e h =
       let r = if_goes (met d.limits b) s s' TooMany many_goes e in
       subst (λ y. Within d.limits (count_of y)) r.1 (ap (met d.limits) (sym h) ∙ r.0)
-  raw_within d (Takes s) s' e h = subst (λ y. Within d.limits (count_of y)) (same_state s s' e) h
+  raw_within d (Takes b s) s' e h = let r = if_goes (met d.agreement b) s s' Differs differs_goes e in subst (λ y. Within d.limits (count_of y)) r.1 h
   raw_within d (Accepts c) s' e h = absurd cc
   raw_within d Dead s' e h = absurd cc
 
@@ -58,7 +58,7 @@ met_fewer false x e = refl
 module _ {goal : Part} where
   judge_fewer : (d : Demands) (x : Raw goal) (s : State goal) → judge all x ≡ Go s → judge d x ≡ Go s
   judge_fewer d (Enters b n) s e = let r = if_goes b n s TooMany many_goes e in ap (λ y. cond y (Go n) TooMany) (met_fewer d.limits b r.0) ∙ ap Go r.1
-  judge_fewer d (Takes n) s e = e
+  judge_fewer d (Takes b n) s e = let r = if_goes b n s Differs differs_goes e in ap (λ y. cond y (Go n) Differs) (met_fewer d.agreement b r.0) ∙ ap Go r.1
   judge_fewer d (Accepts c) s e = absurd cc
   judge_fewer d Dead s e = absurd cc
 
@@ -85,6 +85,7 @@ module _ {goal : Part} where
         | Accept c ↦ λ e. at_a_token [] t rest refl stay (λ n h. let k = sym e ∙ h in cc)
         | Stuck ↦ λ e. at_a_token [] t rest refl stay (λ n h. let k = sym e ∙ h in cc)
         | TooMany ↦ λ e. at_a_token [] t rest refl stay (λ n h. let k = sym e ∙ h in cc)
+        | Differs ↦ λ e. at_a_token [] t rest refl stay (λ n h. let k = sym e ∙ h in cc)
       ] refl
 
 -- what the machine wants is what the grammar says
@@ -97,7 +98,7 @@ IsWhole goal w c ts = (ts ≡ []) × (w ≡ what.End)
 
 begun_back : (d : Demands) (w : What) → Goes_back d (Begun d w)
 begun_back d w = record {
-  over_token = λ c k s t m ts is a. Grammar.token is a;
+  over_token = λ c k s t m ts is ok a. Grammar.token is ok a;
   over_close = λ f m ts a. Grammar.end_of_construct a;
   inside = λ q k r t m ts is ok a. Grammar.inside is ok a;
   behind = λ q k r u t m m1 ts rest is ok sp a. Grammar.behind is ok sp a;
@@ -159,6 +160,7 @@ module _ {goal : Part} where
         | Accept c ↦ λ is h. absurd cc
         | Stuck ↦ λ is h. absurd cc
         | TooMany ↦ λ is h. absurd cc
+        | Differs ↦ λ is h. absurd cc
       ] refl e
 
   pub wants_state : (d : Demands) (w : What) (front : List Token) → Wants goal d w front → (n : State goal) × Walk d (start goal) front n × (wanted n ≡ w)

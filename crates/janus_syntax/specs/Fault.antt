@@ -23,6 +23,7 @@ fault_number (fault.BadToken at) = 30
 fault_number (fault.Expected w at) = 31
 fault_number (fault.NumberTooLarge at) = 32
 fault_number (fault.TooNested at) = 33
+fault_number (fault.DelocalName at) = 34
 fault_number fault.Memory = 35
 
 abbrev pub fault_name : SyntaxFault → List ℕ
@@ -30,6 +31,7 @@ fault_name (fault.BadToken at) = codes "BadToken"
 fault_name (fault.Expected w at) = codes "Expected"
 fault_name (fault.NumberTooLarge at) = codes "NumberTooLarge"
 fault_name (fault.TooNested at) = codes "TooNested"
+fault_name (fault.DelocalName at) = codes "DelocalName"
 fault_name fault.Memory = codes "Memory"
 
 abbrev pub fault_span : SyntaxFault → Option Span
@@ -37,4 +39,5 @@ fault_span (fault.BadToken at) = Some at
 fault_span (fault.Expected w at) = Some at
 fault_span (fault.NumberTooLarge at) = Some at
 fault_span (fault.TooNested at) = Some at
+fault_span (fault.DelocalName at) = Some at
 fault_span fault.Memory = None

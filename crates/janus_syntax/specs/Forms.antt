@@ -1,16 +1,19 @@
 -- The language in which the grammar's table is written. A part of a cell is told by its first token; behind that
 -- it has a form: tokens of a class and further parts in a row, and at its end the part's tree.
-use Rattle.std.specs.Prelude.{ℕ, List, Option, Some, None, Bool, cond, nat_eq}
+use Rattle.std.specs.Prelude.{ℕ, List, Option, Some, None, Bool, true, false, cond, nat_eq}
+use Rattle.janus_meaning.specs.Store.{same_name}
 use Rattle.janus_syntax.specs.declared.token.Span.{Span}
 use Rattle.janus_syntax.specs.declared.token.Sign.{Sign}
 use Rattle.janus_syntax.specs.declared.token.Sign.TheVariants as sign
 use Rattle.janus_syntax.specs.declared.token.Word.{Word}
 use Rattle.janus_syntax.specs.declared.token.Word.TheVariants as word
 use Rattle.janus_syntax.specs.declared.tree.Update.{Update}
+use Rattle.janus_syntax.specs.declared.tree.Kind.{Kind}
+use Rattle.janus_syntax.specs.declared.tree.Kind.TheVariants as kind
 use Rattle.janus_syntax.specs.declared.fault.What.{What}
 use Rattle.janus_syntax.specs.declared.fault.What.TheVariants as what
 use Rattle.janus_syntax.specs.Tokens.{Token, Name, Number, Sign_of, Word_of}
-use Rattle.janus_syntax.specs.Tree.{Name as Named, named, Exp, Block, Declaration, Cell}
+use Rattle.janus_syntax.specs.Tree.{Name as Named, named, Exp, Stm, Block, Declaration, Cell}
 use Rattle.janus_syntax.specs.Operators.{update_at}
 
 -- the parts of a cell
@@ -23,6 +26,7 @@ pub data Part : Type 0 where
   Else_part : Part
   Do_part : Part
   Loop_part : Part
+  Local : Part  -- behind `local`
   Target_index : Part  -- behind the name that an assignment begins with
   Whole : Part  -- a whole expression
   Level : ℕ → Part  -- an expression with no operator of a weaker level outside parentheses; 0: an operand
@@ -39,6 +43,7 @@ Tree Statements = Block
 Tree Else_part = Block
 Tree Do_part = Block
 Tree Loop_part = Block
+Tree Local = Stm
 Tree Target_index = Option Exp
 Tree Whole = Exp
 Tree (Level n) = Exp
@@ -52,6 +57,8 @@ pub data Class : Type 0 where
   A_name : Class
   A_number : Class
   An_update : Class
+  Same_kind : Kind → Class  -- any kind, but it has to be this one
+  Same_name : Named → Class  -- any name, but it has to be this one
 
 -- what a token of a class is
 abbrev pub Seen : Class → Type 0
@@ -60,6 +67,8 @@ Seen (The_sign s) = Unit {0}
 Seen A_name = Named
 Seen A_number = ℕ × Span
 Seen An_update = Update
+Seen (Same_kind k) = Kind
+Seen (Same_name x) = Named
 
 abbrev pub word_number : Word → ℕ
 word_number word.Call = 0
@@ -111,6 +120,22 @@ sign_number sign.OpenIndex = 21
 sign_number sign.CloseIndex = 22
 sign_number sign.Comma = 23
 
+-- the same name, wherever it stands
+abbrev pub same_named : Named → Named → Bool
+same_named (named x at) (named y place) = same_name x y
+
+abbrev pub same_kind : Kind → Kind → Bool
+same_kind kind.Int kind.Int = true
+same_kind kind.Int kind.Stack = false
+same_kind kind.Stack kind.Int = false
+same_kind kind.Stack kind.Stack = true
+
+-- the kind of a word
+abbrev pub word_kind : Word → Option Kind
+word_kind word.Int = Some kind.Int
+word_kind word.Stack = Some kind.Stack
+word_kind _ = None
+
 -- a token as one of a class
 abbrev pub seen : (c : Class) → Token → Option (Seen c)
 seen (The_word w) (Word_of v _) = cond (nat_eq (word_number w) (word_number v)) (Some tt) None
@@ -122,6 +147,16 @@ seen A_name _ = None
 seen A_number (Number n at) = Some (n, at)
 seen A_number _ = None
 seen An_update t = update_at t
+seen (Same_kind k) (Word_of v _) = word_kind v
+seen (Same_kind k) _ = None
+seen (Same_name x) (Name y at) = Some (named y at)
+seen (Same_name x) _ = None
+
+-- whether it is the one that it has to be
+abbrev pub agrees : (c : Class) → Seen c → Bool
+agrees (Same_kind k) j = same_kind k j
+agrees (Same_name x) y = same_named x y
+agrees _ v = true
 
 -- how a class is told
 abbrev pub what_of : Class → What
@@ -130,6 +165,8 @@ what_of (The_sign s) = what.Sign s
 what_of A_name = what.Name
 what_of A_number = what.Number
 what_of An_update = what.Operator
+what_of (Same_kind k) = what.Kind
+what_of (Same_name x) = what.Name
 
 -- a form of a part's tree
 pub data Form (p : Part) : Type 0 where

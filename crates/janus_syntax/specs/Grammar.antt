@@ -5,7 +5,7 @@ use Rattle.janus_syntax.specs.declared.fault.What.{What}
 use Rattle.janus_syntax.specs.declared.fault.What.TheVariants as what
 use Rattle.janus_syntax.specs.Tokens.{Token}
 use Rattle.janus_syntax.specs.Tree.{cell_of}
-use Rattle.janus_syntax.specs.Forms.{Part, A_cell, Declarations, Statements, Tree, Class, Seen, seen, what_of, Form, done, take, part, close, Rule}
+use Rattle.janus_syntax.specs.Forms.{Part, A_cell, Declarations, Statements, Tree, Class, Seen, seen, agrees, what_of, Form, done, take, part, close, Rule}
 use Rattle.janus_syntax.specs.Table.{rule, left_out, label}
 
 -- How many constructs are open, and how many operators the whole expression has so far.
@@ -33,15 +33,22 @@ operator_limit = 256
 abbrev pub fits : Count → Bool
 fits m = nat_le m.depth depth_limit && nat_le m.used operator_limit
 
--- Which demands beyond the forms are made: the limits.
+-- Which demands beyond the forms are made: the limits, and that `delocal` has the kind and the name of its `local`.
 pub record Demands : Type 0 where
   pub limits : Bool
+  pub agreement : Bool
 
 abbrev pub all : Demands
-all = record { limits = true }
+all = record { limits = true; agreement = true }
+
+abbrev pub none : Demands
+none = record { limits = false; agreement = false }
 
 abbrev pub but_limits : Demands
-but_limits = record { limits = false }
+but_limits = record { limits = false; agreement = true }
+
+abbrev pub but_agreement : Demands
+but_agreement = record { limits = true; agreement = false }
 
 -- if it is demanded, it holds
 abbrev pub met : Bool → Bool → Bool
@@ -53,7 +60,8 @@ met false b = true
 pub data Spells (d : Demands) : (p : Part) → Form p → Tree p → Count → List Token → Count → List Token → Type 0 where
   nothing_more : {p : Part} {v : Tree p} {m : Count} {rest : List Token} → Spells d p (done v) v m rest m rest
   token : {p : Part} {c : Class} {k : Seen c → Form p} {s : Seen c} {v : Tree p} {t : Token} {m m' : Count} {from rest : List Token} →
-      seen c t ≡ Some s → Spells d p (k s) v m from m' rest → Spells d p (take c k) v m (t ∷ from) m' rest
+      seen c t ≡ Some s → met d.agreement (agrees c s) ≡ true →
+      Spells d p (k s) v m from m' rest → Spells d p (take c k) v m (t ∷ from) m' rest
   end_of_construct : {p : Part} {f : Form p} {v : Tree p} {m m' : Count} {from rest : List Token} →
       Spells d p f v (closed m) from m' rest → Spells d p (close f) v m from m' rest
   a_part : {p q : Part} {k : Tree q → Form p} {r : Rule q} {u : Tree q} {v : Tree p} {t : Token} {m m1 m' : Count} {from middle rest : List Token} →
@@ -95,7 +103,8 @@ required (part q k) = passed_over (left_out q) (label q) (λ u. required (k u))
 pub data Begins (d : Demands) : (p : Part) → Form p → What → Count → List Token → Type 0 where
   here : {p : Part} {f : Form p} {w : What} {m : Count} → required f ≡ Wanted w → Begins d p f w m []
   token : {p : Part} {c : Class} {k : Seen c → Form p} {s : Seen c} {w : What} {t : Token} {m : Count} {front : List Token} →
-      seen c t ≡ Some s → Begins d p (k s) w m front → Begins d p (take c k) w m (t ∷ front)
+      seen c t ≡ Some s → met d.agreement (agrees c s) ≡ true →
+      Begins d p (k s) w m front → Begins d p (take c k) w m (t ∷ front)
   end_of_construct : {p : Part} {f : Form p} {w : What} {m : Count} {front : List Token} →
       Begins d p f w (closed m) front → Begins d p (close f) w m front
   inside : {p q : Part} {k : Tree q → Form p} {r : Rule q} {w : What} {t : Token} {m : Count} {front : List Token} →
@@ -116,13 +125,17 @@ pub data Wants (goal : Part) (d : Demands) : What → List Token → Type 0 wher
 pub data Refusal : Type 0 where
   Expected : What → ℕ → Refusal
   TooNested : ℕ → Refusal
+  DelocalName : ℕ → Refusal
 
 -- The refusal stands at the first token with which no text goes on that meets all demands.
 -- Expected: no text at all goes on with it; or the tokens are at their end, and only begin a text.
 -- TooNested: a text goes on with it, if the limits are left aside.
+-- DelocalName: a text goes on with it, if another kind and another name may stand behind `delocal`.
 pub data IsRefused (goal : Part) (tokens : List Token) : Refusal → Type 0 where
   expected : {w : What} → (front : List Token) (t : Token) (behind : List Token) → tokens ≡ front ++ t ∷ behind → Wants goal all w front →
-      (IsOpen goal but_limits (front ++ t ∷ []) → ⊥) → IsRefused goal tokens (Expected w (suc (length behind)))
+      (IsOpen goal none (front ++ t ∷ []) → ⊥) → IsRefused goal tokens (Expected w (suc (length behind)))
   expected_at_end : {w : What} → Wants goal all w tokens → ((v : Tree goal) → IsTree goal all v tokens → ⊥) → IsRefused goal tokens (Expected w 0)
   too_nested : (front : List Token) (t : Token) (behind : List Token) → tokens ≡ front ++ t ∷ behind → ((w : What) × Wants goal all w front) →
       IsOpen goal but_limits (front ++ t ∷ []) → (IsOpen goal all (front ++ t ∷ []) → ⊥) → IsRefused goal tokens (TooNested (suc (length behind)))
+  delocal_name : (front : List Token) (t : Token) (behind : List Token) → tokens ≡ front ++ t ∷ behind → ((w : What) × Wants goal all w front) →
+      IsOpen goal but_agreement (front ++ t ∷ []) → (IsOpen goal all (front ++ t ∷ []) → ⊥) → IsRefused goal tokens (DelocalName (suc (length behind)))

@@ -11,7 +11,7 @@ use Rattle.janus_syntax.specs.declared.token.Word.TheVariants as word
 use Rattle.janus_syntax.specs.declared.tree.Update.{Update}
 use Rattle.janus_syntax.specs.declared.tree.Update.TheVariants as update
 use Rattle.janus_syntax.specs.Spelling.{sign_text, word_text}
-use Rattle.janus_syntax.specs.Tree.{named, Exp, Num, Var, Element, EmptyOf, TopOf, Neg, Bin, And, Or, Stm, Skip, Assign, AssignElement, Push, Pop, If, Loop, Block, Empty, More, Declaration, Int, Array, StackOf, Cell, cell_of}
+use Rattle.janus_syntax.specs.Tree.{named, Exp, Num, Var, Element, EmptyOf, TopOf, Neg, Bin, And, Or, Stm, Skip, Assign, AssignElement, Push, Pop, If, Loop, LocalInt, LocalStack, Block, Empty, More, Declaration, Int, Array, StackOf, Cell, cell_of}
 use Rattle.janus_syntax.specs.Operators.{sign_infix, weakest}
 
 -- a token as it is printed, with no place
@@ -105,6 +105,10 @@ read_pieces w s = A_word w ∷ An_opening ∷ A_name s ∷ A_sign sign.Close ∷
 abbrev pub transfer_pieces : Word → List ℕ → List ℕ → List Piece
 transfer_pieces w x s = A_word w ∷ An_opening ∷ A_name x ∷ A_sign sign.Comma ∷ A_name s ∷ A_sign sign.Close ∷ []
 
+-- `local` or `delocal`, a kind, a name and `=`
+abbrev pub binding_pieces : Word → Word → List ℕ → List Piece
+binding_pieces v w x = A_word v ∷ A_word w ∷ A_name x ∷ A_sign sign.Equals ∷ []
+
 -- an expression in a place for operators of at most that level
 abbrev pub exp_pieces : Exp → ℕ → List Piece
 exp_pieces (Num n place) level = A_number n ∷ []
@@ -137,6 +141,8 @@ abbrev mutual
   stm_pieces (Pop (named x place) (named y at)) = transfer_pieces word.Pop x y
   stm_pieces (If e s t f) = A_word word.If ∷ (whole_pieces e ++ A_word word.Then ∷ (block_pieces s ++ A_word word.Else ∷ (block_pieces t ++ A_word word.Fi ∷ whole_pieces f)))
   stm_pieces (Loop e s t f) = A_word word.From ∷ (whole_pieces e ++ A_word word.Do ∷ (block_pieces s ++ A_word word.Loop ∷ (block_pieces t ++ A_word word.Until ∷ whole_pieces f)))
+  stm_pieces (LocalInt (named x place) e s (named y at) f) = binding_pieces word.Local word.Int x ++ (whole_pieces e ++ (block_pieces s ++ (binding_pieces word.Delocal word.Int y ++ whole_pieces f)))
+  stm_pieces (LocalStack (named x place) s (named y at)) = binding_pieces word.Local word.Stack x ++ A_word word.Nil ∷ (block_pieces s ++ (binding_pieces word.Delocal word.Stack y ++ A_word word.Nil ∷ []))
 
   pub block_pieces : Block → List Piece
   block_pieces Empty = []

@@ -4,9 +4,9 @@ use Rattle.std.specs.Prelude.{ℕ, zero, suc, List, [], ◌∷◌, length, Optio
 use Rattle.janus_syntax.specs.declared.fault.What.{What}
 use Rattle.janus_syntax.specs.declared.fault.What.TheVariants as what
 use Rattle.janus_syntax.specs.Tokens.{Token}
-use Rattle.janus_syntax.specs.Forms.{Part, Tree, Class, Seen, seen, Form, done, take, part, close, Rule}
+use Rattle.janus_syntax.specs.Forms.{Part, Tree, Class, Seen, seen, agrees, Form, done, take, part, close, Rule}
 use Rattle.janus_syntax.specs.Table.{rule, left_out}
-use Rattle.janus_syntax.specs.Grammar.{Count, zero_count, entered, closed, fits, Demands, met, text_form, Next, Wanted, Complete, required, Refusal, Expected, TooNested}
+use Rattle.janus_syntax.specs.Grammar.{Count, zero_count, entered, closed, fits, Demands, met, text_form, Next, Wanted, Complete, required, Refusal, Expected, TooNested, DelocalName}
 
 -- what waits for a part's tree, where the whole is to be the part `goal`
 pub data Stack (goal : Part) : Part → Type 0 where
@@ -22,6 +22,7 @@ pub data Step (goal : Part) : Type 0 where
   Accept : Tree goal → Step goal
   Stuck : Step goal
   TooMany : Step goal
+  Differs : Step goal
 
 abbrev pub go_if : {goal : Part} → Bool → State goal → Step goal → Step goal
 go_if b s other = cond b (Go s) other
@@ -35,16 +36,16 @@ abbrev pub skip : {goal : Part} {T : Type 0} → Option T → (T → Step goal) 
 skip (Some u) next = next u
 skip None next = Stuck
 
-abbrev pub taken : {goal p : Part} → (c : Class) → Option (Seen c) → (Seen c → Form p) → Stack goal p → Count → Step goal
-taken c (Some s) k S m = Go (at (k s) S m)
-taken c None k S m = Stuck
+abbrev pub taken : {goal p : Part} → (c : Class) → Demands → Option (Seen c) → (Seen c → Form p) → Stack goal p → Count → Step goal
+taken c d (Some s) k S m = go_if (met d.agreement (agrees c s)) (at (k s) S m) Differs
+taken c d None k S m = Stuck
 
 -- at a form; behind its end the step goes on as `rest` says
 abbrev pub at_form : {goal p : Part} → Demands → Form p → Stack goal p → Count → Option Token → (Tree p → Count → Step goal) → Step goal
 at_form d (done v) S m t rest = rest v m
 at_form d (close f) S m t rest = at_form d f S (closed m) t rest
 at_form d (take c k) S m None rest = Stuck
-at_form d (take c k) S m (Some t) rest = taken c (seen c t) k S m
+at_form d (take c k) S m (Some t) rest = taken c d (seen c t) k S m
 at_form d (part q k) S m None rest = skip (left_out q) (λ u. at_form d (k u) S m None rest)
 at_form d (part q k) S m (Some t) rest = enter d (rule q t) k S m (skip (left_out q) (λ u. at_form d (k u) S m (Some t) rest))
 
@@ -71,12 +72,14 @@ pub data Outcome (goal : Part) : Type 0 where
   Ended : Option (Tree goal) → What → Outcome goal
   Failed : What → ℕ → Outcome goal
   Nested : ℕ → Outcome goal
+  Unlike : ℕ → Outcome goal
 
 -- how it ends at a refusal
 abbrev pub outcome_of : {goal : Part} → Refusal → Outcome goal
 outcome_of (Expected w zero) = Ended None w
 outcome_of (Expected w (suc n)) = Failed w (suc n)
 outcome_of (TooNested n) = Nested n
+outcome_of (DelocalName n) = Unlike n
 
 abbrev pub at_end : {goal : Part} → What → Step goal → Outcome goal
 at_end w (Accept v) = Ended (Some v) w
@@ -87,6 +90,7 @@ follow go w left (Go s) = go s
 follow go w left (Accept v) = Failed w left
 follow go w left Stuck = Failed w left
 follow go w left TooMany = Nested left
+follow go w left Differs = Unlike left
 
 abbrev pub run : {goal : Part} → Demands → List Token → State goal → Outcome goal
 run d [] s = at_end (wanted s) (step d s None)

@@ -16,7 +16,7 @@ use Rattle.janus_syntax.specs.Tree.{Name as Named, Exp}
 use Rattle.janus_syntax.specs.Operators.{operator_at}
 use Rattle.janus_syntax.specs.Forms.{Part, Index, Chain, Tree, Class, Seen, Form, take, part, Rule}
 use Rattle.janus_syntax.specs.Table.{stack_then, variable_and_stack_then, operand, chains, variable}
-use Rattle.janus_syntax.specs.Grammar.{Count, all, entered, fits, operator_limit, Refusal, Expected, TooNested}
+use Rattle.janus_syntax.specs.Grammar.{Count, all, entered, fits, operator_limit, Refusal, Expected, TooNested, DelocalName}
 use Rattle.janus_syntax.specs.Text.{place_before}
 use Rattle.janus_syntax.specs.Reader.{Stack, at, run, Outcome, Ended, Failed, Nested, outcome_of}
 
@@ -24,6 +24,7 @@ use Rattle.janus_syntax.specs.Reader.{Stack, at, run, Outcome, Ended, Failed, Ne
 abbrev pub FailsAs : (Refusal → Type 0) → Problem → Type 0
 FailsAs fails (problem.Expected w left) = fails (Expected w left)
 FailsAs fails (problem.TooNested left) = fails (TooNested left)
+FailsAs fails (problem.DelocalName left) = fails (DelocalName left)
 FailsAs fails problem.Memory = Unit {0}
 
 -- what was read, or how it is refused
@@ -35,12 +36,14 @@ Reads found fails (Err e) = FailsAs fails e
 abbrev pub Within : Problem → ℕ → Type 0
 Within (problem.Expected w left) size = left ≤ size
 Within (problem.TooNested left) size = left ≤ size
+Within (problem.DelocalName left) size = left ≤ size
 Within problem.Memory size = Unit {0}
 
 -- a problem as the refusal of a text with these tokens, which ends there
 abbrev pub fault_of : ℕ → List Token → Problem → SyntaxFault
 fault_of end tokens (problem.Expected w left) = fault.Expected w (place_before end (drop (length tokens - left) tokens))
 fault_of end tokens (problem.TooNested left) = fault.TooNested (place_before end (drop (length tokens - left) tokens))
+fault_of end tokens (problem.DelocalName left) = fault.DelocalName (place_before end (drop (length tokens - left) tokens))
 fault_of end tokens problem.Memory = fault.Memory
 
 -- a token of a class at the front

@@ -5,13 +5,14 @@ use Rattle.janus_syntax.specs.declared.fault.What.TheVariants as what
 use Rattle.janus_syntax.specs.declared.token.Word.{Word}
 use Rattle.janus_syntax.specs.declared.token.Word.TheVariants as word
 use Rattle.janus_syntax.specs.declared.token.Token as code_token
+use Rattle.janus_syntax.specs.declared.tree.Kind.{Kind}
 use Rattle.janus_syntax.specs.declared.tree.Stm as code_stm
 use Rattle.janus_syntax.specs.declared.tree.Declaration as code_declaration
 use Rattle.janus_syntax.specs.Tokens.{Token, Name, Word_of, views}
 use Rattle.janus_syntax.specs.Tree.{Name as Named, Stm, If, Loop, Block, Empty, More, Declaration, stm_view, declaration_view}
 use Rattle.janus_syntax.specs.Forms.{Part, Body, Statements, Declarations, Bound, Whole, Else_part, Do_part, Loop_part, Target_index, An_update, Form, take, part, close}
-use Rattle.janus_syntax.specs.Table.{word_then, statement, declaration, declared, assignment, skip_block}
-use Rattle.janus_syntax.specs.Grammar.{all, operator_limit, Refusal, Expected}
+use Rattle.janus_syntax.specs.Table.{word_then, delocal_then, local_int, local_stack, statement, declaration, declared, assignment, skip_block}
+use Rattle.janus_syntax.specs.Grammar.{Count, all, operator_limit, Refusal, Expected}
 use Rattle.janus_syntax.specs.Reader.{Stack, at, run, start, Outcome, Ended, outcome_of, next}
 use Rattle.janus_syntax.specs.Reading.{begun, count, BeginsWith, Stands, Moves, Stops, IsPart, FailsPart}
 
@@ -22,6 +23,7 @@ abbrev pub is_statement : Option Token → Bool
 is_statement (Some (Name x place)) = true
 is_statement (Some (Word_of word.If place)) = true
 is_statement (Some (Word_of word.From place)) = true
+is_statement (Some (Word_of word.Local place)) = true
 is_statement (Some (Word_of word.Skip place)) = true
 is_statement (Some (Word_of word.Push place)) = true
 is_statement (Some (Word_of word.Pop place)) = true
@@ -78,6 +80,31 @@ pub record IsAssignment (depth : ℕ) (x : Named) (s : Stm) (from rest : List To
 
 abbrev pub FailsAssignment : ℕ → Named → List Token → Refusal → Type 0
 FailsAssignment depth x from e = (p : Part) (k : Stm → Form p) → Stops depth (assignment_form x k) from e
+
+-- ---- locals
+
+-- `delocal`, the kind j, the name x and `=` at the front, where the name has the place of y
+pub record IsDelocal (j : Kind) (x y : Named) (from rest : List Token) : Type 0 where
+  pub goes : (goal p : Part) (k : Named → Form p) (S : Stack goal p) (m : Count) → run all from (at (delocal_then j x k) S m) ≡ run all rest (at (k y) S m)
+  pub shorter : length rest < length from
+
+abbrev pub FailsDelocal : Kind → Named → List Token → Refusal → Type 0
+FailsDelocal j x from e = (goal p : Part) (k : Named → Form p) (S : Stack goal p) (m : Count) → run all from (at (delocal_then j x k) S m) ≡ outcome_of e
+
+-- a local behind `local int`, and behind `local stack`
+pub record IsLocalInt (depth : ℕ) (s : Stm) (from rest : List Token) : Type 0 where
+  pub goes : (p : Part) (k : Stm → Form p) → Moves depth (local_int k) from (k s) rest
+  pub shorter : length rest ≤ length from
+
+abbrev pub FailsLocalInt : ℕ → List Token → Refusal → Type 0
+FailsLocalInt depth from e = (p : Part) (k : Stm → Form p) → Stops depth (local_int k) from e
+
+pub record IsLocalStack (depth : ℕ) (s : Stm) (from rest : List Token) : Type 0 where
+  pub goes : (p : Part) (k : Stm → Form p) → Moves depth (local_stack k) from (k s) rest
+  pub shorter : length rest ≤ length from
+
+abbrev pub FailsLocalStack : ℕ → List Token → Refusal → Type 0
+FailsLocalStack depth from e = (p : Part) (k : Stm → Form p) → Stops depth (local_stack k) from e
 
 -- ---- blocks
 

@@ -9,12 +9,14 @@ use Rattle.janus_syntax.specs.declared.token.Word.{Word}
 use Rattle.janus_syntax.specs.declared.token.Word.TheVariants as word
 use Rattle.janus_syntax.specs.declared.operator.Infix.{Infix}
 use Rattle.janus_syntax.specs.declared.tree.Update.{Update}
+use Rattle.janus_syntax.specs.declared.tree.Kind.{Kind}
+use Rattle.janus_syntax.specs.declared.tree.Kind.TheVariants as kind
 use Rattle.janus_syntax.specs.declared.fault.What.{What}
 use Rattle.janus_syntax.specs.declared.fault.What.TheVariants as what
 use Rattle.janus_syntax.specs.Tokens.{Token, Name, Number, Sign_of, Word_of}
-use Rattle.janus_syntax.specs.Tree.{Name as Named, named, Exp, Num, Var, Element, EmptyOf, TopOf, Neg, Stm, Skip, Assign, AssignElement, Push, Pop, If, Loop, Block, Empty, More, Declaration, Int, Array, StackOf, Cell, cell_of}
+use Rattle.janus_syntax.specs.Tree.{Name as Named, named, Exp, Num, Var, Element, EmptyOf, TopOf, Neg, Stm, Skip, Assign, AssignElement, Push, Pop, If, Loop, LocalInt, LocalStack, Block, Empty, More, Declaration, Int, Array, StackOf, Cell, cell_of}
 use Rattle.janus_syntax.specs.Operators.{weakest, joined, operator_at}
-use Rattle.janus_syntax.specs.Forms.{Part, A_cell, Declarations, Bound, Body, Statements, Else_part, Do_part, Loop_part, Target_index, Whole, Level, Chain, Index, Tree, The_word, The_sign, A_name, A_number, An_update, Form, done, take, part, close, Rule}
+use Rattle.janus_syntax.specs.Forms.{Part, A_cell, Declarations, Bound, Body, Statements, Else_part, Do_part, Loop_part, Local, Target_index, Whole, Level, Chain, Index, Tree, The_word, The_sign, A_name, A_number, An_update, Same_kind, Same_name, Form, done, take, part, close, Rule}
 
 -- rules with and without marks
 abbrev pub marked : {p : Part} → ℕ → ℕ → Form p → Option (Rule p)
@@ -47,6 +49,17 @@ stack_then k = sign_then sign.Open (take A_name (λ s. sign_then sign.Close (k s
 
 abbrev pub variable_and_stack_then : {p : Part} → (Named → Named → Form p) → Form p
 variable_and_stack_then k = sign_then sign.Open (take A_name (λ x. sign_then sign.Comma (take A_name (λ s. sign_then sign.Close (k x s)))))
+
+-- behind a local's statements: `delocal`, its kind, its name, `=`
+abbrev pub delocal_then : {p : Part} → Kind → Named → (Named → Form p) → Form p
+delocal_then j x k = word_then word.Delocal (take (Same_kind j) (λ i. take (Same_name x) (λ y. sign_then sign.Equals (k y))))
+
+-- a local behind `local int`, and behind `local stack`
+abbrev pub local_int : {p : Part} → (Stm → Form p) → Form p
+local_int k = take A_name (λ x. sign_then sign.Equals (part Whole (λ e. part Body (λ s. delocal_then kind.Int x (λ y. part Whole (λ f. k (LocalInt x e s y f)))))))
+
+abbrev pub local_stack : {p : Part} → (Stm → Form p) → Form p
+local_stack k = take A_name (λ x. sign_then sign.Equals (word_then word.Nil (part Body (λ s. delocal_then kind.Stack x (λ y. word_then word.Nil (k (LocalStack x s y)))))))
 
 -- trees of optional parts
 
@@ -93,6 +106,7 @@ abbrev pub statement : {p : Part} → Token → (Stm → Form p) → Option (Rul
 statement (Name x at) k = begins (part Target_index (λ i. take An_update (λ u. part Whole (λ e. k (assignment (named x at) i u e)))))
 statement (Word_of word.If _) k = opens (part Whole (λ e. word_then word.Then (part Body (λ s. part Else_part (λ t. word_then word.Fi (part Whole (λ f. close (k (If e s t f)))))))))
 statement (Word_of word.From _) k = opens (part Whole (λ e. part Do_part (λ s. part Loop_part (λ t. word_then word.Until (part Whole (λ f. close (k (Loop e s t f))))))))
+statement (Word_of word.Local _) k = opens (part Local (λ s. close (k s)))
 statement (Word_of word.Skip _) k = begins (k Skip)
 statement (Word_of word.Push _) k = begins (variable_and_stack_then (λ x s. k (Push x s)))
 statement (Word_of word.Pop _) k = begins (variable_and_stack_then (λ x s. k (Pop x s)))
@@ -117,6 +131,9 @@ rule Do_part (Word_of word.Do _) = begins (part Body done)
 rule Do_part _ = None
 rule Loop_part (Word_of word.Loop _) = begins (part Body done)
 rule Loop_part _ = None
+rule Local (Word_of word.Int _) = begins (local_int done)
+rule Local (Word_of word.Stack _) = begins (local_stack done)
+rule Local _ = None
 rule Target_index (Sign_of sign.OpenIndex _) = opens (part Whole (λ e. sign_then sign.CloseIndex (close (done (Some e)))))
 rule Target_index _ = None
 rule Whole t = whole (operand t (λ e. chains 0 weakest e done))
@@ -135,6 +152,7 @@ left_out Statements = Some Empty
 left_out Else_part = Some skip_block
 left_out Do_part = Some skip_block
 left_out Loop_part = Some skip_block
+left_out Local = None
 left_out Target_index = Some None
 left_out Whole = None
 left_out (Level n) = None
@@ -144,6 +162,7 @@ left_out Index = Some None
 -- how a part is told that may not be left out
 abbrev pub label : Part → What
 label Body = what.Statement
+label Local = what.Kind
 label Whole = what.Expression
 label (Level n) = what.Expression
 label _ = what.End

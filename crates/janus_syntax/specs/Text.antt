@@ -12,7 +12,7 @@ use Rattle.janus_syntax.specs.Tree.{Exp, Cell, exp_view, cell_view}
 use Rattle.janus_syntax.specs.Lexical.{AreTokens, IsBadToken, IsTooLarge}
 use Rattle.janus_syntax.specs.Forms.{Part, A_cell, Whole}
 use Rattle.janus_syntax.specs.Forms as forms
-use Rattle.janus_syntax.specs.Grammar.{all, IsTree, Expected, TooNested, IsRefused}
+use Rattle.janus_syntax.specs.Grammar.{all, IsTree, Expected, TooNested, DelocalName, IsRefused}
 
 -- the text's tokens, or why it has none; of want of memory nothing is said
 abbrev pub IsLexed : {Z : Type 0} → List ℕ → Result (Vec code_token.Token Z) SyntaxFault → Type 0
@@ -65,12 +65,23 @@ pub record IsTooNestedAt (goal : Part) (text : List ℕ) (at : Span) : Type 0 wh
   pub refused : IsRefused goal tokens (TooNested (length rest))
   pub place : at ≡ place_before (length text) rest
 
+-- the text has tokens, and here stands another kind or another name than behind `local`
+pub record IsDelocalNameAt (goal : Part) (text : List ℕ) (at : Span) : Type 0 where
+  pub tokens : List Token
+  pub front : List Token
+  pub rest : List Token
+  pub are_tokens : AreTokens text tokens
+  pub whole : tokens ≡ front ++ rest
+  pub refused : IsRefused goal tokens (DelocalName (length rest))
+  pub place : at ≡ place_before (length text) rest
+
 -- the text's refusal
 abbrev pub IsRefusalOf : Part → List ℕ → SyntaxFault → Type 0
 IsRefusalOf goal text (fault.BadToken at) = IsBadToken text at
 IsRefusalOf goal text (fault.Expected w at) = IsUnexpectedAt goal text w at
 IsRefusalOf goal text (fault.NumberTooLarge at) = IsTooLarge text at
 IsRefusalOf goal text (fault.TooNested at) = IsTooNestedAt goal text at
+IsRefusalOf goal text (fault.DelocalName at) = IsDelocalNameAt goal text at
 IsRefusalOf goal text fault.Memory = ⊥
 
 -- what is answered is the text's refusal, or want of memory, of which nothing is said
@@ -80,6 +91,7 @@ Refuses goal text (fault.BadToken at) = IsRefusalOf goal text (fault.BadToken at
 Refuses goal text (fault.Expected w at) = IsRefusalOf goal text (fault.Expected w at)
 Refuses goal text (fault.NumberTooLarge at) = IsRefusalOf goal text (fault.NumberTooLarge at)
 Refuses goal text (fault.TooNested at) = IsRefusalOf goal text (fault.TooNested at)
+Refuses goal text (fault.DelocalName at) = IsRefusalOf goal text (fault.DelocalName at)
 
 -- ---- cells
 

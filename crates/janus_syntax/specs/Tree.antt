@@ -28,7 +28,7 @@ pub data Exp : Type 0 where
   And : Exp → Exp → Exp
   Or : Exp → Exp → Exp
 
--- a statement, and a block of statements
+-- a statement, and a block of statements; a local has the name behind `local` and the name behind `delocal`
 mutual
   pub data Stm : Type 0 where
     Skip : Stm
@@ -38,6 +38,8 @@ mutual
     Pop : Name → Name → Stm
     If : Exp → Block → Block → Exp → Stm
     Loop : Exp → Block → Block → Exp → Stm
+    LocalInt : Name → Exp → Block → Name → Exp → Stm
+    LocalStack : Name → Block → Name → Stm
 
   pub data Block : Type 0 where
     Empty : Block
@@ -77,6 +79,8 @@ abbrev mutual
   stm_view (stms.Pop x y) = Pop (name_view x) (name_view y)
   stm_view (stms.If' e s ss t ts f) = If (exp_view e) (row_view ss) (row_view ts) (exp_view f)
   stm_view (stms.Loop' e s ss t ts f) = Loop (exp_view e) (row_view ss) (row_view ts) (exp_view f)
+  stm_view (stms.LocalInt' x e s ss y f) = LocalInt (name_view x) (exp_view e) (row_view ss) (name_view y) (exp_view f)
+  stm_view (stms.LocalStack' x s ss y) = LocalStack (name_view x) (row_view ss) (name_view y)
 
   -- the statements of a Vec inside a statement
   pub row_view : {m : _} → code_stm.Row_of-Stm m → Block

@@ -3,7 +3,7 @@ use Rattle.std.specs.Prelude.{List, [], map, pos, string_bytes}
 use Rattle.janus_meaning.specs.Syntax as tree
 use Rattle.janus_meaning.specs.Word as word
 use Rattle.janus_meaning.specs.World as world
-use Rattle.janus_syntax.specs.Tree.{Name, named, Exp, Num, Var, Element, EmptyOf, TopOf, Neg, Bin, And, Or, Stm, Skip, Assign, AssignElement, Push, Pop, If, Loop, Block, Empty, More, Declaration, Int, Array, StackOf, Cell, cell_of, exp_view, stm_view, block_view}
+use Rattle.janus_syntax.specs.Tree.{Name, named, Exp, Num, Var, Element, EmptyOf, TopOf, Neg, Bin, And, Or, Stm, Skip, Assign, AssignElement, Push, Pop, If, Loop, LocalInt, LocalStack, Block, Empty, More, Declaration, Int, Array, StackOf, Cell, cell_of, exp_view, stm_view, block_view}
 use Rattle.janus_syntax.specs.declared.tree.Name as code_name
 use Rattle.janus_syntax.specs.declared.tree.Operator.{Operator}
 use Rattle.janus_syntax.specs.declared.tree.Operator.TheVariants as operators
@@ -58,6 +58,8 @@ abbrev mutual
   plain_stm (Pop x y) = tree.Pop (text_of x) (text_of y)
   plain_stm (If a s t b) = tree.If (plain_exp a) (plain_block s) (plain_block t) (plain_exp b)
   plain_stm (Loop a s t b) = tree.From (plain_exp a) (plain_block s) (plain_block t) (plain_exp b)
+  plain_stm (LocalInt x a s y b) = tree.LocalInt (text_of x) (plain_exp a) (plain_block s) (plain_exp b)
+  plain_stm (LocalStack x s y) = tree.LocalStack (text_of x) (plain_block s)
 
   pub plain_block : Block → tree.Blk
   plain_block Empty = tree.Nil

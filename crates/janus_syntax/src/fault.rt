@@ -8,8 +8,8 @@ use crate::token::{Sign, Span, Word};
 use std::alloc::{AllocError, AllocFailed};
 use thiserror::Error;
 
-/// What has to come next where the reading of a cell or an expression cannot go on. The forms that are read so far want no
-/// `Kind`.
+/// What has to come next where the reading of a cell or an expression cannot go on. A `Kind` is `int` or `stack`, where both
+/// may stand.
 #[derive(Clone, Copy, PartialEq, Eq, Debug)]
 pub enum What {
     Statement,
@@ -54,10 +54,13 @@ pub enum SyntaxFault {
     /// A number past 2147483647.
     #[error("NumberTooLarge")]
     NumberTooLarge(Span),
-    /// A token that opens a 65th construct (`if`, `from`, `(` of grouping, `[` of an index, prefix minus), or the 257th
-    /// operator of one whole expression.
+    /// A token that opens a 65th construct (`if`, `from`, `local`, `(` of grouping, `[` of an index, prefix minus), or the
+    /// 257th operator of one whole expression.
     #[error("TooNested")]
     TooNested(Span),
+    /// A kind or a name behind `delocal` that differs from the one behind its `local`.
+    #[error("DelocalName")]
+    DelocalName(Span),
     /// There was no memory.
     #[error("Memory")]
     Memory,
@@ -73,6 +76,7 @@ impl SyntaxFault {
             SyntaxFault::Expected(_, _) => 31,
             SyntaxFault::NumberTooLarge(_) => 32,
             SyntaxFault::TooNested(_) => 33,
+            SyntaxFault::DelocalName(_) => 34,
             SyntaxFault::Memory => 35,
         }
     }
@@ -86,6 +90,7 @@ impl SyntaxFault {
             SyntaxFault::Expected(_, _) => "Expected",
             SyntaxFault::NumberTooLarge(_) => "NumberTooLarge",
             SyntaxFault::TooNested(_) => "TooNested",
+            SyntaxFault::DelocalName(_) => "DelocalName",
             SyntaxFault::Memory => "Memory",
         }
     }
@@ -99,6 +104,7 @@ impl SyntaxFault {
             SyntaxFault::Expected(_, span) => Some(*span),
             SyntaxFault::NumberTooLarge(span) => Some(*span),
             SyntaxFault::TooNested(span) => Some(*span),
+            SyntaxFault::DelocalName(span) => Some(*span),
             SyntaxFault::Memory => None,
         }
     }

@@ -3,14 +3,15 @@
 ghost use Rattle.std.specs.Prelude.{◌≡◌, List, IfSome, IfNone};
 ghost use Rattle.janus_syntax.specs.Tree.{name_view};
 ghost use Rattle.janus_syntax.specs.Tokens.{Token as AToken, views};
-ghost use Rattle.janus_syntax.specs.Forms.{The_word, The_sign, A_name, A_number, An_update};
+ghost use Rattle.janus_syntax.specs.Forms.{The_word, The_sign, A_name, A_number, An_update, Same_kind, Same_name, word_kind};
+ghost use Rattle.janus_syntax.specs.Statements.{IsDelocal, FailsDelocal};
 ghost use Rattle.janus_syntax.specs.Reading.{Reads, TokenGoes, TokenFails, IsStack, FailsStack, IsVariableAndStack, FailsVariableAndStack, BeginsWith, BeginsWithSign};
 
 use crate::fault::What;
 use crate::operator;
 use crate::problem::Problem;
 use crate::token::{Sign, Span, Token, TokenKind, Word};
-use crate::tree::{Name, Update};
+use crate::tree::{Kind, Name, Update};
 
 /// The tokens behind this sign, if it stands at the front.
 pub(crate) fn sign_at(sign: Sign, tokens: &[Token]) -> Option<&[Token]>
@@ -126,6 +127,93 @@ pub(crate) fn number(tokens: &[Token]) -> Result<(u32, Span, &[Token]), Problem>
             left: tokens.len(),
         }),
     }
+}
+
+/// The kind that a word is.
+fn kind_of(word: Word) -> Option<Kind>
+    ensures { result ≡ word_kind word }
+{
+    match word {
+        Word::Int => Some(Kind::Int),
+        Word::Stack => Some(Kind::Stack),
+        _ => None,
+    }
+}
+
+/// Behind this kind; another one is refused as such.
+fn same_kind(kind: Kind, tokens: &[Token]) -> Result<&[Token], Problem>
+    ensures { Reads (λ rest. TokenGoes (Same_kind kind) kind (views tokens.now) (views rest.now)) (TokenFails (Same_kind kind) (views tokens.now)) result }
+{
+    let Some((first, rest)) = tokens.split_first() else {
+        return Err(Problem::Expected {
+            what: What::Kind,
+            left: 0,
+        });
+    };
+    let found = match &first.kind {
+        TokenKind::Word(word) => kind_of(*word),
+        _ => None,
+    };
+    match found {
+        Some(found) => {
+            if found == kind {
+                Ok(rest)
+            } else {
+                Err(Problem::DelocalName { left: tokens.len() })
+            }
+        }
+        None => Err(Problem::Expected {
+            what: What::Kind,
+            left: tokens.len(),
+        }),
+    }
+}
+
+/// This name where it stands at the front, and the tokens behind it; another one is refused as such.
+fn same_name<'a>(name: &Name, tokens: &'a [Token]) -> Result<(Name, &'a [Token]), Problem>
+    ensures { Reads (λ x. TokenGoes (Same_name (name_view name.now)) (name_view x.0) (views tokens.now) (views x.1.now)) (TokenFails (Same_name (name_view name.now)) (views tokens.now)) result }
+{
+    let Some((first, rest)) = tokens.split_first() else {
+        return Err(Problem::Expected {
+            what: What::Name,
+            left: 0,
+        });
+    };
+    match &first.kind {
+        TokenKind::Name(text) => {
+            if name.text == *text {
+                let text = text.clone()?;
+                Ok((
+                    Name {
+                        text,
+                        span: first.span,
+                    },
+                    rest,
+                ))
+            } else {
+                Err(Problem::DelocalName { left: tokens.len() })
+            }
+        }
+        _ => Err(Problem::Expected {
+            what: What::Name,
+            left: tokens.len(),
+        }),
+    }
+}
+
+/// `delocal`, this kind, this name and `=`: the name where it stands here, and the tokens behind them.
+pub(crate) fn behind_delocal<'a>(
+    kind: Kind,
+    name: &Name,
+    tokens: &'a [Token],
+) -> Result<(Name, &'a [Token]), Problem>
+    ensures { Reads (λ x. IsDelocal kind (name_view name.now) (name_view x.0) (views tokens.now) (views x.1.now)) (FailsDelocal kind (name_view name.now) (views tokens.now)) result }
+{
+    let rest = behind_word(Word::Delocal, tokens)?;
+    let rest = same_kind(kind, rest)?;
+    let (again, rest) = same_name(name, rest)?;
+    let rest = behind_sign(Sign::Equals, rest)?;
+    Ok((again, rest))
 }
 
 /// The operator of an assignment, and the tokens behind it.

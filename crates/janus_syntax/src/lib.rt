@@ -22,8 +22,8 @@
 //! `View` (the trees as trees of the meaning), and `Fault` (what is shown of a refusal). No contract of a public function
 //! names `Reader`, `Reading`, `Statements`, `Printed` or `Scan`: they serve the proofs.
 //!
-//! A cell here has declarations of numbers, arrays and stacks, and assignments, `push`, `pop`, `if`, loops and `skip`. The
-//! words of procedures, calls, locals and `main` are reserved, but begin nothing.
+//! A cell here has declarations of numbers, arrays and stacks, and assignments, `push`, `pop`, `if`, loops, locals and `skip`.
+//! The words of procedures, calls and `main` are reserved, but begin nothing.
 #![tactic(auto)]
 
 mod cell;

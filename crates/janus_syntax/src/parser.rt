@@ -18,8 +18,9 @@ use std::alloc::Global;
 ///
 /// A bad token or a number past the largest is refused before all else, the first in the text. Otherwise the refusal
 /// whose token stands first is answered: `Expected` at the first token with which no cell goes on, with an empty span
-/// at the text's end if it only begins a cell; `TooNested` at a token that opens a 65th construct (`if`, `from`, `(` of
-/// grouping, `[` of an index, prefix minus) and at the 257th operator of one whole expression, prefix minus counted.
+/// at the text's end if it only begins a cell; `TooNested` at a token that opens a 65th construct (`if`, `from`, `local`,
+/// `(` of grouping, `[` of an index, prefix minus) and at the 257th operator of one whole expression, prefix minus counted;
+/// `DelocalName` at the kind or the name behind `delocal` that differs from the one behind its `local`.
 /// `Memory` promises nothing.
 pub fn parse_cell(alloc: Global, text: &str) -> Result<Cell, SyntaxFault>
     // What is read is the text's tree, and a refusal is the one that the text has.
@@ -59,6 +60,7 @@ fn fault(problem: Problem, tokens: &[Token], end: usize) -> SyntaxFault
     match problem {
         Problem::Expected { what, left } => SyntaxFault::Expected(what, place(tokens, left, end)),
         Problem::TooNested { left } => SyntaxFault::TooNested(place(tokens, left, end)),
+        Problem::DelocalName { left } => SyntaxFault::DelocalName(place(tokens, left, end)),
         Problem::Memory => SyntaxFault::Memory,
     }
 }

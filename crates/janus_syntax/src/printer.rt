@@ -3,7 +3,7 @@
 ghost use Rattle.std.specs.Prelude.{◌≡◌, IfOk, string_bytes, [], ◌∷◌};
 ghost use Rattle.janus_syntax.specs.Tree.{exp_view, stm_view, block_view, declaration_view, declarations_view, cell_view};
 ghost use Rattle.janus_syntax.specs.Printed.{line_view};
-ghost use Rattle.janus_syntax.specs.Printing.{A_name, A_number, A_sign, A_word, An_opening, read_pieces, transfer_pieces, with_text, with_piece, with_pieces, if_needed, operator_sign, sign_level, exp_pieces, update_sign, whole_pieces, stm_pieces, block_pieces, declaration_pieces, declarations_pieces, printed, printed_exp};
+ghost use Rattle.janus_syntax.specs.Printing.{A_name, A_number, A_sign, A_word, An_opening, read_pieces, transfer_pieces, binding_pieces, with_text, with_piece, with_pieces, if_needed, operator_sign, sign_level, exp_pieces, update_sign, whole_pieces, stm_pieces, block_pieces, declaration_pieces, declarations_pieces, printed, printed_exp};
 
 use crate::operator::infix_of;
 use crate::token::{Sign, Word};
@@ -102,6 +102,16 @@ fn put_transfer(
     put_sign(line, Sign::Comma)?;
     put_name(line, stack)?;
     put_sign(line, Sign::Close)
+}
+
+/// `local` or `delocal`, a kind, a name and `=`.
+fn put_binding(line: &mut Line, word: Word, kind: Word, name: &Name) -> Result<(), AllocError>
+    ensures { IfOk result (λ u. line_view line.new ≡ with_pieces (line_view line.old) (binding_pieces word kind (string_bytes name.now.text))) }
+{
+    put_word(line, word)?;
+    put_word(line, kind)?;
+    put_name(line, name)?;
+    put_sign(line, Sign::Equals)
 }
 
 /// The sign of an operator.
@@ -246,6 +256,22 @@ fn put_stm(alloc: Global, line: &mut Line, statement: &Stm) -> Result<(), AllocE
             put_block(alloc, line, loop_part)?;
             put_word(line, Word::Until)?;
             put_whole(alloc, line, test)?;
+            Ok(())
+        }
+        Stm::LocalInt(name, exp, body, again, test) => {
+            put_binding(line, Word::Local, Word::Int, name)?;
+            put_whole(alloc, line, exp)?;
+            put_block(alloc, line, body)?;
+            put_binding(line, Word::Delocal, Word::Int, again)?;
+            put_whole(alloc, line, test)?;
+            Ok(())
+        }
+        Stm::LocalStack(name, body, again) => {
+            put_binding(line, Word::Local, Word::Stack, name)?;
+            put_word(line, Word::Nil)?;
+            put_block(alloc, line, body)?;
+            put_binding(line, Word::Delocal, Word::Stack, again)?;
+            put_word(line, Word::Nil)?;
             Ok(())
         }
     }

@@ -13,6 +13,8 @@ pub(crate) enum Problem {
     Expected { what: What, left: usize },
     /// The first of the last `left` tokens is an operator past the limit of one expression.
     TooNested { left: usize },
+    /// The first of the last `left` tokens is another kind or another name than behind `local`.
+    DelocalName { left: usize },
 }
 
 impl From<AllocError> for Problem {

@@ -3,17 +3,19 @@
 ghost use Rattle.std.specs.Prelude.{◌≡◌, ◌≤◌};
 ghost use Rattle.janus_syntax.specs.Tree.{name_view, stm_view, block_view};
 ghost use Rattle.janus_syntax.specs.Tokens.{views};
-ghost use Rattle.janus_syntax.specs.Forms.{Body, Statements};
+ghost use Rattle.janus_syntax.specs.Forms.{Body, Local, Statements};
 ghost use Rattle.janus_syntax.specs.Grammar.{depth_limit};
 ghost use Rattle.janus_syntax.specs.Reading.{Reads, IsPart, FailsPart};
-ghost use Rattle.janus_syntax.specs.Statements.{IsStmOrOther, FailsStm, IsAssignment, FailsAssignment, IsIf, FailsIf, IsLoop, FailsLoop, AreStatements, IsOptional, FailsOptional};
+ghost use Rattle.janus_syntax.specs.Statements.{IsStmOrOther, FailsStm, IsAssignment, FailsAssignment, IsIf, FailsIf, IsLoop, FailsLoop, IsLocalInt, FailsLocalInt, IsLocalStack, FailsLocalStack, AreStatements, IsOptional, FailsOptional};
 
 use crate::expression::{DEPTH_LIMIT, whole_expression};
 use crate::fault::What;
-use crate::item::{behind_sign, behind_word, sign_at, update, variable_and_stack, word_at};
+use crate::item::{
+    behind_delocal, behind_sign, behind_word, name, sign_at, update, variable_and_stack, word_at,
+};
 use crate::problem::Problem;
 use crate::token::{Sign, Token, TokenKind, Word};
-use crate::tree::{Name, Stm};
+use crate::tree::{Kind, Name, Stm};
 use std::alloc::Global;
 
 /// A statement and the tokens behind it, if one begins here, with `depth` constructs open before it.
@@ -60,6 +62,13 @@ fn statement(
                     return Err(Problem::TooNested { left: tokens.len() });
                 }
                 let (stm, rest) = behind_from(alloc, rest, depth + 1)?;
+                Ok(Some((stm, rest)))
+            }
+            Word::Local => {
+                if depth == DEPTH_LIMIT {
+                    return Err(Problem::TooNested { left: tokens.len() });
+                }
+                let (stm, rest) = behind_local(alloc, rest, depth + 1)?;
                 Ok(Some((stm, rest)))
             }
             _ => Ok(None),
@@ -120,6 +129,56 @@ fn behind_from(alloc: Global, tokens: &[Token], depth: usize) -> Result<(Stm, &[
     let rest = behind_word(Word::Until, rest)?;
     let (test, rest) = whole_expression(alloc, rest, depth)?;
     Ok((Stm::Loop(assertion, do_part, loop_part, test), rest))
+}
+
+/// A local, behind the word `local`, and the tokens behind it. It is one of the `depth` open constructs.
+#[cycle(statement)]
+fn behind_local(alloc: Global, tokens: &[Token], depth: usize) -> Result<(Stm, &[Token]), Problem>
+    requires { depth ≤ depth_limit }
+    ensures { Reads (λ x. IsPart Local depth (stm_view x.0) (views tokens.now) (views x.1.now)) (FailsPart Local depth (views tokens.now)) result }
+{
+    if let Some(rest) = word_at(Word::Int, tokens) {
+        let (stm, rest) = local_int(alloc, rest, depth)?;
+        return Ok((stm, rest));
+    }
+    let Some(rest) = word_at(Word::Stack, tokens) else {
+        return Err(Problem::Expected {
+            what: What::Kind,
+            left: tokens.len(),
+        });
+    };
+    let (stm, rest) = local_stack(alloc, rest, depth)?;
+    Ok((stm, rest))
+}
+
+/// A local number, behind `local int`, and the tokens behind it.
+#[cycle(statement)]
+fn local_int(alloc: Global, tokens: &[Token], depth: usize) -> Result<(Stm, &[Token]), Problem>
+    requires { depth ≤ depth_limit }
+    ensures { Reads (λ x. IsLocalInt depth (stm_view x.0) (views tokens.now) (views x.1.now)) (FailsLocalInt depth (views tokens.now)) result }
+{
+    let (name, rest) = name(tokens)?;
+    let rest = behind_sign(Sign::Equals, rest)?;
+    let (exp, rest) = whole_expression(alloc, rest, depth)?;
+    let (statements, rest) = body(alloc, rest, depth)?;
+    let (again, rest) = behind_delocal(Kind::Int, &name, rest)?;
+    let (test, rest) = whole_expression(alloc, rest, depth)?;
+    Ok((Stm::LocalInt(name, exp, statements, again, test), rest))
+}
+
+/// A local stack, behind `local stack`, and the tokens behind it.
+#[cycle(statement)]
+fn local_stack(alloc: Global, tokens: &[Token], depth: usize) -> Result<(Stm, &[Token]), Problem>
+    requires { depth ≤ depth_limit }
+    ensures { Reads (λ x. IsLocalStack depth (stm_view x.0) (views tokens.now) (views x.1.now)) (FailsLocalStack depth (views tokens.now)) result }
+{
+    let (name, rest) = name(tokens)?;
+    let rest = behind_sign(Sign::Equals, rest)?;
+    let rest = behind_word(Word::Nil, rest)?;
+    let (statements, rest) = body(alloc, rest, depth)?;
+    let (again, rest) = behind_delocal(Kind::Stack, &name, rest)?;
+    let rest = behind_word(Word::Nil, rest)?;
+    Ok((Stm::LocalStack(name, statements, again), rest))
 }
 
 /// The body behind this word, if it stands here; else the block with one `skip`.

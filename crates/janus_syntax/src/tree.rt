@@ -110,6 +110,13 @@ pub enum Update {
     Xor,
 }
 
+/// What a local is: a number or a stack.
+#[derive(Clone, Copy, PartialEq, Eq, Debug)]
+pub enum Kind {
+    Int,
+    Stack,
+}
+
 /// A statement. A part of an `if` or a loop that is left out in the text is the block with one `Skip`.
 #[derive(Drop)]
 pub enum Stm {
@@ -126,6 +133,11 @@ pub enum Stm {
     If(Exp, Vec<Stm>, Vec<Stm>, Exp),
     /// The test after `from`, the parts after `do` and `loop`, and the test after `until`.
     Loop(Exp, Vec<Stm>, Vec<Stm>, Exp),
+    /// A local number: its name, what it begins with, the statements in which it stands, the same name behind `delocal`, and
+    /// what it ends with.
+    LocalInt(Name, Exp, Vec<Stm>, Name, Exp),
+    /// A local stack, empty at both ends: its name, the statements in which it stands, and the same name behind `delocal`.
+    LocalStack(Name, Vec<Stm>, Name),
 }
 
 /// What a cell declares.

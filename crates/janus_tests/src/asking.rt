@@ -3,6 +3,7 @@ use crate::calls::plays;
 use janus_store::View;
 use kernel_ask::{Comms, ExpFault, exp_fault_line, outcome_line, post_fault_line, value_text};
 use kernel_core::{CheckFault, End, Fault, Outcome, PostFault, Refusal, Span};
+use std::alloc::Global;
 use std::test::Fail;
 
 /// Cursors count code points; names and reserved words come in the order of their octets, each once.
@@ -101,73 +102,96 @@ fn evaluates_expressions(rt: HostRuntime) -> Result<(), Fail> {
     plays(&rt, rt.alloc(), EVALUATES_EXPRESSIONS)
 }
 
+/// A comm of this id.
+fn id(alloc: Global, text: &str) -> Result<String, Fail> {
+    Ok(String::from_str(alloc, text)?)
+}
+
 #[test]
 fn opens_comms(rt: HostRuntime) -> Result<(), Fail> {
     let alloc = rt.alloc();
     let mut comms = Comms::new(alloc);
-    assert!(rt; comms.open(String::from_str(alloc, "b")?)?);
-    assert!(rt; comms.open(String::from_str(alloc, "a")?)?);
-    assert!(rt; !comms.open(String::from_str(alloc, "b")?)?);
+    assert!(rt; comms.open(id(alloc, "b")?)? && comms.open(id(alloc, "a")?)?);
+    assert!(rt; !comms.open(id(alloc, "b")?)?);
     let ids = comms.list()?;
-    assert!(rt; ids[0].as_str() == "a" && ids[1].as_str() == "b" && ids.len() == 2);
-    assert!(rt; comms.close("b"));
-    assert!(rt; !comms.close("b"));
-    for i in 0..1023 {
-        assert!(rt; comms.open(format!(in alloc; "{i}")?)?);
-    }
-    assert!(rt; !comms.open(String::from_str(alloc, "b")?)?);
+    assert_eq!(rt; format!(in alloc; "{ids:?}")?.as_str(), r#"["a", "b"]"#);
+    assert!(rt; comms.close("b") && !comms.close("b"));
     Ok(())
 }
 
 #[test]
-fn writes_lines(rt: HostRuntime) -> Result<(), Fail> {
+fn opens_as_many_comms_as_may_be(rt: HostRuntime) -> Result<(), Fail> {
     let alloc = rt.alloc();
-    let span = Span { start: 4, end: 4 };
-    for (outcome, line) in [
-        (Outcome::Ran(2, 3), "ok node 2 steps 3"),
-        (
-            Outcome::Failed(Fault::DivisionByZero, 1),
-            "fault 57 DivisionByZero after 1",
-        ),
-        (Outcome::Interrupted(4096), "interrupted after 4096"),
-        (Outcome::Undid(1, End::All), "undid 1"),
-        (Outcome::Redid(0, End::NoMemory), "redid 0 then no memory"),
-        (Outcome::Went(1, 2, End::Asked), "went 1 up 2 down"),
-        (
-            Outcome::Refused(Refusal::Check(CheckFault::SelfUse(span))),
-            "refused 43 SelfUse at 4..4",
-        ),
-        (Outcome::Refused(Refusal::TooFar), "refused 73 TooFar"),
-    ] {
+    let mut comms = Comms::new(alloc);
+    for i in 0..1024 {
+        assert!(rt; comms.open(format!(in alloc; "{i}")?)?);
+    }
+    assert!(rt; !comms.open(id(alloc, "b")?)?);
+    Ok(())
+}
+
+/// Where a text is refused.
+const SPAN: Span = Span { start: 4, end: 4 };
+
+/// Outcomes and their lines.
+const OUTCOME_LINES: [(Outcome, &str); 8] = [
+    (Outcome::Ran(2, 3), "ok node 2 steps 3"),
+    (
+        Outcome::Failed(Fault::DivisionByZero, 1),
+        "fault 57 DivisionByZero after 1",
+    ),
+    (Outcome::Interrupted(4096), "interrupted after 4096"),
+    (Outcome::Undid(1, End::All), "undid 1"),
+    (Outcome::Redid(0, End::NoMemory), "redid 0 then no memory"),
+    (Outcome::Went(1, 2, End::Asked), "went 1 up 2 down"),
+    (
+        Outcome::Refused(Refusal::Check(CheckFault::SelfUse(SPAN))),
+        "refused 43 SelfUse at 4..4",
+    ),
+    (Outcome::Refused(Refusal::TooFar), "refused 73 TooFar"),
+];
+
+#[test]
+fn writes_lines_of_outcomes(rt: HostRuntime) -> Result<(), Fail> {
+    let alloc = rt.alloc();
+    for (outcome, line) in OUTCOME_LINES {
         assert_eq!(rt; outcome_line(alloc, &outcome)?.as_str(), line);
     }
-    assert_eq!(rt;
-        post_fault_line(alloc, PostFault::Closing)?.as_str(),
-        "refused 75 Closing"
-    );
+    Ok(())
+}
+
+#[test]
+fn writes_lines_of_faults(rt: HostRuntime) -> Result<(), Fail> {
+    let alloc = rt.alloc();
+    let closing = post_fault_line(alloc, PostFault::Closing)?;
+    assert_eq!(rt; closing.as_str(), "refused 75 Closing");
     let met = exp_fault_line(alloc, ExpFault::Met(Fault::DivisionByZero))?;
     assert_eq!(rt; met.as_str(), "fault 57 DivisionByZero");
     let lost = exp_fault_line(alloc, ExpFault::Refused(Refusal::Memory))?;
     assert_eq!(rt; lost.as_str(), "refused 76 Memory");
-    assert_eq!(rt;
-        value_text(alloc, "x", View::Number(-5))?.as_str(),
-        "x = -5"
-    );
-    let many = vec![in alloc; 1i32; 33]?;
-    let shown = value_text(alloc, "a", View::Array(&many[..32]))?;
-    assert!(rt;
-        shown.starts_with("a[32] = 1 1 ") && shown.ends_with(" 1"),
-        "{shown}"
-    );
-    let cut = value_text(alloc, "a", View::Array(&many))?;
-    assert!(rt;
-        cut.starts_with("a[33] = 1 1 ") && cut.ends_with(" 1 ..."),
-        "{cut}"
-    );
-    assert_eq!(rt; cut.len(), "a[33] =".len() + 64 + 4);
+    Ok(())
+}
+
+#[test]
+fn writes_values(rt: HostRuntime) -> Result<(), Fail> {
+    let alloc = rt.alloc();
+    let number = value_text(alloc, "x", View::Number(-5))?;
+    assert_eq!(rt; number.as_str(), "x = -5");
     let stack = value_text(alloc, "s", View::Stack(&[3, 7]))?;
     assert_eq!(rt; stack.as_str(), "s(2) = 7 3");
-    let high = value_text(alloc, "s", View::Stack(&many))?;
-    assert_eq!(rt; high.len(), "s(33) =".len() + 64 + 4);
+    Ok(())
+}
+
+/// Of an array its first 32 elements are shown, of a stack its newest 32 numbers.
+#[test]
+fn cuts_long_values(rt: HostRuntime) -> Result<(), Fail> {
+    let alloc = rt.alloc();
+    let many = vec![in alloc; 1i32; 33]?;
+    let all = value_text(alloc, "a", View::Array(&many[..32]))?;
+    assert!(rt; all.len() == 71 && all.starts_with("a[32] = 1 1 "), "{all}");
+    let array = value_text(alloc, "a", View::Array(&many))?;
+    assert!(rt; array.len() == 75 && array.ends_with(" 1 ..."), "{array}");
+    let stack = value_text(alloc, "s", View::Stack(&many))?;
+    assert!(rt; stack.len() == 75 && stack.ends_with(" 1 ..."), "{stack}");
     Ok(())
 }

@@ -55,24 +55,41 @@ fn keeps_favourites(rt: HostRuntime) -> Result<(), Fail> {
 }
 
 #[test]
-fn goes_from_node_to_node(rt: HostRuntime) -> Result<(), Fail> {
+fn tells_paths(rt: HostRuntime) -> Result<(), Fail> {
     let mut tree = Tree::new(rt.alloc())?;
     small_tree(&mut tree)?;
     assert_eq!(rt; tree.path(0)?.as_slice(), [0].as_slice());
     assert_eq!(rt; tree.path(5)?.as_slice(), [0, 1, 2, 5].as_slice());
     assert_eq!(rt; tree.path(6), Err(TreeFault::NoNode));
-    for (a, b, meeting) in [
-        (5, 3, 1),
-        (3, 5, 1),
-        (5, 4, 0),
-        (2, 5, 2),
-        (4, 4, 4),
-        (0, 5, 0),
-    ] {
-        assert_eq!(rt; tree.meet(a, b), Ok(meeting), "of {a} and {b}");
+    Ok(())
+}
+
+/// Two nodes, and the last one on both their paths.
+const MEETINGS: [(usize, usize, Result<usize, TreeFault>); 8] = [
+    (5, 3, Ok(1)),
+    (3, 5, Ok(1)),
+    (5, 4, Ok(0)),
+    (2, 5, Ok(2)),
+    (4, 4, Ok(4)),
+    (0, 5, Ok(0)),
+    (6, 1, Err(TreeFault::NoNode)),
+    (1, 6, Err(TreeFault::NoNode)),
+];
+
+#[test]
+fn tells_where_paths_meet(rt: HostRuntime) -> Result<(), Fail> {
+    let mut tree = Tree::new(rt.alloc())?;
+    small_tree(&mut tree)?;
+    for (a, b, meeting) in MEETINGS {
+        assert_eq!(rt; tree.meet(a, b), meeting, "of {a} and {b}");
     }
-    assert_eq!(rt; tree.meet(6, 1), Err(TreeFault::NoNode));
-    assert_eq!(rt; tree.meet(1, 6), Err(TreeFault::NoNode));
+    Ok(())
+}
+
+#[test]
+fn goes_from_node_to_node(rt: HostRuntime) -> Result<(), Fail> {
+    let mut tree = Tree::new(rt.alloc())?;
+    small_tree(&mut tree)?;
     assert!(rt; tree.has(3));
     assert_eq!(rt; tree.find_way(3, 6), Err(TreeFault::NoNode));
     let way = tree.find_way(3, 5)?;

@@ -75,6 +75,62 @@ fn tells_the_first_fault(rt: HostRuntime) -> Result<(), Fail> {
     Ok(())
 }
 
+/// A local's name is in sight in its statements alone, and may be no other's there.
+#[test]
+fn tells_faults_of_locals(rt: HostRuntime) -> Result<(), Fail> {
+    let alloc = rt.alloc();
+    for (text, fault) in [
+        ("local int t = x x += t delocal int t = x", None),
+        (
+            "local int t = 1 local int u = t skip delocal int u = t delocal int t = 1",
+            None,
+        ),
+        (
+            "local int t = 1 skip delocal int t = 1 local stack t = nil skip delocal stack t = nil",
+            None,
+        ),
+        (
+            "local int x = x skip delocal int x = 1",
+            Some(CheckFault::Shadow(at(10, 11))),
+        ),
+        (
+            "local int t = 1 local stack t = nil skip delocal stack t = nil delocal int t = 1",
+            Some(CheckFault::Shadow(at(28, 29))),
+        ),
+        (
+            "local int t = y + t skip delocal int t = x",
+            Some(CheckFault::SelfUse(at(18, 19))),
+        ),
+        (
+            "local int t = t[1] skip delocal int t = x",
+            Some(CheckFault::SelfUse(at(14, 15))),
+        ),
+        (
+            "local int t = 1 skip delocal int t = a[t]",
+            Some(CheckFault::SelfUse(at(39, 40))),
+        ),
+        (
+            "local int t = u skip delocal int t = t",
+            Some(CheckFault::Unknown(at(14, 15))),
+        ),
+        (
+            "local int t = 1 skip delocal int t = 1 t += 1",
+            Some(CheckFault::Unknown(at(39, 40))),
+        ),
+        (
+            "local stack s = nil push(x, s) s += 1 delocal stack s = nil",
+            Some(CheckFault::WrongKind(at(31, 32))),
+        ),
+        (
+            "local int t = 1 x += top(t) delocal int t = 1",
+            Some(CheckFault::WrongKind(at(25, 26))),
+        ),
+    ] {
+        assert_eq!(rt; fault_of(alloc, &["x", "y", "a"], text)?, fault, "{text}");
+    }
+    Ok(())
+}
+
 #[test]
 fn counts_the_stacks(rt: HostRuntime) -> Result<(), Fail> {
     let alloc = rt.alloc();

@@ -16,6 +16,8 @@ mod checking;
 #[cfg(test)]
 mod inverting;
 #[cfg(test)]
+mod locals;
+#[cfg(test)]
 mod questions;
 #[cfg(test)]
 mod reading;

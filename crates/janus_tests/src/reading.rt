@@ -59,7 +59,7 @@ fn at(start: usize, end: usize) -> Span {
 }
 
 /// Texts that are no cell, with the item that is wanted there.
-const WANTED: [(&str, What, usize, usize); 30] = [
+const WANTED: [(&str, What, usize, usize); 38] = [
     ("x += 1 int y", What::End, 7, 10),
     ("int x += 1", What::End, 6, 8),
     ("skip call p()", What::End, 5, 9),
@@ -90,6 +90,19 @@ const WANTED: [(&str, What, usize, usize); 30] = [
     ("from x", What::Word(Word::Until), 6, 6),
     ("from x do skip do", What::Word(Word::Until), 15, 17),
     ("from x loop until x", What::Statement, 12, 17),
+    ("local x", What::Kind, 6, 7),
+    ("local int x += 1", What::Sign(Sign::Equals), 12, 14),
+    ("local int x = 1 delocal", What::Statement, 16, 23),
+    ("local stack s = 0", What::Word(Word::Nil), 16, 17),
+    ("local int x = 1 skip delocal", What::Kind, 28, 28),
+    ("local int x = 1 skip delocal x", What::Kind, 29, 30),
+    ("local int x = 1 skip delocal int 1", What::Name, 33, 34),
+    (
+        "local int x = 1 skip delocal int x 1",
+        What::Sign(Sign::Equals),
+        35,
+        36,
+    ),
 ];
 
 #[test]
@@ -98,6 +111,28 @@ fn tells_what_is_wanted(rt: HostRuntime) {
     for (text, what, start, end) in WANTED {
         let fault = SyntaxFault::Expected(what, at(start, end));
         assert_eq!(rt; refusal(alloc, text), Some(fault), "{text}");
+    }
+}
+
+/// Another kind and another name than behind `local` are told where they stand, and nothing behind them is looked at.
+#[test]
+fn tells_other_locals(rt: HostRuntime) {
+    let alloc = rt.alloc();
+    for (text, start, end) in [
+        ("local int x = 1 skip delocal stack x = nil", 29, 34),
+        ("local int x = 1 skip delocal stack y then", 29, 34),
+        ("local int x = 1 skip delocal int xy = 1", 33, 35),
+        ("local stack s = nil skip delocal int s = nil", 33, 36),
+        ("local stack s = nil skip delocal stack t then", 39, 40),
+        (
+            "local int x = 1 local int y = 2 skip delocal int x = 2 delocal int y = 1",
+            49,
+            50,
+        ),
+    ] {
+        let fault = SyntaxFault::DelocalName(at(start, end));
+        assert_eq!(rt; refusal(alloc, text), Some(fault), "{text}");
+        assert_eq!(rt; fault.number(), 34);
     }
 }
 
@@ -138,12 +173,20 @@ fn repeated(
 }
 
 /// Constructs that nest, with what closes them, and where the 65th one opens.
-const NESTED: [(&str, &str, &str, &str, usize, usize); 5] = [
+const NESTED: [(&str, &str, &str, &str, usize, usize); 6] = [
     ("x += ", "(", "1", ")", 69, 70),
     ("x += ", "-", "1", "", 69, 70),
     ("x += ", "a[", "1", "]", 134, 135),
     ("", "if 1 then ", "skip", " fi 1", 640, 642),
     ("", "from 1 do ", "skip", " until 1", 640, 644),
+    (
+        "",
+        "local int x = 1 ",
+        "skip",
+        " delocal int x = 1",
+        1024,
+        1029,
+    ),
 ];
 
 #[test]
@@ -159,14 +202,33 @@ fn limits_open_constructs(rt: HostRuntime) -> Result<(), Fail> {
             assert_eq!(rt; refusal(alloc, &text), fault, "{text}");
         }
     }
-    // What is closed counts no more, and what is open in an `if` counts with it.
-    let text = repeated(alloc, "x += 1", " + (((1)))", 100, "")?;
-    assert_eq!(rt; refusal(alloc, &text), None);
-    let text = repeated(alloc, "if a[", "(", 63, "")?;
-    assert_eq!(rt;
-        refusal(alloc, &text),
-        Some(SyntaxFault::TooNested(at(67, 68)))
-    );
+    Ok(())
+}
+
+/// What is closed counts no more, and what is open in an `if` or a `local` counts with it.
+const CLOSED: [(&str, &str, usize, Option<SyntaxFault>); 3] = [
+    ("x += 1", " + (((1)))", 100, None),
+    (
+        "local int x = a[",
+        "(",
+        63,
+        Some(SyntaxFault::TooNested(Span { start: 78, end: 79 })),
+    ),
+    (
+        "if a[",
+        "(",
+        63,
+        Some(SyntaxFault::TooNested(Span { start: 67, end: 68 })),
+    ),
+];
+
+#[test]
+fn counts_open_constructs_alone(rt: HostRuntime) -> Result<(), Fail> {
+    let alloc = rt.alloc();
+    for (first, more, times, fault) in CLOSED {
+        let text = repeated(alloc, first, more, times, "")?;
+        assert_eq!(rt; refusal(alloc, &text), fault);
+    }
     Ok(())
 }
 

@@ -110,6 +110,18 @@ fn shown_stm(alloc: Global, statement: &Stm) -> Result<String, AllocError> {
             let loop_part = shown_block(alloc, loop_part)?;
             format!(in alloc; "from {first} {{{do_part}}} {{{loop_part}}} {last};")
         }
+        Stm::LocalInt(name, first, body, again, last) => {
+            let first = shown_exp(alloc, first)?;
+            let last = shown_exp(alloc, last)?;
+            let body = shown_block(alloc, body)?;
+            let (name, again) = (&name.text, &again.text);
+            format!(in alloc; "local {name} {first} {{{body}}} {again} {last};")
+        }
+        Stm::LocalStack(name, body, again) => {
+            let body = shown_block(alloc, body)?;
+            let (name, again) = (&name.text, &again.text);
+            format!(in alloc; "local {name} {{{body}}} {again};")
+        }
     }
 }
 
@@ -148,7 +160,7 @@ fn shown(alloc: Global, text: &str) -> Result<String, SyntaxFault> {
 }
 
 /// Texts of cells, their trees, and how these are printed.
-const CELLS: [(&str, &str, &str); 13] = [
+const CELLS: [(&str, &str, &str); 15] = [
     ("", "", ""),
     (" // nothing\n//", "", ""),
     (
@@ -202,43 +214,71 @@ const CELLS: [(&str, &str, &str); 13] = [
         "if x then if y then skip else x += 1 fi y else from 1 do skip loop if 0 then x -= 1 else skip fi 0 until 1 fi 0 skip",
     ),
     (
+        "local int t=x=1=2 x+=t skip delocal int t=-0 skip",
+        "local t (= (= x 1) 2) {x += t;skip;} t (neg 0);skip;",
+        "local int t = x = 1 = 2 x += t skip delocal int t = -0 skip",
+    ),
+    (
+        "local stack s=nil local int t=3 push(t,s)pop(t,s)delocal int t=3 delocal stack s=nil",
+        "local s {local t 3 {push t s;pop t s;} t 3;} s;",
+        "local stack s = nil local int t = 3 push(t, s) pop(t, s) delocal int t = 3 delocal stack s = nil",
+    ),
+    (
         "x += 1 // + 2\n- 3 // é €\r\n",
         "x += (- 1 3);",
         "x += 1 - 3",
     ),
 ];
 
-/// A text has its tree; what is printed of that is read as the same tree.
+/// What is printed of the cell of a text.
+fn printed_cell(alloc: Global, text: &str) -> Result<String, Fail> {
+    Ok(print_cell(alloc, &parse_cell(alloc, text)?)?)
+}
+
+/// A text has its tree.
 #[test]
-fn reads_and_prints_cells(rt: HostRuntime) -> Result<(), Fail> {
+fn reads_cells(rt: HostRuntime) -> Result<(), Fail> {
+    let alloc = rt.alloc();
+    for (text, tree, _) in CELLS {
+        assert_eq!(rt; shown(alloc, text)?.as_str(), tree);
+    }
+    Ok(())
+}
+
+/// What is printed of it is read as the same tree.
+#[test]
+fn prints_cells(rt: HostRuntime) -> Result<(), Fail> {
     let alloc = rt.alloc();
     for (text, tree, printed) in CELLS {
-        assert_eq!(rt; shown(alloc, text)?.as_str(), tree);
-        let line = print_cell(alloc, &parse_cell(alloc, text)?)?;
+        let line = printed_cell(alloc, text)?;
         assert_eq!(rt; line.as_str(), printed);
         assert_eq!(rt; shown(alloc, &line)?.as_str(), tree);
     }
     Ok(())
 }
 
-/// Texts of expressions, their trees, and how these are printed.
-const EXPRESSIONS: [(&str, &str, &str); 3] = [
-    ("(x)", "x", "x"),
+/// Texts of expressions, with their trees and how these are printed.
+const EXPRESSIONS: [(&str, &str); 3] = [
+    ("(x)", "x: x"),
     (
         "-(a[y])-(3)&&1||x",
-        "(|| (&& (- (neg [a y]) 3) 1) x)",
-        "-a[y] - 3 && 1 || x",
+        "(|| (&& (- (neg [a y]) 3) 1) x): -a[y] - 3 && 1 || x",
     ),
-    ("1-(2*(3||4))", "(- 1 (* 2 (|| 3 4)))", "1 - 2 * (3 || 4)"),
+    ("1-(2*(3||4))", "(- 1 (* 2 (|| 3 4))): 1 - 2 * (3 || 4)"),
 ];
+
+/// The tree of the expression of a text, which is copied, and what is printed of it.
+fn read_copy(alloc: Global, text: &str) -> Result<String, Fail> {
+    let exp = parse_exp(alloc, text)?.copy(alloc)?;
+    let (tree, printed) = (shown_exp(alloc, &exp)?, print_exp(alloc, &exp)?);
+    Ok(format!(in alloc; "{tree}: {printed}")?)
+}
 
 #[test]
 fn reads_copies_and_prints_expressions(rt: HostRuntime) -> Result<(), Fail> {
     let alloc = rt.alloc();
-    for (text, tree, printed) in EXPRESSIONS {
-        let exp = parse_exp(alloc, text)?.copy(alloc)?;
-        assert_eq!(rt; shown_exp(alloc, &exp)?.as_str(), tree);
-        assert_eq!(rt; print_exp(alloc, &exp)?.as_str(), printed);
+    for (text, copied) in EXPRESSIONS {
+        assert_eq!(rt; read_copy(alloc, text)?.as_str(), copied);
     }
     Ok(())
 }

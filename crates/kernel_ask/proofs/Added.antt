@@ -16,15 +16,15 @@ use Rattle.kernel_ask.specs.Added.{with_name, with_match, with_matches}
 
 -- ---- what the code puts in
 
-placed : (o : Ordering) (xs ys zs : List (String Global)) (zs' : List (List ℕ)) → map string_bytes zs ≡ zs' → map string_bytes (match_ordering o xs ys zs) ≡ match_ordering o (map string_bytes xs) (map string_bytes ys) zs'
-placed ordering.Less xs ys zs zs' e = refl
-placed ordering.Equal xs ys zs zs' e = refl
-placed ordering.Greater xs ys zs zs' e = e
+numbered : (o : Ordering) (xs ys zs : List (String Global)) (zs' : List (List ℕ)) → map string_bytes zs ≡ zs' → map string_bytes (match_ordering o xs ys zs) ≡ match_ordering o (map string_bytes xs) (map string_bytes ys) zs'
+numbered ordering.Less xs ys zs zs' e = refl
+numbered ordering.Equal xs ys zs zs' e = refl
+numbered ordering.Greater xs ys zs zs' e = e
 
 pub names_inserted : (ks : List (String Global)) (k : String Global) → map string_bytes (insert_key string_cmp ks k) ≡ with_name (map string_bytes ks) (string_bytes k)
 names_inserted [] k = refl
 names_inserted (x ∷ xs) k =
-    placed (string_cmp k x) (k ∷ x ∷ xs) (x ∷ xs) (x ∷ insert_key string_cmp xs k) (string_bytes x ∷ with_name (map string_bytes xs) (string_bytes k)) (ap (λ ns. string_bytes x ∷ ns) (names_inserted xs k))
+    numbered (string_cmp k x) (k ∷ x ∷ xs) (x ∷ xs) (x ∷ insert_key string_cmp xs k) (string_bytes x ∷ with_name (map string_bytes xs) (string_bytes k)) (ap (λ ns. string_bytes x ∷ ns) (names_inserted xs k))
 
 pub with_matches_more : (prefix : List ℕ) (known names : List (List ℕ)) (name : List ℕ) → with_matches prefix known (names ++ name ∷ []) ≡ with_match prefix (with_matches prefix known names) name
 with_matches_more prefix known [] name = refl

@@ -13,6 +13,7 @@ ends_early length (fault.Expected what at) = at.start == length
 ends_early length (fault.BadToken at) = false
 ends_early length (fault.NumberTooLarge at) = false
 ends_early length (fault.TooNested at) = false
+ends_early length (fault.DelocalName at) = false
 ends_early length fault.Memory = false
 
 -- the text is refused, at its end or before it

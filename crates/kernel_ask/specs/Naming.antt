@@ -1,9 +1,9 @@
--- Which names a cell names, in its declarations and its statements.
-use Rattle.std.specs.Prelude.{Bool, false, ◌||◌}
+-- Which declared names a cell names, in its declarations and its statements.
+use Rattle.std.specs.Prelude.{Bool, false, not, ◌&&◌, ◌||◌}
 use Rattle.std.specs.List.{list_any}
 use Rattle.janus_meaning.specs.Syntax as meaning
 use Rattle.janus_meaning.specs.Store.{same_name}
-use Rattle.janus_syntax.specs.Tree.{Name, named, Exp, Num, Var, Element, EmptyOf, TopOf, Neg, Bin, And, Or, Stm, Skip, Assign, AssignElement, Push, Pop, If, Loop, Block, Empty, More, Declaration, Int, Array, StackOf, Cell, cell_of}
+use Rattle.janus_syntax.specs.Tree.{Name, named, Exp, Num, Var, Element, EmptyOf, TopOf, Neg, Bin, And, Or, Stm, Skip, Assign, AssignElement, Push, Pop, If, Loop, LocalInt, LocalStack, Block, Empty, More, Declaration, Int, Array, StackOf, Cell, cell_of}
 
 abbrev pub is_it : meaning.Name → Name → Bool
 is_it x (named y at) = same_name y x
@@ -19,6 +19,7 @@ in_exp x (Bin op l r) = in_exp x l || in_exp x r
 in_exp x (And l r) = in_exp x l || in_exp x r
 in_exp x (Or l r) = in_exp x l || in_exp x r
 
+-- A local is no declared name, so in its statements its name stands for none.
 abbrev mutual
   pub in_stm : meaning.Name → Stm → Bool
   in_stm x Skip = false
@@ -28,6 +29,8 @@ abbrev mutual
   in_stm x (Pop y z) = is_it x y || is_it x z
   in_stm x (If a s t b) = in_exp x a || in_block x s || in_block x t || in_exp x b
   in_stm x (Loop a s t b) = in_exp x a || in_block x s || in_block x t || in_exp x b
+  in_stm x (LocalInt y a s z b) = in_exp x a || (not (is_it x y) && in_block x s) || in_exp x b
+  in_stm x (LocalStack y s z) = not (is_it x y) && in_block x s
 
   pub in_block : meaning.Name → Block → Bool
   in_block x Empty = false

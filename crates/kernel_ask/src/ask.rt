@@ -73,8 +73,7 @@ pub fn evaluate<L: Ledger>(alloc: Global, kernel: &Kernel<L>, text: &str) -> Res
     requires { kernel.now.machine.state.job ≡ Idle }
     ensures { IsEvaluated (here kernel.now.machine.state.past).store text.now result }
 {
-    let world = kernel.world();
-    evaluation_of(alloc, world.store(), text)
+    evaluation_of(alloc, kernel.store(), text)
 }
 
 /// The values of user expressions after a job, in their order: in the world of its node where the job is a cell that ran, else
@@ -91,10 +90,7 @@ pub fn evaluate_all<L: Ledger>(
     ensures { IfOk result (λ v. AreValuesAfter outcome.now kernel.now.machine.state.past wishes.now v.items) }
 {
     match outcome {
-        Outcome::Ran(_, _) => {
-            let world = kernel.world();
-            values_of(alloc, world.store(), wishes)
-        }
+        Outcome::Ran(_, _) => values_of(alloc, kernel.store(), wishes),
         Outcome::Failed(_, _)
         | Outcome::Interrupted(_)
         | Outcome::Undid(_, _)

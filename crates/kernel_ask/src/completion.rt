@@ -2,6 +2,7 @@
 ghost use Rattle.std.specs.Prelude.{IfOk};
 ghost use Rattle.std.specs.Str.{chars};
 ghost use Rattle.kernel_ask.specs.Completion.{IsCompletion};
+ghost use Rattle.janus_store.specs.Held.{shown_store};
 
 use crate::answer::Completion;
 use crate::cursor::prefix_at;
@@ -17,7 +18,7 @@ pub(crate) fn completion_of<L: Ledger>(
     code: &str,
     cursor: Option<u64>,
 ) -> Result<Completion, AllocError>
-    ensures { IfOk result (IsCompletion store.now (chars code.now) cursor) }
+    ensures { IfOk result (IsCompletion (shown_store store.now) (chars code.now) cursor) }
 {
     let prefix = prefix_at(alloc, code, cursor)?;
     let matches = matches_of(alloc, store, prefix.name.as_str())?;

@@ -3,6 +3,7 @@ ghost use Rattle.std.specs.Prelude.{IfOk};
 ghost use Rattle.std.specs.Str.{chars};
 ghost use Rattle.kernel_ask.specs.Cursor.{word_at as word_at_of};
 ghost use Rattle.kernel_ask.specs.Inspection.{IsInspection};
+ghost use Rattle.janus_store.specs.Held.{shown_store};
 
 use crate::cursor::word_at;
 use janus_store::Store;
@@ -17,7 +18,7 @@ pub(crate) fn inspection_of<L: Ledger>(
     code: &str,
     cursor: Option<u64>,
 ) -> Result<Option<String>, AllocError>
-    ensures { IfOk result (IsInspection store.now (word_at_of cursor (chars code.now))) }
+    ensures { IfOk result (IsInspection (shown_store store.now) (word_at_of cursor (chars code.now))) }
 {
     let word = word_at(alloc, code, cursor)?;
     match store.value(word.as_str()) {

@@ -6,6 +6,7 @@ ghost use Rattle.std.specs.String.{string_cmp};
 ghost use Rattle.janus_syntax.specs.Spelling.{word_text};
 ghost use Rattle.kernel_ask.specs.Added.{with_name, with_match, with_matches};
 ghost use Rattle.kernel_ask.specs.Matches.{names_of, AreMatches};
+ghost use Rattle.janus_store.specs.Held.{shown_store};
 
 use janus_store::Store;
 use janus_syntax::token::Word;
@@ -79,7 +80,7 @@ fn add_declared<L: Ledger>(
     prefix: &str,
 ) -> Result<(), AllocError>
     ensures { OnOk result (map string_bytes names.new.keys
-        ≡ with_matches prefix.now (map string_bytes names.old.keys) (names_of store.now)) }
+        ≡ with_matches prefix.now (map string_bytes names.old.keys) (names_of (shown_store store.now))) }
 {
     for i in 0..store.len() {
         let (name, _) = store.entry(i);
@@ -118,7 +119,7 @@ pub(crate) fn matches_of<L: Ledger>(
     store: &Store<L>,
     prefix: &str,
 ) -> Result<Vec<String>, AllocError>
-    ensures { IfOk result (λ v. AreMatches store.now prefix.now (map string_bytes v.items)) }
+    ensures { IfOk result (λ v. AreMatches (shown_store store.now) prefix.now (map string_bytes v.items)) }
 {
     let mut names = BTreeSet::new(alloc);
     add_declared(alloc, &mut names, store, prefix)?;

@@ -1,5 +1,5 @@
-//! Which names a cell names.
-ghost use Rattle.std.specs.Prelude.{◌≡◌, ◌||◌};
+//! Which declared names a cell names.
+ghost use Rattle.std.specs.Prelude.{◌≡◌, not, ◌&&◌, ◌||◌};
 ghost use Rattle.std.specs.List.{list_any};
 ghost use Rattle.janus_syntax.specs.Tree.{name_view, exp_view, stm_view, block_view, declaration_view, declarations_view, cell_view};
 ghost use Rattle.kernel_ask.specs.Naming.{is_it, in_exp, in_stm, in_block, in_declaration, in_cell};
@@ -42,6 +42,13 @@ fn exp_names(name: &str, exp: &Exp, found: bool) -> bool
     }
 }
 
+/// Whether it was found, or stands in the statements of a local, where the local's own name is another.
+fn is_inside(name: &str, local: &Name, inside: bool, found: bool) -> bool
+    ensures { result ≡ found || (not (is_it name.now (name_view local.now)) && inside) }
+{
+    found || (!is_name(name, local, false) && inside)
+}
+
 /// Whether it was found, or a statement names it.
 #[cycle(stm_names)]
 fn stm_names(name: &str, stm: &Stm, found: bool) -> bool
@@ -73,6 +80,16 @@ fn stm_names(name: &str, stm: &Stm, found: bool) -> bool
             let next = block_names(name, do_part, next);
             let next = block_names(name, loop_part, next);
             exp_names(name, exit, next)
+        }
+        Stm::LocalInt(local, begin, body, _, end) => {
+            let next = exp_names(name, begin, found);
+            let inside = block_names(name, body, false);
+            let next = is_inside(name, local, inside, next);
+            exp_names(name, end, next)
+        }
+        Stm::LocalStack(local, body, _) => {
+            let inside = block_names(name, body, false);
+            is_inside(name, local, inside, found)
         }
     }
 }

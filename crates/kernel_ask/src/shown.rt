@@ -7,6 +7,7 @@ ghost use Rattle.janus_syntax.specs.Tree.{cell_view};
 ghost use Rattle.kernel_ask.specs.Naming.{in_cell};
 ghost use Rattle.kernel_text.specs.ValueTexts.{value_text as value_text_of};
 ghost use Rattle.kernel_ask.specs.Shown.{shown_text, IsCellOf, IsShown};
+ghost use Rattle.janus_store.specs.Held.{shown_store};
 
 use crate::naming::cell_names;
 use janus_store::{Store, View};
@@ -41,7 +42,7 @@ fn named_texts<L: Ledger>(
     cell: &Cell,
 ) -> Result<Vec<String>, AllocError>
     ensures { IfOk result (λ v. map string_bytes v.items
-        ≡ map value_text_of (filter (λ e. in_cell e.0 (cell_view cell.now)) (listed store.now))) }
+        ≡ map value_text_of (filter (λ e. in_cell e.0 (cell_view cell.now)) (listed (shown_store store.now)))) }
 {
     let mut texts = Vec::new(alloc);
     for i in 0..store.len() {
@@ -69,7 +70,7 @@ fn shown_of<L: Ledger>(
     store: &Store<L>,
     cell: &Cell,
 ) -> Result<Option<String>, AllocError>
-    ensures { IfOk result (λ text. option_map string_bytes text ≡ shown_text store.now (cell_view cell.now)) }
+    ensures { IfOk result (λ text. option_map string_bytes text ≡ shown_text (shown_store store.now) (cell_view cell.now)) }
 {
     let texts = named_texts(alloc, store, cell)?;
     match texts.as_slice() {
@@ -92,6 +93,7 @@ fn cell_of(alloc: Global, code: &str) -> Result<Option<Cell>, AllocError>
         Err(SyntaxFault::Expected(_, _)) => Ok(None),
         Err(SyntaxFault::NumberTooLarge(_)) => Ok(None),
         Err(SyntaxFault::TooNested(_)) => Ok(None),
+        Err(SyntaxFault::DelocalName(_)) => Ok(None),
     }
 }
 
@@ -101,7 +103,7 @@ pub(crate) fn shown_by<L: Ledger>(
     store: &Store<L>,
     code: &str,
 ) -> Result<Option<String>, AllocError>
-    ensures { IfOk result (λ text. IsShown store.now code.now (option_map string_bytes text)) }
+    ensures { IfOk result (λ text. IsShown (shown_store store.now) code.now (option_map string_bytes text)) }
 {
     let found = cell_of(alloc, code)?;
     match found {

@@ -5,6 +5,7 @@ ghost use Rattle.kernel_core.specs.State.{Idle};
 ghost use Rattle.kernel_text.specs.ValueTexts.{value_text as value_text_of};
 ghost use Rattle.kernel_ask.specs.EndedAt.{StandsAtEnd};
 ghost use Rattle.kernel_ask.specs.State.{is_busy as is_busy_of, IsState};
+ghost use Rattle.janus_store.specs.Held.{shown_store};
 
 use crate::answer::KernelState;
 use janus_store::Store;
@@ -15,7 +16,7 @@ use std::sync::ledger::Ledger;
 
 /// The value texts of the names of a store, in the order of declaration.
 fn value_texts<L: Ledger>(alloc: Global, store: &Store<L>) -> Result<Vec<String>, AllocError>
-    ensures { IfOk result (λ v. map string_bytes v.items ≡ map value_text_of (listed store.now)) }
+    ensures { IfOk result (λ v. map string_bytes v.items ≡ map value_text_of (listed (shown_store store.now))) }
 {
     let mut texts = Vec::new(alloc);
     for i in 0..store.len() {

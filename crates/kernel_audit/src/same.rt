@@ -47,7 +47,8 @@ fn same_syntax(a: SyntaxFault, b: SyntaxFault) -> bool
         }
         (SyntaxFault::BadToken(a), SyntaxFault::BadToken(b))
         | (SyntaxFault::NumberTooLarge(a), SyntaxFault::NumberTooLarge(b))
-        | (SyntaxFault::TooNested(a), SyntaxFault::TooNested(b)) => a == b,
+        | (SyntaxFault::TooNested(a), SyntaxFault::TooNested(b))
+        | (SyntaxFault::DelocalName(a), SyntaxFault::DelocalName(b)) => a == b,
         (SyntaxFault::Memory, SyntaxFault::Memory) => true,
         _ => false,
     }

@@ -1,6 +1,8 @@
 pub mod LanguageLaws
 pub mod Declared
 pub mod Texts
+pub mod Growing
+pub mod NamesMet
 pub mod Entries
 pub mod Running
 pub mod Trees

@@ -1,7 +1,7 @@
 -- What the answers on slices and begins share: how runner, tree and open job go on together.
 use Rattle.std.specs.Result.{is_err, IsOk, OnOk, OnErr}
 use Rattle.std.specs.Prelude.{slice_get}
-use Rattle.std.proofs.Common.{inl, inr, ◌≤◌, Some, Result, Ok, Err, false, ◌≡◌, ℕ, ◌+◌, ◌-◌, ◌<◌, Bool, List, [], ◌∷◌, ◌++◌, length, set, get_or, zero, suc, refl, sym, ap, ◌∙◌, subst, arith}
+use Rattle.std.proofs.Common.{inl, inr, ◌≤◌, Some, Result, Ok, Err, true, false, ◌≡◌, ℕ, ◌+◌, ◌-◌, ◌<◌, Bool, List, [], ◌∷◌, ◌++◌, length, set, get_or, zero, suc, refl, sym, ap, ◌∙◌, subst, arith}
 use Rattle.std.proofs.lemmas.Bool.{cases_lt}
 use Rattle.std.proofs.lemmas.List.{get_or_at, length-map}
 use Rattle.std.proofs.lemmas.Option.{slice_get_within}
@@ -16,9 +16,13 @@ use Rattle.kernel_core.specs.Fields.{nodes_of, aim_of, travel_of, work_of, job_o
 use Rattle.kernel_core.specs.Legal.{CanGo, IsLegal, IsPossible, IsPossibleWork, IsCounted}
 use Rattle.kernel_core.specs.Slices.{cells, stepped, moved, grown, Arrives, Settles, HasEnded}
 use Rattle.kernel_core.specs.Begins.{Declares}
-use Rattle.kernel_core.specs.Program.{cell_of_program, IsPlacedIn}
-use Rattle.kernel_core.specs.Runner.{world_of, Stands, IsInside}
-use Rattle.kernel_core.specs.Kept.{is_back, IsCellAt, ArePlacedNodes, IsProgramOf, StandsIn, StandsAt, Kept, IsKept, HasRoom, HasPath, HasPathFor}
+use Rattle.janus_meaning.specs.Syntax.{Name}
+use Rattle.janus_names.specs.Numbers.{GoOn}
+use Rattle.janus_store.specs.Held.{IsWhole, shown_store}
+use Rattle.janus_machine.specs.Places.{BookHasNumbers}
+use Rattle.kernel_core.specs.Program.{cell_of_program}
+use Rattle.kernel_core.specs.Runner.{world_of, Becomes, Stands, IsInside}
+use Rattle.kernel_core.specs.Kept.{is_back, IsCellAt, NodesHaveNumbers, IsProgramOf, StandsIn, StandsAt, IsWholeAt, Kept, IsKept, HasRoom, HasPath, HasPathFor}
 use Rattle.kernel_core.specs.declared.runner.Runner.{Runner}
 use Rattle.kernel_core.specs.declared.program.Program.{Program}
 use Rattle.kernel_core.specs.declared.tree.Cell.{Cell}
@@ -32,7 +36,8 @@ use Rattle.kernel_core.specs.declared.job.Turn.TheVariants.{Going}
 use Rattle.kernel_core.specs.declared.job.Open.{Open}
 use Rattle.kernel_core.specs.declared.job.Open.TheVariants.{Idle, Border, Inside}
 use Rattle.kernel_core.proofs.LanguageLaws.{part_none_forward, part_none_backward, exec_end, exec_some}
-use Rattle.kernel_core.proofs.Running.{stands_part}
+use Rattle.kernel_core.proofs.Growing.{no_more, book_grows}
+use Rattle.kernel_core.proofs.Running.{stands_part, all_shown}
 use Rattle.kernel_core.proofs.Nodes.{count_of_nodes, cell_there, one_cell, cell_kept, cell_added}
 use Rattle.kernel_core.proofs.Trees.{worlds-more, legal_up, legal_down, legal_grown, world_above_kept, world_above_new, undone_world, redone_world, run_here, parent_sound, IsNext, formed_below, next_below, up_possible, down_possible, way_up, way_down, new_legal, new_worlds}
 
@@ -42,37 +47,53 @@ shown_by tree Idle runner h = h
 shown_by tree (Border travel) runner h = h
 shown_by tree (Inside e) runner h = stands_part _ _ _ _ _ _ h.stands
 
-pub kept_inside : {L : Type 0} (tree : Tree) (work : Work) (count c : ℕ) (turn to : CodeTurn) (runner at : Runner L) → Kept tree runner (Inside (record { work = work; count = count; turn = turn })) →
+-- the names that nodes have numbers for only grow
+pub numbers_grow : {L : Type 0} (tree : Tree) (runner at : Runner L) → GoOn runner.store.names at.store.names → NodesHaveNumbers tree runner → NodesHaveNumbers tree at
+numbers_grow tree runner at more h = λ n cell is. book_grows runner.store.names at.store.names more cell.program.book (h n cell is)
+
+pub kept_inside : {L : Type 0} (tree : Tree) (work : Work) (count c : ℕ) (turn to : CodeTurn) (runner at : Runner L) → Kept tree runner (Inside (record { work = work; count = count; turn = turn })) → GoOn runner.store.names at.store.names →
     StandsIn tree work c (is_back to) at → Kept tree at (Inside (record { work = work; count = c; turn = to }))
-kept_inside tree work count c turn to runner at k p = record {
+kept_inside tree work count c turn to runner at k more p = record {
   legal = k.legal;
   possible = k.possible;
   counted = k.counted;
   stands = p;
+  whole = tt;
   room = k.room;
   path = k.path;
-  placed = k.placed;
+  numbered = numbers_grow tree runner at more k.numbered;
 }
 
-pub kept_idle : {L : Type 0} (tree : Tree) (job : Open) (runner at : Runner L) → Kept tree runner job → world_of at ≡ here (past_of tree) → Kept tree at Idle
-kept_idle tree job runner at k e = record {
+pub kept_idle : {L : Type 0} (tree : Tree) (job : Open) (runner at : Runner L) → Kept tree runner job → GoOn runner.store.names at.store.names → IsWhole at.store → world_of at ≡ here (past_of tree) → Kept tree at Idle
+kept_idle tree job runner at k more whole e = record {
   legal = k.legal;
   possible = tt;
   counted = tt;
   stands = e;
+  whole = whole;
   room = tt;
   path = tt;
-  placed = k.placed;
+  numbered = numbers_grow tree runner at more k.numbered;
 }
 
--- ---- the places of names
+-- the same store is shown as the same world
+pub same_world : {L : Type 0} (runner at : Runner L) → IsWhole runner.store → Becomes runner.store at.store runner.store.sight → world_of at ≡ world_of runner
+same_world runner at whole h =
+    let same : shown_store at.store ≡ shown_store runner.store = all_shown at.store h.whole ∙ h.sight ∙ sym (all_shown runner.store whole) in
+    rw same refl
+
+-- no cell could be entered
+pub kept_refused : {L : Type 0} (tree : Tree) (job : Open) (runner at : Runner L) → Kept tree runner job → IsWhole runner.store → world_of runner ≡ here (past_of tree) → Becomes runner.store at.store runner.store.sight → Kept tree at Idle
+kept_refused tree job runner at k whole shown h = kept_idle tree job runner at k h.names h.whole (same_world runner at whole h ∙ shown)
+
+-- ---- the numbers of names
 
 -- they stand in the nodes alone
-pub placed_nodes : (tree other : Tree) → other.cells.nodes ≡ tree.cells.nodes → ArePlacedNodes tree → ArePlacedNodes other
-placed_nodes tree other e h = subst (λ (nodes : List (Node Cell)). ArePlacedNodes (record other { cells = record other.cells { nodes = nodes } })) (sym e) h
+pub placed_nodes : {L : Type 0} (tree other : Tree) (runner : Runner L) → other.cells.nodes ≡ tree.cells.nodes → NodesHaveNumbers tree runner → NodesHaveNumbers other runner
+placed_nodes tree other runner e h = subst (λ (nodes : List (Node Cell)). NodesHaveNumbers (record other { cells = record other.cells { nodes = nodes } }) runner) (sym e) h
 
-placed_none : (tree : Tree) → past_of tree ≡ new_state.past → ArePlacedNodes tree
-placed_none tree e = λ n cell at.
+placed_none : {L : Type 0} (tree : Tree) (runner : Runner L) → past_of tree ≡ new_state.past → NodesHaveNumbers tree runner
+placed_none tree runner e = λ n cell at.
     absurd
     (let size = count_of_nodes tree in
     let one : length (nodes_of tree) ≡ 1 = ap (λ (s : Past). length s.nodes) e in
@@ -80,24 +101,14 @@ placed_none tree e = λ n cell at.
     let place = slice_get_within (contents_of tree.cells) (n - 1) cell at.1 in
     omega arith)
 
-placed_grown : (tree larger : Tree) (node : Node Cell) (w : World) → IsLegal (past_of tree) → larger.cells.nodes ≡ tree.cells.nodes ++ node ∷ [] →
-    past_of larger ≡ grown (past_of tree) (cell_of_program node.content.program) node.content.steps w → ArePlacedNodes tree → IsPlacedIn (here (past_of tree)) node.content.program → ArePlacedNodes larger
-placed_grown tree larger node w legal nodes past placed new = λ n cell at.
-    let s : Past = past_of tree in
-    let size = count_of_nodes tree in
-    let some : 0 < n = at.0 in
-    let program : ACell = cell_of_program node.content.program in
-    let there : world_at (past_of larger) (node_at (past_of larger) n).parent ≡ world_at (grown (past_of tree) program node.content.steps w) (node_at (grown (past_of tree) program node.content.steps w) n).parent = ap (λ (p : Past). world_at p (node_at p n).parent) past in
+placed_grown : {L : Type 0} (tree larger : Tree) (node : Node Cell) (runner : Runner L) → larger.cells.nodes ≡ tree.cells.nodes ++ node ∷ [] →
+    NodesHaveNumbers tree runner → BookHasNumbers runner.store.names node.content.program.book → NodesHaveNumbers larger runner
+placed_grown tree larger node runner nodes numbered new = λ n cell at.
     elim (cases_lt (length tree.cells.nodes) n) [
       | inl high ↦
           (let last = cell_added tree larger node n cell nodes at high in
-          let above : world_at (past_of larger) (node_at (past_of larger) n).parent ≡ here (past_of tree) =
-          there ∙ ap (λ (k : ℕ). world_at (grown (past_of tree) program node.content.steps w) (node_at (grown (past_of tree) program node.content.steps w) k).parent) last.0 ∙ world_above_new (past_of tree) program node.content.steps w legal in
-          subst (λ (c : Cell). IsPlacedIn (world_at (past_of larger) (node_at (past_of larger) n).parent) c.program) last.1 (subst (λ (v : World). IsPlacedIn v node.content.program) (sym above) new))
-      | inr low ↦
-          (let known : n < length (nodes_of tree) = omega arith in
-          let above : world_at (past_of larger) (node_at (past_of larger) n).parent ≡ world_at (past_of tree) (node_at (past_of tree) n).parent = there ∙ world_above_kept (past_of tree) program node.content.steps w n legal some known in
-          subst (λ (v : World). IsPlacedIn v cell.program) (sym above) (placed n cell (cell_kept tree larger node n cell nodes at low)))
+          subst (λ (c : Cell). BookHasNumbers runner.store.names c.program.book) last.1 new)
+      | inr low ↦ numbered n cell (cell_kept tree larger node n cell nodes at low)
     ]
 
 -- ---- a new node
@@ -118,20 +129,21 @@ pub kept_grown : {L : Type 0} (tree larger : Tree) (program : ACell) (n : ℕ) (
     larger.cells.favourites ≡ set tree.cells.favourites tree.position (length (nodes_of tree)) ++ 0 ∷ [] →
     larger.position ≡ length (nodes_of tree) →
     IsLegal (past_of tree) → IsFormed program (here (past_of tree)) →
-    CodeExec (Forward program) (here (past_of tree)) n (world_of runner) → ArePlacedNodes larger →
+    CodeExec (Forward program) (here (past_of tree)) n (world_of runner) → IsWhole runner.store → NodesHaveNumbers larger runner →
     Kept larger runner Idle
-kept_grown tree larger program n runner nodes favourites position legal formed ran placed =
+kept_grown tree larger program n runner nodes favourites position legal formed ran whole numbered =
     let e = state_grown tree larger program n (world_of runner) nodes favourites position ran in
     let last : get_or (worlds_from [] (nodes_of tree) ++ world_of runner ∷ []) (length (nodes_of tree)) empty_world ≡ world_of runner =
     get_or_at (worlds_from [] (nodes_of tree)) (world_of runner) [] empty_world (length (nodes_of tree)) legal.worlds in
     record {
       legal = subst (λ (s : Past). IsLegal s) (sym e) (legal_grown (past_of tree) program n (world_of runner) legal formed ran);
       stands = subst (λ (s : Past). world_of runner ≡ here s) (sym e) (sym last);
+      whole = whole;
       possible = tt;
       counted = tt;
       room = tt;
       path = tt;
-      placed = placed;
+      numbered = numbered;
     }
 
 -- ---- a cell of a travel
@@ -149,12 +161,12 @@ border_job (Border t) travel e = (t, refl, cc)
 border_job (Inside x) travel e = cc
 
 pub kept_arrived : {L : Type 0} (left : ℕ) (moved-to : Tree) (travel : Travel) (told : Sliced) (job : Open) (runner : Runner L) → left ≡ cells travel →
-    IsLegal (past_of moved-to) → world_of runner ≡ here (past_of moved-to) → CanGo travel.aim (nodes_of moved-to) moved-to.cells.favourites moved-to.position travel.up travel.down → IsCounted travel →
-    HasPath travel.aim moved-to travel.down → ArePlacedNodes moved-to → Arrives left (past_of moved-to) travel told (state_of moved-to job) → Kept moved-to runner job
-kept_arrived zero tree travel told job runner size legal shown can small path placed a =
+    IsLegal (past_of moved-to) → world_of runner ≡ here (past_of moved-to) → IsWhole runner.store → CanGo travel.aim (nodes_of moved-to) moved-to.cells.favourites moved-to.position travel.up travel.down → IsCounted travel →
+    HasPath travel.aim moved-to travel.down → NodesHaveNumbers moved-to runner → Arrives left (past_of moved-to) travel told (state_of moved-to job) → Kept moved-to runner job
+kept_arrived zero tree travel told job runner size legal shown whole can small path numbered a =
     let e : job ≡ Idle = idle_job job (ap (λ (s : State). s.job) a.1) in
-    rw e (record { legal = legal; possible = tt; counted = tt; stands = shown; room = tt; path = tt; placed = placed })
-kept_arrived (suc left) tree travel told job runner size legal shown can small path placed a =
+    rw e (record { legal = legal; possible = tt; counted = tt; stands = shown; whole = whole; room = tt; path = tt; numbered = numbered })
+kept_arrived (suc left) tree travel told job runner size legal shown whole can small path numbered a =
     let at = border_job job _ (ap (λ (s : State). s.job) a.1) in
     let possible : IsPossible (nodes_of tree) tree.cells.favourites tree.position travel = record { some = omega arith; way_there = can } in
     rw at.1 (record {
@@ -162,9 +174,10 @@ kept_arrived (suc left) tree travel told job runner size legal shown can small p
       possible = subst (λ (x : Travel). IsPossible (nodes_of tree) tree.cells.favourites tree.position x) (sym at.2) possible;
       counted = subst (λ (x : Travel). IsCounted x) (sym at.2) small;
       stands = shown;
+      whole = whole;
       room = tt;
       path = subst (λ (x : Travel). HasPath x.aim tree x.down) (sym at.2) path;
-      placed = placed;
+      numbered = numbered;
     })
 
 -- a path is kept for a way that is one node shorter
@@ -179,26 +192,26 @@ path_of Redo tree other down e f h = tt
 path_of (Goto n) tree other down e f h = rw (e, f) h
 
 pub kept_up : {L : Type 0} (tree : Tree) (p : ℕ) (travel : Travel) (runner : Runner L) (told : Sliced) (job : Open) → next_way travel ≡ Up → IsLegal (past_of tree) →
-    IsPossible (nodes_of tree) tree.cells.favourites tree.position travel → IsCounted travel → HasPath travel.aim tree travel.down → ArePlacedNodes tree →
+    IsPossible (nodes_of tree) tree.cells.favourites tree.position travel → IsCounted travel → HasPath travel.aim tree travel.down → NodesHaveNumbers tree runner → IsWhole runner.store →
     p ≡ (node_at (past_of tree) tree.position).parent → world_of runner ≡ world_at (past_of tree) (node_at (past_of tree) tree.position).parent →
     Arrives (cells (stepped travel)) (past_of (record tree { position = p })) (stepped travel) told (state_of (record tree { position = p }) job) → Kept (record tree { position = p }) runner job
-kept_up tree p travel runner told job way legal possible small path placed to world a =
+kept_up tree p travel runner told job way legal possible small path numbered whole to world a =
     let can = up_possible (past_of tree) travel way possible in
     let some = possible.some in
     let first = small.0 in
     let up = way_up travel.up way in
     let on : Travel = record travel { up = travel.up - 1; went_up = travel.went_up + 1 } in
     let e : stepped travel ≡ on = rw (way, stepped) refl in
-    kept_arrived (cells on) (record tree { position = p }) on told job runner refl (rw to (legal_up (past_of tree) legal)) (rw to world) (rw to can.1) (omega arith, small.1)
-    (path_of travel.aim tree (record tree { position = p }) travel.down refl refl path) (placed_nodes tree (record tree { position = p }) refl placed)
+    kept_arrived (cells on) (record tree { position = p }) on told job runner refl (rw to (legal_up (past_of tree) legal)) (rw to world) whole (rw to can.1) (omega arith, small.1)
+    (path_of travel.aim tree (record tree { position = p }) travel.down refl refl path) (placed_nodes tree (record tree { position = p }) runner refl numbered)
     (subst (λ (t : Travel). Arrives (cells t) (past_of (record tree { position = p })) t told (state_of (record tree { position = p }) job)) e a)
 
 pub kept_down : {L : Type 0} (tree moved-to : Tree) (c : ℕ) (travel : Travel) (runner : Runner L) (told : Sliced) (job : Open) → next_way travel ≡ Down → IsLegal (past_of tree) →
-    IsPossible (nodes_of tree) tree.cells.favourites tree.position travel → IsCounted travel → HasPath travel.aim tree travel.down → ArePlacedNodes tree →
+    IsPossible (nodes_of tree) tree.cells.favourites tree.position travel → IsCounted travel → HasPath travel.aim tree travel.down → NodesHaveNumbers tree runner → IsWhole runner.store →
     c ≡ below (past_of tree) travel → moved-to.cells.nodes ≡ tree.cells.nodes → moved-to.cells.favourites ≡ set tree.cells.favourites tree.position c → moved-to.position ≡ c → moved-to.cells.way ≡ tree.cells.way →
     world_of runner ≡ world_at (past_of tree) (below (past_of tree) travel) →
     Arrives (cells (stepped travel)) (past_of moved-to) (stepped travel) told (state_of moved-to job) → Kept moved-to runner job
-kept_down tree moved-to c travel runner told job way legal possible small path placed to nodes favourites position kept-path world a =
+kept_down tree moved-to c travel runner told job way legal possible small path numbered whole to nodes favourites position kept-path world a =
     let next = next_below (past_of tree) travel legal way possible in
     let can = down_possible (past_of tree) travel legal way possible in
     let some = possible.some in
@@ -211,10 +224,10 @@ kept_down tree moved-to c travel runner told job way legal possible small path p
     let kept : HasPath travel.aim moved-to (travel.down - 1) = path_of travel.aim tree moved-to (travel.down - 1) nodes kept-path (path_shorter travel.aim tree travel.down path) in
     kept_arrived (cells on) moved-to on told job runner refl
     (subst (λ (s : Past). IsLegal s) (sym past) (legal_down (past_of tree) (below (past_of tree) travel) legal next))
-    (subst (λ (s : Past). world_of runner ≡ here s) (sym past) world)
+    (subst (λ (s : Past). world_of runner ≡ here s) (sym past) world) whole
     (subst (λ (s : Past). CanGo travel.aim s.nodes s.favourites s.position travel.up (travel.down - 1)) (sym past)
     (subst (λ (u : ℕ). CanGo travel.aim (nodes_of tree) (set tree.cells.favourites tree.position (below (past_of tree) travel)) (below (past_of tree) travel) u (travel.down - 1)) (sym none) can))
-    (small.0, omega arith) kept (placed_nodes tree moved-to nodes placed)
+    (small.0, omega arith) kept (placed_nodes tree moved-to runner nodes numbered)
     (subst (λ (t : Travel). Arrives (cells t) (past_of moved-to) t told (state_of moved-to job)) e a)
 
 -- the world at the end of an undone cell, and of a redone one
@@ -252,23 +265,24 @@ stands_with tree work count back runner p of h =
 
 -- a posted cell that ended becomes a node, whose code runs as it stands
 pub placed_more : {L : Type 0} (tree larger : Tree) (program : Program) (n : ℕ) (runner : Runner L) → Kept tree runner (Inside (record { work = RunCell program; count = n; turn = Going })) →
-    larger.cells.nodes ≡ tree.cells.nodes ++ record { parent = tree.position; content = record { program = program; steps = n } } ∷ [] → past_of larger ≡ grown (past_of tree) (cell_of_program program) n (world_of runner) → ArePlacedNodes larger
-placed_more tree larger program n runner k nodes past =
-    placed_grown tree larger (record { parent = tree.position; content = record { program = program; steps = n } }) (world_of runner) k.legal nodes past k.placed (stands_with tree (RunCell program) n false runner program refl k.stands).placed
+    larger.cells.nodes ≡ tree.cells.nodes ++ record { parent = tree.position; content = record { program = program; steps = n } } ∷ [] → NodesHaveNumbers larger runner
+placed_more tree larger program n runner k nodes =
+    placed_grown tree larger (record { parent = tree.position; content = record { program = program; steps = n } }) runner nodes k.numbered (stands_with tree (RunCell program) n false runner program refl k.stands).numbered
 
 -- ---- begins
 
-pub kept_entered : {L : Type 0} (tree : Tree) (runner at : Runner L) (travel : CodeTravel) → Kept tree runner (Border travel) → StandsIn tree (Move travel) 0 false at →
+pub kept_entered : {L : Type 0} (tree : Tree) (runner at : Runner L) (travel : CodeTravel) → Kept tree runner (Border travel) → GoOn runner.store.names at.store.names → StandsIn tree (Move travel) 0 false at →
     IsKept tree at (Inside (record { work = Move travel; count = 0; turn = Going }))
-kept_entered tree runner at travel k stands = record {
+kept_entered tree runner at travel k more stands = record {
   kept = record {
     legal = k.legal;
     possible = k.possible;
     counted = k.counted;
     stands = stands;
+    whole = tt;
     room = tt;
     path = k.path;
-    placed = k.placed;
+    numbered = numbers_grow tree runner at more k.numbered;
   };
   in_time = exec_some (code_of (past_of tree) (state.Move (travel_of travel))) (here (past_of tree));
 }
@@ -277,9 +291,9 @@ kept_entered tree runner at travel k stands = record {
 pub idle_in_time : {L : Type 0} (tree : Tree) (runner : Runner L) → Kept tree runner Idle → IsKept tree runner Idle
 idle_in_time tree runner k = record { kept = k; in_time = tt }
 
-pub kept_begun : {L : Type 0} (tree made : Tree) (runner at : Runner L) (program : Program) → Kept tree runner Idle → past_of made ≡ past_of tree → made.cells.nodes ≡ tree.cells.nodes → HasRoom made → IsFormed (cell_of_program program) (here (past_of tree)) →
+pub kept_begun : {L : Type 0} (tree made : Tree) (runner at : Runner L) (program : Program) → Kept tree runner Idle → GoOn runner.store.names at.store.names → past_of made ≡ past_of tree → made.cells.nodes ≡ tree.cells.nodes → HasRoom made → IsFormed (cell_of_program program) (here (past_of tree)) →
     Stands at program (Forward (cell_of_program program)) (here (past_of tree)) 0 false → IsKept made at (Inside (record { work = RunCell program; count = 0; turn = Going }))
-kept_begun tree made runner at program k same nodes room formed stands = record {
+kept_begun tree made runner at program k more same nodes room formed stands = record {
   kept = record {
     legal = subst (λ (s : Past). IsLegal s) (sym same) k.legal;
     possible = subst (λ (s : Past). IsFormed (cell_of_program program) (here s)) (sym same) formed;
@@ -289,16 +303,34 @@ kept_begun tree made runner at program k same nodes room formed stands = record 
       of_work = refl;
       stands = subst (λ (s : Past). Stands at program (Forward (cell_of_program program)) (here s) 0 false) (sym same) stands;
     };
+    whole = tt;
     room = room;
     path = tt;
-    placed = placed_nodes tree made nodes k.placed;
+    numbered = placed_nodes tree made at nodes (numbers_grow tree runner at more k.numbered);
   };
   in_time = exec_some (code_of (past_of made) (state.Posted (cell_of_program program))) (here (past_of made));
+}
+
+-- a tree with room for a node more is the same tree
+pub kept_with_room : {L : Type 0} (tree made : Tree) (runner : Runner L) → Kept tree runner Idle → past_of made ≡ past_of tree → made.cells.nodes ≡ tree.cells.nodes → Kept made runner Idle
+kept_with_room tree made runner k same nodes = record {
+  legal = subst (λ (s : Past). IsLegal s) (sym same) k.legal;
+  possible = tt;
+  counted = tt;
+  stands = subst (λ (s : Past). world_of runner ≡ here s) (sym same) k.stands;
+  whole = k.whole;
+  room = tt;
+  path = tt;
+  numbered = placed_nodes tree made runner nodes k.numbered;
 }
 
 pub ok_fact : {A E : Type 0} (P : Type 0) (r : Result A E) → is_err r ≡ false → OnOk r P → P
 ok_fact P (Ok x) e h = h
 ok_fact P (Err x) e h = absurd (cc)
+
+pub err_fact : {A E : Type 0} (P : Type 0) (r : Result A E) → is_err r ≡ true → OnErr r P → P
+err_fact P (Ok x) e h = absurd (cc)
+err_fact P (Err x) e h = h
 
 -- ---- back at the count 0
 
@@ -367,15 +399,16 @@ up_names tree travel n v cell way legal possible ended at =
 pub new_past : (tree : Tree) → tree.cells ≡ root_alone tree.cells.room → tree.position ≡ 0 → past_of tree ≡ new_state.past
 new_past tree alone position = rw (alone, position, new_worlds) refl
 
-pub kept_new : {L : Type 0} (tree : Tree) (runner : Runner L) → past_of tree ≡ new_state.past → world_of runner ≡ empty_world → Kept tree runner Idle
-kept_new tree runner e shown = record {
+pub kept_new : {L : Type 0} (tree : Tree) (runner : Runner L) → past_of tree ≡ new_state.past → world_of runner ≡ empty_world → IsWhole runner.store → Kept tree runner Idle
+kept_new tree runner e shown whole = record {
   legal = subst (λ (s : Past). IsLegal s) (sym e) new_legal;
   possible = tt;
   counted = tt;
   stands = subst (λ (s : Past). world_of runner ≡ here s) (sym e) shown;
+  whole = whole;
   room = tt;
   path = tt;
-  placed = placed_none tree e;
+  numbered = placed_none tree runner e;
 }
 
 -- the program of an undo and of a redo, as it is read
@@ -402,10 +435,10 @@ pub program_down : (tree : Tree) (work : Work) (travel : CodeTravel) (cell : Cel
 program_down tree work travel cell e way at = rw e (down_is tree travel cell.program way (cell, at, refl))
 
 -- the runner has gone on, or back, in the work's program
-pub kept_at : {L : Type 0} (tree : Tree) (work : Work) (count c : ℕ) (turn to : CodeTurn) (runner at : Runner L) (p : Program) → Kept tree runner (Inside (record { work = work; count = count; turn = turn })) →
+pub kept_at : {L : Type 0} (tree : Tree) (work : Work) (count c : ℕ) (turn to : CodeTurn) (runner at : Runner L) (p : Program) → Kept tree runner (Inside (record { work = work; count = count; turn = turn })) → GoOn runner.store.names at.store.names →
     IsProgramOf tree work p → Stands at p (code_of (past_of tree) (work_of work)) (here (past_of tree)) c (is_back to) → Kept tree at (Inside (record { work = work; count = c; turn = to }))
-kept_at tree work count c turn to runner at p k of stands =
-    kept_inside tree work count c turn to runner at k (record { program = p; of_work = of; stands = stands })
+kept_at tree work count c turn to runner at p k more of stands =
+    kept_inside tree work count c turn to runner at k more (record { program = p; of_work = of; stands = stands })
 
 -- in the form in which the calls of the runner ask for it
 pub inside_with : {L : Type 0} (tree : Tree) (work : Work) (count : ℕ) (turn : CodeTurn) (runner : Runner L) (p : Program) → Kept tree runner (Inside (record { work = work; count = count; turn = turn })) → IsProgramOf tree work p → IsInside runner p count (is_back turn)
@@ -442,13 +475,6 @@ formed_next tree travel cell runner way legal possible shown at =
     let formed : IsFormed (cell_of_program cell.program) (here (past_of tree)) = subst (λ (c : ACell). IsFormed c (here (past_of tree))) (sym (cell_there tree _ cell at)) (formed_below (past_of tree) (below (past_of tree) travel) legal next) in
     subst (λ (w : World). IsFormed (cell_of_program cell.program) w) (sym shown) formed
 
-pub placed_next : {L : Type 0} (tree : Tree) (travel : Travel) (cell : Cell) (runner : Runner L) → next_way travel ≡ Down → IsLegal (past_of tree) → IsPossible (nodes_of tree) tree.cells.favourites tree.position travel →
-    world_of runner ≡ here (past_of tree) → IsCellAt tree (below (past_of tree) travel) cell → ArePlacedNodes tree → IsPlacedIn (world_of runner) cell.program
-placed_next tree travel cell runner way legal possible shown at placed =
-    let next = next_below (past_of tree) travel legal way possible in
-    let above : world_at (past_of tree) (node_at (past_of tree) (below (past_of tree) travel)).parent ≡ world_of runner = ap (λ (k : ℕ). world_at (past_of tree) k) next.parent ∙ sym shown in
-    subst (λ (w : World). IsPlacedIn w cell.program) above (placed (below (past_of tree) travel) cell at)
-
 pub stands_next_down : {L : Type 0} (tree : Tree) (travel : CodeTravel) (cell : Cell) (runner at : Runner L) → next_way (travel_of travel) ≡ Down → world_of runner ≡ here (past_of tree) → IsCellAt tree (below (past_of tree) (travel_of travel)) cell →
     Stands at cell.program (Forward (cell_of_program cell.program)) (world_of runner) 0 false → StandsIn tree (Move travel) 0 false at
 stands_next_down tree travel cell runner at way shown is stands =
@@ -466,9 +492,9 @@ next_up tree travel cell way legal possible read =
     ((up_possible (past_of tree) travel way possible).0, read)
 
 pub ran_above : {L : Type 0} (tree : Tree) (travel : Travel) (cell : Cell) (runner : Runner L) → next_way travel ≡ Up → IsLegal (past_of tree) → IsPossible (nodes_of tree) tree.cells.favourites tree.position travel →
-    world_of runner ≡ here (past_of tree) → IsCellAt tree tree.position cell → ArePlacedNodes tree →
-    (before : World) × (n : ℕ) × CodeExec (Forward (cell_of_program cell.program)) before n (world_of runner) × IsSound before × IsFormed (cell_of_program cell.program) before × IsPlacedIn before cell.program
-ran_above tree travel cell runner way legal possible shown at placed =
+    world_of runner ≡ here (past_of tree) → IsCellAt tree tree.position cell →
+    (before : World) × (n : ℕ) × CodeExec (Forward (cell_of_program cell.program)) before n (world_of runner) × IsSound before × IsFormed (cell_of_program cell.program) before
+ran_above tree travel cell runner way legal possible shown at =
     let s : Past = past_of tree in
     let some = (up_possible (past_of tree) travel way possible).0 in
     let run = run_here (past_of tree) legal some in
@@ -479,7 +505,6 @@ ran_above tree travel cell runner way legal possible shown at placed =
       subst (λ (w : World). CodeExec (Forward (cell_of_program cell.program)) (world_at (past_of tree) (node_at (past_of tree) tree.position).parent) (node_at (past_of tree) tree.position).steps w) (sym shown) ran,
       parent_sound (past_of tree) legal some,
       subst (λ (c : ACell). IsFormed c (world_at (past_of tree) (node_at (past_of tree) tree.position).parent)) (sym (cell_there tree tree.position cell at)) run.formed,
-      placed tree.position cell at,
     )
 
 pub stands_next_up : {L : Type 0} (tree : Tree) (travel : CodeTravel) (cell : Cell) (runner at : Runner L) → next_way (travel_of travel) ≡ Up → world_of runner ≡ here (past_of tree) → IsCellAt tree tree.position cell →
@@ -507,3 +532,11 @@ declares_next A E tree travel cell (Err x) way is none =
 pub ok_map : {A E : Type 0} {P Q : Type 0} (r : Result A E) → (P → Q) → OnOk r P → OnOk r Q
 ok_map (Ok x) f h = f h
 ok_map (Err x) f h = tt
+
+-- ---- between two jobs
+
+pub idle_store : {L : Type 0} (tree : Tree) (runner : Runner L) (job : Open) → StandsAt tree job runner → IsWholeAt job runner → job_of job ≡ state.Idle →
+    (runner.store.sight ≡ (here (past_of tree)).store) × IsWhole runner.store
+idle_store tree runner Idle stands whole e = (sym (all_shown runner.store whole) ∙ ap (λ (w : World). w.store) stands, whole)
+idle_store tree runner (Border travel) stands whole e = absurd (cc e)
+idle_store tree runner (Inside i) stands whole e = absurd (cc e)

@@ -1,8 +1,9 @@
 -- What a history keeps of its fields: the runner's store is the shown world.
 use Rattle.std.specs.Prelude.{◌≡◌, ℕ, ◌-◌, ◌<◌, ◌≤◌, Bool, true, false, Some, length, slice_get, slice_index}
 use Rattle.cell_tree.specs.Tree.{contents_of}
-use Rattle.kernel_core.specs.State.{node_at, world_at, here, ancestor, below, code_of}
-use Rattle.kernel_core.specs.Program.{IsPlacedIn}
+use Rattle.janus_store.specs.Held.{IsWhole}
+use Rattle.janus_machine.specs.Places.{BookHasNumbers}
+use Rattle.kernel_core.specs.State.{here, ancestor, below, code_of}
 use Rattle.kernel_core.specs.Travel.{Up, Down, Aim, Undo, Redo, Goto, next_way}
 use Rattle.kernel_core.specs.Fields.{nodes_of, past_of, aim_of, travel_of, work_of, job_of}
 use Rattle.kernel_core.specs.Legal.{IsLegal, IsPossibleAt, IsInTimeAt, IsCountedAt}
@@ -30,9 +31,9 @@ IsProgramOf tree (Move travel) p = elim (next_way (travel_of travel)) [
   | Down ↦ (cell : Cell) × IsCellAt tree (below (past_of tree) (travel_of travel)) cell × (p ≡ cell.program)
 ]
 
--- the code of each node names each variable by its place, run from the world of the node's parent
-abbrev pub ArePlacedNodes : Tree → Type 0
-ArePlacedNodes tree = (n : ℕ) (cell : Cell) → IsCellAt tree n cell → IsPlacedIn (world_at (past_of tree) (node_at (past_of tree) n).parent) cell.program
+-- the code of each node names each variable by its number in the store
+abbrev pub NodesHaveNumbers : {L : Type 0} → Tree → Runner L → Type 0
+NodesHaveNumbers tree runner = (n : ℕ) (cell : Cell) → IsCellAt tree n cell → BookHasNumbers runner.store.names cell.program.book
 
 abbrev pub is_back : Turn → Bool
 is_back GoesOn = false
@@ -49,6 +50,12 @@ abbrev pub StandsAt : {L : Type 0} → Tree → Open → Runner L → Type 0
 StandsAt tree Idle runner = world_of runner ≡ here (past_of tree)
 StandsAt tree (Border travel) runner = world_of runner ≡ here (past_of tree)
 StandsAt tree (Inside e) runner = StandsIn tree e.work e.count (is_back e.turn) runner
+
+-- between two cells no local is open
+abbrev pub IsWholeAt : {L : Type 0} → Open → Runner L → Type 0
+IsWholeAt Idle runner = IsWhole runner.store
+IsWholeAt (Border travel) runner = IsWhole runner.store
+IsWholeAt (Inside e) runner = Unit {0}
 
 -- room for one more node, made when a cell is begun
 abbrev pub HasRoom : Tree → Type 0
@@ -85,9 +92,10 @@ pub record Kept {L : Type 0} (tree : Tree) (runner : Runner L) (job : Open) : Ty
   pub possible : IsPossibleAt (past_of tree) (job_of job)
   pub counted : IsCountedAt (job_of job)
   pub stands : StandsAt tree job runner
+  pub whole : IsWholeAt job runner
   pub room : HasRoomAt tree job
   pub path : HasPathAt tree job
-  pub placed : ArePlacedNodes tree
+  pub numbered : NodesHaveNumbers tree runner
 
 -- what a history keeps: beside this, its open job has steps to take
 pub record IsKept {L : Type 0} (tree : Tree) (runner : Runner L) (job : Open) : Type 0 where

@@ -46,6 +46,7 @@ refused_by_syntax (syntax_fault.BadToken at) = Syntax (syntax_fault.BadToken at)
 refused_by_syntax (syntax_fault.Expected what at) = Syntax (syntax_fault.Expected what at)
 refused_by_syntax (syntax_fault.NumberTooLarge at) = Syntax (syntax_fault.NumberTooLarge at)
 refused_by_syntax (syntax_fault.TooNested at) = Syntax (syntax_fault.TooNested at)
+refused_by_syntax (syntax_fault.DelocalName at) = Syntax (syntax_fault.DelocalName at)
 refused_by_syntax syntax_fault.Memory = Memory
 
 abbrev pub refused_by_check : check.CheckFault → Refusal
@@ -53,6 +54,7 @@ refused_by_check (check_fault.Declared at) = Check (check_fault.Declared at)
 refused_by_check (check_fault.Unknown at) = Check (check_fault.Unknown at)
 refused_by_check (check_fault.WrongKind at) = Check (check_fault.WrongKind at)
 refused_by_check (check_fault.SelfUse at) = Check (check_fault.SelfUse at)
+refused_by_check (check_fault.Shadow at) = Check (check_fault.Shadow at)
 refused_by_check (check_fault.TooMany at) = Check (check_fault.TooMany at)
 refused_by_check (check_fault.ArrayLength at) = Check (check_fault.ArrayLength at)
 refused_by_check check_fault.Memory = Memory

@@ -7,9 +7,11 @@ ghost use Rattle.kernel_core.specs.Legal.{IsLegal, IsPossible, IsCounted, CanGo,
 ghost use Rattle.kernel_core.specs.Slices.{IsSlice, cells};
 ghost use Rattle.kernel_core.specs.StepsOfSlices.{WritesOnSlice};
 ghost use Rattle.kernel_core.specs.Begins.{TakesCell, TakesMove, TakesGoto, Departs, Enters, Declares, travel_to};
-ghost use Rattle.kernel_core.specs.Runner.{world_of};
+ghost use Rattle.janus_names.specs.Numbers.{GoOn};
+ghost use Rattle.janus_store.specs.Held.{IsWhole};
+ghost use Rattle.kernel_core.specs.Runner.{world_of, Becomes};
 ghost use Rattle.kernel_core.specs.Extent.{IsExtent};
-ghost use Rattle.kernel_core.specs.Kept.{HasRoom, HasPath, ArePlacedNodes, Kept, IsKept, StandsAt};
+ghost use Rattle.kernel_core.specs.Kept.{HasRoom, HasPath, NodesHaveNumbers, Kept, IsKept, StandsAt};
 
 use crate::extent::{Extent, extent_of};
 use crate::job::{Aim, Entered, Open, Stage, Travel, Turn, Way, Why, Work};
@@ -20,7 +22,7 @@ use crate::settle::{finished, go_back, go_on, turn_back};
 use crate::tree::{Tree, below, can_go_down, can_go_up, find_way, is_full};
 use crate::view::View;
 use cell_tree::Tree as Cells;
-use janus_machine::Writes;
+use janus_machine::{Store, Writes};
 use std::alloc::{AllocError, Global};
 use std::marker::Model;
 use std::mem;
@@ -61,9 +63,11 @@ fn enter_next<L: Ledger>(
     requires possible { IsPossible (nodes_of tree.now) tree.now.cells.favourites tree.now.position (travel_of travel) }
     requires path { HasPath (aim_of travel.aim) tree.now travel.down }
     requires shown { world_of runner.old ≡ here (past_of tree.now) }
-    requires placed { ArePlacedNodes tree.now }
+    requires whole { IsWhole runner.old.store }
+    requires numbered { NodesHaveNumbers tree.now runner.old }
     ensures ok { OnOk result (StandsAt tree.now (Open.Inside (record { work = Work.Move travel; count = 0; turn = Turn.Going })) runner.new) }
-    ensures err { OnErr result (world_of runner.new ≡ world_of runner.old) }
+    ensures err { OnErr result (Becomes runner.old.store runner.new.store runner.old.store.sight) }
+    ensures names { GoOn runner.old.store.names runner.new.store.names }
     ensures declares { OnErr result (Declares (past_of tree.now) (travel_of travel)) }
 {
     match travel.way() {
@@ -128,6 +132,15 @@ impl<L: Ledger> History<L> {
         View::of(&self.runner)
     }
 
+    /// The store between two jobs: it has the names and values of the position's world, and no local is open.
+    pub fn store(&self) -> &Store<L>
+        requires { self.now.job ≡ Idle }
+        ensures sight { result.now.sight ≡ (here self.now.past).store }
+        ensures whole { IsWhole result.now }
+    {
+        &self.runner.store
+    }
+
     /// The number of the node at which the kernel stands.
     pub fn position(&self) -> usize
         ensures { result ≡ self.now.past.position }
@@ -151,7 +164,7 @@ impl<L: Ledger> History<L> {
         if is_full(&self.tree) {
             return Begun::Ended(Outcome::Refused(Refusal::HistoryFull));
         }
-        let program = match Program::of_text(alloc, text, &self.runner) {
+        let program = match Program::of_text(alloc, text, &mut self.runner) {
             Ok(program) => program,
             Err(refusal) => return Begun::Ended(Outcome::Refused(refusal)),
         };

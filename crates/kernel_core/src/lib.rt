@@ -28,6 +28,7 @@ mod job;
 mod kernel;
 pub mod laws;
 mod machine;
+mod meeting;
 mod minutes;
 mod outcome;
 mod post;

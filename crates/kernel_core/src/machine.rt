@@ -1,6 +1,7 @@
 //! The kernel machine: the history, the queue of posted jobs, the execution counter and the minutes.
 ghost use Rattle.std.specs.Prelude.{◌≡◌, ◌≢◌, ◌+◌, ◌<◌, ◌^◌, IfOk, IfSome, IfNone, Some, length, map};
-ghost use Rattle.kernel_core.specs.State.{Idle, Shown};
+ghost use Rattle.kernel_core.specs.State.{Idle, Shown, here};
+ghost use Rattle.janus_store.specs.Held.{IsWhole};
 ghost use Rattle.kernel_core.specs.Request.{request_of, raised as the_raised};
 ghost use Rattle.kernel_core.specs.Minutes.{posted_in, ended_in};
 ghost use Rattle.kernel_core.specs.LegalMinutes.{HasLegalMinutes};
@@ -16,7 +17,7 @@ use crate::minutes::{Entry, MINUTES_LIMIT, Minutes};
 use crate::outcome::{Begun, Outcome, Phase, Refusal, Sliced};
 use crate::post::{Job, PostFault};
 use crate::view::View;
-use janus_machine::Writes;
+use janus_machine::{Store, Writes};
 use std::alloc::{AllocError, Global};
 use std::collections::VecDeque;
 use std::marker::Model;
@@ -202,6 +203,15 @@ impl<L: Ledger> Machine<L> {
         ensures { Shown self.now.state result }
     {
         self.history.world()
+    }
+
+    /// The store between two jobs: it has the names and values of the position's world, and no local is open.
+    pub fn store(&self) -> &Store<L>
+        requires { self.now.state.job ≡ Idle }
+        ensures sight { result.now.sight ≡ (here self.now.state.past).store }
+        ensures whole { IsWhole result.now }
+    {
+        self.history.store()
     }
 
     /// The number of the node at which the kernel stands.

@@ -8,6 +8,8 @@ ghost use Rattle.kernel_core.specs.Legal.{IsLegal, IsPossibleWork};
 ghost use Rattle.kernel_core.specs.Slices.{finished as the_finished, turned as the_turned, Backs, cells, Arrives, Settles, Goes, HasEnded};
 ghost use Rattle.janus_machine.specs.Counts.{IsWritten};
 ghost use Rattle.kernel_core.specs.StepsOfSlices.{steps_back, WritesOn};
+ghost use Rattle.janus_names.specs.Numbers.{GoOn};
+ghost use Rattle.janus_store.specs.Held.{IsWhole};
 ghost use Rattle.kernel_core.specs.Runner.{world_of};
 ghost use Rattle.kernel_core.specs.Kept.{Kept, IsProgramOf, HasPathFor};
 
@@ -64,7 +66,10 @@ fn settle_back<L: Ledger>(tree: &Tree, runner: &mut Runner<L>, work: &Work)
     requires possible { IsPossibleWork (past_of tree.now) (work_of work.now) }
     requires path { HasPathFor tree.now work.now }
     requires back { CodePart (code_of (past_of tree.now) (work_of work.now)) (here (past_of tree.now)) 0 (world_of runner.old) }
-    ensures { world_of runner.new ≡ here (past_of tree.now) }
+    requires whole { IsWhole runner.old.store }
+    ensures world { world_of runner.new ≡ here (past_of tree.now) }
+    ensures whole { IsWhole runner.new.store }
+    ensures names { GoOn runner.old.store.names runner.new.store.names }
 {
     match work {
         Work::Cell(program) => runner.leave(program),
@@ -148,6 +153,7 @@ fn settle_cell<L: Ledger>(
 ) -> (Open, Sliced)
     requires kept { Kept tree.old runner.now (Open.Inside (record { work = Work.Cell program; count = n; turn = Turn.Going })) }
     requires ended { HasEnded (past_of tree.old) (work_of (Work.Cell program)) n (world_of runner.now) }
+    requires whole { IsWhole runner.now.store }
     ensures step { Settles (past_of tree.old) (work_of (Work.Cell program)) n (world_of runner.now) result.1 (state_of tree.new result.0) }
     ensures kept { Kept tree.new runner.now result.0 }
 {
@@ -169,6 +175,7 @@ fn settle_up<L: Ledger>(
     requires way { next_way (travel_of travel) ≡ Up }
     requires kept { Kept tree.old runner.old (Open.Inside (record { work = Work.Move travel; count = n; turn = Turn.Going })) }
     requires ended { HasEnded (past_of tree.old) (work_of (Work.Move travel)) n (world_of runner.old) }
+    requires whole { IsWhole runner.old.store }
     ensures step { Settles (past_of tree.old) (work_of (Work.Move travel)) n (world_of runner.old) result.1 (state_of tree.new result.0) }
     ensures kept { Kept tree.new runner.new result.0 }
 {
@@ -187,6 +194,7 @@ fn settle_down<L: Ledger>(
     requires way { next_way (travel_of travel) ≡ Down }
     requires kept { Kept tree.old runner.now (Open.Inside (record { work = Work.Move travel; count = n; turn = Turn.Going })) }
     requires ended { HasEnded (past_of tree.old) (work_of (Work.Move travel)) n (world_of runner.now) }
+    requires whole { IsWhole runner.now.store }
     ensures step { Settles (past_of tree.old) (work_of (Work.Move travel)) n (world_of runner.now) result.1 (state_of tree.new result.0) }
     ensures kept { Kept tree.new runner.now result.0 }
 {
@@ -200,6 +208,7 @@ fn settle_down<L: Ledger>(
 fn settle<L: Ledger>(tree: &mut Tree, runner: &mut Runner<L>, work: Work, n: u64) -> (Open, Sliced)
     requires kept { Kept tree.old runner.old (Open.Inside (record { work = work; count = n; turn = Turn.Going })) }
     requires ended { HasEnded (past_of tree.old) (work_of work) n (world_of runner.old) }
+    requires whole { IsWhole runner.old.store }
     ensures step { Settles (past_of tree.old) (work_of work) n (world_of runner.old) result.1 (state_of tree.new result.0) }
     ensures kept { Kept tree.new runner.new result.0 }
 {

@@ -1,2 +1,3 @@
 pub mod Posts
 pub mod Extras
+pub mod Crosses

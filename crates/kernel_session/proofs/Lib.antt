@@ -5,3 +5,4 @@ pub mod SessionLemmas
 pub mod EventLemmas
 pub mod PieceLemmas
 pub mod ClosingLemmas
+pub mod LawLemmas

@@ -17,7 +17,7 @@ use Rattle.kernel_session.specs.Action.{Action, Acts}
 use Rattle.kernel_session.specs.Closing.{Closes, ClosesPart}
 use Rattle.kernel_session.specs.Parts.{ActedPart}
 use Rattle.kernel_session.specs.Session.{State, going, role_of, IsSession}
-use Rattle.kernel_session.specs.Ends.{Cut, IsMidway, stops_by, comes_to, comes_to_end, is_cut, ends_by}
+use Rattle.kernel_session.specs.Ends.{Cut, CutAtEnd, IsMidway, stops_by, comes_to, comes_to_end, is_cut_at_end, ends_by}
 use Rattle.kernel_session.proofs.ActsLemmas.{acts_none, acts_join}
 use Rattle.kernel_session.proofs.RequestLemmas.{starts_with}
 use Rattle.kernel_session.proofs.SessionLemmas.{whole_none, whole_whole, whole_cut, cut_none, cut_whole}
@@ -138,15 +138,15 @@ module _ {W D : Type 0} (contents : W → Option (List ℕ)) (leads : D → Call
   reads_more part es p = reads_as socket (input ++ part) (given ++ es) peer2 (p input given stands) role
 
   cut_more : (es : List Event) → Cut contents leads socket key [] w1 w2 d1 d2 (going stamp) es
-      → is_cut contents leads socket key before w w2 d d2 s stamp2 (given ++ es)
-  cut_more es p = inl (whole_cut contents leads socket key before w w1 w2 d d1 d2 s (going stamp) given es so_far refl p)
+      → Cut contents leads socket key before w w2 d d2 s (given ++ es)
+  cut_more es p = whole_cut contents leads socket key before w w1 w2 d d1 d2 s (going stamp) given es so_far refl p
 
   pub stops_by_piece : (left : Option (List ℕ)) (fault : ServeFault)
       → stops_by contents leads socket key w1 w2 d1 d2 stamp stamp2 peer piece peer2 fault
       → ends_by contents leads socket key before w w2 d d2 s stamp2 (Err fault) (input ++ piece) left
   stops_by_piece left Read p = absurd p
-  stops_by_piece left Write p = (given ++ p.0, ending_of peer2.state, reads_more piece p.0 p.1, cut_more p.0 p.2)
-  stops_by_piece left Memory p = (
+  stops_by_piece left Write p = (given ++ p.0, ending_of peer2.state, reads_more piece p.0 p.1, inl (cut_more p.0 p.2))
+  stops_by_piece left Memory p = inl (
     input ++ p.0,
     p.1,
     ap (λ (x : List ℕ). input ++ x) p.2 ∙ sym (append_assoc input p.0 p.1),
@@ -160,15 +160,22 @@ module _ {W D : Type 0} (contents : W → Option (List ℕ)) (leads : D → Call
   )
 
 -- a beginning, by the fault
-pub ends_midway : {W D : Type 0} (contents : W → Option (List ℕ)) (leads : D → Call → D → Type 0) (socket : Socket) (key : List ℕ) (before : List Action)
-    (w w' : W) (d d' : D) (s : State) (stamp2 : Stamp) (input : List ℕ) (events : List Event) (ending : Ending) (left : Option (List ℕ)) (fault : ServeFault)
-    → IsMidway fault → PeerReads (role_of socket) input events ending → is_cut contents leads socket key before w w' d d' s stamp2 events
-    → ends_by contents leads socket key before w w' d d' s stamp2 (Err fault) input left
-ends_midway contents leads socket key before w w' d d' s stamp2 input events ending left Read m p q = absurd m
-ends_midway contents leads socket key before w w' d d' s stamp2 input events ending left (Peer f) m p q = absurd m
-ends_midway contents leads socket key before w w' d d' s stamp2 input events ending left Write m p q = (events, ending, p, q)
-ends_midway contents leads socket key before w w' d d' s stamp2 input events ending left Memory m p q =
-    (input, [], sym (append-nil input), (events, ending, p, inr q))
+module _ {W D : Type 0} (contents : W → Option (List ℕ)) (leads : D → Call → D → Type 0) (socket : Socket) (key : List ℕ) (before : List Action)
+    (w w' : W) (d d' : D) (s : State) (stamp2 : Stamp) (input : List ℕ) (events : List Event) (ending : Ending) (left : Option (List ℕ)) where
+  pub ends_midway : (fault : ServeFault) → IsMidway fault → PeerReads (role_of socket) input events ending → Cut contents leads socket key before w w' d d' s events
+      → ends_by contents leads socket key before w w' d d' s stamp2 (Err fault) input left
+  ends_midway Read m p q = absurd m
+  ends_midway (Peer f) m p q = absurd m
+  ends_midway Write m p q = (events, ending, p, inl q)
+  ends_midway Memory m p q = inl (input, [], sym (append-nil input), (events, ending, p, inr q))
+
+  pub ends_at_end : (fault : ServeFault) → IsMidway fault → PeerReads (role_of socket) input events ending
+      → is_cut_at_end contents leads socket key before w w' d d' s stamp2 left events ending
+      → ends_by contents leads socket key before w w' d d' s stamp2 (Err fault) input left
+  ends_at_end Read m p q = absurd m
+  ends_at_end (Peer f) m p q = absurd m
+  ends_at_end Write m p q = (events, ending, p, inr q)
+  ends_at_end Memory m p q = inr (events, ending, p, q)
 
 module _ {W D : Type 0} (contents : W → Option (List ℕ)) (leads : D → Call → D → Type 0) (socket : Socket) (key : List ℕ) (before : List Action)
     (w w1 w2 : W) (d d1 d2 : D) (s : State) (stamp : Stamp) (events : List Event)
@@ -190,8 +197,8 @@ module _ {W D : Type 0} (contents : W → Option (List ℕ)) (leads : D → Call
   }
 
   pub cut_end : (closing : List Action) → ClosesPart socket events closing → ActedPart contents leads w1 w2 d1 d2 closing
-      → is_cut contents leads socket key before w w2 d d2 s stamp events
-  cut_end closing p q = inr record {
+      → CutAtEnd contents leads socket key before w w2 d d2 s events
+  cut_end closing p q = record {
     actions = so_far.actions;
     new = going stamp;
     session = all_seen;

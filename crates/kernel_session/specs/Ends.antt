@@ -104,14 +104,19 @@ module _ {W D : Type 0} (contents : W → Option (List ℕ)) (leads : D → Call
     abbrev pub comes_to_end : List Event → Type 0
     comes_to_end events = WholeToEnd before writer writer' desk desk' old (record { stamp = stamp'; flow = Going }) events
 
+    -- a beginning of what the events bring
     abbrev pub is_cut : List Event → Type 0
-    is_cut events = Cut before writer writer' desk desk' old events ⊎ CutAtEnd before writer writer' desk desk' old events
+    is_cut events = Cut before writer writer' desk desk' old events
+
+    -- all that they bring, at the end of the input, and a beginning of what that brings
+    abbrev pub is_cut_at_end : Option (List ℕ) → List Event → Ending → Type 0
+    is_cut_at_end left events ending = (ending ≡ Awaiting) × IsAtEnd left × CutAtEnd before writer writer' desk desk' old events
 
     -- how the octets are read: the events that they tell, and what is behind these
     abbrev pub Reading : (List Event → Ending → Type 0) → List ℕ → Type 0
     Reading P input = (events : List Event) × (ending : Ending) × PeerReads (role_of socket) input events ending × P events ending
 
-    -- HOW A CONNECTION ENDS, by its answer, for the octets that it read. Where memory ran out, for some beginning of them.
+    -- HOW A CONNECTION ENDS, by its answer, for the octets that it read. Where memory ran out, for some beginning of them, or at their end.
     abbrev pub ends_by : Result (Unit {0}) ServeFault → List ℕ → Option (List ℕ) → Type 0
     ends_by (Ok done) input left =
         Reading (λ events ending. ((ending ≡ Awaiting) × comes_to_end events × IsAtEnd left) ⊎ comes_to Closed events) input
@@ -119,7 +124,8 @@ module _ {W D : Type 0} (contents : W → Option (List ℕ)) (leads : D → Call
         Reading (λ events ending. ((ending ≡ Awaiting) × comes_to Going events) ⊎ comes_to Worn events) input
     ends_by (Err (Peer fault)) input left =
         Reading (λ events ending. (fault_of fault ≢ want_of_memory) × (ending ≡ Failing (fault_of fault)) × comes_to Going events) input
-    ends_by (Err Write) input left = Reading (λ events ending. is_cut events) input
+    ends_by (Err Write) input left = Reading (λ events ending. is_cut events ⊎ is_cut_at_end left events ending) input
     ends_by (Err Memory) input left =
-        (part : List ℕ) × (rest : List ℕ) × (input ≡ part ++ rest)
-        × Reading (λ events ending. comes_to Starved events ⊎ is_cut events) part
+        ((part : List ℕ) × (rest : List ℕ) × (input ≡ part ++ rest)
+        × Reading (λ events ending. comes_to Starved events ⊎ is_cut events) part)
+        ⊎ Reading (λ events ending. is_cut_at_end left events ending) input

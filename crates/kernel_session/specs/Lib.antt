@@ -6,3 +6,4 @@ pub mod Session
 pub mod Parts
 pub mod Closing
 pub mod Ends
+pub mod Laws

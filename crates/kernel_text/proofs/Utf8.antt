@@ -102,6 +102,7 @@ syntax_name_utf8 (s.BadToken at) = literal (codes "BadToken") refl
 syntax_name_utf8 (s.Expected w at) = literal (codes "Expected") refl
 syntax_name_utf8 (s.NumberTooLarge at) = literal (codes "NumberTooLarge") refl
 syntax_name_utf8 (s.TooNested at) = literal (codes "TooNested") refl
+syntax_name_utf8 (s.DelocalName at) = literal (codes "DelocalName") refl
 syntax_name_utf8 s.Memory = literal (codes "Memory") refl
 
 check_name_utf8 : (f : CheckFault) → IsUtf8 (check.fault_name f)
@@ -110,6 +111,7 @@ check_name_utf8 (c.Declared at) = literal (codes "Declared") refl
 check_name_utf8 (c.Unknown at) = literal (codes "Unknown") refl
 check_name_utf8 (c.WrongKind at) = literal (codes "WrongKind") refl
 check_name_utf8 (c.SelfUse at) = literal (codes "SelfUse") refl
+check_name_utf8 (c.Shadow at) = literal (codes "Shadow") refl
 check_name_utf8 (c.TooMany at) = literal (codes "TooMany") refl
 check_name_utf8 (c.ArrayLength at) = literal (codes "ArrayLength") refl
 

@@ -1,9 +1,8 @@
 use Rattle.std.proofs.Common.{string_bytes, ◌≡◌, ℤ, ap, ◌∙◌, sym, refl, arith, to_z, of_z, w32}
 use Rattle.std.proofs.lemmas.Int.{to_z-of_z}
 use Rattle.janus_meaning.specs.Fault.{Fine, Bad, Broken, and_then}
-use Rattle.janus_meaning.specs.Store.{look, number, Num}
+use Rattle.janus_meaning.specs.Store.{number, Num}
 use Rattle.janus_meaning.specs.Word.{changed}
-use Rattle.janus_meaning.specs.Value.{value}
 use Rattle.janus_syntax.specs.View.{update_of}
 use Rattle.janus_invert.specs.Expressions.{exp_of}
 use Rattle.janus_store.specs.Stores.{write}
@@ -12,25 +11,25 @@ use Rattle.janus_evaluation.proofs.Assigns.{is_number, value_safe, assign_bad, a
 use Rattle.janus_evaluation.proofs.assignment.assign.Goals as goal
 
 pub value-requires : goal.value-requires
-value-requires g c = record { safe = value_safe (string_bytes c.args.name.now.text) (update_of c.args.update) (exp_of c.args.exp.now) c.args.store.now c.requires.safe; placed = c.requires.placed }
+value-requires g c = record { safe = value_safe (string_bytes c.args.name.now.text) (update_of c.args.update) (exp_of c.args.exp.now) c.args.store.now.sight c.requires.safe; numbered = c.requires.numbered }
 
 pub returns-in-Err-clause-done : goal.returns-in-Err-clause-done
 returns-in-Err-clause-done g c =
-    (assign_bad (string_bytes c.args.name.now.text) (update_of c.args.update) (exp_of c.args.exp.now) c.args.store.now (fault_of c.in-Err.fault) c.requires.safe (sym c.in-Err.ensures), refl)
+    (assign_bad (string_bytes c.args.name.now.text) (update_of c.args.update) (exp_of c.args.exp.now) c.args.store.now.sight (fault_of c.in-Err.fault) c.requires.safe (sym c.in-Err.ensures), refl)
 
 pub unreachable-requires : goal.unreachable-requires
 unreachable-requires g c =
-    let s = c.args.store.now in
+    let s = c.args.store.now.sight in
     let n = is_number (string_bytes c.args.name.now.text) (update_of c.args.update) (exp_of c.args.exp.now) s c.requires.safe in
     let z : Bad Broken ≡ Fine n.0 = c.in_default.ensures (string_bytes c.args.name.now.text) c.requires.at ∙ ap (λ r. and_then r number) n.1 in
     cc
 
 pub set-requires : goal.set-requires
-set-requires g c = (string_bytes c.args.name.now.text, c.requires.at, is_number (string_bytes c.args.name.now.text) (update_of c.args.update) (exp_of c.args.exp.now) c.args.store.now c.requires.safe)
+set-requires g c = (string_bytes c.args.name.now.text, c.requires.at, is_number (string_bytes c.args.name.now.text) (update_of c.args.update) (exp_of c.args.exp.now) c.args.store.now.sight c.requires.safe)
 
 pub returns-clause-done : goal.returns-clause-done
 returns-clause-done g c =
-    let s = c.args.store.now in
+    let s = c.args.store.now.sight in
     let x = string_bytes c.args.name.now.text in
     let o = update_of c.args.update in
     let e = exp_of c.args.exp.now in
@@ -44,7 +43,10 @@ returns-clause-done g c =
     let m : ℤ = c.changed.result in
     let zc : to_z w32 (of_z w32 m) ≡ m = grind (arith, to_z-of_z) in
     let made : to_z w32 (of_z w32 c.changed.result) ≡ changed o n.0 w = zc ∙ c.changed.ensures ∙ ap (λ v. changed o v (to_z w32 (of_z w32 w))) (zo ∙ same) ∙ ap (changed o n.0) z in
-    assign_fine x o e s n.0 w c.set.new.self c.requires.safe n.1 (sym c.in-Ok.ensures) (ap (λ m. write x (Num m) s) (sym made) ∙ c.set.ensures.written x c.requires.at)
+    assign_fine x o e s n.0 w c.set.new.self.sight c.requires.safe n.1 (sym c.in-Ok.ensures) (ap (λ m. write x (Num m) s) (sym made) ∙ c.set.ensures.written x c.requires.at)
 
 pub get-requires : goal.get-requires
-get-requires g c = (string_bytes c.args.name.now.text, c.requires.at)
+get-requires g c =
+    let x = string_bytes c.args.name.now.text in
+    let n = is_number x (update_of c.args.update) (exp_of c.args.exp.now) c.args.store.now.sight c.requires.safe in
+    (x, Num n.0, c.requires.at, n.1)

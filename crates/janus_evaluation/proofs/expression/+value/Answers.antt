@@ -1,126 +1,128 @@
-use Rattle.std.proofs.Common.{◌≡◌, ◌<◌, ◌%◌, ◌^◌, refl, ℕ, ap, ◌∙◌, sym, subst, arith, ℤ, pos, neg_ℤ, true, false, string_bytes, to_z, of_z, w32}
+use Rattle.std.proofs.Common.{◌≡◌, refl, ap, ◌∙◌, sym, subst, arith, ℤ, neg_ℤ, true, false, string_bytes, to_z, of_z, w32}
 use Rattle.std.proofs.lemmas.Int.{to_z-of_z}
-use Rattle.janus_meaning.specs.Fault.{Fine, Bad, Broken, and_then}
+use Rattle.janus_meaning.specs.Fault.{Fine, Bad, Broken}
 use Rattle.janus_meaning.specs.Syntax as tree
 use Rattle.janus_meaning.specs.Value.{value, both}
 use Rattle.janus_meaning.specs.Word.{wrap, bit, nonzero, operate}
-use Rattle.janus_meaning.specs.Store.{look, number, element}
-use Rattle.janus_store.specs.Stores.{names_in}
+use Rattle.janus_meaning.specs.Store.{element, Num}
 use Rattle.janus_syntax.specs.View.{operator_of}
 use Rattle.janus_invert.specs.Expressions.{exp_of}
-use Rattle.janus_invert.specs.Placed.{IsPlaced}
+use Rattle.janus_invert.specs.Numbered.{HasNumbers}
 use Rattle.janus_evaluation.specs.Results.{fault_of}
 use Rattle.janus_evaluation.proofs.Numbers.{wrap_number, bit_wraps}
 use Rattle.janus_evaluation.proofs.Sizes.{exp_size}
-use Rattle.janus_evaluation.proofs.Values.{variable_is, is_array, empty_is_stack, top_is_stack, empty_is, top_is, element_is, element_bad, negative_is, binary_is, binary_right, and_is, and_at, or_is, or_at}
+use Rattle.janus_evaluation.proofs.Values.{variable_is, is_number, is_array, empty_is_stack, top_is_stack, empty_is, top_is, element_is, element_bad, negative_is, binary_is, binary_right, and_is, and_at, or_is, or_at}
 use Rattle.janus_evaluation.proofs.expression.+value.Goals as goal
 
 pub unreachable-requires : goal.unreachable-requires
 unreachable-requires g t c =
-    let s = c.args.store.now in
+    let s = c.args.store.now.sight in
     let x = string_bytes c.in-Variable.name.text in
-    let at = subst (IsPlaced (names_in s)) c.in-Variable.is c.requires.placed in
+    let at = subst (HasNumbers c.args.store.now.names) c.in-Variable.is c.requires.numbered in
     c.requires.safe (ap (λ e. value (exp_of e) s) c.in-Variable.is ∙ variable_is s x ∙ sym (c.in-None.ensures x at))
 
 pub get-requires : goal.get-requires
 get-requires g t c =
-    let at = subst (IsPlaced (names_in c.args.store.now)) c.in-Variable.is c.requires.placed in
-    (string_bytes c.in-Variable.name.text, at)
+    let s = c.args.store.now.sight in
+    let x = string_bytes c.in-Variable.name.text in
+    let at = subst (HasNumbers c.args.store.now.names) c.in-Variable.is c.requires.numbered in
+    let n = is_number s x (λ q. c.requires.safe (ap (λ e. value (exp_of e) s) c.in-Variable.is ∙ q)) in
+    (x, Num n.0, at, n.1)
 
 pub value-requires : goal.value-requires
 value-requires g t c =
-    let s = c.args.store.now in
+    let s = c.args.store.now.sight in
     let a = string_bytes c.in-Element.name.text in
     let i = exp_of c.in-Element.index.value in
     let safe : value (tree.At a i) s ≡ Bad Broken → ⊥ = λ q. c.requires.safe (ap (λ e. value (exp_of e) s) c.in-Element.is ∙ q) in
     let arr = is_array s a i safe in
-    λ κs sub. (omega (arith, c.decreases, ap exp_size c.in-Element.is, ap exp_size c.deref.ensures), (sub, (λ h. safe (element_bad s a i arr.0 Broken arr.1 (ap (λ e. value (exp_of e) s) (sym c.deref.ensures) ∙ h)), subst (IsPlaced (names_in s)) (sym c.deref.ensures) (subst (IsPlaced (names_in s)) c.in-Element.is c.requires.placed).1)))
+    λ κs sub. (omega (arith, c.decreases, ap exp_size c.in-Element.is, ap exp_size c.deref.ensures), (sub, (λ h. safe (element_bad s a i arr.0 Broken arr.1 (ap (λ e. value (exp_of e) s) (sym c.deref.ensures) ∙ h)), subst (HasNumbers c.args.store.now.names) (sym c.deref.ensures) (subst (HasNumbers c.args.store.now.names) c.in-Element.is c.requires.numbered).1)))
 
 pub element-requires : goal.element-requires
 element-requires g t c =
-    let s = c.args.store.now in
+    let s = c.args.store.now.sight in
     let a = string_bytes c.in-Element.name.text in
     let i = exp_of c.in-Element.index.value in
     let safe : value (tree.At a i) s ≡ Bad Broken → ⊥ = λ q. c.requires.safe (ap (λ e. value (exp_of e) s) c.in-Element.is ∙ q) in
-    let placed = subst (IsPlaced (names_in s)) c.in-Element.is c.requires.placed in
-    (a, placed.0, is_array s a i safe)
+    let numbered = subst (HasNumbers c.args.store.now.names) c.in-Element.is c.requires.numbered in
+    (a, numbered.0, is_array s a i safe)
 
 pub value-requires-in-Negative : goal.value-requires-in-Negative
 value-requires-in-Negative g t c =
-    let s = c.args.store.now in
-    λ κs sub. (omega (arith, c.decreases, ap exp_size c.in-Negative.is, ap exp_size c.deref-in-Negative.ensures), (sub, (λ h. c.requires.safe (ap (λ e. value (exp_of e) s) c.in-Negative.is ∙ negative_is s (exp_of c.in-Negative.operand.value) (Bad Broken) (ap (λ e. value (exp_of e) s) (sym c.deref-in-Negative.ensures) ∙ h)), subst (IsPlaced (names_in s)) (sym c.deref-in-Negative.ensures) (subst (IsPlaced (names_in s)) c.in-Negative.is c.requires.placed))))
+    let s = c.args.store.now.sight in
+    λ κs sub. (omega (arith, c.decreases, ap exp_size c.in-Negative.is, ap exp_size c.deref-in-Negative.ensures), (sub, (λ h. c.requires.safe (ap (λ e. value (exp_of e) s) c.in-Negative.is ∙ negative_is s (exp_of c.in-Negative.operand.value) (Bad Broken) (ap (λ e. value (exp_of e) s) (sym c.deref-in-Negative.ensures) ∙ h)), subst (HasNumbers c.args.store.now.names) (sym c.deref-in-Negative.ensures) (subst (HasNumbers c.args.store.now.names) c.in-Negative.is c.requires.numbered))))
 
 pub value-requires-in-Binary : goal.value-requires-in-Binary
 value-requires-in-Binary g t c =
-    let s = c.args.store.now in
+    let s = c.args.store.now.sight in
     let o = operator_of c.in-Binary.operator in
     let l = exp_of c.in-Binary.left.value in
     let r = exp_of c.in-Binary.right.value in
-    λ κs sub. (omega (arith, c.decreases, ap exp_size c.in-Binary.is, ap exp_size c.deref-in-Binary.ensures), (sub, (λ h. c.requires.safe (ap (λ e. value (exp_of e) s) c.in-Binary.is ∙ binary_is s o l r (Bad Broken) (ap (λ e. value (exp_of e) s) (sym c.deref-in-Binary.ensures) ∙ h)), subst (IsPlaced (names_in s)) (sym c.deref-in-Binary.ensures) (subst (IsPlaced (names_in s)) c.in-Binary.is c.requires.placed).0)))
+    λ κs sub. (omega (arith, c.decreases, ap exp_size c.in-Binary.is, ap exp_size c.deref-in-Binary.ensures), (sub, (λ h. c.requires.safe (ap (λ e. value (exp_of e) s) c.in-Binary.is ∙ binary_is s o l r (Bad Broken) (ap (λ e. value (exp_of e) s) (sym c.deref-in-Binary.ensures) ∙ h)), subst (HasNumbers c.args.store.now.names) (sym c.deref-in-Binary.ensures) (subst (HasNumbers c.args.store.now.names) c.in-Binary.is c.requires.numbered).0)))
 
 pub value-requires-in-Ok-value-2 : goal.value-requires-in-Ok-value-2
 value-requires-in-Ok-value-2 g t c =
-    let s = c.args.store.now in
+    let s = c.args.store.now.sight in
     let o = operator_of c.in-Binary.operator in
     let l = exp_of c.in-Binary.left.value in
     let r = exp_of c.in-Binary.right.value in
     let left : value l s ≡ Fine c.in-Ok-value-2.left = sym (c.in-Ok-value-2.ensures ∙ ap (λ e. value (exp_of e) s) c.deref-in-Binary.ensures) in
-    λ κs sub. (omega (arith, c.decreases, ap exp_size c.in-Binary.is, ap exp_size c.deref-in-Ok-value-2.ensures), (sub, (λ h. c.requires.safe (ap (λ e. value (exp_of e) s) c.in-Binary.is ∙ binary_right s o l r c.in-Ok-value-2.left (Bad Broken) left (ap (λ e. value (exp_of e) s) (sym c.deref-in-Ok-value-2.ensures) ∙ h)), subst (IsPlaced (names_in s)) (sym c.deref-in-Ok-value-2.ensures) (subst (IsPlaced (names_in s)) c.in-Binary.is c.requires.placed).1)))
+    λ κs sub. (omega (arith, c.decreases, ap exp_size c.in-Binary.is, ap exp_size c.deref-in-Ok-value-2.ensures), (sub, (λ h. c.requires.safe (ap (λ e. value (exp_of e) s) c.in-Binary.is ∙ binary_right s o l r c.in-Ok-value-2.left (Bad Broken) left (ap (λ e. value (exp_of e) s) (sym c.deref-in-Ok-value-2.ensures) ∙ h)), subst (HasNumbers c.args.store.now.names) (sym c.deref-in-Ok-value-2.ensures) (subst (HasNumbers c.args.store.now.names) c.in-Binary.is c.requires.numbered).1)))
 
 pub value-requires-in-And : goal.value-requires-in-And
 value-requires-in-And g t c =
-    let s = c.args.store.now in
+    let s = c.args.store.now.sight in
     let l = exp_of c.in-And.left.value in
     let r = exp_of c.in-And.right.value in
-    λ κs sub. (omega (arith, c.decreases, ap exp_size c.in-And.is, ap exp_size c.deref-in-And.ensures), (sub, (λ h. c.requires.safe (ap (λ e. value (exp_of e) s) c.in-And.is ∙ and_is s l r (Bad Broken) (ap (λ e. value (exp_of e) s) (sym c.deref-in-And.ensures) ∙ h)), subst (IsPlaced (names_in s)) (sym c.deref-in-And.ensures) (subst (IsPlaced (names_in s)) c.in-And.is c.requires.placed).0)))
+    λ κs sub. (omega (arith, c.decreases, ap exp_size c.in-And.is, ap exp_size c.deref-in-And.ensures), (sub, (λ h. c.requires.safe (ap (λ e. value (exp_of e) s) c.in-And.is ∙ and_is s l r (Bad Broken) (ap (λ e. value (exp_of e) s) (sym c.deref-in-And.ensures) ∙ h)), subst (HasNumbers c.args.store.now.names) (sym c.deref-in-And.ensures) (subst (HasNumbers c.args.store.now.names) c.in-And.is c.requires.numbered).0)))
 
 pub value-requires-then-holds : goal.value-requires-then-holds
 value-requires-then-holds g t c =
-    let s = c.args.store.now in
+    let s = c.args.store.now.sight in
     let l = exp_of c.in-And.left.value in
     let r = exp_of c.in-And.right.value in
     let n : ℤ = c.in-Ok-value-4.left in
     let z : to_z w32 (of_z w32 n) ≡ n = grind (arith, to_z-of_z) in
     let left : value l s ≡ Fine n = sym (c.in-Ok-value-4.ensures ∙ ap (λ e. value (exp_of e) s) c.deref-in-And.ensures) in
     let test : nonzero n ≡ true = ap nonzero (sym z) ∙ sym c.holds.ensures ∙ c.if-holds.true in
-    λ κs sub. (omega (arith, c.decreases, ap exp_size c.in-And.is, ap exp_size c.deref-then-holds.ensures), (sub, (λ h. c.requires.safe (ap (λ e. value (exp_of e) s) c.in-And.is ∙ and_at s l r n true (Bad Broken) left test (ap (λ e. value (exp_of e) s) (sym c.deref-then-holds.ensures) ∙ h)), subst (IsPlaced (names_in s)) (sym c.deref-then-holds.ensures) (subst (IsPlaced (names_in s)) c.in-And.is c.requires.placed).1)))
+    λ κs sub. (omega (arith, c.decreases, ap exp_size c.in-And.is, ap exp_size c.deref-then-holds.ensures), (sub, (λ h. c.requires.safe (ap (λ e. value (exp_of e) s) c.in-And.is ∙ and_at s l r n true (Bad Broken) left test (ap (λ e. value (exp_of e) s) (sym c.deref-then-holds.ensures) ∙ h)), subst (HasNumbers c.args.store.now.names) (sym c.deref-then-holds.ensures) (subst (HasNumbers c.args.store.now.names) c.in-And.is c.requires.numbered).1)))
 
 pub value-requires-in-Or : goal.value-requires-in-Or
 value-requires-in-Or g t c =
-    let s = c.args.store.now in
+    let s = c.args.store.now.sight in
     let l = exp_of c.in-Or.left.value in
     let r = exp_of c.in-Or.right.value in
-    λ κs sub. (omega (arith, c.decreases, ap exp_size c.in-Or.is, ap exp_size c.deref-in-Or.ensures), (sub, (λ h. c.requires.safe (ap (λ e. value (exp_of e) s) c.in-Or.is ∙ or_is s l r (Bad Broken) (ap (λ e. value (exp_of e) s) (sym c.deref-in-Or.ensures) ∙ h)), subst (IsPlaced (names_in s)) (sym c.deref-in-Or.ensures) (subst (IsPlaced (names_in s)) c.in-Or.is c.requires.placed).0)))
+    λ κs sub. (omega (arith, c.decreases, ap exp_size c.in-Or.is, ap exp_size c.deref-in-Or.ensures), (sub, (λ h. c.requires.safe (ap (λ e. value (exp_of e) s) c.in-Or.is ∙ or_is s l r (Bad Broken) (ap (λ e. value (exp_of e) s) (sym c.deref-in-Or.ensures) ∙ h)), subst (HasNumbers c.args.store.now.names) (sym c.deref-in-Or.ensures) (subst (HasNumbers c.args.store.now.names) c.in-Or.is c.requires.numbered).0)))
 
 pub value-requires-else-holds-2 : goal.value-requires-else-holds-2
 value-requires-else-holds-2 g t c =
-    let s = c.args.store.now in
+    let s = c.args.store.now.sight in
     let l = exp_of c.in-Or.left.value in
     let r = exp_of c.in-Or.right.value in
     let n : ℤ = c.in-Ok-value-5.left in
     let z : to_z w32 (of_z w32 n) ≡ n = grind (arith, to_z-of_z) in
     let left : value l s ≡ Fine n = sym (c.in-Ok-value-5.ensures ∙ ap (λ e. value (exp_of e) s) c.deref-in-Or.ensures) in
     let test : nonzero n ≡ false = ap nonzero (sym z) ∙ sym c.holds-in-Ok-value-5.ensures ∙ c.if-holds-2.false in
-    λ κs sub. (omega (arith, c.decreases, ap exp_size c.in-Or.is, ap exp_size c.deref-else-holds-2.ensures), (sub, (λ h. c.requires.safe (ap (λ e. value (exp_of e) s) c.in-Or.is ∙ or_at s l r n false (Bad Broken) left test (ap (λ e. value (exp_of e) s) (sym c.deref-else-holds-2.ensures) ∙ h)), subst (IsPlaced (names_in s)) (sym c.deref-else-holds-2.ensures) (subst (IsPlaced (names_in s)) c.in-Or.is c.requires.placed).1)))
+    λ κs sub. (omega (arith, c.decreases, ap exp_size c.in-Or.is, ap exp_size c.deref-else-holds-2.ensures), (sub, (λ h. c.requires.safe (ap (λ e. value (exp_of e) s) c.in-Or.is ∙ or_at s l r n false (Bad Broken) left test (ap (λ e. value (exp_of e) s) (sym c.deref-else-holds-2.ensures) ∙ h)), subst (HasNumbers c.args.store.now.names) (sym c.deref-else-holds-2.ensures) (subst (HasNumbers c.args.store.now.names) c.in-Or.is c.requires.numbered).1)))
 
 pub returns-in-Number : goal.returns-in-Number
 unfolding value wrap
 returns-in-Number g t c =
     let n : ℤ = c.cast_signed.result in
     let z : to_z w32 (of_z w32 n) ≡ n = grind (arith, to_z-of_z) in
-    ap Fine (z ∙ c.cast_signed.ensures ∙ wrap_number c.in-Number.number (omega arith)) ∙ ap (λ e. value (exp_of e) c.args.store.now) (sym c.in-Number.is)
+    ap Fine (z ∙ c.cast_signed.ensures ∙ wrap_number c.in-Number.number (omega arith)) ∙ ap (λ e. value (exp_of e) c.args.store.now.sight) (sym c.in-Number.is)
 
 pub returns-in-Some : goal.returns-in-Some
 returns-in-Some g t c =
-    let s = c.args.store.now in
+    let s = c.args.store.now.sight in
     let n : ℤ = c.in-Some.number in
     let z : to_z w32 (of_z w32 n) ≡ n = grind (arith, to_z-of_z) in
-    let at = subst (IsPlaced (names_in s)) c.in-Variable.is c.requires.placed in
+    let at = subst (HasNumbers c.args.store.now.names) c.in-Variable.is c.requires.numbered in
     ap Fine z ∙ c.in-Some.ensures (string_bytes c.in-Variable.name.text) at ∙ sym (variable_is s (string_bytes c.in-Variable.name.text)) ∙ ap (λ e. value (exp_of e) s) (sym c.in-Variable.is)
 
 pub returns-in-Ok : goal.returns-in-Ok
 returns-in-Ok g t c =
-    let s = c.args.store.now in
+    let s = c.args.store.now.sight in
     let a = string_bytes c.in-Element.name.text in
     let i = exp_of c.in-Element.index.value in
     let safe : value (tree.At a i) s ≡ Bad Broken → ⊥ = λ q. c.requires.safe (ap (λ e. value (exp_of e) s) c.in-Element.is ∙ q) in
@@ -128,13 +130,13 @@ returns-in-Ok g t c =
     let k : ℤ = c.in-Ok.index in
     let z : to_z w32 (of_z w32 k) ≡ k = grind (arith, to_z-of_z) in
     let index : value i s ≡ Fine k = sym (c.in-Ok.ensures ∙ ap (λ e. value (exp_of e) s) c.deref.ensures) in
-    let placed = subst (IsPlaced (names_in s)) c.in-Element.is c.requires.placed in
-    c.element.ensures a arr.0 placed.0 arr.1 ∙ ap (element arr.0) z
+    let numbered = subst (HasNumbers c.args.store.now.names) c.in-Element.is c.requires.numbered in
+    c.element.ensures a arr.0 numbered.0 arr.1 ∙ ap (element arr.0) z
     ∙ sym (element_is s a i arr.0 k arr.1 index) ∙ ap (λ e. value (exp_of e) s) (sym c.in-Element.is)
 
 pub returns-in-Err : goal.returns-in-Err
 returns-in-Err g t c =
-    let s = c.args.store.now in
+    let s = c.args.store.now.sight in
     let a = string_bytes c.in-Element.name.text in
     let i = exp_of c.in-Element.index.value in
     let safe : value (tree.At a i) s ≡ Bad Broken → ⊥ = λ q. c.requires.safe (ap (λ e. value (exp_of e) s) c.in-Element.is ∙ q) in
@@ -143,7 +145,7 @@ returns-in-Err g t c =
 
 pub returns-in-Ok-value : goal.returns-in-Ok-value
 returns-in-Ok-value g t c =
-    let s = c.args.store.now in
+    let s = c.args.store.now.sight in
     let e = exp_of c.in-Negative.operand.value in
     let n : ℤ = c.in-Ok-value.number in
     let z : to_z w32 (of_z w32 n) ≡ n = grind (arith, to_z-of_z) in
@@ -154,12 +156,12 @@ returns-in-Ok-value g t c =
 
 pub returns-in-Err-value : goal.returns-in-Err-value
 returns-in-Err-value g t c =
-    let s = c.args.store.now in
+    let s = c.args.store.now.sight in
     sym (negative_is s (exp_of c.in-Negative.operand.value) (Bad (fault_of c.in-Err-value.fault)) (sym (c.in-Err-value.ensures ∙ ap (λ e. value (exp_of e) s) c.deref-in-Negative.ensures))) ∙ ap (λ e. value (exp_of e) s) (sym c.in-Negative.is)
 
 pub returns-in-Ok-value-3 : goal.returns-in-Ok-value-3
 returns-in-Ok-value-3 g t c =
-    let s = c.args.store.now in
+    let s = c.args.store.now.sight in
     let o = operator_of c.in-Binary.operator in
     let l = exp_of c.in-Binary.left.value in
     let r = exp_of c.in-Binary.right.value in
@@ -173,7 +175,7 @@ returns-in-Ok-value-3 g t c =
 
 pub returns-in-Err-value-3 : goal.returns-in-Err-value-3
 returns-in-Err-value-3 g t c =
-    let s = c.args.store.now in
+    let s = c.args.store.now.sight in
     let o = operator_of c.in-Binary.operator in
     let l = exp_of c.in-Binary.left.value in
     let r = exp_of c.in-Binary.right.value in
@@ -182,7 +184,7 @@ returns-in-Err-value-3 g t c =
 
 pub returns-in-Err-value-2 : goal.returns-in-Err-value-2
 returns-in-Err-value-2 g t c =
-    let s = c.args.store.now in
+    let s = c.args.store.now.sight in
     let o = operator_of c.in-Binary.operator in
     let l = exp_of c.in-Binary.left.value in
     let r = exp_of c.in-Binary.right.value in
@@ -190,7 +192,7 @@ returns-in-Err-value-2 g t c =
 
 pub returns-then-holds : goal.returns-then-holds
 returns-then-holds g t c =
-    let s = c.args.store.now in
+    let s = c.args.store.now.sight in
     let l = exp_of c.in-And.left.value in
     let r = exp_of c.in-And.right.value in
     let n : ℤ = c.in-Ok-value-4.left in
@@ -202,7 +204,7 @@ returns-then-holds g t c =
 
 pub returns-else-holds : goal.returns-else-holds
 returns-else-holds g t c =
-    let s = c.args.store.now in
+    let s = c.args.store.now.sight in
     let l = exp_of c.in-And.left.value in
     let r = exp_of c.in-And.right.value in
     let n : ℤ = c.in-Ok-value-4.left in
@@ -213,14 +215,14 @@ returns-else-holds g t c =
 
 pub returns-in-Err-value-4 : goal.returns-in-Err-value-4
 returns-in-Err-value-4 g t c =
-    let s = c.args.store.now in
+    let s = c.args.store.now.sight in
     let l = exp_of c.in-And.left.value in
     let r = exp_of c.in-And.right.value in
     sym (and_is s l r (Bad (fault_of c.in-Err-value-4.fault)) (sym (c.in-Err-value-4.ensures ∙ ap (λ e. value (exp_of e) s) c.deref-in-And.ensures))) ∙ ap (λ e. value (exp_of e) s) (sym c.in-And.is)
 
 pub returns-then-holds-2 : goal.returns-then-holds-2
 returns-then-holds-2 g t c =
-    let s = c.args.store.now in
+    let s = c.args.store.now.sight in
     let l = exp_of c.in-Or.left.value in
     let r = exp_of c.in-Or.right.value in
     let n : ℤ = c.in-Ok-value-5.left in
@@ -231,7 +233,7 @@ returns-then-holds-2 g t c =
 
 pub returns-else-holds-2 : goal.returns-else-holds-2
 returns-else-holds-2 g t c =
-    let s = c.args.store.now in
+    let s = c.args.store.now.sight in
     let l = exp_of c.in-Or.left.value in
     let r = exp_of c.in-Or.right.value in
     let n : ℤ = c.in-Ok-value-5.left in
@@ -243,37 +245,37 @@ returns-else-holds-2 g t c =
 
 pub returns-in-Err-value-5 : goal.returns-in-Err-value-5
 returns-in-Err-value-5 g t c =
-    let s = c.args.store.now in
+    let s = c.args.store.now.sight in
     let l = exp_of c.in-Or.left.value in
     let r = exp_of c.in-Or.right.value in
     sym (or_is s l r (Bad (fault_of c.in-Err-value-5.fault)) (sym (c.in-Err-value-5.ensures ∙ ap (λ e. value (exp_of e) s) c.deref-in-Or.ensures))) ∙ ap (λ e. value (exp_of e) s) (sym c.in-Or.is)
 
 pub is_empty-requires : goal.is_empty-requires
 is_empty-requires g t c =
-    let s = c.args.store.now in
+    let s = c.args.store.now.sight in
     let x = string_bytes c.in-Empty.name.text in
-    (x, subst (IsPlaced (names_in s)) c.in-Empty.is c.requires.placed, empty_is_stack s x (λ q. c.requires.safe (ap (λ e. value (exp_of e) s) c.in-Empty.is ∙ q)))
+    (x, subst (HasNumbers c.args.store.now.names) c.in-Empty.is c.requires.numbered, empty_is_stack s x (λ q. c.requires.safe (ap (λ e. value (exp_of e) s) c.in-Empty.is ∙ q)))
 
 pub returns-in-Empty : goal.returns-in-Empty
 returns-in-Empty g t c =
-    let s = c.args.store.now in
+    let s = c.args.store.now.sight in
     let x = string_bytes c.in-Empty.name.text in
     let l = empty_is_stack s x (λ q. c.requires.safe (ap (λ e. value (exp_of e) s) c.in-Empty.is ∙ q)) in
-    let at = subst (IsPlaced (names_in s)) c.in-Empty.is c.requires.placed in
+    let at = subst (HasNumbers c.args.store.now.names) c.in-Empty.is c.requires.numbered in
     let n : ℤ = c.bit_of.result in
     let z : to_z w32 (of_z w32 n) ≡ n = grind (arith, to_z-of_z) in
     ap Fine (z ∙ c.bit_of.ensures ∙ ap (λ b. wrap (bit b)) (c.is_empty.ensures x l.0 at l.1)) ∙ sym (empty_is s x l.0 l.1) ∙ ap (λ e. value (exp_of e) s) (sym c.in-Empty.is)
 
 pub top-requires : goal.top-requires
 top-requires g t c =
-    let s = c.args.store.now in
+    let s = c.args.store.now.sight in
     let x = string_bytes c.in-Top.name.text in
-    (x, subst (IsPlaced (names_in s)) c.in-Top.is c.requires.placed, top_is_stack s x (λ q. c.requires.safe (ap (λ e. value (exp_of e) s) c.in-Top.is ∙ q)))
+    (x, subst (HasNumbers c.args.store.now.names) c.in-Top.is c.requires.numbered, top_is_stack s x (λ q. c.requires.safe (ap (λ e. value (exp_of e) s) c.in-Top.is ∙ q)))
 
 pub returns-in-Top : goal.returns-in-Top
 returns-in-Top g t c =
-    let s = c.args.store.now in
+    let s = c.args.store.now.sight in
     let x = string_bytes c.in-Top.name.text in
     let l = top_is_stack s x (λ q. c.requires.safe (ap (λ e. value (exp_of e) s) c.in-Top.is ∙ q)) in
-    let at = subst (IsPlaced (names_in s)) c.in-Top.is c.requires.placed in
+    let at = subst (HasNumbers c.args.store.now.names) c.in-Top.is c.requires.numbered in
     c.top.ensures x l.0 at l.1 ∙ sym (top_is s x l.0 l.1) ∙ ap (λ e. value (exp_of e) s) (sym c.in-Top.is)

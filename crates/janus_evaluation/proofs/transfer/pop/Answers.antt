@@ -1,15 +1,13 @@
-use Rattle.std.proofs.Common.{string_bytes, ◌≡◌, ◌<◌, ◌≤◌, ◌∷◌, ℤ, List, pos, true, false, length, ap, ◌∙◌, sym, subst, refl, arith, to_z, of_z, w32}
-use Rattle.std.specs.Prelude.{slice_get, Some}
+use Rattle.std.proofs.Common.{string_bytes, ◌≡◌, ℤ, List, pos, false, ap, ◌∙◌, sym, refl, arith, to_z, of_z, w32}
+use Rattle.std.specs.Prelude.{slice_get}
 use Rattle.std.specs.Ordering.{int_eq}
 use Rattle.std.proofs.lemmas.Int.{to_z-of_z}
 use Rattle.janus_meaning.specs.Fault.{Fine, Bad, Broken, and_then}
 use Rattle.janus_meaning.specs.Syntax.{Name}
-use Rattle.janus_meaning.specs.Limit.{stack_limit}
 use Rattle.janus_meaning.specs.Store.{look, number, Num, Stk}
-use Rattle.janus_store.specs.Stores.{names_in, write}
+use Rattle.janus_store.specs.Stores.{write}
 use Rattle.std.proofs.lemmas.Bool.{false_from_ne_true}
 use Rattle.janus_meaning.proofs.Changes.{int_eq_true}
-use Rattle.janus_store.proofs.Variables.{names_of_shape}
 use Rattle.janus_evaluation.proofs.Transfers.{popped_number, popped_pair, values_there, number_still, pop_not_zero, pop_empty, pop_fine, some_values, no_values}
 use Rattle.janus_evaluation.proofs.transfer.pop.Goals as goal
 
@@ -17,12 +15,15 @@ not_zero : (n : ℤ) → (n ≡ pos 0 → ⊥) → int_eq n (pos 0) ≡ false
 not_zero n h = false_from_ne_true (int_eq n (pos 0)) (λ e. h (int_eq_true n (pos 0) e))
 
 pub get-requires : goal.get-requires
-get-requires g c = (string_bytes c.args.variable.now.text, c.requires.variable)
+get-requires g c =
+    let x = string_bytes c.args.variable.now.text in
+    let n = popped_number x (string_bytes c.args.stack.now.text) c.args.store.now.sight c.requires.safe in
+    (x, Num n.0, c.requires.variable, n.1)
 
 pub unreachable-requires : goal.unreachable-requires
 unreachable-requires g c =
     let x = string_bytes c.args.variable.now.text in
-    let n = popped_number x (string_bytes c.args.stack.now.text) c.args.store.now c.requires.safe in
+    let n = popped_number x (string_bytes c.args.stack.now.text) c.args.store.now.sight c.requires.safe in
     let z : Bad Broken ≡ Fine n.0 = c.in_default.ensures x c.requires.variable ∙ ap (λ r. and_then r number) n.1 in
     cc
 
@@ -30,7 +31,7 @@ pub returns-then-old-ne0-clause-done : goal.returns-then-old-ne0-clause-done
 returns-then-old-ne0-clause-done g c =
     let x = string_bytes c.args.variable.now.text in
     let y = string_bytes c.args.stack.now.text in
-    let s = c.args.store.now in
+    let s = c.args.store.now.sight in
     let n = popped_number x y s c.requires.safe in
     let old : ℤ = c.in-Some.old in
     let got : Fine old ≡ Fine n.0 = c.in-Some.ensures x c.requires.variable ∙ ap (λ r. and_then r number) n.1 in
@@ -41,7 +42,7 @@ pub is_empty-requires : goal.is_empty-requires
 is_empty-requires g c =
     let x = string_bytes c.args.variable.now.text in
     let y = string_bytes c.args.stack.now.text in
-    let s = c.args.store.now in
+    let s = c.args.store.now.sight in
     let old : ℤ = c.in-Some.old in
     let number_is = popped_number x y s c.requires.safe in
     let got : Fine old ≡ Fine number_is.0 = c.in-Some.ensures x c.requires.variable ∙ ap (λ r. and_then r number) number_is.1 in
@@ -56,7 +57,7 @@ pub returns-then-is_empty-clause-done : goal.returns-then-is_empty-clause-done
 returns-then-is_empty-clause-done g c =
     let x = string_bytes c.args.variable.now.text in
     let y = string_bytes c.args.stack.now.text in
-    let s = c.args.store.now in
+    let s = c.args.store.now.sight in
     let old : ℤ = c.in-Some.old in
     let number_is = popped_number x y s c.requires.safe in
     let got : Fine old ≡ Fine number_is.0 = c.in-Some.ensures x c.requires.variable ∙ ap (λ r. and_then r number) number_is.1 in
@@ -71,7 +72,7 @@ pub pop-number-requires : goal.pop-number-requires
 pop-number-requires g c =
     let x = string_bytes c.args.variable.now.text in
     let y = string_bytes c.args.stack.now.text in
-    let s = c.args.store.now in
+    let s = c.args.store.now.sight in
     let old : ℤ = c.in-Some.old in
     let number_is = popped_number x y s c.requires.safe in
     let got : Fine old ≡ Fine number_is.0 = c.in-Some.ensures x c.requires.variable ∙ ap (λ r. and_then r number) number_is.1 in
@@ -87,7 +88,7 @@ pub set-requires : goal.set-requires
 set-requires g c =
     let x = string_bytes c.args.variable.now.text in
     let y = string_bytes c.args.stack.now.text in
-    let s = c.args.store.now in
+    let s = c.args.store.now.sight in
     let old : ℤ = c.in-Some.old in
     let number_is = popped_number x y s c.requires.safe in
     let got : Fine old ≡ Fine number_is.0 = c.in-Some.ensures x c.requires.variable ∙ ap (λ r. and_then r number) number_is.1 in
@@ -97,8 +98,8 @@ set-requires g c =
     let b = popped_pair x y s c.requires.safe zero_there in
     let l = values_there x y s b.0 in
     let some = some_values b.0.values (sym (c.is_empty.ensures y b.0.values c.requires.stack l) ∙ c.if-is_empty.false) in
-    let r = c.pop-number.new.self in
-    let at = ap (λ (xs : List Name). slice_get xs c.args.variable.now.place) (names_of_shape r s c.pop-number.ensures.shape) ∙ c.requires.variable in
+    let r = c.pop-number.new.self.sight in
+    let at = ap (λ (xs : List Name). slice_get xs c.args.variable.now.number) c.pop-number.ensures.shape.names ∙ c.requires.variable in
     let written : write y (Stk some.1) s ≡ Fine r = c.pop-number.ensures.written y some.0 some.1 c.requires.stack (l ∙ ap (λ k. Fine (Stk k)) some.2) in
     (x, at, (b.0.number, number_still x y s b.0 (Stk some.1) r written))
 
@@ -106,7 +107,7 @@ pub returns-clause-done : goal.returns-clause-done
 returns-clause-done g c =
     let x = string_bytes c.args.variable.now.text in
     let y = string_bytes c.args.stack.now.text in
-    let s = c.args.store.now in
+    let s = c.args.store.now.sight in
     let old : ℤ = c.in-Some.old in
     let number_is = popped_number x y s c.requires.safe in
     let got : Fine old ≡ Fine number_is.0 = c.in-Some.ensures x c.requires.variable ∙ ap (λ r. and_then r number) number_is.1 in
@@ -116,12 +117,12 @@ returns-clause-done g c =
     let b = popped_pair x y s c.requires.safe zero_there in
     let l = values_there x y s b.0 in
     let some = some_values b.0.values (sym (c.is_empty.ensures y b.0.values c.requires.stack l) ∙ c.if-is_empty.false) in
-    let r = c.pop-number.new.self in
-    let at = ap (λ (xs : List Name). slice_get xs c.args.variable.now.place) (names_of_shape r s c.pop-number.ensures.shape) ∙ c.requires.variable in
+    let r = c.pop-number.new.self.sight in
+    let at = ap (λ (xs : List Name). slice_get xs c.args.variable.now.number) c.pop-number.ensures.shape.names ∙ c.requires.variable in
     let there = l ∙ ap (λ k. Fine (Stk k)) some.2 in
     let written : write y (Stk some.1) s ≡ Fine r = c.pop-number.ensures.written y some.0 some.1 c.requires.stack there in
     let m : ℤ = c.pop-number.result in
     let zm : to_z w32 (of_z w32 m) ≡ m = grind (arith, to_z-of_z) in
     let top : m ≡ some.0 = c.pop-number.ensures.top y some.0 some.1 c.requires.stack there in
-    let last : write x (Num some.0) r ≡ Fine c.set.new.self = ap (λ n. write x (Num n) r) (sym (zm ∙ top)) ∙ c.set.ensures.written x at in
-    pop_fine x y s b.0 some.0 some.1 r c.set.new.self b.1 some.2 written last
+    let last : write x (Num some.0) r ≡ Fine c.set.new.self.sight = ap (λ n. write x (Num n) r) (sym (zm ∙ top)) ∙ c.set.ensures.written x at in
+    pop_fine x y s b.0 some.0 some.1 r c.set.new.self.sight b.1 some.2 written last

@@ -1,24 +1,26 @@
-use Rattle.std.proofs.Common.{string_bytes, ◌≡◌, ◌<◌, ◌≤◌, ◌∷◌, ℤ, List, pos, true, false, length, ap, ◌∙◌, sym, subst, refl, arith, to_z, of_z, w32}
-use Rattle.std.specs.Prelude.{slice_get, Some}
-use Rattle.std.specs.Ordering.{int_eq}
+use Rattle.std.proofs.Common.{string_bytes, ◌≡◌, ◌∷◌, ℤ, List, ap, ◌∙◌, sym, refl, arith, to_z, of_z, w32}
+use Rattle.std.specs.Prelude.{slice_get}
 use Rattle.std.proofs.lemmas.Int.{to_z-of_z}
 use Rattle.janus_meaning.specs.Fault.{Fine, Bad, Broken, and_then}
 use Rattle.janus_meaning.specs.Syntax.{Name}
-use Rattle.janus_meaning.specs.Limit.{stack_limit}
-use Rattle.janus_meaning.specs.Store.{look, number, Num, Stk}
-use Rattle.janus_store.specs.Stores.{names_in, write}
-use Rattle.janus_store.proofs.Variables.{names_of_shape}
+use Rattle.janus_meaning.specs.Store.{number, Num, Stk}
+use Rattle.janus_store.specs.Stores.{write}
 use Rattle.janus_evaluation.proofs.Transfers.{pushed_pair, number_there, values_there, number_still, push_full, push_fine, below_limit}
 use Rattle.janus_evaluation.proofs.transfer.push.Goals as goal
 
 pub get-requires : goal.get-requires
-get-requires g c = (string_bytes c.args.variable.now.text, c.requires.variable)
+get-requires g c =
+    let x = string_bytes c.args.variable.now.text in
+    let y = string_bytes c.args.stack.now.text in
+    let s = c.args.store.now.sight in
+    let b = pushed_pair x y s c.requires.safe in
+    (x, Num b.number, c.requires.variable, number_there x y s b)
 
 pub unreachable-requires : goal.unreachable-requires
 unreachable-requires g c =
     let x = string_bytes c.args.variable.now.text in
     let y = string_bytes c.args.stack.now.text in
-    let s = c.args.store.now in
+    let s = c.args.store.now.sight in
     let b = pushed_pair x y s c.requires.safe in
     let z : Bad Broken ≡ Fine b.number = c.in_default.ensures x c.requires.variable ∙ ap (λ r. and_then r number) (number_there x y s b) in
     cc
@@ -27,7 +29,7 @@ pub is_full-requires : goal.is_full-requires
 is_full-requires g c =
     let x = string_bytes c.args.variable.now.text in
     let y = string_bytes c.args.stack.now.text in
-    let s = c.args.store.now in
+    let s = c.args.store.now.sight in
     let b = pushed_pair x y s c.requires.safe in
     (y, c.requires.stack, (b.values, values_there x y s b))
 
@@ -35,7 +37,7 @@ pub returns-then-is_full-clause-done : goal.returns-then-is_full-clause-done
 returns-then-is_full-clause-done g c =
     let x = string_bytes c.args.variable.now.text in
     let y = string_bytes c.args.stack.now.text in
-    let s = c.args.store.now in
+    let s = c.args.store.now.sight in
     let b = pushed_pair x y s c.requires.safe in
     (push_full x y s b ((c.is_full.ensures y b.values c.requires.stack (values_there x y s b)).0 c.if-is_full.true), refl)
 
@@ -43,7 +45,7 @@ pub push-requires : goal.push-requires
 push-requires g c =
     let x = string_bytes c.args.variable.now.text in
     let y = string_bytes c.args.stack.now.text in
-    let s = c.args.store.now in
+    let s = c.args.store.now.sight in
     let b = pushed_pair x y s c.requires.safe in
     let l = values_there x y s b in
     (y, c.requires.stack, (b.values, l, below_limit b.values c.is_full.result c.if-is_full.false (c.is_full.ensures y b.values c.requires.stack l).1))
@@ -52,24 +54,24 @@ pub set-requires : goal.set-requires
 set-requires g c =
     let x = string_bytes c.args.variable.now.text in
     let y = string_bytes c.args.stack.now.text in
-    let s = c.args.store.now in
-    let r = c.push.new.self in
+    let s = c.args.store.now.sight in
+    let r = c.push.new.self.sight in
     let b = pushed_pair x y s c.requires.safe in
     let l = values_there x y s b in
-    (x, ap (λ (xs : List Name). slice_get xs c.args.variable.now.place) (names_of_shape r s c.push.ensures.shape) ∙ c.requires.variable, (b.number, number_still x y s b _ r (c.push.ensures.written y b.values c.requires.stack l)))
+    (x, ap (λ (xs : List Name). slice_get xs c.args.variable.now.number) c.push.ensures.shape.names ∙ c.requires.variable, (b.number, number_still x y s b _ r (c.push.ensures.written y b.values c.requires.stack l)))
 
 pub returns-clause-done : goal.returns-clause-done
 returns-clause-done g c =
     let x = string_bytes c.args.variable.now.text in
     let y = string_bytes c.args.stack.now.text in
-    let s = c.args.store.now in
-    let r = c.push.new.self in
+    let s = c.args.store.now.sight in
+    let r = c.push.new.self.sight in
     let b = pushed_pair x y s c.requires.safe in
     let l = values_there x y s b in
-    let at = ap (λ (xs : List Name). slice_get xs c.args.variable.now.place) (names_of_shape r s c.push.ensures.shape) ∙ c.requires.variable in
+    let at = ap (λ (xs : List Name). slice_get xs c.args.variable.now.number) c.push.ensures.shape.names ∙ c.requires.variable in
     let n : ℤ = c.in-Some.number in
     let got : Fine n ≡ Fine b.number = c.in-Some.ensures x c.requires.variable ∙ ap (λ r. and_then r number) (number_there x y s b) in
     let same : n ≡ b.number = cc in
     let z : to_z w32 (of_z w32 n) ≡ n = grind (arith, to_z-of_z) in
     let written : write y (Stk (b.number ∷ b.values)) s ≡ Fine r = ap (λ m. write y (Stk (m ∷ b.values)) s) (sym (z ∙ same)) ∙ c.push.ensures.written y b.values c.requires.stack l in
-    push_fine x y s b r c.set.new.self (below_limit b.values c.is_full.result c.if-is_full.false (c.is_full.ensures y b.values c.requires.stack l).1) written (c.set.ensures.written x at)
+    push_fine x y s b r c.set.new.self.sight (below_limit b.values c.is_full.result c.if-is_full.false (c.is_full.ensures y b.values c.requires.stack l).1) written (c.set.ensures.written x at)

@@ -4,11 +4,10 @@ use Rattle.std.proofs.lemmas.Option.{slice_get_within, slice_get_read}
 use Rattle.janus_syntax.specs.View.{stm_of, block_of}
 use Rattle.janus_invert.specs.Flat.{tree_at, ahead}
 use Rattle.janus_invert.proofs.Trees.{row_is, block_grown}
-use Rattle.janus_invert.proofs.Flattened.{if_ok, always_ok, if_parts, loop_parts, row_below, row_trees, if_flat, loop_flat}
-use Rattle.janus_invert.proofs.Seen.{block_weight, one_seen, one_lighter}
-use Rattle.janus_check.specs.Names.{names_in, shape_in}
-use Rattle.janus_invert.specs.Sight.{SeesBlk}
-use Rattle.janus_invert.specs.Placed.{ArePlaced}
+use Rattle.janus_invert.proofs.Flattened.{if_ok, always_ok, if_parts, loop_parts, local_int_part, local_stack_part, row_below, row_trees, if_flat, loop_flat, local_int_flat, local_stack_flat}
+use Rattle.janus_invert.proofs.Meeting.{block_weight, one_met, one_lighter}
+use Rattle.janus_invert.specs.Met.{MeetsBlk}
+use Rattle.janus_invert.specs.Numbered.{HaveNumbers}
 use Rattle.janus_invert.proofs.flat.+flat.Goals as goal
 
 pub flat_block-returns-clause-block : goal.flat_block-returns-clause-block
@@ -48,47 +47,47 @@ flat_statement-returns-in_ok-loop_part-in-Loop-clause-tree t c =
     (c.in_ok-loop_part-in-Loop.ensures.block ∙ ap block_of c.deref-in-Loop-2.ensures.value)
     ∙ ap stm_of (sym c.in-Loop.is)) c.add-in-Loop.ensures.tree
 
-pub flat_block-returns-clause-placed : goal.flat_block-returns-clause-placed
-flat_block-returns-clause-placed t c =
-    always_ok c.add_block.result (λ b p. subst (ArePlaced (names_in c.args.scope.now)) (sym c.add_block.ensures.statements) (c.loop-i.invariant.placed p))
+pub flat_block-returns-clause-numbered : goal.flat_block-returns-clause-numbered
+flat_block-returns-clause-numbered t c =
+    always_ok c.add_block.result (λ b p. subst (HaveNumbers c.args.names.now) (sym c.add_block.ensures.statements) (c.loop-i.invariant.numbered p))
 
-pub flat_statement-returns-in_ok-else_part-in-If-clause-placed : goal.flat_statement-returns-in_ok-else_part-in-If-clause-placed
-flat_statement-returns-in_ok-else_part-in-If-clause-placed t c =
-    if_ok c.add-in-If.result (λ n h p. h (names_in c.args.scope.now) (c.in_ok-else_part-in-If.ensures.placed (c.in_ok-then_part-in-If.ensures.placed p)) (c.in_ok-test-in-If.ensures.placed, c.in_ok-last-in-If.ensures.placed)) c.add-in-If.ensures.placed
+pub flat_statement-returns-in_ok-else_part-in-If-clause-numbered : goal.flat_statement-returns-in_ok-else_part-in-If-clause-numbered
+flat_statement-returns-in_ok-else_part-in-If-clause-numbered t c =
+    if_ok c.add-in-If.result (λ n h p. h c.args.names.now (c.in_ok-else_part-in-If.ensures.numbered (c.in_ok-then_part-in-If.ensures.numbered p)) (c.in_ok-test-in-If.ensures.numbered, c.in_ok-last-in-If.ensures.numbered)) c.add-in-If.ensures.numbered
 
-pub flat_statement-returns-in_ok-loop_part-in-Loop-clause-placed : goal.flat_statement-returns-in_ok-loop_part-in-Loop-clause-placed
-flat_statement-returns-in_ok-loop_part-in-Loop-clause-placed t c =
-    if_ok c.add-in-Loop.result (λ n h p. h (names_in c.args.scope.now) (c.in_ok-loop_part-in-Loop.ensures.placed (c.in_ok-do_part-in-Loop.ensures.placed p)) (c.in_ok-entry-in-Loop.ensures.placed, c.in_ok-exit-in-Loop.ensures.placed)) c.add-in-Loop.ensures.placed
+pub flat_statement-returns-in_ok-loop_part-in-Loop-clause-numbered : goal.flat_statement-returns-in_ok-loop_part-in-Loop-clause-numbered
+flat_statement-returns-in_ok-loop_part-in-Loop-clause-numbered t c =
+    if_ok c.add-in-Loop.result (λ n h p. h c.args.names.now (c.in_ok-loop_part-in-Loop.ensures.numbered (c.in_ok-do_part-in-Loop.ensures.numbered p)) (c.in_ok-entry-in-Loop.ensures.numbered, c.in_ok-exit-in-Loop.ensures.numbered)) c.add-in-Loop.ensures.numbered
 
 pub flat_block-flat_statement-requires : goal.flat_block-flat_statement-requires
 flat_block-flat_statement-requires t c =
     let s = c.index-block-i.result in
     let inside : c.loop-i.i < length c.args.block.now = omega arith in
-    (omega (arith, c.decreases, one_lighter c.args.block.now c.loop-i.i s inside (sym c.index-block-i.is)), one_seen (shape_in c.args.scope.now) c.args.block.now c.loop-i.i s inside (sym c.index-block-i.is) c.requires)
+    (omega (arith, c.decreases, one_lighter c.args.block.now c.loop-i.i s inside (sym c.index-block-i.is)), one_met c.args.names.now c.args.block.now c.loop-i.i s inside (sym c.index-block-i.is) c.requires)
 
 pub flat_statement-flat_block-requires : goal.flat_statement-flat_block-requires
 flat_statement-flat_block-requires t c =
-    let parts = if_parts (shape_in c.args.scope.now) c.args.statement.now c.in-If.test c.in-If.last c.in-If.then_part c.in-If.else_part c.in-If.is c.requires in
+    let parts = if_parts c.args.names.now c.args.statement.now c.in-If.test c.in-If.last c.in-If.then_part c.in-If.else_part c.in-If.is c.requires in
     let same = c.deref.ensures.value in
-    (omega (arith, c.decreases, parts.first_lighter, ap (λ ss. block_weight (block_of ss)) same), subst (λ ss. SeesBlk (shape_in c.args.scope.now) (block_of ss)) (sym same) parts.first)
+    (omega (arith, c.decreases, parts.first_lighter, ap (λ ss. block_weight (block_of ss)) same), subst (λ ss. MeetsBlk c.args.names.now (block_of ss)) (sym same) parts.first)
 
 pub flat_statement-flat_block-requires-in-If : goal.flat_statement-flat_block-requires-in-If
 flat_statement-flat_block-requires-in-If t c =
-    let parts = if_parts (shape_in c.args.scope.now) c.args.statement.now c.in-If.test c.in-If.last c.in-If.then_part c.in-If.else_part c.in-If.is c.requires in
+    let parts = if_parts c.args.names.now c.args.statement.now c.in-If.test c.in-If.last c.in-If.then_part c.in-If.else_part c.in-If.is c.requires in
     let same = c.deref-in-If.ensures.value in
-    (omega (arith, c.decreases, parts.second_lighter, ap (λ ss. block_weight (block_of ss)) same), subst (λ ss. SeesBlk (shape_in c.args.scope.now) (block_of ss)) (sym same) parts.second)
+    (omega (arith, c.decreases, parts.second_lighter, ap (λ ss. block_weight (block_of ss)) same), subst (λ ss. MeetsBlk c.args.names.now (block_of ss)) (sym same) parts.second)
 
 pub flat_statement-flat_block-requires-in-Loop : goal.flat_statement-flat_block-requires-in-Loop
 flat_statement-flat_block-requires-in-Loop t c =
-    let parts = loop_parts (shape_in c.args.scope.now) c.args.statement.now c.in-Loop.entry c.in-Loop.exit c.in-Loop.do_part c.in-Loop.loop_part c.in-Loop.is c.requires in
+    let parts = loop_parts c.args.names.now c.args.statement.now c.in-Loop.entry c.in-Loop.exit c.in-Loop.do_part c.in-Loop.loop_part c.in-Loop.is c.requires in
     let same = c.deref-in-Loop.ensures.value in
-    (omega (arith, c.decreases, parts.first_lighter, ap (λ ss. block_weight (block_of ss)) same), subst (λ ss. SeesBlk (shape_in c.args.scope.now) (block_of ss)) (sym same) parts.first)
+    (omega (arith, c.decreases, parts.first_lighter, ap (λ ss. block_weight (block_of ss)) same), subst (λ ss. MeetsBlk c.args.names.now (block_of ss)) (sym same) parts.first)
 
 pub flat_statement-flat_block-requires-in-Loop-2 : goal.flat_statement-flat_block-requires-in-Loop-2
 flat_statement-flat_block-requires-in-Loop-2 t c =
-    let parts = loop_parts (shape_in c.args.scope.now) c.args.statement.now c.in-Loop.entry c.in-Loop.exit c.in-Loop.do_part c.in-Loop.loop_part c.in-Loop.is c.requires in
+    let parts = loop_parts c.args.names.now c.args.statement.now c.in-Loop.entry c.in-Loop.exit c.in-Loop.do_part c.in-Loop.loop_part c.in-Loop.is c.requires in
     let same = c.deref-in-Loop-2.ensures.value in
-    (omega (arith, c.decreases, parts.second_lighter, ap (λ ss. block_weight (block_of ss)) same), subst (λ ss. SeesBlk (shape_in c.args.scope.now) (block_of ss)) (sym same) parts.second)
+    (omega (arith, c.decreases, parts.second_lighter, ap (λ ss. block_weight (block_of ss)) same), subst (λ ss. MeetsBlk c.args.names.now (block_of ss)) (sym same) parts.second)
 
 pub flat_block-loop-i-preserved : goal.flat_block-loop-i-preserved
 flat_block-loop-i-preserved t c =
@@ -109,5 +108,41 @@ flat_block-loop-i-preserved t c =
       grows = search rules;
       below = row_below ns more n i (length old.statements.items) (length new.statements.items) grown v.as_many v.below one.grows.further one.below;
       trees = row_trees (tree_at old.members.items old.statements.items) (tree_at new.members.items new.statements.items) ns more n i (length old.statements.items) c.args.block.now s grown v.as_many v.below one.grows.trees v.trees here one.tree;
-      placed = λ p. one.placed (v.placed p);
+      numbered = λ p. one.numbered (v.numbered p);
     }
+
+pub flat_statement-flat_block-requires-in-LocalInt : goal.flat_statement-flat_block-requires-in-LocalInt
+flat_statement-flat_block-requires-in-LocalInt t c =
+    let part = local_int_part c.args.names.now c.args.statement.now c.in-LocalInt.name c.in-LocalInt.field-3 c.in-LocalInt.first c.in-LocalInt.last c.in-LocalInt.block c.in-LocalInt.is c.requires in
+    let same = c.deref-in-LocalInt.ensures.value in
+    (omega (arith, c.decreases, part.lighter, ap (λ ss. block_weight (block_of ss)) same), subst (λ ss. MeetsBlk c.args.names.now (block_of ss)) (sym same) part.block)
+
+pub flat_statement-flat_block-requires-in-LocalStack : goal.flat_statement-flat_block-requires-in-LocalStack
+flat_statement-flat_block-requires-in-LocalStack t c =
+    let part = local_stack_part c.args.names.now c.args.statement.now c.in-LocalStack.name c.in-LocalStack.field-2 c.in-LocalStack.block c.in-LocalStack.is c.requires in
+    let same = c.deref-in-LocalStack.ensures.value in
+    (omega (arith, c.decreases, part.lighter, ap (λ ss. block_weight (block_of ss)) same), subst (λ ss. MeetsBlk c.args.names.now (block_of ss)) (sym same) part.block)
+
+pub flat_statement-returns-in_ok-block-in-LocalInt-clause-tree : goal.flat_statement-returns-in_ok-block-in-LocalInt-clause-tree
+flat_statement-returns-in_ok-block-in-LocalInt-clause-tree t c =
+    if_ok c.add-in-LocalInt.result (λ n h.
+    h ∙ local_int_flat c.in-LocalInt.name c.in-LocalInt.field-3 c.in-LocalInt.first c.in-LocalInt.last _ c.in_ok-first-in-LocalInt.first c.in_ok-last-in-LocalInt.last c.in-LocalInt.block _
+    c.in_ok-name-in-LocalInt.ensures.text c.in_ok-first-in-LocalInt.ensures.tree c.in_ok-last-in-LocalInt.ensures.tree
+    (c.in_ok-block-in-LocalInt.ensures.block ∙ ap block_of c.deref-in-LocalInt.ensures.value)
+    ∙ ap stm_of (sym c.in-LocalInt.is)) c.add-in-LocalInt.ensures.tree
+
+pub flat_statement-returns-in_ok-block-in-LocalStack-clause-tree : goal.flat_statement-returns-in_ok-block-in-LocalStack-clause-tree
+flat_statement-returns-in_ok-block-in-LocalStack-clause-tree t c =
+    if_ok c.add-in-LocalStack.result (λ n h.
+    h ∙ local_stack_flat c.in-LocalStack.name c.in-LocalStack.field-2 _ c.in-LocalStack.block _
+    c.in_ok-name-in-LocalStack.ensures.text
+    (c.in_ok-block-in-LocalStack.ensures.block ∙ ap block_of c.deref-in-LocalStack.ensures.value)
+    ∙ ap stm_of (sym c.in-LocalStack.is)) c.add-in-LocalStack.ensures.tree
+
+pub flat_statement-returns-in_ok-block-in-LocalInt-clause-numbered : goal.flat_statement-returns-in_ok-block-in-LocalInt-clause-numbered
+flat_statement-returns-in_ok-block-in-LocalInt-clause-numbered t c =
+    if_ok c.add-in-LocalInt.result (λ n h p. h c.args.names.now (c.in_ok-block-in-LocalInt.ensures.numbered p) (c.in_ok-name-in-LocalInt.ensures.numbered, c.in_ok-first-in-LocalInt.ensures.numbered, c.in_ok-last-in-LocalInt.ensures.numbered)) c.add-in-LocalInt.ensures.numbered
+
+pub flat_statement-returns-in_ok-block-in-LocalStack-clause-numbered : goal.flat_statement-returns-in_ok-block-in-LocalStack-clause-numbered
+flat_statement-returns-in_ok-block-in-LocalStack-clause-numbered t c =
+    if_ok c.add-in-LocalStack.result (λ n h p. h c.args.names.now (c.in_ok-block-in-LocalStack.ensures.numbered p) c.in_ok-name-in-LocalStack.ensures.numbered) c.add-in-LocalStack.ensures.numbered

@@ -1,6 +1,6 @@
-use Rattle.std.proofs.Common.{◌≡◌, ℕ, List, ◌++◌, length, ap, ◌∙◌, sym, subst, arith}
+use Rattle.std.proofs.Common.{◌≡◌, List, ◌++◌, length, ap, ◌∙◌, sym, subst, arith}
 use Rattle.janus_invert.specs.declared.code.Statement.{Statement}
-use Rattle.janus_invert.specs.Flat.{built, tree_at}
+use Rattle.janus_invert.specs.Flat.{tree_at}
 use Rattle.janus_invert.specs.Grown.{Grows}
 use Rattle.janus_invert.proofs.Trees.{grows_by_statement, tree_added}
 use Rattle.janus_invert.proofs.flat.add.Goals as goal

@@ -1,5 +1,4 @@
-use Rattle.std.proofs.Common.{◌≡◌, ℕ, List, ◌++◌, length, get_or, refl, ap, ◌∙◌, sym, subst, arith, ◌+◌, ◌-◌, ◌<◌, ◌≤◌}
-use Rattle.janus_invert.specs.Flat.{BlocksAreBelow, ahead, block_at, tree_at}
+use Rattle.std.proofs.Common.{ℕ, List, sym, subst, arith}
 use Rattle.janus_invert.specs.Grown.{Grows}
 use Rattle.janus_invert.proofs.Trees.{grows_by_members, below_if, block_added}
 use Rattle.janus_invert.proofs.flat.add_block.Goals as goal

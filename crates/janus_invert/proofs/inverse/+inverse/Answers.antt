@@ -1,9 +1,7 @@
-use Rattle.std.proofs.Common.{◌≡◌, ap, ◌∙◌, sym, arith}
-use Rattle.janus_syntax.specs.Tree as plain
-use Rattle.janus_syntax.specs.Tree.{stm_view, exp_view, block_view, Empty}
-use Rattle.janus_syntax.proofs.Views.{view_if, view_loop}
+use Rattle.std.proofs.Common.{ap, ◌∙◌, sym, arith}
+use Rattle.janus_syntax.specs.Tree.{stm_view, block_view, Empty}
 use Rattle.janus_invert.specs.Cells.{inverse_stm, turned}
-use Rattle.janus_invert.proofs.Cells.{one_more, if_turned, loop_turned}
+use Rattle.janus_invert.proofs.Cells.{one_more, if_turned, loop_turned, local_int_turned, local_stack_turned, name_copied}
 use Rattle.janus_invert.proofs.inverse.+inverse.Goals as goal
 
 pub inverse_statement-returns-in_ok-copy-in-If : goal.inverse_statement-returns-in_ok-copy-in-If
@@ -25,3 +23,20 @@ inverse_statement-returns-in_ok-copy-in-Loop t c =
 pub inverse_statements-loop-i-preserved : goal.inverse_statements-loop-i-preserved
 inverse_statements-loop-i-preserved t c =
     one_more c.args.statements.now c.loop-i.inverses.items c.push.new.self.items c.loop-i.i c.in_ok-inverse_statement.field-0 c.index-statements-i.result (omega arith) (omega arith) c.loop-i.invariant (c.in_ok-inverse_statement.ensures ∙ ap (λ s. inverse_stm (stm_view s)) c.index-statements-i.is) c.in_ok-push.ensures.items
+
+pub inverse_statement-returns-in_ok-copy-in-LocalInt : goal.inverse_statement-returns-in_ok-copy-in-LocalInt
+inverse_statement-returns-in_ok-copy-in-LocalInt t c =
+    local_int_turned c.in-LocalInt.name c.in-LocalInt.end c.in_ok-name-in-LocalInt.name c.in_ok-end-in-LocalInt.end c.in-LocalInt.first c.in-LocalInt.last c.in_ok-first-in-LocalInt.first c.in_ok-copy-in-LocalInt.field-0 c.in-LocalInt.block c.in_ok-block-in-LocalInt.block
+    (name_copied c.in-LocalInt.name c.in_ok-name-in-LocalInt.name c.in_ok-name-in-LocalInt.ensures.name c.in_ok-name-in-LocalInt.ensures.place)
+    (name_copied c.in-LocalInt.end c.in_ok-end-in-LocalInt.end c.in_ok-end-in-LocalInt.ensures.name c.in_ok-end-in-LocalInt.ensures.place)
+    c.in_ok-first-in-LocalInt.ensures c.in_ok-copy-in-LocalInt.ensures
+    (c.in_ok-block-in-LocalInt.ensures ∙ ap (λ b. turned (block_view b) Empty) c.deref-in-LocalInt.ensures.value)
+    ∙ ap (λ s. inverse_stm (stm_view s)) (sym c.in-LocalInt.is)
+
+pub inverse_statement-returns-in_ok-copy-in-LocalStack : goal.inverse_statement-returns-in_ok-copy-in-LocalStack
+inverse_statement-returns-in_ok-copy-in-LocalStack t c =
+    local_stack_turned c.in-LocalStack.name c.in-LocalStack.end c.in_ok-name-in-LocalStack.name c.in_ok-copy-in-LocalStack.field-0 c.in-LocalStack.block c.in_ok-block-in-LocalStack.block
+    (name_copied c.in-LocalStack.name c.in_ok-name-in-LocalStack.name c.in_ok-name-in-LocalStack.ensures.name c.in_ok-name-in-LocalStack.ensures.place)
+    (name_copied c.in-LocalStack.end c.in_ok-copy-in-LocalStack.field-0 c.in_ok-copy-in-LocalStack.ensures.name c.in_ok-copy-in-LocalStack.ensures.place)
+    (c.in_ok-block-in-LocalStack.ensures ∙ ap (λ b. turned (block_view b) Empty) c.deref-in-LocalStack.ensures.value)
+    ∙ ap (λ s. inverse_stm (stm_view s)) (sym c.in-LocalStack.is)

@@ -1,4 +1,4 @@
-use Rattle.std.proofs.Common.{◌≡◌, ◌+◌, ◌-◌, length, arith}
+use Rattle.std.proofs.Common.{◌≡◌, length, arith}
 use Rattle.janus_invert.proofs.turned.backward.Goals as goal
 
 pub returns-clause-backward : goal.returns-clause-backward

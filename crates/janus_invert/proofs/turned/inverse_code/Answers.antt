@@ -1,7 +1,6 @@
-use Rattle.std.proofs.Common.{◌≡◌, ℕ, List, ◌∷◌, [], ◌++◌, ◌<◌, length, length-append, refl, ap, ◌∙◌, sym, subst, arith}
+use Rattle.std.proofs.Common.{◌≡◌, ℕ, List, ◌∷◌, [], ◌<◌, length, length-append, refl, ap, ◌∙◌, sym, subst, arith}
 use Rattle.std.specs.Prelude.{slice_get, Some}
 use Rattle.std.proofs.lemmas.Option.{slice_get_read}
-use Rattle.janus_invert.specs.declared.code.Statement.{Statement}
 use Rattle.janus_invert.specs.CodeBlock.{code_tree, inner_block}
 use Rattle.janus_invert.specs.Inverted.{IsInverse, IsBackward}
 use Rattle.janus_invert.proofs.Pairs.{ArePairs, pairs_more}
@@ -59,8 +58,8 @@ returns-clause-block c =
     body_turned code.members.items code.statements.items code.body c.backward.new.others.items c.loop-i.statements.items c.in_ok-body.body code.downward.each down.each
     (are_inverse code.members.items code.statements.items code.body c.loop-i.members.items c.backward.new.others.items c.loop-i.statements.items c.in_ok-body.body many v.inverse c.in_ok-body.ensures.longer back) code.downward.whole
 
-pub returns-clause-placed : goal.returns-clause-placed
-returns-clause-placed c =
+pub returns-clause-numbered : goal.returns-clause-numbered
+returns-clause-numbered c =
     let code = c.args.code.now in
     let v = c.loop-i.invariant in
     let many : length c.loop-i.statements.items ≡ length code.statements.items = omega (arith, v.as_many, code.statements.ok.0) in

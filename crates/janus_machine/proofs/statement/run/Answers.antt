@@ -1,32 +1,31 @@
 use Rattle.std.proofs.Common.{ap, sym, subst, string_bytes}
 use Rattle.janus_meaning.specs.Moves.{assign, assign_at, push, pop}
 use Rattle.janus_syntax.specs.View.{update_of}
-use Rattle.janus_store.specs.Stores.{names_in}
 use Rattle.janus_invert.specs.Expressions.{exp_of}
-use Rattle.janus_invert.specs.Placed.{IsPlacedStatement}
+use Rattle.janus_invert.specs.Numbered.{StatementHasNumbers}
 use Rattle.janus_machine.specs.Faults.{IsDone}
 use Rattle.janus_machine.specs.Statements.{run_of}
 use Rattle.janus_machine.proofs.statement.run.Goals as goal
 
 pub assign-requires-clause-at : goal.assign-requires-clause-at
-assign-requires-clause-at g c = (subst (IsPlacedStatement (names_in c.args.store.now)) c.in-Assign.is c.requires.placed).0
+assign-requires-clause-at g c = (subst (StatementHasNumbers c.args.store.now.names) c.in-Assign.is c.requires.numbered).0
 
-pub assign-requires-clause-placed : goal.assign-requires-clause-placed
-assign-requires-clause-placed g c = (subst (IsPlacedStatement (names_in c.args.store.now)) c.in-Assign.is c.requires.placed).1
+pub assign-requires-clause-numbered : goal.assign-requires-clause-numbered
+assign-requires-clause-numbered g c = (subst (StatementHasNumbers c.args.store.now.names) c.in-Assign.is c.requires.numbered).1
 
 pub assign_element-requires-clause-at : goal.assign_element-requires-clause-at
-assign_element-requires-clause-at g c = (subst (IsPlacedStatement (names_in c.args.store.now)) c.in-AssignElement.is c.requires.placed).0
+assign_element-requires-clause-at g c = (subst (StatementHasNumbers c.args.store.now.names) c.in-AssignElement.is c.requires.numbered).0
 
 pub assign_element-requires-clause-index_placed : goal.assign_element-requires-clause-index_placed
-assign_element-requires-clause-index_placed g c = (subst (IsPlacedStatement (names_in c.args.store.now)) c.in-AssignElement.is c.requires.placed).1
+assign_element-requires-clause-index_placed g c = (subst (StatementHasNumbers c.args.store.now.names) c.in-AssignElement.is c.requires.numbered).1
 
-pub assign_element-requires-clause-placed : goal.assign_element-requires-clause-placed
-assign_element-requires-clause-placed g c = (subst (IsPlacedStatement (names_in c.args.store.now)) c.in-AssignElement.is c.requires.placed).2
+pub assign_element-requires-clause-numbered : goal.assign_element-requires-clause-numbered
+assign_element-requires-clause-numbered g c = (subst (StatementHasNumbers c.args.store.now.names) c.in-AssignElement.is c.requires.numbered).2
 
 pub returns-in-Assign-clause-done : goal.returns-in-Assign-clause-done
 returns-in-Assign-clause-done g c =
-    let s = c.args.store.now in
-    let t = c.assign.new.store in
+    let s = c.args.store.now.sight in
+    let t = c.assign.new.store.sight in
     let o = update_of c.in-Assign.update in
     let e = exp_of c.in-Assign.exp in
     let is = sym (ap (λ z. run_of z s) c.in-Assign.is) in
@@ -34,8 +33,8 @@ returns-in-Assign-clause-done g c =
 
 pub returns-in-AssignElement-clause-done : goal.returns-in-AssignElement-clause-done
 returns-in-AssignElement-clause-done g c =
-    let s = c.args.store.now in
-    let t = c.assign_element.new.store in
+    let s = c.args.store.now.sight in
+    let t = c.assign_element.new.store.sight in
     let i = exp_of c.in-AssignElement.index in
     let o = update_of c.in-AssignElement.update in
     let e = exp_of c.in-AssignElement.exp in
@@ -43,27 +42,27 @@ returns-in-AssignElement-clause-done g c =
     subst (λ r. IsDone r s t c.done-in-AssignElement.result) is (c.done-in-AssignElement.ensures.done (assign_at (string_bytes c.in-AssignElement.name.text) i o e s) s t c.assign_element.ensures.done)
 
 pub push-requires-clause-variable : goal.push-requires-clause-variable
-push-requires-clause-variable g c = (subst (IsPlacedStatement (names_in c.args.store.now)) c.in-Push.is c.requires.placed).0
+push-requires-clause-variable g c = (subst (StatementHasNumbers c.args.store.now.names) c.in-Push.is c.requires.numbered).0
 
 pub push-requires-clause-stack : goal.push-requires-clause-stack
-push-requires-clause-stack g c = (subst (IsPlacedStatement (names_in c.args.store.now)) c.in-Push.is c.requires.placed).1
+push-requires-clause-stack g c = (subst (StatementHasNumbers c.args.store.now.names) c.in-Push.is c.requires.numbered).1
 
 pub returns-in-Push-clause-done : goal.returns-in-Push-clause-done
 returns-in-Push-clause-done g c =
-    let s = c.args.store.now in
-    let t = c.push.new.store in
+    let s = c.args.store.now.sight in
+    let t = c.push.new.store.sight in
     let is = sym (ap (λ z. run_of z s) c.in-Push.is) in
     subst (λ r. IsDone r s t c.done-in-Push.result) is (c.done-in-Push.ensures.done (push (string_bytes c.in-Push.variable.text) (string_bytes c.in-Push.stack.text) s) s t c.push.ensures.done)
 
 pub pop-requires-clause-variable : goal.pop-requires-clause-variable
-pop-requires-clause-variable g c = (subst (IsPlacedStatement (names_in c.args.store.now)) c.in-Pop.is c.requires.placed).0
+pop-requires-clause-variable g c = (subst (StatementHasNumbers c.args.store.now.names) c.in-Pop.is c.requires.numbered).0
 
 pub pop-requires-clause-stack : goal.pop-requires-clause-stack
-pop-requires-clause-stack g c = (subst (IsPlacedStatement (names_in c.args.store.now)) c.in-Pop.is c.requires.placed).1
+pop-requires-clause-stack g c = (subst (StatementHasNumbers c.args.store.now.names) c.in-Pop.is c.requires.numbered).1
 
 pub returns-in-Pop-clause-done : goal.returns-in-Pop-clause-done
 returns-in-Pop-clause-done g c =
-    let s = c.args.store.now in
-    let t = c.pop.new.store in
+    let s = c.args.store.now.sight in
+    let t = c.pop.new.store.sight in
     let is = sym (ap (λ z. run_of z s) c.in-Pop.is) in
     subst (λ r. IsDone r s t c.done-in-Pop.result) is (c.done-in-Pop.ensures.done (pop (string_bytes c.in-Pop.variable.text) (string_bytes c.in-Pop.stack.text) s) s t c.pop.ensures.done)

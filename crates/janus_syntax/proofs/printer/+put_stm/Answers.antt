@@ -1,11 +1,11 @@
-use Rattle.std.proofs.Common.{◌≡◌, arith, sym, subst, string_bytes}
+use Rattle.std.proofs.Common.{◌≡◌, [], ◌∷◌, arith, sym, subst, string_bytes}
 use Rattle.janus_syntax.specs.declared.token.Sign.TheVariants as sign
 use Rattle.janus_syntax.specs.declared.token.Word.TheVariants as word
 use Rattle.janus_syntax.specs.Tree.{exp_view, block_view}
 use Rattle.janus_syntax.specs.Printed.{line_view}
-use Rattle.janus_syntax.specs.Printing.{A_name, A_sign, A_word, with_pieces, update_sign, whole_pieces, block_pieces, stm_pieces}
-use Rattle.janus_syntax.proofs.Views.{view_if, view_loop}
-use Rattle.janus_syntax.proofs.Pieces.{four_words, assigned_row}
+use Rattle.janus_syntax.specs.Printing.{A_name, A_sign, A_word, with_pieces, binding_pieces, update_sign, whole_pieces, block_pieces, stm_pieces}
+use Rattle.janus_syntax.proofs.Views.{view_if, view_loop, view_local_int, view_local_stack}
+use Rattle.janus_syntax.proofs.Pieces.{four_words, assigned_row, local_row}
 use Rattle.janus_syntax.proofs.PrintedBlocks.{next_statement}
 use Rattle.janus_syntax.proofs.printer.+put_stm.Goals as goal
 
@@ -31,6 +31,22 @@ put_stm-returns-in_ok-put_whole-in-Loop-2 t c =
     (four_words (A_word word.From) (A_word word.Do) (A_word word.Loop) (A_word word.Until) (whole_pieces (exp_view c.in-Loop.assertion)) (block_pieces (block_view c.in-Loop.do_part.items)) (block_pieces (block_view c.in-Loop.loop_part.items)) (whole_pieces (exp_view c.in-Loop.test)) _ _ _ _ _ _ _ _ _
     c.in_ok-put_word-in-Loop.ensures c.in_ok-put_whole-in-Loop.ensures c.in_ok-put_word-in-Loop-2.ensures (rw c.deref-in-Loop.ensures.value at c.in_ok-put_block-in-Loop.ensures)
     c.in_ok-put_word-in-Loop-3.ensures (rw c.deref-in-Loop-2.ensures.value at c.in_ok-put_block-in-Loop-2.ensures) c.in_ok-put_word-in-Loop-4.ensures c.in_ok-put_whole-in-Loop-2.ensures))
+
+pub put_stm-returns-in_ok-put_whole-in-LocalInt-2 : goal.put_stm-returns-in_ok-put_whole-in-LocalInt-2
+put_stm-returns-in_ok-put_whole-in-LocalInt-2 t c =
+    rw c.in-LocalInt.is
+    (subst (λ s. line_view c.put_whole-in-LocalInt-2.new.line ≡ with_pieces (line_view c.args.line.now) (stm_pieces s)) (sym (view_local_int c.in-LocalInt.name c.in-LocalInt.again c.in-LocalInt.exp c.in-LocalInt.test c.in-LocalInt.body))
+    (local_row (binding_pieces word.Local word.Int (string_bytes c.in-LocalInt.name.text)) (whole_pieces (exp_view c.in-LocalInt.exp)) (block_pieces (block_view c.in-LocalInt.body.items)) (binding_pieces word.Delocal word.Int (string_bytes c.in-LocalInt.again.text)) (whole_pieces (exp_view c.in-LocalInt.test)) _ _ _ _ _ _
+    c.in_ok-put_binding-in-LocalInt.ensures c.in_ok-put_whole-in-LocalInt.ensures (rw c.deref-in-LocalInt.ensures.value at c.in_ok-put_block-in-LocalInt.ensures)
+    c.in_ok-put_binding-in-LocalInt-2.ensures c.in_ok-put_whole-in-LocalInt-2.ensures))
+
+pub put_stm-returns-in_ok-put_word-in-LocalStack-2 : goal.put_stm-returns-in_ok-put_word-in-LocalStack-2
+put_stm-returns-in_ok-put_word-in-LocalStack-2 t c =
+    rw c.in-LocalStack.is
+    (subst (λ s. line_view c.put_word-in-LocalStack-2.new.line ≡ with_pieces (line_view c.args.line.now) (stm_pieces s)) (sym (view_local_stack c.in-LocalStack.name c.in-LocalStack.again c.in-LocalStack.body))
+    (local_row (binding_pieces word.Local word.Stack (string_bytes c.in-LocalStack.name.text)) (A_word word.Nil ∷ []) (block_pieces (block_view c.in-LocalStack.body.items)) (binding_pieces word.Delocal word.Stack (string_bytes c.in-LocalStack.again.text)) (A_word word.Nil ∷ []) _ _ _ _ _ _
+    c.in_ok-put_binding-in-LocalStack.ensures c.in_ok-put_word-in-LocalStack.ensures (rw c.deref-in-LocalStack.ensures.value at c.in_ok-put_block-in-LocalStack.ensures)
+    c.in_ok-put_binding-in-LocalStack-2.ensures c.in_ok-put_word-in-LocalStack-2.ensures))
 
 pub put_block-statements-preserved : goal.put_block-statements-preserved
 put_block-statements-preserved t c =

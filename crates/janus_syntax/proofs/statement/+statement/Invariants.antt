@@ -23,6 +23,15 @@ decreases-behind_if l = 8 * length (views l.tokens.now) + 4
 abbrev pub decreases-behind_from : goal.decreases-behind_from
 decreases-behind_from l = 8 * length (views l.tokens.now) + 4
 
+abbrev pub decreases-local_int : goal.decreases-local_int
+decreases-local_int l = 8 * length (views l.tokens.now) + 3
+
+abbrev pub decreases-local_stack : goal.decreases-local_stack
+decreases-local_stack l = 8 * length (views l.tokens.now) + 3
+
+abbrev pub decreases-behind_local : goal.decreases-behind_local
+decreases-behind_local l = 8 * length (views l.tokens.now) + 4
+
 -- the statements read so far stand behind those of `before`
 abbrev pub invariant-statements_behind-statements : goal.invariant-statements_behind-statements
 invariant-statements_behind-statements l = AreSoFar l.fn.depth (block_view l.fn.before.items) (block_view l.statements.items) (views l.fn.tokens) (views l.rest)

@@ -1,6 +1,7 @@
 use Rattle.std.proofs.Common.{◌≡◌, ℕ, List, Err, sym, ap, ◌∙◌, subst}
 use Rattle.janus_meaning.specs.Syntax.{Name, Exp}
-use Rattle.janus_meaning.specs.Shape.{Shape, shape_of}
+use Rattle.janus_meaning.specs.Shape.{Shape, shape_of, AreDistinct}
+use Rattle.janus_meaning.specs.FormedWorld.{HaveValues}
 use Rattle.janus_meaning.specs.Store.{Store}
 use Rattle.janus_meaning.specs.Formed.{IsExp}
 use Rattle.janus_meaning.specs.Value.{value}
@@ -8,15 +9,16 @@ use Rattle.janus_syntax.specs.View.{exp_of}
 use Rattle.janus_syntax.specs.Tree as tree
 use Rattle.janus_syntax.specs.Tree.{exp_view}
 use Rattle.janus_syntax.specs.Text.{HasExp}
-use Rattle.janus_check.specs.Names.{shape_in}
 use Rattle.janus_check.specs.Check.{exp_faults}
 use Rattle.janus_check.specs.Fault.{IsFirst}
 use Rattle.janus_check.specs.declared.fault.CheckFault.{CheckFault}
 use Rattle.janus_check.specs.declared.fault.CheckFault.TheVariants as fault
-use Rattle.janus_invert.specs.Placed.{IsPlaced}
-use Rattle.janus_invert.proofs.Seen.{exp_seen}
-use Rattle.kernel_core.proofs.Declared.{values_lend_nothing}
-use Rattle.kernel_core.proofs.Entries.{same_names}
+use Rattle.janus_invert.specs.Numbered.{HasNumbers}
+use Rattle.janus_invert.specs.Met.{MeetsExp}
+use Rattle.janus_invert.proofs.Meeting.{exp_met}
+use Rattle.janus_store.specs.Held.{Held, IsWhole, shown_store}
+use Rattle.kernel_core.proofs.Running.{all_shown}
+use Rattle.kernel_core.proofs.NamesMet.{sight_met}
 use Rattle.kernel_core.specs.Text.{refused_by_check}
 use Rattle.kernel_core.specs.declared.outcome.Refusal.{Refusal}
 use Rattle.kernel_ask.specs.declared.done.ExpFault.TheVariants.{Refused}
@@ -24,18 +26,32 @@ use Rattle.kernel_ask.specs.Evaluation.{IsEvaluated}
 use Rattle.kernel_ask.proofs.Sound.{not_broken}
 use Rattle.kernel_ask.proofs.evaluation.evaluation_of.Goals as goal
 
+-- no local is open: the names in sight are those declared
+declared : (h : Held) → IsWhole h → shape_of (shown_store h) ≡ shape_of h.sight
+declared h whole = ap shape_of (all_shown h whole)
+
+pub names_in_sight-requires-clause-values : goal.names_in_sight-requires-clause-values
+names_in_sight-requires-clause-values g c = subst HaveValues (sym (all_shown c.args.store.now c.requires.whole)) c.requires.values
+
+pub names_in_sight-requires-clause-distinct : goal.names_in_sight-requires-clause-distinct
+names_in_sight-requires-clause-distinct g c = subst AreDistinct (sym (declared c.args.store.now c.requires.whole)) c.requires.distinct
+
 pub value-requires-clause-safe : goal.value-requires-clause-safe
 value-requires-clause-safe g c = λ broken.
     let tree : Exp = exp_of c.in-Ok.exp in
-    let formed = subst (λ (g : Shape). IsExp g tree) c.in-Ok-names_in_sight.ensures c.in-Ok-check_exp.ensures.well_formed in
-    not_broken tree c.args.store.now formed (ap (λ (e : Exp). value e c.args.store.now) (sym c.in-Ok-flat_exp.ensures.tree) ∙ broken)
+    let formed = subst (λ (g : Shape). IsExp g tree) (c.in-Ok-names_in_sight.ensures ∙ declared c.args.store.now c.requires.whole) c.in-Ok-check_exp.ensures.well_formed in
+    not_broken tree c.args.store.now.sight formed (ap (λ (e : Exp). value e c.args.store.now.sight) (sym c.in-Ok-flat_exp.ensures.tree) ∙ broken)
 
-pub value-requires-clause-placed : goal.value-requires-clause-placed
-value-requires-clause-placed g c =
-    subst (λ (xs : List Name). IsPlaced xs c.in-Ok-flat_exp.flat) (same_names c.in-Ok-names_in_sight.env c.args.store.now (values_lend_nothing c.args.store.now c.requires.values) c.in-Ok-names_in_sight.ensures) c.in-Ok-flat_exp.ensures.placed
+pub value-requires-clause-numbered : goal.value-requires-clause-numbered
+value-requires-clause-numbered g c =
+    subst (λ (xs : List Name). HasNumbers xs c.in-Ok-flat_exp.flat) c.names.ensures.names c.in-Ok-flat_exp.ensures.numbered
 
 pub flat_exp-requires : goal.flat_exp-requires
-flat_exp-requires g c = exp_seen (shape_in c.in-Ok-names_in_sight.env) (exp_of c.in-Ok.exp) c.in-Ok-check_exp.ensures.well_formed
+flat_exp-requires g c =
+    let tree : Exp = exp_of c.in-Ok.exp in
+    let formed = subst (λ (g : Shape). IsExp g tree) (c.in-Ok-names_in_sight.ensures ∙ declared c.args.store.now c.requires.whole) c.in-Ok-check_exp.ensures.well_formed in
+    subst (λ (xs : List Name). MeetsExp xs tree) (sym c.names.ensures.names)
+    (exp_met (shape_of c.args.store.now.sight) c.args.store.now.names tree (sight_met c.args.store.now c.requires.values c.names.ensures.known) formed)
 
 -- a fault of the check is told as it is, and want of memory as such
 told : (s : Store) (text : List ℕ) (tree : tree.Exp) (fault : CheckFault) (r : Refusal) → HasExp text tree → IsFirst fault (exp_faults (shape_of s) tree) → r ≡ refused_by_check fault →
@@ -44,6 +60,7 @@ told s text e (fault.Declared at) r has first is = rw is (record { tree = e; is_
 told s text e (fault.Unknown at) r has first is = rw is (record { tree = e; is_tree = has; first = first })
 told s text e (fault.WrongKind at) r has first is = rw is (record { tree = e; is_tree = has; first = first })
 told s text e (fault.SelfUse at) r has first is = rw is (record { tree = e; is_tree = has; first = first })
+told s text e (fault.Shadow at) r has first is = rw is (record { tree = e; is_tree = has; first = first })
 told s text e (fault.TooMany at) r has first is = rw is (record { tree = e; is_tree = has; first = first })
 told s text e (fault.ArrayLength at) r has first is = rw is (record { tree = e; is_tree = has; first = first })
 told s text e fault.Memory r has first is = rw is tt
@@ -51,5 +68,5 @@ told s text e fault.Memory r has first is = rw is tt
 pub returns-in-Err-check_exp : goal.returns-in-Err-check_exp
 returns-in-Err-check_exp g c =
     let e = exp_view c.in-Ok.exp in
-    let first = subst (λ (g : Shape). IsFirst c.in-Err-check_exp.fault (exp_faults g e)) c.in-Ok-names_in_sight.ensures c.in-Err-check_exp.ensures.first in
-    told c.args.store.now c.args.text.now e c.in-Err-check_exp.fault c.refusal_of_check.result c.in-Ok.ensures.read first c.refusal_of_check.ensures
+    let first = subst (λ (g : Shape). IsFirst c.in-Err-check_exp.fault (exp_faults g e)) (c.in-Ok-names_in_sight.ensures ∙ declared c.args.store.now c.requires.whole) c.in-Err-check_exp.ensures.first in
+    told c.args.store.now.sight c.args.text.now e c.in-Err-check_exp.fault c.refusal_of_check.result c.in-Ok.ensures.read first c.refusal_of_check.ensures

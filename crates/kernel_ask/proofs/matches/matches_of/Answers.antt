@@ -5,6 +5,7 @@ use Rattle.std.specs.declared.alloc.AllocError.{AllocError}
 use Rattle.std.specs.List.Sorted.{IsStrictlySortedBy}
 use Rattle.std.specs.String.{string_cmp}
 use Rattle.janus_syntax.specs.Spelling.{word_text}
+use Rattle.janus_store.specs.Held.{shown_store}
 use Rattle.kernel_ask.specs.declared.matches.TheConstants.{WORDS}
 use Rattle.kernel_ask.specs.Added.{with_matches}
 use Rattle.kernel_ask.specs.Matches.{names_of, AreMatches}
@@ -23,8 +24,8 @@ pub returns : goal.returns
 returns g c =
     let prefix = c.args.prefix.now in
     let words = map word_text WORDS in
-    let all : map string_bytes c.add_words.new.names.keys ≡ all_matches c.args.store.now prefix =
+    let all : map string_bytes c.add_words.new.names.keys ≡ all_matches (shown_store c.args.store.now) prefix =
     c.in_ok-add_words.ensures
     ∙ ap (λ ks. with_matches prefix ks words) c.in_ok-add_declared.ensures
-    ∙ ap (λ ks. with_matches prefix (with_matches prefix (map string_bytes ks) (names_of c.args.store.now)) words) c.new-names.ensures.empty in
-    listed c.in_order.result c.add_words.new.names.keys c.args.store.now prefix c.in_order.ensures.items c.in_order.ensures.ordered all
+    ∙ ap (λ ks. with_matches prefix (with_matches prefix (map string_bytes ks) (names_of (shown_store c.args.store.now))) words) c.new-names.ensures.empty in
+    listed c.in_order.result c.add_words.new.names.keys (shown_store c.args.store.now) prefix c.in_order.ensures.items c.in_order.ensures.ordered all

@@ -1,7 +1,7 @@
-use Rattle.std.proofs.Common.{◌||◌, sym, ap, ◌∙◌}
-use Rattle.janus_syntax.specs.Tree.{exp_view, stm_view, block_view}
-use Rattle.janus_syntax.proofs.Views.{view_if, view_loop}
-use Rattle.kernel_ask.specs.Naming.{in_exp, in_stm, in_block}
+use Rattle.std.proofs.Common.{not, ◌&&◌, ◌||◌, sym, ap, ◌∙◌}
+use Rattle.janus_syntax.specs.Tree.{name_view, exp_view, stm_view, block_view}
+use Rattle.janus_syntax.proofs.Views.{view_if, view_loop, view_local_int, view_local_stack}
+use Rattle.kernel_ask.specs.Naming.{is_it, in_exp, in_stm, in_block}
 use Rattle.kernel_ask.proofs.Found.{two_found}
 use Rattle.kernel_ask.proofs.naming.+stm_names.Goals as goal
 
@@ -42,3 +42,30 @@ stm_names-returns-in-Loop t c =
     c.exp_names-in-Loop.ensures
     ∙ ap (λ s. found || in_stm x s) (sym (view_loop c.in-Loop.entry c.in-Loop.exit c.in-Loop.do_part c.in-Loop.loop_part))
     ∙ ap (λ s. found || in_stm x (stm_view s)) (sym c.in-Loop.is)
+
+pub stm_names-returns-in-LocalInt : goal.stm_names-returns-in-LocalInt
+stm_names-returns-in-LocalInt t c =
+    let x = c.args.name.now in
+    let found = c.args.found in
+    let local = c.in-LocalInt.local in
+    let begin = in_exp x (exp_view c.in-LocalInt.begin) in
+    let own = not (is_it x (name_view local)) in
+    let inside = own && in_block x (block_view c.in-LocalInt.body.items) in
+    let past_begin = c.exp_names-next-in-LocalInt.result in
+    let past_inside = c.is_inside-next.result in
+    two_found found past_inside c.exp_names-in-LocalInt.result (begin || inside) (in_exp x (exp_view c.in-LocalInt.end))
+    (two_found found past_begin past_inside begin inside c.exp_names-next-in-LocalInt.ensures
+    (c.is_inside-next.ensures ∙ ap (λ b. past_begin || (own && b)) (c.block_names-inside.ensures ∙ ap (λ b. in_block x (block_view b)) c.deref-in-LocalInt.ensures.value)))
+    c.exp_names-in-LocalInt.ensures
+    ∙ ap (λ s. found || in_stm x s) (sym (view_local_int local c.in-LocalInt.field-3 c.in-LocalInt.begin c.in-LocalInt.end c.in-LocalInt.body))
+    ∙ ap (λ s. found || in_stm x (stm_view s)) (sym c.in-LocalInt.is)
+
+pub stm_names-returns-in-LocalStack : goal.stm_names-returns-in-LocalStack
+stm_names-returns-in-LocalStack t c =
+    let x = c.args.name.now in
+    let found = c.args.found in
+    let local = c.in-LocalStack.local in
+    let own = not (is_it x (name_view local)) in
+    c.is_inside.ensures ∙ ap (λ b. found || (own && b)) (c.block_names-inside-in-LocalStack.ensures ∙ ap (λ b. in_block x (block_view b)) c.deref-in-LocalStack.ensures.value)
+    ∙ ap (λ s. found || in_stm x s) (sym (view_local_stack local c.in-LocalStack.field-2 c.in-LocalStack.body))
+    ∙ ap (λ s. found || in_stm x (stm_view s)) (sym c.in-LocalStack.is)

@@ -14,3 +14,6 @@ returns-in-Err-NumberTooLarge c = λ tree h. subst (λ (e : SyntaxFault). IsOnly
 
 pub returns-in-Err-TooNested : goal.returns-in-Err-TooNested
 returns-in-Err-TooNested c = λ tree h. subst (λ (e : SyntaxFault). IsOnlyTree tree (Err e)) c.in-Err-TooNested.field-0-is (c.in-Err-TooNested.ensures.only tree h)
+
+pub returns-in-Err-DelocalName : goal.returns-in-Err-DelocalName
+returns-in-Err-DelocalName c = λ tree h. subst (λ (e : SyntaxFault). IsOnlyTree tree (Err e)) c.in-Err-DelocalName.field-0-is (c.in-Err-DelocalName.ensures.only tree h)

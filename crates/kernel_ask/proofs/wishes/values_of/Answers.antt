@@ -8,7 +8,7 @@ use Rattle.kernel_ask.proofs.wishes.values_of.Goals as goal
 
 pub loop-wish-preserved : goal.loop-wish-preserved
 loop-wish-preserved g c =
-    let s = c.args.store.now in
+    let s = c.args.store.now.sight in
     let wishes = c.args.wishes.now in
     let i = c.loop-wish.wish-index in
     let wish = c.wish-item.result in

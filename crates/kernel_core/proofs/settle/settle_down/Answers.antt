@@ -28,7 +28,7 @@ returns-clause-step g c =
 
 pub returns-clause-kept : goal.returns-clause-kept
 returns-clause-kept g c =
-    kept_down c.args.tree.now (there g c) c.below-child.result (travel_of c.args.travel) c.args.runner.now c.arrive.result.1 c.arrive.result.0 c.requires.way c.requires.kept.legal c.requires.kept.possible c.requires.kept.counted c.requires.kept.path c.requires.kept.placed
+    kept_down c.args.tree.now (there g c) c.below-child.result (travel_of c.args.travel) c.args.runner.now c.arrive.result.1 c.arrive.result.0 c.requires.way c.requires.kept.legal c.requires.kept.possible c.requires.kept.counted c.requires.kept.path c.requires.kept.numbered c.requires.whole
     c.below-child.ensures (ap (λ (t : cells.Tree Cell). t.nodes) c.set_favourite.ensures) (ap (λ (t : cells.Tree Cell). t.favourites) c.set_favourite.ensures) refl (ap (λ (t : cells.Tree Cell). t.way) c.set_favourite.ensures)
     (ended_down (past_of c.args.tree.now) (travel_of c.args.travel) c.args.n (world_of c.args.runner.now) c.requires.way c.requires.kept.legal c.requires.kept.possible c.requires.ended)
     (subst (λ (t : Travel). Arrives (cells_left t) (past_of (there g c)) t c.arrive.result.1 (state_of (there g c) c.arrive.result.0)) c.stepped.ensures (c.arrive.ensures _))

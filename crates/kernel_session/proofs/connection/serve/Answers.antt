@@ -9,7 +9,7 @@ use Rattle.kernel_session.specs.Action.{Sent, SentSome, sends}
 use Rattle.kernel_session.specs.Session.{going, role_of}
 use Rattle.kernel_session.proofs.ActsLemmas.{consumes_none, consumes_join, acts_sends}
 use Rattle.kernel_session.proofs.SessionLemmas.{whole_none, cut_none}
-use Rattle.kernel_session.proofs.PieceLemmas.{new_awaits, reads_as, comes_by_piece, stops_by_piece, ends_midway, whole_end, cut_end}
+use Rattle.kernel_session.proofs.PieceLemmas.{new_awaits, reads_as, comes_by_piece, stops_by_piece, ends_midway, ends_at_end, whole_end, cut_end}
 use Rattle.kernel_session.proofs.connection.serve.Goals as goal
 
 pub returns-in-Err : goal.returns-in-Err
@@ -26,9 +26,9 @@ returns-in-Err g c =
         ends_midway g.W.Write.contents g.D.Desk.leads c.args.socket c.args.key.now before c.args.writer.now c.send_opening.new.writer c.args.desk.now c.args.desk.now (going c.args.stamp.now) c.args.stamp.now
             [] [] (ending_of c.new-peer.result.state) (g.R.Read.remaining c.args.reader.now) c.in-Err.fault c.in-Err.ensures.midway
             (reads_as c.args.socket [] [] c.new-peer.result c.new-peer.ensures.stands role)
-            (inl (cut_none g.W.Write.contents g.D.Desk.leads c.args.socket c.args.key.now before (sends p.0) c.args.writer.now c.send_opening.new.writer c.args.desk.now c.args.desk.now (going c.args.stamp.now) []
+            (cut_none g.W.Write.contents g.D.Desk.leads c.args.socket c.args.key.now before (sends p.0) c.args.writer.now c.send_opening.new.writer c.args.desk.now c.args.desk.now (going c.args.stamp.now) []
             (acts_sends g.W.Write.contents g.D.Desk.leads c.args.writer.now c.send_opening.new.writer c.args.desk.now p.0 p.3)
-            (sends p.1, ap (λ (x : List ℕ). sends x) p.2 ∙ map-append Sent p.0 p.1))),
+            (sends p.1, ap (λ (x : List ℕ). sends x) p.2 ∙ map-append Sent p.0 p.1)),
       );
     }
 
@@ -92,7 +92,7 @@ returns-in-Ok-Starved g c =
     let whole = comes_by_piece g.W.Write.contents g.D.Desk.leads c.args.socket c.args.key.now before c.args.writer.now c.loop.writer c.advance.new.writer
     c.args.desk.now c.loop.desk c.advance.new.desk (going c.args.stamp.now) c.loop.stamp c.advance.new.stamp c.loop.peer c.advance.new.peer inv.0 piece inv.1 inv.6 inv.3 role
     c.in-Ok-Starved.field-0 Starved c.in-Ok-Starved.field-0-is p.0 p.2 in
-    record { session = (inv.0 ++ piece, read, (inv.0 ++ piece, [], sym (append-nil (inv.0 ++ piece)), (inv.1 ++ p.0, ending_of c.advance.new.peer.state, reads, inl whole))) }
+    record { session = (inv.0 ++ piece, read, inl (inv.0 ++ piece, [], sym (append-nil (inv.0 ++ piece)), (inv.1 ++ p.0, ending_of c.advance.new.peer.state, reads, inl whole))) }
 
 pub returns-in-Err-advance : goal.returns-in-Err-advance
 returns-in-Err-advance g c =
@@ -168,8 +168,8 @@ returns-in-Err-close g c =
       session = (
         inv.0 ++ piece,
         read,
-        ends_midway g.W.Write.contents g.D.Desk.leads c.args.socket c.args.key.now before c.args.writer.now c.close.new.writer c.args.desk.now c.close.new.desk (going c.args.stamp.now) c.advance.new.stamp
+        ends_at_end g.W.Write.contents g.D.Desk.leads c.args.socket c.args.key.now before c.args.writer.now c.close.new.writer c.args.desk.now c.close.new.desk (going c.args.stamp.now) c.advance.new.stamp
             (inv.0 ++ piece) (inv.1 ++ p.0) (ending_of c.advance.new.peer.state) (g.R.Read.remaining c.read.new.self) c.in-Err-close.fault
-            c.in-Err-close.ensures.midway reads cut,
+            c.in-Err-close.ensures.midway reads (calm, c.in-Ok-read.ensures.bytes.1 c.if-count-eq0.true (omega arith), cut),
       );
     }

@@ -1,67 +1,100 @@
-use Rattle.std.proofs.Common.{rules, ◌≡◌, List, [], ◌∷◌, ◌++◌, length, ap, ◌∙◌, sym, subst, arith}
-use Rattle.std.specs.Prelude.{Some, string_bytes}
-use Rattle.std.specs.Str.{bytes_eq}
-use Rattle.std.specs.Map.{update, lookup}
-use Rattle.std.specs.BTreeMap.{get_by_text, is_at}
-use Rattle.std.specs.Cmp.Lexicographic.{slice_cmp}
-use Rattle.std.specs.Ordering.{nat_cmp}
-use Rattle.std.proofs.lemmas.Map.Text.{btree_map_updates_text}
+use Rattle.std.proofs.Common.{◌≡◌, ◌<◌, suc, List, [], ◌∷◌, ◌++◌, refl, ap, ◌∙◌, arith, length}
+use Rattle.std.specs.Prelude.{slice_index_or, slice_get, slice_set}
 use Rattle.janus_meaning.specs.Limit.{live_stack_limit}
-use Rattle.janus_meaning.specs.Store.{Bare, Slot, look}
-use Rattle.janus_meaning.specs.World.{stacks_in, stacks_with}
-use Rattle.janus_store.specs.Inside.{AreIndexed, declared_over}
+use Rattle.janus_meaning.specs.Store.{Slot, Bare}
+use Rattle.janus_meaning.specs.World.{size_of, stacks_in, stacks_with}
+use Rattle.janus_names.specs.Numbers.{IsNumbered}
+use Rattle.janus_store.specs.Held.{Held}
 use Rattle.janus_store.specs.Values.{val_of, first_of}
 use Rattle.janus_store.specs.declared.store.Variable.{Variable}
-use Rattle.janus_store.proofs.Variables.{declared-append}
-use Rattle.janus_store.proofs.Indexes.{declared, same_places, no_place}
+use Rattle.janus_store.proofs.Variables.{declared-append, size-declared}
+use Rattle.janus_store.proofs.Numbers.{name_of_number, within_names}
+use Rattle.janus_store.proofs.Rows.{read_at}
 use Rattle.janus_store.proofs.Counted.{is_ready, declared_one}
+use Rattle.janus_store.proofs.Laid.{laid_of, as_many, laid_put, sight_of}
+use Rattle.std.proofs.Common.{length-append}
 use Rattle.janus_store.proofs.store.Store.add.Goals as goal
-
-pub invariant_of-self-in_err-insert : goal.invariant_of-self-in_err-insert
-invariant_of-self-in_err-insert g c =
-    let a = c.self.inside in
-    let same = c.in_err-insert.ensures.err in
-    record {
-      indexed =
-          subst (λ (l : List Variable). AreIndexed l (get_by_text c.insert.new.self)) (sym c.reserve.ensures.items)
-          (same_places a.variables.items (get_by_text a.places) (get_by_text c.insert.new.self) (λ x. ap (λ es. lookup (is_at (λ k. slice_cmp nat_cmp x (string_bytes k))) es) same) c.self.invariant.indexed);
-      stacks = omega (arith, c.self.invariant.stacks, ap (λ l. stacks_in (declared_over Bare l)) c.reserve.ensures.items);
-    }
 
 pub first_value-value-requires : goal.first_value-value-requires
 first_value-value-requires g c =
     let a = c.self.inside in
-    let n : stacks_in (declared_over Bare a.variables.items) ≡ stacks_in c.args.self.now = ap stacks_in c.self.view_is in
-    is_ready c.args.declared a.spares (stacks_in c.args.self.now) (omega (arith, n, c.self.invariant.stacks)) c.requires.room
+    let xs = a.names in
+    let ns = a.newest.items in
+    let vs = a.variables.items in
+    let h = laid_of a c.self.invariant in
+    let sight : sight_of xs vs ≡ c.args.self.now.sight = ap (λ (h : Held). h.sight) c.self.view_is ∙ ap (λ (h : Held). h.sight) c.in_ok-name.ensures.same in
+    let names = ap (λ (h : Held). h.names) c.self.view_is in
+    let whole : a.declared ≡ length vs = omega (arith, c.requires.whole, size-declared xs Bare vs, ap size_of sight, ap (λ (h : Held). h.declared) c.self.view_is, ap (λ (h : Held). h.declared) c.in_ok-name.ensures.same) in
+    is_ready c.args.declared a.spares (stacks_in (sight_of xs vs)) c.self.invariant.stacks (λ e. let low : stacks_in c.args.self.now.sight < live_stack_limit = c.requires.room e in omega (arith, ap stacks_in sight))
+
+pub put-requires-clause-room : goal.put-requires-clause-room
+put-requires-clause-room g c =
+    let a = c.self.inside in
+    let xs = a.names in
+    let ns = a.newest.items in
+    let vs = a.variables.items in
+    let h = laid_of a c.self.invariant in
+    let sight : sight_of xs vs ≡ c.args.self.now.sight = ap (λ (h : Held). h.sight) c.self.view_is ∙ ap (λ (h : Held). h.sight) c.in_ok-name.ensures.same in
+    let names = ap (λ (h : Held). h.names) c.self.view_is in
+    let whole : a.declared ≡ length vs = omega (arith, c.requires.whole, size-declared xs Bare vs, ap size_of sight, ap (λ (h : Held). h.declared) c.self.view_is, ap (λ (h : Held). h.declared) c.in_ok-name.ensures.same) in
+    omega (arith, c.in_ok-reserve.ensures.ok, c.reserve.new.self.ok.0, ap length c.reserve.ensures.items)
 
 pub invariant_of-self-2 : goal.invariant_of-self-2
 invariant_of-self-2 g c =
     let a = c.self.inside in
+    let xs = a.names in
+    let ns = a.newest.items in
     let vs = a.variables.items in
-    let k = string_bytes c.in_ok-key.key in
-    let y : Variable = record { name = c.in_ok-name.name; value = c.first_value-value.result } in
-    let key : k ≡ c.args.name.now = c.in_ok-key.ensures.ok in
-    let new = no_place vs (get_by_text a.places) c.self.invariant.indexed k (ap (λ x. look x (declared_over Bare vs)) key ∙ ap (look c.args.name.now) c.self.view_is ∙ c.requires.absent) in
-    let named : string_bytes c.in_ok-name.name ≡ k = search rules in
-    let len : c.len.result ≡ length vs = omega (arith, ap length c.reserve.ensures.items, c.reserve.new.self.ok.0) in
-    let updates = btree_map_updates_text k a.places c.insert.new.self (Some c.len.result) c.in_ok-insert.ensures.updates in
-    let whole : c.push_reserved.new.self.items ≡ vs ++ y ∷ [] = c.push_reserved.ensures.items ∙ ap (λ l. l ++ y ∷ []) c.reserve.ensures.items in
-    let slots : stacks_in (declared_over Bare c.push_reserved.new.self.items) ≡ stacks_with (val_of c.first_value-value.result) (stacks_in (declared_over Bare vs)) = ap (λ l. stacks_in (declared_over Bare l)) whole ∙ ap stacks_in (declared-append Bare vs y) in
-    let kept = declared_one (val_of c.first_value-value.result) a.spares c.first_value-value.new.self (stacks_in (declared_over Bare vs)) live_stack_limit c.self.invariant.stacks c.first_value-value.ensures.left in
+    let h = laid_of a c.self.invariant in
+    let sight : sight_of xs vs ≡ c.args.self.now.sight = ap (λ (h : Held). h.sight) c.self.view_is ∙ ap (λ (h : Held). h.sight) c.in_ok-name.ensures.same in
+    let names = ap (λ (h : Held). h.names) c.self.view_is in
+    let whole : a.declared ≡ length vs = omega (arith, c.requires.whole, size-declared xs Bare vs, ap size_of sight, ap (λ (h : Held). h.declared) c.self.view_is, ap (λ (h : Held). h.declared) c.in_ok-name.ensures.same) in
+    let x = c.args.name.now in
+    let k = c.in_ok-name.name in
+    let named : IsNumbered xs k x = ap (λ l. slice_get l k) names ∙ c.in_ok-name.ensures.number in
+    let y : Variable = record { name = k; hidden = slice_index_or ns k 0; value = c.first_value-value.result } in
+    let vars : c.put.new.variables.items ≡ vs ++ y ∷ [] = c.put.ensures.variables ∙ ap (λ l. l ++ y ∷ []) c.reserve.ensures.items in
+    let newest = c.put.ensures.newest ∙ ap (λ (l : List Variable). slice_set ns k (suc (length l))) c.reserve.ensures.items in
+    let laid = laid_put xs ns vs h c.put.new.newest.items c.put.new.variables.items y (read_at ns k (omega (arith, within_names xs k x named, as_many xs ns vs h))) newest vars in
+    let slots : stacks_in (sight_of xs c.put.new.variables.items) ≡ stacks_with (val_of y.value) (stacks_in (sight_of xs vs)) = ap (λ l. stacks_in (sight_of xs l)) vars ∙ ap stacks_in (declared-append xs Bare vs y) in
     record {
-      indexed =
-          subst (λ (l : List Variable). AreIndexed l (get_by_text c.insert.new.self)) (sym whole)
-          (declared vs (get_by_text a.places) c.self.invariant.indexed y k (get_by_text c.insert.new.self) named new (λ x. updates x ∙ ap (λ n. update bytes_eq (get_by_text a.places) k (Some n) x) len));
-      stacks = omega (arith, slots, kept);
+      one_number = laid.one_number;
+      newest = laid.newest;
+      hidden = laid.hidden;
+      stacks = omega (arith, slots, declared_one (val_of y.value) a.spares c.first_value-value.new.self (stacks_in (sight_of xs vs)) live_stack_limit c.self.invariant.stacks c.first_value-value.ensures.left);
+      declared = omega (arith, whole, c.put.new.variables.ok.0, ap length vars, length-append vs (y ∷ []));
+      few = omega (arith, whole, c.put.new.variables.ok.0, ap length vars, length-append vs (y ∷ []));
+      room = omega (arith, whole, c.in_ok-reserve.ensures.ok, c.reserve.new.self.ok.0, ap length c.reserve.ensures.items, c.put.ensures.room);
     }
 
 pub returns-clause-ok : goal.returns-clause-ok
 returns-clause-ok g c =
     let a = c.self.inside in
+    let xs = a.names in
+    let ns = a.newest.items in
     let vs = a.variables.items in
-    let y : Variable = record { name = c.in_ok-name.name; value = c.first_value-value.result } in
-    let whole : c.push_reserved.new.self.items ≡ vs ++ y ∷ [] = c.push_reserved.ensures.items ∙ ap (λ l. l ++ y ∷ []) c.reserve.ensures.items in
-    let copied : string_bytes c.in_ok-name.name ≡ string_bytes c.in_ok-key.key = search rules in
-    let named : string_bytes c.in_ok-name.name ≡ c.args.name.now = copied ∙ c.in_ok-key.ensures.ok in
-    ap (declared_over Bare) whole ∙ declared-append Bare vs y ∙ ap (λ x. Slot x (val_of c.first_value-value.result) (declared_over Bare vs)) named
-    ∙ ap (λ v. Slot c.args.name.now v (declared_over Bare vs)) c.first_value-value.ensures.value ∙ ap (Slot c.args.name.now (first_of c.args.declared)) c.self.view_is
+    let h = laid_of a c.self.invariant in
+    let sight : sight_of xs vs ≡ c.args.self.now.sight = ap (λ (h : Held). h.sight) c.self.view_is ∙ ap (λ (h : Held). h.sight) c.in_ok-name.ensures.same in
+    let names = ap (λ (h : Held). h.names) c.self.view_is in
+    let whole : a.declared ≡ length vs = omega (arith, c.requires.whole, size-declared xs Bare vs, ap size_of sight, ap (λ (h : Held). h.declared) c.self.view_is, ap (λ (h : Held). h.declared) c.in_ok-name.ensures.same) in
+    let x = c.args.name.now in
+    let k = c.in_ok-name.name in
+    let named : IsNumbered xs k x = ap (λ l. slice_get l k) names ∙ c.in_ok-name.ensures.number in
+    let y : Variable = record { name = k; hidden = slice_index_or ns k 0; value = c.first_value-value.result } in
+    let vars : c.put.new.variables.items ≡ vs ++ y ∷ [] = c.put.ensures.variables ∙ ap (λ l. l ++ y ∷ []) c.reserve.ensures.items in
+    let newest = c.put.ensures.newest ∙ ap (λ (l : List Variable). slice_set ns k (suc (length l))) c.reserve.ensures.items in
+    let on = c.in_ok-name.ensures.goes_on in
+    record {
+      sight = ap (sight_of xs) vars ∙ declared-append xs Bare vs y ∙ ap (λ x. Slot x (val_of y.value) (sight_of xs vs)) (name_of_number xs k x y named refl) ∙ ap (λ v. Slot x v (sight_of xs vs)) c.first_value-value.ensures.value ∙ ap (Slot x (first_of c.args.declared)) sight;
+      declared = omega (arith, ap (λ (h : Held). h.declared) c.self.view_is, ap (λ (h : Held). h.declared) c.in_ok-name.ensures.same);
+      names = (on.0, names ∙ on.1);
+    }
+
+pub put-requires-clause-met : goal.put-requires-clause-met
+put-requires-clause-met g c =
+    let a = c.self.inside in
+    let xs = a.names in
+    let h = laid_of a c.self.invariant in
+    let names = ap (λ (h : Held). h.names) c.self.view_is in
+    let named : IsNumbered xs c.in_ok-name.name c.args.name.now = ap (λ l. slice_get l c.in_ok-name.name) names ∙ c.in_ok-name.ensures.number in
+    omega (arith, within_names xs c.in_ok-name.name c.args.name.now named, as_many xs a.newest.items a.variables.items h, a.newest.ok.0)

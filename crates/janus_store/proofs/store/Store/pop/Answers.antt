@@ -1,77 +1,144 @@
+use Rattle.std.proofs.Common.{◌≡◌, ◌∷◌, refl, ap, ◌∙◌, sym, arith, w32}
+use Rattle.std.specs.Prelude.{slice_get}
 use Rattle.std.proofs.lemmas.Int.{to_z-of_z}
-use Rattle.std.proofs.Common.{w32, ◌≡◌, ◌∷◌, ap, ◌∙◌, sym, subst, arith, refl}
-use Rattle.std.specs.BTreeMap.{get_by_text}
 use Rattle.janus_meaning.specs.Fault.{Fine}
 use Rattle.janus_meaning.specs.Store.{look, Stk, Bare, cleared, cleared_val}
 use Rattle.janus_meaning.proofs.Cleared.{same_stacks}
+use Rattle.janus_names.specs.Numbers.{IsNumbered}
+use Rattle.janus_store.specs.Held.{Held}
 use Rattle.janus_store.specs.Values.{val_of}
-use Rattle.janus_store.specs.Stores.{IsNamed, write}
+use Rattle.janus_store.specs.Stores.{write}
 use Rattle.janus_store.proofs.Variables.{write_here, cleared-written}
-use Rattle.janus_store.proofs.Indexes.{within, found_at, placed, written}
+use Rattle.janus_store.proofs.Laid.{laid_of, in_sight, fits, seen_at, laid_written, sight_of}
 use Rattle.janus_store.proofs.store.Store.pop.Goals as goal
+
+pub place-at-requires : goal.place-at-requires
+place-at-requires g c =
+    let a = c.self.inside in
+    let xs = a.names in
+    let ns = a.newest.items in
+    let vs = a.variables.items in
+    let h = laid_of a c.self.invariant in
+    let sight : sight_of xs vs ≡ c.args.self.now.sight = ap (λ (h : Held). h.sight) c.self.view_is in
+    let names = ap (λ (h : Held). h.names) c.self.view_is in
+    let x = c.requires.0 in
+    let named : IsNumbered xs c.args.name x = ap (λ l. slice_get l c.args.name) names ∙ c.requires.1 in
+    let seen = in_sight xs ns vs h c.args.name x (Stk (c.requires.2.0 ∷ c.requires.2.1)) named (ap (look x) sight ∙ c.requires.2.2) in
+    (seen.0, ap (λ l. slice_get l c.args.name) c.deref.ensures.value ∙ seen.1)
 
 pub index_mut-requires : goal.index_mut-requires
 index_mut-requires g c =
     let a = c.self.inside in
+    let xs = a.names in
+    let ns = a.newest.items in
+    let vs = a.variables.items in
+    let h = laid_of a c.self.invariant in
+    let sight : sight_of xs vs ≡ c.args.self.now.sight = ap (λ (h : Held). h.sight) c.self.view_is in
+    let names = ap (λ (h : Held). h.names) c.self.view_is in
     let x = c.requires.0 in
-    let at = placed a.variables.items (get_by_text a.places) c.self.invariant.indexed c.args.place x (subst (λ s. IsNamed s c.args.place x) (sym c.self.view_is) c.requires.1) in
-    omega (arith, within a.variables.items (get_by_text a.places) c.self.invariant.indexed x c.args.place at, a.variables.ok.0)
+    let named : IsNumbered xs c.args.name x = ap (λ l. slice_get l c.args.name) names ∙ c.requires.1 in
+    omega (arith, fits xs ns vs h c.args.name x c.place-at.result named (sym (ap (λ l. slice_get l c.args.name) c.deref.ensures.value) ∙ c.place-at.ensures), a.variables.ok.0)
 
 pub pop-requires : goal.pop-requires
 pop-requires g c =
     let a = c.self.inside in
+    let xs = a.names in
+    let ns = a.newest.items in
+    let vs = a.variables.items in
+    let h = laid_of a c.self.invariant in
+    let sight : sight_of xs vs ≡ c.args.self.now.sight = ap (λ (h : Held). h.sight) c.self.view_is in
+    let names = ap (λ (h : Held). h.names) c.self.view_is in
     let x = c.requires.0 in
+    let mine : IsNumbered xs c.args.name x = ap (λ l. slice_get l c.args.name) names ∙ c.requires.1 in
+    let at = sym (ap (λ l. slice_get l c.args.name) c.deref.ensures.value) ∙ c.place-at.ensures in
     let v = c.index_mut.result.now in
-    let at = placed a.variables.items (get_by_text a.places) c.self.invariant.indexed c.args.place x (subst (λ s. IsNamed s c.args.place x) (sym c.self.view_is) c.requires.1) in
-    let f = found_at a.variables.items (get_by_text a.places) c.self.invariant.indexed x c.args.place v at c.index_mut.ensures.value in
-    let both : Fine (val_of v.value) ≡ Fine (Stk (c.requires.2.0 ∷ c.requires.2.1)) = sym f.seen ∙ ap (look x) c.self.view_is ∙ c.requires.2.2 in
+    let f = seen_at xs ns vs h c.args.name x c.place-at.result v mine at c.index_mut.ensures.value in
+    let both : Fine (val_of v.value) ≡ Fine (Stk (c.requires.2.0 ∷ c.requires.2.1)) = sym f.seen ∙ ap (look x) sight ∙ c.requires.2.2 in
     (c.requires.2.0, c.requires.2.1, cc)
 
 pub invariant_of-self : goal.invariant_of-self
 invariant_of-self g c =
     let a = c.self.inside in
+    let xs = a.names in
+    let ns = a.newest.items in
+    let vs = a.variables.items in
+    let h = laid_of a c.self.invariant in
+    let sight : sight_of xs vs ≡ c.args.self.now.sight = ap (λ (h : Held). h.sight) c.self.view_is in
+    let names = ap (λ (h : Held). h.names) c.self.view_is in
     let x = c.requires.0 in
+    let mine : IsNumbered xs c.args.name x = ap (λ l. slice_get l c.args.name) names ∙ c.requires.1 in
+    let at = sym (ap (λ l. slice_get l c.args.name) c.deref.ensures.value) ∙ c.place-at.ensures in
     let v = c.index_mut.result.now in
-    let at = placed a.variables.items (get_by_text a.places) c.self.invariant.indexed c.args.place x (subst (λ s. IsNamed s c.args.place x) (sym c.self.view_is) c.requires.1) in
-    let f = found_at a.variables.items (get_by_text a.places) c.self.invariant.indexed x c.args.place v at c.index_mut.ensures.value in
-    let both : Fine (val_of v.value) ≡ Fine (Stk (c.requires.2.0 ∷ c.requires.2.1)) = sym f.seen ∙ ap (look x) c.self.view_is ∙ c.requires.2.2 in
-    let same : val_of v.value ≡ Stk (c.requires.2.0 ∷ c.requires.2.1) = cc in
+    let f = seen_at xs ns vs h c.args.name x c.place-at.result v mine at c.index_mut.ensures.value in
+    let both : Fine (val_of v.value) ≡ Fine (Stk (c.requires.2.0 ∷ c.requires.2.1)) = sym f.seen ∙ ap (look x) sight ∙ c.requires.2.2 in
+    let same : val_of v.value ≡ (Stk (c.requires.2.0 ∷ c.requires.2.1)) = cc in
     let popped = c.pop.ensures c.requires.2.0 c.requires.2.1 same in
-    let shape = cleared-written Bare a.variables.items c.args.place v c.pop.new.self f.at (ap cleared_val popped.1 ∙ sym (ap cleared_val same)) in
+    let shape = cleared-written xs Bare vs c.place-at.result v c.pop.new.self f.at (ap cleared_val popped.1 ∙ sym (ap cleared_val same)) in
+    let laid = laid_written xs ns vs h c.place-at.result v (record { name = v.name; hidden = v.hidden; value = c.pop.new.self }) f.at refl refl in
     record {
-      indexed = written a.variables.items (get_by_text a.places) c.self.invariant.indexed c.args.place v _ f.at refl;
+      one_number = laid.one_number;
+      newest = laid.newest;
+      hidden = laid.hidden;
       stacks = omega (arith, c.self.invariant.stacks, same_stacks _ _ shape);
+      declared = c.self.invariant.declared;
+      few = c.self.invariant.few;
+      room = c.self.invariant.room;
+    }
+
+pub returns-clause-shape : goal.returns-clause-shape
+returns-clause-shape g c =
+    let a = c.self.inside in
+    let xs = a.names in
+    let ns = a.newest.items in
+    let vs = a.variables.items in
+    let h = laid_of a c.self.invariant in
+    let sight : sight_of xs vs ≡ c.args.self.now.sight = ap (λ (h : Held). h.sight) c.self.view_is in
+    let names = ap (λ (h : Held). h.names) c.self.view_is in
+    let x = c.requires.0 in
+    let mine : IsNumbered xs c.args.name x = ap (λ l. slice_get l c.args.name) names ∙ c.requires.1 in
+    let at = sym (ap (λ l. slice_get l c.args.name) c.deref.ensures.value) ∙ c.place-at.ensures in
+    let v = c.index_mut.result.now in
+    let f = seen_at xs ns vs h c.args.name x c.place-at.result v mine at c.index_mut.ensures.value in
+    let both : Fine (val_of v.value) ≡ Fine (Stk (c.requires.2.0 ∷ c.requires.2.1)) = sym f.seen ∙ ap (look x) sight ∙ c.requires.2.2 in
+    let same : val_of v.value ≡ (Stk (c.requires.2.0 ∷ c.requires.2.1)) = cc in
+    let popped = c.pop.ensures c.requires.2.0 c.requires.2.1 same in
+    record {
+      sight = cleared-written xs Bare vs c.place-at.result v c.pop.new.self f.at (ap cleared_val popped.1 ∙ sym (ap cleared_val same)) ∙ ap cleared sight;
+      declared = ap (λ (h : Held). h.declared) c.self.view_is;
+      names = names;
     }
 
 pub returns-clause-top : goal.returns-clause-top
 returns-clause-top g c = λ x n l named e.
     let a = c.self.inside in
+    let xs = a.names in
+    let ns = a.newest.items in
+    let vs = a.variables.items in
+    let h = laid_of a c.self.invariant in
+    let sight : sight_of xs vs ≡ c.args.self.now.sight = ap (λ (h : Held). h.sight) c.self.view_is in
+    let names = ap (λ (h : Held). h.names) c.self.view_is in
+    let mine : IsNumbered xs c.args.name x = ap (λ l. slice_get l c.args.name) names ∙ named in
+    let at = sym (ap (λ l. slice_get l c.args.name) c.deref.ensures.value) ∙ c.place-at.ensures in
     let v = c.index_mut.result.now in
-    let at = placed a.variables.items (get_by_text a.places) c.self.invariant.indexed c.args.place x (subst (λ s. IsNamed s c.args.place x) (sym c.self.view_is) named) in
-    let f = found_at a.variables.items (get_by_text a.places) c.self.invariant.indexed x c.args.place v at c.index_mut.ensures.value in
-    let both : Fine (val_of v.value) ≡ Fine (Stk (n ∷ l)) = sym f.seen ∙ ap (look x) c.self.view_is ∙ e in
+    let f = seen_at xs ns vs h c.args.name x c.place-at.result v mine at c.index_mut.ensures.value in
+    let both : Fine (val_of v.value) ≡ Fine (Stk (n ∷ l)) = sym f.seen ∙ ap (look x) sight ∙ e in
     let same : val_of v.value ≡ Stk (n ∷ l) = cc in
     to_z-of_z w32 c.pop.result (record { sfits = c.pop.type_inv }) ∙ (c.pop.ensures n l same).0
 
 pub returns-clause-written : goal.returns-clause-written
 returns-clause-written g c = λ x n l named e.
     let a = c.self.inside in
+    let xs = a.names in
+    let ns = a.newest.items in
+    let vs = a.variables.items in
+    let h = laid_of a c.self.invariant in
+    let sight : sight_of xs vs ≡ c.args.self.now.sight = ap (λ (h : Held). h.sight) c.self.view_is in
+    let names = ap (λ (h : Held). h.names) c.self.view_is in
+    let mine : IsNumbered xs c.args.name x = ap (λ l. slice_get l c.args.name) names ∙ named in
+    let at = sym (ap (λ l. slice_get l c.args.name) c.deref.ensures.value) ∙ c.place-at.ensures in
     let v = c.index_mut.result.now in
-    let at = placed a.variables.items (get_by_text a.places) c.self.invariant.indexed c.args.place x (subst (λ s. IsNamed s c.args.place x) (sym c.self.view_is) named) in
-    let f = found_at a.variables.items (get_by_text a.places) c.self.invariant.indexed x c.args.place v at c.index_mut.ensures.value in
-    let both : Fine (val_of v.value) ≡ Fine (Stk (n ∷ l)) = sym f.seen ∙ ap (look x) c.self.view_is ∙ e in
+    let f = seen_at xs ns vs h c.args.name x c.place-at.result v mine at c.index_mut.ensures.value in
+    let both : Fine (val_of v.value) ≡ Fine (Stk (n ∷ l)) = sym f.seen ∙ ap (look x) sight ∙ e in
     let same : val_of v.value ≡ Stk (n ∷ l) = cc in
-    ap (λ u. write x u c.args.self.now) (sym (c.pop.ensures n l same).1) ∙ ap (write x (val_of c.pop.new.self)) (sym c.self.view_is)
-    ∙ write_here x c.pop.new.self Bare a.variables.items c.args.place v f.at f.named f.alone
-
-pub returns-clause-shape : goal.returns-clause-shape
-returns-clause-shape g c =
-    let a = c.self.inside in
-    let x = c.requires.0 in
-    let v = c.index_mut.result.now in
-    let at = placed a.variables.items (get_by_text a.places) c.self.invariant.indexed c.args.place x (subst (λ s. IsNamed s c.args.place x) (sym c.self.view_is) c.requires.1) in
-    let f = found_at a.variables.items (get_by_text a.places) c.self.invariant.indexed x c.args.place v at c.index_mut.ensures.value in
-    let both : Fine (val_of v.value) ≡ Fine (Stk (c.requires.2.0 ∷ c.requires.2.1)) = sym f.seen ∙ ap (look x) c.self.view_is ∙ c.requires.2.2 in
-    let same : val_of v.value ≡ Stk (c.requires.2.0 ∷ c.requires.2.1) = cc in
-    let popped = c.pop.ensures c.requires.2.0 c.requires.2.1 same in
-    cleared-written Bare a.variables.items c.args.place v c.pop.new.self f.at (ap cleared_val popped.1 ∙ sym (ap cleared_val same)) ∙ ap cleared c.self.view_is
+    ap (λ u. write x u c.args.self.now.sight) (sym (c.pop.ensures n l same).1) ∙ ap (write x (val_of c.pop.new.self)) (sym sight)
+    ∙ write_here xs x c.pop.new.self Bare vs c.place-at.result v f.at f.named f.alone

@@ -1,51 +1,95 @@
-use Rattle.std.proofs.Common.{◌≡◌, ap, ◌∙◌, sym, subst, arith}
-use Rattle.std.specs.BTreeMap.{get_by_text}
-use Rattle.std.proofs.lemmas.Map.Text.{btree_map_updates_text}
+use Rattle.std.proofs.Common.{◌-◌}
+use Rattle.std.proofs.Common.{◌≡◌, [], ◌∷◌, ap, ◌∙◌, sym, subst, arith, length}
 use Rattle.janus_meaning.specs.Limit.{live_stack_limit}
-use Rattle.janus_meaning.specs.Store.{Bare, Slot, cleared_val}
-use Rattle.janus_meaning.specs.World.{stacks_in, stacks_with}
-use Rattle.janus_store.specs.Stores.{rest_of}
+use Rattle.janus_meaning.specs.Store.{Slot, Bare, cleared_val}
+use Rattle.janus_meaning.specs.World.{size_of, stacks_in, stacks_with}
+use Rattle.janus_store.specs.Held.{Held}
 use Rattle.janus_store.specs.Values.{val_of}
-use Rattle.janus_store.specs.Inside.{declared_over}
-use Rattle.janus_store.proofs.Variables.{name, declared-append}
-use Rattle.janus_store.proofs.Indexes.{retired}
+use Rattle.janus_store.specs.Inside.{name_among}
+use Rattle.janus_store.specs.Stores.{rest_of}
+use Rattle.janus_store.proofs.Variables.{declared-append, size-declared}
 use Rattle.janus_store.proofs.Counted.{has_place, retired_one}
+use Rattle.janus_store.proofs.Laid.{laid_of, as_many, met, laid_removed, held_is, sight_of}
+use Rattle.std.proofs.Common.{length-append}
 use Rattle.janus_store.proofs.store.Store.retire.Goals as goal
 
 pub take_back-requires-clause-first : goal.take_back-requires-clause-first
 take_back-requires-clause-first g c =
-    let vs = c.self.inside.variables.items in
-    let ws = c.pop.new.self.items in
-    let v = c.in-Some.variable in
-    let r = c.requires in
-    let top : Slot (name v) (val_of v.value) (declared_over Bare ws) ≡ Slot r.0 r.1 r.2 = sym (declared-append Bare ws v) ∙ sym (ap (declared_over Bare) c.in-Some.ensures.items) ∙ c.self.view_is ∙ r.3 in
-    let same : r.1 ≡ val_of v.value = cc in
+    let a = c.self.inside in
+    let xs = a.names in
+    let ns = a.newest.items in
+    let vs = a.variables.items in
+    let h = laid_of a c.self.invariant in
+    let sight : sight_of xs vs ≡ c.args.self.now.sight = ap (λ (h : Held). h.sight) c.self.view_is in
+    let names = ap (λ (h : Held). h.names) c.self.view_is in
+    let y = c.remove-value.result in
+    let ws = c.remove-value.new.variables.items in
+    let laid = laid_removed xs ns vs h c.remove-value.new.newest.items ws y c.remove-value.ensures.variables c.remove-value.ensures.newest in
+    let slots : stacks_in (sight_of xs vs) ≡ stacks_with (val_of y.value) (stacks_in (sight_of xs ws)) = ap (λ l. stacks_in (sight_of xs l)) c.remove-value.ensures.variables ∙ ap stacks_in (declared-append xs Bare ws y) in
+    let top : c.args.self.now.sight ≡ Slot (name_among xs y) (val_of y.value) (sight_of xs ws) = sym sight ∙ ap (sight_of xs) c.remove-value.ensures.variables ∙ declared-append xs Bare ws y in
+    let r = c.requires.first in
+    let both : Slot (name_among xs y) (val_of y.value) (sight_of xs ws) ≡ Slot r.0 r.1 r.2 = sym top ∙ r.3 in
+    let same : r.1 ≡ val_of y.value = cc in
     subst (λ u. cleared_val u ≡ u) same r.4
 
 pub take_back-requires-clause-room : goal.take_back-requires-clause-room
 take_back-requires-clause-room g c =
     let a = c.self.inside in
-    let ws = c.pop.new.self.items in
-    let v = c.in-Some.variable in
-    let slots : stacks_in (declared_over Bare a.variables.items) ≡ stacks_with (val_of v.value) (stacks_in (declared_over Bare ws)) = ap (λ l. stacks_in (declared_over Bare l)) c.in-Some.ensures.items ∙ ap stacks_in (declared-append Bare ws v) in
-    has_place (val_of v.value) a.spares (stacks_in (declared_over Bare ws)) live_stack_limit (omega (arith, slots, c.self.invariant.stacks))
+    let xs = a.names in
+    let ns = a.newest.items in
+    let vs = a.variables.items in
+    let h = laid_of a c.self.invariant in
+    let sight : sight_of xs vs ≡ c.args.self.now.sight = ap (λ (h : Held). h.sight) c.self.view_is in
+    let names = ap (λ (h : Held). h.names) c.self.view_is in
+    let y = c.remove-value.result in
+    let ws = c.remove-value.new.variables.items in
+    let laid = laid_removed xs ns vs h c.remove-value.new.newest.items ws y c.remove-value.ensures.variables c.remove-value.ensures.newest in
+    let slots : stacks_in (sight_of xs vs) ≡ stacks_with (val_of y.value) (stacks_in (sight_of xs ws)) = ap (λ l. stacks_in (sight_of xs l)) c.remove-value.ensures.variables ∙ ap stacks_in (declared-append xs Bare ws y) in
+    let top : c.args.self.now.sight ≡ Slot (name_among xs y) (val_of y.value) (sight_of xs ws) = sym sight ∙ ap (sight_of xs) c.remove-value.ensures.variables ∙ declared-append xs Bare ws y in
+    has_place (val_of y.value) a.spares (stacks_in (sight_of xs ws)) live_stack_limit (omega (arith, slots, c.self.invariant.stacks))
 
 pub invariant_of-self : goal.invariant_of-self
 invariant_of-self g c =
     let a = c.self.inside in
-    let ws = c.pop.new.self.items in
-    let v = c.in-Some.variable in
-    let slots : stacks_in (declared_over Bare a.variables.items) ≡ stacks_with (val_of v.value) (stacks_in (declared_over Bare ws)) = ap (λ l. stacks_in (declared_over Bare l)) c.in-Some.ensures.items ∙ ap stacks_in (declared-append Bare ws v) in
-    let kept = retired_one (val_of v.value) a.spares (stacks_in (declared_over Bare ws)) live_stack_limit (omega (arith, slots, c.self.invariant.stacks)) in
+    let xs = a.names in
+    let ns = a.newest.items in
+    let vs = a.variables.items in
+    let h = laid_of a c.self.invariant in
+    let sight : sight_of xs vs ≡ c.args.self.now.sight = ap (λ (h : Held). h.sight) c.self.view_is in
+    let names = ap (λ (h : Held). h.names) c.self.view_is in
+    let y = c.remove-value.result in
+    let ws = c.remove-value.new.variables.items in
+    let laid = laid_removed xs ns vs h c.remove-value.new.newest.items ws y c.remove-value.ensures.variables c.remove-value.ensures.newest in
+    let slots : stacks_in (sight_of xs vs) ≡ stacks_with (val_of y.value) (stacks_in (sight_of xs ws)) = ap (λ l. stacks_in (sight_of xs l)) c.remove-value.ensures.variables ∙ ap stacks_in (declared-append xs Bare ws y) in
+    let top : c.args.self.now.sight ≡ Slot (name_among xs y) (val_of y.value) (sight_of xs ws) = sym sight ∙ ap (sight_of xs) c.remove-value.ensures.variables ∙ declared-append xs Bare ws y in
     record {
-      indexed =
-          retired a.variables.items (get_by_text a.places) c.self.invariant.indexed ws v c.as_str.result.now (get_by_text c.remove.new.self) c.in-Some.ensures.items (sym c.as_str.ensures.value)
-          (btree_map_updates_text c.as_str.result.now a.places c.remove.new.self _ c.remove.ensures.updates);
-      stacks = omega (arith, kept, c.take_back.ensures);
+      one_number = laid.one_number;
+      newest = laid.newest;
+      hidden = laid.hidden;
+      stacks = omega (arith, c.take_back.ensures, retired_one (val_of y.value) a.spares (stacks_in (sight_of xs ws)) live_stack_limit (omega (arith, slots, c.self.invariant.stacks)));
+      declared = omega (arith, c.requires.whole, ap (λ (h : Held). h.declared) c.self.view_is, ap size_of sight, size-declared xs Bare vs, c.remove-value.new.variables.ok.0, ap length c.remove-value.ensures.variables, length-append ws (y ∷ []));
+      few = omega (arith, c.self.invariant.few, a.variables.ok.0, c.requires.whole, ap (λ (h : Held). h.declared) c.self.view_is, ap size_of sight, size-declared xs Bare vs, c.remove-value.new.variables.ok.0, ap length c.remove-value.ensures.variables, length-append ws (y ∷ []));
+      room = omega (arith, c.self.invariant.room, c.remove-value.ensures.room);
     }
 
-pub returns-in-Some : goal.returns-in-Some
-returns-in-Some g c =
-    let vs = c.self.inside.variables.items in
-    let ws = c.pop.new.self.items in
-    sym (ap rest_of (declared-append Bare ws c.in-Some.variable)) ∙ sym (ap (λ l. rest_of (declared_over Bare l)) c.in-Some.ensures.items) ∙ ap rest_of c.self.view_is
+pub returns : goal.returns
+returns g c =
+    let a = c.self.inside in
+    let xs = a.names in
+    let ns = a.newest.items in
+    let vs = a.variables.items in
+    let h = laid_of a c.self.invariant in
+    let sight : sight_of xs vs ≡ c.args.self.now.sight = ap (λ (h : Held). h.sight) c.self.view_is in
+    let names = ap (λ (h : Held). h.names) c.self.view_is in
+    let y = c.remove-value.result in
+    let ws = c.remove-value.new.variables.items in
+    let laid = laid_removed xs ns vs h c.remove-value.new.newest.items ws y c.remove-value.ensures.variables c.remove-value.ensures.newest in
+    let slots : stacks_in (sight_of xs vs) ≡ stacks_with (val_of y.value) (stacks_in (sight_of xs ws)) = ap (λ l. stacks_in (sight_of xs l)) c.remove-value.ensures.variables ∙ ap stacks_in (declared-append xs Bare ws y) in
+    let top : c.args.self.now.sight ≡ Slot (name_among xs y) (val_of y.value) (sight_of xs ws) = sym sight ∙ ap (sight_of xs) c.remove-value.ensures.variables ∙ declared-append xs Bare ws y in
+    held_is _ _ (sym (ap rest_of top)) (ap (λ (h : Held). h.declared - 1) c.self.view_is) names
+
+pub remove-value-requires-clause-met : goal.remove-value-requires-clause-met
+remove-value-requires-clause-met g c = λ i v e.
+    let a = c.self.inside in
+    let h = laid_of a c.self.invariant in
+    omega (arith, met a.names a.newest.items a.variables.items h i v e, as_many a.names a.newest.items a.variables.items h, a.newest.ok.0)

@@ -1,63 +1,127 @@
-use Rattle.std.proofs.lemmas.Int.{to_z-of_z}
-use Rattle.std.proofs.Common.{w32, ◌≡◌, ap, ◌∙◌, sym, subst, arith, refl}
-use Rattle.std.specs.BTreeMap.{get_by_text}
+use Rattle.std.proofs.Common.{◌≡◌, ap, ◌∙◌, sym, arith}
+use Rattle.std.specs.Prelude.{slice_get}
 use Rattle.janus_meaning.specs.Fault.{Fine}
-use Rattle.janus_meaning.specs.Store.{look, Num, Bare, cleared, cleared_val}
-use Rattle.janus_meaning.proofs.Cleared.{same_stacks}
+use Rattle.janus_meaning.specs.Store.{look, Num}
+use Rattle.janus_names.specs.Numbers.{IsNumbered}
+use Rattle.janus_store.specs.Held.{Held}
 use Rattle.janus_store.specs.Values.{val_of}
-use Rattle.janus_store.specs.Stores.{IsNamed, write}
+use Rattle.janus_store.proofs.Laid.{laid_of, in_sight, fits, seen_at}
+use Rattle.std.proofs.Common.{w32, refl}
+use Rattle.std.proofs.lemmas.Int.{to_z-of_z}
+use Rattle.janus_meaning.specs.Store.{Bare, cleared, cleared_val}
+use Rattle.janus_meaning.proofs.Cleared.{same_stacks}
+use Rattle.janus_store.specs.Stores.{write}
 use Rattle.janus_store.proofs.Variables.{write_here, cleared-written}
-use Rattle.janus_store.proofs.Indexes.{within, found_at, placed, written}
+use Rattle.janus_store.proofs.Laid.{laid_written}
 use Rattle.janus_store.proofs.store.Store.set.Goals as goal
+
+pub place-at-requires : goal.place-at-requires
+place-at-requires g c =
+    let a = c.self.inside in
+    let xs = a.names in
+    let ns = a.newest.items in
+    let vs = a.variables.items in
+    let h = laid_of a c.self.invariant in
+    let sight = ap (λ (h : Held). h.sight) c.self.view_is in
+    let names = ap (λ (h : Held). h.names) c.self.view_is in
+    let x = c.requires.0 in
+    let named : IsNumbered xs c.args.name x = ap (λ l. slice_get l c.args.name) names ∙ c.requires.1 in
+    let seen = in_sight xs ns vs h c.args.name x (Num c.requires.2.0) named (ap (look x) sight ∙ c.requires.2.1) in
+    (seen.0, ap (λ l. slice_get l c.args.name) c.deref.ensures.value ∙ seen.1)
 
 pub index_mut-requires : goal.index_mut-requires
 index_mut-requires g c =
     let a = c.self.inside in
+    let xs = a.names in
+    let ns = a.newest.items in
+    let vs = a.variables.items in
+    let h = laid_of a c.self.invariant in
+    let sight = ap (λ (h : Held). h.sight) c.self.view_is in
+    let names = ap (λ (h : Held). h.names) c.self.view_is in
     let x = c.requires.0 in
-    let at = placed a.variables.items (get_by_text a.places) c.self.invariant.indexed c.args.place x (subst (λ s. IsNamed s c.args.place x) (sym c.self.view_is) c.requires.1) in
-    omega (arith, within a.variables.items (get_by_text a.places) c.self.invariant.indexed x c.args.place at, a.variables.ok.0)
+    let named : IsNumbered xs c.args.name x = ap (λ l. slice_get l c.args.name) names ∙ c.requires.1 in
+    omega (arith, fits xs ns vs h c.args.name x c.place-at.result named (sym (ap (λ l. slice_get l c.args.name) c.deref.ensures.value) ∙ c.place-at.ensures), a.variables.ok.0)
 
 pub set_number-requires : goal.set_number-requires
 set_number-requires g c =
     let a = c.self.inside in
+    let xs = a.names in
+    let ns = a.newest.items in
+    let vs = a.variables.items in
+    let h = laid_of a c.self.invariant in
+    let sight = ap (λ (h : Held). h.sight) c.self.view_is in
+    let names = ap (λ (h : Held). h.names) c.self.view_is in
     let x = c.requires.0 in
+    let mine : IsNumbered xs c.args.name x = ap (λ l. slice_get l c.args.name) names ∙ c.requires.1 in
+    let at = sym (ap (λ l. slice_get l c.args.name) c.deref.ensures.value) ∙ c.place-at.ensures in
     let v = c.index_mut.result.now in
-    let at = placed a.variables.items (get_by_text a.places) c.self.invariant.indexed c.args.place x (subst (λ s. IsNamed s c.args.place x) (sym c.self.view_is) c.requires.1) in
-    let f = found_at a.variables.items (get_by_text a.places) c.self.invariant.indexed x c.args.place v at c.index_mut.ensures.value in
-    let both : Fine (val_of v.value) ≡ Fine (Num c.requires.2.0) = sym f.seen ∙ ap (look x) c.self.view_is ∙ c.requires.2.1 in
+    let f = seen_at xs ns vs h c.args.name x c.place-at.result v mine at c.index_mut.ensures.value in
+    let both : Fine (val_of v.value) ≡ Fine (Num c.requires.2.0) = sym f.seen ∙ ap (look x) sight ∙ c.requires.2.1 in
     (c.requires.2.0, cc)
 
 pub invariant_of-self : goal.invariant_of-self
 invariant_of-self g c =
     let a = c.self.inside in
+    let xs = a.names in
+    let ns = a.newest.items in
+    let vs = a.variables.items in
+    let h = laid_of a c.self.invariant in
+    let sight = ap (λ (h : Held). h.sight) c.self.view_is in
+    let names = ap (λ (h : Held). h.names) c.self.view_is in
     let x = c.requires.0 in
+    let mine : IsNumbered xs c.args.name x = ap (λ l. slice_get l c.args.name) names ∙ c.requires.1 in
+    let at = sym (ap (λ l. slice_get l c.args.name) c.deref.ensures.value) ∙ c.place-at.ensures in
     let v = c.index_mut.result.now in
-    let at = placed a.variables.items (get_by_text a.places) c.self.invariant.indexed c.args.place x (subst (λ s. IsNamed s c.args.place x) (sym c.self.view_is) c.requires.1) in
-    let f = found_at a.variables.items (get_by_text a.places) c.self.invariant.indexed x c.args.place v at c.index_mut.ensures.value in
-    let both : Fine (val_of v.value) ≡ Fine (Num c.requires.2.0) = sym f.seen ∙ ap (look x) c.self.view_is ∙ c.requires.2.1 in
-    let same : val_of v.value ≡ Num c.requires.2.0 = cc in
-    let shape = cleared-written Bare a.variables.items c.args.place v c.set_number.new.self f.at (ap cleared_val c.set_number.ensures ∙ sym (ap cleared_val same)) in
+    let f = seen_at xs ns vs h c.args.name x c.place-at.result v mine at c.index_mut.ensures.value in
+    let both : Fine (val_of v.value) ≡ Fine (Num c.requires.2.0) = sym f.seen ∙ ap (look x) sight ∙ c.requires.2.1 in
+    let same : val_of v.value ≡ (Num c.requires.2.0) = cc in
+    let shape = cleared-written xs Bare vs c.place-at.result v c.set_number.new.self f.at (ap cleared_val c.set_number.ensures ∙ sym (ap cleared_val same)) in
+    let laid = laid_written xs ns vs h c.place-at.result v (record { name = v.name; hidden = v.hidden; value = c.set_number.new.self }) f.at refl refl in
     record {
-      indexed = written a.variables.items (get_by_text a.places) c.self.invariant.indexed c.args.place v _ f.at refl;
+      one_number = laid.one_number;
+      newest = laid.newest;
+      hidden = laid.hidden;
       stacks = omega (arith, c.self.invariant.stacks, same_stacks _ _ shape);
+      declared = c.self.invariant.declared;
+      few = c.self.invariant.few;
+      room = c.self.invariant.room;
     }
 
 pub returns-clause-written : goal.returns-clause-written
 returns-clause-written g c = λ x named.
     let a = c.self.inside in
+    let xs = a.names in
+    let ns = a.newest.items in
+    let vs = a.variables.items in
+    let h = laid_of a c.self.invariant in
+    let sight = ap (λ (h : Held). h.sight) c.self.view_is in
+    let names = ap (λ (h : Held). h.names) c.self.view_is in
+    let mine : IsNumbered xs c.args.name x = ap (λ l. slice_get l c.args.name) names ∙ named in
+    let at = sym (ap (λ l. slice_get l c.args.name) c.deref.ensures.value) ∙ c.place-at.ensures in
     let v = c.index_mut.result.now in
-    let at = placed a.variables.items (get_by_text a.places) c.self.invariant.indexed c.args.place x (subst (λ s. IsNamed s c.args.place x) (sym c.self.view_is) named) in
-    let f = found_at a.variables.items (get_by_text a.places) c.self.invariant.indexed x c.args.place v at c.index_mut.ensures.value in
-    ap (λ n. write x (Num n) c.args.self.now) (sym (to_z-of_z w32 c.args.number c.ranges.number)) ∙ ap (λ u. write x u c.args.self.now) (sym c.set_number.ensures) ∙ ap (write x (val_of c.set_number.new.self)) (sym c.self.view_is)
-    ∙ write_here x c.set_number.new.self Bare a.variables.items c.args.place v f.at f.named f.alone
+    let f = seen_at xs ns vs h c.args.name x c.place-at.result v mine at c.index_mut.ensures.value in
+    ap (λ n. write x (Num n) c.args.self.now.sight) (sym (to_z-of_z w32 c.args.number c.ranges.number)) ∙ ap (λ u. write x u c.args.self.now.sight) (sym c.set_number.ensures) ∙ ap (write x (val_of c.set_number.new.self)) (sym sight)
+    ∙ write_here xs x c.set_number.new.self Bare vs c.place-at.result v f.at f.named f.alone
+
 
 pub returns-clause-shape : goal.returns-clause-shape
 returns-clause-shape g c =
     let a = c.self.inside in
+    let xs = a.names in
+    let ns = a.newest.items in
+    let vs = a.variables.items in
+    let h = laid_of a c.self.invariant in
+    let sight = ap (λ (h : Held). h.sight) c.self.view_is in
+    let names = ap (λ (h : Held). h.names) c.self.view_is in
     let x = c.requires.0 in
+    let mine : IsNumbered xs c.args.name x = ap (λ l. slice_get l c.args.name) names ∙ c.requires.1 in
+    let at = sym (ap (λ l. slice_get l c.args.name) c.deref.ensures.value) ∙ c.place-at.ensures in
     let v = c.index_mut.result.now in
-    let at = placed a.variables.items (get_by_text a.places) c.self.invariant.indexed c.args.place x (subst (λ s. IsNamed s c.args.place x) (sym c.self.view_is) c.requires.1) in
-    let f = found_at a.variables.items (get_by_text a.places) c.self.invariant.indexed x c.args.place v at c.index_mut.ensures.value in
-    let both : Fine (val_of v.value) ≡ Fine (Num c.requires.2.0) = sym f.seen ∙ ap (look x) c.self.view_is ∙ c.requires.2.1 in
-    let same : val_of v.value ≡ Num c.requires.2.0 = cc in
-    cleared-written Bare a.variables.items c.args.place v c.set_number.new.self f.at (ap cleared_val c.set_number.ensures ∙ sym (ap cleared_val same)) ∙ ap cleared c.self.view_is
+    let f = seen_at xs ns vs h c.args.name x c.place-at.result v mine at c.index_mut.ensures.value in
+    let both : Fine (val_of v.value) ≡ Fine (Num c.requires.2.0) = sym f.seen ∙ ap (look x) sight ∙ c.requires.2.1 in
+    let same : val_of v.value ≡ (Num c.requires.2.0) = cc in
+    record {
+      sight = cleared-written xs Bare vs c.place-at.result v c.set_number.new.self f.at (ap cleared_val c.set_number.ensures ∙ sym (ap cleared_val same)) ∙ ap cleared sight;
+      declared = ap (λ (h : Held). h.declared) c.self.view_is;
+      names = names;
+    }

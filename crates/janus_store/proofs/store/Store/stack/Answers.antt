@@ -1,35 +1,70 @@
-use Rattle.std.proofs.Common.{◌≡◌, ap, ◌∙◌, sym, subst, arith}
-use Rattle.std.specs.BTreeMap.{get_by_text}
+use Rattle.std.proofs.Common.{◌≡◌, ap, ◌∙◌, sym, arith}
+use Rattle.std.specs.Prelude.{slice_get}
 use Rattle.janus_meaning.specs.Fault.{Fine}
 use Rattle.janus_meaning.specs.Store.{look, Stk}
+use Rattle.janus_names.specs.Numbers.{IsNumbered}
+use Rattle.janus_store.specs.Held.{Held}
 use Rattle.janus_store.specs.Values.{val_of}
-use Rattle.janus_store.specs.Stores.{IsNamed}
-use Rattle.janus_store.proofs.Indexes.{within, found_at, placed}
+use Rattle.janus_store.proofs.Laid.{laid_of, in_sight, fits, seen_at}
 use Rattle.janus_store.proofs.store.Store.stack.Goals as goal
+
+pub place-requires : goal.place-requires
+place-requires g c =
+    let a = c.self.inside in
+    let xs = a.names in
+    let ns = a.newest.items in
+    let vs = a.variables.items in
+    let h = laid_of a c.self.invariant in
+    let sight = ap (λ (h : Held). h.sight) c.self.view_is in
+    let names = ap (λ (h : Held). h.names) c.self.view_is in
+    let x = c.requires.0 in
+    let named : IsNumbered xs c.args.name x = ap (λ l. slice_get l c.args.name) names ∙ c.requires.1 in
+    let seen = in_sight xs ns vs h c.args.name x (Stk c.requires.2.0) named (ap (look x) sight ∙ c.requires.2.1) in
+    (seen.0, ap (λ l. slice_get l c.args.name) c.deref.ensures.value ∙ seen.1)
 
 pub index-requires : goal.index-requires
 index-requires g c =
     let a = c.self.inside in
+    let xs = a.names in
+    let ns = a.newest.items in
+    let vs = a.variables.items in
+    let h = laid_of a c.self.invariant in
+    let sight = ap (λ (h : Held). h.sight) c.self.view_is in
+    let names = ap (λ (h : Held). h.names) c.self.view_is in
     let x = c.requires.0 in
-    let at = placed a.variables.items (get_by_text a.places) c.self.invariant.indexed c.args.place x (subst (λ s. IsNamed s c.args.place x) (sym c.self.view_is) c.requires.1) in
-    omega (arith, within a.variables.items (get_by_text a.places) c.self.invariant.indexed x c.args.place at, a.variables.ok.0)
+    let named : IsNumbered xs c.args.name x = ap (λ l. slice_get l c.args.name) names ∙ c.requires.1 in
+    omega (arith, fits xs ns vs h c.args.name x c.place.result named (sym (ap (λ l. slice_get l c.args.name) c.deref.ensures.value) ∙ c.place.ensures), a.variables.ok.0)
 
 pub stack-requires : goal.stack-requires
 stack-requires g c =
     let a = c.self.inside in
+    let xs = a.names in
+    let ns = a.newest.items in
+    let vs = a.variables.items in
+    let h = laid_of a c.self.invariant in
+    let sight = ap (λ (h : Held). h.sight) c.self.view_is in
+    let names = ap (λ (h : Held). h.names) c.self.view_is in
     let x = c.requires.0 in
+    let mine : IsNumbered xs c.args.name x = ap (λ l. slice_get l c.args.name) names ∙ c.requires.1 in
+    let at = sym (ap (λ l. slice_get l c.args.name) c.deref.ensures.value) ∙ c.place.ensures in
     let v = c.index.result.now in
-    let at = placed a.variables.items (get_by_text a.places) c.self.invariant.indexed c.args.place x (subst (λ s. IsNamed s c.args.place x) (sym c.self.view_is) c.requires.1) in
-    let f = found_at a.variables.items (get_by_text a.places) c.self.invariant.indexed x c.args.place v at c.index.ensures in
-    let both : Fine (val_of v.value) ≡ Fine (Stk c.requires.2.0) = sym f.seen ∙ ap (look x) c.self.view_is ∙ c.requires.2.1 in
+    let f = seen_at xs ns vs h c.args.name x c.place.result v mine at c.index.ensures in
+    let both : Fine (val_of v.value) ≡ Fine (Stk c.requires.2.0) = sym f.seen ∙ ap (look x) sight ∙ c.requires.2.1 in
     (c.requires.2.0, cc)
 
 pub returns : goal.returns
 returns g c = λ x l named e.
     let a = c.self.inside in
+    let xs = a.names in
+    let ns = a.newest.items in
+    let vs = a.variables.items in
+    let h = laid_of a c.self.invariant in
+    let sight = ap (λ (h : Held). h.sight) c.self.view_is in
+    let names = ap (λ (h : Held). h.names) c.self.view_is in
+    let mine : IsNumbered xs c.args.name x = ap (λ l. slice_get l c.args.name) names ∙ named in
+    let at = sym (ap (λ l. slice_get l c.args.name) c.deref.ensures.value) ∙ c.place.ensures in
     let v = c.index.result.now in
-    let at = placed a.variables.items (get_by_text a.places) c.self.invariant.indexed c.args.place x (subst (λ s. IsNamed s c.args.place x) (sym c.self.view_is) named) in
-    let f = found_at a.variables.items (get_by_text a.places) c.self.invariant.indexed x c.args.place v at c.index.ensures in
-    let both : Fine (val_of v.value) ≡ Fine (Stk l) = sym f.seen ∙ ap (look x) c.self.view_is ∙ e in
+    let f = seen_at xs ns vs h c.args.name x c.place.result v mine at c.index.ensures in
+    let both : Fine (val_of v.value) ≡ Fine (Stk l) = sym f.seen ∙ ap (look x) sight ∙ e in
     let same : Stk c.stack.result.now ≡ Stk l = sym c.stack.ensures ∙ cc in
     cc

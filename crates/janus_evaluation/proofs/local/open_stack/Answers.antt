@@ -1,0 +1,33 @@
+use Rattle.std.proofs.Common.{◌≡◌, ◌<◌, ◌≤◌, ℕ, [], true, false, ap, ◌∙◌, sym, string_bytes, arith, refl}
+use Rattle.std.specs.Prelude.{nat_lt}
+use Rattle.std.proofs.lemmas.Bool.Decides.{nat_tests}
+use Rattle.janus_meaning.specs.Fault.{Fine, and_then, guard, TooManyStacks}
+use Rattle.janus_meaning.specs.Limit.{live_stack_limit}
+use Rattle.janus_meaning.specs.Store.{Slot, Stk}
+use Rattle.janus_meaning.specs.Moves.{stack_room}
+use Rattle.janus_meaning.specs.World.{stacks_in}
+use Rattle.janus_store.specs.Held.{Held}
+use Rattle.janus_evaluation.proofs.local.open_stack.Goals as goal
+
+no_room : (k : ℕ) → live_stack_limit ≤ k → nat_lt k live_stack_limit ≡ false
+no_room k h = grind (arith, nat_tests)
+
+some_room : (k : ℕ) → k < live_stack_limit → nat_lt k live_stack_limit ≡ true
+some_room k h = grind (arith, nat_tests)
+
+pub returns-then-stacks_left-eq0-clause-done : goal.returns-then-stacks_left-eq0-clause-done
+unfolding stack_room
+returns-then-stacks_left-eq0-clause-done g c =
+    let x = string_bytes c.args.name.now.text in
+    let s = c.args.store.now.sight in
+    let full = no_room (stacks_in s) (omega (arith, c.stacks_left.ensures, c.if-stacks_left-eq0.true)) in
+    (ap (λ t. and_then (guard t TooManyStacks) (λ ok. Fine (Slot x (Stk []) s))) full, refl)
+
+pub returns-clause-done : goal.returns-clause-done
+unfolding stack_room
+returns-clause-done g c =
+    let x = string_bytes c.args.name.now.text in
+    let s = c.args.store.now.sight in
+    let room = some_room (stacks_in s) (omega (arith, c.stacks_left.ensures, c.if-stacks_left-eq0.false)) in
+    ap (λ t. and_then (guard t TooManyStacks) (λ ok. Fine (Slot x (Stk []) s))) room
+    ∙ ap Fine (sym (ap (λ (h : Held). h.sight) (c.enter_local_stack.ensures x c.requires.at)))

@@ -1,0 +1,97 @@
+//! How locals are opened and closed.
+
+ghost use Rattle.std.specs.Prelude.{◌≡◌, ◌≢◌, ◌<◌, string_bytes};
+ghost use Rattle.janus_meaning.specs.Fault.{Bad, Broken};
+ghost use Rattle.janus_meaning.specs.Moves.{drop_int, drop_stack};
+ghost use Rattle.janus_meaning.specs.Value.{value as value_of};
+ghost use Rattle.janus_meaning.specs.World.{size_of};
+ghost use Rattle.janus_store.specs.Held.{HasLocalRoom};
+ghost use Rattle.janus_invert.specs.Expressions.{exp_of};
+ghost use Rattle.janus_invert.specs.Numbered.{HasItsNumber, HasNumbers};
+ghost use Rattle.janus_evaluation.specs.Locals.{number_opened, stack_opened, KeepsNames};
+ghost use Rattle.janus_evaluation.specs.Results.{IsDone};
+
+use crate::expression::value;
+use crate::fault::ValueFault;
+use janus_invert::code::{Exp, Symbol};
+use janus_store::Store;
+use std::sync::ledger::Ledger;
+
+/// Opens a local number, which has the value of its expression then. Names have their numbers. A fault leaves the store.
+pub fn open_number<L: Ledger>(
+    name: &Symbol,
+    first: &Exp,
+    store: &mut Store<L>,
+) -> Result<(), ValueFault>
+    requires safe { value_of (exp_of first.now) store.old.sight ≢ Bad Broken }
+    requires at { HasItsNumber store.old.names name.now }
+    requires numbered { HasNumbers store.old.names first.now }
+    requires room { HasLocalRoom store.old }
+    ensures done { IsDone (number_opened (string_bytes name.now.text) (exp_of first.now) store.old.sight) store.old.sight store.new.sight result }
+    ensures names { KeepsNames store.old store.new }
+{
+    match value(first, store) {
+        Ok(number) => {
+            store.enter_local(name.number, number);
+            Ok(())
+        }
+        Err(fault) => Err(fault),
+    }
+}
+
+/// Closes the newest local, a number, whose expression has its value where it is out of sight. Names have their numbers. Another value is
+/// a fault. A fault leaves the store.
+pub fn close_number<L: Ledger>(
+    name: &Symbol,
+    last: &Exp,
+    store: &mut Store<L>,
+) -> Result<(), ValueFault>
+    requires safe { drop_int (string_bytes name.now.text) (exp_of last.now) store.old.sight ≢ Bad Broken }
+    requires at { HasItsNumber store.old.names name.now }
+    requires numbered { HasNumbers store.old.names last.now }
+    requires local { store.old.declared < size_of store.old.sight }
+    ensures done { IsDone (drop_int (string_bytes name.now.text) (exp_of last.now) store.old.sight) store.old.sight store.new.sight result }
+    ensures names { KeepsNames store.old store.new }
+{
+    let number = store.leave_local();
+    let fault = match value(last, store) {
+        Ok(wanted) => {
+            if wanted == number {
+                return Ok(());
+            }
+            ValueFault::DelocalMismatch
+        }
+        Err(fault) => fault,
+    };
+    store.enter_local(name.number, number);
+    Err(fault)
+}
+
+/// Opens a local stack, which is empty then. Its name has its number. It is a fault where no stack more may live, which leaves the store.
+pub fn open_stack<L: Ledger>(name: &Symbol, store: &mut Store<L>) -> Result<(), ValueFault>
+    requires at { HasItsNumber store.old.names name.now }
+    requires room { HasLocalRoom store.old }
+    ensures done { IsDone (stack_opened (string_bytes name.now.text) store.old.sight) store.old.sight store.new.sight result }
+    ensures names { KeepsNames store.old store.new }
+{
+    if store.stacks_left() == 0 {
+        return Err(ValueFault::TooManyStacks);
+    }
+    store.enter_local_stack(name.number);
+    Ok(())
+}
+
+/// Closes the newest local, a stack. Its name has its number. It is a fault where the stack isn't empty, which leaves the store.
+pub fn close_stack<L: Ledger>(name: &Symbol, store: &mut Store<L>) -> Result<(), ValueFault>
+    requires safe { drop_stack (string_bytes name.now.text) store.old.sight ≢ Bad Broken }
+    requires at { HasItsNumber store.old.names name.now }
+    requires local { store.old.declared < size_of store.old.sight }
+    ensures done { IsDone (drop_stack (string_bytes name.now.text) store.old.sight) store.old.sight store.new.sight result }
+    ensures names { KeepsNames store.old store.new }
+{
+    if !store.is_empty(name.number) {
+        return Err(ValueFault::DelocalMismatch);
+    }
+    store.leave_local_stack();
+    Ok(())
+}

@@ -1,0 +1,50 @@
+-- A store whose names have grown.
+use Rattle.std.proofs.Common.{◌≡◌, ℕ, ◌<◌, ⊎_elim, List, [], ◌∷◌, ◌++◌, length, ap, ◌∙◌, sym, subst, arith}
+use Rattle.std.specs.Prelude.{slice_get}
+use Rattle.std.proofs.lemmas.List.{append-nil}
+use Rattle.janus_meaning.specs.Store as spec
+use Rattle.janus_meaning.specs.Syntax.{Name}
+use Rattle.janus_names.specs.Numbers.{IsNumbered, HaveOneNumber, Adds, GoOn}
+use Rattle.janus_store.specs.declared.store.Variable.{Variable}
+use Rattle.janus_store.proofs.Numbers.{declared_grown, within_names}
+use Rattle.janus_store.proofs.Laid.{IsLaid, laid_grown, sight_of, as_many, met}
+
+module _ (xs ys : List Name) (ns : List ℕ) (vs : List Variable) (h : IsLaid xs ns vs) (k : ℕ) (x : Name) (named : IsNumbered ys k x) (one : HaveOneNumber ys) (adds : Adds xs ys k x) where
+  -- the name had a number
+  old_names : (k ≡ length ns → ⊥) → ys ≡ xs
+  old_names n =
+      ⊎_elim
+      (λ (e : ys ≡ xs). e)
+      (λ (e : (k ≡ length xs) × (ys ≡ xs ++ x ∷ [])). absurd (n (e.0 ∙ sym (as_many xs ns vs h))))
+      adds
+
+  -- it has one now
+  new_names : k ≡ length ns → ys ≡ xs ++ x ∷ []
+  new_names n =
+      ⊎_elim
+      (λ (e : ys ≡ xs).
+      let lt : k < length xs = within_names xs k x (ap (λ l. slice_get l k) (sym e) ∙ named) in
+      let l : length ns ≡ length xs = as_many xs ns vs h in
+      absurd (omega arith))
+      (λ (e : (k ≡ length xs) × (ys ≡ xs ++ x ∷ [])). e.1)
+      adds
+
+  pub laid_met : (k ≡ length ns → ⊥) → IsLaid ys ns vs
+  laid_met n = subst (λ (l : List Name). IsLaid l ns vs) (sym (old_names n)) h
+
+  pub laid_new : (ms : List ℕ) → k ≡ length ns → ms ≡ ns ++ 0 ∷ [] → IsLaid ys ms vs
+  laid_new ms n m = laid_grown xs ns vs h ys ms x one (new_names n) m
+
+  pub same_sight : sight_of ys vs ≡ sight_of xs vs
+  same_sight =
+      ⊎_elim
+      (λ (e : ys ≡ xs). ap (λ l. sight_of l vs) e)
+      (λ (e : (k ≡ length xs) × (ys ≡ xs ++ x ∷ [])). ap (λ l. sight_of l vs) e.1 ∙ declared_grown xs (x ∷ []) spec.Bare vs (met xs ns vs h))
+      adds
+
+  pub names_go_on : GoOn xs ys
+  names_go_on =
+      ⊎_elim
+      (λ (e : ys ≡ xs). ([], e ∙ sym (append-nil xs)))
+      (λ (e : (k ≡ length xs) × (ys ≡ xs ++ x ∷ [])). (x ∷ [], e.1))
+      adds

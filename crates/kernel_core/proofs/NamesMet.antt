@@ -1,0 +1,106 @@
+-- Where the names in sight, those that a cell declares and its locals were met, all names of its statements were.
+use Rattle.std.proofs.Common.{◌≡◌, ℕ, zero, suc, ◌<◌, Bool, true, false, List, [], ◌∷◌, ◌++◌, length, take, get_or, refl, sym, ap, ◌∙◌, subst, arith, string_bytes, Vec, Global}
+use Rattle.std.specs.Prelude.{Some, None}
+use Rattle.janus_meaning.specs.Fault.{Res, Fine}
+use Rattle.janus_meaning.specs.Syntax.{Name, Kind, ANumber, AnArray, AStack, Blk, Nil, Cons}
+use Rattle.janus_meaning.specs.Store.{Val, Num, Arr, Stk, Lent, Store, Bare, Slot, look, look_at, same_name}
+use Rattle.janus_meaning.specs.Shape.{Shape, kind_at, pick_newest, shape_of}
+use Rattle.janus_meaning.specs.World.{Declaration, declared_name}
+use Rattle.janus_meaning.specs.FormedWorld.{HaveValues, with_declared, declared_kind}
+use Rattle.janus_names.specs.Numbers.{IsMet, GoOn}
+use Rattle.janus_syntax.specs.Tree as tree
+use Rattle.janus_syntax.specs.View.{plain_cell, plain_stm, stm_of, block_of}
+use Rattle.janus_syntax.specs.declared.tree.Exp.{Exp}
+use Rattle.janus_syntax.specs.declared.tree.Name as code
+use Rattle.janus_syntax.specs.declared.tree.Stm.{Stm, If, Loop, LocalInt, LocalStack}
+use Rattle.janus_syntax.proofs.Views.{view_if, view_loop, view_local_int, view_local_stack}
+use Rattle.janus_check.specs.WellFormed.{IsWellFormed}
+use Rattle.janus_invert.specs.Met.{MeetsBlk, MeetsLocals, MeetsLocalsOf}
+use Rattle.janus_invert.proofs.Meeting.{AreMet, with_local, block_met, stm_weight, block_weight}
+use Rattle.janus_store.specs.Held.{Held, AreKnown, KeepsSight}
+use Rattle.kernel_core.specs.Met.{AreDeclaredMet}
+use Rattle.kernel_core.proofs.Growing.{no_more, more_yet}
+
+-- ---- what is in sight was met
+
+slot_seen : (x y : Name) (v : Val) (k j : Kind) (s : Store) → look_at true v (look x s) ≡ Fine v → pick_newest (same_name x y) k (kind_at x (shape_of s)) ≡ Some j →
+    (kind_at x (shape_of s) ≡ Some j → (w : Val) × (look x s ≡ Fine w)) → (w : Val) × (look x (Slot y v s) ≡ Fine w)
+slot_seen x y v k j s read e below = by (same_name x y) refl
+  where
+    by : (b : Bool) → same_name x y ≡ b → (w : Val) × (look x (Slot y v s) ≡ Fine w)
+    by true t = (v, ap (λ b. look_at b v (look x s)) t ∙ read)
+    by false t =
+        let h = below (sym (ap (λ b. pick_newest b k (kind_at x (shape_of s))) t) ∙ e) in
+        (h.0, ap (λ b. look_at b v (look x s)) t ∙ h.1)
+
+seen_value : (x : Name) (s : Store) (k : Kind) → HaveValues s → kind_at x (shape_of s) ≡ Some k → (v : Val) × (look x s ≡ Fine v)
+seen_value x Bare k h e = cc
+seen_value x (Slot y (Num n) s) k h e = slot_seen x y (Num n) ANumber k s refl e (seen_value x s k h.1)
+seen_value x (Slot y (Arr l) s) k h e = slot_seen x y (Arr l) AnArray k s refl e (seen_value x s k h.1)
+seen_value x (Slot y (Stk l) s) k h e = slot_seen x y (Stk l) AStack k s refl e (seen_value x s k h.1)
+seen_value x (Slot y Lent s) k h e = absurd h.0
+
+pub sight_met : (h : Held) → HaveValues h.sight → AreKnown h → AreMet (shape_of h.sight) h.names
+sight_met h values known = λ x k e. let v = seen_value x h.sight k values e in known x v.0 v.1
+
+-- ---- and what is declared
+
+declared_met : (ds : List Declaration) (g : Shape) (xs : List Name) → AreMet g xs → AreDeclaredMet xs ds → AreMet (with_declared g ds) xs
+declared_met [] g xs m h = m
+declared_met (d ∷ ds) g xs m h = declared_met ds ((declared_name d, declared_kind d) ∷ g) xs (with_local (declared_name d) (declared_kind d) g xs m h.0) h.1
+
+pub all_met : (g : Shape) (xs : List Name) (c : tree.Cell) → IsWellFormed g c → AreMet g xs → AreDeclaredMet xs (plain_cell c).declarations → MeetsLocalsOf xs (plain_cell c).block → MeetsBlk xs (plain_cell c).block
+all_met g xs c formed m declared locals =
+    block_met _ (with_declared g (plain_cell c).declarations) xs (plain_cell c).block (declared_met (plain_cell c).declarations g xs m declared) (formed []).block locals
+
+-- ---- step by step
+
+pub keeps_same : (h : Held) → KeepsSight h h
+keeps_same h = record { sight = refl; declared = refl; names = no_more h.names }
+
+pub keeps_more : (a b c : Held) → KeepsSight a b → KeepsSight b c → KeepsSight a c
+keeps_more a b c h k = record { sight = k.sight ∙ h.sight; declared = k.declared ∙ h.declared; names = more_yet a.names b.names c.names h.names k.names }
+
+pub keeps_met : (old new : Held) → new ≡ record old { names = new.names } → GoOn old.names new.names → KeepsSight old new
+keeps_met old new same more = record { sight = ap (λ (h : Held). h.sight) same; declared = ap (λ (h : Held). h.declared) same; names = more }
+
+-- one declaration more
+pub declared_one_more : (xs : List Name) (ds : List Declaration) (i : ℕ) (d : Declaration) → i < length ds → AreDeclaredMet xs (take i ds) → IsMet xs (declared_name (get_or ds i d)) → AreDeclaredMet xs (take (suc i) ds)
+declared_one_more xs [] i d l h m = absurd (omega arith)
+declared_one_more xs (e ∷ ds) zero d l h m = (m, tt)
+declared_one_more xs (e ∷ ds) (suc i) d l h m = (h.0, declared_one_more xs ds i d (omega arith) h.1 m)
+
+-- one statement more
+pub locals_one_more : (xs : List Name) (ss : List Stm) (i : ℕ) (s : Stm) → i < length ss → get_or ss i s ≡ s → MeetsLocalsOf xs (block_of (take i ss)) → MeetsLocals xs (stm_of s) → MeetsLocalsOf xs (block_of (take (suc i) ss))
+locals_one_more xs [] i s l e h m = absurd (omega arith)
+locals_one_more xs (r ∷ ss) zero s l e h m = (subst (λ s. MeetsLocals xs (stm_of s)) (sym e) m, tt)
+locals_one_more xs (r ∷ ss) (suc i) s l e h m = (h.0, locals_one_more xs ss i s (omega arith) e h.1 m)
+
+-- ---- statements with blocks, as they lie in memory
+
+module _ (xs : List Name) where
+  pub if_met : (e f : Exp) (v w : Vec Stm Global) → MeetsLocalsOf xs (block_of v.items) → MeetsLocalsOf xs (block_of w.items) → MeetsLocals xs (stm_of (If e v w f))
+  if_met e f v w h k = subst (λ s. MeetsLocals xs (plain_stm s)) (sym (view_if e f v w)) (h, k)
+
+  pub loop_met : (e f : Exp) (v w : Vec Stm Global) → MeetsLocalsOf xs (block_of v.items) → MeetsLocalsOf xs (block_of w.items) → MeetsLocals xs (stm_of (Loop e v w f))
+  loop_met e f v w h k = subst (λ s. MeetsLocals xs (plain_stm s)) (sym (view_loop e f v w)) (h, k)
+
+  pub local_int_met : (x y : code.Name) (e f : Exp) (v : Vec Stm Global) → IsMet xs (string_bytes x.text) → MeetsLocalsOf xs (block_of v.items) → MeetsLocals xs (stm_of (LocalInt x e v y f))
+  local_int_met x y e f v m h = subst (λ s. MeetsLocals xs (plain_stm s)) (sym (view_local_int x y e f v)) (m, h)
+
+  pub local_stack_met : (x y : code.Name) (v : Vec Stm Global) → IsMet xs (string_bytes x.text) → MeetsLocalsOf xs (block_of v.items) → MeetsLocals xs (stm_of (LocalStack x v y))
+  local_stack_met x y v m h = subst (λ s. MeetsLocals xs (plain_stm s)) (sym (view_local_stack x y v)) (m, h)
+
+-- ---- their blocks are lighter
+
+pub if_lighter : (s : Stm) (e f : Exp) (v w : Vec Stm Global) → s ≡ If e v w f → (block_weight (block_of v.items) < stm_weight (stm_of s)) × (block_weight (block_of w.items) < stm_weight (stm_of s))
+if_lighter s e f v w is = let weight = ap (λ s. stm_weight (stm_of s)) is ∙ ap (λ s. stm_weight (plain_stm s)) (view_if e f v w) in (omega (arith, weight), omega (arith, weight))
+
+pub loop_lighter : (s : Stm) (e f : Exp) (v w : Vec Stm Global) → s ≡ Loop e v w f → (block_weight (block_of v.items) < stm_weight (stm_of s)) × (block_weight (block_of w.items) < stm_weight (stm_of s))
+loop_lighter s e f v w is = let weight = ap (λ s. stm_weight (stm_of s)) is ∙ ap (λ s. stm_weight (plain_stm s)) (view_loop e f v w) in (omega (arith, weight), omega (arith, weight))
+
+pub local_int_lighter : (s : Stm) (x y : code.Name) (e f : Exp) (v : Vec Stm Global) → s ≡ LocalInt x e v y f → block_weight (block_of v.items) < stm_weight (stm_of s)
+local_int_lighter s x y e f v is = let weight = ap (λ s. stm_weight (stm_of s)) is ∙ ap (λ s. stm_weight (plain_stm s)) (view_local_int x y e f v) in omega (arith, weight)
+
+pub local_stack_lighter : (s : Stm) (x y : code.Name) (v : Vec Stm Global) → s ≡ LocalStack x v y → block_weight (block_of v.items) < stm_weight (stm_of s)
+local_stack_lighter s x y v is = let weight = ap (λ s. stm_weight (stm_of s)) is ∙ ap (λ s. stm_weight (plain_stm s)) (view_local_stack x y v) in omega (arith, weight)

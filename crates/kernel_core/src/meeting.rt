@@ -1,0 +1,82 @@
+//! The names of a cell, met in the store, so that each has its number there.
+ghost use Rattle.std.specs.Prelude.{◌≡◌, OnOk, map};
+ghost use Rattle.janus_syntax.specs.View.{stm_of, block_of};
+ghost use Rattle.janus_invert.specs.Met.{MeetsLocals, MeetsLocalsOf};
+ghost use Rattle.janus_store.specs.Held.{KeepsSight};
+ghost use Rattle.kernel_core.specs.Met.{AreDeclaredMet, IsDeclaredMet};
+ghost use Rattle.kernel_core.specs.Program.{declaration_of};
+
+use crate::program::Declared;
+use janus_machine::Store;
+use janus_syntax::tree::Stm;
+use std::alloc::AllocError;
+use std::sync::ledger::Ledger;
+
+/// Meets the names that a cell declares. The only error is want of memory.
+pub fn meet_declared<L: Ledger>(
+    store: &mut Store<L>,
+    declarations: &[Declared],
+) -> Result<(), AllocError>
+    ensures met { OnOk result (AreDeclaredMet store.new.names (map declaration_of declarations.now)) }
+    ensures kept { KeepsSight store.old store.new }
+{
+    for i in 0..declarations.len() {
+        meet_one(store, &declarations[i])?;
+    }
+    Ok(())
+}
+
+/// Meets a declared name.
+fn meet_one<L: Ledger>(store: &mut Store<L>, declared: &Declared) -> Result<(), AllocError>
+    ensures met { OnOk result (IsDeclaredMet store.new.names (declaration_of declared.now)) }
+    ensures kept { KeepsSight store.old store.new }
+{
+    match declared {
+        Declared::Number(name) => store.meet(name.as_str()),
+        Declared::Array(name, _) => store.meet(name.as_str()),
+        Declared::Stack(name) => store.meet(name.as_str()),
+    }
+}
+
+/// Meets the locals of statements. The only error is want of memory.
+#[cycle(meet)]
+pub fn meet_locals<L: Ledger>(store: &mut Store<L>, statements: &[Stm]) -> Result<(), AllocError>
+    ensures met { OnOk result (MeetsLocalsOf store.new.names (block_of statements.now)) }
+    ensures kept { KeepsSight store.old store.new }
+{
+    for i in 0..statements.len() {
+        meet_locals_in(store, &statements[i])?;
+    }
+    Ok(())
+}
+
+/// Meets the locals of a statement.
+#[cycle(meet)]
+fn meet_locals_in<L: Ledger>(store: &mut Store<L>, statement: &Stm) -> Result<(), AllocError>
+    ensures met { OnOk result (MeetsLocals store.new.names (stm_of statement.now)) }
+    ensures kept { KeepsSight store.old store.new }
+{
+    match statement {
+        Stm::Skip
+        | Stm::Assign(_, _, _)
+        | Stm::AssignElement(_, _, _, _)
+        | Stm::Push(_, _)
+        | Stm::Pop(_, _) => Ok(()),
+        Stm::If(_, first, second, _) => {
+            meet_locals(store, first)?;
+            meet_locals(store, second)
+        }
+        Stm::Loop(_, first, second, _) => {
+            meet_locals(store, first)?;
+            meet_locals(store, second)
+        }
+        Stm::LocalInt(name, _, body, _, _) => {
+            store.meet(name.text.as_str())?;
+            meet_locals(store, body)
+        }
+        Stm::LocalStack(name, body, _) => {
+            store.meet(name.text.as_str())?;
+            meet_locals(store, body)
+        }
+    }
+}

@@ -1,0 +1,87 @@
+-- A hall may be shared by threads. A `search` that goes down through all of its fields runs out of steps, so what is written of a layer is found over what was found of
+-- the layers below it; each fact is that of the type as a field.
+use denote.RattleType.{RattleType}
+use denote.Param.Send.{IsSend, IsSync, sendable}
+use Rattle.std.proofs.Crossing.{crosses}
+use Rattle.std.proofs.MapsCrossing.{crosses as maps}
+use Rattle.std.specs.declared.sync.ledger.Ledger as Ledger
+use Rattle.std.proofs.sync.ledger.Book.TheSendSync.{the_send as book_send}
+use Rattle.std.proofs.sync.ledger.Share.TheSendSync.{the_send as share_send}
+use Rattle.std.proofs.sync.Condvar.TheSendSync.{the_sync as condvar_sync}
+use Rattle.atomic_table.proofs.send_lease.SendLease.TheSendSync.{the_sync as lease_sync}
+use Rattle.atomic_table.proofs.shared.Shared.TheSendSync.{the_sync as table_sync}
+use Rattle.janus_names.specs.contracts.names.Names as Names
+use Rattle.janus_invert.specs.contracts.code.Exp as Exp
+use Rattle.janus_invert.proofs.code.Exp.TheLaws.TheKnot.{crosses as exp_crosses}
+use Rattle.janus_invert.specs.contracts.code.Statement as Statement
+use Rattle.janus_invert.specs.contracts.code.Code as Code
+use Rattle.janus_linear.specs.contracts.code.Linear as Linear
+use Rattle.janus_machine.specs.contracts.book.Book as Book
+use Rattle.janus_store.specs.contracts.store.Store as Store
+use Rattle.janus_store.specs.contracts.writes.Writes as Writes
+use Rattle.kernel_core.specs.contracts.post.Job as Job
+use Rattle.kernel_core.specs.contracts.minutes.Entry as Entry
+use Rattle.kernel_core.specs.contracts.kernel.Kernel as Kernel
+use Rattle.kernel_ask.specs.contracts.comms.Comms as Comms
+use Rattle.kernel_ask.specs.contracts.done.NamedValue as NamedValue
+use Rattle.kernel_bell.specs.contracts.bell.Bell as Bell
+use Rattle.kernel_hall.specs.contracts.extra.Extra as Extra
+use Rattle.kernel_hall.specs.contracts.passes.Passes as Passes
+use Rattle.kernel_hall.specs.contracts.state.State as State
+use Rattle.kernel_hall.specs.contracts.hall.Hall as Hall
+
+Names-send : IsSend (Names.the_field).row
+Names-send = search (crosses, maps, sendable) depth 60 fits 20000
+
+Exp-send : IsSend (Exp.the_field).row
+Exp-send = search (crosses, exp_crosses, sendable) depth 60 fits 20000
+
+Statement-send : IsSend (Statement.the_field).row
+Statement-send = search (crosses, maps, Exp-send, sendable) depth 60 fits 20000
+
+Code-send : IsSend (Code.the_field).row
+Code-send = search (crosses, Statement-send, sendable) depth 60 fits 20000
+
+Linear-send : IsSend (Linear.the_field).row
+Linear-send = search (crosses, maps, Exp-send, Code-send, sendable) depth 60 fits 20000
+
+Book-send : IsSend (Book.the_field).row
+Book-send = search (crosses, Linear-send, sendable) depth 60 fits 20000
+
+Job-send : IsSend (Job.the_field).row
+Job-send = search (crosses, maps, sendable) depth 60 fits 20000
+
+Entry-send : IsSend (Entry.the_field).row
+Entry-send = search (crosses, Job-send, sendable) depth 60 fits 20000
+
+Comms-send : IsSend (Comms.the_field).row
+Comms-send = search (crosses, maps, sendable) depth 60 fits 20000
+
+NamedValue-send : IsSend (NamedValue.the_field).row
+NamedValue-send = search (crosses, maps, sendable) depth 60 fits 20000
+
+Extra-send : IsSend (Extra.the_field).row
+Extra-send = search (crosses, maps, NamedValue-send, sendable) depth 60 fits 20000
+
+Bell-sync : IsSync (Bell.the_field).row
+Bell-sync = search (crosses, table_sync, lease_sync, sendable) depth 60 fits 20000
+
+module _ (W : RattleType) (w : Ledger.Ghosts W.Denot) where
+  Store-send : IsSend W → IsSend (Store.the_field W w).row
+  Store-send s = search (crosses, Names-send, sendable) depth 60 fits 20000
+
+  Writes-send : IsSend W → IsSend (Writes.the_field W w).row
+  Writes-send s = search (crosses, book_send, share_send, sendable) depth 60 fits 20000
+
+  Kernel-send : IsSend W → IsSend (Kernel.the_field W w).row
+  Kernel-send s = let a = Store-send s in let b = Writes-send s in search (crosses, Book-send, Entry-send, sendable) depth 60 fits 20000
+
+  Passes-send : IsSend W → IsSend (Passes.the_field W w).row
+  Passes-send s = search (crosses, share_send, sendable) depth 60 fits 20000
+
+module _ (W L : RattleType) (w : Ledger.Ghosts W.Denot) (l : Ledger.Ghosts L.Denot) where
+  State-send : IsSend W → IsSend L → IsSend (State.the_field W L w l).row
+  State-send s t = let a = Kernel-send W w s in let b = Passes-send L l t in search (crosses, book_send, Comms-send, Extra-send, sendable) depth 60 fits 20000
+
+  pub Hall-sync : IsSend W → IsSend L → IsSync (Hall.the_field W L w l).row
+  Hall-sync s t = let a = State-send s t in search (crosses, condvar_sync, Bell-sync, sendable) depth 60 fits 20000

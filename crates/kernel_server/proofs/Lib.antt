@@ -1,0 +1,5 @@
+pub mod Nearing
+pub mod Turns
+pub mod Ending
+pub mod Courses
+pub mod Alike

@@ -1,0 +1,36 @@
+-- What holds of all jobs of a lone kernel.
+use Rattle.std.specs.Prelude.{◌≡◌, List, []}
+use Rattle.kernel_core.specs.State.{Idle}
+use Rattle.kernel_core.specs.LegalState.{IsLegalState}
+use Rattle.kernel_core.specs.Request.{Request}
+use Rattle.kernel_core.specs.Runs.{Machine}
+use Rattle.kernel_core.specs.Theorems.{EndsUnless}
+use Rattle.kernel_core.specs.Determined.{AreAmple}
+use Rattle.kernel_ask.specs.declared.done.Done.{Done}
+use Rattle.kernel_session.specs.Question.{Wishes}
+use Rattle.kernel_server.specs.declared.slice.Slice.{Slice}
+use Rattle.kernel_server.specs.Jobs.{IsDone}
+
+-- What is told of a job is how it ended: a cell as a new node or with all as before, a move after whole cells, and after a shutdown as refused.
+abbrev pub LoneJobsEnd : Type 0
+LoneJobsEnd =
+    (old new : Machine) (slices left : List Slice) (job : Request) (wishes : Wishes) (d : Done) →
+    old.state.job ≡ Idle → old.queue ≡ [] → IsDone old slices job wishes d new left →
+    EndsUnless old.closing old.state.past job d.outcome new.state
+
+-- two jobs are told alike, and leave one kernel and the same slices
+pub record AreAlike (d e : Done) (new other : Machine) (left rest : List Slice) : Type 0 where
+  pub number : d.number ≡ e.number
+  pub outcome : d.outcome ≡ e.outcome
+  pub count : d.count ≡ e.count
+  pub node : d.node ≡ e.node
+  pub kernel : new ≡ other
+  pub slices : left ≡ rest
+
+-- Where memory is ample, the kernel and the slices alone decide what comes of a job.
+abbrev pub LoneJobsAreDetermined : Type 0
+LoneJobsAreDetermined =
+    (old new other : Machine) (slices left rest : List Slice) (job : Request) (wishes : Wishes) (d e : Done) → IsLegalState old.state →
+    (one : IsDone old slices job wishes d new left) → AreAmple one.runs.1.answers →
+    (two : IsDone old slices job wishes e other rest) → AreAmple two.runs.1.answers →
+    AreAlike d e new other left rest

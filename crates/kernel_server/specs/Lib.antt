@@ -1,0 +1,5 @@
+pub mod Pace
+pub mod Jobs
+pub mod Lone
+pub mod Course
+pub mod Laws

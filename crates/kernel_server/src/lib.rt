@@ -1,0 +1,22 @@
+//! The server of a kernel: the desks behind its connections, and the texts that stamp what it sends.
+//!
+//! A connection is [`serve`], over any desk. [`LoneDesk`] is a kernel in which nobody else has a part, with the slices that its jobs are
+//! to be given. To the layer above it promises that each call answers what such a kernel answers (specs/Lone.antt): a job is posted and
+//! brought to its end by the next slices (`Jobs`, `Pace`), and what is told of it stands in the kernel that it left; a question is
+//! answered of this kernel. [`serve_lone`] is a connection to it: what is written is the session of what was read, in which each answer is
+//! the kernel's own, and the kernel ran on by whole jobs (`Course`). `laws` says of these definitions how jobs end, and that the kernel
+//! and the slices alone decide what comes of one, where memory is ample.
+#![tactic(auto)]
+
+mod finish;
+mod job;
+pub mod laws;
+mod lone;
+mod session;
+mod slice;
+
+pub use kernel_session::{Desk, ServeFault, Socket, serve};
+pub use lone::LoneDesk;
+pub use session::serve_lone;
+pub use slice::Slice;
+pub use stamp_texts::{date_text, has_date, session_name};

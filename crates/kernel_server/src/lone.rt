@@ -1,0 +1,120 @@
+//! A lone kernel as a desk.
+ghost use Rattle.std.specs.Prelude.{◌≡◌, []};
+ghost use Rattle.kernel_core.specs.State.{Idle};
+
+use crate::job::run_job;
+use crate::slice::Slice;
+use kernel_ask::{Answer, Ask, Comms, Done, HallFault, Wish, ask_on};
+use kernel_board::Broadcast;
+use kernel_core::{Job, Kernel, PostFault};
+use kernel_hall::{CommChange, comm_on};
+use kernel_message::Stamp;
+use kernel_session::Desk;
+use std::alloc::{AllocError, Global};
+use std::collections::VecDeque;
+use std::marker::Model;
+use std::sync::ledger::Ledger;
+
+/// A kernel that no runner and no other frontend has a part in, with the slices that its jobs are to be given, and the broadcasts that it
+/// keeps. No job is open between two calls. Contracts see the machine that the kernel is, the ids of the open comms, the slices that are
+/// left, and the broadcasts.
+#[derive(Drop)]
+pub struct LoneDesk<L: Ledger> {
+    alloc: Global,
+    kernel: Kernel<L>,
+    comms: Comms,
+    slices: VecDeque<Slice>,
+    kept: Vec<Broadcast>,
+}
+
+impl<L: Ledger> Model for LoneDesk<L> {
+    ghost use Rattle.std.specs.Prelude.{◌≡◌, []};
+    ghost use Rattle.kernel_core.specs.State.{Idle};
+    ghost use Rattle.kernel_server.specs.Lone.{Lone, lone_code};
+
+    ghost Value = { Lone };
+
+    ghost coded = { lone_code };
+
+    ghost view = { λ d. record { machine = d.kernel.machine; comms = d.comms; slices = d.slices.items; kept = d.kept.items } };
+
+    ghost invariant = { λ d. (d.kernel.machine.state.job ≡ Idle) × (d.kernel.machine.queue ≡ []) };
+}
+
+impl<L: Ledger> LoneDesk<L> {
+    /// The desk of a kernel without an open job, which is to be given these slices, and behind them slices of 4,096 steps. It takes no
+    /// memory.
+    pub fn new(alloc: Global, kernel: Kernel<L>, comms: Comms, slices: Vec<Slice>) -> LoneDesk<L>
+        requires idle { kernel.machine.state.job ≡ Idle }
+        requires alone { kernel.machine.queue ≡ [] }
+        ensures { result ≡ record { machine = kernel.machine; comms = comms; slices = slices.items; kept = [] } }
+    {
+        LoneDesk {
+            alloc,
+            kernel,
+            comms,
+            slices: VecDeque::from_vec(slices),
+            kept: Vec::new(alloc),
+        }
+    }
+
+    /// The kernel. No job is open.
+    pub fn kernel(&self) -> &Kernel<L>
+        ensures machine { result.now.machine ≡ self.now.machine }
+        ensures idle { result.now.machine.state.job ≡ Idle }
+        ensures alone { result.now.machine.queue ≡ [] }
+    {
+        &self.kernel
+    }
+
+    /// The broadcasts that are kept, the earliest first.
+    pub fn kept(&self) -> &[Broadcast]
+        ensures { result.now ≡ self.now.kept }
+    {
+        &self.kept
+    }
+}
+
+impl<L: Ledger> Desk for LoneDesk<L> {
+    ghost use Rattle.kernel_server.specs.Lone.{lone_leads};
+
+    ghost leads = { lone_leads };
+
+    fn job(&mut self, job: Job, wishes: Vec<Wish>) -> Result<Done, PostFault> {
+        let LoneDesk {
+            alloc,
+            kernel,
+            slices,
+            ..
+        } = self;
+        run_job(*alloc, kernel, slices, job, &wishes)
+    }
+
+    fn ask(&mut self, ask: Ask) -> Result<Answer, HallFault> {
+        ask_on(self.alloc, &self.kernel, &self.comms, ask)
+    }
+
+    fn comm(&mut self, change: CommChange) -> Result<bool, HallFault> {
+        comm_on(&mut self.comms, change)
+    }
+
+    /// There is no open job to interrupt.
+    fn ring(&mut self) {}
+
+    fn shut(&mut self) {
+        let LoneDesk { kernel, .. } = self;
+        kernel.shut();
+    }
+
+    /// What finds no memory is not kept.
+    fn publish(&mut self, broadcast: Broadcast) {
+        let _ = self.kept.push(broadcast);
+    }
+
+    fn broadcasts(&mut self, alloc: Global) -> Result<Vec<Broadcast>, AllocError> {
+        self.kept.as_slice().to_vec(alloc)
+    }
+
+    /// The date stays.
+    fn date(&mut self, _stamp: &mut Stamp) {}
+}
