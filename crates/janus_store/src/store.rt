@@ -150,7 +150,9 @@ impl<L: Ledger> Store<L> {
         requires { (x : Name) × IsName self.now name x × IsArray (look x self.now.sight) }
         ensures { (x : Name) (l : List ℤ) → IsName self.now name x → look x self.now.sight ≡ Fine (Arr l) → read_or IndexRange result ≡ element l index }
     {
-        self.variables[place(&self.newest, name)].value.element(index)
+        self.variables[place(&self.newest, name)]
+            .value
+            .element(index)
     }
 
     /// The stack of a number.
@@ -392,12 +394,7 @@ fn place(newest: &[usize], name: usize) -> usize
 }
 
 /// The place behind the declared variable of a number, or 0 where it has none: locals that hide it are passed over.
-fn declared_place(
-    newest: &[usize],
-    variables: &[Variable],
-    declared: usize,
-    name: usize,
-) -> usize
+fn declared_place(newest: &[usize], variables: &[Variable], declared: usize, name: usize) -> usize
     requires few { declared ≤ length variables.now }
     requires in_memory { length variables.now < 2 ^ 58 }
     requires newest { (xs : List Name) × (newest.now ≡ newest_from 0 (none_of xs) variables.now) × AreHidden 0 (none_of xs) variables.now }

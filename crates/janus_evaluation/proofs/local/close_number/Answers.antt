@@ -36,17 +36,15 @@ returns-clause-done g c =
     let zm : to_z w32 (of_z w32 c.leave_local-number.result) ≡ c.leave_local-number.result = grind (arith, to_z-of_z) in
     let back : c.enter_local.new.self.sight ≡ s = ap (λ (h : Held). h.sight) again ∙ ap (λ n. Slot x (Num n) after.sight) (zm ∙ number) ∙ ap (Slot x (Num t.number)) rest ∙ sym t.top in
     elim c.match-value.branch [
-      in-Ok+else-wanted-number w ↦
-        let wanted : value b t.rest ≡ Fine w.in-Ok.wanted = sym (w.in-Ok.ensures ∙ ap (value b) rest) in
-        let apart = differs t.number w.in-Ok.wanted (λ e. w.if-wanted-number.false (ap (of_z w32) (sym e ∙ sym number))) in
-        (
-          t.is ∙ ap (λ r. and_then r (λ w. and_then (guard (int_eq t.number w) DelocalMismatch) (λ ok. Fine t.rest))) wanted ∙ refused t.number w.in-Ok.wanted t.rest apart ∙ ap (λ f. Bad (fault_of f)) (sym w.fault-is),
-          back,
-        )
-    | in-Err w ↦
-        let wanted : value b t.rest ≡ Bad (fault_of w.in-Err.fault) = sym (w.in-Err.ensures ∙ ap (value b) rest) in
-        (
-          t.is ∙ ap (λ r. and_then r (λ w. and_then (guard (int_eq t.number w) DelocalMismatch) (λ ok. Fine t.rest))) wanted ∙ ap (λ f. Bad (fault_of f)) (sym w.fault-is),
-          back,
-        )
+      | in-Ok+else-wanted-number w ↦
+          let wanted : value b t.rest ≡ Fine w.in-Ok.wanted = sym (w.in-Ok.ensures ∙ ap (value b) rest) in
+          let apart = differs t.number w.in-Ok.wanted (λ e. w.if-wanted-number.false (ap (of_z w32) (sym e ∙ sym number))) in (
+            t.is ∙ ap (λ r. and_then r (λ w. and_then (guard (int_eq t.number w) DelocalMismatch) (λ ok. Fine t.rest))) wanted ∙ refused t.number w.in-Ok.wanted t.rest apart ∙ ap (λ f. Bad (fault_of f)) (sym w.fault-is),
+            back,
+          )
+      | in-Err w ↦
+          let wanted : value b t.rest ≡ Bad (fault_of w.in-Err.fault) = sym (w.in-Err.ensures ∙ ap (value b) rest) in (
+            t.is ∙ ap (λ r. and_then r (λ w. and_then (guard (int_eq t.number w) DelocalMismatch) (λ ok. Fine t.rest))) wanted ∙ ap (λ f. Bad (fault_of f)) (sym w.fault-is),
+            back,
+          )
     ]

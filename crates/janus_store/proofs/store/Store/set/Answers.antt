@@ -103,7 +103,6 @@ returns-clause-written g c = λ x named.
     ap (λ n. write x (Num n) c.args.self.now.sight) (sym (to_z-of_z w32 c.args.number c.ranges.number)) ∙ ap (λ u. write x u c.args.self.now.sight) (sym c.set_number.ensures) ∙ ap (write x (val_of c.set_number.new.self)) (sym sight)
     ∙ write_here xs x c.set_number.new.self Bare vs c.place-at.result v f.at f.named f.alone
 
-
 pub returns-clause-shape : goal.returns-clause-shape
 returns-clause-shape g c =
     let a = c.self.inside in

@@ -107,7 +107,6 @@ returns-clause-written g c = λ x l named e.
     ∙ ap (λ u. write x u c.args.self.now.sight) (sym (c.set_element.ensures.written l same)) ∙ ap (write x (val_of c.set_element.new.self)) (sym sight)
     ∙ write_here xs x c.set_element.new.self Bare vs c.place-at.result v f.at f.named f.alone
 
-
 pub returns-clause-shape : goal.returns-clause-shape
 returns-clause-shape g c =
     let a = c.self.inside in
