@@ -1,4 +1,4 @@
--- A hall may be shared by threads. A `search` that goes down through all of its fields runs out of steps, so what is written of a layer is found over what was found of
+-- A hall may be shared by threads, and what frontends and the runner hold may go to other threads. A `search` that goes down through all of its fields runs out of steps, so what is written of a layer is found over what was found of
 -- the layers below it; each fact is that of the type as a field.
 use denote.RattleType.{RattleType}
 use denote.Param.Send.{IsSend, IsSync, sendable}
@@ -8,6 +8,7 @@ use Rattle.std.specs.declared.sync.ledger.Ledger as Ledger
 use Rattle.std.proofs.sync.ledger.Book.TheSendSync.{the_send as book_send}
 use Rattle.std.proofs.sync.ledger.Share.TheSendSync.{the_send as share_send}
 use Rattle.std.proofs.sync.Condvar.TheSendSync.{the_sync as condvar_sync}
+use Rattle.atomic_table.proofs.shared.Seat.TheSendSync.{the_send as seat_send}
 use Rattle.atomic_table.proofs.send_lease.SendLease.TheSendSync.{the_sync as lease_sync}
 use Rattle.atomic_table.proofs.shared.Shared.TheSendSync.{the_sync as table_sync}
 use Rattle.janus_names.specs.contracts.names.Names as Names
@@ -21,10 +22,16 @@ use Rattle.janus_store.specs.contracts.store.Store as Store
 use Rattle.janus_store.specs.contracts.writes.Writes as Writes
 use Rattle.kernel_core.specs.contracts.post.Job as Job
 use Rattle.kernel_core.specs.contracts.minutes.Entry as Entry
+use Rattle.kernel_core.specs.contracts.outcome.Outcome as Outcome
 use Rattle.kernel_core.specs.contracts.kernel.Kernel as Kernel
 use Rattle.kernel_ask.specs.contracts.comms.Comms as Comms
+use Rattle.kernel_ask.specs.contracts.done.Done as Done
 use Rattle.kernel_ask.specs.contracts.done.NamedValue as NamedValue
+use Rattle.kernel_audit.specs.contracts.pass.Pass as Pass
+use Rattle.kernel_audit.specs.contracts.pass.Ticket as Ticket
 use Rattle.kernel_bell.specs.contracts.bell.Bell as Bell
+use Rattle.kernel_bell.specs.contracts.seats.RingerSeat as RingerSeat
+use Rattle.kernel_bell.specs.contracts.seats.RunnerSeat as RunnerSeat
 use Rattle.kernel_hall.specs.contracts.extra.Extra as Extra
 use Rattle.kernel_hall.specs.contracts.passes.Passes as Passes
 use Rattle.kernel_hall.specs.contracts.state.State as State
@@ -54,11 +61,26 @@ Job-send = search (crosses, maps, sendable) depth 60 fits 20000
 Entry-send : IsSend (Entry.the_field).row
 Entry-send = search (crosses, Job-send, sendable) depth 60 fits 20000
 
+Outcome-send : IsSend (Outcome.the_field).row
+Outcome-send = search (crosses, sendable) depth 60 fits 20000
+
 Comms-send : IsSend (Comms.the_field).row
 Comms-send = search (crosses, maps, sendable) depth 60 fits 20000
 
 NamedValue-send : IsSend (NamedValue.the_field).row
 NamedValue-send = search (crosses, maps, sendable) depth 60 fits 20000
+
+pub Ticket-send : IsSend (Ticket.the_field).row
+Ticket-send = search (crosses, Job-send, sendable) depth 60 fits 20000
+
+pub Done-send : IsSend (Done.the_field).row
+Done-send = search (crosses, maps, Outcome-send, NamedValue-send, sendable) depth 60 fits 20000
+
+pub RunnerSeat-send : IsSend (RunnerSeat.the_field).row
+RunnerSeat-send = search (crosses, seat_send, sendable) depth 60 fits 20000
+
+pub RingerSeat-send : IsSend (RingerSeat.the_field).row
+RingerSeat-send = search (crosses, seat_send, sendable) depth 60 fits 20000
 
 Extra-send : IsSend (Extra.the_field).row
 Extra-send = search (crosses, maps, NamedValue-send, sendable) depth 60 fits 20000
@@ -78,6 +100,9 @@ module _ (W : RattleType) (w : Ledger.Ghosts W.Denot) where
 
   Passes-send : IsSend W → IsSend (Passes.the_field W w).row
   Passes-send s = search (crosses, share_send, sendable) depth 60 fits 20000
+
+  pub Pass-send : IsSend W → IsSend (Pass.the_field W w).row
+  Pass-send s = search (crosses, share_send, sendable) depth 60 fits 20000
 
 module _ (W L : RattleType) (w : Ledger.Ghosts W.Denot) (l : Ledger.Ghosts L.Denot) where
   State-send : IsSend W → IsSend L → IsSend (State.the_field W L w l).row

@@ -1,3 +1,4 @@
 pub mod Turns
 pub mod Changes
 pub mod Extras
+pub mod LastEnds

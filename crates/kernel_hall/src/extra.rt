@@ -1,9 +1,10 @@
 //! What is made for a job that ends, to be fetched by the first wait for it.
-ghost use Rattle.std.specs.Prelude.{◌≡◌, ◌-◌, [], IfSome, None, map};
+ghost use Rattle.std.specs.Prelude.{◌≡◌, ◌-◌, [], IfSome, IfNone, IfOk, None, map, suc};
 ghost use Rattle.kernel_core.specs.State.{Idle};
 ghost use Rattle.kernel_core.specs.Written.{entry_of};
 ghost use Rattle.kernel_audit.specs.Ends.{HasEnd};
-ghost use Rattle.kernel_hall.specs.Extras.{IsTold};
+ghost use Rattle.kernel_hall.specs.Extras.{IsNewExtra, IsTold, IsSettled, SettlesLast};
+ghost use Rattle.kernel_hall.specs.LastEnds.{IsLastEnd, EndsNoNumber, last_of};
 
 use kernel_ask::{Done, NamedValue, Wish, evaluate, is_settled, shown_text, stands_at_end};
 use kernel_core::{Entry, Job, Kernel, Outcome};
@@ -24,11 +25,9 @@ pub struct Extra {
 
 impl Extra {
     /// For a post at this place of the minutes. The memory for the values is taken here: the only error is want of it.
-    pub(crate) fn new(
-        alloc: Global,
-        posted: usize,
-        wishes: Vec<Wish>,
-    ) -> Result<Extra, AllocError> {
+    pub(crate) fn new(alloc: Global, posted: usize, wishes: Vec<Wish>) -> Result<Extra, AllocError>
+        ensures { IfOk result (IsNewExtra posted wishes.items) }
+    {
         let values = Vec::with_capacity(alloc, wishes.len())?;
         Ok(Extra {
             posted,
@@ -47,7 +46,9 @@ impl Extra {
         kernel: &Kernel<W>,
         place: usize,
         outcome: &Outcome,
-    ) {
+    )
+        ensures { IsSettled self.old place self.new }
+    {
         self.ended = Some(place);
         let wishes = mem::replace(&mut self.wishes, Vec::new(alloc));
         if !is_settled(kernel) || !stands_at_end(kernel, outcome) {
@@ -75,6 +76,10 @@ impl Extra {
         ensures values { IfSome result (λ d. d.values ≡ self.old.values) }
         ensures none_shown { IfSome result (λ d. self.new.shown ≡ None) }
         ensures no_values { IfSome result (λ d. self.new.values.items ≡ []) }
+        ensures posted { self.new.posted ≡ self.old.posted }
+        ensures ended { self.new.ended ≡ self.old.ended }
+        ensures wishes { self.new.wishes ≡ self.old.wishes }
+        ensures none { IfNone result (self.new ≡ self.old) }
     {
         let place = self.ended?;
         let Entry::Ended {
@@ -117,32 +122,56 @@ fn add_values<W: Ledger>(
 }
 
 /// Takes down the end that stands last in the minutes.
-pub(crate) fn settle_last<W: Ledger>(alloc: Global, kernel: &Kernel<W>, extras: &mut [Extra]) {
-    let minutes = kernel.minutes();
-    let Some(place) = minutes.len().checked_sub(1) else {
+pub(crate) fn settle_last<W: Ledger>(alloc: Global, kernel: &Kernel<W>, extras: &mut [Extra])
+    ensures { SettlesLast kernel.now.machine.minutes extras.old extras.new }
+{
+    let Some(end) = last_end(kernel.minutes()) else {
         return;
     };
-    let Some(
+    let LastEnd {
+        index,
+        place,
+        outcome,
+    } = end;
+    if index < extras.len() {
+        extras[index].settle(alloc, kernel, place, &outcome);
+    }
+}
+
+/// Of the end that stands last in the minutes: where the extra of its post stands, its place, and what came of the job.
+#[derive(Clone, Copy)]
+struct LastEnd {
+    index: usize,
+    place: usize,
+    outcome: Outcome,
+}
+
+fn last_end(minutes: &[Entry]) -> Option<LastEnd>
+    ensures some { IfSome result (IsLastEnd (map entry_of minutes.now)) }
+    ensures none { IfNone result (EndsNoNumber (last_of (map entry_of minutes.now))) }
+{
+    let place = minutes.len().checked_sub(1)?;
+    match minutes.get(place)? {
+        Entry::Posted { .. } => None,
         Entry::Ended {
             number,
             outcome,
             ..
-        },
-    ) = minutes.get(place)
-    else {
-        return;
-    };
-    let Some(index) = index_of(*number) else {
-        return;
-    };
-    if let Some(extra) = extras.get_mut(index) {
-        extra.settle(alloc, kernel, place, outcome);
+        } => {
+            let index = index_of(*number)?;
+            Some(LastEnd {
+                index,
+                place,
+                outcome: *outcome,
+            })
+        }
     }
 }
 
 /// Where the extra of a post stands.
 fn index_of(number: u64) -> Option<usize>
-    ensures { IfSome result (λ index. index ≡ number - 1) }
+    ensures some { IfSome result (λ index. number ≡ suc index) }
+    ensures none { IfNone result (number ≡ 0) }
 {
     number.checked_sub(1).map(|index| index as usize)
 }
@@ -157,6 +186,7 @@ pub(crate) fn fetch<W: Ledger>(
     ensures number { IfSome result (λ d. d.number ≡ number) }
     ensures end { IfSome result (HasEnd kernel.now.machine.minutes) }
     ensures told { IfSome result (λ d. IsTold extras.old number d extras.new) }
+    ensures none { IfNone result (extras.new ≡ extras.old) }
 {
     let index = index_of(number)?;
     if index >= extras.len() {

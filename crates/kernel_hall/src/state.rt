@@ -1,5 +1,6 @@
 //! What lies under the lock.
-ghost use Rattle.std.specs.Prelude.{◌≡◌, ◌+◌, ◌-◌, ◌^◌, ◌<◌, ◌≤◌, ◌↔◌, IsTrue, [], IfOk, IfErr, OnErr, IfSome, suc, length, true};
+ghost use Rattle.std.specs.Prelude.{◌≡◌, ◌+◌, ◌-◌, ◌^◌, ◌<◌, ◌≤◌, ◌↔◌, IsTrue, [], ◌∷◌, ◌++◌, IfOk, IfErr, OnErr, IfSome, IfNone, suc, length, true};
+ghost use Rattle.std.specs.Bool.{OnTrue, OnFalse};
 ghost use Rattle.kernel_core.specs.Request.{request_of};
 ghost use Rattle.kernel_core.specs.Minutes.{posted_in};
 ghost use Rattle.kernel_core.specs.LegalMinutes.{IsLegalMachine};
@@ -7,7 +8,8 @@ ghost use Rattle.kernel_core.specs.Runs.{IsRefusal, posted, shut};
 ghost use Rattle.kernel_ask.specs.Answer.{IsAnswer};
 ghost use Rattle.kernel_audit.specs.Passes.{pass_of, ticket_of};
 ghost use Rattle.kernel_hall.specs.Turns.{IsTurn};
-ghost use Rattle.kernel_hall.specs.Extras.{IsTold};
+ghost use Rattle.kernel_hall.specs.Extras.{IsNewExtra, IsTold, SettlesLast, ends_job};
+ghost use Rattle.kernel_hall.specs.declared.extra.Extra.{Extra};
 ghost use Rattle.kernel_audit.specs.Ends.{HasEnd};
 ghost use Rattle.kernel_audit.specs.Audit.{Audited, IsAuditFault};
 
@@ -60,7 +62,7 @@ impl<W: Ledger, L: Ledger> State<W, L> {
         }
     }
 
-    /// Posts a job for a pass, which counts it. A refused post drops the job and the wishes.
+    /// Posts a job for a pass, which counts it. The wishes stand beside it until it ends. A refused post drops the job and the wishes.
     pub fn post(
         &mut self,
         pass: &mut Pass<L>,
@@ -74,6 +76,8 @@ impl<W: Ledger, L: Ledger> State<W, L> {
         ensures kernel { OnErr result (self.new.kernel.machine ≡ self.old.kernel.machine) }
         ensures pass { OnErr result (pass.new ≡ pass.old) }
         ensures comms { self.new.comms ≡ self.old.comms }
+        ensures extra { IfOk result (λ t. (e : Extra) × IsNewExtra (length self.old.kernel.machine.minutes) wishes.items e × (self.new.extras.items ≡ self.old.extras.items ++ e ∷ [])) }
+        ensures extras { OnErr result (self.new.extras.items ≡ self.old.extras.items) }
     {
         let State {
             kernel,
@@ -105,13 +109,15 @@ impl<W: Ledger, L: Ledger> State<W, L> {
         })
     }
 
-    /// One turn of the runner. In a turn that ends a job its shown text and its values are made.
+    /// One turn of the runner. In a turn that ends a job its shown text and its values are made; what stands beside other jobs stays.
     pub fn turn(&mut self, bell: &Bell, runner: &mut RunnerSeat, m: u64) -> Turn
         requires own { runner.old.bell ≡ bell.now }
         requires room { runner.old.knows.serial < 2 ^ 64 - 1 }
         ensures turn { IsTurn self.old.kernel.machine runner.old m result self.new.kernel.machine runner.new }
         ensures legal { IsLegalMachine self.old.kernel.machine }
         ensures comms { self.new.comms ≡ self.old.comms }
+        ensures settled { OnTrue (ends_job result) (SettlesLast self.new.kernel.machine.minutes self.old.extras.items self.new.extras.items) }
+        ensures extras { OnFalse (ends_job result) (self.new.extras.items ≡ self.old.extras.items) }
     {
         is_legal(&self.kernel);
         let State { kernel, .. } = self;
@@ -127,6 +133,7 @@ impl<W: Ledger, L: Ledger> State<W, L> {
         ensures number { IfSome result (λ d. d.number ≡ number) }
         ensures end { IfSome result (HasEnd self.old.kernel.machine.minutes) }
         ensures told { IfSome result (λ d. IsTold self.old.extras.items number d self.new.extras.items) }
+        ensures none { IfNone result (self.new.extras.items ≡ self.old.extras.items) }
         ensures legal { IsLegalMachine self.old.kernel.machine }
         ensures kernel { self.new.kernel ≡ self.old.kernel }
         ensures comms { self.new.comms ≡ self.old.comms }
@@ -156,6 +163,7 @@ impl<W: Ledger, L: Ledger> State<W, L> {
     pub fn shut(&mut self)
         ensures shut { self.new.kernel.machine ≡ shut self.old.kernel.machine }
         ensures comms { self.new.comms ≡ self.old.comms }
+        ensures extras { self.new.extras ≡ self.old.extras }
     {
         let State { kernel, .. } = self;
         kernel.shut();

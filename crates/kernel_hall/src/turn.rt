@@ -1,6 +1,7 @@
 //! One turn of the runner over the lent kernel.
 ghost use Rattle.std.specs.Prelude.{◌≡◌, ◌-◌, ◌^◌, ◌<◌};
 ghost use Rattle.kernel_core.specs.Minutes.{posted_in};
+ghost use Rattle.kernel_hall.specs.Extras.{ends_job};
 ghost use Rattle.kernel_hall.specs.Turns.{IsTurn};
 
 use kernel_bell::{Bell, RunnerSeat};
@@ -20,7 +21,9 @@ pub enum Turn {
 
 impl Turn {
     /// Whether it ended a job.
-    pub(crate) fn is_end(self) -> bool {
+    pub(crate) fn is_end(self) -> bool
+        ensures { result ≡ ends_job self }
+    {
         match self {
             Turn::Cut(Sliced::Ended(_)) | Turn::Began(Begun::Ended(_)) => true,
             Turn::Cut(_) | Turn::Began(_) | Turn::Worn => false,

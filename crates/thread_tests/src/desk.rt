@@ -4,7 +4,7 @@ ghost use Rattle.std.specs.Prelude.{◌≡◌, ◌<◌};
 use kernel_ask::{Answer, Ask, Comms, Content, Done, Wish};
 use kernel_bell::{Bell, RunnerSeat};
 use kernel_core::{Begun, Job, Kernel, Outcome, Sliced};
-use kernel_hall::{Hall, Pass, SLICE, Ticket, Turn};
+use kernel_hall::{Gate, Hall, Pass, SLICE, Ticket, Turn, work};
 use std::alloc::{AllocError, Global};
 use std::process::Abort;
 use std::sync::Wait;
@@ -55,12 +55,43 @@ impl<W: Ledger, L: Ledger> Desk<W, L> {
     }
 }
 
+/// The worker's side of a hall.
+#[derive(Drop)]
+pub(crate) struct Worker<'a, W: Ledger, L: Ledger> {
+    pub hall: &'a Hall<W, L>,
+    pub seat: RunnerSeat,
+    ghost own: { seat.bell ≡ hall.now },
+}
+
+impl<W: Ledger, L: Ledger> Worker<'_, W, L> {
+    /// Takes turns until the hall is shut, and passes this gate.
+    pub fn serve<R: Wait, G: Gate + Drop>(self, rt: &R, mut gate: G) {
+        let Worker { hall, seat } = self;
+        work(hall, rt, seat, &mut gate);
+    }
+}
+
 /// What frontends came away with.
 #[derive(Drop)]
 pub(crate) struct Away<L: Ledger> {
     pub passes: Vec<Pass<L>>,
     pub tickets: Vec<Ticket>,
     pub dones: Vec<Done>,
+}
+
+/// Closes the hall: how many minutes it had.
+pub(crate) fn closed<W: Ledger, L: Ledger, R: Abort>(
+    rt: &R,
+    hall: Hall<W, L>,
+    away: Away<L>,
+) -> usize {
+    let Away {
+        passes,
+        tickets,
+        dones,
+    } = away;
+    let closed = hall.close(passes, tickets, dones);
+    closed.ok().expect(rt, "minutes").entries().len()
 }
 
 /// A new pass.

@@ -1,5 +1,6 @@
-//! Tests of the crates that threads share: calls with answers worked out by hand, and runs of bell and board on threads. These threads end by
-//! themselves, after bounded turns, and the tests hold under any schedule in which nobody waits for so many turns.
+//! Tests of the crates that threads share: calls with answers worked out by hand, and runs of bell, board and hall on threads. These threads end by
+//! themselves, after bounded turns or once the jobs that they wait for have ended, and the tests hold under any schedule in which nobody waits
+//! for so many turns.
 #![tactic(auto)]
 
 #[cfg(test)]
@@ -12,5 +13,7 @@ mod closing;
 mod desk;
 #[cfg(test)]
 mod hall;
+#[cfg(test)]
+mod posting;
 #[cfg(test)]
 mod working;

@@ -1,65 +1,89 @@
-//! A hall's worker, with a gate that asks between two slices.
+//! A hall's worker on a thread of its own, held by its gate after the first slice until a question is answered.
 ghost use Rattle.std.specs.Prelude.{◌≡◌, ◌<◌};
 
-use crate::desk::{Away, Desk, cell, ends, is_world, pass, post};
-use kernel_ask::{Ask, Done};
-use kernel_bell::RunnerSeat;
+use crate::desk::{Away, Desk, Worker, cell, closed, ends, is_world, pass, post};
+use kernel_ask::Done;
 use kernel_core::{End, Job, Outcome};
-use kernel_hall::{Gate, Hall, Moment, Pass, Ticket, work};
-use std::alloc::Global;
+use kernel_hall::{Gate, Hall, Moment};
+use std::alloc::{AllocError, Global};
 use std::marker::Brand;
 use std::process::Abort;
 use std::sync::Wait;
+use std::sync::atomic::{AtomicU64, Ordering};
 use std::sync::ledger::{Blank, Ledger};
 use std::test::Fail;
+use std::thread;
+use std::thread::Threads;
 
-/// A gate that asks for the world after the first slice, and shuts the hall once all three jobs have ended. A worker that held the lock
-/// there would not come back.
-#[derive(Drop)]
-struct Asking<'a, W: Ledger, L: Ledger, R: Wait> {
-    rt: &'a R,
-    hall: &'a Hall<W, L>,
-    pass: &'a Pass<L>,
-    is_asked: bool,
-    is_answered: bool,
-}
+/// Nobody waits for more turns than these.
+const TURNS: u32 = 1_000_000;
 
-impl<W: Ledger, L: Ledger, R: Wait> Gate for Asking<'_, W, L, R> {
-    fn pass(&mut self, moment: Moment) {
-        if moment == Moment::BeforeBegin {
+/// What the worker and a frontend tell each other by a word, which is 0 at first: that the worker has taken its first slice, and that
+/// it may go on; or that one of them waited for too long.
+const HELD: u64 = 1;
+
+const FREE: u64 = 2;
+
+const LATE: u64 = 3;
+
+/// Waits until the word is this.
+fn await_word(word: &AtomicU64, wanted: u64) {
+    for _ in 0..TURNS {
+        if word.load(Ordering::SeqCst) == wanted {
             return;
         }
-        if !self.is_asked {
-            self.is_asked = true;
-            self.is_answered = is_world(self.rt, self.hall, self.pass, 3, "x = 512");
-        }
-        if minutes(self.rt, self.hall, self.pass) == 6 {
-            self.hall.shut(self.rt);
+        thread::yield_now();
+    }
+    word.store(LATE, Ordering::SeqCst);
+}
+
+/// A gate that holds the worker after its first slice. A worker that held the lock there would be late.
+#[derive(Drop)]
+struct Hold<'a> {
+    word: &'a AtomicU64,
+    is_over: bool,
+}
+
+impl Gate for Hold<'_> {
+    fn pass(&mut self, moment: Moment) {
+        if moment == Moment::AfterSlice && !self.is_over {
+            self.is_over = true;
+            self.word.store(HELD, Ordering::SeqCst);
+            await_word(self.word, FREE);
         }
     }
 }
 
-/// How many minutes the hall has; 0 where there is no answer.
-fn minutes<W: Ledger, L: Ledger, R: Wait>(rt: &R, hall: &Hall<W, L>, pass: &Pass<L>) -> usize {
-    match hall.ask(rt, pass, Ask::Comms) {
-        Ok(answer) => answer.seen,
-        Err(_) => 0,
+fn holding(word: &AtomicU64) -> Hold<'_> {
+    Hold {
+        word,
+        is_over: false,
     }
 }
 
-/// Two passes: the first posts a loop and, behind a cell of the second, an undo.
-fn three_jobs<W: Ledger, L: Ledger, R: Wait + Abort>(
+/// Three passes: the first posts a loop and, behind a cell of the second, an undo. While the loop runs the third asks for the world.
+fn ask_meanwhile<W: Ledger, L: Ledger, R: Wait + Abort>(
     rt: &R,
     alloc: Global,
     hall: &Hall<W, L>,
-) -> Result<(Vec<Pass<L>>, Vec<Ticket>), Fail> {
-    let (first, second) = (pass(rt, hall), pass(rt, hall));
+    word: &AtomicU64,
+) -> Result<Away<L>, AllocError> {
+    let (first, second, third) = (pass(rt, hall), pass(rt, hall), pass(rt, hall));
     let long = cell(alloc, "int x from x = 0 do x += 1 until x = 5000")?;
     let (looped, first) = post(rt, alloc, hall, first, long);
     let (added, second) = post(rt, alloc, hall, second, cell(alloc, "x += 1")?);
     let (undone, first) = post(rt, alloc, hall, first, Job::Undo(1));
-    let passes = Vec::from_array(alloc, [first, second])?;
-    Ok((passes, Vec::from_array(alloc, [looped, added, undone])?))
+    await_word(word, HELD);
+    assert!(rt; is_world(rt, hall, &third, 3, "x = 512"));
+    word.store(FREE, Ordering::SeqCst);
+    let tickets = Vec::from_array(alloc, [looped, added, undone])?;
+    let dones = ends(rt, alloc, hall, &tickets)?;
+    assert!(rt; is_world(rt, hall, &third, 6, "x = 5000"));
+    Ok(Away {
+        passes: Vec::from_array(alloc, [first, second, third])?,
+        tickets,
+        dones,
+    })
 }
 
 /// Whether these are the outcomes of the three jobs.
@@ -74,59 +98,29 @@ fn are_three(dones: &[Done]) -> bool {
     }
 }
 
-/// Closes the hall: how many minutes it had.
-fn closed<W: Ledger, L: Ledger, R: Abort>(rt: &R, hall: Hall<W, L>, away: Away<L>) -> usize {
-    let Away {
-        passes,
-        tickets,
-        dones,
-    } = away;
-    let closed = hall.close(passes, tickets, dones);
-    closed.ok().expect(rt, "minutes").entries().len()
-}
-
-/// The worker passes the gate until the hall is shut: whether the gate was answered.
-fn is_answered<'a, W: Ledger, L: Ledger, R: Wait>(
-    seat: RunnerSeat,
-    mut gate: Asking<'a, W, L, R>,
-) -> bool
-    requires { seat.bell ≡ gate.hall.now }
-{
-    let (rt, hall) = (gate.rt, gate.hall);
-    work(hall, rt, seat, &mut gate);
-    gate.is_answered
-}
-
-/// A third pass asks between two slices of the loop.
-fn ask_between_slices<W: Ledger, L: Ledger, R: Wait + Abort>(
+/// The worker runs beside the frontends.
+fn held_beside<
+    'a,
+    W: Ledger + Send + Sync,
+    L: Ledger + Send + Sync,
+    R: Threads + Wait + Abort + Sync,
+>(
     rt: &R,
     alloc: Global,
-    desk: Desk<W, L>,
-) -> Result<(), Fail> {
-    let Desk { hall, seat } = desk;
-    let (passes, tickets) = three_jobs(rt, alloc, &hall)?;
-    let third = pass(rt, &hall);
-    let gate = Asking {
-        rt,
-        hall: &hall,
-        pass: &third,
-        is_asked: false,
-        is_answered: false,
-    };
-    assert!(rt; is_answered(seat, gate));
-    assert!(rt; is_world(rt, &hall, &third, 6, "x = 5000"));
-    let dones = ends(rt, alloc, &hall, &tickets)?;
-    assert!(rt; are_three(&dones));
-    let away = Away {
-        passes,
-        tickets,
-        dones,
-    };
-    assert!(rt; closed(rt, hall, away) == 6);
-    Ok(())
+    worker: Worker<'a, W, L>,
+    word: &'a AtomicU64,
+) -> Result<Away<L>, AllocError> {
+    let hall = worker.hall;
+    thread::scope(thread::scope_env(), rt, |scope| {
+        let started = scope.spawn(move || worker.serve(rt, holding(word)));
+        assert!(rt; started.is_ok());
+        let away = ask_meanwhile(rt, alloc, hall, word);
+        hall.shut(rt);
+        away
+    })
 }
 
-fn play_in<W: Ledger, L: Ledger, R: Wait + Abort>(
+fn play_in<W: Ledger + Send + Sync, L: Ledger + Send + Sync, R: Threads + Wait + Abort + Sync>(
     rt: &R,
     alloc: Global,
     writes: Blank,
@@ -135,10 +129,15 @@ fn play_in<W: Ledger, L: Ledger, R: Wait + Abort>(
     requires writes { (writes.name ≡ W.name) × (writes.parts ≡ W.parts) × (0 < W.parts) }
     requires posts { (posts.name ≡ L.name) × (posts.parts ≡ 65537) × (posts.parts ≡ L.parts) }
 {
-    ask_between_slices(rt, alloc, Desk::<W, L>::new(alloc, writes, posts)?)
+    let Desk { hall, seat } = Desk::<W, L>::new(alloc, writes, posts)?;
+    let word = AtomicU64::new(0);
+    let away = held_beside(rt, alloc, Worker { hall: &hall, seat }, &word)?;
+    assert!(rt; word.load(Ordering::SeqCst) == FREE && are_three(&away.dones));
+    assert!(rt; closed(rt, hall, away) == 6);
+    Ok(())
 }
 
-fn play<R: Wait + Abort>(rt: &R, alloc: Global) -> Result<(), Fail> {
+fn play<R: Threads + Wait + Abort + Sync>(rt: &R, alloc: Global) -> Result<(), Fail> {
     play_in::<Brand, Brand, R>(rt, alloc, Blank::new(1), Blank::new(65_537))
 }
 

@@ -1,0 +1,21 @@
+-- How the end that stands last in the minutes is read.
+use Rattle.std.specs.Prelude.{◌≡◌, ℕ, ◌-◌, List, Option, None, Some, length, slice_get, zero, suc}
+use Rattle.kernel_core.specs.Minutes.{Entry, Posted, Ended}
+use Rattle.kernel_hall.specs.declared.extra.LastEnd.{LastEnd}
+
+-- the entry that stands last
+abbrev pub last_of : List Entry → Option Entry
+last_of entries = slice_get entries (length entries - 1)
+
+-- an end of this outcome stands last, at this place, of the job with the number above the index
+pub record IsLastEnd (entries : List Entry) (end : LastEnd) : Type 0 where
+  pub count : ℕ
+  pub node : ℕ
+  pub place : end.place ≡ length entries - 1
+  pub last : last_of entries ≡ Some (Ended (suc end.index) end.outcome count node)
+
+-- it is no end, or the end of the number 0
+abbrev pub EndsNoNumber : Option Entry → Type 0
+EndsNoNumber None = Unit {0}
+EndsNoNumber (Some (Posted lane job)) = Unit {0}
+EndsNoNumber (Some (Ended number o count node)) = number ≡ 0
