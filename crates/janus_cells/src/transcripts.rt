@@ -246,7 +246,7 @@ fn refuses_texts(rt: HostRuntime) -> Result<(), Fail> {
     writes(&rt, rt.alloc(), &REFUSED)
 }
 
-/// The programs of examples/, without their comments.
+/// The programs of examples/, without their comments, but those of stacks and locals.
 const EXAMPLES: [(&str, &str); 5] = [
     (
         "int x int y;%%;x += 5;y ^= x + 3;%%;%show;%undo 1;%show;%redo 1;x -= y;%show",
@@ -273,6 +273,35 @@ const EXAMPLES: [(&str, &str); 5] = [
 #[test]
 fn runs_the_examples(rt: HostRuntime) -> Result<(), Fail> {
     writes(&rt, rt.alloc(), &EXAMPLES)
+}
+
+/// Stacks and locals: what is listed of a stack, a local that ends with another value, and a stack that is full; and their examples.
+const STACKS: [(&str, &str); 5] = [
+    (
+        "int x stack s local int t = 3 x += t push(t, s) delocal int t = 0;%show;%undo 1;%show",
+        "ok node 1 steps 9;at node 1;x = 3;s(1) = 3;undid 1;at node 0;",
+    ),
+    (
+        "int x local int t = 3 x += t delocal int t = 2;%show",
+        "fault 53 DelocalMismatch after 5;at node 0;",
+    ),
+    (
+        "int i int x stack s;%%;from i = 0 do x += i push(x, s) i += 1 until i = 4096;%%;x += 1 push(x, s);%show",
+        "ok node 1 steps 1;ok node 2 steps 49151;fault 59 StackFull after 3;at node 2;i = 4096;x = 0;s(4096) = 4095 4094 4093 4092 4091 4090 4089 4088 4087 4086 4085 4084 4083 4082 4081 4080 4079 4078 4077 4076 4075 4074 4073 4072 4071 4070 4069 4068 4067 4066 4065 4064 ...;",
+    ),
+    (
+        "int x int y int n int a[4];%%;x += 3 y += 8;a[0] += 1 a[1] += 2 a[2] += 3 a[3] += 4;%%;local int t = x;x -= t  x += y  y -= x  y += t;delocal int t = y;%show;%undo 1;%show;local stack s = nil;local int v = 0;from n = 0 loop v += a[n]  a[n] -= v  push(v, s)  n += 1 until n = 4;from n = 4 loop pop(v, s)  a[4 - n] += v  v -= a[4 - n]  n -= 1 until n = 0;delocal int v = 0;delocal stack s = nil;%show;%undo 1;%show;local int t = x;y += t;delocal int t = 0;%show",
+        "ok node 1 steps 1;ok node 2 steps 13;ok node 3 steps 13;at node 3;x = 8;y = 3;n = 0;a[4] = 1 2 3 4;undid 1;at node 2;x = 3;y = 8;n = 0;a[4] = 1 2 3 4;ok node 4 steps 133;at node 4;x = 3;y = 8;n = 0;a[4] = 4 3 2 1;undid 1;at node 2;x = 3;y = 8;n = 0;a[4] = 1 2 3 4;fault 53 DelocalMismatch after 5;at node 2;x = 3;y = 8;n = 0;a[4] = 1 2 3 4;",
+    ),
+    (
+        "int n int x int a[5] stack s;%%;a[0] += 3  a[1] += 1  a[2] += 4  a[3] += 1  a[4] += 5;%%;from n = 0;loop x += a[n]  a[n] -= x  push(x, s)  n += 1;until n = 5;%show;from n = 5;loop n -= 1  pop(x, s)  a[4 - n] += x  x -= a[4 - n];until n = 0;%show;%undo 1;%show;%undo 1;%show",
+        "ok node 1 steps 1;ok node 2 steps 11;ok node 3 steps 77;at node 3;n = 5;x = 0;a[5] = 0 0 0 0 0;s(5) = 5 1 4 1 3;ok node 4 steps 77;at node 4;n = 0;x = 0;a[5] = 5 1 4 1 3;s(0) =;undid 1;at node 3;n = 5;x = 0;a[5] = 0 0 0 0 0;s(5) = 5 1 4 1 3;undid 1;at node 2;n = 0;x = 0;a[5] = 3 1 4 1 5;s(0) =;",
+    ),
+];
+
+#[test]
+fn runs_stacks_and_locals(rt: HostRuntime) -> Result<(), Fail> {
+    writes(&rt, rt.alloc(), &STACKS)
 }
 
 /// Lines, commands and what is gathered between them.
