@@ -12,15 +12,15 @@ use Rattle.janus_syntax.specs.declared.tree.Kind.{Kind}
 use Rattle.janus_syntax.specs.declared.tree.Kind.TheVariants as kind
 use Rattle.janus_meaning.proofs.Stores.{same_name_self}
 use Rattle.janus_syntax.specs.Tokens.{Token, Name, Number, Sign_of, Word_of}
-use Rattle.janus_syntax.specs.Tree.{Name as Named, named, Exp, Num, EmptyOf, TopOf, Neg, Stm, Skip, Push, Pop, If, Loop, LocalInt, LocalStack, Block, Empty, More, Declaration, StackOf}
+use Rattle.janus_syntax.specs.Tree.{Name as Named, named, Exp, Num, EmptyOf, TopOf, Neg, Stm, Skip, Push, Pop, If, Loop, LocalInt, LocalStack, Call, Uncall, Block, Empty, More, Declaration, StackOf}
 use Rattle.janus_syntax.specs.Operators.{weakest, joined, sign_infix, operator_at}
-use Rattle.janus_syntax.specs.Forms.{Part, Declarations, Bound, Body, Statements, Else_part, Do_part, Loop_part, Local, Target_index, Whole, Level, Chain, Index, Tree, Class, Seen, seen, The_word, The_sign, A_name, A_number, An_update, Same_kind, Same_name, Form, done, take, part, close, Rule}
-use Rattle.janus_syntax.specs.Table.{rule, left_out, variable, assignment, declared, skip_block, sign_then, word_then, stack_then, variable_and_stack_then, delocal_then, local_int, local_stack, whole, operand, chains, chain_rule, statement, declaration}
+use Rattle.janus_syntax.specs.Forms.{Part, Declarations, Bound, Body, Statements, Else_part, Do_part, Loop_part, Local, Names, More_names, Target_index, Whole, Level, Chain, Index, Tree, Class, Seen, seen, The_word, The_sign, A_name, A_number, An_update, Same_kind, Same_name, Form, done, take, part, close, Rule}
+use Rattle.janus_syntax.specs.Table.{rule, left_out, variable, assignment, declared, skip_block, sign_then, word_then, stack_then, variable_and_stack_then, call_then, delocal_then, local_int, local_stack, whole, operand, chains, chain_rule, statement, declaration}
 use Rattle.janus_syntax.specs.Grammar
 use Rattle.janus_syntax.specs.Grammar.{Count, but_limits, entered, closed, Spells}
 use Rattle.janus_syntax.proofs.Agreed.{agreed, agreed_is, is_agreed, kind_word, kind_agreed}
 use Rattle.janus_grammar.specs.Derivation
-use Rattle.janus_grammar.specs.Derivation.{IsExpression, IsStatement, AreStatements, IsBody, IsOptional, IsDeclaration, AreDeclarations}
+use Rattle.janus_grammar.specs.Derivation.{IsExpression, AreNames, AreMoreNames, IsStatement, AreStatements, IsBody, IsOptional, IsDeclaration, AreDeclarations}
 
 -- ---- forms that are spelled, whatever the counts are
 
@@ -106,6 +106,28 @@ pair_behind opening at comma place closing x y f v from rest h =
     (taken {c = A_name} (λ z. sign_then sign.Comma (take A_name (λ s. sign_then sign.Close (f z s)))) (named x at) v (Name x at) (Sign_of sign.Comma comma ∷ behind) rest refl
     (sign_behind sign.Comma comma (take A_name (λ s. sign_then sign.Close (f (named x at) s))) v behind rest refl
     (taken {c = A_name} (λ s. sign_then sign.Close (f (named x at) s)) (named y place) v (Name y place) (Sign_of sign.Close closing ∷ from) rest refl (sign_behind sign.Close closing (f (named x at) (named y place)) v from rest refl h))))
+
+-- names parted by commas
+more_names_are : {xs : List Named} {from rest : List Token} → AreMoreNames xs from rest → IsPart More_names xs from rest
+more_names_are (AreMoreNames.none {rest = rest}) = absent More_names [] rest refl
+more_names_are (AreMoreNames.more {comma = comma} {at = at} {x = x} {xs = xs} {from = from} {rest = rest} d) =
+    begun More_names (Sign_of sign.Comma comma) (record { opens = 0; counts = 0; is_whole = false; form = take A_name (λ y. part More_names (λ ys. done (y ∷ ys))) }) (named x at ∷ xs) (Name x at ∷ from) rest refl
+    (taken {c = A_name} (λ y. part More_names (λ ys. done (y ∷ ys))) (named x at) (named x at ∷ xs) (Name x at) from rest refl
+    (more_names_are d More_names (λ ys. done (named x at ∷ ys)) (named x at ∷ xs) rest (nothing_more More_names (named x at ∷ xs) rest)))
+
+names_are : {xs : List Named} {from rest : List Token} → AreNames xs from rest → IsPart Names xs from rest
+names_are (AreNames.no_names {rest = rest}) = absent Names [] rest refl
+names_are (AreNames.names {at = at} {x = x} {xs = xs} {from = from} {rest = rest} d) =
+    begun Names (Name x at) (record { opens = 0; counts = 0; is_whole = false; form = part More_names (λ ys. done (named x at ∷ ys)) }) (named x at ∷ xs) from rest refl
+    (more_names_are d Names (λ ys. done (named x at ∷ ys)) (named x at ∷ xs) rest (nothing_more Names (named x at ∷ xs) rest))
+
+-- a name, and names in parentheses
+call_behind : {p : Part} (at opening closing : Span) (f : List ℕ) (xs : List Named) (k : Named → List Named → Form p) (v : Tree p) (inner from rest : List Token) → AreNames xs inner (Sign_of sign.Close closing ∷ from) → Spelled p (k (named f at) xs) v from rest →
+    Spelled p (call_then k) v (Name f at ∷ Sign_of sign.Open opening ∷ inner) rest
+call_behind {p} at opening closing f xs k v inner from rest d h =
+    taken {c = A_name} (λ g. sign_then sign.Open (part Names (λ ys. sign_then sign.Close (k g ys)))) (named f at) v (Name f at) (Sign_of sign.Open opening ∷ inner) rest refl
+    (sign_behind sign.Open opening (part Names (λ ys. sign_then sign.Close (k (named f at) ys))) v inner rest refl
+    (names_are d p (λ ys. sign_then sign.Close (k (named f at) ys)) v rest (sign_behind sign.Close closing (k (named f at) xs) v from rest refl h)))
 
 -- `delocal`, a kind, a name and `=`
 delocal_behind : {p : Part} (j : Kind) (x : List ℕ) (there at_delocal at_kind place equals : Span) (f : Named → Form p) (v : Tree p) (from rest : List Token) → Spelled p (f (named x place)) v from rest →
@@ -239,6 +261,22 @@ mutual
     refl,
     refl,
     pair_behind opening at comma place closing x y (λ z s. k (Push z s)) v rest last h,
+  )
+  begins (IsStatement.call {at_call = at_call} {at = at} {opening = opening} {closing = closing} {f = f} {xs = xs} {from = from} {rest = rest} d) = λ p k v last h. (
+    Word_of word.Call at_call,
+    Name f at ∷ Sign_of sign.Open opening ∷ from,
+    record { opens = 0; counts = 0; is_whole = false; form = call_then (λ g ys. k (Call g ys)) },
+    refl,
+    refl,
+    call_behind at opening closing f xs (λ g ys. k (Call g ys)) v from rest last d h,
+  )
+  begins (IsStatement.inverse_call {at_uncall = at_uncall} {at = at} {opening = opening} {closing = closing} {f = f} {xs = xs} {from = from} {rest = rest} d) = λ p k v last h. (
+    Word_of word.Uncall at_uncall,
+    Name f at ∷ Sign_of sign.Open opening ∷ from,
+    record { opens = 0; counts = 0; is_whole = false; form = call_then (λ g ys. k (Uncall g ys)) },
+    refl,
+    refl,
+    call_behind at opening closing f xs (λ g ys. k (Uncall g ys)) v from rest last d h,
   )
   begins (IsStatement.pop {at_pop = at_pop} {opening = opening} {at = at} {comma = comma} {place = place} {closing = closing} {x = x} {s = y} {rest = rest}) = λ p k v last h. (
     Word_of word.Pop at_pop,

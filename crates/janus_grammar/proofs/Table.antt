@@ -10,14 +10,14 @@ use Rattle.janus_syntax.specs.declared.tree.Update.{Update}
 use Rattle.janus_syntax.specs.declared.tree.Kind.{Kind}
 use Rattle.janus_syntax.specs.declared.tree.Kind.TheVariants as kind
 use Rattle.janus_syntax.specs.Tokens.{Token, Name, Number, Sign_of, Word_of}
-use Rattle.janus_syntax.specs.Tree.{Name as Named, named, Exp, Num, EmptyOf, TopOf, Neg, Stm, Skip, Push, Pop, If, Loop, LocalInt, LocalStack, Block, Empty, More, Declaration, StackOf}
+use Rattle.janus_syntax.specs.Tree.{Name as Named, named, Exp, Num, EmptyOf, TopOf, Neg, Stm, Skip, Push, Pop, If, Loop, LocalInt, LocalStack, Call, Uncall, Block, Empty, More, Declaration, StackOf}
 use Rattle.janus_syntax.specs.Operators.{weakest, joined, operator_at, update_at}
-use Rattle.janus_syntax.specs.Forms.{Part, A_cell, Declarations, Bound, Body, Statements, Else_part, Do_part, Loop_part, Local, Target_index, Whole, Level, Chain, Index, Tree, Seen, seen, agrees, The_sign, A_name, A_number, An_update, Form, done, take, part, close, Rule}
-use Rattle.janus_syntax.specs.Table.{rule, left_out, variable, assignment, declared, nothing, skip_block, word_then, sign_then, stack_then, variable_and_stack_then, delocal_then, local_int, local_stack, whole, operand, chains, chain_rule, statement, declaration}
+use Rattle.janus_syntax.specs.Forms.{Part, A_cell, Declarations, Bound, Body, Statements, Else_part, Do_part, Loop_part, Local, Names, More_names, Target_index, Whole, Level, Chain, Index, Tree, Seen, seen, agrees, The_sign, A_name, A_number, An_update, Form, done, take, part, close, Rule}
+use Rattle.janus_syntax.specs.Table.{rule, left_out, variable, assignment, declared, nothing, skip_block, word_then, sign_then, stack_then, variable_and_stack_then, call_then, delocal_then, local_int, local_stack, whole, operand, chains, chain_rule, statement, declaration}
 use Rattle.janus_syntax.specs.Grammar
 use Rattle.janus_syntax.specs.Grammar.{Count, Demands, met, Spells}
 use Rattle.janus_grammar.specs.Derivation
-use Rattle.janus_grammar.specs.Derivation.{IsExpression, IsStatement, AreStatements, IsBody, IsOptional, IsDeclaration, AreDeclarations, IsCell, there, left_out as no_words, cell, body}
+use Rattle.janus_grammar.specs.Derivation.{IsExpression, AreNames, AreMoreNames, IsStatement, AreStatements, IsBody, IsOptional, IsDeclaration, AreDeclarations, IsCell, there, left_out as no_words, cell, body}
 use Rattle.janus_syntax.proofs.Agreed.{agreed, is_agreed, kind_word}
 use Rattle.janus_grammar.proofs.Tokens.{delocal_is, equals_is, nil_is, same_kind_is, same_name_is, then_is, fi_is, until_is, open_is, comma_is, close_is, close_index_is}
 
@@ -44,6 +44,8 @@ Derived Else_part b from rest = IsOptional word.Else b from rest
 Derived Do_part b from rest = IsOptional word.Do b from rest
 Derived Loop_part b from rest = IsOptional word.Loop b from rest
 Derived Local s from rest = (at : Span) → IsStatement s (Word_of word.Local at ∷ from) rest
+Derived Names xs from rest = AreNames xs from rest
+Derived More_names xs from rest = AreMoreNames xs from rest
 Derived Target_index i from rest = IsIndexed i from rest
 Derived Whole e from rest = IsExpression weakest e from rest
 Derived (Level n) e from rest = IsExpression n e from rest
@@ -72,6 +74,8 @@ left_out_derived Else_part u ts e = let same : skip_block ≡ u = cc in subst (�
 left_out_derived Do_part u ts e = let same : skip_block ≡ u = cc in subst (λ b. IsOptional word.Do b ts ts) same no_words
 left_out_derived Loop_part u ts e = let same : skip_block ≡ u = cc in subst (λ b. IsOptional word.Loop b ts ts) same no_words
 left_out_derived Local u ts e = absurd cc
+left_out_derived Names u ts e = let same : [] ≡ u = cc in subst (λ xs. AreNames xs ts ts) same AreNames.no_names
+left_out_derived More_names u ts e = let same : [] ≡ u = cc in subst (λ xs. AreMoreNames xs ts ts) same AreMoreNames.none
 left_out_derived Target_index u ts e = let same : None ≡ u = cc in subst (λ i. IsIndexed i ts ts) same without
 left_out_derived Whole u ts e = absurd cc
 left_out_derived (Level n) u ts e = absurd cc
@@ -132,6 +136,30 @@ pair_derived k v from rest h =
       b5,
       o.1 ∙ ap (λ ts. Sign_of sign.Open o.0 ∷ ts) behind_open,
       subst (λ y. Means (k y (named l.0 l.1)) v b5 rest) (sym n.3) (subst (λ y. Means (k s y) v b5 rest) (sym l.3) more),
+    )
+
+-- a name, and names in parentheses, and what the form behind them means
+call_derived : {p : Part} (k : Named → List Named → Form p) (v : Tree p) (from rest : List Token) → Means (call_then k) v from rest →
+    (f : List ℕ) × (at : Span) × (opening : Span) × (xs : List Named) × (closing : Span) × (inner : List Token) × (behind : List Token)
+    × (from ≡ Name f at ∷ Sign_of sign.Open opening ∷ inner) × AreNames xs inner (Sign_of sign.Close closing ∷ behind) × Means (k (named f at) xs) v behind rest
+call_derived k v from rest h =
+    let (t1, s, b1, w1, is1, h1) = h in
+    let (t2, u2, b2, w2, is2, h2) = h1 in
+    let (xs, m1, d1, h3) = h2 in
+    let (t3, u3, b3, w3, is3, more) = h3 in
+    let n = name_is t1 s is1 in
+    let o = open_is b1 t2 u2 b2 w2 is2 in
+    let c = close_is m1 t3 u3 b3 w3 is3 in (
+      n.0,
+      n.1,
+      o.0,
+      xs,
+      c.0,
+      b2,
+      b3,
+      w1 ∙ ap (λ t. t ∷ b1) n.2 ∙ ap (λ ts. Name n.0 n.1 ∷ ts) o.1,
+      subst (λ ts. AreNames xs b2 ts) c.1 d1,
+      subst (λ y. Means (k y xs) v b3 rest) (sym n.3) more,
     )
 
 -- ---- expressions
@@ -279,6 +307,14 @@ statement_derived {p} (Word_of word.Pop at) k r v from rest is h =
     let a : Rule p = record { opens = 0; counts = 0; is_whole = false; form = variable_and_stack_then (λ x s. k (Pop x s)) } in
     let (opening, x, on, comma, y, place, closing, behind, whole, more) = pair_derived (λ x s. k (Pop x s)) v from rest (form_as a r v from rest is h) in
     (Pop (named x on) (named y place), behind, subst (λ ts. IsStatement (Pop (named x on) (named y place)) (Word_of word.Pop at ∷ ts) behind) (sym whole) IsStatement.pop, more)
+statement_derived {p} (Word_of word.Call at) k r v from rest is h =
+    let a : Rule p = record { opens = 0; counts = 0; is_whole = false; form = call_then (λ f xs. k (Call f xs)) } in
+    let (f, on, opening, xs, closing, inner, behind, whole, d, more) = call_derived (λ f xs. k (Call f xs)) v from rest (form_as a r v from rest is h) in
+    (Call (named f on) xs, behind, subst (λ ts. IsStatement (Call (named f on) xs) (Word_of word.Call at ∷ ts) behind) (sym whole) (IsStatement.call d), more)
+statement_derived {p} (Word_of word.Uncall at) k r v from rest is h =
+    let a : Rule p = record { opens = 0; counts = 0; is_whole = false; form = call_then (λ f xs. k (Uncall f xs)) } in
+    let (f, on, opening, xs, closing, inner, behind, whole, d, more) = call_derived (λ f xs. k (Uncall f xs)) v from rest (form_as a r v from rest is h) in
+    (Uncall (named f on) xs, behind, subst (λ ts. IsStatement (Uncall (named f on) xs) (Word_of word.Uncall at ∷ ts) behind) (sym whole) (IsStatement.inverse_call d), more)
 statement_derived (Word_of _ at) k r v from rest is h = absurd cc
 statement_derived (Sign_of s at) k r v from rest is h = absurd cc
 statement_derived (Number n at) k r v from rest is h = absurd cc
@@ -492,6 +528,31 @@ local_derived (Sign_of o at) r s from rest is h = absurd cc
 local_derived (Name x at) r s from rest is h = absurd cc
 local_derived (Number n at) r s from rest is h = absurd cc
 
+names_derived : (t : Token) (r : Rule Names) (xs : List Named) (from rest : List Token) → rule Names t ≡ Some r → Means r.form xs from rest → AreNames xs (t ∷ from) rest
+names_derived (Name x at) r xs from rest is h =
+    let a : Rule Names = record { opens = 0; counts = 0; is_whole = false; form = part More_names (λ ys. done (named x at ∷ ys)) } in
+    let (ys, m, d, end) = form_as a r xs from rest is h in
+    subst (λ zs. AreNames zs (Name x at ∷ from) rest) (sym end.0) (subst (λ ts. AreNames (named x at ∷ ys) (Name x at ∷ from) ts) (sym end.1) (AreNames.names d))
+names_derived (Word_of w at) r xs from rest is h = absurd cc
+names_derived (Sign_of s at) r xs from rest is h = absurd cc
+names_derived (Number n at) r xs from rest is h = absurd cc
+
+more_names_derived : (t : Token) (r : Rule More_names) (xs : List Named) (from rest : List Token) → rule More_names t ≡ Some r → Means r.form xs from rest → AreMoreNames xs (t ∷ from) rest
+more_names_derived (Sign_of sign.Comma at) r xs from rest is h =
+    let a : Rule More_names = record { opens = 0; counts = 0; is_whole = false; form = take A_name (λ x. part More_names (λ ys. done (x ∷ ys))) } in
+    let (t, s, b, w, seen_is, h1) = form_as a r xs from rest is h in
+    let (ys, m, d, end) = h1 in
+    let n = name_is t s seen_is in
+    let list : xs ≡ named n.0 n.1 ∷ ys = end.0 ∙ ap (λ y. y ∷ ys) (sym n.3) in
+    let whole : from ≡ Name n.0 n.1 ∷ b = w ∙ ap (λ t. t ∷ b) n.2 in
+    subst (λ zs. AreMoreNames zs (Sign_of sign.Comma at ∷ from) rest) (sym list)
+    (subst (λ ts. AreMoreNames (named n.0 n.1 ∷ ys) (Sign_of sign.Comma at ∷ ts) rest) (sym whole)
+    (subst (λ ts. AreMoreNames (named n.0 n.1 ∷ ys) (Sign_of sign.Comma at ∷ Name n.0 n.1 ∷ b) ts) (sym end.1) (AreMoreNames.more d)))
+more_names_derived (Sign_of _ at) r xs from rest is h = absurd cc
+more_names_derived (Word_of w at) r xs from rest is h = absurd cc
+more_names_derived (Name x at) r xs from rest is h = absurd cc
+more_names_derived (Number n at) r xs from rest is h = absurd cc
+
 -- a part behind its first token
 rule_derived : (q : Part) (t : Token) (r : Rule q) (u : Tree q) (from rest : List Token) → rule q t ≡ Some r → Means r.form u from rest → Derived q u (t ∷ from) rest
 rule_derived A_cell t r u from rest is h = absurd cc
@@ -515,6 +576,8 @@ rule_derived Else_part t r u from rest is h = else_derived t r u from rest is h
 rule_derived Do_part t r u from rest is h = do_derived t r u from rest is h
 rule_derived Loop_part t r u from rest is h = loop_part_derived t r u from rest is h
 rule_derived Local t r u from rest is h = local_derived t r u from rest is h
+rule_derived Names t r u from rest is h = names_derived t r u from rest is h
+rule_derived More_names t r u from rest is h = more_names_derived t r u from rest is h
 rule_derived Target_index t r u from rest is h = target_derived t r u from rest is h
 rule_derived Whole t r u from rest is h = whole_derived t (operand t (λ e. chains 0 weakest e done)) r u from rest refl is h
 rule_derived (Level n) t r u from rest is h = level_derived n t r u from rest is h

@@ -7,7 +7,7 @@ use Rattle.janus_syntax.specs.declared.token.Word.TheVariants as word
 use Rattle.janus_syntax.specs.declared.operator.Infix.{Infix}
 use Rattle.janus_syntax.specs.declared.tree.Update.{Update}
 use Rattle.janus_syntax.specs.Tokens.{Token, Name, Number, Sign_of, Word_of}
-use Rattle.janus_syntax.specs.Tree.{named, Exp, Num, Var, Element, EmptyOf, TopOf, Neg, Stm, Skip, Assign, AssignElement, Push, Pop, If, Loop, LocalInt, LocalStack, Block, Empty, More, Declaration, Int, Array, StackOf, Cell, cell_of}
+use Rattle.janus_syntax.specs.Tree.{Name as Named, named, Exp, Num, Var, Element, EmptyOf, TopOf, Neg, Stm, Skip, Assign, AssignElement, Push, Pop, If, Loop, LocalInt, LocalStack, Call, Uncall, Block, Empty, More, Declaration, Int, Array, StackOf, Cell, cell_of}
 use Rattle.janus_syntax.specs.Operators.{weakest, joined, operator_at, update_at}
 use Rattle.janus_syntax.specs.Table.{skip_block}
 
@@ -33,6 +33,17 @@ pub data IsExpression : ℕ → Exp → List Token → List Token → Type 0 whe
       IsExpression o.level a from (t ∷ behind) → IsExpression (o.level - 1) b behind rest → IsExpression o.level (joined o.joint a b) from rest
 
 -- ---- statements
+
+-- behind a name: a comma and a name, none or more times
+pub data AreMoreNames : List Named → List Token → List Token → Type 0 where
+  none : {rest : List Token} → AreMoreNames [] rest rest
+  more : {comma at : Span} {x : List ℕ} {xs : List Named} {from rest : List Token} →
+      AreMoreNames xs from rest → AreMoreNames (named x at ∷ xs) (Sign_of sign.Comma comma ∷ Name x at ∷ from) rest
+
+-- names parted by commas, or none
+pub data AreNames : List Named → List Token → List Token → Type 0 where
+  no_names : {rest : List Token} → AreNames [] rest rest
+  names : {at : Span} {x : List ℕ} {xs : List Named} {from rest : List Token} → AreMoreNames xs from rest → AreNames (named x at ∷ xs) (Name x at ∷ from) rest
 
 mutual
   -- a statement
@@ -62,6 +73,10 @@ mutual
     local_stack : {at_local at_stack at equals at_nil at_delocal at_kind place equals_again nil_again : Span} {x : List ℕ} {b : Block} {from rest : List Token} →
         IsBody b from (Word_of word.Delocal at_delocal ∷ Word_of word.Stack at_kind ∷ Name x place ∷ Sign_of sign.Equals equals_again ∷ Word_of word.Nil nil_again ∷ rest) →
         IsStatement (LocalStack (named x at) b (named x place)) (Word_of word.Local at_local ∷ Word_of word.Stack at_stack ∷ Name x at ∷ Sign_of sign.Equals equals ∷ Word_of word.Nil at_nil ∷ from) rest
+    call : {at_call at opening closing : Span} {f : List ℕ} {xs : List Named} {from rest : List Token} →
+        AreNames xs from (Sign_of sign.Close closing ∷ rest) → IsStatement (Call (named f at) xs) (Word_of word.Call at_call ∷ Name f at ∷ Sign_of sign.Open opening ∷ from) rest
+    inverse_call : {at_uncall at opening closing : Span} {f : List ℕ} {xs : List Named} {from rest : List Token} →
+        AreNames xs from (Sign_of sign.Close closing ∷ rest) → IsStatement (Uncall (named f at) xs) (Word_of word.Uncall at_uncall ∷ Name f at ∷ Sign_of sign.Open opening ∷ from) rest
 
   -- none or more
   pub data AreStatements : Block → List Token → List Token → Type 0 where

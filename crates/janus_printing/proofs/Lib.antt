@@ -2,6 +2,7 @@ mod Inside
 mod Fits
 mod Good
 mod Measures
+mod NameMeasures
 mod ExpressionMeasures
 mod BlockMeasures
 mod StatementMeasures
@@ -9,6 +10,7 @@ mod CellMeasures
 mod Spelled
 mod Expressions
 mod Onward
+mod NamesAgain
 mod Statements
 mod CellAgain
 mod Pieces
