@@ -176,7 +176,7 @@ fine_parameters : (xs : List Parameter) → FitsParameters xs → AreFine (param
 fine_parameters [] f = tt
 fine_parameters (x ∷ xs) (f, g) = fine_both (parameter_pieces x) (more_parameters_pieces xs) (fine_parameter x f) (fine_more_parameters xs g)
 
-fine_procedure : (p : Procedure) → FitsProcedure p → AreFine (procedure_pieces p)
+pub fine_procedure : (p : Procedure) → FitsProcedure p → AreFine (procedure_pieces p)
 fine_procedure (procedure_of (named f at) xs b) (name, x, y) = (name, fine_both (parameters_pieces xs) _ (fine_parameters xs x) (fine_block b 0 y.1))
 
 fine_procedures : (ps : List Procedure) → FitsProcedures ps → AreFine (procedures_pieces ps)

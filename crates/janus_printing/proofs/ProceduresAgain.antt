@@ -20,10 +20,10 @@ abbrev pub CellTo : Bool → Cell → Cell → List Token → List Token → Typ
 CellTo main c d ts rest = (p : Part) (k : Cell → Form p) (v : Tree p) (d' : ℕ) (end : List Token) → SpellsTo (k d) v 0 rest d' end → SpellsTo (part (Procedures main c) k) v 0 ts d' end
 
 -- these tokens are read as that procedure
-record ProcedureAgain (q : Procedure) (ts rest : List Token) : Type 0 where
-  again : Procedure
-  same : plain_procedure again ≡ plain_procedure q
-  goes : (main : Bool) (c d : Cell) (last : List Token) → CellTo main (with_procedure c again) d rest last → CellTo main c d ts last
+pub record ProcedureAgain (q : Procedure) (ts rest : List Token) : Type 0 where
+  pub again : Procedure
+  pub same : plain_procedure again ≡ plain_procedure q
+  pub goes : (main : Bool) (c d : Cell) (last : List Token) → CellTo main (with_procedure c again) d rest last → CellTo main c d ts last
 
 -- as those procedures
 pub record ProceduresAgain (qs : List Procedure) (ts rest : List Token) : Type 0 where
@@ -31,7 +31,7 @@ pub record ProceduresAgain (qs : List Procedure) (ts rest : List Token) : Type 0
   pub same : map plain_procedure again ≡ map plain_procedure qs
   pub goes : (main : Bool) (ds : List Declaration) (b : Block) (ps : List Procedure) → CellTo main (cell_of ds b ps) (cell_of ds b (ps ++ again)) ts rest
 
-procedure_again : (q : Procedure) (ts rest : List Token) → FitsProcedure q → Spelled (procedure_pieces q) ts rest → ProcedureAgain q ts rest
+pub procedure_again : (q : Procedure) (ts rest : List Token) → FitsProcedure q → Spelled (procedure_pieces q) ts rest → ProcedureAgain q ts rest
 procedure_again (procedure_of (named f place) xs b) ts rest (name, fits_xs, fits_b) (on, t1, e1, (at, t2, e2, (opened, t3, e3, s))) =
     let two = in_two (parameters_pieces xs) (A_sign sign.Close ∷ block_pieces b) t3 rest s in
     let (shut, t4, e4, last) = two.2 in
