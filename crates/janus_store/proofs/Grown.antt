@@ -2,12 +2,12 @@
 use Rattle.std.proofs.Common.{◌≡◌, ℕ, ◌<◌, ⊎_elim, List, [], ◌∷◌, ◌++◌, length, ap, ◌∙◌, sym, subst, arith}
 use Rattle.std.specs.Prelude.{slice_get}
 use Rattle.std.proofs.lemmas.List.{append-nil}
-use Rattle.janus_meaning.specs.Store as spec
 use Rattle.janus_meaning.specs.Syntax.{Name}
 use Rattle.janus_names.specs.Numbers.{IsNumbered, HaveOneNumber, Adds, GoOn}
+use Rattle.janus_store.specs.Inside.{bounds}
 use Rattle.janus_store.specs.declared.store.Variable.{Variable}
-use Rattle.janus_store.proofs.Numbers.{declared_grown, within_names}
-use Rattle.janus_store.proofs.Laid.{IsLaid, laid_grown, sight_of, as_many, met}
+use Rattle.janus_store.proofs.Numbers.{bounds_grown, within_names}
+use Rattle.janus_store.proofs.Laid.{IsLaid, laid_grown, as_many, met}
 
 module _ (xs ys : List Name) (ns : List ℕ) (vs : List Variable) (h : IsLaid xs ns vs) (k : ℕ) (x : Name) (named : IsNumbered ys k x) (one : HaveOneNumber ys) (adds : Adds xs ys k x) where
   -- the name had a number
@@ -35,11 +35,11 @@ module _ (xs ys : List Name) (ns : List ℕ) (vs : List Variable) (h : IsLaid xs
   pub laid_new : (ms : List ℕ) → k ≡ length ns → ms ≡ ns ++ 0 ∷ [] → IsLaid ys ms vs
   laid_new ms n m = laid_grown xs ns vs h ys ms x one (new_names n) m
 
-  pub same_sight : sight_of ys vs ≡ sight_of xs vs
-  same_sight =
+  pub same_bounds : bounds ys [] vs ≡ bounds xs [] vs
+  same_bounds =
       ⊎_elim
-      (λ (e : ys ≡ xs). ap (λ l. sight_of l vs) e)
-      (λ (e : (k ≡ length xs) × (ys ≡ xs ++ x ∷ [])). ap (λ l. sight_of l vs) e.1 ∙ declared_grown xs (x ∷ []) spec.Bare vs (met xs ns vs h))
+      (λ (e : ys ≡ xs). ap (λ l. bounds l [] vs) e)
+      (λ (e : (k ≡ length xs) × (ys ≡ xs ++ x ∷ [])). ap (λ l. bounds l [] vs) e.1 ∙ bounds_grown xs (x ∷ []) [] vs (met xs ns vs h))
       adds
 
   pub names_go_on : GoOn xs ys

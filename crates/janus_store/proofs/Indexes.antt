@@ -2,15 +2,13 @@
 use Rattle.std.proofs.Common.{◌≡◌, ◌≤◌, ℕ, zero, suc, ◌<◌, Bool, true, false, List, [], ◌∷◌, ◌++◌, length, refl, ap, ◌∙◌, sym, subst, arith, ⊎_elim, ◌⊎◌, inl, inr, map, get_or}
 use Rattle.std.specs.Prelude.{slice_get, Option, Some, None}
 use Rattle.std.proofs.lemmas.Option.{slice_get_past, slice_get_within, slice_get_read}
-use Rattle.janus_meaning.specs.Fault.{Fine, Bad, Broken}
 use Rattle.janus_meaning.specs.Syntax.{Name}
-use Rattle.janus_meaning.specs.Store as spec
-use Rattle.janus_meaning.specs.Store.{look, same_name}
+use Rattle.janus_meaning.specs.Store.{same_name}
 use Rattle.janus_meaning.proofs.Stores.{same_name_self, same_name_true}
-use Rattle.janus_store.specs.Inside.{declared_over, name_among}
-use Rattle.janus_store.specs.Values.{val_of}
+use Rattle.janus_store.specs.Bounds.{search_for}
+use Rattle.janus_store.specs.Inside.{bounds, name_among}
 use Rattle.janus_store.specs.declared.store.Variable.{Variable}
-use Rattle.janus_store.proofs.Variables.{name, HasNone, IsNewest, look_past, look_here}
+use Rattle.janus_store.proofs.Variables.{name, HasNone, IsNewest, search_past, search_here}
 
 pub slice_get-map : {X Y : Type 0} (f : X → Y) (xs : List X) (i : ℕ) (x : X) → slice_get xs i ≡ Some x → slice_get (map f xs) i ≡ Some (f x)
 slice_get-map f [] i x e = let bad : None ≡ Some x = sym (slice_get_past [] i (omega arith)) ∙ e in cc
@@ -68,47 +66,21 @@ module _ (xs : List Name) (vs : List Variable) (place : Name → Option ℕ) (h 
       let q : None ≡ Some m.0 = sym e ∙ ap place (sym g) ∙ m.1 in
       cc
 
-  pub look_none : (x : Name) → place x ≡ None → look x (declared_over xs spec.Bare vs) ≡ Bad Broken
-  look_none x e = look_past xs x spec.Bare vs (none x e)
+  pub search_none : (x : Name) → place x ≡ None → search_for x (bounds xs [] vs) ≡ None
+  search_none x e = search_past xs x [] vs (none x e)
 
-  pub look_some : (x : Name) (i : ℕ) (v : Variable) → place x ≡ Some i → slice_get vs i ≡ Some v → look x (declared_over xs spec.Bare vs) ≡ Fine (val_of v.value)
-  look_some x i v e f =
+  pub search_some : (x : Name) (i : ℕ) (v : Variable) → place x ≡ Some i → slice_get vs i ≡ Some v → search_for x (bounds xs [] vs) ≡ Some v.place
+  search_some x i v e f =
       let s = h.stored x i e in
       let same : Some s.0 ≡ Some v = sym s.1 ∙ f in
       let w : s.0 ≡ v = cc in
-      look_here xs x spec.Bare vs i v f (ap (name xs) (sym w) ∙ s.2) (newest x i e)
+      search_here xs x [] vs i v f (ap (name xs) (sym w) ∙ s.2) (newest x i e)
 
   -- where a place leads
   pub within : (x : Name) (i : ℕ) → place x ≡ Some i → i < length vs
   within x i e = let s = h.stored x i e in slice_get_within vs i s.0 s.1
 
-  pub record Found (x : Name) (i : ℕ) (v : Variable) : Type 0 where
-    pub at : slice_get vs i ≡ Some v
-    pub named : name xs v ≡ x
-    pub seen : look x (declared_over xs spec.Bare vs) ≡ Fine (val_of v.value)
-    pub alone : IsNewest xs vs x i
-
-  pub found_at : (x : Name) (i : ℕ) (v : Variable) → place x ≡ Some i → v ≡ get_or vs i v → Found x i v
-  found_at x i v e read =
-      let here : slice_get vs i ≡ Some v = slice_get_read vs (length vs) i v refl (within x i e) read in
-      let s = h.stored x i e in
-      let one : Some s.0 ≡ Some v = sym s.1 ∙ here in
-      let same : s.0 ≡ v = cc in
-      record { at = here; named = ap (name xs) (sym same) ∙ s.2; seen = look_some x i v e here; alone = newest x i e }
-
-  -- a name that is in sight has a place
-  pub has_place : (x : Name) (v : spec.Val) (r : Option ℕ) → place x ≡ r → look x (declared_over xs spec.Bare vs) ≡ Fine v → (i : ℕ) × (place x ≡ Some i)
-  has_place x v None e f = let bad : Bad Broken ≡ Fine v = sym (look_none x e) ∙ f in cc
-  has_place x v (Some i) e f = (i, e)
-
-  -- a name that is not there has no place
-  not_there : (x : Name) (r : Option ℕ) → place x ≡ r → look x (declared_over xs spec.Bare vs) ≡ Bad Broken → place x ≡ None
-  not_there x None e f = e
-  not_there x (Some i) e f =
-      let s = h.stored x i e in
-      let g : look x (declared_over xs spec.Bare vs) ≡ Fine (val_of s.0.value) = look_some x i s.0 e s.1 in
-      let bad : Bad Broken ≡ Fine (val_of s.0.value) = sym f ∙ g in
-      cc
-
-  pub no_place : (x : Name) → look x (declared_over xs spec.Bare vs) ≡ Bad Broken → place x ≡ None
-  no_place x f = not_there x (place x) refl f
+  -- a name that is found has a place
+  pub has_place : (x : Name) (p : ℕ) (r : Option ℕ) → place x ≡ r → search_for x (bounds xs [] vs) ≡ Some p → (i : ℕ) × (place x ≡ Some i)
+  has_place x p None e f = let bad : None ≡ Some p = sym (search_none x e) ∙ f in cc
+  has_place x p (Some i) e f = (i, e)

@@ -2,7 +2,7 @@ use Rattle.std.proofs.Common.{◌≡◌, ℕ, ◌≤◌, List, length, take}
 use Rattle.std.specs.Prelude.{slice_get, Some}
 use Rattle.janus_meaning.specs.Syntax.{Name}
 use Rattle.janus_store.specs.Inside.{newest_from, none_of, AreHidden}
-use Rattle.janus_store.proofs.store.declared_place.Given as goal
+use Rattle.janus_store.proofs.store.place_below.Given as goal
 
 abbrev pub invariant-loop-behind : goal.invariant-loop-behind
 invariant-loop-behind l =

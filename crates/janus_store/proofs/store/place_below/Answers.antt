@@ -5,7 +5,7 @@ use Rattle.std.proofs.lemmas.Option.{get_or_from_slice_get, slice_get_within}
 use Rattle.janus_store.specs.Inside.{newest_from, none_of}
 use Rattle.janus_store.specs.declared.store.Variable.{Variable}
 use Rattle.janus_store.proofs.Rows.{read_at, fewer, behind_at, place_low}
-use Rattle.janus_store.proofs.store.declared_place.Goals as goal
+use Rattle.janus_store.proofs.store.place_below.Goals as goal
 
 pub loop-behind-init : goal.loop-behind-init
 loop-behind-init c = λ xs e h.
