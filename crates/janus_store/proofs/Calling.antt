@@ -1,31 +1,25 @@
 -- A call entered: its parameters are put over the other variables, with the places of their arguments.
-use Rattle.std.proofs.Common.{◌≡◌, ℕ, zero, suc, ◌+◌, ◌-◌, ◌<◌, ◌≤◌, List, [], ◌∷◌, ◌++◌, length, take, drop, get_or, length-append, refl, ap, ◌∙◌, sym, subst, arith}
+use Rattle.std.proofs.Common.{◌≡◌, ℕ, zero, suc, ◌+◌, ◌-◌, ◌<◌, ◌≤◌, List, [], ◌∷◌, ◌++◌, length, length-append, refl, ap, ◌∙◌, sym, subst, arith}
 use Rattle.std.specs.Prelude.{slice_get, slice_index_or, Some, None}
-use Rattle.std.proofs.lemmas.List.{length-take-le}
-use Rattle.std.proofs.lemmas.Option.{slice_get_past, slice_get_within, get_or_from_slice_get}
-use Rattle.std.proofs.lemmas.Bool.{eq-eqb}
-use Rattle.janus_meaning.specs.Fault.{Res, Fine, Bad, Broken, and_then, guard}
+use Rattle.std.proofs.lemmas.Option.{slice_get_past, slice_get_within}
+use Rattle.janus_meaning.specs.Fault.{Fine}
 use Rattle.janus_meaning.specs.Limit.{parameter_limit}
 use Rattle.janus_meaning.specs.Syntax.{Name}
-use Rattle.janus_meaning.specs.Store.{Val, Store, same_name, pull, fill, bind, unbind}
-use Rattle.janus_meaning.specs.World.{size_of}
-use Rattle.janus_meaning.proofs.Stores.{same_name_self}
+use Rattle.janus_meaning.specs.Store.{Val, Store, pull, bind}
 use Rattle.janus_names.specs.Numbers.{IsNumbered}
-use Rattle.janus_store.specs.Held.{Held, Caller, live_stacks, params_bound, local_limit, call_limit}
-use Rattle.janus_store.specs.Calls.{AreNamed, CanLend, HasCallRoom, AreAlone, HasParametersAlone, IsEntered, IsReturned, IsLeft}
-use Rattle.janus_store.specs.Bounds.{Bound, Level, all_of, seen, search_for, names_at, values_at, callers_of, IsLevel, AreNested}
-use Rattle.janus_store.specs.Inside.{bound_of, bounds, no_variable, value_at, name_among, here, around, outermost, held_in, lent_to, HavePlaces, AreRow, AreShort, IsPlaceOf, IsHeld}
-use Rattle.janus_store.specs.Values.{val_of}
-use Rattle.janus_store.specs.declared.value.Value.{Value}
+use Rattle.janus_store.specs.Held.{Held, live_stacks, params_bound, call_limit, bound_limit}
+use Rattle.janus_store.specs.Calls.{AreNamed, HasCallRoom, IsEntered}
+use Rattle.janus_store.specs.Bounds.{Bound, Level, all_of, seen, search_for, callers_of, AreNested}
+use Rattle.janus_store.specs.Inside.{bounds, no_variable, value_at, here, around, held_in, lent_to, HavePlaces, AreRow, AreShort, AreBelow, IsPlaceOf, IsHeld}
 use Rattle.janus_store.specs.declared.store.Call.{Call}
 use Rattle.janus_store.specs.declared.store.Variable.{Variable}
 use Rattle.janus_store.proofs.Lends.{bound_to, AllFind, place_or, pulled}
-use Rattle.janus_store.proofs.Levels.{AgreeBelow, all_apart, callers_below, same_seen, same_callers, names_long, level_long, level_of, size_seen, call_level, call_nested, call_bound, left_call, bound_long}
-use Rattle.janus_store.proofs.Variables.{bounds_long, bounds_taken, value_front, value_taken}
-use Rattle.janus_store.proofs.Views.{here_call, around_call, in_row, start_fits, base_fits}
+use Rattle.janus_store.proofs.Levels.{AgreeBelow, all_apart, same_seen, same_callers, level_of, call_level, call_nested, call_bound, bound_long}
+use Rattle.janus_store.proofs.Variables.{bounds_long, value_front}
+use Rattle.janus_store.proofs.Views.{here_call, around_call, in_row}
 use Rattle.janus_store.proofs.Laid.{IsLaid, laid_of, has_place_of}
-use Rattle.janus_store.proofs.Lent.{entered_stacks, left_stacks}
-use Rattle.janus_store.proofs.Standing.{held_by, held_names, held_calls}
+use Rattle.janus_store.proofs.Lent.{entered_stacks}
+use Rattle.janus_store.proofs.Standing.{held_calls, short_bound}
 
 -- the number of a name in a list of numbers
 index_is : {A : Type 0} (l : List A) (i : ℕ) (x d : A) → slice_get l i ≡ Some x → slice_index_or l i d ≡ x
@@ -38,6 +32,23 @@ named_long names [] [] h = refl
 named_long names [] (x ∷ xs) h = absurd h
 named_long names (k ∷ ks) [] h = absurd h
 named_long names (k ∷ ks) (x ∷ xs) h = ap suc (named_long names ks xs h.1)
+
+-- numbers have one list of names
+pub named_one : (names : List Name) (ks : List ℕ) (xs ys : List Name) → AreNamed names ks xs → AreNamed names ks ys → xs ≡ ys
+named_one names [] [] [] h g = refl
+named_one names [] [] (y ∷ ys) h g = absurd g
+named_one names [] (x ∷ xs) ys h g = absurd h
+named_one names (k ∷ ks) [] ys h g = absurd h
+named_one names (k ∷ ks) (x ∷ xs) [] h g = absurd g
+named_one names (k ∷ ks) (x ∷ xs) (y ∷ ys) h g =
+    let both : Some x ≡ Some y = sym h.0 ∙ g.0 in
+    let same : x ≡ y = cc in
+    ap (λ x. x ∷ xs) same ∙ ap (λ l. y ∷ l) (named_one names ks xs ys h.1 g.1)
+
+pub named_below : (names : List Name) (n : ℕ) (ks : List ℕ) (xs : List Name) → length names ≤ n → AreNamed names ks xs → AreBelow n ks
+named_below names n [] xs le h = tt
+named_below names n (k ∷ ks) [] le h = absurd h
+named_below names n (k ∷ ks) (x ∷ xs) le h = let lt = slice_get_within names k x h.0 in (omega (arith, lt, le), named_below names n ks xs le h.1)
 
 module _ (xs : List Name) (ns : List ℕ) (vs : List Variable) (h : IsLaid xs ns vs) (n : ℕ) (cs : List Call) where
   abbrev all : List Bound
@@ -74,6 +85,13 @@ module _ (xs : List Name) (ns : List ℕ) (vs : List Variable) (h : IsLaid xs ns
       ap (λ n. record { name = n; place = (slice_index_or vs (slice_index_or ns k 0 - 1) no_variable).place } ∷ lent_to xs ns vs js ks) (index_is xs j p [] d.0)
       ∙ ap (λ i. record { name = p; place = i } ∷ lent_to xs ns vs js ks) (place_there k (place_or (search_for x all)) q)
       ∙ ap (λ l. record { name = p; place = place_or (search_for x all) } ∷ l) (lent_is js ks ps zs (place_or (search_for x all) ∷ lent) d.1 e.1 (omega arith) f.2)
+
+-- there is place for one call's parameters more
+pub bound_after : (xs : List Name) (ns : List ℕ) (vs : List Variable) (d : ℕ) (cs : List Call) (h : IsHeld xs ns vs d cs) (H : Held) → held_in xs d vs cs ≡ H → (count : ℕ) → HasCallRoom H count → params_bound (held_in xs d vs cs).callers + count ≤ bound_limit
+bound_after xs ns vs d cs h H view count room =
+    let c : length H.callers < call_limit = room.calls in
+    let l : count ≤ parameter_limit = room.params in
+    omega (arith, short_bound (held_in xs d vs cs).callers h.short, c, l, ap (λ (h : Held). length h.callers) view)
 
 -- ---- entered
 

@@ -1,5 +1,5 @@
 -- Variables with the places of their numbers: found by number, put, removed, written, and kept as names are added.
-use Rattle.std.proofs.Common.{◌≡◌, ℕ, suc, ◌+◌, ◌<◌, List, [], ◌∷◌, ◌++◌, length, set, get_or, refl, ap, ◌∙◌, sym, subst, arith}
+use Rattle.std.proofs.Common.{◌≡◌, ℕ, suc, ◌+◌, ◌<◌, List, [], ◌∷◌, ◌++◌, length, set, refl, ap, ◌∙◌, sym, subst, arith}
 use Rattle.std.specs.Prelude.{slice_get, slice_set, Some}
 use Rattle.janus_meaning.specs.Syntax.{Name}
 use Rattle.janus_meaning.specs.Store as spec
@@ -24,6 +24,35 @@ laid_of xs ns vs d cs h = record { one_number = h.one_number; newest = h.row.new
 
 pub row_of : (xs : List Name) (ns : List ℕ) (vs : List Variable) → IsLaid xs ns vs → AreRow xs ns vs
 row_of xs ns vs h = record { newest = h.newest; hidden = h.hidden }
+
+-- ---- a row of variables with the places of numbers
+
+module _ (xs : List Name) (ns : List ℕ) (vs : List Variable) (h : AreRow xs ns vs) where
+  pub row_long : length ns ≡ length xs
+  row_long = ap length h.newest ∙ newest_long 0 (none_of xs) vs ∙ none_long xs
+
+  pub row_met : (i : ℕ) (v : Variable) → slice_get vs i ≡ Some v → v.name < length ns
+  row_met i v e = let m : v.name < length (none_of xs) = met_from 0 (none_of xs) vs h.hidden i v e in omega (arith, none_long xs, row_long)
+
+  pub row_put : (ms : List ℕ) (ws : List Variable) (y : Variable) → slice_get ns y.name ≡ Some y.hidden → ms ≡ slice_set ns y.name (suc (length vs)) → ws ≡ vs ++ y ∷ [] → AreRow xs ms ws
+  row_put ms ws y at m w =
+      let z : suc (0 + length vs) ≡ suc (length vs) = omega arith in
+      record {
+        newest = m ∙ ap (λ l. slice_set l y.name (suc (length vs))) h.newest
+            ∙ sym (ap (newest_from 0 (none_of xs)) w ∙ newest_put 0 (none_of xs) vs y ∙ ap (slice_set (newest_from 0 (none_of xs) vs) y.name) z);
+        hidden = subst (AreHidden 0 (none_of xs)) (sym w) (hidden_put 0 (none_of xs) vs y h.hidden (ap (λ l. slice_get l y.name) (sym h.newest) ∙ at));
+      }
+
+  pub row_removed : (ms : List ℕ) (ws : List Variable) (y : Variable) → vs ≡ ws ++ y ∷ [] → ms ≡ slice_set ns y.name y.hidden → AreRow xs ms ws
+  row_removed ms ws y w m =
+      let f = hidden_front 0 (none_of xs) ws y (subst (AreHidden 0 (none_of xs)) w h.hidden) in
+      record {
+        newest = m ∙ ap (λ l. slice_set l y.name y.hidden) (h.newest ∙ ap (newest_from 0 (none_of xs)) w ∙ newest_put 0 (none_of xs) ws y)
+            ∙ set_back (newest_from 0 (none_of xs) ws) y.name (suc (0 + length ws)) y.hidden f.1;
+        hidden = f.0;
+      }
+
+-- ---- the same, where no name has two numbers
 
 module _ (xs : List Name) (ns : List ℕ) (vs : List Variable) (h : IsLaid xs ns vs) where
   pub as_many : length ns ≡ length xs
@@ -58,24 +87,10 @@ module _ (xs : List Name) (ns : List ℕ) (vs : List Variable) (h : IsLaid xs ns
   fits k x i e f = within xs vs (place_by xs ns) indexed x i (at_number k x i e f)
 
   pub laid_put : (ms : List ℕ) (ws : List Variable) (y : Variable) → slice_get ns y.name ≡ Some y.hidden → ms ≡ slice_set ns y.name (suc (length vs)) → ws ≡ vs ++ y ∷ [] → IsLaid xs ms ws
-  laid_put ms ws y at m w =
-      let z : suc (0 + length vs) ≡ suc (length vs) = omega arith in
-      record {
-        one_number = h.one_number;
-        newest = m ∙ ap (λ l. slice_set l y.name (suc (length vs))) h.newest
-            ∙ sym (ap (newest_from 0 (none_of xs)) w ∙ newest_put 0 (none_of xs) vs y ∙ ap (slice_set (newest_from 0 (none_of xs) vs) y.name) z);
-        hidden = subst (AreHidden 0 (none_of xs)) (sym w) (hidden_put 0 (none_of xs) vs y h.hidden (ap (λ l. slice_get l y.name) (sym h.newest) ∙ at));
-      }
+  laid_put ms ws y at m w = let r = row_put xs ns vs (row_of xs ns vs h) ms ws y at m w in record { one_number = h.one_number; newest = r.newest; hidden = r.hidden }
 
   pub laid_removed : (ms : List ℕ) (ws : List Variable) (y : Variable) → vs ≡ ws ++ y ∷ [] → ms ≡ slice_set ns y.name y.hidden → IsLaid xs ms ws
-  laid_removed ms ws y w m =
-      let f = hidden_front 0 (none_of xs) ws y (subst (AreHidden 0 (none_of xs)) w h.hidden) in
-      record {
-        one_number = h.one_number;
-        newest = m ∙ ap (λ l. slice_set l y.name y.hidden) (h.newest ∙ ap (newest_from 0 (none_of xs)) w ∙ newest_put 0 (none_of xs) ws y)
-            ∙ set_back (newest_from 0 (none_of xs) ws) y.name (suc (0 + length ws)) y.hidden f.1;
-        hidden = f.0;
-      }
+  laid_removed ms ws y w m = let r = row_removed xs ns vs (row_of xs ns vs h) ms ws y w m in record { one_number = h.one_number; newest = r.newest; hidden = r.hidden }
 
   pub laid_written : (i : ℕ) (v w : Variable) → slice_get vs i ≡ Some v → w.name ≡ v.name → w.hidden ≡ v.hidden → IsLaid xs ns (set vs i w)
   laid_written i v w at same hides = record {

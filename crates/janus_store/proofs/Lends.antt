@@ -1,16 +1,15 @@
 -- Lending places is taking values out.
-use Rattle.std.proofs.Common.{◌≡◌, ℕ, zero, suc, ℤ, Bool, true, false, ◌||◌, nat_eq, List, [], ◌∷◌, length, refl, ap, ◌∙◌, sym, subst, arith, ◌⊎◌, inl, inr, ⊎_elim}
+use Rattle.std.proofs.Common.{◌≡◌, ℕ, Bool, true, false, ◌||◌, nat_eq, List, [], ◌∷◌, length, refl, ap, ◌∙◌, sym, subst, arith}
 use Rattle.std.specs.Prelude.{Option, Some, None}
 use Rattle.std.proofs.lemmas.Bool.{eq-eqb, eqb-false, ne_eqb}
 use Rattle.std.proofs.lemmas.Bool.Decides.{nat_tests}
-use Rattle.janus_meaning.specs.Fault.{Res, Fine, Bad, Broken, and_then, guard}
+use Rattle.janus_meaning.specs.Fault.{Fine, Bad, Broken, and_then, guard}
 use Rattle.janus_meaning.specs.Syntax.{Name}
-use Rattle.janus_meaning.specs.Store.{Val, Num, Arr, Stk, Lent, Store, Bare, Slot, same_name, look, look_at, read_slot, take, take_at, take_slot, put, put_at, put_slot, pull, fill, bind, unbind}
-use Rattle.janus_meaning.proofs.Stores.{pull-fill, same_name_self}
-use Rattle.janus_meaning.proofs.Results.{with_parts, by_fine, fine_inj}
-use Rattle.janus_store.specs.Stores.{write}
+use Rattle.janus_meaning.specs.Store.{Val, Lent, Store, Slot, same_name, look, look_at, read_slot, take, take_at, take_slot, put_slot, pull, fill, bind, unbind}
+use Rattle.janus_meaning.proofs.Stores.{pull-fill}
+use Rattle.janus_meaning.proofs.Results.{with_parts, fine_inj}
 use Rattle.janus_store.specs.Values.{val_of}
-use Rattle.janus_store.specs.Bounds.{Bound, has, unless_lent, seen, if_found, search_for, if_named, name_at, names_at, lent_more, values_at, Without, AreApart, AllFound}
+use Rattle.janus_store.specs.Bounds.{Bound, has, unless_lent, seen, if_found, search_for, lent_more, values_at, Without, AreApart}
 use Rattle.janus_store.specs.declared.value.Value.{Value}
 use Rattle.janus_store.specs.declared.value.Value.TheVariants as values
 
@@ -74,7 +73,7 @@ take_case val x p lent t ts false h w ih g =
 pub take_found : (val : ℕ → Value) (x : Name) (p : ℕ) (lent : List ℕ) (ts : List Bound) → AreApart ts → search_for x ts ≡ Some p → has lent p ≡ false → take x (seen val lent ts) ≡ Fine (val_of (val p), seen val (p ∷ lent) ts)
 take_found val x p lent [] a f h = absurd cc
 take_found val x p lent (t ∷ ts) a f h =
-     take_case val x p lent t ts (same_name x t.name) h a.0 (λ g. take_found val x p lent ts a.1 g h) f
+    take_case val x p lent t ts (same_name x t.name) h a.0 (λ g. take_found val x p lent ts a.1 g h) f
 
 look_case : (val : ℕ → Value) (x : Name) (p : ℕ) (t : Bound) (ts : List Bound) (b : Bool) → (search_for x ts ≡ Some p → look x (seen val [] ts) ≡ Fine (val_of (val p))) → if_found b t.place (search_for x ts) ≡ Some p → look_at b (val_of (val t.place)) (look x (seen val [] ts)) ≡ Fine (val_of (val p))
 look_case val x p t ts true ih e = let z : t.place ≡ p = cc in read_plain (val t.place) ∙ ap (λ p. Fine (val_of (val p))) z
@@ -83,7 +82,7 @@ look_case val x p t ts false ih g = ih g
 pub look_found : (val : ℕ → Value) (x : Name) (p : ℕ) (ts : List Bound) → search_for x ts ≡ Some p → look x (seen val [] ts) ≡ Fine (val_of (val p))
 look_found val x p [] f = absurd cc
 look_found val x p (t ∷ ts) f =
-     look_case val x p t ts (same_name x t.name) (look_found val x p ts) f
+    look_case val x p t ts (same_name x t.name) (look_found val x p ts) f
 
 look_none_case : (val : ℕ → Value) (x : Name) (t : Bound) (ts : List Bound) (b : Bool) → (search_for x ts ≡ None → look x (seen val [] ts) ≡ Bad Broken) → if_found b t.place (search_for x ts) ≡ None → look_at b (val_of (val t.place)) (look x (seen val [] ts)) ≡ Bad Broken
 look_none_case val x t ts true ih e = absurd cc
@@ -92,7 +91,7 @@ look_none_case val x t ts false ih g = ih g
 pub look_none : (val : ℕ → Value) (x : Name) (ts : List Bound) → search_for x ts ≡ None → look x (seen val [] ts) ≡ Bad Broken
 look_none val x [] f = refl
 look_none val x (t ∷ ts) f =
-     look_none_case val x t ts (same_name x t.name) (look_none val x ts) f
+    look_none_case val x t ts (same_name x t.name) (look_none val x ts) f
 
 -- ---- what is lent, or not there, is not taken
 
@@ -103,7 +102,7 @@ none_case val x lent t ts false ih g = ap (λ n. and_then {A = Val × Store} n (
 take_none : (val : ℕ → Value) (x : Name) (lent : List ℕ) (ts : List Bound) → search_for x ts ≡ None → take x (seen val lent ts) ≡ Bad Broken
 take_none val x lent [] f = refl
 take_none val x lent (t ∷ ts) f =
-     none_case val x lent t ts (same_name x t.name) (take_none val x lent ts) f
+    none_case val x lent t ts (same_name x t.name) (take_none val x lent ts) f
 
 lent_case : (val : ℕ → Value) (x : Name) (p : ℕ) (lent : List ℕ) (t : Bound) (ts : List Bound) (b : Bool) → has lent p ≡ true → (search_for x ts ≡ Some p → take x (seen val lent ts) ≡ Bad Broken) → if_found b t.place (search_for x ts) ≡ Some p → take_at b t.name (unless_lent (has lent t.place) (val t.place)) (seen val lent ts) (take x (seen val lent ts)) ≡ Bad Broken
 lent_case val x p lent t ts true h ih e =
@@ -114,7 +113,7 @@ lent_case val x p lent t ts false h ih g = ap (λ n. and_then {A = Val × Store}
 take_lent : (val : ℕ → Value) (x : Name) (p : ℕ) (lent : List ℕ) (ts : List Bound) → search_for x ts ≡ Some p → has lent p ≡ true → take x (seen val lent ts) ≡ Bad Broken
 take_lent val x p lent [] f h = absurd cc
 take_lent val x p lent (t ∷ ts) f h =
-     lent_case val x p lent t ts (same_name x t.name) h (λ g. take_lent val x p lent ts g h) f
+    lent_case val x p lent t ts (same_name x t.name) h (λ g. take_lent val x p lent ts g h) f
 
 -- ---- all arguments
 

@@ -1,19 +1,19 @@
 -- What becomes of names that share places when a place is written, a local is opened or closed, and a call is entered or left.
-use Rattle.std.proofs.Common.{◌≡◌, ℕ, zero, suc, ◌+◌, ◌<◌, ◌≤◌, Bool, true, false, ◌||◌, nat_eq, List, [], ◌∷◌, ◌++◌, length, length-append, refl, ap, ◌∙◌, sym, subst, arith, ◌⊎◌, inl, inr, ⊎_elim}
-use Rattle.std.specs.Prelude.{Option, Some, None}
+use Rattle.std.proofs.Common.{◌≡◌, ℕ, suc, ◌+◌, ◌<◌, ◌≤◌, Bool, true, false, ◌||◌, nat_eq, List, [], ◌∷◌, ◌++◌, length, length-append, refl, ap, ◌∙◌, sym, subst, arith, ◌⊎◌, inl, inr, ⊎_elim}
+use Rattle.std.specs.Prelude.{Some}
 use Rattle.std.proofs.lemmas.Bool.{ne_eqb}
-use Rattle.janus_meaning.specs.Fault.{Res, Fine, Bad, Broken, and_then}
+use Rattle.janus_meaning.specs.Fault.{Fine, and_then}
 use Rattle.janus_meaning.specs.Syntax.{Name}
-use Rattle.janus_meaning.specs.Store.{Val, Lent, Store, Bare, Slot, same_name, take, put, pull, fill, bind, unbind}
+use Rattle.janus_meaning.specs.Store.{Val, Store, Slot, same_name, put, pull, fill, bind, unbind}
 use Rattle.janus_meaning.proofs.Stores.{take-put, same_name_true}
 use Rattle.janus_meaning.proofs.Results.{fine_inj}
 use Rattle.janus_meaning.specs.World.{size_of}
 use Rattle.janus_store.specs.Stores.{write}
 use Rattle.janus_store.specs.Values.{val_of}
-use Rattle.janus_store.specs.Held.{Caller, names_lent, params_bound}
+use Rattle.janus_store.specs.Held.{names_lent, params_bound}
 use Rattle.janus_store.specs.Bounds.{Bound, has, unless_lent, seen, if_found, search_for, if_named, name_at, names_at, lent_more, values_at, Level, all_of, callers_of, Owned, AllBelow, Without, AreApart, IsLevel, AllFound, AreNested}
 use Rattle.janus_store.specs.declared.value.Value.{Value}
-use Rattle.janus_store.proofs.Lends.{nat_same, nat_turned, nat_is, take_found, bound_to, AllFind, lending, pulled, bound, unbound, returning}
+use Rattle.janus_store.proofs.Lends.{nat_same, nat_is, take_found, bound_to, AllFind, lending, pulled, bound, unbound, returning}
 
 pub nat_differ : (p q : ℕ) → (p ≡ q → ⊥) → nat_eq p q ≡ false
 nat_differ p q h = ne_eqb p q h
@@ -359,11 +359,10 @@ call_bound val n ps xs t c rs h e f =
     let qs = bound_to (all_of c) ps xs in
     let g = pulled val xs ps [] (all_of c) t a e f in
     let l = lending val xs qs [] (all_of c) a g in
-    let z : (values_at val qs, seen val (lent_more qs []) (all_of c)) ≡ t = fine_inj _ _ (sym l ∙ f) in
-    (
+    let z : (values_at val qs, seen val (lent_more qs []) (all_of c)) ≡ t = fine_inj _ _ (sym l ∙ f) in (
       ap (λ (t : List Val × Store). bind ps t.0) (sym z) ∙ bound val (all_of c) ps xs e,
       ap (λ ns. record { args = ns; store = seen val (lent_more qs []) (all_of c) } ∷ callers_of val c.params rs) (find_names xs qs [] (all_of c) a g)
-      ∙ ap (λ (t : List Val × Store). record { args = xs; store = t.1 } ∷ callers_of val c.params rs) z,
+          ∙ ap (λ (t : List Val × Store). record { args = xs; store = t.1 } ∷ callers_of val c.params rs) z,
     )
 
 -- what a caller lent is given back

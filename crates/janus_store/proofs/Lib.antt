@@ -16,3 +16,5 @@ pub mod Standing
 pub mod Opening
 pub mod Calling
 pub mod Returning
+pub mod Binding
+pub mod Counts

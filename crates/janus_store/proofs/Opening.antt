@@ -1,20 +1,19 @@
 -- A variable with its own value put over the others, and taken away: a name declared or retired, a local opened or closed.
-use Rattle.std.proofs.Common.{◌≡◌, ℕ, zero, suc, ◌+◌, ◌-◌, ◌<◌, ◌≤◌, List, [], ◌∷◌, ◌++◌, length, drop, length-append, refl, ap, ◌∙◌, sym, subst, arith}
+use Rattle.std.proofs.Common.{◌≡◌, ℕ, suc, ◌+◌, ◌-◌, ◌<◌, ◌≤◌, List, [], ◌∷◌, ◌++◌, length, drop, length-append, refl, ap, ◌∙◌, sym, subst, arith}
 use Rattle.std.specs.Prelude.{slice_get, slice_set, Some}
-use Rattle.janus_meaning.specs.Fault.{Fine}
 use Rattle.janus_meaning.specs.Syntax.{Name}
 use Rattle.janus_meaning.specs.Store as spec
 use Rattle.janus_meaning.specs.Store.{Val, Store}
 use Rattle.janus_meaning.specs.World.{size_of, stacks_in, stacks_with}
-use Rattle.janus_store.specs.Held.{Held, Caller, IsWhole, HasLocal, HasLocalRoom, own_names, opened, with_sight, live_stacks, names_held, params_bound, local_limit}
+use Rattle.janus_store.specs.Held.{Held, Caller, IsWhole, HasLocal, HasLocalRoom, own_names, opened, live_stacks, stacks_lent, names_held, names_lent, params_bound, local_limit}
 use Rattle.janus_store.specs.Bounds.{Bound, Level, all_of, seen, callers_of, AreNested}
 use Rattle.janus_store.specs.Inside.{bound_of, bounds, value_at, name_among, here, around, outermost, held_in, AreShort, IsHeld}
 use Rattle.janus_store.specs.Values.{val_of}
 use Rattle.janus_store.specs.declared.value.Value.{Value}
 use Rattle.janus_store.specs.declared.store.Call.{Call}
 use Rattle.janus_store.specs.declared.store.Variable.{Variable}
-use Rattle.janus_store.proofs.Levels.{AgreeBelow, callers_below, same_sight, with_local, names_long, level_long, level_of, size_seen}
-use Rattle.janus_store.proofs.Variables.{bounds_put, bounds_long, value_front, value_last}
+use Rattle.janus_store.proofs.Levels.{AgreeBelow, callers_below, same_sight, names_long, level_long, level_of, size_seen}
+use Rattle.janus_store.proofs.Variables.{bounds_put, value_front, value_last}
 use Rattle.janus_store.proofs.Views.{here_put, around_put, base_fits, start_fits, nested_put, nested_removed, its_place}
 use Rattle.janus_store.proofs.Laid.{IsLaid, laid_of, row_of, laid_put, laid_removed}
 use Rattle.janus_store.proofs.Standing.{held_by, held_names, held_calls}
@@ -61,6 +60,12 @@ module _ (xs : List Name) (d : ℕ) (vs : List Variable) (cs : List Call) (h : A
       (subst (λ l. AreNested (suc (length vs)) (here l (suc (length vs)) cs) (around l (suc (length vs)) cs)) (sym (bounds_put xs [] vs y))
       (nested_put ts (length vs) cs (bound_of xs y) own h))
 
+pub more_stacks : (v : Val) (a b : ℕ) → stacks_with v a + b ≡ stacks_with v (a + b)
+more_stacks (spec.Num i) a b = refl
+more_stacks (spec.Arr l) a b = refl
+more_stacks (spec.Stk l) a b = omega arith
+more_stacks spec.Lent a b = refl
+
 outermost_grows : (n : ℕ) (cs : List Call) → outermost n cs ≤ outermost (suc n) cs
 outermost_grows n [] = omega arith
 outermost_grows n (c ∷ cs) = omega arith
@@ -94,32 +99,26 @@ module _ (xs : List Name) (ns : List ℕ) (vs : List Variable) (d : ℕ) (cs : L
         row = row_of xs ms ws row;
         nested = nested;
         declared = let e : d ≤ outermost (length vs) cs = h.declared in
-        let g : outermost (suc (length vs)) cs ≡ outermost (length ws) cs = ap (λ m. outermost m cs) (sym long) in omega (arith, e, outermost_grows (length vs) cs, g);
+            let g : outermost (suc (length vs)) cs ≡ outermost (length ws) cs = ap (λ m. outermost m cs) (sym long) in omega (arith, e, outermost_grows (length vs) cs, g);
         few = omega (arith, room, held_names xs ns vs d cs h, long, ap params_bound callers);
         short = subst AreShort (sym callers) h.short;
         calls = h.calls;
       }
 
   -- a declared one
-  pub put_declared : cs ≡ [] → d ≡ length vs → IsHeld xs ms ws (suc d) cs
-  put_declared e z = record {
+  pub put_declared : cs ≡ [] → d ≡ length vs → (more : ℕ) → more ≡ suc d → IsHeld xs ms ws more cs
+  put_declared e z more one = record {
     one_number = h.one_number;
     row = row_of xs ms ws row;
     nested = nested;
-    declared = let g : outermost (length ws) cs ≡ length ws = ap (outermost (length ws)) e in omega (arith, g, long, z);
-    few = omega (arith, long, z);
+    declared = let g : outermost (length ws) cs ≡ length ws = ap (outermost (length ws)) e in omega (arith, g, long, z, one);
+    few = omega (arith, long, z, one);
     short = subst AreShort (sym callers) h.short;
     calls = h.calls;
   }
 
   pub put_stacks : (H : Held) → held_in xs d vs cs ≡ H → live_stacks (held_in xs d ws cs) ≡ stacks_with (val_of y.value) (live_stacks H)
-  put_stacks H view = ap live_stacks (put_over H view) ∙ over (val_of y.value) (stacks_in H.sight) _
-    where
-      over : (v : Val) (a b : ℕ) → stacks_with v a + b ≡ stacks_with v (a + b)
-      over (spec.Num i) a b = refl
-      over (spec.Arr l) a b = refl
-      over (spec.Stk l) a b = omega arith
-      over spec.Lent a b = refl
+  put_stacks H view = ap live_stacks (put_over H view) ∙ more_stacks (val_of y.value) (stacks_in H.sight) (stacks_lent H.callers)
 
 -- ---- taken away
 
@@ -202,3 +201,30 @@ module _ (xs : List Name) (ns : List ℕ) (vs : List Variable) (d : ℕ) (cs : L
       by : (cs : List Call) → IsHeld xs ns vs d cs → HasLocal (held_in xs d vs cs) → d ≤ outermost (length ws) cs
       by [] k lt = omega (arith, lt, held_names xs ns vs d [] k, was_long)
       by (c ∷ cs) k lt = k.declared
+
+-- ---- where no call is open
+
+none_open : {A : Type 0} (l : List A) → length l ≡ 0 → l ≡ []
+none_open [] e = refl
+none_open (x ∷ l) e = absurd (omega arith)
+
+pub base_alone : (xs : List Name) (ws : List Variable) (cs : List Call) → cs ≡ [] → (here (bounds xs [] ws) (length ws) cs).base ≤ length ws
+base_alone xs ws [] e = omega arith
+base_alone xs ws (c ∷ cs) e = cc
+
+pub start_alone : (xs : List Name) (ws : List Variable) (cs : List Call) → cs ≡ [] → (here (bounds xs [] ws) (length ws) cs).start ≤ length ws
+start_alone xs ws [] e = omega arith
+start_alone xs ws (c ∷ cs) e = cc
+
+pub outermost_alone : (n : ℕ) (cs : List Call) → cs ≡ [] → outermost n cs ≡ n
+outermost_alone n [] e = refl
+outermost_alone n (c ∷ cs) e = cc
+
+module _ (xs : List Name) (ns : List ℕ) (vs : List Variable) (d : ℕ) (cs : List Call) (h : IsHeld xs ns vs d cs) (H : Held) (view : held_in xs d vs cs ≡ H) (whole : IsWhole H) where
+  pub no_calls : cs ≡ []
+  no_calls = none_open cs (omega (arith, held_calls xs ns vs d cs h, ap (λ (h : Held). length h.callers) view, ap length whole.callers))
+
+  pub all_declared : d ≡ length vs
+  all_declared =
+      let n : names_held H ≡ size_of H.sight + 0 = ap (λ l. size_of H.sight + names_lent l) whole.callers in
+      omega (arith, n, held_names xs ns vs d cs h, ap names_held view, ap (λ (h : Held). h.declared) view, whole.declared)

@@ -1,31 +1,23 @@
 -- A call left: its parameters are taken away from the row.
-use Rattle.std.proofs.Common.{◌≡◌, ℕ, zero, suc, ◌+◌, ◌-◌, ◌<◌, ◌≤◌, List, [], ◌∷◌, ◌++◌, length, take, drop, get_or, length-append, refl, ap, ◌∙◌, sym, subst, arith}
-use Rattle.std.specs.Prelude.{slice_get, slice_index_or, Some, None}
+use Rattle.std.proofs.Common.{◌≡◌, ℕ, suc, ◌+◌, ◌-◌, ◌≤◌, List, [], ◌∷◌, ◌++◌, length, take, drop, length-append, refl, ap, ◌∙◌, sym, subst, arith}
 use Rattle.std.proofs.lemmas.List.{length-take-le}
-use Rattle.std.proofs.lemmas.Option.{slice_get_past, slice_get_within, get_or_from_slice_get}
-use Rattle.std.proofs.lemmas.Bool.{eq-eqb}
-use Rattle.janus_meaning.specs.Fault.{Res, Fine, Bad, Broken, and_then, guard}
-use Rattle.janus_meaning.specs.Limit.{parameter_limit}
+use Rattle.janus_meaning.specs.Fault.{Fine, Broken, and_then, guard}
 use Rattle.janus_meaning.specs.Syntax.{Name}
-use Rattle.janus_meaning.specs.Store.{Val, Store, same_name, pull, fill, bind, unbind}
+use Rattle.janus_meaning.specs.Store.{Val, unbind}
 use Rattle.janus_meaning.specs.World.{size_of}
 use Rattle.janus_meaning.proofs.Stores.{same_name_self}
-use Rattle.janus_names.specs.Numbers.{IsNumbered}
-use Rattle.janus_store.specs.Held.{Held, Caller, live_stacks, params_bound, local_limit, call_limit}
-use Rattle.janus_store.specs.Calls.{AreNamed, CanLend, HasCallRoom, AreAlone, HasParametersAlone, IsEntered, IsReturned, IsLeft}
-use Rattle.janus_store.specs.Bounds.{Bound, Level, all_of, seen, search_for, names_at, values_at, callers_of, IsLevel, AreNested}
-use Rattle.janus_store.specs.Inside.{bound_of, bounds, no_variable, value_at, name_among, here, around, outermost, held_in, lent_to, HavePlaces, AreRow, AreShort, IsPlaceOf, IsHeld}
+use Rattle.janus_store.specs.Held.{Held, live_stacks, params_bound, call_limit}
+use Rattle.janus_store.specs.Calls.{HasParametersAlone, IsLeft}
+use Rattle.janus_store.specs.Bounds.{Bound, Level, all_of, seen, names_at, values_at, callers_of, IsLevel, AreNested}
+use Rattle.janus_store.specs.Inside.{bounds, value_at, here, around, outermost, held_in, AreRow, AreShort, IsHeld}
 use Rattle.janus_store.specs.Values.{val_of}
 use Rattle.janus_store.specs.declared.value.Value.{Value}
 use Rattle.janus_store.specs.declared.store.Call.{Call}
 use Rattle.janus_store.specs.declared.store.Variable.{Variable}
-use Rattle.janus_store.proofs.Lends.{bound_to, AllFind, place_or, pulled}
-use Rattle.janus_store.proofs.Levels.{AgreeBelow, all_apart, callers_below, same_seen, same_callers, names_long, level_long, level_of, size_seen, call_level, call_nested, call_bound, left_call, bound_long}
-use Rattle.janus_store.proofs.Variables.{bounds_long, bounds_taken, value_front, value_taken}
-use Rattle.janus_store.proofs.Views.{here_call, around_call, in_row, start_fits, base_fits}
-use Rattle.janus_store.proofs.Laid.{IsLaid, laid_of, has_place_of}
-use Rattle.janus_store.proofs.Lent.{entered_stacks, left_stacks}
-use Rattle.janus_store.proofs.Standing.{held_by, held_names, held_calls}
+use Rattle.janus_store.proofs.Levels.{AgreeBelow, callers_below, names_long, level_long, level_of, size_seen, left_call}
+use Rattle.janus_store.proofs.Variables.{bounds_taken, value_taken}
+use Rattle.janus_store.proofs.Lent.{left_stacks}
+use Rattle.janus_store.proofs.Standing.{held_by}
 
 names_of : List Bound → List Name
 names_of [] = []

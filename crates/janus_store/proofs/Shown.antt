@@ -2,12 +2,12 @@
 use Rattle.std.proofs.Common.{◌≡◌, ℕ, zero, suc, ◌+◌, ◌-◌, ◌<◌, ◌≤◌, List, [], ◌∷◌, ◌++◌, length, take, drop, length-append, refl, ap, ◌∙◌, sym, subst, arith}
 use Rattle.std.specs.Prelude.{slice_get, Some, None}
 use Rattle.std.proofs.lemmas.List.{drop-drop, length-take-le, append-nil}
-use Rattle.std.proofs.lemmas.Option.{slice_get_past, slice_get_within}
-use Rattle.janus_meaning.specs.Fault.{Fine, or_else}
+use Rattle.std.proofs.lemmas.Option.{slice_get_past}
+use Rattle.janus_meaning.specs.Fault.{or_else}
 use Rattle.janus_meaning.specs.Syntax.{Name}
-use Rattle.janus_meaning.specs.Store.{Val, Store, fill}
+use Rattle.janus_meaning.specs.Store.{fill}
 use Rattle.janus_meaning.specs.World.{dropped, oldest, size_of}
-use Rattle.janus_store.specs.Held.{Caller, values_in, returned, given_back, shown_store}
+use Rattle.janus_store.specs.Held.{values_in, returned, given_back, shown_store}
 use Rattle.janus_store.specs.Bounds.{Bound, Level, all_of, seen, names_at, values_at, lent_more, callers_of, Owned, AreNested}
 use Rattle.janus_store.specs.Inside.{bound_of, bounds, value_at, here, around, outermost, held_in}
 use Rattle.janus_store.specs.declared.value.Value.{Value}
@@ -58,7 +58,7 @@ given_back_is val ts n (c ∷ cs) h =
     ∙ ap (seen val []) (drop-drop (c.start - outermost c.start cs) (n - c.start) ts)
     ∙ ap (λ k. seen val [] (drop k ts)) z
 
-take_take : (d o : ℕ) (vs : List Variable) → d ≤ o → take d (take o vs) ≡ take d vs
+pub take_take : (d o : ℕ) (vs : List Variable) → d ≤ o → take d (take o vs) ≡ take d vs
 take_take zero o vs le = refl
 take_take (suc d) zero vs le = absurd (omega arith)
 take_take (suc d) (suc o) [] le = refl

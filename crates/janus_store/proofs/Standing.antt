@@ -1,37 +1,36 @@
 -- What stands in a store: a value found by its number, written, a local put over the others and taken away.
-use Rattle.std.proofs.Common.{◌≡◌, ◌≢◌, ℕ, zero, suc, ◌+◌, ◌*◌, ◌-◌, ◌<◌, ◌≤◌, nat_eq, Bool, true, false, List, [], ◌∷◌, ◌++◌, length, set, get_or, length-append, refl, ap, ◌∙◌, sym, subst, arith}
-use Rattle.std.specs.Prelude.{slice_get, slice_set, Some}
-use Rattle.std.proofs.lemmas.List.{append-nil, length-set}
+use Rattle.std.proofs.Common.{◌≡◌, ℕ, ◌*◌, ◌<◌, ◌≤◌, List, [], ◌∷◌, length, set, get_or, refl, ap, ◌∙◌, sym, subst, arith}
+use Rattle.std.specs.Prelude.{slice_get, Some}
+use Rattle.std.proofs.lemmas.List.{length-set}
 use Rattle.std.proofs.lemmas.Bool.{eqb-false}
-use Rattle.std.proofs.lemmas.Option.{slice_get_read, get_or_from_slice_get}
-use Rattle.janus_meaning.specs.Fault.{Res, Fine, Bad, and_then}
+use Rattle.std.proofs.lemmas.Option.{slice_get_read}
+use Rattle.janus_meaning.specs.Fault.{Fine}
 use Rattle.janus_meaning.specs.Syntax.{Name}
 use Rattle.janus_meaning.specs.Store as spec
 use Rattle.janus_meaning.specs.Store.{Val, look, take, put, cleared, cleared_val}
-use Rattle.janus_meaning.specs.World.{size_of, stacks_in, stacks_with}
 use Rattle.janus_meaning.proofs.Cleared.{put_kept, cleared_fine, same_stacks}
 use Rattle.janus_meaning.proofs.Results.{with_parts, fine_inj}
 use Rattle.janus_names.specs.Numbers.{IsNumbered, IsMet}
-use Rattle.janus_store.specs.Held.{Held, Caller, IsLike, IsWhole, HasLocal, HasLocalRoom, own_names, opened, with_sight, live_stacks, stacks_lent, names_held, params_bound, bound_limit}
+use Rattle.janus_store.specs.Held.{Held, Caller, IsLike, live_stacks, stacks_lent, names_held, params_bound, bound_limit}
 use Rattle.janus_store.specs.Bounds.{Bound, Level, all_of, seen, search_for, callers_of, IsLevel, AreNested}
-use Rattle.janus_store.specs.Inside.{bound_of, bounds, value_at, name_among, here, around, outermost, held_in, AreRow, IsPlaceOf, AreShort, IsHeld}
+use Rattle.janus_store.specs.Inside.{bounds, value_at, here, around, outermost, held_in, IsPlaceOf, AreShort, IsHeld}
 use Rattle.janus_store.specs.Stores.{write}
 use Rattle.janus_store.specs.Values.{val_of}
 use Rattle.janus_store.specs.declared.value.Value.{Value}
 use Rattle.janus_store.specs.declared.store.Call.{Call}
 use Rattle.janus_store.specs.declared.store.Variable.{Variable}
-use Rattle.janus_store.proofs.Lends.{nat_same, look_found, take_found}
-use Rattle.janus_store.proofs.Levels.{AgreeBut, AgreeBelow, all_below, all_apart, found_among, among_below, level_of, write_is, callers_kept, callers_below, same_sight, with_local, names_are, names_long, params_are, calls_are, size_seen, level_long}
-use Rattle.janus_store.proofs.Variables.{bounds_put, bounds_long, bounds_written, value_front, value_last, value_set, value_other, value_read}
-use Rattle.janus_store.proofs.Views.{found_in, in_row, here_put, around_put, base_fits, start_fits, nested_put, nested_removed, its_place, around_long}
-use Rattle.janus_store.proofs.Laid.{IsLaid, laid_of, row_of, has_place_of, known, found_by, laid_put, laid_removed, laid_written, held_is}
+use Rattle.janus_store.proofs.Lends.{look_found, take_found}
+use Rattle.janus_store.proofs.Levels.{AgreeBut, all_below, all_apart, found_among, among_below, level_of, write_is, callers_kept, names_are, params_are, calls_are}
+use Rattle.janus_store.proofs.Variables.{bounds_written, value_set, value_other, value_read}
+use Rattle.janus_store.proofs.Views.{found_in, in_row, around_long}
+use Rattle.janus_store.proofs.Laid.{IsLaid, laid_of, row_of, has_place_of, known, found_by, laid_written}
 
 -- what is held, by names with places of which there are n
 abbrev pub held_by : List Name → ℕ → List Call → (ℕ → Value) → List Bound → ℕ → Held
 held_by xs d cs val ts n = record { sight = seen val [] (all_of (here ts n cs)); declared = d; names = xs; callers = callers_of val (here ts n cs).params (around ts n cs) }
 
 -- so many parameters are bound at most
-short_bound : (cs : List Caller) → AreShort cs → params_bound cs ≤ 16 * length cs
+pub short_bound : (cs : List Caller) → AreShort cs → params_bound cs ≤ 16 * length cs
 short_bound [] h = omega arith
 short_bound (c ∷ cs) h = let s = short_bound cs h.1 in let l : length c.args ≤ 16 = h.0 in omega (arith, s, l)
 

@@ -1,5 +1,5 @@
 -- How the fields of a store are read.
-use Rattle.std.specs.Prelude.{◌≡◌, ℕ, suc, pos, ◌+◌, ◌-◌, ◌<◌, ◌≤◌, List, [], ◌∷◌, ◌++◌, length, reverse, take, drop, slice_get, slice_set, slice_index_or, Some, vec_len, vec_capacity}
+use Rattle.std.specs.Prelude.{◌≡◌, ℕ, suc, pos, ◌+◌, ◌-◌, ◌<◌, ◌≤◌, List, [], ◌∷◌, length, reverse, take, drop, slice_get, slice_set, slice_index_or, Some, vec_capacity}
 use Rattle.janus_meaning.specs.Limit.{live_stack_limit, parameter_limit}
 use Rattle.janus_meaning.specs.Syntax.{Name}
 use Rattle.janus_names.specs.Numbers.{HaveOneNumber}

@@ -164,7 +164,9 @@ impl<L: Ledger> Store<L> {
         requires { IsInSight self.now name }
         ensures { (x : Name) → IsName self.now name x → read_or Broken result ≡ and_then (look x self.now.sight) number }
     {
-        self.variables[place(&self.newest, &self.variables, name)].value.number()
+        self.variables[place(&self.newest, &self.variables, name)]
+            .value
+            .number()
     }
 
     /// The element at an index of the array of a number; none where the index is out of its range.
@@ -182,7 +184,9 @@ impl<L: Ledger> Store<L> {
         requires { (x : Name) × IsName self.now name x × IsStack (look x self.now.sight) }
         ensures { (x : Name) (l : List ℤ) → IsName self.now name x → look x self.now.sight ≡ Fine (Stk l) → result.now ≡ l }
     {
-        self.variables[place(&self.newest, &self.variables, name)].value.stack()
+        self.variables[place(&self.newest, &self.variables, name)]
+            .value
+            .stack()
     }
 
     /// The value on top of the stack of a number; none where the stack is empty.
@@ -460,7 +464,13 @@ fn place_below(newest: &[usize], variables: &[Variable], oldest: usize, name: us
 }
 
 /// Puts a variable behind the others, as the one of its name, with its value at a place.
-fn put(newest: &mut Vec<usize>, variables: &mut Vec<Variable>, name: usize, place: usize, value: Value)
+fn put(
+    newest: &mut Vec<usize>,
+    variables: &mut Vec<Variable>,
+    name: usize,
+    place: usize,
+    value: Value,
+)
     requires met { name < vec_len newest.old }
     requires room { vec_len variables.old < vec_capacity variables.old }
     ensures variables { variables.new.items ≡ variables.old.items ++ (record { name = name; hidden = slice_index newest.old.items name; place = place; value = value }) ∷ [] }
@@ -490,7 +500,12 @@ fn put_own(newest: &mut Vec<usize>, variables: &mut Vec<Variable>, name: usize, 
 }
 
 /// Puts a parameter behind the others for each argument, the first one last, with its value where the argument's is.
-fn bind_all(newest: &mut Vec<usize>, variables: &mut Vec<Variable>, params: &[usize], args: &[usize])
+fn bind_all(
+    newest: &mut Vec<usize>,
+    variables: &mut Vec<Variable>,
+    params: &[usize],
+    args: &[usize],
+)
     requires count { length params.now ≡ length args.now }
     requires newest { (xs : List Name) × AreRow xs newest.old.items variables.old.items }
     requires met { AreBelow (vec_len newest.old) params.now }
