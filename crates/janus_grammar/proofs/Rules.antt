@@ -30,7 +30,7 @@ Spelled p f v from rest = (m : Count) → (m' : Count) × Spells but_limits p f 
 pub nothing_more : (p : Part) (v : Tree p) (rest : List Token) → Spelled p (done v) v rest rest
 nothing_more p v rest m = (m, Grammar.nothing_more)
 
-taken : {p : Part} {c : Class} (k : Seen c → Form p) (s : Seen c) (v : Tree p) (t : Token) (from rest : List Token) → agreed c t ≡ Some s → Spelled p (k s) v from rest → Spelled p (take c k) v (t ∷ from) rest
+pub taken : {p : Part} {c : Class} (k : Seen c → Form p) (s : Seen c) (v : Tree p) (t : Token) (from rest : List Token) → agreed c t ≡ Some s → Spelled p (k s) v from rest → Spelled p (take c k) v (t ∷ from) rest
 taken {c = c} k s v t from rest is h m = let x = h m in let y = agreed_is c t s is in (x.0, Grammar.token y.0 y.1 x.1)
 
 closes : {p : Part} (f : Form p) (v : Tree p) (from rest : List Token) → Spelled p f v from rest → Spelled p (close f) v from rest
@@ -40,10 +40,10 @@ closes f v from rest h m = let x = h (closed m) in (x.0, Grammar.end_of_construc
 abbrev pub IsPart : (q : Part) → Tree q → List Token → List Token → Type 0
 IsPart q u from rest = (p : Part) (k : Tree q → Form p) (v : Tree p) (last : List Token) → Spelled p (k u) v rest last → Spelled p (part q k) v from last
 
-begun : (q : Part) (t : Token) (r : Rule q) (u : Tree q) (from rest : List Token) → rule q t ≡ Some r → Spelled q r.form u from rest → IsPart q u (t ∷ from) rest
+pub begun : (q : Part) (t : Token) (r : Rule q) (u : Tree q) (from rest : List Token) → rule q t ≡ Some r → Spelled q r.form u from rest → IsPart q u (t ∷ from) rest
 begun q t r u from rest is h p k v last more m = let x = h (entered r m) in let y = more x.0 in (y.0, Grammar.a_part is refl x.1 y.1)
 
-absent : (q : Part) (u : Tree q) (ts : List Token) → left_out q ≡ Some u → IsPart q u ts ts
+pub absent : (q : Part) (u : Tree q) (ts : List Token) → left_out q ≡ Some u → IsPart q u ts ts
 absent q u ts is p k v last more m = let y = more m in (y.0, Grammar.no_part is y.1)
 
 -- ---- expressions
@@ -85,10 +85,10 @@ whole_is {e} {from} {rest} h =
     let r = y.2 in
     subst (λ ts. IsPart Whole e ts rest) (sym y.3) (begun Whole y.0 (record { opens = r.opens; counts = r.counts; is_whole = true; form = r.form }) e y.1 rest (whole_of (operand y.0 (λ e. chains 0 weakest e done)) r y.4) y.5)
 
-sign_behind : {p : Part} (s : Sign) (at : Span) (f : Form p) (v : Tree p) (from rest : List Token) → seen (The_sign s) (Sign_of s at) ≡ Some tt → Spelled p f v from rest → Spelled p (sign_then s f) v (Sign_of s at ∷ from) rest
+pub sign_behind : {p : Part} (s : Sign) (at : Span) (f : Form p) (v : Tree p) (from rest : List Token) → seen (The_sign s) (Sign_of s at) ≡ Some tt → Spelled p f v from rest → Spelled p (sign_then s f) v (Sign_of s at ∷ from) rest
 sign_behind s at f v from rest is h = taken (λ x. f) tt v (Sign_of s at) from rest is h
 
-word_behind : {p : Part} (w : Word) (at : Span) (f : Form p) (v : Tree p) (from rest : List Token) → seen (The_word w) (Word_of w at) ≡ Some tt → Spelled p f v from rest → Spelled p (word_then w f) v (Word_of w at ∷ from) rest
+pub word_behind : {p : Part} (w : Word) (at : Span) (f : Form p) (v : Tree p) (from rest : List Token) → seen (The_word w) (Word_of w at) ≡ Some tt → Spelled p f v from rest → Spelled p (word_then w f) v (Word_of w at ∷ from) rest
 word_behind w at f v from rest is h = taken (λ x. f) tt v (Word_of w at) from rest is h
 
 -- names in parentheses
@@ -350,7 +350,7 @@ mutual
       let y = begins d Statements (λ s. part Statements (λ b. done (More s b))) (More s b) rest (statements_are ds Statements (λ b. done (More s b)) (More s b) rest (nothing_more Statements (More s b) rest)) in
       subst (λ ts. IsPart Statements (More s b) ts rest) (sym y.3) (begun Statements y.0 y.2 (More s b) y.1 rest y.4 y.5)
 
-  body_is : {b : Block} {from rest : List Token} → IsBody b from rest → IsPart Body b from rest
+  pub body_is : {b : Block} {from rest : List Token} → IsBody b from rest → IsPart Body b from rest
   body_is (IsBody.body {s = s} {b = b} {from = from} {behind = middle} {rest = rest} d ds) =
       let y = begins d Body (λ s. part Statements (λ b. done (More s b))) (More s b) rest (statements_are ds Body (λ b. done (More s b)) (More s b) rest (nothing_more Body (More s b) rest)) in
       subst (λ ts. IsPart Body (More s b) ts rest) (sym y.3) (begun Body y.0 y.2 (More s b) y.1 rest y.4 y.5)

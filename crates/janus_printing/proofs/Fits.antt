@@ -5,7 +5,7 @@ use Rattle.std.specs.Prelude.{nat_lt}
 use Rattle.std.proofs.lemmas.Bool.{ltb-true, lt-ltb}
 use Rattle.janus_syntax.specs.declared.token.Sign.{Sign}
 use Rattle.janus_syntax.specs.declared.token.Sign.TheVariants as sign
-use Rattle.janus_syntax.specs.Tree.{Name, named, Exp, Num, Var, Element, EmptyOf, TopOf, Neg, Bin, And, Or, Stm, Skip, Assign, AssignElement, Push, Pop, If, Loop, LocalInt, LocalStack, Call, Uncall, Block, Empty, More, Declaration, Int, Array, StackOf, Cell, cell_of}
+use Rattle.janus_syntax.specs.Tree.{Name, named, Exp, Num, Var, Element, EmptyOf, TopOf, Neg, Bin, And, Or, Stm, Skip, Assign, AssignElement, Push, Pop, If, Loop, LocalInt, LocalStack, Call, Uncall, Block, Empty, More, Declaration, Int, Array, StackOf, Parameter, IntParameter, ArrayParameter, StackParameter, Procedure, procedure_of, Cell, cell_of}
 use Rattle.janus_syntax.specs.Operators.{weakest}
 use Rattle.janus_syntax.specs.Forms.{same_named}
 use Rattle.janus_syntax.specs.Lexical.{IsNameText, NotReserved, largest_number}
@@ -91,8 +91,24 @@ abbrev pub FitsDeclarations : List Declaration → Type 0
 FitsDeclarations [] = Unit {0}
 FitsDeclarations (d ∷ ds) = FitsDeclaration d × FitsDeclarations ds
 
+abbrev pub FitsParameter : Parameter → Type 0
+FitsParameter (IntParameter x) = IsName x
+FitsParameter (ArrayParameter x) = IsName x
+FitsParameter (StackParameter x) = IsName x
+
+abbrev pub FitsParameters : List Parameter → Type 0
+FitsParameters [] = Unit {0}
+FitsParameters (x ∷ xs) = FitsParameter x × FitsParameters xs
+
+abbrev pub FitsProcedure : Procedure → Type 0
+FitsProcedure (procedure_of f xs b) = IsName f × FitsParameters xs × (IsBody b × FitsBlock b 0)
+
+abbrev pub FitsProcedures : List Procedure → Type 0
+FitsProcedures [] = Unit {0}
+FitsProcedures (p ∷ ps) = FitsProcedure p × FitsProcedures ps
+
 abbrev pub FitsCell : Cell → Type 0
-FitsCell (cell_of ds b) = FitsDeclarations ds × FitsBlock b 0
+FitsCell (cell_of ds b ps) = FitsDeclarations ds × FitsBlock b 0 × FitsProcedures ps
 
 -- ---- less deep, and in a place of a weaker level
 

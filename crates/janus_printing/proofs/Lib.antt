@@ -6,12 +6,17 @@ mod NameMeasures
 mod ExpressionMeasures
 mod BlockMeasures
 mod StatementMeasures
+mod DeclarationMeasures
+mod ParameterMeasures
+mod ProcedureMeasures
 mod CellMeasures
 mod Spelled
 mod Expressions
 mod Onward
 mod NamesAgain
 mod Statements
+mod ParametersAgain
+mod ProceduresAgain
 mod CellAgain
 mod Pieces
 mod Digits

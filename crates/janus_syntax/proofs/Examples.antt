@@ -208,9 +208,9 @@ call_open = refl
 
 -- a procedure, and `main` behind it
 program :
-  answer
-  (w word.Procedure ∷ x ∷ s sign.Open ∷ w word.Int ∷ x ∷ s sign.OpenIndex ∷ s sign.CloseIndex ∷ s sign.Comma ∷ w word.Stack ∷ y ∷ s sign.Close ∷ w word.Skip ∷ w word.Procedure ∷ w word.Main ∷ s sign.Open ∷ s sign.Close ∷ w word.Int ∷ y ∷ w word.Skip ∷ []) ≡
-  Ended (Some (cell_of (Int Y ∷ []) (More Skip Empty) (procedure_of X (ArrayParameter X ∷ StackParameter Y ∷ []) (More Skip Empty) ∷ []))) what.End
+    answer
+    (w word.Procedure ∷ x ∷ s sign.Open ∷ w word.Int ∷ x ∷ s sign.OpenIndex ∷ s sign.CloseIndex ∷ s sign.Comma ∷ w word.Stack ∷ y ∷ s sign.Close ∷ w word.Skip ∷ w word.Procedure ∷ w word.Main ∷ s sign.Open ∷ s sign.Close ∷ w word.Int ∷ y ∷ w word.Skip ∷ []) ≡
+    Ended (Some (cell_of (Int Y ∷ []) (More Skip Empty) (procedure_of X (ArrayParameter X ∷ StackParameter Y ∷ []) (More Skip Empty) ∷ []))) what.End
 program = refl
 
 -- behind a statement, and behind `main`, `main` can't stand

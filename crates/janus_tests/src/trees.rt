@@ -1,6 +1,6 @@
 //! Texts, their trees, and the trees as they are printed.
 use janus_syntax::tree::{Declaration, Exp, Name, Operator, Parameter, Procedure, Stm, Update};
-use janus_syntax::{SyntaxFault, parse_cell, parse_exp, print_cell, print_exp};
+use janus_syntax::{SyntaxFault, parse_cell, parse_exp, print_cell, print_exp, print_procedure};
 use std::alloc::{AllocError, Global};
 use std::test::Fail;
 
@@ -155,7 +155,7 @@ fn shown_block(alloc: Global, block: &[Stm]) -> Result<String, AllocError> {
     Ok(out)
 }
 
-/// The cell that a text is, its declarations and then its statements.
+/// The cell that a text is: its declarations, its statements and its procedures.
 fn shown(alloc: Global, text: &str) -> Result<String, SyntaxFault> {
     let cell = parse_cell(alloc, text)?;
     let mut out = String::new(alloc);
@@ -296,6 +296,26 @@ const CELLS: [(&str, &str, &str); 18] = [
 /// What is printed of the cell of a text.
 fn printed_cell(alloc: Global, text: &str) -> Result<String, Fail> {
     Ok(print_cell(alloc, &parse_cell(alloc, text)?)?)
+}
+
+/// Each procedure is printed alone as it stands in the print of its cell.
+#[test]
+fn prints_procedures(rt: HostRuntime) -> Result<(), Fail> {
+    let alloc = rt.alloc();
+    let cell = parse_cell(
+        alloc,
+        "int z procedure p(int x,int a[ ],stack s)skip x+=1 procedure q ( )uncall p(z,b,t)",
+    )?;
+    let mut lines = String::new(alloc);
+    for i in 0..cell.procedures.len() {
+        lines.push_str(&print_procedure(alloc, &cell.procedures[i])?)?;
+        lines.push('\n')?;
+    }
+    assert_eq!(rt;
+        lines.as_str(),
+        "procedure p(int x, int a[], stack s) skip x += 1\nprocedure q() uncall p(z, b, t)\n"
+    );
+    Ok(())
 }
 
 /// A text has its tree.
