@@ -10,3 +10,4 @@ pub mod ParameterLemmas
 pub mod FormedLemmas
 pub mod Orders
 pub mod DropLemmas
+pub mod SameHeads
