@@ -1,5 +1,6 @@
 pub mod Acts
-pub mod Counting
-pub mod Courses
+pub mod Calling
+pub mod Levels
 pub mod Mirrors
-pub mod Moves
+pub mod Pulls
+pub mod Turning

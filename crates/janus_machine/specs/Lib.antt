@@ -8,5 +8,3 @@ pub mod Nested
 pub mod Cursors
 pub mod Counts
 pub mod Open
-pub mod Steps
-pub mod Law

@@ -4,16 +4,11 @@ ghost use Rattle.std.specs.Prelude.{◌≡◌, ◌+◌, ◌-◌, ◌≤◌, ◌<
 ghost use Rattle.janus_meaning.specs.Stepping.{mirror as mirror_of, BeforeBlock as Before};
 ghost use Rattle.janus_meaning.specs.Limit.{step_limit};
 ghost use Rattle.janus_invert.specs.CodeBlock.{code_block};
-ghost use Rattle.janus_store.specs.Held.{Held, Caller};
 ghost use Rattle.janus_linear.specs.Layout.{block_size};
-ghost use Rattle.janus_machine.specs.declared.procedures.Procedures as declared;
-ghost use Rattle.janus_machine.specs.Places.{block_in};
-ghost use Rattle.janus_machine.specs.Cursors.{place_of, book_of, has_ended, IsStanding};
-ghost use Rattle.janus_machine.specs.Counts.{counted};
-ghost use Rattle.janus_machine.specs.declared.book.Direction.TheVariants.{Forward, Inverse};
 
 use crate::book::{Book, Direction};
 use crate::procedures::Procedures;
+use crate::running::running;
 use janus_linear::Linear;
 use std::alloc::{AllocError, Global};
 
@@ -61,6 +56,13 @@ pub struct Cursor {
 }
 
 impl Cursor {
+    ghost use Rattle.janus_store.specs.Held.{Held, Caller};
+    ghost use Rattle.janus_machine.specs.declared.procedures.Procedures as declared;
+    ghost use Rattle.janus_machine.specs.declared.book.Direction.TheVariants.{Forward, Inverse};
+    ghost use Rattle.janus_machine.specs.Places.{block_in};
+    ghost use Rattle.janus_machine.specs.Cursors.{place_of, has_ended, IsStanding};
+    ghost use Rattle.janus_machine.specs.Counts.{counted};
+
     /// A cursor at no place of a book yet, with the memory of all calls that may be open; an error for want of it.
     pub fn new(alloc: Global) -> Result<Cursor, AllocError>
         ensures { IfOk result (λ cursor. has_ended cursor ≡ true) }
@@ -153,21 +155,5 @@ impl Cursor {
         } else {
             self.count += taken;
         }
-    }
-}
-
-ghost use Rattle.std.specs.Prelude.{reverse};
-ghost use Rattle.janus_machine.specs.Nested.{book_in};
-
-/// The book in whose row the code of the innermost of these calls stands, or where none is open the cell's.
-pub(crate) fn running<'a>(procedures: &'a Procedures, book: &'a Book, calls: &[Call]) -> &'a Book
-    ensures { result.now ≡ book_in procedures.now book.now (reverse calls.now) }
-{
-    match calls.last() {
-        Some(call) => match procedures.body(call.procedure) {
-            Some(procedure) => &procedure.book,
-            None => book,
-        },
-        None => book,
     }
 }
