@@ -4,3 +4,4 @@ pub mod Levels
 pub mod Mirrors
 pub mod Pulls
 pub mod Turning
+pub mod Turned
