@@ -1,5 +1,6 @@
 pub mod Acts
 pub mod Calling
+pub mod Courses
 pub mod Levels
 pub mod Mirrors
 pub mod Pulls

@@ -8,3 +8,5 @@ pub mod Nested
 pub mod Cursors
 pub mod Counts
 pub mod Open
+pub mod Steps
+pub mod Law
