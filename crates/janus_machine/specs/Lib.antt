@@ -8,5 +8,6 @@ pub mod Nested
 pub mod Cursors
 pub mod Counts
 pub mod Open
+pub mod Calls
 pub mod Steps
 pub mod Law

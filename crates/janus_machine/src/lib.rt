@@ -10,6 +10,7 @@
 
 mod act;
 mod book;
+mod call;
 mod cursor;
 mod fault;
 pub mod laws;
