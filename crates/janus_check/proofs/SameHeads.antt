@@ -100,6 +100,31 @@ more_heads : (hs js : Heads) (ps : List Proc) → AreSameHeads hs js → AreSame
 more_heads hs js [] s = s
 more_heads hs js (p ∷ ps) s = more_heads (head_of p ∷ hs) (head_of p ∷ js) ps (one_more hs js (head_of p) s)
 
+else_nothing : {A : Type 0} (o : Option A) → else_found o None ≡ o
+else_nothing (Some a) = refl
+else_nothing None = refl
+
+-- A newer list is gone through from its front, and a head that isn't there yet is added: it comes last, and hides none ..
+pub one_behind : (hs js : Heads) (h : Name × List Kind) → AreSameHeads hs js → head_at h.0 hs ≡ None → AreSameHeads (h ∷ hs) (js ++ h ∷ [])
+one_behind hs js h e absent f = by (same_name f h.0) refl ∙ sym (at_name-append f js (h ∷ []))
+  where
+    by : (b : Bool) → same_name f h.0 ≡ b → pick_newest (same_name f h.0) h.1 (head_at f hs) ≡ else_found (head_at f js) (pick_newest (same_name f h.0) h.1 None)
+    by true s =
+        let none = sym (e f) ∙ ap (λ f. head_at f hs) (same_name_true f h.0 s) ∙ absent in
+        ap (λ b. pick_newest b h.1 (head_at f hs)) s ∙ sym (ap (λ o. else_found o (pick_newest (same_name f h.0) h.1 None)) none ∙ ap (λ b. pick_newest b h.1 None) s)
+    by false s =
+        ap (λ b. pick_newest b h.1 (head_at f hs)) s ∙ e f ∙ sym (ap (λ b. else_found (head_at f js) (pick_newest b h.1 None)) s ∙ else_nothing (head_at f js))
+
+-- .. and one that is there already stays hidden
+pub one_hidden : (hs js : Heads) (h : Name × List Kind) (cs : List Kind) → AreSameHeads hs js → head_at h.0 hs ≡ Some cs → AreSameHeads hs (js ++ h ∷ [])
+one_hidden hs js h cs e there f = by (same_name f h.0) refl ∙ sym (at_name-append f js (h ∷ []))
+  where
+    by : (b : Bool) → same_name f h.0 ≡ b → head_at f hs ≡ else_found (head_at f js) (pick_newest (same_name f h.0) h.1 None)
+    by true s =
+        let here = ap (λ f. head_at f hs) (same_name_true f h.0 s) ∙ there in
+        here ∙ sym (ap (λ o. else_found o (pick_newest (same_name f h.0) h.1 None)) (sym (e f) ∙ here))
+    by false s = e f ∙ sym (ap (λ b. else_found (head_at f js) (pick_newest b h.1 None)) s ∙ else_nothing (head_at f js))
+
 -- ---- what is well formed
 
 mutual
