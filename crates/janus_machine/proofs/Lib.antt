@@ -4,6 +4,7 @@ pub mod Courses
 pub mod Lending
 pub mod Levels
 pub mod Mirrors
+pub mod Moves
 pub mod Pulls
 pub mod Turning
 pub mod Turned
