@@ -1,6 +1,7 @@
 pub mod Acts
 pub mod Calling
 pub mod Courses
+pub mod Entering
 pub mod Lending
 pub mod Levels
 pub mod Mirrors
