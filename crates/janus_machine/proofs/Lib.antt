@@ -2,6 +2,7 @@ pub mod Acts
 pub mod Calling
 pub mod Courses
 pub mod Entering
+pub mod Leaving
 pub mod Lending
 pub mod Levels
 pub mod Mirrors
