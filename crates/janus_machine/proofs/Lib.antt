@@ -1,3 +1,4 @@
+pub mod Counting
 pub mod Acts
 pub mod Calling
 pub mod Courses
