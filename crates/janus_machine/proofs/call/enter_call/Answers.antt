@@ -1,5 +1,5 @@
-use Rattle.std.proofs.Common.{◌≡◌, ◌-◌, ◌+◌, ◌≤◌, ◌<◌, suc, length, refl, ap, ◌∙◌, sym, subst, arith}
-use Rattle.std.specs.Prelude.{None, Some, reverse}
+use Rattle.std.proofs.Common.{◌≡◌, ◌-◌, ◌+◌, ◌≤◌, length, refl, ap, ◌∙◌, sym, subst, arith}
+use Rattle.std.specs.Prelude.{Some, reverse}
 use Rattle.janus_meaning.specs.Limit.{frame_limit}
 use Rattle.janus_meaning.specs.Syntax.{names_of}
 use Rattle.janus_invert.specs.CodeBlock.{code_block}
