@@ -1,4 +1,5 @@
 pub mod Acts
+pub mod Bodies
 pub mod Calling
 pub mod Courses
 pub mod Lending
