@@ -1,5 +1,6 @@
 pub mod Acts
 pub mod Bodies
+pub mod BodiesInEffect
 pub mod Calling
 pub mod Courses
 pub mod Lending

@@ -1,5 +1,4 @@
-use Rattle.std.proofs.Common.{◌≡◌, ◌∙◌, ◌∷◌, [], ◌++◌, ap}
-use Rattle.janus_machine.specs.declared.procedures.Body.{Body}
+use Rattle.std.proofs.Common.{◌∙◌, ◌∷◌, [], ◌++◌, ap}
 use Rattle.janus_machine.proofs.Bodies.{pushed_wide, added_defined}
 use Rattle.janus_machine.proofs.procedures.Procedures.add.Goals as goal
 
