@@ -1,6 +1,6 @@
 //! The bodies of all procedures that cells define, and which of them are in effect.
 
-ghost use Rattle.std.specs.Prelude.{◌≡◌, ◌<◌, ℕ, List, [], ◌∷◌, ◌++◌, length, get_or, slice_get, take, Some, None, IfOk, OnOk, OnErr};
+ghost use Rattle.std.specs.Prelude.{◌≡◌, ◌+◌, ◌<◌, ◌≤◌, ℕ, List, [], ◌∷◌, ◌++◌, length, get_or, slice_get, take, Some, None, IfOk, OnOk, OnErr};
 ghost use Rattle.janus_machine.specs.declared.procedures.Body.{Body};
 
 use crate::procedure::Procedure;
@@ -25,7 +25,7 @@ pub struct Procedures {
 }
 
 impl Procedures {
-    ghost use Rattle.janus_machine.specs.Bodies.{body_at, in_effect, kept_in, AreDefined, IsOutside, AreBelow, IsPutIntoEffect, AreOthersKept};
+    ghost use Rattle.janus_machine.specs.Bodies.{body_at, in_effect, kept_in, AreDefined, IsOutside, AreBelow, IsPutIntoEffect, AreOthersKept, onto};
 
     /// No bodies. It takes no memory.
     pub fn new(alloc: Global) -> Procedures
@@ -116,6 +116,30 @@ impl Procedures {
     {
         let name = self.bodies[index].procedure.name;
         self.newest[name] = self.bodies[index].hidden;
+    }
+
+    /// Puts bodies that stand one behind another into effect, one after another. It takes no memory.
+    pub fn define_all(&mut self, first: usize, count: usize)
+        requires { first + count ≤ length (kept_in self.old) }
+        ensures kept { kept_in self.new ≡ kept_in self.old }
+        ensures defined { (stack : List ℕ) → AreDefined self.old stack → AreBelow first stack → AreDefined self.new (onto first count stack) }
+    {
+        for i in 0..count {
+            self.define(first + i);
+        }
+    }
+
+    /// Takes them out of effect again, the last one first. It takes no memory.
+    pub fn retire_all(&mut self, first: usize, count: usize)
+        requires { first + count ≤ length (kept_in self.old) }
+        ensures kept { kept_in self.new ≡ kept_in self.old }
+        ensures defined { (stack : List ℕ) → AreDefined self.old (onto first count stack) → AreDefined self.new stack }
+    {
+        let mut left = count;
+        while left > 0 {
+            left -= 1;
+            self.retire(first + left);
+        }
     }
 
     /// Drops the bodies from an index on. It takes no memory.
