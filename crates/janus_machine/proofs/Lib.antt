@@ -1,5 +1,7 @@
 pub mod Counting
 pub mod Acts
+pub mod Bodies
+pub mod BodiesInEffect
 pub mod Calling
 pub mod Courses
 pub mod Entering
