@@ -1,3 +1,4 @@
+pub mod Borders
 pub mod LanguageLaws
 pub mod Declared
 pub mod Texts
