@@ -1,4 +1,5 @@
 pub mod Borders
+pub mod Kept
 pub mod LanguageLaws
 pub mod Declared
 pub mod Texts

@@ -1,8 +1,8 @@
 -- Where the names in sight, those that a cell declares and its locals were met, all names of its statements were.
-use Rattle.std.proofs.Common.{◌≡◌, ℕ, zero, suc, ◌<◌, Bool, true, false, List, [], ◌∷◌, ◌++◌, length, take, get_or, refl, sym, ap, ◌∙◌, subst, arith, string_bytes, Vec, Global}
+use Rattle.std.proofs.Common.{◌≡◌, ℕ, zero, suc, ◌<◌, Bool, true, false, List, [], ◌∷◌, ◌++◌, length, map, take, get_or, refl, sym, ap, ◌∙◌, subst, arith, string_bytes, Vec, Global}
 use Rattle.std.specs.Prelude.{Some, None}
 use Rattle.janus_meaning.specs.Fault.{Res, Fine}
-use Rattle.janus_meaning.specs.Syntax.{Name, Kind, ANumber, AnArray, AStack, Blk, Nil, Cons, Proc}
+use Rattle.janus_meaning.specs.Syntax.{Name, Kind, ANumber, AnArray, AStack, Blk, Nil, Cons, Proc, names_of}
 use Rattle.janus_meaning.specs.Store.{Val, Num, Arr, Stk, Lent, Store, Bare, Slot, look, look_at, same_name}
 use Rattle.janus_meaning.specs.Shape.{Shape, Heads, kind_at, head_at, head_of, heads_of, kinds_in, pick_newest, shape_of}
 use Rattle.janus_meaning.specs.World.{Declaration, declared_name}
@@ -13,16 +13,19 @@ use Rattle.janus_machine.specs.Bodies.{AreBodies}
 use Rattle.janus_machine.specs.declared.procedure.Procedure as Kept
 use Rattle.janus_names.specs.Numbers.{IsMet, GoOn}
 use Rattle.janus_syntax.specs.Tree as tree
-use Rattle.janus_syntax.specs.View.{plain_cell, plain_stm, stm_of, block_of}
+use Rattle.janus_syntax.specs.View.{plain_cell, plain_parameter, plain_procedure, plain_stm, stm_of, block_of}
+use Rattle.janus_syntax.specs.Tree.{parameter_view, parameters_view, procedure_view, procedures_view}
+use Rattle.janus_syntax.specs.declared.tree.Parameter as Given
+use Rattle.janus_syntax.specs.declared.tree.Procedure as Defined
 use Rattle.janus_syntax.specs.declared.tree.Exp.{Exp}
 use Rattle.janus_syntax.specs.declared.tree.Name as code
 use Rattle.janus_syntax.specs.declared.tree.Stm.{Stm, If, Loop, LocalInt, LocalStack}
 use Rattle.janus_syntax.proofs.Views.{view_if, view_loop, view_local_int, view_local_stack}
 use Rattle.janus_check.specs.WellFormed.{IsWellFormed}
-use Rattle.janus_invert.specs.Met.{MeetsBlk, MeetsLocals, MeetsLocalsOf}
+use Rattle.janus_invert.specs.Met.{AreAllMet, MeetsBlk, MeetsLocals, MeetsLocalsOf}
 use Rattle.janus_invert.proofs.Meeting.{AreMet, AreCalledMet, with_local, block_met, proc_met, stm_weight, block_weight}
 use Rattle.janus_store.specs.Held.{Held, AreKnown, KeepsSight}
-use Rattle.kernel_core.specs.Met.{AreDeclaredMet, MeetOwn, AreProceduresMet}
+use Rattle.kernel_core.specs.Met.{AreDeclaredMet, MeetsOwn, MeetOwn, AreProceduresMet}
 use Rattle.kernel_core.proofs.Growing.{no_more, more_yet}
 
 -- ---- what is in sight was met
@@ -136,3 +139,15 @@ local_int_lighter s x y e f v is = let weight = ap (λ s. stm_weight (stm_of s))
 
 pub local_stack_lighter : (s : Stm) (x y : code.Name) (v : Vec Stm Global) → s ≡ LocalStack x v y → block_weight (block_of v.items) < stm_weight (stm_of s)
 local_stack_lighter s x y v is = let weight = ap (λ s. stm_weight (stm_of s)) is ∙ ap (λ s. stm_weight (plain_stm s)) (view_local_stack x y v) in omega (arith, weight)
+
+-- ---- one parameter more, and one procedure
+
+pub parameters_one_more : (xs : List Name) (ys : List Given.Parameter) (i : ℕ) (y : Given.Parameter) → i < length ys → get_or ys i y ≡ y → AreAllMet xs (names_of (map plain_parameter (parameters_view (take i ys)))) → IsMet xs (plain_parameter (parameter_view y)).0 → AreAllMet xs (names_of (map plain_parameter (parameters_view (take (suc i) ys))))
+parameters_one_more xs [] i y l e h m = absurd (omega arith)
+parameters_one_more xs (z ∷ ys) zero y l e h m = (subst (λ (z : Given.Parameter). IsMet xs (plain_parameter (parameter_view z)).0) (sym e) m, tt)
+parameters_one_more xs (z ∷ ys) (suc i) y l e h m = (h.0, parameters_one_more xs ys i y (omega arith) e h.1 m)
+
+pub procedures_one_more : (xs : List Name) (ys : List Defined.Procedure) (i : ℕ) (y : Defined.Procedure) → i < length ys → get_or ys i y ≡ y → MeetOwn xs (map plain_procedure (procedures_view (take i ys))) → MeetsOwn xs (plain_procedure (procedure_view y)) → MeetOwn xs (map plain_procedure (procedures_view (take (suc i) ys)))
+procedures_one_more xs [] i y l e h m = absurd (omega arith)
+procedures_one_more xs (z ∷ ys) zero y l e h m = (subst (λ (z : Defined.Procedure). MeetsOwn xs (plain_procedure (procedure_view z))) (sym e) m, tt)
+procedures_one_more xs (z ∷ ys) (suc i) y l e h m = (h.0, procedures_one_more xs ys i y (omega arith) e h.1 m)
