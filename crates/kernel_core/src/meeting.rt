@@ -65,7 +65,8 @@ fn meet_procedure<L: Ledger>(
 {
     store.meet(procedure.name.text.as_str())?;
     meet_parameters(store, &procedure.parameters)?;
-    meet_locals(store, &procedure.body)
+    meet_locals(store, &procedure.body)?;
+    Ok(())
 }
 
 /// Meets the names of parameters.
