@@ -40,11 +40,7 @@ pub fn known_at<L: Ledger>(alloc: Global, tree: &Tree, store: &Store<L>) -> Resu
 }
 
 /// Adds the procedures of a cell that no newer one hides, the last one first. The only error is want of memory.
-fn define_older(
-    alloc: Global,
-    env: &mut Env,
-    procedures: &[Procedure],
-) -> Result<(), AllocError>
+fn define_older(alloc: Global, env: &mut Env, procedures: &[Procedure]) -> Result<(), AllocError>
     ensures heads { OnOk result ((newer : Heads) → FindTheSame (heads_in env.old.procedures) newer → FindTheSame (heads_in env.new.procedures) (newer ++ heads_of (defined_over (map plain_procedure (procedures_view procedures.now)) []))) }
     ensures names { env.new.names ≡ env.old.names }
 {
@@ -65,7 +61,8 @@ fn define_behind(alloc: Global, env: &mut Env, procedure: &Procedure) -> Result<
         return Ok(());
     }
     let kinds = kinds_of(alloc, &procedure.parameters)?;
-    env.define(procedure.name.text.clone()?, kinds)
+    env.define(procedure.name.text.clone()?, kinds)?;
+    Ok(())
 }
 
 /// The kinds of parameters. The only error is want of memory.

@@ -56,10 +56,7 @@ pub fn meet_procedures<L: Ledger>(
 }
 
 /// Meets the names of a procedure.
-fn meet_procedure<L: Ledger>(
-    store: &mut Store<L>,
-    procedure: &Procedure,
-) -> Result<(), AllocError>
+fn meet_procedure<L: Ledger>(store: &mut Store<L>, procedure: &Procedure) -> Result<(), AllocError>
     ensures met { OnOk result (MeetsOwn store.new.names (plain_procedure (procedure_view procedure.now))) }
     ensures kept { KeepsSight store.old store.new }
 {
