@@ -24,7 +24,7 @@ mod statement;
 pub use crate::book::Book;
 pub use crate::cursor::{Cursor, STEP_LIMIT};
 pub use crate::fault::Fault;
-pub use crate::machine::{End, Sliced, Stepped};
+pub use crate::machine::{End, Sliced, Stepped, slice, step};
 pub use crate::procedure::Procedure;
 pub use crate::procedures::Procedures;
 pub use janus_store::{Store, Writes};

@@ -1,5 +1,4 @@
-use Rattle.std.proofs.Common.{◌≡◌, ◌∙◌, length, take, get_or, subst, sym, arith}
-use Rattle.std.specs.Prelude.{slice_set}
+use Rattle.std.proofs.Common.{◌∙◌, get_or, subst, sym, arith}
 use Rattle.janus_invert.specs.Numbered.{texts_of}
 use Rattle.janus_store.specs.Calls.{AreNamed}
 use Rattle.std.proofs.lemmas.List.{length-set}
