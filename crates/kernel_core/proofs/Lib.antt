@@ -1,5 +1,6 @@
 pub mod Borders
 pub mod Kept
+pub mod Going
 pub mod OlderHeads
 pub mod LanguageLaws
 pub mod Declared
