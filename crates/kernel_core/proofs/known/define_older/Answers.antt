@@ -18,7 +18,7 @@ loop-left-preserved c =
       omega arith,
       c.define_behind.ensures.names ∙ c.loop-left.invariant.1,
       λ newer same.
-        subst (λ (js : Heads). FindTheSame (heads_in c.define_behind.new.env.procedures) js)
-        (append_assoc newer (heads_of (define (map plain_procedure (procedures_view (drop c.loop-left.left c.args.procedures.now))) [])) (head_of (plain_procedure (procedure_view c.index-procedures-left.result)) ∷ []) ∙ ap (λ js. newer ++ js) (sym more))
-        (c.in_ok-define_behind.ensures.heads _ (c.loop-left.invariant.2 newer same)),
+          subst (λ (js : Heads). FindTheSame (heads_in c.define_behind.new.env.procedures) js)
+          (append_assoc newer (heads_of (define (map plain_procedure (procedures_view (drop c.loop-left.left c.args.procedures.now))) [])) (head_of (plain_procedure (procedure_view c.index-procedures-left.result)) ∷ []) ∙ ap (λ js. newer ++ js) (sym more))
+          (c.in_ok-define_behind.ensures.heads _ (c.loop-left.invariant.2 newer same)),
     )
