@@ -32,6 +32,7 @@ use Rattle.kernel_audit.specs.contracts.pass.Ticket as Ticket
 use Rattle.kernel_bell.specs.contracts.bell.Bell as Bell
 use Rattle.kernel_bell.specs.contracts.seats.RingerSeat as RingerSeat
 use Rattle.kernel_bell.specs.contracts.seats.RunnerSeat as RunnerSeat
+use Rattle.kernel_hall.specs.contracts.ends.Ends as Ends
 use Rattle.kernel_hall.specs.contracts.extra.Extra as Extra
 use Rattle.kernel_hall.specs.contracts.passes.Passes as Passes
 use Rattle.kernel_hall.specs.contracts.state.State as State
@@ -88,6 +89,9 @@ Extra-send = search (crosses, maps, NamedValue-send, sendable) depth 60 fits 200
 Bell-sync : IsSync (Bell.the_field).row
 Bell-sync = search (crosses, table_sync, lease_sync, sendable) depth 60 fits 20000
 
+Ends-sync : IsSync (Ends.the_field).row
+Ends-sync = search (crosses, condvar_sync, sendable) depth 60 fits 20000
+
 module _ (W : RattleType) (w : Ledger.Ghosts W.Denot) where
   Store-send : IsSend W → IsSend (Store.the_field W w).row
   Store-send s = search (crosses, Names-send, sendable) depth 60 fits 20000
@@ -109,4 +113,4 @@ module _ (W L : RattleType) (w : Ledger.Ghosts W.Denot) (l : Ledger.Ghosts L.Den
   State-send s t = let a = Kernel-send W w s in let b = Passes-send L l t in search (crosses, book_send, Comms-send, Extra-send, sendable) depth 60 fits 20000
 
   pub Hall-sync : IsSend W → IsSend L → IsSync (Hall.the_field W L w l).row
-  Hall-sync s t = let a = State-send s t in search (crosses, condvar_sync, Bell-sync, sendable) depth 60 fits 20000
+  Hall-sync s t = let a = State-send s t in search (crosses, condvar_sync, Ends-sync, Bell-sync, sendable) depth 60 fits 20000

@@ -7,7 +7,8 @@ use Rattle.kernel_ask.specs.declared.done.Done.{Done}
 use Rattle.kernel_hall.specs.declared.extra.Extra.{Extra}
 use Rattle.kernel_hall.specs.declared.extra.LastEnd.{LastEnd}
 use Rattle.kernel_hall.specs.Extras.{IsTold, IsSettled, Settles, SettlesEntry, SettlesLast}
-use Rattle.kernel_hall.specs.LastEnds.{IsLastEnd}
+use Rattle.kernel_core.specs.Minutes.{Posted, Ended}
+use Rattle.kernel_hall.specs.LastEnds.{IsLastEnd, EndsNoNumber, last_of, number_in}
 
 -- what a telling leaves of one, beside what it tells
 pub record IsLeft (kept left : Extra) : Type 0 where
@@ -58,3 +59,13 @@ unsettled entries old end is far =
       within = λ e at. let low = slice_get_within old end.index e at in absurd (omega arith);
       beyond = λ _. refl;
     }
+
+-- the number of the end that stands last
+pub numbered : (entries : List Entry) (end : LastEnd) → IsLastEnd entries end → end.number ≡ number_in (last_of entries)
+numbered entries end is = is.number ∙ sym (ap number_in is.last)
+
+-- where no end of a number stands last
+pub unnumbered : (o : Option Entry) → EndsNoNumber o → 0 ≡ number_in o
+unnumbered None h = refl
+unnumbered (Some (Posted lane job)) h = refl
+unnumbered (Some (Ended number out count node)) h = sym h

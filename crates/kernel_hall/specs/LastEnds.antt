@@ -11,6 +11,7 @@ last_of entries = slice_get entries (length entries - 1)
 pub record IsLastEnd (entries : List Entry) (end : LastEnd) : Type 0 where
   pub count : ℕ
   pub node : ℕ
+  pub number : end.number ≡ suc end.index
   pub place : end.place ≡ length entries - 1
   pub last : last_of entries ≡ Some (Ended (suc end.index) end.outcome count node)
 
@@ -19,3 +20,9 @@ abbrev pub EndsNoNumber : Option Entry → Type 0
 EndsNoNumber None = Unit {0}
 EndsNoNumber (Some (Posted lane job)) = Unit {0}
 EndsNoNumber (Some (Ended number o count node)) = number ≡ 0
+
+-- the number of an end, or 0
+abbrev pub number_in : Option Entry → ℕ
+number_in None = 0
+number_in (Some (Posted lane job)) = 0
+number_in (Some (Ended number o count node)) = number

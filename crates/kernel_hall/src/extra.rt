@@ -4,7 +4,7 @@ ghost use Rattle.kernel_core.specs.State.{Idle};
 ghost use Rattle.kernel_core.specs.Written.{entry_of};
 ghost use Rattle.kernel_audit.specs.Ends.{HasEnd};
 ghost use Rattle.kernel_hall.specs.Extras.{IsNewExtra, IsTold, IsSettled, SettlesLast};
-ghost use Rattle.kernel_hall.specs.LastEnds.{IsLastEnd, EndsNoNumber, last_of};
+ghost use Rattle.kernel_hall.specs.LastEnds.{IsLastEnd, EndsNoNumber, last_of, number_in};
 
 use kernel_ask::{Done, NamedValue, Wish, evaluate, is_settled, shown_text, stands_at_end};
 use kernel_core::{Entry, Job, Kernel, Outcome};
@@ -132,15 +132,17 @@ pub(crate) fn settle_last<W: Ledger>(alloc: Global, kernel: &Kernel<W>, extras: 
         index,
         place,
         outcome,
+        ..
     } = end;
     if index < extras.len() {
         extras[index].settle(alloc, kernel, place, &outcome);
     }
 }
 
-/// Of the end that stands last in the minutes: where the extra of its post stands, its place, and what came of the job.
+/// Of the end that stands last in the minutes: its number, where the extra of its post stands, its place, and what came of the job.
 #[derive(Clone, Copy)]
 struct LastEnd {
+    number: u64,
     index: usize,
     place: usize,
     outcome: Outcome,
@@ -160,11 +162,22 @@ fn last_end(minutes: &[Entry]) -> Option<LastEnd>
         } => {
             let index = index_of(*number)?;
             Some(LastEnd {
+                number: *number,
                 index,
                 place,
                 outcome: *outcome,
             })
         }
+    }
+}
+
+/// The number of the job whose end stands last in the minutes; 0 where no end does.
+pub(crate) fn last_number(minutes: &[Entry]) -> u64
+    ensures { result ≡ number_in (last_of (map entry_of minutes.now)) }
+{
+    match last_end(minutes) {
+        Some(end) => end.number,
+        None => 0,
     }
 }
 

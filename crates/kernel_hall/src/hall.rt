@@ -9,6 +9,7 @@ ghost use Rattle.kernel_audit.specs.Ends.{HasEnd};
 ghost use Rattle.kernel_audit.specs.Audit.{Audited, IsAuditFault};
 
 use crate::comm::{CommChange, comm_on};
+use crate::ends::Ends;
 use crate::minutes::Minutes;
 use crate::state::State;
 use crate::turn::Turn;
@@ -26,8 +27,9 @@ use std::sync::{Condvar, Mutex, Wait};
 #[derive(Drop)]
 pub struct Hall<W: Ledger, L: Ledger> {
     state: Mutex<State<W, L>>,
-    /// Something was posted, a job has ended, or the kernel was shut.
+    /// Something was posted, or the kernel was shut.
     moved: Condvar,
+    ended: Ends,
     bell: Bell,
 }
 
@@ -60,6 +62,7 @@ impl<W: Ledger, L: Ledger> Hall<W, L> {
         Hall {
             state: Mutex::new(state),
             moved: Condvar::new(),
+            ended: Ends::new(),
             bell,
         }
     }
@@ -117,9 +120,12 @@ impl<W: Ledger, L: Ledger> Hall<W, L> {
         if runner.serial() == u64::MAX {
             return Turn::Worn;
         }
-        let turn = self.state.lock(rt).turn(&self.bell, runner, m);
+        let mut state = self.state.lock(rt);
+        let turn = state.turn(&self.bell, runner, m);
         if turn.is_end() {
-            self.moved.notify_all();
+            let number = state.last_ended();
+            drop(state);
+            self.ended.wake(number);
         }
         turn
     }
@@ -134,7 +140,7 @@ impl<W: Ledger, L: Ledger> Hall<W, L> {
             if let Some(done) = state.done(ticket.number) {
                 return done;
             }
-            state = self.moved.wait(rt, state);
+            state = self.ended.wait(rt, ticket.number, state);
         }
         unreachable!()
     }

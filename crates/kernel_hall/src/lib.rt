@@ -7,6 +7,7 @@
 #![tactic(auto)]
 
 mod comm;
+mod ends;
 mod extra;
 mod hall;
 mod minutes;

@@ -9,11 +9,12 @@ ghost use Rattle.kernel_ask.specs.Answer.{IsAnswer};
 ghost use Rattle.kernel_audit.specs.Passes.{pass_of, ticket_of};
 ghost use Rattle.kernel_hall.specs.Turns.{IsTurn};
 ghost use Rattle.kernel_hall.specs.Extras.{IsNewExtra, IsTold, SettlesLast, ends_job};
+ghost use Rattle.kernel_hall.specs.LastEnds.{last_of, number_in};
 ghost use Rattle.kernel_hall.specs.declared.extra.Extra.{Extra};
 ghost use Rattle.kernel_audit.specs.Ends.{HasEnd};
 ghost use Rattle.kernel_audit.specs.Audit.{Audited, IsAuditFault};
 
-use crate::extra::{Extra, fetch, settle_last};
+use crate::extra::{Extra, fetch, last_number, settle_last};
 use crate::minutes::Minutes;
 use crate::passes::Passes;
 use crate::turn::{Turn, turn_on};
@@ -140,6 +141,13 @@ impl<W: Ledger, L: Ledger> State<W, L> {
     {
         is_legal(&self.kernel);
         fetch(self.alloc, &self.kernel, &mut self.extras, number)
+    }
+
+    /// The number of the job whose end stands last in the minutes; 0 where no end does.
+    pub(crate) fn last_ended(&self) -> u64
+        ensures { result ≡ number_in (last_of self.now.kernel.machine.minutes) }
+    {
+        last_number(self.kernel.minutes())
     }
 
     /// Whether there are at least so many minutes.
