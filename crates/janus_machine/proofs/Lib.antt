@@ -1,5 +1,15 @@
-pub mod Acts
 pub mod Counting
+pub mod Acts
+pub mod Bodies
+pub mod BodiesInEffect
+pub mod Calling
 pub mod Courses
+pub mod Entering
+pub mod Leaving
+pub mod Lending
+pub mod Levels
 pub mod Mirrors
 pub mod Moves
+pub mod Pulls
+pub mod Turning
+pub mod Turned

@@ -1,3 +1,7 @@
+pub mod Borders
+pub mod Kept
+pub mod Going
+pub mod OlderHeads
 pub mod LanguageLaws
 pub mod Declared
 pub mod Texts

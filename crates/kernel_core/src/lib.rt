@@ -26,6 +26,7 @@ mod extent;
 mod history;
 mod job;
 mod kernel;
+mod known;
 pub mod laws;
 mod machine;
 mod meeting;
