@@ -5,9 +5,9 @@ use Rattle.std.proofs.lemmas.List.{drop-drop, length-take-le, append-nil}
 use Rattle.std.proofs.lemmas.Option.{slice_get_past}
 use Rattle.janus_meaning.specs.Fault.{or_else}
 use Rattle.janus_meaning.specs.Syntax.{Name}
-use Rattle.janus_meaning.specs.Store.{fill}
+use Rattle.janus_meaning.specs.Store.{fill, values_in}
 use Rattle.janus_meaning.specs.World.{dropped, oldest, size_of}
-use Rattle.janus_store.specs.Held.{values_in, returned, given_back, shown_store}
+use Rattle.janus_store.specs.Held.{returned, given_back, shown_store}
 use Rattle.janus_store.specs.Bounds.{Bound, Level, all_of, seen, names_at, values_at, lent_more, callers_of, Owned, AreNested}
 use Rattle.janus_store.specs.Inside.{bound_of, bounds, value_at, here, around, outermost, held_in}
 use Rattle.janus_store.specs.declared.value.Value.{Value}

@@ -3,7 +3,7 @@ use Rattle.std.specs.Prelude.{◌≡◌, suc, ◌+◌, ◌<◌, ℕ, List, [], �
 use Rattle.std.specs.Coded.{Coded, code_by, coded×, coded_list, coded_ℕ}
 use Rattle.janus_meaning.specs.Fault.{Fine, or_else}
 use Rattle.janus_meaning.specs.Syntax.{Name}
-use Rattle.janus_meaning.specs.Store.{Store, Bare, Slot, Val, look, fill, cleared}
+use Rattle.janus_meaning.specs.Store.{Store, Bare, Slot, look, fill, cleared, values_in}
 use Rattle.janus_meaning.specs.World.{size_of, oldest, stacks_in}
 use Rattle.janus_meaning.specs.Codes.{store_code}
 use Rattle.janus_names.specs.Numbers.{IsNumbered, IsMet, GoOn}
@@ -40,10 +40,6 @@ abbrev pub empty_held : Held
 empty_held = record { sight = Bare; declared = 0; names = []; callers = [] }
 
 -- ---- what is shown while calls are open
-
-abbrev pub values_in : Store → List Val
-values_in Bare = []
-values_in (Slot x v s) = v ∷ values_in s
 
 -- a caller's store, where what it lent has the parameters' values: they are the oldest names inside
 abbrev pub returned : Caller → Store → Store
