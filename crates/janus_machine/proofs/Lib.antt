@@ -8,6 +8,8 @@ pub mod Entering
 pub mod Leaving
 pub mod Lending
 pub mod Levels
+pub mod Seen
+pub mod Agreed
 pub mod Mirrors
 pub mod Moves
 pub mod Pulls

@@ -1,6 +1,6 @@
 //! A place in code.
 
-ghost use Rattle.std.specs.Prelude.{◌≡◌, ◌+◌, ◌-◌, ◌≤◌, ◌<◌, ◌^◌, List, [], true, false, not, IfOk, vec_capacity};
+ghost use Rattle.std.specs.Prelude.{◌≡◌, ◌+◌, ◌-◌, ◌≤◌, ◌<◌, ◌^◌, ℕ, List, [], true, false, not, IfOk, vec_capacity};
 ghost use Rattle.janus_meaning.specs.Stepping.{mirror as mirror_of, BeforeBlock as Before};
 ghost use Rattle.janus_meaning.specs.Limit.{step_limit};
 ghost use Rattle.janus_invert.specs.CodeBlock.{code_block};
@@ -62,6 +62,7 @@ impl Cursor {
     ghost use Rattle.janus_machine.specs.Places.{block_in};
     ghost use Rattle.janus_machine.specs.Cursors.{place_of, has_ended, IsStanding};
     ghost use Rattle.janus_machine.specs.Counts.{counted};
+    ghost use Rattle.janus_machine.specs.Open.{Agrees};
 
     /// A cursor at no place of a book yet, with the memory of all calls that may be open; an error for want of it.
     pub fn new(alloc: Global) -> Result<Cursor, AllocError>
@@ -124,6 +125,7 @@ impl Cursor {
     pub fn mirror(&mut self, procedures: &Procedures, book: &Book)
         ensures stands { (h : Held) → IsStanding procedures.now book.now self.old h → IsStanding procedures.now book.now self.new h }
         ensures place { (h : Held) → IsStanding procedures.now book.now self.old h → place_of procedures.now book.now self.new h.callers ≡ mirror_of (place_of procedures.now book.now self.old h.callers) }
+        ensures agrees { (k : ℕ) (h : Held) → IsStanding procedures.now book.now self.old h → Agrees k procedures.now book.now self.old h → Agrees k procedures.now book.now self.new h }
         ensures counts { (self.new.count ≡ self.old.count) × (self.new.turned ≡ not self.old.turned) }
     {
         let linear = running(procedures, book, &self.calls).linear(self.direction);

@@ -8,7 +8,7 @@ ghost use Rattle.janus_meaning.specs.Store.{Store as Values, Slot, Num, Arr, Stk
 ghost use Rattle.janus_meaning.specs.Limit.{live_stack_limit, stack_limit};
 ghost use Rattle.janus_meaning.specs.Value.{first, is_none};
 ghost use Rattle.janus_meaning.specs.World.{size_of, listed, stacks_in};
-ghost use Rattle.janus_names.specs.Numbers.{GoOn, IsMet};
+ghost use Rattle.janus_names.specs.Numbers.{GoOn, IsMet, HaveOneNumber};
 ghost use Rattle.janus_store.specs.Held.{IsName, IsWhole, IsInSight, HasLocal, HasLocalRoom, shown_store, live_stacks, empty_held, Declares, KeepsSight, IsLike, AreKnown, opened, with_sight};
 ghost use Rattle.janus_store.specs.Calls.{AreNamed, CanLend, HasCallRoom, HasParametersAlone, IsEntered, IsLeft};
 ghost use Rattle.janus_store.specs.Values.{first_of, shown, found, read_or};
@@ -132,6 +132,7 @@ impl<L: Ledger> Store<L> {
     pub fn names(&self) -> &Names
         ensures names { result.now ≡ self.now.names }
         ensures known { AreKnown self.now }
+        ensures one_number { HaveOneNumber self.now.names }
     {
         &self.names
     }
@@ -232,6 +233,7 @@ impl<L: Ledger> Store<L> {
     pub fn meet(&mut self, name: &str) -> Result<(), AllocError>
         ensures met { IfOk result (λ _. IsMet self.new.names name.now) }
         ensures goes_on { GoOn self.old.names self.new.names }
+        ensures one_number { HaveOneNumber self.new.names }
         ensures same { self.new ≡ record self.old { names = self.new.names } }
     {
         let _number = self.number_of(name)?;
@@ -242,6 +244,7 @@ impl<L: Ledger> Store<L> {
     fn number_of(&mut self, name: &str) -> Result<usize, AllocError>
         ensures number { IfOk result (λ number. IsName self.new number name.now) }
         ensures goes_on { GoOn self.old.names self.new.names }
+        ensures one_number { HaveOneNumber self.new.names }
         ensures same { self.new ≡ record self.old { names = self.new.names } }
         ensures err { OnErr result (self.new ≡ self.old) }
     {
@@ -260,6 +263,7 @@ impl<L: Ledger> Store<L> {
         requires whole { IsWhole self.old }
         ensures ok { OnOk result (Declares self.old self.new name.now (Num (pos 0))) }
         ensures err { OnErr result (KeepsSight self.old self.new) }
+        ensures one_number { HaveOneNumber self.new.names }
     {
         self.add(name, Declared::Number)
     }
@@ -270,6 +274,7 @@ impl<L: Ledger> Store<L> {
         requires whole { IsWhole self.old }
         ensures ok { OnOk result (Declares self.old self.new name.now (Arr (zeros length))) }
         ensures err { OnErr result (KeepsSight self.old self.new) }
+        ensures one_number { HaveOneNumber self.new.names }
     {
         let alloc = *self.variables.allocator();
         let items = vec![in alloc; 0i32; length]?;
@@ -284,6 +289,7 @@ impl<L: Ledger> Store<L> {
         requires room { stacks_in self.old.sight < live_stack_limit }
         ensures ok { OnOk result (Declares self.old self.new name.now (Stk [])) }
         ensures err { OnErr result (KeepsSight self.old self.new) }
+        ensures one_number { HaveOneNumber self.new.names }
     {
         self.add(name, Declared::Stack)
     }
@@ -295,6 +301,7 @@ impl<L: Ledger> Store<L> {
         requires room { first_of declared ≡ Stk [] → stacks_in self.old.sight < live_stack_limit }
         ensures ok { OnOk result (Declares self.old self.new name.now (first_of declared)) }
         ensures err { OnErr result (KeepsSight self.old self.new) }
+        ensures one_number { HaveOneNumber self.new.names }
     {
         let name = self.number_of(name)?;
         self.variables.reserve(LOCAL_LIMIT + BOUND_LIMIT + 1)?;
