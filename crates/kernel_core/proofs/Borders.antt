@@ -99,10 +99,10 @@ pub record IsBefore (cursor : Cursor) (book : Book) (blk : Blk) : Type 0 where
   pub place : (t : Procedures) (hs : List Caller) → place_of t book cursor hs ≡ BeforeBlock blk []
   pub counts : (cursor.count ≡ 0) × (cursor.turned ≡ false)
 
-pub entered_here : {L : Type 0} (old new : Runner L) (program : Program) (stack : List ℕ) (w : World) → CanEnter old program stack w → HaveOneNumber new.store.names →
+pub entered_here : {L : Type 0} (old new : Runner L) (program : Program) (stack : List ℕ) (w : World) → CanEnter old program stack w →
     Becomes old.store new.store (declare (cell_of_program program).declarations old.store.sight) → kept_in new.procedures ≡ kept_in old.procedures → AreDefined new.procedures (with_bodies program stack) →
     IsBefore new.cursor program.book (cell_of_program program).block → Stands new program (with_bodies program stack) (Forward (cell_of_program program)) w 0 false
-entered_here old new program stack w can one becomes kept defined before =
+entered_here old new program stack w can becomes kept defined before =
     let cell = cell_of_program program in
     let start : World = entered cell w in
     let shown : old.store.sight ≡ w.store = sym (all_shown old.store can.whole) ∙ can.shows.store in
@@ -110,7 +110,7 @@ entered_here old new program stack w can one becomes kept defined before =
     let standing = before.stands new.procedures new.store becomes.whole.callers in
     let place = before.place new.procedures new.store.callers in
     let grown : Define new.store.names old.procedures stack w.procedures = defined_grow old.store.names new.store.names becomes.names old.procedures stack w.procedures can.shows.defined in
-    let itself : Becomes old.store new.store new.store.sight = record { sight = refl; whole = becomes.whole; names = becomes.names } in
+    let itself : Becomes old.store new.store new.store.sight = record { sight = refl; whole = becomes.whole; names = becomes.names; one_number = becomes.one_number } in
     let ready = ready_grows old.store.names new.store.names becomes.names old.procedures program can.ready in
     record {
       cell = refl;
@@ -122,7 +122,7 @@ entered_here old new program stack w can one becomes kept defined before =
       declared = becomes.whole.declared ∙ ap size_of same;
       agrees = agrees_before (stacks_in start.store) new.procedures program.book new.cursor new.store cell.block becomes.whole (ap stacks_in same) standing place;
       ready = ready_still old new program itself kept can.ready;
-      one_number = one;
+      one_number = becomes.one_number can.shows.one_number;
       defined = all_defined new.store.names old.procedures new.procedures program.first (procedures_of program) stack w.procedures kept grown ready.bodies defined;
       faces = (ap (λ (r : Store). To (BeforeBlock cell.block []) r) (sym same) ∙ ap (λ (p : Place). To p new.store.sight) (sym place), never_broken cell w can.sound can.formed);
     }
@@ -157,11 +157,11 @@ entered_inverse_here old new program stack w can store procedures before =
 
 -- ---- leaving a cell
 
-pub left_here : {L : Type 0} (old new : Runner L) (program : Program) (stack : List ℕ) (before : World) → CanLeave old program stack before → HaveOneNumber new.store.names → Becomes old.store new.store before.store →
+pub left_here : {L : Type 0} (old new : Runner L) (program : Program) (stack : List ℕ) (before : World) → CanLeave old program stack before → Becomes old.store new.store before.store →
     kept_in new.procedures ≡ kept_in old.procedures → AreDefined new.procedures stack → Shows new stack before
-left_here old new program stack before can one becomes kept defined = record {
+left_here old new program stack before can becomes kept defined = record {
   store = all_shown new.store becomes.whole ∙ becomes.sight;
-  one_number = one;
+  one_number = becomes.one_number can.shows.one_number;
   defined =
       all_retired new.store.names old.procedures new.procedures program.first (procedures_of program) stack before.procedures kept
       (defined_grow old.store.names new.store.names becomes.names old.procedures (with_bodies program stack) (entered (cell_of_program program) before).procedures can.shows.defined) defined;

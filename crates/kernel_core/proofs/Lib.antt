@@ -1,3 +1,4 @@
+pub mod Stacks
 pub mod Borders
 pub mod Kept
 pub mod Going

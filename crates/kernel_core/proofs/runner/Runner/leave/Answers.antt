@@ -18,7 +18,6 @@ returns-clause-shows g c = λ stack before can.
     let same : length (procedures_of c.args.program.now) ≡ length c.procedures.result.now =
     sym (ap (λ (ps : List Proc). length ps) c.procedures.ensures) ∙ length-map (procedures_view c.procedures.result.now) plain_procedure ∙ length-map c.procedures.result.now procedure_view in
     left_here c.args.self.now _ c.args.program.now stack before can
-    (subst (λ (xs : List Name). HaveOneNumber xs) (sym c.retire.ensures.names) can.shows.one_number)
     (c.retire.ensures.becomes ds before.store count (sym (all_shown c.args.self.now.store can.whole) ∙ can.shows.store))
     c.retire_all.ensures.kept
     (c.retire_all.ensures.defined stack (subst (λ (n : ℕ). AreDefined c.args.self.now.procedures (onto c.args.program.now.first n stack)) same can.shows.defined.defined))
