@@ -46,7 +46,7 @@ returns-clause-stands c = λ h stands.
     }
 
 pub returns-clause-agrees : goal.returns-clause-agrees
-returns-clause-agrees g c = λ k h stands agrees.
+returns-clause-agrees c = λ k h stands agrees.
     let t = c.args.procedures.now in
     let b = c.args.book.now in
     let u = c.args.self.now in

@@ -1,4 +1,4 @@
-use Rattle.std.proofs.Common.{◌+◌, ◌∙◌, ℕ, List, subst, sym, suc, add-one}
+use Rattle.std.proofs.Common.{◌+◌, ◌∙◌, ℕ, List, subst, sym, add-one}
 use Rattle.janus_machine.specs.Bodies.{AreDefined, onto}
 use Rattle.janus_machine.proofs.Bodies.{onto_last, onto_below, outside_below}
 use Rattle.janus_machine.proofs.procedures.Procedures.define_all.Goals as goal

@@ -1,4 +1,4 @@
-use Rattle.std.proofs.Common.{◌≡◌, ◌+◌, ◌-◌, ◌∙◌, ℕ, List, subst, sym, ap, suc, arith}
+use Rattle.std.proofs.Common.{◌≡◌, ◌-◌, ◌∙◌, ℕ, List, subst, ap, suc, arith}
 use Rattle.janus_machine.specs.Bodies.{AreDefined, onto}
 use Rattle.janus_machine.proofs.Bodies.{onto_last}
 use Rattle.janus_machine.proofs.procedures.Procedures.retire_all.Goals as goal
