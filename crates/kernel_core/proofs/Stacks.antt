@@ -24,15 +24,21 @@ use Rattle.kernel_core.proofs.Nodes.{count_of_nodes}
 
 -- ---- nodes and their cells
 
+from_mapped : {A B : Type 0} (f : A → B) (xs : List A) (i : ℕ) (b : B) → slice_get (map f xs) i ≡ Some b → (x : A) × (slice_get xs i ≡ Some x) × (f x ≡ b)
+from_mapped f [] i b e = absurd (let l = slice_get_within (map f []) i b e in omega arith)
+from_mapped f (x ∷ xs) zero b e = (x, refl, cc)
+from_mapped f (x ∷ xs) (suc i) b e = from_mapped f xs i b e
+
+to_mapped : {A B : Type 0} (f : A → B) (xs : List A) (i : ℕ) (x : A) → slice_get xs i ≡ Some x → slice_get (map f xs) i ≡ Some (f x)
+to_mapped {A = A} f [] i x e = absurd (let l = slice_get_within {A = A} [] i x e in omega arith)
+to_mapped f (y ∷ xs) zero x e = cc
+to_mapped f (y ∷ xs) (suc i) x e = to_mapped f xs i x e
+
 content_node : (nodes : List (Node Cell)) (i : ℕ) (cell : Cell) → slice_get (map (λ (node : Node Cell). node.content) nodes) i ≡ Some cell → (node : Node Cell) × (slice_get nodes i ≡ Some node) × (node.content ≡ cell)
-content_node [] i cell e = absurd (let l = slice_get_within {A = Cell} [] i cell e in omega arith)
-content_node (node ∷ nodes) zero cell e = (node, refl, cc)
-content_node (node ∷ nodes) (suc i) cell e = content_node nodes i cell e
+content_node nodes i cell e = from_mapped (λ (node : Node Cell). node.content) nodes i cell e
 
 node_content : (nodes : List (Node Cell)) (i : ℕ) (node : Node Cell) → slice_get nodes i ≡ Some node → slice_get (map (λ (node : Node Cell). node.content) nodes) i ≡ Some node.content
-node_content [] i node e = absurd (let l = slice_get_within {A = Node Cell} [] i node e in omega arith)
-node_content (n ∷ nodes) zero node e = let same : n ≡ node = cc in ap (λ (m : Node Cell). Some m.content) same
-node_content (n ∷ nodes) (suc i) node e = node_content nodes i node e
+node_content nodes i node e = to_mapped (λ (node : Node Cell). node.content) nodes i node e
 
 pub cell_of_node : (tree : Tree) (i : ℕ) (node : Node Cell) → slice_get tree.cells.nodes i ≡ Some node → IsCellAt tree (suc i) node.content
 cell_of_node tree i node e =
@@ -179,7 +185,7 @@ get_taken (suc n) (x ∷ xs) (suc i) b e = get_taken n xs i b e
 
 bodies_of_more : (xs : List Name) (n : ℕ) (bodies : List Procedure) (first : ℕ) (ps : List Proc) → AreBodiesFrom xs (take n bodies) first ps → AreBodiesFrom xs bodies first ps
 bodies_of_more xs n bodies first [] h = tt
-bodies_of_more xs n bodies first (p ∷ ps) h = ((h.0.0, get_taken n bodies first h.0.0 h.0.1, h.0.2), bodies_of_more xs n bodies (suc first) ps h.1)
+bodies_of_more xs n bodies first (p ∷ ps) h = ((h.0.0, get_taken n bodies first h.0.0 h.0.1, h.0.2, h.0.3), bodies_of_more xs n bodies (suc first) ps h.1)
 
 taken_long : (n : ℕ) (xs : List Procedure) → length (take n xs) ≤ length xs
 taken_long zero xs = omega arith

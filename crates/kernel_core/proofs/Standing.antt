@@ -1,7 +1,7 @@
 -- What the answers on slices and begins share: how runner, tree and open job go on together.
 use Rattle.std.specs.Result.{is_err, IsOk, OnOk, OnErr}
 use Rattle.std.specs.Prelude.{slice_get}
-use Rattle.std.proofs.Common.{inl, inr, ◌≤◌, Some, Result, Ok, Err, true, false, ◌≡◌, ℕ, ◌+◌, ◌-◌, ◌<◌, Bool, List, [], ◌∷◌, ◌++◌, length, set, get_or, zero, suc, refl, sym, ap, ◌∙◌, subst, arith}
+use Rattle.std.proofs.Common.{inl, inr, ◌≤◌, Some, Result, Ok, Err, true, false, ◌≡◌, ℕ, ◌+◌, ◌-◌, ◌<◌, Bool, List, [], ◌∷◌, ◌++◌, length, set, get_or, take, zero, suc, refl, sym, ap, ◌∙◌, subst, arith}
 use Rattle.std.proofs.lemmas.Bool.{cases_lt}
 use Rattle.std.proofs.lemmas.List.{get_or_at, length-map}
 use Rattle.std.proofs.lemmas.Option.{slice_get_within}
@@ -17,9 +17,10 @@ use Rattle.kernel_core.specs.Legal.{CanGo, IsLegal, IsPossible, IsPossibleWork, 
 use Rattle.kernel_core.specs.Slices.{cells, stepped, moved, grown, Arrives, Settles, HasEnded}
 use Rattle.kernel_core.specs.Begins.{Declares}
 use Rattle.janus_meaning.specs.Syntax.{Name}
-use Rattle.janus_names.specs.Numbers.{GoOn}
-use Rattle.janus_store.specs.Held.{IsWhole, shown_store}
-use Rattle.janus_machine.specs.Bodies.{kept_in}
+use Rattle.janus_names.specs.Numbers.{GoOn, HaveOneNumber}
+use Rattle.janus_store.specs.Held.{Held, IsWhole, shown_store}
+use Rattle.janus_machine.specs.Bodies.{kept_in, AreBelow, AreDefined, Define}
+use Rattle.janus_machine.proofs.BodiesInEffect.{forgotten_still_defined}
 use Rattle.janus_machine.specs.declared.procedures.Procedures.{Procedures}
 use Rattle.kernel_core.specs.Program.{cell_of_program, procedures_of, IsReady, with_bodies}
 use Rattle.kernel_core.specs.Runner.{world_of, Becomes, Shows, Stands, IsInside, CanEnter, CanReturn, CanLeave}
@@ -33,14 +34,15 @@ use Rattle.kernel_core.specs.declared.job.Work.{Work}
 use Rattle.kernel_core.specs.declared.job.Work.TheVariants.{Cell as RunCell, Move}
 use Rattle.kernel_core.specs.declared.job.Travel.{Travel as CodeTravel}
 use Rattle.kernel_core.specs.declared.job.Turn.{Turn as CodeTurn}
-use Rattle.kernel_core.specs.declared.job.Turn.TheVariants.{Going}
+use Rattle.kernel_core.specs.declared.job.Turn.TheVariants.{Going, Backing}
+use Rattle.kernel_core.specs.declared.job.Why.{Why}
 use Rattle.kernel_core.specs.declared.job.Open.{Open}
 use Rattle.kernel_core.specs.declared.job.Open.TheVariants.{Idle, Border, Inside}
 use Rattle.kernel_core.proofs.LanguageLaws.{part_none_forward, part_none_backward, exec_end, exec_some}
 use Rattle.kernel_core.proofs.Growing.{ready_grows, defined_grow}
 use Rattle.kernel_core.proofs.Borders.{all_shown}
 use Rattle.kernel_core.proofs.Running.{stands_part}
-use Rattle.kernel_core.proofs.Stacks.{stack_same, stack_of_cell, stack_kept, stack_new, stack_below, cell_behind, ready_same}
+use Rattle.kernel_core.proofs.Stacks.{stack_same, stack_of_cell, stack_kept, stack_new, stack_below, cell_behind, ready_same, ready_less, ready_more}
 use Rattle.kernel_core.proofs.Nodes.{count_of_nodes, cell_there, one_cell, cell_kept, cell_added}
 use Rattle.kernel_core.proofs.Trees.{worlds-more, legal_up, legal_down, legal_grown, world_above_kept, world_above_new, undone_world, redone_world, run_here, parent_sound, IsNext, formed_below, next_below, up_possible, down_possible, way_up, way_down, new_legal, new_worlds}
 
@@ -656,3 +658,82 @@ module _ {L : Type 0} (tree : Tree) (runner : Runner L) (cell : Cell) (n : ℕ) 
         whole = whole;
         ready = ready;
       }
+
+-- a redone cell has ended: its bodies are defined over those of the position, and are those of its node
+pub shows_down : {L : Type 0} (tree : Tree) (runner : Runner L) (travel : CodeTravel) (n : ℕ) → Kept tree runner (Inside (record { work = Move travel; count = n; turn = Going })) → next_way (travel_of travel) ≡ Down →
+    HasEnded (past_of tree) (state.Move (travel_of travel)) n (world_of (start_of (code_of (past_of tree) (state.Move (travel_of travel))) (here (past_of tree))).procedures runner) →
+    Shows runner (stack_at tree (below (past_of tree) (travel_of travel))) (world_at (past_of tree) (below (past_of tree) (travel_of travel)))
+shows_down tree runner travel n k way ended =
+    let s : Past = past_of tree in
+    let p : Program = k.stands.program in
+    let of = rw (way, IsProgramOf) at k.stands.of_work in
+    let next = next_below s (travel_of travel) k.legal way k.possible in
+    let stack : stack_in tree (Move travel) p ≡ stack_at tree (below s (travel_of travel)) =
+    rw (way, stack_in) (ap (λ (q : Program). with_bodies q (stack_at tree tree.position)) of.2 ∙ ap (λ (m : ℕ). with_bodies of.0.program (stack_at tree m)) (sym next.parent) ∙ sym (stack_of_cell tree (below s (travel_of travel)) of.0 k.legal of.1)) in
+    let world = ended_down s (travel_of travel) n (world_of (start_of (code_of s (state.Move (travel_of travel))) (here s)).procedures runner) way k.legal k.possible ended in
+    subst (λ (l : List ℕ). Shows runner l (world_at s (below s (travel_of travel)))) stack
+    (subst (λ (w : World). Shows runner (stack_in tree (Move travel) p) w) world (stands_shows runner p (stack_in tree (Move travel) p) (code_of s (state.Move (travel_of travel))) (here s) n false k.stands.stands))
+
+-- a cell is posted: its bodies are kept behind those of all nodes
+pub posted_behind : {L : Type 0} (tree : Tree) (runner : Runner L) (program : Program) → NodesAreReady tree runner → program.first ≡ length (kept_in runner.procedures) → IsBehindNodes tree (RunCell program)
+posted_behind tree runner program ready first = λ n cell is. let within = (ready n cell is).within in omega (arith, within, first)
+
+pub nodes_more : {L : Type 0} (tree : Tree) (runner at : Runner L) → GoOn runner.store.names at.store.names → take (length (kept_in runner.procedures)) (kept_in at.procedures) ≡ kept_in runner.procedures → NodesAreReady tree runner → NodesAreReady tree at
+nodes_more tree runner at more older h = λ n cell is.
+    ready_more at.store.names runner.procedures at.procedures cell.program older (ready_grows runner.store.names at.store.names more runner.procedures cell.program (h n cell is))
+
+pub behind_stack : (tree : Tree) (program : Program) → IsLegal (past_of tree) → AreInOrder tree → IsBehindNodes tree (RunCell program) → AreBelow program.first (stack_at tree tree.position)
+behind_stack tree program legal order behind = stack_below tree legal order program.first tree.position (λ m cell low there. behind m cell there)
+
+-- back at the count 0 what a cell declared and defined is left to be taken back
+module _ {L : Type 0} (tree : Tree) (runner : Runner L) (work : Work) (why : Why) (k : Kept tree runner (Inside (record { work = work; count = 0; turn = Backing why }))) where
+  abbrev start : World
+  start = start_of (code_of (past_of tree) (work_of work)) (here (past_of tree))
+
+  stands_back : (p : Program) → IsProgramOf tree work p → Stands runner p (stack_in tree work p) (code_of (past_of tree) (work_of work)) (here (past_of tree)) 0 true
+  stands_back p of = stands_with tree work 0 true runner p of k.stands
+
+  shows_back : (p : Program) (stack : List ℕ) (w : World) → IsProgramOf tree work p → stack_in tree work p ≡ stack → world_of start.procedures runner ≡ w → Shows runner stack w
+  shows_back p stack w of is world =
+      let s = stands_back p of in
+      subst (λ (l : List ℕ). Shows runner l w) is (subst (λ (v : World). Shows runner (stack_in tree work p) v) world (stands_shows runner p (stack_in tree work p) (code_of (past_of tree) (work_of work)) (here (past_of tree)) 0 true s))
+
+  part_back : CodePart (code_of (past_of tree) (work_of work)) (here (past_of tree)) 0 (world_of start.procedures runner)
+  part_back = stands_part runner k.stands.program (stack_in tree work k.stands.program) (code_of (past_of tree) (work_of work)) (here (past_of tree)) 0 true k.stands.stands
+
+  pub can_leave_cell : (program : Program) → work ≡ RunCell program → IsWhole runner.store → CanLeave runner program (stack_at tree tree.position) (here (past_of tree))
+  can_leave_cell program e whole =
+      let of : IsProgramOf tree work program = rw e refl in
+      let is : stack_in tree work program ≡ with_bodies program (stack_at tree tree.position) = rw e refl in
+      record { shows = shows_back program _ _ of is (began_cell tree work program (world_of start.procedures runner) e part_back); whole = whole; ready = (stands_back program of).ready }
+
+  pub can_leave_down : (travel : CodeTravel) (cell : Cell) → work ≡ Move travel → next_way (travel_of travel) ≡ Down → IsCellAt tree (below (past_of tree) (travel_of travel)) cell → IsWhole runner.store → CanLeave runner cell.program (stack_at tree tree.position) (here (past_of tree))
+  can_leave_down travel cell e way at whole =
+      let of : IsProgramOf tree work cell.program = program_down tree work travel cell e way at in
+      let is : stack_in tree work cell.program ≡ with_bodies cell.program (stack_at tree tree.position) = rw (e, stack_in) (rw way refl) in
+      record { shows = shows_back cell.program _ _ of is (began_down tree work travel (world_of start.procedures runner) cell e way at part_back); whole = whole; ready = (stands_back cell.program of).ready }
+
+  pub shows_up : (travel : CodeTravel) → work ≡ Move travel → next_way (travel_of travel) ≡ Up → Shows runner (stack_at tree tree.position) (here (past_of tree))
+  shows_up travel e way =
+      let p : Program = k.stands.program in
+      let is : stack_in tree work p ≡ stack_at tree tree.position = rw (e, stack_in) (rw way refl) in
+      shows_back p _ _ k.stands.of_work is (began_up tree work travel (world_of start.procedures runner) e way part_back)
+
+  -- the bodies of a posted cell are behind all others, and can be dropped
+  pub below_posted : (program : Program) → work ≡ RunCell program → AreBelow program.first (stack_at tree tree.position)
+  below_posted program e =
+      let behind : IsBehindNodes tree (RunCell program) = subst (λ (w : Work). IsBehindNodes tree w) e k.behind in
+      behind_stack tree program k.legal k.order behind
+
+  pub nodes_forgotten : {M : Type 0} (old new : Runner M) (program : Program) → work ≡ RunCell program → new.store.names ≡ old.store.names → kept_in new.procedures ≡ take program.first (kept_in old.procedures) → NodesAreReady tree old → NodesAreReady tree new
+  nodes_forgotten old new program e names kept ready = λ n cell is.
+      let behind : IsBehindNodes tree (RunCell program) = subst (λ (w : Work). IsBehindNodes tree w) e k.behind in
+      subst (λ (xs : List Name). IsReady xs new.procedures cell.program) (sym names) (ready_less old.store.names old.procedures new.procedures program.first cell.program (behind n cell is) kept (ready n cell is))
+
+-- what is shown stays where bodies that are not defined are dropped
+pub shows_forgotten : {L : Type 0} (old new : Runner L) (from : ℕ) (stack : List ℕ) (w : World) → new.store ≡ old.store → Shows old stack w → AreBelow from stack → kept_in new.procedures ≡ take from (kept_in old.procedures) → AreDefined new.procedures stack → Shows new stack w
+shows_forgotten old new from stack w same shows low kept defined = record {
+  store = ap (λ (h : Held). shown_store h) same ∙ shows.store;
+  one_number = subst (λ (h : Held). HaveOneNumber h.names) (sym same) shows.one_number;
+  defined = subst (λ (h : Held). Define h.names new.procedures stack w.procedures) (sym same) (forgotten_still_defined old.store.names old.procedures new.procedures stack w.procedures from shows.defined low kept defined);
+}

@@ -64,7 +64,7 @@ fn turned(work: &Work, why: Why) -> Outcome
 /// Back at the count 0: the names that were declared at the begin and the procedures that were defined are taken back, and those of a
 /// posted cell are forgotten.
 fn settle_back<L: Ledger>(tree: &Tree, runner: &mut Runner<L>, work: &Work)
-    requires kept { Kept tree.now runner.old (Open.Inside (record { work = work.now; count = 0; turn = Turn.Going })) }
+    requires kept { (why : Why) × Kept tree.now runner.old (Open.Inside (record { work = work.now; count = 0; turn = Turn.Backing why })) }
     requires whole { IsWhole runner.old.store }
     ensures shows { Shows runner.new (stack_at tree.now tree.now.position) (here (past_of tree.now)) }
     ensures ready { NodesAreReady tree.now runner.new }

@@ -1,4 +1,4 @@
-use Rattle.std.proofs.Common.{◌≡◌, List, [], ◌∷◌, ◌++◌, None, Some, sym, ap, ◌∙◌, subst, string_bytes}
+use Rattle.std.proofs.Common.{◌≡◌, List, [], ◌∷◌, ◌++◌, sym, ap, ◌∙◌, subst, string_bytes}
 use Rattle.janus_meaning.specs.Syntax.{Name, Kind}
 use Rattle.janus_meaning.specs.Shape.{Heads, head_at}
 use Rattle.janus_check.specs.Check.{kinds_of as the_kinds_of}

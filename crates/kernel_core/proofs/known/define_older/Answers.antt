@@ -1,4 +1,4 @@
-use Rattle.std.proofs.Common.{◌≡◌, ◌+◌, ◌-◌, ◌<◌, ◌++◌, ◌∷◌, [], ℕ, suc, List, length, map, drop, sym, ap, ◌∙◌, subst, arith, append_assoc}
+use Rattle.std.proofs.Common.{◌≡◌, ◌-◌, ◌++◌, ◌∷◌, [], ℕ, suc, map, drop, sym, ap, ◌∙◌, subst, arith, append_assoc}
 use Rattle.janus_meaning.specs.Shape.{Heads, head_of, heads_of}
 use Rattle.janus_meaning.specs.World.{define}
 use Rattle.janus_check.specs.Names.{heads_in}

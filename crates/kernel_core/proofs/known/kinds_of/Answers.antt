@@ -1,4 +1,4 @@
-use Rattle.std.proofs.Common.{◌≡◌, ◌+◌, ◌++◌, ◌∷◌, [], ℕ, List, take, sym, ap, ◌∙◌, add-one}
+use Rattle.std.proofs.Common.{◌++◌, ◌∷◌, [], ℕ, take, sym, ap, ◌∙◌, add-one}
 use Rattle.std.proofs.lemmas.List.{map-append}
 use Rattle.janus_check.specs.Check.{kinds_of as the_kinds_of}
 use Rattle.janus_check.specs.Names.{meant_kind, meant_kinds}

@@ -1,4 +1,4 @@
-use Rattle.std.proofs.Common.{ℕ, take, sym, ap, ◌∙◌, subst, arith, add-one}
+use Rattle.std.proofs.Common.{ℕ, take, sym, ap, subst, arith, add-one}
 use Rattle.janus_syntax.specs.View.{stm_of, block_of}
 use Rattle.janus_names.specs.Numbers.{IsMet}
 use Rattle.janus_invert.proofs.Meeting.{block_weight, one_lighter}

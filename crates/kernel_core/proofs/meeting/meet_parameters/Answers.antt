@@ -1,4 +1,4 @@
-use Rattle.std.proofs.Common.{◌+◌, ℕ, List, map, take, sym, ap, ◌∙◌, subst, add-one}
+use Rattle.std.proofs.Common.{ℕ, List, map, take, sym, ◌∙◌, subst, add-one}
 use Rattle.janus_meaning.specs.Syntax.{Name, names_of}
 use Rattle.janus_names.specs.Numbers.{IsMet}
 use Rattle.janus_syntax.specs.Tree.{parameters_view}

@@ -1,5 +1,5 @@
-use Rattle.std.proofs.Common.{List, map, sym, ap, ◌∙◌, subst}
-use Rattle.janus_meaning.specs.Syntax.{Name, Blk, names_of}
+use Rattle.std.proofs.Common.{List, map, subst}
+use Rattle.janus_meaning.specs.Syntax.{Name, names_of}
 use Rattle.janus_names.specs.Numbers.{IsMet}
 use Rattle.janus_syntax.specs.Tree.{parameters_view}
 use Rattle.janus_syntax.specs.View.{plain_parameter, block_of}

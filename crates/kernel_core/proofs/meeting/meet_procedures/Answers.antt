@@ -1,4 +1,4 @@
-use Rattle.std.proofs.Common.{◌+◌, ℕ, List, map, take, sym, subst, add-one}
+use Rattle.std.proofs.Common.{ℕ, List, map, take, sym, subst, add-one}
 use Rattle.janus_meaning.specs.Syntax.{Name}
 use Rattle.janus_syntax.specs.Tree.{procedures_view}
 use Rattle.janus_syntax.specs.View.{plain_procedure}

@@ -1,7 +1,3 @@
-use Rattle.std.proofs.Common.{◌≡◌, List, length, map, sym, ap, ◌∙◌, subst, refl}
-use Rattle.janus_meaning.specs.Limit.{parameter_limit}
-use Rattle.janus_meaning.specs.Syntax.{Name, Proc, names_of}
-use Rattle.janus_invert.specs.Procedures.{proc_of}
 use Rattle.kernel_core.proofs.Kept.{body_of_flat}
 use Rattle.kernel_core.proofs.program.keep.Goals as goal
 

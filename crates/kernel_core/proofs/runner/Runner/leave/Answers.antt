@@ -1,9 +1,8 @@
 use Rattle.std.proofs.Common.{◌≡◌, ℕ, List, length, map, arith, sym, ap, ◌∙◌, subst}
 use Rattle.std.proofs.lemmas.List.{length-map}
 use Rattle.std.proofs.lemmas.Grind.{common_steps}
-use Rattle.janus_meaning.specs.Syntax.{Name, Proc}
-use Rattle.janus_meaning.specs.World.{Declaration, declare}
-use Rattle.janus_names.specs.Numbers.{HaveOneNumber}
+use Rattle.janus_meaning.specs.Syntax.{Proc}
+use Rattle.janus_meaning.specs.World.{Declaration}
 use Rattle.janus_syntax.specs.Tree.{procedure_view, procedures_view}
 use Rattle.janus_syntax.specs.View.{plain_procedure}
 use Rattle.janus_machine.specs.Bodies.{AreDefined, onto}
