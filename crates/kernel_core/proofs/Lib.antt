@@ -3,6 +3,7 @@ pub mod Borders
 pub mod Kept
 pub mod Going
 pub mod OlderHeads
+pub mod HeadsAbove
 pub mod LanguageLaws
 pub mod Declared
 pub mod Texts

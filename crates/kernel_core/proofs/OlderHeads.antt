@@ -29,7 +29,7 @@ found_none None P Q h e = h
 
 -- ---- the procedures of a cell, the last one first
 
-heads_over : (more qs : List Proc) → heads_of (define more qs) ≡ heads_of (define more []) ++ heads_of qs
+pub heads_over : (more qs : List Proc) → heads_of (define more qs) ≡ heads_of (define more []) ++ heads_of qs
 heads_over [] qs = refl
 heads_over (p ∷ more) qs =
     heads_over more (p ∷ qs) ∙ sym (ap (λ hs. hs ++ heads_of qs) (heads_over more (p ∷ [])) ∙ append_assoc (heads_of (define more [])) (head_of p ∷ []) (heads_of qs))
