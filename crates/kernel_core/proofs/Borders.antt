@@ -1,5 +1,5 @@
 -- Entering a cell, its inverse, and leaving it: names are declared and procedures defined, and taken back.
-use Rattle.std.proofs.Common.{◌≡◌, ℕ, ◌+◌, ◌≤◌, Bool, false, List, [], ◌∷◌, ◌++◌, length, refl, sym, ap, ◌∙◌, subst, arith}
+use Rattle.std.proofs.Common.{◌≡◌, ℕ, ◌+◌, ◌≤◌, false, List, [], ◌∷◌, ◌++◌, length, refl, sym, ap, ◌∙◌, subst, arith}
 use Rattle.janus_meaning.specs.Syntax.{Name, Blk, Proc, inverse_block}
 use Rattle.janus_meaning.specs.Store.{Store}
 use Rattle.janus_meaning.specs.Shape.{Shape, Heads, shape_of, heads_of}
@@ -10,7 +10,7 @@ use Rattle.janus_meaning.specs.World.{World, Cell, entered, declare, define, sta
 use Rattle.janus_meaning.proofs.Worlds.{oldest_whole, worlds_reverse, entered_is_good}
 use Rattle.janus_meaning.proofs.FormedWorlds.{shape_declared, entered_formed}
 use Rattle.janus_names.specs.Numbers.{HaveOneNumber}
-use Rattle.janus_store.specs.Held.{Held, Caller, IsWhole, given_back, shown_store, live_stacks, stacks_lent, own_names}
+use Rattle.janus_store.specs.Held.{Held, Caller, IsWhole, shown_store, live_stacks, stacks_lent, own_names}
 use Rattle.janus_linear.specs.Open.{locals_in}
 use Rattle.janus_linear.specs.Within.{within}
 use Rattle.janus_machine.specs.Bodies.{kept_in, AreDefined, Define}
@@ -27,7 +27,7 @@ use Rattle.janus_machine.specs.declared.cursor.Cursor.{Cursor}
 use Rattle.janus_machine.specs.declared.procedures.Procedures.{Procedures}
 use Rattle.janus_machine.proofs.BodiesInEffect.{all_defined, all_retired, bodies_from_same}
 use Rattle.janus_machine.proofs.Courses.{blocks_are_safe, books_turn}
-use Rattle.kernel_core.specs.Language.{Code, Forward, Backward, CodeExec, IsFormed, IsSound}
+use Rattle.kernel_core.specs.Language.{Forward, Backward, CodeExec, IsFormed, IsSound}
 use Rattle.kernel_core.specs.Program.{cell_of_program, procedures_of, IsReady, with_bodies}
 use Rattle.kernel_core.specs.Runner.{Becomes, Shows, Stands, CanEnter, CanReturn, CanLeave}
 use Rattle.kernel_core.specs.declared.program.Program.{Program}

@@ -1,5 +1,5 @@
 -- What was met stays met, under its number, as names go on.
-use Rattle.std.proofs.Common.{◌≡◌, ℕ, zero, suc, ◌≤◌, List, [], ◌∷◌, ◌++◌, sym, ap, ◌∙◌, subst, arith, append_assoc, string_bytes}
+use Rattle.std.proofs.Common.{◌≡◌, ℕ, zero, suc, List, [], ◌∷◌, ◌++◌, sym, ap, ◌∙◌, subst, arith, append_assoc, string_bytes}
 use Rattle.std.specs.Prelude.{slice_get, Some, None}
 use Rattle.std.proofs.lemmas.List.{append-nil}
 use Rattle.std.proofs.lemmas.Option.{slice_get_past}
@@ -20,7 +20,7 @@ use Rattle.janus_invert.specs.Met.{AreAllMet}
 use Rattle.janus_machine.specs.Bodies.{kept_in, Define}
 use Rattle.janus_machine.specs.declared.procedures.Procedures.{Procedures}
 use Rattle.janus_machine.proofs.BodiesInEffect.{define_still, bodies_from_still}
-use Rattle.kernel_core.specs.Met.{AreDeclaredMet, MeetsOwn, MeetOwn}
+use Rattle.kernel_core.specs.Met.{AreDeclaredMet, MeetOwn}
 use Rattle.kernel_core.specs.Program.{IsReady, procedures_of}
 use Rattle.kernel_core.specs.declared.program.Program.{Program}
 

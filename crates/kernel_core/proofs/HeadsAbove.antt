@@ -1,7 +1,7 @@
 -- The heads that are found on the path from the position up to a node.
-use Rattle.std.proofs.Common.{◌≡◌, ℕ, ◌+◌, ◌<◌, ◌≤◌, List, [], ◌∷◌, ◌++◌, length, map, append_assoc, refl, sym, ap, ◌∙◌, subst, arith}
+use Rattle.std.proofs.Common.{◌≡◌, ℕ, ◌<◌, List, [], ◌++◌, length, append_assoc, refl, sym, ap, ◌∙◌, subst}
 use Rattle.std.proofs.lemmas.List.{append-nil}
-use Rattle.janus_meaning.specs.Syntax.{Name, Proc}
+use Rattle.janus_meaning.specs.Syntax.{Proc}
 use Rattle.janus_meaning.specs.Shape.{Heads, heads_of}
 use Rattle.janus_meaning.specs.World.{World, Cell as ACell, define}
 use Rattle.kernel_core.specs.State.{Past, node_at, world_at, here}

@@ -31,3 +31,4 @@ pub mod Noted
 pub mod Counting
 pub mod Writing
 pub mod Depths
+pub mod Rows

@@ -1,20 +1,19 @@
 -- The bodies that are defined at a node, and those that stay kept.
-use Rattle.std.proofs.Common.{◌≡◌, ℕ, zero, suc, ◌+◌, ◌-◌, ◌<◌, ◌≤◌, List, [], ◌∷◌, ◌++◌, length, map, get_or, take, Option, None, Some, refl, sym, ap, ◌∙◌, subst, arith}
+use Rattle.std.proofs.Common.{◌≡◌, ℕ, zero, suc, ◌+◌, ◌-◌, ◌<◌, ◌≤◌, List, [], ◌∷◌, ◌++◌, length, map, take, Option, None, Some, refl, sym, ap, ◌∙◌, subst, arith}
 use Rattle.std.specs.Prelude.{slice_get}
-use Rattle.std.proofs.lemmas.List.{length-map, get_or-map}
+use Rattle.std.proofs.lemmas.List.{get_or-map}
 use Rattle.std.proofs.lemmas.Option.{slice_get_within, get_or_from_slice_get}
 use Rattle.cell_tree.specs.Tree.{contents_of}
 use Rattle.cell_tree.specs.declared.node.Node.{Node}
 use Rattle.janus_meaning.specs.Syntax.{Name, Proc}
-use Rattle.janus_names.specs.Numbers.{IsNumbered}
-use Rattle.janus_machine.specs.Bodies.{kept_in, AreBelow, AreBodiesFrom, IsBody}
+use Rattle.janus_machine.specs.Bodies.{kept_in, AreBelow, AreBodiesFrom}
 use Rattle.janus_machine.specs.declared.procedure.Procedure.{Procedure}
 use Rattle.janus_machine.specs.declared.procedures.Procedures.{Procedures}
 use Rattle.janus_machine.proofs.Bodies.{onto_below}
 use Rattle.janus_machine.proofs.BodiesInEffect.{bodies_from_below, bodies_from_same}
 use Rattle.kernel_core.specs.State.{root, node_at}
-use Rattle.kernel_core.specs.Fields.{node_of, nodes_of, past_of}
-use Rattle.kernel_core.specs.Kept.{IsCellAt, IsBefore, AreInOrder, bodies_over, stack_up, stack_at}
+use Rattle.kernel_core.specs.Fields.{node_of, past_of}
+use Rattle.kernel_core.specs.Kept.{IsCellAt, AreInOrder, bodies_over, stack_up, stack_at}
 use Rattle.kernel_core.specs.Legal.{IsLegal}
 use Rattle.kernel_core.specs.Program.{procedures_of, IsReady, with_bodies}
 use Rattle.kernel_core.specs.declared.program.Program.{Program}

@@ -22,7 +22,7 @@ use Rattle.janus_store.specs.Held.{Held, IsWhole, shown_store}
 use Rattle.janus_machine.specs.Bodies.{kept_in, AreBelow, AreDefined, Define}
 use Rattle.janus_machine.proofs.BodiesInEffect.{forgotten_still_defined}
 use Rattle.janus_machine.specs.declared.procedures.Procedures.{Procedures}
-use Rattle.kernel_core.specs.Program.{cell_of_program, procedures_of, IsReady, with_bodies}
+use Rattle.kernel_core.specs.Program.{cell_of_program, IsReady, with_bodies}
 use Rattle.kernel_core.specs.Runner.{world_of, Becomes, Shows, Stands, IsInside, CanEnter, CanReturn, CanLeave}
 use Rattle.kernel_core.specs.Kept.{is_back, IsCellAt, IsBefore, IsBehindNodes, NodesAreReady, AreInOrder, stack_at, stack_in, IsProgramOf, StandsIn, StandsAt, IsWholeAt, Kept, IsKept, HasRoom, HasPath, HasPathFor}
 use Rattle.kernel_core.specs.declared.runner.Runner.{Runner}
@@ -42,9 +42,9 @@ use Rattle.kernel_core.proofs.LanguageLaws.{part_none_forward, part_none_backwar
 use Rattle.kernel_core.proofs.Growing.{ready_grows, defined_grow}
 use Rattle.kernel_core.proofs.Borders.{all_shown}
 use Rattle.kernel_core.proofs.Running.{stands_part}
-use Rattle.kernel_core.proofs.Stacks.{stack_same, stack_of_cell, stack_kept, stack_new, stack_below, cell_behind, ready_same, ready_less, ready_more}
+use Rattle.kernel_core.proofs.Stacks.{stack_same, stack_of_cell, stack_new, stack_below, cell_behind, ready_same, ready_less, ready_more}
 use Rattle.kernel_core.proofs.Nodes.{count_of_nodes, cell_there, one_cell, cell_kept, cell_added}
-use Rattle.kernel_core.proofs.Trees.{worlds-more, legal_up, legal_down, legal_grown, world_above_kept, world_above_new, undone_world, redone_world, run_here, parent_sound, IsNext, formed_below, next_below, up_possible, down_possible, way_up, way_down, new_legal, new_worlds}
+use Rattle.kernel_core.proofs.Trees.{worlds-more, legal_up, legal_down, legal_grown, undone_world, redone_world, run_here, parent_sound, IsNext, formed_below, next_below, up_possible, down_possible, way_up, way_down, new_legal, new_worlds}
 
 -- the shown world is the runner's
 pub shown_by : {L : Type 0} (tree : Tree) (job : Open) (runner : Runner L) → StandsAt tree job runner → ShownAt (past_of tree) (job_of job) (world_of (procedures_at (past_of tree) (job_of job)) runner)

@@ -35,6 +35,7 @@ pub mod Declarable
 pub mod Runner
 pub mod Fields
 pub mod Kept
+pub mod Defined
 pub mod Written
 pub mod MachineParts
 pub mod StateCode

@@ -21,6 +21,7 @@
 //! `runner` alone runs the machine of `janus_machine`. The nodes, the favourites and the way down of a goto are kept by `cell_tree`.
 #![tactic(auto)]
 
+mod defined;
 mod events;
 mod extent;
 mod history;
