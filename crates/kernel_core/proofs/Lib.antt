@@ -4,6 +4,7 @@ pub mod Kept
 pub mod Going
 pub mod OlderHeads
 pub mod HeadsAbove
+pub mod Made
 pub mod LanguageLaws
 pub mod Declared
 pub mod Texts

@@ -1,8 +1,8 @@
 //! The names of a cell, met in the store, so that each has its number there.
 ghost use Rattle.std.specs.Prelude.{◌≡◌, OnOk, map, string_bytes};
 ghost use Rattle.janus_syntax.specs.View.{stm_of, block_of};
-ghost use Rattle.janus_syntax.specs.Tree.{parameter_view, parameters_view, procedure_view, procedures_view};
-ghost use Rattle.janus_syntax.specs.View.{plain_parameter, plain_procedure};
+ghost use Rattle.janus_syntax.specs.Tree.{cell_view, parameter_view, parameters_view, procedure_view, procedures_view};
+ghost use Rattle.janus_syntax.specs.View.{plain_cell, plain_parameter, plain_procedure};
 ghost use Rattle.janus_meaning.specs.Syntax.{names_of};
 ghost use Rattle.janus_invert.specs.Met.{AreAllMet, MeetsLocals, MeetsLocalsOf};
 ghost use Rattle.janus_store.specs.Held.{KeepsSight};
@@ -11,12 +11,28 @@ ghost use Rattle.kernel_core.specs.Program.{declaration_of};
 
 use crate::program::Declared;
 use janus_machine::Store;
-use janus_syntax::tree::{Name, Parameter, Procedure, Stm};
+use janus_syntax::tree::{Cell, Name, Parameter, Procedure, Stm};
 use std::alloc::AllocError;
 use std::sync::ledger::Ledger;
 
+/// Meets the names of a cell: those that it declares, those of its procedures, and its locals. The only error is want of memory.
+pub fn meet_cell<L: Ledger>(
+    store: &mut Store<L>,
+    declarations: &[Declared],
+    cell: &Cell,
+) -> Result<(), AllocError>
+    ensures declared { OnOk result (AreDeclaredMet store.new.names (map declaration_of declarations.now)) }
+    ensures procedures { OnOk result (MeetOwn store.new.names (plain_cell (cell_view cell.now)).procedures) }
+    ensures locals { OnOk result (MeetsLocalsOf store.new.names (plain_cell (cell_view cell.now)).block) }
+    ensures kept { KeepsSight store.old store.new }
+{
+    meet_declared(store, declarations)?;
+    meet_procedures(store, &cell.procedures)?;
+    meet_locals(store, &cell.statements)
+}
+
 /// Meets the names that a cell declares. The only error is want of memory.
-pub fn meet_declared<L: Ledger>(
+fn meet_declared<L: Ledger>(
     store: &mut Store<L>,
     declarations: &[Declared],
 ) -> Result<(), AllocError>
@@ -42,7 +58,7 @@ fn meet_one<L: Ledger>(store: &mut Store<L>, declared: &Declared) -> Result<(), 
 }
 
 /// Meets the names of procedures, of their parameters and of their locals. The only error is want of memory.
-pub fn meet_procedures<L: Ledger>(
+fn meet_procedures<L: Ledger>(
     store: &mut Store<L>,
     procedures: &[Procedure],
 ) -> Result<(), AllocError>
@@ -94,7 +110,7 @@ fn name_of_parameter(parameter: &Parameter) -> &Name
 
 /// Meets the locals of statements. The only error is want of memory.
 #[cycle(meet)]
-pub fn meet_locals<L: Ledger>(store: &mut Store<L>, statements: &[Stm]) -> Result<(), AllocError>
+fn meet_locals<L: Ledger>(store: &mut Store<L>, statements: &[Stm]) -> Result<(), AllocError>
     ensures met { OnOk result (MeetsLocalsOf store.new.names (block_of statements.now)) }
     ensures kept { KeepsSight store.old store.new }
 {
