@@ -1,8 +1,8 @@
 -- Where the names in sight, those that a cell declares and its locals were met, all names of its statements were.
-use Rattle.std.proofs.Common.{◌≡◌, ℕ, zero, suc, ◌<◌, Bool, true, false, List, [], ◌∷◌, ◌++◌, length, map, take, get_or, refl, sym, ap, ◌∙◌, subst, arith, string_bytes, Vec, Global}
-use Rattle.std.specs.Prelude.{Some, None}
-use Rattle.janus_meaning.specs.Fault.{Res, Fine}
-use Rattle.janus_meaning.specs.Syntax.{Name, Kind, ANumber, AnArray, AStack, Blk, Nil, Cons, Proc, names_of}
+use Rattle.std.proofs.Common.{◌≡◌, ℕ, zero, suc, ◌<◌, Bool, true, false, List, [], ◌∷◌, length, map, take, get_or, refl, sym, ap, ◌∙◌, subst, arith, string_bytes, Vec, Global}
+use Rattle.std.specs.Prelude.{Some}
+use Rattle.janus_meaning.specs.Fault.{Fine}
+use Rattle.janus_meaning.specs.Syntax.{Name, Kind, ANumber, AnArray, AStack, Proc, names_of}
 use Rattle.janus_meaning.specs.Store.{Val, Num, Arr, Stk, Lent, Store, Bare, Slot, look, look_at, same_name}
 use Rattle.janus_meaning.specs.Shape.{Shape, Heads, kind_at, head_at, head_of, heads_of, kinds_in, pick_newest, shape_of}
 use Rattle.janus_meaning.specs.World.{Declaration, declared_name}

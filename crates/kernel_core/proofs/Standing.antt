@@ -737,3 +737,27 @@ shows_forgotten old new from stack w same shows low kept defined = record {
   one_number = subst (λ (h : Held). HaveOneNumber h.names) (sym same) shows.one_number;
   defined = subst (λ (h : Held). Define h.names new.procedures stack w.procedures) (sym same) (forgotten_still_defined old.store.names old.procedures new.procedures stack w.procedures from shows.defined low kept defined);
 }
+
+-- ---- a posted cell that could not be entered
+
+-- its text was read, and what it declares and defines is not in effect
+pub record IsUnentered {L : Type 0} (tree : Tree) (old : Runner L) (made : Tree) (at : Runner L) (job : Open) : Type 0 where
+  pub past : past_of made ≡ past_of tree
+  pub nodes : made.cells.nodes ≡ tree.cells.nodes
+  pub position : made.position ≡ tree.position
+  pub names : GoOn old.store.names at.store.names
+  pub whole : IsWhole at.store
+  pub shows : Shows at (stack_at tree tree.position) (here (past_of tree))
+  pub older : take (length (kept_in old.procedures)) (kept_in at.procedures) ≡ kept_in old.procedures
+  pub idle : job ≡ Idle
+
+-- its bodies are dropped
+pub kept_dropped : {L : Type 0} (tree made : Tree) (old at new : Runner L) (job : Open) (first : ℕ) → Kept tree old Idle → IsUnentered tree old made at job → first ≡ length (kept_in old.procedures) → AreBelow first (stack_at tree tree.position) →
+    new.store ≡ at.store → kept_in new.procedures ≡ take first (kept_in at.procedures) → ((stack : List ℕ) → AreDefined at.procedures stack → AreBelow first stack → AreDefined new.procedures stack) → IsKept made new job
+kept_dropped tree made old at new job first k un is low store kept defined =
+    let same : kept_in new.procedures ≡ kept_in old.procedures = kept ∙ ap (λ (n : ℕ). take n (kept_in at.procedures)) is ∙ un.older in
+    let names : GoOn old.store.names new.store.names = subst (λ (h : Held). GoOn old.store.names h.names) (sym store) un.names in
+    let whole : IsWhole new.store = subst (λ (h : Held). IsWhole h) (sym store) un.whole in
+    let shows = shows_forgotten at new first (stack_at tree tree.position) (here (past_of tree)) store un.shows low kept (defined (stack_at tree tree.position) un.shows.defined.defined low) in
+    let idle = kept_idle tree Idle old new k (nodes_ready tree old new names same k.ready) whole shows in
+    subst (λ (j : Open). IsKept made new j) (sym un.idle) (idle_in_time made new (kept_with_room tree made new idle un.past un.nodes un.position))

@@ -1,8 +1,7 @@
-use Rattle.std.proofs.Common.{◌≡◌, ◌<◌, ℕ, map, sym, ap, ◌∙◌, arith}
+use Rattle.std.proofs.Common.{◌<◌, map, sym, ap, ◌∙◌, arith}
 use Rattle.janus_check.specs.Names.{shape_in}
 use Rattle.janus_syntax.specs.Tree.{procedures_view}
 use Rattle.janus_syntax.specs.View.{plain_procedure}
-use Rattle.kernel_core.specs.State.{node_at}
 use Rattle.kernel_core.specs.Fields.{past_of}
 use Rattle.kernel_core.specs.Program.{cell_of_program}
 use Rattle.kernel_core.proofs.Nodes.{count_of_nodes, parent_there, cell_there}
