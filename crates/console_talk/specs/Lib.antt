@@ -5,3 +5,4 @@ pub mod Parents
 pub mod Lines
 pub mod Answers
 pub mod Faults
+pub mod Laws

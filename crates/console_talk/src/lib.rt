@@ -12,6 +12,7 @@
 mod command;
 mod fault;
 mod header;
+pub mod laws;
 mod look;
 mod parent;
 mod request;
