@@ -101,9 +101,13 @@ done d =
     else if is_word (codes "op") (codes "state") d then stands d
     else None
 
--- the data of the kernel's message on a comm
-abbrev pub comm_told : Data → Option Told
-comm_told d =
+-- the data of what the kernel says on a comm
+abbrev pub data_told : Data → Option Told
+data_told d =
     if is_word (codes "status") (codes "ok") d then done d
     else if is_word (codes "status") (codes "refused") d then refused d
     else None
+
+-- the content of the kernel's comm_msg
+abbrev pub comm_told : Data → Option Told
+comm_told content = option_and_then data_told (get (codes "data") content)

@@ -1,6 +1,7 @@
 //! What goes wrong beside the kernel.
 ghost use Rattle.std.specs.Prelude.{◌≡◌};
 
+use crate::told::AnswerFault;
 use jupyter_msg::{MsgFault, Setting};
 use std::alloc::{AllocError, AllocFailed};
 use thiserror::Error;
@@ -17,6 +18,9 @@ pub enum ConsoleFault {
     /// There was no memory.
     #[error("no memory")]
     NoMemory,
+    /// The kernel closed the comm at once: as many are open as may be.
+    #[error("comm refused")]
+    NoComm,
 }
 
 impl ConsoleFault {
@@ -39,16 +43,18 @@ impl ConsoleFault {
             ConsoleFault::BadFile(Setting::SignatureScheme) => "connection file: signature_scheme",
             ConsoleFault::NoConnection => "no connection",
             ConsoleFault::NoMemory => "no memory",
+            ConsoleFault::NoComm => "comm refused",
         }
     }
 
-    /// The status with which the program ends: 2 for a connection file, else 3.
+    /// The status with which the program ends: 1 where the kernel refused the comm, 2 for a connection file, else 3.
     pub fn status(self) -> u8
         ensures { result ≡ status_of self }
     {
         match self {
             ConsoleFault::BadFile(_) => 2,
             ConsoleFault::NoConnection | ConsoleFault::NoMemory => 3,
+            ConsoleFault::NoComm => 1,
         }
     }
 
@@ -65,6 +71,20 @@ impl ConsoleFault {
             | MsgFault::NotJson(_)
             | MsgFault::BadField(_)
             | MsgFault::UnknownType => ConsoleFault::BadFile(Setting::File),
+        }
+    }
+}
+
+impl From<AnswerFault> for ConsoleFault {
+    ghost use Rattle.std.specs.Prelude.{◌≡◌};
+    ghost use Rattle.console_talk.specs.Faults.{answer_fault};
+
+    ghost from_gives = { λ fault e. e ≡ answer_fault fault };
+
+    fn from(fault: AnswerFault) -> Self {
+        match fault {
+            AnswerFault::NoAnswer => ConsoleFault::NoConnection,
+            AnswerFault::Memory => ConsoleFault::NoMemory,
         }
     }
 }

@@ -9,6 +9,7 @@
 //! aside; and, in `laws`, that the kernel's own reading of each request gives what was asked.
 #![tactic(auto)]
 
+mod broadcast;
 mod command;
 mod fault;
 mod header;
@@ -18,6 +19,7 @@ mod parent;
 mod request;
 mod told;
 
+pub use broadcast::{Heard, what_is_heard};
 pub use command::Command;
 pub use fault::ConsoleFault;
 pub use header::{message, session_name};

@@ -341,13 +341,9 @@ fn done(alloc: Global, said: &Value) -> Result<Told, AnswerFault>
     Err(AnswerFault::NoAnswer)
 }
 
-/// What is printed of what the kernel says on a comm, by the data of its message: as `undid 1`, `redid 1`, `went 1 up 2 down` or `refused 73 TooFar`,
-/// and of a state the position and the value text of each name.
-///
-/// # Errors
-/// `NoAnswer` where the data is none that a kernel answers; `Memory`.
-pub fn comm_told(alloc: Global, said: &Value) -> Result<Told, AnswerFault>
-    ensures { Answers result (table.comm_told (view said.now)) }
+/// What is printed of the data of what the kernel says on a comm.
+fn data_told(alloc: Global, said: &Value) -> Result<Told, AnswerFault>
+    ensures { Answers result (table.data_told (view said.now)) }
 {
     if is_word(said, "status", "ok") {
         return done(alloc, said);
@@ -356,4 +352,18 @@ pub fn comm_told(alloc: Global, said: &Value) -> Result<Told, AnswerFault>
         return refused(alloc, said);
     }
     Err(AnswerFault::NoAnswer)
+}
+
+/// What is printed of what the kernel says on a comm, by the content of its `comm_msg`: as `undid 1`, `redid 1`, `went 1 up 2 down` or
+/// `refused 73 TooFar`, and of a state the position and the value text of each name.
+///
+/// # Errors
+/// `NoAnswer` where the content has no data that a kernel answers; `Memory`.
+pub fn comm_told(alloc: Global, content: &Value) -> Result<Told, AnswerFault>
+    ensures { Answers result (table.comm_told (view content.now)) }
+{
+    match member_in(content, "data") {
+        Some(said) => data_told(alloc, said),
+        None => Err(AnswerFault::NoAnswer),
+    }
 }
