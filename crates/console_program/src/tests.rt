@@ -115,7 +115,8 @@ fn written(alloc: Global, octets: &[u8]) -> Result<String, Fail> {
             let opened = open(alloc, frames, KEY)?;
             text.push_str(&opened.message.msg_type(alloc)?)?;
             text.push_str(" ")?;
-            text.push_str(&String::from_utf8(opened.message.content)?)?;
+            let content = opened.message.content.as_slice().to_vec(alloc)?;
+            text.push_str(&String::from_utf8(content)?)?;
             text.push_str("\n")?;
         }
     }
