@@ -1,8 +1,13 @@
 -- The heads that are found on the path from the position up to a node.
 use Rattle.std.proofs.Common.{◌≡◌, ℕ, ◌<◌, List, [], ◌++◌, length, append_assoc, refl, sym, ap, ◌∙◌, subst}
 use Rattle.std.proofs.lemmas.List.{append-nil}
-use Rattle.janus_meaning.specs.Syntax.{Proc}
-use Rattle.janus_meaning.specs.Shape.{Heads, heads_of}
+use Rattle.janus_meaning.specs.Syntax.{Name, Proc}
+use Rattle.std.specs.Prelude.{Result, Ok, Err, IfOk}
+use Rattle.std.proofs.lemmas.Option.{slice_get_within}
+use Rattle.janus_meaning.specs.Shape.{Heads, heads_of, head_at}
+use Rattle.janus_check.specs.Names.{Known, heads_in}
+use Rattle.janus_machine.specs.Bodies.{AreBodies}
+use Rattle.janus_machine.specs.declared.procedure.Procedure.{Procedure}
 use Rattle.janus_meaning.specs.World.{World, Cell as ACell, define}
 use Rattle.kernel_core.specs.State.{Past, node_at, world_at, here}
 use Rattle.kernel_core.specs.Legal.{IsLegal, IsRun}
@@ -47,3 +52,17 @@ above_all_found s n hs g e h =
     let none : heads_of (world_at s n).procedures ≡ [] = ap (λ (k : ℕ). heads_of (world_at s k).procedures) e ∙ ap (λ (w : World). heads_of w.procedures) g.nothing_at_root in
     let all : heads_of (here s).procedures ≡ h.newer = h.all ∙ ap (λ js. h.newer ++ js) none ∙ append-nil h.newer in
     subst (λ (js : Heads). FindTheSame hs js) (sym all) h.found
+
+-- ---- where no body is kept
+
+-- there is no procedure
+pub none_kept : (xs : List Name) (bodies : List Procedure) (stack : List ℕ) (ps : List Proc) → length bodies ≡ 0 → AreBodies xs bodies stack ps → ps ≡ []
+none_kept xs bodies [] [] e h = refl
+none_kept xs bodies [] (p ∷ ps) e h = absurd h
+none_kept xs bodies (i ∷ stack) [] e h = absurd h
+none_kept xs bodies (i ∷ stack) (p ∷ ps) e h = absurd (let within = slice_get_within bodies i h.0.0 h.0.1 in omega arith)
+
+-- and none has to be found
+pub none_found : {E : Type 0} (r : Result Known E) (ps : List Proc) → ps ≡ [] → IfOk r (λ env. env.procedures ≡ []) → IfOk r (λ env. FindTheSame (heads_in env.procedures) (heads_of ps))
+none_found (Ok env) ps none h = subst (λ qs. FindTheSame (heads_in env.procedures) (heads_of qs)) (sym none) (λ f. ap (λ es. head_at f (heads_in es)) h)
+none_found (Err e) ps none h = tt

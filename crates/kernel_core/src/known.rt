@@ -1,5 +1,5 @@
 //! What a cell is checked over: the names that are declared, and the procedures that are defined.
-ghost use Rattle.std.specs.Prelude.{◌≡◌, ◌++◌, [], ◌∷◌, IfOk, OnOk, map};
+ghost use Rattle.std.specs.Prelude.{◌≡◌, ℕ, List, ◌++◌, [], ◌∷◌, IfOk, OnOk, map};
 ghost use Rattle.janus_meaning.specs.Shape.{AreDistinct, Heads, shape_of, head_of, heads_of};
 ghost use Rattle.janus_meaning.specs.World.{define as defined_over};
 ghost use Rattle.janus_meaning.specs.FormedWorld.{HaveValues};
@@ -12,8 +12,10 @@ ghost use Rattle.kernel_core.specs.State.{here};
 ghost use Rattle.kernel_core.specs.Fields.{past_of};
 ghost use Rattle.kernel_core.specs.Known.{FindTheSame};
 ghost use Rattle.kernel_core.specs.Legal.{IsLegal};
+ghost use Rattle.kernel_core.specs.Runner.{Shows};
 
 use crate::program::names_in_sight;
+use crate::runner::Runner;
 use crate::tree::Tree;
 use janus_check::{Env, Kind};
 use janus_machine::Store;
@@ -21,9 +23,29 @@ use janus_syntax::tree::{Parameter, Procedure};
 use std::alloc::{AllocError, Global};
 use std::sync::ledger::Ledger;
 
-/// The declared names of a store, and the procedures that are defined at the position of a tree, as the check of a cell sees them. The
-/// only error is want of memory.
-pub fn known_at<L: Ledger>(alloc: Global, tree: &Tree, store: &Store<L>) -> Result<Env, AllocError>
+/// The declared names of a runner's store, and the procedures that are defined at the position of a tree, as the check of a cell sees
+/// them. Where no body is kept there is no procedure, and the cost is that of the names. The only error is want of memory.
+pub fn known_at<L: Ledger>(
+    alloc: Global,
+    tree: &Tree,
+    runner: &Runner<L>,
+) -> Result<Env, AllocError>
+    requires legal { IsLegal (past_of tree.now) }
+    requires shows { (stack : List ℕ) × Shows runner.now stack (here (past_of tree.now)) }
+    requires values { HaveValues (shown_store runner.now.store) }
+    requires distinct { AreDistinct (shape_of (shown_store runner.now.store)) }
+    ensures names { IfOk result (λ env. shape_in env.names ≡ shape_of (shown_store runner.now.store)) }
+    ensures heads { IfOk result (λ env. FindTheSame (heads_in env.procedures) (heads_of (here (past_of tree.now)).procedures)) }
+{
+    if runner.procedures.len() == 0 {
+        return names_in_sight(alloc, &runner.store);
+    }
+    walk_up(alloc, tree, &runner.store)
+}
+
+/// The declared names of a store, and the procedures on the path from the position of a tree to the root. The only error is want of
+/// memory.
+fn walk_up<L: Ledger>(alloc: Global, tree: &Tree, store: &Store<L>) -> Result<Env, AllocError>
     requires legal { IsLegal (past_of tree.now) }
     requires values { HaveValues (shown_store store.now) }
     requires distinct { AreDistinct (shape_of (shown_store store.now)) }

@@ -4,7 +4,7 @@ use Rattle.janus_check.specs.Names.{shape_in, heads_in}
 use Rattle.janus_store.specs.Held.{shown_store}
 use Rattle.kernel_core.specs.Fields.{past_of}
 use Rattle.kernel_core.proofs.HeadsAbove.{AreAbove}
-use Rattle.kernel_core.proofs.known.known_at.Given as goal
+use Rattle.kernel_core.proofs.known.walk_up.Given as goal
 
 abbrev pub invariant-loop-at : goal.invariant-loop-at
 invariant-loop-at g l =
