@@ -1,5 +1,5 @@
 -- The heads that are found on the path from the position up to a node.
-use Rattle.std.proofs.Common.{◌≡◌, ℕ, ◌<◌, List, [], ◌++◌, length, append_assoc, refl, sym, ap, ◌∙◌, subst}
+use Rattle.std.proofs.Common.{◌≡◌, ◌∷◌, arith, ℕ, ◌<◌, List, [], ◌++◌, length, append_assoc, refl, sym, ap, ◌∙◌, subst}
 use Rattle.std.proofs.lemmas.List.{append-nil}
 use Rattle.janus_meaning.specs.Syntax.{Name, Proc}
 use Rattle.std.specs.Prelude.{Result, Ok, Err, IfOk}
