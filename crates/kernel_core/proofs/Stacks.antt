@@ -161,11 +161,11 @@ module _ (tree : Tree) (legal : IsLegal (past_of tree)) (order : AreInOrder tree
   up_below from (suc k) (suc i) l all =
       over_below from (slice_get tree.cells.nodes i) (stack_up k tree)
       (λ node e.
-        let p = parents_before tree legal i node e in
-        let at : IsCellAt tree (suc i) node.content = cell_of_node tree i node e in (
-          up_below node.content.program.first k node.parent (omega arith) (λ m cell low there. order m (suc i) cell node.content (omega arith) there at),
-          all (suc i) node.content (omega arith) at,
-        ))
+      let p = parents_before tree legal i node e in
+      let at : IsCellAt tree (suc i) node.content = cell_of_node tree i node e in (
+        up_below node.content.program.first k node.parent (omega arith) (λ m cell low there. order m (suc i) cell node.content (omega arith) there at),
+        all (suc i) node.content (omega arith) at,
+      ))
 
   pub stack_below : (from n : ℕ) → AllBefore from n → AreBelow from (stack_at tree n)
   stack_below from n all = up_below from n n (omega arith) all

@@ -40,7 +40,11 @@ fn procedures_of<'a>(tree: &'a Tree, work: &'a Work) -> &'a [Procedure]
         Work::Cell(program) => program.procedures(),
         Work::Move(travel) => match travel.way() {
             Way::Up => &[],
-            Way::Down => tree.cells.content(below(tree, *travel)).program.procedures(),
+            Way::Down => tree
+                .cells
+                .content(below(tree, *travel))
+                .program
+                .procedures(),
         },
     }
 }
