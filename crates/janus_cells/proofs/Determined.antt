@@ -1,5 +1,5 @@
 -- Where memory is ample, each request is served in one way, and so is a list of actions.
-use Rattle.std.proofs.Common.{◌≡◌, ◌∙◌, ℕ, List, [], ◌∷◌, ◌++◌, Bool, inl, inr, refl, sym, ap, subst, append_assoc, Result, Ok, Err, true, false, arith}
+use Rattle.std.proofs.Common.{◌≡◌, ◌≢◌, ◌∙◌, ℕ, List, [], ◌∷◌, ◌++◌, Bool, inl, inr, refl, sym, ap, subst, append_assoc, Result, Ok, Err, true, false, arith}
 use Rattle.std.specs.Prelude.{codes}
 use Rattle.std.specs.Fmt.{digits}
 use Rattle.janus_meaning.specs.Limit.{step_limit}
@@ -26,10 +26,10 @@ use Rattle.kernel_core.specs.declared.outcome.Outcome.{Outcome}
 use Rattle.kernel_core.specs.declared.outcome.Outcome.TheVariants as outcome
 use Rattle.kernel_core.specs.declared.outcome.Refusal.TheVariants as refusal
 use Rattle.kernel_core.specs.declared.outcome.End.TheVariants.{NoMemory}
-use Rattle.janus_cells.specs.Determined.{Holds, TellsWant}
+use Rattle.janus_cells.specs.Determined.{Holds, TellsWant, ListsNothing}
 use Rattle.janus_cells.specs.Lines.{ended_line}
 use Rattle.kernel_text.specs.Lines.{counted_text}
-use Rattle.janus_cells.specs.Script.{Action, RunText, UndoCells, RedoCells, GoToNode, ShowWorld, BadCommand}
+use Rattle.janus_cells.specs.Script.{Action, RunText, UndoCells, RedoCells, GoToNode, ShowWorld, ListProcedures, BadCommand}
 use Rattle.janus_cells.specs.Served.{lane, GoesBack, is_back, not_yet_back, CellFinishes, in_time, interrupted, faulted, FinishesAs, Finishes, ended, going, backing, next_cell, no_next_cell, Came, NotPosted, Finished, Serves, not_posted, at_once, later}
 use Rattle.janus_cells.specs.Transcript.{came_line, Answers, ActionServes, ActionsServe}
 
@@ -337,14 +337,15 @@ answers_same determined stays steps old new other r out more legal (a, s, e) amp
     let same = serves_same determined stays steps old new other r a b legal s (λ l. ample (subst TellsWant (sym e) (lacks_told a l))) s2 (λ l. enough (subst TellsWant (sym e2) (lacks_told b l))) in
     (e ∙ ap (λ (c : Came). ended_line (came_line c)) same.0 ∙ sym e2, same.1)
 
-action_same : StepIsDetermined → StaysLegal → (steps : ℕ) (action : Action) (old new other : Machine) (out more : List ℕ) → IsLegalState old.state → ActionServes steps action old out new → (TellsWant out → ⊥) → ActionServes steps action old more other → (TellsWant more → ⊥)
+action_same : StepIsDetermined → StaysLegal → (steps : ℕ) (action : Action) (old new other : Machine) (out more : List ℕ) → (action ≢ ListProcedures) → IsLegalState old.state → ActionServes steps action old out new → (TellsWant out → ⊥) → ActionServes steps action old more other → (TellsWant more → ⊥)
     → (out ≡ more) × (new ≡ other)
-action_same determined stays steps (RunText text) old new other out more legal a ample b enough = answers_same determined stays steps old new other _ out more legal a ample b enough
-action_same determined stays steps (UndoCells k) old new other out more legal a ample b enough = answers_same determined stays steps old new other _ out more legal a ample b enough
-action_same determined stays steps (RedoCells k) old new other out more legal a ample b enough = answers_same determined stays steps old new other _ out more legal a ample b enough
-action_same determined stays steps (GoToNode n) old new other out more legal a ample b enough = answers_same determined stays steps old new other _ out more legal a ample b enough
-action_same determined stays steps ShowWorld old new other out more legal a ample b enough = (a.0 ∙ sym b.0, a.1 ∙ sym b.1)
-action_same determined stays steps BadCommand old new other out more legal a ample b enough = (a.0 ∙ sym b.0, a.1 ∙ sym b.1)
+action_same determined stays steps (RunText text) old new other out more shows legal a ample b enough = answers_same determined stays steps old new other _ out more legal a ample b enough
+action_same determined stays steps (UndoCells k) old new other out more shows legal a ample b enough = answers_same determined stays steps old new other _ out more legal a ample b enough
+action_same determined stays steps (RedoCells k) old new other out more shows legal a ample b enough = answers_same determined stays steps old new other _ out more legal a ample b enough
+action_same determined stays steps (GoToNode n) old new other out more shows legal a ample b enough = answers_same determined stays steps old new other _ out more legal a ample b enough
+action_same determined stays steps ShowWorld old new other out more shows legal a ample b enough = (a.0 ∙ sym b.0, a.1 ∙ sym b.1)
+action_same determined stays steps ListProcedures old new other out more shows legal a ample b enough = absurd (shows refl)
+action_same determined stays steps BadCommand old new other out more shows legal a ample b enough = (a.0 ∙ sym b.0, a.1 ∙ sym b.1)
 
 action_legal : StaysLegal → (steps : ℕ) (action : Action) (old new : Machine) (out : List ℕ) → IsLegalState old.state → ActionServes steps action old out new → IsLegalState new.state
 action_legal stays steps (RunText text) old new out legal a = serves_legal stays steps legal a.1
@@ -352,15 +353,16 @@ action_legal stays steps (UndoCells k) old new out legal a = serves_legal stays 
 action_legal stays steps (RedoCells k) old new out legal a = serves_legal stays steps legal a.1
 action_legal stays steps (GoToNode n) old new out legal a = serves_legal stays steps legal a.1
 action_legal stays steps ShowWorld old new out legal a = subst (λ (m : Machine). IsLegalState m.state) (sym a.1) legal
+action_legal stays steps ListProcedures old new out legal a = subst (λ (m : Machine). IsLegalState m.state) (sym a.1) legal
 action_legal stays steps BadCommand old new out legal a = subst (λ (m : Machine). IsLegalState m.state) (sym a.1) legal
 
-pub actions_same : StepIsDetermined → StaysLegal → (steps : ℕ) (actions : List Action) (old new other : Machine) (out more : List ℕ) → IsLegalState old.state → ActionsServe steps actions old out new → (TellsWant out → ⊥) → ActionsServe steps actions old more other → (TellsWant more → ⊥)
+pub actions_same : StepIsDetermined → StaysLegal → (steps : ℕ) (actions : List Action) (old new other : Machine) (out more : List ℕ) → ListsNothing actions → IsLegalState old.state → ActionsServe steps actions old out new → (TellsWant out → ⊥) → ActionsServe steps actions old more other → (TellsWant more → ⊥)
     → out ≡ more
-actions_same determined stays steps [] old new other out more legal a ample b enough = a.0 ∙ sym b.0
-actions_same determined stays steps (action ∷ rest) old new other out more legal (mid, first, second, s, r, e) ample (mid2, first2, second2, s2, r2, e2) enough =
+actions_same determined stays steps [] old new other out more shows legal a ample b enough = a.0 ∙ sym b.0
+actions_same determined stays steps (action ∷ rest) old new other out more shows legal (mid, first, second, s, r, e) ample (mid2, first2, second2, s2, r2, e2) enough =
     let told = λ (h : TellsWant (first ++ second)). ample (subst TellsWant (sym e) h) in
     let told2 = λ (h : TellsWant (first2 ++ second2)). enough (subst TellsWant (sym e2) h) in
-    let same = action_same determined stays steps action old mid mid2 first first2 legal s (λ h. told (tells_first first second h)) s2 (λ h. told2 (tells_first first2 second2 h)) in
-    let later = actions_same determined stays steps rest mid new other second second2 (action_legal stays steps action old mid first legal s) r (λ h. told (tells_second first second h))
+    let same = action_same determined stays steps action old mid mid2 first first2 shows.0 legal s (λ h. told (tells_first first second h)) s2 (λ h. told2 (tells_first first2 second2 h)) in
+    let later = actions_same determined stays steps rest mid new other second second2 shows.1 (action_legal stays steps action old mid first legal s) r (λ h. told (tells_second first second h))
     (subst (λ (m : Machine). ActionsServe steps rest m second2 other) (sym same.1) r2) (λ h. told2 (tells_second first2 second2 h)) in
     e ∙ ap (λ t. t ++ second) same.0 ∙ ap (λ t. first2 ++ t) later ∙ sym e2

@@ -6,6 +6,7 @@ pub mod Finishing
 pub mod GoingBack
 pub mod InputLemmas
 pub mod LinesLemmas
+pub mod ListedLemmas
 pub mod ScriptLemmas
 pub mod ServedEnds
 pub mod Serving

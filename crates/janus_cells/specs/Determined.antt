@@ -1,5 +1,9 @@
--- An input has at most one transcript that nowhere tells want of memory, for each number of steps that a cell may take.
-use Rattle.std.specs.Prelude.{◌≡◌, ℕ, ◌⊎◌, List, ◌++◌, codes}
+-- An input has at most one transcript that nowhere tells want of memory, for each number of steps that a cell may take, unless it
+-- asks for the procedures to be listed: what is written of one is its print with places aside, and the name that stands behind a
+-- `delocal` is told by the place of its `local` alone.
+use Rattle.std.specs.Prelude.{◌≡◌, ◌≢◌, ℕ, ◌⊎◌, List, ◌++◌, codes}
+use Rattle.std.specs.List.{AllByRecursion}
+use Rattle.janus_cells.specs.Script.{Action, ListProcedures, script}
 use Rattle.janus_cells.specs.Transcript.{IsTranscript}
 
 -- these octets stand somewhere in a text
@@ -10,8 +14,12 @@ Holds text octets = (before : List ℕ) × (after : List ℕ) × (text ≡ befor
 abbrev pub TellsWant : List ℕ → Type 0
 TellsWant text = Holds text (codes "refused 76 Memory") ⊎ Holds text (codes " then no memory")
 
--- Two transcripts of one input, for the same number of steps, neither of which tells want of memory, are the same.
+-- none of the actions lists the procedures
+abbrev pub ListsNothing : List Action → Type 0
+ListsNothing actions = AllByRecursion (λ action. action ≢ ListProcedures) actions
+
+-- Two transcripts of one input that lists no procedures, for the same number of steps, neither of which tells want of memory, are the same.
 abbrev pub TranscriptIsDetermined : Type 0
 TranscriptIsDetermined =
-    (steps : ℕ) (input out other : List ℕ) →
+    (steps : ℕ) (input out other : List ℕ) → ListsNothing (script input) →
     IsTranscript steps input out → (TellsWant out → ⊥) → IsTranscript steps input other → (TellsWant other → ⊥) → out ≡ other

@@ -7,7 +7,7 @@ use kernel_core::laws::{
     step_is_determined_law,
 };
 
-/// An input has at most one transcript that nowhere tells want of memory: two such are the same.
+/// An input that lists no procedures has at most one transcript that nowhere tells want of memory: two such are the same.
 pub fn transcript_is_determined_law()
     ensures { TranscriptIsDetermined }
 {

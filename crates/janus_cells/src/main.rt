@@ -1,10 +1,10 @@
-//! `janus-cells`: Janus cells with undo, redo and show over a stream of lines.
+//! `janus-cells`: Janus cells with undo, redo, show and list over a stream of lines.
 //!
 //! It reads all standard input, at most 16 MiB, and then runs it line by line. Lines that begin with `%` are commands; all
 //! others gather to the text of a cell. What it promises is said of `run`, over any reader and writer; its clauses speak of
 //! those whose octets are known, as over memory, and std's `Stdin` and `Stdout` tell none. `program` takes the words of the
 //! command line before it; `serve` brings one request of a
-//! kernel to its end; `laws` says that an input has at most one transcript that nowhere tells want of memory, and how a request
+//! kernel to its end; `laws` says that an input that lists no procedures has at most one transcript that nowhere tells want of memory, and how a request
 //! that is served ends; `fault` and `words` say with which status and line the program ends. The language is Janus (Yokoyama and Glück 2007).
 #![tactic(auto)]
 
@@ -15,6 +15,7 @@ mod gathered;
 mod input;
 mod laws;
 mod lines;
+mod listing;
 mod output;
 mod program;
 mod run;

@@ -1,3 +1,6 @@
 pub mod Sending
 pub mod Numbers
 mod Utf8
+pub mod Newest
+-- procedures by name
+pub mod ByName

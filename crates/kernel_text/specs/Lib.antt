@@ -3,3 +3,5 @@ pub mod Lines
 pub mod ValueTexts
 -- procedures
 pub mod Procedures
+-- procedures by name
+pub mod Listing

@@ -12,7 +12,7 @@ pub fn newest_of<'a>(procedures: &[&'a Procedure], name: &str) -> Option<&'a Pro
 {
     for i in 0..procedures.len() {
         let procedure = procedures[i];
-        if procedure.name.text.as_str() == name {
+        if name == procedure.name.text.as_str() {
             return Some(procedure);
         }
     }
