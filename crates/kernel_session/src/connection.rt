@@ -175,8 +175,12 @@ fn close<W: Write, D: Desk>(
     }
 }
 
-/// Sends what goes out before anything is read.
-fn send_opening<W: Write>(writer: &mut W, peer: &Peer) -> Result<(), ServeFault>
+/// Sends what goes out before anything is read: the opening of the role that the peer stands against.
+///
+/// # Errors
+///
+/// `Write` where the writer failed, `Memory` where there is none.
+pub fn send_opening<W: Write>(writer: &mut W, peer: &Peer) -> Result<(), ServeFault>
     ensures ok { OnOk result (Appends (W.contents writer.old) (W.contents writer.new) (opening_of peer.now.role)) }
     ensures err { OnErr result (SentSome (W.contents writer.old) (W.contents writer.new) (opening_of peer.now.role)) }
     ensures midway { IfErr result IsMidway }

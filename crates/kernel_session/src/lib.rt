@@ -31,9 +31,10 @@ mod send;
 mod socket;
 mod talk;
 
-pub use connection::serve;
+pub use connection::{send_opening, serve};
 pub use desk::Desk;
 pub use fault::ServeFault;
 pub use flow::Flow;
+pub use send::send_message;
 pub use socket::Socket;
 pub use talk::Told;

@@ -49,7 +49,11 @@ fn octets_of(alloc: Global, frames: &[Vec<u8>]) -> Result<Vec<u8>, ServeFault>
 }
 
 /// Writes a message of these frames, all at once: all its octets, or a beginning of them.
-pub(crate) fn send_message<W: Write>(
+///
+/// # Errors
+///
+/// `Write` where the writer failed, or where the message is longer than any reader takes; `Memory` where there is none.
+pub fn send_message<W: Write>(
     alloc: Global,
     writer: &mut W,
     frames: &[Vec<u8>],
