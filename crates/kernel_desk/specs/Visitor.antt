@@ -34,10 +34,6 @@ abbrev pub held : Option PassOf → PassOf
 held (Some pass) = pass
 held None = pass_of 0 0
 
-abbrev pub Holds : Option PassOf → Type 0
-Holds (Some pass) = Unit
-Holds None = ⊥
-
 -- ---- broadcasts
 
 -- Read one after another from a place on, these stand behind one another up to another place. Where what stands at the place is no longer kept, it goes on at the

@@ -11,7 +11,19 @@ pub(crate) fn present_date<R: Clock>(rt: &R) -> Option<[u8; 20]>
     ensures { IfSome result IsDate }
 {
     match Timestamp::now(rt) {
-        Ok(instant) if has_date(instant) => Some(date_text(instant)),
-        _ => None,
+        Ok(instant) => date_of(instant),
+        Err(_) => None,
+    }
+}
+
+/// The date of an instant, to the second, as text; `None` where its year is not 0 to 9999.
+fn date_of(instant: Timestamp) -> Option<[u8; 20]>
+    ensures { IfSome result IsDate }
+{
+    let is_dated = has_date(instant);
+    if is_dated {
+        Some(date_text(instant))
+    } else {
+        None
     }
 }

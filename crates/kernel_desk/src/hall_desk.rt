@@ -31,14 +31,14 @@ pub struct HallDesk<'a, W: Ledger, L: Ledger, R: Wait + Clock> {
 }
 
 impl<'a, W: Ledger, L: Ledger, R: Wait + Clock> Model for HallDesk<'a, W, L, R> {
-    ghost use Rattle.std.specs.Prelude.{◌≡◌};
-    ghost use Rattle.kernel_desk.specs.Visitor.{Visitor, held, Holds};
+    ghost use Rattle.std.specs.Prelude.{◌≡◌, true, is_some};
+    ghost use Rattle.kernel_desk.specs.Visitor.{Visitor, held};
 
     ghost Value = { Visitor };
 
     ghost view = { λ d. record { pass = held d.pass; seat = d.seat; place = d.place.number; was_shut = d.was_shut } };
 
-    ghost invariant = { λ d. Holds d.pass × (d.seat.bell ≡ d.hall) };
+    ghost invariant = { λ d. (is_some d.pass ≡ true) × (d.seat.bell ≡ d.hall.now) };
 }
 
 impl<'a, W: Ledger, L: Ledger, R: Wait + Clock> HallDesk<'a, W, L, R> {
