@@ -1,7 +1,6 @@
 -- What a desk before a hall holds, and what each call leads to. What lies under the hall's lock when a call takes it can't be named, so an answer is said to be
 -- that of some legal kernel.
 use Rattle.std.specs.Prelude.{◌≡◌, ℕ, ◌+◌, ◌≤◌, ℤ, ◌<◌, Bool, true, List, [], ◌++◌, ◌⊎◌, Option, Some, None, Result, Ok, Err, length}
-use Rattle.kernel_core.specs.Request.{Request}
 use Rattle.kernel_core.specs.Runs.{Machine}
 use Rattle.kernel_core.specs.LegalMinutes.{IsLegalMachine}
 use Rattle.kernel_core.specs.declared.post.PostFault.{PostFault}
@@ -18,7 +17,7 @@ use Rattle.kernel_bell.specs.Views.{after_look, after_raise}
 use Rattle.kernel_board.specs.Frames.{Frames}
 use Rattle.kernel_board.specs.Log.{Log, IsLog, oldest_of}
 use Rattle.kernel_board.specs.Reads.{batch_from}
-use Rattle.kernel_session.specs.Question.{Question, question_of, Change, Wishes}
+use Rattle.kernel_session.specs.Question.{Question, question_of}
 use Rattle.kernel_session.specs.Call.{Call, Posted, Asked, Changed, Rang, Shut, Published, Kept, Dated}
 use Rattle.stamp_texts.specs.Date.{HasDate, IsDateText}
 

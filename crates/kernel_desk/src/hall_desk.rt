@@ -153,7 +153,8 @@ impl<W: Ledger, L: Ledger, R: Wait + Clock> Desk for HallDesk<'_, W, L, R> {
     }
 
     fn ring(&mut self) {
-        self.hall.bell().ring(&mut self.seat);
+        let HallDesk { hall, seat, .. } = self;
+        let _serial = hall.bell().ring(seat);
     }
 
     fn shut(&mut self) {
@@ -174,8 +175,9 @@ impl<W: Ledger, L: Ledger, R: Wait + Clock> Desk for HallDesk<'_, W, L, R> {
 
     /// The present date, where its year is 0 to 9999; else the date stays.
     fn date(&mut self, stamp: &mut Stamp) {
-        if let Some(date) = present_date(self.rt) {
-            stamp.date = date;
-        }
+        let Some(date) = present_date(self.rt) else {
+            return;
+        };
+        stamp.date = date;
     }
 }

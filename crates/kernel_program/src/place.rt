@@ -81,12 +81,7 @@ pub(crate) fn attend_subscribers<
     W: Ledger + Send + Sync,
     L: Ledger + Send + Sync,
     R: Threads + Wait + Clock + Sync,
->(
-    rt: &R,
-    house: &House<W, L>,
-    door: &Door,
-    place: usize,
-) {
+>(rt: &R, house: &House<W, L>, door: &Door, place: usize) {
     for _ in rt.forever() {
         if house.is_ending() {
             break;

@@ -78,12 +78,7 @@ where
 }
 
 /// Serves the sockets of a connection file until a shutdown was answered.
-fn serve_file<R, O: Write>(
-    rt: &R,
-    alloc: Global,
-    path: &str,
-    out: &mut O,
-) -> Result<(), StartFault>
+fn serve_file<R, O: Write>(rt: &R, alloc: Global, path: &str, out: &mut O) -> Result<(), StartFault>
 where
     R: Net<Listener = TcpListener, Stream = TcpStream>
         + Files

@@ -123,7 +123,22 @@ where
     let desks = &mut desks;
     scope.spawn(move || worker.run(rt)).is_ok()
         && start_places(scope, rt, house, desks, &doors.shell, Socket::Shell, 0)
-        && start_places(scope, rt, house, desks, &doors.control, Socket::Control, PLACES)
+        && start_places(
+            scope,
+            rt,
+            house,
+            desks,
+            &doors.control,
+            Socket::Control,
+            PLACES,
+        )
         && start_quiet(scope, rt, house, &doors.stdin, Socket::Stdin, 2 * PLACES)
-        && start_quiet(scope, rt, house, &doors.heartbeat, Socket::Heartbeat, 3 * PLACES)
+        && start_quiet(
+            scope,
+            rt,
+            house,
+            &doors.heartbeat,
+            Socket::Heartbeat,
+            3 * PLACES,
+        )
 }

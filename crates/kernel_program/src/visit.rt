@@ -122,12 +122,7 @@ pub(crate) fn receive_subscriber<
     W: Ledger + Send + Sync,
     L: Ledger + Send + Sync,
     R: Threads + Wait + Sync,
->(
-    rt: &R,
-    house: &House<W, L>,
-    place: usize,
-    stream: TcpStream,
-) {
+>(rt: &R, house: &House<W, L>, place: usize, stream: TcpStream) {
     let Some(line) = let_in(rt, house.alloc, &house.subscribers, place, stream) else {
         return;
     };

@@ -27,7 +27,9 @@ fn command<'a>(alloc: Global) -> Result<Command<'a>, AllocError> {
         .help("The connection file, by which frontends find the kernel");
     Command::new(alloc, "janus-kernel")
         .bin_name("janus-kernel")?
-        .about("Serves a kernel of Janus to the frontends of Jupyter, over the sockets that a connection file names.")
+        .about(
+            "Serves a kernel of Janus to the frontends of Jupyter, over the sockets that a connection file names.",
+        )
         .arg(file)
 }
 
