@@ -1,10 +1,15 @@
 //! The two halves of a subscriber's connection.
-ghost use Rattle.std.specs.Prelude.{◌≡◌, IfOk, OnOk, OnErr};
+ghost use Rattle.std.specs.Prelude.{List, IfOk, OnOk, OnErr};
+ghost use Rattle.std.specs.List.{flat_map};
+ghost use Rattle.std.specs.Io.KnownBytes.{Appends};
+ghost use Rattle.zmtp_wire.specs.Message.{message_octets};
+ghost use Rattle.kernel_board.specs.Frames.{Frames};
+ghost use Rattle.kernel_iopub.specs.Round.{SentSome, IsPiece};
 
 use crate::bulletin::Bulletin;
 use crate::fault::SubscriberFault;
 use crate::send::send_message;
-use crate::subscriber::{Subscriber, fall_silent, look, take, wants};
+use crate::subscriber::{Subscriber, fall_silent, look, take, wanted};
 use kernel_board::{Broadcast, Place, Read as BoardRead};
 use std::alloc::Global;
 use std::io::{Read, Write};
@@ -46,30 +51,20 @@ pub(crate) fn hear<R: Wait, I: Read>(
     heard
 }
 
-/// Writes a broadcast, where the peer has subscribed to it.
-fn show<R: Wait, W: Write>(
-    rt: &R,
+/// Writes broadcasts in turn: all of them, or some and a beginning of the next.
+fn send_all<W: Write>(
     alloc: Global,
-    shared: &Mutex<Subscriber>,
-    writer: &mut W,
-    broadcast: &Broadcast,
-) -> Result<(), SubscriberFault> {
-    if wants(rt, shared, broadcast.topic()) {
-        return send_message(alloc, writer, broadcast.frames());
-    }
-    Ok(())
-}
-
-/// Writes broadcasts in turn, as far as the peer has subscribed to them.
-fn show_all<R: Wait, W: Write>(
-    rt: &R,
-    alloc: Global,
-    shared: &Mutex<Subscriber>,
     writer: &mut W,
     broadcasts: &[Broadcast],
-) -> Result<(), SubscriberFault> {
+) -> Result<(), SubscriberFault>
+    ensures ok { OnOk result (Appends (W.contents writer.old) (W.contents writer.new) (flat_map message_octets broadcasts.now)) }
+    ensures err { OnErr result (SentSome (W.contents writer.old) (W.contents writer.new) (flat_map message_octets broadcasts.now)) }
+{
     for broadcast in broadcasts {
-        show(rt, alloc, shared, writer, broadcast)?;
+        match send_message(alloc, writer, broadcast.frames()) {
+            Ok(()) => {}
+            Err(fault) => return Err(fault),
+        }
     }
     Ok(())
 }
@@ -82,12 +77,16 @@ fn write_from<R: Wait, W: Write>(
     shared: &Mutex<Subscriber>,
     writer: &mut W,
     place: Place,
-) -> Result<Place, SubscriberFault> {
+) -> Result<Place, SubscriberFault>
+    ensures { IfOk result (λ next. (kept : List Frames) × IsPiece place.number next.number kept
+        × Appends (W.contents writer.old) (W.contents writer.new) (flat_map message_octets kept)) }
+{
     match bulletin.read_from(rt, place) {
         Err(_) => Err(SubscriberFault::Memory),
         Ok(BoardRead::Lagged(_)) => Err(SubscriberFault::Lagged),
         Ok(BoardRead::Got(broadcasts, next)) => {
-            show_all(rt, alloc, shared, writer, &broadcasts)?;
+            let kept = wanted(rt, alloc, shared, &broadcasts)?;
+            send_all(alloc, writer, &kept)?;
             Ok(next)
         }
     }

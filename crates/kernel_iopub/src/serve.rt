@@ -49,8 +49,9 @@ pub fn serve_subscriber<R: Threads + Wait + Sync, I: Read, W: Write + HangUp + S
     let shared = Mutex::new(subscriber);
     let shared_by = &shared;
     thread::scope(thread::scope_env(), rt, |scope| {
-        let started =
-            scope.spawn(move || speak_and_hang_up(rt, alloc, bulletin, shared_by, writer));
+        let started = scope.spawn(move || speak_and_hang_up(
+            rt, alloc, bulletin, shared_by, writer,
+        ));
         if started.is_err() {
             return Err(SubscriberFault::Memory);
         }

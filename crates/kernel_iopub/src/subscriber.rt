@@ -1,18 +1,18 @@
 //! What the two halves of a subscriber's connection share.
-ghost use Rattle.std.specs.Prelude.{◌≡◌, ℕ, List, [], IsTrue, ◌↔◌, IfSome};
+ghost use Rattle.std.specs.Prelude.{ℕ, List, [], IfOk};
 ghost use Rattle.zmtp_peer.specs.Events.{Event};
 ghost use Rattle.zmtp_peer.specs.Reading.{Stands};
-ghost use Rattle.zmtp_peer.specs.Subscriptions.{IsWanted};
+ghost use Rattle.kernel_iopub.specs.Round.{AreWanted, AreSome};
 
 use crate::bulletin::Bulletin;
 use crate::fault::SubscriberFault;
-use kernel_board::Place;
+use kernel_board::{Broadcast, Place};
 use std::alloc::Global;
 use std::sync::{Mutex, Wait};
 use zmtp_peer::{Peer, PeerEvent, PeerFault, Role};
 use zmtp_wire::WireFault;
 
-/// The peer, and how far it is. Its type keeps that the peer stands where some octets have led it.
+/// The peer, and how far it is.
 #[derive(Drop)]
 pub(crate) struct Subscriber {
     peer: Peer,
@@ -20,7 +20,6 @@ pub(crate) struct Subscriber {
     joined: Option<Place>,
     /// Nothing more comes from it.
     is_silent: bool,
-    ghost stands: { (fed : List ℕ) × (given : List Event) × Stands fed given peer },
 }
 
 /// What the writing half finds.
@@ -78,6 +77,29 @@ impl Subscriber {
     }
 }
 
+/// Those of the broadcasts to which a peer has subscribed, in their order.
+fn wanted_of(
+    alloc: Global,
+    peer: &Peer,
+    broadcasts: &[Broadcast],
+) -> Result<Vec<Broadcast>, SubscriberFault>
+    ensures some { IfOk result (λ kept. AreSome broadcasts.now kept.items) }
+    ensures wanted { IfOk result (λ kept. (fed : List ℕ) (given : List Event) → Stands fed given peer.now → AreWanted given broadcasts.now kept.items) }
+{
+    let mut kept: Vec<Broadcast> = Vec::new(alloc);
+    for broadcast in broadcasts {
+        if peer.wants(broadcast.topic()) {
+            let Ok(copy) = broadcast.clone() else {
+                return Err(SubscriberFault::Memory);
+            };
+            if kept.push(copy).is_err() {
+                return Err(SubscriberFault::Memory);
+            }
+        }
+    }
+    Ok(kept)
+}
+
 /// Feeds the peer what came, and tells its fault.
 pub(crate) fn take<R: Wait>(
     rt: &R,
@@ -107,10 +129,15 @@ pub(crate) fn look<R: Wait>(rt: &R, shared: &Mutex<Subscriber>) -> Sight {
     }
 }
 
-/// Whether the peer has subscribed to a topic.
-pub(crate) fn wants<R: Wait>(rt: &R, shared: &Mutex<Subscriber>, topic: &[u8]) -> bool
-    ensures { (given : List Event) × (IsTrue result ↔ IsWanted given topic.now) }
+/// Those of the broadcasts that the peer wants.
+pub(crate) fn wanted<R: Wait>(
+    rt: &R,
+    alloc: Global,
+    shared: &Mutex<Subscriber>,
+    broadcasts: &[Broadcast],
+) -> Result<Vec<Broadcast>, SubscriberFault>
+    ensures { IfOk result (λ kept. AreSome broadcasts.now kept.items) }
 {
     let subscriber = shared.lock(rt);
-    subscriber.peer.wants(topic)
+    wanted_of(alloc, &subscriber.peer, broadcasts)
 }
