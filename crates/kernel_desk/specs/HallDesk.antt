@@ -16,7 +16,7 @@ use Rattle.kernel_bell.specs.Views.{after_look, after_raise}
 use Rattle.stamp_texts.specs.Date.{IsDateText}
 use Rattle.kernel_session.specs.Question.{Question, question_of}
 use Rattle.kernel_session.specs.Call.{Call, Posted, Asked, Changed, Rang, Shut, Published, Kept, Dated}
-use Rattle.kernel_desk.specs.Kept.{AreKept}
+use Rattle.kernel_desk.specs.Kept.{AreReadUpTo}
 
 -- what a frontend has of a hall: its pass, its seat at the bell, and whether a shutdown came to it
 pub record Frontend : Type 0 where
@@ -66,5 +66,5 @@ hall_leads old (Changed change told) new = IsChanged told × (new ≡ old)
 hall_leads old Rang new = IsRung old new
 hall_leads old Shut new = new ≡ record old { was_shut = true }
 hall_leads old (Published b) new = new ≡ old
-hall_leads old (Kept bs) new = AreKept bs × (new ≡ old)
+hall_leads old (Kept bs) new = ((next : ℕ) × AreReadUpTo bs next) × (new ≡ old)
 hall_leads old (Dated before after) new = IsDate before after × (new ≡ old)

@@ -28,10 +28,9 @@ abbrev pub joined : List (List Frames) → List Frames
 joined [] = []
 joined (got ∷ pieces) = got ++ joined pieces
 
--- broadcasts that stood on the board from one place to another, without a gap
-pub record AreKept (bs : List Frames) : Type 0 where
+-- broadcasts that were read from some place up to this one, without a gap
+pub record AreReadUpTo (bs : List Frames) (next : ℕ) : Type 0 where
   pub from : ℕ
-  pub next : ℕ
   pub pieces : List (List Frames)
   pub reads : AreReads from pieces next
   pub all : bs ≡ joined pieces

@@ -1,8 +1,8 @@
 //! The hall as a desk.
 ghost use Rattle.std.specs.Prelude.{◌≡◌, false};
 
+use crate::date::date_now;
 use crate::kept::all_kept;
-use jiff::Timestamp;
 use kernel_ask::{Answer, Ask, Done, HallFault, Wish};
 use kernel_bell::RingerSeat;
 use kernel_board::Broadcast;
@@ -11,10 +11,8 @@ use kernel_hall::{CommChange, Hall, Pass};
 use kernel_iopub::Bulletin;
 use kernel_message::Stamp;
 use kernel_session::Desk;
-use stamp_texts::{date_text, has_date};
 use std::alloc::{AllocError, Global};
 use std::marker::Model;
-use std::str;
 use std::sync::Wait;
 use std::sync::ledger::Ledger;
 use std::time::Clock;
@@ -129,15 +127,9 @@ impl<'a, W: Ledger, L: Ledger, R: Wait + Clock> Desk for HallDesk<'a, W, L, R> {
     }
 
     fn date(&mut self, stamp: &mut Stamp) {
-        let Ok(instant) = Timestamp::now(self.rt) else {
+        let Some(date) = date_now(self.rt) else {
             return;
         };
-        if !has_date(instant) {
-            return;
-        }
-        let date = date_text(instant);
-        if str::from_utf8(&date).is_ok() {
-            stamp.date = date;
-        }
+        stamp.date = date;
     }
 }

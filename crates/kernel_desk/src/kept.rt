@@ -1,6 +1,6 @@
 //! All broadcasts that are kept.
-ghost use Rattle.std.specs.Prelude.{◌≡◌, ℕ, IfOk, IfSome};
-ghost use Rattle.kernel_desk.specs.Kept.{AreReads, AreKept};
+ghost use Rattle.std.specs.Prelude.{ℕ, IfOk, OnOk};
+ghost use Rattle.kernel_desk.specs.Kept.{AreReadUpTo};
 
 use kernel_board::{Broadcast, KEPT, MOST, Place, Read};
 use kernel_iopub::Bulletin;
@@ -20,6 +20,31 @@ fn oldest<R: Wait>(rt: &R, bulletin: &Bulletin) -> Result<Place, AllocError> {
     }
 }
 
+/// Reads on from the place, behind what was read. Where that has fallen off the board, it begins anew there. Whether there may be more.
+fn read_more<R: Wait>(
+    rt: &R,
+    bulletin: &Bulletin,
+    kept: &mut Vec<Broadcast>,
+    place: &mut Place,
+) -> Result<bool, AllocError>
+    ensures { OnOk result (AreReadUpTo kept.old.items place.old.number → AreReadUpTo kept.new.items place.new.number) }
+{
+    match bulletin.read_from(rt, *place) {
+        Ok(Read::Got(mut got, next)) => {
+            let is_more = !got.is_empty();
+            kept.append(&mut got)?;
+            *place = next;
+            Ok(is_more)
+        }
+        Ok(Read::Lagged(oldest)) => {
+            kept.clear();
+            *place = oldest;
+            Ok(true)
+        }
+        Err(_) => Err(AllocError),
+    }
+}
+
 /// The broadcasts that the board keeps, the oldest first, read one piece after the other without a gap. Where a piece has fallen off the
 /// board meanwhile, it begins anew there.
 pub(crate) fn all_kept<R: Wait>(
@@ -27,24 +52,14 @@ pub(crate) fn all_kept<R: Wait>(
     alloc: Global,
     bulletin: &Bulletin,
 ) -> Result<Vec<Broadcast>, AllocError>
-    ensures { IfOk result (λ kept. AreKept kept.items) }
+    ensures { IfOk result (λ kept. (next : ℕ) × AreReadUpTo kept.items next) }
 {
     let mut kept: Vec<Broadcast> = Vec::new(alloc);
     let mut place = oldest(rt, bulletin)?;
     for _ in 0..READS {
-        match bulletin.read_from(rt, place) {
-            Ok(Read::Got(mut got, next)) => {
-                if got.is_empty() {
-                    break;
-                }
-                kept.append(&mut got)?;
-                place = next;
-            }
-            Ok(Read::Lagged(oldest)) => {
-                kept.clear();
-                place = oldest;
-            }
-            Err(_) => return Err(AllocError),
+        let is_more = read_more(rt, bulletin, &mut kept, &mut place)?;
+        if !is_more {
+            break;
         }
     }
     Ok(kept)

@@ -10,6 +10,7 @@
 //! [`SilentDesk`] is the desk of a socket on which nothing is asked.
 #![tactic(auto)]
 
+mod date;
 mod hall_desk;
 mod kept;
 mod silent_desk;
