@@ -3,7 +3,7 @@ use Rattle.std.proofs.Common.{◌≡◌, ℕ, Bool, true, false, List, [], ◌�
 use Rattle.std.proofs.lemmas.List.Elements.{All-cons, Contains-append_right}
 use Rattle.std.specs.Prelude.{◌==◌}
 use Rattle.janus_check.specs.declared.fault.CheckFault.{CheckFault}
-use Rattle.janus_check.specs.declared.fault.CheckFault.TheVariants.{Declared, Unknown, WrongKind, SelfUse, Shadow, TooMany, ArrayLength, Memory}
+use Rattle.janus_check.specs.declared.fault.CheckFault.TheVariants.{Declared, Unknown, WrongKind, SelfUse, SameArgument, Arity, Shadow, ChangedParameters, TooMany, ArrayLength, Memory}
 use Rattle.janus_syntax.specs.declared.token.Span.{Span}
 use Rattle.janus_check.proofs.Orders.{earlier-self, earlier-other, earlier-through, same-first, same-second, same-third}
 use Rattle.janus_check.specs.Fault.{number_of, start_of, end_of, comes_before, IsFirst, sooner_of, first_from}
@@ -99,13 +99,16 @@ place_of (Declared at) = at
 place_of (Unknown at) = at
 place_of (WrongKind at) = at
 place_of (SelfUse at) = at
+place_of (SameArgument at) = at
+place_of (Arity at) = at
 place_of (Shadow at) = at
+place_of (ChangedParameters at) = at
 place_of (TooMany at) = at
 place_of (ArrayLength at) = at
 
 -- the fault of a number at a place
 abbrev told : ℕ → Span → CheckFault
-told n at = if n == 35 then Memory else if n == 40 then Declared at else if n == 41 then Unknown at else if n == 42 then WrongKind at else if n == 43 then SelfUse at else if n == 46 then Shadow at else if n == 48 then TooMany at else ArrayLength at
+told n at = if n == 35 then Memory else if n == 40 then Declared at else if n == 41 then Unknown at else if n == 42 then WrongKind at else if n == 43 then SelfUse at else if n == 44 then SameArgument at else if n == 45 then Arity at else if n == 46 then Shadow at else if n == 47 then ChangedParameters at else if n == 48 then TooMany at else ArrayLength at
 
 told_is : (f : CheckFault) → f ≡ told (number_of f) (place_of f)
 told_is Memory = refl
@@ -113,7 +116,10 @@ told_is (Declared at) = refl
 told_is (Unknown at) = refl
 told_is (WrongKind at) = refl
 told_is (SelfUse at) = refl
+told_is (SameArgument at) = refl
+told_is (Arity at) = refl
 told_is (Shadow at) = refl
+told_is (ChangedParameters at) = refl
 told_is (TooMany at) = refl
 told_is (ArrayLength at) = refl
 
@@ -123,7 +129,10 @@ place_is (Declared at) = refl
 place_is (Unknown at) = refl
 place_is (WrongKind at) = refl
 place_is (SelfUse at) = refl
+place_is (SameArgument at) = refl
+place_is (Arity at) = refl
 place_is (Shadow at) = refl
+place_is (ChangedParameters at) = refl
 place_is (TooMany at) = refl
 place_is (ArrayLength at) = refl
 

@@ -2,8 +2,8 @@
 use Rattle.std.proofs.Common.{◌≡◌, ℕ, ◌+◌, ◌≤◌, suc, Bool, true, false, List, [], ◌∷◌, ◌++◌, Option, Some, None, length, refl, ap, ◌∙◌, sym, is_some, arith}
 use Rattle.janus_meaning.specs.Syntax as tree
 use Rattle.janus_meaning.specs.Store.{same_name}
-use Rattle.janus_meaning.specs.Shape.{Shape, kind_at, pick_newest, stack_count, count_stack}
-use Rattle.janus_check.specs.Names.{meant_kind, kind_found, is_in, over, shape_in}
+use Rattle.janus_meaning.specs.Shape.{Shape, at_name, kind_at, pick_newest, stack_count, count_stack, count_new, different}
+use Rattle.janus_check.specs.Names.{meant_kind, kind_found, is_in, above, AreAdded, over, shape_in}
 use Rattle.janus_check.specs.declared.env.Kind.{Kind}
 
 -- a kind, or another where the name is not there
@@ -45,16 +45,67 @@ out_of_own x g es h = out_is_none (kind_at x (shape_in es)) (kind_at x g) (sym (
 
 -- ---- how many
 
-pub length-over : (g : Shape) (es : List (List ℕ × Kind)) → length (over g es) ≡ length g + length es
-length-over g [] = omega arith
-length-over g (e ∷ es) = let ih = length-over ((e.0, meant_kind e.1) ∷ g) es in ih ∙ omega arith
+pub length-above : {V A : Type 0} (m : V → A) (g : List (tree.Name × A)) (es : List (List ℕ × V)) → length (above m g es) ≡ length g + length es
+length-above m g [] = omega arith
+length-above m g (e ∷ es) = let ih = length-above m ((e.0, m e.1) ∷ g) es in ih ∙ omega arith
 
-pub over-append : (g : Shape) (xs ys : List (List ℕ × Kind)) → over g (xs ++ ys) ≡ over (over g xs) ys
-over-append g [] ys = refl
-over-append g (e ∷ xs) ys = over-append ((e.0, meant_kind e.1) ∷ g) xs ys
+pub length-alone : {V A : Type 0} (m : V → A) (es : List (List ℕ × V)) → length (above m [] es) ≡ length es
+length-alone m es = let e = length-above m [] es in e ∙ omega arith
+
+pub length-over : (g : Shape) (es : List (List ℕ × Kind)) → length (over g es) ≡ length g + length es
+length-over g es = length-above meant_kind g es
 
 pub length-shape : (es : List (List ℕ × Kind)) → length (shape_in es) ≡ length es
-length-shape es = let e = length-over [] es in e ∙ omega arith
+length-shape es = length-alone meant_kind es
+
+pub above-append : {V A : Type 0} (m : V → A) (g : List (tree.Name × A)) (xs ys : List (List ℕ × V)) → above m g (xs ++ ys) ≡ above m (above m g xs) ys
+above-append m g [] ys = refl
+above-append m g (e ∷ xs) ys = above-append m ((e.0, m e.1) ∷ g) xs ys
+
+pub over-append : (g : Shape) (xs ys : List (List ℕ × Kind)) → over g (xs ++ ys) ≡ over (over g xs) ys
+over-append g xs ys = above-append meant_kind g xs ys
+
+count_bound : {A : Type 0} (o : Option A) (n m : ℕ) → n ≤ m → count_new o n ≤ suc m
+count_bound (Some a) n m h = omega (arith, h)
+count_bound None n m h = omega (arith, h)
+
+-- no more different names than names
+pub different_within : {A : Type 0} (g : List (tree.Name × A)) → different g ≤ length g
+different_within [] = omega arith
+different_within (e ∷ g) = count_bound (at_name e.0 g) (different g) (length g) (different_within g)
+
+-- where none was there when it was added, they are as many
+different_above : {V A : Type 0} (m : V → A) (g : List (tree.Name × A)) (es : List (List ℕ × V)) → AreAdded m g es → different (above m g es) ≡ different g + length es
+different_above m g [] new = omega arith
+different_above m g (e ∷ es) new =
+    let ih = different_above m ((e.0, m e.1) ∷ g) es new.1 in
+    let one : different ((e.0, m e.1) ∷ g) ≡ suc (different g) = ap (λ o. count_new o (different g)) new.0 in
+    ih ∙ omega (arith, one)
+
+pub different_alone : {V A : Type 0} (m : V → A) (es : List (List ℕ × V)) → AreAdded m [] es → different (above m [] es) ≡ length es
+different_alone m es new = let e = different_above m [] es new in e ∙ omega arith
+
+-- ---- two lists, the first one over the second
+
+abbrev pub else_found : {A : Type 0} → Option A → Option A → Option A
+else_found (Some a) o = Some a
+else_found None o = o
+
+else_newest : {A : Type 0} (b : Bool) (a : A) (o p : Option A) → pick_newest b a (else_found o p) ≡ else_found (pick_newest b a o) p
+else_newest true a o p = refl
+else_newest false a o p = refl
+
+pub at_name-append : {A : Type 0} (x : tree.Name) (g h : List (tree.Name × A)) → at_name x (g ++ h) ≡ else_found (at_name x g) (at_name x h)
+at_name-append x [] h = refl
+at_name-append x (e ∷ g) h = ap (pick_newest (same_name x e.0) e.1) (at_name-append x g h) ∙ else_newest (same_name x e.0) e.1 (at_name x g) (at_name x h)
+
+-- what stands in the first list ..
+pub at_first : {A : Type 0} (x : tree.Name) (g h : List (tree.Name × A)) (a : A) → at_name x g ≡ Some a → at_name x (g ++ h) ≡ Some a
+at_first x g h a e = at_name-append x g h ∙ ap (λ o. else_found o (at_name x h)) e
+
+-- .. or else in the second
+pub at_second : {A : Type 0} (x : tree.Name) (g h : List (tree.Name × A)) → at_name x g ≡ None → at_name x (g ++ h) ≡ at_name x h
+at_second x g h e = at_name-append x g h ∙ ap (λ o. else_found o (at_name x h)) e
 
 -- ---- how many stacks
 

@@ -2,7 +2,7 @@
 use Rattle.std.specs.Prelude.{◌≡◌, ℕ, Bool, false, ◌&&◌, ◌||◌, ◌==◌, nat_lt, Option, Some, None, List, [], ◌∷◌, codes, Contains, All, if◌then◌else◌}
 use Rattle.janus_syntax.specs.declared.token.Span.{Span}
 use Rattle.janus_check.specs.declared.fault.CheckFault.{CheckFault}
-use Rattle.janus_check.specs.declared.fault.CheckFault.TheVariants.{Declared, Unknown, WrongKind, SelfUse, Shadow, TooMany, ArrayLength, Memory}
+use Rattle.janus_check.specs.declared.fault.CheckFault.TheVariants.{Declared, Unknown, WrongKind, SelfUse, SameArgument, Arity, Shadow, ChangedParameters, TooMany, ArrayLength, Memory}
 
 abbrev pub number_of : CheckFault → ℕ
 number_of Memory = 35
@@ -10,7 +10,10 @@ number_of (Declared at) = 40
 number_of (Unknown at) = 41
 number_of (WrongKind at) = 42
 number_of (SelfUse at) = 43
+number_of (SameArgument at) = 44
+number_of (Arity at) = 45
 number_of (Shadow at) = 46
+number_of (ChangedParameters at) = 47
 number_of (TooMany at) = 48
 number_of (ArrayLength at) = 49
 
@@ -20,7 +23,10 @@ fault_name (Declared at) = codes "Declared"
 fault_name (Unknown at) = codes "Unknown"
 fault_name (WrongKind at) = codes "WrongKind"
 fault_name (SelfUse at) = codes "SelfUse"
+fault_name (SameArgument at) = codes "SameArgument"
+fault_name (Arity at) = codes "Arity"
 fault_name (Shadow at) = codes "Shadow"
+fault_name (ChangedParameters at) = codes "ChangedParameters"
 fault_name (TooMany at) = codes "TooMany"
 fault_name (ArrayLength at) = codes "ArrayLength"
 
@@ -30,7 +36,10 @@ span_of (Declared at) = Some at
 span_of (Unknown at) = Some at
 span_of (WrongKind at) = Some at
 span_of (SelfUse at) = Some at
+span_of (SameArgument at) = Some at
+span_of (Arity at) = Some at
 span_of (Shadow at) = Some at
+span_of (ChangedParameters at) = Some at
 span_of (TooMany at) = Some at
 span_of (ArrayLength at) = Some at
 
@@ -40,7 +49,10 @@ start_of (Declared at) = at.start
 start_of (Unknown at) = at.start
 start_of (WrongKind at) = at.start
 start_of (SelfUse at) = at.start
+start_of (SameArgument at) = at.start
+start_of (Arity at) = at.start
 start_of (Shadow at) = at.start
+start_of (ChangedParameters at) = at.start
 start_of (TooMany at) = at.start
 start_of (ArrayLength at) = at.start
 
@@ -50,7 +62,10 @@ end_of (Declared at) = at.end
 end_of (Unknown at) = at.end
 end_of (WrongKind at) = at.end
 end_of (SelfUse at) = at.end
+end_of (SameArgument at) = at.end
+end_of (Arity at) = at.end
 end_of (Shadow at) = at.end
+end_of (ChangedParameters at) = at.end
 end_of (TooMany at) = at.end
 end_of (ArrayLength at) = at.end
 

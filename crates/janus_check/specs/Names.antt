@@ -1,7 +1,7 @@
--- The names in sight, as a list of names with their kinds, the newest first.
+-- The names in sight and the heads of procedures, as lists of names with what they stand for, the newest first.
 use Rattle.std.specs.Prelude.{◌≡◌, ℕ, Bool, is_some, List, [], ◌∷◌, map, Option, Some, None}
 use Rattle.janus_meaning.specs.Syntax as tree
-use Rattle.janus_meaning.specs.Shape.{Shape, kind_at}
+use Rattle.janus_meaning.specs.Shape.{Shape, Heads, at_name, kind_at}
 use Rattle.janus_check.specs.declared.env.Kind.{Kind}
 use Rattle.janus_check.specs.declared.env.Kind.TheVariants.{Number, Array, Stack}
 
@@ -9,6 +9,9 @@ abbrev pub meant_kind : Kind → tree.Kind
 meant_kind Number = tree.ANumber
 meant_kind Array = tree.AnArray
 meant_kind Stack = tree.AStack
+
+abbrev pub meant_kinds : List Kind → List tree.Kind
+meant_kinds ks = map meant_kind ks
 
 -- the kind that a look-up finds, if it finds one
 abbrev pub kind_found : Option Kind → Option tree.Kind
@@ -19,10 +22,19 @@ kind_found None = None
 abbrev pub is_in : tree.Name → Shape → Bool
 is_in x g = is_some (kind_at x g)
 
+-- names in their order with what they stand for, over older ones
+abbrev pub above : {V A : Type 0} → (V → A) → List (tree.Name × A) → List (List ℕ × V) → List (tree.Name × A)
+above m g [] = g
+above m g (e ∷ es) = above m ((e.0, m e.1) ∷ g) es
+
+-- none of the names is there when it is added
+abbrev pub AreAdded : {V A : Type 0} → (V → A) → List (tree.Name × A) → List (List ℕ × V) → Type 0
+AreAdded m g [] = Unit {0}
+AreAdded m g (e ∷ es) = (at_name e.0 g ≡ None) × AreAdded m ((e.0, m e.1) ∷ g) es
+
 -- names in order of declaration, over older ones
 abbrev pub over : Shape → List (List ℕ × Kind) → Shape
-over g [] = g
-over g (e ∷ es) = over ((e.0, meant_kind e.1) ∷ g) es
+over g es = above meant_kind g es
 
 -- the names of a list, in order of declaration
 abbrev pub shape_in : List (List ℕ × Kind) → Shape
@@ -30,5 +42,13 @@ shape_in names = over [] names
 
 -- none of the names is in sight when it is declared
 abbrev pub AreNewNames : Shape → List (List ℕ × Kind) → Type 0
-AreNewNames g [] = Unit {0}
-AreNewNames g (e ∷ es) = (kind_at e.0 g ≡ None) × AreNewNames ((e.0, meant_kind e.1) ∷ g) es
+AreNewNames g es = AreAdded meant_kind g es
+
+-- the heads of a list of procedures, in order of definition
+abbrev pub heads_in : List (List ℕ × List Kind) → Heads
+heads_in es = above meant_kinds [] es
+
+-- What is declared and defined: names with their kinds, and procedures with those of their parameters, each in order.
+pub record Known : Type 0 where
+  pub names : List (List ℕ × Kind)
+  pub procedures : List (List ℕ × List Kind)

@@ -1,27 +1,29 @@
 -- What a cell without faults meets: the well-formedness of the meaning.
-use Rattle.std.specs.Prelude.{◌≡◌, ◌↔◌, List, []}
-use Rattle.janus_meaning.specs.Syntax as tree
+use Rattle.std.specs.Prelude.{◌≡◌, ◌↔◌, []}
 use Rattle.janus_meaning.specs.Shape.{Shape, Heads}
 use Rattle.janus_meaning.specs.Formed.{IsExp}
 use Rattle.janus_meaning.specs.FormedWorld.{IsFormedOver}
 use Rattle.janus_syntax.specs.Tree.{Exp, Cell}
 use Rattle.janus_syntax.specs.View.{plain_exp, plain_cell}
-use Rattle.janus_check.specs.Check.{exp_faults, cell_faults}
-use Rattle.janus_check.specs.Names.{shape_in}
-use Rattle.janus_check.specs.declared.env.Kind.{Kind}
+use Rattle.janus_check.specs.Check.{exp_faults, faults_over}
+use Rattle.janus_check.specs.Names.{shape_in, heads_in, Known}
 
--- over these names, whatever procedures there are: no statement calls one
-abbrev pub IsWellFormed : Shape → Cell → Type 0
-IsWellFormed g c = (hs : Heads) → IsFormedOver g hs (plain_cell c)
+-- over these names and heads of procedures
+abbrev pub IsWellFormed : Shape → Heads → Cell → Type 0
+IsWellFormed g hs c = IsFormedOver g hs (plain_cell c)
 
--- there are names over which it is
+-- over what is known
+abbrev pub IsWellFormedOver : Known → Cell → Type 0
+IsWellFormedOver k c = IsWellFormed (shape_in k.names) (heads_in k.procedures) c
+
+-- there are names and heads over which it is
 abbrev pub IsSomewhereWellFormed : Cell → Type 0
-IsSomewhereWellFormed c = ∥ ((names : Shape) × IsWellFormed names c) ∥₁
+IsSomewhereWellFormed c = ∥ ((g : Shape) × (hs : Heads) × IsWellFormed g hs c) ∥₁
 
--- Over names that may be in sight a cell has no faults exactly where it is well formed, and so an expression.
-pub record AreExact (names : List (tree.Name × Kind)) : Type 0 where
-  pub cells : (c : Cell) → (cell_faults (shape_in names) c ≡ []) ↔ IsWellFormed (shape_in names) c
-  pub expressions : (e : Exp) → (exp_faults (shape_in names) e ≡ []) ↔ IsExp (shape_in names) (plain_exp e)
+-- Over what may be known a cell has no faults exactly where it is well formed, and so an expression.
+pub record AreExact (k : Known) : Type 0 where
+  pub cells : (c : Cell) → (faults_over k c ≡ []) ↔ IsWellFormedOver k c
+  pub expressions : (e : Exp) → (exp_faults (shape_in k.names) e ≡ []) ↔ IsExp (shape_in k.names) (plain_exp e)
 
 abbrev pub FaultsAreExact : Type 0
-FaultsAreExact = (names : List (tree.Name × Kind)) → AreExact names
+FaultsAreExact = (k : Known) → AreExact k

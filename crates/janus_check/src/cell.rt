@@ -4,14 +4,15 @@ ghost use Rattle.janus_syntax.specs.Tree.{cell_view, declaration_view, declarati
 ghost use Rattle.janus_syntax.specs.View.{name_of};
 ghost use Rattle.janus_check.specs.Names.{shape_in, over, meant_kind};
 ghost use Rattle.janus_check.specs.Fault.{IsFirst, first_from};
-ghost use Rattle.janus_check.specs.Check.{is_full, has_all_stacks, fault_if, name_faults, extended, cell_faults, declaration_faults, declarations_faults, after_declaration, after_declarations, is_array_length};
-ghost use Rattle.janus_check.specs.WellFormed.{IsWellFormed};
+ghost use Rattle.janus_check.specs.Check.{is_full, has_all_stacks, fault_if, name_faults, extended, faults_over, declaration_faults, declarations_faults, after_declaration, after_declarations, is_array_length};
+ghost use Rattle.janus_check.specs.WellFormed.{IsWellFormedOver};
 ghost use Rattle.janus_check.specs.Checked.{cell_in};
 ghost use Rattle.janus_check.specs.declared.fault.CheckFault.TheVariants.{Declared, TooMany, ArrayLength, Memory as NoMemory};
 
 use crate::checked::Checked;
 use crate::env::{Env, Kind};
 use crate::fault::{CheckFault, sooner};
+use crate::procedure::{bodies_fault, define_all};
 use crate::sight::{Sight, kind_declared};
 use crate::statement::block_fault;
 use janus_syntax::token::Span;
@@ -27,13 +28,13 @@ const STACK_LIMIT: usize = 64;
 /// How long an array may be.
 const ARRAY_LIMIT: u32 = 65_536;
 
-/// Checks a cell over the names that are declared already. What passes is well formed; else the answer is the fault
+/// Checks a cell over the names that are declared already and the procedures that are defined. What passes is well formed; else the answer is the fault
 /// that stands first in the text, and at one place the one with the smaller number, or want of memory.
 pub fn check(alloc: Global, env: &Env, cell: Cell) -> Result<Checked, CheckFault>
-    ensures passes { OnOk result (cell_faults (shape_in env.now) (cell_view cell) ≡ []) }
-    ensures well_formed { OnOk result (IsWellFormed (shape_in env.now) (cell_view cell)) }
+    ensures passes { OnOk result (faults_over env.now (cell_view cell) ≡ []) }
+    ensures well_formed { OnOk result (IsWellFormedOver env.now (cell_view cell)) }
     ensures same { IfOk result (λ checked. cell_in checked ≡ cell_view cell) }
-    ensures first { IfErr result (λ fault. fault ≢ NoMemory → IsFirst fault (cell_faults (shape_in env.now) (cell_view cell))) }
+    ensures first { IfErr result (λ fault. fault ≢ NoMemory → IsFirst fault (faults_over env.now (cell_view cell))) }
 {
     match first_fault(alloc, env, &cell)? {
         None => Ok(Checked::new(cell)),
@@ -43,12 +44,14 @@ pub fn check(alloc: Global, env: &Env, cell: Cell) -> Result<Checked, CheckFault
 
 /// The first fault of a cell, if it has one.
 fn first_fault(alloc: Global, env: &Env, cell: &Cell) -> Result<Option<CheckFault>, AllocError>
-    ensures { IfOk result (λ first. first ≡ first_from None (cell_faults (shape_in env.now) (cell_view cell.now))) }
+    ensures { IfOk result (λ first. first ≡ first_from None (faults_over env.now (cell_view cell.now))) }
 {
     let mut own = Env::new(alloc);
     let first = declare_all(env, &mut own, &cell.declarations, None)?;
+    let first = define_all(alloc, env, &mut own, &cell.procedures, first)?;
     let sight = Sight::Declared(&*env, &own);
-    Ok(block_fault(&cell.statements, &sight, first))
+    let first = block_fault(&cell.statements, &sight, first);
+    Ok(bodies_fault(env, &own, &cell.procedures, first))
 }
 
 /// The first fault after one more declaration, whose name is then declared if there is room for it.
@@ -58,8 +61,9 @@ fn declare(
     declaration: &Declaration,
     first: Option<CheckFault>,
 ) -> Result<Option<CheckFault>, AllocError>
-    ensures fault { IfOk result (λ next. next ≡ first_from first (declaration_faults (over (shape_in env.now) own.old) (declaration_view declaration.now))) }
-    ensures names { OnOk result (over (shape_in env.now) own.new ≡ after_declaration (over (shape_in env.now) own.old) (declaration_view declaration.now)) }
+    ensures fault { IfOk result (λ next. next ≡ first_from first (declaration_faults (over (shape_in env.now.names) own.old.names) (declaration_view declaration.now))) }
+    ensures names { OnOk result (over (shape_in env.now.names) own.new.names ≡ after_declaration (over (shape_in env.now.names) own.old.names) (declaration_view declaration.now)) }
+    ensures procedures { own.new.procedures ≡ own.old.procedures }
 {
     match declaration {
         Declaration::Int(name) => declare_name(env, own, name, Kind::Number, first),
@@ -84,8 +88,9 @@ fn declare_name(
     kind: Kind,
     first: Option<CheckFault>,
 ) -> Result<Option<CheckFault>, AllocError>
-    ensures fault { IfOk result (λ next. next ≡ first_from first (name_faults (over (shape_in env.now) own.old) (name_of name.now) name.now.span)) }
-    ensures names { OnOk result (over (shape_in env.now) own.new ≡ extended (over (shape_in env.now) own.old) (name_of name.now) (meant_kind kind)) }
+    ensures fault { IfOk result (λ next. next ≡ first_from first (name_faults (over (shape_in env.now.names) own.old.names) (name_of name.now) name.now.span)) }
+    ensures names { OnOk result (over (shape_in env.now.names) own.new.names ≡ extended (over (shape_in env.now.names) own.old.names) (name_of name.now) (meant_kind kind)) }
+    ensures procedures { own.new.procedures ≡ own.old.procedures }
 {
     let known = kind_declared(env, own, name).is_some();
     let full = is_full(env, own);
@@ -140,14 +145,14 @@ fn stack_fault(full: bool, at: Span, first: Option<CheckFault>) -> Option<CheckF
 
 /// Whether no more stacks may be declared.
 fn has_all_stacks(env: &Env, own: &Env) -> bool
-    ensures { result ≡ has_all_stacks (over (shape_in env.now) own.now) }
+    ensures { result ≡ has_all_stacks (over (shape_in env.now.names) own.now.names) }
 {
     env.stacks() + own.stacks() >= STACK_LIMIT
 }
 
 /// Whether no more names may be declared.
 fn is_full(env: &Env, own: &Env) -> bool
-    ensures { result ≡ is_full (over (shape_in env.now) own.now) }
+    ensures { result ≡ is_full (over (shape_in env.now.names) own.now.names) }
 {
     env.len() + own.len() >= NAME_LIMIT
 }
@@ -159,8 +164,9 @@ fn declare_all(
     declarations: &[Declaration],
     first: Option<CheckFault>,
 ) -> Result<Option<CheckFault>, AllocError>
-    ensures fault { IfOk result (λ next. next ≡ first_from first (declarations_faults (over (shape_in env.now) own.old) (declarations_view declarations.now))) }
-    ensures names { OnOk result (over (shape_in env.now) own.new ≡ after_declarations (over (shape_in env.now) own.old) (declarations_view declarations.now)) }
+    ensures fault { IfOk result (λ next. next ≡ first_from first (declarations_faults (over (shape_in env.now.names) own.old.names) (declarations_view declarations.now))) }
+    ensures names { OnOk result (over (shape_in env.now.names) own.new.names ≡ after_declarations (over (shape_in env.now.names) own.old.names) (declarations_view declarations.now)) }
+    ensures procedures { own.new.procedures ≡ own.old.procedures }
 {
     let mut next = first;
     for i in 0..declarations.len() {

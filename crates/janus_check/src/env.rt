@@ -1,7 +1,7 @@
-//! The names that are declared already.
-ghost use Rattle.std.specs.Prelude.{◌≡◌, ◌↔◌, None, IsTrue, OnOk, OnErr, [], ◌∷◌, ◌++◌, length, string_bytes, ◌<◌, ◌^◌};
-ghost use Rattle.janus_meaning.specs.Shape.{kind_at, count_stack, stack_count};
-ghost use Rattle.janus_check.specs.Names.{kind_found, meant_kind, shape_in};
+//! What is known before a cell: the names that are declared already, and the procedures that are defined.
+ghost use Rattle.std.specs.Prelude.{◌≡◌, ◌↔◌, None, Some, IsTrue, OnOk, OnErr, MatchOption, [], ◌∷◌, ◌++◌, length, string_bytes, ◌<◌, ◌^◌};
+ghost use Rattle.janus_meaning.specs.Shape.{kind_at, head_at, count_stack, stack_count, different};
+ghost use Rattle.janus_check.specs.Names.{kind_found, meant_kind, meant_kinds, shape_in, heads_in};
 
 use indexmap::IndexMap;
 use std::alloc::{AllocError, Global};
@@ -15,43 +15,47 @@ pub enum Kind {
     Stack,
 }
 
-/// The declared names with their kinds. Contracts see them as a list, in order of declaration.
+/// The declared names with their kinds, and the procedures with the kinds of their parameters. Contracts see them as two lists,
+/// in order of declaration and of definition.
 #[derive(Drop)]
 pub struct Env {
     names: IndexMap<String, Kind>,
     /// How many of them are stacks.
     stacks: usize,
+    procedures: IndexMap<String, Vec<Kind>>,
 }
 
 impl Model for Env {
-    ghost use Rattle.std.specs.Prelude.{List, [], ℕ, ◌≡◌, map, string_bytes};
+    ghost use Rattle.std.specs.Prelude.{[], ◌≡◌, map, string_bytes};
     ghost use Rattle.janus_meaning.specs.Shape.{stack_count};
-    ghost use Rattle.janus_check.specs.Names.{AreNewNames, shape_in};
-    ghost use Rattle.janus_check.specs.declared.env.Kind.{Kind};
+    ghost use Rattle.janus_check.specs.Names.{AreNewNames, AreAdded, Known, meant_kinds, shape_in};
 
-    ghost Value = { List (List ℕ × Kind) };
+    ghost Value = { Known };
 
-    ghost view = { λ e. map (λ entry. (string_bytes entry.0, entry.1)) e.names.entries };
+    ghost view = { λ e. record { names = map (λ entry. (string_bytes entry.0, entry.1)) e.names.entries; procedures = map (λ entry. (string_bytes entry.0, entry.1.items)) e.procedures.entries } };
 
-    ghost invariant = { λ e. AreNewNames [] (map (λ entry. (string_bytes entry.0, entry.1)) e.names.entries) × (e.stacks ≡ stack_count (shape_in (map (λ entry. (string_bytes entry.0, entry.1)) e.names.entries))) };
+    ghost invariant = { λ e. AreNewNames [] (map (λ entry. (string_bytes entry.0, entry.1)) e.names.entries) × (e.stacks ≡ stack_count (shape_in (map (λ entry. (string_bytes entry.0, entry.1)) e.names.entries))) × AreAdded meant_kinds [] (map (λ entry. (string_bytes entry.0, entry.1.items)) e.procedures.entries) };
 }
 
 impl Env {
-    /// No names.
+    /// No names and no procedures.
     pub fn new(alloc: Global) -> Env
-        ensures { result ≡ [] }
+        ensures names { result.names ≡ [] }
+        ensures procedures { result.procedures ≡ [] }
     {
         Env {
             names: IndexMap::new(alloc),
             stacks: 0,
+            procedures: IndexMap::new(alloc),
         }
     }
 
     /// Adds a name, which is not there yet; after an error for want of memory nothing is added.
     pub fn declare(&mut self, name: String, kind: Kind) -> Result<(), AllocError>
-        requires { kind_at (string_bytes name) (shape_in self.old) ≡ None }
-        ensures ok { OnOk result (self.new ≡ self.old ++ (string_bytes name, kind) ∷ []) }
-        ensures err { OnErr result (self.new ≡ self.old) }
+        requires { kind_at (string_bytes name) (shape_in self.old.names) ≡ None }
+        ensures ok { OnOk result (self.new.names ≡ self.old.names ++ (string_bytes name, kind) ∷ []) }
+        ensures procedures { self.new.procedures ≡ self.old.procedures }
+        ensures err { OnErr result (self.new.names ≡ self.old.names) }
     {
         let stacks = self.stacks_with(kind);
         self.names.insert(name, kind)?;
@@ -59,16 +63,38 @@ impl Env {
         Ok(())
     }
 
+    /// Adds a procedure, which is not there yet, with the kinds of its parameters; after an error for want of memory nothing is
+    /// added.
+    pub fn define(&mut self, name: String, kinds: Vec<Kind>) -> Result<(), AllocError>
+        requires { head_at (string_bytes name) (heads_in self.old.procedures) ≡ None }
+        ensures ok { OnOk result (self.new.procedures ≡ self.old.procedures ++ (string_bytes name, kinds.items) ∷ []) }
+        ensures names { self.new.names ≡ self.old.names }
+        ensures err { OnErr result (self.new.procedures ≡ self.old.procedures) }
+    {
+        self.procedures.insert(name, kinds)?;
+        Ok(())
+    }
+
     /// The kind of a name, if it is there.
     pub fn kind(&self, name: &str) -> Option<Kind>
-        ensures { kind_found result ≡ kind_at name.now (shape_in self.now) }
+        ensures { kind_found result ≡ kind_at name.now (shape_in self.now.names) }
     {
         self.names.get(name).copied()
     }
 
+    /// The kinds of a procedure's parameters, if it is there.
+    pub fn head(&self, name: &str) -> Option<&[Kind]>
+        ensures { MatchOption result (head_at name.now (heads_in self.now.procedures) ≡ None) (λ kinds. head_at name.now (heads_in self.now.procedures) ≡ Some (meant_kinds kinds.now)) }
+    {
+        match self.procedures.get(name) {
+            Some(kinds) => Some(kinds),
+            None => None,
+        }
+    }
+
     /// How many names there are.
     pub fn len(&self) -> usize
-        ensures count { result ≡ length self.now }
+        ensures count { result ≡ length self.now.names }
         ensures small { result < 2 ^ 63 }
     {
         self.names.len()
@@ -76,16 +102,25 @@ impl Env {
 
     /// How many of the names are stacks.
     pub fn stacks(&self) -> usize
-        ensures count { result ≡ stack_count (shape_in self.now) }
+        ensures count { result ≡ stack_count (shape_in self.now.names) }
         ensures small { result < 2 ^ 63 }
     {
         let _names = self.len();
         self.stacks
     }
 
+    /// How many procedures there are.
+    pub fn procedures(&self) -> usize
+        ensures count { result ≡ length self.now.procedures }
+        ensures distinct { result ≡ different (heads_in self.now.procedures) }
+        ensures small { result < 2 ^ 63 }
+    {
+        self.procedures.len()
+    }
+
     /// How many of the names are stacks, with one name more of this kind.
     fn stacks_with(&self, kind: Kind) -> usize
-        ensures { result ≡ count_stack (meant_kind kind) (stack_count (shape_in self.now)) }
+        ensures { result ≡ count_stack (meant_kind kind) (stack_count (shape_in self.now.names)) }
     {
         match kind {
             Kind::Number | Kind::Array => self.stacks(),
@@ -93,9 +128,9 @@ impl Env {
         }
     }
 
-    /// Whether there are none.
+    /// Whether there are no names.
     pub fn is_empty(&self) -> bool
-        ensures { IsTrue result ↔ (self.now ≡ []) }
+        ensures { IsTrue result ↔ (self.now.names ≡ []) }
     {
         self.names.is_empty()
     }

@@ -28,9 +28,9 @@ pub(crate) enum Standing<'a> {
 /// Checks an expression over the declared names. What passes is well formed; else the answer is the fault that stands
 /// first in the text, and at one place the one with the smaller number.
 pub fn check_exp(alloc: Global, env: &Env, exp: &Exp) -> Result<(), CheckFault>
-    ensures passes { OnOk result (exp_faults (shape_in env.now) (exp_view exp.now) ≡ []) }
-    ensures well_formed { OnOk result (IsExp (shape_in env.now) (plain_exp (exp_view exp.now))) }
-    ensures first { IfErr result (λ fault. IsFirst fault (exp_faults (shape_in env.now) (exp_view exp.now))) }
+    ensures passes { OnOk result (exp_faults (shape_in env.now.names) (exp_view exp.now) ≡ []) }
+    ensures well_formed { OnOk result (IsExp (shape_in env.now.names) (plain_exp (exp_view exp.now))) }
+    ensures first { IfErr result (λ fault. IsFirst fault (exp_faults (shape_in env.now.names) (exp_view exp.now))) }
 {
     let none = Env::new(alloc);
     let sight = Sight::Declared(&none, &*env);

@@ -9,10 +9,11 @@ use thiserror::Error;
 /// The first fault of a cell, with the octets of its text where it stands.
 #[derive(Clone, Copy, Debug, PartialEq, Eq, Error)]
 pub enum CheckFault {
-    /// A declared name that is declared already.
+    /// A declared name that is declared already, a procedure's that the same cell defines already, or a parameter's that is
+    /// given already.
     #[error("Declared")]
     Declared(Span),
-    /// A name that is not in sight.
+    /// A name that is not in sight, or a called name that is no procedure.
     #[error("Unknown")]
     Unknown(Span),
     /// A name whose kind doesn't fit its use.
@@ -21,10 +22,19 @@ pub enum CheckFault {
     /// The assigned name in its own index or right side, or a local's name in one of its own two expressions.
     #[error("SelfUse")]
     SelfUse(Span),
+    /// The second place of a name among the arguments of a call.
+    #[error("SameArgument")]
+    SameArgument(Span),
+    /// The called name, where the procedure has another number of parameters.
+    #[error("Arity")]
+    Arity(Span),
     /// A local's name that is in sight already.
     #[error("Shadow")]
     Shadow(Span),
-    /// The name past the limit of declared names, or the stack's past that of stacks.
+    /// The name of a procedure that is defined already with parameters of other kinds.
+    #[error("ChangedParameters")]
+    ChangedParameters(Span),
+    /// The name past the limit of declared names, of stacks, of procedures or of parameters.
     #[error("TooMany")]
     TooMany(Span),
     /// An array's length that isn't 1 to 65,536.
@@ -46,7 +56,10 @@ impl CheckFault {
             CheckFault::Unknown(_) => 41,
             CheckFault::WrongKind(_) => 42,
             CheckFault::SelfUse(_) => 43,
+            CheckFault::SameArgument(_) => 44,
+            CheckFault::Arity(_) => 45,
             CheckFault::Shadow(_) => 46,
+            CheckFault::ChangedParameters(_) => 47,
             CheckFault::TooMany(_) => 48,
             CheckFault::ArrayLength(_) => 49,
         }
@@ -62,7 +75,10 @@ impl CheckFault {
             CheckFault::Unknown(_) => "Unknown",
             CheckFault::WrongKind(_) => "WrongKind",
             CheckFault::SelfUse(_) => "SelfUse",
+            CheckFault::SameArgument(_) => "SameArgument",
+            CheckFault::Arity(_) => "Arity",
             CheckFault::Shadow(_) => "Shadow",
+            CheckFault::ChangedParameters(_) => "ChangedParameters",
             CheckFault::TooMany(_) => "TooMany",
             CheckFault::ArrayLength(_) => "ArrayLength",
         }
@@ -78,7 +94,10 @@ impl CheckFault {
             CheckFault::Unknown(at) => Some(at),
             CheckFault::WrongKind(at) => Some(at),
             CheckFault::SelfUse(at) => Some(at),
+            CheckFault::SameArgument(at) => Some(at),
+            CheckFault::Arity(at) => Some(at),
             CheckFault::Shadow(at) => Some(at),
+            CheckFault::ChangedParameters(at) => Some(at),
             CheckFault::TooMany(at) => Some(at),
             CheckFault::ArrayLength(at) => Some(at),
         }

@@ -1,29 +1,32 @@
-//! The names in sight of a statement or an expression.
-ghost use Rattle.std.specs.Prelude.{◌≡◌, ◌++◌};
-ghost use Rattle.janus_meaning.specs.Shape.{kind_at};
-ghost use Rattle.janus_syntax.specs.Tree.{name_view};
+//! The names in sight of a statement or an expression, and the procedures that its calls see.
+ghost use Rattle.std.specs.Prelude.{◌≡◌, ◌++◌, None, Some, MatchOption};
+ghost use Rattle.janus_meaning.specs.Shape.{kind_at, head_at};
+ghost use Rattle.janus_syntax.specs.Tree.{name_view, parameters_view};
 ghost use Rattle.janus_syntax.specs.View.{name_of};
-ghost use Rattle.janus_check.specs.Names.{shape_in, over, kind_found, meant_kind};
+ghost use Rattle.janus_check.specs.Names.{shape_in, over, kind_found, meant_kind, meant_kinds};
 ghost use Rattle.janus_check.specs.Fault.{first_from};
-ghost use Rattle.janus_check.specs.Check.{use_faults, shadow_faults};
-ghost use Rattle.janus_check.specs.Sight.{in_sight};
+ghost use Rattle.janus_check.specs.Check.{use_faults, sight_faults, shadow_faults};
+ghost use Rattle.janus_check.specs.Sight.{in_sight, heads_over, heads_seen};
 
 use crate::env::{Env, Kind};
 use crate::fault::{CheckFault, sooner};
-use janus_syntax::tree::Name;
+use crate::parameter::kind_of_parameter;
+use janus_syntax::tree::{Name, Parameter};
 
-/// The names in sight.
+/// The names in sight, and the procedures: those that are defined already, and over them the cell's own.
 #[derive(Drop)]
 pub(crate) enum Sight<'a> {
-    /// Those that are declared already, and over them the cell's own.
+    /// The names that are declared already, and over them the cell's own.
     Declared(&'a Env, &'a Env),
+    /// The parameters alone, in the body of a procedure.
+    Body(&'a Env, &'a Env, &'a [Parameter]),
     /// A local, in its statements, over others.
     Local(&'a Name, Kind, &'a Sight<'a>),
 }
 
 /// The kind of a declared name, if it is one.
 pub(crate) fn kind_declared(env: &Env, own: &Env, name: &Name) -> Option<Kind>
-    ensures { kind_found result ≡ kind_at (name_of name.now) (over (shape_in env.now) own.now) }
+    ensures { kind_found result ≡ kind_at (name_of name.now) (over (shape_in env.now.names) own.now.names) }
 {
     match own.kind(&name.text) {
         Some(kind) => Some(kind),
@@ -37,6 +40,7 @@ fn kind_in_sight(sight: &Sight, name: &Name) -> Option<Kind>
 {
     match sight {
         Sight::Declared(env, own) => kind_declared(env, own, name),
+        Sight::Body(_, _, parameters) => kind_of_parameter(parameters, name),
         Sight::Local(local, kind, outer) => {
             if name.text == local.text {
                 Some(*kind)
@@ -44,6 +48,26 @@ fn kind_in_sight(sight: &Sight, name: &Name) -> Option<Kind>
                 kind_in_sight(outer, name)
             }
         }
+    }
+}
+
+/// The kinds of a procedure's parameters, if it is one.
+fn head_defined<'a>(env: &'a Env, own: &'a Env, name: &Name) -> Option<&'a [Kind]>
+    ensures { MatchOption result (head_at (name_of name.now) (heads_over env.now own.now) ≡ None) (λ kinds. head_at (name_of name.now) (heads_over env.now own.now) ≡ Some (meant_kinds kinds.now)) }
+{
+    match own.head(&name.text) {
+        Some(kinds) => Some(kinds),
+        None => env.head(&name.text),
+    }
+}
+
+/// The kinds of the parameters of a procedure that calls see, if it is one.
+pub(crate) fn head_seen<'a>(sight: &Sight<'a>, name: &Name) -> Option<&'a [Kind]>
+    ensures { MatchOption result (head_at (name_of name.now) (heads_seen sight.now) ≡ None) (λ kinds. head_at (name_of name.now) (heads_seen sight.now) ≡ Some (meant_kinds kinds.now)) }
+{
+    match sight {
+        Sight::Declared(env, own) | Sight::Body(env, own, _) => head_defined(env, own, name),
+        Sight::Local(_, _, outer) => head_seen(outer, name),
     }
 }
 
@@ -74,5 +98,19 @@ pub(crate) fn shadow_fault(
     match kind_in_sight(sight, name) {
         None => first,
         Some(_) => sooner(first, CheckFault::Shadow(name.span)),
+    }
+}
+
+/// The first fault after a name that is used as one of any kind.
+pub(crate) fn sight_fault(
+    sight: &Sight,
+    name: &Name,
+    first: Option<CheckFault>,
+) -> Option<CheckFault>
+    ensures { result ≡ first_from first (sight_faults (in_sight sight.now) (name_view name.now)) }
+{
+    match kind_in_sight(sight, name) {
+        None => sooner(first, CheckFault::Unknown(name.span)),
+        Some(_) => first,
     }
 }

@@ -3,8 +3,9 @@ ghost use Rattle.std.specs.Prelude.{◌≡◌};
 ghost use Rattle.janus_syntax.specs.Tree.{stm_view, block_view};
 ghost use Rattle.janus_check.specs.Fault.{first_from};
 ghost use Rattle.janus_check.specs.Check.{stm_faults, block_faults};
-ghost use Rattle.janus_check.specs.Sight.{in_sight};
+ghost use Rattle.janus_check.specs.Sight.{in_sight, heads_seen};
 
+use crate::call::call_fault;
 use crate::env::Kind;
 use crate::expression::{Standing, exp_fault};
 use crate::fault::CheckFault;
@@ -14,7 +15,7 @@ use janus_syntax::tree::Stm;
 /// The first fault after a statement.
 #[cycle(stm_fault)]
 fn stm_fault(stm: &Stm, sight: &Sight, first: Option<CheckFault>) -> Option<CheckFault>
-    ensures { result ≡ first_from first (stm_faults (in_sight sight.now) (stm_view stm.now)) }
+    ensures { result ≡ first_from first (stm_faults (heads_seen sight.now) (in_sight sight.now) (stm_view stm.now)) }
 {
     match stm {
         Stm::Skip => first,
@@ -54,6 +55,9 @@ fn stm_fault(stm: &Stm, sight: &Sight, first: Option<CheckFault>) -> Option<Chec
             let next = shadow_fault(sight, name, first);
             block_fault(body, &Sight::Local(&*name, Kind::Stack, &*sight), next)
         }
+        Stm::Call(called, arguments) | Stm::Uncall(called, arguments) => {
+            call_fault(sight, called, arguments, first)
+        }
     }
 }
 
@@ -64,7 +68,7 @@ pub(crate) fn block_fault(
     sight: &Sight,
     first: Option<CheckFault>,
 ) -> Option<CheckFault>
-    ensures { result ≡ first_from first (block_faults (in_sight sight.now) (block_view statements.now)) }
+    ensures { result ≡ first_from first (block_faults (heads_seen sight.now) (in_sight sight.now) (block_view statements.now)) }
 {
     let mut next = first;
     for i in 0..statements.len() {

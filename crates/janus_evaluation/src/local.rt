@@ -4,8 +4,7 @@ ghost use Rattle.std.specs.Prelude.{◌≡◌, ◌≢◌, ◌<◌, string_bytes}
 ghost use Rattle.janus_meaning.specs.Fault.{Bad, Broken};
 ghost use Rattle.janus_meaning.specs.Moves.{drop_int, drop_stack};
 ghost use Rattle.janus_meaning.specs.Value.{value as value_of};
-ghost use Rattle.janus_meaning.specs.World.{size_of};
-ghost use Rattle.janus_store.specs.Held.{HasLocalRoom};
+ghost use Rattle.janus_store.specs.Held.{HasLocal, HasLocalRoom, live_stacks};
 ghost use Rattle.janus_invert.specs.Expressions.{exp_of};
 ghost use Rattle.janus_invert.specs.Numbered.{HasItsNumber, HasNumbers};
 ghost use Rattle.janus_evaluation.specs.Locals.{number_opened, stack_opened, KeepsNames};
@@ -49,7 +48,7 @@ pub fn close_number<L: Ledger>(
     requires safe { drop_int (string_bytes name.now.text) (exp_of last.now) store.old.sight ≢ Bad Broken }
     requires at { HasItsNumber store.old.names name.now }
     requires numbered { HasNumbers store.old.names last.now }
-    requires local { store.old.declared < size_of store.old.sight }
+    requires local { HasLocal store.old }
     ensures done { IsDone (drop_int (string_bytes name.now.text) (exp_of last.now) store.old.sight) store.old.sight store.new.sight result }
     ensures names { KeepsNames store.old store.new }
 {
@@ -71,7 +70,7 @@ pub fn close_number<L: Ledger>(
 pub fn open_stack<L: Ledger>(name: &Symbol, store: &mut Store<L>) -> Result<(), ValueFault>
     requires at { HasItsNumber store.old.names name.now }
     requires room { HasLocalRoom store.old }
-    ensures done { IsDone (stack_opened (string_bytes name.now.text) store.old.sight) store.old.sight store.new.sight result }
+    ensures done { IsDone (stack_opened (live_stacks store.old) (string_bytes name.now.text) store.old.sight) store.old.sight store.new.sight result }
     ensures names { KeepsNames store.old store.new }
 {
     if store.stacks_left() == 0 {
@@ -85,7 +84,7 @@ pub fn open_stack<L: Ledger>(name: &Symbol, store: &mut Store<L>) -> Result<(), 
 pub fn close_stack<L: Ledger>(name: &Symbol, store: &mut Store<L>) -> Result<(), ValueFault>
     requires safe { drop_stack (string_bytes name.now.text) store.old.sight ≢ Bad Broken }
     requires at { HasItsNumber store.old.names name.now }
-    requires local { store.old.declared < size_of store.old.sight }
+    requires local { HasLocal store.old }
     ensures done { IsDone (drop_stack (string_bytes name.now.text) store.old.sight) store.old.sight store.new.sight result }
     ensures names { KeepsNames store.old store.new }
 {

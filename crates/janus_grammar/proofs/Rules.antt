@@ -12,15 +12,15 @@ use Rattle.janus_syntax.specs.declared.tree.Kind.{Kind}
 use Rattle.janus_syntax.specs.declared.tree.Kind.TheVariants as kind
 use Rattle.janus_meaning.proofs.Stores.{same_name_self}
 use Rattle.janus_syntax.specs.Tokens.{Token, Name, Number, Sign_of, Word_of}
-use Rattle.janus_syntax.specs.Tree.{Name as Named, named, Exp, Num, EmptyOf, TopOf, Neg, Stm, Skip, Push, Pop, If, Loop, LocalInt, LocalStack, Block, Empty, More, Declaration, StackOf}
+use Rattle.janus_syntax.specs.Tree.{Name as Named, named, Exp, Num, EmptyOf, TopOf, Neg, Stm, Skip, Push, Pop, If, Loop, LocalInt, LocalStack, Call, Uncall, Block, Empty, More, Declaration, StackOf}
 use Rattle.janus_syntax.specs.Operators.{weakest, joined, sign_infix, operator_at}
-use Rattle.janus_syntax.specs.Forms.{Part, Declarations, Bound, Body, Statements, Else_part, Do_part, Loop_part, Local, Target_index, Whole, Level, Chain, Index, Tree, Class, Seen, seen, The_word, The_sign, A_name, A_number, An_update, Same_kind, Same_name, Form, done, take, part, close, Rule}
-use Rattle.janus_syntax.specs.Table.{rule, left_out, variable, assignment, declared, skip_block, sign_then, word_then, stack_then, variable_and_stack_then, delocal_then, local_int, local_stack, whole, operand, chains, chain_rule, statement, declaration}
+use Rattle.janus_syntax.specs.Forms.{Part, Declarations, Bound, Body, Statements, Else_part, Do_part, Loop_part, Local, Names, More_names, Target_index, Whole, Level, Chain, Index, Tree, Class, Seen, seen, The_word, The_sign, A_name, A_number, An_update, Same_kind, Same_name, Form, done, take, part, close, Rule}
+use Rattle.janus_syntax.specs.Table.{rule, left_out, variable, assignment, declared, skip_block, sign_then, word_then, stack_then, variable_and_stack_then, call_then, delocal_then, local_int, local_stack, whole, operand, chains, chain_rule, statement, declaration}
 use Rattle.janus_syntax.specs.Grammar
 use Rattle.janus_syntax.specs.Grammar.{Count, but_limits, entered, closed, Spells}
 use Rattle.janus_syntax.proofs.Agreed.{agreed, agreed_is, is_agreed, kind_word, kind_agreed}
 use Rattle.janus_grammar.specs.Derivation
-use Rattle.janus_grammar.specs.Derivation.{IsExpression, IsStatement, AreStatements, IsBody, IsOptional, IsDeclaration, AreDeclarations}
+use Rattle.janus_grammar.specs.Derivation.{IsExpression, AreNames, AreMoreNames, IsStatement, AreStatements, IsBody, IsOptional, IsDeclaration, AreDeclarations}
 
 -- ---- forms that are spelled, whatever the counts are
 
@@ -30,7 +30,7 @@ Spelled p f v from rest = (m : Count) → (m' : Count) × Spells but_limits p f 
 pub nothing_more : (p : Part) (v : Tree p) (rest : List Token) → Spelled p (done v) v rest rest
 nothing_more p v rest m = (m, Grammar.nothing_more)
 
-taken : {p : Part} {c : Class} (k : Seen c → Form p) (s : Seen c) (v : Tree p) (t : Token) (from rest : List Token) → agreed c t ≡ Some s → Spelled p (k s) v from rest → Spelled p (take c k) v (t ∷ from) rest
+pub taken : {p : Part} {c : Class} (k : Seen c → Form p) (s : Seen c) (v : Tree p) (t : Token) (from rest : List Token) → agreed c t ≡ Some s → Spelled p (k s) v from rest → Spelled p (take c k) v (t ∷ from) rest
 taken {c = c} k s v t from rest is h m = let x = h m in let y = agreed_is c t s is in (x.0, Grammar.token y.0 y.1 x.1)
 
 closes : {p : Part} (f : Form p) (v : Tree p) (from rest : List Token) → Spelled p f v from rest → Spelled p (close f) v from rest
@@ -40,10 +40,10 @@ closes f v from rest h m = let x = h (closed m) in (x.0, Grammar.end_of_construc
 abbrev pub IsPart : (q : Part) → Tree q → List Token → List Token → Type 0
 IsPart q u from rest = (p : Part) (k : Tree q → Form p) (v : Tree p) (last : List Token) → Spelled p (k u) v rest last → Spelled p (part q k) v from last
 
-begun : (q : Part) (t : Token) (r : Rule q) (u : Tree q) (from rest : List Token) → rule q t ≡ Some r → Spelled q r.form u from rest → IsPart q u (t ∷ from) rest
+pub begun : (q : Part) (t : Token) (r : Rule q) (u : Tree q) (from rest : List Token) → rule q t ≡ Some r → Spelled q r.form u from rest → IsPart q u (t ∷ from) rest
 begun q t r u from rest is h p k v last more m = let x = h (entered r m) in let y = more x.0 in (y.0, Grammar.a_part is refl x.1 y.1)
 
-absent : (q : Part) (u : Tree q) (ts : List Token) → left_out q ≡ Some u → IsPart q u ts ts
+pub absent : (q : Part) (u : Tree q) (ts : List Token) → left_out q ≡ Some u → IsPart q u ts ts
 absent q u ts is p k v last more m = let y = more m in (y.0, Grammar.no_part is y.1)
 
 -- ---- expressions
@@ -85,10 +85,10 @@ whole_is {e} {from} {rest} h =
     let r = y.2 in
     subst (λ ts. IsPart Whole e ts rest) (sym y.3) (begun Whole y.0 (record { opens = r.opens; counts = r.counts; is_whole = true; form = r.form }) e y.1 rest (whole_of (operand y.0 (λ e. chains 0 weakest e done)) r y.4) y.5)
 
-sign_behind : {p : Part} (s : Sign) (at : Span) (f : Form p) (v : Tree p) (from rest : List Token) → seen (The_sign s) (Sign_of s at) ≡ Some tt → Spelled p f v from rest → Spelled p (sign_then s f) v (Sign_of s at ∷ from) rest
+pub sign_behind : {p : Part} (s : Sign) (at : Span) (f : Form p) (v : Tree p) (from rest : List Token) → seen (The_sign s) (Sign_of s at) ≡ Some tt → Spelled p f v from rest → Spelled p (sign_then s f) v (Sign_of s at ∷ from) rest
 sign_behind s at f v from rest is h = taken (λ x. f) tt v (Sign_of s at) from rest is h
 
-word_behind : {p : Part} (w : Word) (at : Span) (f : Form p) (v : Tree p) (from rest : List Token) → seen (The_word w) (Word_of w at) ≡ Some tt → Spelled p f v from rest → Spelled p (word_then w f) v (Word_of w at ∷ from) rest
+pub word_behind : {p : Part} (w : Word) (at : Span) (f : Form p) (v : Tree p) (from rest : List Token) → seen (The_word w) (Word_of w at) ≡ Some tt → Spelled p f v from rest → Spelled p (word_then w f) v (Word_of w at ∷ from) rest
 word_behind w at f v from rest is h = taken (λ x. f) tt v (Word_of w at) from rest is h
 
 -- names in parentheses
@@ -106,6 +106,28 @@ pair_behind opening at comma place closing x y f v from rest h =
     (taken {c = A_name} (λ z. sign_then sign.Comma (take A_name (λ s. sign_then sign.Close (f z s)))) (named x at) v (Name x at) (Sign_of sign.Comma comma ∷ behind) rest refl
     (sign_behind sign.Comma comma (take A_name (λ s. sign_then sign.Close (f (named x at) s))) v behind rest refl
     (taken {c = A_name} (λ s. sign_then sign.Close (f (named x at) s)) (named y place) v (Name y place) (Sign_of sign.Close closing ∷ from) rest refl (sign_behind sign.Close closing (f (named x at) (named y place)) v from rest refl h))))
+
+-- names parted by commas
+more_names_are : {xs : List Named} {from rest : List Token} → AreMoreNames xs from rest → IsPart More_names xs from rest
+more_names_are (AreMoreNames.none {rest = rest}) = absent More_names [] rest refl
+more_names_are (AreMoreNames.more {comma = comma} {at = at} {x = x} {xs = xs} {from = from} {rest = rest} d) =
+    begun More_names (Sign_of sign.Comma comma) (record { opens = 0; counts = 0; is_whole = false; form = take A_name (λ y. part More_names (λ ys. done (y ∷ ys))) }) (named x at ∷ xs) (Name x at ∷ from) rest refl
+    (taken {c = A_name} (λ y. part More_names (λ ys. done (y ∷ ys))) (named x at) (named x at ∷ xs) (Name x at) from rest refl
+    (more_names_are d More_names (λ ys. done (named x at ∷ ys)) (named x at ∷ xs) rest (nothing_more More_names (named x at ∷ xs) rest)))
+
+names_are : {xs : List Named} {from rest : List Token} → AreNames xs from rest → IsPart Names xs from rest
+names_are (AreNames.no_names {rest = rest}) = absent Names [] rest refl
+names_are (AreNames.names {at = at} {x = x} {xs = xs} {from = from} {rest = rest} d) =
+    begun Names (Name x at) (record { opens = 0; counts = 0; is_whole = false; form = part More_names (λ ys. done (named x at ∷ ys)) }) (named x at ∷ xs) from rest refl
+    (more_names_are d Names (λ ys. done (named x at ∷ ys)) (named x at ∷ xs) rest (nothing_more Names (named x at ∷ xs) rest))
+
+-- a name, and names in parentheses
+call_behind : {p : Part} (at opening closing : Span) (f : List ℕ) (xs : List Named) (k : Named → List Named → Form p) (v : Tree p) (inner from rest : List Token) → AreNames xs inner (Sign_of sign.Close closing ∷ from) → Spelled p (k (named f at) xs) v from rest →
+    Spelled p (call_then k) v (Name f at ∷ Sign_of sign.Open opening ∷ inner) rest
+call_behind {p} at opening closing f xs k v inner from rest d h =
+    taken {c = A_name} (λ g. sign_then sign.Open (part Names (λ ys. sign_then sign.Close (k g ys)))) (named f at) v (Name f at) (Sign_of sign.Open opening ∷ inner) rest refl
+    (sign_behind sign.Open opening (part Names (λ ys. sign_then sign.Close (k (named f at) ys))) v inner rest refl
+    (names_are d p (λ ys. sign_then sign.Close (k (named f at) ys)) v rest (sign_behind sign.Close closing (k (named f at) xs) v from rest refl h)))
 
 -- `delocal`, a kind, a name and `=`
 delocal_behind : {p : Part} (j : Kind) (x : List ℕ) (there at_delocal at_kind place equals : Span) (f : Named → Form p) (v : Tree p) (from rest : List Token) → Spelled p (f (named x place)) v from rest →
@@ -240,6 +262,22 @@ mutual
     refl,
     pair_behind opening at comma place closing x y (λ z s. k (Push z s)) v rest last h,
   )
+  begins (IsStatement.call {at_call = at_call} {at = at} {opening = opening} {closing = closing} {f = f} {xs = xs} {from = from} {rest = rest} d) = λ p k v last h. (
+    Word_of word.Call at_call,
+    Name f at ∷ Sign_of sign.Open opening ∷ from,
+    record { opens = 0; counts = 0; is_whole = false; form = call_then (λ g ys. k (Call g ys)) },
+    refl,
+    refl,
+    call_behind at opening closing f xs (λ g ys. k (Call g ys)) v from rest last d h,
+  )
+  begins (IsStatement.inverse_call {at_uncall = at_uncall} {at = at} {opening = opening} {closing = closing} {f = f} {xs = xs} {from = from} {rest = rest} d) = λ p k v last h. (
+    Word_of word.Uncall at_uncall,
+    Name f at ∷ Sign_of sign.Open opening ∷ from,
+    record { opens = 0; counts = 0; is_whole = false; form = call_then (λ g ys. k (Uncall g ys)) },
+    refl,
+    refl,
+    call_behind at opening closing f xs (λ g ys. k (Uncall g ys)) v from rest last d h,
+  )
   begins (IsStatement.pop {at_pop = at_pop} {opening = opening} {at = at} {comma = comma} {place = place} {closing = closing} {x = x} {s = y} {rest = rest}) = λ p k v last h. (
     Word_of word.Pop at_pop,
     Sign_of sign.Open opening ∷ Name x at ∷ Sign_of sign.Comma comma ∷ Name y place ∷ Sign_of sign.Close closing ∷ rest,
@@ -312,7 +350,7 @@ mutual
       let y = begins d Statements (λ s. part Statements (λ b. done (More s b))) (More s b) rest (statements_are ds Statements (λ b. done (More s b)) (More s b) rest (nothing_more Statements (More s b) rest)) in
       subst (λ ts. IsPart Statements (More s b) ts rest) (sym y.3) (begun Statements y.0 y.2 (More s b) y.1 rest y.4 y.5)
 
-  body_is : {b : Block} {from rest : List Token} → IsBody b from rest → IsPart Body b from rest
+  pub body_is : {b : Block} {from rest : List Token} → IsBody b from rest → IsPart Body b from rest
   body_is (IsBody.body {s = s} {b = b} {from = from} {behind = middle} {rest = rest} d ds) =
       let y = begins d Body (λ s. part Statements (λ b. done (More s b))) (More s b) rest (statements_are ds Body (λ b. done (More s b)) (More s b) rest (nothing_more Body (More s b) rest)) in
       subst (λ ts. IsPart Body (More s b) ts rest) (sym y.3) (begun Body y.0 y.2 (More s b) y.1 rest y.4 y.5)

@@ -1,7 +1,8 @@
 -- What the table spells is derived by the rules.
-use Rattle.std.proofs.Common.{◌≡◌, ℕ, zero, suc, ◌+◌, ◌-◌, List, [], ◌∷◌, Option, Some, None, Bool, true, false, cond, refl, ap, sym, subst, ◌∙◌, arith}
+use Rattle.std.proofs.Common.{◌≡◌, ℕ, zero, suc, ◌+◌, ◌-◌, List, [], ◌∷◌, ◌++◌, Option, Some, None, Bool, true, false, cond, refl, ap, sym, subst, ◌∙◌, arith}
 use Rattle.std.specs.Prelude.{nat_eq}
 use Rattle.std.proofs.lemmas.Bool.{eqb-true}
+use Rattle.std.proofs.lemmas.List.{append-nil}
 use Rattle.janus_syntax.specs.declared.token.Span.{Span}
 use Rattle.janus_syntax.specs.declared.token.Sign.TheVariants as sign
 use Rattle.janus_syntax.specs.declared.token.Word.TheVariants as word
@@ -10,15 +11,13 @@ use Rattle.janus_syntax.specs.declared.tree.Update.{Update}
 use Rattle.janus_syntax.specs.declared.tree.Kind.{Kind}
 use Rattle.janus_syntax.specs.declared.tree.Kind.TheVariants as kind
 use Rattle.janus_syntax.specs.Tokens.{Token, Name, Number, Sign_of, Word_of}
-use Rattle.janus_syntax.specs.Tree.{Name as Named, named, Exp, Num, EmptyOf, TopOf, Neg, Stm, Skip, Push, Pop, If, Loop, LocalInt, LocalStack, Block, Empty, More, Declaration, StackOf}
+use Rattle.janus_syntax.specs.Tree.{Name as Named, named, Exp, Num, EmptyOf, TopOf, Neg, Stm, Skip, Push, Pop, If, Loop, LocalInt, LocalStack, Call, Uncall, Block, Empty, More, Declaration, StackOf, Procedure, Cell, cell_of}
 use Rattle.janus_syntax.specs.Operators.{weakest, joined, operator_at, update_at}
-use Rattle.janus_syntax.specs.Forms.{Part, A_cell, Declarations, Bound, Body, Statements, Else_part, Do_part, Loop_part, Local, Target_index, Whole, Level, Chain, Index, Tree, Seen, seen, agrees, The_sign, A_name, A_number, An_update, Form, done, take, part, close, Rule}
-use Rattle.janus_syntax.specs.Table.{rule, left_out, variable, assignment, declared, nothing, skip_block, word_then, sign_then, stack_then, variable_and_stack_then, delocal_then, local_int, local_stack, whole, operand, chains, chain_rule, statement, declaration}
-use Rattle.janus_syntax.specs.Grammar
-use Rattle.janus_syntax.specs.Grammar.{Count, Demands, met, Spells}
+use Rattle.janus_syntax.specs.Forms.{Part, A_cell, Declarations, Bound, Procedures, A_procedure, Parameters, More_parameters, A_parameter, Brackets, Body, Statements, Else_part, Do_part, Loop_part, Local, Names, More_names, Target_index, Whole, Level, Chain, Index, Tree, Seen, seen, The_sign, A_name, A_number, An_update, Form, done, take, part, close, Rule}
+use Rattle.janus_syntax.specs.Table.{rule, left_out, variable, assignment, declared, with_main, nothing, skip_block, word_then, sign_then, stack_then, variable_and_stack_then, call_then, delocal_then, local_int, local_stack, whole, operand, chains, chain_rule, statement, declaration}
 use Rattle.janus_grammar.specs.Derivation
-use Rattle.janus_grammar.specs.Derivation.{IsExpression, IsStatement, AreStatements, IsBody, IsOptional, IsDeclaration, AreDeclarations, IsCell, there, left_out as no_words, cell, body}
-use Rattle.janus_syntax.proofs.Agreed.{agreed, is_agreed, kind_word}
+use Rattle.janus_grammar.specs.Derivation.{IsExpression, AreNames, AreMoreNames, IsStatement, AreStatements, IsBody, IsOptional, IsDeclaration, AreDeclarations, IsParameter, AreMoreParameters, AreParameters, AreProcedures, IsMain, IsCell, there, left_out as no_words, cell, body}
+use Rattle.janus_syntax.proofs.Agreed.{agreed, kind_word}
 use Rattle.janus_grammar.proofs.Tokens.{delocal_is, equals_is, nil_is, same_kind_is, same_name_is, then_is, fi_is, until_is, open_is, comma_is, close_is, close_index_is}
 
 -- behind a name: an index, if there is one
@@ -33,17 +32,40 @@ pub data IsBounded : Option (ℕ × Span) → List Token → List Token → Type
   bounded : {opening place closing : Span} {n : ℕ} {rest : List Token} →
       IsBounded (Some (n, place)) (Sign_of sign.OpenIndex opening ∷ Number n place ∷ Sign_of sign.CloseIndex closing ∷ rest) rest
 
+-- behind the name of an `int` parameter: brackets, or none
+pub data AreBrackets : Bool → List Token → List Token → Type 0 where
+  no_brackets : {rest : List Token} → AreBrackets false rest rest
+  brackets : {opening closing : Span} {rest : List Token} → AreBrackets true (Sign_of sign.OpenIndex opening ∷ Sign_of sign.CloseIndex closing ∷ rest) rest
+
+-- a cell with these procedures behind its own
+abbrev pub grown : Cell → List Procedure → Cell
+grown (cell_of ds b ps) qs = cell_of ds b (ps ++ qs)
+
+-- what procedures, of which one may be `main` or not, make of the cell that is read so far
+pub data Grows : Bool → Cell → Cell → List Token → List Token → Type 0 where
+  by_procedures : {main : Bool} {c : Cell} {qs : List Procedure} {from rest : List Token} → AreProcedures qs from rest → Grows main c (grown c qs) from rest
+  by_program : {c : Cell} {ds : List Declaration} {b : Block} {ps qs : List Procedure} {from middle behind rest : List Token} →
+      AreProcedures ps from middle → IsMain ds b middle behind → AreProcedures qs behind rest → Grows true c (with_main ds b (grown (grown c ps) qs)) from rest
+
 -- what the rules say of a part
 abbrev pub Derived : (q : Part) → Tree q → List Token → List Token → Type 0
 Derived A_cell c from rest = IsCell c from rest
 Derived Declarations ds from rest = AreDeclarations ds from rest
 Derived Bound n from rest = IsBounded n from rest
+Derived (Procedures main c) d from rest = Grows main c d from rest
+Derived (A_procedure main c) d from rest = (at : Span) → Grows main c d (Word_of word.Procedure at ∷ from) rest
+Derived Parameters xs from rest = AreParameters xs from rest
+Derived More_parameters xs from rest = AreMoreParameters xs from rest
+Derived A_parameter x from rest = IsParameter x from rest
+Derived Brackets b from rest = AreBrackets b from rest
 Derived Body b from rest = IsBody b from rest
 Derived Statements b from rest = AreStatements b from rest
 Derived Else_part b from rest = IsOptional word.Else b from rest
 Derived Do_part b from rest = IsOptional word.Do b from rest
 Derived Loop_part b from rest = IsOptional word.Loop b from rest
 Derived Local s from rest = (at : Span) → IsStatement s (Word_of word.Local at ∷ from) rest
+Derived Names xs from rest = AreNames xs from rest
+Derived More_names xs from rest = AreMoreNames xs from rest
 Derived Target_index i from rest = IsIndexed i from rest
 Derived Whole e from rest = IsExpression weakest e from rest
 Derived (Level n) e from rest = IsExpression n e from rest
@@ -57,21 +79,32 @@ Means (take c k) v from rest = (t : Token) × (s : Seen c) × (behind : List Tok
 Means (part q k) v from rest = (u : Tree q) × (middle : List Token) × Derived q u from middle × Means (k u) v middle rest
 Means (close f) v from rest = Means f v from rest
 
-form_as : {q : Part} (a r : Rule q) (u : Tree q) (from rest : List Token) → Some a ≡ Some r → Means r.form u from rest → Means a.form u from rest
+pub form_as : {q : Part} (a r : Rule q) (u : Tree q) (from rest : List Token) → Some a ≡ Some r → Means r.form u from rest → Means a.form u from rest
 form_as a r u from rest e h = let same : a ≡ r = cc in subst (λ (x : Rule _). Means x.form u from rest) (sym same) h
 
 -- ---- parts that are left out
 
-left_out_derived : (q : Part) (u : Tree q) (ts : List Token) → left_out q ≡ Some u → Derived q u ts ts
-left_out_derived A_cell u ts e = let same : nothing ≡ u = cc in subst (λ c. IsCell c ts ts) same (cell AreDeclarations.none AreStatements.none)
+none_grown : (main : Bool) (c : Cell) (ts : List Token) → Grows main c c ts ts
+none_grown main (cell_of ds b ps) ts = subst (λ qs. Grows main (cell_of ds b ps) (cell_of ds b qs) ts ts) (append-nil ps) (by_procedures AreProcedures.none)
+
+pub left_out_derived : (q : Part) (u : Tree q) (ts : List Token) → left_out q ≡ Some u → Derived q u ts ts
+left_out_derived A_cell u ts e = let same : nothing ≡ u = cc in subst (λ c. IsCell c ts ts) same (cell AreDeclarations.none AreStatements.none AreProcedures.none)
 left_out_derived Declarations u ts e = let same : [] ≡ u = cc in subst (λ ds. AreDeclarations ds ts ts) same AreDeclarations.none
 left_out_derived Bound u ts e = let same : None ≡ u = cc in subst (λ n. IsBounded n ts ts) same unbounded
+left_out_derived (Procedures main c) u ts e = let same : c ≡ u = cc in subst (λ d. Grows main c d ts ts) same (none_grown main c ts)
+left_out_derived (A_procedure main c) u ts e = absurd cc
+left_out_derived Parameters u ts e = let same : [] ≡ u = cc in subst (λ xs. AreParameters xs ts ts) same AreParameters.no_parameters
+left_out_derived More_parameters u ts e = let same : [] ≡ u = cc in subst (λ xs. AreMoreParameters xs ts ts) same AreMoreParameters.none
+left_out_derived A_parameter u ts e = absurd cc
+left_out_derived Brackets u ts e = let same : false ≡ u = cc in subst (λ b. AreBrackets b ts ts) same no_brackets
 left_out_derived Body u ts e = absurd cc
 left_out_derived Statements u ts e = let same : Empty ≡ u = cc in subst (λ b. AreStatements b ts ts) same AreStatements.none
 left_out_derived Else_part u ts e = let same : skip_block ≡ u = cc in subst (λ b. IsOptional word.Else b ts ts) same no_words
 left_out_derived Do_part u ts e = let same : skip_block ≡ u = cc in subst (λ b. IsOptional word.Do b ts ts) same no_words
 left_out_derived Loop_part u ts e = let same : skip_block ≡ u = cc in subst (λ b. IsOptional word.Loop b ts ts) same no_words
 left_out_derived Local u ts e = absurd cc
+left_out_derived Names u ts e = let same : [] ≡ u = cc in subst (λ xs. AreNames xs ts ts) same AreNames.no_names
+left_out_derived More_names u ts e = let same : [] ≡ u = cc in subst (λ xs. AreMoreNames xs ts ts) same AreMoreNames.none
 left_out_derived Target_index u ts e = let same : None ≡ u = cc in subst (λ i. IsIndexed i ts ts) same without
 left_out_derived Whole u ts e = absurd cc
 left_out_derived (Level n) u ts e = absurd cc
@@ -80,7 +113,7 @@ left_out_derived Index u ts e = let same : None ≡ u = cc in subst (λ i. IsInd
 
 -- ---- names in parentheses
 
-name_is : (t : Token) (s : Named) → seen A_name t ≡ Some s → (x : List ℕ) × (at : Span) × (t ≡ Name x at) × (named x at ≡ s)
+pub name_is : (t : Token) (s : Named) → seen A_name t ≡ Some s → (x : List ℕ) × (at : Span) × (t ≡ Name x at) × (named x at ≡ s)
 name_is (Name x at) s e = (x, at, refl, cc)
 name_is (Number n at) s e = absurd cc
 name_is (Sign_of r at) s e = absurd cc
@@ -134,6 +167,30 @@ pair_derived k v from rest h =
       subst (λ y. Means (k y (named l.0 l.1)) v b5 rest) (sym n.3) (subst (λ y. Means (k s y) v b5 rest) (sym l.3) more),
     )
 
+-- a name, and names in parentheses, and what the form behind them means
+call_derived : {p : Part} (k : Named → List Named → Form p) (v : Tree p) (from rest : List Token) → Means (call_then k) v from rest →
+    (f : List ℕ) × (at : Span) × (opening : Span) × (xs : List Named) × (closing : Span) × (inner : List Token) × (behind : List Token)
+    × (from ≡ Name f at ∷ Sign_of sign.Open opening ∷ inner) × AreNames xs inner (Sign_of sign.Close closing ∷ behind) × Means (k (named f at) xs) v behind rest
+call_derived k v from rest h =
+    let (t1, s, b1, w1, is1, h1) = h in
+    let (t2, u2, b2, w2, is2, h2) = h1 in
+    let (xs, m1, d1, h3) = h2 in
+    let (t3, u3, b3, w3, is3, more) = h3 in
+    let n = name_is t1 s is1 in
+    let o = open_is b1 t2 u2 b2 w2 is2 in
+    let c = close_is m1 t3 u3 b3 w3 is3 in (
+      n.0,
+      n.1,
+      o.0,
+      xs,
+      c.0,
+      b2,
+      b3,
+      w1 ∙ ap (λ t. t ∷ b1) n.2 ∙ ap (λ ts. Name n.0 n.1 ∷ ts) o.1,
+      subst (λ ts. AreNames xs b2 ts) c.1 d1,
+      subst (λ y. Means (k y xs) v b3 rest) (sym n.3) more,
+    )
+
 -- ---- expressions
 
 -- an expression, and what the form behind it means
@@ -180,13 +237,13 @@ chains_derived l (suc n) e k v start from rest d h =
     let (g, behind, last, end) = chains_derived (suc l) n f k v start middle rest (goes_on start (Derivation.stronger d)) more in
     (g, behind, subst (λ (i : ℕ). IsExpression i g start behind) (omega arith) last, end)
 
-level_derived : (n : ℕ) (t : Token) (r : Rule (Level n)) (v : Exp) (from rest : List Token) → operand t (λ e. chains 0 n e done) ≡ Some r → Means r.form v from rest → IsExpression n v (t ∷ from) rest
+pub level_derived : (n : ℕ) (t : Token) (r : Rule (Level n)) (v : Exp) (from rest : List Token) → operand t (λ e. chains 0 n e done) ≡ Some r → Means r.form v from rest → IsExpression n v (t ∷ from) rest
 level_derived n t r v from rest is h =
     let (e, middle, d, more) = operand_derived t (λ e. chains 0 n e done) r v from rest is h in
     let (f, last, g, end) = chains_derived 0 n e done v (t ∷ from) middle rest d more in
     subst (λ (i : ℕ). IsExpression i v (t ∷ from) rest) (omega arith) (subst (λ x. IsExpression (0 + n) x (t ∷ from) rest) (sym end.0) (subst (λ ts. IsExpression (0 + n) f (t ∷ from) ts) (sym end.1) g))
 
-whole_derived : (t : Token) (o : Option (Rule Whole)) (r : Rule Whole) (v : Exp) (from rest : List Token) → operand t (λ e. chains 0 weakest e done) ≡ o → whole o ≡ Some r → Means r.form v from rest → IsExpression weakest v (t ∷ from) rest
+pub whole_derived : (t : Token) (o : Option (Rule Whole)) (r : Rule Whole) (v : Exp) (from rest : List Token) → operand t (λ e. chains 0 weakest e done) ≡ o → whole o ≡ Some r → Means r.form v from rest → IsExpression weakest v (t ∷ from) rest
 whole_derived t None r v from rest operands is h = absurd cc
 whole_derived t (Some x) r v from rest operands is h =
     let a : Rule Whole = record { opens = x.opens; counts = x.counts; is_whole = true; form = x.form } in
@@ -206,7 +263,7 @@ of_level : (b : Bool) {n : ℕ} {e : Exp} (a r : Rule (Chain n e)) → cond b (S
 of_level true a r e = (refl, e)
 of_level false a r e = absurd cc
 
-chain_derived : (n : ℕ) (e : Exp) (t : Token) (o : Option Infix) (r : Rule (Chain n e)) (v : Exp) (from rest : List Token) → operator_at t ≡ o → chain_rule o n e ≡ Some r → Means r.form v from rest → Derived (Chain n e) v (t ∷ from) rest
+pub chain_derived : (n : ℕ) (e : Exp) (t : Token) (o : Option Infix) (r : Rule (Chain n e)) (v : Exp) (from rest : List Token) → operator_at t ≡ o → chain_rule o n e ≡ Some r → Means r.form v from rest → Derived (Chain n e) v (t ∷ from) rest
 chain_derived n e t None r v from rest is rules h = absurd cc
 chain_derived n e t (Some o) r v from rest is rules h =
     let b = of_level (nat_eq o.level n) (chain_form o n e) r rules in
@@ -251,7 +308,7 @@ loop_derived at k v from rest h =
     let until = until_is m3 t1 u1 b1 w1 is1 in
     (Loop e s t f, m4, IsStatement.repetition d1 d2 (subst (λ ts. IsOptional word.Loop t m2 ts) until.1 d3) d4, h5)
 
-statement_derived : {p : Part} (t : Token) (k : Stm → Form p) (r : Rule p) (v : Tree p) (from rest : List Token) → statement t k ≡ Some r → Means r.form v from rest → Stated k v (t ∷ from) rest
+pub statement_derived : {p : Part} (t : Token) (k : Stm → Form p) (r : Rule p) (v : Tree p) (from rest : List Token) → statement t k ≡ Some r → Means r.form v from rest → Stated k v (t ∷ from) rest
 statement_derived {p} (Name x at) k r v from rest is h =
     let a : Rule p = record { opens = 0; counts = 0; is_whole = false; form = part Target_index (λ i. take An_update (λ u. part Whole (λ e. k (assignment (named x at) i u e)))) } in
     let (i, m1, d1, h1) = form_as a r v from rest is h in
@@ -279,15 +336,23 @@ statement_derived {p} (Word_of word.Pop at) k r v from rest is h =
     let a : Rule p = record { opens = 0; counts = 0; is_whole = false; form = variable_and_stack_then (λ x s. k (Pop x s)) } in
     let (opening, x, on, comma, y, place, closing, behind, whole, more) = pair_derived (λ x s. k (Pop x s)) v from rest (form_as a r v from rest is h) in
     (Pop (named x on) (named y place), behind, subst (λ ts. IsStatement (Pop (named x on) (named y place)) (Word_of word.Pop at ∷ ts) behind) (sym whole) IsStatement.pop, more)
+statement_derived {p} (Word_of word.Call at) k r v from rest is h =
+    let a : Rule p = record { opens = 0; counts = 0; is_whole = false; form = call_then (λ f xs. k (Call f xs)) } in
+    let (f, on, opening, xs, closing, inner, behind, whole, d, more) = call_derived (λ f xs. k (Call f xs)) v from rest (form_as a r v from rest is h) in
+    (Call (named f on) xs, behind, subst (λ ts. IsStatement (Call (named f on) xs) (Word_of word.Call at ∷ ts) behind) (sym whole) (IsStatement.call d), more)
+statement_derived {p} (Word_of word.Uncall at) k r v from rest is h =
+    let a : Rule p = record { opens = 0; counts = 0; is_whole = false; form = call_then (λ f xs. k (Uncall f xs)) } in
+    let (f, on, opening, xs, closing, inner, behind, whole, d, more) = call_derived (λ f xs. k (Uncall f xs)) v from rest (form_as a r v from rest is h) in
+    (Uncall (named f on) xs, behind, subst (λ ts. IsStatement (Uncall (named f on) xs) (Word_of word.Uncall at ∷ ts) behind) (sym whole) (IsStatement.inverse_call d), more)
 statement_derived (Word_of _ at) k r v from rest is h = absurd cc
 statement_derived (Sign_of s at) k r v from rest is h = absurd cc
 statement_derived (Number n at) k r v from rest is h = absurd cc
 
 -- statements in a row
-row_derived : (s : Stm) (b : Block) (v : Block) (from middle last rest : List Token) → IsStatement s from middle → AreStatements b middle last → v ≡ More s b → rest ≡ last → IsBody v from rest
+pub row_derived : (s : Stm) (b : Block) (v : Block) (from middle last rest : List Token) → IsStatement s from middle → AreStatements b middle last → v ≡ More s b → rest ≡ last → IsBody v from rest
 row_derived s b v from middle last rest d ds e f = subst (λ x. IsBody x from rest) (sym e) (subst (λ ts. IsBody (More s b) from ts) (sym f) (body d ds))
 
-none_or_more : {b : Block} {from rest : List Token} → IsBody b from rest → AreStatements b from rest
+pub none_or_more : {b : Block} {from rest : List Token} → IsBody b from rest → AreStatements b from rest
 none_or_more (body d ds) = AreStatements.more d ds
 
 -- ---- declarations
@@ -303,7 +368,7 @@ bounded_as at (Name x place) i n from behind last rest is w closing c e f = absu
 bounded_as at (Sign_of s place) i n from behind last rest is w closing c e f = absurd cc
 bounded_as at (Word_of w' place) i n from behind last rest is w closing c e f = absurd cc
 
-bound_derived : (t : Token) (r : Rule Bound) (n : Option (ℕ × Span)) (from rest : List Token) → rule Bound t ≡ Some r → Means r.form n from rest → IsBounded n (t ∷ from) rest
+pub bound_derived : (t : Token) (r : Rule Bound) (n : Option (ℕ × Span)) (from rest : List Token) → rule Bound t ≡ Some r → Means r.form n from rest → IsBounded n (t ∷ from) rest
 bound_derived (Sign_of sign.OpenIndex at) r n from rest is h =
     let a : Rule Bound = record { opens = 0; counts = 0; is_whole = false; form = take A_number (λ n. sign_then sign.CloseIndex (done (Some n))) } in
     let (t1, i, b1, w1, is1, h1) = form_as a r n from rest is h in
@@ -333,7 +398,7 @@ stack_declared at t s from behind is w =
     subst (λ y. IsDeclaration (StackOf y) (Word_of word.Stack at ∷ from) behind) n.3
     (subst (λ ts. IsDeclaration (StackOf (named n.0 n.1)) (Word_of word.Stack at ∷ ts) behind) (sym (w ∙ ap (λ x. x ∷ behind) n.2)) IsDeclaration.stack)
 
-declaration_derived : {p : Part} (t : Token) (k : Declaration → Form p) (r : Rule p) (v : Tree p) (from rest : List Token) → declaration t k ≡ Some r → Means r.form v from rest →
+pub declaration_derived : {p : Part} (t : Token) (k : Declaration → Form p) (r : Rule p) (v : Tree p) (from rest : List Token) → declaration t k ≡ Some r → Means r.form v from rest →
     (d : Declaration) × (middle : List Token) × IsDeclaration d (t ∷ from) middle × Means (k d) v middle rest
 declaration_derived {p} (Word_of word.Int at) k r v from rest is h =
     let a : Rule p = record { opens = 0; counts = 0; is_whole = false; form = take A_name (λ x. part Bound (λ n. k (declared x n))) } in
@@ -356,7 +421,7 @@ indexed_as at e i t u from middle behind rest d whole closes same last =
     let c = close_index_is middle t u behind whole closes in
     subst (λ x. IsIndexed x (Sign_of sign.OpenIndex at ∷ from) rest) (sym same) (subst (λ ts. IsIndexed (Some e) (Sign_of sign.OpenIndex at ∷ from) ts) (sym last) (indexed (subst (λ ts. IsExpression weakest e from ts) c.1 d)))
 
-target_derived : (t : Token) (r : Rule Target_index) (i : Option Exp) (from rest : List Token) → rule Target_index t ≡ Some r → Means r.form i from rest → IsIndexed i (t ∷ from) rest
+pub target_derived : (t : Token) (r : Rule Target_index) (i : Option Exp) (from rest : List Token) → rule Target_index t ≡ Some r → Means r.form i from rest → IsIndexed i (t ∷ from) rest
 target_derived (Sign_of sign.OpenIndex at) r i from rest is h =
     let a : Rule Target_index = record { opens = 1; counts = 0; is_whole = false; form = part Whole (λ e. sign_then sign.CloseIndex (close (done (Some e)))) } in
     let (e, middle, d, h1) = form_as a r i from rest is h in
@@ -367,7 +432,7 @@ target_derived (Name x at) r i from rest is h = absurd cc
 target_derived (Number n at) r i from rest is h = absurd cc
 target_derived (Word_of w at) r i from rest is h = absurd cc
 
-index_derived : (t : Token) (r : Rule Index) (i : Option Exp) (from rest : List Token) → rule Index t ≡ Some r → Means r.form i from rest → IsIndexed i (t ∷ from) rest
+pub index_derived : (t : Token) (r : Rule Index) (i : Option Exp) (from rest : List Token) → rule Index t ≡ Some r → Means r.form i from rest → IsIndexed i (t ∷ from) rest
 index_derived (Sign_of sign.OpenIndex at) r i from rest is h =
     let a : Rule Index = record { opens = 1; counts = 0; is_whole = false; form = part (Level weakest) (λ e. sign_then sign.CloseIndex (close (done (Some e)))) } in
     let (e, middle, d, h1) = form_as a r i from rest is h in
@@ -378,7 +443,7 @@ index_derived (Name x at) r i from rest is h = absurd cc
 index_derived (Number n at) r i from rest is h = absurd cc
 index_derived (Word_of w at) r i from rest is h = absurd cc
 
-else_derived : (t : Token) (r : Rule Else_part) (b : Block) (from rest : List Token) → rule Else_part t ≡ Some r → Means r.form b from rest → IsOptional word.Else b (t ∷ from) rest
+pub else_derived : (t : Token) (r : Rule Else_part) (b : Block) (from rest : List Token) → rule Else_part t ≡ Some r → Means r.form b from rest → IsOptional word.Else b (t ∷ from) rest
 else_derived (Word_of word.Else at) r b from rest is h =
     let a : Rule Else_part = record { opens = 0; counts = 0; is_whole = false; form = part Body done } in
     let (s, last, d, h1) = form_as a r b from rest is h in
@@ -389,7 +454,7 @@ else_derived (Sign_of s at) r b from rest is h = absurd cc
 else_derived (Name x at) r b from rest is h = absurd cc
 else_derived (Number n at) r b from rest is h = absurd cc
 
-do_derived : (t : Token) (r : Rule Do_part) (b : Block) (from rest : List Token) → rule Do_part t ≡ Some r → Means r.form b from rest → IsOptional word.Do b (t ∷ from) rest
+pub do_derived : (t : Token) (r : Rule Do_part) (b : Block) (from rest : List Token) → rule Do_part t ≡ Some r → Means r.form b from rest → IsOptional word.Do b (t ∷ from) rest
 do_derived (Word_of word.Do at) r b from rest is h =
     let a : Rule Do_part = record { opens = 0; counts = 0; is_whole = false; form = part Body done } in
     let (s, last, d, h1) = form_as a r b from rest is h in
@@ -400,7 +465,7 @@ do_derived (Sign_of s at) r b from rest is h = absurd cc
 do_derived (Name x at) r b from rest is h = absurd cc
 do_derived (Number n at) r b from rest is h = absurd cc
 
-loop_part_derived : (t : Token) (r : Rule Loop_part) (b : Block) (from rest : List Token) → rule Loop_part t ≡ Some r → Means r.form b from rest → IsOptional word.Loop b (t ∷ from) rest
+pub loop_part_derived : (t : Token) (r : Rule Loop_part) (b : Block) (from rest : List Token) → rule Loop_part t ≡ Some r → Means r.form b from rest → IsOptional word.Loop b (t ∷ from) rest
 loop_part_derived (Word_of word.Loop at) r b from rest is h =
     let a : Rule Loop_part = record { opens = 0; counts = 0; is_whole = false; form = part Body done } in
     let (s, last, d, h1) = form_as a r b from rest is h in
@@ -480,7 +545,7 @@ stack_local_derived at_stack s from rest h at =
     (subst (λ ts. IsStatement (LocalStack (named x on) b (named x place)) (Word_of word.Local at ∷ Word_of word.Stack at_stack ∷ Name x on ∷ Sign_of sign.Equals equals ∷ Word_of word.Nil n.0 ∷ b2) ts) (sym h5.1)
     (IsStatement.local_stack (subst (λ ts. IsBody b b2 ts) back d1))))
 
-local_derived : (t : Token) (r : Rule Local) (s : Stm) (from rest : List Token) → rule Local t ≡ Some r → Means r.form s from rest → (at : Span) → IsStatement s (Word_of word.Local at ∷ t ∷ from) rest
+pub local_derived : (t : Token) (r : Rule Local) (s : Stm) (from rest : List Token) → rule Local t ≡ Some r → Means r.form s from rest → (at : Span) → IsStatement s (Word_of word.Local at ∷ t ∷ from) rest
 local_derived (Word_of word.Int at_int) r s from rest is h =
     let a : Rule Local = record { opens = 0; counts = 0; is_whole = false; form = local_int done } in
     int_derived at_int s from rest (form_as a r s from rest is h)
@@ -492,44 +557,27 @@ local_derived (Sign_of o at) r s from rest is h = absurd cc
 local_derived (Name x at) r s from rest is h = absurd cc
 local_derived (Number n at) r s from rest is h = absurd cc
 
--- a part behind its first token
-rule_derived : (q : Part) (t : Token) (r : Rule q) (u : Tree q) (from rest : List Token) → rule q t ≡ Some r → Means r.form u from rest → Derived q u (t ∷ from) rest
-rule_derived A_cell t r u from rest is h = absurd cc
-rule_derived Declarations t r u from rest is h =
-    let (d, m1, a, h1) = declaration_derived t (λ d. part Declarations (λ ds. done (d ∷ ds))) r u from rest is h in
-    let (ds, m2, b, h2) = h1 in
-    let (e, f) = h2 in
-    subst (λ x. AreDeclarations x (t ∷ from) rest) (sym e) (subst (λ ts. AreDeclarations (d ∷ ds) (t ∷ from) ts) (sym f) (AreDeclarations.more a b))
-rule_derived Bound t r u from rest is h = bound_derived t r u from rest is h
-rule_derived Body t r u from rest is h =
-    let (s, m1, a, h1) = statement_derived t (λ s. part Statements (λ b. done (More s b))) r u from rest is h in
-    let (b, m2, c, h2) = h1 in
-    let (e, f) = h2 in
-    row_derived s b u (t ∷ from) m1 m2 rest a c e f
-rule_derived Statements t r u from rest is h =
-    let (s, m1, a, h1) = statement_derived t (λ s. part Statements (λ b. done (More s b))) r u from rest is h in
-    let (b, m2, c, h2) = h1 in
-    let (e, f) = h2 in
-    none_or_more (row_derived s b u (t ∷ from) m1 m2 rest a c e f)
-rule_derived Else_part t r u from rest is h = else_derived t r u from rest is h
-rule_derived Do_part t r u from rest is h = do_derived t r u from rest is h
-rule_derived Loop_part t r u from rest is h = loop_part_derived t r u from rest is h
-rule_derived Local t r u from rest is h = local_derived t r u from rest is h
-rule_derived Target_index t r u from rest is h = target_derived t r u from rest is h
-rule_derived Whole t r u from rest is h = whole_derived t (operand t (λ e. chains 0 weakest e done)) r u from rest refl is h
-rule_derived (Level n) t r u from rest is h = level_derived n t r u from rest is h
-rule_derived (Chain n e) t r u from rest is h = chain_derived n e t (operator_at t) r u from rest refl is h
-rule_derived Index t r u from rest is h = index_derived t r u from rest is h
+pub names_derived : (t : Token) (r : Rule Names) (xs : List Named) (from rest : List Token) → rule Names t ≡ Some r → Means r.form xs from rest → AreNames xs (t ∷ from) rest
+names_derived (Name x at) r xs from rest is h =
+    let a : Rule Names = record { opens = 0; counts = 0; is_whole = false; form = part More_names (λ ys. done (named x at ∷ ys)) } in
+    let (ys, m, d, end) = form_as a r xs from rest is h in
+    subst (λ zs. AreNames zs (Name x at ∷ from) rest) (sym end.0) (subst (λ ts. AreNames (named x at ∷ ys) (Name x at ∷ from) ts) (sym end.1) (AreNames.names d))
+names_derived (Word_of w at) r xs from rest is h = absurd cc
+names_derived (Sign_of s at) r xs from rest is h = absurd cc
+names_derived (Number n at) r xs from rest is h = absurd cc
 
--- what is demanded holds
-demanded : (b x : Bool) → b ≡ true → met b x ≡ true → x ≡ true
-demanded true x e h = h
-demanded false x e h = absurd cc
-
--- where it is demanded that `delocal` agrees with its `local`
-pub means : {d : Demands} {p : Part} {f : Form p} {v : Tree p} {m m' : Count} {from rest : List Token} → d.agreement ≡ true → Spells d p f v m from m' rest → Means f v from rest
-means a Grammar.nothing_more = (refl, refl)
-means {d} a (Grammar.token {c = c} {s = s} {t = t} {from = from} is ok more) = (t, s, from, refl, is_agreed c t s is (demanded d.agreement (agrees c s) a ok), means a more)
-means a (Grammar.end_of_construct more) = means a more
-means a (Grammar.a_part {q = q} {r = r} {u = u} {t = t} {from = from} {middle = middle} is ok inner more) = (u, middle, rule_derived q t r u from middle is (means a inner), means a more)
-means a (Grammar.no_part {q = q} {u = u} {from = from} is more) = (u, from, left_out_derived q u from is, means a more)
+pub more_names_derived : (t : Token) (r : Rule More_names) (xs : List Named) (from rest : List Token) → rule More_names t ≡ Some r → Means r.form xs from rest → AreMoreNames xs (t ∷ from) rest
+more_names_derived (Sign_of sign.Comma at) r xs from rest is h =
+    let a : Rule More_names = record { opens = 0; counts = 0; is_whole = false; form = take A_name (λ x. part More_names (λ ys. done (x ∷ ys))) } in
+    let (t, s, b, w, seen_is, h1) = form_as a r xs from rest is h in
+    let (ys, m, d, end) = h1 in
+    let n = name_is t s seen_is in
+    let list : xs ≡ named n.0 n.1 ∷ ys = end.0 ∙ ap (λ y. y ∷ ys) (sym n.3) in
+    let whole : from ≡ Name n.0 n.1 ∷ b = w ∙ ap (λ t. t ∷ b) n.2 in
+    subst (λ zs. AreMoreNames zs (Sign_of sign.Comma at ∷ from) rest) (sym list)
+    (subst (λ ts. AreMoreNames (named n.0 n.1 ∷ ys) (Sign_of sign.Comma at ∷ ts) rest) (sym whole)
+    (subst (λ ts. AreMoreNames (named n.0 n.1 ∷ ys) (Sign_of sign.Comma at ∷ Name n.0 n.1 ∷ b) ts) (sym end.1) (AreMoreNames.more d)))
+more_names_derived (Sign_of _ at) r xs from rest is h = absurd cc
+more_names_derived (Word_of w at) r xs from rest is h = absurd cc
+more_names_derived (Name x at) r xs from rest is h = absurd cc
+more_names_derived (Number n at) r xs from rest is h = absurd cc

@@ -1,5 +1,5 @@
 -- The grammar as books print it, a rule a line: which tokens are which tree.
-use Rattle.std.specs.Prelude.{◌≡◌, ℕ, suc, ◌-◌, List, [], ◌∷◌, Some}
+use Rattle.std.specs.Prelude.{◌≡◌, ℕ, suc, ◌-◌, List, [], ◌∷◌, ◌++◌, Some}
 use Rattle.janus_syntax.specs.declared.token.Span.{Span}
 use Rattle.janus_syntax.specs.declared.token.Sign.TheVariants as sign
 use Rattle.janus_syntax.specs.declared.token.Word.{Word}
@@ -7,7 +7,7 @@ use Rattle.janus_syntax.specs.declared.token.Word.TheVariants as word
 use Rattle.janus_syntax.specs.declared.operator.Infix.{Infix}
 use Rattle.janus_syntax.specs.declared.tree.Update.{Update}
 use Rattle.janus_syntax.specs.Tokens.{Token, Name, Number, Sign_of, Word_of}
-use Rattle.janus_syntax.specs.Tree.{named, Exp, Num, Var, Element, EmptyOf, TopOf, Neg, Stm, Skip, Assign, AssignElement, Push, Pop, If, Loop, LocalInt, LocalStack, Block, Empty, More, Declaration, Int, Array, StackOf, Cell, cell_of}
+use Rattle.janus_syntax.specs.Tree.{Name as Named, named, Exp, Num, Var, Element, EmptyOf, TopOf, Neg, Stm, Skip, Assign, AssignElement, Push, Pop, If, Loop, LocalInt, LocalStack, Call, Uncall, Block, Empty, More, Declaration, Int, Array, StackOf, Parameter, IntParameter, ArrayParameter, StackParameter, Procedure, procedure_of, Cell, cell_of}
 use Rattle.janus_syntax.specs.Operators.{weakest, joined, operator_at, update_at}
 use Rattle.janus_syntax.specs.Table.{skip_block}
 
@@ -33,6 +33,17 @@ pub data IsExpression : ℕ → Exp → List Token → List Token → Type 0 whe
       IsExpression o.level a from (t ∷ behind) → IsExpression (o.level - 1) b behind rest → IsExpression o.level (joined o.joint a b) from rest
 
 -- ---- statements
+
+-- behind a name: a comma and a name, none or more times
+pub data AreMoreNames : List Named → List Token → List Token → Type 0 where
+  none : {rest : List Token} → AreMoreNames [] rest rest
+  more : {comma at : Span} {x : List ℕ} {xs : List Named} {from rest : List Token} →
+      AreMoreNames xs from rest → AreMoreNames (named x at ∷ xs) (Sign_of sign.Comma comma ∷ Name x at ∷ from) rest
+
+-- names parted by commas, or none
+pub data AreNames : List Named → List Token → List Token → Type 0 where
+  no_names : {rest : List Token} → AreNames [] rest rest
+  names : {at : Span} {x : List ℕ} {xs : List Named} {from rest : List Token} → AreMoreNames xs from rest → AreNames (named x at ∷ xs) (Name x at ∷ from) rest
 
 mutual
   -- a statement
@@ -62,6 +73,10 @@ mutual
     local_stack : {at_local at_stack at equals at_nil at_delocal at_kind place equals_again nil_again : Span} {x : List ℕ} {b : Block} {from rest : List Token} →
         IsBody b from (Word_of word.Delocal at_delocal ∷ Word_of word.Stack at_kind ∷ Name x place ∷ Sign_of sign.Equals equals_again ∷ Word_of word.Nil nil_again ∷ rest) →
         IsStatement (LocalStack (named x at) b (named x place)) (Word_of word.Local at_local ∷ Word_of word.Stack at_stack ∷ Name x at ∷ Sign_of sign.Equals equals ∷ Word_of word.Nil at_nil ∷ from) rest
+    call : {at_call at opening closing : Span} {f : List ℕ} {xs : List Named} {from rest : List Token} →
+        AreNames xs from (Sign_of sign.Close closing ∷ rest) → IsStatement (Call (named f at) xs) (Word_of word.Call at_call ∷ Name f at ∷ Sign_of sign.Open opening ∷ from) rest
+    inverse_call : {at_uncall at opening closing : Span} {f : List ℕ} {xs : List Named} {from rest : List Token} →
+        AreNames xs from (Sign_of sign.Close closing ∷ rest) → IsStatement (Uncall (named f at) xs) (Word_of word.Uncall at_uncall ∷ Name f at ∷ Sign_of sign.Open opening ∷ from) rest
 
   -- none or more
   pub data AreStatements : Block → List Token → List Token → Type 0 where
@@ -77,7 +92,7 @@ mutual
     there : {w : Word} {at : Span} {b : Block} {from rest : List Token} → IsBody b from rest → IsOptional w b (Word_of w at ∷ from) rest
     left_out : {w : Word} {rest : List Token} → IsOptional w skip_block rest rest
 
--- ---- cells
+-- ---- declarations
 
 -- a declaration
 pub data IsDeclaration : Declaration → List Token → List Token → Type 0 where
@@ -91,6 +106,48 @@ pub data AreDeclarations : List Declaration → List Token → List Token → Ty
   none : {rest : List Token} → AreDeclarations [] rest rest
   more : {d : Declaration} {ds : List Declaration} {from behind rest : List Token} → IsDeclaration d from behind → AreDeclarations ds behind rest → AreDeclarations (d ∷ ds) from rest
 
--- declarations, and then statements
+-- ---- procedures
+
+-- a parameter: a number, an array, or a stack
+pub data IsParameter : Parameter → List Token → List Token → Type 0 where
+  number : {at_int at : Span} {x : List ℕ} {rest : List Token} → IsParameter (IntParameter (named x at)) (Word_of word.Int at_int ∷ Name x at ∷ rest) rest
+  array : {at_int at opening closing : Span} {x : List ℕ} {rest : List Token} →
+      IsParameter (ArrayParameter (named x at)) (Word_of word.Int at_int ∷ Name x at ∷ Sign_of sign.OpenIndex opening ∷ Sign_of sign.CloseIndex closing ∷ rest) rest
+  stack : {at_stack at : Span} {s : List ℕ} {rest : List Token} → IsParameter (StackParameter (named s at)) (Word_of word.Stack at_stack ∷ Name s at ∷ rest) rest
+
+-- behind a parameter: a comma and a parameter, none or more times
+pub data AreMoreParameters : List Parameter → List Token → List Token → Type 0 where
+  none : {rest : List Token} → AreMoreParameters [] rest rest
+  more : {comma : Span} {x : Parameter} {xs : List Parameter} {from behind rest : List Token} →
+      IsParameter x from behind → AreMoreParameters xs behind rest → AreMoreParameters (x ∷ xs) (Sign_of sign.Comma comma ∷ from) rest
+
+-- parameters parted by commas, or none
+pub data AreParameters : List Parameter → List Token → List Token → Type 0 where
+  no_parameters : {rest : List Token} → AreParameters [] rest rest
+  parameters : {x : Parameter} {xs : List Parameter} {from behind rest : List Token} → IsParameter x from behind → AreMoreParameters xs behind rest → AreParameters (x ∷ xs) from rest
+
+-- a procedure: its name, its parameters in parentheses, and its body
+pub data IsProcedure : Procedure → List Token → List Token → Type 0 where
+  procedure : {at_procedure at opening closing : Span} {f : List ℕ} {xs : List Parameter} {b : Block} {from behind rest : List Token} →
+      AreParameters xs from (Sign_of sign.Close closing ∷ behind) → IsBody b behind rest →
+      IsProcedure (procedure_of (named f at) xs b) (Word_of word.Procedure at_procedure ∷ Name f at ∷ Sign_of sign.Open opening ∷ from) rest
+
+-- none or more
+pub data AreProcedures : List Procedure → List Token → List Token → Type 0 where
+  none : {rest : List Token} → AreProcedures [] rest rest
+  more : {p : Procedure} {ps : List Procedure} {from behind rest : List Token} → IsProcedure p from behind → AreProcedures ps behind rest → AreProcedures (p ∷ ps) from rest
+
+-- ---- cells
+
+-- `main`: its declarations and its statements
+pub data IsMain : List Declaration → Block → List Token → List Token → Type 0 where
+  main : {at_procedure at opening closing : Span} {ds : List Declaration} {b : Block} {from middle rest : List Token} →
+      AreDeclarations ds from middle → AreStatements b middle rest →
+      IsMain ds b (Word_of word.Procedure at_procedure ∷ Word_of word.Main at ∷ Sign_of sign.Open opening ∷ Sign_of sign.Close closing ∷ from) rest
+
+-- declarations, then statements, then procedures; or procedures of which one is `main`, which gives the declarations and the statements
 pub data IsCell : Cell → List Token → List Token → Type 0 where
-  cell : {ds : List Declaration} {b : Block} {from middle rest : List Token} → AreDeclarations ds from middle → AreStatements b middle rest → IsCell (cell_of ds b) from rest
+  cell : {ds : List Declaration} {b : Block} {ps : List Procedure} {from middle behind rest : List Token} →
+      AreDeclarations ds from middle → AreStatements b middle behind → AreProcedures ps behind rest → IsCell (cell_of ds b ps) from rest
+  program : {ds : List Declaration} {b : Block} {ps qs : List Procedure} {from middle behind rest : List Token} →
+      AreProcedures ps from middle → IsMain ds b middle behind → AreProcedures qs behind rest → IsCell (cell_of ds b (ps ++ qs)) from rest

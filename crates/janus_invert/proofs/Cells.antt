@@ -9,7 +9,7 @@ use Rattle.janus_syntax.specs.declared.tree.Name as code_name
 use Rattle.janus_syntax.specs.declared.tree.Exp as code_exp
 use Rattle.janus_syntax.specs.declared.tree.Stm as code_stm
 use Rattle.janus_syntax.proofs.Views.{view_if, view_loop, view_local_int, view_local_stack}
-use Rattle.janus_syntax.specs.Tree.{named, name_view, Stm, Skip, Assign, AssignElement, Push, Pop, If, Loop, LocalInt, LocalStack, Block, Empty, More, cell_of, exp_view, stm_view, block_view}
+use Rattle.janus_syntax.specs.Tree.{named, name_view, Stm, Skip, Assign, AssignElement, Push, Pop, If, Loop, LocalInt, LocalStack, Call, Uncall, Block, Empty, More, cell_of, exp_view, stm_view, block_view}
 use Rattle.janus_invert.specs.Cells.{opposite_of, inverse_stm, turned, InverseCellTwice}
 
 -- ---- twice is the identity
@@ -30,13 +30,15 @@ mutual
   inverse_twice (Loop a s t b) = ap (λ r. Loop a r (turned (turned t Empty) Empty) b) (turned_twice s Empty) ∙ ap (λ r. Loop a s r b) (turned_twice t Empty)
   inverse_twice (LocalInt x a s y b) = ap (λ r. LocalInt x a r y b) (turned_twice s Empty)
   inverse_twice (LocalStack x s y) = ap (λ r. LocalStack x r y) (turned_twice s Empty)
+  inverse_twice (Call f xs) = refl
+  inverse_twice (Uncall f xs) = refl
 
-  turned_twice : (b acc : Block) → turned (turned b acc) Empty ≡ turned acc b
+  pub turned_twice : (b acc : Block) → turned (turned b acc) Empty ≡ turned acc b
   turned_twice Empty acc = refl
   turned_twice (More s b) acc = turned_twice b (More (inverse_stm s) acc) ∙ ap (λ r. turned acc (More r b)) (inverse_twice s)
 
 pub inverse_cell_twice : InverseCellTwice
-inverse_cell_twice (cell_of declarations b) = ap (cell_of declarations) (turned_twice b Empty)
+inverse_cell_twice (cell_of declarations b procedures) = ap (λ b. cell_of declarations b procedures) (turned_twice b Empty)
 
 -- ---- one more statement, from the last to the first
 
@@ -85,6 +87,8 @@ mutual
       ∙ ap (λ r. tree.From (plain_exp b) (tree.turn (plain_block s) tree.Nil) r (plain_exp a)) (turned_plain t Empty)
   inverse_plain (LocalInt x a s y b) = ap (λ r. tree.LocalInt (text_of x) (plain_exp b) r (plain_exp a)) (turned_plain s Empty)
   inverse_plain (LocalStack x s y) = ap (tree.LocalStack (text_of x)) (turned_plain s Empty)
+  inverse_plain (Call f xs) = refl
+  inverse_plain (Uncall f xs) = refl
 
   turned_plain : (b acc : Block) → plain_block (turned b acc) ≡ tree.turn (plain_block b) (plain_block acc)
   turned_plain Empty acc = refl

@@ -5,3 +5,4 @@ pub mod Flattened
 pub mod Reversed
 pub mod Meeting
 pub mod Placing
+pub mod Lists

@@ -1,16 +1,19 @@
--- Well-formed trees name what is in sight and locals: where these were met, all their names were.
-use Rattle.std.proofs.Common.{◌≡◌, ◌<◌, ◌+◌, length, get_or, ℕ, zero, suc, Bool, true, false, List, [], ◌∷◌, refl, ap, ◌∙◌, sym, subst, arith}
+-- Well-formed trees name what is in sight, locals and procedures: where these were met, all their names were.
+use Rattle.std.proofs.Common.{◌≡◌, ◌<◌, ◌+◌, length, get_or, ℕ, zero, suc, Bool, true, false, List, [], ◌∷◌, map, refl, ap, ◌∙◌, sym, subst, arith}
 use Rattle.std.specs.Prelude.{Some}
 use Rattle.janus_meaning.specs.Syntax as tree
-use Rattle.janus_meaning.specs.Syntax.{Name, Kind, Exp, Number, Var, At, Empty, Top, Negate, Binary, And, Or, Stm, Blk, Skip, Set, SetAt, Push, Pop, If, From, LocalInt, LocalStack, Call, Uncall, Nil, Cons}
+use Rattle.janus_meaning.specs.Syntax.{Name, Kind, Exp, Number, Var, At, Empty, Top, Negate, Binary, And, Or, Stm, Blk, Skip, Set, SetAt, Push, Pop, If, From, LocalInt, LocalStack, Call, Uncall, Nil, Cons, Proc, names_of}
 use Rattle.janus_meaning.specs.Store.{same_name}
-use Rattle.janus_meaning.specs.Shape.{Shape, Heads, kind_at, pick_newest, left_out, without}
-use Rattle.janus_meaning.specs.Formed.{IsExp, IsStm, IsBlk}
+use Rattle.janus_meaning.specs.Shape.{Shape, Heads, kind_at, head_at, pick_newest, left_out, without}
+use Rattle.janus_meaning.specs.Formed.{IsExp, AreArguments, IsStm, IsBlk, IsProc}
 use Rattle.janus_meaning.proofs.Stores.{same_name_true}
 use Rattle.janus_names.specs.Numbers.{IsMet}
 use Rattle.janus_syntax.specs.declared.tree.Stm as code_stm
-use Rattle.janus_syntax.specs.View.{stm_of, block_of}
-use Rattle.janus_invert.specs.Met.{MeetsExp, MeetsStm, MeetsBlk, MeetsLocals, MeetsLocalsOf}
+use Rattle.janus_syntax.specs.declared.tree.Name as code_name
+use Rattle.janus_syntax.specs.declared.tree.Parameter as code_parameter
+use Rattle.janus_syntax.specs.Tree.{names_view, parameter_view, parameters_view}
+use Rattle.janus_syntax.specs.View.{name_of, text_of, stm_of, block_of, plain_parameter}
+use Rattle.janus_invert.specs.Met.{AreAllMet, MeetsProc, MeetsExp, MeetsStm, MeetsBlk, MeetsLocals, MeetsLocalsOf}
 
 abbrev IsSeen : Shape → Name → Type 0
 IsSeen g x = (k : Kind) × (kind_at x g ≡ Some k)
@@ -18,6 +21,10 @@ IsSeen g x = (k : Kind) × (kind_at x g ≡ Some k)
 -- each name in sight was met
 abbrev pub AreMet : Shape → List Name → Type 0
 AreMet g xs = (x : Name) (k : Kind) → kind_at x g ≡ Some k → IsMet xs x
+
+-- each procedure that calls see was met
+abbrev pub AreCalledMet : Heads → List Name → Type 0
+AreCalledMet hs xs = (f : Name) (cs : List Kind) → head_at f hs ≡ Some cs → IsMet xs f
 
 -- one name more in front hides none
 seen_behind : (y : Name) (e : Name × Kind) (g : Shape) → IsSeen g y → IsSeen (e ∷ g) y
@@ -67,23 +74,51 @@ exp_met g xs (Or l r) m h = (exp_met g xs l m h.0, exp_met g xs r m h.1)
 side_met : (x : Name) (g : Shape) (xs : List Name) (e : Exp) → AreMet g xs → IsExp (without x g) e → MeetsExp xs e
 side_met x g xs e m h = exp_met (without x g) xs e (taken_out x g xs m) h
 
-mutual
-  stm_met : (hs : Heads) (g : Shape) (xs : List Name) (c : Stm) → AreMet g xs → IsStm hs g c → MeetsLocals xs c → MeetsStm xs c
-  stm_met hs g xs Skip m h l = tt
-  stm_met hs g xs (Set x o e) m h l = (m x tree.ANumber h.0, side_met x g xs e m h.1)
-  stm_met hs g xs (SetAt a i o e) m h l = (m a tree.AnArray h.0, side_met a g xs i m h.1, side_met a g xs e m h.2)
-  stm_met hs g xs (Push x y) m h l = (m x tree.ANumber h.0, m y tree.AStack h.1)
-  stm_met hs g xs (Pop x y) m h l = (m x tree.ANumber h.0, m y tree.AStack h.1)
-  stm_met hs g xs (If a s t b) m h l = (exp_met g xs a m h.0, block_met hs g xs s m h.1 l.0, block_met hs g xs t m h.2 l.1, exp_met g xs b m h.3)
-  stm_met hs g xs (From a s t b) m h l = (exp_met g xs a m h.0, block_met hs g xs s m h.1 l.0, block_met hs g xs t m h.2 l.1, exp_met g xs b m h.3)
-  stm_met hs g xs (LocalInt x a s b) m h l = (l.0, exp_met g xs a m h.1, block_met hs ((x, tree.ANumber) ∷ g) xs s (with_local x tree.ANumber g xs m l.0) h.2 l.1, exp_met g xs b m h.3)
-  stm_met hs g xs (LocalStack x s) m h l = (l.0, block_met hs ((x, tree.AStack) ∷ g) xs s (with_local x tree.AStack g xs m l.0) h.1 l.1)
-  stm_met hs g xs (Call f ys) m h l = tt
-  stm_met hs g xs (Uncall f ys) m h l = tt
+arguments_met : (g : Shape) (xs : List Name) (cs : List Kind) (ys : List Name) → AreMet g xs → AreArguments cs ys g → AreAllMet xs ys
+arguments_met g xs [] [] m h = tt
+arguments_met g xs [] (y ∷ ys) m h = absurd h
+arguments_met g xs (c ∷ cs) [] m h = absurd h
+arguments_met g xs (c ∷ cs) (y ∷ ys) m h = (m y c h.0, arguments_met (without y g) xs cs ys (taken_out y g xs m) h.1)
 
-  pub block_met : (hs : Heads) (g : Shape) (xs : List Name) (b : Blk) → AreMet g xs → IsBlk hs g b → MeetsLocalsOf xs b → MeetsBlk xs b
-  block_met hs g xs Nil m h l = tt
-  block_met hs g xs (Cons c b) m h l = (stm_met hs g xs c m h.0 l.0, block_met hs g xs b m h.1 l.1)
+mutual
+  stm_met : (hs : Heads) (g : Shape) (xs : List Name) (c : Stm) → AreCalledMet hs xs → AreMet g xs → IsStm hs g c → MeetsLocals xs c → MeetsStm xs c
+  stm_met hs g xs Skip q m h l = tt
+  stm_met hs g xs (Set x o e) q m h l = (m x tree.ANumber h.0, side_met x g xs e m h.1)
+  stm_met hs g xs (SetAt a i o e) q m h l = (m a tree.AnArray h.0, side_met a g xs i m h.1, side_met a g xs e m h.2)
+  stm_met hs g xs (Push x y) q m h l = (m x tree.ANumber h.0, m y tree.AStack h.1)
+  stm_met hs g xs (Pop x y) q m h l = (m x tree.ANumber h.0, m y tree.AStack h.1)
+  stm_met hs g xs (If a s t b) q m h l = (exp_met g xs a m h.0, block_met hs g xs s q m h.1 l.0, block_met hs g xs t q m h.2 l.1, exp_met g xs b m h.3)
+  stm_met hs g xs (From a s t b) q m h l = (exp_met g xs a m h.0, block_met hs g xs s q m h.1 l.0, block_met hs g xs t q m h.2 l.1, exp_met g xs b m h.3)
+  stm_met hs g xs (LocalInt x a s b) q m h l = (l.0, exp_met g xs a m h.1, block_met hs ((x, tree.ANumber) ∷ g) xs s q (with_local x tree.ANumber g xs m l.0) h.2 l.1, exp_met g xs b m h.3)
+  stm_met hs g xs (LocalStack x s) q m h l = (l.0, block_met hs ((x, tree.AStack) ∷ g) xs s q (with_local x tree.AStack g xs m l.0) h.1 l.1)
+  stm_met hs g xs (Call f ys) q m h l = (q f h.0 h.1, arguments_met g xs h.0 ys m h.2)
+  stm_met hs g xs (Uncall f ys) q m h l = (q f h.0 h.1, arguments_met g xs h.0 ys m h.2)
+
+  pub block_met : (hs : Heads) (g : Shape) (xs : List Name) (b : Blk) → AreCalledMet hs xs → AreMet g xs → IsBlk hs g b → MeetsLocalsOf xs b → MeetsBlk xs b
+  block_met hs g xs Nil q m h l = tt
+  block_met hs g xs (Cons c b) q m h l = (stm_met hs g xs c q m h.0 l.0, block_met hs g xs b q m h.1 l.1)
+
+-- ---- procedures
+
+parameters_met : (g : Shape) (xs : List Name) → AreAllMet xs (names_of g) → AreMet g xs
+parameters_met [] xs h = λ x k e. cc
+parameters_met (e ∷ g) xs h = with_local e.0 e.1 g xs (parameters_met g xs h.1) h.0
+
+-- where the parameters of a procedure, its locals and what it may call were met, all its names were
+pub proc_met : (hs : Heads) (xs : List Name) (p : Proc) → AreCalledMet hs xs → AreAllMet xs (names_of p.params) → IsProc hs p → MeetsLocalsOf xs p.body → MeetsProc xs p
+proc_met hs xs p q h f l = record { name = q p.name _ f.head; parameters = h; body = block_met hs p.params xs p.body q (parameters_met p.params xs h) f.body l }
+
+-- ---- one of several
+
+pub one_name_met : (xs : List Name) (ys : List code_name.Name) (i : ℕ) (y : code_name.Name) → i < length ys → get_or ys i y ≡ y → AreAllMet xs (map text_of (names_view ys)) → IsMet xs (name_of y)
+one_name_met xs [] i y lt e h = absurd (omega arith)
+one_name_met xs (r ∷ ys) zero y lt e h = subst (λ y. IsMet xs (name_of y)) e h.0
+one_name_met xs (r ∷ ys) (suc i) y lt e h = one_name_met xs ys i y (omega arith) e h.1
+
+pub one_parameter_met : (xs : List Name) (ys : List code_parameter.Parameter) (i : ℕ) (y : code_parameter.Parameter) → i < length ys → get_or ys i y ≡ y → AreAllMet xs (names_of (map plain_parameter (parameters_view ys))) → IsMet xs (plain_parameter (parameter_view y)).0
+one_parameter_met xs [] i y lt e h = absurd (omega arith)
+one_parameter_met xs (r ∷ ys) zero y lt e h = subst (λ y. IsMet xs (plain_parameter (parameter_view y)).0) e h.0
+one_parameter_met xs (r ∷ ys) (suc i) y lt e h = one_parameter_met xs ys i y (omega arith) e h.1
 
 -- each statement of a block
 pub one_met : (xs : List Name) (ss : List code_stm.Stm) (i : ℕ) (s : code_stm.Stm) → i < length ss → get_or ss i s ≡ s → MeetsBlk xs (block_of ss) → MeetsStm xs (stm_of s)

@@ -12,8 +12,8 @@ use Rattle.janus_syntax.specs.View.{operator_of}
 use Rattle.janus_meaning.specs.Syntax as tree
 use Rattle.janus_invert.specs.Expressions.{exp_of}
 use Rattle.janus_invert.specs.declared.code.Statement.{Statement}
-use Rattle.janus_invert.specs.declared.code.Statement.TheVariants.{Skip, Assign, AssignElement, Push, Pop, If, Loop, LocalInt, LocalStack}
-use Rattle.janus_invert.specs.Numbered.{HasItsNumber, HasNumbers, IsSame, IsCopy, StatementHasNumbers, HaveNumbers}
+use Rattle.janus_invert.specs.declared.code.Statement.TheVariants.{Skip, Assign, AssignElement, Push, Pop, If, Loop, LocalInt, LocalStack, Call, Uncall}
+use Rattle.janus_invert.specs.Numbered.{HasItsNumber, HaveTheirNumbers, HasNumbers, IsSame, AreSame, IsCopy, StatementHasNumbers, HaveNumbers}
 use Rattle.janus_invert.specs.Inverted.{IsInverse, AreInverse}
 use Rattle.janus_invert.proofs.Pairs.{last_or_before}
 
@@ -30,6 +30,11 @@ one_more_placed xs ss s h p n r e =
 pub same_at : (xs : List Name) (x y : Symbol) → IsSame x y → HasItsNumber xs x → HasItsNumber xs y
 same_at xs x y same at = ap (slice_get xs) same.number ∙ at ∙ ap Some (sym same.text)
 
+all_same_at : (xs : List Name) (ys zs : List Symbol) → AreSame ys zs → HaveTheirNumbers xs ys → HaveTheirNumbers xs zs
+all_same_at xs [] [] same at = tt
+all_same_at xs (y ∷ ys) (z ∷ zs) same at = (same_at xs y z same.0 at.0, all_same_at xs ys zs same.1 at.1)
+all_same_at xs _ _ same at = absurd same
+
 statement_turned : (members others : List ℕ) (xs : List Name) (s r : Statement) → IsInverse members others s r → StatementHasNumbers xs s → StatementHasNumbers xs r
 statement_turned members others xs Skip Skip v p = tt
 statement_turned members others xs (Assign x u e) (Assign y w f) v p = (same_at xs x y v.0 p.0, v.2.numbered xs p.1)
@@ -40,6 +45,8 @@ statement_turned members others xs (If a k l b) (If c m n d) v p = (v.0.numbered
 statement_turned members others xs (Loop a k l b) (Loop c m n d) v p = (v.0.numbered xs p.1, v.3.numbered xs p.0)
 statement_turned members others xs (LocalInt x a k b) (LocalInt y c m d) v p = (same_at xs x y v.0 p.0, v.1.numbered xs p.2, v.3.numbered xs p.1)
 statement_turned members others xs (LocalStack x k) (LocalStack y m) v p = same_at xs x y v.0 p
+statement_turned members others xs (Call f ys) (Uncall g zs) v p = (same_at xs f g v.0 p.0, all_same_at xs ys.items zs.items v.1 p.1)
+statement_turned members others xs (Uncall f ys) (Call g zs) v p = (same_at xs f g v.0 p.0, all_same_at xs ys.items zs.items v.1 p.1)
 statement_turned members others xs _ _ v p = absurd v
 
 pub all_turned : (members : List ℕ) (ss : List Statement) (body : Block) (others : List ℕ) (rs : List Statement) (back : Block) → AreInverse members ss body others rs back → (xs : List Name) → HaveNumbers xs ss → HaveNumbers xs rs

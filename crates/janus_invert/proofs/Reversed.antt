@@ -1,5 +1,5 @@
 -- Inverse code stands for the inverse block.
-use Rattle.std.proofs.Common.{◌≡◌, ℕ, zero, suc, ◌+◌, ◌-◌, ◌<◌, ◌≤◌, List, length, get_or, refl, ap, ◌∙◌, sym, arith, ⊎_elim}
+use Rattle.std.proofs.Common.{◌≡◌, ℕ, zero, suc, ◌+◌, ◌-◌, ◌<◌, ◌≤◌, List, [], ◌∷◌, length, get_or, refl, ap, ◌∙◌, sym, arith, ⊎_elim}
 use Rattle.std.specs.Prelude.{slice_get, Some, None, string_bytes}
 use Rattle.std.proofs.lemmas.Bool.{cases_lt}
 use Rattle.std.proofs.lemmas.Option.{slice_get-get_or, slice_get_within, slice_get_cases}
@@ -10,8 +10,10 @@ use Rattle.janus_syntax.specs.declared.tree.Update.{Update}
 use Rattle.janus_syntax.specs.declared.tree.Update.TheVariants as update
 use Rattle.janus_invert.specs.declared.code.Block.{Block}
 use Rattle.janus_invert.specs.declared.code.Statement.{Statement}
-use Rattle.janus_invert.specs.declared.code.Statement.TheVariants.{Skip, Assign, AssignElement, Push, Pop, If, Loop, LocalInt, LocalStack}
+use Rattle.janus_invert.specs.declared.code.Statement.TheVariants.{Skip, Assign, AssignElement, Push, Pop, If, Loop, LocalInt, LocalStack, Call, Uncall}
+use Rattle.janus_invert.specs.declared.code.Symbol.{Symbol}
 use Rattle.janus_invert.specs.Expressions.{exp_of}
+use Rattle.janus_invert.specs.Numbered.{AreSame, texts_of}
 use Rattle.janus_invert.specs.Flat.{ahead, block_at, built, tree_at, IsBelow, BlocksAreBelow, AreBelow, IsDownward}
 use Rattle.janus_invert.specs.Inverted.{IsOpposite, IsBackward, IsInverse, AreInverse}
 use Rattle.janus_invert.specs.Longer.{IsLonger}
@@ -57,6 +59,11 @@ opposite_sign update.Subtract update.Add h = refl
 opposite_sign update.Xor update.Xor h = refl
 opposite_sign _ _ h = absurd h
 
+same_texts : (xs ys : List Symbol) → AreSame xs ys → texts_of ys ≡ texts_of xs
+same_texts [] [] h = refl
+same_texts (x ∷ xs) (y ∷ ys) h = ap (λ z. z ∷ texts_of ys) h.0.text ∙ ap (λ zs. string_bytes x.text ∷ zs) (same_texts xs ys h.1)
+same_texts _ _ h = absurd h
+
 module _ (t u : ℕ → tree.Stm) (members others : List ℕ) (m : ℕ) (inv : (j : ℕ) → j < m → u j ≡ tree.inverse (t j)) where
   built_turned : (s r : Statement) → BlocksAreBelow members m s → IsInverse members others s r → built u others r ≡ tree.inverse (built t members s)
   built_turned Skip Skip b h = refl
@@ -89,6 +96,8 @@ module _ (t u : ℕ → tree.Stm) (members others : List ℕ) (m : ℕ) (inv : (
   built_turned (LocalStack x p) (LocalStack y r) b h =
       ap (λ z. tree.LocalStack z (block_at u others r)) h.0.text
       ∙ ap (tree.LocalStack (string_bytes x.text)) (block_turned t u members others m p r b h.1 inv)
+  built_turned (Call f xs) (Uncall g ys) b h = ap (λ z. tree.Uncall z (texts_of ys.items)) h.0.text ∙ ap (tree.Uncall (string_bytes f.text)) (same_texts xs.items ys.items h.1)
+  built_turned (Uncall f xs) (Call g ys) b h = ap (λ z. tree.Call z (texts_of ys.items)) h.0.text ∙ ap (tree.Call (string_bytes f.text)) (same_texts xs.items ys.items h.1)
   built_turned _ _ b h = absurd h
 
 -- ---- code
@@ -146,6 +155,8 @@ inverse_below members others n (If a p q c) (If d r s e) b h = (backward_below m
 inverse_below members others n (Loop a p q c) (Loop d r s e) b h = (backward_below members others n p r b.0 h.1, backward_below members others n q s b.1 h.2)
 inverse_below members others n (LocalInt x a p c) (LocalInt y d r e) b h = backward_below members others n p r b h.2
 inverse_below members others n (LocalStack x p) (LocalStack y r) b h = backward_below members others n p r b h.1
+inverse_below members others n (Call f xs) (Uncall g ys) b h = tt
+inverse_below members others n (Uncall f xs) (Call g ys) b h = tt
 inverse_below members others n _ _ b h = absurd h
 
 pub whole_below : (members others : List ℕ) (n m : ℕ) (b c : Block) → m ≡ n → IsBelow members n b → IsBackward members others b c → IsBelow others m c
@@ -173,6 +184,8 @@ inverse_longer members others more (If a p q c) (If d r s e) l h = (h.0, backwar
 inverse_longer members others more (Loop a p q c) (Loop d r s e) l h = (h.0, backward_longer members others more p r l h.1, backward_longer members others more q s l h.2, h.3)
 inverse_longer members others more (LocalInt x a p c) (LocalInt y d r e) l h = (h.0, h.1, backward_longer members others more p r l h.2, h.3)
 inverse_longer members others more (LocalStack x p) (LocalStack y r) l h = (h.0, backward_longer members others more p r l h.1)
+inverse_longer members others more (Call f xs) (Uncall g ys) l h = h
+inverse_longer members others more (Uncall f xs) (Call g ys) l h = h
 inverse_longer members others more _ _ l h = absurd h
 
 -- ---- what the loop over all statements has made, and the whole block behind it

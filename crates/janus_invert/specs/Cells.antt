@@ -1,8 +1,8 @@
--- The inverse of a cell as the parser gives it: its statements inverted, its declarations left.
+-- The inverse of a cell as the parser gives it: its statements inverted, its declarations and procedures left.
 use Rattle.std.specs.Prelude.{◌≡◌}
 use Rattle.janus_syntax.specs.declared.tree.Update.{Update}
 use Rattle.janus_syntax.specs.declared.tree.Update.TheVariants.{Add, Subtract, Xor}
-use Rattle.janus_syntax.specs.Tree.{Stm, Skip, Assign, AssignElement, Push, Pop, If, Loop, LocalInt, LocalStack, Block, Empty, More, Cell, cell_of}
+use Rattle.janus_syntax.specs.Tree.{Stm, Skip, Assign, AssignElement, Push, Pop, If, Loop, LocalInt, LocalStack, Call, Uncall, Block, Empty, More, Cell, cell_of}
 
 abbrev pub opposite_of : Update → Update
 opposite_of Add = Subtract
@@ -21,6 +21,8 @@ abbrev mutual
   inverse_stm (Loop a s t b) = Loop b (turned s Empty) (turned t Empty) a
   inverse_stm (LocalInt x a s y b) = LocalInt x b (turned s Empty) y a
   inverse_stm (LocalStack x s y) = LocalStack x (turned s Empty) y
+  inverse_stm (Call f xs) = Uncall f xs
+  inverse_stm (Uncall f xs) = Call f xs
 
   -- the inverse of a block, and behind it `done`
   pub turned : Block → Block → Block
@@ -28,7 +30,7 @@ abbrev mutual
   turned (More s b) done = turned b (More (inverse_stm s) done)
 
 abbrev pub inverse_cell : Cell → Cell
-inverse_cell (cell_of declarations block) = cell_of declarations (turned block Empty)
+inverse_cell (cell_of declarations block procedures) = cell_of declarations (turned block Empty) procedures
 
 abbrev pub InverseCellTwice : Type 0
 InverseCellTwice = (c : Cell) → inverse_cell (inverse_cell c) ≡ c

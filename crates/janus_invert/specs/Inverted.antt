@@ -4,8 +4,8 @@ use Rattle.janus_syntax.specs.declared.tree.Update.{Update}
 use Rattle.janus_syntax.specs.declared.tree.Update.TheVariants as update
 use Rattle.janus_invert.specs.declared.code.Block.{Block}
 use Rattle.janus_invert.specs.declared.code.Statement.{Statement}
-use Rattle.janus_invert.specs.declared.code.Statement.TheVariants.{Skip, Assign, AssignElement, Push, Pop, If, Loop, LocalInt, LocalStack}
-use Rattle.janus_invert.specs.Numbered.{IsSame, IsCopy}
+use Rattle.janus_invert.specs.declared.code.Statement.TheVariants.{Skip, Assign, AssignElement, Push, Pop, If, Loop, LocalInt, LocalStack, Call, Uncall}
+use Rattle.janus_invert.specs.Numbered.{IsSame, AreSame, IsCopy}
 
 -- `+=` and `-=` are each other's opposites, `^=` is its own
 abbrev pub IsOpposite : Update → Update → Type 0
@@ -36,6 +36,8 @@ IsInverse members others (Loop a p q b) (Loop c r s d) =
 IsInverse members others (LocalInt x a p b) (LocalInt y c r d) =
     IsSame x y × IsCopy b c × IsBackward members others p r × IsCopy a d
 IsInverse members others (LocalStack x p) (LocalStack y r) = IsSame x y × IsBackward members others p r
+IsInverse members others (Call f xs) (Uncall g ys) = IsSame f g × AreSame xs.items ys.items
+IsInverse members others (Uncall f xs) (Call g ys) = IsSame f g × AreSame xs.items ys.items
 IsInverse members others _ _ = ⊥
 
 pub record AreInverse (members : List ℕ) (statements : List Statement) (body : Block) (others : List ℕ) (inverses : List Statement) (back : Block) : Type 0 where

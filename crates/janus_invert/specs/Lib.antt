@@ -4,6 +4,7 @@ pub mod Numbered
 pub mod Met
 pub mod Flat
 pub mod CodeBlock
+pub mod Procedures
 pub mod Grown
 pub mod Longer
 pub mod Inverted

@@ -2,6 +2,7 @@
 
 ghost use Rattle.janus_invert.specs.Flat.{IsDownward, IsDownward-prop};
 
+use janus_check::Kind;
 use janus_syntax::tree::{Operator, Update};
 use std::alloc::AllocError;
 
@@ -70,6 +71,10 @@ pub enum Statement {
     LocalInt(Symbol, Exp, Block, Exp),
     /// A local stack, empty at both ends, and the block in which it stands.
     LocalStack(Symbol, Block),
+    /// A call: the procedure's name, and the arguments.
+    Call(Symbol, Vec<Symbol>),
+    /// A call of the inverse: the procedure's name, and the arguments.
+    Uncall(Symbol, Vec<Symbol>),
 }
 
 /// Flat code. A statement stands behind those of its blocks.
@@ -82,4 +87,19 @@ pub struct Code {
     /// The outermost block.
     pub body: Block,
     ghost downward: { IsDownward members.items statements.items body } by { IsDownward-prop members.items statements.items body },
+}
+
+/// A parameter of a procedure, and what it stands for.
+#[derive(Drop)]
+pub struct Parameter {
+    pub name: Symbol,
+    pub kind: Kind,
+}
+
+/// A procedure: its name, its parameters, and the code of its body.
+#[derive(Drop)]
+pub struct Procedure {
+    pub name: Symbol,
+    pub parameters: Vec<Parameter>,
+    pub body: Code,
 }

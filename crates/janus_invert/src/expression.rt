@@ -1,11 +1,12 @@
-//! The expressions of flat code.
+//! The names and the expressions of flat code.
 
-ghost use Rattle.std.specs.Prelude.{◌≡◌, IfOk, string_bytes};
+ghost use Rattle.std.specs.Prelude.{◌≡◌, IfOk, map, string_bytes};
 ghost use Rattle.janus_names.specs.Numbers.{IsMet};
-ghost use Rattle.janus_syntax.specs.View.{name_of, exp_of as plain};
+ghost use Rattle.janus_syntax.specs.Tree.{names_view};
+ghost use Rattle.janus_syntax.specs.View.{name_of, text_of, exp_of as plain};
 ghost use Rattle.janus_invert.specs.Expressions.{exp_of};
-ghost use Rattle.janus_invert.specs.Numbered.{HasItsNumber, HasNumbers, IsCopy};
-ghost use Rattle.janus_invert.specs.Met.{MeetsExp};
+ghost use Rattle.janus_invert.specs.Numbered.{HasItsNumber, HaveTheirNumbers, HasNumbers, AreSame, IsCopy, texts_of};
+ghost use Rattle.janus_invert.specs.Met.{AreAllMet, MeetsExp};
 
 use crate::code::{Exp, Symbol};
 use janus_names::Names;
@@ -25,6 +26,34 @@ pub(crate) fn symbol(names: &Names, name: &tree::Name) -> Result<Symbol, AllocEr
         }),
         None => unreachable!(),
     }
+}
+
+/// Names that were met with their numbers; an error for want of memory.
+pub(crate) fn symbols(
+    alloc: Global,
+    names: &Names,
+    list: &[tree::Name],
+) -> Result<Vec<Symbol>, AllocError>
+    requires { AreAllMet names.now (map text_of (names_view list.now)) }
+    ensures texts { IfOk result (λ symbols. texts_of symbols.items ≡ map text_of (names_view list.now)) }
+    ensures numbered { IfOk result (λ symbols. HaveTheirNumbers names.now symbols.items) }
+{
+    let mut symbols = Vec::new(alloc);
+    for i in 0..list.len() {
+        symbols.push(symbol(names, &list[i])?)?;
+    }
+    Ok(symbols)
+}
+
+/// The same symbols in memory of their own; an error for want of memory.
+pub(crate) fn copies(alloc: Global, symbols: &[Symbol]) -> Result<Vec<Symbol>, AllocError>
+    ensures { IfOk result (λ copies. AreSame symbols.now copies.items) }
+{
+    let mut copies = Vec::new(alloc);
+    for i in 0..symbols.len() {
+        copies.push(symbols[i].copy()?)?;
+    }
+    Ok(copies)
 }
 
 /// An expression whose names were met, with their numbers; an error for want of memory.

@@ -11,7 +11,7 @@ ghost use Rattle.janus_invert.specs.Numbered.{StatementHasNumbers, HaveNumbers};
 ghost use Rattle.janus_invert.specs.Met.{MeetsStm, MeetsBlk};
 
 use crate::code::{Block, Code, Statement};
-use crate::expression::{flat_exp, symbol};
+use crate::expression::{flat_exp, symbol, symbols};
 use crate::fault::InvertFault;
 use janus_check::Checked;
 use janus_names::Names;
@@ -36,7 +36,7 @@ pub fn flatten(alloc: Global, checked: &Checked, names: &Names) -> Result<Code, 
 }
 
 /// The flat code of a block.
-fn flat_code(alloc: Global, block: &[Stm], names: &Names) -> Result<Code, AllocError>
+pub(crate) fn flat_code(alloc: Global, block: &[Stm], names: &Names) -> Result<Code, AllocError>
     requires { MeetsBlk names.now (block_of block.now) }
     ensures block { IfOk result (λ code. code_block code ≡ block_of block.now) }
     ensures numbered { IfOk result (λ code. HaveNumbers names.now code.statements.items) }
@@ -152,6 +152,16 @@ fn flat_statement(
             let name = symbol(names, name)?;
             let block = flat_block(alloc, block, names, draft)?;
             add(draft, Statement::LocalStack(name, block))
+        }
+        Stm::Call(called, arguments) => {
+            let called = symbol(names, called)?;
+            let arguments = symbols(alloc, names, arguments)?;
+            add(draft, Statement::Call(called, arguments))
+        }
+        Stm::Uncall(called, arguments) => {
+            let called = symbol(names, called)?;
+            let arguments = symbols(alloc, names, arguments)?;
+            add(draft, Statement::Uncall(called, arguments))
         }
     }
 }

@@ -3,12 +3,12 @@
 ghost use Rattle.std.specs.Prelude.{◌≡◌, IfOk};
 ghost use Rattle.janus_meaning.specs.Syntax.{inverse_block};
 ghost use Rattle.janus_syntax.specs.View.{block_of};
-ghost use Rattle.janus_syntax.specs.Tree.{stm_view, cell_view, declaration_view, declarations_view, block_view, Empty};
+ghost use Rattle.janus_syntax.specs.Tree.{stm_view, cell_view, declaration_view, declarations_view, names_view, parameter_view, parameters_view, procedure_view, procedures_view, block_view, Empty};
 ghost use Rattle.janus_invert.specs.Inverted.{IsOpposite};
 ghost use Rattle.janus_invert.specs.Cells.{opposite_of, inverse_stm, inverse_cell, turned};
 
 use crate::fault::InvertFault;
-use janus_syntax::tree::{Cell, Declaration, Stm, Update};
+use janus_syntax::tree::{Cell, Declaration, Name, Parameter, Procedure, Stm, Update};
 use std::alloc::{AllocError, Global};
 
 /// The operator that takes an assignment back.
@@ -23,17 +23,78 @@ pub(crate) fn opposite(update: Update) -> Update
     }
 }
 
-/// The cell whose statements are inverted, with the same declarations; or want of memory.
+/// The cell whose statements are inverted, with the same declarations and procedures; or want of memory.
 pub fn invert(alloc: Global, cell: &Cell) -> Result<Cell, InvertFault>
     ensures block { IfOk result (λ inverse. block_of inverse.statements.items ≡ inverse_block (block_of cell.now.statements.items)) }
     ensures places { IfOk result (λ inverse. cell_view inverse ≡ inverse_cell (cell_view cell.now)) }
 {
     let declarations = copies(alloc, &cell.declarations)?;
     let statements = inverse_statements(alloc, &cell.statements)?;
+    let procedures = same_procedures(alloc, &cell.procedures)?;
     Ok(Cell {
         declarations,
         statements,
+        procedures,
     })
+}
+
+/// The same procedures in memory of their own.
+fn same_procedures(alloc: Global, procedures: &[Procedure]) -> Result<Vec<Procedure>, AllocError>
+    ensures { IfOk result (λ copies. procedures_view copies.items ≡ procedures_view procedures.now) }
+{
+    let mut copies = Vec::new(alloc);
+    for procedure in procedures {
+        copies.push(same_procedure(alloc, procedure)?)?;
+    }
+    Ok(copies)
+}
+
+/// The same procedure in memory of its own. The inverse of its body's inverse is the body.
+fn same_procedure(alloc: Global, procedure: &Procedure) -> Result<Procedure, AllocError>
+    ensures { IfOk result (λ copy. procedure_view copy ≡ procedure_view procedure.now) }
+{
+    let name = procedure.name.copy()?;
+    let parameters = same_parameters(alloc, &procedure.parameters)?;
+    let inverses = inverse_statements(alloc, &procedure.body)?;
+    let body = inverse_statements(alloc, &inverses)?;
+    Ok(Procedure {
+        name,
+        parameters,
+        body,
+    })
+}
+
+/// The same parameters in memory of their own.
+fn same_parameters(alloc: Global, parameters: &[Parameter]) -> Result<Vec<Parameter>, AllocError>
+    ensures { IfOk result (λ copies. parameters_view copies.items ≡ parameters_view parameters.now) }
+{
+    let mut copies = Vec::new(alloc);
+    for parameter in parameters {
+        copies.push(same_parameter(parameter)?)?;
+    }
+    Ok(copies)
+}
+
+/// The same parameter in memory of its own.
+fn same_parameter(parameter: &Parameter) -> Result<Parameter, AllocError>
+    ensures { IfOk result (λ copy. parameter_view copy ≡ parameter_view parameter.now) }
+{
+    match parameter {
+        Parameter::Int(name) => Ok(Parameter::Int(name.copy()?)),
+        Parameter::Array(name) => Ok(Parameter::Array(name.copy()?)),
+        Parameter::Stack(name) => Ok(Parameter::Stack(name.copy()?)),
+    }
+}
+
+/// The same names in memory of their own.
+fn same_names(alloc: Global, names: &[Name]) -> Result<Vec<Name>, AllocError>
+    ensures { IfOk result (λ copies. names_view copies.items ≡ names_view names.now) }
+{
+    let mut copies = Vec::new(alloc);
+    for name in names {
+        copies.push(name.copy()?)?;
+    }
+    Ok(copies)
 }
 
 /// The same declarations in memory of their own.
@@ -119,6 +180,14 @@ fn inverse_statement(alloc: Global, statement: &Stm) -> Result<Stm, AllocError>
             let block = inverse_statements(alloc, block)?;
             let name = name.copy()?;
             Ok(Stm::LocalStack(name, block, end.copy()?))
+        }
+        Stm::Call(called, arguments) => {
+            let arguments = same_names(alloc, arguments)?;
+            Ok(Stm::Uncall(called.copy()?, arguments))
+        }
+        Stm::Uncall(called, arguments) => {
+            let arguments = same_names(alloc, arguments)?;
+            Ok(Stm::Call(called.copy()?, arguments))
         }
     }
 }

@@ -1,11 +1,13 @@
 //! Inverse cells, and the flat code that the machine runs.
 //!
 //! To the layer above it promises that `invert` gives the inverse of a cell's statements, that flat code stands for one
-//! block, that `flatten` gives code that stands for the cell's block, and that `invert_code` gives code that stands for the
-//! inverse of that block. In flat code each name stands with the number under which it was met, so that what runs compares no text.
+//! block, that `flatten` gives code that stands for the cell's block, `flatten_procedure` a procedure whose code stands for its
+//! body, and that `invert_code` gives code that stands for the inverse of a code's block. In flat code each name, of a variable or
+//! a procedure, stands with the number under which it was met, so that what runs compares no text.
 //! The inverse of a statement is that of Yokoyama and Glück (2007), "A reversible programming language and its invertible
 //! self-interpreter": `+=` and `-=` exchange, `^=` stays; an `if` exchanges its test and its assertion, a loop its entry and its
-//! exit, and their blocks stay where they are, each inverted; `skip` stays; a block is reversed with each of its statements inverted.
+//! exit, and their blocks stay where they are, each inverted; `skip` stays; `push` and `pop`, `call` and `uncall` exchange, a local
+//! exchanges its two expressions; a block is reversed with each of its statements inverted.
 #![tactic(auto)]
 
 ghost use Rattle.janus_invert.specs.Cells.{InverseCellTwice};
@@ -15,13 +17,15 @@ mod expression;
 mod fault;
 mod flat;
 mod inverse;
+mod procedure;
 mod turned;
 
-pub use crate::code::{Block, Code, Exp, Statement, Symbol};
+pub use crate::code::{Block, Code, Exp, Parameter, Procedure, Statement, Symbol};
 pub use crate::expression::flat_exp;
 pub use crate::fault::InvertFault;
 pub use crate::flat::flatten;
 pub use crate::inverse::invert;
+pub use crate::procedure::flatten_procedure;
 pub use crate::turned::invert_code;
 
 /// A law about the definitions of `specs/`: the inverse of a cell's inverse is the cell. It does nothing.

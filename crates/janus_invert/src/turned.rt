@@ -9,7 +9,7 @@ ghost use Rattle.janus_invert.specs.CodeBlock.{code_block};
 ghost use Rattle.janus_invert.specs.Longer.{IsLonger};
 
 use crate::code::{Block, Code, Statement};
-use crate::expression::copy;
+use crate::expression::{copies, copy};
 use crate::fault::InvertFault;
 use crate::inverse::opposite;
 use std::alloc::{AllocError, Global};
@@ -96,6 +96,14 @@ fn inverse_one(
         Statement::LocalStack(name, block) => {
             let block = backward(members, *block, others)?;
             Ok(Statement::LocalStack(name.copy()?, block))
+        }
+        Statement::Call(called, arguments) => {
+            let arguments = copies(alloc, arguments)?;
+            Ok(Statement::Uncall(called.copy()?, arguments))
+        }
+        Statement::Uncall(called, arguments) => {
+            let arguments = copies(alloc, arguments)?;
+            Ok(Statement::Call(called.copy()?, arguments))
         }
     }
 }

@@ -1,7 +1,7 @@
 pub mod Steps
 pub mod Turns
+pub mod Within
 pub mod Linked
 pub mod Open
 pub mod Ends
-pub mod Flatness
 pub mod Fetched

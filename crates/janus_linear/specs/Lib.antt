@@ -1,6 +1,7 @@
 pub mod Actions
 pub mod ActionCodes
 pub mod Layout
+pub mod Within
 pub mod Instructions
 pub mod Laid
 pub mod Open

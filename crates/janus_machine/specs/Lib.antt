@@ -3,7 +3,11 @@ pub mod Statements
 pub mod Acts
 pub mod Places
 pub mod Mirrored
+pub mod Bodies
+pub mod Nested
+pub mod Cursors
 pub mod Counts
+pub mod Open
+pub mod Calls
 pub mod Steps
 pub mod Law
-pub mod Open

@@ -1,19 +1,22 @@
 //! A place in code.
 
-ghost use Rattle.std.specs.Prelude.{◌≡◌, ◌+◌, ◌-◌, ◌≤◌, ◌^◌, [], true, false, not};
+ghost use Rattle.std.specs.Prelude.{◌≡◌, ◌+◌, ◌-◌, ◌≤◌, ◌<◌, ◌^◌, ℕ, List, [], true, false, not, IfOk, vec_capacity};
 ghost use Rattle.janus_meaning.specs.Stepping.{mirror as mirror_of, BeforeBlock as Before};
 ghost use Rattle.janus_meaning.specs.Limit.{step_limit};
 ghost use Rattle.janus_invert.specs.CodeBlock.{code_block};
 ghost use Rattle.janus_linear.specs.Layout.{block_size};
-ghost use Rattle.janus_machine.specs.Places.{place_of, block_in, has_ended, IsStanding};
-ghost use Rattle.janus_machine.specs.Counts.{counted};
-ghost use Rattle.janus_machine.specs.declared.book.Direction.TheVariants.{Forward, Inverse};
 
 use crate::book::{Book, Direction};
+use crate::procedures::Procedures;
+use crate::running::running;
 use janus_linear::Linear;
+use std::alloc::{AllocError, Global};
 
 /// How many steps a cell may take.
 pub const STEP_LIMIT: u64 = 1_000_000_000_000;
+
+/// How many calls may be open: each has two frames, its own and that of its body.
+const CALL_LIMIT: usize = 8192;
 
 /// The last place of code.
 pub(crate) fn last(linear: &Linear) -> usize
@@ -22,29 +25,58 @@ pub(crate) fn last(linear: &Linear) -> usize
     linear.instructions.len().saturating_sub(1)
 }
 
-/// A place in the code of a book.
+/// An open call.
+#[derive(Clone, Copy)]
+pub(crate) struct Call {
+    /// The number of its procedure's name.
+    pub(crate) procedure: usize,
+    /// Where the call stands in the row of its caller's code as it is written.
+    pub(crate) place: usize,
+    /// Whether caller and callee face opposite ways.
+    pub(crate) uncalled: bool,
+    /// How many frames are open outside its caller's row.
+    pub(crate) used: u32,
+}
+
+/// A place in the code of a book, or of the procedures that are called there.
 #[derive(Drop)]
 pub struct Cursor {
     pub(crate) direction: Direction,
-    /// How many places of the code come behind this one.
+    /// How many places of the row come behind this one.
     pub(crate) to_go: usize,
+    /// The open calls, the innermost last.
+    pub(crate) calls: Vec<Call>,
+    /// How many frames are open outside the row.
+    pub(crate) used: u32,
     /// How many steps from the entry of the block it stands.
     pub(crate) count: u64,
     /// It was turned round: its steps take those back that it had taken.
     pub(crate) turned: bool,
+    pub ghost room: { 8192 ≤ vec_capacity calls },
 }
 
 impl Cursor {
-    /// A cursor at no place of a book yet. It takes no memory.
-    pub fn new() -> Cursor
-        ensures { has_ended result ≡ true }
+    ghost use Rattle.janus_store.specs.Held.{Held, Caller};
+    ghost use Rattle.janus_machine.specs.declared.procedures.Procedures as declared;
+    ghost use Rattle.janus_machine.specs.declared.book.Direction.TheVariants.{Forward, Inverse};
+    ghost use Rattle.janus_machine.specs.Places.{block_in};
+    ghost use Rattle.janus_machine.specs.Cursors.{place_of, has_ended, IsStanding};
+    ghost use Rattle.janus_machine.specs.Counts.{counted};
+    ghost use Rattle.janus_machine.specs.Open.{Agrees};
+
+    /// A cursor at no place of a book yet, with the memory of all calls that may be open; an error for want of it.
+    pub fn new(alloc: Global) -> Result<Cursor, AllocError>
+        ensures { IfOk result (λ cursor. has_ended cursor ≡ true) }
     {
-        Cursor {
+        let calls = Vec::with_capacity(alloc, CALL_LIMIT)?;
+        Ok(Cursor {
             direction: Direction::Forward,
             to_go: 0,
+            calls,
+            used: 0,
             count: 0,
             turned: false,
-        }
+        })
     }
 
     /// How many steps from the entry of the block it stands. Once the cursor is turned, its steps take them back.
@@ -54,24 +86,28 @@ impl Cursor {
         self.count
     }
 
-    /// Goes before the block of a book's code.
+    /// Goes before the block of a book's code. No call is open then.
     pub fn enter(&mut self, book: &Book)
-        ensures stands { IsStanding book.now self.new }
-        ensures place { place_of book.now self.new ≡ Before (block_in book.now Forward) [] }
+        ensures stands { (t : declared.Procedures) (h : Held) → h.callers ≡ [] → IsStanding t book.now self.new h }
+        ensures place { (t : declared.Procedures) (hs : List Caller) → place_of t book.now self.new hs ≡ Before (block_in book.now Forward) [] }
         ensures counts { (self.new.count ≡ 0) × (self.new.turned ≡ false) }
     {
+        self.calls.clear();
+        self.used = 0;
         self.direction = Direction::Forward;
         self.to_go = last(&book.forward);
         self.count = 0;
         self.turned = false;
     }
 
-    /// Goes before the block of a book's inverse code.
+    /// Goes before the block of a book's inverse code. No call is open then.
     pub fn enter_inverse(&mut self, book: &Book)
-        ensures stands { IsStanding book.now self.new }
-        ensures place { place_of book.now self.new ≡ Before (block_in book.now Inverse) [] }
+        ensures stands { (t : declared.Procedures) (h : Held) → h.callers ≡ [] → IsStanding t book.now self.new h }
+        ensures place { (t : declared.Procedures) (hs : List Caller) → place_of t book.now self.new hs ≡ Before (block_in book.now Inverse) [] }
         ensures counts { (self.new.count ≡ 0) × (self.new.turned ≡ false) }
     {
+        self.calls.clear();
+        self.used = 0;
         self.direction = Direction::Inverse;
         self.to_go = last(&book.inverse);
         self.count = 0;
@@ -82,17 +118,18 @@ impl Cursor {
     pub fn is_ended(&self) -> bool
         ensures { result ≡ has_ended self.now }
     {
-        self.to_go == 0
+        self.to_go == 0 && self.calls.is_empty()
     }
 
-    /// Turns round where it stands: the steps from here go back by the way that the cursor came.
-    pub fn mirror(&mut self, book: &Book)
-        requires { IsStanding book.now self.old }
-        ensures stands { IsStanding book.now self.new }
-        ensures place { place_of book.now self.new ≡ mirror_of (place_of book.now self.old) }
+    /// Turns round where it stands: the steps from here go back by the way that the cursor came, through the open calls too.
+    pub fn mirror(&mut self, procedures: &Procedures, book: &Book)
+        ensures stands { (h : Held) → IsStanding procedures.now book.now self.old h → IsStanding procedures.now book.now self.new h }
+        ensures place { (h : Held) → IsStanding procedures.now book.now self.old h → place_of procedures.now book.now self.new h.callers ≡ mirror_of (place_of procedures.now book.now self.old h.callers) }
+        ensures agrees { (k : ℕ) (h : Held) → IsStanding procedures.now book.now self.old h → Agrees k procedures.now book.now self.old h → Agrees k procedures.now book.now self.new h }
         ensures counts { (self.new.count ≡ self.old.count) × (self.new.turned ≡ not self.old.turned) }
     {
-        self.to_go = last(book.linear(self.direction)).saturating_sub(self.to_go);
+        let linear = running(procedures, book, &self.calls).linear(self.direction);
+        self.to_go = last(linear).saturating_sub(self.to_go);
         self.direction = self.direction.opposite();
         self.turned = !self.turned;
     }

@@ -1,11 +1,10 @@
 //! What opening and closing a local does to the store.
 
-ghost use Rattle.std.specs.Prelude.{◌≡◌, ◌≢◌, ◌<◌};
+ghost use Rattle.std.specs.Prelude.{◌≡◌, ◌≢◌};
 ghost use Rattle.janus_meaning.specs.Fault.{Bad, Broken};
-ghost use Rattle.janus_meaning.specs.World.{size_of};
 ghost use Rattle.janus_evaluation.specs.Locals.{KeepsNames};
 ghost use Rattle.janus_invert.specs.Numbered.{StatementHasNumbers};
-ghost use Rattle.janus_store.specs.Held.{HasLocalRoom};
+ghost use Rattle.janus_store.specs.Held.{HasLocal, HasLocalRoom, live_stacks};
 ghost use Rattle.janus_machine.specs.Faults.{IsDone};
 ghost use Rattle.janus_machine.specs.Statements.{opened_of, closed_of};
 
@@ -18,10 +17,10 @@ use std::sync::ledger::Ledger;
 
 /// Makes the local of a statement, whose names have their numbers, on top of the store, or leaves the store at a fault.
 pub(crate) fn open<L: Ledger>(statement: &Statement, store: &mut Store<L>) -> Result<(), Fault>
-    requires safe { opened_of statement.now store.old.sight ≢ Bad Broken }
+    requires safe { opened_of (live_stacks store.old) statement.now store.old.sight ≢ Bad Broken }
     requires numbered { StatementHasNumbers store.old.names statement.now }
     requires room { HasLocalRoom store.old }
-    ensures done { IsDone (opened_of statement.now store.old.sight) store.old.sight store.new.sight result }
+    ensures done { IsDone (opened_of (live_stacks store.old) statement.now store.old.sight) store.old.sight store.new.sight result }
     ensures names { KeepsNames store.old store.new }
 {
     match statement {
@@ -35,7 +34,7 @@ pub(crate) fn open<L: Ledger>(statement: &Statement, store: &mut Store<L>) -> Re
 pub(crate) fn close<L: Ledger>(statement: &Statement, store: &mut Store<L>) -> Result<(), Fault>
     requires safe { closed_of statement.now store.old.sight ≢ Bad Broken }
     requires numbered { StatementHasNumbers store.old.names statement.now }
-    requires local { store.old.declared < size_of store.old.sight }
+    requires local { HasLocal store.old }
     ensures done { IsDone (closed_of statement.now store.old.sight) store.old.sight store.new.sight result }
     ensures names { KeepsNames store.old store.new }
 {

@@ -1,35 +1,37 @@
 -- What a block shows on the way is good.
-use Rattle.std.proofs.Common.{◌≡◌, ℕ, suc, List, [], ◌∷◌, inl, refl, subst}
+use Rattle.std.proofs.Common.{◌≡◌, ℕ, zero, suc, ◌-◌, length, List, [], ◌∷◌, inl, refl, subst}
 use Rattle.janus_meaning.specs.Outside.{outside}
-use Rattle.janus_meaning.specs.Fault.{Res, Fine, Bad, or_else, and_then}
-use Rattle.janus_meaning.specs.Syntax.{Name, Blk, Nil, Cons, Proc, names_of, rejoin}
-use Rattle.janus_meaning.specs.Store.{Val, Store, look, find, values, fill, IsGood}
+use Rattle.janus_meaning.specs.Fault.{Res, Fine, Bad, or_else}
+use Rattle.janus_meaning.specs.Syntax.{Name, Blk, Nil, Cons, Proc, rejoin}
+use Rattle.janus_meaning.specs.Store.{Store, Bare, Slot, fill, values_in, IsGood}
+use Rattle.janus_meaning.specs.World.{size_of, dropped, oldest}
 use Rattle.janus_meaning.specs.Moves.{Hole, InThen, InElse, InDo, InLoop, InInt, InStack, InCall, InUncall, rebuild, seen, seen_call}
 use Rattle.janus_meaning.specs.Meaning.{Block, One, Part}
 use Rattle.janus_meaning.specs.Stepping.{Frame, Framed, Place, BeforeBlock, AfterBlock, BeforeOne, AfterOne, seen_through, shown}
 use Rattle.janus_meaning.specs.WorldLaw.{KeepsGood}
-use Rattle.janus_meaning.proofs.Results.{with_parts, by_fine}
 use Rattle.janus_meaning.proofs.Stores.{AllGood, fill_good}
-use Rattle.janus_meaning.proofs.Values.{look_good}
 use Rattle.janus_meaning.proofs.Local.{IsGoodHole}
 use Rattle.janus_meaning.proofs.Machines.{IsOpen, IsAt}
 use Rattle.janus_meaning.proofs.Laws.{stands, back_at}
 use Rattle.janus_meaning.proofs.Pieces.{part_in_block}
 
-values_good : (ps : List Name) (s : Store) (vs : List Val) → values ps s ≡ Fine vs → IsGood s → AllGood vs
-values_good [] s vs h g = by_fine AllGood _ vs h tt
-values_good (p ∷ ps) s vs h g =
-    with_parts (look p s) _ vs h (λ v hv h1. with_parts (values ps s) _ vs h1 (λ ws hws h2. by_fine AllGood _ vs h2 (look_good p s v hv g, values_good ps s ws hws g)))
+all_good : (s : Store) → IsGood s → AllGood (values_in s)
+all_good Bare g = tt
+all_good (Slot x v s) g = (g.0, all_good s g.1)
+
+dropped_good : (n : ℕ) (s : Store) → IsGood s → IsGood (dropped n s)
+dropped_good zero s g = g
+dropped_good (suc n) Bare g = g
+dropped_good (suc n) (Slot x v s) g = dropped_good n s g.1
 
 or_else_good : (r : Res Store) (s : Store) → ((t : Store) → r ≡ Fine t → IsGood t) → IsGood s → IsGood (or_else r s)
 or_else_good (Fine t) s h g = h t refl
 or_else_good (Bad f) s h g = g
 
-seen_call_good : (ps : List Proc) (f : Name) (xs : List Name) (c s : Store) → IsGood c → IsGood s → IsGood (seen_call ps f xs c s)
-seen_call_good ps f xs c s gc g =
-    or_else_good (and_then (find f ps) (λ p. and_then (values (names_of p.params) s) (λ vs. fill xs vs c))) c
-    (λ t h. with_parts (find f ps) _ t h (λ p hp h1. with_parts (values (names_of p.params) s) _ t h1 (λ vs hvs h2. fill_good xs vs c t h2 (values_good (names_of p.params) s vs hvs g) gc)))
-    gc
+seen_call_good : (xs : List Name) (c s : Store) → IsGood c → IsGood s → IsGood (seen_call xs c s)
+seen_call_good xs c s gc g =
+    or_else_good (fill xs (values_in (oldest (length xs) s)) c) c
+    (λ t h. fill_good xs (values_in (oldest (length xs) s)) c t h (all_good (oldest (length xs) s) (dropped_good (size_of s - length xs) s g)) gc) gc
 
 seen_good : (ps : List Proc) (h : Hole) (s : Store) → IsGoodHole h → IsGood s → IsGood (seen ps h s)
 seen_good ps (InThen a t b) s h g = g
@@ -38,8 +40,8 @@ seen_good ps (InDo a t b) s h g = g
 seen_good ps (InLoop a t b) s h g = g
 seen_good ps (InInt x a b) s h g = g
 seen_good ps (InStack x) s h g = g
-seen_good ps (InCall f xs c) s h g = seen_call_good ps f xs c s h g
-seen_good ps (InUncall f xs c) s h g = seen_call_good ps f xs c s h g
+seen_good ps (InCall f xs c) s h g = seen_call_good xs c s h g
+seen_good ps (InUncall f xs c) s h g = seen_call_good xs c s h g
 
 through_good : (ps : List Proc) (d k : ℕ) (b : Blk) (fs : List Frame) (s : Store) → IsOpen ps d k b fs → IsGood s → IsGood (seen_through ps fs s)
 through_good ps d k b [] s o g = g

@@ -1,18 +1,19 @@
 -- The tokens that spell the print of a cell spell that cell, places aside.
-use Rattle.std.proofs.Common.{◌≡◌, ℕ, List, [], ◌∷◌, Some, None, map, refl, ap, sym, subst, ◌∙◌, arith}
+use Rattle.std.proofs.Common.{◌≡◌, ℕ, List, [], ◌∷◌, ◌++◌, Some, None, true, map, refl, ap, sym, subst, ◌∙◌, arith}
 use Rattle.janus_syntax.specs.declared.token.Sign.TheVariants as sign
 use Rattle.janus_syntax.specs.declared.token.Word.TheVariants as word
 use Rattle.janus_syntax.specs.Tokens.{Token, Name, Number, Sign_of, Word_of}
-use Rattle.janus_syntax.specs.Tree.{named, Exp, Declaration, Int, Array, StackOf, Cell, cell_of}
-use Rattle.janus_syntax.specs.Forms.{Part, A_cell, Declarations, Bound, Statements, Whole, Tree, A_name, A_number, The_sign, Form, done, take, part}
-use Rattle.janus_syntax.specs.Table.{rule, declared, sign_then, declaration}
+use Rattle.janus_syntax.specs.Tree.{named, Exp, Declaration, Int, Array, StackOf, Empty, Procedure, Cell, cell_of}
+use Rattle.janus_syntax.specs.Forms.{Part, A_cell, Declarations, Bound, Procedures, Statements, Whole, Tree, A_name, A_number, The_sign, Form, done, take, part}
+use Rattle.janus_syntax.specs.Table.{rule, declared, nothing, is_bare, sign_then, declaration}
 use Rattle.janus_syntax.specs.Grammar.{all, IsTree}
-use Rattle.janus_syntax.specs.Printing.{whole_pieces, block_pieces, declaration_pieces, declarations_pieces, cell_pieces}
-use Rattle.janus_syntax.specs.View.{plain_exp, plain_declaration, plain_cell}
-use Rattle.janus_printing.proofs.Fits.{FitsWhole, FitsCell}
+use Rattle.janus_syntax.specs.Printing.{whole_pieces, block_pieces, declaration_pieces, declarations_pieces, procedure_pieces, procedures_pieces, cell_pieces}
+use Rattle.janus_syntax.specs.View.{plain_exp, plain_declaration, plain_procedure, plain_cell}
+use Rattle.janus_printing.proofs.Fits.{FitsWhole, FitsProcedure, FitsCell}
 use Rattle.janus_printing.proofs.Spelled.{Spelled, in_two}
 use Rattle.janus_printing.proofs.Onward.{SpellsTo, StartsTo, done_to, part_to, left_to, token_to, begins_to, whole_again}
 use Rattle.janus_printing.proofs.Statements.{block_again}
+use Rattle.janus_printing.proofs.ProceduresAgain.{CellTo, procedure_again, procedures_again}
 
 record DeclarationAgain (x : Declaration) (ts rest : List Token) : Type 0 where
   again : Declaration
@@ -78,13 +79,28 @@ declarations_again (x ∷ xs) ts rest s =
     }
 
 pub cell_again : (c : Cell) (ts : List Token) → FitsCell c → Spelled (cell_pieces c) ts [] → (again : Cell) × IsTree A_cell all again ts × (plain_cell again ≡ plain_cell c)
-cell_again (cell_of ds b) ts (f, g) s =
-    let two = in_two (declarations_pieces ds) (block_pieces b) ts [] s in
+cell_again (cell_of ds b ps) ts (f, g, h) s =
+    let two = in_two (declarations_pieces ds) (block_pieces b ++ procedures_pieces ps) ts [] s in
+    let three = in_two (block_pieces b) (procedures_pieces ps) two.0 [] two.2 in
     let xs = declarations_again ds ts two.0 two.1 in
-    let ys = block_again b 0 two.0 [] (omega arith) g two.2 in
-    let cell = cell_of xs.again ys.again in
-    let spelled = xs.spells {p = A_cell} (λ l. part Statements (λ c. done (cell_of l c))) cell 0 [] (ys.statements {p = A_cell} (λ c. done (cell_of xs.again c)) cell 0 [] (done_to {p = A_cell} cell 0 [])) 0 (omega arith) in
-    (cell, (_, spelled.2), (λ n. record { declarations = xs.same n; procedures = []; block = ys.same n }))
+    let ys = block_again b 0 two.0 three.0 (omega arith) g three.1 in
+    let zs = procedures_again ps three.0 [] h three.2 in
+    let cell = cell_of xs.again ys.again zs.again in
+    let behind = zs.goes (is_bare xs.again ys.again) xs.again ys.again [] A_cell done cell 0 [] (done_to {p = A_cell} cell 0 []) in
+    let statements = ys.statements {p = A_cell} (λ c. part (Procedures (is_bare xs.again c) (cell_of xs.again c [])) done) cell 0 [] behind in
+    let spelled = xs.spells {p = A_cell} (λ l. part Statements (λ c. part (Procedures (is_bare l c) (cell_of l c [])) done)) cell 0 [] statements 0 (omega arith) in
+    (cell, (_, spelled.2), (λ n. record { declarations = xs.same n; procedures = zs.same n; block = ys.same n }))
+
+-- a procedure that stands alone
+pub procedure_alone : (q : Procedure) (ts : List Token) → FitsProcedure q → Spelled (procedure_pieces q) ts [] → (again : Procedure) × IsTree A_cell all (cell_of [] Empty (again ∷ [])) ts × (plain_procedure again ≡ plain_procedure q)
+procedure_alone q ts f s =
+    let r = procedure_again q ts [] f s in
+    let cell : Cell = cell_of [] Empty (r.again ∷ []) in
+    let last : CellTo true cell cell [] [] = λ p k v d' end onward. left_to {q = Procedures true cell} k cell v 0 d' [] end refl onward in
+    let behind = r.goes true nothing cell [] last A_cell done cell 0 [] (done_to {p = A_cell} cell 0 []) in
+    let statements = left_to {p = A_cell} {q = Statements} (λ c. part (Procedures (is_bare [] c) (cell_of [] c [])) done) Empty cell 0 0 ts [] refl behind in
+    let spelled = left_to {p = A_cell} {q = Declarations} (λ l. part Statements (λ c. part (Procedures (is_bare l c) (cell_of l c [])) done)) [] cell 0 0 ts [] refl statements 0 (omega arith) in
+    (r.again, (_, spelled.2), r.same)
 
 pub expression_again : (e : Exp) (ts : List Token) → FitsWhole e 0 → Spelled (whole_pieces e) ts [] → (again : Exp) × IsTree Whole all again ts × (plain_exp again ≡ plain_exp e)
 expression_again e ts f s =

@@ -5,7 +5,7 @@ use Rattle.std.specs.Prelude.{nat_lt}
 use Rattle.std.proofs.lemmas.Bool.{ltb-true, lt-ltb}
 use Rattle.janus_syntax.specs.declared.token.Sign.{Sign}
 use Rattle.janus_syntax.specs.declared.token.Sign.TheVariants as sign
-use Rattle.janus_syntax.specs.Tree.{Name, named, Exp, Num, Var, Element, EmptyOf, TopOf, Neg, Bin, And, Or, Stm, Skip, Assign, AssignElement, Push, Pop, If, Loop, LocalInt, LocalStack, Block, Empty, More, Declaration, Int, Array, StackOf, Cell, cell_of}
+use Rattle.janus_syntax.specs.Tree.{Name, named, Exp, Num, Var, Element, EmptyOf, TopOf, Neg, Bin, And, Or, Stm, Skip, Assign, AssignElement, Push, Pop, If, Loop, LocalInt, LocalStack, Call, Uncall, Block, Empty, More, Declaration, Int, Array, StackOf, Parameter, IntParameter, ArrayParameter, StackParameter, Procedure, procedure_of, Cell, cell_of}
 use Rattle.janus_syntax.specs.Operators.{weakest}
 use Rattle.janus_syntax.specs.Forms.{same_named}
 use Rattle.janus_syntax.specs.Lexical.{IsNameText, NotReserved, largest_number}
@@ -14,6 +14,10 @@ use Rattle.janus_syntax.specs.Printing.{operator_sign, sign_level}
 
 abbrev pub IsName : Name → Type 0
 IsName (named x at) = IsNameText x × NotReserved x
+
+abbrev pub AreNames : List Name → Type 0
+AreNames [] = Unit {0}
+AreNames (x ∷ xs) = IsName x × AreNames xs
 
 -- the name x again
 abbrev pub IsAgain : Name → Name → Type 0
@@ -71,6 +75,8 @@ abbrev mutual
   FitsStm (Loop e s t f) d = (suc d ≤ depth_limit) × FitsWhole e (suc d) × (IsBody s × FitsBlock s (suc d)) × (IsBody t × FitsBlock t (suc d)) × FitsWhole f (suc d)
   FitsStm (LocalInt x e s y f) d = (suc d ≤ depth_limit) × IsName x × FitsWhole e (suc d) × (IsBody s × FitsBlock s (suc d)) × IsAgain x y × FitsWhole f (suc d)
   FitsStm (LocalStack x s y) d = (suc d ≤ depth_limit) × IsName x × (IsBody s × FitsBlock s (suc d)) × IsAgain x y
+  FitsStm (Call f xs) d = IsName f × AreNames xs
+  FitsStm (Uncall f xs) d = IsName f × AreNames xs
 
   pub FitsBlock : Block → ℕ → Type 0
   FitsBlock Empty d = Unit {0}
@@ -85,8 +91,24 @@ abbrev pub FitsDeclarations : List Declaration → Type 0
 FitsDeclarations [] = Unit {0}
 FitsDeclarations (d ∷ ds) = FitsDeclaration d × FitsDeclarations ds
 
+abbrev pub FitsParameter : Parameter → Type 0
+FitsParameter (IntParameter x) = IsName x
+FitsParameter (ArrayParameter x) = IsName x
+FitsParameter (StackParameter x) = IsName x
+
+abbrev pub FitsParameters : List Parameter → Type 0
+FitsParameters [] = Unit {0}
+FitsParameters (x ∷ xs) = FitsParameter x × FitsParameters xs
+
+abbrev pub FitsProcedure : Procedure → Type 0
+FitsProcedure (procedure_of f xs b) = IsName f × FitsParameters xs × (IsBody b × FitsBlock b 0)
+
+abbrev pub FitsProcedures : List Procedure → Type 0
+FitsProcedures [] = Unit {0}
+FitsProcedures (p ∷ ps) = FitsProcedure p × FitsProcedures ps
+
 abbrev pub FitsCell : Cell → Type 0
-FitsCell (cell_of ds b) = FitsDeclarations ds × FitsBlock b 0
+FitsCell (cell_of ds b ps) = FitsDeclarations ds × FitsBlock b 0 × FitsProcedures ps
 
 -- ---- less deep, and in a place of a weaker level
 

@@ -8,11 +8,11 @@ use Rattle.janus_syntax.specs.declared.token.Sign.TheVariants as sign
 use Rattle.janus_syntax.specs.declared.token.Word.TheVariants as word
 use Rattle.janus_syntax.specs.declared.operator.Joint.{Joint}
 use Rattle.janus_syntax.specs.declared.operator.Joint.TheVariants as joint
-use Rattle.janus_syntax.specs.Tree.{named, Exp, Num, Var, Element, EmptyOf, TopOf, Neg, Bin, And, Or, Stm, Skip, Assign, AssignElement, Push, Pop, If, Loop, LocalInt, LocalStack, Block, Empty, More, Declaration, Int, Array, StackOf, Cell, cell_of}
+use Rattle.janus_syntax.specs.Tree.{Name, named, Exp, Num, Var, Element, EmptyOf, TopOf, Neg, Bin, And, Or, Stm, Skip, Assign, AssignElement, Push, Pop, If, Loop, LocalInt, LocalStack, Call, Uncall, Block, Empty, More, Declaration, Int, Array, StackOf, Parameter, IntParameter, ArrayParameter, StackParameter, Procedure, procedure_of, Cell, cell_of}
 use Rattle.janus_syntax.specs.Operators.{weakest}
 use Rattle.janus_syntax.specs.Lexical.{IsNameText, NotReserved, largest_number}
-use Rattle.janus_syntax.specs.Printing.{Piece, A_name, A_number, A_sign, A_word, A_minus, An_opening, piece_text, leans, holds, Printed, with_piece, with_pieces, sign_level, if_needed, infix_pieces, exp_pieces, whole_pieces, stm_pieces, block_pieces, declaration_pieces, declarations_pieces, cell_pieces}
-use Rattle.janus_printing.proofs.Fits.{Parenthesized, FitsInfix, FitsExp, FitsStm, FitsBlock, FitsDeclaration, FitsDeclarations, FitsCell}
+use Rattle.janus_syntax.specs.Printing.{Piece, A_name, A_number, A_sign, A_word, A_minus, An_opening, piece_text, leans, holds, Printed, with_piece, with_pieces, sign_level, if_needed, infix_pieces, exp_pieces, whole_pieces, names_pieces, more_names_pieces, stm_pieces, block_pieces, declaration_pieces, declarations_pieces, parameter_pieces, more_parameters_pieces, parameters_pieces, procedure_pieces, procedures_pieces, cell_pieces}
+use Rattle.janus_printing.proofs.Fits.{AreNames, Parenthesized, FitsInfix, FitsExp, FitsStm, FitsBlock, FitsDeclaration, FitsDeclarations, FitsParameter, FitsParameters, FitsProcedure, FitsProcedures, FitsCell}
 use Rattle.janus_printing.proofs.Measures.{joint_sign}
 use Rattle.janus_printing.proofs.Expressions.{operator_is}
 
@@ -128,6 +128,14 @@ fine_exp (Or l r) level d f = fine_infix sign.Or l r (fine_exp l) (fine_exp r) l
 
 -- ---- cells
 
+fine_more_names : (xs : List Name) → AreNames xs → AreFine (more_names_pieces xs)
+fine_more_names [] f = tt
+fine_more_names (named x at ∷ xs) (f, g) = (f, fine_more_names xs g)
+
+fine_names : (xs : List Name) → AreNames xs → AreFine (names_pieces xs)
+fine_names [] f = tt
+fine_names (named x at ∷ xs) (f, g) = (f, fine_more_names xs g)
+
 mutual
   fine_stm : (s : Stm) (d : ℕ) → FitsStm s d → AreFine (stm_pieces s)
   fine_stm Skip d f = tt
@@ -139,6 +147,8 @@ mutual
   fine_stm (Loop e s t f) d (few, a, b, c, g) = fine_both (whole_pieces e) _ (fine_exp e weakest (suc d) a.0) (fine_both (block_pieces s) _ (fine_block s (suc d) b.1) (fine_both (block_pieces t) _ (fine_block t (suc d) c.1) (fine_exp f weakest (suc d) g.0)))
   fine_stm (LocalInt (named x at) e s (named y place) f) d (few, name, a, b, c, g) = (name, fine_both (whole_pieces e) _ (fine_exp e weakest (suc d) a.0) (fine_both (block_pieces s) _ (fine_block s (suc d) b.1) (c.0, fine_exp f weakest (suc d) g.0)))
   fine_stm (LocalStack (named x at) s (named y place)) d (few, name, b, c) = (name, fine_both (block_pieces s) _ (fine_block s (suc d) b.1) (c.0, tt))
+  fine_stm (Call (named x at) xs) d (name, f) = (name, fine_both (names_pieces xs) _ (fine_names xs f) tt)
+  fine_stm (Uncall (named x at) xs) d (name, f) = (name, fine_both (names_pieces xs) _ (fine_names xs f) tt)
 
   fine_block : (b : Block) (d : ℕ) → FitsBlock b d → AreFine (block_pieces b)
   fine_block Empty d f = tt
@@ -153,5 +163,25 @@ fine_declarations : (xs : List Declaration) → FitsDeclarations xs → AreFine 
 fine_declarations [] f = tt
 fine_declarations (x ∷ xs) (f, g) = fine_both (declaration_pieces x) (declarations_pieces xs) (fine_declaration x f) (fine_declarations xs g)
 
+fine_parameter : (x : Parameter) → FitsParameter x → AreFine (parameter_pieces x)
+fine_parameter (IntParameter (named x at)) f = (f, tt)
+fine_parameter (ArrayParameter (named x at)) f = (f, tt)
+fine_parameter (StackParameter (named x at)) f = (f, tt)
+
+fine_more_parameters : (xs : List Parameter) → FitsParameters xs → AreFine (more_parameters_pieces xs)
+fine_more_parameters [] f = tt
+fine_more_parameters (x ∷ xs) (f, g) = fine_both (parameter_pieces x) (more_parameters_pieces xs) (fine_parameter x f) (fine_more_parameters xs g)
+
+fine_parameters : (xs : List Parameter) → FitsParameters xs → AreFine (parameters_pieces xs)
+fine_parameters [] f = tt
+fine_parameters (x ∷ xs) (f, g) = fine_both (parameter_pieces x) (more_parameters_pieces xs) (fine_parameter x f) (fine_more_parameters xs g)
+
+pub fine_procedure : (p : Procedure) → FitsProcedure p → AreFine (procedure_pieces p)
+fine_procedure (procedure_of (named f at) xs b) (name, x, y) = (name, fine_both (parameters_pieces xs) _ (fine_parameters xs x) (fine_block b 0 y.1))
+
+fine_procedures : (ps : List Procedure) → FitsProcedures ps → AreFine (procedures_pieces ps)
+fine_procedures [] f = tt
+fine_procedures (p ∷ ps) (f, g) = fine_both (procedure_pieces p) (procedures_pieces ps) (fine_procedure p f) (fine_procedures ps g)
+
 pub fine_cell : (c : Cell) → FitsCell c → AreFine (cell_pieces c)
-fine_cell (cell_of ds b) (f, g) = fine_both (declarations_pieces ds) (block_pieces b) (fine_declarations ds f) (fine_block b 0 g)
+fine_cell (cell_of ds b ps) (f, g, h) = fine_both (declarations_pieces ds) (block_pieces b ++ procedures_pieces ps) (fine_declarations ds f) (fine_both (block_pieces b) (procedures_pieces ps) (fine_block b 0 g) (fine_procedures ps h))

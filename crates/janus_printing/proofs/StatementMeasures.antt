@@ -6,9 +6,9 @@ use Rattle.janus_syntax.specs.declared.token.Word.TheVariants as word
 use Rattle.janus_syntax.specs.declared.tree.Kind.TheVariants as kind
 use Rattle.janus_syntax.specs.declared.tree.Update.{Update}
 use Rattle.janus_syntax.specs.Tokens.{Token, Name, Number, Sign_of, Word_of}
-use Rattle.janus_syntax.specs.Tree.{named, Exp, Stm, Skip, Push, Pop, If, Loop, LocalInt, LocalStack, Block, More}
+use Rattle.janus_syntax.specs.Tree.{named, Exp, Stm, Skip, Push, Pop, If, Loop, LocalInt, LocalStack, Call, Uncall, Block, More}
 use Rattle.janus_syntax.specs.Forms.{Part, Body, Statements, Else_part, Do_part, Loop_part, Local, Target_index, Whole, Tree, An_update, Form, done, take, part, close, Rule}
-use Rattle.janus_syntax.specs.Table.{rule, left_out, assignment, word_then, sign_then, variable_and_stack_then, delocal_then, local_int, local_stack, statement}
+use Rattle.janus_syntax.specs.Table.{rule, left_out, assignment, word_then, sign_then, variable_and_stack_then, call_then, delocal_then, local_int, local_stack, statement}
 use Rattle.janus_syntax.specs.Grammar.{Count, all, depth_limit, Spells}
 use Rattle.janus_syntax.specs.Reading.{count}
 use Rattle.janus_printing.proofs.Inside.{inside}
@@ -16,6 +16,7 @@ use Rattle.janus_printing.proofs.Fits.{FitsWhole, FitsStm, FitsBlock}
 use Rattle.janus_printing.proofs.Good.{IsGood, AreGood}
 use Rattle.janus_printing.proofs.Measures.{recount, Runs, runs_as, few_of, good_behind, shorter_behind, close_behind, pair_read, head_read, delocal_read}
 use Rattle.janus_printing.proofs.ExpressionMeasures.{whole_read}
+use Rattle.janus_printing.proofs.NameMeasures.{call_read}
 use Rattle.janus_printing.proofs.BlockMeasures.{IsStm, IsMeasured, BlocksMeasured, word_behind, body_read, statements_read, else_is, do_is, loop_is, optional_read}
 
 -- ---- assignments
@@ -261,6 +262,16 @@ stm_read n known {p} d used k v (Word_of word.Pop at) r from m' rest h is g e ru
     let here = runs_as a r (count d used) v from m' rest e run in
     let s = pair_read (λ x y. k (Pop x y)) v (count (d + 0) (used + 0)) from m' rest g here.1 in
     record { tree = Pop s.variable s.stack; total = used; middle = s.middle; fits = (s.variable_fits, s.stack_fits); shorter = s.shorter; good = s.good; onward = recount (d + 0) d (used + 0) used (omega arith) (omega arith) s.onward }
+stm_read n known {p} d used k v (Word_of word.Call at) r from m' rest h is g e run =
+    let a : Rule p = record { opens = 0; counts = 0; is_whole = false; form = call_then (λ f xs. k (Call f xs)) } in
+    let here = runs_as a r (count d used) v from m' rest e run in
+    let s = call_read d used (λ f xs. k (Call f xs)) v from m' rest g (recount (d + 0) d (used + 0) used (omega arith) (omega arith) here.1) in
+    record { tree = Call s.procedure s.arguments; total = used; middle = s.middle; fits = (s.procedure_fits, s.arguments_fit); shorter = s.shorter; good = s.good; onward = s.onward }
+stm_read n known {p} d used k v (Word_of word.Uncall at) r from m' rest h is g e run =
+    let a : Rule p = record { opens = 0; counts = 0; is_whole = false; form = call_then (λ f xs. k (Uncall f xs)) } in
+    let here = runs_as a r (count d used) v from m' rest e run in
+    let s = call_read d used (λ f xs. k (Uncall f xs)) v from m' rest g (recount (d + 0) d (used + 0) used (omega arith) (omega arith) here.1) in
+    record { tree = Uncall s.procedure s.arguments; total = used; middle = s.middle; fits = (s.procedure_fits, s.arguments_fit); shorter = s.shorter; good = s.good; onward = s.onward }
 stm_read n known d used k v (Word_of _ at) r from m' rest h is g e run = absurd cc
 stm_read n known d used k v (Number i at) r from m' rest h is g e run = absurd cc
 stm_read n known d used k v (Sign_of s at) r from m' rest h is g e run = absurd cc

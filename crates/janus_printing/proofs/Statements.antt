@@ -9,14 +9,15 @@ use Rattle.janus_syntax.specs.declared.tree.Kind.TheVariants as kind
 use Rattle.janus_syntax.specs.declared.tree.Update.{Update}
 use Rattle.janus_syntax.specs.declared.tree.Update.TheVariants as update
 use Rattle.janus_syntax.specs.Tokens.{Token, Name, Sign_of, Word_of}
-use Rattle.janus_syntax.specs.Tree.{named, Exp, Stm, Skip, Assign, AssignElement, Push, Pop, If, Loop, LocalInt, LocalStack, Block, Empty, More}
+use Rattle.janus_syntax.specs.Tree.{Name as Named, named, Exp, Stm, Skip, Assign, AssignElement, Push, Pop, If, Loop, LocalInt, LocalStack, Call, Uncall, Block, Empty, More}
 use Rattle.janus_syntax.specs.Forms.{Part, Body, Statements, Else_part, Do_part, Loop_part, Local, Target_index, Whole, Tree, The_word, The_sign, An_update, seen, Form, done, take, part, close}
-use Rattle.janus_syntax.specs.Table.{rule, assignment, word_then, sign_then, variable_and_stack_then, delocal_then, local_int, local_stack, statement}
+use Rattle.janus_syntax.specs.Table.{rule, assignment, word_then, sign_then, variable_and_stack_then, call_then, delocal_then, local_int, local_stack, statement}
 use Rattle.janus_syntax.specs.Grammar.{depth_limit}
 use Rattle.janus_syntax.specs.Printing.{A_sign, A_word, update_sign, binding_pieces, whole_pieces, stm_pieces, block_pieces}
 use Rattle.janus_syntax.specs.View.{plain_stm, plain_block, update_of}
 use Rattle.janus_printing.proofs.Fits.{FitsWhole, FitsStm, FitsBlock, IsBody}
 use Rattle.janus_printing.proofs.Spelled.{Spelled, in_two}
+use Rattle.janus_printing.proofs.NamesAgain.{call_again}
 use Rattle.janus_printing.proofs.Onward.{SpellsTo, StartsTo, done_to, part_to, left_to, token_to, pair_to, head_to, delocal_to, close_to, begins_to, opens_to, whole_again}
 
 -- these tokens are read as that statement
@@ -218,6 +219,28 @@ pop_again x s at place d ts rest h (on, t1, e1, (opened, t2, e2, (of_x, t3, e3, 
       (pair_to (λ a b. k (Pop a b)) x s v d d' opened of_x comma of_s shut t1 t2 t3 t4 t5 rest end e2 e3 e4 e5 (e6 ∙ ap (λ l. Sign_of sign.Close shut ∷ l) last) onward);
 }
 
+calls_again : (f : List ℕ) (at : Span) (xs : List Named) (d : ℕ) (ts rest : List Token) → d ≤ depth_limit → Spelled (stm_pieces (Call (named f at) xs)) ts rest → StmAgain (Call (named f at) xs) d ts rest
+calls_again f at xs d ts rest h (on, t1, e1, s) =
+    let r = call_again f xs d t1 rest h s in
+    record {
+      again = Call (named f r.place) r.again;
+      same = ap (plain.Call f) r.same;
+      starts = λ {p} k v d' end onward.
+          begins_to (λ t. statement t k) (call_then (λ g ys. k (Call g ys))) v d d' (Word_of word.Call on) ts t1 end e1 refl h
+          (r.spells (λ g ys. k (Call g ys)) v d' end onward);
+    }
+
+uncalls_again : (f : List ℕ) (at : Span) (xs : List Named) (d : ℕ) (ts rest : List Token) → d ≤ depth_limit → Spelled (stm_pieces (Uncall (named f at) xs)) ts rest → StmAgain (Uncall (named f at) xs) d ts rest
+uncalls_again f at xs d ts rest h (on, t1, e1, s) =
+    let r = call_again f xs d t1 rest h s in
+    record {
+      again = Uncall (named f r.place) r.again;
+      same = ap (plain.Uncall f) r.same;
+      starts = λ {p} k v d' end onward.
+          begins_to (λ t. statement t k) (call_then (λ g ys. k (Uncall g ys))) v d d' (Word_of word.Uncall on) ts t1 end e1 refl h
+          (r.spells (λ g ys. k (Uncall g ys)) v d' end onward);
+    }
+
 more_again : (s : Stm) (b : Block) (d : ℕ) (ts middle rest : List Token) → StmAgain s d ts middle → BlockAgain b d middle rest → BlockAgain (More s b) d ts rest
 more_again s b d ts middle rest first others = record {
   again = More first.again others.again;
@@ -245,6 +268,8 @@ mutual
   stm_again (Loop e s t f) d ts rest h fs p = loop_again e s t f (block_again s) (block_again t) d ts rest h fs p
   stm_again (LocalInt (named x place) e s (named y at) f) d ts rest h fs p = local_int_again x place e s y at f (block_again s) d ts rest fs p
   stm_again (LocalStack (named x place) s (named y at)) d ts rest h fs p = local_stack_again x place s y at (block_again s) d ts rest fs p
+  stm_again (Call (named f at) xs) d ts rest h fs p = calls_again f at xs d ts rest h p
+  stm_again (Uncall (named f at) xs) d ts rest h fs p = uncalls_again f at xs d ts rest h p
 
   pub block_again : (b : Block) (d : ℕ) (ts rest : List Token) → d ≤ depth_limit → FitsBlock b d → Spelled (block_pieces b) ts rest → BlockAgain b d ts rest
   block_again Empty d ts rest h f s = record {

@@ -7,3 +7,14 @@ pub mod Grown
 pub mod Oldest
 pub mod Elements
 pub mod Counted
+pub mod Lends
+pub mod Levels
+pub mod Views
+pub mod Lent
+pub mod Shown
+pub mod Standing
+pub mod Opening
+pub mod Calling
+pub mod Returning
+pub mod Binding
+pub mod Counts

@@ -1,20 +1,20 @@
--- The store that variables show: reading, writing and the newest name.
-use Rattle.std.proofs.Common.{◌≤◌, ◌≡◌, ℕ, zero, suc, ◌+◌, true, false, List, [], ◌∷◌, ◌++◌, length, set, refl, ap, ◌∙◌, sym, subst, arith, append_assoc, map}
-use Rattle.std.specs.Prelude.{slice_get, Some}
+-- The names with places that variables show, and the values at places.
+use Rattle.std.proofs.Common.{◌≤◌, ◌<◌, ◌≡◌, ◌≢◌, ℕ, zero, suc, ◌+◌, ◌-◌, true, false, List, [], ◌∷◌, ◌++◌, length, set, take, drop, get_or, refl, ap, ◌∙◌, sym, subst, arith, append_assoc, map, get_or-set_same, get_or-set_other}
+use Rattle.std.specs.Prelude.{slice_get, Some, None}
 use Rattle.std.proofs.lemmas.Bool.{false_from_ne_true}
-use Rattle.std.proofs.lemmas.List.{append-nil, map-append}
-use Rattle.janus_meaning.specs.Fault.{Fine, and_then}
+use Rattle.std.proofs.lemmas.List.{append-nil, map-append, get_or-take, get_or_append_left, drop-drop}
+use Rattle.std.proofs.lemmas.Option.{slice_get_past}
+use Rattle.std.proofs.Math.Seq.{get_or-append_seam}
 use Rattle.janus_meaning.specs.Syntax.{Name}
 use Rattle.janus_meaning.specs.Store as spec
-use Rattle.janus_meaning.specs.Store.{Val, Num, Arr, Lent, cleared_val, read_slot, same_name, look, look_at, take, take_at, put, put_at, cleared}
-use Rattle.janus_meaning.specs.World.{size_of, listed}
+use Rattle.janus_meaning.specs.Store.{Val, same_name, cleared_val, cleared}
+use Rattle.janus_meaning.specs.World.{listed}
 use Rattle.janus_meaning.proofs.Stores.{same_name_self, same_name_true}
-use Rattle.janus_meaning.proofs.Results.{with_parts}
-use Rattle.janus_store.specs.Stores.{names_in, write}
+use Rattle.janus_store.specs.Bounds.{Bound, seen, search_for, if_found}
+use Rattle.janus_store.specs.Inside.{name_among, bound_of, bounds, no_variable, value_at}
+use Rattle.janus_store.specs.Stores.{names_in}
 use Rattle.janus_store.specs.Values.{val_of}
 use Rattle.janus_store.specs.declared.value.Value.{Value}
-use Rattle.janus_store.specs.declared.value.Value.TheVariants as values
-use Rattle.janus_store.specs.Inside.{declared_over, name_among}
 use Rattle.janus_store.specs.declared.store.Variable.{Variable}
 
 module _ (xs : List Name) where
@@ -35,108 +35,94 @@ module _ (xs : List Name) where
   this_name : (x y : Name) → y ≡ x → same_name x y ≡ true
   this_name x y e = subst (λ y. same_name x y ≡ true) (sym e) (same_name_self x)
 
-  -- ---- reading
+  -- ---- a search
 
-  read_value : (v : Value) → read_slot (val_of v) ≡ Fine (val_of v)
-  read_value (values.Number n) = refl
-  read_value (values.Array l) = refl
-  read_value (values.Stack l) = refl
+  pub search_past : (x : Name) (ts : List Bound) (vs : List Variable) → HasNone vs x → search_for x (bounds xs ts vs) ≡ search_for x ts
+  search_past x ts [] h = refl
+  search_past x ts (v ∷ vs) h =
+      search_past x (bound_of xs v ∷ ts) vs (λ j w e. h (suc j) w e)
+      ∙ ap (λ b. if_found b v.place (search_for x ts)) (other_name x (name v) (h 0 v refl))
 
-  pub look_past : (x : Name) (s : spec.Store) (vs : List Variable) → HasNone vs x → look x (declared_over xs s vs) ≡ look x s
-  look_past x s [] h = refl
-  look_past x s (v ∷ vs) h =
-      look_past x (spec.Slot (name v) (val_of v.value) s) vs (λ j w e. h (suc j) w e)
-      ∙ ap (λ b. look_at b (val_of v.value) (look x s)) (other_name x (name v) (h 0 v refl))
-
-  pub look_here : (x : Name) (s : spec.Store) (vs : List Variable) (i : ℕ) (v : Variable) → slice_get vs i ≡ Some v → name v ≡ x → IsNewest vs x i → look x (declared_over xs s vs) ≡ Fine (val_of v.value)
-  look_here x s [] i v e n only = cc
-  look_here x s (w ∷ vs) zero v e n only =
+  pub search_here : (x : Name) (ts : List Bound) (vs : List Variable) (i : ℕ) (v : Variable) → slice_get vs i ≡ Some v → name v ≡ x → IsNewest vs x i → search_for x (bounds xs ts vs) ≡ Some v.place
+  search_here x ts [] i v e n only = cc
+  search_here x ts (w ∷ vs) zero v e n only =
       let same : w ≡ v = cc in
-      look_past x (spec.Slot (name w) (val_of w.value) s) vs (λ j u f g. let bad : suc j ≤ 0 = only (suc j) u f g in omega arith)
-      ∙ ap (λ (w : Variable). look x (spec.Slot (name w) (val_of w.value) s)) same
-      ∙ ap (λ b. look_at b (val_of v.value) (look x s)) (this_name x (name v) n)
-      ∙ read_value v.value
-  look_here x s (w ∷ vs) (suc i) v e n only =
-      look_here x (spec.Slot (name w) (val_of w.value) s) vs i v e n (λ j u f g. let up : suc j ≤ suc i = only (suc j) u f g in omega arith)
+      search_past x (bound_of xs w ∷ ts) vs (λ j u f g. let bad : suc j ≤ 0 = only (suc j) u f g in omega arith)
+      ∙ ap (λ (w : Variable). search_for x (bound_of xs w ∷ ts)) same
+      ∙ ap (λ b. if_found b v.place (search_for x ts)) (this_name x (name v) n)
+  search_here x ts (w ∷ vs) (suc i) v e n only =
+      search_here x (bound_of xs w ∷ ts) vs i v e n (λ j u f g. let up : suc j ≤ suc i = only (suc j) u f g in omega arith)
 
-  -- ---- writing
+  -- ---- variables as names with places
 
-  taken_slot : (y : Name) (v : Value) (s : spec.Store) → spec.take_slot y (val_of v) s ≡ Fine (val_of v, spec.Slot y Lent s)
-  taken_slot y (values.Number n) s = refl
-  taken_slot y (values.Array l) s = refl
-  taken_slot y (values.Stack l) s = refl
+  pub bounds_put : (ts : List Bound) (vs : List Variable) (v : Variable) → bounds xs ts (vs ++ v ∷ []) ≡ bound_of xs v ∷ bounds xs ts vs
+  bounds_put ts [] v = refl
+  bounds_put ts (w ∷ vs) v = bounds_put (bound_of xs w ∷ ts) vs v
 
-  put_value : (y : Name) (w : Value) (s : spec.Store) → spec.put_slot y Lent s (val_of w) ≡ Fine (spec.Slot y (val_of w) s)
-  put_value y (values.Number n) s = refl
-  put_value y (values.Array l) s = refl
-  put_value y (values.Stack l) s = refl
+  pub bounds_long : (ts : List Bound) (vs : List Variable) → length (bounds xs ts vs) ≡ length ts + length vs
+  bounds_long ts [] = omega arith
+  bounds_long ts (v ∷ vs) = let e : length (bounds xs (bound_of xs v ∷ ts) vs) ≡ suc (length ts) + length vs = bounds_long (bound_of xs v ∷ ts) vs in omega arith
 
-  write_top : (x y : Name) (v w : Value) (s : spec.Store) → y ≡ x → write x (val_of w) (spec.Slot y (val_of v) s) ≡ Fine (spec.Slot y (val_of w) s)
-  write_top x y v w s e =
-      subst (λ x. write x (val_of w) (spec.Slot y (val_of v) s) ≡ Fine (spec.Slot y (val_of w) s)) e
-      (ap (λ b. and_then (take_at b y (val_of v) s (take y s)) (λ t. put y (val_of w) t.1)) (same_name_self y)
-      ∙ ap (λ r. and_then {A = Val × spec.Store} r (λ t. put y (val_of w) t.1)) (taken_slot y v s)
-      ∙ ap (λ b. put_at b y Lent s (val_of w) (put y (val_of w) s)) (same_name_self y)
-      ∙ put_value y w s)
+  -- another value
+  pub bounds_written : (ts : List Bound) (vs : List Variable) (i : ℕ) (v w : Variable) → slice_get vs i ≡ Some v → w.name ≡ v.name → w.place ≡ v.place → bounds xs ts (set vs i w) ≡ bounds xs ts vs
+  bounds_written ts [] i v w e a b = refl
+  bounds_written ts (u ∷ vs) zero v w e a b =
+      let same : v ≡ u = cc in
+      let n : w.name ≡ u.name = a ∙ ap (λ (v : Variable). v.name) same in
+      let p : w.place ≡ u.place = b ∙ ap (λ (v : Variable). v.place) same in
+      ap (λ k. bounds xs (record { name = get_or xs k []; place = w.place } ∷ ts) vs) n
+      ∙ ap (λ k. bounds xs (record { name = name u; place = k } ∷ ts) vs) p
+  bounds_written ts (u ∷ vs) (suc i) v w e a b = bounds_written (bound_of xs u ∷ ts) vs i v w e a b
 
-  write_below : (x y : Name) (u v : Val) (r q : spec.Store) → same_name x y ≡ false → write x u r ≡ Fine q → write x u (spec.Slot y v r) ≡ Fine (spec.Slot y v q)
-  write_below x y u v r q e h =
-      ap (λ b. and_then (take_at b y v r (take x r)) (λ t. put x u t.1)) e
-      ∙ with_parts (take x r) (λ t. put x u t.1) q h (λ t p k.
-      ap (λ w. and_then {A = Val × spec.Store} (and_then {A = Val × spec.Store} w (λ t. Fine (t.0, spec.Slot y v t.1))) (λ t. put x u t.1)) p
-      ∙ ap (λ b. put_at b y v t.1 u (put x u t.1)) e ∙ ap (λ w. and_then w (λ t. Fine (spec.Slot y v t))) k)
+  -- the oldest ones
+  under_all : (ts : List Bound) (vs : List Variable) → drop (length vs) (bounds xs ts vs) ≡ ts
+  under_all ts [] = refl
+  under_all ts (v ∷ vs) =
+      let z : length vs + 1 ≡ suc (length vs) = omega arith in
+      ap (λ n. drop n (bounds xs (bound_of xs v ∷ ts) vs)) (sym z)
+      ∙ sym (drop-drop 1 (length vs) (bounds xs (bound_of xs v ∷ ts) vs))
+      ∙ ap (drop 1) (under_all (bound_of xs v ∷ ts) vs)
 
-  write_past : (x : Name) (u : Val) (r q : spec.Store) (vs : List Variable) → HasNone vs x → write x u r ≡ Fine q → write x u (declared_over xs r vs) ≡ Fine (declared_over xs q vs)
-  write_past x u r q [] h e = e
-  write_past x u r q (v ∷ vs) h e =
-      write_past x u (spec.Slot (name v) (val_of v.value) r) (spec.Slot (name v) (val_of v.value) q) vs (λ j w f. h (suc j) w f)
-      (write_below x (name v) u (val_of v.value) r q (other_name x (name v) (h 0 v refl)) e)
+  pub bounds_taken : (ts : List Bound) (m : ℕ) (vs : List Variable) → m ≤ length vs → drop (length vs - m) (bounds xs ts vs) ≡ bounds xs ts (take m vs)
+  bounds_taken ts zero vs le = let z : length vs - 0 ≡ length vs = omega arith in ap (λ n. drop n (bounds xs ts vs)) z ∙ under_all ts vs
+  bounds_taken ts (suc m) [] le = absurd (omega arith)
+  bounds_taken ts (suc m) (v ∷ vs) le =
+      let z : suc (length vs) - suc m ≡ length vs - m = omega arith in
+      ap (λ n. drop n (bounds xs (bound_of xs v ∷ ts) vs)) z ∙ bounds_taken (bound_of xs v ∷ ts) m vs (omega arith)
 
-  pub write_here : (x : Name) (u : Value) (s : spec.Store) (vs : List Variable) (i : ℕ) (v : Variable) → slice_get vs i ≡ Some v → name v ≡ x → IsNewest vs x i → write x (val_of u) (declared_over xs s vs) ≡ Fine (declared_over xs s (set vs i (record { name = v.name; hidden = v.hidden; value = u })))
-  write_here x u s [] i v e z only = cc
-  write_here x u s (w ∷ vs) zero v e z only =
-      let same : w ≡ v = cc in
-      write_past x (val_of u) (spec.Slot (name w) (val_of w.value) s) (spec.Slot (name v) (val_of u) s) vs
-      (λ j t f g. let bad : suc j ≤ 0 = only (suc j) t f g in omega arith)
-      (ap (λ (w : Variable). write x (val_of u) (spec.Slot (name w) (val_of w.value) s)) same ∙ write_top x (name v) v.value u s z)
-  write_here x u s (w ∷ vs) (suc i) v e z only =
-      write_here x u (spec.Slot (name w) (val_of w.value) s) vs i v e z (λ j t f g. let up : suc j ≤ suc i = only (suc j) t f g in omega arith)
+  -- ---- names in the order of declaration
 
-  -- ---- the newest name, and all names
+  abbrev pub pair_of : (ℕ → Value) → Variable → Name × Val
+  pair_of val v = (name v, val_of (val v.place))
 
-  pub declared-append : (s : spec.Store) (vs : List Variable) (v : Variable) → declared_over xs s (vs ++ v ∷ []) ≡ spec.Slot (name v) (val_of v.value) (declared_over xs s vs)
-  declared-append s [] v = refl
-  declared-append s (w ∷ vs) v = declared-append (spec.Slot (name w) (val_of w.value) s) vs v
+  pub listed_bounds : (val : ℕ → Value) (ts : List Bound) (vs : List Variable) → listed (seen val [] (bounds xs ts vs)) ≡ listed (seen val [] ts) ++ map (pair_of val) vs
+  listed_bounds val ts [] = sym (append-nil (listed (seen val [] ts)))
+  listed_bounds val ts (v ∷ vs) =
+      listed_bounds val (bound_of xs v ∷ ts) vs ∙ append_assoc (listed (seen val [] ts)) (pair_of val v ∷ []) (map (pair_of val) vs)
 
-  pub size-declared : (s : spec.Store) (vs : List Variable) → size_of (declared_over xs s vs) ≡ size_of s + length vs
-  size-declared s [] = omega arith
-  size-declared s (v ∷ vs) =
-      let e : size_of (declared_over xs (spec.Slot (name v) (val_of v.value) s) vs) ≡ suc (size_of s) + length vs = size-declared (spec.Slot (name v) (val_of v.value) s) vs in
-      omega arith
+-- ---- values at places
 
-  abbrev pub pair_of : Variable → Name × Val
-  pair_of v = (name v, val_of v.value)
+pub value_front : (vs ws : List Variable) (q : ℕ) → q < length vs → value_at (vs ++ ws) q ≡ value_at vs q
+value_front vs ws q lt = ap (λ (v : Variable). v.value) (get_or_append_left vs ws no_variable q lt)
 
-  pub listed-declared : (s : spec.Store) (vs : List Variable) → listed (declared_over xs s vs) ≡ listed s ++ map pair_of vs
-  listed-declared s [] = sym (append-nil (listed s))
-  listed-declared s (v ∷ vs) =
-      listed-declared (spec.Slot (name v) (val_of v.value) s) vs ∙ append_assoc (listed s) (pair_of v ∷ []) (map pair_of vs)
+pub value_last : (vs : List Variable) (v : Variable) → value_at (vs ++ v ∷ []) (length vs) ≡ v.value
+value_last vs v = ap (λ (v : Variable). v.value) (get_or-append_seam vs v [] no_variable)
 
-  -- ---- all but the values
+pub value_set : (vs : List Variable) (p : ℕ) (w : Variable) → p < length vs → value_at (set vs p w) p ≡ w.value
+value_set vs p w lt = ap (λ (v : Variable). v.value) (get_or-set_same vs p w no_variable lt)
 
-  cleared-declared : (s r : spec.Store) (vs : List Variable) → cleared s ≡ cleared r → cleared (declared_over xs s vs) ≡ cleared (declared_over xs r vs)
-  cleared-declared s r [] e = e
-  cleared-declared s r (v ∷ vs) e =
-      cleared-declared (spec.Slot (name v) (val_of v.value) s) (spec.Slot (name v) (val_of v.value) r) vs (ap (spec.Slot (name v) (cleared_val (val_of v.value))) e)
+pub value_other : (vs : List Variable) (p q : ℕ) (w : Variable) → q ≢ p → value_at (set vs p w) q ≡ value_at vs q
+value_other vs p q w ne = ap (λ (v : Variable). v.value) (get_or-set_other vs p q w no_variable ne)
 
-  -- another value of this kind and length leaves them
-  pub cleared-written : (s : spec.Store) (vs : List Variable) (i : ℕ) (v : Variable) (u : Value) → slice_get vs i ≡ Some v → cleared_val (val_of u) ≡ cleared_val (val_of v.value) → cleared (declared_over xs s (set vs i (record { name = v.name; hidden = v.hidden; value = u }))) ≡ cleared (declared_over xs s vs)
-  cleared-written s [] i v u e k = cc
-  cleared-written s (w ∷ vs) zero v u e k =
-      let same : w ≡ v = cc in
-      cleared-declared (spec.Slot (name v) (val_of u) s) (spec.Slot (name w) (val_of w.value) s) vs
-      (ap (λ c. spec.Slot (name v) c (cleared s)) k ∙ ap (λ (w : Variable). spec.Slot (name w) (cleared_val (val_of w.value)) (cleared s)) (sym same))
-  cleared-written s (w ∷ vs) (suc i) v u e k = cleared-written (spec.Slot (name w) (val_of w.value) s) vs i v u e k
+pub value_taken : (vs : List Variable) (m q : ℕ) → q < m → value_at (take m vs) q ≡ value_at vs q
+value_taken vs m q lt = ap (λ (v : Variable). v.value) (get_or-take m vs q no_variable lt)
+
+pub value_read : (vs : List Variable) (p : ℕ) (v : Variable) → slice_get vs p ≡ Some v → value_at vs p ≡ v.value
+value_read [] p v e = let bad : None ≡ Some v = sym (slice_get_past [] p (omega arith)) ∙ e in cc
+value_read (w ∷ vs) zero v e = let same : w ≡ v = cc in ap (λ (v : Variable). v.value) same
+value_read (w ∷ vs) (suc p) v e = value_read vs p v e
+
+-- ---- all but the values
 
 names_cleared : (s : spec.Store) → names_in (cleared s) ≡ names_in s
 names_cleared spec.Bare = refl

@@ -1,26 +1,62 @@
 -- How the fields of a store are read.
-use Rattle.std.specs.Prelude.{◌≡◌, ℕ, suc, ◌+◌, ◌≤◌, List, [], ◌∷◌, slice_get, slice_set, slice_index_or, Some, vec_len, vec_capacity}
-use Rattle.janus_meaning.specs.Limit.{live_stack_limit}
+use Rattle.std.specs.Prelude.{◌≡◌, ℕ, suc, pos, ◌+◌, ◌-◌, ◌<◌, ◌≤◌, List, [], ◌∷◌, length, reverse, take, drop, slice_get, slice_set, slice_index_or, Some, vec_capacity}
+use Rattle.janus_meaning.specs.Limit.{live_stack_limit, parameter_limit}
 use Rattle.janus_meaning.specs.Syntax.{Name}
-use Rattle.janus_meaning.specs.Store as spec
-use Rattle.janus_meaning.specs.World.{stacks_in}
 use Rattle.janus_names.specs.Numbers.{HaveOneNumber}
-use Rattle.janus_store.specs.Held.{Held, local_limit}
-use Rattle.janus_store.specs.Values.{val_of}
+use Rattle.janus_store.specs.Held.{Held, Caller, local_limit, call_limit, bound_limit, params_bound, live_stacks}
+use Rattle.janus_store.specs.Bounds.{Bound, Level, seen, all_of, callers_of, AreNested}
+use Rattle.janus_store.specs.declared.value.Value.{Value}
+use Rattle.janus_store.specs.declared.value.Value.TheVariants as values
 use Rattle.janus_store.specs.declared.store.Variable.{Variable}
+use Rattle.janus_store.specs.declared.store.Call.{Call}
 use Rattle.janus_store.specs.declared.store.Store.TheInside.{Inside}
 
 -- a variable's name, among the names that were met
 abbrev pub name_among : List Name → Variable → Name
 name_among xs v = slice_index_or xs v.name []
 
--- variables one after another over a store
-abbrev pub declared_over : List Name → spec.Store → List Variable → spec.Store
-declared_over xs s [] = s
-declared_over xs s (v ∷ vs) = declared_over xs (spec.Slot (name_among xs v) (val_of v.value) s) vs
+abbrev pub bound_of : List Name → Variable → Bound
+bound_of xs v = record { name = name_among xs v; place = v.place }
+
+-- variables as names with places, one after another in front of others
+abbrev pub bounds : List Name → List Bound → List Variable → List Bound
+bounds xs ts [] = ts
+bounds xs ts (v ∷ vs) = bounds xs (bound_of xs v ∷ ts) vs
+
+abbrev pub no_variable : Variable
+no_variable = record { name = 0; hidden = 0; place = 0; value = values.Number (pos 0) }
+
+-- the value at a place
+abbrev pub value_at : List Variable → ℕ → Value
+value_at vs p = (slice_index_or vs p no_variable).value
+
+-- the innermost of the open calls, where n names are in a row, and the level outside of calls where there is none
+abbrev pub here : List Bound → ℕ → List Call → Level
+here ts n [] = record { start = 0; base = 0; locals = ts; params = [] }
+here ts n (c ∷ cs) = record { start = c.start; base = c.end; locals = take (n - c.end) ts; params = take (c.end - c.start) (drop (n - c.end) ts) }
+
+-- the levels around it, the innermost first
+abbrev pub around : List Bound → ℕ → List Call → List Level
+around ts n [] = []
+around ts n (c ∷ cs) = here (drop (n - c.start) ts) c.start cs ∷ around (drop (n - c.start) ts) c.start cs
+
+-- how many names there are outside of calls
+abbrev pub outermost : ℕ → List Call → ℕ
+outermost n [] = n
+outermost n (c ∷ cs) = outermost c.start cs
+
+abbrev pub held_in : List Name → ℕ → List Variable → List Call → Held
+held_in xs d vs cs = record {
+  sight = seen (value_at vs) [] (all_of (here (bounds xs [] vs) (length vs) cs));
+  declared = d;
+  names = xs;
+  callers = callers_of (value_at vs) (here (bounds xs [] vs) (length vs) cs).params (around (bounds xs [] vs) (length vs) cs);
+}
 
 abbrev pub held_of : {L : Type 0} → Inside L → Held
-held_of a = record { sight = declared_over a.names spec.Bare a.variables.items; declared = a.declared; names = a.names }
+held_of a = held_in a.names a.declared a.variables.items (reverse a.calls.items)
+
+-- ---- the places of numbers
 
 -- no variables yet: no number has a place
 abbrev pub none_of : List Name → List ℕ
@@ -37,13 +73,52 @@ abbrev pub AreHidden : ℕ → List ℕ → List Variable → Type 0
 AreHidden i ns [] = Unit {0}
 AreHidden i ns (v ∷ vs) = (slice_get ns v.name ≡ Some v.hidden) × AreHidden (suc i) (slice_set ns v.name (suc i)) vs
 
--- Each number has the place of its newest variable. Each stack that may live is a variable's or a spare one. No more
--- locals are open than may be, and there is room for as many.
+-- each number has the place of its newest variable
+pub record AreRow (xs : List Name) (ns : List ℕ) (vs : List Variable) : Type 0 where
+  pub newest : ns ≡ newest_from 0 (none_of xs) vs
+  pub hidden : AreHidden 0 (none_of xs) vs
+
+-- the value of the newest variable of number k is at place p
+abbrev pub IsPlaceOf : List ℕ → List Variable → ℕ → ℕ → Type 0
+IsPlaceOf ns vs k p = (i : ℕ) × (v : Variable) × (slice_get ns k ≡ Some (suc i)) × (slice_get vs i ≡ Some v) × (p ≡ v.place)
+
+-- each of these numbers has a variable
+abbrev pub HavePlaces : List ℕ → List ℕ → Type 0
+HavePlaces ns [] = Unit {0}
+HavePlaces ns (k ∷ ks) = ((i : ℕ) × (slice_get ns k ≡ Some (suc i))) × HavePlaces ns ks
+
+abbrev pub AreBelow : ℕ → List ℕ → Type 0
+AreBelow n [] = Unit {0}
+AreBelow n (k ∷ ks) = (k < n) × AreBelow n ks
+
+-- parameters with the places of their arguments, by their numbers
+abbrev pub lent_to : List Name → List ℕ → List Variable → List ℕ → List ℕ → List Bound
+lent_to xs ns vs [] ks = []
+lent_to xs ns vs (j ∷ js) [] = []
+lent_to xs ns vs (j ∷ js) (k ∷ ks) =
+    record { name = slice_index_or xs j []; place = (slice_index_or vs (slice_index_or ns k 0 - 1) no_variable).place } ∷ lent_to xs ns vs js ks
+
+-- ---- the invariant
+
+-- no call has more parameters than a procedure may have
+abbrev pub AreShort : List Caller → Type 0
+AreShort [] = Unit {0}
+AreShort (c ∷ cs) = (length c.args ≤ parameter_limit) × AreShort cs
+
+-- Each number has the place of its newest variable. The parameters of each call are bound to different names of its caller. The declared
+-- names are among those outside of calls, and no more locals are open and parameters bound than may be.
+pub record IsHeld (xs : List Name) (ns : List ℕ) (vs : List Variable) (d : ℕ) (cs : List Call) : Type 0 where
+  pub one_number : HaveOneNumber xs
+  pub row : AreRow xs ns vs
+  pub nested : AreNested (length vs) (here (bounds xs [] vs) (length vs) cs) (around (bounds xs [] vs) (length vs) cs)
+  pub declared : d ≤ outermost (length vs) cs
+  pub few : length vs ≤ d + params_bound (held_in xs d vs cs).callers + local_limit
+  pub short : AreShort (held_in xs d vs cs).callers
+  pub calls : length cs ≤ call_limit
+
+-- Each stack that may live is a variable's or a spare one, and there is room for all locals, calls and parameters that may be.
 pub record IsKept {L : Type 0} (a : Inside L) : Type 0 where
-  pub one_number : HaveOneNumber a.names
-  pub newest : a.newest.items ≡ newest_from 0 (none_of a.names) a.variables.items
-  pub hidden : AreHidden 0 (none_of a.names) a.variables.items
-  pub stacks : a.spares + stacks_in (held_of a).sight ≡ live_stack_limit
-  pub declared : a.declared ≤ vec_len a.variables
-  pub few : vec_len a.variables ≤ a.declared + local_limit
-  pub room : a.declared + local_limit ≤ vec_capacity a.variables
+  pub held : IsHeld a.names a.newest.items a.variables.items a.declared (reverse a.calls.items)
+  pub stacks : a.spares + live_stacks (held_of a) ≡ live_stack_limit
+  pub room : a.declared + local_limit + bound_limit ≤ vec_capacity a.variables
+  pub call_room : call_limit ≤ vec_capacity a.calls

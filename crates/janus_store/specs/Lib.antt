@@ -2,4 +2,6 @@ pub mod Stacks
 pub mod Values
 pub mod Stores
 pub mod Held
+pub mod Calls
+pub mod Bounds
 pub mod Inside

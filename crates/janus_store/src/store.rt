@@ -8,12 +8,13 @@ ghost use Rattle.janus_meaning.specs.Store.{Store as Values, Slot, Num, Arr, Stk
 ghost use Rattle.janus_meaning.specs.Limit.{live_stack_limit, stack_limit};
 ghost use Rattle.janus_meaning.specs.Value.{first, is_none};
 ghost use Rattle.janus_meaning.specs.World.{size_of, listed, stacks_in};
-ghost use Rattle.janus_names.specs.Numbers.{GoOn, IsMet};
-ghost use Rattle.janus_store.specs.Held.{IsName, IsWhole, IsInSight, HasLocalRoom, shown_store, empty_held, Declares, KeepsSight, IsLike, AreKnown, opened, with_sight};
+ghost use Rattle.janus_names.specs.Numbers.{GoOn, IsMet, HaveOneNumber};
+ghost use Rattle.janus_store.specs.Held.{IsName, IsWhole, IsInSight, HasLocal, HasLocalRoom, shown_store, live_stacks, empty_held, Declares, KeepsSight, IsLike, AreKnown, opened, with_sight};
+ghost use Rattle.janus_store.specs.Calls.{AreNamed, CanLend, HasCallRoom, HasParametersAlone, IsEntered, IsLeft};
 ghost use Rattle.janus_store.specs.Values.{first_of, shown, found, read_or};
 ghost use Rattle.janus_store.specs.Stores.{IsFirstOnTop, IsNumber, IsArray, IsStack, IsOpenStack, IsHeldStack, HasElementAt, rest_of, write};
 ghost use Rattle.janus_store.specs.declared.store.Variable.{Variable};
-ghost use Rattle.janus_store.specs.Inside.{newest_from, none_of, AreHidden};
+ghost use Rattle.janus_store.specs.Inside.{newest_from, none_of, AreHidden, AreRow, AreBelow, HavePlaces, IsPlaceOf, bounds, lent_to};
 
 use crate::spares::Spares;
 use crate::stack::{STACK_LIMIT, Stack};
@@ -30,6 +31,12 @@ const NAME_LIMIT: usize = 256;
 /// So many locals may be open.
 const LOCAL_LIMIT: usize = 16_384;
 
+/// So many calls may be open.
+const CALL_LIMIT: usize = 16_384;
+
+/// So many parameters may be bound at once: 16 for each call.
+const BOUND_LIMIT: usize = 262_144;
+
 /// A name with its value.
 #[derive(Drop)]
 struct Variable {
@@ -37,17 +44,30 @@ struct Variable {
     name: usize,
     /// The place behind the older variable of this name that it hides, or 0.
     hidden: usize,
+    /// Where the value is: at its own place, or for a parameter at the place of what it is bound to.
+    place: usize,
+    /// The value, where it is its own.
     value: Value,
 }
 
-/// The declared names and the open locals with their values, the numbers of all names that were met, and the memory of all stacks and
-/// locals that may live. Each write is counted in the store's own ledger.
+/// Where the parameters of an open call stand among the variables.
+#[derive(Clone, Copy)]
+struct Call {
+    start: usize,
+    /// The place behind the last of them.
+    end: usize,
+}
+
+/// The declared names, the open locals and the bound parameters with their values, the numbers of all names that were met, and the memory
+/// of all stacks, locals and parameters that may live. Each write is counted in the store's own ledger.
 #[derive(Drop)]
 pub struct Store<L: Ledger> {
     names: Names,
-    /// In the order of declaration, and behind them the locals.
+    /// The declared ones in the order of declaration, and behind them locals; then for each open call its parameters and its locals.
     variables: Vec<Variable>,
-    /// For each number the place behind its newest variable among these, or 0 where its name is out of sight.
+    /// The open calls, the innermost last.
+    calls: Vec<Call>,
+    /// For each number the place behind its newest variable among these, or 0 where it has none.
     newest: Vec<usize>,
     /// How many of the variables are declared.
     declared: usize,
@@ -71,7 +91,7 @@ impl<L: Ledger> Model for Store<L> {
 }
 
 impl<L: Ledger> Store<L> {
-    /// No names. It takes the memory of all stacks that may live and of all locals that may be open.
+    /// No names. It takes the memory of all stacks that may live, of all locals and calls that may be open, and of their parameters.
     ///
     /// # Errors
     ///
@@ -80,10 +100,12 @@ impl<L: Ledger> Store<L> {
         ensures { IfOk result (λ s. s ≡ empty_held) }
     {
         let spares = Spares::new(alloc)?;
-        let variables = Vec::with_capacity(alloc, NAME_LIMIT + LOCAL_LIMIT)?;
+        let variables = Vec::with_capacity(alloc, NAME_LIMIT + LOCAL_LIMIT + BOUND_LIMIT)?;
+        let calls = Vec::with_capacity(alloc, CALL_LIMIT)?;
         Ok(Store {
             names: Names::new(alloc),
             variables,
+            calls,
             newest: Vec::new(alloc),
             declared: 0,
             spares,
@@ -110,18 +132,19 @@ impl<L: Ledger> Store<L> {
     pub fn names(&self) -> &Names
         ensures names { result.now ≡ self.now.names }
         ensures known { AreKnown self.now }
+        ensures one_number { HaveOneNumber self.now.names }
     {
         &self.names
     }
 
-    /// The value of a name, if it is declared; locals are out of this sight.
+    /// The value of a name, if it is declared; locals and parameters are out of this sight.
     pub fn value(&self, name: &str) -> Option<View<'_>>
         ensures { found result ≡ look name.now (shown_store self.now) }
     {
         let Some(number) = self.names.number(name) else {
             return None;
         };
-        let behind = declared_place(&self.newest, &self.variables, self.declared, number);
+        let behind = place_below(&self.newest, &self.variables, self.declared, number);
         if behind == 0 {
             return None;
         }
@@ -142,7 +165,9 @@ impl<L: Ledger> Store<L> {
         requires { IsInSight self.now name }
         ensures { (x : Name) → IsName self.now name x → read_or Broken result ≡ and_then (look x self.now.sight) number }
     {
-        self.variables[place(&self.newest, name)].value.number()
+        self.variables[place(&self.newest, &self.variables, name)]
+            .value
+            .number()
     }
 
     /// The element at an index of the array of a number; none where the index is out of its range.
@@ -150,7 +175,7 @@ impl<L: Ledger> Store<L> {
         requires { (x : Name) × IsName self.now name x × IsArray (look x self.now.sight) }
         ensures { (x : Name) (l : List ℤ) → IsName self.now name x → look x self.now.sight ≡ Fine (Arr l) → read_or IndexRange result ≡ element l index }
     {
-        self.variables[place(&self.newest, name)]
+        self.variables[place(&self.newest, &self.variables, name)]
             .value
             .element(index)
     }
@@ -160,7 +185,9 @@ impl<L: Ledger> Store<L> {
         requires { (x : Name) × IsName self.now name x × IsStack (look x self.now.sight) }
         ensures { (x : Name) (l : List ℤ) → IsName self.now name x → look x self.now.sight ≡ Fine (Stk l) → result.now ≡ l }
     {
-        self.variables[place(&self.newest, name)].value.stack()
+        self.variables[place(&self.newest, &self.variables, name)]
+            .value
+            .stack()
     }
 
     /// The value on top of the stack of a number; none where the stack is empty.
@@ -197,7 +224,7 @@ impl<L: Ledger> Store<L> {
 
     /// How many stacks more may live.
     pub fn stacks_left(&self) -> usize
-        ensures { result + stacks_in self.now.sight ≡ live_stack_limit }
+        ensures { result + live_stacks self.now ≡ live_stack_limit }
     {
         self.spares.len()
     }
@@ -206,6 +233,7 @@ impl<L: Ledger> Store<L> {
     pub fn meet(&mut self, name: &str) -> Result<(), AllocError>
         ensures met { IfOk result (λ _. IsMet self.new.names name.now) }
         ensures goes_on { GoOn self.old.names self.new.names }
+        ensures one_number { HaveOneNumber self.new.names }
         ensures same { self.new ≡ record self.old { names = self.new.names } }
     {
         let _number = self.number_of(name)?;
@@ -216,6 +244,7 @@ impl<L: Ledger> Store<L> {
     fn number_of(&mut self, name: &str) -> Result<usize, AllocError>
         ensures number { IfOk result (λ number. IsName self.new number name.now) }
         ensures goes_on { GoOn self.old.names self.new.names }
+        ensures one_number { HaveOneNumber self.new.names }
         ensures same { self.new ≡ record self.old { names = self.new.names } }
         ensures err { OnErr result (self.new ≡ self.old) }
     {
@@ -234,6 +263,7 @@ impl<L: Ledger> Store<L> {
         requires whole { IsWhole self.old }
         ensures ok { OnOk result (Declares self.old self.new name.now (Num (pos 0))) }
         ensures err { OnErr result (KeepsSight self.old self.new) }
+        ensures one_number { HaveOneNumber self.new.names }
     {
         self.add(name, Declared::Number)
     }
@@ -244,6 +274,7 @@ impl<L: Ledger> Store<L> {
         requires whole { IsWhole self.old }
         ensures ok { OnOk result (Declares self.old self.new name.now (Arr (zeros length))) }
         ensures err { OnErr result (KeepsSight self.old self.new) }
+        ensures one_number { HaveOneNumber self.new.names }
     {
         let alloc = *self.variables.allocator();
         let items = vec![in alloc; 0i32; length]?;
@@ -258,6 +289,7 @@ impl<L: Ledger> Store<L> {
         requires room { stacks_in self.old.sight < live_stack_limit }
         ensures ok { OnOk result (Declares self.old self.new name.now (Stk [])) }
         ensures err { OnErr result (KeepsSight self.old self.new) }
+        ensures one_number { HaveOneNumber self.new.names }
     {
         self.add(name, Declared::Stack)
     }
@@ -269,20 +301,21 @@ impl<L: Ledger> Store<L> {
         requires room { first_of declared ≡ Stk [] → stacks_in self.old.sight < live_stack_limit }
         ensures ok { OnOk result (Declares self.old self.new name.now (first_of declared)) }
         ensures err { OnErr result (KeepsSight self.old self.new) }
+        ensures one_number { HaveOneNumber self.new.names }
     {
         let name = self.number_of(name)?;
-        self.variables.reserve(LOCAL_LIMIT + 1)?;
+        self.variables.reserve(LOCAL_LIMIT + BOUND_LIMIT + 1)?;
         let value = self.spares.first_value(declared);
-        put(&mut self.newest, &mut self.variables, name, value);
+        put_own(&mut self.newest, &mut self.variables, name, value);
         self.declared += 1;
         Ok(())
     }
 
-    /// Takes the newest name away, which has the value that it was declared with. No local is open.
+    /// Takes the newest name away, which has the value that it was declared with. No local and no call is open.
     pub fn retire(&mut self)
         requires first { IsFirstOnTop self.old.sight }
         requires whole { IsWhole self.old }
-        ensures { self.new ≡ record { sight = rest_of self.old.sight; declared = self.old.declared - 1; names = self.old.names } }
+        ensures { self.new ≡ record { sight = rest_of self.old.sight; declared = self.old.declared - 1; names = self.old.names; callers = [] } }
     {
         let Variable { value, .. } = remove(&mut self.newest, &mut self.variables);
         self.spares.take_back(value);
@@ -295,7 +328,7 @@ impl<L: Ledger> Store<L> {
         requires room { HasLocalRoom self.old }
         ensures { (x : Name) → IsName self.old name x → self.new ≡ opened x (Num number) self.old }
     {
-        put(
+        put_own(
             &mut self.newest,
             &mut self.variables,
             name,
@@ -305,7 +338,7 @@ impl<L: Ledger> Store<L> {
 
     /// Closes the newest local, a number, and gives it.
     pub fn leave_local(&mut self) -> i32
-        requires local { self.old.declared < size_of self.old.sight }
+        requires local { HasLocal self.old }
         requires number { (x : Name) × (n : ℤ) × (r : Values) × (self.old.sight ≡ Slot x (Num n) r) }
         ensures left { (x : Name) (n : ℤ) (r : Values) → self.old.sight ≡ Slot x (Num n) r → (result ≡ n) × (self.new ≡ with_sight r self.old) }
         ensures room { HasLocalRoom self.new }
@@ -318,21 +351,48 @@ impl<L: Ledger> Store<L> {
     pub fn enter_local_stack(&mut self, name: usize)
         requires named { (x : Name) × IsName self.old name x }
         requires room { HasLocalRoom self.old }
-        requires few { stacks_in self.old.sight < live_stack_limit }
+        requires few { live_stacks self.old < live_stack_limit }
         ensures { (x : Name) → IsName self.old name x → self.new ≡ opened x (Stk []) self.old }
     {
         let value = self.spares.first_value(Declared::Stack);
-        put(&mut self.newest, &mut self.variables, name, value);
+        put_own(&mut self.newest, &mut self.variables, name, value);
     }
 
     /// Closes the newest local, an empty stack.
     pub fn leave_local_stack(&mut self)
-        requires local { self.old.declared < size_of self.old.sight }
+        requires local { HasLocal self.old }
         requires empty { (x : Name) × (r : Values) × (self.old.sight ≡ Slot x (Stk []) r) }
         ensures { (x : Name) (r : Values) → self.old.sight ≡ Slot x (Stk []) r → self.new ≡ with_sight r self.old }
     {
         let Variable { value, .. } = remove(&mut self.newest, &mut self.variables);
         self.spares.take_back(value);
+    }
+
+    /// Opens a call: the parameters alone are in sight, each as another name for the value of its argument, which the caller's names
+    /// lend until the call is left. Nothing is copied.
+    pub fn bind(&mut self, params: &[usize], args: &[usize])
+        requires count { length params.now ≡ length args.now }
+        requires named { (ps : List Name) × AreNamed self.old.names params.now ps }
+        requires found { (xs : List Name) × AreNamed self.old.names args.now xs × CanLend xs self.old.sight }
+        requires room { HasCallRoom self.old (length args.now) }
+        ensures { (ps xs : List Name) → AreNamed self.old.names params.now ps → AreNamed self.old.names args.now xs → IsEntered ps xs self.old self.new }
+    {
+        let start = self.variables.len();
+        bind_all(&mut self.newest, &mut self.variables, params, args);
+        let end = self.variables.len();
+        self.calls.push_reserved(Call { start, end });
+    }
+
+    /// Leaves the innermost call, of which no local is open: the caller's names are in sight again, and what they lent has the parameters'
+    /// values.
+    pub fn unbind(&mut self)
+        requires { HasParametersAlone self.old }
+        ensures { IsLeft self.old self.new }
+    {
+        match self.calls.pop() {
+            Some(call) => remove_many(&mut self.newest, &mut self.variables, call.end - call.start),
+            None => unreachable!(),
+        }
     }
 
     /// Another number for the name of a number.
@@ -343,7 +403,7 @@ impl<L: Ledger> Store<L> {
         ensures counted { writes.new ≡ writes.old + 1 }
     {
         writes.add();
-        let at = place(&self.newest, name);
+        let at = place(&self.newest, &self.variables, name);
         self.variables[at].value.set_number(number);
     }
 
@@ -355,7 +415,7 @@ impl<L: Ledger> Store<L> {
         ensures counted { writes.new ≡ writes.old + 1 }
     {
         writes.add();
-        let at = place(&self.newest, name);
+        let at = place(&self.newest, &self.variables, name);
         self.variables[at].value.set_element(index, number);
     }
 
@@ -367,7 +427,7 @@ impl<L: Ledger> Store<L> {
         ensures counted { writes.new ≡ writes.old + 1 }
     {
         writes.add();
-        let at = place(&self.newest, name);
+        let at = place(&self.newest, &self.variables, name);
         self.variables[at].value.push(number);
     }
 
@@ -380,40 +440,47 @@ impl<L: Ledger> Store<L> {
         ensures counted { writes.new ≡ writes.old + 1 }
     {
         writes.add();
-        let at = place(&self.newest, name);
+        let at = place(&self.newest, &self.variables, name);
         self.variables[at].value.pop()
     }
 }
 
-/// Where the variable of a number stands, which has one.
-fn place(newest: &[usize], name: usize) -> usize
-    requires { (i : ℕ) × (slice_get newest.now name ≡ Some (suc i)) }
-    ensures { slice_get newest.now name ≡ Some (suc result) }
+/// Where the value of a number is, which has a variable.
+fn place(newest: &[usize], variables: &[Variable], name: usize) -> usize
+    requires { (p : ℕ) × IsPlaceOf newest.now variables.now name p }
+    ensures { IsPlaceOf newest.now variables.now name result }
 {
-    newest[name] - 1
+    variables[newest[name] - 1].place
 }
 
-/// The place behind the declared variable of a number, or 0 where it has none: locals that hide it are passed over.
-fn declared_place(newest: &[usize], variables: &[Variable], declared: usize, name: usize) -> usize
-    requires few { declared ≤ length variables.now }
+/// The place behind the newest variable of a number among the oldest ones, or 0 where it has none there: newer ones that hide it are
+/// passed over.
+fn place_below(newest: &[usize], variables: &[Variable], oldest: usize, name: usize) -> usize
+    requires few { oldest ≤ length variables.now }
     requires in_memory { length variables.now < 2 ^ 58 }
     requires newest { (xs : List Name) × (newest.now ≡ newest_from 0 (none_of xs) variables.now) × AreHidden 0 (none_of xs) variables.now }
     requires met { name < length newest.now }
-    ensures place { (xs : List Name) → newest.now ≡ newest_from 0 (none_of xs) variables.now → AreHidden 0 (none_of xs) variables.now → slice_get (newest_from 0 (none_of xs) (take declared variables.now)) name ≡ Some result }
-    ensures low { result ≤ declared }
+    ensures place { (xs : List Name) → newest.now ≡ newest_from 0 (none_of xs) variables.now → AreHidden 0 (none_of xs) variables.now → slice_get (newest_from 0 (none_of xs) (take oldest variables.now)) name ≡ Some result }
+    ensures low { result ≤ oldest }
 {
     let mut behind = newest[name];
-    while behind > declared {
+    while behind > oldest {
         behind = variables[behind - 1].hidden;
     }
     behind
 }
 
-/// Puts a variable behind the others, as the one of its name.
-fn put(newest: &mut Vec<usize>, variables: &mut Vec<Variable>, name: usize, value: Value)
+/// Puts a variable behind the others, as the one of its name, with its value at a place.
+fn put(
+    newest: &mut Vec<usize>,
+    variables: &mut Vec<Variable>,
+    name: usize,
+    place: usize,
+    value: Value,
+)
     requires met { name < vec_len newest.old }
     requires room { vec_len variables.old < vec_capacity variables.old }
-    ensures variables { variables.new.items ≡ variables.old.items ++ (record { name = name; hidden = slice_index newest.old.items name; value = value }) ∷ [] }
+    ensures variables { variables.new.items ≡ variables.old.items ++ (record { name = name; hidden = slice_index newest.old.items name; place = place; value = value }) ∷ [] }
     ensures room { vec_capacity variables.new ≡ vec_capacity variables.old }
     ensures newest { newest.new.items ≡ slice_set newest.old.items name (suc (length variables.old.items)) }
 {
@@ -422,8 +489,46 @@ fn put(newest: &mut Vec<usize>, variables: &mut Vec<Variable>, name: usize, valu
     variables.push_reserved(Variable {
         name,
         hidden,
+        place,
         value,
     });
+}
+
+/// Puts a variable with a value of its own behind the others.
+fn put_own(newest: &mut Vec<usize>, variables: &mut Vec<Variable>, name: usize, value: Value)
+    requires met { name < vec_len newest.old }
+    requires room { vec_len variables.old < vec_capacity variables.old }
+    ensures variables { variables.new.items ≡ variables.old.items ++ (record { name = name; hidden = slice_index newest.old.items name; place = length variables.old.items; value = value }) ∷ [] }
+    ensures room { vec_capacity variables.new ≡ vec_capacity variables.old }
+    ensures newest { newest.new.items ≡ slice_set newest.old.items name (suc (length variables.old.items)) }
+{
+    let place = variables.len();
+    put(newest, variables, name, place, value);
+}
+
+/// Puts a parameter behind the others for each argument, the first one last, with its value where the argument's is.
+fn bind_all(
+    newest: &mut Vec<usize>,
+    variables: &mut Vec<Variable>,
+    params: &[usize],
+    args: &[usize],
+)
+    requires count { length params.now ≡ length args.now }
+    requires newest { (xs : List Name) × AreRow xs newest.old.items variables.old.items }
+    requires met { AreBelow (vec_len newest.old) params.now }
+    requires placed { HavePlaces newest.old.items args.now }
+    requires room { vec_len variables.old + length params.now ≤ vec_capacity variables.old }
+    ensures newest { (xs : List Name) → AreRow xs newest.old.items variables.old.items → AreRow xs newest.new.items variables.new.items }
+    ensures bound { (xs : List Name) → bounds xs [] variables.new.items ≡ lent_to xs newest.old.items variables.old.items params.now args.now ++ bounds xs [] variables.old.items }
+    ensures behind { (more : List Variable) × (variables.new.items ≡ variables.old.items ++ more) }
+    ensures room { vec_capacity variables.new ≡ vec_capacity variables.old }
+{
+    let oldest = variables.len();
+    for i in (0..params.len()).rev() {
+        let behind = place_below(newest, variables, oldest, args[i]);
+        let place = variables[behind - 1].place;
+        put(newest, variables, params[i], place, Value::Number(0));
+    }
 }
 
 /// Takes the last variable away. What it hid is in sight again.
@@ -440,5 +545,18 @@ fn remove(newest: &mut Vec<usize>, variables: &mut Vec<Variable>) -> Variable
             variable
         }
         None => unreachable!(),
+    }
+}
+
+/// Takes the last variables away, so many.
+fn remove_many(newest: &mut Vec<usize>, variables: &mut Vec<Variable>, count: usize)
+    requires some { count ≤ vec_len variables.old }
+    requires newest { (xs : List Name) × AreRow xs newest.old.items variables.old.items }
+    ensures newest { (xs : List Name) → AreRow xs newest.old.items variables.old.items → AreRow xs newest.new.items variables.new.items }
+    ensures variables { variables.new.items ≡ take (length variables.old.items - count) variables.old.items }
+    ensures room { vec_capacity variables.new ≡ vec_capacity variables.old }
+{
+    for _i in 0..count {
+        remove(newest, variables);
     }
 }

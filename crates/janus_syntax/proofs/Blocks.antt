@@ -44,6 +44,8 @@ a_statement (Word_of word.Local place) k h = (_, refl)
 a_statement (Word_of word.Skip place) k h = (_, refl)
 a_statement (Word_of word.Push place) k h = (_, refl)
 a_statement (Word_of word.Pop place) k h = (_, refl)
+a_statement (Word_of word.Call place) k h = (_, refl)
+a_statement (Word_of word.Uncall place) k h = (_, refl)
 a_statement (Word_of _ place) k h = absurd cc
 
 no_statement : {p : Part} (t : Token) (k : Stm → Form p) → is_statement (Some t) ≡ false → statement t k ≡ None
@@ -56,6 +58,8 @@ no_statement (Word_of word.Local place) k h = absurd cc
 no_statement (Word_of word.Skip place) k h = absurd cc
 no_statement (Word_of word.Push place) k h = absurd cc
 no_statement (Word_of word.Pop place) k h = absurd cc
+no_statement (Word_of word.Call place) k h = absurd cc
+no_statement (Word_of word.Uncall place) k h = absurd cc
 no_statement (Word_of _ place) k h = refl
 
 no_statements : (rest : List Token) → is_statement (next rest) ≡ false → (t : Token) → next rest ≡ Some t → rule Statements t ≡ None

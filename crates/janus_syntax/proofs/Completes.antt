@@ -11,7 +11,7 @@ use Rattle.janus_syntax.specs.declared.tree.Update.TheVariants as update
 use Rattle.janus_syntax.specs.Tokens.{Token, Name, Number, Sign_of, Word_of}
 use Rattle.janus_syntax.specs.Tree.{named, Exp, Num}
 use Rattle.janus_syntax.specs.Operators.{weakest}
-use Rattle.janus_syntax.specs.Forms.{Part, Body, Statements, Local, Whole, Level, Chain, Tree, Class, The_word, The_sign, A_name, A_number, An_update, Same_kind, Same_name, Seen, seen, agrees, word_number, sign_number, Form, done, take, part, close, Rule}
+use Rattle.janus_syntax.specs.Forms.{Part, Procedures, A_procedure, Parameters, A_parameter, Body, Statements, Local, Whole, Level, Chain, Tree, Class, The_word, The_sign, A_name, A_number, An_update, Same_kind, Same_name, Seen, seen, agrees, word_number, sign_number, Form, done, take, part, close, Rule}
 use Rattle.janus_syntax.specs.Table.{rule, left_out, chains}
 use Rattle.janus_syntax.specs.Grammar
 use Rattle.janus_syntax.specs.Grammar.{Count, zero_count, entered, closed, fits, depth_limit, operator_limit, Demands, met, Spells, text_form, IsTree}
@@ -129,6 +129,19 @@ unfolding no_span
 least d Whole m e = record { token = Number 0 no_span; begun = _; is = refl; low = refl; few = refl; completes = λ n h. completes_chains d Whole 0 weakest (Num 0 no_span) done n (λ f. completes_done d Whole f n h) }
 least d (Level l) m e = record { token = Number 0 no_span; begun = _; is = refl; low = refl; few = refl; completes = λ n h. completes_chains d (Level l) 0 l (Num 0 no_span) done n (λ f. completes_done d (Level l) f n h) }
 least d Body m e = least_body d m
+least d A_parameter m e = record { token = Word_of word.Stack no_span; begun = _; is = refl; low = refl; few = refl; completes = λ n h. completes_take d A_parameter A_name _ n (λ x. completes_done d A_parameter _ n h) }
+least d (A_procedure main b) m e =
+    record {
+      token = Name (120 ∷ []) no_span;
+      begun = _;
+      is = refl;
+      low = refl;
+      few = refl;
+      completes = λ n h.
+          completes_take d (A_procedure main b) (The_sign sign.Open) _ n (λ a. completes_over d (A_procedure main b) Parameters _ n _ refl (completes_take d (A_procedure main b) (The_sign sign.Close) _ n (λ c.
+          completes_part d (A_procedure main b) Body _ n (least_body d n) h (λ u i j.
+          completes_over d (A_procedure main b) (Procedures main _) _ i _ refl (completes_done d (A_procedure main b) _ i j)))));
+    }
 least d Local m e =
     record {
       token = Word_of word.Stack no_span;

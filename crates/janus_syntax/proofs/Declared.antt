@@ -1,6 +1,6 @@
 -- The parser's declarations and cells, over plain lists.
 use Rattle.std.proofs.Common.{◌≡◌, ℕ, ◌<◌, ◌≤◌, ◌==◌, List, [], ◌∷◌, ◌++◌, length, Some, None, true, false, refl, ap, sym, subst, ◌∙◌, arith, append_assoc}
-use Rattle.std.proofs.lemmas.Bool.{eqb-true}
+use Rattle.std.proofs.lemmas.Bool.{eqb-true, ne_eqb}
 use Rattle.std.proofs.lemmas.List.{append-nil}
 use Rattle.janus_syntax.specs.declared.token.Span.{Span}
 use Rattle.janus_syntax.specs.declared.token.Sign.TheVariants as sign
@@ -8,10 +8,11 @@ use Rattle.janus_syntax.specs.declared.token.Word.TheVariants as word
 use Rattle.janus_syntax.specs.declared.token.Token as code_token
 use Rattle.janus_syntax.specs.declared.fault.What.TheVariants as what
 use Rattle.janus_syntax.specs.declared.tree.Declaration as code_declaration
+use Rattle.janus_syntax.specs.declared.tree.Stm as code_stm
 use Rattle.janus_syntax.specs.Tokens.{Token, Name, Number, Sign_of, Word_of, views}
-use Rattle.janus_syntax.specs.Tree.{Name as Named, Exp, Block, Declaration, Int, Array, StackOf, cell_of, declaration_view, declarations_view}
-use Rattle.janus_syntax.specs.Forms.{Part, A_cell, Declarations, Statements, Bound, Whole, Tree, The_sign, A_name, A_number, Form, done, take, part}
-use Rattle.janus_syntax.specs.Table.{rule, declared, sign_then}
+use Rattle.janus_syntax.specs.Tree.{Name as Named, Exp, Block, Declaration, Int, Array, StackOf, Cell, cell_of, declaration_view, declarations_view, block_view}
+use Rattle.janus_syntax.specs.Forms.{Part, A_cell, Declarations, Statements, Procedures, Bound, Whole, Tree, The_sign, A_name, A_number, Form, done, take, part}
+use Rattle.janus_syntax.specs.Table.{rule, declared, sign_then, is_bare}
 use Rattle.janus_syntax.specs.Grammar.{all, operator_limit, IsTree, Refusal, Expected}
 use Rattle.janus_syntax.specs.Reader.{Stack, bottom, waits, at, Outcome, Ended, run, start, outcome_of, next}
 use Rattle.janus_syntax.specs.Reading.{TokenGoes, TokenFails, BeginsWith, BeginsWithSign, count, Stands, Moves, Stops, IsPart, FailsPart}
@@ -222,26 +223,41 @@ end_read v u (t ∷ ts) h = absurd cc
 
 -- ---- cells
 
+abbrev behind_declarations : List Declaration → Form A_cell
+behind_declarations ds = part Statements (λ b. part (Procedures (is_bare ds b) (cell_of ds b [])) done)
+
+abbrev behind_statements : List Declaration → Block → Form A_cell
+behind_statements ds b = part (Procedures (is_bare ds b) (cell_of ds b [])) done
+
 module _ {ds : List Declaration} {b : Block} {from middle rest : List Token} (i : IsPart Declarations 0 ds from middle) (j : IsPart Statements 0 b middle rest) where
-  cell_reads : Stands 0 (run all from (start A_cell)) rest (done (cell_of ds b)) bottom
-  cell_reads =
-      let x = i.goes A_cell (λ es. part Statements (λ c. done (cell_of es c))) A_cell bottom 0 (omega arith) in
-      let y = j.goes A_cell (λ c. done (cell_of ds c)) A_cell bottom x.0 x.1 in
+  statements_read : Stands 0 (run all from (start A_cell)) rest (behind_statements ds b) bottom
+  statements_read =
+      let x = i.goes A_cell behind_declarations A_cell bottom 0 (omega arith) in
+      let y = j.goes A_cell (behind_statements ds) A_cell bottom x.0 x.1 in
       (y.0, y.1, x.2 ∙ y.2)
 
-  pub cell_is : rest ≡ [] → IsTree A_cell all (cell_of ds b) from
-  cell_is e = is_tree A_cell from (cell_of ds b) what.End (cell_reads.2 ∙ end_read {goal = A_cell} (cell_of ds b) cell_reads.0 rest e)
+  cell_reads : {c : Cell} {last : List Token} → IsPart (Procedures (is_bare ds b) (cell_of ds b [])) 0 c rest last → Stands 0 (run all from (start A_cell)) last (done c) bottom
+  cell_reads l =
+      let x = statements_read in
+      let y = l.goes A_cell done A_cell bottom x.0 x.1 in
+      (y.0, y.1, x.2 ∙ y.2)
 
-  pub cell_stops_end : (e : Refusal) → AtEnd rest e → Refused A_cell from e
-  cell_stops_end e a = cell_reads.2 ∙ end_refused {goal = A_cell} (cell_of ds b) cell_reads.0 rest a.1 ∙ ap outcome_of (sym a.0)
+  pub cell_is : {c : Cell} {last : List Token} → IsPart (Procedures (is_bare ds b) (cell_of ds b [])) 0 c rest last → last ≡ [] → IsTree A_cell all c from
+  cell_is {c} {last} l e = let x = cell_reads l in is_tree A_cell from c what.End (x.2 ∙ end_read {goal = A_cell} c x.0 last e)
+
+  pub cell_stops_end : {c : Cell} {last : List Token} (e : Refusal) → IsPart (Procedures (is_bare ds b) (cell_of ds b [])) 0 c rest last → AtEnd last e → Refused A_cell from e
+  cell_stops_end {c} {last} e l a = let x = cell_reads l in x.2 ∙ end_refused {goal = A_cell} c x.0 last a.1 ∙ ap outcome_of (sym a.0)
+
+  pub cell_stops_procedures : (e : Refusal) → FailsPart (Procedures (is_bare ds b) (cell_of ds b [])) 0 rest e → Refused A_cell from e
+  cell_stops_procedures e f = let x = statements_read in x.2 ∙ f A_cell done A_cell bottom x.0 x.1
 
 pub cell_stops_declarations : (from : List Token) (e : Refusal) → FailsPart Declarations 0 from e → Refused A_cell from e
-cell_stops_declarations from e f = f A_cell (λ es. part Statements (λ c. done (cell_of es c))) A_cell bottom 0 (omega arith)
+cell_stops_declarations from e f = f A_cell behind_declarations A_cell bottom 0 (omega arith)
 
 pub cell_stops_statements : {ds : List Declaration} {from middle : List Token} (e : Refusal) → IsPart Declarations 0 ds from middle → FailsPart Statements 0 middle e → Refused A_cell from e
 cell_stops_statements {ds} e i f =
-    let x = i.goes A_cell (λ es. part Statements (λ c. done (cell_of es c))) A_cell bottom 0 (omega arith) in
-    x.2 ∙ f A_cell (λ c. done (cell_of ds c)) A_cell bottom x.0 x.1
+    let x = i.goes A_cell behind_declarations A_cell bottom 0 (omega arith) in
+    x.2 ∙ f A_cell (behind_statements ds) A_cell bottom x.0 x.1
 
 -- ---- whole expressions
 
@@ -253,3 +269,14 @@ exp_stops_end {e} {from} {rest} r i a = let x = i.goes Whole done Whole bottom 0
 
 pub exp_stops : (from : List Token) (e : Refusal) → FailsPart Whole 0 from e → Refused Whole from e
 exp_stops from e f = f Whole done Whole bottom 0 (omega arith)
+
+-- ---- neither declarations nor statements
+
+pub bare_blocks : (ds : List code_declaration.Declaration) (ss : List code_stm.Stm) → true ≡ (length ds == 0) → (length ss == 0) ≡ is_bare (declarations_view ds) (block_view ss)
+bare_blocks [] [] e = refl
+bare_blocks [] (s ∷ ss) e = ne_eqb (length (s ∷ ss)) 0 (λ q. absurd (omega (arith, q)))
+bare_blocks (d ∷ ds) ss e = absurd (omega (arith, eqb-true (length (d ∷ ds)) 0 (sym e)))
+
+pub not_bare : (ds : List code_declaration.Declaration) (ss : List code_stm.Stm) → false ≡ (length ds == 0) → false ≡ is_bare (declarations_view ds) (block_view ss)
+not_bare [] ss e = absurd cc
+not_bare (d ∷ ds) ss e = refl

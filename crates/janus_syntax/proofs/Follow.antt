@@ -9,7 +9,7 @@ use Rattle.janus_syntax.specs.declared.token.Word.TheVariants as word
 use Rattle.janus_syntax.specs.declared.operator.Infix.{Infix}
 use Rattle.janus_syntax.specs.Tokens.{Token, Name, Sign_of, Word_of}
 use Rattle.janus_syntax.specs.Operators.{weakest, operator_at}
-use Rattle.janus_syntax.specs.Forms.{Part, A_cell, Declarations, Bound, Body, Statements, Else_part, Do_part, Loop_part, Local, Target_index, Whole, Level, Chain, Index, Tree, Seen, seen, word_number, sign_number, Form, done, take, part, close, Rule}
+use Rattle.janus_syntax.specs.Forms.{Part, A_cell, Declarations, Bound, Procedures, A_procedure, Parameters, More_parameters, A_parameter, Brackets, Body, Statements, Else_part, Do_part, Loop_part, Local, Names, More_names, Target_index, Whole, Level, Chain, Index, Tree, Seen, seen, word_number, sign_number, Form, done, take, part, close, Rule}
 use Rattle.janus_syntax.specs.Table.{rule, left_out}
 
 -- Tests of tokens.
@@ -46,6 +46,7 @@ ends_body word.Fi = true
 ends_body word.Loop = true
 ends_body word.Until = true
 ends_body word.Delocal = true
+ends_body word.Procedure = true
 ends_body _ = false
 
 abbrev pub after_body : Token → Bool
@@ -59,17 +60,30 @@ after_declarations (Word_of word.Stack at) = false
 after_declarations (Word_of _ at) = true
 after_declarations _ = false
 
+abbrev pub after_parameter : Token → Bool
+after_parameter (Sign_of sign.Comma at) = true
+after_parameter (Sign_of sign.Close at) = true
+after_parameter _ = false
+
 -- the table
 abbrev pub may_follow : Part → Token → Bool
 may_follow A_cell t = false
 may_follow Declarations t = after_declarations t
 may_follow Bound t = after_statement t
+may_follow (Procedures main c) t = false
+may_follow (A_procedure main c) t = false
+may_follow Parameters t = is_sign sign.Close t
+may_follow More_parameters t = is_sign sign.Close t
+may_follow A_parameter t = after_parameter t
+may_follow Brackets t = after_parameter t
 may_follow Body t = after_body t
 may_follow Statements t = after_body t
 may_follow Else_part t = is_word word.Fi t
 may_follow Do_part t = is_word word.Loop t || is_word word.Until t
 may_follow Loop_part t = is_word word.Until t
 may_follow Local t = after_statement t
+may_follow Names t = is_sign sign.Close t
+may_follow More_names t = is_sign sign.Close t
 may_follow Target_index t = no_index t
 may_follow Whole t = ends_at weakest t
 may_follow (Level n) t = ends_at n t

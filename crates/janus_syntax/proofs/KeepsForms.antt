@@ -3,10 +3,10 @@ use Rattle.std.proofs.Common.{◌≡◌, true, inl, inr}
 use Rattle.janus_syntax.specs.declared.token.Sign.TheVariants as sign
 use Rattle.janus_syntax.specs.declared.token.Word.TheVariants as word
 use Rattle.janus_syntax.specs.Tokens.{Token, Name, Number, Sign_of, Word_of}
-use Rattle.janus_syntax.specs.Tree.{Exp, Stm, Declaration}
+use Rattle.janus_syntax.specs.Tree.{Name as Named, Exp, Stm, Declaration, Parameter, Procedure}
 use Rattle.janus_syntax.specs.Forms.{Part, Form}
-use Rattle.janus_syntax.specs.Table.{operand, statement, declaration}
-use Rattle.janus_syntax.proofs.Follow.{ends_at, after_statement, May, Proper, AllProper}
+use Rattle.janus_syntax.specs.Table.{operand, statement, declaration, a_parameter, behind_name}
+use Rattle.janus_syntax.proofs.Follow.{ends_at, after_statement, after_body, after_parameter, May, Proper, AllProper}
 use Rattle.janus_syntax.proofs.Keeps.{seen_word, seen_sign, ends_statement, ends_close}
 use Rattle.janus_syntax.proofs.KeepsTokens.{ends_word, fi_body, else_body, update_no_index, no_index_of, loop_follows, do_follows}
 
@@ -30,6 +30,8 @@ proper_statement (Word_of word.If at) k h ends = λ e. ((λ z s. ((λ b. ((λ z 
 proper_statement (Word_of word.From at) k h ends =
     λ e. ((λ s. ((λ b. ((λ z f. (h _, λ t m. ends_statement t (ends _ t m))), λ t m. seen_word word.Until t m.0 m.1)), λ t m. loop_follows t m)), λ t m. do_follows t m)
 proper_statement (Word_of word.Local at) k h ends = λ s. (h s, λ t m. ends s t m)
+proper_statement (Word_of word.Call at) k h ends = λ f z xs. ((λ z. h _), λ t m. seen_sign sign.Close t m.0 m.1)
+proper_statement (Word_of word.Uncall at) k h ends = λ f z xs. ((λ z. h _), λ t m. seen_sign sign.Close t m.0 m.1)
 proper_statement (Word_of word.Skip at) k h ends = h _
 proper_statement (Word_of word.Push at) k h ends = λ z x z' s z''. h _
 proper_statement (Word_of word.Pop at) k h ends = λ z x z' s z''. h _
@@ -42,3 +44,14 @@ proper_declaration (Word_of _ at) k h ends = tt
 proper_declaration (Name x at) k h ends = tt
 proper_declaration (Number n at) k h ends = tt
 proper_declaration (Sign_of s at) k h ends = tt
+
+pub proper_parameter : {p : Part} (t : Token) (k : Parameter → Form p) → ((x : Parameter) → Proper (k x)) → ((x : Parameter) (t' : Token) → May (k x) t' → after_parameter t' ≡ true) → AllProper (a_parameter t k)
+proper_parameter (Word_of word.Int at) k h ends = λ x b. (h _, λ t m. ends _ t m)
+proper_parameter (Word_of word.Stack at) k h ends = λ s. h _
+proper_parameter (Word_of _ at) k h ends = tt
+proper_parameter (Name x at) k h ends = tt
+proper_parameter (Number n at) k h ends = tt
+proper_parameter (Sign_of s at) k h ends = tt
+
+pub proper_behind_name : {p : Part} (f : Named) (k : Procedure → Form p) → ((q : Procedure) → Proper (k q)) → ((q : Procedure) (t' : Token) → May (k q) t' → after_body t' ≡ true) → Proper (behind_name f k)
+proper_behind_name f k h ends = λ z xs. ((λ z b. (h _, λ t m. ends _ t m)), λ t m. seen_sign sign.Close t m.0 m.1)

@@ -7,11 +7,11 @@ use Rattle.janus_syntax.specs.declared.token.Word.{Word}
 use Rattle.janus_syntax.specs.declared.token.Word.TheVariants as word
 use Rattle.janus_syntax.specs.declared.tree.Update.{Update}
 use Rattle.janus_syntax.specs.Tokens.{Token, Name, Number, Sign_of, Word_of}
-use Rattle.janus_syntax.specs.Tree.{Stm, Declaration}
+use Rattle.janus_syntax.specs.Tree.{Stm, Declaration, Cell}
 use Rattle.janus_syntax.specs.Operators.{weakest, operator_at, update_at}
-use Rattle.janus_syntax.specs.Forms.{Part, Else_part, Do_part, Loop_part, Tree, The_word, seen, Form, Rule}
+use Rattle.janus_syntax.specs.Forms.{Part, Procedures, More_parameters, Else_part, Do_part, Loop_part, Tree, The_word, seen, Form, Rule}
 use Rattle.janus_syntax.specs.Table.{rule, left_out, statement, declaration}
-use Rattle.janus_syntax.proofs.Follow.{is_word, no_index, weaker_than, ends_at, after_statement, after_body, after_declarations, may_follow}
+use Rattle.janus_syntax.proofs.Follow.{is_word, is_sign, no_index, weaker_than, ends_at, after_statement, after_body, after_declarations, after_parameter, may_follow}
 use Rattle.janus_syntax.proofs.Keeps.{seen_word, ends_statement, word_after}
 
 -- Tokens that follow.
@@ -82,6 +82,27 @@ delocal_body (Word_of _ at) e = absurd cc
 delocal_body (Name x at) e = absurd cc
 delocal_body (Number n at) e = absurd cc
 delocal_body (Sign_of s at) e = absurd cc
+
+pub procedure_body : (main : Bool) (c : Cell) (t : Token) (r : Rule (Procedures main c)) → rule (Procedures main c) t ≡ Some r → after_body t ≡ true
+procedure_body main c (Word_of word.Procedure at) r e = refl
+procedure_body main c (Word_of _ at) r e = absurd cc
+procedure_body main c (Name x at) r e = absurd cc
+procedure_body main c (Number n at) r e = absurd cc
+procedure_body main c (Sign_of s at) r e = absurd cc
+
+pub close_parameter : (t : Token) → is_sign sign.Close t ≡ true → after_parameter t ≡ true
+close_parameter (Sign_of sign.Close at) e = refl
+close_parameter (Sign_of _ at) e = absurd cc
+close_parameter (Name x at) e = absurd cc
+close_parameter (Number n at) e = absurd cc
+close_parameter (Word_of w at) e = absurd cc
+
+pub comma_parameter : (t : Token) (r : Rule More_parameters) → rule More_parameters t ≡ Some r → after_parameter t ≡ true
+comma_parameter (Sign_of sign.Comma at) r e = refl
+comma_parameter (Sign_of _ at) r e = absurd cc
+comma_parameter (Name x at) r e = absurd cc
+comma_parameter (Number n at) r e = absurd cc
+comma_parameter (Word_of w at) r e = absurd cc
 
 pub else_body : (t : Token) (r : Rule Else_part) → rule Else_part t ≡ Some r → after_body t ≡ true
 else_body (Word_of word.Else at) r e = refl

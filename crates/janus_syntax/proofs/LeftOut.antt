@@ -6,11 +6,11 @@ use Rattle.janus_syntax.specs.declared.token.Sign.TheVariants as sign
 use Rattle.janus_syntax.specs.declared.token.Word.TheVariants as word
 use Rattle.janus_syntax.specs.declared.operator.Infix.{Infix}
 use Rattle.janus_syntax.specs.Tokens.{Token, Name, Number, Sign_of, Word_of}
-use Rattle.janus_syntax.specs.Tree.{Exp, Stm, Declaration}
+use Rattle.janus_syntax.specs.Tree.{Exp, Stm, Declaration, Parameter}
 use Rattle.janus_syntax.specs.Operators.{joined, operator_at}
-use Rattle.janus_syntax.specs.Forms.{Part, A_cell, Declarations, Bound, Body, Statements, Else_part, Do_part, Loop_part, Local, Target_index, Whole, Level, Chain, Index, Tree, Form, done, part}
-use Rattle.janus_syntax.specs.Table.{rule, left_out, counts, chain_rule, statement, declaration}
-use Rattle.janus_syntax.proofs.Follow.{is_word, no_index, weaker_than, after_statement, after_body, after_declarations, may_follow}
+use Rattle.janus_syntax.specs.Forms.{Part, A_cell, Declarations, Bound, Procedures, A_procedure, Parameters, More_parameters, A_parameter, Brackets, Body, Statements, Else_part, Do_part, Loop_part, Local, Names, More_names, Target_index, Whole, Level, Chain, Index, Tree, Form, done, part}
+use Rattle.janus_syntax.specs.Table.{rule, left_out, counts, chain_rule, statement, declaration, a_parameter}
+use Rattle.janus_syntax.proofs.Follow.{is_word, is_sign, no_index, weaker_than, after_statement, after_body, after_declarations, after_parameter, may_follow}
 
 no_statement : {p : Part} → (t : Token) (k : Stm → Form p) → after_body t ≡ true → statement t k ≡ None
 no_statement (Word_of word.If at) k e = absurd cc
@@ -19,6 +19,8 @@ no_statement (Word_of word.Skip at) k e = absurd cc
 no_statement (Word_of word.Local at) k e = absurd cc
 no_statement (Word_of word.Push at) k e = absurd cc
 no_statement (Word_of word.Pop at) k e = absurd cc
+no_statement (Word_of word.Call at) k e = absurd cc
+no_statement (Word_of word.Uncall at) k e = absurd cc
 no_statement (Word_of _ at) k e = refl
 no_statement (Name x at) k e = absurd cc
 no_statement (Number n at) k e = refl
@@ -31,6 +33,26 @@ no_declaration (Word_of _ at) k e = refl
 no_declaration (Name x at) k e = refl
 no_declaration (Number n at) k e = refl
 no_declaration (Sign_of s at) k e = refl
+
+no_parameter : {p : Part} → (t : Token) (k : Parameter → Form p) → is_sign sign.Close t ≡ true → a_parameter t k ≡ None
+no_parameter (Word_of w at) k e = absurd cc
+no_parameter (Name x at) k e = refl
+no_parameter (Number n at) k e = refl
+no_parameter (Sign_of s at) k e = refl
+
+no_more_parameters : (t : Token) → is_sign sign.Close t ≡ true → rule More_parameters t ≡ None
+no_more_parameters (Word_of w at) e = refl
+no_more_parameters (Name x at) e = refl
+no_more_parameters (Number n at) e = refl
+no_more_parameters (Sign_of sign.Comma at) e = absurd cc
+no_more_parameters (Sign_of _ at) e = refl
+
+no_brackets : (t : Token) → after_parameter t ≡ true → rule Brackets t ≡ None
+no_brackets (Sign_of sign.OpenIndex at) e = absurd cc
+no_brackets (Sign_of _ at) e = refl
+no_brackets (Word_of w at) e = refl
+no_brackets (Name x at) e = refl
+no_brackets (Number n at) e = refl
 
 no_chain : (o : Option Infix) (n : ℕ) (e : Exp) → weaker_than n o ≡ true → chain_rule o n e ≡ None
 no_chain None n e h = refl
@@ -65,6 +87,19 @@ no_loop (Sign_of s at) e = refl
 no_loop (Name x at) e = refl
 no_loop (Number n at) e = refl
 
+no_names : (t : Token) → is_sign sign.Close t ≡ true → rule Names t ≡ None
+no_names (Name x at) e = absurd cc
+no_names (Word_of w at) e = refl
+no_names (Sign_of s at) e = refl
+no_names (Number n at) e = refl
+
+no_more_names : (t : Token) → is_sign sign.Close t ≡ true → rule More_names t ≡ None
+no_more_names (Word_of w at) e = refl
+no_more_names (Name x at) e = refl
+no_more_names (Number n at) e = refl
+no_more_names (Sign_of sign.Comma at) e = absurd cc
+no_more_names (Sign_of _ at) e = refl
+
 pub no_target : (t : Token) → no_index t ≡ true → rule Target_index t ≡ None
 no_target (Sign_of sign.OpenIndex at) e = absurd cc
 no_target (Sign_of _ at) e = refl
@@ -86,16 +121,31 @@ unbound (Word_of w at) e = refl
 unbound (Name x at) e = refl
 unbound (Number n at) e = refl
 
+pub unbracketed : (t : Token) → no_index t ≡ true → rule Brackets t ≡ None
+unbracketed (Sign_of sign.OpenIndex at) e = absurd cc
+unbracketed (Sign_of _ at) e = refl
+unbracketed (Word_of w at) e = refl
+unbracketed (Name x at) e = refl
+unbracketed (Number n at) e = refl
+
 pub no_rule : (p : Part) (t : Token) (u : Tree p) → left_out p ≡ Some u → may_follow p t ≡ true → rule p t ≡ None
 no_rule A_cell t u e h = absurd cc
 no_rule Declarations t u e h = no_declaration t _ h
 no_rule Bound t u e h = no_bound t h
+no_rule (Procedures main c) t u e h = absurd cc
+no_rule (A_procedure main c) t u e h = absurd cc
+no_rule Parameters t u e h = no_parameter t _ h
+no_rule More_parameters t u e h = no_more_parameters t h
+no_rule A_parameter t u e h = absurd cc
+no_rule Brackets t u e h = no_brackets t h
 no_rule Body t u e h = absurd cc
 no_rule Statements t u e h = no_statement t _ h
 no_rule Else_part t u e h = no_else t h
 no_rule Do_part t u e h = no_do t h
 no_rule Loop_part t u e h = no_loop t h
 no_rule Local t u e h = absurd cc
+no_rule Names t u e h = no_names t h
+no_rule More_names t u e h = no_more_names t h
 no_rule Target_index t u e h = no_target t h
 no_rule Whole t u e h = absurd cc
 no_rule (Level n) t u e h = absurd cc

@@ -3,6 +3,9 @@ pub mod Fronts
 pub mod Longest
 pub mod Lexing
 pub mod Locals
+pub mod Calls
+pub mod Parameters
+pub mod Procedures
 pub mod OneLexing
 pub mod Places
 pub mod OneBad

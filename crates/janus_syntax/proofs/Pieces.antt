@@ -44,3 +44,21 @@ assigned_row x o z u a b l0 l1 l2 l3 l4 l5 l6 e1 e2 e3 e4 e5 e6 =
 pub local_row : (h a b g c : List Piece) (l0 l1 l2 l3 l4 l5 : Printed) → l1 ≡ with_pieces l0 h → l2 ≡ with_pieces l1 a → l3 ≡ with_pieces l2 b → l4 ≡ with_pieces l3 g → l5 ≡ with_pieces l4 c → l5 ≡ with_pieces l0 (h ++ (a ++ (b ++ (g ++ c))))
 local_row h a b g c l0 l1 l2 l3 l4 l5 e1 e2 e3 e4 e5 =
     behind h (a ++ (b ++ (g ++ c))) l0 l1 l5 e1 (behind a (b ++ (g ++ c)) l1 l2 l5 e2 (behind b (g ++ c) l2 l3 l5 e3 (behind g c l3 l4 l5 e4 e5)))
+
+-- a word, a name, and names in parentheses
+pub call_row : (v x o z : Piece) (a : List Piece) (l0 l1 l2 l3 l4 l5 : Printed) → l1 ≡ with_piece l0 v → l2 ≡ with_piece l1 x → l3 ≡ with_piece l2 o → l4 ≡ with_pieces l3 a → l5 ≡ with_piece l4 z → l5 ≡ with_pieces l0 (v ∷ x ∷ o ∷ (a ++ z ∷ []))
+call_row v x o z a l0 l1 l2 l3 l4 l5 e1 e2 e3 e4 e5 = piece_behind v (x ∷ o ∷ (a ++ z ∷ [])) l0 l1 l5 e1 (element_row x o z a l1 l2 l3 l4 l5 e2 e3 e4 e5)
+
+-- a comma and a parameter, and what stands behind them
+pub comma_row : (x : Piece) (a b : List Piece) (l0 l1 l2 : Printed) → l1 ≡ with_piece l0 x → l2 ≡ with_pieces l1 a → with_pieces l2 b ≡ with_pieces l0 (x ∷ (a ++ b))
+comma_row x a b l0 l1 l2 e1 e2 = ap (λ l. with_pieces l b) e2 ∙ sym (pieces_more a b l1) ∙ ap (λ l. with_pieces l (a ++ b)) e1
+
+-- pieces, and what stands behind them
+pub first_row : (a b : List Piece) (l0 l1 : Printed) → l1 ≡ with_pieces l0 a → with_pieces l1 b ≡ with_pieces l0 (a ++ b)
+first_row a b l0 l1 e = ap (λ l. with_pieces l b) e ∙ sym (pieces_more a b l0)
+
+-- a procedure
+pub procedure_row : (v x o z : Piece) (a b : List Piece) (l0 l1 l2 l3 l4 l5 l6 : Printed) → l1 ≡ with_piece l0 v → l2 ≡ with_piece l1 x → l3 ≡ with_piece l2 o → l4 ≡ with_pieces l3 a → l5 ≡ with_piece l4 z → l6 ≡ with_pieces l5 b →
+    l6 ≡ with_pieces l0 (v ∷ x ∷ o ∷ (a ++ z ∷ b))
+procedure_row v x o z a b l0 l1 l2 l3 l4 l5 l6 e1 e2 e3 e4 e5 e6 =
+    piece_behind v (x ∷ o ∷ (a ++ z ∷ b)) l0 l1 l6 e1 (piece_behind x (o ∷ (a ++ z ∷ b)) l1 l2 l6 e2 (piece_behind o (a ++ z ∷ b) l2 l3 l6 e3 (behind a (z ∷ b) l3 l4 l6 e4 (piece_behind z b l4 l5 l6 e5 e6))))

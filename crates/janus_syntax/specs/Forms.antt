@@ -13,7 +13,7 @@ use Rattle.janus_syntax.specs.declared.tree.Kind.TheVariants as kind
 use Rattle.janus_syntax.specs.declared.fault.What.{What}
 use Rattle.janus_syntax.specs.declared.fault.What.TheVariants as what
 use Rattle.janus_syntax.specs.Tokens.{Token, Name, Number, Sign_of, Word_of}
-use Rattle.janus_syntax.specs.Tree.{Name as Named, named, Exp, Stm, Block, Declaration, Cell}
+use Rattle.janus_syntax.specs.Tree.{Name as Named, named, Exp, Stm, Block, Declaration, Parameter, Cell}
 use Rattle.janus_syntax.specs.Operators.{update_at}
 
 -- the parts of a cell
@@ -21,12 +21,20 @@ pub data Part : Type 0 where
   A_cell : Part
   Declarations : Part
   Bound : Part  -- behind a declared `int` name
+  Procedures : Bool → Cell → Part  -- behind what is read of a cell: procedures, of which one may be `main` or not
+  A_procedure : Bool → Cell → Part  -- the same behind `procedure`
+  Parameters : Part  -- parameters parted by commas, or none
+  More_parameters : Part  -- behind a parameter: a comma and a parameter, or several
+  A_parameter : Part
+  Brackets : Part  -- behind the name of an `int` parameter
   Body : Part  -- one statement or more
   Statements : Part  -- none or more
   Else_part : Part
   Do_part : Part
   Loop_part : Part
   Local : Part  -- behind `local`
+  Names : Part  -- names parted by commas, or none
+  More_names : Part  -- behind a name: a comma and a name, or several
   Target_index : Part  -- behind the name that an assignment begins with
   Whole : Part  -- a whole expression
   Level : ℕ → Part  -- an expression with no operator of a weaker level outside parentheses; 0: an operand
@@ -38,12 +46,20 @@ abbrev pub Tree : Part → Type 0
 Tree A_cell = Cell
 Tree Declarations = List Declaration
 Tree Bound = Option (ℕ × Span)
+Tree (Procedures main c) = Cell
+Tree (A_procedure main c) = Cell
+Tree Parameters = List Parameter
+Tree More_parameters = List Parameter
+Tree A_parameter = Parameter
+Tree Brackets = Bool
 Tree Body = Block
 Tree Statements = Block
 Tree Else_part = Block
 Tree Do_part = Block
 Tree Loop_part = Block
 Tree Local = Stm
+Tree Names = List Named
+Tree More_names = List Named
 Tree Target_index = Option Exp
 Tree Whole = Exp
 Tree (Level n) = Exp

@@ -5,8 +5,8 @@ use Rattle.janus_syntax.specs.declared.fault.What.{What}
 use Rattle.janus_syntax.specs.declared.fault.What.TheVariants as what
 use Rattle.janus_syntax.specs.Tokens.{Token}
 use Rattle.janus_syntax.specs.Tree.{cell_of}
-use Rattle.janus_syntax.specs.Forms.{Part, A_cell, Declarations, Statements, Tree, Class, Seen, seen, agrees, what_of, Form, done, take, part, close, Rule}
-use Rattle.janus_syntax.specs.Table.{rule, left_out, label}
+use Rattle.janus_syntax.specs.Forms.{Part, A_cell, Declarations, Statements, Procedures, Tree, Class, Seen, seen, agrees, what_of, Form, done, take, part, close, Rule}
+use Rattle.janus_syntax.specs.Table.{rule, left_out, label, is_bare}
 
 -- How many constructs are open, and how many operators the whole expression has so far.
 pub record Count : Type 0 where
@@ -72,7 +72,7 @@ pub data Spells (d : Demands) : (p : Part) → Form p → Tree p → Count → L
 
 -- A whole text: a cell is its declarations and then its statements; any other part stands alone.
 abbrev pub text_form : (goal : Part) → Form goal
-text_form A_cell = part Declarations (λ ds. part Statements (λ b. done (cell_of ds b)))
+text_form A_cell = part Declarations (λ ds. part Statements (λ b. part (Procedures (is_bare ds b) (cell_of ds b [])) done))
 text_form goal = part goal done
 
 -- these tokens are that part, with this tree

@@ -14,5 +14,6 @@ pub mod Text
 pub mod Reader
 pub mod Reading
 pub mod Statements
+pub mod Procedures
 pub mod Printing
 pub mod Printed

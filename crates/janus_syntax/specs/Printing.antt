@@ -11,7 +11,7 @@ use Rattle.janus_syntax.specs.declared.token.Word.TheVariants as word
 use Rattle.janus_syntax.specs.declared.tree.Update.{Update}
 use Rattle.janus_syntax.specs.declared.tree.Update.TheVariants as update
 use Rattle.janus_syntax.specs.Spelling.{sign_text, word_text}
-use Rattle.janus_syntax.specs.Tree.{named, Exp, Num, Var, Element, EmptyOf, TopOf, Neg, Bin, And, Or, Stm, Skip, Assign, AssignElement, Push, Pop, If, Loop, LocalInt, LocalStack, Block, Empty, More, Declaration, Int, Array, StackOf, Cell, cell_of}
+use Rattle.janus_syntax.specs.Tree.{Name, named, Exp, Num, Var, Element, EmptyOf, TopOf, Neg, Bin, And, Or, Stm, Skip, Assign, AssignElement, Push, Pop, If, Loop, LocalInt, LocalStack, Call, Uncall, Block, Empty, More, Declaration, Int, Array, StackOf, Parameter, IntParameter, ArrayParameter, StackParameter, Procedure, procedure_of, Cell, cell_of}
 use Rattle.janus_syntax.specs.Operators.{sign_infix, weakest}
 
 -- a token as it is printed, with no place
@@ -21,7 +21,7 @@ pub data Piece : Type 0 where
   A_sign : Sign → Piece
   A_word : Word → Piece
   A_minus : Piece  -- prefix minus
-  An_opening : Piece  -- the `(` behind a word, before names
+  An_opening : Piece  -- the `(` behind a word or a name, before names
 
 abbrev pub piece_text : Piece → List ℕ
 piece_text (A_name x) = x
@@ -109,6 +109,19 @@ transfer_pieces w x s = A_word w ∷ An_opening ∷ A_name x ∷ A_sign sign.Com
 abbrev pub binding_pieces : Word → Word → List ℕ → List Piece
 binding_pieces v w x = A_word v ∷ A_word w ∷ A_name x ∷ A_sign sign.Equals ∷ []
 
+-- names parted by commas
+abbrev pub more_names_pieces : List Name → List Piece
+more_names_pieces [] = []
+more_names_pieces (named x at ∷ xs) = A_sign sign.Comma ∷ A_name x ∷ more_names_pieces xs
+
+abbrev pub names_pieces : List Name → List Piece
+names_pieces [] = []
+names_pieces (named x at ∷ xs) = A_name x ∷ more_names_pieces xs
+
+-- `call` or `uncall`, a name, and names in parentheses
+abbrev pub call_pieces : Word → List ℕ → List Name → List Piece
+call_pieces w f xs = A_word w ∷ A_name f ∷ An_opening ∷ (names_pieces xs ++ A_sign sign.Close ∷ [])
+
 -- an expression in a place for operators of at most that level
 abbrev pub exp_pieces : Exp → ℕ → List Piece
 exp_pieces (Num n place) level = A_number n ∷ []
@@ -143,6 +156,8 @@ abbrev mutual
   stm_pieces (Loop e s t f) = A_word word.From ∷ (whole_pieces e ++ A_word word.Do ∷ (block_pieces s ++ A_word word.Loop ∷ (block_pieces t ++ A_word word.Until ∷ whole_pieces f)))
   stm_pieces (LocalInt (named x place) e s (named y at) f) = binding_pieces word.Local word.Int x ++ (whole_pieces e ++ (block_pieces s ++ (binding_pieces word.Delocal word.Int y ++ whole_pieces f)))
   stm_pieces (LocalStack (named x place) s (named y at)) = binding_pieces word.Local word.Stack x ++ A_word word.Nil ∷ (block_pieces s ++ (binding_pieces word.Delocal word.Stack y ++ A_word word.Nil ∷ []))
+  stm_pieces (Call (named f place) xs) = call_pieces word.Call f xs
+  stm_pieces (Uncall (named f place) xs) = call_pieces word.Uncall f xs
 
   pub block_pieces : Block → List Piece
   block_pieces Empty = []
@@ -157,14 +172,38 @@ abbrev pub declarations_pieces : List Declaration → List Piece
 declarations_pieces [] = []
 declarations_pieces (d ∷ ds) = declaration_pieces d ++ declarations_pieces ds
 
+-- parameters parted by commas
+abbrev pub parameter_pieces : Parameter → List Piece
+parameter_pieces (IntParameter (named x place)) = A_word word.Int ∷ A_name x ∷ []
+parameter_pieces (ArrayParameter (named x place)) = A_word word.Int ∷ A_name x ∷ A_sign sign.OpenIndex ∷ A_sign sign.CloseIndex ∷ []
+parameter_pieces (StackParameter (named x place)) = A_word word.Stack ∷ A_name x ∷ []
+
+abbrev pub more_parameters_pieces : List Parameter → List Piece
+more_parameters_pieces [] = []
+more_parameters_pieces (x ∷ xs) = A_sign sign.Comma ∷ (parameter_pieces x ++ more_parameters_pieces xs)
+
+abbrev pub parameters_pieces : List Parameter → List Piece
+parameters_pieces [] = []
+parameters_pieces (x ∷ xs) = parameter_pieces x ++ more_parameters_pieces xs
+
+abbrev pub procedure_pieces : Procedure → List Piece
+procedure_pieces (procedure_of (named f place) xs b) = A_word word.Procedure ∷ A_name f ∷ An_opening ∷ (parameters_pieces xs ++ A_sign sign.Close ∷ block_pieces b)
+
+abbrev pub procedures_pieces : List Procedure → List Piece
+procedures_pieces [] = []
+procedures_pieces (p ∷ ps) = procedure_pieces p ++ procedures_pieces ps
+
 abbrev pub cell_pieces : Cell → List Piece
-cell_pieces (cell_of ds b) = declarations_pieces ds ++ block_pieces b
+cell_pieces (cell_of ds b ps) = declarations_pieces ds ++ (block_pieces b ++ procedures_pieces ps)
 
 abbrev pub no_text : Printed
 no_text = record { text = []; tight = true }
 
 abbrev pub printed_exp : Exp → List ℕ
 printed_exp e = (with_pieces no_text (exp_pieces e weakest)).text
+
+abbrev pub printed_procedure : Procedure → List ℕ
+printed_procedure p = (with_pieces no_text (procedure_pieces p)).text
 
 abbrev pub printed : Cell → List ℕ
 printed c = (with_pieces no_text (cell_pieces c)).text

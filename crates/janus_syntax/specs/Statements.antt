@@ -1,18 +1,19 @@
 -- What the parser's functions on statements and declarations say of what they return. It serves the proofs.
-use Rattle.std.specs.Prelude.{◌≡◌, ℕ, ◌<◌, ◌≤◌, List, [], ◌∷◌, ◌++◌, length, Option, Some, None, Bool, true, false}
+use Rattle.std.specs.Prelude.{◌≡◌, ℕ, ◌<◌, ◌≤◌, List, [], ◌∷◌, ◌++◌, length, Option, Some, None, Bool, true, false, string_bytes}
 use Rattle.std.specs.Borrow.{Bor}
 use Rattle.janus_syntax.specs.declared.fault.What.TheVariants as what
 use Rattle.janus_syntax.specs.declared.token.Word.{Word}
 use Rattle.janus_syntax.specs.declared.token.Word.TheVariants as word
 use Rattle.janus_syntax.specs.declared.token.Token as code_token
+use Rattle.janus_syntax.specs.declared.tree.Name as code_name
 use Rattle.janus_syntax.specs.declared.tree.Kind.{Kind}
 use Rattle.janus_syntax.specs.declared.tree.Stm as code_stm
 use Rattle.janus_syntax.specs.declared.tree.Declaration as code_declaration
 use Rattle.janus_syntax.specs.Tokens.{Token, Name, Word_of, views}
 use Rattle.janus_syntax.specs.Tree.{Name as Named, Stm, If, Loop, Block, Empty, More, Declaration, stm_view, declaration_view}
-use Rattle.janus_syntax.specs.Forms.{Part, Body, Statements, Declarations, Bound, Whole, Else_part, Do_part, Loop_part, Target_index, An_update, Form, take, part, close}
-use Rattle.janus_syntax.specs.Table.{word_then, delocal_then, local_int, local_stack, statement, declaration, declared, assignment, skip_block}
-use Rattle.janus_syntax.specs.Grammar.{Count, all, operator_limit, Refusal, Expected}
+use Rattle.janus_syntax.specs.Forms.{Part, Body, Statements, Names, More_names, Declarations, Bound, Whole, Else_part, Do_part, Loop_part, Target_index, An_update, Form, take, part, close}
+use Rattle.janus_syntax.specs.Table.{word_then, call_then, delocal_then, local_int, local_stack, statement, declaration, declared, assignment, skip_block}
+use Rattle.janus_syntax.specs.Grammar.{Count, all, depth_limit, operator_limit, Refusal, Expected}
 use Rattle.janus_syntax.specs.Reader.{Stack, at, run, start, Outcome, Ended, outcome_of, next}
 use Rattle.janus_syntax.specs.Reading.{begun, count, BeginsWith, Stands, Moves, Stops, IsPart, FailsPart}
 
@@ -27,6 +28,8 @@ is_statement (Some (Word_of word.Local place)) = true
 is_statement (Some (Word_of word.Skip place)) = true
 is_statement (Some (Word_of word.Push place)) = true
 is_statement (Some (Word_of word.Pop place)) = true
+is_statement (Some (Word_of word.Call place)) = true
+is_statement (Some (Word_of word.Uncall place)) = true
 is_statement _ = false
 
 abbrev pub begin_statement : {goal p : Part} → List Token → (Stm → Form p) → Stack goal p → ℕ → ℕ → Outcome goal
@@ -80,6 +83,46 @@ pub record IsAssignment (depth : ℕ) (x : Named) (s : Stm) (from rest : List To
 
 abbrev pub FailsAssignment : ℕ → Named → List Token → Refusal → Type 0
 FailsAssignment depth x from e = (p : Part) (k : Stm → Form p) → Stops depth (assignment_form x k) from e
+
+-- ---- calls
+
+-- a name, or none at the front
+abbrev pub is_name : Option Token → Bool
+is_name (Some (Name x place)) = true
+is_name _ = false
+
+abbrev pub IsNameOrOther : List Token → Option (code_name.Name × Bor (List code_token.Token)) → Type 0
+IsNameOrOther from None = is_name (next from) ≡ false
+IsNameOrOther from (Some x) = from ≡ Name (string_bytes x.0.text) x.0.span ∷ views x.1.now
+
+-- names at the front, with any number of constructs open
+pub record AreNames (xs : List Named) (from rest : List Token) : Type 0 where
+  pub goes : (depth : ℕ) → depth ≤ depth_limit → (p : Part) (k : List Named → Form p) → Moves depth (part Names k) from (k xs) rest
+  pub shorter : length rest ≤ length from
+
+abbrev pub FailNames : List Token → Refusal → Type 0
+FailNames from e = (depth : ℕ) → depth ≤ depth_limit → (p : Part) (k : List Named → Form p) → Stops depth (part Names k) from e
+
+-- In the midst of names: the machine stands at more of them.
+pub record AtNames (depth : ℕ) (xs : List Named) (goal : Part) (out : Outcome goal) (rest : List Token) (p : Part) (k : List Named → Form p) (S : Stack goal p) : Type 0 where
+  pub other : Part
+  pub form : List Named → Form other
+  pub stack : Stack goal other
+  pub stands : Stands depth out rest (part More_names form) stack
+  pub onward : (ys : List Named) (ts : List Token) (u : ℕ) → run all ts (at (form ys) stack (count depth u)) ≡ run all ts (at (k (xs ++ ys)) S (count depth u))
+
+-- names read so far
+pub record AreNamed (xs : List Named) (from rest : List Token) : Type 0 where
+  pub goes : (depth : ℕ) → depth ≤ depth_limit → (p : Part) (k : List Named → Form p) (goal : Part) (S : Stack goal p) (u : ℕ) → u ≤ operator_limit → AtNames depth xs goal (run all from (at (part Names k) S (count depth u))) rest p k S
+  pub shorter : length rest ≤ length from
+
+-- a name, and behind it names in parentheses
+pub record IsCall (f : Named) (xs : List Named) (from rest : List Token) : Type 0 where
+  pub goes : (depth : ℕ) → depth ≤ depth_limit → (p : Part) (k : Named → List Named → Form p) → Moves depth (call_then k) from (k f xs) rest
+  pub shorter : length rest < length from
+
+abbrev pub FailsCall : List Token → Refusal → Type 0
+FailsCall from e = (depth : ℕ) → depth ≤ depth_limit → (p : Part) (k : Named → List Named → Form p) → Stops depth (call_then k) from e
 
 -- ---- locals
 

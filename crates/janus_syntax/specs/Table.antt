@@ -1,7 +1,7 @@
 -- The grammar's table: what each part is, by its first token, and which parts may be left out, as which tree.
 -- A rule is read aloud along its line: `if`, a whole expression e, `then`, a body s, the `else` part t, `fi`, a
 -- whole expression f: If e s t f.
-use Rattle.std.specs.Prelude.{ℕ, zero, suc, ◌-◌, [], ◌∷◌, Option, Some, None, true, false, cond, nat_eq}
+use Rattle.std.specs.Prelude.{ℕ, zero, suc, ◌-◌, List, [], ◌∷◌, ◌++◌, Option, Some, None, Bool, true, false, cond, nat_eq}
 use Rattle.janus_syntax.specs.declared.token.Span.{Span}
 use Rattle.janus_syntax.specs.declared.token.Sign.{Sign}
 use Rattle.janus_syntax.specs.declared.token.Sign.TheVariants as sign
@@ -14,9 +14,9 @@ use Rattle.janus_syntax.specs.declared.tree.Kind.TheVariants as kind
 use Rattle.janus_syntax.specs.declared.fault.What.{What}
 use Rattle.janus_syntax.specs.declared.fault.What.TheVariants as what
 use Rattle.janus_syntax.specs.Tokens.{Token, Name, Number, Sign_of, Word_of}
-use Rattle.janus_syntax.specs.Tree.{Name as Named, named, Exp, Num, Var, Element, EmptyOf, TopOf, Neg, Stm, Skip, Assign, AssignElement, Push, Pop, If, Loop, LocalInt, LocalStack, Block, Empty, More, Declaration, Int, Array, StackOf, Cell, cell_of}
+use Rattle.janus_syntax.specs.Tree.{Name as Named, named, Exp, Num, Var, Element, EmptyOf, TopOf, Neg, Stm, Skip, Assign, AssignElement, Push, Pop, If, Loop, LocalInt, LocalStack, Call, Uncall, Block, Empty, More, Declaration, Int, Array, StackOf, Parameter, IntParameter, ArrayParameter, StackParameter, Procedure, procedure_of, Cell, cell_of}
 use Rattle.janus_syntax.specs.Operators.{weakest, joined, operator_at}
-use Rattle.janus_syntax.specs.Forms.{Part, A_cell, Declarations, Bound, Body, Statements, Else_part, Do_part, Loop_part, Local, Target_index, Whole, Level, Chain, Index, Tree, The_word, The_sign, A_name, A_number, An_update, Same_kind, Same_name, Form, done, take, part, close, Rule}
+use Rattle.janus_syntax.specs.Forms.{Part, A_cell, Declarations, Bound, Procedures, A_procedure, Parameters, More_parameters, A_parameter, Brackets, Body, Statements, Else_part, Do_part, Loop_part, Local, Names, More_names, Target_index, Whole, Level, Chain, Index, Tree, The_word, The_sign, A_name, A_number, An_update, Same_kind, Same_name, Form, done, take, part, close, Rule}
 
 -- rules with and without marks
 abbrev pub marked : {p : Part} → ℕ → ℕ → Form p → Option (Rule p)
@@ -61,6 +61,10 @@ local_int k = take A_name (λ x. sign_then sign.Equals (part Whole (λ e. part B
 abbrev pub local_stack : {p : Part} → (Stm → Form p) → Form p
 local_stack k = take A_name (λ x. sign_then sign.Equals (word_then word.Nil (part Body (λ s. delocal_then kind.Stack x (λ y. word_then word.Nil (k (LocalStack x s y)))))))
 
+-- a name, and behind it names in parentheses
+abbrev pub call_then : {p : Part} → (Named → List Named → Form p) → Form p
+call_then k = take A_name (λ f. sign_then sign.Open (part Names (λ xs. sign_then sign.Close (k f xs))))
+
 -- trees of optional parts
 
 abbrev pub variable : Named → Option Exp → Exp
@@ -75,8 +79,26 @@ abbrev pub declared : Named → Option (ℕ × Span) → Declaration
 declared x None = Int x
 declared x (Some n) = Array x n.0 n.1
 
+abbrev pub parameter : Named → Bool → Parameter
+parameter x false = IntParameter x
+parameter x true = ArrayParameter x
+
 abbrev pub nothing : Cell
-nothing = cell_of [] Empty
+nothing = cell_of [] Empty []
+
+-- a cell with one procedure more
+abbrev pub with_procedure : Cell → Procedure → Cell
+with_procedure (cell_of ds b ps) p = cell_of ds b (ps ++ p ∷ [])
+
+-- the declarations and the statements of `main`, and the procedures of a cell
+abbrev pub with_main : List Declaration → Block → Cell → Cell
+with_main ds b (cell_of es c ps) = cell_of ds b ps
+
+-- where a cell has neither declarations nor statements, one of its procedures may be `main`
+abbrev pub is_bare : List Declaration → Block → Bool
+is_bare [] Empty = true
+is_bare [] (More s b) = false
+is_bare (d ∷ ds) b = false
 
 abbrev pub skip_block : Block
 skip_block = More Skip Empty
@@ -107,6 +129,8 @@ statement (Name x at) k = begins (part Target_index (λ i. take An_update (λ u.
 statement (Word_of word.If _) k = opens (part Whole (λ e. word_then word.Then (part Body (λ s. part Else_part (λ t. word_then word.Fi (part Whole (λ f. close (k (If e s t f)))))))))
 statement (Word_of word.From _) k = opens (part Whole (λ e. part Do_part (λ s. part Loop_part (λ t. word_then word.Until (part Whole (λ f. close (k (Loop e s t f))))))))
 statement (Word_of word.Local _) k = opens (part Local (λ s. close (k s)))
+statement (Word_of word.Call _) k = begins (call_then (λ f xs. k (Call f xs)))
+statement (Word_of word.Uncall _) k = begins (call_then (λ f xs. k (Uncall f xs)))
 statement (Word_of word.Skip _) k = begins (k Skip)
 statement (Word_of word.Push _) k = begins (variable_and_stack_then (λ x s. k (Push x s)))
 statement (Word_of word.Pop _) k = begins (variable_and_stack_then (λ x s. k (Pop x s)))
@@ -117,12 +141,36 @@ declaration (Word_of word.Int _) k = begins (take A_name (λ x. part Bound (λ n
 declaration (Word_of word.Stack _) k = begins (take A_name (λ s. k (StackOf s)))
 declaration _ k = None
 
+abbrev pub a_parameter : {p : Part} → Token → (Parameter → Form p) → Option (Rule p)
+a_parameter (Word_of word.Int _) k = begins (take A_name (λ x. part Brackets (λ b. k (parameter x b))))
+a_parameter (Word_of word.Stack _) k = begins (take A_name (λ s. k (StackParameter s)))
+a_parameter _ k = None
+
+-- a procedure behind its name
+abbrev pub behind_name : {p : Part} → Named → (Procedure → Form p) → Form p
+behind_name f k = sign_then sign.Open (part Parameters (λ xs. sign_then sign.Close (part Body (λ b. k (procedure_of f xs b)))))
+
+-- `main` behind its name
+abbrev pub behind_main : {p : Part} → (List Declaration → Block → Form p) → Form p
+behind_main k = sign_then sign.Open (sign_then sign.Close (part Declarations (λ ds. part Statements (λ b. k ds b))))
+
 -- What a part is behind its first token.
 abbrev pub rule : (p : Part) → Token → Option (Rule p)
 rule A_cell t = None
 rule Declarations t = declaration t (λ d. part Declarations (λ ds. done (d ∷ ds)))
 rule Bound (Sign_of sign.OpenIndex _) = begins (take A_number (λ n. sign_then sign.CloseIndex (done (Some n))))
 rule Bound _ = None
+rule (Procedures main c) (Word_of word.Procedure _) = begins (part (A_procedure main c) done)
+rule (Procedures main c) _ = None
+rule (A_procedure main c) (Name f at) = begins (behind_name (named f at) (λ p. part (Procedures main (with_procedure c p)) done))
+rule (A_procedure true c) (Word_of word.Main _) = begins (behind_main (λ ds b. part (Procedures false (with_main ds b c)) done))
+rule (A_procedure main c) _ = None
+rule Parameters t = a_parameter t (λ x. part More_parameters (λ xs. done (x ∷ xs)))
+rule More_parameters (Sign_of sign.Comma _) = begins (part A_parameter (λ x. part More_parameters (λ xs. done (x ∷ xs))))
+rule More_parameters _ = None
+rule A_parameter t = a_parameter t done
+rule Brackets (Sign_of sign.OpenIndex _) = begins (sign_then sign.CloseIndex (done true))
+rule Brackets _ = None
 rule Body t = statement t (λ s. part Statements (λ b. done (More s b)))
 rule Statements t = statement t (λ s. part Statements (λ b. done (More s b)))
 rule Else_part (Word_of word.Else _) = begins (part Body done)
@@ -134,6 +182,10 @@ rule Loop_part _ = None
 rule Local (Word_of word.Int _) = begins (local_int done)
 rule Local (Word_of word.Stack _) = begins (local_stack done)
 rule Local _ = None
+rule Names (Name x at) = begins (part More_names (λ xs. done (named x at ∷ xs)))
+rule Names _ = None
+rule More_names (Sign_of sign.Comma _) = begins (take A_name (λ x. part More_names (λ xs. done (x ∷ xs))))
+rule More_names _ = None
 rule Target_index (Sign_of sign.OpenIndex _) = opens (part Whole (λ e. sign_then sign.CloseIndex (close (done (Some e)))))
 rule Target_index _ = None
 rule Whole t = whole (operand t (λ e. chains 0 weakest e done))
@@ -147,12 +199,20 @@ abbrev pub left_out : (p : Part) → Option (Tree p)
 left_out A_cell = Some nothing
 left_out Declarations = Some []
 left_out Bound = Some None
+left_out (Procedures main c) = Some c
+left_out (A_procedure main c) = None
+left_out Parameters = Some []
+left_out More_parameters = Some []
+left_out A_parameter = None
+left_out Brackets = Some false
 left_out Body = None
 left_out Statements = Some Empty
 left_out Else_part = Some skip_block
 left_out Do_part = Some skip_block
 left_out Loop_part = Some skip_block
 left_out Local = None
+left_out Names = Some []
+left_out More_names = Some []
 left_out Target_index = Some None
 left_out Whole = None
 left_out (Level n) = None
@@ -161,6 +221,8 @@ left_out Index = Some None
 
 -- how a part is told that may not be left out
 abbrev pub label : Part → What
+label (A_procedure main c) = what.Name
+label A_parameter = what.Kind
 label Body = what.Statement
 label Local = what.Kind
 label Whole = what.Expression

@@ -10,6 +10,9 @@ use Rattle.janus_syntax.specs.declared.tree.Stm as code_stm
 use Rattle.janus_syntax.specs.declared.tree.Stm.TheVariants as stms
 use Rattle.janus_syntax.specs.declared.tree.Declaration as code_declaration
 use Rattle.janus_syntax.specs.declared.tree.Declaration.TheVariants as declarations
+use Rattle.janus_syntax.specs.declared.tree.Parameter as code_parameter
+use Rattle.janus_syntax.specs.declared.tree.Parameter.TheVariants as parameters
+use Rattle.janus_syntax.specs.declared.tree.Procedure as code_procedure
 use Rattle.janus_syntax.specs.declared.tree.Cell as code_cell
 
 -- a name is its octets, and the place where they stand
@@ -40,6 +43,8 @@ mutual
     Loop : Exp → Block → Block → Exp → Stm
     LocalInt : Name → Exp → Block → Name → Exp → Stm
     LocalStack : Name → Block → Name → Stm
+    Call : Name → List Name → Stm
+    Uncall : Name → List Name → Stm
 
   pub data Block : Type 0 where
     Empty : Block
@@ -50,14 +55,26 @@ pub data Declaration : Type 0 where
   Array : Name → ℕ → Span → Declaration
   StackOf : Name → Declaration
 
--- a cell: the declarations, and the statements
+pub data Parameter : Type 0 where
+  IntParameter : Name → Parameter
+  ArrayParameter : Name → Parameter
+  StackParameter : Name → Parameter
+
+-- the name, the parameters, and the body
+pub data Procedure : Type 0 where
+  procedure_of : Name → List Parameter → Block → Procedure
+
+-- a cell: the declarations, the statements, and the procedures
 pub data Cell : Type 0 where
-  cell_of : List Declaration → Block → Cell
+  cell_of : List Declaration → Block → List Procedure → Cell
 
 -- how the code's values are seen
 
 abbrev pub name_view : code_name.Name → Name
 name_view x = named (string_bytes x.text) x.span
+
+abbrev pub names_view : List code_name.Name → List Name
+names_view xs = map name_view xs
 
 abbrev pub exp_view : code_exp.Exp → Exp
 exp_view (exps.Number n at) = Num n at
@@ -81,6 +98,8 @@ abbrev mutual
   stm_view (stms.Loop' e s ss t ts f) = Loop (exp_view e) (row_view ss) (row_view ts) (exp_view f)
   stm_view (stms.LocalInt' x e s ss y f) = LocalInt (name_view x) (exp_view e) (row_view ss) (name_view y) (exp_view f)
   stm_view (stms.LocalStack' x s ss y) = LocalStack (name_view x) (row_view ss) (name_view y)
+  stm_view (stms.Call f xs) = Call (name_view f) (names_view xs.items)
+  stm_view (stms.Uncall f xs) = Uncall (name_view f) (names_view xs.items)
 
   -- the statements of a Vec inside a statement
   pub row_view : {m : _} → code_stm.Row_of-Stm m → Block
@@ -99,5 +118,19 @@ declaration_view (declarations.Stack x) = StackOf (name_view x)
 abbrev pub declarations_view : List code_declaration.Declaration → List Declaration
 declarations_view ds = map declaration_view ds
 
+abbrev pub parameter_view : code_parameter.Parameter → Parameter
+parameter_view (parameters.Int x) = IntParameter (name_view x)
+parameter_view (parameters.Array x) = ArrayParameter (name_view x)
+parameter_view (parameters.Stack x) = StackParameter (name_view x)
+
+abbrev pub parameters_view : List code_parameter.Parameter → List Parameter
+parameters_view xs = map parameter_view xs
+
+abbrev pub procedure_view : code_procedure.Procedure → Procedure
+procedure_view p = procedure_of (name_view p.name) (parameters_view p.parameters.items) (block_view p.body.items)
+
+abbrev pub procedures_view : List code_procedure.Procedure → List Procedure
+procedures_view ps = map procedure_view ps
+
 abbrev pub cell_view : code_cell.Cell → Cell
-cell_view c = cell_of (declarations_view c.declarations.items) (block_view c.statements.items)
+cell_view c = cell_of (declarations_view c.declarations.items) (block_view c.statements.items) (procedures_view c.procedures.items)

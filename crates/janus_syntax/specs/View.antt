@@ -1,9 +1,9 @@
 -- Trees with places read as trees of the meaning: the places are left out.
-use Rattle.std.specs.Prelude.{List, [], map, pos, string_bytes}
+use Rattle.std.specs.Prelude.{List, map, pos, string_bytes}
 use Rattle.janus_meaning.specs.Syntax as tree
 use Rattle.janus_meaning.specs.Word as word
 use Rattle.janus_meaning.specs.World as world
-use Rattle.janus_syntax.specs.Tree.{Name, named, Exp, Num, Var, Element, EmptyOf, TopOf, Neg, Bin, And, Or, Stm, Skip, Assign, AssignElement, Push, Pop, If, Loop, LocalInt, LocalStack, Block, Empty, More, Declaration, Int, Array, StackOf, Cell, cell_of, exp_view, stm_view, block_view}
+use Rattle.janus_syntax.specs.Tree.{Name, named, Exp, Num, Var, Element, EmptyOf, TopOf, Neg, Bin, And, Or, Stm, Skip, Assign, AssignElement, Push, Pop, If, Loop, LocalInt, LocalStack, Call, Uncall, Block, Empty, More, Declaration, Int, Array, StackOf, Parameter, IntParameter, ArrayParameter, StackParameter, Procedure, procedure_of, Cell, cell_of, exp_view, stm_view, block_view}
 use Rattle.janus_syntax.specs.declared.tree.Name as code_name
 use Rattle.janus_syntax.specs.declared.tree.Operator.{Operator}
 use Rattle.janus_syntax.specs.declared.tree.Operator.TheVariants as operators
@@ -60,6 +60,8 @@ abbrev mutual
   plain_stm (Loop a s t b) = tree.From (plain_exp a) (plain_block s) (plain_block t) (plain_exp b)
   plain_stm (LocalInt x a s y b) = tree.LocalInt (text_of x) (plain_exp a) (plain_block s) (plain_exp b)
   plain_stm (LocalStack x s y) = tree.LocalStack (text_of x) (plain_block s)
+  plain_stm (Call f xs) = tree.Call (text_of f) (map text_of xs)
+  plain_stm (Uncall f xs) = tree.Uncall (text_of f) (map text_of xs)
 
   pub plain_block : Block → tree.Blk
   plain_block Empty = tree.Nil
@@ -70,9 +72,17 @@ plain_declaration (Int x) = world.DeclareInt (text_of x)
 plain_declaration (Array a n at) = world.DeclareArray (text_of a) n
 plain_declaration (StackOf x) = world.DeclareStack (text_of x)
 
+abbrev pub plain_parameter : Parameter → tree.Name × tree.Kind
+plain_parameter (IntParameter x) = (text_of x, tree.ANumber)
+plain_parameter (ArrayParameter x) = (text_of x, tree.AnArray)
+plain_parameter (StackParameter x) = (text_of x, tree.AStack)
+
+abbrev pub plain_procedure : Procedure → tree.Proc
+plain_procedure (procedure_of f xs b) = record { name = text_of f; params = map plain_parameter xs; body = plain_block b }
+
 -- a cell as one of the meaning
 abbrev pub plain_cell : Cell → world.Cell
-plain_cell (cell_of ds b) = record { declarations = map plain_declaration ds; procedures = []; block = plain_block b }
+plain_cell (cell_of ds b ps) = record { declarations = map plain_declaration ds; procedures = map plain_procedure ps; block = plain_block b }
 
 -- ---- the code's trees without places
 

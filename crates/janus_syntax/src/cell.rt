@@ -1,7 +1,8 @@
 //! Declarations and cells.
 
 ghost use Rattle.std.specs.Prelude.{◌≡◌, []};
-ghost use Rattle.janus_syntax.specs.Tree.{Cell as Tree, Exp as ExpTree, name_view, exp_view, cell_view, declaration_view, declarations_view};
+ghost use Rattle.janus_syntax.specs.Tree.{Cell as Tree, Exp as ExpTree, name_view, exp_view, cell_view, declaration_view, declarations_view, block_view};
+ghost use Rattle.janus_syntax.specs.Table.{is_bare};
 ghost use Rattle.janus_syntax.specs.Tokens.{views};
 ghost use Rattle.janus_syntax.specs.Forms.{A_cell, Whole, Declarations};
 ghost use Rattle.janus_syntax.specs.Grammar.{all, IsTree, IsRefused};
@@ -12,9 +13,10 @@ use crate::expression::whole_expression;
 use crate::fault::What;
 use crate::item::{behind_sign, name, number, sign_at, word_at};
 use crate::problem::Problem;
+use crate::procedure::procedures;
 use crate::statement::statements;
 use crate::token::{Sign, Token, Word};
-use crate::tree::{Cell, Declaration, Exp, Name};
+use crate::tree::{Cell, Declaration, Exp, Name, Stm};
 use std::alloc::Global;
 
 /// A declaration and the tokens behind it, if one begins here.
@@ -46,7 +48,10 @@ fn bound(name: Name, tokens: &[Token]) -> Result<(Declaration, &[Token]), Proble
 }
 
 /// All declarations that stand here, and the tokens behind them.
-fn declarations(alloc: Global, tokens: &[Token]) -> Result<(Vec<Declaration>, &[Token]), Problem>
+pub(crate) fn declarations(
+    alloc: Global,
+    tokens: &[Token],
+) -> Result<(Vec<Declaration>, &[Token]), Problem>
     ensures { Reads (λ x. IsPart Declarations 0 (declarations_view x.0.items) (views tokens.now) (views x.1.now)) (FailsPart Declarations 0 (views tokens.now)) result }
 {
     let mut declarations = Vec::new(alloc);
@@ -72,6 +77,17 @@ fn end(tokens: &[Token]) -> Result<(), Problem>
     }
 }
 
+/// Whether there are neither declarations nor statements.
+fn is_bare(declarations: &[Declaration], statements: &[Stm]) -> bool
+    ensures { result ≡ is_bare (declarations_view declarations.now) (block_view statements.now) }
+{
+    if declarations.is_empty() {
+        statements.is_empty()
+    } else {
+        false
+    }
+}
+
 /// The cell that the tokens spell.
 pub(crate) fn cell(alloc: Global, tokens: &[Token]) -> Result<Cell, Problem>
     // What is read is the tokens' tree, and a refusal is the one that the grammar has.
@@ -88,11 +104,15 @@ fn all_tokens_cell(alloc: Global, tokens: &[Token]) -> Result<Cell, Problem>
 {
     let (declarations, rest) = declarations(alloc, tokens)?;
     let (statements, rest) = statements(alloc, rest)?;
-    end(rest)?;
-    Ok(Cell {
+    let main = is_bare(&declarations, &statements);
+    let read = Cell {
         declarations,
         statements,
-    })
+        procedures: Vec::new(alloc),
+    };
+    let (cell, rest) = procedures(alloc, read, main, rest)?;
+    end(rest)?;
+    Ok(cell)
 }
 
 /// The expression that the tokens spell.

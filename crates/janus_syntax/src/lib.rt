@@ -22,10 +22,11 @@
 //! `View` (the trees as trees of the meaning), and `Fault` (what is shown of a refusal). No contract of a public function
 //! names `Reader`, `Reading`, `Statements`, `Printed` or `Scan`: they serve the proofs.
 //!
-//! A cell here has declarations of numbers, arrays and stacks, and assignments, `push`, `pop`, `if`, loops, locals and `skip`.
-//! The words of procedures, calls and `main` are reserved, but begin nothing.
+//! A cell here has declarations of numbers, arrays and stacks, then assignments, `push`, `pop`, `if`, loops, locals, `call`,
+//! `uncall` and `skip`, and then procedures; or it is a program of procedures, one of which is `main`.
 #![tactic(auto)]
 
+mod call;
 mod cell;
 mod expression;
 pub mod fault;
@@ -36,6 +37,7 @@ pub mod operator;
 mod parser;
 mod printer;
 mod problem;
+mod procedure;
 mod statement;
 pub mod token;
 pub mod tree;
@@ -44,4 +46,4 @@ pub use fault::SyntaxFault;
 pub use laws::{one_refusal_law, one_tokens_law, one_tree_law, tree_or_refusal_law, wanted_law};
 pub use lexer::tokens;
 pub use parser::{parse_cell, parse_exp};
-pub use printer::{print_cell, print_exp};
+pub use printer::{print_cell, print_exp, print_procedure};

@@ -1,13 +1,13 @@
 //! From a tree to its text.
 
 ghost use Rattle.std.specs.Prelude.{◌≡◌, IfOk, string_bytes, [], ◌∷◌};
-ghost use Rattle.janus_syntax.specs.Tree.{exp_view, stm_view, block_view, declaration_view, declarations_view, cell_view};
+ghost use Rattle.janus_syntax.specs.Tree.{names_view, exp_view, stm_view, block_view, declaration_view, declarations_view, parameter_view, parameters_view, procedure_view, procedures_view, cell_view};
 ghost use Rattle.janus_syntax.specs.Printed.{line_view};
-ghost use Rattle.janus_syntax.specs.Printing.{A_name, A_number, A_sign, A_word, An_opening, read_pieces, transfer_pieces, binding_pieces, with_text, with_piece, with_pieces, if_needed, operator_sign, sign_level, exp_pieces, update_sign, whole_pieces, stm_pieces, block_pieces, declaration_pieces, declarations_pieces, printed, printed_exp};
+ghost use Rattle.janus_syntax.specs.Printing.{A_name, A_number, A_sign, A_word, An_opening, read_pieces, transfer_pieces, binding_pieces, more_names_pieces, names_pieces, call_pieces, with_text, with_piece, with_pieces, if_needed, operator_sign, sign_level, exp_pieces, update_sign, whole_pieces, stm_pieces, block_pieces, declaration_pieces, declarations_pieces, parameter_pieces, more_parameters_pieces, parameters_pieces, procedure_pieces, procedures_pieces, printed, printed_procedure, printed_exp};
 
 use crate::operator::infix_of;
 use crate::token::{Sign, Word};
-use crate::tree::{Cell, Declaration, Exp, Name, Operator, Stm, Update};
+use crate::tree::{Cell, Declaration, Exp, Name, Operator, Parameter, Procedure, Stm, Update};
 use std::alloc::{AllocError, Global};
 
 /// A line as far as it is printed.
@@ -71,12 +71,19 @@ fn put_number(alloc: Global, line: &mut Line, number: u32) -> Result<(), AllocEr
     put(line, false, &digits, false)
 }
 
+/// The `(` behind a word or a name, before names.
+fn put_opening(line: &mut Line) -> Result<(), AllocError>
+    ensures { IfOk result (λ u. line_view line.new ≡ with_piece (line_view line.old) An_opening) }
+{
+    put(line, true, Sign::Open.text(), true)
+}
+
 /// A word, and behind it `(`.
 fn put_head(line: &mut Line, word: Word) -> Result<(), AllocError>
     ensures { IfOk result (λ u. line_view line.new ≡ with_pieces (line_view line.old) (A_word word ∷ An_opening ∷ [])) }
 {
     put_word(line, word)?;
-    put(line, true, Sign::Open.text(), true)
+    put_opening(line)
 }
 
 /// What is read of a stack: a word, and behind it the stack's name in parentheses.
@@ -112,6 +119,45 @@ fn put_binding(line: &mut Line, word: Word, kind: Word, name: &Name) -> Result<(
     put_word(line, kind)?;
     put_name(line, name)?;
     put_sign(line, Sign::Equals)
+}
+
+/// A comma and a name, for each of the names.
+fn put_more_names(line: &mut Line, names: &[Name]) -> Result<(), AllocError>
+    ensures { IfOk result (λ u. line_view line.new ≡ with_pieces (line_view line.old) (more_names_pieces (names_view names.now))) }
+{
+    for i in 0..names.len() {
+        put_sign(line, Sign::Comma)?;
+        put_name(line, &names[i])?;
+    }
+    Ok(())
+}
+
+/// Names, parted by commas.
+fn put_names(line: &mut Line, names: &[Name]) -> Result<(), AllocError>
+    ensures { IfOk result (λ u. line_view line.new ≡ with_pieces (line_view line.old) (names_pieces (names_view names.now))) }
+{
+    let Some((first, rest)) = names.split_first() else {
+        return Ok(());
+    };
+    put_name(line, first)?;
+    put_more_names(line, rest)
+}
+
+/// `call` or `uncall`, a name, and names in parentheses.
+fn put_call(
+    line: &mut Line,
+    word: Word,
+    procedure: &Name,
+    arguments: &[Name],
+) -> Result<(), AllocError>
+    ensures { IfOk result (λ u. line_view line.new ≡ with_pieces (line_view line.old) (call_pieces word (string_bytes procedure.now.text) (names_view arguments.now))) }
+{
+    put_word(line, word)?;
+    put_name(line, procedure)?;
+    put_opening(line)?;
+    put_names(line, arguments)?;
+    put_sign(line, Sign::Close)?;
+    Ok(())
 }
 
 /// The sign of an operator.
@@ -274,6 +320,8 @@ fn put_stm(alloc: Global, line: &mut Line, statement: &Stm) -> Result<(), AllocE
             put_word(line, Word::Nil)?;
             Ok(())
         }
+        Stm::Call(procedure, arguments) => put_call(line, Word::Call, procedure, arguments),
+        Stm::Uncall(procedure, arguments) => put_call(line, Word::Uncall, procedure, arguments),
     }
 }
 
@@ -333,6 +381,90 @@ fn put_declarations(
     Ok(())
 }
 
+/// A parameter.
+fn put_parameter(line: &mut Line, parameter: &Parameter) -> Result<(), AllocError>
+    ensures { IfOk result (λ u. line_view line.new ≡ with_pieces (line_view line.old) (parameter_pieces (parameter_view parameter.now))) }
+{
+    match parameter {
+        Parameter::Int(name) => {
+            put_word(line, Word::Int)?;
+            put_name(line, name)
+        }
+        Parameter::Array(name) => {
+            put_word(line, Word::Int)?;
+            put_name(line, name)?;
+            put_sign(line, Sign::OpenIndex)?;
+            put_sign(line, Sign::CloseIndex)
+        }
+        Parameter::Stack(name) => {
+            put_word(line, Word::Stack)?;
+            put_name(line, name)
+        }
+    }
+}
+
+/// A comma and a parameter, for each of the parameters.
+fn put_more_parameters(line: &mut Line, parameters: &[Parameter]) -> Result<(), AllocError>
+    ensures { IfOk result (λ u. line_view line.new ≡ with_pieces (line_view line.old) (more_parameters_pieces (parameters_view parameters.now))) }
+{
+    for i in 0..parameters.len() {
+        put_sign(line, Sign::Comma)?;
+        put_parameter(line, &parameters[i])?;
+    }
+    Ok(())
+}
+
+/// Parameters, parted by commas.
+fn put_parameters(line: &mut Line, parameters: &[Parameter]) -> Result<(), AllocError>
+    ensures { IfOk result (λ u. line_view line.new ≡ with_pieces (line_view line.old) (parameters_pieces (parameters_view parameters.now))) }
+{
+    let Some((first, rest)) = parameters.split_first() else {
+        return Ok(());
+    };
+    put_parameter(line, first)?;
+    put_more_parameters(line, rest)?;
+    Ok(())
+}
+
+/// A procedure.
+fn put_procedure(alloc: Global, line: &mut Line, procedure: &Procedure) -> Result<(), AllocError>
+    ensures { IfOk result (λ u. line_view line.new ≡ with_pieces (line_view line.old) (procedure_pieces (procedure_view procedure.now))) }
+{
+    put_word(line, Word::Procedure)?;
+    put_name(line, &procedure.name)?;
+    put_opening(line)?;
+    put_parameters(line, &procedure.parameters)?;
+    put_sign(line, Sign::Close)?;
+    put_block(alloc, line, &procedure.body)?;
+    Ok(())
+}
+
+/// All procedures.
+fn put_procedures(
+    alloc: Global,
+    line: &mut Line,
+    procedures: &[Procedure],
+) -> Result<(), AllocError>
+    ensures { IfOk result (λ u. line_view line.new ≡ with_pieces (line_view line.old) (procedures_pieces (procedures_view procedures.now))) }
+{
+    for i in 0..procedures.len() {
+        put_procedure(alloc, line, &procedures[i])?;
+    }
+    Ok(())
+}
+
+/// The procedure as it is printed, as in the print of a cell; an error for want of memory.
+pub fn print_procedure(alloc: Global, procedure: &Procedure) -> Result<String, AllocError>
+    ensures { IfOk result (λ text. string_bytes text ≡ printed_procedure (procedure_view procedure.now)) }
+{
+    let mut line = Line {
+        text: String::new(alloc),
+        tight: true,
+    };
+    put_procedure(alloc, &mut line, procedure)?;
+    Ok(line.text)
+}
+
 /// The cell as it is printed: one line, all parts told, with parentheses only where precedence needs them; an error for want
 /// of memory.
 pub fn print_cell(alloc: Global, cell: &Cell) -> Result<String, AllocError>
@@ -344,6 +476,7 @@ pub fn print_cell(alloc: Global, cell: &Cell) -> Result<String, AllocError>
     };
     put_declarations(alloc, &mut line, &cell.declarations)?;
     put_block(alloc, &mut line, &cell.statements)?;
+    put_procedures(alloc, &mut line, &cell.procedures)?;
     Ok(line.text)
 }
 

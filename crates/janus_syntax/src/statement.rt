@@ -8,6 +8,7 @@ ghost use Rattle.janus_syntax.specs.Grammar.{depth_limit};
 ghost use Rattle.janus_syntax.specs.Reading.{Reads, IsPart, FailsPart};
 ghost use Rattle.janus_syntax.specs.Statements.{IsStmOrOther, FailsStm, IsAssignment, FailsAssignment, IsIf, FailsIf, IsLoop, FailsLoop, IsLocalInt, FailsLocalInt, IsLocalStack, FailsLocalStack, AreStatements, IsOptional, FailsOptional};
 
+use crate::call::call;
 use crate::expression::{DEPTH_LIMIT, whole_expression};
 use crate::fault::What;
 use crate::item::{
@@ -63,6 +64,14 @@ fn statement(
                 }
                 let (stm, rest) = behind_from(alloc, rest, depth + 1)?;
                 Ok(Some((stm, rest)))
+            }
+            Word::Call => {
+                let (procedure, arguments, rest) = call(alloc, rest)?;
+                Ok(Some((Stm::Call(procedure, arguments), rest)))
+            }
+            Word::Uncall => {
+                let (procedure, arguments, rest) = call(alloc, rest)?;
+                Ok(Some((Stm::Uncall(procedure, arguments), rest)))
             }
             Word::Local => {
                 if depth == DEPTH_LIMIT {
@@ -202,7 +211,11 @@ fn optional_body(
 
 /// One statement or more, and the tokens behind them.
 #[cycle(statement)]
-fn body(alloc: Global, tokens: &[Token], depth: usize) -> Result<(Vec<Stm>, &[Token]), Problem>
+pub(crate) fn body(
+    alloc: Global,
+    tokens: &[Token],
+    depth: usize,
+) -> Result<(Vec<Stm>, &[Token]), Problem>
     requires { depth ≤ depth_limit }
     ensures { Reads (λ x. IsPart Body depth (block_view x.0.items) (views tokens.now) (views x.1.now)) (FailsPart Body depth (views tokens.now)) result }
 {

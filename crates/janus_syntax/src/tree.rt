@@ -138,6 +138,10 @@ pub enum Stm {
     LocalInt(Name, Exp, Vec<Stm>, Name, Exp),
     /// A local stack, empty at both ends: its name, the statements in which it stands, and the same name behind `delocal`.
     LocalStack(Name, Vec<Stm>, Name),
+    /// A call: the procedure's name, and the arguments.
+    Call(Name, Vec<Name>),
+    /// A call of the inverse: the procedure's name, and the arguments.
+    Uncall(Name, Vec<Name>),
 }
 
 /// What a cell declares.
@@ -149,9 +153,27 @@ pub enum Declaration {
     Stack(Name),
 }
 
-/// A cell: its declarations and behind them its statements.
+/// A parameter of a procedure: its name, and what it stands for.
+#[derive(Drop)]
+pub enum Parameter {
+    Int(Name),
+    Array(Name),
+    Stack(Name),
+}
+
+/// A procedure: its name, its parameters, and the statements of its body.
+#[derive(Drop)]
+pub struct Procedure {
+    pub name: Name,
+    pub parameters: Vec<Parameter>,
+    pub body: Vec<Stm>,
+}
+
+/// A cell: its declarations, its statements and its procedures. Of a program with `main` they are those of `main`, and the
+/// other procedures.
 #[derive(Drop)]
 pub struct Cell {
     pub declarations: Vec<Declaration>,
     pub statements: Vec<Stm>,
+    pub procedures: Vec<Procedure>,
 }

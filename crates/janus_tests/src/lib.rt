@@ -18,6 +18,8 @@ mod inverting;
 #[cfg(test)]
 mod locals;
 #[cfg(test)]
+mod procedures;
+#[cfg(test)]
 mod questions;
 #[cfg(test)]
 mod reading;

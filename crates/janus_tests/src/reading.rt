@@ -59,10 +59,35 @@ fn at(start: usize, end: usize) -> Span {
 }
 
 /// Texts that are no cell, with the item that is wanted there.
-const WANTED: [(&str, What, usize, usize); 38] = [
+const WANTED: [(&str, What, usize, usize); 53] = [
     ("x += 1 int y", What::End, 7, 10),
     ("int x += 1", What::End, 6, 8),
-    ("skip call p()", What::End, 5, 9),
+    ("procedure", What::Name, 9, 9),
+    ("procedure p", What::Sign(Sign::Open), 11, 11),
+    ("procedure p(", What::Sign(Sign::Close), 12, 12),
+    ("procedure p(int x,", What::Kind, 18, 18),
+    (
+        "procedure p(int x[3]) skip",
+        What::Sign(Sign::CloseIndex),
+        18,
+        19,
+    ),
+    ("procedure p() int x skip", What::Statement, 14, 17),
+    ("procedure p() skip skip int x", What::End, 24, 27),
+    ("x += 1 procedure main() skip", What::Name, 17, 21),
+    ("int x procedure main() skip", What::Name, 16, 20),
+    (
+        "procedure main() skip procedure main() skip",
+        What::Name,
+        32,
+        36,
+    ),
+    ("skip call p", What::Sign(Sign::Open), 11, 11),
+    ("call (x)", What::Name, 5, 6),
+    ("call p(", What::Sign(Sign::Close), 7, 7),
+    ("uncall p(x y)", What::Sign(Sign::Close), 11, 12),
+    ("uncall p(x, )", What::Name, 12, 13),
+    ("uncall p(x, 1)", What::Name, 12, 13),
     ("int ", What::Name, 4, 4),
     ("int 3", What::Name, 4, 5),
     ("int a[]", What::Number, 6, 7),

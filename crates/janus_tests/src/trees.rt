@@ -1,6 +1,6 @@
 //! Texts, their trees, and the trees as they are printed.
-use janus_syntax::tree::{Declaration, Exp, Operator, Stm, Update};
-use janus_syntax::{SyntaxFault, parse_cell, parse_exp, print_cell, print_exp};
+use janus_syntax::tree::{Declaration, Exp, Name, Operator, Parameter, Procedure, Stm, Update};
+use janus_syntax::{SyntaxFault, parse_cell, parse_exp, print_cell, print_exp, print_procedure};
 use std::alloc::{AllocError, Global};
 use std::test::Fail;
 
@@ -122,7 +122,27 @@ fn shown_stm(alloc: Global, statement: &Stm) -> Result<String, AllocError> {
             let (name, again) = (&name.text, &again.text);
             format!(in alloc; "local {name} {{{body}}} {again};")
         }
+        Stm::Call(name, arguments) => {
+            let names = shown_names(alloc, arguments)?;
+            let name = &name.text;
+            format!(in alloc; "call {name}{names};")
+        }
+        Stm::Uncall(name, arguments) => {
+            let names = shown_names(alloc, arguments)?;
+            let name = &name.text;
+            format!(in alloc; "uncall {name}{names};")
+        }
     }
+}
+
+/// The names, each behind a space.
+fn shown_names(alloc: Global, names: &[Name]) -> Result<String, AllocError> {
+    let mut out = String::new(alloc);
+    for name in names {
+        out.push(' ')?;
+        out.push_str(&name.text)?;
+    }
+    Ok(out)
 }
 
 /// The statements of a block.
@@ -135,7 +155,7 @@ fn shown_block(alloc: Global, block: &[Stm]) -> Result<String, AllocError> {
     Ok(out)
 }
 
-/// The cell that a text is, its declarations and then its statements.
+/// The cell that a text is: its declarations, its statements and its procedures.
 fn shown(alloc: Global, text: &str) -> Result<String, SyntaxFault> {
     let cell = parse_cell(alloc, text)?;
     let mut out = String::new(alloc);
@@ -156,11 +176,39 @@ fn shown(alloc: Global, text: &str) -> Result<String, SyntaxFault> {
         })?;
     }
     out.push_str(&shown_block(alloc, &cell.statements)?)?;
+    for i in 0..cell.procedures.len() {
+        out.push_str(&shown_procedure(alloc, &cell.procedures[i])?)?;
+    }
+    Ok(out)
+}
+
+/// A procedure: its name, its parameters and its body.
+fn shown_procedure(alloc: Global, procedure: &Procedure) -> Result<String, AllocError> {
+    let name = &procedure.name.text;
+    let mut out = format!(in alloc; "procedure {name}")?;
+    for parameter in &procedure.parameters {
+        out.push_str(&match parameter {
+            Parameter::Int(name) => {
+                let name = &name.text;
+                format!(in alloc; " int {name}")?
+            }
+            Parameter::Array(name) => {
+                let name = &name.text;
+                format!(in alloc; " array {name}")?
+            }
+            Parameter::Stack(name) => {
+                let name = &name.text;
+                format!(in alloc; " stack {name}")?
+            }
+        })?;
+    }
+    let body = shown_block(alloc, &procedure.body)?;
+    out.push_str(&format!(in alloc; " {{{body}}};")?)?;
     Ok(out)
 }
 
 /// Texts of cells, their trees, and how these are printed.
-const CELLS: [(&str, &str, &str); 15] = [
+const CELLS: [(&str, &str, &str); 18] = [
     ("", "", ""),
     (" // nothing\n//", "", ""),
     (
@@ -224,6 +272,21 @@ const CELLS: [(&str, &str, &str); 15] = [
         "local stack s = nil local int t = 3 push(t, s) pop(t, s) delocal int t = 3 delocal stack s = nil",
     ),
     (
+        "call p()uncall p ( x )call q(x,y,z)",
+        "call p;uncall p x;call q x y z;",
+        "call p() uncall p(x) call q(x, y, z)",
+    ),
+    (
+        "int x skip procedure p()skip x+=1 procedure q ( int a[ ] , stack s,int y)call p()",
+        "int x;skip;procedure p {skip;x += 1;};procedure q array a stack s int y {call p;};",
+        "int x skip procedure p() skip x += 1 procedure q(int a[], stack s, int y) call p()",
+    ),
+    (
+        "procedure p(int x)x+=1 procedure main()int y call p(y) procedure q()skip",
+        "int y;call p y;procedure p int x {x += 1;};procedure q {skip;};",
+        "int y call p(y) procedure p(int x) x += 1 procedure q() skip",
+    ),
+    (
         "x += 1 // + 2\n- 3 // é €\r\n",
         "x += (- 1 3);",
         "x += 1 - 3",
@@ -233,6 +296,26 @@ const CELLS: [(&str, &str, &str); 15] = [
 /// What is printed of the cell of a text.
 fn printed_cell(alloc: Global, text: &str) -> Result<String, Fail> {
     Ok(print_cell(alloc, &parse_cell(alloc, text)?)?)
+}
+
+/// Each procedure is printed alone as it stands in the print of its cell.
+#[test]
+fn prints_procedures(rt: HostRuntime) -> Result<(), Fail> {
+    let alloc = rt.alloc();
+    let cell = parse_cell(
+        alloc,
+        "int z procedure p(int x,int a[ ],stack s)skip x+=1 procedure q ( )uncall p(z,b,t)",
+    )?;
+    let mut lines = String::new(alloc);
+    for i in 0..cell.procedures.len() {
+        lines.push_str(&print_procedure(alloc, &cell.procedures[i])?)?;
+        lines.push('\n')?;
+    }
+    assert_eq!(rt;
+        lines.as_str(),
+        "procedure p(int x, int a[], stack s) skip x += 1\nprocedure q() uncall p(z, b, t)\n"
+    );
+    Ok(())
 }
 
 /// A text has its tree.

@@ -4,13 +4,13 @@ use Rattle.std.specs.Ordering.{nat_cmp}
 use Rattle.std.specs.Cmp.Lexicographic.{slice_cmp}
 use Rattle.std.specs.List.{starts_with}
 use Rattle.std.specs.List.Sorted.{IsStrictlySortedBy}
-use Rattle.janus_meaning.specs.Store.{Store}
+use Rattle.janus_meaning.specs.World.{World}
 use Rattle.janus_syntax.specs.Spelling.{word_text}
 use Rattle.janus_syntax.specs.declared.token.Word.{Word}
 use Rattle.janus_syntax.specs.declared.token.Word.TheVariants as word
 use Rattle.kernel_ask.specs.declared.matches.TheConstants.{WORDS}
 use Rattle.kernel_ask.specs.Added.{with_matches}
-use Rattle.kernel_ask.specs.Matches.{names_of, IsReserved, IsKnown, AreMatches}
+use Rattle.kernel_ask.specs.Matches.{names_of, procedure_names, IsReserved, IsKnown, AreMatches}
 use Rattle.kernel_ask.proofs.Added.{contains_first, contains_later, contains_none, contains_cases, matches_kept, matches_from, matches_there}
 
 -- each reserved word is listed
@@ -51,33 +51,43 @@ word_from [] x h = absurd (contains_none x h)
 word_from (v ∷ ws) x h =
     elim (contains_cases (map word_text ws) (word_text v) x h) as (λ _. IsReserved x) [ inl e ↦ (v, e) | inr later ↦ word_from ws x later ]
 
--- the declared names, and then the reserved words
-abbrev pub all_matches : Store → List ℕ → List (List ℕ)
-all_matches s prefix = with_matches prefix (with_matches prefix [] (names_of s)) (map word_text WORDS)
+-- the declared names, then the procedures, and then the reserved words
+abbrev pub of_world : World → List ℕ → List (List ℕ)
+of_world w prefix = with_matches prefix (with_matches prefix [] (names_of w.store)) (procedure_names w.procedures)
 
-known_from : (s : Store) (prefix x : List ℕ) → Contains (all_matches s prefix) x → IsKnown s x × IsTrue (starts_with nat_eq x prefix)
-known_from s prefix x h =
-    elim (matches_from prefix (with_matches prefix [] (names_of s)) (map word_text WORDS) x h) as (λ _. IsKnown s x × IsTrue (starts_with nat_eq x prefix)) [
-      | inl declared ↦
-          elim (matches_from prefix [] (names_of s) x declared) as (λ _. IsKnown s x × IsTrue (starts_with nat_eq x prefix)) [
-            | inl none ↦ absurd (contains_none x none)
-            | inr there ↦ (inl there.0, there.1)
+abbrev pub all_matches : World → List ℕ → List (List ℕ)
+all_matches w prefix = with_matches prefix (of_world w prefix) (map word_text WORDS)
+
+known_from : (w : World) (prefix x : List ℕ) → Contains (all_matches w prefix) x → IsKnown w x × IsTrue (starts_with nat_eq x prefix)
+known_from w prefix x h =
+    elim (matches_from prefix (of_world w prefix) (map word_text WORDS) x h) as (λ _. IsKnown w x × IsTrue (starts_with nat_eq x prefix)) [
+      | inl world ↦
+          elim (matches_from prefix (with_matches prefix [] (names_of w.store)) (procedure_names w.procedures) x world) as (λ _. IsKnown w x × IsTrue (starts_with nat_eq x prefix)) [
+            | inl declared ↦
+                elim (matches_from prefix [] (names_of w.store) x declared) as (λ _. IsKnown w x × IsTrue (starts_with nat_eq x prefix)) [
+                  | inl none ↦ absurd (contains_none x none)
+                  | inr there ↦ (inl there.0, there.1)
+                ]
+            | inr defined ↦ (inr (inl defined.0), defined.1)
           ]
-      | inr there ↦ (inr (word_from WORDS x there.0), there.1)
+      | inr there ↦ (inr (inr (word_from WORDS x there.0)), there.1)
     ]
 
-known_there : (s : Store) (prefix x : List ℕ) → IsKnown s x → IsTrue (starts_with nat_eq x prefix) → Contains (all_matches s prefix) x
-known_there s prefix x (inl declared) fits =
-    matches_kept prefix (with_matches prefix [] (names_of s)) (map word_text WORDS) x (matches_there prefix [] (names_of s) x declared fits)
-known_there s prefix x (inr reserved) fits =
-    matches_there prefix (with_matches prefix [] (names_of s)) (map word_text WORDS) x
+known_there : (w : World) (prefix x : List ℕ) → IsKnown w x → IsTrue (starts_with nat_eq x prefix) → Contains (all_matches w prefix) x
+known_there w prefix x (inl declared) fits =
+    matches_kept prefix (of_world w prefix) (map word_text WORDS) x
+    (matches_kept prefix (with_matches prefix [] (names_of w.store)) (procedure_names w.procedures) x (matches_there prefix [] (names_of w.store) x declared fits))
+known_there w prefix x (inr (inl defined)) fits =
+    matches_kept prefix (of_world w prefix) (map word_text WORDS) x (matches_there prefix (with_matches prefix [] (names_of w.store)) (procedure_names w.procedures) x defined fits)
+known_there w prefix x (inr (inr reserved)) fits =
+    matches_there prefix (of_world w prefix) (map word_text WORDS) x
     (subst (λ (y : List ℕ). Contains (map word_text WORDS) y) reserved.1 (word_there WORDS reserved.0 (listed_word reserved.0))) fits
 
-pub are_matches : (s : Store) (prefix : List ℕ) (names : List (List ℕ)) → IsStrictlySortedBy (slice_cmp nat_cmp) names → names ≡ all_matches s prefix → AreMatches s prefix names
-are_matches s prefix names sorted same = record {
+pub are_matches : (w : World) (prefix : List ℕ) (names : List (List ℕ)) → IsStrictlySortedBy (slice_cmp nat_cmp) names → names ≡ all_matches w prefix → AreMatches w prefix names
+are_matches w prefix names sorted same = record {
   ordered = sorted;
   each = λ x. (
-    λ h. known_from s prefix x (subst (λ (ns : List (List ℕ)). Contains ns x) same h),
-    λ h. subst (λ (ns : List (List ℕ)). Contains ns x) (sym same) (known_there s prefix x h.0 h.1),
+    λ h. known_from w prefix x (subst (λ (ns : List (List ℕ)). Contains ns x) same h),
+    λ h. subst (λ (ns : List (List ℕ)). Contains ns x) (sym same) (known_there w prefix x h.0 h.1),
   );
 }

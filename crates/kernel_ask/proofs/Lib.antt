@@ -10,3 +10,4 @@ pub mod Names
 pub mod Sound
 pub mod Walk
 pub mod Numbers
+pub mod Rows

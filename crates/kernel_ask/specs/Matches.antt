@@ -4,9 +4,9 @@ use Rattle.std.specs.Ordering.{nat_cmp}
 use Rattle.std.specs.Cmp.Lexicographic.{slice_cmp}
 use Rattle.std.specs.List.{starts_with}
 use Rattle.std.specs.List.Sorted.{IsStrictlySortedBy}
-use Rattle.janus_meaning.specs.Syntax.{Name}
+use Rattle.janus_meaning.specs.Syntax.{Name, Proc}
 use Rattle.janus_meaning.specs.Store.{Store}
-use Rattle.janus_meaning.specs.World.{listed}
+use Rattle.janus_meaning.specs.World.{World, listed}
 use Rattle.janus_syntax.specs.Spelling.{word_text}
 use Rattle.janus_syntax.specs.declared.token.Word.{Word}
 
@@ -17,11 +17,15 @@ names_of s = map (λ e. e.0) (listed s)
 abbrev pub IsReserved : List ℕ → Type 0
 IsReserved x = (word : Word) × (word_text word ≡ x)
 
--- a declared name, or a reserved word (there are no procedures yet)
-abbrev pub IsKnown : Store → List ℕ → Type 0
-IsKnown s x = Contains (names_of s) x ⊎ IsReserved x
+-- the names of procedures
+abbrev pub procedure_names : List Proc → List Name
+procedure_names ps = map (λ p. p.name) ps
+
+-- a declared name, a procedure, or a reserved word
+abbrev pub IsKnown : World → List ℕ → Type 0
+IsKnown w x = Contains (names_of w.store) x ⊎ Contains (procedure_names w.procedures) x ⊎ IsReserved x
 
 -- All known names that begin with the prefix and no others, each once, in the order of their octets.
-pub record AreMatches (s : Store) (prefix : List ℕ) (names : List (List ℕ)) : Type 0 where
+pub record AreMatches (w : World) (prefix : List ℕ) (names : List (List ℕ)) : Type 0 where
   pub ordered : IsStrictlySortedBy (slice_cmp nat_cmp) names
-  pub each : (x : List ℕ) → Contains names x ↔ (IsKnown s x × IsTrue (starts_with nat_eq x prefix))
+  pub each : (x : List ℕ) → Contains names x ↔ (IsKnown w x × IsTrue (starts_with nat_eq x prefix))

@@ -3,7 +3,7 @@ use Rattle.std.specs.Prelude.{Bool, false, not, ◌&&◌, ◌||◌}
 use Rattle.std.specs.List.{list_any}
 use Rattle.janus_meaning.specs.Syntax as meaning
 use Rattle.janus_meaning.specs.Store.{same_name}
-use Rattle.janus_syntax.specs.Tree.{Name, named, Exp, Num, Var, Element, EmptyOf, TopOf, Neg, Bin, And, Or, Stm, Skip, Assign, AssignElement, Push, Pop, If, Loop, LocalInt, LocalStack, Block, Empty, More, Declaration, Int, Array, StackOf, Cell, cell_of}
+use Rattle.janus_syntax.specs.Tree.{Name, named, Exp, Num, Var, Element, EmptyOf, TopOf, Neg, Bin, And, Or, Stm, Skip, Assign, AssignElement, Push, Pop, If, Loop, LocalInt, LocalStack, Call, Uncall, Block, Empty, More, Declaration, Int, Array, StackOf, Cell, cell_of}
 
 abbrev pub is_it : meaning.Name → Name → Bool
 is_it x (named y at) = same_name y x
@@ -31,6 +31,8 @@ abbrev mutual
   in_stm x (Loop a s t b) = in_exp x a || in_block x s || in_block x t || in_exp x b
   in_stm x (LocalInt y a s z b) = in_exp x a || (not (is_it x y) && in_block x s) || in_exp x b
   in_stm x (LocalStack y s z) = not (is_it x y) && in_block x s
+  in_stm x (Call f ys) = list_any (is_it x) ys
+  in_stm x (Uncall f ys) = list_any (is_it x) ys
 
   pub in_block : meaning.Name → Block → Bool
   in_block x Empty = false
@@ -43,4 +45,4 @@ in_declaration x (StackOf y) = is_it x y
 
 -- the cell names x
 abbrev pub in_cell : meaning.Name → Cell → Bool
-in_cell x (cell_of ds b) = list_any (in_declaration x) ds || in_block x b
+in_cell x (cell_of ds b ps) = list_any (in_declaration x) ds || in_block x b

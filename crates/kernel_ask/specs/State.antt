@@ -1,6 +1,5 @@
 -- The state of a kernel, as it is told.
 use Rattle.std.specs.Prelude.{◌≡◌, Bool, true, false, map, string_bytes}
-use Rattle.janus_meaning.specs.Store.{Store}
 use Rattle.janus_meaning.specs.World.{World, listed}
 use Rattle.kernel_core.specs.State.{Job, Idle, Border, Inside, Shown}
 use Rattle.kernel_core.specs.Runs.{Machine}
@@ -8,9 +7,9 @@ use Rattle.kernel_core.specs.Extent.{IsExtent}
 use Rattle.kernel_text.specs.ValueTexts.{value_text}
 use Rattle.kernel_ask.specs.declared.answer.KernelState.{KernelState}
 
--- it holds of the names and values of the shown world
-abbrev pub OfShown : Machine → (Store → Type 0) → Type 0
-OfShown m Holds = (w : World) × Shown m.state w × Holds w.store
+-- it holds of the shown world
+abbrev pub OfShown : Machine → (World → Type 0) → Type 0
+OfShown m Holds = (w : World) × Shown m.state w × Holds w
 
 -- a job is open
 abbrev pub is_busy : Job → Bool
@@ -25,4 +24,4 @@ pub record IsState (m : Machine) (s : KernelState) : Type 0 where
   pub count : s.count ≡ m.counter
   pub extent : IsExtent m.state.past (record { undo = s.depth; redo = s.redo; nodes = s.nodes })
   pub busy : s.busy ≡ is_busy m.state.job
-  pub world : OfShown m (λ names. map string_bytes s.world.items ≡ map value_text (listed names))
+  pub world : OfShown m (λ w. map string_bytes s.world.items ≡ map value_text (listed w.store))

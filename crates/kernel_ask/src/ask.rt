@@ -28,7 +28,7 @@ use kernel_core::{Kernel, Outcome};
 use std::alloc::{AllocError, Global};
 use std::sync::ledger::Ledger;
 
-/// The declared names and reserved words that go on with what stands in front of a cursor. Places count Unicode code points; no
+/// The declared names, procedures and reserved words that go on with what stands in front of a cursor. Places count Unicode code points; no
 /// cursor is the end of the code, and so is one past it. The only error is want of memory.
 pub fn complete<L: Ledger>(
     alloc: Global,
@@ -36,13 +36,14 @@ pub fn complete<L: Ledger>(
     code: &str,
     cursor: Option<u64>,
 ) -> Result<Completion, AllocError>
-    ensures { IfOk result (λ c. OfShown kernel.now.machine (λ names. IsCompletion names (chars code.now) cursor c)) }
+    ensures { IfOk result (λ c. OfShown kernel.now.machine (λ w. IsCompletion w (chars code.now) cursor c)) }
 {
     let world = kernel.world();
-    completion_of(alloc, world.store(), code, cursor)
+    let procedures = world.procedures(alloc)?;
+    completion_of(alloc, world.store(), &procedures, code, cursor)
 }
 
-/// The value text of the declared name that touches a cursor, if one does. Places count as in [`complete`]. The only error is
+/// The value text of the declared name that touches a cursor and the print of its procedure, if it has them, parted by LF. Places count as in [`complete`]. The only error is
 /// want of memory.
 pub fn inspect<L: Ledger>(
     alloc: Global,
@@ -50,10 +51,11 @@ pub fn inspect<L: Ledger>(
     code: &str,
     cursor: Option<u64>,
 ) -> Result<Option<String>, AllocError>
-    ensures { IfOk result (λ text. OfShown kernel.now.machine (λ names. IsInspection names (word_at cursor (chars code.now)) text)) }
+    ensures { IfOk result (λ text. OfShown kernel.now.machine (λ w. IsInspection w (word_at cursor (chars code.now)) text)) }
 {
     let world = kernel.world();
-    inspection_of(alloc, world.store(), code, cursor)
+    let procedures = world.procedures(alloc)?;
+    inspection_of(alloc, world.store(), &procedures, code, cursor)
 }
 
 /// The inputs that are asked for, in rising order. The only error is want of memory.

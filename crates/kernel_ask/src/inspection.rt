@@ -1,31 +1,82 @@
 //! What is known of a name.
-ghost use Rattle.std.specs.Prelude.{IfOk};
+ghost use Rattle.std.specs.Prelude.{◌≡◌, option_map, string_bytes, IfOk};
 ghost use Rattle.std.specs.Str.{chars};
+ghost use Rattle.janus_meaning.specs.Store.{look, find};
 ghost use Rattle.kernel_ask.specs.Cursor.{word_at as word_at_of};
-ghost use Rattle.kernel_ask.specs.Inspection.{IsInspection};
+ghost use Rattle.kernel_ask.specs.Inspection.{value_told, IsProcedureTold, both_told, IsInspection};
+ghost use Rattle.kernel_core.specs.Defined.{in_a_row};
 ghost use Rattle.janus_store.specs.Held.{shown_store};
 
 use crate::cursor::word_at;
 use janus_store::Store;
-use kernel_text::value_text;
+use janus_syntax::print_procedure;
+use janus_syntax::tree::Procedure;
+use kernel_text::{newest_of, value_text};
 use std::alloc::{AllocError, Global};
 use std::sync::ledger::Ledger;
 
-/// The value text of the name that touches the cursor, if it is declared.
-pub(crate) fn inspection_of<L: Ledger>(
+/// The value text of a name, if it is declared.
+fn value_of<L: Ledger>(
     alloc: Global,
     store: &Store<L>,
-    code: &str,
-    cursor: Option<u64>,
+    name: &str,
 ) -> Result<Option<String>, AllocError>
-    ensures { IfOk result (IsInspection (shown_store store.now) (word_at_of cursor (chars code.now))) }
+    ensures { IfOk result (λ text. option_map string_bytes text ≡ value_told name.now (look name.now (shown_store store.now))) }
 {
-    let word = word_at(alloc, code, cursor)?;
-    match store.value(word.as_str()) {
+    match store.value(name) {
         Some(value) => {
-            let text = value_text(alloc, word.as_str(), value)?;
+            let text = value_text(alloc, name, value)?;
             Ok(Some(text))
         }
         None => Ok(None),
     }
+}
+
+/// The print of the procedure of a name, if there is one.
+fn print_of(
+    alloc: Global,
+    procedures: &[&Procedure],
+    name: &str,
+) -> Result<Option<String>, AllocError>
+    ensures { IfOk result (λ text. IsProcedureTold (find name.now (in_a_row procedures.now)) (option_map string_bytes text)) }
+{
+    match newest_of(procedures, name) {
+        Some(procedure) => {
+            let text = print_procedure(alloc, procedure)?;
+            Ok(Some(text))
+        }
+        None => Ok(None),
+    }
+}
+
+/// The one text and then the other, parted by LF, or the one that there is.
+fn both(first: Option<String>, second: Option<String>) -> Result<Option<String>, AllocError>
+    ensures { IfOk result (λ text. option_map string_bytes text ≡ both_told (option_map string_bytes first) (option_map string_bytes second)) }
+{
+    match first {
+        Some(mut text) => {
+            if let Some(more) = second {
+                text.push('\n')?;
+                text.push_str(more.as_str())?;
+            }
+            Ok(Some(text))
+        }
+        None => Ok(second),
+    }
+}
+
+/// What is known of the name that touches the cursor: its value text if it is declared, and the print of its procedure if it has one.
+pub(crate) fn inspection_of<L: Ledger>(
+    alloc: Global,
+    store: &Store<L>,
+    procedures: &[&Procedure],
+    code: &str,
+    cursor: Option<u64>,
+) -> Result<Option<String>, AllocError>
+    ensures { IfOk result (IsInspection (record { store = shown_store store.now; procedures = in_a_row procedures.now }) (word_at_of cursor (chars code.now))) }
+{
+    let word = word_at(alloc, code, cursor)?;
+    let value = value_of(alloc, store, word.as_str())?;
+    let procedure = print_of(alloc, procedures, word.as_str())?;
+    both(value, procedure)
 }

@@ -5,11 +5,13 @@ ghost use Rattle.std.specs.List.Sorted.{IsStrictlySortedBy};
 ghost use Rattle.std.specs.String.{string_cmp};
 ghost use Rattle.janus_syntax.specs.Spelling.{word_text};
 ghost use Rattle.kernel_ask.specs.Added.{with_name, with_match, with_matches};
-ghost use Rattle.kernel_ask.specs.Matches.{names_of, AreMatches};
+ghost use Rattle.kernel_ask.specs.Matches.{names_of, procedure_names, AreMatches};
+ghost use Rattle.kernel_core.specs.Defined.{in_a_row};
 ghost use Rattle.janus_store.specs.Held.{shown_store};
 
 use janus_store::Store;
 use janus_syntax::token::Word;
+use janus_syntax::tree::Procedure;
 use std::alloc::{AllocError, Global};
 use std::collections::BTreeSet;
 use std::sync::ledger::Ledger;
@@ -89,6 +91,23 @@ fn add_declared<L: Ledger>(
     Ok(())
 }
 
+/// Adds the procedures that begin with the prefix.
+fn add_procedures(
+    alloc: Global,
+    names: &mut BTreeSet<String>,
+    procedures: &[&Procedure],
+    prefix: &str,
+) -> Result<(), AllocError>
+    ensures { OnOk result (map string_bytes names.new.keys
+        ≡ with_matches prefix.now (map string_bytes names.old.keys) (procedure_names (in_a_row procedures.now))) }
+{
+    for i in 0..procedures.len() {
+        let procedure = procedures[i];
+        add_match(alloc, names, procedure.name.text.as_str(), prefix)?;
+    }
+    Ok(())
+}
+
 /// Adds those of the words that begin with the prefix.
 fn add_words(
     alloc: Global,
@@ -113,16 +132,18 @@ fn in_order(alloc: Global, names: BTreeSet<String>) -> Result<Vec<String>, Alloc
     names.into_iter().collect(alloc)
 }
 
-/// The declared names and reserved words that begin with the prefix, each once, in the order of their octets.
+/// The declared names, the procedures and the reserved words that begin with the prefix, each once, in the order of their octets.
 pub(crate) fn matches_of<L: Ledger>(
     alloc: Global,
     store: &Store<L>,
+    procedures: &[&Procedure],
     prefix: &str,
 ) -> Result<Vec<String>, AllocError>
-    ensures { IfOk result (λ v. AreMatches (shown_store store.now) prefix.now (map string_bytes v.items)) }
+    ensures { IfOk result (λ v. AreMatches (record { store = shown_store store.now; procedures = in_a_row procedures.now }) prefix.now (map string_bytes v.items)) }
 {
     let mut names = BTreeSet::new(alloc);
     add_declared(alloc, &mut names, store, prefix)?;
+    add_procedures(alloc, &mut names, procedures, prefix)?;
     add_words(alloc, &mut names, &WORDS, prefix)?;
     in_order(alloc, names)
 }

@@ -1,7 +1,7 @@
 //! Which declared names a cell names.
 ghost use Rattle.std.specs.Prelude.{◌≡◌, not, ◌&&◌, ◌||◌};
 ghost use Rattle.std.specs.List.{list_any};
-ghost use Rattle.janus_syntax.specs.Tree.{name_view, exp_view, stm_view, block_view, declaration_view, declarations_view, cell_view};
+ghost use Rattle.janus_syntax.specs.Tree.{name_view, names_view, exp_view, stm_view, block_view, declaration_view, declarations_view, cell_view};
 ghost use Rattle.kernel_ask.specs.Naming.{is_it, in_exp, in_stm, in_block, in_declaration, in_cell};
 
 use janus_syntax::tree::{Cell, Declaration, Exp, Name, Stm};
@@ -49,6 +49,17 @@ fn is_inside(name: &str, local: &Name, inside: bool, found: bool) -> bool
     found || (!is_name(name, local, false) && inside)
 }
 
+/// Whether it is one of the arguments of a call.
+fn arguments_name(name: &str, arguments: &[Name]) -> bool
+    ensures { result ≡ list_any (is_it name.now) (names_view arguments.now) }
+{
+    let mut found = false;
+    for argument in arguments {
+        found = is_name(name, argument, found);
+    }
+    found
+}
+
 /// Whether it was found, or a statement names it.
 #[cycle(stm_names)]
 fn stm_names(name: &str, stm: &Stm, found: bool) -> bool
@@ -91,6 +102,8 @@ fn stm_names(name: &str, stm: &Stm, found: bool) -> bool
             let inside = block_names(name, body, false);
             is_inside(name, local, inside, found)
         }
+        Stm::Call(_, arguments) => found || arguments_name(name, arguments),
+        Stm::Uncall(_, arguments) => found || arguments_name(name, arguments),
     }
 }
 

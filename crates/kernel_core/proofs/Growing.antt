@@ -1,5 +1,5 @@
 -- What was met stays met, under its number, as names go on.
-use Rattle.std.proofs.Common.{◌≡◌, ℕ, zero, suc, ◌≤◌, List, [], ◌∷◌, ◌++◌, sym, ap, ◌∙◌, subst, arith, append_assoc, string_bytes}
+use Rattle.std.proofs.Common.{◌≡◌, ℕ, zero, suc, List, [], ◌∷◌, ◌++◌, sym, ap, ◌∙◌, subst, arith, append_assoc, string_bytes}
 use Rattle.std.specs.Prelude.{slice_get, Some, None}
 use Rattle.std.proofs.lemmas.List.{append-nil}
 use Rattle.std.proofs.lemmas.Option.{slice_get_past}
@@ -11,11 +11,18 @@ use Rattle.janus_invert.specs.declared.code.Exp.{Exp}
 use Rattle.janus_invert.specs.declared.code.Exp.TheVariants as exp
 use Rattle.janus_invert.specs.declared.code.Statement.{Statement}
 use Rattle.janus_invert.specs.declared.code.Statement.TheVariants as statement
-use Rattle.janus_invert.specs.Numbered.{HasItsNumber, HasNumbers, StatementHasNumbers, HaveNumbers}
+use Rattle.janus_invert.specs.Numbered.{HasItsNumber, HaveTheirNumbers, HasNumbers, StatementHasNumbers, HaveNumbers}
 use Rattle.janus_invert.specs.Met.{MeetsLocals, MeetsLocalsOf}
 use Rattle.janus_machine.specs.Places.{BookHasNumbers}
 use Rattle.janus_machine.specs.declared.book.Book.{Book}
-use Rattle.kernel_core.specs.Met.{AreDeclaredMet}
+use Rattle.janus_meaning.specs.Syntax.{Proc, names_of}
+use Rattle.janus_invert.specs.Met.{AreAllMet}
+use Rattle.janus_machine.specs.Bodies.{kept_in, Define}
+use Rattle.janus_machine.specs.declared.procedures.Procedures.{Procedures}
+use Rattle.janus_machine.proofs.BodiesInEffect.{define_still, bodies_from_still}
+use Rattle.kernel_core.specs.Met.{AreDeclaredMet, MeetOwn}
+use Rattle.kernel_core.specs.Program.{IsReady, procedures_of}
+use Rattle.kernel_core.specs.declared.program.Program.{Program}
 
 -- none more
 pub no_more : (xs : List Name) → GoOn xs xs
@@ -45,6 +52,10 @@ module _ (xs ys : List Name) (g : GoOn xs ys) where
   symbol_grows : (x : Symbol) → HasItsNumber xs x → HasItsNumber ys x
   symbol_grows x h = same_number xs ys x.number (string_bytes x.text) g h
 
+  symbols_grow : (zs : List Symbol) → HaveTheirNumbers xs zs → HaveTheirNumbers ys zs
+  symbols_grow [] h = tt
+  symbols_grow (z ∷ zs) h = (symbol_grows z h.0, symbols_grow zs h.1)
+
   exp_grows : (e : Exp) → HasNumbers xs e → HasNumbers ys e
   exp_grows (exp.Number n) h = tt
   exp_grows (exp.Variable x) h = symbol_grows x h
@@ -66,6 +77,8 @@ module _ (xs ys : List Name) (g : GoOn xs ys) where
   statement_grows (statement.Loop a p q b) h = (exp_grows a h.0, exp_grows b h.1)
   statement_grows (statement.LocalInt x a p b) h = (symbol_grows x h.0, exp_grows a h.1, exp_grows b h.2)
   statement_grows (statement.LocalStack x p) h = symbol_grows x h
+  statement_grows (statement.Call f zs) h = (symbol_grows f h.0, symbols_grow zs.items h.1)
+  statement_grows (statement.Uncall f zs) h = (symbol_grows f h.0, symbols_grow zs.items h.1)
 
   code_grows : (ss : List Statement) → HaveNumbers xs ss → HaveNumbers ys ss
   code_grows ss h = λ n s at. statement_grows s (h n s at)
@@ -96,3 +109,24 @@ module _ (xs ys : List Name) (g : GoOn xs ys) where
   pub declared_grow : (ds : List Declaration) → AreDeclaredMet xs ds → AreDeclaredMet ys ds
   declared_grow [] h = tt
   declared_grow (d ∷ ds) h = (still_met xs ys (declared_name d) g h.0, declared_grow ds h.1)
+
+  pub all_grow : (zs : List Name) → AreAllMet xs zs → AreAllMet ys zs
+  all_grow [] h = tt
+  all_grow (z ∷ zs) h = (still_met xs ys z g h.0, all_grow zs h.1)
+
+  pub own_grow : (ps : List Proc) → MeetOwn xs ps → MeetOwn ys ps
+  own_grow [] h = tt
+  own_grow (p ∷ ps) h =
+      (record { name = still_met xs ys p.name g h.0.name; parameters = all_grow (names_of p.params) h.0.parameters; locals = block_locals_grow p.body h.0.locals }, own_grow ps h.1)
+
+  -- ---- procedures
+
+  pub defined_grow : (t : Procedures) (stack : List ℕ) (ps : List Proc) → Define xs t stack ps → Define ys t stack ps
+  defined_grow t stack ps h = define_still xs ys (λ n x e. same_number xs ys n x g e) book_grows t stack ps h
+
+  pub ready_grows : (t : Procedures) (program : Program) → IsReady xs t program → IsReady ys t program
+  ready_grows t program h = record {
+    numbered = book_grows program.book h.numbered;
+    within = h.within;
+    bodies = bodies_from_still xs ys (λ n x e. same_number xs ys n x g e) book_grows (kept_in t) program.first (procedures_of program) h.bodies;
+  }

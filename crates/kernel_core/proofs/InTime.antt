@@ -1,6 +1,7 @@
 -- After a slice the open job still has steps to take.
 use Rattle.std.proofs.Common.{ℕ, Bool}
 use Rattle.kernel_core.specs.Fields.{past_of, job_of, state_of}
+use Rattle.kernel_core.specs.State.{procedures_at}
 use Rattle.kernel_core.specs.Slices.{IsSlice}
 use Rattle.kernel_core.specs.Runner.{world_of}
 use Rattle.kernel_core.specs.Kept.{Kept, IsKept}
@@ -16,5 +17,5 @@ pub slice_kept : {L : Type 0} (tree moved-to : Tree) (runner at : Runner L) (old
 slice_kept tree moved-to runner at old new m asked told k n s =
     let kept = k.kept in
     let shown = shown_by tree old runner k.kept.stands in
-    let fit = slice_fit (past_of tree) (job_of old) m asked told (state_of moved-to new) kept.legal kept.possible (world_of runner, shown) s in
+    let fit = slice_fit (past_of tree) (job_of old) m asked told (state_of moved-to new) kept.legal kept.possible (world_of (procedures_at (past_of tree) (job_of old)) runner, shown) s in
     record { kept = n; in_time = fit.in_time }

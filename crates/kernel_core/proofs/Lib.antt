@@ -1,3 +1,10 @@
+pub mod Stacks
+pub mod Borders
+pub mod Kept
+pub mod Going
+pub mod OlderHeads
+pub mod HeadsAbove
+pub mod Made
 pub mod LanguageLaws
 pub mod Declared
 pub mod Texts
@@ -25,3 +32,4 @@ pub mod Noted
 pub mod Counting
 pub mod Writing
 pub mod Depths
+pub mod Rows

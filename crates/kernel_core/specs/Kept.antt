@@ -1,13 +1,14 @@
 -- What a history keeps of its fields: the runner's store is the shown world.
-use Rattle.std.specs.Prelude.{◌≡◌, ℕ, ◌-◌, ◌<◌, ◌≤◌, Bool, true, false, Some, length, slice_get, slice_index}
+use Rattle.std.specs.Prelude.{◌≡◌, ℕ, zero, suc, ◌+◌, ◌-◌, ◌<◌, ◌≤◌, Bool, true, false, List, [], Option, None, Some, length, slice_get, slice_index}
 use Rattle.cell_tree.specs.Tree.{contents_of}
+use Rattle.cell_tree.specs.declared.node.Node.{Node}
 use Rattle.janus_store.specs.Held.{IsWhole}
-use Rattle.janus_machine.specs.Places.{BookHasNumbers}
 use Rattle.kernel_core.specs.State.{here, ancestor, below, code_of}
 use Rattle.kernel_core.specs.Travel.{Up, Down, Aim, Undo, Redo, Goto, next_way}
 use Rattle.kernel_core.specs.Fields.{nodes_of, past_of, aim_of, travel_of, work_of, job_of}
 use Rattle.kernel_core.specs.Legal.{IsLegal, IsPossibleAt, IsInTimeAt, IsCountedAt}
-use Rattle.kernel_core.specs.Runner.{Stands, world_of}
+use Rattle.kernel_core.specs.Program.{procedures_of, IsReady, with_bodies}
+use Rattle.kernel_core.specs.Runner.{Shows, Stands}
 use Rattle.kernel_core.specs.declared.program.Program.{Program}
 use Rattle.kernel_core.specs.declared.runner.Runner.{Runner}
 use Rattle.kernel_core.specs.declared.tree.Tree.{Tree}
@@ -31,9 +32,54 @@ IsProgramOf tree (Move travel) p = elim (next_way (travel_of travel)) [
   | Down ↦ (cell : Cell) × IsCellAt tree (below (past_of tree) (travel_of travel)) cell × (p ≡ cell.program)
 ]
 
--- the code of each node names each variable by its number in the store
-abbrev pub NodesHaveNumbers : {L : Type 0} → Tree → Runner L → Type 0
-NodesHaveNumbers tree runner = (n : ℕ) (cell : Cell) → IsCellAt tree n cell → BookHasNumbers runner.store.names cell.program.book
+-- ---- the procedures that are defined
+
+-- the bodies of a node over those of the nodes above it
+abbrev pub bodies_over : Option (Node Cell) → (ℕ → List ℕ) → List ℕ
+bodies_over None above = []
+bodies_over (Some node) above = with_bodies node.content.program (above node.parent)
+
+-- the bodies of the nodes on the path to a node, the newest first, where at most so many of them are told
+abbrev pub stack_up : ℕ → Tree → ℕ → List ℕ
+stack_up zero tree n = []
+stack_up (suc k) tree zero = []
+stack_up (suc k) tree (suc i) = bodies_over (slice_get tree.cells.nodes i) (stack_up k tree)
+
+-- the bodies that are defined at a node
+abbrev pub stack_at : Tree → ℕ → List ℕ
+stack_at tree n = stack_up n tree n
+
+-- inside a cell its own are defined, also while it is undone
+abbrev pub stack_in : Tree → Work → Program → List ℕ
+stack_in tree (RunCell p) program = with_bodies program (stack_at tree tree.position)
+stack_in tree (Move travel) program = elim (next_way (travel_of travel)) [
+  | Up ↦ stack_at tree tree.position
+  | Down ↦ with_bodies program (stack_at tree tree.position)
+]
+
+-- each node's code has its numbers in the store, and its bodies are kept
+abbrev pub NodesAreReady : {L : Type 0} → Tree → Runner L → Type 0
+NodesAreReady tree runner = (n : ℕ) (cell : Cell) → IsCellAt tree n cell → IsReady runner.store.names runner.procedures cell.program
+
+-- so many bodies stand before the first of the other program
+abbrev pub IsBefore : Program → Program → Type 0
+IsBefore p q = p.first + length (procedures_of p) ≤ q.first
+
+-- the bodies of nodes are kept in the order of the nodes
+abbrev pub AreInOrder : Tree → Type 0
+AreInOrder tree = (m n : ℕ) (c d : Cell) → m < n → IsCellAt tree m c → IsCellAt tree n d → IsBefore c.program d.program
+
+-- those of a posted cell behind those of all nodes
+abbrev pub IsBehindNodes : Tree → Work → Type 0
+IsBehindNodes tree (RunCell program) = (n : ℕ) (cell : Cell) → IsCellAt tree n cell → IsBefore cell.program program
+IsBehindNodes tree (Move travel) = Unit {0}
+
+abbrev pub IsBehindAt : Tree → Open → Type 0
+IsBehindAt tree Idle = Unit {0}
+IsBehindAt tree (Border travel) = Unit {0}
+IsBehindAt tree (Inside e) = IsBehindNodes tree e.work
+
+-- ---- where the runner stands
 
 abbrev pub is_back : Turn → Bool
 is_back GoesOn = false
@@ -43,12 +89,12 @@ is_back (GoesBack why) = true
 pub record StandsIn {L : Type 0} (tree : Tree) (work : Work) (count : ℕ) (back : Bool) (runner : Runner L) : Type 0 where
   pub program : Program
   pub of_work : IsProgramOf tree work program
-  pub stands : Stands runner program (code_of (past_of tree) (work_of work)) (here (past_of tree)) count back
+  pub stands : Stands runner program (stack_in tree work program) (code_of (past_of tree) (work_of work)) (here (past_of tree)) count back
 
 -- the runner stands where the open job says
 abbrev pub StandsAt : {L : Type 0} → Tree → Open → Runner L → Type 0
-StandsAt tree Idle runner = world_of runner ≡ here (past_of tree)
-StandsAt tree (Border travel) runner = world_of runner ≡ here (past_of tree)
+StandsAt tree Idle runner = Shows runner (stack_at tree tree.position) (here (past_of tree))
+StandsAt tree (Border travel) runner = Shows runner (stack_at tree tree.position) (here (past_of tree))
 StandsAt tree (Inside e) runner = StandsIn tree e.work e.count (is_back e.turn) runner
 
 -- between two cells no local is open
@@ -95,7 +141,9 @@ pub record Kept {L : Type 0} (tree : Tree) (runner : Runner L) (job : Open) : Ty
   pub whole : IsWholeAt job runner
   pub room : HasRoomAt tree job
   pub path : HasPathAt tree job
-  pub numbered : NodesHaveNumbers tree runner
+  pub ready : NodesAreReady tree runner
+  pub order : AreInOrder tree
+  pub behind : IsBehindAt tree job
 
 -- what a history keeps: beside this, its open job has steps to take
 pub record IsKept {L : Type 0} (tree : Tree) (runner : Runner L) (job : Open) : Type 0 where

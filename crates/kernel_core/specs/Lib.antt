@@ -29,11 +29,13 @@ pub mod Determined
 -- The code's own words: its types read as those of the machine, what its fields keep, and how contracts have states as values.
 pub mod Program
 pub mod Met
+pub mod Known
 pub mod Kinds
 pub mod Declarable
 pub mod Runner
 pub mod Fields
 pub mod Kept
+pub mod Defined
 pub mod Written
 pub mod MachineParts
 pub mod StateCode

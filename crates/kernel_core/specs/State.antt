@@ -2,7 +2,8 @@
 -- store.
 use Rattle.std.specs.Prelude.{◌≡◌, ℕ, ◌-◌, List, [], ◌∷◌, ◌++◌, length, get_or, zero, suc, Bool, nat_lt}
 use Rattle.janus_meaning.specs.World.{World, empty_world, Cell}
-use Rattle.kernel_core.specs.Language.{empty_cell, Code, Forward, Backward, CodePart, end_of}
+use Rattle.janus_meaning.specs.Syntax.{Proc}
+use Rattle.kernel_core.specs.Language.{empty_cell, Code, Forward, Backward, start_of, CodePart, end_of}
 use Rattle.kernel_core.specs.Travel.{Up, Down, Aim, Undo, Redo, Goto, Travel, next_way}
 use Rattle.kernel_core.specs.Turn.{Turn}
 
@@ -98,6 +99,12 @@ ShownAt s (Inside e) w = CodePart (code_of s e.work) (here s) e.count w
 
 abbrev pub Shown : State → World → Type 0
 Shown s w = ShownAt s.past s.job w
+
+-- the procedures of the world that is shown: inside a cell those with which its steps began
+abbrev pub procedures_at : Past → Job → List Proc
+procedures_at s Idle = (here s).procedures
+procedures_at s (Border travel) = (here s).procedures
+procedures_at s (Inside e) = (start_of (code_of s e.work) (here s)).procedures
 
 -- the state of a new kernel
 abbrev pub new_state : State

@@ -1,6 +1,6 @@
 -- Which cell a text is, in a world, and how it is refused there.
 use Rattle.std.specs.Prelude.{◌≡◌, ◌≢◌, ℕ, List}
-use Rattle.janus_meaning.specs.Shape.{shape_of}
+use Rattle.janus_meaning.specs.Shape.{shape_of, heads_of}
 use Rattle.janus_meaning.specs.World as world
 use Rattle.janus_meaning.specs.World.{World}
 use Rattle.janus_syntax.specs.Tree.{Cell}
@@ -16,19 +16,19 @@ use Rattle.janus_check.specs.declared.fault.CheckFault.TheVariants as check_faul
 use Rattle.kernel_core.specs.declared.outcome.Refusal.{Refusal}
 use Rattle.kernel_core.specs.declared.outcome.Refusal.TheVariants.{Syntax, Check, HistoryFull, TooFar, NoNode, Closing, Memory}
 
--- the text has a tree that is well formed over the names of the world, and this is the cell
+-- the text has a tree that is well formed over the names and the procedures of the world, and this is the cell
 pub record Accepts (w : World) (text : List ℕ) (cell : world.Cell) : Type 0 where
   pub tree : Cell
   pub is_tree : HasTree text tree
-  pub formed : IsWellFormed (shape_of w.store) tree
+  pub formed : IsWellFormed (shape_of w.store) (heads_of w.procedures) tree
   pub meant : cell ≡ plain_cell tree
 
--- the text's tree has faults over the names of the world, and this is the first one
+-- the text's tree has faults over the names and the procedures of the world, and this is the first one
 pub record IsUnformed (w : World) (text : List ℕ) (fault : check.CheckFault) : Type 0 where
   pub tree : Cell
   pub is_tree : HasTree text tree
   pub real : fault ≢ check_fault.Memory
-  pub first : IsFirst fault (cell_faults (shape_of w.store) tree)
+  pub first : IsFirst fault (cell_faults (shape_of w.store) (heads_of w.procedures) tree)
 
 -- the text is refused: it is no cell, or its cell is not well formed; want of memory may come at any text
 abbrev pub Refuses : World → List ℕ → Refusal → Type 0
@@ -54,7 +54,10 @@ refused_by_check (check_fault.Declared at) = Check (check_fault.Declared at)
 refused_by_check (check_fault.Unknown at) = Check (check_fault.Unknown at)
 refused_by_check (check_fault.WrongKind at) = Check (check_fault.WrongKind at)
 refused_by_check (check_fault.SelfUse at) = Check (check_fault.SelfUse at)
+refused_by_check (check_fault.SameArgument at) = Check (check_fault.SameArgument at)
+refused_by_check (check_fault.Arity at) = Check (check_fault.Arity at)
 refused_by_check (check_fault.Shadow at) = Check (check_fault.Shadow at)
+refused_by_check (check_fault.ChangedParameters at) = Check (check_fault.ChangedParameters at)
 refused_by_check (check_fault.TooMany at) = Check (check_fault.TooMany at)
 refused_by_check (check_fault.ArrayLength at) = Check (check_fault.ArrayLength at)
 refused_by_check check_fault.Memory = Memory

@@ -9,9 +9,10 @@ ghost use Rattle.kernel_core.specs.StepsOfSlices.{WritesOnSlice};
 ghost use Rattle.kernel_core.specs.Begins.{TakesCell, TakesMove, TakesGoto, Departs, Enters, Declares, travel_to};
 ghost use Rattle.janus_names.specs.Numbers.{GoOn};
 ghost use Rattle.janus_store.specs.Held.{IsWhole};
-ghost use Rattle.kernel_core.specs.Runner.{world_of, Becomes};
+ghost use Rattle.janus_machine.specs.Bodies.{kept_in};
+ghost use Rattle.kernel_core.specs.Runner.{Becomes, Shows};
 ghost use Rattle.kernel_core.specs.Extent.{IsExtent};
-ghost use Rattle.kernel_core.specs.Kept.{HasRoom, HasPath, NodesHaveNumbers, Kept, IsKept, StandsAt};
+ghost use Rattle.kernel_core.specs.Kept.{HasRoom, HasPath, NodesAreReady, AreInOrder, stack_at, Kept, IsKept, StandsAt};
 
 use crate::extent::{Extent, extent_of};
 use crate::job::{Aim, Entered, Open, Stage, Travel, Turn, Way, Why, Work};
@@ -62,11 +63,14 @@ fn enter_next<L: Ledger>(
     requires legal { IsLegal (past_of tree.now) }
     requires possible { IsPossible (nodes_of tree.now) tree.now.cells.favourites tree.now.position (travel_of travel) }
     requires path { HasPath (aim_of travel.aim) tree.now travel.down }
-    requires shown { world_of runner.old ≡ here (past_of tree.now) }
+    requires shows { Shows runner.old (stack_at tree.now tree.now.position) (here (past_of tree.now)) }
     requires whole { IsWhole runner.old.store }
-    requires numbered { NodesHaveNumbers tree.now runner.old }
+    requires ready { NodesAreReady tree.now runner.old }
+    requires order { AreInOrder tree.now }
     ensures ok { OnOk result (StandsAt tree.now (Open.Inside (record { work = Work.Move travel; count = 0; turn = Turn.Going })) runner.new) }
     ensures err { OnErr result (Becomes runner.old.store runner.new.store runner.old.store.sight) }
+    ensures same { OnErr result (runner.new.procedures ≡ runner.old.procedures) }
+    ensures bodies { kept_in runner.new.procedures ≡ kept_in runner.old.procedures }
     ensures names { GoOn runner.old.store.names runner.new.store.names }
     ensures declares { OnErr result (Declares (past_of tree.now) (travel_of travel)) }
 {
@@ -129,7 +133,7 @@ impl<L: Ledger> History<L> {
     pub fn world(&self) -> View<'_, L>
         ensures { Shown self.now result }
     {
-        View::of(&self.runner)
+        View::of(&self.runner, &self.tree, &self.job)
     }
 
     /// The store between two jobs: it has the names and values of the position's world, and no local is open.
@@ -164,11 +168,12 @@ impl<L: Ledger> History<L> {
         if is_full(&self.tree) {
             return Begun::Ended(Outcome::Refused(Refusal::HistoryFull));
         }
-        let program = match Program::of_text(alloc, text, &mut self.runner) {
+        let program = match Program::of_text(alloc, text, &self.tree, &mut self.runner) {
             Ok(program) => program,
             Err(refusal) => return Begun::Ended(Outcome::Refused(refusal)),
         };
         if self.tree.cells.room().is_err() || self.runner.enter(&program).is_err() {
+            self.runner.procedures.forget(program.first);
             return Begun::Ended(Outcome::Refused(Refusal::Memory));
         }
         self.job = Open::Inside(Entered {

@@ -21,11 +21,13 @@
 //! `runner` alone runs the machine of `janus_machine`. The nodes, the favourites and the way down of a goto are kept by `cell_tree`.
 #![tactic(auto)]
 
+mod defined;
 mod events;
 mod extent;
 mod history;
 mod job;
 mod kernel;
+mod known;
 pub mod laws;
 mod machine;
 mod meeting;

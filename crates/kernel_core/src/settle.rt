@@ -10,8 +10,9 @@ ghost use Rattle.janus_machine.specs.Counts.{IsWritten};
 ghost use Rattle.kernel_core.specs.StepsOfSlices.{steps_back, WritesOn};
 ghost use Rattle.janus_names.specs.Numbers.{GoOn};
 ghost use Rattle.janus_store.specs.Held.{IsWhole};
-ghost use Rattle.kernel_core.specs.Runner.{world_of};
-ghost use Rattle.kernel_core.specs.Kept.{Kept, IsProgramOf, HasPathFor};
+ghost use Rattle.kernel_core.specs.Language.{start_of};
+ghost use Rattle.kernel_core.specs.Runner.{world_of, Shows};
+ghost use Rattle.kernel_core.specs.Kept.{Kept, IsProgramOf, HasPathFor, NodesAreReady, stack_at};
 
 use crate::job::{Aim, Entered, Open, Travel, Turn, Way, Why, Work};
 use crate::outcome::{End, Outcome, Sliced};
@@ -60,19 +61,21 @@ fn turned(work: &Work, why: Why) -> Outcome
     }
 }
 
-/// Back at the count 0: the names that were declared at the begin are taken back.
+/// Back at the count 0: the names that were declared at the begin and the procedures that were defined are taken back, and those of a
+/// posted cell are forgotten.
 fn settle_back<L: Ledger>(tree: &Tree, runner: &mut Runner<L>, work: &Work)
-    requires legal { IsLegal (past_of tree.now) }
-    requires possible { IsPossibleWork (past_of tree.now) (work_of work.now) }
-    requires path { HasPathFor tree.now work.now }
-    requires back { CodePart (code_of (past_of tree.now) (work_of work.now)) (here (past_of tree.now)) 0 (world_of runner.old) }
+    requires kept { (why : Why) × Kept tree.now runner.old (Open.Inside (record { work = work.now; count = 0; turn = Turn.Backing why })) }
     requires whole { IsWhole runner.old.store }
-    ensures world { world_of runner.new ≡ here (past_of tree.now) }
+    ensures shows { Shows runner.new (stack_at tree.now tree.now.position) (here (past_of tree.now)) }
+    ensures ready { NodesAreReady tree.now runner.new }
     ensures whole { IsWhole runner.new.store }
     ensures names { GoOn runner.old.store.names runner.new.store.names }
 {
     match work {
-        Work::Cell(program) => runner.leave(program),
+        Work::Cell(program) => {
+            runner.leave(program);
+            runner.procedures.forget(program.first);
+        }
         Work::Move(travel) => match travel.way() {
             Way::Up => {}
             Way::Down => runner.leave(&tree.cells.content(below(tree, *travel)).program),
@@ -152,9 +155,9 @@ fn settle_cell<L: Ledger>(
     n: u64,
 ) -> (Open, Sliced)
     requires kept { Kept tree.old runner.now (Open.Inside (record { work = Work.Cell program; count = n; turn = Turn.Going })) }
-    requires ended { HasEnded (past_of tree.old) (work_of (Work.Cell program)) n (world_of runner.now) }
+    requires ended { HasEnded (past_of tree.old) (work_of (Work.Cell program)) n (world_of (start_of (code_of (past_of tree.old) (work_of (Work.Cell program))) (here (past_of tree.old))).procedures runner.now) }
     requires whole { IsWhole runner.now.store }
-    ensures step { Settles (past_of tree.old) (work_of (Work.Cell program)) n (world_of runner.now) result.1 (state_of tree.new result.0) }
+    ensures step { Settles (past_of tree.old) (work_of (Work.Cell program)) n (world_of (start_of (code_of (past_of tree.old) (work_of (Work.Cell program))) (here (past_of tree.old))).procedures runner.now) result.1 (state_of tree.new result.0) }
     ensures kept { Kept tree.new runner.now result.0 }
 {
     let parent = tree.position;
@@ -174,9 +177,9 @@ fn settle_up<L: Ledger>(
 ) -> (Open, Sliced)
     requires way { next_way (travel_of travel) ≡ Up }
     requires kept { Kept tree.old runner.old (Open.Inside (record { work = Work.Move travel; count = n; turn = Turn.Going })) }
-    requires ended { HasEnded (past_of tree.old) (work_of (Work.Move travel)) n (world_of runner.old) }
+    requires ended { HasEnded (past_of tree.old) (work_of (Work.Move travel)) n (world_of (start_of (code_of (past_of tree.old) (work_of (Work.Move travel))) (here (past_of tree.old))).procedures runner.old) }
     requires whole { IsWhole runner.old.store }
-    ensures step { Settles (past_of tree.old) (work_of (Work.Move travel)) n (world_of runner.old) result.1 (state_of tree.new result.0) }
+    ensures step { Settles (past_of tree.old) (work_of (Work.Move travel)) n (world_of (start_of (code_of (past_of tree.old) (work_of (Work.Move travel))) (here (past_of tree.old))).procedures runner.old) result.1 (state_of tree.new result.0) }
     ensures kept { Kept tree.new runner.new result.0 }
 {
     runner.leave(&tree.cells.content(tree.position).program);
@@ -193,9 +196,9 @@ fn settle_down<L: Ledger>(
 ) -> (Open, Sliced)
     requires way { next_way (travel_of travel) ≡ Down }
     requires kept { Kept tree.old runner.now (Open.Inside (record { work = Work.Move travel; count = n; turn = Turn.Going })) }
-    requires ended { HasEnded (past_of tree.old) (work_of (Work.Move travel)) n (world_of runner.now) }
+    requires ended { HasEnded (past_of tree.old) (work_of (Work.Move travel)) n (world_of (start_of (code_of (past_of tree.old) (work_of (Work.Move travel))) (here (past_of tree.old))).procedures runner.now) }
     requires whole { IsWhole runner.now.store }
-    ensures step { Settles (past_of tree.old) (work_of (Work.Move travel)) n (world_of runner.now) result.1 (state_of tree.new result.0) }
+    ensures step { Settles (past_of tree.old) (work_of (Work.Move travel)) n (world_of (start_of (code_of (past_of tree.old) (work_of (Work.Move travel))) (here (past_of tree.old))).procedures runner.now) result.1 (state_of tree.new result.0) }
     ensures kept { Kept tree.new runner.now result.0 }
 {
     let child = below(tree, travel);
@@ -207,9 +210,9 @@ fn settle_down<L: Ledger>(
 /// A cell came to its end, in `n` steps.
 fn settle<L: Ledger>(tree: &mut Tree, runner: &mut Runner<L>, work: Work, n: u64) -> (Open, Sliced)
     requires kept { Kept tree.old runner.old (Open.Inside (record { work = work; count = n; turn = Turn.Going })) }
-    requires ended { HasEnded (past_of tree.old) (work_of work) n (world_of runner.old) }
+    requires ended { HasEnded (past_of tree.old) (work_of work) n (world_of (start_of (code_of (past_of tree.old) (work_of work)) (here (past_of tree.old))).procedures runner.old) }
     requires whole { IsWhole runner.old.store }
-    ensures step { Settles (past_of tree.old) (work_of work) n (world_of runner.old) result.1 (state_of tree.new result.0) }
+    ensures step { Settles (past_of tree.old) (work_of work) n (world_of (start_of (code_of (past_of tree.old) (work_of work)) (here (past_of tree.old))).procedures runner.old) result.1 (state_of tree.new result.0) }
     ensures kept { Kept tree.new runner.new result.0 }
 {
     match work {

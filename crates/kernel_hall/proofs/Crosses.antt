@@ -12,6 +12,14 @@ use Rattle.atomic_table.proofs.shared.Seat.TheSendSync.{the_send as seat_send}
 use Rattle.atomic_table.proofs.send_lease.SendLease.TheSendSync.{the_sync as lease_sync}
 use Rattle.atomic_table.proofs.shared.Shared.TheSendSync.{the_sync as table_sync}
 use Rattle.janus_names.specs.contracts.names.Names as Names
+use Rattle.janus_syntax.specs.contracts.tree.Exp as TreeExp
+use Rattle.janus_syntax.proofs.tree.Exp.TheLaws.TheKnot.{crosses as tree_exp_crosses}
+use Rattle.janus_syntax.specs.contracts.tree.Stm as TreeStm
+use Rattle.janus_syntax.proofs.tree.Stm.TheLaws.TheKnot.{crosses as tree_stm_crosses}
+use Rattle.janus_syntax.specs.contracts.tree.Procedure as TreeProcedure
+use Rattle.janus_syntax.specs.contracts.tree.Cell as TreeCell
+use Rattle.janus_check.specs.contracts.checked.Checked as Checked
+use Rattle.janus_machine.specs.contracts.procedures.Procedures as Procedures
 use Rattle.janus_invert.specs.contracts.code.Exp as Exp
 use Rattle.janus_invert.proofs.code.Exp.TheLaws.TheKnot.{crosses as exp_crosses}
 use Rattle.janus_invert.specs.contracts.code.Statement as Statement
@@ -55,6 +63,24 @@ Linear-send = search (crosses, maps, Exp-send, Code-send, sendable) depth 60 fit
 
 Book-send : IsSend (Book.the_field).row
 Book-send = search (crosses, Linear-send, sendable) depth 60 fits 20000
+
+TreeExp-send : IsSend (TreeExp.the_field).row
+TreeExp-send = search (crosses, tree_exp_crosses, sendable) depth 60 fits 20000
+
+TreeStm-send : IsSend (TreeStm.the_field).row
+TreeStm-send = search (crosses, tree_stm_crosses, TreeExp-send, sendable) depth 60 fits 20000
+
+TreeProcedure-send : IsSend (TreeProcedure.the_field).row
+TreeProcedure-send = search (crosses, TreeStm-send, sendable) depth 60 fits 20000
+
+TreeCell-send : IsSend (TreeCell.the_field).row
+TreeCell-send = search (crosses, TreeStm-send, TreeProcedure-send, sendable) depth 60 fits 20000
+
+Checked-send : IsSend (Checked.the_field).row
+Checked-send = search (crosses, TreeCell-send, sendable) depth 60 fits 20000
+
+Procedures-send : IsSend (Procedures.the_field).row
+Procedures-send = search (crosses, Book-send, sendable) depth 60 fits 20000
 
 Job-send : IsSend (Job.the_field).row
 Job-send = search (crosses, maps, sendable) depth 60 fits 20000
@@ -100,7 +126,7 @@ module _ (W : RattleType) (w : Ledger.Ghosts W.Denot) where
   Writes-send s = search (crosses, book_send, share_send, sendable) depth 60 fits 20000
 
   Kernel-send : IsSend W → IsSend (Kernel.the_field W w).row
-  Kernel-send s = let a = Store-send s in let b = Writes-send s in search (crosses, Book-send, Entry-send, sendable) depth 60 fits 20000
+  Kernel-send s = let a = Store-send s in let b = Writes-send s in search (crosses, Book-send, Checked-send, Procedures-send, Entry-send, sendable) depth 60 fits 20000
 
   Passes-send : IsSend W → IsSend (Passes.the_field W w).row
   Passes-send s = search (crosses, share_send, sendable) depth 60 fits 20000

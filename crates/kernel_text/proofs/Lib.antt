@@ -1,3 +1,4 @@
 pub mod Sending
 pub mod Numbers
 mod Utf8
+pub mod Newest

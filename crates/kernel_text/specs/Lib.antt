@@ -1,3 +1,5 @@
 pub mod Sending
 pub mod Lines
 pub mod ValueTexts
+-- procedures
+pub mod Procedures

@@ -8,6 +8,7 @@
 #![tactic(auto)]
 
 mod lines;
+mod procedures;
 mod text;
 mod values;
 mod writing;
@@ -15,5 +16,6 @@ mod writing;
 pub use crate::lines::{
     fault_line, outcome_line, post_fault_line, refusal_line, send_outcome, send_post_fault,
 };
+pub use crate::procedures::newest_of;
 pub use crate::values::{SHOWN_VALUES, send_value, value_text};
 pub use crate::writing::{WriteFailed, send, send_counted};

@@ -7,11 +7,11 @@ use Rattle.janus_check.proofs.sight.kind_declared.Goals as goal
 
 pub returns-in-Some : goal.returns-in-Some
 returns-in-Some c =
-    kind_own (name_of c.args.name.now) (shape_in c.args.env.now) c.args.own.now c.in-Some.kind
-    (sym (ap kind_found c.in-Some.is) ∙ c.kind.ensures ∙ ap (λ x. kind_at x (shape_in c.args.own.now)) c.deref.ensures)
+    kind_own (name_of c.args.name.now) (shape_in c.args.env.now.names) c.args.own.now.names c.in-Some.kind
+    (sym (ap kind_found c.in-Some.is) ∙ c.kind.ensures ∙ ap (λ x. kind_at x (shape_in c.args.own.now.names)) c.deref.ensures)
 
 pub returns-in-None : goal.returns-in-None
 returns-in-None c =
-    kind_older (name_of c.args.name.now) (shape_in c.args.env.now) c.args.own.now c.kind-in-None.result
-    (sym (ap kind_found c.in-None.is) ∙ c.kind.ensures ∙ ap (λ x. kind_at x (shape_in c.args.own.now)) c.deref.ensures)
-    (c.kind-in-None.ensures ∙ ap (λ x. kind_at x (shape_in c.args.env.now)) c.deref-in-None.ensures)
+    kind_older (name_of c.args.name.now) (shape_in c.args.env.now.names) c.args.own.now.names c.kind-in-None.result
+    (sym (ap kind_found c.in-None.is) ∙ c.kind.ensures ∙ ap (λ x. kind_at x (shape_in c.args.own.now.names)) c.deref.ensures)
+    (c.kind-in-None.ensures ∙ ap (λ x. kind_at x (shape_in c.args.env.now.names)) c.deref-in-None.ensures)

@@ -2,11 +2,11 @@ use Rattle.std.proofs.Common.{◌≡◌, drop}
 use Rattle.janus_syntax.specs.Tree.{block_view}
 use Rattle.janus_check.specs.Fault.{first_from}
 use Rattle.janus_check.specs.Check.{block_faults}
-use Rattle.janus_check.specs.Sight.{in_sight}
+use Rattle.janus_check.specs.Sight.{in_sight, heads_seen}
 use Rattle.janus_check.proofs.statement.+stm_fault.Given as goal
 
 -- what is found from here on is what is found from the beginning
 abbrev pub invariant-block_fault-loop-i : goal.invariant-block_fault-loop-i
 invariant-block_fault-loop-i l =
-    first_from l.next (block_faults (in_sight l.sight) (block_view (drop l.i l.statements)))
-    ≡ first_from l.fn.first (block_faults (in_sight l.sight) (block_view l.statements))
+    first_from l.next (block_faults (heads_seen l.sight) (in_sight l.sight) (block_view (drop l.i l.statements)))
+    ≡ first_from l.fn.first (block_faults (heads_seen l.sight) (in_sight l.sight) (block_view l.statements))

@@ -41,4 +41,4 @@ returns-clause-names g c =
     let t = stack_on_top x c.args.store.now.sight c.requires.safe in
     let none = no_values t.values (sym (c.is_empty.ensures x t.values c.requires.at t.there) ∙ c.if-not-is_empty.false) in
     let left = c.leave_local_stack.ensures x t.rest (t.top ∙ ap (λ l. Slot x (Stk l) t.rest) none) in
-    record { declared = ap (λ (h : Held). h.declared) left; names = ap (λ (h : Held). h.names) left }
+    record { declared = ap (λ (h : Held). h.declared) left; names = ap (λ (h : Held). h.names) left; callers = ap (λ (h : Held). h.callers) left }

@@ -5,8 +5,7 @@ use Rattle.janus_meaning.specs.Fault.{Fine, and_then, guard, TooManyStacks}
 use Rattle.janus_meaning.specs.Limit.{live_stack_limit}
 use Rattle.janus_meaning.specs.Store.{Slot, Stk}
 use Rattle.janus_meaning.specs.Moves.{stack_room}
-use Rattle.janus_meaning.specs.World.{stacks_in}
-use Rattle.janus_store.specs.Held.{Held}
+use Rattle.janus_store.specs.Held.{Held, live_stacks}
 use Rattle.janus_evaluation.proofs.local.open_stack.Goals as goal
 
 no_room : (k : ℕ) → live_stack_limit ≤ k → nat_lt k live_stack_limit ≡ false
@@ -20,7 +19,7 @@ unfolding stack_room
 returns-then-stacks_left-eq0-clause-done g c =
     let x = string_bytes c.args.name.now.text in
     let s = c.args.store.now.sight in
-    let full = no_room (stacks_in s) (omega (arith, c.stacks_left.ensures, c.if-stacks_left-eq0.true)) in
+    let full = no_room (live_stacks c.args.store.now) (omega (arith, c.stacks_left.ensures, c.if-stacks_left-eq0.true)) in
     (ap (λ t. and_then (guard t TooManyStacks) (λ ok. Fine (Slot x (Stk []) s))) full, refl)
 
 pub returns-clause-done : goal.returns-clause-done
@@ -28,6 +27,6 @@ unfolding stack_room
 returns-clause-done g c =
     let x = string_bytes c.args.name.now.text in
     let s = c.args.store.now.sight in
-    let room = some_room (stacks_in s) (omega (arith, c.stacks_left.ensures, c.if-stacks_left-eq0.false)) in
+    let room = some_room (live_stacks c.args.store.now) (omega (arith, c.stacks_left.ensures, c.if-stacks_left-eq0.false)) in
     ap (λ t. and_then (guard t TooManyStacks) (λ ok. Fine (Slot x (Stk []) s))) room
     ∙ ap Fine (sym (ap (λ (h : Held). h.sight) (c.enter_local_stack.ensures x c.requires.at)))

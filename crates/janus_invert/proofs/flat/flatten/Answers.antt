@@ -5,7 +5,7 @@ use Rattle.janus_invert.specs.Met.{MeetsBlk}
 use Rattle.janus_invert.proofs.flat.flatten.Goals as goal
 
 abbrev statements_in : Cell → Block
-statements_in (cell_of ds b) = b
+statements_in (cell_of ds b ps) = b
 
 pub flat_code-requires : goal.flat_code-requires
 flat_code-requires c =

@@ -16,6 +16,7 @@ use Rattle.janus_syntax.proofs.StatementSteps.{if_is, if_stops_then, if_stops_bo
 use Rattle.janus_syntax.proofs.Assignments.{name_begins, name_stops, skip_is, push_is, pop_is, if_begins, from_begins}
 use Rattle.janus_syntax.proofs.Blocks.{view_push, so_far_begins, so_far_goes_on, so_far_fails, so_far_ends, body_stops_first, body_result, optional_result}
 use Rattle.janus_syntax.proofs.Locals.{int_is, int_stops_name, int_stops_equals, int_stops_first, int_stops_body, int_stops_delocal, int_stops_last, stack_is, stack_stops_name, stack_stops_equals, stack_stops_nil, stack_stops_body, stack_stops_delocal, stack_stops_last, local_int_is, local_int_stops, local_stack_is, local_stack_stops, kind_is_wanted, local_begins}
+use Rattle.janus_syntax.proofs.Calls.{call_begins, uncall_begins}
 use Rattle.janus_syntax.proofs.statement.+statement.Goals as goal
 
 pub behind_if-returns-in_err-rest : goal.behind_if-returns-in_err-rest
@@ -204,6 +205,16 @@ pub statement-returns-in_ok-variable-in-Pop : goal.statement-returns-in_ok-varia
 statement-returns-in_ok-variable-in-Pop t c =
     let e = first_token c.args.tokens.now c.in-Some.rest.now c.in-Some.first.now (kinds.Word word.Pop) c.in-Some.ensures.cases (c.in-Word.is ∙ ap kinds.Word c.in-Pop.is) in
     rw e (pop_is _ c.args.depth c.requires c.in_ok-variable-in-Pop.ensures)
+
+pub statement-returns-in_ok-procedure-in-Call : goal.statement-returns-in_ok-procedure-in-Call
+statement-returns-in_ok-procedure-in-Call t c =
+    let e = first_token c.args.tokens.now c.in-Some.rest.now c.in-Some.first.now (kinds.Word word.Call) c.in-Some.ensures.cases (c.in-Word.is ∙ ap kinds.Word c.in-Call.is) in
+    rw e (call_begins _ c.args.depth c.requires c.in_ok-procedure-in-Call.ensures)
+
+pub statement-returns-in_ok-procedure-in-Uncall : goal.statement-returns-in_ok-procedure-in-Uncall
+statement-returns-in_ok-procedure-in-Uncall t c =
+    let e = first_token c.args.tokens.now c.in-Some.rest.now c.in-Some.first.now (kinds.Word word.Uncall) c.in-Some.ensures.cases (c.in-Word.is ∙ ap kinds.Word c.in-Uncall.is) in
+    rw e (uncall_begins _ c.args.depth c.requires c.in_ok-procedure-in-Uncall.ensures)
 
 pub statement-returns-in_ok-stm-in-If : goal.statement-returns-in_ok-stm-in-If
 statement-returns-in_ok-stm-in-If t c =

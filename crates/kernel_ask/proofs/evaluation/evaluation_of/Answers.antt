@@ -1,9 +1,11 @@
-use Rattle.std.proofs.Common.{◌≡◌, ℕ, List, Err, sym, ap, ◌∙◌, subst}
+use Rattle.std.proofs.lemmas.Int.{to_z-of_z}
+use Rattle.std.proofs.Common.{◌≡◌, ℕ, ℤ, to_z, of_z, w32, arith, List, Err, sym, ap, ◌∙◌, subst}
 use Rattle.janus_meaning.specs.Syntax.{Name, Exp}
 use Rattle.janus_meaning.specs.Shape.{Shape, shape_of, AreDistinct}
 use Rattle.janus_meaning.specs.FormedWorld.{HaveValues}
 use Rattle.janus_meaning.specs.Store.{Store}
 use Rattle.janus_meaning.specs.Formed.{IsExp}
+use Rattle.janus_meaning.specs.Fault.{Fine, Bad}
 use Rattle.janus_meaning.specs.Value.{value}
 use Rattle.janus_syntax.specs.View.{exp_of}
 use Rattle.janus_syntax.specs.Tree as tree
@@ -17,12 +19,12 @@ use Rattle.janus_invert.specs.Numbered.{HasNumbers}
 use Rattle.janus_invert.specs.Met.{MeetsExp}
 use Rattle.janus_invert.proofs.Meeting.{exp_met}
 use Rattle.janus_store.specs.Held.{Held, IsWhole, shown_store}
-use Rattle.kernel_core.proofs.Running.{all_shown}
+use Rattle.kernel_core.proofs.Borders.{all_shown}
 use Rattle.kernel_core.proofs.NamesMet.{sight_met}
 use Rattle.kernel_core.specs.Text.{refused_by_check}
 use Rattle.kernel_core.specs.declared.outcome.Refusal.{Refusal}
 use Rattle.kernel_ask.specs.declared.done.ExpFault.TheVariants.{Refused}
-use Rattle.kernel_ask.specs.Evaluation.{IsEvaluated}
+use Rattle.kernel_ask.specs.Evaluation.{HasValue, IsEvaluated}
 use Rattle.kernel_ask.proofs.Sound.{not_broken}
 use Rattle.kernel_ask.proofs.evaluation.evaluation_of.Goals as goal
 
@@ -39,7 +41,7 @@ names_in_sight-requires-clause-distinct g c = subst AreDistinct (sym (declared c
 pub value-requires-clause-safe : goal.value-requires-clause-safe
 value-requires-clause-safe g c = λ broken.
     let tree : Exp = exp_of c.in-Ok.exp in
-    let formed = subst (λ (g : Shape). IsExp g tree) (c.in-Ok-names_in_sight.ensures ∙ declared c.args.store.now c.requires.whole) c.in-Ok-check_exp.ensures.well_formed in
+    let formed = subst (λ (g : Shape). IsExp g tree) (c.in-Ok-names_in_sight.ensures.names ∙ declared c.args.store.now c.requires.whole) c.in-Ok-check_exp.ensures.well_formed in
     not_broken tree c.args.store.now.sight formed (ap (λ (e : Exp). value e c.args.store.now.sight) (sym c.in-Ok-flat_exp.ensures.tree) ∙ broken)
 
 pub value-requires-clause-numbered : goal.value-requires-clause-numbered
@@ -49,7 +51,7 @@ value-requires-clause-numbered g c =
 pub flat_exp-requires : goal.flat_exp-requires
 flat_exp-requires g c =
     let tree : Exp = exp_of c.in-Ok.exp in
-    let formed = subst (λ (g : Shape). IsExp g tree) (c.in-Ok-names_in_sight.ensures ∙ declared c.args.store.now c.requires.whole) c.in-Ok-check_exp.ensures.well_formed in
+    let formed = subst (λ (g : Shape). IsExp g tree) (c.in-Ok-names_in_sight.ensures.names ∙ declared c.args.store.now c.requires.whole) c.in-Ok-check_exp.ensures.well_formed in
     subst (λ (xs : List Name). MeetsExp xs tree) (sym c.names.ensures.names)
     (exp_met (shape_of c.args.store.now.sight) c.args.store.now.names tree (sight_met c.args.store.now c.requires.values c.names.ensures.known) formed)
 
@@ -60,6 +62,9 @@ told s text e (fault.Declared at) r has first is = rw is (record { tree = e; is_
 told s text e (fault.Unknown at) r has first is = rw is (record { tree = e; is_tree = has; first = first })
 told s text e (fault.WrongKind at) r has first is = rw is (record { tree = e; is_tree = has; first = first })
 told s text e (fault.SelfUse at) r has first is = rw is (record { tree = e; is_tree = has; first = first })
+told s text e (fault.SameArgument at) r has first is = rw is (record { tree = e; is_tree = has; first = first })
+told s text e (fault.Arity at) r has first is = rw is (record { tree = e; is_tree = has; first = first })
+told s text e (fault.ChangedParameters at) r has first is = rw is (record { tree = e; is_tree = has; first = first })
 told s text e (fault.Shadow at) r has first is = rw is (record { tree = e; is_tree = has; first = first })
 told s text e (fault.TooMany at) r has first is = rw is (record { tree = e; is_tree = has; first = first })
 told s text e (fault.ArrayLength at) r has first is = rw is (record { tree = e; is_tree = has; first = first })
@@ -68,5 +73,29 @@ told s text e fault.Memory r has first is = rw is tt
 pub returns-in-Err-check_exp : goal.returns-in-Err-check_exp
 returns-in-Err-check_exp g c =
     let e = exp_view c.in-Ok.exp in
-    let first = subst (λ (g : Shape). IsFirst c.in-Err-check_exp.fault (exp_faults g e)) (c.in-Ok-names_in_sight.ensures ∙ declared c.args.store.now c.requires.whole) c.in-Err-check_exp.ensures.first in
+    let first = subst (λ (g : Shape). IsFirst c.in-Err-check_exp.fault (exp_faults g e)) (c.in-Ok-names_in_sight.ensures.names ∙ declared c.args.store.now c.requires.whole) c.in-Err-check_exp.ensures.first in
     told c.args.store.now.sight c.args.text.now e c.in-Err-check_exp.fault c.refusal_of_check.result c.in-Ok.ensures.read first c.refusal_of_check.ensures
+
+pub returns-in-Ok-value : goal.returns-in-Ok-value
+returns-in-Ok-value g c =
+    let tree : Exp = exp_of c.in-Ok.exp in
+    let formed : IsExp (shape_of c.args.store.now.sight) tree = subst (λ (g : Shape). IsExp g tree) (c.in-Ok-names_in_sight.ensures.names ∙ declared c.args.store.now c.requires.whole) c.in-Ok-check_exp.ensures.well_formed in
+    let worth : HasValue c.args.store.now.sight c.args.text.now (Fine c.in-Ok-value.number) = record {
+      tree = exp_view c.in-Ok.exp;
+      is_tree = c.in-Ok.ensures.read;
+      formed = formed;
+      evaluated = ap (λ (e : Exp). value e c.args.store.now.sight) (sym c.in-Ok-flat_exp.ensures.tree) ∙ sym c.in-Ok-value.ensures;
+    } in
+    let same : to_z w32 (of_z w32 c.in-Ok-value.number) ≡ c.in-Ok-value.number = grind (arith, to_z-of_z) in
+    subst (λ (z : ℤ). HasValue c.args.store.now.sight c.args.text.now (Fine z)) (sym same) worth
+
+pub returns : goal.returns
+returns g c =
+    let tree : Exp = exp_of c.in-Ok.exp in
+    let formed : IsExp (shape_of c.args.store.now.sight) tree = subst (λ (g : Shape). IsExp g tree) (c.in-Ok-names_in_sight.ensures.names ∙ declared c.args.store.now c.requires.whole) c.in-Ok-check_exp.ensures.well_formed in
+    record {
+      tree = exp_view c.in-Ok.exp;
+      is_tree = c.in-Ok.ensures.read;
+      formed = formed;
+      evaluated = ap (λ (e : Exp). value e c.args.store.now.sight) (sym c.in-Ok-flat_exp.ensures.tree) ∙ sym c.in-Err-value.ensures ∙ sym (ap (λ f. Bad f) c.told.ensures);
+    }

@@ -1,12 +1,14 @@
-use Rattle.std.proofs.Common.{◌≡◌, ℕ, ◌≤◌, length, get_or, sym, subst, arith}
-use Rattle.kernel_core.specs.Fields.{past_of}
+use Rattle.std.proofs.Common.{◌≡◌, ℕ, ◌<◌, ◌≤◌, length, get_or, sym, subst, arith}
+use Rattle.kernel_core.specs.Fields.{nodes_of, past_of}
 use Rattle.kernel_core.proofs.Nodes.{count_of_nodes}
-use Rattle.kernel_core.proofs.Standing.{position_known}
 use Rattle.kernel_core.proofs.Depths.{Descends, descends_start, descends_more, descends_end, favourite_behind}
 use Rattle.kernel_core.proofs.extent.nodes_below.Goals as goal
 
 pub loop-child-init : goal.loop-child-init
-loop-child-init c = (position_known c.args.tree.now c.requires, descends_start c.args.tree.now.cells.favourites c.args.tree.now.position)
+loop-child-init c =
+    let size = count_of_nodes c.args.tree.now in
+    let known : c.args.tree.now.position < length (nodes_of c.args.tree.now) = c.requires.position in
+    (omega arith, descends_start c.args.tree.now.cells.favourites c.args.tree.now.position)
 
 pub loop-child-preserved : goal.loop-child-preserved
 loop-child-preserved c =

@@ -1,46 +1,46 @@
 use Rattle.std.proofs.Common.{sym, ◌∙◌, ap}
-use Rattle.kernel_core.specs.Fields.{travel_of, way_of}
+use Rattle.kernel_core.specs.State.{here}
+use Rattle.kernel_core.specs.Fields.{past_of, travel_of, way_of}
+use Rattle.kernel_core.specs.Kept.{stack_at}
 use Rattle.janus_store.specs.Held.{Held}
+use Rattle.janus_machine.specs.Bodies.{kept_in}
+use Rattle.janus_machine.specs.declared.procedures.Procedures.{Procedures}
 use Rattle.kernel_core.proofs.Growing.{same_more}
-use Rattle.kernel_core.proofs.Standing.{below_there, here_sound, next_down, formed_next, stands_next_down, next_up, ran_above, stands_next_up, declares_next, ok_map}
+use Rattle.kernel_core.proofs.Standing.{below_there, next_down, can_go_down_to, stands_next_down, next_up, can_go_up_from, stands_next_up, declares_next, ok_map}
 use Rattle.kernel_core.proofs.history.enter_next.Goals as goal
 
-pub enter-requires-clause-formed : goal.enter-requires-clause-formed
-enter-requires-clause-formed g c =
-    formed_next c.args.tree.now (travel_of c.args.travel) c.content-in-Down.result.now c.args.runner.now (sym c.way.ensures ∙ ap way_of c.in-Down.is) c.requires.legal c.requires.possible c.requires.shown
-    (next_down c.args.tree.now (travel_of c.args.travel) c.content-in-Down.result.now c.below.result (sym c.way.ensures ∙ ap way_of c.in-Down.is) c.requires.legal c.requires.possible c.below.ensures c.content-in-Down.ensures)
+pub enter-requires : goal.enter-requires
+enter-requires g c =
+    let way = sym c.way.ensures ∙ ap way_of c.in-Down.is in
+    let at = next_down c.args.tree.now (travel_of c.args.travel) c.content-in-Down.result.now c.below.result way c.requires.legal c.requires.possible c.below.ensures c.content-in-Down.ensures in
+    (stack_at c.args.tree.now c.args.tree.now.position, here (past_of c.args.tree.now), can_go_down_to c.args.tree.now (travel_of c.args.travel) c.content-in-Down.result.now c.args.runner.now way c.requires.legal c.requires.possible at c.requires.shows c.requires.whole c.requires.ready c.requires.order)
 
-pub enter-requires-clause-sound : goal.enter-requires-clause-sound
-enter-requires-clause-sound g c = here_sound c.args.tree.now c.args.runner.now c.requires.legal c.requires.shown
-
-pub enter_inverse-requires-clause-ran : goal.enter_inverse-requires-clause-ran
-enter_inverse-requires-clause-ran g c =
-    ran_above c.args.tree.now (travel_of c.args.travel) c.content.result.now c.args.runner.now (sym c.way.ensures ∙ ap way_of c.in-Up.is) c.requires.legal c.requires.possible c.requires.shown
-    (next_up c.args.tree.now (travel_of c.args.travel) c.content.result.now (sym c.way.ensures ∙ ap way_of c.in-Up.is) c.requires.legal c.requires.possible c.content.ensures)
-
-pub enter-requires-clause-numbered : goal.enter-requires-clause-numbered
-enter-requires-clause-numbered g c =
-    c.requires.numbered _ c.content-in-Down.result.now
-    (next_down c.args.tree.now (travel_of c.args.travel) c.content-in-Down.result.now c.below.result (sym c.way.ensures ∙ ap way_of c.in-Down.is) c.requires.legal c.requires.possible c.below.ensures c.content-in-Down.ensures)
-
-pub enter_inverse-requires-clause-numbered : goal.enter_inverse-requires-clause-numbered
-enter_inverse-requires-clause-numbered g c =
-    c.requires.numbered _ c.content.result.now
-    (next_up c.args.tree.now (travel_of c.args.travel) c.content.result.now (sym c.way.ensures ∙ ap way_of c.in-Up.is) c.requires.legal c.requires.possible c.content.ensures)
+pub enter_inverse-requires : goal.enter_inverse-requires
+enter_inverse-requires g c =
+    let way = sym c.way.ensures ∙ ap way_of c.in-Up.is in
+    let at = next_up c.args.tree.now (travel_of c.args.travel) c.content.result.now way c.requires.legal c.requires.possible c.content.ensures in
+    (stack_at c.args.tree.now c.args.tree.now.position, here (past_of c.args.tree.now), can_go_up_from c.args.tree.now (travel_of c.args.travel) c.content.result.now c.args.runner.now way c.requires.legal c.requires.possible at c.requires.shows c.requires.whole c.requires.ready)
 
 pub returns-in-Up-clause-names : goal.returns-in-Up-clause-names
 returns-in-Up-clause-names g c = same_more c.args.runner.now.store.names c.enter_inverse.new.self.store.names (ap (λ (h : Held). h.names) c.enter_inverse.ensures.store)
 
+pub returns-in-Up-clause-bodies : goal.returns-in-Up-clause-bodies
+returns-in-Up-clause-bodies g c = ap (λ (t : Procedures). kept_in t) c.enter_inverse.ensures.procedures
+
 pub returns-in-Up-clause-ok : goal.returns-in-Up-clause-ok
 returns-in-Up-clause-ok g c =
-    stands_next_up c.args.tree.now c.args.travel c.content.result.now c.args.runner.now c.enter_inverse.new.self (sym c.way.ensures ∙ ap way_of c.in-Up.is) c.requires.shown
-    (next_up c.args.tree.now (travel_of c.args.travel) c.content.result.now (sym c.way.ensures ∙ ap way_of c.in-Up.is) c.requires.legal c.requires.possible c.content.ensures) c.enter_inverse.ensures.stands
+    let way = sym c.way.ensures ∙ ap way_of c.in-Up.is in
+    let at = next_up c.args.tree.now (travel_of c.args.travel) c.content.result.now way c.requires.legal c.requires.possible c.content.ensures in
+    stands_next_up c.args.tree.now c.args.travel c.content.result.now c.enter_inverse.new.self way at
+    (c.enter_inverse.ensures.stands _ _ (can_go_up_from c.args.tree.now (travel_of c.args.travel) c.content.result.now c.args.runner.now way c.requires.legal c.requires.possible at c.requires.shows c.requires.whole c.requires.ready))
 
 pub returns-in-Down-clause-ok : goal.returns-in-Down-clause-ok
 returns-in-Down-clause-ok g c =
+    let way = sym c.way.ensures ∙ ap way_of c.in-Down.is in
+    let at = next_down c.args.tree.now (travel_of c.args.travel) c.content-in-Down.result.now c.below.result way c.requires.legal c.requires.possible c.below.ensures c.content-in-Down.ensures in
     ok_map c.enter.result
-    (stands_next_down c.args.tree.now c.args.travel c.content-in-Down.result.now c.args.runner.now c.enter.new.self (sym c.way.ensures ∙ ap way_of c.in-Down.is) c.requires.shown
-    (next_down c.args.tree.now (travel_of c.args.travel) c.content-in-Down.result.now c.below.result (sym c.way.ensures ∙ ap way_of c.in-Down.is) c.requires.legal c.requires.possible c.below.ensures c.content-in-Down.ensures))
+    (λ stands. stands_next_down c.args.tree.now c.args.travel c.content-in-Down.result.now c.enter.new.self way at
+    (stands _ _ (can_go_down_to c.args.tree.now (travel_of c.args.travel) c.content-in-Down.result.now c.args.runner.now way c.requires.legal c.requires.possible at c.requires.shows c.requires.whole c.requires.ready c.requires.order)))
     c.enter.ensures.ok
 
 pub returns-in-Down-clause-declares : goal.returns-in-Down-clause-declares

@@ -1,11 +1,11 @@
-use Rattle.std.proofs.Common.{ℕ, take, sym, ap, ◌∙◌, subst, arith, add-one}
+use Rattle.std.proofs.Common.{ℕ, take, sym, ap, subst, arith, add-one}
 use Rattle.janus_syntax.specs.View.{stm_of, block_of}
 use Rattle.janus_names.specs.Numbers.{IsMet}
 use Rattle.janus_invert.proofs.Meeting.{block_weight, one_lighter}
 use Rattle.janus_invert.specs.Met.{MeetsLocals, MeetsLocalsOf}
 use Rattle.kernel_core.proofs.Growing.{still_met, block_locals_grow}
 use Rattle.kernel_core.proofs.NamesMet.{keeps_more, locals_one_more, if_met, loop_met, local_int_met, local_stack_met, if_lighter, loop_lighter, local_int_lighter, local_stack_lighter}
-use Rattle.kernel_core.proofs.Standing.{ok_map}
+use Rattle.kernel_core.proofs.Made.{ok_map}
 use Rattle.kernel_core.proofs.meeting.+meet.Goals as goal
 
 pub meet_locals-loop-i-preserved : goal.meet_locals-loop-i-preserved

@@ -1,11 +1,10 @@
-use Rattle.std.proofs.Common.{◌≡◌, ◌≤◌, ◌-◌, subst, Some, slice_get, to_z, of_z, w32, arith, get_or, pos, length, take, reverse}
+use Rattle.std.proofs.Common.{◌≡◌, ◌-◌, subst, Some, slice_get, to_z, of_z, w32, arith, get_or, pos, length, take, reverse}
 use Rattle.std.proofs.lemmas.Int.{to_z-of_z}
-use Rattle.std.proofs.lemmas.List.{length-take, length-reverse}
 use Rattle.std.specs.Io.KnownBytes.{Appends}
 use Rattle.kernel_text.specs.Sending.{SentSome}
 use Rattle.kernel_text.specs.ValueTexts.{spaced_text}
 use Rattle.kernel_text.proofs.Sending.{some_now}
-use Rattle.kernel_text.proofs.Numbers.{one_text, number_then, number_failed, numbers_all, top_at}
+use Rattle.kernel_text.proofs.Numbers.{one_text, number_then, number_failed, top_at}
 use Rattle.kernel_text.proofs.values.send_tops.Goals as goal
 
 pub returns-in_err-send_spaced-clause-err : goal.returns-in_err-send_spaced-clause-err

@@ -1,10 +1,7 @@
-use Rattle.std.proofs.Common.{◌<◌, ◌≤◌, length, take, reverse, codes, subst, arith}
-use Rattle.std.specs.Prelude.{OnOk, OnErr}
-use Rattle.std.specs.Io.KnownBytes.{Appends}
-use Rattle.kernel_text.specs.Sending.{SentSome}
+use Rattle.std.proofs.Common.{◌<◌, length, take, reverse, codes, arith}
 use Rattle.kernel_text.specs.ValueTexts.{spaced_text, numbers_text}
 use Rattle.kernel_text.proofs.Sending.{some_first, some_then}
-use Rattle.kernel_text.proofs.Numbers.{all_tops, more_tops}
+use Rattle.kernel_text.proofs.Numbers.{more_tops}
 use Rattle.kernel_text.proofs.values.send_values.Goals as goal
 
 pub returns-in_err-send_tops-clause-err : goal.returns-in_err-send_tops-clause-err

@@ -1,13 +1,9 @@
-use Rattle.std.proofs.Common.{◌≡◌, ap, ◌∙◌, sym, arith}
-use Rattle.std.specs.Prelude.{slice_get}
-use Rattle.janus_meaning.specs.Fault.{Fine}
-use Rattle.janus_meaning.specs.Store.{look, Arr, element}
-use Rattle.janus_names.specs.Numbers.{IsNumbered}
-use Rattle.janus_store.specs.Held.{Held}
-use Rattle.janus_store.specs.Values.{val_of}
-use Rattle.janus_store.proofs.Laid.{laid_of, in_sight, fits, seen_at}
-use Rattle.std.proofs.Common.{w32}
+use Rattle.std.proofs.Common.{ap, ◌∙◌, sym, arith, w32}
+use Rattle.std.specs.Prelude.{slice_get, reverse}
 use Rattle.std.proofs.lemmas.Int.{to_z-of_z}
+use Rattle.janus_meaning.specs.Store.{element, Arr}
+use Rattle.janus_store.specs.Inside.{IsPlaceOf}
+use Rattle.janus_store.proofs.Standing.{has_place, place_fits, value_is}
 use Rattle.janus_store.proofs.store.Store.element.Goals as goal
 
 pub place-requires : goal.place-requires
@@ -16,13 +12,11 @@ place-requires g c =
     let xs = a.names in
     let ns = a.newest.items in
     let vs = a.variables.items in
-    let h = laid_of a c.self.invariant in
-    let sight = ap (λ (h : Held). h.sight) c.self.view_is in
-    let names = ap (λ (h : Held). h.names) c.self.view_is in
-    let x = c.requires.0 in
-    let named : IsNumbered xs c.args.name x = ap (λ l. slice_get l c.args.name) names ∙ c.requires.1 in
-    let seen = in_sight xs ns vs h c.args.name x (Arr c.requires.2.0) named (ap (look x) sight ∙ c.requires.2.1) in
-    (seen.0, ap (λ l. slice_get l c.args.name) c.deref.ensures.value ∙ seen.1)
+    let cs = reverse a.calls.items in
+    let h = c.self.invariant.held in
+    let H = c.args.self.now in
+    let p = has_place xs ns vs a.declared cs h H c.self.view_is c.args.name c.requires.0 (Arr c.requires.2.0) c.requires.1 c.requires.2.1 in
+    (p.0, (p.1.0, p.1.1, ap (λ l. slice_get l c.args.name) c.deref.ensures.value ∙ p.1.2, ap (λ l. slice_get l p.1.0) c.deref-2.ensures.value ∙ p.1.3, p.1.4))
 
 pub index-requires : goal.index-requires
 index-requires g c =
@@ -30,26 +24,23 @@ index-requires g c =
     let xs = a.names in
     let ns = a.newest.items in
     let vs = a.variables.items in
-    let h = laid_of a c.self.invariant in
-    let sight = ap (λ (h : Held). h.sight) c.self.view_is in
-    let names = ap (λ (h : Held). h.names) c.self.view_is in
-    let x = c.requires.0 in
-    let named : IsNumbered xs c.args.name x = ap (λ l. slice_get l c.args.name) names ∙ c.requires.1 in
-    omega (arith, fits xs ns vs h c.args.name x c.place.result named (sym (ap (λ l. slice_get l c.args.name) c.deref.ensures.value) ∙ c.place.ensures), a.variables.ok.0)
+    let cs = reverse a.calls.items in
+    let h = c.self.invariant.held in
+    let H = c.args.self.now in
+    let e = c.place.ensures in
+    let q : IsPlaceOf ns vs c.args.name c.place.result = (e.0, e.1, ap (λ l. slice_get l c.args.name) (sym c.deref.ensures.value) ∙ e.2, ap (λ l. slice_get l e.0) (sym c.deref-2.ensures.value) ∙ e.3, e.4) in
+    omega (arith, place_fits xs ns vs a.declared cs h H c.self.view_is c.args.name c.requires.0 (Arr c.requires.2.0) c.place.result c.requires.1 c.requires.2.1 q, a.variables.ok.0)
 
 pub returns : goal.returns
-returns g c = λ x l named e.
+returns g c = λ x l named k.
     let a = c.self.inside in
     let xs = a.names in
     let ns = a.newest.items in
     let vs = a.variables.items in
-    let h = laid_of a c.self.invariant in
-    let sight = ap (λ (h : Held). h.sight) c.self.view_is in
-    let names = ap (λ (h : Held). h.names) c.self.view_is in
-    let mine : IsNumbered xs c.args.name x = ap (λ l. slice_get l c.args.name) names ∙ named in
-    let at = sym (ap (λ l. slice_get l c.args.name) c.deref.ensures.value) ∙ c.place.ensures in
-    let v = c.index.result.now in
-    let f = seen_at xs ns vs h c.args.name x c.place.result v mine at c.index.ensures in
-    let both : Fine (val_of v.value) ≡ Fine (Arr l) = sym f.seen ∙ ap (look x) sight ∙ e in
-    let same : val_of v.value ≡ Arr l = cc in
+    let cs = reverse a.calls.items in
+    let h = c.self.invariant.held in
+    let H = c.args.self.now in
+    let e = c.place.ensures in
+    let q : IsPlaceOf ns vs c.args.name c.place.result = (e.0, e.1, ap (λ l. slice_get l c.args.name) (sym c.deref.ensures.value) ∙ e.2, ap (λ l. slice_get l e.0) (sym c.deref-2.ensures.value) ∙ e.3, e.4) in
+    let same = value_is xs ns vs a.declared cs h H c.self.view_is c.args.name x (Arr l) c.place.result c.index.result.now named k q c.index.ensures in
     c.element.ensures l same ∙ ap (element l) (to_z-of_z w32 c.args.index c.ranges.index)

@@ -1,41 +1,41 @@
-use Rattle.std.proofs.Common.{◌≡◌, [], ◌∷◌, refl, ap, ◌∙◌, arith, length}
-use Rattle.std.specs.Prelude.{slice_index_or, slice_get}
+use Rattle.std.proofs.Common.{length, refl, ap, ◌∙◌, arith}
+use Rattle.std.specs.Prelude.{slice_get, slice_index_or, reverse}
 use Rattle.janus_meaning.specs.Limit.{live_stack_limit}
-use Rattle.janus_meaning.specs.Store.{Stk, Slot, Bare}
-use Rattle.janus_meaning.specs.World.{size_of, stacks_in, stacks_with}
 use Rattle.janus_names.specs.Numbers.{IsNumbered}
-use Rattle.janus_store.specs.Held.{Held}
+use Rattle.janus_store.specs.Held.{Held, live_stacks, opened}
 use Rattle.janus_store.specs.Values.{val_of}
 use Rattle.janus_store.specs.declared.store.Variable.{Variable}
-use Rattle.janus_store.proofs.Variables.{declared-append, size-declared}
-use Rattle.janus_store.proofs.Numbers.{name_of_number, within_names}
 use Rattle.janus_store.proofs.Rows.{read_at}
+use Rattle.janus_store.proofs.Numbers.{name_of_number, within_names}
 use Rattle.janus_store.proofs.Counted.{declared_one}
-use Rattle.janus_store.proofs.Laid.{laid_of, as_many, laid_put, held_is, sight_of}
-use Rattle.std.proofs.Common.{length-append}
+use Rattle.janus_store.proofs.Laid.{laid_of, as_many}
+use Rattle.janus_store.proofs.Standing.{names_are_held, params_are_held, bound_low}
+use Rattle.janus_store.proofs.Opening.{put_over, put_held, put_stacks}
 use Rattle.janus_store.proofs.store.Store.enter_local_stack.Goals as goal
 
-pub first_value-value-requires : goal.first_value-value-requires
-first_value-value-requires g c =
+pub put_own-requires-clause-met : goal.put_own-requires-clause-met
+put_own-requires-clause-met g c =
     let a = c.self.inside in
     let xs = a.names in
     let ns = a.newest.items in
     let vs = a.variables.items in
-    let h = laid_of a c.self.invariant in
-    let sight : sight_of xs vs ≡ c.args.self.now.sight = ap (λ (h : Held). h.sight) c.self.view_is in
-    let names = ap (λ (h : Held). h.names) c.self.view_is in
-    omega (arith, c.self.invariant.stacks, ap stacks_in sight, c.requires.few)
+    let cs = reverse a.calls.items in
+    let h = c.self.invariant.held in
+    let H = c.args.self.now in
+    let x = c.requires.named.0 in
+    let named : IsNumbered xs c.args.name x = ap (λ (h : Held). slice_get h.names c.args.name) c.self.view_is ∙ c.requires.named.1 in
+    omega (arith, within_names xs c.args.name x named, as_many xs ns vs (laid_of xs ns vs a.declared cs h), a.newest.ok.0)
 
-pub put-requires-clause-room : goal.put-requires-clause-room
-put-requires-clause-room g c =
+pub put_own-requires-clause-room : goal.put_own-requires-clause-room
+put_own-requires-clause-room g c =
     let a = c.self.inside in
     let xs = a.names in
     let ns = a.newest.items in
     let vs = a.variables.items in
-    let h = laid_of a c.self.invariant in
-    let sight : sight_of xs vs ≡ c.args.self.now.sight = ap (λ (h : Held). h.sight) c.self.view_is in
-    let names = ap (λ (h : Held). h.names) c.self.view_is in
-    omega (arith, c.requires.room, size-declared xs Bare vs, ap size_of sight, ap (λ (h : Held). h.declared) c.self.view_is, c.self.invariant.room, a.variables.ok.0)
+    let cs = reverse a.calls.items in
+    let h = c.self.invariant.held in
+    let H = c.args.self.now in
+    omega (arith, c.requires.room, names_are_held xs ns vs a.declared cs h H c.self.view_is, params_are_held xs ns vs a.declared cs h H c.self.view_is, bound_low xs ns vs a.declared cs h, ap (λ (h : Held). h.declared) c.self.view_is, c.self.invariant.room, a.variables.ok.0)
 
 pub invariant_of-self : goal.invariant_of-self
 invariant_of-self g c =
@@ -43,45 +43,38 @@ invariant_of-self g c =
     let xs = a.names in
     let ns = a.newest.items in
     let vs = a.variables.items in
-    let h = laid_of a c.self.invariant in
-    let sight : sight_of xs vs ≡ c.args.self.now.sight = ap (λ (h : Held). h.sight) c.self.view_is in
-    let names = ap (λ (h : Held). h.names) c.self.view_is in
+    let cs = reverse a.calls.items in
+    let h = c.self.invariant.held in
+    let H = c.args.self.now in
     let x = c.requires.named.0 in
-    let named : IsNumbered xs c.args.name x = ap (λ l. slice_get l c.args.name) names ∙ c.requires.named.1 in
-    let y : Variable = record { name = c.args.name; hidden = slice_index_or ns c.args.name 0; value = c.first_value-value.result } in
-    let laid = laid_put xs ns vs h c.put.new.newest.items c.put.new.variables.items y (read_at ns c.args.name (omega (arith, within_names xs c.args.name x named, as_many xs ns vs h))) c.put.ensures.newest c.put.ensures.variables in
-    let slots : stacks_in (sight_of xs c.put.new.variables.items) ≡ stacks_with (val_of y.value) (stacks_in (sight_of xs vs)) = ap (λ l. stacks_in (sight_of xs l)) c.put.ensures.variables ∙ ap stacks_in (declared-append xs Bare vs y) in
+    let named : IsNumbered xs c.args.name x = ap (λ (h : Held). slice_get h.names c.args.name) c.self.view_is ∙ c.requires.named.1 in
+    let y : Variable = record { name = c.args.name; hidden = slice_index_or ns c.args.name 0; place = length vs; value = c.first_value-value.result } in
+    let at = read_at ns c.args.name (omega (arith, within_names xs c.args.name x named, as_many xs ns vs (laid_of xs ns vs a.declared cs h))) in
+    let ms = c.put_own.new.newest.items in
+    let ws = c.put_own.new.variables.items in
     record {
-      one_number = laid.one_number;
-      newest = laid.newest;
-      hidden = laid.hidden;
-      stacks = omega (arith, slots, declared_one (val_of y.value) a.spares c.first_value-value.new.self (stacks_in (sight_of xs vs)) live_stack_limit c.self.invariant.stacks c.first_value-value.ensures.left);
-      declared = omega (arith, c.self.invariant.declared, a.variables.ok.0, c.put.new.variables.ok.0, ap length c.put.ensures.variables, length-append vs (y ∷ []));
-      few = omega (arith, c.requires.room, ap (λ (h : Held). h.declared) c.self.view_is, size-declared xs Bare vs, ap size_of sight, a.variables.ok.0, c.self.invariant.declared, a.variables.ok.0, c.put.new.variables.ok.0, ap length c.put.ensures.variables, length-append vs (y ∷ []));
-      room = omega (arith, c.self.invariant.room, c.put.ensures.room);
+      held = put_held xs ns vs a.declared cs h y refl at ms ws c.put_own.ensures.newest c.put_own.ensures.variables H c.self.view_is c.requires.room;
+      stacks = omega (arith, put_stacks xs ns vs a.declared cs h y refl at ms ws c.put_own.ensures.newest c.put_own.ensures.variables H c.self.view_is, declared_one (val_of y.value) a.spares c.first_value-value.new.self (live_stacks H) live_stack_limit (omega (arith, c.self.invariant.stacks, ap live_stacks c.self.view_is)) c.first_value-value.ensures.left);
+      room = omega (arith, c.self.invariant.room, c.put_own.ensures.room);
+      call_room = c.self.invariant.call_room;
     }
 
 pub returns : goal.returns
-returns g c = λ x named.
+returns g c = λ x known.
     let a = c.self.inside in
     let xs = a.names in
     let ns = a.newest.items in
     let vs = a.variables.items in
-    let h = laid_of a c.self.invariant in
-    let sight : sight_of xs vs ≡ c.args.self.now.sight = ap (λ (h : Held). h.sight) c.self.view_is in
-    let names = ap (λ (h : Held). h.names) c.self.view_is in
-    let mine : IsNumbered xs c.args.name x = ap (λ l. slice_get l c.args.name) names ∙ named in
-    let y : Variable = record { name = c.args.name; hidden = slice_index_or ns c.args.name 0; value = c.first_value-value.result } in
-    held_is _ _
-    (ap (sight_of xs) c.put.ensures.variables ∙ declared-append xs Bare vs y ∙ ap (λ x. Slot x (val_of y.value) (sight_of xs vs)) (name_of_number xs c.args.name x y mine refl) ∙ ap (λ v. Slot x v (sight_of xs vs)) (c.first_value-value.ensures.value) ∙ ap (Slot x (Stk [])) sight)
-    (ap (λ (h : Held). h.declared) c.self.view_is)
-    names
+    let cs = reverse a.calls.items in
+    let h = c.self.invariant.held in
+    let H = c.args.self.now in
+    let named : IsNumbered xs c.args.name x = ap (λ (h : Held). slice_get h.names c.args.name) c.self.view_is ∙ known in
+    let y : Variable = record { name = c.args.name; hidden = slice_index_or ns c.args.name 0; place = length vs; value = c.first_value-value.result } in
+    let at = read_at ns c.args.name (omega (arith, within_names xs c.args.name x named, as_many xs ns vs (laid_of xs ns vs a.declared cs h))) in
+    let ms = c.put_own.new.newest.items in
+    let ws = c.put_own.new.variables.items in
+    put_over xs ns vs a.declared cs h y refl at ms ws c.put_own.ensures.newest c.put_own.ensures.variables H c.self.view_is
+    ∙ ap (λ x. opened x (val_of y.value) H) (name_of_number xs c.args.name x y named refl) ∙ ap (λ v. opened x v H) (c.first_value-value.ensures.value)
 
-pub put-requires-clause-met : goal.put-requires-clause-met
-put-requires-clause-met g c =
-    let a = c.self.inside in
-    let xs = a.names in
-    let h = laid_of a c.self.invariant in
-    let names = ap (λ (h : Held). h.names) c.self.view_is in
-    let named : IsNumbered xs c.args.name c.requires.named.0 = ap (λ l. slice_get l c.args.name) names ∙ c.requires.named.1 in
-    omega (arith, within_names xs c.args.name c.requires.named.0 named, as_many xs a.newest.items a.variables.items h, a.newest.ok.0)
+pub first_value-value-requires : goal.first_value-value-requires
+first_value-value-requires g c = omega (arith, c.self.invariant.stacks, ap live_stacks c.self.view_is, c.requires.few)

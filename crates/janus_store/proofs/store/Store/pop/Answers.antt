@@ -1,15 +1,12 @@
-use Rattle.std.proofs.Common.{◌≡◌, ◌∷◌, refl, ap, ◌∙◌, sym, arith, w32}
-use Rattle.std.specs.Prelude.{slice_get}
+use Rattle.std.proofs.Common.{◌≡◌, ◌∷◌, ap, ◌∙◌, sym, arith, w32}
+use Rattle.std.specs.Prelude.{slice_get, reverse}
 use Rattle.std.proofs.lemmas.Int.{to_z-of_z}
-use Rattle.janus_meaning.specs.Fault.{Fine}
-use Rattle.janus_meaning.specs.Store.{look, Stk, Bare, cleared, cleared_val}
-use Rattle.janus_meaning.proofs.Cleared.{same_stacks}
-use Rattle.janus_names.specs.Numbers.{IsNumbered}
-use Rattle.janus_store.specs.Held.{Held}
+use Rattle.janus_meaning.specs.Store.{Stk, cleared_val}
+use Rattle.janus_store.specs.Inside.{IsPlaceOf}
+use Rattle.janus_store.specs.Held.{live_stacks}
 use Rattle.janus_store.specs.Values.{val_of}
+use Rattle.janus_store.proofs.Standing.{has_place, place_fits, value_is, set_written, set_held, set_like, set_stacks}
 use Rattle.janus_store.specs.Stores.{write}
-use Rattle.janus_store.proofs.Variables.{write_here, cleared-written}
-use Rattle.janus_store.proofs.Laid.{laid_of, in_sight, fits, seen_at, laid_written, sight_of}
 use Rattle.janus_store.proofs.store.Store.pop.Goals as goal
 
 pub place-at-requires : goal.place-at-requires
@@ -18,13 +15,11 @@ place-at-requires g c =
     let xs = a.names in
     let ns = a.newest.items in
     let vs = a.variables.items in
-    let h = laid_of a c.self.invariant in
-    let sight : sight_of xs vs ≡ c.args.self.now.sight = ap (λ (h : Held). h.sight) c.self.view_is in
-    let names = ap (λ (h : Held). h.names) c.self.view_is in
-    let x = c.requires.0 in
-    let named : IsNumbered xs c.args.name x = ap (λ l. slice_get l c.args.name) names ∙ c.requires.1 in
-    let seen = in_sight xs ns vs h c.args.name x (Stk (c.requires.2.0 ∷ c.requires.2.1)) named (ap (look x) sight ∙ c.requires.2.2) in
-    (seen.0, ap (λ l. slice_get l c.args.name) c.deref.ensures.value ∙ seen.1)
+    let cs = reverse a.calls.items in
+    let h = c.self.invariant.held in
+    let H = c.args.self.now in
+    let p = has_place xs ns vs a.declared cs h H c.self.view_is c.args.name c.requires.0 (Stk (c.requires.2.0 ∷ c.requires.2.1)) c.requires.1 c.requires.2.2 in
+    (p.0, (p.1.0, p.1.1, ap (λ l. slice_get l c.args.name) c.deref.ensures.value ∙ p.1.2, ap (λ l. slice_get l p.1.0) c.deref-2.ensures.value ∙ p.1.3, p.1.4))
 
 pub index_mut-requires : goal.index_mut-requires
 index_mut-requires g c =
@@ -32,12 +27,12 @@ index_mut-requires g c =
     let xs = a.names in
     let ns = a.newest.items in
     let vs = a.variables.items in
-    let h = laid_of a c.self.invariant in
-    let sight : sight_of xs vs ≡ c.args.self.now.sight = ap (λ (h : Held). h.sight) c.self.view_is in
-    let names = ap (λ (h : Held). h.names) c.self.view_is in
-    let x = c.requires.0 in
-    let named : IsNumbered xs c.args.name x = ap (λ l. slice_get l c.args.name) names ∙ c.requires.1 in
-    omega (arith, fits xs ns vs h c.args.name x c.place-at.result named (sym (ap (λ l. slice_get l c.args.name) c.deref.ensures.value) ∙ c.place-at.ensures), a.variables.ok.0)
+    let cs = reverse a.calls.items in
+    let h = c.self.invariant.held in
+    let H = c.args.self.now in
+    let e = c.place-at.ensures in
+    let q : IsPlaceOf ns vs c.args.name c.place-at.result = (e.0, e.1, ap (λ l. slice_get l c.args.name) (sym c.deref.ensures.value) ∙ e.2, ap (λ l. slice_get l e.0) (sym c.deref-2.ensures.value) ∙ e.3, e.4) in
+    omega (arith, place_fits xs ns vs a.declared cs h H c.self.view_is c.args.name c.requires.0 (Stk (c.requires.2.0 ∷ c.requires.2.1)) c.place-at.result c.requires.1 c.requires.2.2 q, a.variables.ok.0)
 
 pub pop-requires : goal.pop-requires
 pop-requires g c =
@@ -45,16 +40,16 @@ pop-requires g c =
     let xs = a.names in
     let ns = a.newest.items in
     let vs = a.variables.items in
-    let h = laid_of a c.self.invariant in
-    let sight : sight_of xs vs ≡ c.args.self.now.sight = ap (λ (h : Held). h.sight) c.self.view_is in
-    let names = ap (λ (h : Held). h.names) c.self.view_is in
-    let x = c.requires.0 in
-    let mine : IsNumbered xs c.args.name x = ap (λ l. slice_get l c.args.name) names ∙ c.requires.1 in
-    let at = sym (ap (λ l. slice_get l c.args.name) c.deref.ensures.value) ∙ c.place-at.ensures in
+    let cs = reverse a.calls.items in
+    let h = c.self.invariant.held in
+    let H = c.args.self.now in
+    let e = c.place-at.ensures in
+    let p = c.place-at.result in
+    let q : IsPlaceOf ns vs c.args.name p = (e.0, e.1, ap (λ l. slice_get l c.args.name) (sym c.deref.ensures.value) ∙ e.2, ap (λ l. slice_get l e.0) (sym c.deref-2.ensures.value) ∙ e.3, e.4) in
     let v = c.index_mut.result.now in
-    let f = seen_at xs ns vs h c.args.name x c.place-at.result v mine at c.index_mut.ensures.value in
-    let both : Fine (val_of v.value) ≡ Fine (Stk (c.requires.2.0 ∷ c.requires.2.1)) = sym f.seen ∙ ap (look x) sight ∙ c.requires.2.2 in
-    (c.requires.2.0, c.requires.2.1, cc)
+    let read = c.index_mut.ensures.value in
+    let same = value_is xs ns vs a.declared cs h H c.self.view_is c.args.name c.requires.0 (Stk (c.requires.2.0 ∷ c.requires.2.1)) p v c.requires.1 c.requires.2.2 q read in
+    (c.requires.2.0, c.requires.2.1, same)
 
 pub invariant_of-self : goal.invariant_of-self
 invariant_of-self g c =
@@ -62,27 +57,22 @@ invariant_of-self g c =
     let xs = a.names in
     let ns = a.newest.items in
     let vs = a.variables.items in
-    let h = laid_of a c.self.invariant in
-    let sight : sight_of xs vs ≡ c.args.self.now.sight = ap (λ (h : Held). h.sight) c.self.view_is in
-    let names = ap (λ (h : Held). h.names) c.self.view_is in
-    let x = c.requires.0 in
-    let mine : IsNumbered xs c.args.name x = ap (λ l. slice_get l c.args.name) names ∙ c.requires.1 in
-    let at = sym (ap (λ l. slice_get l c.args.name) c.deref.ensures.value) ∙ c.place-at.ensures in
+    let cs = reverse a.calls.items in
+    let h = c.self.invariant.held in
+    let H = c.args.self.now in
+    let e = c.place-at.ensures in
+    let p = c.place-at.result in
+    let q : IsPlaceOf ns vs c.args.name p = (e.0, e.1, ap (λ l. slice_get l c.args.name) (sym c.deref.ensures.value) ∙ e.2, ap (λ l. slice_get l e.0) (sym c.deref-2.ensures.value) ∙ e.3, e.4) in
     let v = c.index_mut.result.now in
-    let f = seen_at xs ns vs h c.args.name x c.place-at.result v mine at c.index_mut.ensures.value in
-    let both : Fine (val_of v.value) ≡ Fine (Stk (c.requires.2.0 ∷ c.requires.2.1)) = sym f.seen ∙ ap (look x) sight ∙ c.requires.2.2 in
-    let same : val_of v.value ≡ (Stk (c.requires.2.0 ∷ c.requires.2.1)) = cc in
-    let popped = c.pop.ensures c.requires.2.0 c.requires.2.1 same in
-    let shape = cleared-written xs Bare vs c.place-at.result v c.pop.new.self f.at (ap cleared_val popped.1 ∙ sym (ap cleared_val same)) in
-    let laid = laid_written xs ns vs h c.place-at.result v (record { name = v.name; hidden = v.hidden; value = c.pop.new.self }) f.at refl refl in
+    let read = c.index_mut.ensures.value in
+    let new = c.pop.new.self in
+    let same = value_is xs ns vs a.declared cs h H c.self.view_is c.args.name c.requires.0 (Stk (c.requires.2.0 ∷ c.requires.2.1)) p v c.requires.1 c.requires.2.2 q read in
+    let shape : cleared_val (val_of new) ≡ cleared_val (Stk (c.requires.2.0 ∷ c.requires.2.1)) = ap cleared_val (c.pop.ensures c.requires.2.0 c.requires.2.1 same).1 in
     record {
-      one_number = laid.one_number;
-      newest = laid.newest;
-      hidden = laid.hidden;
-      stacks = omega (arith, c.self.invariant.stacks, same_stacks _ _ shape);
-      declared = c.self.invariant.declared;
-      few = c.self.invariant.few;
+      held = set_held xs ns vs a.declared cs h H c.self.view_is c.args.name c.requires.0 (Stk (c.requires.2.0 ∷ c.requires.2.1)) p v c.requires.1 c.requires.2.2 q read new;
+      stacks = omega (arith, c.self.invariant.stacks, ap live_stacks c.self.view_is, set_stacks xs ns vs a.declared cs h H c.self.view_is c.args.name c.requires.0 (Stk (c.requires.2.0 ∷ c.requires.2.1)) p v c.requires.1 c.requires.2.2 q read new shape);
       room = c.self.invariant.room;
+      call_room = c.self.invariant.call_room;
     }
 
 pub returns-clause-shape : goal.returns-clause-shape
@@ -91,54 +81,50 @@ returns-clause-shape g c =
     let xs = a.names in
     let ns = a.newest.items in
     let vs = a.variables.items in
-    let h = laid_of a c.self.invariant in
-    let sight : sight_of xs vs ≡ c.args.self.now.sight = ap (λ (h : Held). h.sight) c.self.view_is in
-    let names = ap (λ (h : Held). h.names) c.self.view_is in
-    let x = c.requires.0 in
-    let mine : IsNumbered xs c.args.name x = ap (λ l. slice_get l c.args.name) names ∙ c.requires.1 in
-    let at = sym (ap (λ l. slice_get l c.args.name) c.deref.ensures.value) ∙ c.place-at.ensures in
+    let cs = reverse a.calls.items in
+    let h = c.self.invariant.held in
+    let H = c.args.self.now in
+    let e = c.place-at.ensures in
+    let p = c.place-at.result in
+    let q : IsPlaceOf ns vs c.args.name p = (e.0, e.1, ap (λ l. slice_get l c.args.name) (sym c.deref.ensures.value) ∙ e.2, ap (λ l. slice_get l e.0) (sym c.deref-2.ensures.value) ∙ e.3, e.4) in
     let v = c.index_mut.result.now in
-    let f = seen_at xs ns vs h c.args.name x c.place-at.result v mine at c.index_mut.ensures.value in
-    let both : Fine (val_of v.value) ≡ Fine (Stk (c.requires.2.0 ∷ c.requires.2.1)) = sym f.seen ∙ ap (look x) sight ∙ c.requires.2.2 in
-    let same : val_of v.value ≡ (Stk (c.requires.2.0 ∷ c.requires.2.1)) = cc in
-    let popped = c.pop.ensures c.requires.2.0 c.requires.2.1 same in
-    record {
-      sight = cleared-written xs Bare vs c.place-at.result v c.pop.new.self f.at (ap cleared_val popped.1 ∙ sym (ap cleared_val same)) ∙ ap cleared sight;
-      declared = ap (λ (h : Held). h.declared) c.self.view_is;
-      names = names;
-    }
-
-pub returns-clause-top : goal.returns-clause-top
-returns-clause-top g c = λ x n l named e.
-    let a = c.self.inside in
-    let xs = a.names in
-    let ns = a.newest.items in
-    let vs = a.variables.items in
-    let h = laid_of a c.self.invariant in
-    let sight : sight_of xs vs ≡ c.args.self.now.sight = ap (λ (h : Held). h.sight) c.self.view_is in
-    let names = ap (λ (h : Held). h.names) c.self.view_is in
-    let mine : IsNumbered xs c.args.name x = ap (λ l. slice_get l c.args.name) names ∙ named in
-    let at = sym (ap (λ l. slice_get l c.args.name) c.deref.ensures.value) ∙ c.place-at.ensures in
-    let v = c.index_mut.result.now in
-    let f = seen_at xs ns vs h c.args.name x c.place-at.result v mine at c.index_mut.ensures.value in
-    let both : Fine (val_of v.value) ≡ Fine (Stk (n ∷ l)) = sym f.seen ∙ ap (look x) sight ∙ e in
-    let same : val_of v.value ≡ Stk (n ∷ l) = cc in
-    to_z-of_z w32 c.pop.result (record { sfits = c.pop.type_inv }) ∙ (c.pop.ensures n l same).0
+    let read = c.index_mut.ensures.value in
+    let new = c.pop.new.self in
+    let same = value_is xs ns vs a.declared cs h H c.self.view_is c.args.name c.requires.0 (Stk (c.requires.2.0 ∷ c.requires.2.1)) p v c.requires.1 c.requires.2.2 q read in
+    let shape : cleared_val (val_of new) ≡ cleared_val (Stk (c.requires.2.0 ∷ c.requires.2.1)) = ap cleared_val (c.pop.ensures c.requires.2.0 c.requires.2.1 same).1 in
+    set_like xs ns vs a.declared cs h H c.self.view_is c.args.name c.requires.0 (Stk (c.requires.2.0 ∷ c.requires.2.1)) p v c.requires.1 c.requires.2.2 q read new shape
 
 pub returns-clause-written : goal.returns-clause-written
-returns-clause-written g c = λ x n l named e.
+returns-clause-written g c = λ x n l named k.
     let a = c.self.inside in
     let xs = a.names in
     let ns = a.newest.items in
     let vs = a.variables.items in
-    let h = laid_of a c.self.invariant in
-    let sight : sight_of xs vs ≡ c.args.self.now.sight = ap (λ (h : Held). h.sight) c.self.view_is in
-    let names = ap (λ (h : Held). h.names) c.self.view_is in
-    let mine : IsNumbered xs c.args.name x = ap (λ l. slice_get l c.args.name) names ∙ named in
-    let at = sym (ap (λ l. slice_get l c.args.name) c.deref.ensures.value) ∙ c.place-at.ensures in
+    let cs = reverse a.calls.items in
+    let h = c.self.invariant.held in
+    let H = c.args.self.now in
+    let e = c.place-at.ensures in
+    let p = c.place-at.result in
+    let q : IsPlaceOf ns vs c.args.name p = (e.0, e.1, ap (λ l. slice_get l c.args.name) (sym c.deref.ensures.value) ∙ e.2, ap (λ l. slice_get l e.0) (sym c.deref-2.ensures.value) ∙ e.3, e.4) in
     let v = c.index_mut.result.now in
-    let f = seen_at xs ns vs h c.args.name x c.place-at.result v mine at c.index_mut.ensures.value in
-    let both : Fine (val_of v.value) ≡ Fine (Stk (n ∷ l)) = sym f.seen ∙ ap (look x) sight ∙ e in
-    let same : val_of v.value ≡ Stk (n ∷ l) = cc in
-    ap (λ u. write x u c.args.self.now.sight) (sym (c.pop.ensures n l same).1) ∙ ap (write x (val_of c.pop.new.self)) (sym sight)
-    ∙ write_here xs x c.pop.new.self Bare vs c.place-at.result v f.at f.named f.alone
+    let read = c.index_mut.ensures.value in
+    let new = c.pop.new.self in
+    let same = value_is xs ns vs a.declared cs h H c.self.view_is c.args.name x (Stk (n ∷ l)) p v named k q read in
+    ap (λ u. write x u H.sight) (sym (c.pop.ensures n l same).1) ∙ set_written xs ns vs a.declared cs h H c.self.view_is c.args.name x (Stk (n ∷ l)) p v named k q read new
+
+pub returns-clause-top : goal.returns-clause-top
+returns-clause-top g c = λ x n l named k.
+    let a = c.self.inside in
+    let xs = a.names in
+    let ns = a.newest.items in
+    let vs = a.variables.items in
+    let cs = reverse a.calls.items in
+    let h = c.self.invariant.held in
+    let H = c.args.self.now in
+    let e = c.place-at.ensures in
+    let p = c.place-at.result in
+    let q : IsPlaceOf ns vs c.args.name p = (e.0, e.1, ap (λ l. slice_get l c.args.name) (sym c.deref.ensures.value) ∙ e.2, ap (λ l. slice_get l e.0) (sym c.deref-2.ensures.value) ∙ e.3, e.4) in
+    let v = c.index_mut.result.now in
+    let read = c.index_mut.ensures.value in
+    let same = value_is xs ns vs a.declared cs h H c.self.view_is c.args.name x (Stk (n ∷ l)) p v named k q read in
+    to_z-of_z w32 c.pop.result (record { sfits = c.pop.type_inv }) ∙ (c.pop.ensures n l same).0

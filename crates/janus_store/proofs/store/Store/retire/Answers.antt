@@ -1,17 +1,41 @@
-use Rattle.std.proofs.Common.{◌-◌}
-use Rattle.std.proofs.Common.{◌≡◌, [], ◌∷◌, ap, ◌∙◌, sym, subst, arith, length}
+use Rattle.std.proofs.Common.{◌≡◌, ◌-◌, suc, [], ◌∷◌, length, length-append, ap, ◌∙◌, sym, subst, arith}
+use Rattle.std.specs.Prelude.{reverse}
+use Rattle.janus_meaning.specs.Store.{Slot, cleared_val}
 use Rattle.janus_meaning.specs.Limit.{live_stack_limit}
-use Rattle.janus_meaning.specs.Store.{Slot, Bare, cleared_val}
 use Rattle.janus_meaning.specs.World.{size_of, stacks_in, stacks_with}
-use Rattle.janus_store.specs.Held.{Held}
+use Rattle.janus_store.specs.Held.{Held, live_stacks, stacks_lent}
+use Rattle.janus_store.specs.Inside.{held_in, name_among}
 use Rattle.janus_store.specs.Values.{val_of}
-use Rattle.janus_store.specs.Inside.{name_among}
-use Rattle.janus_store.specs.Stores.{rest_of}
-use Rattle.janus_store.proofs.Variables.{declared-append, size-declared}
 use Rattle.janus_store.proofs.Counted.{has_place, retired_one}
-use Rattle.janus_store.proofs.Laid.{laid_of, as_many, met, laid_removed, held_is, sight_of}
-use Rattle.std.proofs.Common.{length-append}
+use Rattle.janus_store.proofs.Laid.{laid_of, as_many, met, held_is}
+use Rattle.janus_store.proofs.Standing.{names_are_held}
+use Rattle.janus_store.proofs.Opening.{more_stacks, left_over, left_held}
+use Rattle.janus_store.proofs.Opening.{no_calls, base_alone, start_alone, all_declared, outermost_alone}
+use Rattle.janus_store.specs.Stores.{rest_of}
 use Rattle.janus_store.proofs.store.Store.retire.Goals as goal
+
+pub remove-value-requires-clause-met : goal.remove-value-requires-clause-met
+remove-value-requires-clause-met g c = λ i v e.
+    let a = c.self.inside in
+    let xs = a.names in
+    let ns = a.newest.items in
+    let vs = a.variables.items in
+    let cs = reverse a.calls.items in
+    let h = c.self.invariant.held in
+    let H = c.args.self.now in
+    let l = laid_of xs ns vs a.declared cs h in
+    omega (arith, met xs ns vs l i v e, as_many xs ns vs l, a.newest.ok.0)
+
+pub remove-value-requires-clause-some : goal.remove-value-requires-clause-some
+remove-value-requires-clause-some g c =
+    let a = c.self.inside in
+    let xs = a.names in
+    let ns = a.newest.items in
+    let vs = a.variables.items in
+    let cs = reverse a.calls.items in
+    let h = c.self.invariant.held in
+    let H = c.args.self.now in
+    omega (arith, names_are_held xs ns vs a.declared cs h H c.self.view_is, a.variables.ok.0, ap size_of c.requires.first.3)
 
 pub take_back-requires-clause-first : goal.take_back-requires-clause-first
 take_back-requires-clause-first g c =
@@ -19,18 +43,24 @@ take_back-requires-clause-first g c =
     let xs = a.names in
     let ns = a.newest.items in
     let vs = a.variables.items in
-    let h = laid_of a c.self.invariant in
-    let sight : sight_of xs vs ≡ c.args.self.now.sight = ap (λ (h : Held). h.sight) c.self.view_is in
-    let names = ap (λ (h : Held). h.names) c.self.view_is in
+    let cs = reverse a.calls.items in
+    let h = c.self.invariant.held in
+    let H = c.args.self.now in
     let y = c.remove-value.result in
+    let ms = c.remove-value.new.newest.items in
     let ws = c.remove-value.new.variables.items in
-    let laid = laid_removed xs ns vs h c.remove-value.new.newest.items ws y c.remove-value.ensures.variables c.remove-value.ensures.newest in
-    let slots : stacks_in (sight_of xs vs) ≡ stacks_with (val_of y.value) (stacks_in (sight_of xs ws)) = ap (λ l. stacks_in (sight_of xs l)) c.remove-value.ensures.variables ∙ ap stacks_in (declared-append xs Bare ws y) in
-    let top : c.args.self.now.sight ≡ Slot (name_among xs y) (val_of y.value) (sight_of xs ws) = sym sight ∙ ap (sight_of xs) c.remove-value.ensures.variables ∙ declared-append xs Bare ws y in
-    let r = c.requires.first in
-    let both : Slot (name_among xs y) (val_of y.value) (sight_of xs ws) ≡ Slot r.0 r.1 r.2 = sym top ∙ r.3 in
-    let same : r.1 ≡ val_of y.value = cc in
-    subst (λ u. cleared_val u ≡ u) same r.4
+    let gone = c.remove-value.ensures.variables in
+    let newest = c.remove-value.ensures.newest in
+    let alone = no_calls xs ns vs a.declared cs h H c.self.view_is c.requires.whole in
+    let above = base_alone xs ws cs alone in
+    let over = start_alone xs ws cs alone in
+    let was = left_over xs ns vs a.declared cs h y ms ws gone newest above over H c.self.view_is in
+    let left = held_in xs a.declared ws cs in
+    let top : H.sight ≡ Slot (name_among xs y) (val_of y.value) left.sight = ap (λ (h : Held). h.sight) was in
+    let e = c.requires.first in
+    let both : Slot (name_among xs y) (val_of y.value) left.sight ≡ Slot e.0 e.1 e.2 = sym top ∙ e.3 in
+    let same : val_of y.value ≡ e.1 = cc in
+    subst (λ v. cleared_val v ≡ v) (sym same) e.4
 
 pub take_back-requires-clause-room : goal.take_back-requires-clause-room
 take_back-requires-clause-room g c =
@@ -38,15 +68,22 @@ take_back-requires-clause-room g c =
     let xs = a.names in
     let ns = a.newest.items in
     let vs = a.variables.items in
-    let h = laid_of a c.self.invariant in
-    let sight : sight_of xs vs ≡ c.args.self.now.sight = ap (λ (h : Held). h.sight) c.self.view_is in
-    let names = ap (λ (h : Held). h.names) c.self.view_is in
+    let cs = reverse a.calls.items in
+    let h = c.self.invariant.held in
+    let H = c.args.self.now in
     let y = c.remove-value.result in
+    let ms = c.remove-value.new.newest.items in
     let ws = c.remove-value.new.variables.items in
-    let laid = laid_removed xs ns vs h c.remove-value.new.newest.items ws y c.remove-value.ensures.variables c.remove-value.ensures.newest in
-    let slots : stacks_in (sight_of xs vs) ≡ stacks_with (val_of y.value) (stacks_in (sight_of xs ws)) = ap (λ l. stacks_in (sight_of xs l)) c.remove-value.ensures.variables ∙ ap stacks_in (declared-append xs Bare ws y) in
-    let top : c.args.self.now.sight ≡ Slot (name_among xs y) (val_of y.value) (sight_of xs ws) = sym sight ∙ ap (sight_of xs) c.remove-value.ensures.variables ∙ declared-append xs Bare ws y in
-    has_place (val_of y.value) a.spares (stacks_in (sight_of xs ws)) live_stack_limit (omega (arith, slots, c.self.invariant.stacks))
+    let gone = c.remove-value.ensures.variables in
+    let newest = c.remove-value.ensures.newest in
+    let alone = no_calls xs ns vs a.declared cs h H c.self.view_is c.requires.whole in
+    let above = base_alone xs ws cs alone in
+    let over = start_alone xs ws cs alone in
+    let was = left_over xs ns vs a.declared cs h y ms ws gone newest above over H c.self.view_is in
+    let left = held_in xs a.declared ws cs in
+    let top : H.sight ≡ Slot (name_among xs y) (val_of y.value) left.sight = ap (λ (h : Held). h.sight) was in
+    let slots : live_stacks H ≡ stacks_with (val_of y.value) (live_stacks left) = ap live_stacks was ∙ more_stacks (val_of y.value) (stacks_in left.sight) (stacks_lent left.callers) in
+    has_place (val_of y.value) a.spares (live_stacks left) live_stack_limit (omega (arith, slots, c.self.invariant.stacks, ap live_stacks c.self.view_is))
 
 pub invariant_of-self : goal.invariant_of-self
 invariant_of-self g c =
@@ -54,22 +91,28 @@ invariant_of-self g c =
     let xs = a.names in
     let ns = a.newest.items in
     let vs = a.variables.items in
-    let h = laid_of a c.self.invariant in
-    let sight : sight_of xs vs ≡ c.args.self.now.sight = ap (λ (h : Held). h.sight) c.self.view_is in
-    let names = ap (λ (h : Held). h.names) c.self.view_is in
+    let cs = reverse a.calls.items in
+    let h = c.self.invariant.held in
+    let H = c.args.self.now in
     let y = c.remove-value.result in
+    let ms = c.remove-value.new.newest.items in
     let ws = c.remove-value.new.variables.items in
-    let laid = laid_removed xs ns vs h c.remove-value.new.newest.items ws y c.remove-value.ensures.variables c.remove-value.ensures.newest in
-    let slots : stacks_in (sight_of xs vs) ≡ stacks_with (val_of y.value) (stacks_in (sight_of xs ws)) = ap (λ l. stacks_in (sight_of xs l)) c.remove-value.ensures.variables ∙ ap stacks_in (declared-append xs Bare ws y) in
-    let top : c.args.self.now.sight ≡ Slot (name_among xs y) (val_of y.value) (sight_of xs ws) = sym sight ∙ ap (sight_of xs) c.remove-value.ensures.variables ∙ declared-append xs Bare ws y in
+    let gone = c.remove-value.ensures.variables in
+    let newest = c.remove-value.ensures.newest in
+    let alone = no_calls xs ns vs a.declared cs h H c.self.view_is c.requires.whole in
+    let above = base_alone xs ws cs alone in
+    let over = start_alone xs ws cs alone in
+    let was = left_over xs ns vs a.declared cs h y ms ws gone newest above over H c.self.view_is in
+    let left = held_in xs a.declared ws cs in
+    let top : H.sight ≡ Slot (name_among xs y) (val_of y.value) left.sight = ap (λ (h : Held). h.sight) was in
+    let slots : live_stacks H ≡ stacks_with (val_of y.value) (live_stacks left) = ap live_stacks was ∙ more_stacks (val_of y.value) (stacks_in left.sight) (stacks_lent left.callers) in
+    let all : a.declared ≡ length vs = all_declared xs ns vs a.declared cs h H c.self.view_is c.requires.whole in
+    let long : length vs ≡ suc (length ws) = omega (arith, ap length gone, length-append ws (y ∷ [])) in
     record {
-      one_number = laid.one_number;
-      newest = laid.newest;
-      hidden = laid.hidden;
-      stacks = omega (arith, c.take_back.ensures, retired_one (val_of y.value) a.spares (stacks_in (sight_of xs ws)) live_stack_limit (omega (arith, slots, c.self.invariant.stacks)));
-      declared = omega (arith, c.requires.whole, ap (λ (h : Held). h.declared) c.self.view_is, ap size_of sight, size-declared xs Bare vs, c.remove-value.new.variables.ok.0, ap length c.remove-value.ensures.variables, length-append ws (y ∷ []));
-      few = omega (arith, c.self.invariant.few, a.variables.ok.0, c.requires.whole, ap (λ (h : Held). h.declared) c.self.view_is, ap size_of sight, size-declared xs Bare vs, c.remove-value.new.variables.ok.0, ap length c.remove-value.ensures.variables, length-append ws (y ∷ []));
+      held = left_held xs ns vs a.declared cs h y ms ws gone newest above over (a.declared - 1) (omega arith) (omega (arith, all, long, outermost_alone (length ws) cs alone)) (omega (arith, all, long));
+      stacks = omega (arith, c.take_back.ensures, retired_one (val_of y.value) a.spares (live_stacks left) live_stack_limit (omega (arith, slots, c.self.invariant.stacks, ap live_stacks c.self.view_is)));
       room = omega (arith, c.self.invariant.room, c.remove-value.ensures.room);
+      call_room = c.self.invariant.call_room;
     }
 
 pub returns : goal.returns
@@ -78,18 +121,41 @@ returns g c =
     let xs = a.names in
     let ns = a.newest.items in
     let vs = a.variables.items in
-    let h = laid_of a c.self.invariant in
-    let sight : sight_of xs vs ≡ c.args.self.now.sight = ap (λ (h : Held). h.sight) c.self.view_is in
-    let names = ap (λ (h : Held). h.names) c.self.view_is in
+    let cs = reverse a.calls.items in
+    let h = c.self.invariant.held in
+    let H = c.args.self.now in
     let y = c.remove-value.result in
+    let ms = c.remove-value.new.newest.items in
     let ws = c.remove-value.new.variables.items in
-    let laid = laid_removed xs ns vs h c.remove-value.new.newest.items ws y c.remove-value.ensures.variables c.remove-value.ensures.newest in
-    let slots : stacks_in (sight_of xs vs) ≡ stacks_with (val_of y.value) (stacks_in (sight_of xs ws)) = ap (λ l. stacks_in (sight_of xs l)) c.remove-value.ensures.variables ∙ ap stacks_in (declared-append xs Bare ws y) in
-    let top : c.args.self.now.sight ≡ Slot (name_among xs y) (val_of y.value) (sight_of xs ws) = sym sight ∙ ap (sight_of xs) c.remove-value.ensures.variables ∙ declared-append xs Bare ws y in
-    held_is _ _ (sym (ap rest_of top)) (ap (λ (h : Held). h.declared - 1) c.self.view_is) names
+    let gone = c.remove-value.ensures.variables in
+    let newest = c.remove-value.ensures.newest in
+    let alone = no_calls xs ns vs a.declared cs h H c.self.view_is c.requires.whole in
+    let above = base_alone xs ws cs alone in
+    let over = start_alone xs ws cs alone in
+    let was = left_over xs ns vs a.declared cs h y ms ws gone newest above over H c.self.view_is in
+    let left = held_in xs a.declared ws cs in
+    let top : H.sight ≡ Slot (name_among xs y) (val_of y.value) left.sight = ap (λ (h : Held). h.sight) was in
+    held_is _ _ (sym (ap rest_of top)) (ap (λ (h : Held). h.declared - 1) c.self.view_is) (ap (λ (h : Held). h.names) c.self.view_is) (sym (ap (λ (h : Held). h.callers) was) ∙ c.requires.whole.callers)
 
-pub remove-value-requires-clause-met : goal.remove-value-requires-clause-met
-remove-value-requires-clause-met g c = λ i v e.
+pub overflow_sub-self : goal.overflow_sub-self
+overflow_sub-self g c =
     let a = c.self.inside in
-    let h = laid_of a c.self.invariant in
-    omega (arith, met a.names a.newest.items a.variables.items h i v e, as_many a.names a.newest.items a.variables.items h, a.newest.ok.0)
+    let xs = a.names in
+    let ns = a.newest.items in
+    let vs = a.variables.items in
+    let cs = reverse a.calls.items in
+    let h = c.self.invariant.held in
+    let H = c.args.self.now in
+    let y = c.remove-value.result in
+    let ms = c.remove-value.new.newest.items in
+    let ws = c.remove-value.new.variables.items in
+    let gone = c.remove-value.ensures.variables in
+    let newest = c.remove-value.ensures.newest in
+    let alone = no_calls xs ns vs a.declared cs h H c.self.view_is c.requires.whole in
+    let above = base_alone xs ws cs alone in
+    let over = start_alone xs ws cs alone in
+    let was = left_over xs ns vs a.declared cs h y ms ws gone newest above over H c.self.view_is in
+    let left = held_in xs a.declared ws cs in
+    let top : H.sight ≡ Slot (name_among xs y) (val_of y.value) left.sight = ap (λ (h : Held). h.sight) was in
+    let all : a.declared ≡ length vs = all_declared xs ns vs a.declared cs h H c.self.view_is c.requires.whole in
+    omega (arith, all, ap length gone, length-append ws (y ∷ []))

@@ -1,18 +1,12 @@
-use Rattle.std.proofs.Common.{◌≡◌, ap, ◌∙◌, sym, arith}
-use Rattle.std.specs.Prelude.{slice_get}
-use Rattle.janus_meaning.specs.Fault.{Fine}
-use Rattle.janus_meaning.specs.Store.{look, Num}
-use Rattle.janus_names.specs.Numbers.{IsNumbered}
-use Rattle.janus_store.specs.Held.{Held}
-use Rattle.janus_store.specs.Values.{val_of}
-use Rattle.janus_store.proofs.Laid.{laid_of, in_sight, fits, seen_at}
-use Rattle.std.proofs.Common.{w32, refl}
+use Rattle.std.proofs.Common.{◌≡◌, ap, ◌∙◌, sym, arith, w32}
+use Rattle.std.specs.Prelude.{slice_get, Some, reverse}
 use Rattle.std.proofs.lemmas.Int.{to_z-of_z}
-use Rattle.janus_meaning.specs.Store.{Bare, cleared, cleared_val}
-use Rattle.janus_meaning.proofs.Cleared.{same_stacks}
+use Rattle.janus_meaning.specs.Store.{look, Num, cleared_val}
+use Rattle.janus_store.specs.Inside.{IsPlaceOf}
+use Rattle.janus_store.specs.Held.{live_stacks}
+use Rattle.janus_store.specs.Values.{val_of}
+use Rattle.janus_store.proofs.Standing.{has_place, place_fits, value_is, set_written, set_held, set_like, set_stacks}
 use Rattle.janus_store.specs.Stores.{write}
-use Rattle.janus_store.proofs.Variables.{write_here, cleared-written}
-use Rattle.janus_store.proofs.Laid.{laid_written}
 use Rattle.janus_store.proofs.store.Store.set.Goals as goal
 
 pub place-at-requires : goal.place-at-requires
@@ -21,13 +15,11 @@ place-at-requires g c =
     let xs = a.names in
     let ns = a.newest.items in
     let vs = a.variables.items in
-    let h = laid_of a c.self.invariant in
-    let sight = ap (λ (h : Held). h.sight) c.self.view_is in
-    let names = ap (λ (h : Held). h.names) c.self.view_is in
-    let x = c.requires.0 in
-    let named : IsNumbered xs c.args.name x = ap (λ l. slice_get l c.args.name) names ∙ c.requires.1 in
-    let seen = in_sight xs ns vs h c.args.name x (Num c.requires.2.0) named (ap (look x) sight ∙ c.requires.2.1) in
-    (seen.0, ap (λ l. slice_get l c.args.name) c.deref.ensures.value ∙ seen.1)
+    let cs = reverse a.calls.items in
+    let h = c.self.invariant.held in
+    let H = c.args.self.now in
+    let p = has_place xs ns vs a.declared cs h H c.self.view_is c.args.name c.requires.0 (Num c.requires.2.0) c.requires.1 c.requires.2.1 in
+    (p.0, (p.1.0, p.1.1, ap (λ l. slice_get l c.args.name) c.deref.ensures.value ∙ p.1.2, ap (λ l. slice_get l p.1.0) c.deref-2.ensures.value ∙ p.1.3, p.1.4))
 
 pub index_mut-requires : goal.index_mut-requires
 index_mut-requires g c =
@@ -35,12 +27,12 @@ index_mut-requires g c =
     let xs = a.names in
     let ns = a.newest.items in
     let vs = a.variables.items in
-    let h = laid_of a c.self.invariant in
-    let sight = ap (λ (h : Held). h.sight) c.self.view_is in
-    let names = ap (λ (h : Held). h.names) c.self.view_is in
-    let x = c.requires.0 in
-    let named : IsNumbered xs c.args.name x = ap (λ l. slice_get l c.args.name) names ∙ c.requires.1 in
-    omega (arith, fits xs ns vs h c.args.name x c.place-at.result named (sym (ap (λ l. slice_get l c.args.name) c.deref.ensures.value) ∙ c.place-at.ensures), a.variables.ok.0)
+    let cs = reverse a.calls.items in
+    let h = c.self.invariant.held in
+    let H = c.args.self.now in
+    let e = c.place-at.ensures in
+    let q : IsPlaceOf ns vs c.args.name c.place-at.result = (e.0, e.1, ap (λ l. slice_get l c.args.name) (sym c.deref.ensures.value) ∙ e.2, ap (λ l. slice_get l e.0) (sym c.deref-2.ensures.value) ∙ e.3, e.4) in
+    omega (arith, place_fits xs ns vs a.declared cs h H c.self.view_is c.args.name c.requires.0 (Num c.requires.2.0) c.place-at.result c.requires.1 c.requires.2.1 q, a.variables.ok.0)
 
 pub set_number-requires : goal.set_number-requires
 set_number-requires g c =
@@ -48,16 +40,16 @@ set_number-requires g c =
     let xs = a.names in
     let ns = a.newest.items in
     let vs = a.variables.items in
-    let h = laid_of a c.self.invariant in
-    let sight = ap (λ (h : Held). h.sight) c.self.view_is in
-    let names = ap (λ (h : Held). h.names) c.self.view_is in
-    let x = c.requires.0 in
-    let mine : IsNumbered xs c.args.name x = ap (λ l. slice_get l c.args.name) names ∙ c.requires.1 in
-    let at = sym (ap (λ l. slice_get l c.args.name) c.deref.ensures.value) ∙ c.place-at.ensures in
+    let cs = reverse a.calls.items in
+    let h = c.self.invariant.held in
+    let H = c.args.self.now in
+    let e = c.place-at.ensures in
+    let p = c.place-at.result in
+    let q : IsPlaceOf ns vs c.args.name p = (e.0, e.1, ap (λ l. slice_get l c.args.name) (sym c.deref.ensures.value) ∙ e.2, ap (λ l. slice_get l e.0) (sym c.deref-2.ensures.value) ∙ e.3, e.4) in
     let v = c.index_mut.result.now in
-    let f = seen_at xs ns vs h c.args.name x c.place-at.result v mine at c.index_mut.ensures.value in
-    let both : Fine (val_of v.value) ≡ Fine (Num c.requires.2.0) = sym f.seen ∙ ap (look x) sight ∙ c.requires.2.1 in
-    (c.requires.2.0, cc)
+    let read = c.index_mut.ensures.value in
+    let same = value_is xs ns vs a.declared cs h H c.self.view_is c.args.name c.requires.0 (Num c.requires.2.0) p v c.requires.1 c.requires.2.1 q read in
+    (c.requires.2.0, same)
 
 pub invariant_of-self : goal.invariant_of-self
 invariant_of-self g c =
@@ -65,43 +57,23 @@ invariant_of-self g c =
     let xs = a.names in
     let ns = a.newest.items in
     let vs = a.variables.items in
-    let h = laid_of a c.self.invariant in
-    let sight = ap (λ (h : Held). h.sight) c.self.view_is in
-    let names = ap (λ (h : Held). h.names) c.self.view_is in
-    let x = c.requires.0 in
-    let mine : IsNumbered xs c.args.name x = ap (λ l. slice_get l c.args.name) names ∙ c.requires.1 in
-    let at = sym (ap (λ l. slice_get l c.args.name) c.deref.ensures.value) ∙ c.place-at.ensures in
+    let cs = reverse a.calls.items in
+    let h = c.self.invariant.held in
+    let H = c.args.self.now in
+    let e = c.place-at.ensures in
+    let p = c.place-at.result in
+    let q : IsPlaceOf ns vs c.args.name p = (e.0, e.1, ap (λ l. slice_get l c.args.name) (sym c.deref.ensures.value) ∙ e.2, ap (λ l. slice_get l e.0) (sym c.deref-2.ensures.value) ∙ e.3, e.4) in
     let v = c.index_mut.result.now in
-    let f = seen_at xs ns vs h c.args.name x c.place-at.result v mine at c.index_mut.ensures.value in
-    let both : Fine (val_of v.value) ≡ Fine (Num c.requires.2.0) = sym f.seen ∙ ap (look x) sight ∙ c.requires.2.1 in
-    let same : val_of v.value ≡ (Num c.requires.2.0) = cc in
-    let shape = cleared-written xs Bare vs c.place-at.result v c.set_number.new.self f.at (ap cleared_val c.set_number.ensures ∙ sym (ap cleared_val same)) in
-    let laid = laid_written xs ns vs h c.place-at.result v (record { name = v.name; hidden = v.hidden; value = c.set_number.new.self }) f.at refl refl in
+    let read = c.index_mut.ensures.value in
+    let new = c.set_number.new.self in
+    let same = value_is xs ns vs a.declared cs h H c.self.view_is c.args.name c.requires.0 (Num c.requires.2.0) p v c.requires.1 c.requires.2.1 q read in
+    let shape : cleared_val (val_of new) ≡ cleared_val (Num c.requires.2.0) = ap cleared_val c.set_number.ensures in
     record {
-      one_number = laid.one_number;
-      newest = laid.newest;
-      hidden = laid.hidden;
-      stacks = omega (arith, c.self.invariant.stacks, same_stacks _ _ shape);
-      declared = c.self.invariant.declared;
-      few = c.self.invariant.few;
+      held = set_held xs ns vs a.declared cs h H c.self.view_is c.args.name c.requires.0 (Num c.requires.2.0) p v c.requires.1 c.requires.2.1 q read new;
+      stacks = omega (arith, c.self.invariant.stacks, ap live_stacks c.self.view_is, set_stacks xs ns vs a.declared cs h H c.self.view_is c.args.name c.requires.0 (Num c.requires.2.0) p v c.requires.1 c.requires.2.1 q read new shape);
       room = c.self.invariant.room;
+      call_room = c.self.invariant.call_room;
     }
-
-pub returns-clause-written : goal.returns-clause-written
-returns-clause-written g c = λ x named.
-    let a = c.self.inside in
-    let xs = a.names in
-    let ns = a.newest.items in
-    let vs = a.variables.items in
-    let h = laid_of a c.self.invariant in
-    let sight = ap (λ (h : Held). h.sight) c.self.view_is in
-    let names = ap (λ (h : Held). h.names) c.self.view_is in
-    let mine : IsNumbered xs c.args.name x = ap (λ l. slice_get l c.args.name) names ∙ named in
-    let at = sym (ap (λ l. slice_get l c.args.name) c.deref.ensures.value) ∙ c.place-at.ensures in
-    let v = c.index_mut.result.now in
-    let f = seen_at xs ns vs h c.args.name x c.place-at.result v mine at c.index_mut.ensures.value in
-    ap (λ n. write x (Num n) c.args.self.now.sight) (sym (to_z-of_z w32 c.args.number c.ranges.number)) ∙ ap (λ u. write x u c.args.self.now.sight) (sym c.set_number.ensures) ∙ ap (write x (val_of c.set_number.new.self)) (sym sight)
-    ∙ write_here xs x c.set_number.new.self Bare vs c.place-at.result v f.at f.named f.alone
 
 pub returns-clause-shape : goal.returns-clause-shape
 returns-clause-shape g c =
@@ -109,18 +81,35 @@ returns-clause-shape g c =
     let xs = a.names in
     let ns = a.newest.items in
     let vs = a.variables.items in
-    let h = laid_of a c.self.invariant in
-    let sight = ap (λ (h : Held). h.sight) c.self.view_is in
-    let names = ap (λ (h : Held). h.names) c.self.view_is in
-    let x = c.requires.0 in
-    let mine : IsNumbered xs c.args.name x = ap (λ l. slice_get l c.args.name) names ∙ c.requires.1 in
-    let at = sym (ap (λ l. slice_get l c.args.name) c.deref.ensures.value) ∙ c.place-at.ensures in
+    let cs = reverse a.calls.items in
+    let h = c.self.invariant.held in
+    let H = c.args.self.now in
+    let e = c.place-at.ensures in
+    let p = c.place-at.result in
+    let q : IsPlaceOf ns vs c.args.name p = (e.0, e.1, ap (λ l. slice_get l c.args.name) (sym c.deref.ensures.value) ∙ e.2, ap (λ l. slice_get l e.0) (sym c.deref-2.ensures.value) ∙ e.3, e.4) in
     let v = c.index_mut.result.now in
-    let f = seen_at xs ns vs h c.args.name x c.place-at.result v mine at c.index_mut.ensures.value in
-    let both : Fine (val_of v.value) ≡ Fine (Num c.requires.2.0) = sym f.seen ∙ ap (look x) sight ∙ c.requires.2.1 in
-    let same : val_of v.value ≡ (Num c.requires.2.0) = cc in
-    record {
-      sight = cleared-written xs Bare vs c.place-at.result v c.set_number.new.self f.at (ap cleared_val c.set_number.ensures ∙ sym (ap cleared_val same)) ∙ ap cleared sight;
-      declared = ap (λ (h : Held). h.declared) c.self.view_is;
-      names = names;
-    }
+    let read = c.index_mut.ensures.value in
+    let new = c.set_number.new.self in
+    let same = value_is xs ns vs a.declared cs h H c.self.view_is c.args.name c.requires.0 (Num c.requires.2.0) p v c.requires.1 c.requires.2.1 q read in
+    let shape : cleared_val (val_of new) ≡ cleared_val (Num c.requires.2.0) = ap cleared_val c.set_number.ensures in
+    set_like xs ns vs a.declared cs h H c.self.view_is c.args.name c.requires.0 (Num c.requires.2.0) p v c.requires.1 c.requires.2.1 q read new shape
+
+pub returns-clause-written : goal.returns-clause-written
+returns-clause-written g c = λ x named.
+    let a = c.self.inside in
+    let xs = a.names in
+    let ns = a.newest.items in
+    let vs = a.variables.items in
+    let cs = reverse a.calls.items in
+    let h = c.self.invariant.held in
+    let H = c.args.self.now in
+    let e = c.place-at.ensures in
+    let p = c.place-at.result in
+    let q : IsPlaceOf ns vs c.args.name p = (e.0, e.1, ap (λ l. slice_get l c.args.name) (sym c.deref.ensures.value) ∙ e.2, ap (λ l. slice_get l e.0) (sym c.deref-2.ensures.value) ∙ e.3, e.4) in
+    let v = c.index_mut.result.now in
+    let read = c.index_mut.ensures.value in
+    let new = c.set_number.new.self in
+    let same : c.requires.0 ≡ x = let both : Some c.requires.0 ≡ Some x = sym c.requires.1 ∙ named in cc in
+    let seen = ap (λ x. look x H.sight) (sym same) ∙ c.requires.2.1 in
+    ap (λ n. write x (Num n) H.sight) (sym (to_z-of_z w32 c.args.number c.ranges.number)) ∙ ap (λ u. write x u H.sight) (sym c.set_number.ensures)
+    ∙ set_written xs ns vs a.declared cs h H c.self.view_is c.args.name x (Num c.requires.2.0) p v named seen q read new

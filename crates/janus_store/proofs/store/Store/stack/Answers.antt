@@ -1,11 +1,8 @@
 use Rattle.std.proofs.Common.{◌≡◌, ap, ◌∙◌, sym, arith}
-use Rattle.std.specs.Prelude.{slice_get}
-use Rattle.janus_meaning.specs.Fault.{Fine}
-use Rattle.janus_meaning.specs.Store.{look, Stk}
-use Rattle.janus_names.specs.Numbers.{IsNumbered}
-use Rattle.janus_store.specs.Held.{Held}
-use Rattle.janus_store.specs.Values.{val_of}
-use Rattle.janus_store.proofs.Laid.{laid_of, in_sight, fits, seen_at}
+use Rattle.std.specs.Prelude.{slice_get, reverse}
+use Rattle.janus_meaning.specs.Store.{Stk}
+use Rattle.janus_store.specs.Inside.{IsPlaceOf}
+use Rattle.janus_store.proofs.Standing.{has_place, place_fits, value_is}
 use Rattle.janus_store.proofs.store.Store.stack.Goals as goal
 
 pub place-requires : goal.place-requires
@@ -14,13 +11,11 @@ place-requires g c =
     let xs = a.names in
     let ns = a.newest.items in
     let vs = a.variables.items in
-    let h = laid_of a c.self.invariant in
-    let sight = ap (λ (h : Held). h.sight) c.self.view_is in
-    let names = ap (λ (h : Held). h.names) c.self.view_is in
-    let x = c.requires.0 in
-    let named : IsNumbered xs c.args.name x = ap (λ l. slice_get l c.args.name) names ∙ c.requires.1 in
-    let seen = in_sight xs ns vs h c.args.name x (Stk c.requires.2.0) named (ap (look x) sight ∙ c.requires.2.1) in
-    (seen.0, ap (λ l. slice_get l c.args.name) c.deref.ensures.value ∙ seen.1)
+    let cs = reverse a.calls.items in
+    let h = c.self.invariant.held in
+    let H = c.args.self.now in
+    let p = has_place xs ns vs a.declared cs h H c.self.view_is c.args.name c.requires.0 (Stk c.requires.2.0) c.requires.1 c.requires.2.1 in
+    (p.0, (p.1.0, p.1.1, ap (λ l. slice_get l c.args.name) c.deref.ensures.value ∙ p.1.2, ap (λ l. slice_get l p.1.0) c.deref-2.ensures.value ∙ p.1.3, p.1.4))
 
 pub index-requires : goal.index-requires
 index-requires g c =
@@ -28,12 +23,12 @@ index-requires g c =
     let xs = a.names in
     let ns = a.newest.items in
     let vs = a.variables.items in
-    let h = laid_of a c.self.invariant in
-    let sight = ap (λ (h : Held). h.sight) c.self.view_is in
-    let names = ap (λ (h : Held). h.names) c.self.view_is in
-    let x = c.requires.0 in
-    let named : IsNumbered xs c.args.name x = ap (λ l. slice_get l c.args.name) names ∙ c.requires.1 in
-    omega (arith, fits xs ns vs h c.args.name x c.place.result named (sym (ap (λ l. slice_get l c.args.name) c.deref.ensures.value) ∙ c.place.ensures), a.variables.ok.0)
+    let cs = reverse a.calls.items in
+    let h = c.self.invariant.held in
+    let H = c.args.self.now in
+    let e = c.place.ensures in
+    let q : IsPlaceOf ns vs c.args.name c.place.result = (e.0, e.1, ap (λ l. slice_get l c.args.name) (sym c.deref.ensures.value) ∙ e.2, ap (λ l. slice_get l e.0) (sym c.deref-2.ensures.value) ∙ e.3, e.4) in
+    omega (arith, place_fits xs ns vs a.declared cs h H c.self.view_is c.args.name c.requires.0 (Stk c.requires.2.0) c.place.result c.requires.1 c.requires.2.1 q, a.variables.ok.0)
 
 pub stack-requires : goal.stack-requires
 stack-requires g c =
@@ -41,30 +36,24 @@ stack-requires g c =
     let xs = a.names in
     let ns = a.newest.items in
     let vs = a.variables.items in
-    let h = laid_of a c.self.invariant in
-    let sight = ap (λ (h : Held). h.sight) c.self.view_is in
-    let names = ap (λ (h : Held). h.names) c.self.view_is in
-    let x = c.requires.0 in
-    let mine : IsNumbered xs c.args.name x = ap (λ l. slice_get l c.args.name) names ∙ c.requires.1 in
-    let at = sym (ap (λ l. slice_get l c.args.name) c.deref.ensures.value) ∙ c.place.ensures in
-    let v = c.index.result.now in
-    let f = seen_at xs ns vs h c.args.name x c.place.result v mine at c.index.ensures in
-    let both : Fine (val_of v.value) ≡ Fine (Stk c.requires.2.0) = sym f.seen ∙ ap (look x) sight ∙ c.requires.2.1 in
-    (c.requires.2.0, cc)
+    let cs = reverse a.calls.items in
+    let h = c.self.invariant.held in
+    let H = c.args.self.now in
+    let e = c.place.ensures in
+    let q : IsPlaceOf ns vs c.args.name c.place.result = (e.0, e.1, ap (λ l. slice_get l c.args.name) (sym c.deref.ensures.value) ∙ e.2, ap (λ l. slice_get l e.0) (sym c.deref-2.ensures.value) ∙ e.3, e.4) in
+    (c.requires.2.0, value_is xs ns vs a.declared cs h H c.self.view_is c.args.name c.requires.0 (Stk c.requires.2.0) c.place.result c.index.result.now c.requires.1 c.requires.2.1 q c.index.ensures)
 
 pub returns : goal.returns
-returns g c = λ x l named e.
+returns g c = λ x l named k.
     let a = c.self.inside in
     let xs = a.names in
     let ns = a.newest.items in
     let vs = a.variables.items in
-    let h = laid_of a c.self.invariant in
-    let sight = ap (λ (h : Held). h.sight) c.self.view_is in
-    let names = ap (λ (h : Held). h.names) c.self.view_is in
-    let mine : IsNumbered xs c.args.name x = ap (λ l. slice_get l c.args.name) names ∙ named in
-    let at = sym (ap (λ l. slice_get l c.args.name) c.deref.ensures.value) ∙ c.place.ensures in
-    let v = c.index.result.now in
-    let f = seen_at xs ns vs h c.args.name x c.place.result v mine at c.index.ensures in
-    let both : Fine (val_of v.value) ≡ Fine (Stk l) = sym f.seen ∙ ap (look x) sight ∙ e in
-    let same : Stk c.stack.result.now ≡ Stk l = sym c.stack.ensures ∙ cc in
+    let cs = reverse a.calls.items in
+    let h = c.self.invariant.held in
+    let H = c.args.self.now in
+    let e = c.place.ensures in
+    let q : IsPlaceOf ns vs c.args.name c.place.result = (e.0, e.1, ap (λ l. slice_get l c.args.name) (sym c.deref.ensures.value) ∙ e.2, ap (λ l. slice_get l e.0) (sym c.deref-2.ensures.value) ∙ e.3, e.4) in
+    let same = value_is xs ns vs a.declared cs h H c.self.view_is c.args.name x (Stk l) c.place.result c.index.result.now named k q c.index.ensures in
+    let both : Stk c.stack.result.now ≡ Stk l = sym c.stack.ensures ∙ same in
     cc

@@ -1,0 +1,240 @@
+//! A conversation with a kernel over its shell and iopub sockets.
+ghost use Rattle.std.specs.Prelude.{◌≡◌, ◌+◌, OnOk, IfOk, string_bytes};
+ghost use Rattle.std.specs.Io.KnownBytes.{Appends};
+ghost use Rattle.kernel_message.specs.Draft.{said_of};
+ghost use Rattle.console_program.specs.Requests.{request_octets};
+
+use crate::wire::Wire;
+use console_talk::{
+    Command, ConsoleFault, Heard, Told, comm_close_draft, comm_open_draft, comm_told,
+    complete_draft, completion_told, execute_draft, is_answer_to, is_in_session, kernel_info_draft,
+    message, move_draft, run_told, state_draft, what_is_heard,
+};
+use jupyter_msg::{MsgFault, Opened, open, seal};
+use kernel_message::Draft;
+use serde_json::Value;
+use std::alloc::Global;
+use std::io::{Read, Write};
+
+/// So often the kernel is asked what it is, until a status with its parent came.
+const ASKS: u32 = 100;
+
+/// So many broadcasts are looked at for each asking, at most.
+const LOOKS: u32 = 4096;
+
+/// A conversation with a kernel: a connection to shell, one to iopub that is subscribed to all, and the session.
+#[derive(Drop)]
+pub(crate) struct Frontend<R, W> {
+    pub alloc: Global,
+    pub key: String,
+    pub session: String,
+    /// The number of the next message.
+    pub next: u64,
+    pub shell: Wire<R, W>,
+    pub iopub: Wire<R, W>,
+}
+
+/// Subscribes to all broadcasts.
+pub(crate) fn subscribe<R: Read + Drop, W: Write + Drop>(
+    iopub: &mut Wire<R, W>,
+) -> Result<(), ConsoleFault> {
+    let all = b"\x01".to_vec(iopub.alloc)?;
+    let frames = Vec::from_array(iopub.alloc, [all])?;
+    iopub.write(&frames)
+}
+
+/// The message of these frames; none where it is refused.
+fn opened(alloc: Global, frames: Vec<Vec<u8>>, key: &[u8]) -> Result<Option<Opened>, ConsoleFault> {
+    match open(alloc, frames, key) {
+        Ok(opened) => Ok(Some(opened)),
+        Err(MsgFault::Memory) => Err(ConsoleFault::NoMemory),
+        Err(_) => Ok(None),
+    }
+}
+
+impl<R: Read + Drop, W: Write + Drop> Frontend<R, W> {
+    /// Sends a request on shell, and answers its number.
+    fn send(&mut self, draft: &Draft) -> Result<u64, ConsoleFault> {
+        let n = self.next;
+        let message = message(self.alloc, &self.session, n, draft)?;
+        let Ok(frames) = seal(self.alloc, &message, self.key.as_bytes()) else {
+            return Err(ConsoleFault::NoMemory);
+        };
+        self.shell.write(&frames)?;
+        self.next = n.wrapping_add(1);
+        Ok(n)
+    }
+
+    /// The next broadcast; none where none came in the time that the reader waits.
+    fn next_broadcast(&mut self) -> Result<Option<Opened>, ConsoleFault> {
+        for _ in 0..u64::MAX {
+            let Some(frames) = self.iopub.next()? else {
+                return Ok(None);
+            };
+            let read = opened(self.alloc, frames, self.key.as_bytes())?;
+            if read.is_some() {
+                return Ok(read);
+            }
+        }
+        Err(ConsoleFault::NoConnection)
+    }
+
+    /// The next broadcast, where one has to come.
+    fn some_broadcast(&mut self) -> Result<Opened, ConsoleFault> {
+        match self.next_broadcast()? {
+            Some(broadcast) => Ok(broadcast),
+            None => Err(ConsoleFault::NoConnection),
+        }
+    }
+
+    /// Whether a status that answers this session comes in the time that the reader waits.
+    fn hears_status(&mut self) -> Result<bool, ConsoleFault> {
+        for _ in 0..LOOKS {
+            let Some(broadcast) = self.next_broadcast()? else {
+                return Ok(false);
+            };
+            let is_status = match what_is_heard(&broadcast.header, &broadcast.content) {
+                Heard::Idle | Heard::Status => true,
+                Heard::Result | Heard::CommData | Heard::CommClosed | Heard::Other => false,
+            };
+            if is_status && is_in_session(self.alloc, &broadcast.message, &self.session)? {
+                return Ok(true);
+            }
+        }
+        Ok(false)
+    }
+
+    /// Asks what the kernel is, until a status with its parent came: then all later broadcasts come too.
+    pub(crate) fn greet(&mut self) -> Result<(), ConsoleFault> {
+        for _ in 0..ASKS {
+            let asked = kernel_info_draft(self.alloc);
+            self.send(&asked)?;
+            if self.hears_status()? {
+                return Ok(());
+            }
+        }
+        Err(ConsoleFault::NoConnection)
+    }
+
+    /// The reply to the n-th message.
+    fn reply_to(&mut self, n: u64) -> Result<Opened, ConsoleFault> {
+        for _ in 0..u64::MAX {
+            let Some(frames) = self.shell.next()? else {
+                return Err(ConsoleFault::NoConnection);
+            };
+            if let Some(reply) = opened(self.alloc, frames, self.key.as_bytes())? {
+                if is_answer_to(self.alloc, &reply.message, &self.session, n)? {
+                    return Ok(reply);
+                }
+            }
+        }
+        Err(ConsoleFault::NoConnection)
+    }
+
+    /// Waits until the kernel is done with the n-th message, and answers what its cell shows, if it shows something.
+    fn result_of(&mut self, n: u64) -> Result<Option<Value>, ConsoleFault> {
+        let mut shown = None;
+        for _ in 0..u64::MAX {
+            let broadcast = self.some_broadcast()?;
+            if is_answer_to(self.alloc, &broadcast.message, &self.session, n)? {
+                match what_is_heard(&broadcast.header, &broadcast.content) {
+                    Heard::Idle => return Ok(shown),
+                    Heard::Result => shown = Some(broadcast.content),
+                    Heard::Status | Heard::CommData | Heard::CommClosed | Heard::Other => {}
+                }
+            }
+        }
+        Err(ConsoleFault::NoConnection)
+    }
+
+    /// Waits until the kernel is done with the n-th message, and answers what it said on the comm, if it said something.
+    fn data_of(&mut self, n: u64) -> Result<Option<Told>, ConsoleFault> {
+        let mut told = None;
+        for _ in 0..u64::MAX {
+            let broadcast = self.some_broadcast()?;
+            if is_answer_to(self.alloc, &broadcast.message, &self.session, n)? {
+                match what_is_heard(&broadcast.header, &broadcast.content) {
+                    Heard::Idle => return Ok(told),
+                    Heard::CommData => told = Some(comm_told(self.alloc, &broadcast.content)?),
+                    Heard::Status | Heard::Result | Heard::CommClosed | Heard::Other => {}
+                }
+            }
+        }
+        Err(ConsoleFault::NoConnection)
+    }
+
+    /// Waits until the kernel is done with the n-th message, and answers whether it closed the comm.
+    fn is_closed_by(&mut self, n: u64) -> Result<bool, ConsoleFault> {
+        let mut is_closed = false;
+        for _ in 0..u64::MAX {
+            let broadcast = self.some_broadcast()?;
+            if is_answer_to(self.alloc, &broadcast.message, &self.session, n)? {
+                match what_is_heard(&broadcast.header, &broadcast.content) {
+                    Heard::Idle => return Ok(is_closed),
+                    Heard::CommClosed => is_closed = true,
+                    Heard::Status | Heard::Result | Heard::CommData | Heard::Other => {}
+                }
+            }
+        }
+        Err(ConsoleFault::NoConnection)
+    }
+
+    /// Runs a text as a cell.
+    fn run(&mut self, code: &str) -> Result<Told, ConsoleFault> {
+        let asked = execute_draft(self.alloc, code)?;
+        let n = self.send(&asked)?;
+        let reply = self.reply_to(n)?;
+        let shown = self.result_of(n)?;
+        Ok(run_told(self.alloc, &reply.content, shown.as_ref())?)
+    }
+
+    /// Completes the name at the end of a text.
+    fn complete(&mut self, text: &str) -> Result<Told, ConsoleFault> {
+        let asked = complete_draft(self.alloc, text)?;
+        let n = self.send(&asked)?;
+        let reply = self.reply_to(n)?;
+        Ok(completion_told(self.alloc, &reply.content)?)
+    }
+
+    /// Opens a comm, asks on it, and closes it.
+    fn ask_on_comm(&mut self, asked: &Draft) -> Result<Told, ConsoleFault> {
+        let open = comm_open_draft(self.alloc, &self.session)?;
+        let close = comm_close_draft(self.alloc, &self.session)?;
+        let opened = self.send(&open)?;
+        if self.is_closed_by(opened)? {
+            return Err(ConsoleFault::NoComm);
+        }
+        let n = self.send(asked)?;
+        let told = self.data_of(n)?;
+        let closed = self.send(&close)?;
+        self.is_closed_by(closed)?;
+        match told {
+            Some(told) => Ok(told),
+            None => Err(ConsoleFault::NoConnection),
+        }
+    }
+
+    /// Has the kernel make a move.
+    fn go(&mut self, op: &str, n: u32) -> Result<Told, ConsoleFault> {
+        let asked = move_draft(self.alloc, &self.session, op, n)?;
+        self.ask_on_comm(&asked)
+    }
+
+    /// Asks where the kernel stands.
+    fn show(&mut self) -> Result<Told, ConsoleFault> {
+        let asked = state_draft(self.alloc, &self.session)?;
+        self.ask_on_comm(&asked)
+    }
+
+    /// Has the kernel do what the command says, and answers what is printed.
+    pub(crate) fn obey(&mut self, command: &Command) -> Result<Told, ConsoleFault> {
+        match command {
+            Command::Run(code) => self.run(code),
+            Command::Undo(k) => self.go("undo", *k),
+            Command::Redo(k) => self.go("redo", *k),
+            Command::Goto(n) => self.go("goto", *n),
+            Command::Show => self.show(),
+            Command::Complete(text) => self.complete(text),
+        }
+    }
+}

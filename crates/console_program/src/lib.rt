@@ -1,0 +1,20 @@
+//! The program `janus-console`, over its command line and its two output streams: it connects to a kernel of Janus, has one thing done, and prints
+//! what came of it.
+//!
+//! [`console`] is the program, with its status. It reads the connection file, connects to iopub and then to shell, waits until broadcasts
+//! come, and has the kernel do what the words ask. Below it stand a wire, which is one connection over any reader and any
+//! writer, and a frontend, which is a conversation over two wires; what is said and what is printed are functions of `console_talk`, and the words are
+//! read by `console_words`.
+//!
+//! Proved is that all of it is safe, that a wire writes just the frames that it is given, and that what is printed goes out or a beginning of
+//! it. How the parts are put together is tested, over memory. Nothing is said of what a socket gives or takes, nor that an answer comes.
+#![tactic(auto)]
+
+mod frontend;
+mod output;
+mod program;
+#[cfg(test)]
+mod tests;
+mod wire;
+
+pub use program::console;

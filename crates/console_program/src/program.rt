@@ -1,0 +1,165 @@
+//! The program over its command line and its two output streams.
+ghost use Rattle.std.specs.Prelude.{◌≡◌};
+
+use crate::frontend::{Frontend, subscribe};
+use crate::output::print;
+use crate::wire::Wire;
+use console_talk::{Command, ConsoleFault, Told, session_name};
+use console_words::{Arguments, Kind, Refused, arguments_of};
+use jupyter_msg::{Connection, Setting};
+use std::alloc::Global;
+use std::convert::AsStr;
+use std::io::Write;
+use std::net::{Net, TcpListener, TcpStream};
+use std::rt::Files;
+use std::time::Duration;
+use std::{fs, io};
+use zmtp_peer::Role;
+
+/// So long a read of iopub waits while it is not known whether broadcasts come.
+const GREETING_MILLISECONDS: u64 = 20;
+
+/// Reads the connection file.
+fn read_file<R: Files>(rt: &R, alloc: Global, path: &str) -> Result<Connection, ConsoleFault> {
+    let octets = match fs::read(&(rt, &alloc), path) {
+        Ok(octets) => octets,
+        Err(error) => {
+            return Err(match error.kind() {
+                io::ErrorKind::OutOfMemory => ConsoleFault::NoMemory,
+                _ => ConsoleFault::BadFile(Setting::File),
+            });
+        }
+    };
+    match Connection::read(alloc, &octets) {
+        Ok(file) => Ok(file),
+        Err(fault) => Err(ConsoleFault::of_file(fault)),
+    }
+}
+
+/// What a fault of a socket comes to.
+fn socket_fault(error: io::Error) -> ConsoleFault {
+    match error.kind() {
+        io::ErrorKind::OutOfMemory => ConsoleFault::NoMemory,
+        _ => ConsoleFault::NoConnection,
+    }
+}
+
+/// Connects to a port of the kernel.
+fn dial<R>(rt: &R, file: &Connection, port: u16) -> Result<TcpStream, ConsoleFault>
+where
+    R: Net<Listener = TcpListener, Stream = TcpStream>,
+{
+    let ip = file.ip.as_str();
+    let stream = match TcpStream::connect(rt, (ip, port)) {
+        Ok(stream) => stream,
+        Err(error) => return Err(socket_fault(error)),
+    };
+    match stream.set_nodelay(true) {
+        Ok(()) => Ok(stream),
+        Err(error) => Err(socket_fault(error)),
+    }
+}
+
+/// Lets a read of the stream wait so long, or for ever.
+fn set_patience(stream: &TcpStream, patience: Option<Duration>) -> Result<(), ConsoleFault> {
+    match stream.set_read_timeout(patience) {
+        Ok(()) => Ok(()),
+        Err(error) => Err(socket_fault(error)),
+    }
+}
+
+/// The port of this end of a stream.
+fn local_port(stream: &TcpStream) -> Result<u16, ConsoleFault> {
+    match stream.local_addr() {
+        Ok(address) => Ok(address.port()),
+        Err(error) => Err(socket_fault(error)),
+    }
+}
+
+/// Connects to iopub and then to shell, and has the kernel do what the command says.
+fn converse<R>(
+    rt: &R,
+    alloc: Global,
+    file: Connection,
+    command: &Command,
+) -> Result<Told, ConsoleFault>
+where
+    R: Net<Listener = TcpListener, Stream = TcpStream>,
+{
+    let broadcasts = dial(rt, &file, file.iopub_port)?;
+    let mut iopub = Wire::open(alloc, &broadcasts, &broadcasts, Role::Sub)?;
+    subscribe(&mut iopub)?;
+    let requests = dial(rt, &file, file.shell_port)?;
+    let shell = Wire::open(alloc, &requests, &requests, Role::Dealer)?;
+    let session = session_name(alloc, local_port(&requests)?)?;
+    let mut frontend = Frontend {
+        alloc,
+        key: file.key,
+        session,
+        next: 0,
+        shell,
+        iopub,
+    };
+    set_patience(
+        &broadcasts,
+        Some(Duration::from_millis(GREETING_MILLISECONDS)),
+    )?;
+    frontend.greet()?;
+    set_patience(&broadcasts, None)?;
+    frontend.obey(command)
+}
+
+/// Has the kernel of a connection file do what the command says.
+fn run<R>(rt: &R, alloc: Global, arguments: Arguments) -> Result<Told, ConsoleFault>
+where
+    R: Net<Listener = TcpListener, Stream = TcpStream> + Files,
+{
+    let Arguments { file, command } = arguments;
+    let file = read_file(rt, alloc, &file)?;
+    converse(rt, alloc, file, &command)
+}
+
+/// Prints what came of it, and answers the status.
+fn end<W: Write, E: Write>(came: Result<Told, ConsoleFault>, out: &mut W, err: &mut E) -> u8 {
+    match came {
+        Ok(told) => {
+            print(out, &told.lines);
+            told.status()
+        }
+        Err(fault) => {
+            print(err, "janus-console: ");
+            print(err, fault.reason());
+            print(err, "\n");
+            fault.status()
+        }
+    }
+}
+
+/// Prints the help, or why the words ask for nothing, and answers the status.
+fn refuse<W: Write, E: Write>(refused: &Refused, out: &mut W, err: &mut E) -> u8 {
+    match refused.kind {
+        Kind::Help => print(out, &refused.text),
+        Kind::Wrong => print(err, &refused.text),
+        Kind::Memory => print(err, "janus-console: no memory\n"),
+    }
+    refused.kind.status()
+}
+
+/// Runs the program over the words of its command line (see [`arguments_of`]), and answers its status: 0 where all went well; 1 where the kernel answered an
+/// error or a refusal; 2 where the words or the connection file are wrong; 3 where the kernel can't be reached or breaks off, or there is no memory.
+/// What came of it goes to `out`; why nothing came goes to `err`. A fault of these two is passed over.
+pub fn console<'a, R, S: AsStr, W: Write, E: Write>(
+    rt: &R,
+    alloc: Global,
+    words: &'a [S],
+    out: &mut W,
+    err: &mut E,
+) -> u8
+where
+    R: Net<Listener = TcpListener, Stream = TcpStream> + Files,
+{
+    match arguments_of(alloc, words) {
+        Ok(arguments) => end(run(rt, alloc, arguments), out, err),
+        Err(refused) => refuse(&refused, out, err),
+    }
+}

@@ -1,0 +1,129 @@
+//! One connection to a socket of the kernel, from a frontend's side.
+ghost use Rattle.std.specs.Prelude.{◌≡◌, ◌<◌, length, OnOk};
+ghost use Rattle.std.specs.Io.KnownBytes.{Appends};
+ghost use Rattle.zmtp_wire.specs.Message.{bodies_of, message_octets};
+
+use crate::output::send;
+use console_talk::ConsoleFault;
+use std::alloc::Global;
+use std::collections::VecDeque;
+use std::io::{ErrorKind, Read, Write};
+use zmtp_peer::{Peer, PeerEvent, PeerFault, Role};
+use zmtp_wire::{WireFault, write_message};
+
+/// How many octets are read at once, at most.
+const ROOM: usize = 8192;
+
+/// A connection to one socket of the kernel, over a reader and a writer.
+#[derive(Drop)]
+pub(crate) struct Wire<R, W> {
+    pub alloc: Global,
+    pub reader: R,
+    pub writer: W,
+    pub peer: Peer,
+    /// Whether the kernel's READY came.
+    pub is_ready: bool,
+    /// The messages that came and were not taken yet.
+    pub messages: VecDeque<Vec<Vec<u8>>>,
+}
+
+/// What a fault of the kernel's end comes to.
+fn peer_fault(fault: PeerFault) -> ConsoleFault {
+    match fault {
+        PeerFault::Wire(WireFault::Memory) => ConsoleFault::NoMemory,
+        _ => ConsoleFault::NoConnection,
+    }
+}
+
+impl<R: Read + Drop, W: Write + Drop> Wire<R, W> {
+    /// Opens the connection in this role: sends what goes first, and waits until the kernel is ready.
+    pub(crate) fn open(
+        alloc: Global,
+        reader: R,
+        writer: W,
+        role: Role,
+    ) -> Result<Wire<R, W>, ConsoleFault> {
+        let mut wire = Wire {
+            alloc,
+            reader,
+            writer,
+            peer: Peer::new(alloc, role),
+            is_ready: false,
+            messages: VecDeque::new(alloc),
+        };
+        match wire.peer.opening() {
+            Ok(opening) => send(&mut wire.writer, &opening)?,
+            Err(fault) => return Err(peer_fault(fault)),
+        }
+        // A loop is proved to end, so this one counts its reads.
+        for _ in 0..u64::MAX {
+            if wire.is_ready {
+                return Ok(wire);
+            }
+            if !wire.read_once()? {
+                return Err(ConsoleFault::NoConnection);
+            }
+        }
+        Err(ConsoleFault::NoConnection)
+    }
+
+    /// Takes in the next octets. It answers false where none came in the time that the reader waits.
+    fn read_once(&mut self) -> Result<bool, ConsoleFault> {
+        let mut room = [0u8; ROOM];
+        match self.reader.read(&mut room) {
+            Ok(0) => Err(ConsoleFault::NoConnection),
+            Ok(count) => {
+                self.take(&room[..count])?;
+                Ok(true)
+            }
+            Err(error) => match error.kind() {
+                ErrorKind::WouldBlock | ErrorKind::TimedOut => Ok(false),
+                ErrorKind::Interrupted => Ok(true),
+                _ => Err(ConsoleFault::NoConnection),
+            },
+        }
+    }
+
+    /// Takes octets that came.
+    fn take(&mut self, octets: &[u8]) -> Result<(), ConsoleFault> {
+        let events = match self.peer.feed(octets) {
+            Ok(events) => events,
+            Err(fault) => return Err(peer_fault(fault)),
+        };
+        for event in events {
+            match event {
+                PeerEvent::Ready => self.is_ready = true,
+                PeerEvent::Message(frames) => self.messages.push_back(frames)?,
+                PeerEvent::Subscribe(_) | PeerEvent::Cancel(_) => {}
+            }
+        }
+        Ok(())
+    }
+
+    /// The next message; none where none came in the time that the reader waits.
+    pub(crate) fn next(&mut self) -> Result<Option<Vec<Vec<u8>>>, ConsoleFault> {
+        for _ in 0..u64::MAX {
+            if let Some(frames) = self.messages.pop_front() {
+                return Ok(Some(frames));
+            }
+            if !self.read_once()? {
+                return Ok(None);
+            }
+        }
+        Err(ConsoleFault::NoConnection)
+    }
+
+    /// Writes a message of these frames, all at once.
+    pub(crate) fn write(&mut self, frames: &[Vec<u8>]) -> Result<(), ConsoleFault>
+        requires { 0 < length frames.now }
+        ensures { OnOk result (Appends (W.contents self.old.writer) (W.contents self.new.writer) (message_octets (bodies_of frames.now))) }
+    {
+        let mut octets = Vec::new(self.alloc);
+        match write_message(&mut octets, frames) {
+            Ok(()) => send(&mut self.writer, &octets),
+            Err(WireFault::Memory) => Err(ConsoleFault::NoMemory),
+            // No kernel takes so long a message.
+            Err(_) => Err(ConsoleFault::NoConnection),
+        }
+    }
+}

@@ -1,0 +1,18 @@
+//! What a console is asked to do.
+
+/// What a console is asked to do, once.
+#[derive(Debug, Drop, PartialEq, Eq)]
+pub enum Command {
+    /// To run this text as a cell.
+    Run(String),
+    /// To undo so many cells.
+    Undo(u32),
+    /// To redo so many cells.
+    Redo(u32),
+    /// To go to the node of this number.
+    Goto(u32),
+    /// To show where the kernel stands, with the declared names and their values.
+    Show,
+    /// To complete the name at the end of this text.
+    Complete(String),
+}

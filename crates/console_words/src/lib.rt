@@ -1,0 +1,14 @@
+//! The command line of `janus-console`: what its words ask for.
+//!
+//! [`arguments_of`] reads the words by `clap`, and answers the connection file and what the kernel is to do, or what is printed instead ([`Refused`]): the
+//! help, or why the words ask for nothing. Proved are which words are numbers of cells (`count`), and with which status a refusal ends;
+//! that words are taken for what they say is neither proved nor tested yet.
+#![tactic(auto)]
+
+mod count;
+mod line;
+mod refused;
+mod words;
+
+pub use refused::{Kind, Refused};
+pub use words::{Arguments, arguments_of};

@@ -1,0 +1,13 @@
+use Rattle.std.proofs.Common.{◌≡◌, drop}
+use Rattle.janus_syntax.specs.Tree.{names_view}
+use Rattle.janus_check.specs.Names.{meant_kinds}
+use Rattle.janus_check.specs.Fault.{first_from}
+use Rattle.janus_check.specs.Check.{kinds_faults}
+use Rattle.janus_check.specs.Sight.{in_sight}
+use Rattle.janus_check.proofs.call.kinds_fault.Given as goal
+
+-- what is found from here on is what is found from the beginning
+abbrev pub invariant-loop-i : goal.invariant-loop-i
+invariant-loop-i l =
+    first_from l.next (kinds_faults (in_sight l.sight) (meant_kinds (drop l.i l.kinds)) (names_view (drop l.i l.arguments)))
+    ≡ first_from l.fn.first (kinds_faults (in_sight l.sight) (meant_kinds l.kinds) (names_view l.arguments))

@@ -1,0 +1,17 @@
+use Rattle.std.proofs.lemmas.Result.{err_from_is_err_and}
+use Rattle.janus_syntax.specs.Tokens.{views}
+use Rattle.janus_syntax.proofs.Steps.{passes_on}
+use Rattle.janus_syntax.specs.Tree.{name_view}
+use Rattle.janus_syntax.proofs.Parameters.{int_is, array_is, array_stops}
+use Rattle.janus_syntax.proofs.procedure.brackets.Goals as goal
+
+pub returns-in_default : goal.returns-in_default
+returns-in_default c = int_is (name_view c.args.name) (views c.args.tokens.now) c.in_default.ensures.none
+
+pub returns-in_err-rest : goal.returns-in_err-rest
+returns-in_err-rest c =
+    let p = err_from_is_err_and c.from_residual.result c.from_residual.ensures.1 in
+    rw (p.1, p.2) (passes_on _ _ c.in_err-rest.field-0.0 c.in_err-rest.ensures (λ out f. array_stops (name_view c.args.name) out c.in-Some.ensures.found f))
+
+pub returns : goal.returns
+returns c = array_is (name_view c.args.name) c.in-Some.ensures.found c.in_ok-rest.ensures

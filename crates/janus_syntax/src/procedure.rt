@@ -1,0 +1,168 @@
+//! Procedures, and `main`.
+
+ghost use Rattle.std.specs.Prelude.{◌≡◌, List, IfSome, IfNone};
+ghost use Rattle.janus_syntax.specs.Tree.{name_view, parameter_view, parameters_view, procedure_view, declarations_view, block_view, cell_view};
+ghost use Rattle.janus_syntax.specs.Tokens.{Token as AToken, views};
+ghost use Rattle.janus_syntax.specs.Forms.{Parameters, Procedures, A_procedure};
+ghost use Rattle.janus_syntax.specs.Reading.{Reads, IsPart, FailsPart};
+ghost use Rattle.janus_syntax.specs.Procedures.{IsParameterOrOther, FailsParameter, IsBracketed, FailsBracketed, IsBehindName, FailsBehindName, IsBehindMain, FailsBehindMain, IsMain, IsNext};
+
+use crate::call::name_at;
+use crate::cell::declarations;
+use crate::fault::What;
+use crate::item::{behind_sign, name, sign_at, word_at};
+use crate::problem::Problem;
+use crate::statement::{body, statements};
+use crate::token::{Sign, Token, Word};
+use crate::tree::{Cell, Declaration, Name, Parameter, Procedure, Stm};
+use std::alloc::Global;
+
+/// A parameter and the tokens behind it, if one begins here.
+fn parameter(tokens: &[Token]) -> Result<Option<(Parameter, &[Token])>, Problem>
+    ensures { Reads (IsParameterOrOther (views tokens.now)) (FailsParameter (views tokens.now)) result }
+{
+    if let Some(rest) = word_at(Word::Int, tokens) {
+        let (name, rest) = name(rest)?;
+        let (parameter, rest) = brackets(name, rest)?;
+        return Ok(Some((parameter, rest)));
+    }
+    let Some(rest) = word_at(Word::Stack, tokens) else {
+        return Ok(None);
+    };
+    let (stack, rest) = name(rest)?;
+    Ok(Some((Parameter::Stack(stack), rest)))
+}
+
+/// The parameter of this name, behind that name: an array, if brackets stand here.
+fn brackets(name: Name, tokens: &[Token]) -> Result<(Parameter, &[Token]), Problem>
+    ensures { Reads (λ x. IsBracketed (name_view name) (parameter_view x.0) (views tokens.now) (views x.1.now)) (FailsBracketed (name_view name) (views tokens.now)) result }
+{
+    let Some(rest) = sign_at(Sign::OpenIndex, tokens) else {
+        return Ok((Parameter::Int(name), tokens));
+    };
+    let rest = behind_sign(Sign::CloseIndex, rest)?;
+    Ok((Parameter::Array(name), rest))
+}
+
+/// The parameters that stand here, parted by commas, and the tokens behind them.
+fn parameters(alloc: Global, tokens: &[Token]) -> Result<(Vec<Parameter>, &[Token]), Problem>
+    ensures { Reads (λ x. IsPart Parameters 0 (parameters_view x.0.items) (views tokens.now) (views x.1.now)) (FailsPart Parameters 0 (views tokens.now)) result }
+{
+    let Some((first, after)) = parameter(tokens)? else {
+        return Ok((Vec::new(alloc), tokens));
+    };
+    let mut parameters = Vec::new(alloc);
+    parameters.push(first)?;
+    let mut rest = after;
+    'parameters: while let Some(behind) = sign_at(Sign::Comma, rest) {
+        let Some((next, after)) = parameter(behind)? else {
+            return Err(Problem::Expected {
+                what: What::Kind,
+                left: behind.len(),
+            });
+        };
+        parameters.push(next)?;
+        rest = after;
+    }
+    Ok((parameters, rest))
+}
+
+/// The procedure of this name, behind that name, and the tokens behind it.
+fn behind_name(
+    alloc: Global,
+    name: Name,
+    tokens: &[Token],
+) -> Result<(Procedure, &[Token]), Problem>
+    ensures { Reads (λ x. IsBehindName (name_view name) (procedure_view x.0) (views tokens.now) (views x.1.now)) (FailsBehindName (name_view name) (views tokens.now)) result }
+{
+    let rest = behind_sign(Sign::Open, tokens)?;
+    let (parameters, rest) = parameters(alloc, rest)?;
+    let rest = behind_sign(Sign::Close, rest)?;
+    let (body, rest) = body(alloc, rest, 0)?;
+    Ok((
+        Procedure {
+            name,
+            parameters,
+            body,
+        },
+        rest,
+    ))
+}
+
+/// The declarations and the statements of `main`, behind that word, and the tokens behind them.
+fn behind_main(
+    alloc: Global,
+    tokens: &[Token],
+) -> Result<(Vec<Declaration>, Vec<Stm>, &[Token]), Problem>
+    ensures { Reads (λ x. IsBehindMain (declarations_view x.0.items) (block_view x.1.items) (views tokens.now) (views x.2.now)) (FailsBehindMain (views tokens.now)) result }
+{
+    let rest = behind_sign(Sign::Open, tokens)?;
+    let rest = behind_sign(Sign::Close, rest)?;
+    let (declarations, rest) = declarations(alloc, rest)?;
+    let (statements, rest) = statements(alloc, rest)?;
+    Ok((declarations, statements, rest))
+}
+
+/// The tokens behind `main`, if it stands at the front and may stand there.
+fn main_at(main: bool, tokens: &[Token]) -> Option<&[Token]>
+    ensures found { IfSome result (λ rest. IsMain main (views tokens.now) (views rest.now)) }
+    ensures none { IfNone result ((behind : List AToken) → IsMain main (views tokens.now) behind → ⊥) }
+{
+    if main {
+        word_at(Word::Main, tokens)
+    } else {
+        None
+    }
+}
+
+/// The cell with the procedure or with `main` that stands behind the word `procedure`, whether `main` may still follow, and
+/// the tokens behind them.
+fn next_procedure(
+    alloc: Global,
+    cell: Cell,
+    main: bool,
+    tokens: &[Token],
+) -> Result<(Cell, bool, &[Token]), Problem>
+    ensures { Reads (λ x. IsNext main (cell_view cell) x.1 (cell_view x.0) (views tokens.now) (views x.2.now)) (FailsPart (A_procedure main (cell_view cell)) 0 (views tokens.now)) result }
+{
+    if let Some(rest) = main_at(main, tokens) {
+        let (declarations, statements, rest) = behind_main(alloc, rest)?;
+        let whole = Cell {
+            declarations,
+            statements,
+            procedures: cell.procedures,
+        };
+        return Ok((whole, false, rest));
+    }
+    let Some((name, rest)) = name_at(tokens)? else {
+        return Err(Problem::Expected {
+            what: What::Name,
+            left: tokens.len(),
+        });
+    };
+    let (procedure, rest) = behind_name(alloc, name, rest)?;
+    let mut whole = cell;
+    whole.procedures.push(procedure)?;
+    Ok((whole, main, rest))
+}
+
+/// The cell with the procedures that stand behind it, of which one may be `main` or not, and the tokens behind them.
+pub(crate) fn procedures(
+    alloc: Global,
+    cell: Cell,
+    main: bool,
+    tokens: &[Token],
+) -> Result<(Cell, &[Token]), Problem>
+    ensures { Reads (λ x. IsPart (Procedures main (cell_view cell)) 0 (cell_view x.0) (views tokens.now) (views x.1.now)) (FailsPart (Procedures main (cell_view cell)) 0 (views tokens.now)) result }
+{
+    let mut whole = cell;
+    let mut may = main;
+    let mut rest = tokens;
+    'procedures: while let Some(behind) = word_at(Word::Procedure, rest) {
+        let (next, more, after) = next_procedure(alloc, whole, may, behind)?;
+        whole = next;
+        may = more;
+        rest = after;
+    }
+    Ok((whole, rest))
+}
