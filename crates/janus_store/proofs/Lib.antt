@@ -18,3 +18,4 @@ pub mod Calling
 pub mod Returning
 pub mod Binding
 pub mod Counts
+pub mod FromTop

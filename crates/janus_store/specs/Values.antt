@@ -3,7 +3,7 @@ use Rattle.std.specs.Prelude.{◌≡◌, ◌<◌, ℤ, pos, List, [], ◌∷◌,
 use Rattle.janus_meaning.specs.Fault.{Fault, Res, Fine, Bad, Broken}
 use Rattle.janus_meaning.specs.Limit.{stack_limit}
 use Rattle.janus_meaning.specs.Store.{Val, Num, Arr, Stk, element}
-use Rattle.janus_store.specs.Stacks.{top_first}
+use Rattle.janus_store.specs.Stacks.{held}
 use Rattle.janus_store.specs.declared.value.Value.{Value}
 use Rattle.janus_store.specs.declared.value.Value.TheVariants as values
 use Rattle.janus_store.specs.declared.value.Declared.{Declared}
@@ -26,7 +26,7 @@ first_of kinds.Stack = Stk []
 abbrev pub shown : View → Val
 shown (views.Number n) = Num n
 shown (views.Array l) = Arr l.now
-shown (views.Stack l) = Stk (top_first l.now)
+shown (views.Stack s) = Stk (held s)
 
 -- a value that was looked up
 abbrev pub found : Option View → Res Val

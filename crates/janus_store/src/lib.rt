@@ -8,10 +8,12 @@
 
 mod spares;
 mod stack;
+mod stack_view;
 mod store;
 mod value;
 mod writes;
 
+pub use crate::stack_view::StackView;
 pub use crate::store::Store;
 pub use crate::value::View;
 pub use crate::writes::Writes;

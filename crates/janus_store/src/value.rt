@@ -6,6 +6,7 @@ ghost use Rattle.janus_meaning.specs.Store.{Val, Num, Arr, Stk, number, element,
 ghost use Rattle.janus_store.specs.Values.{val_of, shown, read_or, HasElement, IsStackValue, TakesOneMore, HasTop};
 
 use crate::stack::Stack;
+use crate::stack_view::{StackView, lend};
 
 /// What a variable holds.
 #[derive(Drop)]
@@ -30,8 +31,8 @@ pub enum View<'a> {
     Number(i32),
     /// The elements, from index 0 on.
     Array(&'a [i32]),
-    /// The values, the bottom first.
-    Stack(&'a [i32]),
+    /// The values, from the top down.
+    Stack(StackView<'a>),
 }
 
 impl Value {
@@ -42,7 +43,7 @@ impl Value {
         match self {
             Value::Number(number) => View::Number(*number),
             Value::Array(items) => View::Array(items),
-            Value::Stack(stack) => View::Stack(stack.values()),
+            Value::Stack(stack) => View::Stack(lend(stack.values())),
         }
     }
 

@@ -177,21 +177,32 @@ fn writes_values(rt: HostRuntime) -> Result<(), Fail> {
     let alloc = rt.alloc();
     let number = value_text(alloc, "x", View::Number(-5))?;
     assert_eq!(rt; number.as_str(), "x = -5");
-    let stack = value_text(alloc, "s", View::Stack(&[3, 7]))?;
-    assert_eq!(rt; stack.as_str(), "s(2) = 7 3");
     Ok(())
 }
 
-/// Of an array its first 32 elements are shown, of a stack its newest 32 numbers.
+/// Of an array its first 32 elements are shown.
 #[test]
-fn cuts_long_values(rt: HostRuntime) -> Result<(), Fail> {
+fn cuts_long_arrays(rt: HostRuntime) -> Result<(), Fail> {
     let alloc = rt.alloc();
     let many = vec![in alloc; 1i32; 33]?;
     let all = value_text(alloc, "a", View::Array(&many[..32]))?;
     assert!(rt; all.len() == 71 && all.starts_with("a[32] = 1 1 "), "{all}");
     let array = value_text(alloc, "a", View::Array(&many))?;
     assert!(rt; array.len() == 75 && array.ends_with(" 1 ..."), "{array}");
-    let stack = value_text(alloc, "s", View::Stack(&many))?;
-    assert!(rt; stack.len() == 75 && stack.ends_with(" 1 ..."), "{stack}");
     Ok(())
+}
+
+/// Of a stack the newest 32 numbers are shown, the top first.
+const CUTS_LONG_STACKS: &str = r#"cell stack s int x x += 3 push(x, s) x += 7 push(x, s): Ok(1)
+begin: Going
+slice 9: Ended(Ran(1, 9))
+inspect 0 s: Answer { seen: 2, content: Inspection(Some("s(2) = 7 3")) }
+cell int i from i = 0 do x += 1 push(x, s) i += 1 loop skip until i = 31: Ok(2)
+begin: Going
+slice 999: Ended(Ran(2, 371))
+inspect 0 s: Answer { seen: 4, content: Inspection(Some("s(33) = 1 1 1 1 1 1 1 1 1 1 1 1 1 1 1 1 1 1 1 1 1 1 1 1 1 1 1 1 1 1 1 7 ...")) }"#;
+
+#[test]
+fn cuts_long_stacks(rt: HostRuntime) -> Result<(), Fail> {
+    plays(&rt, rt.alloc(), CUTS_LONG_STACKS)
 }

@@ -2,13 +2,22 @@
 ghost use Rattle.std.specs.Prelude.{◌≡◌, ◌<◌};
 
 use crate::questions::question;
-use janus_store::View;
+use janus_store::{StackView, View};
 use kernel_core::{Job, Kernel};
 use std::alloc::{AllocError, Global};
 use std::marker::Brand;
 use std::process::Abort;
 use std::sync::ledger::{Blank, Ledger};
 use std::test::Fail;
+
+/// The values of a stack, the bottom first.
+fn from_the_bottom(alloc: Global, values: &StackView<'_>) -> Result<Vec<i32>, AllocError> {
+    let mut numbers = Vec::new(alloc);
+    for i in (0..values.len()).rev() {
+        numbers.push(values.get(i))?;
+    }
+    Ok(numbers)
+}
 
 /// The shown world: the position, and each name with its value.
 fn world_text<L: Ledger>(alloc: Global, kernel: &Kernel<L>) -> Result<String, AllocError> {
@@ -20,7 +29,10 @@ fn world_text<L: Ledger>(alloc: Global, kernel: &Kernel<L>) -> Result<String, Al
         text.push_str(&match value {
             View::Number(number) => format!(in alloc; " {name}={number}")?,
             View::Array(numbers) => format!(in alloc; " {name}={numbers:?}")?,
-            View::Stack(values) => format!(in alloc; " {name}=stack{values:?}")?,
+            View::Stack(values) => {
+                let numbers = from_the_bottom(alloc, &values)?;
+                format!(in alloc; " {name}=stack{numbers:?}")?
+            }
         })?;
     }
     Ok(text)

@@ -25,7 +25,7 @@ pub enum Refusal {
     /// The text is no cell.
     #[error(transparent)]
     Syntax(SyntaxFault),
-    /// The cell is not well formed over the declared names.
+    /// The cell is not well formed over the declared names and procedures.
     #[error(transparent)]
     Check(CheckFault),
     /// The history has its 65,536 nodes beside the root.

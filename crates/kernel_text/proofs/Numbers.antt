@@ -2,7 +2,7 @@
 use Rattle.std.proofs.Common.{add-one, ◌≡◌, ℕ, ℤ, zero, suc, ◌+◌, ◌≤◌, List, [], ◌∷◌, ◌++◌, Option, Some, codes, length, take, drop, sym, ap, subst, ◌∙◌, append_assoc, append-nil, refl, slice_get, reverse, get_or, pos, ◌-◌, arith}
 use Rattle.std.specs.Prelude.{◌<◌, if◌then◌else◌}
 use Rattle.std.proofs.lemmas.Bool.{lt-leb, le-leb}
-use Rattle.std.proofs.lemmas.List.{take-append-drop, take_all, length-reverse, get_or-reverse}
+use Rattle.std.proofs.lemmas.List.{take-append-drop, take_all}
 use Rattle.std.specs.Fmt.{signed_decimal}
 use Rattle.std.specs.Io.KnownBytes.{Appends}
 use Rattle.kernel_text.specs.Sending.{SentSome}
@@ -46,17 +46,12 @@ few_text l h = ap (λ b. if b then spaced_text l else spaced_text (take 32 l) ++
 
 -- ---- from the top of a stack down
 
-taken_at : (l : List ℤ) (count i : ℕ) (d : ℤ) → i < count → i < length l → slice_get (take count l) i ≡ Some (get_or l i d)
-taken_at [] count i d h k = absurd (omega arith)
-taken_at (x ∷ l) zero i d h k = absurd (omega arith)
-taken_at (x ∷ l) (suc count) zero d h k = refl
-taken_at (x ∷ l) (suc count) (suc i) d h k = taken_at l count i d (omega arith) (omega arith)
+-- what stands among the first ones
+pub taken_at : (l : List ℤ) (count i : ℕ) (n : ℤ) → i < count → slice_get l i ≡ Some n → slice_get (take count l) i ≡ Some n
+taken_at [] count i n h k = absurd (cc k)
+taken_at (x ∷ l) zero i n h k = absurd (omega arith)
+taken_at (x ∷ l) (suc count) zero n h k = k
+taken_at (x ∷ l) (suc count) (suc i) n h k = taken_at l count i n (omega arith) k
 
-pub top_at : (l : List ℤ) (count i : ℕ) → i < count → count ≤ length l → slice_get (take count (reverse l)) i ≡ Some (get_or l (length l - 1 - i) (pos 0))
-top_at l count i h k = taken_at (reverse l) count i (pos 0) h (omega (arith, length-reverse l)) ∙ ap Some (get_or-reverse l i (pos 0) (omega arith))
-
-pub all_tops : (l : List ℤ) → length l ≤ 32 → spaced_text (take (length l) (reverse l)) ≡ numbers_text (reverse l)
-all_tops l h = ap spaced_text (take_all (length l) (reverse l) (omega (arith, length-reverse l))) ∙ sym (few_text (reverse l) (omega (arith, length-reverse l)))
-
-pub more_tops : (l : List ℤ) → 32 < length l → numbers_text (reverse l) ≡ spaced_text (take 32 (reverse l)) ++ codes " ..."
-more_tops l h = more_text (reverse l) (omega (arith, length-reverse l))
+pub all_tops : (l : List ℤ) → length l ≤ 32 → spaced_text (take (length l) l) ≡ numbers_text l
+all_tops l h = ap spaced_text (take_all (length l) l (omega arith)) ∙ sym (few_text l h)

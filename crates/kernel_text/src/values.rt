@@ -1,8 +1,9 @@
 //! Value texts: a name and its value, as `x = 5`, `a[3] = 1 2 3` and `s(2) = 7 3`.
-ghost use Rattle.std.specs.Prelude.{◌≡◌, ◌≤◌, ◌++◌, codes, length, reverse, take, string_bytes, IfOk, OnOk, OnErr};
+ghost use Rattle.std.specs.Prelude.{◌≡◌, ◌≤◌, ◌++◌, codes, length, take, string_bytes, IfOk, OnOk, OnErr};
 ghost use Rattle.std.specs.Fmt.{signed_decimal};
 ghost use Rattle.std.specs.Io.KnownBytes.{Appends};
 ghost use Rattle.janus_meaning.specs.Store.{Stk};
+ghost use Rattle.janus_store.specs.Stacks.{held};
 ghost use Rattle.janus_store.specs.Values.{shown};
 ghost use Rattle.kernel_text.specs.Sending.{SentSome};
 ghost use Rattle.kernel_text.specs.ValueTexts.{equated_text, length_text, height_text, spaced_text, numbers_text, told_text, value_text as value_text_of};
@@ -10,7 +11,7 @@ ghost use Rattle.kernel_text.specs.ValueTexts.{equated_text, length_text, height
 use crate::text::as_text;
 use crate::writing::{WriteFailed, send, send_counted};
 use itoa::Buffer;
-use janus_store::View;
+use janus_store::{StackView, View};
 use std::alloc::{AllocError, Global};
 use std::io::Write;
 
@@ -87,21 +88,25 @@ fn send_array<W: Write>(writer: &mut W, numbers: &[i32]) -> Result<(), WriteFail
 }
 
 /// Writes the newest values of a stack, as many as the count says, the top first, and a space before each.
-fn send_tops<W: Write>(writer: &mut W, values: &[i32], count: usize) -> Result<(), WriteFailed>
-    requires { count ≤ length values.now }
-    ensures ok { OnOk result (Appends (W.contents writer.old) (W.contents writer.new) (spaced_text (take count (reverse values.now)))) }
-    ensures err { OnErr result (SentSome (W.contents writer.old) (W.contents writer.new) (spaced_text (take count (reverse values.now)))) }
+fn send_tops<W: Write>(
+    writer: &mut W,
+    values: &StackView<'_>,
+    count: usize,
+) -> Result<(), WriteFailed>
+    requires { count ≤ length (held values.now) }
+    ensures ok { OnOk result (Appends (W.contents writer.old) (W.contents writer.new) (spaced_text (take count (held values.now)))) }
+    ensures err { OnErr result (SentSome (W.contents writer.old) (W.contents writer.new) (spaced_text (take count (held values.now)))) }
 {
     for i in 0..count {
-        send_spaced(writer, values[values.len() - 1 - i])?;
+        send_spaced(writer, values.get(i))?;
     }
     Ok(())
 }
 
 /// Writes the newest values of a stack, the top first, and whether there are more.
-fn send_values<W: Write>(writer: &mut W, values: &[i32]) -> Result<(), WriteFailed>
-    ensures ok { OnOk result (Appends (W.contents writer.old) (W.contents writer.new) (numbers_text (reverse values.now))) }
-    ensures err { OnErr result (SentSome (W.contents writer.old) (W.contents writer.new) (numbers_text (reverse values.now))) }
+fn send_values<W: Write>(writer: &mut W, values: &StackView<'_>) -> Result<(), WriteFailed>
+    ensures ok { OnOk result (Appends (W.contents writer.old) (W.contents writer.new) (numbers_text (held values.now))) }
+    ensures err { OnErr result (SentSome (W.contents writer.old) (W.contents writer.new) (numbers_text (held values.now))) }
 {
     if values.len() <= SHOWN_VALUES {
         return send_tops(writer, values, values.len());
@@ -120,9 +125,9 @@ fn send_height<W: Write>(writer: &mut W, height: usize) -> Result<(), WriteFaile
 }
 
 /// Writes how high a stack is, and its values, the top first.
-fn send_stack<W: Write>(writer: &mut W, values: &[i32]) -> Result<(), WriteFailed>
-    ensures ok { OnOk result (Appends (W.contents writer.old) (W.contents writer.new) (told_text (Stk (reverse values.now)))) }
-    ensures err { OnErr result (SentSome (W.contents writer.old) (W.contents writer.new) (told_text (Stk (reverse values.now)))) }
+fn send_stack<W: Write>(writer: &mut W, values: &StackView<'_>) -> Result<(), WriteFailed>
+    ensures ok { OnOk result (Appends (W.contents writer.old) (W.contents writer.new) (told_text (Stk (held values.now)))) }
+    ensures err { OnErr result (SentSome (W.contents writer.old) (W.contents writer.new) (told_text (Stk (held values.now)))) }
 {
     send_height(writer, values.len())?;
     send_values(writer, values)
@@ -136,7 +141,7 @@ fn send_told<W: Write>(writer: &mut W, value: View<'_>) -> Result<(), WriteFaile
     match value {
         View::Number(number) => send_equated(writer, number),
         View::Array(numbers) => send_array(writer, numbers),
-        View::Stack(values) => send_stack(writer, values),
+        View::Stack(values) => send_stack(writer, &values),
     }
 }
 

@@ -12,7 +12,7 @@ use std::thread::Threads;
 const JOBS: u64 = 100;
 
 /// No thread takes more turns than these.
-const TURNS: u32 = 20_000_000;
+const TURNS: u32 = 1_000_000;
 
 /// The runner, at its bell.
 #[derive(Drop)]

@@ -14,7 +14,7 @@ const PUBLISHED: u64 = 20_000;
 const READERS: usize = 3;
 
 /// No reader takes more turns than these.
-const TURNS: u32 = 2_000_000;
+const TURNS: u32 = 1_000_000;
 
 /// A broadcast whose second frame is the number.
 fn numbered(alloc: Global, number: u64) -> Result<Broadcast, AllocError> {

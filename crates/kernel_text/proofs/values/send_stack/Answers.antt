@@ -1,32 +1,32 @@
-use Rattle.std.proofs.Common.{◌≡◌, ◌++◌, length, reverse, ap}
-use Rattle.std.proofs.lemmas.List.{length-reverse}
+use Rattle.std.proofs.Common.{◌≡◌, ◌++◌, length, refl}
 use Rattle.janus_meaning.specs.Store.{Stk}
+use Rattle.janus_store.specs.Stacks.{held}
 use Rattle.kernel_text.specs.ValueTexts.{height_text, numbers_text, told_text}
 use Rattle.kernel_text.proofs.Sending.{some_first, some_then, all_then}
 use Rattle.kernel_text.proofs.values.send_stack.Goals as goal
 
 pub returns-in_err-send_height-clause-err : goal.returns-in_err-send_height-clause-err
 returns-in_err-send_height-clause-err g c =
-    let l = c.args.values.now in
+    let l = held c.args.values.now in
     let first = height_text (length l) in
-    let second = numbers_text (reverse l) in
-    let all : told_text (Stk (reverse l)) ≡ first ++ second = ap (λ n. height_text n ++ second) (length-reverse l) in
-    some_first (g.W.Write.contents c.args.writer.now) (g.W.Write.contents c.send_height.new.writer) first second (told_text (Stk (reverse l))) c.from_residual.result all c.in_err-send_height.ensures.err
+    let second = numbers_text l in
+    let all : told_text (Stk l) ≡ first ++ second = refl in
+    some_first (g.W.Write.contents c.args.writer.now) (g.W.Write.contents c.send_height.new.writer) first second (told_text (Stk l)) c.from_residual.result all c.in_err-send_height.ensures.err
 
 pub returns-clause-ok : goal.returns-clause-ok
 returns-clause-ok g c =
-    let l = c.args.values.now in
+    let l = held c.args.values.now in
     let first = height_text (length l) in
-    let second = numbers_text (reverse l) in
-    let all : told_text (Stk (reverse l)) ≡ first ++ second = ap (λ n. height_text n ++ second) (length-reverse l) in
-    all_then (g.W.Write.contents c.args.writer.now) (g.W.Write.contents c.send_height.new.writer) (g.W.Write.contents c.send_values.new.writer) first second (told_text (Stk (reverse l))) c.send_values.result all
+    let second = numbers_text l in
+    let all : told_text (Stk l) ≡ first ++ second = refl in
+    all_then (g.W.Write.contents c.args.writer.now) (g.W.Write.contents c.send_height.new.writer) (g.W.Write.contents c.send_values.new.writer) first second (told_text (Stk l)) c.send_values.result all
     c.in_ok-send_height.ensures.ok c.send_values.ensures.ok
 
 pub returns-clause-err : goal.returns-clause-err
 returns-clause-err g c =
-    let l = c.args.values.now in
+    let l = held c.args.values.now in
     let first = height_text (length l) in
-    let second = numbers_text (reverse l) in
-    let all : told_text (Stk (reverse l)) ≡ first ++ second = ap (λ n. height_text n ++ second) (length-reverse l) in
-    some_then (g.W.Write.contents c.args.writer.now) (g.W.Write.contents c.send_height.new.writer) (g.W.Write.contents c.send_values.new.writer) first second (told_text (Stk (reverse l))) c.send_values.result all
+    let second = numbers_text l in
+    let all : told_text (Stk l) ≡ first ++ second = refl in
+    some_then (g.W.Write.contents c.args.writer.now) (g.W.Write.contents c.send_height.new.writer) (g.W.Write.contents c.send_values.new.writer) first second (told_text (Stk l)) c.send_values.result all
     c.in_ok-send_height.ensures.ok c.send_values.ensures.err
