@@ -19,3 +19,4 @@ pub mod Returning
 pub mod Binding
 pub mod Counts
 pub mod FromTop
+pub mod WritesAlone

@@ -5,3 +5,4 @@ pub mod Held
 pub mod Calls
 pub mod Bounds
 pub mod Inside
+pub mod Laws

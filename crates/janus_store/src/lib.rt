@@ -6,6 +6,7 @@
 //! Contracts see what is in sight as a store of `janus_meaning`, where a value is taken out of its slot and put back.
 #![tactic(auto)]
 
+pub mod laws;
 mod spares;
 mod stack;
 mod stack_view;
