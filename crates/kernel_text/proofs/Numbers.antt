@@ -1,5 +1,5 @@
 -- The numbers of an array are written one after the other, and those of a stack.
-use Rattle.std.proofs.Common.{add-one, ◌≡◌, ℕ, ℤ, zero, suc, ◌+◌, ◌≤◌, List, [], ◌∷◌, ◌++◌, Option, Some, codes, length, take, drop, sym, ap, subst, ◌∙◌, append_assoc, append-nil, refl, slice_get, reverse, get_or, pos, ◌-◌, arith}
+use Rattle.std.proofs.Common.{add-one, ◌≡◌, ℕ, ℤ, zero, suc, ◌+◌, ◌≤◌, List, [], ◌∷◌, ◌++◌, Option, Some, codes, length, take, drop, sym, ap, subst, ◌∙◌, append_assoc, append-nil, refl, slice_get, arith}
 use Rattle.std.specs.Prelude.{◌<◌, if◌then◌else◌}
 use Rattle.std.proofs.lemmas.Bool.{lt-leb, le-leb}
 use Rattle.std.proofs.lemmas.List.{take-append-drop, take_all}

@@ -1,0 +1,96 @@
+//! `session-replay`: replays recorded connections, one after another, to one kernel over memory, and writes what goes out on them.
+//!
+//! The first line of standard input is the key of the messages. Each further line is a socket's name and the octets that a frontend
+//! sent on a connection to it, in hexadecimal digits. For each such line it writes the socket's name and how the connection ended, and
+//! then the octets that went out in a line of their own: printable ones of ASCII as
+//! they are, others as `\xNN`. Each connection stands on the store that the ones before it left. The kernel is that of `kernel_server`
+//! in which nobody else has a part, so that what goes out is the session of what came in, as `serve_lone` promises.
+#![tactic(auto)]
+
+mod escaped;
+
+use crate::escaped::escaped;
+use anyhow::anyhow;
+use kernel_ask::Comms;
+use kernel_core::Kernel;
+use kernel_message::Stamp;
+use kernel_server::{LoneDesk, Socket, serve_lone};
+use std::alloc::{AllocError, Global};
+use std::io;
+use std::marker::Brand;
+use std::sync::ledger::{Blank, Ledger};
+
+/// The date of each message.
+const DATE: [u8; 20] = *b"2025-01-01T00:00:00Z";
+
+/// The stamp of a connection.
+fn stamp(alloc: Global, connection: u64) -> Result<Stamp, AllocError> {
+    Ok(Stamp {
+        session: String::from_str(alloc, "k")?,
+        connection,
+        next: 0,
+        date: DATE,
+    })
+}
+
+/// The socket of this name.
+fn socket_of(name: &str) -> Option<Socket> {
+    match name {
+        "shell" => Some(Socket::Shell),
+        "control" => Some(Socket::Control),
+        "iopub" => Some(Socket::Iopub),
+        "stdin" => Some(Socket::Stdin),
+        "heartbeat" => Some(Socket::Heartbeat),
+        _ => None,
+    }
+}
+
+/// Replays one connection, and writes what goes out.
+fn replay<L: Ledger>(
+    rt: &HostRuntime,
+    desk: &mut LoneDesk<L>,
+    key: &str,
+    number: u64,
+    line: &str,
+) -> anyhow::Result<()> {
+    let alloc = rt.alloc();
+    let Some((name, digits)) = line.split_once(' ') else {
+        return Err(anyhow!("a line is a socket's name and octets"));
+    };
+    let Some(socket) = socket_of(name) else {
+        return Err(anyhow!("no socket has this name"));
+    };
+    let octets = hex::decode(alloc, digits)?;
+    let mut written = Vec::new(alloc);
+    let mut stamp = stamp(alloc, number)?;
+    let ended = serve_lone(
+        alloc,
+        socket,
+        key.as_bytes(),
+        &mut octets.as_slice(),
+        &mut written,
+        desk,
+        &mut stamp,
+    );
+    println!(rt; "{name} {ended:?}")?;
+    println!(rt; "{}", escaped(alloc, &written)?)?;
+    Ok(())
+}
+
+fn main(rt: HostRuntime) -> anyhow::Result<()> {
+    let alloc = rt.alloc();
+    let text = io::read_to_string(alloc, rt.stdin())?;
+    let kernel = Kernel::<Brand>::new(alloc, Blank::new(1))?;
+    let mut desk = LoneDesk::new(alloc, kernel, Comms::new(alloc), Vec::new(alloc));
+    let mut key = "";
+    let mut number = 0u64;
+    for line in text.lines() {
+        if number == 0 {
+            key = line;
+        } else {
+            replay(&rt, &mut desk, key, number, line)?;
+        }
+        number = number.saturating_add(1);
+    }
+    Ok(())
+}
