@@ -163,7 +163,8 @@ fn flattens_a_procedure(rt: HostRuntime) -> Result<(), Fail> {
     for name in ["b", "c", "d", "r", "t", "e", "f"] {
         names.add(name)?;
     }
-    let flat = flatten_procedure(alloc, &cell.procedures[0], &names)?;
+    let procedure = cell.procedures.first().expect(&rt, "a procedure");
+    let flat = flatten_procedure(alloc, procedure, &names)?;
     assert_eq!(rt; flat.name.number, 3);
     assert_eq!(rt; flat.parameters.len(), 3);
     assert_eq!(rt; flat.parameters[1].kind, Kind::Array);
