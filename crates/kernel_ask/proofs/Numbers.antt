@@ -116,9 +116,9 @@ record Source (minutes : List Entry) (before : List (List ℕ)) (text : List ℕ
   counted : length before ≡ counted_to (length earlier) (posts_of minutes)
   counted_with : suc (length before) ≡ counted_to (suc (length earlier)) (posts_of minutes)
 
--- a job adds as many as it has texts
-by_texts : (n : ℕ) (job : Request) (texts : List (List ℕ)) → texts_of job ≡ texts → length texts + n ≡ raised n job
-by_texts n job texts e = ap (λ ts. length ts + n) (sym e) ∙ text_counted n job
+-- a job without a text raises nothing
+uncounted : (n : ℕ) (job : Request) → texts_of job ≡ [] → n ≡ raised n job
+uncounted n job e = (let one = text_counted n job in let none : length (texts_of job) ≡ 0 = ap length e in omega arith)
 
 -- of a post that is not counted
 behind_uncounted : (minutes : List Entry) (lane : ℕ) (job : Request) (before : List (List ℕ)) (text : List ℕ) → texts_of job ≡ [] → Source minutes before text → Source (Posted lane job ∷ minutes) before text
@@ -127,11 +127,11 @@ behind_uncounted minutes lane job before text none rest = record {
   later = rest.later;
   lane = rest.lane;
   all = ap (λ (ps : List Post). record { lane = lane; job = job } ∷ ps) rest.all;
-  counted = rest.counted ∙ by_texts (counted_to (length rest.earlier) (posts_of minutes)) job [] none;
-  counted_with = rest.counted_with ∙ by_texts (counted_to (suc (length rest.earlier)) (posts_of minutes)) job [] none;
+  counted = rest.counted ∙ uncounted (counted_to (length rest.earlier) (posts_of minutes)) job none;
+  counted_with = rest.counted_with ∙ uncounted (counted_to (suc (length rest.earlier)) (posts_of minutes)) job none;
 }
 
-first_or : List ℕ → List (List ℕ) → List ℕ
+abbrev first_or : List ℕ → List (List ℕ) → List ℕ
 first_or text [] = text
 first_or text (t ∷ ts) = t
 

@@ -6,7 +6,7 @@ use kernel_ask::{
     Ask, Comms, Content, Done, NamedValue, Wish, ask_on, evaluate_all, is_settled, shown_text,
     stands_at_end,
 };
-use kernel_core::{Begun, Job, Kernel, Outcome, Sliced};
+use kernel_core::{Begun, Job, Kernel, Outcome, Refusal, Sliced};
 use std::alloc::{AllocError, Global};
 use std::marker::Brand;
 use std::sync::ledger::{Blank, Ledger};
@@ -64,16 +64,20 @@ fn run<L: Ledger>(
     Ok(None)
 }
 
-/// Runs a line, or posts its cell.
+/// Runs a line, or posts its cell. The test is over where a line finds no memory, since the row speaks of a kernel on which it ran.
 fn run_line<L: Ledger>(alloc: Global, kernel: &mut Kernel<L>, line: &str) -> Result<(), Fail> {
     if line == "%shut" {
         kernel.shut();
-    } else if let Some(("%post", code)) = line.split_once(' ') {
-        let _number = kernel.post(1, cell(alloc, code)?)?;
-    } else {
-        let _ran = run(kernel, job_of(alloc, line)?, SLICES)?;
+        return Ok(());
     }
-    Ok(())
+    if let Some(("%post", code)) = line.split_once(' ') {
+        let _number = kernel.post(1, cell(alloc, code)?)?;
+        return Ok(());
+    }
+    match run(kernel, job_of(alloc, line)?, SLICES)? {
+        Some((_, Outcome::Refused(Refusal::Memory))) => Err(Fail::from("no memory for a line")),
+        _ => Ok(()),
+    }
 }
 
 /// Runs the lines.
