@@ -1,12 +1,12 @@
 -- The input history (Jupyter messaging page, "History"), as a filter of the minutes.
-use Rattle.std.specs.Prelude.{ℕ, ℤ, pos, ◌-◌, Bool, true, false, not, ◌&&◌, ◌||◌, nat_le, nat_lt, List, [], ◌∷◌, length, take, drop, suc, Option, Some, None, string_bytes, if◌then◌else◌}
+use Rattle.std.specs.Prelude.{◌≡◌, ◌↔◌, ℕ, ℤ, pos, ◌+◌, ◌-◌, ◌≤◌, Bool, true, false, not, ◌&&◌, ◌||◌, nat_le, nat_lt, List, [], ◌∷◌, length, take, drop, suc, Option, Some, None, string_bytes, if◌then◌else◌}
 use Rattle.std.specs.Ordering.{int_eq}
 use Rattle.std.specs.List.{filter, flat_map, Contains}
 use Rattle.kernel_core.specs.Request.{Request, RunCell, Undo, Redo, Goto}
-use Rattle.kernel_core.specs.Minutes.{Entry, Posted, Ended, IsNumberOf}
+use Rattle.kernel_core.specs.Minutes.{Entry, Posted, Ended, posts_of, posted_in, IsNumberOf}
 use Rattle.kernel_core.specs.Runs.{Machine}
 use Rattle.kernel_core.specs.LegalMinutes.{HasLegalMinutes}
-use Rattle.kernel_core.specs.Counters.{HasEnd}
+use Rattle.kernel_core.specs.Counters.{counted_to, HasEnd}
 use Rattle.kernel_ask.specs.declared.inputs.Input.{Input}
 use Rattle.kernel_ask.specs.declared.inputs.HistoryAsk.{HistoryAsk}
 use Rattle.kernel_ask.specs.declared.inputs.HistoryAsk.TheVariants.{Range, Tail}
@@ -55,3 +55,18 @@ abbrev pub CountedEndsAreInputs : Type 0
 CountedEndsAreInputs =
     (m : Machine) (number count lane : ℕ) (text : List ℕ) → HasLegalMinutes m → HasEnd m.minutes number count →
     IsNumberOf m.minutes number (record { lane = lane; job = RunCell text false true }) → Contains (inputs m.minutes m.counter) (count, text)
+
+-- a counted cell has begun: a post of this text waits in the queue no more, and with it so many counted cells had begun
+pub record IsBegunCell (m : Machine) (count : ℕ) (text : List ℕ) : Type 0 where
+  pub number : ℕ
+  pub lane : ℕ
+  pub post : IsNumberOf m.minutes number (record { lane = lane; job = RunCell text false true })
+  -- the jobs in the queue are those of the last posts
+  pub begun : number + length m.queue ≤ posted_in m.minutes
+  pub counter : count ≡ counted_to number (posts_of m.minutes)
+
+-- The inputs are the counted cells that have begun, and no others: each under the counter that it got with its begin, with the text of its
+-- post.
+abbrev pub InputsAreBegunCells : Type 0
+InputsAreBegunCells =
+    (m : Machine) (count : ℕ) (text : List ℕ) → HasLegalMinutes m → Contains (inputs m.minutes m.counter) (count, text) ↔ IsBegunCell m count text

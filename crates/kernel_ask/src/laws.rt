@@ -1,8 +1,10 @@
 //! What holds of the answers. The functions do nothing: their contracts are the laws.
-ghost use Rattle.kernel_ask.specs.History.{CountedEndsAreInputs};
+ghost use Rattle.kernel_ask.specs.History.{CountedEndsAreInputs, InputsAreBegunCells};
 
 /// Each cell that raised the counter and has ended is an input of the history: under the counter that its end carries, with the text of
-/// its post.
+/// its post. The inputs are the cells that have begun and raised the counter, and no others: each under the counter that it got with its
+/// begin.
 pub fn counted_ends_are_inputs_law()
-    ensures { CountedEndsAreInputs }
+    ensures ended { CountedEndsAreInputs }
+    ensures begun { InputsAreBegunCells }
 {}

@@ -1,5 +1,5 @@
 -- Answers end with the status idle.
-use Rattle.std.proofs.Common.{ℕ, ◌+◌, Bool, true, false, List, [], ◌∷◌, ◌++◌, length, map, Option, Some, None, option_map, string_bytes, ap, sym, ◌∙◌, refl, arith, if◌then◌else◌}
+use Rattle.std.proofs.Common.{ℕ, ◌+◌, Bool, true, false, ◌&&◌, List, [], ◌∷◌, ◌++◌, length, map, Option, Some, None, option_map, string_bytes, ap, sym, ◌∙◌, refl, arith, if◌then◌else◌}
 use Rattle.std.specs.Option.{option_to_list}
 use Rattle.std.proofs.lemmas.List.{length-append, append_assoc}
 use Rattle.serde_json.specs.Data.{Data}
@@ -25,7 +25,7 @@ use Rattle.kernel_reply.specs.Status.{idle}
 use Rattle.kernel_reply.specs.Problems.{Problem, cell_problem, post_problem}
 use Rattle.kernel_reply.specs.Replies.{kernel_info_reply, complete_reply, inspect_reply, is_complete_reply, history_reply, no_search_reply, interrupt_reply, shutdown_reply}
 use Rattle.kernel_reply.specs.Execution.{execute_input, execute_result, error, execute_broadcasts, execute_reply, error_reply}
-use Rattle.kernel_reply.specs.Comms.{comm_info_reply, comm_msg, comm_close, state_shown}
+use Rattle.kernel_reply.specs.Comms.{is_target, comm_info_reply, comm_msg, comm_close, state_shown}
 use Rattle.kernel_reply.specs.Moves.{move_shown, unposted_shown}
 use Rattle.kernel_reply.specs.Answers.{only, status_alone, tells, tells_on_comm, is_of_cell, cell_says, completion_says, inspection_says, completeness_says, inputs_say, history_says, comms_say, comm_open_says, state_says, comm_says, job_says, unposted_says, refusal_says, ask_says}
 use Rattle.kernel_reply.specs.Laws.{EndsIdle, JobsEndIdle, AsksEndIdle, RefusalsEndIdle}
@@ -159,7 +159,7 @@ module _ (asker : Asker) (stamp : Stamp) where
 
   comm_open_ends : (r : CommOpen) (c : Content) → Ends (comm_open_says r c)
   comm_open_ends r (content.Comms ids) =
-      either_ends (is_open (map string_bytes ids.items) (string_bytes r.comm_id)) status_alone (tells (comm_close (string_bytes r.comm_id)))
+      either_ends (is_target (string_bytes r.target_name) && is_open (map string_bytes ids.items) (string_bytes r.comm_id)) status_alone (tells (comm_close (string_bytes r.comm_id)))
       alone_ends (tells_ends (comm_close (string_bytes r.comm_id)))
   comm_open_ends r (content.State s) = alone_ends
   comm_open_ends r (content.Completion c) = alone_ends

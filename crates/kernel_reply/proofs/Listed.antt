@@ -1,5 +1,5 @@
--- The list of open comms, as a table.
-use Rattle.std.proofs.Common.{◌≡◌, ℕ, Bool, true, false, IsTrue, nat_eq, List, [], ◌∷◌, ◌⊎◌, refl, sym, ap, ◌∙◌, subst, Contains, if◌then◌else◌, inl, inr}
+-- The list of open comms and that of the values of expressions, as tables.
+use Rattle.std.proofs.Common.{◌≡◌, ℕ, Bool, true, false, IsTrue, nat_eq, List, [], ◌∷◌, ◌⊎◌, refl, sym, ap, ◌∙◌, subst, string_bytes, Contains, if◌then◌else◌, inl, inr}
 use Rattle.std.specs.declared.cmp.Ordering.{Ordering}
 use Rattle.std.specs.declared.cmp.Ordering.TheVariants as ordering
 use Rattle.std.specs.Ordering.{nat_cmp, match_ordering, ordering_reverse}
@@ -8,10 +8,12 @@ use Rattle.std.specs.List.{starts_with, AllByRecursion}
 use Rattle.std.specs.List.Sorted.{IsStrictlySortedBy}
 use Rattle.std.proofs.lemmas.Cmp.{nat_list_cmp_total}
 use Rattle.serde_json.specs.Data.{Data, Members, no_members, member, put}
+use Rattle.kernel_ask.specs.declared.done.NamedValue.{NamedValue}
 use Rattle.kernel_ask.specs.Added.{with_name, with_match, with_matches}
 use Rattle.kernel_ask.proofs.Added.{contains_none, matches_from, matches_there}
 use Rattle.kernel_reply.specs.Comms.{comm_shown, with_comms}
-use Rattle.kernel_reply.specs.Laws.{names, NamesEachOnce, ListsEachCommOnce}
+use Rattle.kernel_reply.specs.Execution.{value_shown, with_values}
+use Rattle.kernel_reply.specs.Laws.{names, NamesEachOnce, ListsEachCommOnce, names_of, TellsEachNameOnce}
 
 -- ---- a member is put at the place of its name
 
@@ -35,6 +37,13 @@ names_listed ms [] = refl
 names_listed ms (id ∷ ids) =
     names_listed (put id comm_shown ms) ids
     ∙ ap (λ ns. with_matches [] ns ids) (names_put ms id comm_shown ∙ sym (ap (λ (b : Bool). if b then with_name (names ms) id else names ms) (begins id)))
+
+names_told : (ms : Members) (vs : List NamedValue) → names (with_values ms vs) ≡ with_matches [] (names ms) (names_of vs)
+names_told ms [] = refl
+names_told ms (v ∷ vs) =
+    let name = string_bytes v.name in
+    names_told (put name (value_shown v.value) ms) vs
+    ∙ ap (λ ns. with_matches [] ns (names_of vs)) (names_put ms name (value_shown v.value) ∙ sym (ap (λ (b : Bool). if b then with_name (names ms) name else names ms) (begins name)))
 
 -- ---- the names rise
 
@@ -75,16 +84,22 @@ none_sorted : IsStrictlySortedBy (slice_cmp nat_cmp) []
 unfolding IsStrictlySortedBy
 none_sorted = tt
 
--- ---- the list
+-- ---- the lists
 
 listed_from : (ids : List (List ℕ)) (id : List ℕ) → Contains (with_matches [] [] ids) id → Contains ids id
 listed_from ids id h = elim (matches_from [] [] ids id h) as (λ _. Contains ids id) [ inl none ↦ absurd (contains_none id none) | inr there ↦ there.0 ]
 
-pub lists_each_comm_once : ListsEachCommOnce
-lists_each_comm_once ids = record {
-  ordered = subst (λ (ns : List (List ℕ)). IsStrictlySortedBy (slice_cmp nat_cmp) ns) (sym (names_listed no_members ids)) (all_sorted [] ids none_sorted);
+each_once : (ids listed : List (List ℕ)) → listed ≡ with_matches [] [] ids → NamesEachOnce ids listed
+each_once ids listed e = record {
+  ordered = subst (λ (ns : List (List ℕ)). IsStrictlySortedBy (slice_cmp nat_cmp) ns) (sym e) (all_sorted [] ids none_sorted);
   each = λ id. (
-    λ h. listed_from ids id (subst (λ (ns : List (List ℕ)). Contains ns id) (names_listed no_members ids) h),
-    λ h. subst (λ (ns : List (List ℕ)). Contains ns id) (sym (names_listed no_members ids)) (matches_there [] [] ids id h (begins id)),
+    λ h. listed_from ids id (subst (λ (ns : List (List ℕ)). Contains ns id) e h),
+    λ h. subst (λ (ns : List (List ℕ)). Contains ns id) (sym e) (matches_there [] [] ids id h (begins id)),
   );
 }
+
+pub lists_each_comm_once : ListsEachCommOnce
+lists_each_comm_once ids = each_once ids (names (with_comms no_members ids)) (names_listed no_members ids)
+
+pub tells_each_name_once : TellsEachNameOnce
+tells_each_name_once values = each_once (names_of values) (names (with_values no_members values)) (names_told no_members values)

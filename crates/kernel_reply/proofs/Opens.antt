@@ -8,13 +8,13 @@ use Rattle.std.specs.Cmp.Lexicographic.{slice_cmp}
 use Rattle.std.specs.BTreeSet.{insert_key}
 use Rattle.std.proofs.lemmas.Bool.{le-ltb}
 use Rattle.std.proofs.lemmas.Map.Text.{is_eq-slice_cmp}
-use Rattle.std.proofs.Math.Bool.{and-false}
+use Rattle.std.proofs.Math.Bool.{and-false, and-true}
 use Rattle.jupyter_msg.specs.declared.comm.CommOpen.{CommOpen}
 use Rattle.kernel_ask.specs.Comms.{comm_limit, is_same, is_open, can_open, opened}
 use Rattle.kernel_message.specs.Said.{Says}
-use Rattle.kernel_reply.specs.Comms.{comm_close}
+use Rattle.kernel_reply.specs.Comms.{is_target, comm_close}
 use Rattle.kernel_reply.specs.Answers.{status_alone, tells}
-use Rattle.kernel_reply.specs.Laws.{OpensNothing, OpensPastTheLimitClose, OpensOfOpenComms}
+use Rattle.kernel_reply.specs.Laws.{OpensNothing, OpensPastTheLimitClose, OpensOfOpenComms, OpensForOtherTargetsClose}
 
 -- the test by octets is the one that comms have
 pub open_bytes : (ids : List (String Global)) (id : List ℕ) → list_any (λ x. bytes_eq id (string_bytes x)) ids ≡ is_open (map string_bytes ids) id
@@ -27,20 +27,29 @@ open_bytes (x ∷ xs) id =
 unopened : (ids : List (List ℕ)) (id : List ℕ) → can_open ids id ≡ false → opened ids id ≡ ids
 unopened ids id e = ap (λ b. if b then insert_key (slice_cmp nat_cmp) ids id else ids) e
 
--- the answer is that of whether the comm is open
-opens_nothing : (r : CommOpen) (ids : List (List ℕ)) (b : Bool) → opened ids (string_bytes r.comm_id) ≡ ids → is_open ids (string_bytes r.comm_id) ≡ b
+-- the answer is that of whether it is for the target, and its comm open
+opens_nothing : (r : CommOpen) (ids : List (List ℕ)) (b : Bool) → opened ids (string_bytes r.comm_id) ≡ ids → is_target (string_bytes r.target_name) && is_open ids (string_bytes r.comm_id) ≡ b
     → OpensNothing r ids (if b then status_alone else tells (comm_close (string_bytes r.comm_id)))
 opens_nothing r ids b same is = record {
   as_before = same;
-  answer = λ after e. ap (λ c. if c then status_alone else tells (comm_close (string_bytes r.comm_id))) (ap (λ xs. is_open xs (string_bytes r.comm_id)) (e ∙ same) ∙ is);
+  answer = λ after e.
+      ap (λ c. if c then status_alone else tells (comm_close (string_bytes r.comm_id)))
+      (ap (λ xs. is_target (string_bytes r.target_name) && is_open xs (string_bytes r.comm_id)) (e ∙ same) ∙ is);
 }
 
 pub opens_past_the_limit_close : OpensPastTheLimitClose
 opens_past_the_limit_close r ids full closed =
     let id = string_bytes r.comm_id in
-    opens_nothing r ids false (unopened ids id (ap (λ b. b && not (is_open ids id)) (le-ltb (length ids) comm_limit full))) closed
+    let ours = is_target (string_bytes r.target_name) in
+    opens_nothing r ids false (unopened ids id (ap (λ b. b && not (is_open ids id)) (le-ltb (length ids) comm_limit full))) (ap (λ b. ours && b) closed ∙ and-false ours)
 
 pub opens_of_open_comms : OpensOfOpenComms
 opens_of_open_comms r ids is =
     let id = string_bytes r.comm_id in
-    opens_nothing r ids true (unopened ids id (ap (λ b. nat_lt (length ids) comm_limit && not b) is ∙ and-false (nat_lt (length ids) comm_limit))) is
+    let ours = is_target (string_bytes r.target_name) in
+    opens_nothing r ids ours (unopened ids id (ap (λ b. nat_lt (length ids) comm_limit && not b) is ∙ and-false (nat_lt (length ids) comm_limit))) (ap (λ b. ours && b) is ∙ and-true ours)
+
+pub opens_for_other_targets_close : OpensForOtherTargetsClose
+opens_for_other_targets_close r ids other =
+    let id = string_bytes r.comm_id in
+    ap (λ b. if b && is_open (map string_bytes ids.items) id then status_alone else tells (comm_close id)) other

@@ -1,6 +1,6 @@
 -- The tables: what is said in answer to each request. Each answer ends with the status idle. Where what is handed in is no answer to the
 -- request, the status is all that is said.
-use Rattle.std.specs.Prelude.{ℕ, Bool, true, false, List, [], ◌∷◌, map, Option, Some, None, option_map, string_bytes, if◌then◌else◌}
+use Rattle.std.specs.Prelude.{ℕ, Bool, true, false, ◌&&◌, List, [], ◌∷◌, map, Option, Some, None, option_map, string_bytes, if◌then◌else◌}
 use Rattle.serde_json.specs.Data.{Data}
 use Rattle.jupyter_msg.specs.declared.request.RequestContent.{RequestContent}
 use Rattle.jupyter_msg.specs.declared.request.RequestContent.TheVariants as request
@@ -23,7 +23,7 @@ use Rattle.kernel_reply.specs.Status.{idle}
 use Rattle.kernel_reply.specs.Problems.{cell_problem, post_problem}
 use Rattle.kernel_reply.specs.Replies.{kernel_info_reply, complete_reply, inspect_reply, is_complete_reply, history_reply, no_search_reply, interrupt_reply, shutdown_reply}
 use Rattle.kernel_reply.specs.Execution.{execute_reply, error_reply, execute_broadcasts}
-use Rattle.kernel_reply.specs.Comms.{comm_info_reply, comm_msg, comm_close, state_shown}
+use Rattle.kernel_reply.specs.Comms.{is_target, comm_info_reply, comm_msg, comm_close, state_shown}
 use Rattle.kernel_reply.specs.Moves.{move_shown, unposted_shown}
 
 -- a reply, and the status
@@ -128,10 +128,10 @@ abbrev pub comms_say : Option (List ℕ) → Content → Says
 comms_say name (content.Comms ids) = only (comm_info_reply name (map string_bytes ids.items))
 comms_say name _ = status_alone
 
--- the comms are those after the open; a comm that is not open then is closed
+-- the comms are those after the open: it is answered by a close where it is for another target, and where its comm is not open then
 abbrev pub comm_open_says : CommOpen → Content → Says
 comm_open_says r (content.Comms ids) =
-    if is_open (map string_bytes ids.items) (string_bytes r.comm_id)
+    if is_target (string_bytes r.target_name) && is_open (map string_bytes ids.items) (string_bytes r.comm_id)
     then status_alone else tells (comm_close (string_bytes r.comm_id))
 comm_open_says r _ = status_alone
 

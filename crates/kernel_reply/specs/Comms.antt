@@ -11,6 +11,9 @@ use Rattle.kernel_reply.specs.Status.{says, ok}
 abbrev pub target : List ℕ
 target = codes "janus.undo"
 
+abbrev pub is_target : List ℕ → Bool
+is_target name = bytes_eq name target
+
 -- ---- the list of open comms
 
 abbrev pub comm_shown : Data
@@ -23,7 +26,7 @@ with_comms ms (id ∷ ids) = with_comms (put id comm_shown ms) ids
 -- the comms of this target are asked for; where no target is named, all are
 abbrev pub asks_target : Option (List ℕ) → Bool
 asks_target None = true
-asks_target (Some name) = bytes_eq name target
+asks_target (Some name) = is_target name
 
 abbrev pub comm_info_content : Data → Data
 comm_info_content comms = record_of ((codes "comms", comms) ∷ ok ∷ [])

@@ -1,17 +1,19 @@
 -- What holds of all answers.
-use Rattle.std.specs.Prelude.{◌≡◌, ◌↔◌, ℕ, ◌+◌, ◌≤◌, true, false, List, [], ◌∷◌, ◌++◌, length, map, Vec, String, string_bytes}
+use Rattle.std.specs.Prelude.{◌≡◌, ◌↔◌, ℕ, ◌+◌, ◌≤◌, suc, true, false, List, [], ◌∷◌, ◌++◌, length, map, drop, slice_get, Some, Vec, String, string_bytes, if◌then◌else◌}
 use Rattle.std.specs.declared.alloc.Global.{Global}
 use Rattle.std.specs.Ordering.{nat_cmp}
 use Rattle.std.specs.Cmp.Lexicographic.{slice_cmp}
 use Rattle.std.specs.List.{Contains}
 use Rattle.std.specs.List.Sorted.{IsStrictlySortedBy}
 use Rattle.serde_json.specs.Data.{Members, no_members, member}
+use Rattle.serde_json.specs.Find.{get_member}
 use Rattle.jupyter_msg.specs.Octets.{Octets}
 use Rattle.jupyter_msg.specs.declared.request.RequestContent.{RequestContent}
 use Rattle.jupyter_msg.specs.declared.request.RequestContent.TheVariants as request
 use Rattle.jupyter_msg.specs.declared.comm.CommOpen.{CommOpen}
 use Rattle.kernel_core.specs.declared.post.PostFault.{PostFault}
 use Rattle.kernel_ask.specs.declared.done.Done.{Done}
+use Rattle.kernel_ask.specs.declared.done.NamedValue.{NamedValue}
 use Rattle.kernel_ask.specs.Comms.{comm_limit, is_open, opened}
 use Rattle.kernel_ask.specs.declared.answer.Content.{Content}
 use Rattle.kernel_ask.specs.declared.answer.Content.TheVariants as content
@@ -21,7 +23,8 @@ use Rattle.kernel_message.specs.Sent.{sent, next_after}
 use Rattle.kernel_message.specs.Laws.{in_order}
 use Rattle.kernel_message.specs.declared.stamp.Stamp.{Stamp}
 use Rattle.kernel_reply.specs.Status.{idle}
-use Rattle.kernel_reply.specs.Comms.{comm_close, with_comms}
+use Rattle.kernel_reply.specs.Comms.{is_target, comm_close, comm_shown, with_comms}
+use Rattle.kernel_reply.specs.Execution.{value_shown, with_values}
 use Rattle.kernel_reply.specs.Answers.{job_says, ask_says, refusal_says, status_alone, tells}
 
 -- of the messages that are sent the last, with the last number, is the status idle
@@ -53,9 +56,15 @@ abbrev pub OpensPastTheLimitClose : Type 0
 OpensPastTheLimitClose = (r : CommOpen) (ids : List (List ℕ)) → comm_limit ≤ length ids → is_open ids (string_bytes r.comm_id) ≡ false
     → OpensNothing r ids (tells (comm_close (string_bytes r.comm_id)))
 
--- An open of a comm that is open, for whatever target, opens nothing and is answered by the status alone.
+-- An open of a comm that is open opens nothing: for the target of comms it is answered by the status alone, for another by a close of its id.
 abbrev pub OpensOfOpenComms : Type 0
-OpensOfOpenComms = (r : CommOpen) (ids : List (List ℕ)) → is_open ids (string_bytes r.comm_id) ≡ true → OpensNothing r ids status_alone
+OpensOfOpenComms = (r : CommOpen) (ids : List (List ℕ)) → is_open ids (string_bytes r.comm_id) ≡ true
+    → OpensNothing r ids (if is_target (string_bytes r.target_name) then status_alone else tells (comm_close (string_bytes r.comm_id)))
+
+-- Whatever comms are open, an open for another target is answered by a close of its id.
+abbrev pub OpensForOtherTargetsClose : Type 0
+OpensForOtherTargetsClose = (r : CommOpen) (ids : Vec (String Global) Global) → is_target (string_bytes r.target_name) ≡ false
+    → ask_says (request.CommOpen r) (content.Comms ids) ≡ tells (comm_close (string_bytes r.comm_id))
 
 -- the names of an object's members, in order
 abbrev pub names : Members → List (List ℕ)
@@ -70,3 +79,25 @@ pub record NamesEachOnce (ids listed : List (List ℕ)) : Type 0 where
 -- Whatever ids are handed in, the list of open comms names each of them once.
 abbrev pub ListsEachCommOnce : Type 0
 ListsEachCommOnce = (ids : List (List ℕ)) → NamesEachOnce ids (names (with_comms no_members ids))
+
+-- Under each of them stands an open comm, with its target.
+abbrev pub ListsEachWithItsTarget : Type 0
+ListsEachWithItsTarget = (ids : List (List ℕ)) (id : List ℕ) → Contains ids id → get_member id (with_comms no_members ids) ≡ Some comm_shown
+
+-- ---- user expressions
+
+abbrev pub names_of : List NamedValue → List (List ℕ)
+names_of values = map (λ v. string_bytes v.name) values
+
+-- Whatever values are handed in, each of their names is told once.
+abbrev pub TellsEachNameOnce : Type 0
+TellsEachNameOnce = (values : List NamedValue) → NamesEachOnce (names_of values) (names (with_values no_members values))
+
+-- this is the value at place k, and no later one has its name
+abbrev pub IsLastOfName : List NamedValue → ℕ → NamedValue → Type 0
+IsLastOfName values k v = (slice_get values k ≡ Some v) × (Contains (names_of (drop (suc k) values)) (string_bytes v.name) → ⊥)
+
+-- Under the name of the value at place k stands what is told of that value, unless a later one has the same name.
+abbrev pub TellsValuesByName : Type 0
+TellsValuesByName = (values : List NamedValue) (k : ℕ) (v : NamedValue) → IsLastOfName values k v
+    → get_member (string_bytes v.name) (with_values no_members values) ≡ Some (value_shown v.value)

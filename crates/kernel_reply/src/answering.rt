@@ -58,7 +58,8 @@ pub fn answer(
 }
 
 /// The messages in answer to a request that is answered at once. The answer to a `comm_open` is that of the comms as they are after it:
-/// one that is not open then, for it is for another target or as many are open as may be, is closed. Where the answer is to another question they are the status alone.
+/// one that is not open then, for as many are open as may be, is told as closed, and so is each open for another target, also under the
+/// id of a comm that stays open. Where the answer is to another question they are the status alone.
 ///
 /// # Errors
 ///

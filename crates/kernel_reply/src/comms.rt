@@ -52,13 +52,20 @@ fn comms_shown(alloc: Global, ids: &[String]) -> Result<Value, AllocError>
     Ok(Value::Object(listed))
 }
 
+/// Whether comms are for the target.
+pub(crate) fn is_target(name: &str) -> bool
+    ensures { result ≡ table.is_target name.now }
+{
+    name == COMM_TARGET
+}
+
 /// Whether the comms of the target are asked for.
 fn asks_target(name: Option<&str>) -> bool
     ensures { result ≡ table.asks_target (option_map (λ t. t.now) name.entry) }
 {
     match name {
         None => true,
-        Some(name) => name == COMM_TARGET,
+        Some(name) => is_target(name),
     }
 }
 

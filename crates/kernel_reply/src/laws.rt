@@ -1,6 +1,6 @@
 //! What holds of all answers. The functions do nothing: their contracts are the laws. That the messages are numbered without a gap in
 //! their order, and that their parent header is the header of the request, are laws of `kernel_message`.
-ghost use Rattle.kernel_reply.specs.Laws.{JobsEndIdle, AsksEndIdle, RefusalsEndIdle, OpensPastTheLimitClose, OpensOfOpenComms, ListsEachCommOnce};
+ghost use Rattle.kernel_reply.specs.Laws.{JobsEndIdle, AsksEndIdle, RefusalsEndIdle, OpensPastTheLimitClose, OpensOfOpenComms, OpensForOtherTargetsClose, ListsEachCommOnce, ListsEachWithItsTarget, TellsEachNameOnce, TellsValuesByName};
 
 /// The last message of an answer to a job is the status idle.
 pub fn jobs_end_idle_law()
@@ -22,12 +22,26 @@ pub fn opens_past_the_limit_close_law()
     ensures { OpensPastTheLimitClose }
 {}
 
-/// An open of a comm that is open opens nothing, and is answered by the status alone, whatever its target.
+/// An open of a comm that is open opens nothing: it is answered by the status alone, or by a close of its id where it is for another target.
 pub fn opens_of_open_comms_law()
     ensures { OpensOfOpenComms }
 {}
 
-/// The list of open comms names each of the ids that it is handed once, in the order of their octets, and no other.
+/// An open of a comm for another target is answered by a close of its id, whatever comms are open.
+pub fn opens_for_other_targets_close_law()
+    ensures { OpensForOtherTargetsClose }
+{}
+
+/// The list of open comms names each of the ids that it is handed once, in the order of their octets, and no other; under each stands
+/// an open comm with its target.
 pub fn lists_each_comm_once_law()
-    ensures { ListsEachCommOnce }
+    ensures names { ListsEachCommOnce }
+    ensures targets { ListsEachWithItsTarget }
+{}
+
+/// Of the values of expressions each name is told once, in the order of octets, and no other; under the name of the k-th value stands what
+/// is told of that value, unless a later one has the same name.
+pub fn tells_values_by_name_law()
+    ensures names { TellsEachNameOnce }
+    ensures values { TellsValuesByName }
 {}

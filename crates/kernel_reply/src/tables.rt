@@ -5,7 +5,7 @@ ghost use Rattle.kernel_message.specs.Drafts.{says_of};
 ghost use Rattle.kernel_reply.specs.Answers as table;
 ghost use Rattle.kernel_reply.specs.Moves.{move_shown, unposted_shown};
 
-use crate::comms::{comm_close, comm_info_reply, is_among, state_msg};
+use crate::comms::{comm_close, comm_info_reply, is_among, is_target, state_msg};
 use crate::execution::{error_reply, execute_broadcasts, execute_reply};
 use crate::moves::{move_msg, unposted_msg};
 use crate::problem::{cell_problem, post_problem};
@@ -265,7 +265,7 @@ fn comms_drafts(
     }
 }
 
-/// A comm that is not open after its open is closed.
+/// An open is answered by a close where it is for another target, and where its comm is not open after it.
 fn comm_open_drafts(
     alloc: Global,
     request: &CommOpen,
@@ -276,7 +276,7 @@ fn comm_open_drafts(
 {
     match content {
         Content::Comms(ids) => {
-            if is_among(&request.comm_id, ids) {
+            if is_target(&request.target_name) && is_among(&request.comm_id, ids) {
                 status_alone(alloc)
             } else {
                 tells(alloc, comm_close(alloc, &request.comm_id)?)

@@ -1,5 +1,5 @@
 //! Cells, as they are told.
-use crate::kernels::{cell, content, done};
+use crate::kernels::{cell, content, done, silent_cell, stopped};
 use crate::requests::{Expected, IDLE, Told, check};
 use kernel_ask::Ask;
 use kernel_core::{End, Outcome, PostFault};
@@ -41,8 +41,8 @@ fn a_cell_that_ran_is_told_with_its_values(rt: HostRuntime) -> Result<(), Fail> 
 #[test]
 fn a_silent_cell_is_told_to_who_asked_alone(rt: HostRuntime) -> Result<(), Fail> {
     let alloc = rt.alloc();
-    let code = "int x x += 5";
-    let ended = done(alloc, &[], cell(alloc, code)?, code, &[])?;
+    let code = "x += 5";
+    let ended = done(alloc, &["int x"], silent_cell(alloc, code)?, code, &[])?;
     let expected: [Expected; 2] = [
         (
             "who",
@@ -55,7 +55,7 @@ fn a_silent_cell_is_told_to_who_asked_alone(rt: HostRuntime) -> Result<(), Fail>
         &rt,
         alloc,
         "execute_request",
-        "{\"code\":\"int x x += 5\",\"silent\":true}",
+        "{\"code\":\"x += 5\",\"silent\":true}",
         Told::Ended(ended),
         &expected,
     )
@@ -156,13 +156,23 @@ fn a_text_that_is_no_cell_is_told_with_its_place(rt: HostRuntime) -> Result<(), 
 #[test]
 fn an_interrupted_cell_is_told_as_such(rt: HostRuntime) -> Result<(), Fail> {
     let alloc = rt.alloc();
-    let mut ended = done(alloc, &[], cell(alloc, "")?, "", &[])?;
-    ended.outcome = Outcome::Interrupted(4096);
-    let expected: [Expected; 2] = [
+    let code = "from x = 0 loop x += 1 until x = 5000";
+    let ended = stopped(alloc, &["int x"], cell(alloc, code)?)?;
+    let expected: [Expected; 4] = [
         (
             "who",
             "execute_reply",
-            "{\"ename\":\"Interrupted\",\"evalue\":\"interrupted after 4096\",\"execution_count\":1,\"status\":\"error\",\"traceback\":[\"interrupted after 4096\"]}",
+            "{\"ename\":\"Interrupted\",\"evalue\":\"interrupted after 1000\",\"execution_count\":2,\"status\":\"error\",\"traceback\":[\"interrupted after 1000\"]}",
+        ),
+        (
+            "execute_input",
+            "execute_input",
+            "{\"code\":\"from x = 0 loop x += 1 until x = 5000\",\"execution_count\":2}",
+        ),
+        (
+            "error",
+            "error",
+            "{\"ename\":\"Interrupted\",\"evalue\":\"interrupted after 1000\",\"traceback\":[\"interrupted after 1000\"]}",
         ),
         IDLE,
     ];
@@ -170,7 +180,7 @@ fn an_interrupted_cell_is_told_as_such(rt: HostRuntime) -> Result<(), Fail> {
         &rt,
         alloc,
         "execute_request",
-        "{\"code\":\"\",\"silent\":true}",
+        "{\"code\":\"from x = 0 loop x += 1 until x = 5000\"}",
         Told::Ended(ended),
         &expected,
     )

@@ -1,5 +1,5 @@
 //! Comms, as they are told: opens and closes, and the undo, the redo, the goto and the state on them.
-use crate::kernels::{content, done};
+use crate::kernels::{content, done, stopped};
 use crate::requests::{Expected, IDLE, Told, check};
 use kernel_ask::Ask;
 use kernel_core::{End, Job, Outcome, PostFault};
@@ -30,7 +30,9 @@ fn open_comms_are_listed(rt: HostRuntime) -> Result<(), Fail> {
 }
 
 #[test]
-fn a_comm_that_is_not_open_after_its_open_is_closed(rt: HostRuntime) -> Result<(), Fail> {
+fn a_comm_that_is_for_another_target_or_not_open_after_its_open_is_closed(
+    rt: HostRuntime,
+) -> Result<(), Fail> {
     let alloc = rt.alloc();
     let close: Expected = (
         "comm_close",
@@ -42,7 +44,7 @@ fn a_comm_that_is_not_open_after_its_open_is_closed(rt: HostRuntime) -> Result<(
     let open = Told::Answered(content(alloc, &[], &["c"], Ask::Comms)?);
     check(&rt, alloc, "comm_open", ours, open, &[IDLE])?;
     let still_open = Told::Answered(content(alloc, &[], &["c"], Ask::Comms)?);
-    check(&rt, alloc, "comm_open", another, still_open, &[IDLE])?;
+    check(&rt, alloc, "comm_open", another, still_open, &[close, IDLE])?;
     let not_open = Told::Answered(content(alloc, &[], &["d"], Ask::Comms)?);
     check(&rt, alloc, "comm_open", ours, not_open, &[close, IDLE])?;
     let another_target = Told::Answered(content(alloc, &[], &["d"], Ask::Comms)?);
@@ -137,22 +139,15 @@ fn a_redo_and_a_goto_are_told(rt: HostRuntime) -> Result<(), Fail> {
         Told::Ended(back),
         "{\"comm_id\":\"c\",\"data\":{\"end\":\"all\",\"node\":0,\"op\":\"goto\",\"redone\":0,\"status\":\"ok\",\"undone\":2}}",
     )?;
-    let mut redone = done(
-        alloc,
-        &["int x", "x += 5", "%goto 0"],
-        Job::Redo(2),
-        "",
-        &[],
-    )?;
-    redone.outcome = Outcome::Redid(2, End::Asked);
+    let redone = stopped(alloc, &["int x", "x += 5", "%goto 0"], Job::Redo(2))?;
     check_comm(
         &rt,
         alloc,
         "{\"comm_id\":\"c\",\"data\":{\"op\":\"redo\",\"n\":2}}",
         Told::Ended(redone),
-        "{\"comm_id\":\"c\",\"data\":{\"end\":\"asked\",\"node\":2,\"op\":\"redo\",\"redone\":2,\"status\":\"ok\",\"undone\":0}}",
+        "{\"comm_id\":\"c\",\"data\":{\"end\":\"asked\",\"node\":1,\"op\":\"redo\",\"redone\":1,\"status\":\"ok\",\"undone\":0}}",
     )?;
-    let mut nowhere = done(alloc, &["int x", "x += 5"], Job::Goto(9), "", &[])?;
+    let nowhere = done(alloc, &["int x", "x += 5"], Job::Goto(9), "", &[])?;
     check_comm(
         &rt,
         alloc,
@@ -160,14 +155,15 @@ fn a_redo_and_a_goto_are_told(rt: HostRuntime) -> Result<(), Fail> {
         Told::Ended(nowhere),
         "{\"comm_id\":\"c\",\"data\":{\"name\":\"NoNode\",\"node\":2,\"number\":71,\"op\":\"goto\",\"status\":\"refused\"}}",
     )?;
-    nowhere = done(alloc, &["int x", "x += 5"], Job::Redo(0), "", &[])?;
-    nowhere.outcome = Outcome::Redid(0, End::NoMemory);
+    let before = ["int x", "int y", "%undo 1"];
+    let mut no_memory = done(alloc, &before, Job::Redo(0), "", &[])?;
+    no_memory.outcome = Outcome::Redid(0, End::NoMemory);
     check_comm(
         &rt,
         alloc,
         "{\"comm_id\":\"c\",\"data\":{\"op\":\"redo\",\"n\":1}}",
-        Told::Ended(nowhere),
-        "{\"comm_id\":\"c\",\"data\":{\"end\":\"memory\",\"node\":2,\"op\":\"redo\",\"redone\":0,\"status\":\"ok\",\"undone\":0}}",
+        Told::Ended(no_memory),
+        "{\"comm_id\":\"c\",\"data\":{\"end\":\"memory\",\"node\":1,\"op\":\"redo\",\"redone\":0,\"status\":\"ok\",\"undone\":0}}",
     )
 }
 

@@ -1,12 +1,12 @@
 //! Real kernels, and what they tell. Each question stands on a new kernel after some lines: cells, and `%undo 1`, `%redo 1`,
-//! `%goto 1` and `%shut`.
+//! `%goto 1`, `%shut`, and `%post CELL` for a cell that waits.
 ghost use Rattle.std.specs.Prelude.{◌≡◌, ◌<◌};
 
 use kernel_ask::{
     Ask, Comms, Content, Done, NamedValue, Wish, ask_on, evaluate_all, is_settled, shown_text,
     stands_at_end,
 };
-use kernel_core::{Begun, Job, Kernel, Outcome, Sliced};
+use kernel_core::{Begun, Job, Kernel, Outcome, Refusal, Sliced};
 use std::alloc::{AllocError, Global};
 use std::marker::Brand;
 use std::sync::ledger::{Blank, Ledger};
@@ -18,6 +18,15 @@ pub(crate) fn cell(alloc: Global, code: &str) -> Result<Job, AllocError> {
         code: String::from_str(alloc, code)?,
         silent: false,
         store: true,
+    })
+}
+
+/// A silent cell, which is not counted.
+pub(crate) fn silent_cell(alloc: Global, code: &str) -> Result<Job, AllocError> {
+    Ok(Job::Cell {
+        code: String::from_str(alloc, code)?,
+        silent: true,
+        store: false,
     })
 }
 
@@ -33,18 +42,42 @@ fn job_of(alloc: Global, line: &str) -> Result<Job, AllocError> {
     }
 }
 
-/// Posts the job and runs it to its end, in at most ten slices: its number and its outcome.
-fn run<L: Ledger>(kernel: &mut Kernel<L>, job: Job) -> Result<Option<(u64, Outcome)>, Fail> {
+/// How many slices a job gets at most.
+const SLICES: usize = 10;
+
+/// Posts the job and runs it to its end in slices of 1,000 steps: its number and its outcome. Behind the first so many slices it is asked
+/// to stop.
+fn run<L: Ledger>(
+    kernel: &mut Kernel<L>,
+    job: Job,
+    calm: usize,
+) -> Result<Option<(u64, Outcome)>, Fail> {
     let number = kernel.post(1, job)?;
-    for _i in 0..10 {
+    for i in 0..SLICES {
         if let Begun::Ended(outcome) = kernel.begin() {
             return Ok(Some((number, outcome)));
         }
-        if let Sliced::Ended(outcome) = kernel.slice(1000, false) {
+        if let Sliced::Ended(outcome) = kernel.slice(1000, i >= calm) {
             return Ok(Some((number, outcome)));
         }
     }
     Ok(None)
+}
+
+/// Runs a line, or posts its cell. The test is over where a line finds no memory, since the row speaks of a kernel on which it ran.
+fn run_line<L: Ledger>(alloc: Global, kernel: &mut Kernel<L>, line: &str) -> Result<(), Fail> {
+    if line == "%shut" {
+        kernel.shut();
+        return Ok(());
+    }
+    if let Some(("%post", code)) = line.split_once(' ') {
+        let _number = kernel.post(1, cell(alloc, code)?)?;
+        return Ok(());
+    }
+    match run(kernel, job_of(alloc, line)?, SLICES)? {
+        Some((_, Outcome::Refused(Refusal::Memory))) => Err(Fail::from("no memory for a line")),
+        _ => Ok(()),
+    }
 }
 
 /// Runs the lines.
@@ -54,11 +87,7 @@ fn run_lines<L: Ledger>(
     lines: &[String],
 ) -> Result<(), Fail> {
     for line in lines {
-        if line.as_str() == "%shut" {
-            kernel.shut();
-        } else {
-            let _ran = run(kernel, job_of(alloc, line.as_str())?)?;
-        }
+        run_line(alloc, kernel, line.as_str())?;
     }
     Ok(())
 }
@@ -97,7 +126,19 @@ pub(crate) fn ended<L: Ledger>(
     code: &str,
     wishes: &[Wish],
 ) -> Result<Done, Fail> {
-    let (number, outcome) = run(kernel, job)?.unwrap_or((0, Outcome::Interrupted(0)));
+    ended_after(alloc, kernel, job, code, wishes, SLICES)
+}
+
+/// The same for a job that is asked to stop behind so many slices.
+fn ended_after<L: Ledger>(
+    alloc: Global,
+    kernel: &mut Kernel<L>,
+    job: Job,
+    code: &str,
+    wishes: &[Wish],
+    calm: usize,
+) -> Result<Done, Fail> {
+    let (number, outcome) = run(kernel, job, calm)?.unwrap_or((0, Outcome::Interrupted(0)));
     Ok(Done {
         number,
         outcome,
@@ -108,7 +149,7 @@ pub(crate) fn ended<L: Ledger>(
     })
 }
 
-/// What came of a job on a kernel over this ledger.
+/// What came of a job on a kernel over this ledger, asked to stop behind so many slices.
 fn done_in<L: Ledger>(
     alloc: Global,
     blank: Blank,
@@ -116,6 +157,7 @@ fn done_in<L: Ledger>(
     job: Job,
     code: String,
     wishes: Vec<Wish>,
+    calm: usize,
 ) -> Result<Done, Fail>
     requires name { blank.name ≡ L.name }
     requires parts { blank.parts ≡ L.parts }
@@ -123,7 +165,7 @@ fn done_in<L: Ledger>(
 {
     let mut kernel = Kernel::<L>::new(alloc, blank)?;
     run_lines(alloc, &mut kernel, &before)?;
-    ended(alloc, &mut kernel, job, code.as_str(), &wishes)
+    ended_after(alloc, &mut kernel, job, code.as_str(), &wishes, calm)
 }
 
 /// The answer of a kernel over this ledger, with these comms open.
@@ -173,7 +215,22 @@ pub(crate) fn done(
     }
     let before = lines_of(alloc, before)?;
     let code = String::from_str(alloc, code)?;
-    done_in::<Brand>(alloc, Blank::new(1), before, job, code, asked)
+    done_in::<Brand>(alloc, Blank::new(1), before, job, code, asked, SLICES)
+}
+
+/// What came of a job after the lines that is asked to stop behind its first slice.
+pub(crate) fn stopped(alloc: Global, before: &[&str], job: Job) -> Result<Done, Fail> {
+    let before = lines_of(alloc, before)?;
+    let no_code = String::new(alloc);
+    done_in::<Brand>(
+        alloc,
+        Blank::new(1),
+        before,
+        job,
+        no_code,
+        Vec::new(alloc),
+        1,
+    )
 }
 
 /// The answer after the lines, with these comms open.

@@ -63,17 +63,18 @@ fn names_are_completed(rt: HostRuntime) -> Result<(), Fail> {
     )
 }
 
-/// Compares how code is completed at its end, where `cab` and `ca` are declared.
+/// Compares how code is completed at the cursor, where `cab` and `ca` are declared.
 fn check_completed(
     rt: &impl Abort,
     alloc: Global,
     code: &str,
+    cursor: Option<u64>,
     request: &str,
     reply: &'static str,
 ) -> Result<(), Fail> {
     let ask = Ask::Complete {
         code: String::from_str(alloc, code)?,
-        cursor: None,
+        cursor,
     };
     let told = content(alloc, &["int cab int ca"], &[], ask)?;
     let reply = ("complete_reply", reply);
@@ -87,6 +88,7 @@ fn several_and_no_names_are_completed(rt: HostRuntime) -> Result<(), Fail> {
         &rt,
         alloc,
         "+ca",
+        None,
         "{\"code\":\"+ca\"}",
         "{\"cursor_end\":3,\"cursor_start\":1,\"matches\":[\"ca\",\"cab\",\"call\"],\"metadata\":{},\"status\":\"ok\"}",
     )?;
@@ -94,8 +96,22 @@ fn several_and_no_names_are_completed(rt: HostRuntime) -> Result<(), Fail> {
         &rt,
         alloc,
         "zz",
+        Some(9),
         "{\"code\":\"zz\",\"cursor_pos\":9}",
         "{\"cursor_end\":2,\"cursor_start\":0,\"matches\":[],\"metadata\":{},\"status\":\"ok\"}",
+    )
+}
+
+#[test]
+fn a_character_of_two_code_units_is_one_place(rt: HostRuntime) -> Result<(), Fail> {
+    let alloc = rt.alloc();
+    check_completed(
+        &rt,
+        alloc,
+        "\u{1d11e} ca += \u{e9}",
+        Some(4),
+        "{\"code\":\"\\ud834\\udd1e ca += \\u00e9\",\"cursor_pos\":4}",
+        "{\"cursor_end\":4,\"cursor_start\":2,\"matches\":[\"ca\",\"cab\",\"call\"],\"metadata\":{},\"status\":\"ok\"}",
     )
 }
 
@@ -226,6 +242,43 @@ fn the_history_is_told(rt: HostRuntime) -> Result<(), Fail> {
             "history_reply",
             "{\"history\":[[1,1,\"int x\"],[1,2,\"x += 5\"]],\"status\":\"ok\"}",
         ),
+    )
+}
+
+/// Compares the history that is told where the third counted cell still waits.
+fn check_history(
+    rt: &impl Abort,
+    alloc: Global,
+    request: &str,
+    ask: HistoryAsk,
+    reply: &'static str,
+) -> Result<(), Fail> {
+    let lines = ["int x", "x += 5", "%post x += 7"];
+    let told = content(alloc, &lines, &[], Ask::History(ask))?;
+    let reply = ("history_reply", reply);
+    check_reply(rt, alloc, ("history_request", request), told, reply)
+}
+
+#[test]
+fn a_cell_that_waits_is_not_in_the_history(rt: HostRuntime) -> Result<(), Fail> {
+    let alloc = rt.alloc();
+    check_history(
+        &rt,
+        alloc,
+        "{\"hist_access_type\":\"range\",\"session\":1,\"start\":2,\"stop\":4}",
+        HistoryAsk::Range {
+            session: 1,
+            start: 2,
+            stop: Some(4),
+        },
+        "{\"history\":[[1,2,\"x += 5\"]],\"status\":\"ok\"}",
+    )?;
+    check_history(
+        &rt,
+        alloc,
+        "{\"hist_access_type\":\"tail\",\"n\":5}",
+        HistoryAsk::Tail(5),
+        "{\"history\":[[1,1,\"int x\"],[1,2,\"x += 5\"]],\"status\":\"ok\"}",
     )
 }
 

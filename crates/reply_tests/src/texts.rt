@@ -1,5 +1,5 @@
 //! Texts in JSON: what is escaped, and what stands as it is.
-use crate::kernels::{cell, done};
+use crate::kernels::{cell, done, silent_cell};
 use crate::requests::{Expected, IDLE, Told, check};
 use kernel_ask::{Comms, Content, Done, NamedValue};
 use std::alloc::{AllocError, Global};
@@ -47,7 +47,7 @@ fn push_value(alloc: Global, done: &mut Done, name: &str, value: i32) -> Result<
 #[test]
 fn names_are_escaped_and_stand_in_the_order_of_their_octets(rt: HostRuntime) -> Result<(), Fail> {
     let alloc = rt.alloc();
-    let mut ended = done(alloc, &[], cell(alloc, "")?, "", &[])?;
+    let mut ended = done(alloc, &[], silent_cell(alloc, "")?, "", &[])?;
     push_value(alloc, &mut ended, "\u{1f600}", 1)?;
     push_value(alloc, &mut ended, "\u{ffff}", 2)?;
     push_value(alloc, &mut ended, "\"", 3)?;
@@ -57,7 +57,7 @@ fn names_are_escaped_and_stand_in_the_order_of_their_octets(rt: HostRuntime) -> 
         (
             "who",
             "execute_reply",
-            "{\"execution_count\":1,\"status\":\"ok\",\"user_expressions\":{\"\\u0001\":{\"data\":{\"text/plain\":\"4\"},\"metadata\":{},\"status\":\"ok\"},\"\\\"\":{\"data\":{\"text/plain\":\"3\"},\"metadata\":{},\"status\":\"ok\"},\"a\":{\"data\":{\"text/plain\":\"-2147483648\"},\"metadata\":{},\"status\":\"ok\"},\"\u{ffff}\":{\"data\":{\"text/plain\":\"2\"},\"metadata\":{},\"status\":\"ok\"},\"\u{1f600}\":{\"data\":{\"text/plain\":\"1\"},\"metadata\":{},\"status\":\"ok\"}}}",
+            "{\"execution_count\":0,\"status\":\"ok\",\"user_expressions\":{\"\\u0001\":{\"data\":{\"text/plain\":\"4\"},\"metadata\":{},\"status\":\"ok\"},\"\\\"\":{\"data\":{\"text/plain\":\"3\"},\"metadata\":{},\"status\":\"ok\"},\"a\":{\"data\":{\"text/plain\":\"-2147483648\"},\"metadata\":{},\"status\":\"ok\"},\"\u{ffff}\":{\"data\":{\"text/plain\":\"2\"},\"metadata\":{},\"status\":\"ok\"},\"\u{1f600}\":{\"data\":{\"text/plain\":\"1\"},\"metadata\":{},\"status\":\"ok\"}}}",
         ),
         IDLE,
     ];
