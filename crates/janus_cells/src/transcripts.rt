@@ -304,6 +304,43 @@ fn runs_stacks_and_locals(rt: HostRuntime) -> Result<(), Fail> {
     writes(&rt, rt.alloc(), &STACKS)
 }
 
+/// Procedures: calls forth and back, a procedure that is defined anew, `main`, a recursion that never ends, and what is listed.
+const PROCEDURES: [(&str, &str); 7] = [
+    (
+        "int x1 int x2 int n procedure fib(int x1, int x2, int n) if n = 0 then x1 += 1 x2 += 1 else n -= 1 call fib(x1, x2, n) x1 += x2 x1 ^= x2 x2 ^= x1 x1 ^= x2 fi x1 = x2;%%;n += 4;%%;call fib(x1, x2, n);%show;uncall fib(x1, x2, n);%show;%undo 2;%show",
+        "ok node 1 steps 1;ok node 2 steps 3;ok node 3 steps 85;at node 3;x1 = 5;x2 = 8;n = 0;ok node 4 steps 85;at node 4;x1 = 0;x2 = 0;n = 4;undid 2;at node 2;x1 = 0;x2 = 0;n = 4;",
+    ),
+    (
+        "int y procedure p(int x) x += 1;%%;call p(y);%%;procedure p(int x) x += 2;%%;call p(y);%show;%undo 2;%show;%list",
+        "ok node 1 steps 1;ok node 2 steps 7;ok node 3 steps 1;ok node 4 steps 7;at node 4;y = 3;undid 2;at node 2;y = 1;procedure p(int x) x += 1;",
+    ),
+    (
+        "procedure main() int x x += (-2147483647 - 1) / -1;%show",
+        "ok node 1 steps 3;at node 1;x = -2147483648;",
+    ),
+    (
+        "int y procedure p(int x) x += 1;%%;call p(y);%%;procedure p(int x) x += 2;%%;uncall p(y);%show",
+        "ok node 1 steps 1;ok node 2 steps 7;ok node 3 steps 1;ok node 4 steps 7;at node 4;y = -1;",
+    ),
+    (
+        "int y call p(y) procedure p(int x) call p(x);%show",
+        "fault 60 TooDeep after 16384;at node 0;",
+    ),
+    (
+        "%list;procedure zero() skip procedure p1(int x) x += 1 procedure Last(stack s) skip;%list;procedure p1(int y) y += 2;%list ",
+        "ok node 1 steps 1;procedure Last(stack s) skip;procedure p1(int x) x += 1;procedure zero() skip;ok node 2 steps 1;procedure Last(stack s) skip;procedure p1(int y) y += 2;procedure zero() skip;",
+    ),
+    (
+        "procedure p(int x, int z) skip;%%;procedure p(int x, int z[]) skip;%list;uncall q();%%;call p();%%;int y call p(y, y)",
+        "ok node 1 steps 1;refused 47 ChangedParameters at 10..11;procedure p(int x, int z) skip;refused 41 Unknown at 7..8;refused 45 Arity at 5..6;refused 44 SameArgument at 16..17;",
+    ),
+];
+
+#[test]
+fn runs_procedures(rt: HostRuntime) -> Result<(), Fail> {
+    writes(&rt, rt.alloc(), &PROCEDURES)
+}
+
 /// Lines, commands and what is gathered between them.
 const LINES: [(&str, &str); 3] = [
     ("", ""),
