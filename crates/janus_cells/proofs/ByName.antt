@@ -47,20 +47,20 @@ names_more (z ∷ all) (suc i) b l e = ap (λ (ns : List Name). (plain z).name �
 
 -- ---- elements
 
-contains_first : {A : Type 0} (ys : List A) (y x : A) → y ≡ x → Contains (y ∷ ys) x
+pub contains_first : {A : Type 0} (ys : List A) (y x : A) → y ≡ x → Contains (y ∷ ys) x
 contains_first ys y x e = (0, omega arith, e)
 
-contains_later : {A : Type 0} (ys : List A) (y x : A) → Contains ys x → Contains (y ∷ ys) x
+pub contains_later : {A : Type 0} (ys : List A) (y x : A) → Contains ys x → Contains (y ∷ ys) x
 contains_later ys y x h = (suc h.0, omega (arith, h.1), h.2)
 
-contains_none : {A : Type 0} (x : A) → Contains [] x → ⊥
+pub contains_none : {A : Type 0} (x : A) → Contains [] x → ⊥
 contains_none x h = omega (arith, h.1)
 
 split_place : {A : Type 0} (ys : List A) (y x : A) (k : ℕ) → k < length (y ∷ ys) → get_or (y ∷ ys) k x ≡ x → (y ≡ x) ⊎ Contains ys x
 split_place ys y x zero l e = inl e
 split_place ys y x (suc k) l e = inr (k, omega (arith, l), e)
 
-contains_cases : {A : Type 0} (ys : List A) (y x : A) → Contains (y ∷ ys) x → (y ≡ x) ⊎ Contains ys x
+pub contains_cases : {A : Type 0} (ys : List A) (y x : A) → Contains (y ∷ ys) x → (y ≡ x) ⊎ Contains ys x
 contains_cases ys y x h = split_place ys y x h.0 h.1 h.2
 
 -- ---- one name more

@@ -8,17 +8,18 @@ use Rattle.janus_syntax.specs.Printing.{printed_procedure}
 use Rattle.janus_syntax.specs.declared.tree.Procedure.{Procedure}
 use Rattle.kernel_core.specs.Defined.{in_a_row}
 use Rattle.janus_cells.specs.Lines.{ended_line}
-use Rattle.janus_cells.specs.Shown.{ArePrinted}
+use Rattle.janus_cells.specs.Closed.{closed_procedure}
+use Rattle.janus_cells.specs.Listing.{ArePrinted}
 
 -- one procedure more
-pub printed_more : (ps : List Proc) (q : Tree) (text : List ℕ) → ArePrinted ps text → ArePrinted (ps ++ plain_procedure q ∷ []) (text ++ ended_line (printed_procedure q))
-printed_more [] q text e = (q, [], refl, refl, ap (λ (t : List ℕ). t ++ ended_line (printed_procedure q)) e ∙ sym (append-nil (ended_line (printed_procedure q))))
+pub printed_more : (ps : List Proc) (q : Tree) (text : List ℕ) → ArePrinted ps text → ArePrinted (ps ++ plain_procedure q ∷ []) (text ++ ended_line (printed_procedure (closed_procedure q)))
+printed_more [] q text e = (q, [], refl, refl, ap (λ (t : List ℕ). t ++ ended_line (printed_procedure (closed_procedure q))) e ∙ sym (append-nil (ended_line (printed_procedure (closed_procedure q)))))
 printed_more (p ∷ ps) q text (r, more, is, h, e) = (
   r,
-  more ++ ended_line (printed_procedure q),
+  more ++ ended_line (printed_procedure (closed_procedure q)),
   is,
   printed_more ps q more h,
-  ap (λ (t : List ℕ). t ++ ended_line (printed_procedure q)) e ∙ append_assoc (ended_line (printed_procedure r)) more (ended_line (printed_procedure q)),
+  ap (λ (t : List ℕ). t ++ ended_line (printed_procedure (closed_procedure q))) e ∙ append_assoc (ended_line (printed_procedure (closed_procedure r))) more (ended_line (printed_procedure (closed_procedure q))),
 )
 
 pub row_more : (all : List (Bor Procedure)) (i : ℕ) (b : Bor Procedure) → i < length all → get_or all i b ≡ b →

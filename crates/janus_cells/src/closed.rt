@@ -57,7 +57,7 @@ fn same_names(alloc: Global, names: &[Name]) -> Result<Vec<Name>, AllocError>
 }
 
 /// The statements of a block, closed.
-#[cycle(closed_statements)]
+#[cycle(closing)]
 fn closed_statements(alloc: Global, statements: &[Stm]) -> Result<Vec<Stm>, AllocError>
     ensures { IfOk result (λ copies. block_view copies.items ≡ closed_block (block_view statements.now)) }
 {
@@ -69,7 +69,7 @@ fn closed_statements(alloc: Global, statements: &[Stm]) -> Result<Vec<Stm>, Allo
 }
 
 /// A statement, closed.
-#[cycle(closed_statements)]
+#[cycle(closing)]
 fn closed_statement(alloc: Global, statement: &Stm) -> Result<Stm, AllocError>
     ensures { IfOk result (λ copy. stm_view copy ≡ closed_stm (stm_view statement.now)) }
 {

@@ -1,6 +1,6 @@
 use Rattle.std.proofs.Common.{take, string_bytes}
 use Rattle.kernel_core.specs.Defined.{in_a_row}
-use Rattle.janus_cells.specs.Shown.{ArePrinted}
+use Rattle.janus_cells.specs.Listing.{ArePrinted}
 use Rattle.janus_cells.proofs.listing.lines_of.Given as goal
 
 -- those before are printed
