@@ -247,7 +247,7 @@ fn refuses_texts(rt: HostRuntime) -> Result<(), Fail> {
 }
 
 /// The programs of examples/, without their comments, but those of stacks and locals.
-const EXAMPLES: [(&str, &str); 5] = [
+const EXAMPLES: [(&str, &str); 8] = [
     (
         "int x int y;%%;x += 5;y ^= x + 3;%%;%show;%undo 1;%show;%redo 1;x -= y;%show",
         "ok node 1 steps 1;ok node 2 steps 5;at node 2;x = 5;y = 8;undid 1;at node 1;x = 0;y = 0;redid 1;ok node 3 steps 3;at node 3;x = -3;y = 8;",
@@ -267,6 +267,18 @@ const EXAMPLES: [(&str, &str); 5] = [
     (
         "int x int a[3];a[0] += 1 a[1] += 2 a[2] += 3;%%;from x = 0 do a[x] += 10 x += 1 until x = 4;%show;if x = 0 then x += 1 else skip fi x = 0;%show;x += y;%show",
         "ok node 1 steps 7;fault 58 IndexRange after 33;at node 1;x = 0;a[3] = 1 2 3;fault 50 FiAssertion after 5;at node 1;x = 0;a[3] = 1 2 3;refused 41 Unknown at 5..6;at node 1;x = 0;a[3] = 1 2 3;",
+    ),
+    (
+        "int n int d int q;procedure divide(int n, int d, int q);from q = 0;loop n -= d  q += 1;until n < d;%%;n += 17  d += 5;%%;call divide(n, d, q);%show;uncall divide(n, d, q);%show;n -= 10  q += 3;%%;uncall divide(n, d, q);%show;%undo 3;%show;%list",
+        "ok node 1 steps 1;ok node 2 steps 5;ok node 3 steps 41;at node 3;n = 2;d = 5;q = 3;ok node 4 steps 41;at node 4;n = 17;d = 5;q = 0;ok node 5 steps 5;fault 51 EntryAssertion after 3;at node 5;n = 7;d = 5;q = 3;undid 3;at node 2;n = 17;d = 5;q = 0;procedure divide(int n, int d, int q) from q = 0 do skip loop n -= d q += 1 until n < d;",
+    ),
+    (
+        "int a[8] int n stack s;procedure pack(int a[], int n, stack s);local int value = 0;local int count = 0;local int i = 0;from i = 0;loop;if i > 0 && a[i] != value;then push(value, s)  push(count, s);else skip;fi i > 0 && count = 0;if count = 0 then value += a[i] else skip fi count = 0;a[i] -= value;count += 1;i += 1;until i = n;delocal int i = n;push(value, s);push(count, s);delocal int count = 0;delocal int value = 0;%%;n += 8;a[0] += 4  a[1] += 4  a[2] += 4  a[3] += 7  a[4] += 7  a[5] += 1  a[6] += 1  a[7] += 1;%%;call pack(a, n, s);%show;uncall pack(a, n, s);%show;%undo 1;%show",
+        "ok node 1 steps 1;ok node 2 steps 19;ok node 3 steps 223;at node 3;a[8] = 0 0 0 0 0 0 0 0;n = 8;s(6) = 3 1 2 7 3 4;ok node 4 steps 223;at node 4;a[8] = 4 4 4 7 7 1 1 1;n = 8;s(0) =;undid 1;at node 3;a[8] = 0 0 0 0 0 0 0 0;n = 8;s(6) = 3 1 2 7 3 4;",
+    ),
+    (
+        "int p[5] int n;procedure code(int p[], int n);local int i = 0;from i = 0;loop;local int j = i + 1;from j = i + 1;loop;if p[j] > p[i] then p[j] -= 1 else skip fi p[j] >= p[i];j += 1;until j = n;delocal int j = n;i += 1;until i = n;delocal int i = n;%%;n += 5;p[0] += 2  p[1] += 4  p[3] += 3  p[4] += 1;%%;call code(p, n);%show;uncall code(p, n);%show;p[0] -= 1  p[1] -= 3  p[2] += 1  p[3] -= 2  p[4] -= 1;%%;uncall code(p, n);%show;%undo 4;%show",
+        "ok node 1 steps 1;ok node 2 steps 11;ok node 3 steps 245;at node 3;p[5] = 2 3 0 1 0;n = 5;ok node 4 steps 245;at node 4;p[5] = 2 4 0 3 1;n = 5;ok node 5 steps 11;ok node 6 steps 245;at node 6;p[5] = 1 2 3 4 0;n = 5;undid 4;at node 2;p[5] = 2 4 0 3 1;n = 5;",
     ),
 ];
 
