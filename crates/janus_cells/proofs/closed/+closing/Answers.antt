@@ -1,4 +1,4 @@
-use Rattle.std.proofs.Common.{ap, ◌∙◌, sym, arith}
+use Rattle.std.proofs.Common.{ap, ◌∙◌, sym}
 use Rattle.janus_syntax.specs.Tree.{stm_view, block_view}
 use Rattle.janus_cells.specs.Closed.{closed_stm, closed_block}
 use Rattle.janus_cells.proofs.ClosedLemmas.{one_more, if_closed, loop_closed, local_int_closed, local_stack_closed, name_copied}
