@@ -3,9 +3,11 @@ use Rattle.std.proofs.Common.{◌≡◌, ◌∙◌, ℕ, List, [], ◌∷◌, �
 use Rattle.std.specs.Prelude.{codes}
 use Rattle.std.specs.Fmt.{digits}
 use Rattle.janus_meaning.specs.Limit.{step_limit}
+use Rattle.janus_meaning.specs.World.{World}
 use Rattle.kernel_core.specs.Determined as machine
 use Rattle.kernel_core.specs.Determined.{StepIsDetermined}
 use Rattle.kernel_core.specs.LegalState.{IsLegalState}
+use Rattle.kernel_core.specs.State.{here}
 use Rattle.kernel_core.specs.Theorems.{StaysLegal}
 use Rattle.kernel_core.specs.Travel.{Aim}
 use Rattle.kernel_core.specs.Travel as aim
@@ -29,9 +31,11 @@ use Rattle.kernel_core.specs.declared.outcome.End.TheVariants.{NoMemory}
 use Rattle.janus_cells.specs.Determined.{Holds, TellsWant}
 use Rattle.janus_cells.specs.Lines.{ended_line}
 use Rattle.kernel_text.specs.Lines.{counted_text}
-use Rattle.janus_cells.specs.Script.{Action, RunText, UndoCells, RedoCells, GoToNode, ShowWorld, BadCommand}
+use Rattle.janus_cells.specs.Listing.{IsListed}
+use Rattle.janus_cells.specs.Script.{Action, RunText, UndoCells, RedoCells, GoToNode, ShowWorld, ListProcedures, BadCommand}
 use Rattle.janus_cells.specs.Served.{lane, GoesBack, is_back, not_yet_back, CellFinishes, in_time, interrupted, faulted, FinishesAs, Finishes, ended, going, backing, next_cell, no_next_cell, Came, NotPosted, Finished, Serves, not_posted, at_once, later}
 use Rattle.janus_cells.specs.Transcript.{came_line, Answers, ActionServes, ActionsServe}
+use Rattle.janus_cells.proofs.OneListing.{one_list_text}
 
 -- ---- one begin, one slice, one post
 
@@ -337,6 +341,12 @@ answers_same determined stays steps old new other r out more legal (a, s, e) amp
     let same = serves_same determined stays steps old new other r a b legal s (λ l. ample (subst TellsWant (sym e) (lacks_told a l))) s2 (λ l. enough (subst TellsWant (sym e2) (lacks_told b l))) in
     (e ∙ ap (λ (c : Came). ended_line (came_line c)) same.0 ∙ sym e2, same.1)
 
+-- where nothing tells want of memory, a world's procedures are listed in one way
+listed_same : (w : World) (out more : List ℕ) → IsListed w out → (TellsWant out → ⊥) → IsListed w more → (TellsWant more → ⊥) → out ≡ more
+listed_same w out more (inl text) ample (inl other) enough = one_list_text w out more text other
+listed_same w out more (inl text) ample (inr want) enough = absurd (enough (subst TellsWant (sym want) (lacks_told (NotPosted Memory) refl)))
+listed_same w out more (inr want) ample b enough = absurd (ample (subst TellsWant (sym want) (lacks_told (NotPosted Memory) refl)))
+
 action_same : StepIsDetermined → StaysLegal → (steps : ℕ) (action : Action) (old new other : Machine) (out more : List ℕ) → IsLegalState old.state → ActionServes steps action old out new → (TellsWant out → ⊥) → ActionServes steps action old more other → (TellsWant more → ⊥)
     → (out ≡ more) × (new ≡ other)
 action_same determined stays steps (RunText text) old new other out more legal a ample b enough = answers_same determined stays steps old new other _ out more legal a ample b enough
@@ -344,6 +354,7 @@ action_same determined stays steps (UndoCells k) old new other out more legal a 
 action_same determined stays steps (RedoCells k) old new other out more legal a ample b enough = answers_same determined stays steps old new other _ out more legal a ample b enough
 action_same determined stays steps (GoToNode n) old new other out more legal a ample b enough = answers_same determined stays steps old new other _ out more legal a ample b enough
 action_same determined stays steps ShowWorld old new other out more legal a ample b enough = (a.0 ∙ sym b.0, a.1 ∙ sym b.1)
+action_same determined stays steps ListProcedures old new other out more legal a ample b enough = (listed_same (here old.state.past) out more a.0 ample b.0 enough, a.1 ∙ sym b.1)
 action_same determined stays steps BadCommand old new other out more legal a ample b enough = (a.0 ∙ sym b.0, a.1 ∙ sym b.1)
 
 action_legal : StaysLegal → (steps : ℕ) (action : Action) (old new : Machine) (out : List ℕ) → IsLegalState old.state → ActionServes steps action old out new → IsLegalState new.state
@@ -352,6 +363,7 @@ action_legal stays steps (UndoCells k) old new out legal a = serves_legal stays 
 action_legal stays steps (RedoCells k) old new out legal a = serves_legal stays steps legal a.1
 action_legal stays steps (GoToNode n) old new out legal a = serves_legal stays steps legal a.1
 action_legal stays steps ShowWorld old new out legal a = subst (λ (m : Machine). IsLegalState m.state) (sym a.1) legal
+action_legal stays steps ListProcedures old new out legal a = subst (λ (m : Machine). IsLegalState m.state) (sym a.1) legal
 action_legal stays steps BadCommand old new out legal a = subst (λ (m : Machine). IsLegalState m.state) (sym a.1) legal
 
 pub actions_same : StepIsDetermined → StaysLegal → (steps : ℕ) (actions : List Action) (old new other : Machine) (out more : List ℕ) → IsLegalState old.state → ActionsServe steps actions old out new → (TellsWant out → ⊥) → ActionsServe steps actions old more other → (TellsWant more → ⊥)

@@ -6,6 +6,10 @@ pub mod Finishing
 pub mod GoingBack
 pub mod InputLemmas
 pub mod LinesLemmas
+pub mod ByName
+pub mod ClosedLemmas
+pub mod ListedLemmas
+pub mod OneListing
 pub mod ScriptLemmas
 pub mod ServedEnds
 pub mod Serving

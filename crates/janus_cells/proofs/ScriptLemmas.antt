@@ -5,10 +5,11 @@ use Rattle.std.specs.List.{slice_split, onto_first}
 use Rattle.kernel_core.specs.Runs.{Machine}
 use Rattle.janus_cells.specs.declared.command.Command.{Command}
 use Rattle.janus_cells.specs.declared.command.Command.TheVariants.{Run, Undo, Redo, Goto, Show, Unknown}
+use Rattle.janus_cells.specs.declared.command.Command.TheVariants as command
 use Rattle.janus_cells.specs.Command.{command_of}
 use Rattle.janus_cells.specs.Lines.{is_blank, is_command_line, lines, trimmed}
 use Rattle.janus_cells.specs.Loop.{RestAt, RunsRest, Does, DoesAfterRest, CommandServes, LineAt, text_after, LinesServe}
-use Rattle.janus_cells.specs.Script.{Action, RunText, UndoCells, RedoCells, GoToNode, ShowWorld, BadCommand, text_of, run_unless_blank, asked, texts, commands, actions, script}
+use Rattle.janus_cells.specs.Script.{Action, RunText, UndoCells, RedoCells, GoToNode, ShowWorld, ListProcedures, BadCommand, text_of, run_unless_blank, asked, texts, commands, actions, script}
 use Rattle.janus_cells.specs.Transcript.{ActionServes, ActionsServe}
 use Rattle.janus_cells.proofs.LinesLemmas.{some_part}
 
@@ -46,6 +47,7 @@ command_serves steps (Undo k) old new text out h = after_rest_serves steps (Undo
 command_serves steps (Redo k) old new text out h = after_rest_serves steps (Redo k) (RedoCells k) old new text out (λ m o d. d) h
 command_serves steps (Goto n) old new text out h = after_rest_serves steps (Goto n) (GoToNode n) old new text out (λ m o d. d) h
 command_serves steps Show old new text out h = after_rest_serves steps Show ShowWorld old new text out (λ m o d. d) h
+command_serves steps command.List old new text out h = after_rest_serves steps command.List ListProcedures old new text out (λ m o d. d) h
 command_serves steps Unknown old new text out h = after_rest_serves steps Unknown BadCommand old new text out (λ m o d. d) h
 
 -- ---- line after line

@@ -5,9 +5,11 @@ use Rattle.std.specs.Io.KnownBytes.{Appends, Keeps}
 use Rattle.kernel_core.specs.Runs.{Machine, IsRefusal}
 use Rattle.kernel_core.specs.Request.{Request, RunCell}
 use Rattle.kernel_core.specs.declared.post.PostFault.{PostFault}
+use Rattle.kernel_core.specs.declared.post.PostFault.TheVariants.{Memory}
 use Rattle.kernel_core.proofs.Posts.{some_refusal}
 use Rattle.janus_cells.specs.declared.command.Command.{Command}
 use Rattle.janus_cells.specs.declared.command.Command.TheVariants.{Run, Undo, Redo, Goto, Show, Unknown}
+use Rattle.janus_cells.specs.declared.command.Command.TheVariants as command
 use Rattle.janus_cells.specs.declared.gathered.Gathered.{Gathered}
 use Rattle.janus_cells.specs.Command.{command_of}
 use Rattle.janus_cells.specs.Gathering.{IsGathered}
@@ -71,6 +73,7 @@ any_does steps (Undo k) old other = refuses_some steps old _
 any_does steps (Redo k) old other = refuses_some steps old _
 any_does steps (Goto n) old other = refuses_some steps old _
 any_does steps Show old other = (world_text old.state.past, old, (refl, refl))
+any_does steps command.List old other = (ended_line (post_fault_line Memory), old, (inr refl, refl))
 any_does steps Unknown old other = (bad_command_line, old, (refl, refl))
 
 after_rest : (steps : ℕ) (command : Command) (old : Machine) (text : List ℕ) → (command ≡ Run → ⊥) → (out : List ℕ) × (new : Machine) × DoesAfterRest steps command old text out new
@@ -85,6 +88,7 @@ any_command steps (Undo k) old text = after_rest steps (Undo k) old text (λ e. 
 any_command steps (Redo k) old text = after_rest steps (Redo k) old text (λ e. cc e)
 any_command steps (Goto n) old text = after_rest steps (Goto n) old text (λ e. cc e)
 any_command steps Show old text = after_rest steps Show old text (λ e. cc e)
+any_command steps command.List old text = after_rest steps command.List old text (λ e. cc e)
 any_command steps Unknown old text = after_rest steps Unknown old text (λ e. cc e)
 
 any_line_at : (steps : ℕ) (b : Bool) (old : Machine) (text line : List ℕ) → (out : List ℕ) × (new : Machine) × LineAt steps b old text line out new
@@ -106,6 +110,7 @@ other_serves steps (Undo k) old new text out other h = h
 other_serves steps (Redo k) old new text out other h = h
 other_serves steps (Goto n) old new text out other h = h
 other_serves steps Show old new text out other h = h
+other_serves steps command.List old new text out other h = h
 other_serves steps Unknown old new text out other h = h
 
 run_serves : (steps : ℕ) (command : Command) (old new : Machine) (text : List ℕ) (came : Came) → command ≡ Run → Serves steps old (RunCell text false true) came new → CommandServes steps command old text (ended_line (came_line came)) new

@@ -7,6 +7,7 @@ use Rattle.std.specs.Char.{is_ascii_digit}
 use Rattle.std.specs.Str.Parse.{digits_value}
 use Rattle.janus_cells.specs.declared.command.Command.{Command}
 use Rattle.janus_cells.specs.declared.command.Command.TheVariants.{Run, Undo, Redo, Goto, Show, Unknown}
+use Rattle.janus_cells.specs.declared.command.Command.TheVariants as command
 
 -- 1 to 10 digits
 abbrev pub is_short_number : List ℕ → Bool
@@ -28,4 +29,5 @@ abbrev pub command_of : List ℕ → Command
 command_of line =
     if bytes_eq line (codes "%%") then Run
     else if bytes_eq line (codes "%show") then Show
+    else if bytes_eq line (codes "%list") then command.List
     else after_words (codes "%undo ") line (counted Undo) (after_words (codes "%redo ") line (counted Redo) (after_words (codes "%goto ") line (counted Goto) Unknown))

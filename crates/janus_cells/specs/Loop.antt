@@ -6,10 +6,13 @@ use Rattle.kernel_core.specs.Request.{RunCell}
 use Rattle.kernel_core.specs.Request as request
 use Rattle.janus_cells.specs.Command.{command_of}
 use Rattle.janus_cells.specs.Lines.{is_blank, is_command_line, trimmed}
+use Rattle.kernel_core.specs.State.{here}
 use Rattle.janus_cells.specs.Shown.{world_text}
+use Rattle.janus_cells.specs.Listing.{IsListed}
 use Rattle.janus_cells.specs.Transcript.{Answers, bad_command_line}
 use Rattle.janus_cells.specs.declared.command.Command.{Command}
 use Rattle.janus_cells.specs.declared.command.Command.TheVariants.{Run, Undo, Redo, Goto, Show, Unknown}
+use Rattle.janus_cells.specs.declared.command.Command.TheVariants as command
 
 abbrev pub RestAt : ℕ → Bool → Machine → List ℕ → List ℕ → Machine → Type 0
 RestAt steps true old text out new = (out ≡ []) × (new ≡ old)
@@ -26,6 +29,7 @@ Does steps (Undo k) old out new = Answers steps old (request.Undo k) out new
 Does steps (Redo k) old out new = Answers steps old (request.Redo k) out new
 Does steps (Goto n) old out new = Answers steps old (request.Goto n) out new
 Does steps Show old out new = (out ≡ world_text old.state.past) × (new ≡ old)
+Does steps command.List old out new = IsListed (here old.state.past) out × (new ≡ old)
 Does steps Unknown old out new = (out ≡ bad_command_line) × (new ≡ old)
 
 -- before any other command the gathered text is run, unless it is blank
@@ -41,6 +45,7 @@ CommandServes steps (Undo k) old text out new = DoesAfterRest steps (Undo k) old
 CommandServes steps (Redo k) old text out new = DoesAfterRest steps (Redo k) old text out new
 CommandServes steps (Goto n) old text out new = DoesAfterRest steps (Goto n) old text out new
 CommandServes steps Show old text out new = DoesAfterRest steps Show old text out new
+CommandServes steps command.List old text out new = DoesAfterRest steps command.List old text out new
 CommandServes steps Unknown old text out new = DoesAfterRest steps Unknown old text out new
 
 abbrev pub LineAt : ℕ → Bool → Machine → List ℕ → List ℕ → List ℕ → Machine → Type 0

@@ -5,15 +5,17 @@ use Rattle.janus_cells.specs.Command.{command_of}
 use Rattle.janus_cells.specs.Lines.{ended_line, is_blank, is_command_line, lines, trimmed}
 use Rattle.janus_cells.specs.declared.command.Command.{Command}
 use Rattle.janus_cells.specs.declared.command.Command.TheVariants.{Run, Undo, Redo, Goto, Show, Unknown}
+use Rattle.janus_cells.specs.declared.command.Command.TheVariants as command
 
 -- one thing that an input asks for: to run a text as a cell, to undo or redo so many cells, to go to a node, to show the
--- world, or what nobody knows
+-- world, to list the procedures, or what nobody knows
 pub data Action : Type 0 where
   RunText : (text : List ℕ) → Action
   UndoCells : (k : ℕ) → Action
   RedoCells : (k : ℕ) → Action
   GoToNode : (n : ℕ) → Action
   ShowWorld : Action
+  ListProcedures : Action
   BadCommand : Action
 
 -- the text of a cell: its lines, an LF behind each
@@ -32,6 +34,7 @@ asked text (Undo k) = run_unless_blank text ++ UndoCells k ∷ []
 asked text (Redo k) = run_unless_blank text ++ RedoCells k ∷ []
 asked text (Goto n) = run_unless_blank text ++ GoToNode n ∷ []
 asked text Show = run_unless_blank text ++ ShowWorld ∷ []
+asked text command.List = run_unless_blank text ++ ListProcedures ∷ []
 asked text Unknown = run_unless_blank text ++ BadCommand ∷ []
 
 -- the texts: the lines are cut at the command lines, so there is one text more than there are commands

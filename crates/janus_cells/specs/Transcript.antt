@@ -5,9 +5,11 @@ use Rattle.kernel_core.specs.Request.{Request, RunCell}
 use Rattle.kernel_core.specs.Request as request
 use Rattle.kernel_text.specs.Lines.{outcome_line, post_fault_line}
 use Rattle.janus_cells.specs.Lines.{ended_line}
-use Rattle.janus_cells.specs.Script.{Action, RunText, UndoCells, RedoCells, GoToNode, ShowWorld, BadCommand, script}
+use Rattle.janus_cells.specs.Script.{Action, RunText, UndoCells, RedoCells, GoToNode, ShowWorld, ListProcedures, BadCommand, script}
 use Rattle.janus_cells.specs.Served.{Came, NotPosted, Finished, Serves}
+use Rattle.kernel_core.specs.State.{here}
 use Rattle.janus_cells.specs.Shown.{world_text}
+use Rattle.janus_cells.specs.Listing.{IsListed}
 
 -- what came of a request, without an LF
 abbrev pub came_line : Came → List ℕ
@@ -23,13 +25,14 @@ abbrev pub bad_command_line : List ℕ
 bad_command_line = ended_line (codes "refused 80 BadCommand")
 
 -- one action is served, and `out` is what is written of it: a text runs as a cell, cells are undone or redone, a node is gone
--- to, the world is shown as it is, or a command is refused
+-- to, the world is shown as it is, its procedures are listed, or a command is refused
 abbrev pub ActionServes : ℕ → Action → Machine → List ℕ → Machine → Type 0
 ActionServes steps (RunText text) old out new = Answers steps old (RunCell text false true) out new
 ActionServes steps (UndoCells k) old out new = Answers steps old (request.Undo k) out new
 ActionServes steps (RedoCells k) old out new = Answers steps old (request.Redo k) out new
 ActionServes steps (GoToNode n) old out new = Answers steps old (request.Goto n) out new
 ActionServes steps ShowWorld old out new = (out ≡ world_text old.state.past) × (new ≡ old)
+ActionServes steps ListProcedures old out new = IsListed (here old.state.past) out × (new ≡ old)
 ActionServes steps BadCommand old out new = (out ≡ bad_command_line) × (new ≡ old)
 
 -- actions are served one after the other, and `out` is all that is written of them

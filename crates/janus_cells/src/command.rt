@@ -20,6 +20,8 @@ pub enum Command {
     Goto(u32),
     /// To show the position and the declared names with their values.
     Show,
+    /// To list the procedures.
+    List,
     /// Nothing that is known.
     Unknown,
 }
@@ -35,6 +37,9 @@ impl Command {
         }
         if line == "%show" {
             return Command::Show;
+        }
+        if line == "%list" {
+            return Command::List;
         }
         if let Some(digits) = after(line, "%undo ") {
             return match count(digits) {

@@ -1,4 +1,4 @@
-//! `janus-cells`: Janus cells with undo, redo and show over a stream of lines.
+//! `janus-cells`: Janus cells with undo, redo, show and list over a stream of lines.
 //!
 //! It reads all standard input, at most 16 MiB, and then runs it line by line. Lines that begin with `%` are commands; all
 //! others gather to the text of a cell. What it promises is said of `run`, over any reader and writer; its clauses speak of
@@ -8,6 +8,7 @@
 //! that is served ends; `fault` and `words` say with which status and line the program ends. The language is Janus (Yokoyama and Glück 2007).
 #![tactic(auto)]
 
+mod closed;
 mod command;
 mod counted;
 mod fault;
@@ -15,6 +16,7 @@ mod gathered;
 mod input;
 mod laws;
 mod lines;
+mod listing;
 mod output;
 mod program;
 mod run;

@@ -4,9 +4,10 @@ ghost use Rattle.std.specs.List.{position_or_len};
 ghost use Rattle.std.specs.Io.KnownBytes.{Appends, Keeps};
 ghost use Rattle.kernel_core.specs.Runs.{Machine, IsRefusal};
 ghost use Rattle.kernel_core.specs.Request.{request_of, RunCell};
-ghost use Rattle.kernel_core.specs.State.{Idle};
+ghost use Rattle.kernel_core.specs.State.{Idle, here};
 ghost use Rattle.janus_cells.specs.Gathering.{IsGathered};
 ghost use Rattle.janus_cells.specs.Lines.{ended_line, lines};
+ghost use Rattle.janus_cells.specs.Listing.{IsListed};
 ghost use Rattle.janus_cells.specs.Loop.{CommandServes, Does, LineServes, LinesServe, RunsRest, text_after};
 ghost use Rattle.kernel_text.specs.Sending.{SentSome};
 ghost use Rattle.janus_cells.specs.RunFault.{IsServed, IsWhyUnread, TakesAtMost, input_limit};
@@ -20,6 +21,7 @@ use crate::counted::run_counted;
 use crate::fault::RunFault;
 use crate::gathered::Gathered;
 use crate::lines::{is_command_line, split_line};
+use crate::listing::list_text;
 use crate::output::{send_outcome, send_position, send_post_fault, send_value};
 use crate::serve::serve;
 use kernel_core::{Job, Kernel, PostFault};
@@ -169,11 +171,12 @@ fn run_command<L: Ledger, W: Write>(
         return run_cell(alloc, steps, kernel, gathered, writer);
     }
     run_rest(alloc, steps, kernel, gathered, writer)?;
-    obey(steps, kernel, command, writer)
+    obey(alloc, steps, kernel, command, writer)
 }
 
 /// Does what a command other than `%%` asks for.
 fn obey<L: Ledger, W: Write>(
+    alloc: Global,
     steps: u64,
     kernel: &mut Kernel<L>,
     command: Command,
@@ -194,6 +197,7 @@ fn obey<L: Ledger, W: Write>(
         Command::Redo(k) => run_job(steps, kernel, Job::Redo(k), writer),
         Command::Goto(n) => run_job(steps, kernel, Job::Goto(n), writer),
         Command::Show => show(kernel, writer),
+        Command::List => list(alloc, kernel, writer),
         Command::Run | Command::Unknown => send(writer, b"refused 80 BadCommand\n"),
     }
 }
@@ -305,4 +309,20 @@ fn show<L: Ledger, W: Write>(kernel: &Kernel<L>, writer: &mut W) -> Result<(), W
         send_value(writer, name, value)?;
     }
     Ok(())
+}
+
+/// Writes the procedures that can be called, one a line, by name. Where there is no memory for them it writes that.
+fn list<L: Ledger, W: Write>(
+    alloc: Global,
+    kernel: &Kernel<L>,
+    writer: &mut W,
+) -> Result<(), WriteFailed>
+    requires idle { kernel.now.machine.state.job ≡ Idle }
+    ensures ok { OnOk result ((out : List ℕ) × IsListed (here kernel.now.machine.state.past) out × Appends (W.contents writer.old) (W.contents writer.new) out) }
+    ensures err { OnErr result ((out : List ℕ) × IsListed (here kernel.now.machine.state.past) out × SentSome (W.contents writer.old) (W.contents writer.new) out) }
+{
+    match list_text(alloc, kernel) {
+        Ok(text) => send(writer, text.as_bytes()),
+        Err(_) => send_post_fault(writer, PostFault::Memory),
+    }
 }

@@ -247,7 +247,7 @@ fn refuses_texts(rt: HostRuntime) -> Result<(), Fail> {
 }
 
 /// The programs of examples/, without their comments, but those of stacks and locals.
-const EXAMPLES: [(&str, &str); 5] = [
+const EXAMPLES: [(&str, &str); 8] = [
     (
         "int x int y;%%;x += 5;y ^= x + 3;%%;%show;%undo 1;%show;%redo 1;x -= y;%show",
         "ok node 1 steps 1;ok node 2 steps 5;at node 2;x = 5;y = 8;undid 1;at node 1;x = 0;y = 0;redid 1;ok node 3 steps 3;at node 3;x = -3;y = 8;",
@@ -267,6 +267,18 @@ const EXAMPLES: [(&str, &str); 5] = [
     (
         "int x int a[3];a[0] += 1 a[1] += 2 a[2] += 3;%%;from x = 0 do a[x] += 10 x += 1 until x = 4;%show;if x = 0 then x += 1 else skip fi x = 0;%show;x += y;%show",
         "ok node 1 steps 7;fault 58 IndexRange after 33;at node 1;x = 0;a[3] = 1 2 3;fault 50 FiAssertion after 5;at node 1;x = 0;a[3] = 1 2 3;refused 41 Unknown at 5..6;at node 1;x = 0;a[3] = 1 2 3;",
+    ),
+    (
+        "int n int d int q;procedure divide(int n, int d, int q);from q = 0;loop n -= d  q += 1;until n < d;%%;n += 17  d += 5;%%;call divide(n, d, q);%show;uncall divide(n, d, q);%show;n -= 10  q += 3;%%;uncall divide(n, d, q);%show;%undo 3;%show;%list",
+        "ok node 1 steps 1;ok node 2 steps 5;ok node 3 steps 41;at node 3;n = 2;d = 5;q = 3;ok node 4 steps 41;at node 4;n = 17;d = 5;q = 0;ok node 5 steps 5;fault 51 EntryAssertion after 3;at node 5;n = 7;d = 5;q = 3;undid 3;at node 2;n = 17;d = 5;q = 0;procedure divide(int n, int d, int q) from q = 0 do skip loop n -= d q += 1 until n < d;",
+    ),
+    (
+        "int a[8] int n stack s;procedure pack(int a[], int n, stack s);local int value = 0;local int count = 0;local int i = 0;from i = 0;loop;if i > 0 && a[i] != value;then push(value, s)  push(count, s);else skip;fi i > 0 && count = 0;if count = 0 then value += a[i] else skip fi count = 0;a[i] -= value;count += 1;i += 1;until i = n;delocal int i = n;push(value, s);push(count, s);delocal int count = 0;delocal int value = 0;%%;n += 8;a[0] += 4  a[1] += 4  a[2] += 4  a[3] += 7  a[4] += 7  a[5] += 1  a[6] += 1  a[7] += 1;%%;call pack(a, n, s);%show;uncall pack(a, n, s);%show;%undo 1;%show",
+        "ok node 1 steps 1;ok node 2 steps 19;ok node 3 steps 223;at node 3;a[8] = 0 0 0 0 0 0 0 0;n = 8;s(6) = 3 1 2 7 3 4;ok node 4 steps 223;at node 4;a[8] = 4 4 4 7 7 1 1 1;n = 8;s(0) =;undid 1;at node 3;a[8] = 0 0 0 0 0 0 0 0;n = 8;s(6) = 3 1 2 7 3 4;",
+    ),
+    (
+        "int p[5] int n;procedure code(int p[], int n);local int i = 0;from i = 0;loop;local int j = i + 1;from j = i + 1;loop;if p[j] > p[i] then p[j] -= 1 else skip fi p[j] >= p[i];j += 1;until j = n;delocal int j = n;i += 1;until i = n;delocal int i = n;%%;n += 5;p[0] += 2  p[1] += 4  p[3] += 3  p[4] += 1;%%;call code(p, n);%show;uncall code(p, n);%show;p[0] -= 1  p[1] -= 3  p[2] += 1  p[3] -= 2  p[4] -= 1;%%;uncall code(p, n);%show;%undo 4;%show",
+        "ok node 1 steps 1;ok node 2 steps 11;ok node 3 steps 245;at node 3;p[5] = 2 3 0 1 0;n = 5;ok node 4 steps 245;at node 4;p[5] = 2 4 0 3 1;n = 5;ok node 5 steps 11;ok node 6 steps 245;at node 6;p[5] = 1 2 3 4 0;n = 5;undid 4;at node 2;p[5] = 2 4 0 3 1;n = 5;",
     ),
 ];
 
@@ -302,6 +314,43 @@ const STACKS: [(&str, &str); 5] = [
 #[test]
 fn runs_stacks_and_locals(rt: HostRuntime) -> Result<(), Fail> {
     writes(&rt, rt.alloc(), &STACKS)
+}
+
+/// Procedures: calls forth and back, a procedure that is defined anew, `main`, a recursion that never ends, and what is listed.
+const PROCEDURES: [(&str, &str); 7] = [
+    (
+        "int x1 int x2 int n procedure fib(int x1, int x2, int n) if n = 0 then x1 += 1 x2 += 1 else n -= 1 call fib(x1, x2, n) x1 += x2 x1 ^= x2 x2 ^= x1 x1 ^= x2 fi x1 = x2;%%;n += 4;%%;call fib(x1, x2, n);%show;uncall fib(x1, x2, n);%show;%undo 2;%show",
+        "ok node 1 steps 1;ok node 2 steps 3;ok node 3 steps 85;at node 3;x1 = 5;x2 = 8;n = 0;ok node 4 steps 85;at node 4;x1 = 0;x2 = 0;n = 4;undid 2;at node 2;x1 = 0;x2 = 0;n = 4;",
+    ),
+    (
+        "int y procedure p(int x) x += 1;%%;call p(y);%%;procedure p(int x) x += 2;%%;call p(y);%show;%undo 2;%show;%list",
+        "ok node 1 steps 1;ok node 2 steps 7;ok node 3 steps 1;ok node 4 steps 7;at node 4;y = 3;undid 2;at node 2;y = 1;procedure p(int x) x += 1;",
+    ),
+    (
+        "procedure main() int x x += (-2147483647 - 1) / -1;%show",
+        "ok node 1 steps 3;at node 1;x = -2147483648;",
+    ),
+    (
+        "int y procedure p(int x) x += 1;%%;call p(y);%%;procedure p(int x) x += 2;%%;uncall p(y);%show",
+        "ok node 1 steps 1;ok node 2 steps 7;ok node 3 steps 1;ok node 4 steps 7;at node 4;y = -1;",
+    ),
+    (
+        "int y call p(y) procedure p(int x) call p(x);%show",
+        "fault 60 TooDeep after 16384;at node 0;",
+    ),
+    (
+        "%list;procedure zero() skip procedure p1(int x) x += 1 procedure Last(stack s) skip;%list;procedure p1(int y) y += 2;%list ",
+        "ok node 1 steps 1;procedure Last(stack s) skip;procedure p1(int x) x += 1;procedure zero() skip;ok node 2 steps 1;procedure Last(stack s) skip;procedure p1(int y) y += 2;procedure zero() skip;",
+    ),
+    (
+        "procedure p(int x, int z) skip;%%;procedure p(int x, int z[]) skip;%list;uncall q();%%;call p();%%;int y call p(y, y)",
+        "ok node 1 steps 1;refused 47 ChangedParameters at 10..11;procedure p(int x, int z) skip;refused 41 Unknown at 7..8;refused 45 Arity at 5..6;refused 44 SameArgument at 16..17;",
+    ),
+];
+
+#[test]
+fn runs_procedures(rt: HostRuntime) -> Result<(), Fail> {
+    writes(&rt, rt.alloc(), &PROCEDURES)
 }
 
 /// Lines, commands and what is gathered between them.

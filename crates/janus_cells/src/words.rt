@@ -27,7 +27,7 @@ pub fn steps_of<'a, S: AsStr>(alloc: Global, words: &'a [S]) -> Result<u64, Erro
         .help("How many steps each cell may take, from 1 to 1000000000000");
     let command = Command::new(alloc, "janus-cells")
         .about(
-            "Runs Janus cells with undo, redo, goto and show, line by line, from standard input. A cell that has not ended after N steps is interrupted.",
+            "Runs Janus cells with undo, redo, goto, show and list, line by line, from standard input. A cell that has not ended after N steps is interrupted.",
         )
         .arg(steps)?;
     let matches = command.try_get_matches_from(words)?;
