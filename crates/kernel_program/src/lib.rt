@@ -1,21 +1,15 @@
-//! The kernel as a program over five TCP sockets: `janus-kernel`, over its command line and its two output streams.
+//! The program `janus-kernel`, over the words of its command line and its two output streams.
 //!
-//! [`kernel_main`] is the program, with its status. It reads the connection file, binds the sockets, starts the threads, writes `ready`, serves until a shutdown was answered,
-//! and joins every thread. A [`House`](house::House) is what all threads share; a place accepts a connection, serves it to its end and accepts again: 32 on each socket. Those of
-//! shell and control have a pass of the hall and a ringer's seat each; on iopub a second thread shows the broadcasts while the place hears.
-//!
-//! No contract says what a socket gives or takes, nor that a thread runs, that a waiting one wakes or that the end comes.
+//! [`kernel_main`] reads a connection file, binds the five sockets that it names, serves them until a shutdown, and answers the program's
+//! status. To the layer above this crate promises that the words run the program exactly where clap finds one FILE in them (`file_of`), that each
+//! reason for which it does not run has its status (specs/Status.antt), and safety; what sockets and files do, no contract can say. The
+//! connection file is that of Jupyter's page on kernels ("Connection files").
 #![tactic(auto)]
 
-mod doors;
-mod end;
-mod house;
-mod place;
+mod fault;
+mod opening;
 mod program;
-mod start;
-mod status;
-mod visit;
 mod words;
-mod worker;
 
-pub use program::kernel_main;
+pub use fault::ProgramFault;
+pub use program::{kernel_main, refuse_unread_words};

@@ -1,24 +1,22 @@
-//! The program over its command line and its two output streams.
-ghost use Rattle.std.specs.Prelude.{◌≡◌};
+//! The program over the words of its command line.
+ghost use Rattle.std.specs.Prelude.{◌≡◌, ◌<◌};
 
-use crate::doors::Doors;
-use crate::end::serve_all;
-use crate::house::{House, PLACES};
-use crate::start::desks_of;
-use crate::status::StartFault;
-use crate::words::{Refused, path_of, tell};
-use crate::worker::Worker;
-use jupyter_msg::Connection;
-use kernel_bell::Bell;
+use crate::fault::ProgramFault;
+use crate::opening::{connection_of, listeners_of};
+use crate::words::{file_of, unread_words_status, words_status};
+use clap::Error;
+use kernel_ask::Comms;
+use kernel_bell::{Bell, RINGERS};
 use kernel_core::Kernel;
-use kernel_hall::{Comms, Hall};
-use rand_chacha::ChaCha20Rng;
+use kernel_hall::Hall;
+use kernel_places::{Listeners, Seats, Service, serve_all};
+use rand::make_rng;
+use rand::rngs::StdRng;
 use stamp_texts::session_name;
-use std::alloc::{AllocError, Global};
+use std::alloc::Global;
 use std::convert::AsStr;
-use std::fs;
-use std::io::Write;
-use std::marker::{Brand, Send};
+use std::io::{ErrorKind, Write};
+use std::marker::Brand;
 use std::net::{Net, TcpListener, TcpStream};
 use std::random::RandomSource;
 use std::rt::Files;
@@ -27,58 +25,52 @@ use std::sync::ledger::{Blank, Ledger};
 use std::thread::Threads;
 use std::time::Clock;
 
-/// So many parts the ledger of the posts has: one for each pass, and one beside them.
-const PARTS: u64 = 65_537;
+/// The status of a program that was shut down, or told its help.
+const DONE: u8 = 0;
 
-/// Reads the connection file.
-fn read_file<R: Files>(rt: &R, alloc: Global, path: &str) -> Result<Connection, StartFault> {
-    match fs::read(&(rt, &alloc), path) {
-        Ok(octets) => match Connection::read(alloc, &octets) {
-            Ok(file) => Ok(file),
-            Err(fault) => Err(StartFault::of_file(fault)),
-        },
-        Err(error) => Err(StartFault::of_reading(error.kind())),
-    }
+/// The name of the kernel's session, drawn from the system's random numbers.
+fn new_session<R: RandomSource>(rt: &R, alloc: Global) -> Result<String, ProgramFault> {
+    let Ok(made) = make_rng::<StdRng, R>(rt) else {
+        return Err(ProgramFault::Memory);
+    };
+    let mut rng = made;
+    Ok(session_name(alloc, &mut rng)?)
 }
 
-/// The name of a new session. The only error is want of memory, or of random octets.
-fn new_session<R: RandomSource>(rt: &R, alloc: Global) -> Result<String, AllocError> {
-    let generator: Result<ChaCha20Rng, _> = rand::make_rng(rt);
-    match generator {
-        Ok(mut rng) => session_name(alloc, &mut rng),
-        Err(_) => Err(AllocError),
-    }
-}
-
-/// Serves a hall round a new kernel. False where a thread can't be made; the only error is want of memory.
-fn serve_hall<W: Ledger + Send + Sync, L: Ledger + Send + Sync, R, O: Write>(
+/// Builds a new kernel and all that its places share, and serves these sockets until a shutdown.
+fn serve_new_kernel<W: Ledger + Send + Sync, L: Ledger + Send + Sync, R, O: Write>(
     rt: &R,
     alloc: Global,
     writes: Blank,
     posts: Blank,
-    doors: &Doors,
-    key: String,
+    listeners: &Listeners,
+    key: Vec<u8>,
     out: &mut O,
-) -> Result<bool, AllocError>
+) -> Result<(), ProgramFault>
 where
     R: RandomSource + Threads + Wait + Clock + Sync,
-    requires writes_name { writes.name ≡ W.name }
-    requires writes_parts { (writes.parts ≡ 1) × (writes.parts ≡ W.parts) }
-    requires posts_name { posts.name ≡ L.name }
-    requires posts_parts { (posts.parts ≡ 65537) × (posts.parts ≡ L.parts) }
+    requires writes { (writes.name ≡ W.name) × (writes.parts ≡ W.parts) × (0 < W.parts) }
+    requires posts { (posts.name ≡ L.name) × (posts.parts ≡ 65537) × (posts.parts ≡ L.parts) }
 {
     let session = new_session(rt, alloc)?;
     let kernel = Kernel::<W>::new(alloc, writes)?;
-    let (bell, runner, seats) = Bell::new(alloc, 2 * PLACES)?;
+    let (bell, runner, ringers) = Bell::new(alloc, RINGERS)?;
     let hall = Hall::<W, L>::new(alloc, posts, kernel, Comms::new(alloc), bell);
-    let house = House::new(alloc, key, session, hall)?;
-    let desks = desks_of(rt, &house, seats)?;
-    let worker = Worker::new(&house.hall, runner);
-    Ok(serve_all(rt, &house, doors, worker, desks, out))
+    let service = Service::new(alloc, session, key, hall)?;
+    let seats = Seats { runner, ringers };
+    match serve_all(rt, &service, listeners, seats, out) {
+        Ok(true) => Ok(()),
+        _ => Err(ProgramFault::Memory),
+    }
 }
 
-/// Serves the sockets of a connection file until a shutdown was answered.
-fn serve_file<R, O: Write>(rt: &R, alloc: Global, path: &str, out: &mut O) -> Result<(), StartFault>
+/// Serves the sockets that a connection file names until a shutdown.
+fn serve_file<R, O: Write>(
+    rt: &R,
+    alloc: Global,
+    path: &str,
+    out: &mut O,
+) -> Result<(), ProgramFault>
 where
     R: Net<Listener = TcpListener, Stream = TcpStream>
         + Files
@@ -88,54 +80,53 @@ where
         + Clock
         + Sync,
 {
-    let file = read_file(rt, alloc, path)?;
-    let doors = Doors::open(rt, &file)?;
-    let (writes, posts) = (Blank::new(1), Blank::new(PARTS));
-    match serve_hall::<Brand, Brand, R, O>(rt, alloc, writes, posts, &doors, file.key, out) {
-        Ok(true) => Ok(()),
-        _ => Err(StartFault::NoMemory),
+    let file = connection_of(rt, alloc, path)?;
+    let listeners = listeners_of(rt, &file)?;
+    let key = file.key.as_bytes().to_vec(alloc)?;
+    serve_new_kernel::<Brand, Brand, R, O>(
+        rt,
+        alloc,
+        Blank::new(1),
+        Blank::new(65_537),
+        &listeners,
+        key,
+        out,
+    )
+}
+
+/// Tells why words run nothing: the help to the output, all else to the errors. A fault of the streams is passed over.
+fn refuse_words<O: Write, E: Write>(error: &Error, out: &mut O, err: &mut E) -> u8 {
+    if error.use_stderr() {
+        let _ = write!(err, "{error}");
+        let _ = err.flush();
+    } else {
+        let _ = write!(out, "{error}");
+        let _ = out.flush();
     }
+    words_status(error.kind())
 }
 
-/// Writes why the program ends without having served. A fault of the stream is passed over.
-fn tell_fault<E: Write>(err: &mut E, fault: StartFault) {
-    let _ = match fault {
-        StartFault::BadFile(setting) => {
-            writeln!(err, "janus-kernel: connection file: {}", setting.name())
-        }
-        StartFault::NotBound(setting) => {
-            writeln!(err, "janus-kernel: cannot bind {}", setting.name())
-        }
-        StartFault::NoMemory => writeln!(err, "janus-kernel: no memory"),
-    };
-    let _ = err.flush();
-}
-
-/// Writes the help, or why the words ask for no kernel, and answers the status.
-fn refuse<O: Write, E: Write>(refused: &Refused, out: &mut O, err: &mut E) -> u8 {
-    match refused {
-        Refused::Help(text) => {
-            tell(out, text);
-            0
-        }
-        Refused::Wrong(text) => {
-            tell(err, text);
-            2
-        }
-        Refused::Memory => {
-            tell(err, "janus-kernel: no memory\n");
-            1
-        }
+/// Tells why the words of the command line could not be had, and answers the program's status.
+pub fn refuse_unread_words<E: Write>(kind: ErrorKind, err: &mut E) -> u8 {
+    if kind == ErrorKind::OutOfMemory {
+        ProgramFault::Memory.tell(err);
+    } else {
+        let _ = writeln!(
+            err,
+            "error: invalid UTF-8 was detected in one or more arguments"
+        );
     }
+    unread_words_status(kind)
 }
 
-/// Runs the program over the words of its command line, its name and the path of the connection file, and answers its status: 0 after a shutdown, and for
-/// `--help`; 1 where there is no memory for the start, or no thread; 2 where the words or the connection file are wrong; 3 where a socket can't be bound.
-/// It writes `ready` to `out` once it serves; why it does not goes to `err`. A fault of these two is passed over.
-pub fn kernel_main<'a, R, S: AsStr, O: Write, E: Write>(
+/// The program `janus-kernel`, over the words of its command line, of which the first is its name, and its two output streams: it serves
+/// the sockets of the connection file until a shutdown, and answers its status. 0 after a shutdown, and for help; 2 for wrong words or a
+/// wrong connection file, 3 where a socket can't be bound, 1 where there is no memory at the start, each with a line to the errors. A
+/// fault of the two streams is passed over.
+pub fn kernel_main<R, S: AsStr, O: Write, E: Write>(
     rt: &R,
     alloc: Global,
-    words: &'a [S],
+    words: &[S],
     out: &mut O,
     err: &mut E,
 ) -> u8
@@ -148,14 +139,14 @@ where
         + Clock
         + Sync,
 {
-    let path = match path_of(alloc, words) {
+    let path = match file_of(alloc, words) {
         Ok(path) => path,
-        Err(refused) => return refuse(&refused, out, err),
+        Err(error) => return refuse_words(&error, out, err),
     };
     match serve_file(rt, alloc, path, out) {
-        Ok(()) => 0,
+        Ok(()) => DONE,
         Err(fault) => {
-            tell_fault(err, fault);
+            fault.tell(err);
             fault.status()
         }
     }

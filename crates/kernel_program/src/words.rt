@@ -1,74 +1,53 @@
-//! The command line, and lines that are written.
+//! The words of the command line.
+ghost use Rattle.std.specs.Prelude.{◌≡◌, ◌≢◌};
+ghost use Rattle.kernel_program.specs.Status.{words_status as words_status_of};
+
 use clap::error::ErrorKind;
 use clap::{Arg, Command, Error};
-use std::alloc::{AllocError, Global};
+use std::alloc::Global;
 use std::convert::AsStr;
-use std::io::Write;
+use std::io::ErrorKind as ReadErrorKind;
 
-/// The id of the connection file.
-const FILE: &str = "file";
-
-/// Why the words ask for no kernel, and what is printed for it.
-#[derive(Drop)]
-pub(crate) enum Refused {
-    /// They ask for the help.
-    Help(String),
-    /// They are wrong, for this reason.
-    Wrong(String),
-    /// There was no memory for them.
-    Memory,
-}
-
-/// The program's command line.
-fn command<'a>(alloc: Global) -> Result<Command<'a>, AllocError> {
-    let file = Arg::new(alloc, FILE)
-        .required(true)
-        .value_name("FILE")
-        .help("The connection file, by which frontends find the kernel");
-    Command::new(alloc, "janus-kernel")
-        .bin_name("janus-kernel")?
-        .about(
-            "Serves a kernel of Janus to the frontends of Jupyter, over the sockets that a connection file names.",
-        )
-        .arg(file)
-}
-
-/// What is printed of an error of `clap`. Where there is no memory for its text, want of memory.
-fn refused_by(alloc: Global, error: &Error) -> Refused {
-    let kind = error.kind();
-    if kind == ErrorKind::OutOfMemory {
-        return Refused::Memory;
-    }
-    let text: Result<String, AllocError> = format!(in alloc; "{error}");
-    match text {
-        Err(_) => Refused::Memory,
-        Ok(text) => match kind {
-            ErrorKind::DisplayHelp | ErrorKind::DisplayVersion => Refused::Help(text),
-            _ => Refused::Wrong(text),
-        },
-    }
-}
-
-/// The path of the connection file by the words of a command line: the program's name, and the path.
+/// The connection file that the words of a command line name: the program's name, and FILE. `--help` and `-h` are refused with the help.
 ///
 /// # Errors
 ///
-/// What is printed instead: the help where `--help` or `-h` asks for it, or what is wrong with the words.
-pub(crate) fn path_of<'a, S: AsStr>(alloc: Global, words: &'a [S]) -> Result<&'a str, Refused> {
-    let Ok(command) = command(alloc) else {
-        return Err(Refused::Memory);
-    };
-    match command.try_get_matches_from(words) {
-        Ok(matches) => match matches.get_str(FILE) {
-            Some(path) => Ok(path),
-            None => unreachable!(),
-        },
-        Err(error) => Err(refused_by(alloc, &error)),
+/// What is wrong with the words, that they ask for help, or want of memory.
+pub(crate) fn file_of<'a, S: AsStr>(alloc: Global, words: &'a [S]) -> Result<&'a str, Error> {
+    let file = Arg::new(alloc, "FILE").required(true).help(
+        "The connection file, by which Jupyter tells a kernel its ports and its key",
+    );
+    let command = Command::new(alloc, "janus-kernel")
+        .bin_name("janus-kernel")?
+        .about(
+            "Serves a kernel for Janus, whose undo is exact, to the Jupyter frontends of a connection file.",
+        )
+        .arg(file)?;
+    let matches = command.try_get_matches_from(words)?;
+    match matches.get_str("FILE") {
+        Some(file) => Ok(file),
+        None => Ok(""),
     }
 }
 
-/// Writes a text. A fault of the stream is passed over.
-pub(crate) fn tell<O: Write>(out: &mut O, text: &str) {
-    let _ = out.write_all(text.as_bytes());
-    let _ = out.flush();
+/// The exit status of words that run nothing: 0 for help, 1 where there was no memory for them, 2 for wrong ones.
+pub(crate) fn words_status(kind: ErrorKind) -> u8
+    ensures { result ≡ words_status_of kind }
+{
+    match kind {
+        ErrorKind::DisplayHelp | ErrorKind::DisplayVersion => 0,
+        ErrorKind::OutOfMemory => 1,
+        _ => 2,
+    }
+}
+
+/// The exit status where the words could not be had: 1 where there was no memory for them, else 2.
+pub(crate) fn unread_words_status(kind: ReadErrorKind) -> u8
+    ensures memory { kind ≡ ReadErrorKind.OutOfMemory → result ≡ 1 }
+    ensures wrong { kind ≢ ReadErrorKind.OutOfMemory → result ≡ 2 }
+{
+    match kind {
+        ReadErrorKind::OutOfMemory => 1,
+        _ => 2,
+    }
 }

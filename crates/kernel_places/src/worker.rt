@@ -1,4 +1,4 @@
-//! The worker.
+//! The worker, which runs the cells.
 ghost use Rattle.std.specs.Prelude.{◌≡◌};
 
 use kernel_bell::RunnerSeat;
@@ -6,7 +6,7 @@ use kernel_hall::{Gate, Hall, Moment, work};
 use std::sync::Wait;
 use std::sync::ledger::Ledger;
 
-/// Holds nothing up.
+/// A gate that holds nothing up.
 #[derive(Drop)]
 struct OpenGate;
 
@@ -18,22 +18,22 @@ impl Gate for OpenGate {
 #[derive(Drop)]
 pub(crate) struct Worker<'a, W: Ledger, L: Ledger> {
     hall: &'a Hall<W, L>,
-    runner: RunnerSeat,
-    ghost own: { runner.bell ≡ hall.now },
+    seat: RunnerSeat,
+    ghost own: { seat.bell ≡ hall.now },
 }
 
 impl<'a, W: Ledger, L: Ledger> Worker<'a, W, L> {
-    /// The worker of a hall, with the seat of its bell.
-    pub(crate) fn new(hall: &'a Hall<W, L>, runner: RunnerSeat) -> Worker<'a, W, L>
-        requires { runner.bell ≡ hall.now }
+    /// The worker of a hall.
+    pub fn new(hall: &'a Hall<W, L>, seat: RunnerSeat) -> Worker<'a, W, L>
+        requires { seat.bell ≡ hall.now }
     {
-        Worker { hall, runner }
+        Worker { hall, seat }
     }
 
     /// Takes turns until the hall is shut and nothing is left.
-    pub(crate) fn run<R: Wait>(self, rt: &R) {
-        let Worker { hall, runner } = self;
+    pub fn run<R: Wait>(self, rt: &R) {
+        let Worker { hall, seat } = self;
         let mut gate = OpenGate;
-        work(hall, rt, runner, &mut gate);
+        work(hall, rt, seat, &mut gate);
     }
 }
