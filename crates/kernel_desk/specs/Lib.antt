@@ -1,0 +1,2 @@
+pub mod Visitor
+pub mod Quiet

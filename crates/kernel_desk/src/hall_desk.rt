@@ -1,0 +1,183 @@
+//! The desk before a hall.
+ghost use Rattle.std.specs.Prelude.{◌≡◌, ℕ, false, IfOk};
+ghost use Rattle.kernel_desk.specs.Visitor.{AreRead};
+
+use crate::date::present_date;
+use kernel_bell::RingerSeat;
+use kernel_board::{BoardFault, Broadcast, KEPT, MOST, Place, Read};
+use kernel_core::{Job, PostFault};
+use kernel_hall::{Answer, Ask, CommChange, Done, Hall, HallFault, Pass, Wish};
+use kernel_iopub::Bulletin;
+use kernel_message::Stamp;
+use kernel_session::Desk;
+use std::alloc::{AllocError, Global};
+use std::marker::Model;
+use std::sync::Wait;
+use std::sync::ledger::Ledger;
+use std::time::Clock;
+
+/// The desk of one connection at a time before a hall, with a pass of the hall and a ringer's seat of the hall's bell. Contracts see what it holds.
+#[derive(Drop)]
+pub struct HallDesk<'a, W: Ledger, L: Ledger, R: Wait + Clock> {
+    rt: &'a R,
+    hall: &'a Hall<W, L>,
+    bulletin: &'a Bulletin,
+    /// The pass, except while a post has it.
+    pass: Option<Pass<L>>,
+    seat: RingerSeat,
+    /// Where the next broadcast is read.
+    place: Place,
+    was_shut: bool,
+}
+
+impl<'a, W: Ledger, L: Ledger, R: Wait + Clock> Model for HallDesk<'a, W, L, R> {
+    ghost use Rattle.std.specs.Prelude.{◌≡◌, true, is_some};
+    ghost use Rattle.kernel_desk.specs.Visitor.{Visitor, held};
+
+    ghost Value = { Visitor };
+
+    ghost view = { λ d. record { pass = held d.pass; seat = d.seat; place = d.place.number; was_shut = d.was_shut } };
+
+    ghost invariant = { λ d. (is_some d.pass ≡ true) × (d.seat.bell ≡ d.hall.now) };
+}
+
+impl<'a, W: Ledger, L: Ledger, R: Wait + Clock> HallDesk<'a, W, L, R> {
+    /// The desk of a pass of the hall and a seat of its bell. It reads the broadcasts that are published from now on.
+    pub fn new(
+        rt: &'a R,
+        hall: &'a Hall<W, L>,
+        bulletin: &'a Bulletin,
+        pass: Pass<L>,
+        seat: RingerSeat,
+    ) -> HallDesk<'a, W, L, R>
+        requires own { seat.bell ≡ hall.now }
+        ensures pass { result.pass ≡ pass }
+        ensures seat { result.seat ≡ seat }
+        ensures open { result.was_shut ≡ false }
+    {
+        HallDesk {
+            rt,
+            hall,
+            bulletin,
+            pass: Some(pass),
+            seat,
+            place: bulletin.join(rt),
+            was_shut: false,
+        }
+    }
+
+    /// Whether a shutdown came to this desk.
+    pub fn was_shut(&self) -> bool
+        ensures { result ≡ self.now.was_shut }
+    {
+        self.was_shut
+    }
+}
+
+/// Reads once from a place on, behind what was read before. Whether more may come, and the place behind it.
+fn read_more<R: Wait>(
+    rt: &R,
+    bulletin: &Bulletin,
+    kept: &mut Vec<Broadcast>,
+    place: Place,
+) -> Result<(bool, Place), AllocError>
+    ensures { IfOk result (λ r. (from : ℕ) → AreRead from kept.old.items place.number → AreRead from kept.new.items r.1.number) }
+{
+    match bulletin.read_from(rt, place) {
+        Ok(Read::Lagged(oldest)) => Ok((true, oldest)),
+        Ok(Read::Got(mut got, next)) => {
+            let is_more = !got.is_empty();
+            kept.append(&mut got)?;
+            Ok((is_more, next))
+        }
+        Err(BoardFault::Memory) => Err(AllocError),
+    }
+}
+
+/// All that the board keeps from a place on, and the place behind it. What is no longer kept is left out.
+fn read_all<R: Wait>(
+    rt: &R,
+    bulletin: &Bulletin,
+    alloc: Global,
+    from: Place,
+) -> Result<(Vec<Broadcast>, Place), AllocError>
+    ensures { IfOk result (λ r. AreRead from.number r.0.items r.1.number) }
+{
+    let mut kept: Vec<Broadcast> = Vec::new(alloc);
+    let mut place = from;
+    // So many reads give all that is kept at once.
+    for _ in 0..KEPT / MOST {
+        let (is_more, next) = read_more(rt, bulletin, &mut kept, place)?;
+        place = next;
+        if !is_more {
+            break;
+        }
+    }
+    Ok((kept, place))
+}
+
+impl<W: Ledger, L: Ledger, R: Wait + Clock> Desk for HallDesk<'_, W, L, R> {
+    ghost use Rattle.kernel_desk.specs.Visitor.{visitor_leads};
+
+    ghost leads = { visitor_leads };
+
+    /// Where the post is refused, the desk holds the pass as before.
+    fn job(&mut self, job: Job, wishes: Vec<Wish>) -> Result<Done, PostFault> {
+        let Some(pass) = self.pass.take() else {
+            unreachable!()
+        };
+        match self.hall.post(self.rt, pass, job, wishes) {
+            Ok((ticket, pass)) => {
+                self.pass = Some(pass);
+                Ok(self.hall.wait(self.rt, &ticket))
+            }
+            Err((fault, pass)) => {
+                self.pass = Some(pass);
+                Err(fault)
+            }
+        }
+    }
+
+    fn ask(&mut self, ask: Ask) -> Result<Answer, HallFault> {
+        let Some(pass) = &self.pass else {
+            unreachable!()
+        };
+        self.hall.ask(self.rt, pass, ask)
+    }
+
+    fn comm(&mut self, change: CommChange) -> Result<bool, HallFault> {
+        let Some(pass) = &self.pass else {
+            unreachable!()
+        };
+        self.hall.comm(self.rt, pass, change)
+    }
+
+    fn ring(&mut self) {
+        let HallDesk { hall, seat, .. } = self;
+        let _serial = hall.bell().ring(seat);
+    }
+
+    fn shut(&mut self) {
+        self.was_shut = true;
+        self.hall.shut(self.rt);
+    }
+
+    fn publish(&mut self, broadcast: Broadcast) {
+        self.bulletin.publish(self.rt, broadcast);
+    }
+
+    /// What the board keeps from the desk's place on, which moves behind it.
+    fn broadcasts(&mut self, alloc: Global) -> Result<Vec<Broadcast>, AllocError> {
+        let (kept, place) = read_all(self.rt, self.bulletin, alloc, self.place)?;
+        self.place = place;
+        Ok(kept)
+    }
+
+    /// The present date, where its year is 0 to 9999; else the date stays.
+    fn date(&mut self, stamp: &mut Stamp) {
+        let Some(date) = present_date(self.rt) else {
+            return;
+        };
+        stamp.date = date;
+    }
+}

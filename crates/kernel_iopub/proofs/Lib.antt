@@ -1,0 +1,2 @@
+mod SendLemmas
+mod RoundLemmas

@@ -1,0 +1,58 @@
+//! The broadcasts of a kernel, and who waits for more.
+ghost use Rattle.std.specs.Prelude.{IfOk};
+ghost use Rattle.kernel_board.specs.Log.{Log, IsLog};
+ghost use Rattle.kernel_board.specs.Reads.{IsRead};
+
+use crate::signal::Signal;
+use kernel_board::{Board, BoardFault, Broadcast, Place, Read};
+use std::alloc::{AllocError, Global};
+use std::sync::Wait;
+
+/// The board, and the count that rises with each broadcast.
+#[derive(Drop)]
+pub struct Bulletin {
+    board: Board,
+    signal: Signal,
+}
+
+impl Bulletin {
+    /// A board with nothing on it.
+    ///
+    /// # Errors
+    ///
+    /// `AllocError` where there is no memory.
+    pub fn new(alloc: Global) -> Result<Bulletin, AllocError> {
+        let board = Board::new(alloc)?;
+        Ok(Bulletin {
+            board,
+            signal: Signal::new(),
+        })
+    }
+
+    /// Appends a broadcast, and then wakes all who wait for one. It takes no memory.
+    pub fn publish<R: Wait>(&self, rt: &R, broadcast: Broadcast) {
+        let _number = self.board.publish(rt, broadcast);
+        self.signal.raise(rt);
+    }
+
+    /// The place after the last broadcast.
+    pub fn join<R: Wait>(&self, rt: &R) -> Place {
+        self.board.join(rt)
+    }
+
+    /// Reads on from a place.
+    ///
+    /// # Errors
+    ///
+    /// `Memory`, only where there are broadcasts to give.
+    pub fn read_from<R: Wait>(&self, rt: &R, place: Place) -> Result<Read, BoardFault>
+        ensures { IfOk result (λ r. (k : Log) × IsLog k × IsRead k place.number r) }
+    {
+        self.board.read_from(rt, place)
+    }
+
+    /// The count that rises with each broadcast, and whenever else there is something to look at.
+    pub fn signal(&self) -> &Signal {
+        &self.signal
+    }
+}

@@ -1,0 +1,120 @@
+//! The two halves of a subscriber's connection.
+ghost use Rattle.std.specs.Prelude.{List, IfOk, OnOk, OnErr};
+ghost use Rattle.std.specs.List.{flat_map};
+ghost use Rattle.std.specs.Io.KnownBytes.{Appends};
+ghost use Rattle.zmtp_wire.specs.Message.{message_octets};
+ghost use Rattle.kernel_board.specs.Frames.{Frames};
+ghost use Rattle.kernel_iopub.specs.Round.{SentSome, IsPiece};
+
+use crate::bulletin::Bulletin;
+use crate::fault::SubscriberFault;
+use crate::send::send_message;
+use crate::subscriber::{Subscriber, fall_silent, look, take, wanted};
+use kernel_board::{Broadcast, Place, Read as BoardRead};
+use std::alloc::Global;
+use std::io::{Read, Write};
+use std::sync::{Mutex, Wait};
+
+/// How many octets are read at once, at most.
+const ROOM: usize = 512;
+
+/// Feeds the peer all that comes, up to the end of the input.
+fn hear_all<R: Wait, I: Read>(
+    rt: &R,
+    bulletin: &Bulletin,
+    shared: &Mutex<Subscriber>,
+    reader: &mut I,
+) -> Result<(), SubscriberFault> {
+    let mut room = [0u8; ROOM];
+    for _ in 0..u64::MAX {
+        let count = match reader.read(&mut room) {
+            Ok(0) => return Ok(()),
+            Ok(count) => count,
+            Err(_) => return Err(SubscriberFault::Read),
+        };
+        take(rt, bulletin, shared, &room[..count])?;
+        bulletin.signal().raise(rt);
+    }
+    Err(SubscriberFault::Read)
+}
+
+/// The reading half: it feeds the peer all that comes, and then tells the other half that nothing more does.
+pub(crate) fn hear<R: Wait, I: Read>(
+    rt: &R,
+    bulletin: &Bulletin,
+    shared: &Mutex<Subscriber>,
+    reader: &mut I,
+) -> Result<(), SubscriberFault> {
+    let heard = hear_all(rt, bulletin, shared, reader);
+    fall_silent(rt, shared);
+    bulletin.signal().raise(rt);
+    heard
+}
+
+/// Writes broadcasts in turn: all of them, or some and a beginning of the next.
+fn send_all<W: Write>(
+    alloc: Global,
+    writer: &mut W,
+    broadcasts: &[Broadcast],
+) -> Result<(), SubscriberFault>
+    ensures ok { OnOk result (Appends (W.contents writer.old) (W.contents writer.new) (flat_map message_octets broadcasts.now)) }
+    ensures err { OnErr result (SentSome (W.contents writer.old) (W.contents writer.new) (flat_map message_octets broadcasts.now)) }
+{
+    for broadcast in broadcasts {
+        match send_message(alloc, writer, broadcast.frames()) {
+            Ok(()) => {}
+            Err(fault) => return Err(fault),
+        }
+    }
+    Ok(())
+}
+
+/// Reads the board once from a place, and writes what the peer wants of that. The place behind it.
+fn write_from<R: Wait, W: Write>(
+    rt: &R,
+    alloc: Global,
+    bulletin: &Bulletin,
+    shared: &Mutex<Subscriber>,
+    writer: &mut W,
+    place: Place,
+) -> Result<Place, SubscriberFault>
+    ensures { IfOk result (λ next. (kept : List Frames) × IsPiece place.number next.number kept
+        × Appends (W.contents writer.old) (W.contents writer.new) (flat_map message_octets kept)) }
+{
+    match bulletin.read_from(rt, place) {
+        Err(_) => Err(SubscriberFault::Memory),
+        Ok(BoardRead::Lagged(_)) => Err(SubscriberFault::Lagged),
+        Ok(BoardRead::Got(broadcasts, next)) => {
+            let kept = wanted(rt, alloc, shared, &broadcasts)?;
+            send_all(alloc, writer, &kept)?;
+            Ok(next)
+        }
+    }
+}
+
+/// The writing half: it writes what the peer wants from where it joined on, until nothing more comes from the peer and all was written.
+pub(crate) fn speak<R: Wait, W: Write>(
+    rt: &R,
+    alloc: Global,
+    bulletin: &Bulletin,
+    shared: &Mutex<Subscriber>,
+    writer: &mut W,
+) -> Result<(), SubscriberFault> {
+    let mut at: Option<Place> = None;
+    for _ in rt.forever() {
+        let seen = bulletin.signal().seen(rt);
+        let sight = look(rt, shared);
+        let before = at.or(sight.joined);
+        at = match before {
+            Some(place) => Some(write_from(rt, alloc, bulletin, shared, writer, place)?),
+            None => None,
+        };
+        if at == before {
+            if sight.is_silent {
+                return Ok(());
+            }
+            bulletin.signal().wait_past(rt, seen);
+        }
+    }
+    unreachable!()
+}

@@ -1,0 +1,67 @@
+//! The connections that are served.
+use crate::register::{Register, Stream};
+use std::alloc::{AllocError, Global};
+use std::net::Shutdown;
+use std::sync::atomic::{AtomicBool, Ordering};
+use std::sync::{Condvar, Mutex, Wait};
+use std::time::{Clock, Duration};
+
+/// The connections that are served at some places.
+#[derive(Drop)]
+pub struct Connections {
+    register: Mutex<Register>,
+    left: Condvar,
+    /// Whether the register is closed, for readers who don't wait for the lock.
+    is_closed: AtomicBool,
+}
+
+impl Connections {
+    /// No connections, at so many places.
+    ///
+    /// # Errors
+    ///
+    /// `AllocError` where there is no memory. No other call takes any.
+    pub fn new(alloc: Global, places: usize) -> Result<Connections, AllocError> {
+        let register = Register::new(alloc, places)?;
+        Ok(Connections {
+            register: Mutex::new(register),
+            left: Condvar::new(),
+            is_closed: AtomicBool::new(false),
+        })
+    }
+
+    /// Whether no more connections are let in.
+    pub fn is_closed(&self) -> bool {
+        self.is_closed.load(Ordering::SeqCst)
+    }
+
+    /// Enters a connection at a place. False where no more are let in.
+    pub fn enter<R: Wait>(&self, rt: &R, place: usize, stream: Stream) -> bool {
+        let mut register = self.register.lock(rt);
+        register.enter(place, stream)
+    }
+
+    /// Takes the connection at a place away.
+    pub fn leave<R: Wait>(&self, rt: &R, place: usize) {
+        let mut register = self.register.lock(rt);
+        register.leave(place);
+        drop(register);
+        self.left.notify_all();
+    }
+
+    /// Lets no more connections in, and shuts those that are there: for reading, so that each is still answered, or altogether.
+    pub fn close<R: Wait>(&self, rt: &R, how: Shutdown) {
+        self.is_closed.store(true, Ordering::SeqCst);
+        let mut register = self.register.lock(rt);
+        register.close(how);
+    }
+
+    /// Waits until none is there, or for so long.
+    pub fn wait_until_empty<R: Wait + Clock>(&self, rt: &R, most: Duration) {
+        let register = self.register.lock(rt);
+        drop(
+            self.left
+                .wait_timeout_while(rt, register, most, |register| !register.is_empty()),
+        );
+    }
+}

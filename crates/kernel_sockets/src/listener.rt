@@ -1,0 +1,50 @@
+//! A listening socket.
+use std::io;
+use std::net::{Net, Shutdown, TcpListener, TcpStream};
+use std::os::fd::OwnedFd;
+use std::time::Duration;
+
+/// A write that waits longer fails.
+const PATIENCE_SECONDS: u64 = 10;
+
+/// A listening socket that any thread can close while others wait at it.
+#[derive(Drop)]
+pub struct Listener {
+    listener: TcpListener,
+    /// The same socket once more, as one that can be shut down.
+    closer: TcpStream,
+}
+
+impl Listener {
+    /// Binds a port of an address.
+    ///
+    /// # Errors
+    ///
+    /// What the system refuses, and want of memory.
+    pub fn bind<R: Net<Listener = TcpListener, Stream = TcpStream>>(
+        rt: &R,
+        ip: &str,
+        port: u16,
+    ) -> io::Result<Listener> {
+        let listener = TcpListener::bind(rt, (ip, port))?;
+        let closer = TcpStream::from(OwnedFd::from(listener.try_clone()?));
+        Ok(Listener { listener, closer })
+    }
+
+    /// Waits for the next connection.
+    ///
+    /// # Errors
+    ///
+    /// That the socket is closed, and what else the system refuses.
+    pub fn accept(&self) -> io::Result<TcpStream> {
+        let (stream, _) = self.listener.accept()?;
+        stream.set_nodelay(true)?;
+        stream.set_write_timeout(Some(Duration::from_secs(PATIENCE_SECONDS)))?;
+        Ok(stream)
+    }
+
+    /// Refuses all that wait for a connection, and all that come later. On Linux a blocked `accept` ends by the shutdown of its socket.
+    pub fn close(&self) {
+        let _ = self.closer.shutdown(Shutdown::Both);
+    }
+}

@@ -1,0 +1,73 @@
+//! The register of the connections that are served.
+ghost use Rattle.std.specs.Prelude.{◌≡◌, ◌<◌, None, Some, true, false, IfOk, IsTrue, slice_set, length};
+
+use std::alloc::{AllocError, Global};
+use std::net::{Shutdown, TcpStream};
+use std::sync::Arc;
+
+/// A connection, shared by who serves it and the register.
+pub type Stream = Arc<TcpStream, Global>;
+
+/// Which connection is served at which place, and whether more may come.
+#[derive(Drop)]
+pub(crate) struct Register {
+    pub streams: Vec<Option<Stream>>,
+    pub is_closed: bool,
+}
+
+impl Register {
+    /// No connections, at so many places.
+    pub fn new(alloc: Global, places: usize) -> Result<Register, AllocError>
+        ensures open { IfOk result (λ r. r.is_closed ≡ false) }
+    {
+        let mut streams = Vec::with_capacity(alloc, places)?;
+        for _ in 0..places {
+            streams.push(None)?;
+        }
+        Ok(Register {
+            streams,
+            is_closed: false,
+        })
+    }
+
+    /// Enters a connection at a place. False, and nothing changes, where no more may come, or where there is no such place.
+    pub fn enter(&mut self, place: usize, stream: Stream) -> bool
+        ensures entered { IsTrue result → (self.old.is_closed ≡ false) × (place < length self.old.streams.items) }
+        ensures streams { IsTrue result → self.new.streams.items ≡ slice_set self.old.streams.items place (Some stream) }
+        ensures refused { result ≡ false → self.new.streams.items ≡ self.old.streams.items }
+        ensures closed { self.new.is_closed ≡ self.old.is_closed }
+    {
+        if self.is_closed || place >= self.streams.len() {
+            return false;
+        }
+        self.streams[place] = Some(stream);
+        true
+    }
+
+    /// Takes the connection at a place away.
+    pub fn leave(&mut self, place: usize)
+        ensures closed { self.new.is_closed ≡ self.old.is_closed }
+        ensures left { place < length self.old.streams.items → self.new.streams.items ≡ slice_set self.old.streams.items place None }
+    {
+        if place < self.streams.len() {
+            self.streams[place] = None;
+        }
+    }
+
+    /// Lets no more connections in, and shuts those that are there.
+    pub fn close(&mut self, how: Shutdown)
+        ensures closed { self.new.is_closed ≡ true }
+    {
+        self.is_closed = true;
+        for stream in &self.streams {
+            if let Some(stream) = stream {
+                let _ = stream.shutdown(how);
+            }
+        }
+    }
+
+    /// Whether no connection is there.
+    pub fn is_empty(&self) -> bool {
+        self.streams.iter().all(Option::is_none)
+    }
+}
