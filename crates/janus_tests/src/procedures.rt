@@ -1,7 +1,6 @@
 //! Which fault of calls and procedures is told.
 use janus_check::{CheckFault, Env, Kind, check};
-use janus_invert::{flatten, flatten_procedure, invert, invert_code};
-use janus_names::Names;
+use janus_invert::invert;
 use janus_syntax::token::Span;
 use janus_syntax::{parse_cell, print_cell};
 use std::alloc::{AllocError, Global};
@@ -149,42 +148,5 @@ fn inverts_calls(rt: HostRuntime) -> Result<(), Fail> {
         text.as_str(),
         "call q() uncall p(x, y) x -= 1 procedure q() skip call q()"
     );
-    Ok(())
-}
-
-#[test]
-fn flattens_a_procedure(rt: HostRuntime) -> Result<(), Fail> {
-    let alloc = rt.alloc();
-    let cell = parse_cell(
-        alloc,
-        "procedure r(int b, int c[], stack d) call t(b, d) b += c[0] procedure t(int e, stack f) uncall t(e, f)",
-    )?;
-    let mut names = Names::new(alloc);
-    for name in ["b", "c", "d", "r", "t", "e", "f"] {
-        names.add(name)?;
-    }
-    let procedure = cell.procedures.first().expect(&rt, "a procedure");
-    let flat = flatten_procedure(alloc, procedure, &names)?;
-    assert_eq!(rt; flat.name.number, 3);
-    assert_eq!(rt; flat.parameters.len(), 3);
-    assert_eq!(rt; flat.parameters[1].kind, Kind::Array);
-    assert_eq!(rt; flat.parameters[2].name.number, 2);
-    assert_eq!(rt; flat.body.statements.len(), 2);
-    let back = invert_code(alloc, &flat.body)?;
-    assert_eq!(rt; back.statements.len(), 2);
-    let found = match &flat.body.statements[0] {
-        janus_invert::Statement::Call(called, arguments) => called.number == 4
-            && arguments.len() == 2
-            && arguments[1].number == 2,
-        _ => false,
-    };
-    assert!(rt; found);
-    let turned = match &back.statements[0] {
-        janus_invert::Statement::Uncall(called, arguments) => called.number == 4
-            && arguments.len() == 2
-            && arguments[1].number == 2,
-        _ => false,
-    };
-    assert!(rt; turned);
     Ok(())
 }

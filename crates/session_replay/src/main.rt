@@ -20,16 +20,13 @@ use std::io;
 use std::marker::Brand;
 use std::sync::ledger::{Blank, Ledger};
 
-/// The date of each message.
-const DATE: [u8; 20] = *b"2025-01-01T00:00:00Z";
-
 /// The stamp of a connection.
 fn stamp(alloc: Global, connection: u64) -> Result<Stamp, AllocError> {
     Ok(Stamp {
         session: String::from_str(alloc, "k")?,
         connection,
         next: 0,
-        date: DATE,
+        date: *b"2025-01-01T00:00:00Z",
     })
 }
 
