@@ -37,7 +37,7 @@ after_up a up down (suc j) l =
     let f : j + 1 ≡ suc j = omega arith in
     ap stepped (after_up a up down j (omega arith)) ∙ step_up a (up - j) down j 0 (omega arith) ∙ rw (e, f) refl
 
-after_down : (a : Aim) (up down j : ℕ) → j ≤ down → after (travel_to a up down) (up + j) ≡ left_of a 0 (down - j) up j
+pub after_down : (a : Aim) (up down j : ℕ) → j ≤ down → after (travel_to a up down) (up + j) ≡ left_of a 0 (down - j) up j
 after_down a up down zero l =
     let e : up + 0 ≡ up = omega arith in
     let f : up - up ≡ 0 = omega arith in

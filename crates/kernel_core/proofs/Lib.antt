@@ -33,3 +33,4 @@ pub mod Counting
 pub mod Writing
 pub mod Depths
 pub mod Rows
+pub mod OneAccount

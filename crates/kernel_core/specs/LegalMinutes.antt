@@ -45,6 +45,10 @@ abbrev pub Give : Account → List Entry → Account → Type 0
 Give old [] new = new ≡ old
 Give old (e ∷ entries) new = (mid : Account) × Tells old e mid × Give mid entries new
 
+-- Entries give one account only.
+abbrev pub OneAccount : Type 0
+OneAccount = (old : Account) (entries : List Entry) (a b : Account) → Give old entries a → Give old entries b → a ≡ b
+
 -- the open job is the earliest that has not ended: it has raised the counter with its begin, and stands where its slices have led it
 abbrev pub IsOpen : Account → List Request → Machine → Type 0
 IsOpen a [] m = ⊥

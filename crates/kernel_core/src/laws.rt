@@ -4,7 +4,7 @@ ghost use Rattle.kernel_core.specs.Determined.{StepIsDetermined, RunIsDetermined
 ghost use Rattle.kernel_core.specs.Theorems.{NewIsLegal, StaysLegal, GoesBackForItsReason, JobsEnd, OnlyAskedSlicesStop, UndoesAll, ShutRefusesJobs};
 ghost use Rattle.kernel_core.specs.Travels.{UndoGoesUp, RedoGoesDown, GotoGoesThere, RedoGivesBack, SettlesOnTime, NeverFaults, IsMirrored, PathGivesWorld, UndoGoesUpThePath, RedoGoesDownFavourites};
 ghost use Rattle.kernel_core.specs.StepsOfSlices.{TakesOneNumber, StepsAreCounted};
-ghost use Rattle.kernel_core.specs.LegalMinutes.{KeepsLegalMinutes};
+ghost use Rattle.kernel_core.specs.LegalMinutes.{KeepsLegalMinutes, OneAccount};
 ghost use Rattle.kernel_core.specs.Counters.{EndTellsCounted, CounterNeverFalls, CountedIsNext, NoCounterTwice, CounterIsOfBegun, EndsWithinCounter};
 
 /// A new machine is legal: its tree is, and no job is open.
@@ -127,6 +127,11 @@ pub fn shut_refuses_jobs_law()
 /// job has done.
 pub fn keeps_legal_minutes_law()
     ensures { KeepsLegalMinutes }
+{}
+
+/// Entries give one account only: who reads the minutes knows the tree, the position, the favourites and the counter.
+pub fn one_account_law()
+    ensures { OneAccount }
 {}
 
 /// The execution counter numbers the cells that are not silent and are to be stored, in the order of their posts. In legal minutes each
