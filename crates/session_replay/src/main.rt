@@ -9,6 +9,8 @@
 
 mod escaped;
 
+ghost use Rattle.std.specs.Prelude.{◌≡◌, ◌<◌};
+
 use crate::escaped::escaped;
 use anyhow::anyhow;
 use kernel_ask::Comms;
@@ -74,10 +76,14 @@ fn replay<L: Ledger>(
     Ok(())
 }
 
-fn main(rt: HostRuntime) -> anyhow::Result<()> {
+/// Replays all connections of a text to a new kernel, whose writes are counted in the ledger of this blank.
+fn replay_all<L: Ledger>(rt: &HostRuntime, blank: Blank, text: String) -> anyhow::Result<()>
+    requires name { blank.name ≡ L.name }
+    requires parts { blank.parts ≡ L.parts }
+    requires some { 0 < L.parts }
+{
     let alloc = rt.alloc();
-    let text = io::read_to_string(alloc, rt.stdin())?;
-    let kernel = Kernel::<Brand>::new(alloc, Blank::new(1))?;
+    let kernel = Kernel::<L>::new(alloc, blank)?;
     let mut desk = LoneDesk::new(alloc, kernel, Comms::new(alloc), Vec::new(alloc));
     let mut key = "";
     let mut number = 0u64;
@@ -85,9 +91,14 @@ fn main(rt: HostRuntime) -> anyhow::Result<()> {
         if number == 0 {
             key = line;
         } else {
-            replay(&rt, &mut desk, key, number, line)?;
+            replay(rt, &mut desk, key, number, line)?;
         }
         number = number.saturating_add(1);
     }
     Ok(())
+}
+
+fn main(rt: HostRuntime) -> anyhow::Result<()> {
+    let text = io::read_to_string(rt.alloc(), rt.stdin())?;
+    replay_all::<Brand>(&rt, Blank::new(1), text)
 }
