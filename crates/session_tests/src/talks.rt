@@ -5,21 +5,32 @@ use crate::rows::{QUESTION, ROUTER};
 use kernel_ask::{Ask, HistoryAsk};
 use kernel_core::Job;
 use kernel_session::Socket;
-use std::alloc::Global;
+use std::alloc::{AllocError, Global};
 use std::process::Abort;
 use std::test::Fail;
 use zmtp_wire::write_message;
+
+/// A frame with this text.
+fn frame(alloc: Global, text: &str) -> Result<Vec<u8>, AllocError> {
+    text.as_bytes().to_vec(alloc)
+}
 
 /// The octets of a dealer's opening, which is as long as a router's, and of a request of this type and content, unsigned.
 fn asking(alloc: Global, msg_type: &str, content: &str) -> Result<Vec<u8>, Fail> {
     let header = format!(in alloc;
         "{{\"msg_id\":\"a\",\"msg_type\":\"{msg_type}\",\"session\":\"s\"}}"
     )?;
-    let parts = ["<IDS|MSG>", "", header.as_str(), "{}", "{}", content];
-    let mut frames = Vec::new(alloc);
-    for part in parts {
-        frames.push(part.as_bytes().to_vec(alloc)?)?;
-    }
+    let frames = Vec::from_array(
+        alloc,
+        [
+            frame(alloc, "<IDS|MSG>")?,
+            Vec::new(alloc),
+            frame(alloc, header.as_str())?,
+            frame(alloc, "{}")?,
+            frame(alloc, "{}")?,
+            frame(alloc, content)?,
+        ],
+    )?;
     let mut octets = QUESTION[..ROUTER.len()].to_vec(alloc)?;
     write_message(&mut octets, &frames)?;
     Ok(octets)
