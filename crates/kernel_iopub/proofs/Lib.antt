@@ -1,2 +1,4 @@
 mod SendLemmas
 mod RoundLemmas
+mod FedLemmas
+mod ServedLemmas

@@ -6,7 +6,7 @@ use Rattle.std.proofs.lemmas.List.{take-append-drop, flat_map_more}
 use Rattle.zmtp_peer.specs.Events.{Event}
 use Rattle.zmtp_peer.specs.Subscriptions.{IsWanted}
 use Rattle.kernel_board.specs.Frames.{Frames, topic_of}
-use Rattle.kernel_iopub.specs.Round.{AreWanted, AreSome}
+use Rattle.kernel_iopub.specs.Round.{AreWanted}
 
 pub wanted_more : (events : List Event) (bs : List Frames) (b : Frames) (kept : List Frames) → AreWanted events bs kept → IsWanted events (topic_of b)
     → AreWanted events (bs ++ b ∷ []) (kept ++ b ∷ [])
@@ -20,16 +20,6 @@ pub unwanted_more : (events : List Event) (bs : List Frames) (b : Frames) (kept 
 unwanted_more events [] b kept p w = inr (w, p)
 unwanted_more events (x ∷ xs) b kept (inl q) w = inl (q.0, q.1, unwanted_more events xs b q.1 q.2 w, q.3)
 unwanted_more events (x ∷ xs) b kept (inr q) w = inr (q.0, unwanted_more events xs b kept q.1 w)
-
-pub some_more : (bs : List Frames) (b : Frames) (kept : List Frames) → AreSome bs kept → AreSome (bs ++ b ∷ []) (kept ++ b ∷ [])
-some_more [] b kept p = inl ([], refl, ap (λ (x : List Frames). x ++ b ∷ []) p)
-some_more (x ∷ xs) b kept (inl q) = inl (q.0 ++ b ∷ [], some_more xs b q.0 q.1, ap (λ (t : List Frames). t ++ b ∷ []) q.2)
-some_more (x ∷ xs) b kept (inr q) = inr (some_more xs b kept q)
-
-pub some_skip : (bs : List Frames) (b : Frames) (kept : List Frames) → AreSome bs kept → AreSome (bs ++ b ∷ []) kept
-some_skip [] b kept p = inr p
-some_skip (x ∷ xs) b kept (inl q) = inl (q.0, some_skip xs b q.0 q.1, q.2)
-some_skip (x ∷ xs) b kept (inr q) = inr (some_skip xs b kept q)
 
 -- the broadcasts before one, it, and those behind it
 pub split_at : {X A : Type 0} (f : X → List A) (xs : List X) (i : ℕ) (x : X) → take (i + 1) xs ≡ take i xs ++ x ∷ []

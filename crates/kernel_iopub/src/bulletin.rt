@@ -29,13 +29,13 @@ impl Bulletin {
         })
     }
 
-    /// Appends a broadcast, and then wakes all who wait for one. It takes no memory.
+    /// Appends a broadcast to the board, as `kernel_board::publish_on` does to the log under its lock, and then raises the count. It takes no memory.
     pub fn publish<R: Wait>(&self, rt: &R, broadcast: Broadcast) {
         let _number = self.board.publish(rt, broadcast);
         self.signal.raise(rt);
     }
 
-    /// The place after the last broadcast.
+    /// The place after the last broadcast: the end of the log as it is under the board's lock.
     pub fn join<R: Wait>(&self, rt: &R) -> Place {
         self.board.join(rt)
     }

@@ -1,10 +1,9 @@
 //! The two halves of a subscriber's connection.
-ghost use Rattle.std.specs.Prelude.{List, IfOk, OnOk, OnErr};
+ghost use Rattle.std.specs.Prelude.{ℕ, List, Option, IfOk, OnOk, OnErr};
 ghost use Rattle.std.specs.List.{flat_map};
 ghost use Rattle.std.specs.Io.KnownBytes.{Appends};
 ghost use Rattle.zmtp_wire.specs.Message.{message_octets};
-ghost use Rattle.kernel_board.specs.Frames.{Frames};
-ghost use Rattle.kernel_iopub.specs.Round.{SentSome, IsPiece};
+ghost use Rattle.kernel_iopub.specs.Round.{SentSome, IsSent, IsSentInPart, AreSentTo, IsServed, IsServedInPart};
 
 use crate::bulletin::Bulletin;
 use crate::fault::SubscriberFault;
@@ -69,7 +68,7 @@ fn send_all<W: Write>(
     Ok(())
 }
 
-/// Reads the board once from a place, and writes what the peer wants of that. The place behind it.
+/// Reads the board once from a place, and writes what the peer wants of that: all of it, or a beginning where it fails. The place behind it.
 fn write_from<R: Wait, W: Write>(
     rt: &R,
     alloc: Global,
@@ -78,17 +77,42 @@ fn write_from<R: Wait, W: Write>(
     writer: &mut W,
     place: Place,
 ) -> Result<Place, SubscriberFault>
-    ensures { IfOk result (λ next. (kept : List Frames) × IsPiece place.number next.number kept
-        × Appends (W.contents writer.old) (W.contents writer.new) (flat_map message_octets kept)) }
+    ensures ok { IfOk result (λ next. IsSent (W.contents writer.old) (W.contents writer.new) place.number next.number) }
+    ensures err { OnErr result (IsSentInPart (W.contents writer.old) (W.contents writer.new) place.number) }
 {
     match bulletin.read_from(rt, place) {
         Err(_) => Err(SubscriberFault::Memory),
         Ok(BoardRead::Lagged(_)) => Err(SubscriberFault::Lagged),
         Ok(BoardRead::Got(broadcasts, next)) => {
             let kept = wanted(rt, alloc, shared, &broadcasts)?;
-            send_all(alloc, writer, &kept)?;
-            Ok(next)
+            match send_all(alloc, writer, &kept) {
+                Ok(()) => Ok(next),
+                Err(fault) => Err(fault),
+            }
         }
+    }
+}
+
+/// One round more, from where the last one ended, if there is a place to read from. The place behind it.
+fn go_on<R: Wait, W: Write>(
+    rt: &R,
+    alloc: Global,
+    bulletin: &Bulletin,
+    shared: &Mutex<Subscriber>,
+    writer: &mut W,
+    before: Option<Place>,
+) -> Result<Option<Place>, SubscriberFault>
+    ensures ok { IfOk result (λ after. (first : Option (List ℕ)) → AreSentTo first (W.contents writer.old) before
+        → AreSentTo first (W.contents writer.new) after) }
+    ensures err { OnErr result ((first : Option (List ℕ)) → AreSentTo first (W.contents writer.old) before
+        → IsServedInPart first (W.contents writer.new)) }
+{
+    let Some(place) = before else {
+        return Ok(None);
+    };
+    match write_from(rt, alloc, bulletin, shared, writer, place) {
+        Ok(next) => Ok(Some(next)),
+        Err(fault) => Err(fault),
     }
 }
 
@@ -99,15 +123,18 @@ pub(crate) fn speak<R: Wait, W: Write>(
     bulletin: &Bulletin,
     shared: &Mutex<Subscriber>,
     writer: &mut W,
-) -> Result<(), SubscriberFault> {
+) -> Result<(), SubscriberFault>
+    ensures ok { OnOk result (IsServed (W.contents writer.old) (W.contents writer.new)) }
+    ensures err { OnErr result (IsServedInPart (W.contents writer.old) (W.contents writer.new)) }
+{
     let mut at: Option<Place> = None;
     for _ in rt.forever() {
         let seen = bulletin.signal().seen(rt);
         let sight = look(rt, shared);
         let before = at.or(sight.joined);
-        at = match before {
-            Some(place) => Some(write_from(rt, alloc, bulletin, shared, writer, place)?),
-            None => None,
+        at = match go_on(rt, alloc, bulletin, shared, writer, before) {
+            Ok(after) => after,
+            Err(fault) => return Err(fault),
         };
         if at == before {
             if sight.is_silent {

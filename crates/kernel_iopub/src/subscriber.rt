@@ -1,8 +1,9 @@
 //! What the two halves of a subscriber's connection share.
-ghost use Rattle.std.specs.Prelude.{ℕ, List, [], IfOk};
+ghost use Rattle.std.specs.Prelude.{◌≡◌, ℕ, List, IfOk};
+ghost use Rattle.zmtp_peer.specs.declared.role.Role.TheVariants.{Pub};
 ghost use Rattle.zmtp_peer.specs.Events.{Event};
 ghost use Rattle.zmtp_peer.specs.Reading.{Stands};
-ghost use Rattle.kernel_iopub.specs.Round.{AreWanted, AreSome};
+ghost use Rattle.kernel_iopub.specs.Round.{AreWanted, WasFed, IsChosen};
 
 use crate::bulletin::Bulletin;
 use crate::fault::SubscriberFault;
@@ -12,10 +13,12 @@ use std::sync::{Mutex, Wait};
 use zmtp_peer::{Peer, PeerEvent, PeerFault, Role};
 use zmtp_wire::WireFault;
 
-/// The peer, and how far it is.
+/// The peer, and how far it is. Its type keeps that the peer is a publisher's, and stands as some octets from the first of a connection on have it.
 #[derive(Drop)]
 pub(crate) struct Subscriber {
     peer: Peer,
+    ghost publishes: { peer.role ≡ Pub },
+    ghost fed: { WasFed peer },
     /// The place on the board at which it joined, once it was ready.
     joined: Option<Place>,
     /// Nothing more comes from it.
@@ -83,8 +86,7 @@ fn wanted_of(
     peer: &Peer,
     broadcasts: &[Broadcast],
 ) -> Result<Vec<Broadcast>, SubscriberFault>
-    ensures some { IfOk result (λ kept. AreSome broadcasts.now kept.items) }
-    ensures wanted { IfOk result (λ kept. (fed : List ℕ) (given : List Event) → Stands fed given peer.now → AreWanted given broadcasts.now kept.items) }
+    ensures { IfOk result (λ kept. (fed : List ℕ) (given : List Event) → Stands fed given peer.now → AreWanted given broadcasts.now kept.items) }
 {
     let mut kept: Vec<Broadcast> = Vec::new(alloc);
     for broadcast in broadcasts {
@@ -129,14 +131,14 @@ pub(crate) fn look<R: Wait>(rt: &R, shared: &Mutex<Subscriber>) -> Sight {
     }
 }
 
-/// Those of the broadcasts that the peer wants.
+/// Those of the broadcasts that the peer wants, as it stands under the lock.
 pub(crate) fn wanted<R: Wait>(
     rt: &R,
     alloc: Global,
     shared: &Mutex<Subscriber>,
     broadcasts: &[Broadcast],
 ) -> Result<Vec<Broadcast>, SubscriberFault>
-    ensures { IfOk result (λ kept. AreSome broadcasts.now kept.items) }
+    ensures { IfOk result (λ kept. IsChosen broadcasts.now kept.items) }
 {
     let subscriber = shared.lock(rt);
     wanted_of(alloc, &subscriber.peer, broadcasts)

@@ -35,7 +35,8 @@ impl Connections {
         self.is_closed.load(Ordering::SeqCst)
     }
 
-    /// Enters a connection at a place. False where no more are let in.
+    /// Enters a connection at a place. False where no more are let in, or where there is no such place: what `Register::enter` answers of
+    /// the register as it is under the lock.
     pub fn enter<R: Wait>(&self, rt: &R, place: usize, stream: Stream) -> bool {
         let mut register = self.register.lock(rt);
         register.enter(place, stream)

@@ -1,5 +1,5 @@
 //! The register of the connections that are served.
-ghost use Rattle.std.specs.Prelude.{◌≡◌, ◌<◌, None, Some, true, false, IfOk, IsTrue, slice_set, length};
+ghost use Rattle.std.specs.Prelude.{◌≡◌, ◌<◌, ◌≤◌, ◌↔◌, None, Some, true, false, All, IfOk, IsTrue, slice_set, length};
 
 use std::alloc::{AllocError, Global};
 use std::net::{Shutdown, TcpStream};
@@ -19,6 +19,8 @@ impl Register {
     /// No connections, at so many places.
     pub fn new(alloc: Global, places: usize) -> Result<Register, AllocError>
         ensures open { IfOk result (λ r. r.is_closed ≡ false) }
+        ensures places { IfOk result (λ r. length r.streams.items ≡ places) }
+        ensures empty { IfOk result (λ r. All (λ s. s ≡ None) r.streams.items) }
     {
         let mut streams = Vec::with_capacity(alloc, places)?;
         for _ in 0..places {
@@ -30,9 +32,10 @@ impl Register {
         })
     }
 
-    /// Enters a connection at a place. False, and nothing changes, where no more may come, or where there is no such place.
+    /// Enters a connection at a place. False, and nothing changes, exactly where no more may come, or where there is no such place. It
+    /// takes no memory.
     pub fn enter(&mut self, place: usize, stream: Stream) -> bool
-        ensures entered { IsTrue result → (self.old.is_closed ≡ false) × (place < length self.old.streams.items) }
+        ensures entered { IsTrue result ↔ (self.old.is_closed ≡ false) × (place < length self.old.streams.items) }
         ensures streams { IsTrue result → self.new.streams.items ≡ slice_set self.old.streams.items place (Some stream) }
         ensures refused { result ≡ false → self.new.streams.items ≡ self.old.streams.items }
         ensures closed { self.new.is_closed ≡ self.old.is_closed }
@@ -44,10 +47,11 @@ impl Register {
         true
     }
 
-    /// Takes the connection at a place away.
+    /// Takes the connection at a place away, where there is such a place.
     pub fn leave(&mut self, place: usize)
         ensures closed { self.new.is_closed ≡ self.old.is_closed }
         ensures left { place < length self.old.streams.items → self.new.streams.items ≡ slice_set self.old.streams.items place None }
+        ensures elsewhere { length self.old.streams.items ≤ place → self.new.streams.items ≡ self.old.streams.items }
     {
         if place < self.streams.len() {
             self.streams[place] = None;
@@ -57,6 +61,7 @@ impl Register {
     /// Lets no more connections in, and shuts those that are there.
     pub fn close(&mut self, how: Shutdown)
         ensures closed { self.new.is_closed ≡ true }
+        ensures streams { self.new.streams.items ≡ self.old.streams.items }
     {
         self.is_closed = true;
         for stream in &self.streams {
@@ -67,7 +72,9 @@ impl Register {
     }
 
     /// Whether no connection is there.
-    pub fn is_empty(&self) -> bool {
+    pub fn is_empty(&self) -> bool
+        ensures { IsTrue result ↔ All (λ s. s ≡ None) self.now.streams.items }
+    {
         self.streams.iter().all(Option::is_none)
     }
 }

@@ -2,8 +2,8 @@ use Rattle.std.proofs.Common.{rules, ◌≡◌, ◌+◌, ℕ, true, false, List,
 use Rattle.std.proofs.lemmas.List.{take_more}
 use Rattle.zmtp_peer.specs.Subscriptions.{IsWanted}
 use Rattle.kernel_board.specs.Frames.{Frames, topic_of}
-use Rattle.kernel_iopub.specs.Round.{AreWanted, AreSome}
-use Rattle.kernel_iopub.proofs.RoundLemmas.{wanted_more, unwanted_more, some_more, some_skip}
+use Rattle.kernel_iopub.specs.Round.{AreWanted}
+use Rattle.kernel_iopub.proofs.RoundLemmas.{wanted_more, unwanted_more}
 use Rattle.kernel_iopub.proofs.subscriber.wanted_of.Goals as goal
 use Rattle.kernel_iopub.proofs.subscriber.wanted_of.Goals.{then-wants+in-Ok+else-is_err, else-wants}
 
@@ -21,23 +21,17 @@ loop-broadcast-preserved c =
       | then-wants+in-Ok+else-is_err w ↦
           let t : c.wants.result ≡ true = w.if-wants.true in
           let is_copy : w.in-Ok.copy ≡ b = w.in-Ok.ensures.cases in
-          let same : c.if-wants.kept.items ≡ old ++ b ∷ [] = search rules in (
-            subst (λ (x : List Frames). AreSome x c.if-wants.kept.items) (sym e) (subst (λ (x : List Frames). AreSome (take i all ++ b ∷ []) x) (sym same)
-                (some_more (take i all) b old c.loop-broadcast.invariant.0)),
-            λ fed given st.
-                subst (λ (x : List Frames). AreWanted given x c.if-wants.kept.items) (sym e) (subst (λ (x : List Frames). AreWanted given (take i all ++ b ∷ []) x) (sym same)
-                (wanted_more given (take i all) b old (c.loop-broadcast.invariant.1 fed given st)
-                (subst (λ (x : List ℕ). IsWanted given x) is_topic ((c.wants.ensures fed given st).0 t)))),
-          )
+          let same : c.if-wants.kept.items ≡ old ++ b ∷ [] = search rules in
+          λ fed given st.
+          subst (λ (x : List Frames). AreWanted given x c.if-wants.kept.items) (sym e) (subst (λ (x : List Frames). AreWanted given (take i all ++ b ∷ []) x) (sym same)
+          (wanted_more given (take i all) b old (c.loop-broadcast.invariant fed given st)
+          (subst (λ (x : List ℕ). IsWanted given x) is_topic ((c.wants.ensures fed given st).0 t))))
       | else-wants w ↦
           let f : c.wants.result ≡ false = w.if-wants.false in
-          let same : c.if-wants.kept.items ≡ old = ap (λ v. v.items) w.kept-is in (
-            subst (λ (x : List Frames). AreSome x c.if-wants.kept.items) (sym e) (subst (λ (x : List Frames). AreSome (take i all ++ b ∷ []) x) (sym same)
-                (some_skip (take i all) b old c.loop-broadcast.invariant.0)),
-            λ fed given st.
-                subst (λ (x : List Frames). AreWanted given x c.if-wants.kept.items) (sym e) (subst (λ (x : List Frames). AreWanted given (take i all ++ b ∷ []) x) (sym same)
-                (unwanted_more given (take i all) b old (c.loop-broadcast.invariant.1 fed given st)
-                (λ v. let t : c.wants.result ≡ true = (c.wants.ensures fed given st).1 (subst (λ (x : List ℕ). IsWanted given x) (sym is_topic) v) in
-                let bad : true ≡ false = sym t ∙ f in cc))),
-          )
+          let same : c.if-wants.kept.items ≡ old = ap (λ v. v.items) w.kept-is in
+          λ fed given st.
+          subst (λ (x : List Frames). AreWanted given x c.if-wants.kept.items) (sym e) (subst (λ (x : List Frames). AreWanted given (take i all ++ b ∷ []) x) (sym same)
+          (unwanted_more given (take i all) b old (c.loop-broadcast.invariant fed given st)
+          (λ v. let t : c.wants.result ≡ true = (c.wants.ensures fed given st).1 (subst (λ (x : List ℕ). IsWanted given x) (sym is_topic) v) in
+          let bad : true ≡ false = sym t ∙ f in cc)))
     ]

@@ -1,0 +1,38 @@
+-- What all places share may be lent to other threads, and a place's desk may go to its thread. A `search` through all of their fields runs out of steps, so
+-- what is written of a layer is found over what was found of the layers below it; each fact is that of the type as a field.
+use denote.RattleType.{RattleType}
+use denote.Param.Send.{IsSend, IsSync, sendable}
+use Rattle.std.proofs.Crossing.{crosses, frees}
+use Rattle.std.specs.declared.sync.ledger.Ledger as Ledger
+use Rattle.circular_buffer.proofs.cells.Cells.TheSendSync.{the_send as cells_send}
+use Rattle.circular_buffer.proofs.cells.Deed.TheSendSync.{the_send as deed_send}
+use Rattle.kernel_board.specs.contracts.broadcast.Broadcast as Broadcast
+use Rattle.kernel_board.specs.contracts.log.BroadcastLog as BroadcastLog
+use Rattle.kernel_hall.proofs.Crosses.{Hall-sync}
+use Rattle.kernel_iopub.specs.contracts.bulletin.Bulletin as Bulletin
+use Rattle.kernel_sockets.specs.contracts.connections.Connections as Connections
+use Rattle.kernel_sockets.specs.contracts.listener.Listener as Listener
+use Rattle.kernel_places.specs.contracts.ending.Ending as Ending
+use Rattle.kernel_places.specs.contracts.service.Service as Service
+
+Broadcast-send : IsSend (Broadcast.the_field).row
+Broadcast-send = search (crosses, sendable) depth 60 fits 20000
+
+BroadcastLog-send : IsSend (BroadcastLog.the_field).row
+BroadcastLog-send = search (crosses, cells_send, deed_send, frees, Broadcast-send, sendable) depth 60 fits 20000
+
+pub Bulletin-sync : IsSync (Bulletin.the_field).row
+Bulletin-sync = search (crosses, BroadcastLog-send, sendable) depth 60 fits 20000
+
+Connections-sync : IsSync (Connections.the_field).row
+Connections-sync = search (crosses, sendable) depth 60 fits 20000
+
+pub Listener-sync : IsSync (Listener.the_field).row
+Listener-sync = search (crosses, sendable) depth 60 fits 20000
+
+Ending-sync : IsSync (Ending.the_field).row
+Ending-sync = search (crosses, sendable) depth 60 fits 20000
+
+module _ (W L : RattleType) (w : Ledger.Ghosts W.Denot) (l : Ledger.Ghosts L.Denot) where
+  pub Service-sync : IsSend W → IsSend L → IsSync (Service.the_field W L w l).row
+  Service-sync s t = let hall = Hall-sync W L w l s t in search (crosses, Bulletin-sync, Connections-sync, Ending-sync, sendable) depth 60 fits 20000

@@ -1,0 +1,92 @@
+//! What all places share.
+ghost use Rattle.std.specs.Prelude.{◌≡◌, ◌≤◌, ◌<◌, ◌^◌, IfOk, IfSome};
+
+use crate::ending::Ending;
+use crate::places::PLACES;
+use kernel_hall::Hall;
+use kernel_iopub::Bulletin;
+use kernel_message::Stamp;
+use kernel_sockets::Connections;
+use std::alloc::{AllocError, Global};
+use std::sync::ledger::Ledger;
+use std::sync::{Mutex, Wait};
+
+/// So many sockets take requests or octets to send back; the fifth is that of broadcasts.
+const CALLED_SOCKETS: usize = 4;
+
+/// The date of a message before a desk has set one.
+const NO_DATE: [u8; 20] = *b"1970-01-01T00:00:00Z";
+
+/// What all places share.
+#[derive(Drop)]
+pub struct Service<W: Ledger, L: Ledger> {
+    pub(crate) alloc: Global,
+    session: String,
+    pub(crate) key: Vec<u8>,
+    pub(crate) hall: Hall<W, L>,
+    pub(crate) bulletin: Bulletin,
+    /// The connections of shell, control, stdin and heartbeat.
+    pub(crate) callers: Connections,
+    /// Those of iopub.
+    pub(crate) subscribers: Connections,
+    pub(crate) ending: Ending,
+    /// The number of the connection that was accepted last.
+    last: Mutex<u64>,
+}
+
+impl<W: Ledger, L: Ledger> Service<W, L> {
+    /// What the places of a kernel share, before any of them is started: its session's name, the key under which messages are signed, and
+    /// its hall.
+    ///
+    /// # Errors
+    ///
+    /// `AllocError` where there is no memory.
+    pub fn new(
+        alloc: Global,
+        session: String,
+        key: Vec<u8>,
+        hall: Hall<W, L>,
+    ) -> Result<Service<W, L>, AllocError>
+        ensures { IfOk result (λ s. s.hall ≡ hall) }
+    {
+        let bulletin = Bulletin::new(alloc)?;
+        let callers = Connections::new(alloc, CALLED_SOCKETS * PLACES)?;
+        let subscribers = Connections::new(alloc, PLACES)?;
+        Ok(Service {
+            alloc,
+            session,
+            key,
+            hall,
+            bulletin,
+            callers,
+            subscribers,
+            ending: Ending::new(),
+            last: Mutex::new(0),
+        })
+    }
+
+    /// The number of the next connection: from 1 on, and none after the last.
+    pub(crate) fn number<R: Wait>(&self, rt: &R) -> Option<u64>
+        ensures { IfSome result (λ n. 1 ≤ n) }
+    {
+        let mut last = self.last.lock(rt);
+        if *last == u64::MAX {
+            return None;
+        }
+        *last += 1;
+        Some(*last)
+    }
+
+    /// What is stamped on the messages of a connection, before its desk has set the date.
+    pub(crate) fn stamp(&self, connection: u64) -> Result<Stamp, AllocError>
+        ensures connection { IfOk result (λ s. s.connection ≡ connection) }
+        ensures next { IfOk result (λ s. s.next ≡ 0) }
+    {
+        Ok(Stamp {
+            session: self.session.clone()?,
+            connection,
+            next: 0,
+            date: NO_DATE,
+        })
+    }
+}

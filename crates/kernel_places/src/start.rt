@@ -1,0 +1,261 @@
+//! How the threads are started, and how they come to an end.
+ghost use Rattle.std.specs.Prelude.{◌≡◌, All};
+
+use crate::places::{Listeners, PLACES};
+use crate::publishing::attend_subscribers;
+use crate::requests::{Place, attend, attend_silently};
+use crate::service::Service;
+use crate::worker::Worker;
+use kernel_bell::{RingerSeat, RunnerSeat};
+use kernel_desk::HallDesk;
+use kernel_session::Socket;
+use kernel_sockets::Listener;
+use std::alloc::AllocError;
+use std::io::Write;
+use std::net::Shutdown;
+use std::sync::Wait;
+use std::sync::ledger::Ledger;
+use std::thread;
+use std::thread::{Scope, Threads};
+use std::time::{Clock, Duration};
+
+/// How long connections that still write are waited for at the end.
+const GRACE_SECONDS: u64 = 2;
+
+/// The seats of a hall's bell: that of the worker, and one for each place of shell and control.
+#[derive(Drop)]
+pub struct Seats {
+    pub runner: RunnerSeat,
+    pub ringers: Vec<RingerSeat>,
+}
+
+/// The desks of the places of shell and control, as many as there are seats.
+fn desks_of<'a, W: Ledger, L: Ledger, R: Wait + Clock>(
+    rt: &'a R,
+    service: &'a Service<W, L>,
+    seats: Vec<RingerSeat>,
+) -> Result<Vec<HallDesk<'a, W, L, R>>, AllocError>
+    requires { All (λ seat. seat.bell ≡ service.now.hall) seats.items }
+{
+    let mut desks = Vec::with_capacity(service.alloc, seats.len())?;
+    for seat in seats {
+        let Ok(pass) = service.hall.pass(rt) else {
+            return Err(AllocError);
+        };
+        desks.push(HallDesk::new(rt, &service.hall, &service.bulletin, pass, seat))?;
+    }
+    Ok(desks)
+}
+
+/// Starts the places of shell or control, with desks of these. False where a thread could not be made.
+fn start_attending<
+    's,
+    E,
+    W: Ledger + Send + Sync,
+    L: Ledger + Send + Sync,
+    R: Threads + Wait + Clock + Sync,
+>(
+    scope: &Scope<'s, E>,
+    rt: &'s R,
+    service: &'s Service<W, L>,
+    listener: &'s Listener,
+    first: Place,
+    desks: &mut Vec<HallDesk<'s, W, L, R>>,
+) -> bool {
+    for at in 0..PLACES {
+        let place = Place {
+            socket: first.socket,
+            index: first.index.saturating_add(at),
+        };
+        let Some(desk) = desks.pop() else {
+            return false;
+        };
+        if scope
+            .spawn(move || attend(rt, service, listener, place, desk))
+            .is_err()
+        {
+            return false;
+        }
+    }
+    true
+}
+
+/// Starts the places of stdin or heartbeat. False where a thread could not be made.
+fn start_attending_silently<
+    's,
+    E,
+    W: Ledger + Send + Sync,
+    L: Ledger + Send + Sync,
+    R: Threads + Wait + Clock + Sync,
+>(
+    scope: &Scope<'s, E>,
+    rt: &'s R,
+    service: &'s Service<W, L>,
+    listener: &'s Listener,
+    first: Place,
+) -> bool {
+    for at in 0..PLACES {
+        let place = Place {
+            socket: first.socket,
+            index: first.index.saturating_add(at),
+        };
+        if scope
+            .spawn(move || attend_silently(rt, service, listener, place))
+            .is_err()
+        {
+            return false;
+        }
+    }
+    true
+}
+
+/// Starts the places of iopub. False where a thread could not be made.
+fn start_publishing<
+    's,
+    E,
+    W: Ledger + Send + Sync,
+    L: Ledger + Send + Sync,
+    R: Threads + Wait + Clock + Sync,
+>(scope: &Scope<'s, E>, rt: &'s R, service: &'s Service<W, L>, listener: &'s Listener) -> bool {
+    for index in 0..PLACES {
+        if scope
+            .spawn(move || attend_subscribers(rt, service, listener, index))
+            .is_err()
+        {
+            return false;
+        }
+    }
+    true
+}
+
+/// The first place of a socket.
+fn first_place(socket: Socket) -> Place {
+    let index = match socket {
+        Socket::Shell | Socket::Iopub => 0,
+        Socket::Control => PLACES,
+        Socket::Stdin => 2 * PLACES,
+        Socket::Heartbeat => 3 * PLACES,
+    };
+    Place { socket, index }
+}
+
+/// Starts the worker and all places on which something comes. False where a thread could not be made.
+fn start_all<
+    's,
+    E,
+    W: Ledger + Send + Sync,
+    L: Ledger + Send + Sync,
+    R: Threads + Wait + Clock + Sync,
+>(
+    scope: &Scope<'s, E>,
+    rt: &'s R,
+    service: &'s Service<W, L>,
+    listeners: &'s Listeners,
+    worker: Worker<'s, W, L>,
+    desks: Vec<HallDesk<'s, W, L, R>>,
+) -> bool {
+    let mut desks = desks;
+    let shell = first_place(Socket::Shell);
+    let control = first_place(Socket::Control);
+    let stdin = first_place(Socket::Stdin);
+    let heartbeat = first_place(Socket::Heartbeat);
+    scope.spawn(move || worker.run(rt)).is_ok()
+        && start_attending(scope, rt, service, &listeners.shell, shell, &mut desks)
+        && start_attending(scope, rt, service, &listeners.control, control, &mut desks)
+        && start_attending_silently(scope, rt, service, &listeners.stdin, stdin)
+        && start_attending_silently(scope, rt, service, &listeners.heartbeat, heartbeat)
+}
+
+/// Tells that all is ready. A fault of the stream is passed over.
+fn tell_ready<O: Write>(out: &mut O) {
+    let _ = writeln!(out, "ready");
+    let _ = out.flush();
+}
+
+/// Lets no more connections in, and brings those on which something comes to an end.
+fn end_callers<W: Ledger, L: Ledger, R: Wait + Clock>(
+    rt: &R,
+    service: &Service<W, L>,
+    listeners: &Listeners,
+) {
+    service.ending.tell(rt);
+    service.hall.shut(rt);
+    listeners.close();
+    service.callers.close(rt, Shutdown::Read);
+    service
+        .callers
+        .wait_until_empty(rt, Duration::from_secs(GRACE_SECONDS));
+    service.callers.close(rt, Shutdown::Both);
+}
+
+/// Brings the subscribers to an end, behind what was published last.
+fn end_subscribers<W: Ledger, L: Ledger, R: Wait + Clock>(rt: &R, service: &Service<W, L>) {
+    service.subscribers.close(rt, Shutdown::Read);
+    service.bulletin.signal().raise(rt);
+    service
+        .subscribers
+        .wait_until_empty(rt, Duration::from_secs(GRACE_SECONDS));
+    service.subscribers.close(rt, Shutdown::Both);
+}
+
+/// Serves requests until a shutdown was answered, and brings all that serve them to an end. False where a thread could not be made.
+fn serve_callers<
+    W: Ledger + Send + Sync,
+    L: Ledger + Send + Sync,
+    R: Threads + Wait + Clock + Sync,
+    O: Write,
+>(
+    rt: &R,
+    service: &Service<W, L>,
+    listeners: &Listeners,
+    worker: Worker<'_, W, L>,
+    desks: Vec<HallDesk<'_, W, L, R>>,
+    out: &mut O,
+) -> bool {
+    thread::scope(thread::scope_env(), rt, |scope| {
+        let is_started = start_all(scope, rt, service, listeners, worker, desks);
+        if is_started {
+            tell_ready(out);
+            service.ending.wait(rt);
+        }
+        end_callers(rt, service, listeners);
+        is_started
+    })
+}
+
+/// Serves all connections of these sockets until a shutdown was answered, brings all threads to an end and joins them. Once all are
+/// started it writes the line `ready`. False where a thread could not be made, after all those that were have ended.
+///
+/// # Errors
+///
+/// `AllocError` where there is no memory before the first thread, or where the hall has no passes left for its places.
+pub fn serve_all<
+    W: Ledger + Send + Sync,
+    L: Ledger + Send + Sync,
+    R: Threads + Wait + Clock + Sync,
+    O: Write,
+>(
+    rt: &R,
+    service: &Service<W, L>,
+    listeners: &Listeners,
+    seats: Seats,
+    out: &mut O,
+) -> Result<bool, AllocError>
+    requires runner { seats.runner.bell ≡ service.now.hall }
+    requires ringers { All (λ seat. seat.bell ≡ service.now.hall) seats.ringers.items }
+{
+    let Seats { runner, ringers } = seats;
+    let desks = desks_of(rt, service, ringers)?;
+    let worker = Worker::new(&service.hall, runner);
+    let is_started = thread::scope(thread::scope_env(), rt, |scope| {
+        let is_started = if start_publishing(scope, rt, service, &listeners.iopub) {
+            serve_callers(rt, service, listeners, worker, desks, out)
+        } else {
+            end_callers(rt, service, listeners);
+            false
+        };
+        end_subscribers(rt, service);
+        is_started
+    });
+    Ok(is_started)
+}

@@ -1,0 +1,153 @@
+//! The program over the words of its command line.
+ghost use Rattle.std.specs.Prelude.{◌≡◌, ◌<◌};
+
+use crate::fault::ProgramFault;
+use crate::opening::{connection_of, listeners_of};
+use crate::words::{file_of, unread_words_status, words_status};
+use clap::Error;
+use kernel_ask::Comms;
+use kernel_bell::{Bell, RINGERS};
+use kernel_core::Kernel;
+use kernel_hall::Hall;
+use kernel_places::{Listeners, Seats, Service, serve_all};
+use rand::make_rng;
+use rand::rngs::StdRng;
+use stamp_texts::session_name;
+use std::alloc::Global;
+use std::convert::AsStr;
+use std::io::{ErrorKind, Write};
+use std::marker::Brand;
+use std::net::{Net, TcpListener, TcpStream};
+use std::random::RandomSource;
+use std::rt::Files;
+use std::sync::Wait;
+use std::sync::ledger::{Blank, Ledger};
+use std::thread::Threads;
+use std::time::Clock;
+
+/// The status of a program that was shut down, or told its help.
+const DONE: u8 = 0;
+
+/// The name of the kernel's session, drawn from the system's random numbers.
+fn new_session<R: RandomSource>(rt: &R, alloc: Global) -> Result<String, ProgramFault> {
+    let Ok(made) = make_rng::<StdRng, R>(rt) else {
+        return Err(ProgramFault::Memory);
+    };
+    let mut rng = made;
+    Ok(session_name(alloc, &mut rng)?)
+}
+
+/// Builds a new kernel and all that its places share, and serves these sockets until a shutdown.
+fn serve_new_kernel<W: Ledger + Send + Sync, L: Ledger + Send + Sync, R, O: Write>(
+    rt: &R,
+    alloc: Global,
+    writes: Blank,
+    posts: Blank,
+    listeners: &Listeners,
+    key: Vec<u8>,
+    out: &mut O,
+) -> Result<(), ProgramFault>
+where
+    R: RandomSource + Threads + Wait + Clock + Sync,
+    requires writes { (writes.name ≡ W.name) × (writes.parts ≡ W.parts) × (0 < W.parts) }
+    requires posts { (posts.name ≡ L.name) × (posts.parts ≡ 65537) × (posts.parts ≡ L.parts) }
+{
+    let session = new_session(rt, alloc)?;
+    let kernel = Kernel::<W>::new(alloc, writes)?;
+    let (bell, runner, ringers) = Bell::new(alloc, RINGERS)?;
+    let hall = Hall::<W, L>::new(alloc, posts, kernel, Comms::new(alloc), bell);
+    let service = Service::new(alloc, session, key, hall)?;
+    let seats = Seats { runner, ringers };
+    match serve_all(rt, &service, listeners, seats, out) {
+        Ok(true) => Ok(()),
+        _ => Err(ProgramFault::Memory),
+    }
+}
+
+/// Serves the sockets that a connection file names until a shutdown.
+fn serve_file<R, O: Write>(
+    rt: &R,
+    alloc: Global,
+    path: &str,
+    out: &mut O,
+) -> Result<(), ProgramFault>
+where
+    R: Net<Listener = TcpListener, Stream = TcpStream>
+        + Files
+        + RandomSource
+        + Threads
+        + Wait
+        + Clock
+        + Sync,
+{
+    let file = connection_of(rt, alloc, path)?;
+    let listeners = listeners_of(rt, &file)?;
+    let key = file.key.as_bytes().to_vec(alloc)?;
+    serve_new_kernel::<Brand, Brand, R, O>(
+        rt,
+        alloc,
+        Blank::new(1),
+        Blank::new(65_537),
+        &listeners,
+        key,
+        out,
+    )
+}
+
+/// Tells why words run nothing: the help to the output, all else to the errors. A fault of the streams is passed over.
+fn refuse_words<O: Write, E: Write>(error: &Error, out: &mut O, err: &mut E) -> u8 {
+    if error.use_stderr() {
+        let _ = write!(err, "{error}");
+        let _ = err.flush();
+    } else {
+        let _ = write!(out, "{error}");
+        let _ = out.flush();
+    }
+    words_status(error.kind())
+}
+
+/// Tells why the words of the command line could not be had, and answers the program's status.
+pub fn refuse_unread_words<E: Write>(kind: ErrorKind, err: &mut E) -> u8 {
+    if kind == ErrorKind::OutOfMemory {
+        ProgramFault::Memory.tell(err);
+    } else {
+        let _ = writeln!(
+            err,
+            "error: invalid UTF-8 was detected in one or more arguments"
+        );
+    }
+    unread_words_status(kind)
+}
+
+/// The program `janus-kernel`, over the words of its command line, of which the first is its name, and its two output streams: it serves
+/// the sockets of the connection file until a shutdown, and answers its status. 0 after a shutdown, and for help; 2 for wrong words or a
+/// wrong connection file, 3 where a socket can't be bound, 1 where there is no memory at the start, each with a line to the errors. A
+/// fault of the two streams is passed over.
+pub fn kernel_main<R, S: AsStr, O: Write, E: Write>(
+    rt: &R,
+    alloc: Global,
+    words: &[S],
+    out: &mut O,
+    err: &mut E,
+) -> u8
+where
+    R: Net<Listener = TcpListener, Stream = TcpStream>
+        + Files
+        + RandomSource
+        + Threads
+        + Wait
+        + Clock
+        + Sync,
+{
+    let path = match file_of(alloc, words) {
+        Ok(path) => path,
+        Err(error) => return refuse_words(&error, out, err),
+    };
+    match serve_file(rt, alloc, path, out) {
+        Ok(()) => DONE,
+        Err(fault) => {
+            fault.tell(err);
+            fault.status()
+        }
+    }
+}
