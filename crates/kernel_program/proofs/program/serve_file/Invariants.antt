@@ -1,0 +1,8 @@
+use Rattle.kernel_program.proofs.program.serve_file.Given as goal
+
+-- the program names its ledgers after the blanks that it hands over
+abbrev pub ghosts-serve_new_kernel-W-Ledger : goal.ghosts-serve_new_kernel-W-Ledger
+ghosts-serve_new_kernel-W-Ledger g a = record { name = a.writes.name; parts = a.writes.parts }
+
+abbrev pub ghosts-serve_new_kernel-L-Ledger : goal.ghosts-serve_new_kernel-L-Ledger
+ghosts-serve_new_kernel-L-Ledger g a = record { name = a.posts.name; parts = a.posts.parts }
