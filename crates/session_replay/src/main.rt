@@ -85,15 +85,13 @@ fn replay_all<L: Ledger>(rt: &HostRuntime, blank: Blank, text: String) -> anyhow
     let alloc = rt.alloc();
     let kernel = Kernel::<L>::new(alloc, blank)?;
     let mut desk = LoneDesk::new(alloc, kernel, Comms::new(alloc), Vec::new(alloc));
-    let mut key = "";
+    let Some((key, connections)) = text.split_once('\n') else {
+        return Err(anyhow!("the first line is the key"));
+    };
     let mut number = 0u64;
-    for line in text.lines() {
-        if number == 0 {
-            key = line;
-        } else {
-            replay(rt, &mut desk, key, number, line)?;
-        }
+    for line in connections.lines() {
         number = number.saturating_add(1);
+        replay(rt, &mut desk, key, number, line)?;
     }
     Ok(())
 }
