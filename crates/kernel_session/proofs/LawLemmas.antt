@@ -31,7 +31,7 @@ use Rattle.kernel_session.specs.Call.{Call}
 use Rattle.kernel_session.specs.Action.{Action, asks}
 use Rattle.kernel_session.specs.Talk.{Heard, Talk, ask, post, history, change_then_list, open_comm, close_comm, if_open, follow, is_listed, talk, says_of}
 use Rattle.kernel_session.specs.Session.{State, IsDated, opened, asking, served, state_behind, IsServed, IsSession}
-use Rattle.kernel_session.specs.Laws.{IsFramed, BusyFirstAndIdleLast, jobs_in, signals_in, move_of, is_told_open, PostsWhatIsWanted, SignalsWhatIsWanted, InTwo, SessionsGoOn}
+use Rattle.kernel_session.specs.Laws.{IsFramed, BusyFirstAndIdleLast, jobs_in, signals_in, move_of, is_told_open, changes_in, PostsWhatIsWanted, SignalsWhatIsWanted, ChangesWhatIsWanted, InTwo, SessionsGoOn}
 use Rattle.kernel_session.proofs.SessionLemmas.{session_join}
 
 -- ---- the status of the kernel
@@ -156,6 +156,52 @@ signals_what_is_wanted (request.CommOpen r) h =
     none_chosen (λ (t : Talk). signals_in t.calls) (bytes_eq (string_bytes r.target_name) undo_target) _ _ (change_signals (Open (string_bytes r.comm_id)) h.changed h.answer) refl
 signals_what_is_wanted (request.CommMessage r) h = open_signals (string_bytes r.comm_id) h.comms (follow r.ask h) (follow_signals r.ask h)
 signals_what_is_wanted (request.CommClose r) h = close_signals (string_bytes r.comm_id) h.changed
+
+-- ---- comms
+
+post_changes : (job : Request) (wishes : Wishes) (j : Result Done PostFault) (a : Result Answer HallFault) → changes_in (post job wishes j a).calls ≡ []
+post_changes job wishes (Ok done) a = refl
+post_changes job wishes (Err fault) a = refl
+
+history_changes : (r : HistoryRequest) (access : HistoryAccess) (a : Result Answer HallFault) → changes_in (history r access a).calls ≡ []
+history_changes r Range a = refl
+history_changes r Tail a = refl
+history_changes r Search a = refl
+
+changed_once : (c : Change) (b : Result Bool HallFault) (a : Result Answer HallFault) → changes_in (change_then_list c b a).calls ≡ c ∷ []
+changed_once c (Ok b) a = refl
+changed_once c (Err fault) a = refl
+
+closed_once : (id : List ℕ) (b : Result Bool HallFault) → changes_in (close_comm id b).calls ≡ Close id ∷ []
+closed_once id (Ok b) = refl
+closed_once id (Err fault) = refl
+
+follow_changes : (asked : CommAsk) (h : Heard) → changes_in (follow asked h).calls ≡ []
+follow_changes (comm.Undo k) h = post_changes _ [] h.job h.answer
+follow_changes (comm.Redo k) h = post_changes _ [] h.job h.answer
+follow_changes (comm.Goto n) h = post_changes _ [] h.job h.answer
+follow_changes comm.State h = refl
+follow_changes comm.Other h = refl
+
+on_open_changes : (id : List ℕ) (a : Result Answer HallFault) (t : Talk) → changes_in t.calls ≡ [] → changes_in (if_open id a t).calls ≡ []
+on_open_changes id (Ok a) t p = none_chosen (λ (t : Talk). changes_in t.calls) (is_listed id a.content) _ _ p refl
+on_open_changes id (Err fault) t p = refl
+
+pub changes_what_is_wanted : ChangesWhatIsWanted
+changes_what_is_wanted request.KernelInfo h = refl
+changes_what_is_wanted (request.Execute r) h = post_changes _ _ h.job h.answer
+changes_what_is_wanted (request.Complete r) h = refl
+changes_what_is_wanted (request.Inspect r) h = refl
+changes_what_is_wanted (request.IsComplete r) h = refl
+changes_what_is_wanted (request.History r) h = history_changes r r.access h.answer
+changes_what_is_wanted (request.CommInfo r) h = refl
+changes_what_is_wanted request.Interrupt h = refl
+changes_what_is_wanted (request.Shutdown r) h = refl
+changes_what_is_wanted (request.CommOpen r) h =
+    chosen (λ (t : Talk). changes_in t.calls) (bytes_eq (string_bytes r.target_name) undo_target) _ _ (Open (string_bytes r.comm_id) ∷ []) []
+    (changed_once (Open (string_bytes r.comm_id)) h.changed h.answer) refl
+changes_what_is_wanted (request.CommMessage r) h = on_open_changes (string_bytes r.comm_id) h.comms (follow r.ask h) (follow_changes r.ask h)
+changes_what_is_wanted (request.CommClose r) h = closed_once (string_bytes r.comm_id) h.changed
 
 -- ---- sessions
 

@@ -1,5 +1,6 @@
 -- What holds of all sessions.
 use Rattle.std.specs.Prelude.{◌≡◌, ◌≢◌, ◌↔◌, ℕ, Bool, false, List, [], ◌∷◌, ◌++◌, string_bytes, Result, Ok, Err, if◌then◌else◌}
+use Rattle.std.specs.Str.{bytes_eq}
 use Rattle.jupyter_msg.specs.declared.request.Request.{Request as Asked}
 use Rattle.jupyter_msg.specs.declared.request.RequestContent.{RequestContent}
 use Rattle.jupyter_msg.specs.declared.request.RequestContent.TheVariants as request
@@ -12,9 +13,11 @@ use Rattle.kernel_ask.specs.declared.answer.HallFault.{HallFault}
 use Rattle.kernel_message.specs.Message.{asker_of}
 use Rattle.kernel_message.specs.Said.{Says}
 use Rattle.kernel_message.specs.declared.stamp.Stamp.{Stamp}
+use Rattle.kernel_reply.specs.Comms.{target as undo_target}
 use Rattle.kernel_reply.specs.Laws.{EndsIdle}
 use Rattle.kernel_session.specs.declared.socket.Socket.{Socket}
 use Rattle.kernel_session.specs.declared.flow.Flow.TheVariants.{Starved}
+use Rattle.kernel_session.specs.Question.{Change, Open, Close}
 use Rattle.kernel_session.specs.Call as call
 use Rattle.kernel_session.specs.Call.{Call}
 use Rattle.kernel_session.specs.Action.{Action, asks}
@@ -115,6 +118,39 @@ PostsWhatIsWanted = (r : RequestContent) (h : Heard) → jobs_in (talk r h).call
 -- Only an interrupt and a shutdown interrupt, and only a shutdown shuts.
 abbrev pub SignalsWhatIsWanted : Type 0
 SignalsWhatIsWanted = (r : RequestContent) (h : Heard) → signals_in (talk r h).calls ≡ signals_wanted r
+
+-- ---- comms
+
+-- the changes of the open comms that calls make
+abbrev pub changes_in : List Call → List Change
+changes_in [] = []
+changes_in (call.Changed change told ∷ calls) = change ∷ changes_in calls
+changes_in (call.Posted job wishes told ∷ calls) = changes_in calls
+changes_in (call.Asked q told ∷ calls) = changes_in calls
+changes_in (call.Rang ∷ calls) = changes_in calls
+changes_in (call.Shut ∷ calls) = changes_in calls
+changes_in (call.Published b ∷ calls) = changes_in calls
+changes_in (call.Kept bs ∷ calls) = changes_in calls
+changes_in (call.Dated before after ∷ calls) = changes_in calls
+
+-- an opening opens its comm, if it is for the one target, a close closes its comm, and nothing else changes any
+abbrev pub changes_wanted : RequestContent → List Change
+changes_wanted (request.CommOpen r) = if bytes_eq (string_bytes r.target_name) undo_target then Open (string_bytes r.comm_id) ∷ [] else []
+changes_wanted (request.CommClose r) = Close (string_bytes r.comm_id) ∷ []
+changes_wanted request.KernelInfo = []
+changes_wanted (request.Execute r) = []
+changes_wanted (request.Complete r) = []
+changes_wanted (request.Inspect r) = []
+changes_wanted (request.IsComplete r) = []
+changes_wanted (request.History r) = []
+changes_wanted (request.CommInfo r) = []
+changes_wanted request.Interrupt = []
+changes_wanted (request.Shutdown r) = []
+changes_wanted (request.CommMessage r) = []
+
+-- Each request changes what it is to change, once.
+abbrev pub ChangesWhatIsWanted : Type 0
+ChangesWhatIsWanted = (r : RequestContent) (h : Heard) → changes_in (talk r h).calls ≡ changes_wanted r
 
 -- ---- sessions
 

@@ -15,7 +15,7 @@
 //! and what is answered, as `jupyter_msg` and `kernel_reply` have it. `talk` says what each request has the desk do, `IsServed` what it
 //! brings, `IsSession` what the events bring one after the other. A desk's own relation `leads` says what it may answer, so the session
 //! of one desk is had by its relation. `laws` says of these definitions, over all requests and events, that busy comes first and idle last,
-//! which requests post, interrupt and shut, and that a session goes on event by event.
+//! which requests post, interrupt and shut, which open and close comms, and that a session goes on event by event.
 //!
 //! No contract says when `serve` reads: that it answers each request before it reads the next is neither proved nor tested. No contract can say that a stream failed: that `Read` and `Write` come only where one did is tested, not proved.
 #![tactic(auto)]

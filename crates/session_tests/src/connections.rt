@@ -4,27 +4,28 @@ use crate::rows::{
     ANSWERED, BEAT, BEAT_BACK, BROADCASTS, BROKEN, EXECUTION, PUBLISHER, QUESTION, ROUTER,
     SHUT_DOWN, SHUT_DOWN_ANSWERED, SUBSCRIPTION,
 };
-use crate::streams::{Pieces, Taken};
+use crate::streams::{Counted, Pieces, Taken, Watching};
 use kernel_message::Stamp;
 use kernel_session::{ServeFault, Socket, serve};
 use std::alloc::{AllocError, Global};
 use std::process::Abort;
+use std::sync::atomic::AtomicUsize;
 use std::test::Fail;
 use zmtp_peer::PeerFault;
 use zmtp_wire::{WireFault, write_message};
 
-/// The stamp of session `k` and connection 1.
-fn stamp(alloc: Global) -> Result<Stamp, AllocError> {
+/// The stamp of session `k` and connection 1, with this number next.
+fn stamp(alloc: Global, next: u64) -> Result<Stamp, AllocError> {
     Ok(Stamp {
         session: String::from_str(alloc, "k")?,
         connection: 1,
-        next: 0,
+        next,
         date: *b"2025-01-01T00:00:00Z",
     })
 }
 
 /// Serves a connection in pieces of a size, with so many reads and writes before the streams fail: how it ended, and what went out.
-fn served(
+pub(crate) fn served(
     desk: &mut NoKernel,
     socket: Socket,
     octets: &[u8],
@@ -33,7 +34,7 @@ fn served(
     writes_left: u64,
 ) -> Result<(Result<(), ServeFault>, Vec<u8>), Fail> {
     let alloc = desk.alloc;
-    let mut stamp = stamp(alloc)?;
+    let mut stamp = stamp(alloc, 0)?;
     let mut reader = Pieces {
         octets,
         size,
@@ -82,6 +83,31 @@ fn check_published(rt: &impl Abort, desk: &NoKernel, want: &[&[u8]]) -> Result<(
         assert_eq!(rt; written.as_slice(), *octets);
     }
     Ok(())
+}
+
+/// Serves the question to shell, with this number next: how the connection ended, and what went out.
+fn served_from(desk: &mut NoKernel, next: u64) -> Result<(Result<(), ServeFault>, Vec<u8>), Fail> {
+    let alloc = desk.alloc;
+    let mut stamp = stamp(alloc, next)?;
+    let mut reader = Pieces {
+        octets: QUESTION,
+        size: 10000,
+        reads_left: 10,
+    };
+    let mut writer = Taken {
+        octets: Vec::new(alloc),
+        writes_left: 10,
+    };
+    let ended = serve(
+        alloc,
+        Socket::Shell,
+        b"",
+        &mut reader,
+        &mut writer,
+        desk,
+        &mut stamp,
+    );
+    Ok((ended, writer.octets))
 }
 
 #[test]
@@ -243,5 +269,73 @@ fn a_writer_that_fails_leaves_a_beginning(rt: HostRuntime) -> Result<(), Fail> {
             }
         );
     }
+    Ok(())
+}
+
+/// The end of the input inside a frame is an ordinary end.
+#[test]
+fn an_end_inside_a_frame_is_no_fault(rt: HostRuntime) -> Result<(), Fail> {
+    let mut desk = NoKernel::new(rt.alloc());
+    let cut = &QUESTION[..QUESTION.len() - 1];
+    check(&rt, &mut desk, Socket::Shell, cut, 7, Ok(()), ROUTER)?;
+    check_published(&rt, &desk, &[])
+}
+
+/// The last number from which a request is served is 2^64 - 16.
+#[test]
+fn the_last_numbers_are_kept(rt: HostRuntime) -> Result<(), Fail> {
+    let mut desk = NoKernel::new(rt.alloc());
+    let (ended, written) = served_from(&mut desk, u64::MAX - 14)?;
+    assert_eq!(rt; ended, Err(ServeFault::Read));
+    assert_eq!(rt; written.as_slice(), ROUTER);
+    assert_eq!(rt; desk.kept.len(), 0);
+    let (ended, written) = served_from(&mut desk, u64::MAX - 15)?;
+    assert_eq!(rt; ended, Ok(()));
+    assert!(rt; written.len() > ROUTER.len());
+    assert_eq!(rt; desk.kept.len(), 2);
+    Ok(())
+}
+
+/// A desk that finds no memory ends the connection behind the status busy.
+#[test]
+fn a_desk_without_memory_ends_the_connection(rt: HostRuntime) -> Result<(), Fail> {
+    let mut desk = NoKernel::new(rt.alloc());
+    desk.is_poor = true;
+    check(
+        &rt,
+        &mut desk,
+        Socket::Shell,
+        QUESTION,
+        10000,
+        Err(ServeFault::Memory),
+        ROUTER,
+    )?;
+    check_published(&rt, &desk, &BROADCASTS[..1])
+}
+
+/// A request is answered before the connection reads on.
+#[test]
+fn a_question_is_answered_before_the_next_read(rt: HostRuntime) -> Result<(), Fail> {
+    let alloc = rt.alloc();
+    let mut desk = NoKernel::new(alloc);
+    let mut stamp = stamp(alloc, 0)?;
+    let written = AtomicUsize::new(0);
+    let mut reader = Watching {
+        octets: QUESTION,
+        written: &written,
+        seen: 0,
+    };
+    let mut writer = Counted { written: &written };
+    let ended = serve(
+        alloc,
+        Socket::Shell,
+        b"",
+        &mut reader,
+        &mut writer,
+        &mut desk,
+        &mut stamp,
+    );
+    assert_eq!(rt; ended, Ok(()));
+    assert_eq!(rt; reader.seen, ANSWERED.len());
     Ok(())
 }

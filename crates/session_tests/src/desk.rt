@@ -1,4 +1,4 @@
-//! A desk that has no kernel behind it: it judges code, keeps what is published, and refuses jobs.
+//! A desk that has no kernel behind it: it judges code, takes down what it is asked, keeps what is published, and refuses jobs.
 use kernel_ask::{Answer, Ask, Content, Done, HallFault, Wish, is_complete};
 use kernel_board::Broadcast;
 use kernel_core::{Job, PostFault};
@@ -13,6 +13,10 @@ pub(crate) struct NoKernel {
     pub kept: Vec<Broadcast>,
     pub is_shut: bool,
     pub is_rung: bool,
+    /// Whether it finds no memory for an answer.
+    pub is_poor: bool,
+    pub asks: Vec<Ask>,
+    pub jobs: Vec<Job>,
 }
 
 impl NoKernel {
@@ -22,29 +26,50 @@ impl NoKernel {
             kept: Vec::new(alloc),
             is_shut: false,
             is_rung: false,
+            is_poor: false,
+            asks: Vec::new(alloc),
+            jobs: Vec::new(alloc),
         }
+    }
+}
+
+/// The comm `c` is the open one.
+fn open_comms(alloc: Global) -> Result<Vec<String>, AllocError> {
+    Ok(Vec::from_array(alloc, [String::from_str(alloc, "c")?])?)
+}
+
+/// What is answered to a question.
+fn content(alloc: Global, ask: &Ask) -> Result<Content, AllocError> {
+    match ask {
+        Ask::IsComplete { code } => Ok(Content::Completeness(is_complete(alloc, code.as_str()))),
+        Ask::Comms => Ok(Content::Comms(open_comms(alloc)?)),
+        _ => Ok(Content::Inspection(None)),
     }
 }
 
 impl Desk for NoKernel {
     ghost leads = { λ old call new. Unit {0} };
 
-    fn job(&mut self, _job: Job, _wishes: Vec<Wish>) -> Result<Done, PostFault> {
+    fn job(&mut self, job: Job, _wishes: Vec<Wish>) -> Result<Done, PostFault> {
+        let _ = self.jobs.push(job);
         Err(PostFault::Closing)
     }
 
     fn ask(&mut self, ask: Ask) -> Result<Answer, HallFault> {
-        let content = match ask {
-            Ask::IsComplete { code } => {
-                Content::Completeness(is_complete(self.alloc, code.as_str()))
-            }
-            _ => Content::Inspection(None),
-        };
-        Ok(Answer { seen: 0, content })
+        let answer = content(self.alloc, &ask);
+        let _ = self.asks.push(ask);
+        match answer {
+            Ok(content) if !self.is_poor => Ok(Answer { seen: 0, content }),
+            _ => Err(HallFault::Memory),
+        }
     }
 
     fn comm(&mut self, _change: CommChange) -> Result<bool, HallFault> {
-        Ok(false)
+        if self.is_poor {
+            Err(HallFault::Memory)
+        } else {
+            Ok(false)
+        }
     }
 
     fn ring(&mut self) {

@@ -1,7 +1,8 @@
 //! Tests of whole connections over memory, octet for octet and in pieces of any size, and of streams that fail.
 //!
 //! Contracts say that what goes out is the session of what came in. These tests show that the session means what it is to mean, by octets
-//! that were worked out by hand, and that `Read` and `Write` come only where a stream failed, which no contract can say.
+//! that were worked out by hand, that `Read` and `Write` come only where a stream failed, and that a request is answered before the next
+//! read, which no contract can say.
 #![tactic(auto)]
 
 #[cfg(test)]
@@ -12,3 +13,5 @@ mod desk;
 mod rows;
 #[cfg(test)]
 mod streams;
+#[cfg(test)]
+mod talks;

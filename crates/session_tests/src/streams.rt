@@ -1,6 +1,7 @@
-//! Streams over memory that give and take a few octets at a time, and fail.
+//! Streams over memory: those that give and take a few octets at a time, and fail, and those that see what was written before a read.
 use std::io;
 use std::io::{ErrorKind, Read, Write};
+use std::sync::atomic::{AtomicUsize, Ordering};
 
 /// Gives its octets a few at a time, and fails behind so many reads.
 #[derive(Drop)]
@@ -37,6 +38,41 @@ impl Write for Taken {
         }
         self.writes_left -= 1;
         self.octets.extend_from_slice(buf)?;
+        Ok(buf.len())
+    }
+
+    fn flush(&mut self) -> io::Result<()> {
+        Ok(())
+    }
+}
+
+/// Gives its octets at once, and then notes at each read how many octets had been written.
+#[derive(Drop)]
+pub(crate) struct Watching<'a> {
+    pub octets: &'a [u8],
+    pub written: &'a AtomicUsize,
+    pub seen: usize,
+}
+
+impl Read for Watching<'_> {
+    fn read(&mut self, buf: &mut [u8]) -> io::Result<usize> {
+        self.seen = self.written.load(Ordering::SeqCst);
+        let count = self.octets.len().min(buf.len());
+        buf[..count].copy_from_slice(&self.octets[..count]);
+        self.octets = &self.octets[count..];
+        Ok(count)
+    }
+}
+
+/// Takes octets, and counts them.
+#[derive(Drop)]
+pub(crate) struct Counted<'a> {
+    pub written: &'a AtomicUsize,
+}
+
+impl Write for Counted<'_> {
+    fn write(&mut self, buf: &[u8]) -> io::Result<usize> {
+        let _before = self.written.fetch_add(buf.len(), Ordering::SeqCst);
         Ok(buf.len())
     }
 

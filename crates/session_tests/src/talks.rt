@@ -1,0 +1,116 @@
+//! What requests have the desk do, where no law of sessions says it.
+use crate::connections::served;
+use crate::desk::NoKernel;
+use crate::rows::{QUESTION, ROUTER};
+use kernel_ask::{Ask, HistoryAsk};
+use kernel_core::Job;
+use kernel_session::Socket;
+use std::alloc::Global;
+use std::process::Abort;
+use std::test::Fail;
+use zmtp_wire::write_message;
+
+/// The octets of a dealer's opening, which is as long as a router's, and of a request of this type and content, unsigned.
+fn asking(alloc: Global, msg_type: &str, content: &str) -> Result<Vec<u8>, Fail> {
+    let header = format!(in alloc;
+        "{{\"msg_id\":\"a\",\"msg_type\":\"{msg_type}\",\"session\":\"s\"}}"
+    )?;
+    let parts = ["<IDS|MSG>", "", header.as_str(), "{}", "{}", content];
+    let mut frames = Vec::new(alloc);
+    for part in parts {
+        frames.push(part.as_bytes().to_vec(alloc)?)?;
+    }
+    let mut octets = QUESTION[..ROUTER.len()].to_vec(alloc)?;
+    write_message(&mut octets, &frames)?;
+    Ok(octets)
+}
+
+/// Serves a request, and compares which jobs it posted and what it asked.
+fn check(
+    rt: &impl Abort,
+    alloc: Global,
+    msg_type: &str,
+    content: &str,
+    jobs: &[Job],
+    asks: &[Ask],
+) -> Result<(), Fail> {
+    let mut desk = NoKernel::new(alloc);
+    let octets = asking(alloc, msg_type, content)?;
+    let (ended, _) = served(&mut desk, Socket::Shell, &octets, 10000, 10, 10)?;
+    assert_eq!(rt; ended, Ok(()));
+    assert!(rt; *desk.jobs == *jobs);
+    assert!(rt; *desk.asks == *asks);
+    Ok(())
+}
+
+/// A move on the open comm is posted, and where it is refused the state is asked for.
+#[test]
+fn a_redo_on_a_comm_is_posted(rt: HostRuntime) -> Result<(), Fail> {
+    let content = "{\"comm_id\":\"c\",\"data\":{\"n\":2,\"op\":\"redo\"}}";
+    check(
+        &rt,
+        rt.alloc(),
+        "comm_msg",
+        content,
+        &[Job::Redo(2)],
+        &[Ask::Comms, Ask::State],
+    )
+}
+
+#[test]
+fn a_goto_on_a_comm_is_posted(rt: HostRuntime) -> Result<(), Fail> {
+    let content = "{\"comm_id\":\"c\",\"data\":{\"n\":3,\"op\":\"goto\"}}";
+    check(
+        &rt,
+        rt.alloc(),
+        "comm_msg",
+        content,
+        &[Job::Goto(3)],
+        &[Ask::Comms, Ask::State],
+    )
+}
+
+/// On a comm that is not open nothing is done.
+#[test]
+fn an_undo_on_another_comm_is_passed_over(rt: HostRuntime) -> Result<(), Fail> {
+    let content = "{\"comm_id\":\"d\",\"data\":{\"n\":1,\"op\":\"undo\"}}";
+    check(&rt, rt.alloc(), "comm_msg", content, &[], &[Ask::Comms])
+}
+
+#[test]
+fn the_state_is_asked_for_on_a_comm(rt: HostRuntime) -> Result<(), Fail> {
+    let content = "{\"comm_id\":\"c\",\"data\":{\"op\":\"state\"}}";
+    check(
+        &rt,
+        rt.alloc(),
+        "comm_msg",
+        content,
+        &[],
+        &[Ask::Comms, Ask::State],
+    )
+}
+
+#[test]
+fn the_last_inputs_are_asked_for(rt: HostRuntime) -> Result<(), Fail> {
+    let content = "{\"hist_access_type\":\"tail\",\"n\":7}";
+    let want = [Ask::History(HistoryAsk::Tail(7))];
+    check(&rt, rt.alloc(), "history_request", content, &[], &want)
+}
+
+#[test]
+fn a_range_of_inputs_is_asked_for(rt: HostRuntime) -> Result<(), Fail> {
+    let content = "{\"hist_access_type\":\"range\",\"start\":2,\"stop\":5}";
+    let range = HistoryAsk::Range {
+        session: 0,
+        start: 2,
+        stop: Some(5),
+    };
+    check(
+        &rt,
+        rt.alloc(),
+        "history_request",
+        content,
+        &[],
+        &[Ask::History(range)],
+    )
+}
