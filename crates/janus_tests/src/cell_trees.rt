@@ -1,128 +1,149 @@
-//! The tree of cells: a small one by hand, and a full one.
-use cell_tree::{NODE_LIMIT, Node, Tree, TreeFault, Way};
-use std::test::Fail;
+//! Rows of the tree of cells. `grow` adds a node with a character below a parent, `favour` makes a child its node's favourite,
+//! `way` gives the way from a node to another and the nodes on its way down, `fill` fills another tree, and `faults` gives the
+//! refusals. `nodes`, `full`, `has`, `path`, `meet`, `parent`, `favourite` and `content` ask.
+ghost use Rattle.std.specs.Prelude.{◌≤◌, length};
 
-/// Adds a node with this content below the parent, and answers its number.
-fn grow(tree: &mut Tree<char>, parent: usize, content: char) -> Result<usize, TreeFault> {
+use cell_tree::{NODE_LIMIT, Node, Tree, TreeFault};
+use std::alloc::{AllocError, Global};
+use test_rows::{cut, number, push_answer, push_both, shown};
+
+/// Makes the calls on a new tree, and writes each with its answer.
+pub(crate) fn tell(alloc: Global, calls: &str, out: &mut String) -> Result<(), AllocError> {
+    let mut tree = Tree::new(alloc)?;
+    for call in calls.lines() {
+        let answer = answer(alloc, &mut tree, call)?;
+        push_answer(out, call, &answer)?;
+    }
+    Ok(())
+}
+
+/// The answer to a call.
+fn answer(alloc: Global, tree: &mut Tree<char>, call: &str) -> Result<String, AllocError> {
+    let (word, rest) = cut(call);
+    let (first, second) = cut(rest);
+    let (node, other) = (number(first), number(second));
+    match word {
+        "grow" => shown(alloc, &grow(tree, node, second)),
+        "favour" => favour(alloc, tree, node, other),
+        "way" => way(alloc, tree, node, other),
+        "fill" => fill(alloc),
+        "faults" => faults(alloc),
+        _ => question(alloc, tree, word, node, other),
+    }
+}
+
+/// Adds a node with a character below the parent, and answers its number.
+fn grow(tree: &mut Tree<char>, parent: usize, text: &str) -> Result<usize, TreeFault> {
     tree.room()?;
     if !tree.has(parent) {
         return Err(TreeFault::NoNode);
     }
+    let content = text.chars().next().unwrap_or('-');
     Ok(tree.add(Node { parent, content }))
 }
 
-/// The root has the children 1 and 4. Below 1 stand 2 and 3, below 2 stands 5.
-fn small_tree(tree: &mut Tree<char>) -> Result<(), TreeFault> {
-    grow(tree, 0, 'a')?;
-    grow(tree, 1, 'b')?;
-    grow(tree, 1, 'c')?;
-    grow(tree, 0, 'd')?;
-    grow(tree, 2, 'e')?;
-    Ok(())
+/// Makes a child its node's favourite.
+fn favour(
+    alloc: Global,
+    tree: &mut Tree<char>,
+    node: usize,
+    child: usize,
+) -> Result<String, AllocError> {
+    if child == 0 || !tree.has(child) || tree.parent(child) != node {
+        return String::from_str(alloc, "no child");
+    }
+    tree.set_favourite(node, child);
+    shown(alloc, &tree.favourite(node))
 }
 
-#[test]
-fn grows_a_small_tree(rt: HostRuntime) -> Result<(), Fail> {
-    let mut tree = Tree::new(rt.alloc())?;
-    assert_eq!(rt; tree.nodes(), 0);
-    assert_eq!(rt; tree.parent(0), 0);
-    small_tree(&mut tree)?;
-    assert_eq!(rt; tree.nodes(), 5);
-    assert!(rt; tree.has(5));
-    assert!(rt; !tree.has(6));
-    assert!(rt; !tree.is_full());
-    assert_eq!(rt; tree.parent(4), 0);
-    assert_eq!(rt; tree.parent(5), 2);
-    assert_eq!(rt; *tree.content(1), 'a');
-    assert_eq!(rt; *tree.content(5), 'e');
-    Ok(())
+/// The way from a node to another, and the nodes on its way down.
+fn way(alloc: Global, tree: &mut Tree<char>, from: usize, to: usize) -> Result<String, AllocError> {
+    if !tree.has(from) {
+        return String::from_str(alloc, "no node");
+    }
+    match tree.find_way(from, to) {
+        Err(fault) => shown(alloc, &fault),
+        Ok(way) => {
+            let mut text = shown(alloc, &way)?;
+            push_nodes_down(alloc, &mut text, tree, way.down)?;
+            Ok(text)
+        }
+    }
 }
 
-#[test]
-fn keeps_favourites(rt: HostRuntime) -> Result<(), Fail> {
-    let mut tree = Tree::new(rt.alloc())?;
-    small_tree(&mut tree)?;
-    assert!(rt; tree.has(3));
-    assert_eq!(rt; tree.favourite(1), None);
-    assert!(rt; tree.parent(2) == 1);
-    tree.set_favourite(1, 2);
-    assert_eq!(rt; tree.favourite(1), Some(2));
-    assert!(rt; tree.parent(3) == 1);
-    tree.set_favourite(1, 3);
-    assert_eq!(rt; tree.favourite(1), Some(3));
-    assert_eq!(rt; tree.favourite(0), None);
-    Ok(())
-}
-
-#[test]
-fn tells_paths(rt: HostRuntime) -> Result<(), Fail> {
-    let mut tree = Tree::new(rt.alloc())?;
-    small_tree(&mut tree)?;
-    assert_eq!(rt; tree.path(0)?.as_slice(), [0].as_slice());
-    assert_eq!(rt; tree.path(5)?.as_slice(), [0, 1, 2, 5].as_slice());
-    assert_eq!(rt; tree.path(6), Err(TreeFault::NoNode));
-    Ok(())
-}
-
-/// Two nodes, and the last one on both their paths.
-const MEETINGS: [(usize, usize, Result<usize, TreeFault>); 8] = [
-    (5, 3, Ok(1)),
-    (3, 5, Ok(1)),
-    (5, 4, Ok(0)),
-    (2, 5, Ok(2)),
-    (4, 4, Ok(4)),
-    (0, 5, Ok(0)),
-    (6, 1, Err(TreeFault::NoNode)),
-    (1, 6, Err(TreeFault::NoNode)),
-];
-
-#[test]
-fn tells_where_paths_meet(rt: HostRuntime) -> Result<(), Fail> {
-    let mut tree = Tree::new(rt.alloc())?;
-    small_tree(&mut tree)?;
-    for (a, b, meeting) in MEETINGS {
-        assert_eq!(rt; tree.meet(a, b), meeting, "of {a} and {b}");
+/// Writes the nodes on the way down, of which there are so many.
+fn push_nodes_down(
+    alloc: Global,
+    text: &mut String,
+    tree: &Tree<char>,
+    down: usize,
+) -> Result<(), AllocError>
+    requires { down ≤ length tree.now.way }
+{
+    for turn in 0..down {
+        let node = tree.next_down(down - turn);
+        push_both(text, " ", &shown(alloc, &node)?)?;
     }
     Ok(())
 }
 
-#[test]
-fn goes_from_node_to_node(rt: HostRuntime) -> Result<(), Fail> {
-    let mut tree = Tree::new(rt.alloc())?;
-    small_tree(&mut tree)?;
-    assert!(rt; tree.has(3));
-    assert_eq!(rt; tree.find_way(3, 6), Err(TreeFault::NoNode));
-    let way = tree.find_way(3, 5)?;
-    assert!(rt; way == Way { up: 1, down: 2 });
-    assert_eq!(rt; tree.next_down(2), 2);
-    assert_eq!(rt; tree.next_down(1), 5);
-    Ok(())
-}
-
-#[test]
-fn refuses_one_node_too_many(rt: HostRuntime) -> Result<(), Fail> {
-    let mut tree = Tree::new(rt.alloc())?;
+/// Adds as many nodes as a tree has, and tells how many it has then, whether it is full, and what becomes of a further one.
+fn fill(alloc: Global) -> Result<String, AllocError> {
+    let mut tree = Tree::new(alloc)?;
     for _ in 0..NODE_LIMIT {
-        tree.room()?;
-        tree.add(Node {
-            parent: 0,
-            content: (),
-        });
+        if tree.room().is_ok() {
+            tree.add(Node {
+                parent: 0,
+                content: (),
+            });
+        }
     }
-    assert!(rt; tree.is_full());
-    assert_eq!(rt; tree.nodes(), 65_536);
-    assert_eq!(rt; tree.room(), Err(TreeFault::HistoryFull));
-    Ok(())
+    let (nodes, is_full, room) = (tree.nodes(), tree.is_full(), tree.room());
+    format!(in alloc; "{nodes} {is_full} {room:?}")
 }
 
-#[test]
-fn tells_its_faults(rt: HostRuntime) {
-    for (fault, number, name) in [
-        (TreeFault::HistoryFull, 70, "HistoryFull"),
-        (TreeFault::NoNode, 71, "NoNode"),
-        (TreeFault::Memory, 72, "Memory"),
-    ] {
-        assert_eq!(rt; fault.number(), number);
-        assert_eq!(rt; fault.name(), name);
+/// The refusals, with their numbers and words.
+fn faults(alloc: Global) -> Result<String, AllocError> {
+    let mut text = String::new(alloc);
+    for fault in [TreeFault::HistoryFull, TreeFault::NoNode, TreeFault::Memory] {
+        let (number, name) = (fault.number(), fault.name());
+        text.push_str(&format!(in alloc; "{fault:?} {number} {name};")?)?;
+    }
+    Ok(text)
+}
+
+/// The answer to a question that changes nothing.
+fn question(
+    alloc: Global,
+    tree: &Tree<char>,
+    word: &str,
+    node: usize,
+    other: usize,
+) -> Result<String, AllocError> {
+    match word {
+        "nodes" => shown(alloc, &tree.nodes()),
+        "full" => shown(alloc, &tree.is_full()),
+        "has" => shown(alloc, &tree.has(node)),
+        "path" => shown(alloc, &tree.path(node)),
+        "meet" => shown(alloc, &tree.meet(node, other)),
+        _ => question_of_node(alloc, tree, word, node),
+    }
+}
+
+/// The answer to a question about a node that there is.
+fn question_of_node(
+    alloc: Global,
+    tree: &Tree<char>,
+    word: &str,
+    node: usize,
+) -> Result<String, AllocError> {
+    if !tree.has(node) {
+        return String::from_str(alloc, "no node");
+    }
+    match word {
+        "parent" => shown(alloc, &tree.parent(node)),
+        "favourite" => shown(alloc, &tree.favourite(node)),
+        "content" if node > 0 => shown(alloc, tree.content(node)),
+        _ => String::from_str(alloc, "no question"),
     }
 }

@@ -1,290 +1,202 @@
-//! Schedules: undo, redo and goto, interrupts, refusals, the counter, the minutes and a shutdown. Their answers were worked out by
-//! hand.
+//! Rows of schedules: the calls of a new kernel. `cell`, `silent` and `unstored` post a cell, `undo`, `redo` and `goto` a move; `begin`,
+//! `slice` with a number of steps, `ask` (a slice that asks to stop) and `shut` are the further calls. `world` gives the shown
+//! world, `minutes` the counter, the phase and the minutes, and `events` runs a whole list of events. `repeat` makes calls so often, and
+//! gives the last answers. Other rows are questions.
 ghost use Rattle.std.specs.Prelude.{◌≡◌, ◌<◌};
 
-use crate::calls::plays;
-use kernel_core::{Begun, Event, Job, Kernel, Outcome, Refusal, Sliced, Told, run_events};
-use std::alloc::Global;
+use crate::questions::question;
+use crate::values::value_shown;
+use kernel_core::{Event, Job, Kernel, run_events};
+use std::alloc::{AllocError, Global};
 use std::marker::Brand;
-use std::process::Abort;
 use std::sync::ledger::{Blank, Ledger};
-use std::test::Fail;
+use test_rows::{cut, number, push_answer, push_both, shown, written};
 
-/// Each slice of an undo shows the world after as many steps of the inverted code.
-const UNDO_GOES_BACK_STEP_BY_STEP: &str = r#"cell int x: Ok(1)
-begin: Going
-slice 9: Ended(Ran(1, 1))
-cell x += 2147483647 x += 1: Ok(2)
-begin: Going
-slice 9: Ended(Ran(2, 5))
-world: 2 x=-2147483648
-undo 1: Ok(3)
-begin: Going
-slice 2: Going
-world: 2 x=2147483647
-slice 3: Ended(Undid(1, All))
-world: 1 x=0"#;
-
-#[test]
-fn undo_goes_back_step_by_step(rt: HostRuntime) -> Result<(), Fail> {
-    plays(&rt, rt.alloc(), UNDO_GOES_BACK_STEP_BY_STEP)
+/// Makes the calls on a new kernel, and writes each with its answer.
+pub(crate) fn tell(alloc: Global, calls: &str, out: &mut String) -> Result<(), AllocError> {
+    out.push_str(&told(alloc, calls)?)
 }
 
-/// An undo of more cells than there are is refused whole, one of none is done at once.
-const UNDO_OF_TOO_MANY_IS_REFUSED: &str = r#"undo 1: Ok(1)
-undo 0: Ok(2)
-begin: Ended(Refused(TooFar))
-begin: Ended(Undid(0, All))
-begin: Nothing"#;
-
-#[test]
-fn undo_of_too_many_is_refused(rt: HostRuntime) -> Result<(), Fail> {
-    plays(&rt, rt.alloc(), UNDO_OF_TOO_MANY_IS_REFUSED)
+/// Makes the calls on a new kernel, and gives each with its answer.
+fn told(alloc: Global, calls: &str) -> Result<String, AllocError> {
+    let calls = String::from_str(alloc, calls)?;
+    told_in::<Brand>(alloc, Blank::new(1), calls)
 }
 
-/// A cell that is asked to stop goes back by its own steps, and leaves all as before.
-const AN_INTERRUPTED_CELL_IS_TAKEN_BACK: &str = r#"cell int x: Ok(1)
-begin: Going
-slice 9: Ended(Ran(1, 1))
-cell x += 5: Ok(2)
-begin: Going
-slice 2: Going
-world: 1 x=5
-ask 1: Backing
-world: 1 x=0
-slice 1: Ended(Interrupted(2))
-world: 1 x=0"#;
-
-#[test]
-fn an_interrupted_cell_is_taken_back(rt: HostRuntime) -> Result<(), Fail> {
-    plays(&rt, rt.alloc(), AN_INTERRUPTED_CELL_IS_TAKEN_BACK)
-}
-
-/// A redo goes along the favourites, and an undone declaration is gone.
-const REDO_GOES_ALONG_FAVOURITES: &str = r#"cell int x: Ok(1)
-begin: Going
-slice 9: Ended(Ran(1, 1))
-cell x += 1: Ok(2)
-begin: Going
-slice 9: Ended(Ran(2, 3))
-undo 2: Ok(3)
-redo 2: Ok(4)
-begin: Going
-slice 9: Border
-begin: Going
-slice 9: Ended(Undid(2, All))
-world: 0
-begin: Going
-slice 9: Border
-begin: Going
-slice 9: Ended(Redid(2, All))
-world: 2 x=1"#;
-
-#[test]
-fn redo_goes_along_favourites(rt: HostRuntime) -> Result<(), Fail> {
-    plays(&rt, rt.alloc(), REDO_GOES_ALONG_FAVOURITES)
-}
-
-/// A refused text changes nothing, and says where.
-const TEXTS_ARE_REFUSED: &str = r#"cell int a[3: Ok(1)
-begin: Ended(Refused(Syntax(Expected(Sign(CloseIndex), Span { start: 7, end: 7 }))))
-cell int x x += y: Ok(2)
-begin: Ended(Refused(Check(Unknown(Span { start: 11, end: 12 }))))
-world: 0"#;
-
-#[test]
-fn texts_are_refused(rt: HostRuntime) -> Result<(), Fail> {
-    plays(&rt, rt.alloc(), TEXTS_ARE_REFUSED)
-}
-
-/// A goto that is interrupted on its way up leaves the favourite of the meeting node as it was.
-const AN_INTERRUPTED_GOTO_LEAVES_THE_FAVOURITE: &str = r#"cell int x: Ok(1)
-begin: Going
-slice 9: Ended(Ran(1, 1))
-cell x += 1: Ok(2)
-begin: Going
-slice 9: Ended(Ran(2, 3))
-undo 1: Ok(3)
-begin: Going
-slice 9: Ended(Undid(1, All))
-cell x += 2: Ok(4)
-begin: Going
-slice 9: Ended(Ran(3, 3))
-goto 2: Ok(5)
-begin: Going
-slice 3: Border
-begin: Going
-slice 1: Going
-ask 9: Ended(Went(1, 0, Asked))
-world: 1 x=0
-redo 1: Ok(6)
-begin: Going
-slice 9: Ended(Redid(1, All))
-world: 3 x=2
-goto 9: Ok(7)
-begin: Ended(Refused(NoNode))"#;
-
-#[test]
-fn an_interrupted_goto_leaves_the_favourite(rt: HostRuntime) -> Result<(), Fail> {
-    plays(&rt, rt.alloc(), AN_INTERRUPTED_GOTO_LEAVES_THE_FAVOURITE)
-}
-
-/// A job that was posted before a shutdown is refused as it is taken, and counted; a later post is refused.
-const A_SHUT_KERNEL_REFUSES_ITS_JOBS: &str = r#"cell int x: Ok(1)
-shut: true
-begin: Ended(Refused(Closing))
-world: 0
-undo 0: Err(Closing)
-minutes: 1 Idle; Posted { lane: 7, job: Cell { code: "int x", silent: false, store: true } }; Ended { number: 1, outcome: Refused(Closing), count: 1, node: 0 }"#;
-
-#[test]
-fn a_shut_kernel_refuses_its_jobs(rt: HostRuntime) -> Result<(), Fail> {
-    plays(&rt, rt.alloc(), A_SHUT_KERNEL_REFUSES_ITS_JOBS)
-}
-
-/// A shutdown interrupts nothing: the open job goes on to its end.
-const A_SHUTDOWN_INTERRUPTS_NOTHING: &str = r#"cell int x x += 5: Ok(1)
-begin: Going
-shut: true
-slice 9: Ended(Ran(1, 3))
-world: 1 x=5"#;
-
-#[test]
-fn a_shutdown_interrupts_nothing(rt: HostRuntime) -> Result<(), Fail> {
-    plays(&rt, rt.alloc(), A_SHUTDOWN_INTERRUPTS_NOTHING)
-}
-
-/// The counter is raised by cells that are not silent and are to be stored, whatever becomes of them.
-const THE_COUNTER_COUNTS_STORED_CELLS: &str = r#"silent int x: Ok(1)
-begin: Going
-slice 9: Ended(Ran(1, 1))
-unstored int y: Ok(2)
-begin: Going
-slice 9: Ended(Ran(2, 1))
-cell no cell: Ok(3)
-begin: Ended(Refused(Syntax(Expected(Operator, Span { start: 3, end: 7 }))))
-minutes: 1 Idle; Posted { lane: 7, job: Cell { code: "int x", silent: true, store: true } }; Ended { number: 1, outcome: Ran(1, 1), count: 0, node: 1 }; Posted { lane: 7, job: Cell { code: "int y", silent: false, store: false } }; Ended { number: 2, outcome: Ran(2, 1), count: 0, node: 2 }; Posted { lane: 7, job: Cell { code: "no cell", silent: false, store: true } }; Ended { number: 3, outcome: Refused(Syntax(Expected(Operator, Span { start: 3, end: 7 }))), count: 1, node: 2 }"#;
-
-#[test]
-fn the_counter_counts_stored_cells(rt: HostRuntime) -> Result<(), Fail> {
-    plays(&rt, rt.alloc(), THE_COUNTER_COUNTS_STORED_CELLS)
-}
-
-/// Each post and each end of a job stands in the minutes, with the counter and the position as the job ended.
-const THE_MINUTES_HOLD_POSTS_AND_ENDS: &str = r#"cell int x x += 5: Ok(1)
-cell x += 1: Ok(2)
-begin: Going
-slice 9: Ended(Ran(1, 3))
-begin: Going
-slice 2: Going
-ask 2: Ended(Interrupted(2))
-undo 1: Ok(3)
-begin: Going
-slice 9: Ended(Undid(1, All))
-redo 1: Ok(4)
-begin: Going
-slice 9: Ended(Redid(1, All))
-goto 0: Ok(5)
-begin: Going
-slice 9: Ended(Went(1, 0, All))
-undo 1: Ok(6)
-begin: Ended(Refused(TooFar))
-minutes: 2 Idle; Posted { lane: 7, job: Cell { code: "int x x += 5", silent: false, store: true } }; Posted { lane: 7, job: Cell { code: "x += 1", silent: false, store: true } }; Ended { number: 1, outcome: Ran(1, 3), count: 1, node: 1 }; Ended { number: 2, outcome: Interrupted(2), count: 2, node: 1 }; Posted { lane: 7, job: Undo(1) }; Ended { number: 3, outcome: Undid(1, All), count: 2, node: 0 }; Posted { lane: 7, job: Redo(1) }; Ended { number: 4, outcome: Redid(1, All), count: 2, node: 1 }; Posted { lane: 7, job: Goto(0) }; Ended { number: 5, outcome: Went(1, 0, All), count: 2, node: 0 }; Posted { lane: 7, job: Undo(1) }; Ended { number: 6, outcome: Refused(TooFar), count: 2, node: 0 }"#;
-
-#[test]
-fn the_minutes_hold_posts_and_ends(rt: HostRuntime) -> Result<(), Fail> {
-    plays(&rt, rt.alloc(), THE_MINUTES_HOLD_POSTS_AND_ENDS)
-}
-
-/// The phase tells which call is next.
-const THE_PHASE_TELLS_THE_NEXT_CALL: &str = r#"minutes: 0 Idle
-cell int x: Ok(1)
-cell int y: Ok(2)
-minutes: 0 Queued; Posted { lane: 7, job: Cell { code: "int x", silent: false, store: true } }; Posted { lane: 7, job: Cell { code: "int y", silent: false, store: true } }
-begin: Going
-slice 9: Ended(Ran(1, 1))
-begin: Going
-slice 9: Ended(Ran(2, 1))
-undo 2: Ok(3)
-begin: Going
-minutes: 2 Inside; Posted { lane: 7, job: Cell { code: "int x", silent: false, store: true } }; Posted { lane: 7, job: Cell { code: "int y", silent: false, store: true } }; Ended { number: 1, outcome: Ran(1, 1), count: 1, node: 1 }; Ended { number: 2, outcome: Ran(2, 1), count: 2, node: 2 }; Posted { lane: 7, job: Undo(2) }
-slice 9: Border
-minutes: 2 Border; Posted { lane: 7, job: Cell { code: "int x", silent: false, store: true } }; Posted { lane: 7, job: Cell { code: "int y", silent: false, store: true } }; Ended { number: 1, outcome: Ran(1, 1), count: 1, node: 1 }; Ended { number: 2, outcome: Ran(2, 1), count: 2, node: 2 }; Posted { lane: 7, job: Undo(2) }"#;
-
-#[test]
-fn the_phase_tells_the_next_call(rt: HostRuntime) -> Result<(), Fail> {
-    plays(&rt, rt.alloc(), THE_PHASE_TELLS_THE_NEXT_CALL)
-}
-
-/// A whole schedule, with its answers.
-fn schedule_in<L: Ledger, R: Abort>(rt: &R, alloc: Global, blank: Blank) -> Result<(), Fail>
+/// Makes the calls on a new kernel over this ledger, and gives each with its answer.
+fn told_in<L: Ledger>(alloc: Global, blank: Blank, calls: String) -> Result<String, AllocError>
     requires name { blank.name ≡ L.name }
     requires parts { blank.parts ≡ L.parts }
     requires some { 0 < L.parts }
 {
     let mut kernel = Kernel::<L>::new(alloc, blank)?;
-    let mut events = Vec::new(alloc);
-    let code = String::from_str(alloc, "int x x += 5")?;
-    let job = Job::Cell {
-        code,
-        silent: false,
-        store: true,
-    };
-    events.push(Event::Post(1, job))?;
-    events.push(Event::Begin)?;
-    events.push(Event::Slice(9, false))?;
-    events.push(Event::Post(2, Job::Redo(1)))?;
-    events.push(Event::Begin)?;
-    let told = run_events(alloc, &mut kernel, &events)?;
-    let want = [
-        Told::Post(Ok(1)),
-        Told::Begin(Begun::Going),
-        Told::Slice(Sliced::Ended(Outcome::Ran(1, 3))),
-        Told::Post(Ok(2)),
-        Told::Begin(Begun::Ended(Outcome::Refused(Refusal::TooFar))),
-    ];
-    assert_eq!(rt; told.as_slice(), want.as_slice());
-    Ok(())
+    let told = told_by(alloc, &mut kernel, &calls);
+    let_go(kernel);
+    told
 }
 
-#[test]
-fn runs_a_schedule(rt: HostRuntime) -> Result<(), Fail> {
-    schedule_in::<Brand, _>(&rt, rt.alloc(), Blank::new(1))
-}
+/// Lets a kernel go that is over.
+fn let_go<L: Ledger>(_kernel: Kernel<L>) {}
 
-/// A history of 65,536 nodes takes no further cell, whatever its text, and goes back as before.
-fn full_history_in<L: Ledger, R: Abort>(rt: &R, alloc: Global, blank: Blank) -> Result<(), Fail>
-    requires name { blank.name ≡ L.name }
-    requires parts { blank.parts ≡ L.parts }
-    requires some { 0 < L.parts }
-{
-    let mut kernel = Kernel::<L>::new(alloc, blank)?;
-    for _n in 0..65_536u32 {
-        let job = Job::Cell {
-            code: String::new(alloc),
-            silent: true,
-            store: false,
-        };
-        assert!(rt; kernel.post(1, job).is_ok());
-        assert_eq!(rt; kernel.begin(), Begun::Going);
-        let _ = kernel.slice(1, false);
+/// Makes the calls, and gives each with its answer.
+fn told_by<L: Ledger>(
+    alloc: Global,
+    kernel: &mut Kernel<L>,
+    calls: &str,
+) -> Result<String, AllocError> {
+    let mut out = String::new(alloc);
+    for call in calls.lines() {
+        let answer = answered(alloc, kernel, call)?;
+        push_answer(&mut out, call, &answer)?;
     }
-    assert_eq!(rt; kernel.position(), 65_536);
-    let code = String::from_str(alloc, "no cell")?;
-    let job = Job::Cell {
-        code,
-        silent: false,
-        store: true,
-    };
-    assert!(rt; kernel.post(1, job).is_ok());
-    let full = Begun::Ended(Outcome::Refused(Refusal::HistoryFull));
-    assert_eq!(rt; kernel.begin(), full);
-    assert!(rt; kernel.post(1, Job::Goto(1)).is_ok());
-    assert_eq!(rt; kernel.begin(), Begun::Going);
-    Ok(())
+    Ok(out)
 }
 
-#[test]
-fn a_full_history_takes_no_cell(rt: HostRuntime) -> Result<(), Fail> {
-    full_history_in::<Brand, _>(&rt, rt.alloc(), Blank::new(1))
+/// The answer to a call, or to the last of calls that are repeated.
+fn answered<L: Ledger>(
+    alloc: Global,
+    kernel: &mut Kernel<L>,
+    call: &str,
+) -> Result<String, AllocError> {
+    let (word, rest) = cut(call);
+    if word != "repeat" {
+        return answer(alloc, kernel, call);
+    }
+    let (times, calls) = cut(rest);
+    let mut last = String::new(alloc);
+    for _ in 0..number(times) {
+        last = answers(alloc, kernel, calls)?;
+    }
+    Ok(last)
+}
+
+/// The answers to calls with a semicolon between them.
+fn answers<L: Ledger>(
+    alloc: Global,
+    kernel: &mut Kernel<L>,
+    calls: &str,
+) -> Result<String, AllocError> {
+    let mut text = String::new(alloc);
+    for call in calls.split(';') {
+        push_both(&mut text, " ", &answer(alloc, kernel, call)?)?;
+    }
+    Ok(text)
+}
+
+/// The answer to a call.
+fn answer<L: Ledger>(
+    alloc: Global,
+    kernel: &mut Kernel<L>,
+    call: &str,
+) -> Result<String, AllocError> {
+    let (word, rest) = cut(call);
+    match word {
+        "begin" => begin(alloc, kernel),
+        "slice" | "ask" => slice(alloc, kernel, number(rest), word == "ask"),
+        "shut" => shut(alloc, kernel),
+        "events" => events(alloc, kernel),
+        "cell" | "silent" | "unstored" | "undo" | "redo" | "goto" => {
+            post(alloc, kernel, word, rest)
+        }
+        _ => view(alloc, kernel, word, rest),
+    }
+}
+
+/// Begins a job or its next cell.
+fn begin<L: Ledger>(alloc: Global, kernel: &mut Kernel<L>) -> Result<String, AllocError> {
+    shown(alloc, &kernel.begin())
+}
+
+/// Takes so many steps, asked to stop or not.
+fn slice<L: Ledger>(
+    alloc: Global,
+    kernel: &mut Kernel<L>,
+    steps: usize,
+    asked: bool,
+) -> Result<String, AllocError> {
+    shown(alloc, &kernel.slice(steps as u64, asked))
+}
+
+/// Shuts a kernel, and tells whether it is closing.
+fn shut<L: Ledger>(alloc: Global, kernel: &mut Kernel<L>) -> Result<String, AllocError> {
+    kernel.shut();
+    shown(alloc, &kernel.is_closing())
+}
+
+/// Posts the job of a call.
+fn post<L: Ledger>(
+    alloc: Global,
+    kernel: &mut Kernel<L>,
+    word: &str,
+    rest: &str,
+) -> Result<String, AllocError> {
+    let job = job_of(alloc, word, rest)?;
+    shown(alloc, &kernel.post(7, job))
+}
+
+/// What is seen of a kernel.
+fn view<L: Ledger>(
+    alloc: Global,
+    kernel: &Kernel<L>,
+    word: &str,
+    rest: &str,
+) -> Result<String, AllocError> {
+    match word {
+        "world" => world(alloc, kernel),
+        "minutes" => minutes(alloc, kernel),
+        _ => question(alloc, kernel, word, rest),
+    }
+}
+
+/// The job of a call: a cell with a text, or a move with a number.
+fn job_of(alloc: Global, word: &str, rest: &str) -> Result<Job, AllocError> {
+    let number = rest.parse::<u32>().unwrap_or(0);
+    match word {
+        "undo" => Ok(Job::Undo(number)),
+        "redo" => Ok(Job::Redo(number)),
+        "goto" => Ok(Job::Goto(number)),
+        _ => Ok(Job::Cell {
+            code: written(alloc, rest)?,
+            silent: word == "silent",
+            store: word != "unstored",
+        }),
+    }
+}
+
+/// The shown world: the position, and each name with its value.
+fn world<L: Ledger>(alloc: Global, kernel: &Kernel<L>) -> Result<String, AllocError> {
+    let mut text = shown(alloc, &kernel.position())?;
+    let world = kernel.world();
+    for i in 0..world.len() {
+        let (name, value) = world.entry(i);
+        let value = value_shown(alloc, value)?;
+        text.push_str(&format!(in alloc; " {name}={value}")?)?;
+    }
+    Ok(text)
+}
+
+/// The counter, the phase, and the entries of the minutes.
+fn minutes<L: Ledger>(alloc: Global, kernel: &Kernel<L>) -> Result<String, AllocError> {
+    let (counter, phase) = (kernel.counter(), kernel.phase());
+    let mut text = format!(in alloc; "{counter} {phase:?}")?;
+    for entry in kernel.minutes() {
+        text.push_str(&format!(in alloc; "; {entry:?}")?)?;
+    }
+    Ok(text)
+}
+
+/// The answers to a list of events.
+fn events<L: Ledger>(alloc: Global, kernel: &mut Kernel<L>) -> Result<String, AllocError> {
+    let job = job_of(alloc, "cell", "int x x += 5")?;
+    let events = Vec::from_array(
+        alloc,
+        [
+            Event::Post(1, job),
+            Event::Begin,
+            Event::Slice(9, false),
+            Event::Post(2, Job::Redo(1)),
+            Event::Begin,
+        ],
+    )?;
+    shown(alloc, &run_events(alloc, kernel, &events))
 }
