@@ -1,11 +1,11 @@
-//! The stamp under which the answers of the tests go out.
+//! The stamp under which the answers go out.
 ghost use Rattle.std.specs.Prelude.{◌≡◌, IfOk};
 
 use kernel_message::Stamp;
 use std::alloc::{AllocError, Global};
 
 /// The stamp of session `k` and connection 1, at its first message. The only error is want of memory.
-pub fn stamp(alloc: Global) -> Result<Stamp, AllocError>
+pub(crate) fn stamp(alloc: Global) -> Result<Stamp, AllocError>
     ensures { IfOk result (λ s. s.next ≡ 0) }
 {
     Ok(Stamp {

@@ -1,58 +1,57 @@
-//! The texts under which faults and refusals are printed.
+//! Rows of the texts under which faults and refusals are printed: of the `wire`, of a `peer` and of `messages`, by their places in the
+//! lists below.
 use jupyter_msg::{Field, MsgFault, Part, Setting};
-use std::test::Fail;
+use std::alloc::{AllocError, Global};
+use std::string::ToString;
+use test_rows::{cut, number, push_answer};
 use zmtp_peer::PeerFault;
 use zmtp_wire::WireFault;
 
-#[test]
-fn faults_of_the_wire_are_printed(rt: HostRuntime) -> Result<(), Fail> {
-    let alloc = rt.alloc();
-    let wire = [
-        (WireFault::BadSignature, "BadSignature"),
-        (WireFault::OldVersion, "OldVersion"),
-        (WireFault::BadMechanism, "BadMechanism"),
-        (WireFault::ReservedBits, "ReservedBits"),
-        (WireFault::CommandWithMore, "CommandWithMore"),
-        (WireFault::TooLong, "TooLong"),
-        (WireFault::Memory, "Memory"),
-    ];
-    for (fault, text) in wire {
-        assert_eq!(rt; fault.to_string(alloc)?.as_str(), text);
+const WIRE: [WireFault; 7] = [
+    WireFault::BadSignature,
+    WireFault::OldVersion,
+    WireFault::BadMechanism,
+    WireFault::ReservedBits,
+    WireFault::CommandWithMore,
+    WireFault::TooLong,
+    WireFault::Memory,
+];
+
+const PEER: [PeerFault; 5] = [
+    PeerFault::MEMORY,
+    PeerFault::NoSocketType,
+    PeerFault::WrongPair,
+    PeerFault::BadMetadata,
+    PeerFault::NotReady,
+];
+
+const MESSAGES: [MsgFault; 8] = [
+    MsgFault::NoDelimiter,
+    MsgFault::ShortMessage,
+    MsgFault::BadSignature,
+    MsgFault::NotJson(Part::Parent),
+    MsgFault::BadField(Field::CursorPos),
+    MsgFault::UnknownType,
+    MsgFault::Memory,
+    MsgFault::BadConnection(Setting::File),
+];
+
+/// Writes the calls with their answers.
+pub(crate) fn tell(alloc: Global, calls: &str, out: &mut String) -> Result<(), AllocError> {
+    for call in calls.lines() {
+        let (word, rest) = cut(call);
+        let answer = printed(alloc, word, number(rest))?;
+        push_answer(out, call, &answer)?;
     }
     Ok(())
 }
 
-#[test]
-fn faults_of_peers_are_printed(rt: HostRuntime) -> Result<(), Fail> {
-    let alloc = rt.alloc();
-    let peer = [
-        (PeerFault::MEMORY, "Memory"),
-        (PeerFault::NoSocketType, "NoSocketType"),
-        (PeerFault::WrongPair, "WrongPair"),
-        (PeerFault::BadMetadata, "BadMetadata"),
-        (PeerFault::NotReady, "NotReady"),
-    ];
-    for (fault, text) in peer {
-        assert_eq!(rt; fault.to_string(alloc)?.as_str(), text);
+/// The text of the fault at a place of a list.
+fn printed(alloc: Global, word: &str, at: usize) -> Result<String, AllocError> {
+    match word {
+        "wire" if at < WIRE.len() => WIRE[at].to_string(alloc),
+        "peer" if at < PEER.len() => PEER[at].to_string(alloc),
+        "messages" if at < MESSAGES.len() => MESSAGES[at].to_string(alloc),
+        _ => Ok(String::new(alloc)),
     }
-    Ok(())
-}
-
-#[test]
-fn faults_of_messages_are_printed(rt: HostRuntime) -> Result<(), Fail> {
-    let alloc = rt.alloc();
-    let messages = [
-        (MsgFault::NoDelimiter, "NoDelimiter"),
-        (MsgFault::ShortMessage, "ShortMessage"),
-        (MsgFault::BadSignature, "BadSignature"),
-        (MsgFault::NotJson(Part::Parent), "NotJson parent_header"),
-        (MsgFault::BadField(Field::CursorPos), "BadField cursor_pos"),
-        (MsgFault::UnknownType, "UnknownType"),
-        (MsgFault::Memory, "Memory"),
-        (MsgFault::BadConnection(Setting::File), "BadConnection file"),
-    ];
-    for (fault, text) in messages {
-        assert_eq!(rt; fault.to_string(alloc)?.as_str(), text);
-    }
-    Ok(())
 }

@@ -1,0 +1,111 @@
+//! What a kernel tells of a request as it asks.
+use crate::kernels::ended;
+use crate::told::{Told, answered};
+use jupyter_msg::{
+    CommAsk, ExecuteRequest, HistoryAccess, HistoryRequest, MsgFault, RequestContent,
+};
+use kernel_ask::{Ask, Comms, HistoryAsk, Wish};
+use kernel_core::{Job, Kernel};
+use std::alloc::{AllocError, Global};
+use std::sync::ledger::Ledger;
+
+/// Runs the cell or the move, or asks the question. A job is asked to stop behind so many slices.
+pub(crate) fn asked<L: Ledger>(
+    alloc: Global,
+    kernel: &mut Kernel<L>,
+    comms: &mut Comms,
+    content: &RequestContent,
+    calm: usize,
+) -> Result<Told, MsgFault> {
+    match content {
+        RequestContent::Execute(request) => Ok(executed(alloc, kernel, request, calm)?),
+        RequestContent::CommMessage(message) => on_comm(alloc, kernel, comms, message.ask, calm),
+        _ => {
+            let ask = ask_of(comms, content)?;
+            answered(alloc, kernel, comms, ask)
+        }
+    }
+}
+
+/// Runs the cell of a request.
+fn executed<L: Ledger>(
+    alloc: Global,
+    kernel: &mut Kernel<L>,
+    request: &ExecuteRequest,
+    calm: usize,
+) -> Result<Told, AllocError> {
+    let wishes = wishes_of(alloc, request)?;
+    let job = Job::Cell {
+        code: request.code.clone()?,
+        silent: request.silent,
+        store: request.store_history,
+    };
+    let code = request.code.as_str();
+    Ok(Told::Ended(ended(alloc, kernel, job, code, &wishes, calm)?))
+}
+
+/// The user expressions of a request.
+fn wishes_of(alloc: Global, request: &ExecuteRequest) -> Result<Vec<Wish>, AllocError> {
+    let mut wishes = Vec::new(alloc);
+    for asked in &request.user_expressions {
+        wishes.push(Wish {
+            name: asked.name.clone()?,
+            exp: asked.expression.clone()?,
+        })?;
+    }
+    Ok(wishes)
+}
+
+/// Makes the move that is asked for on a comm, or asks for the state.
+fn on_comm<L: Ledger>(
+    alloc: Global,
+    kernel: &mut Kernel<L>,
+    comms: &Comms,
+    ask: CommAsk,
+    calm: usize,
+) -> Result<Told, MsgFault> {
+    let job = match ask {
+        CommAsk::Undo(count) => Job::Undo(count),
+        CommAsk::Redo(count) => Job::Redo(count),
+        CommAsk::Goto(node) => Job::Goto(node),
+        CommAsk::State | CommAsk::Other => return answered(alloc, kernel, comms, Ask::State),
+    };
+    Ok(Told::Ended(ended(alloc, kernel, job, "", &[], calm)?))
+}
+
+/// What is asked of the kernel, once a comm that is to be opened is open.
+fn ask_of(comms: &mut Comms, content: &RequestContent) -> Result<Ask, AllocError> {
+    match content {
+        RequestContent::Complete(request) => Ok(Ask::Complete {
+            code: request.code.clone()?,
+            cursor: request.cursor,
+        }),
+        RequestContent::Inspect(request) => Ok(Ask::Inspect {
+            code: request.code.clone()?,
+            cursor: request.cursor,
+        }),
+        RequestContent::IsComplete(request) => Ok(Ask::IsComplete {
+            code: request.code.clone()?,
+        }),
+        RequestContent::History(request) => Ok(history_of(request)),
+        RequestContent::CommInfo(_) | RequestContent::CommClose(_) => Ok(Ask::Comms),
+        RequestContent::CommOpen(request) => {
+            let _opened = comms.open(request.comm_id.clone()?)?;
+            Ok(Ask::Comms)
+        }
+        _ => Ok(Ask::State),
+    }
+}
+
+/// The history that is asked for; a search is none.
+fn history_of(request: &HistoryRequest) -> Ask {
+    match request.access {
+        HistoryAccess::Tail => Ask::History(HistoryAsk::Tail(request.n)),
+        HistoryAccess::Range => Ask::History(HistoryAsk::Range {
+            session: request.session,
+            start: request.start,
+            stop: request.stop,
+        }),
+        HistoryAccess::Search => Ask::State,
+    }
+}
