@@ -10,10 +10,9 @@ mod octets;
 mod texts;
 
 pub use octets::{cut_frame, frames_of, frames_shown, octets_of};
-pub use texts::{unescaped, written};
-
 use std::alloc::{AllocError, Global};
 use std::fmt::Debug;
+pub use texts::{unescaped, written};
 
 /// A value as `Debug` writes it.
 pub fn shown<T: Debug>(alloc: Global, value: &T) -> Result<String, AllocError> {
