@@ -24,7 +24,7 @@ const LOOKS: u32 = 4096;
 
 /// A conversation with a kernel: a connection to shell, one to iopub that is subscribed to all, and the session.
 #[derive(Drop)]
-pub(crate) struct Frontend<R, W> {
+pub struct Frontend<R, W> {
     pub alloc: Global,
     pub key: String,
     pub session: String,
@@ -35,7 +35,7 @@ pub(crate) struct Frontend<R, W> {
 }
 
 /// Subscribes to all broadcasts.
-pub(crate) fn subscribe<R: Read + Drop, W: Write + Drop>(
+pub fn subscribe<R: Read + Drop, W: Write + Drop>(
     iopub: &mut Wire<R, W>,
 ) -> Result<(), ConsoleFault> {
     let all = b"\x01".to_vec(iopub.alloc)?;
@@ -105,7 +105,7 @@ impl<R: Read + Drop, W: Write + Drop> Frontend<R, W> {
     }
 
     /// Asks what the kernel is, until a status with its parent came: then all later broadcasts come too.
-    pub(crate) fn greet(&mut self) -> Result<(), ConsoleFault> {
+    pub fn greet(&mut self) -> Result<(), ConsoleFault> {
         for _ in 0..ASKS {
             let asked = kernel_info_draft(self.alloc);
             self.send(&asked)?;
@@ -227,7 +227,7 @@ impl<R: Read + Drop, W: Write + Drop> Frontend<R, W> {
     }
 
     /// Has the kernel do what the command says, and answers what is printed.
-    pub(crate) fn obey(&mut self, command: &Command) -> Result<Told, ConsoleFault> {
+    pub fn obey(&mut self, command: &Command) -> Result<Told, ConsoleFault> {
         match command {
             Command::Run(code) => self.run(code),
             Command::Undo(k) => self.go("undo", *k),

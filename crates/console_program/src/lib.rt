@@ -2,8 +2,8 @@
 //! what came of it.
 //!
 //! [`console`] is the program, with its status. It reads the connection file, connects to iopub and then to shell, waits until broadcasts
-//! come, and has the kernel do what the words ask. Below it stand a wire, which is one connection over any reader and any
-//! writer, and a frontend, which is a conversation over two wires; what is said and what is printed are functions of `console_talk`, and the words are
+//! come, and has the kernel do what the words ask. Below it stand [`Wire`], which is one connection over any reader and any
+//! writer, and [`Frontend`], which is a conversation over two wires; what is said and what is printed are functions of `console_talk`, and the words are
 //! read by `console_words`.
 //!
 //! Proved is that all of it is safe, that a wire writes just the frames that it is given, and that what is printed goes out or a beginning of
@@ -13,8 +13,8 @@
 mod frontend;
 mod output;
 mod program;
-#[cfg(test)]
-mod tests;
 mod wire;
 
+pub use frontend::{Frontend, subscribe};
 pub use program::console;
+pub use wire::Wire;

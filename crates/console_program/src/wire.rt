@@ -16,7 +16,7 @@ const ROOM: usize = 8192;
 
 /// A connection to one socket of the kernel, over a reader and a writer.
 #[derive(Drop)]
-pub(crate) struct Wire<R, W> {
+pub struct Wire<R, W> {
     pub alloc: Global,
     pub reader: R,
     pub writer: W,
@@ -37,7 +37,7 @@ fn peer_fault(fault: PeerFault) -> ConsoleFault {
 
 impl<R: Read + Drop, W: Write + Drop> Wire<R, W> {
     /// Opens the connection in this role: sends what goes first, and waits until the kernel is ready.
-    pub(crate) fn open(
+    pub fn open(
         alloc: Global,
         reader: R,
         writer: W,
@@ -101,7 +101,7 @@ impl<R: Read + Drop, W: Write + Drop> Wire<R, W> {
     }
 
     /// The next message; none where none came in the time that the reader waits.
-    pub(crate) fn next(&mut self) -> Result<Option<Vec<Vec<u8>>>, ConsoleFault> {
+    pub fn next(&mut self) -> Result<Option<Vec<Vec<u8>>>, ConsoleFault> {
         for _ in 0..u64::MAX {
             if let Some(frames) = self.messages.pop_front() {
                 return Ok(Some(frames));
@@ -114,7 +114,7 @@ impl<R: Read + Drop, W: Write + Drop> Wire<R, W> {
     }
 
     /// Writes a message of these frames, all at once.
-    pub(crate) fn write(&mut self, frames: &[Vec<u8>]) -> Result<(), ConsoleFault>
+    pub fn write(&mut self, frames: &[Vec<u8>]) -> Result<(), ConsoleFault>
         requires { 0 < length frames.now }
         ensures { OnOk result (Appends (W.contents self.old.writer) (W.contents self.new.writer) (message_octets (bodies_of frames.now))) }
     {

@@ -195,6 +195,10 @@ impl<W: Ledger, L: Ledger> Hall<W, L> {
         state.into_inner().close(passes, tickets, dones)
     }
 
+    /// Discards the hall, with its kernel and its minutes. An owner who calls this, on each of his ways out, has nothing of the kernel to let
+    /// go himself, and so nothing to prove of that: it is proved once, here.
+    pub fn discard(self) {}
+
     /// Waits until there is something to do. False where the kernel is shut and nothing is left.
     pub(crate) fn has_work<R: Wait>(&self, rt: &R) -> bool {
         let mut state = self.state.lock(rt);

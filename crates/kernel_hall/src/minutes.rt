@@ -32,4 +32,7 @@ impl<W: Ledger> Minutes<W> {
     {
         self.kernel.minutes()
     }
+
+    /// Discards the minutes, with their kernel: as `Hall::discard` does a hall.
+    pub fn discard(self) {}
 }

@@ -5,7 +5,7 @@
 //! [`serve_all`] starts the threads, tells when it is ready, waits for a shutdown and joins every thread. A place of shell or control has
 //! a pass of the hall and a ringer's seat for as long as it lives. As a shutdown is answered no more connections are accepted, those on
 //! which requests come are shut for reading, so that each still gets the answer that it waits for, and once they have ended, or after a grace of
-//! two seconds altogether; then the same is done to the subscribers, who so get the last broadcasts.
+//! a second altogether; then the same is done to the subscribers, who so get the last broadcasts.
 //!
 //! To the layer above this crate promises safety alone, and that each place's seat is one of the bell of the hall (the type of
 //! `HallDesk`): that a thread runs, a connection is served or an end comes, no contract can say.

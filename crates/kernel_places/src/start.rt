@@ -19,8 +19,9 @@ use std::thread;
 use std::thread::{Scope, Threads};
 use std::time::{Clock, Duration};
 
-/// How long connections that still write are waited for at the end.
-const GRACE_SECONDS: u64 = 2;
+/// How long connections that still write are waited for at the end: once those that call, and then those that subscribe, so that both
+/// stay within a second.
+const GRACE_MILLISECONDS: u64 = 400;
 
 /// The seats of a hall's bell: that of the worker, and one for each place of shell and control.
 #[derive(Drop)]
@@ -184,7 +185,7 @@ fn end_callers<W: Ledger, L: Ledger, R: Wait + Clock>(
     service.callers.close(rt, Shutdown::Read);
     service
         .callers
-        .wait_until_empty(rt, Duration::from_secs(GRACE_SECONDS));
+        .wait_until_empty(rt, Duration::from_millis(GRACE_MILLISECONDS));
     service.callers.close(rt, Shutdown::Both);
 }
 
@@ -194,7 +195,7 @@ fn end_subscribers<W: Ledger, L: Ledger, R: Wait + Clock>(rt: &R, service: &Serv
     service.bulletin.signal().raise(rt);
     service
         .subscribers
-        .wait_until_empty(rt, Duration::from_secs(GRACE_SECONDS));
+        .wait_until_empty(rt, Duration::from_millis(GRACE_MILLISECONDS));
     service.subscribers.close(rt, Shutdown::Both);
 }
 

@@ -1,9 +1,11 @@
-//! Tests of the two programs over loopback: a kernel and its frontends, each on threads of one process.
+//! Tests of the two programs over loopback: a kernel and its frontends, each on threads of one process; and of a console's conversations over memory.
 //!
 //! No contract says what a socket delivers, nor that an end comes. These tests run the programs from their command lines: what the consoles print, which
 //! statuses come, that an endless cell is interrupted from another connection, and that a kernel ends once a shutdown was asked for, with all its threads.
 #![tactic(auto)]
 
+#[cfg(test)]
+mod conversations;
 #[cfg(test)]
 mod files;
 #[cfg(test)]

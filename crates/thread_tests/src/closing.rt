@@ -1,7 +1,7 @@
 //! Halls that close, with what their frontends came away with and with what is not so.
 ghost use Rattle.std.specs.Prelude.{◌≡◌, ◌<◌};
 
-use crate::desk::{Away, Desk, cell, ends, pass, post};
+use crate::desk::{Away, Desk, cell, closed, ends, pass, post};
 use kernel_core::{Job, Outcome};
 use kernel_hall::{AuditFault, Ticket};
 use std::alloc::{AllocError, Global};
@@ -64,6 +64,18 @@ fn bend_it<L: Ledger>(alloc: Global, away: &mut Away<L>, how: Bend) -> Result<()
     Ok(())
 }
 
+/// What the frontends of a new hall come away with, bent.
+fn bent<W: Ledger, L: Ledger, R: Wait + Abort>(
+    rt: &R,
+    alloc: Global,
+    desk: &mut Desk<W, L>,
+    how: Bend,
+) -> Result<Away<L>, Fail> {
+    let mut away = away(rt, alloc, desk)?;
+    bend_it(alloc, &mut away, how)?;
+    Ok(away)
+}
+
 /// How many minutes a hall closes with, or its fault.
 fn closed_in<W: Ledger, L: Ledger, R: Wait + Abort>(
     rt: &R,
@@ -76,21 +88,19 @@ fn closed_in<W: Ledger, L: Ledger, R: Wait + Abort>(
     requires posts { (posts.name ≡ L.name) × (posts.parts ≡ 65537) × (posts.parts ≡ L.parts) }
 {
     let mut desk = Desk::<W, L>::new(alloc, writes, posts)?;
-    let mut away = away(rt, alloc, &mut desk)?;
-    bend_it(alloc, &mut away, how)?;
-    let Away {
-        passes,
-        tickets,
-        dones,
-    } = away;
-    let Desk { hall, seat: _ } = desk;
-    match hall.close(passes, tickets, dones) {
-        Ok(minutes) => Ok(Ok(minutes.entries().len())),
-        Err(fault) => Ok(Err(fault)),
+    match bent(rt, alloc, &mut desk, how) {
+        Ok(away) => {
+            let Desk { hall, seat: _ } = desk;
+            Ok(closed(hall, away))
+        }
+        Err(fail) => {
+            desk.discard();
+            Err(fail)
+        }
     }
 }
 
-fn closed<R: Wait + Abort>(
+fn closed_by<R: Wait + Abort>(
     rt: &R,
     alloc: Global,
     how: Bend,
@@ -108,7 +118,7 @@ fn a_hall_closes_with_what_is_so(rt: HostRuntime) -> Result<(), Fail> {
         (Bend::OtherOutcome, Err(AuditFault::TicketUnknown(2))),
     ];
     for (how, want) in cases {
-        assert_eq!(rt; closed(&rt, rt.alloc(), how)?, want, "where {how:?}");
+        assert_eq!(rt; closed_by(&rt, rt.alloc(), how)?, want, "where {how:?}");
     }
     Ok(())
 }

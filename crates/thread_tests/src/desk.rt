@@ -4,7 +4,7 @@ ghost use Rattle.std.specs.Prelude.{◌≡◌, ◌<◌};
 use kernel_ask::{Answer, Ask, Comms, Content, Done, Wish};
 use kernel_bell::{Bell, RunnerSeat};
 use kernel_core::{Begun, Job, Kernel, Outcome, Sliced};
-use kernel_hall::{Gate, Hall, Pass, SLICE, Ticket, Turn, work};
+use kernel_hall::{AuditFault, Gate, Hall, Pass, SLICE, Ticket, Turn, work};
 use std::alloc::{AllocError, Global};
 use std::process::Abort;
 use std::sync::Wait;
@@ -24,8 +24,8 @@ impl<W: Ledger, L: Ledger> Desk<W, L> {
         requires writes { (writes.name ≡ W.name) × (writes.parts ≡ W.parts) × (0 < W.parts) }
         requires posts { (posts.name ≡ L.name) × (posts.parts ≡ 65537) × (posts.parts ≡ L.parts) }
     {
-        let kernel = Kernel::new(alloc, writes)?;
         let (bell, seat, _) = Bell::new(alloc, 1)?;
+        let kernel = Kernel::new(alloc, writes)?;
         let hall = Hall::new(alloc, posts, kernel, Comms::new(alloc), bell);
         Ok(Desk { hall, seat })
     }
@@ -53,6 +53,12 @@ impl<W: Ledger, L: Ledger> Desk<W, L> {
             let _outcome = self.run(rt);
         }
     }
+
+    /// Lets the hall go. Each test that owns a desk ends by this or by [`closed`].
+    pub fn discard(self) {
+        let Desk { hall, seat: _ } = self;
+        hall.discard();
+    }
 }
 
 /// The worker's side of a hall.
@@ -79,19 +85,24 @@ pub(crate) struct Away<L: Ledger> {
     pub dones: Vec<Done>,
 }
 
-/// Closes the hall: how many minutes it had.
-pub(crate) fn closed<W: Ledger, L: Ledger, R: Abort>(
-    rt: &R,
+/// Closes the hall: how many minutes it had, or what is missing or untrue.
+pub(crate) fn closed<W: Ledger, L: Ledger>(
     hall: Hall<W, L>,
     away: Away<L>,
-) -> usize {
+) -> Result<usize, AuditFault> {
     let Away {
         passes,
         tickets,
         dones,
     } = away;
-    let closed = hall.close(passes, tickets, dones);
-    closed.ok().expect(rt, "minutes").entries().len()
+    match hall.close(passes, tickets, dones) {
+        Ok(minutes) => {
+            let count = minutes.entries().len();
+            minutes.discard();
+            Ok(count)
+        }
+        Err(fault) => Err(fault),
+    }
 }
 
 /// A new pass.

@@ -111,32 +111,50 @@ fn first_cell<W: Ledger, L: Ledger, R: Wait + Abort>(
     })
 }
 
-fn play_in<W: Ledger + Send + Sync, L: Ledger + Send + Sync, R: Threads + Wait + Abort + Sync>(
+/// All threads post beside the worker, and the hall closes with all that they came away with.
+fn post_all<W: Ledger + Send + Sync, L: Ledger + Send + Sync, R: Threads + Wait + Abort + Sync>(
     rt: &R,
     alloc: Global,
-    writes: Blank,
-    posts: Blank,
-) -> Result<(), Fail>
-    requires writes { (writes.name ≡ W.name) × (writes.parts ≡ W.parts) × (0 < W.parts) }
-    requires posts { (posts.name ≡ L.name) × (posts.parts ≡ 65537) × (posts.parts ≡ L.parts) }
-{
-    let mut desk = Desk::<W, L>::new(alloc, writes, posts)?;
-    let all = Mutex::new(first_cell(rt, alloc, &mut desk)?);
+    desk: Desk<W, L>,
+    first: Away<L>,
+) {
+    let all = Mutex::new(first);
     let Desk { hall, seat } = desk;
     assert!(rt; posted_beside(rt, alloc, Worker { hall: &hall, seat }, &all) == 0);
     let away = all.into_inner();
     assert!(rt; away.tickets.len() == 641 && away.dones.len() == 641 && away.passes.len() == 33);
     assert!(rt; is_world(rt, &hall, &pass(rt, &hall), 1282, "x = 640"));
-    assert!(rt; closed(rt, hall, away) == 1282);
-    Ok(())
+    assert!(rt; closed(hall, away) == Ok(1282));
 }
 
-fn play<R: Threads + Wait + Abort + Sync>(rt: &R, alloc: Global) -> Result<(), Fail> {
+fn play_in<W: Ledger + Send + Sync, L: Ledger + Send + Sync, R: Threads + Wait + Abort + Sync>(
+    rt: &R,
+    alloc: Global,
+    writes: Blank,
+    posts: Blank,
+) -> Result<(), AllocError>
+    requires writes { (writes.name ≡ W.name) × (writes.parts ≡ W.parts) × (0 < W.parts) }
+    requires posts { (posts.name ≡ L.name) × (posts.parts ≡ 65537) × (posts.parts ≡ L.parts) }
+{
+    let mut desk = Desk::<W, L>::new(alloc, writes, posts)?;
+    match first_cell(rt, alloc, &mut desk) {
+        Ok(first) => {
+            post_all(rt, alloc, desk, first);
+            Ok(())
+        }
+        Err(fault) => {
+            desk.discard();
+            Err(fault)
+        }
+    }
+}
+
+fn play<R: Threads + Wait + Abort + Sync>(rt: &R, alloc: Global) -> Result<(), AllocError> {
     play_in::<Brand, Brand, R>(rt, alloc, Blank::new(1), Blank::new(65_537))
 }
 
 /// Nothing of what they post is lost, and nothing is run twice.
 #[test]
 fn threads_that_post_lose_nothing(rt: HostRuntime) -> Result<(), Fail> {
-    play(&rt, rt.alloc())
+    Ok(play(&rt, rt.alloc())?)
 }

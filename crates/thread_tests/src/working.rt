@@ -120,28 +120,42 @@ fn held_beside<
     })
 }
 
+/// The hall closes with what the frontends came away with.
+fn close_all<W: Ledger, L: Ledger, R: Abort>(rt: &R, hall: Hall<W, L>, away: Away<L>) {
+    assert!(rt; are_three(&away.dones));
+    assert!(rt; closed(hall, away) == Ok(6));
+}
+
 fn play_in<W: Ledger + Send + Sync, L: Ledger + Send + Sync, R: Threads + Wait + Abort + Sync>(
     rt: &R,
     alloc: Global,
     writes: Blank,
     posts: Blank,
-) -> Result<(), Fail>
+) -> Result<(), AllocError>
     requires writes { (writes.name ≡ W.name) × (writes.parts ≡ W.parts) × (0 < W.parts) }
     requires posts { (posts.name ≡ L.name) × (posts.parts ≡ 65537) × (posts.parts ≡ L.parts) }
 {
     let Desk { hall, seat } = Desk::<W, L>::new(alloc, writes, posts)?;
     let word = AtomicU64::new(0);
-    let away = held_beside(rt, alloc, Worker { hall: &hall, seat }, &word)?;
-    assert!(rt; word.load(Ordering::SeqCst) == FREE && are_three(&away.dones));
-    assert!(rt; closed(rt, hall, away) == 6);
-    Ok(())
+    let held = held_beside(rt, alloc, Worker { hall: &hall, seat }, &word);
+    assert!(rt; word.load(Ordering::SeqCst) == FREE);
+    match held {
+        Ok(away) => {
+            close_all(rt, hall, away);
+            Ok(())
+        }
+        Err(fault) => {
+            hall.discard();
+            Err(fault)
+        }
+    }
 }
 
-fn play<R: Threads + Wait + Abort + Sync>(rt: &R, alloc: Global) -> Result<(), Fail> {
+fn play<R: Threads + Wait + Abort + Sync>(rt: &R, alloc: Global) -> Result<(), AllocError> {
     play_in::<Brand, Brand, R>(rt, alloc, Blank::new(1), Blank::new(65_537))
 }
 
 #[test]
 fn a_question_is_answered_while_a_cell_runs(rt: HostRuntime) -> Result<(), Fail> {
-    play(&rt, rt.alloc())
+    Ok(play(&rt, rt.alloc())?)
 }

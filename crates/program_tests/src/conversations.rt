@@ -1,6 +1,5 @@
-//! Conversations over memory, with a kernel that says what was written down by hand.
-use crate::frontend::{Frontend, subscribe};
-use crate::wire::Wire;
+//! Conversations of a console over memory, with a kernel that says what was written down by hand.
+use console_program::{Frontend, Wire, subscribe};
 use console_talk::{Command, ConsoleFault, Told, session_name};
 use jupyter_msg::{Message, open, seal};
 use std::alloc::Global;
