@@ -3,8 +3,8 @@ ghost use Rattle.std.specs.Prelude.{◌≡◌, ◌<◌};
 
 use crate::desk::{Desk, cell, is_one, is_world, pass, post};
 use kernel_ask::{Answer, Ask, Content, Done, HallFault, Wish};
-use kernel_core::{Job, Outcome, PostFault, Refusal};
-use kernel_hall::{CommChange, Gate, Hall, Moment, PASSES, Pass, work};
+use kernel_core::{Begun, Job, Outcome, PostFault, Refusal, Sliced};
+use kernel_hall::{CommChange, Gate, Hall, Moment, PASSES, Pass, Turn, work};
 use std::alloc::{AllocError, Global};
 use std::marker::Brand;
 use std::process::Abort;
@@ -18,7 +18,8 @@ enum Scene {
     AllPasses,
     FirstWait,
     Comms,
-    Shut,
+    Ring,
+    LateRing,
     /// A cell `int x x +=` this, after which the world is asked for.
     State(&'static str, &'static str),
 }
@@ -124,7 +125,7 @@ impl Gate for Open {
 
 /// After a shutdown a post is refused and the pass comes back, a job that waits is refused, and the worker ends.
 fn shut<W: Ledger, L: Ledger, R: Wait + Abort>(rt: &R, alloc: Global, desk: Desk<W, L>) {
-    let Desk { hall, seat } = desk;
+    let Desk { hall, seat, .. } = desk;
     let (ticket, first) = post(rt, alloc, &hall, pass(rt, &hall), Job::Undo(0));
     hall.shut(rt);
     let refused = hall.post(rt, first, Job::Undo(0), Vec::new(alloc));
@@ -133,6 +134,7 @@ fn shut<W: Ledger, L: Ledger, R: Wait + Abort>(rt: &R, alloc: Global, desk: Desk
     work(&hall, rt, seat, &mut Open);
     let done = hall.wait(rt, &ticket);
     assert!(rt; done.outcome == Outcome::Refused(Refusal::Closing));
+    hall.discard();
 }
 
 /// A hall answers of its own world.
@@ -150,6 +152,68 @@ fn own_state<W: Ledger, L: Ledger, R: Wait + Abort>(
     Ok(())
 }
 
+/// Takes the turn that begins a posted cell, and the two slices that it takes then.
+fn begin<W: Ledger, L: Ledger, R: Wait + Abort>(rt: &R, desk: &mut Desk<W, L>) {
+    assert!(rt; desk.turn(rt) == Turn::Began(Begun::Going));
+    assert!(rt; desk.turn(rt) == Turn::Cut(Sliced::Going));
+    assert!(rt; desk.turn(rt) == Turn::Cut(Sliced::Going));
+}
+
+/// A ring for a cell that runs stops it, and leaves all as before it.
+fn ring<W: Ledger, L: Ledger, R: Wait + Abort>(
+    rt: &R,
+    alloc: Global,
+    desk: &mut Desk<W, L>,
+) -> Result<(), Fail> {
+    let short = cell(alloc, "int x x += 5")?;
+    let (_, pass) = post(rt, alloc, &desk.hall, pass(rt, &desk.hall), short);
+    assert!(rt; desk.run(rt) == Some(Outcome::Ran(1, 3)));
+    let long = cell(alloc, "from x = 5 do x += 1 until x = 4")?;
+    let (ticket, pass) = post(rt, alloc, &desk.hall, pass, long);
+    begin(rt, desk);
+    desk.ring();
+    assert!(rt; desk.turn(rt) == Turn::Cut(Sliced::Backing));
+    assert!(rt; desk.run(rt) == Some(Outcome::Interrupted(8192)));
+    let done = desk.hall.wait(rt, &ticket);
+    assert!(rt; done.outcome == Outcome::Interrupted(8192) && done.node == 1);
+    assert!(rt; is_world(rt, &desk.hall, &pass, 4, "x = 5"));
+    Ok(())
+}
+
+/// A ring that comes once its job has ended does not stop the next one, which waits already.
+fn late_ring<W: Ledger, L: Ledger, R: Wait + Abort>(
+    rt: &R,
+    alloc: Global,
+    desk: &mut Desk<W, L>,
+) -> Result<(), Fail> {
+    let short = cell(alloc, "int x x += 5")?;
+    let (_, pass) = post(rt, alloc, &desk.hall, pass(rt, &desk.hall), short);
+    let (_, pass) = post(rt, alloc, &desk.hall, pass, cell(alloc, "x += 1")?);
+    assert!(rt; desk.run(rt) == Some(Outcome::Ran(1, 3)));
+    desk.ring();
+    assert!(rt; desk.run(rt) == Some(Outcome::Ran(2, 3)));
+    assert!(rt; is_world(rt, &desk.hall, &pass, 4, "x = 6"));
+    Ok(())
+}
+
+/// Tries something in a hall.
+fn play_at<W: Ledger, L: Ledger, R: Wait + Abort>(
+    rt: &R,
+    alloc: Global,
+    desk: &mut Desk<W, L>,
+    scene: Scene,
+) -> Result<(), Fail> {
+    match scene {
+        Scene::AllPasses => all_passes(rt, &desk.hall),
+        Scene::FirstWait => first_wait(rt, alloc, desk)?,
+        Scene::Comms => comms(rt, alloc, &desk.hall)?,
+        Scene::Ring => ring(rt, alloc, desk)?,
+        Scene::LateRing => late_ring(rt, alloc, desk)?,
+        Scene::State(code, line) => own_state(rt, alloc, desk, code, line)?,
+    }
+    Ok(())
+}
+
 fn play_in<W: Ledger, L: Ledger, R: Wait + Abort>(
     rt: &R,
     alloc: Global,
@@ -161,19 +225,33 @@ fn play_in<W: Ledger, L: Ledger, R: Wait + Abort>(
     requires posts { (posts.name ≡ L.name) × (posts.parts ≡ 65537) × (posts.parts ≡ L.parts) }
 {
     let mut desk = Desk::<W, L>::new(alloc, writes, posts)?;
-    match scene {
-        Scene::AllPasses => all_passes(rt, &desk.hall),
-        Scene::FirstWait => first_wait(rt, alloc, &mut desk)?,
-        Scene::Comms => comms(rt, alloc, &desk.hall)?,
-        Scene::Shut => shut(rt, alloc, desk),
-        Scene::State(code, line) => own_state(rt, alloc, &mut desk, code, line)?,
-    }
+    let played = play_at(rt, alloc, &mut desk, scene);
+    desk.discard();
+    played
+}
+
+fn shut_in<W: Ledger, L: Ledger, R: Wait + Abort>(
+    rt: &R,
+    alloc: Global,
+    writes: Blank,
+    posts: Blank,
+) -> Result<(), AllocError>
+    requires writes { (writes.name ≡ W.name) × (writes.parts ≡ W.parts) × (0 < W.parts) }
+    requires posts { (posts.name ≡ L.name) × (posts.parts ≡ 65537) × (posts.parts ≡ L.parts) }
+{
+    let desk = Desk::<W, L>::new(alloc, writes, posts)?;
+    shut(rt, alloc, desk);
     Ok(())
 }
 
 /// Tries something in a new hall.
 fn play<R: Wait + Abort>(rt: &R, alloc: Global, scene: Scene) -> Result<(), Fail> {
     play_in::<Brand, Brand, R>(rt, alloc, Blank::new(1), Blank::new(65_537), scene)
+}
+
+/// Shuts a new hall.
+fn play_shut<R: Wait + Abort>(rt: &R, alloc: Global) -> Result<(), AllocError> {
+    shut_in::<Brand, Brand, R>(rt, alloc, Blank::new(1), Blank::new(65_537))
 }
 
 #[test]
@@ -193,7 +271,18 @@ fn a_comm_is_opened_listed_and_closed(rt: HostRuntime) -> Result<(), Fail> {
 
 #[test]
 fn a_shut_hall_refuses_and_its_worker_ends(rt: HostRuntime) -> Result<(), Fail> {
-    play(&rt, rt.alloc(), Scene::Shut)
+    play_shut(&rt, rt.alloc())?;
+    Ok(())
+}
+
+#[test]
+fn a_ring_stops_the_cell_that_runs(rt: HostRuntime) -> Result<(), Fail> {
+    play(&rt, rt.alloc(), Scene::Ring)
+}
+
+#[test]
+fn a_late_ring_does_not_stop_the_next_job(rt: HostRuntime) -> Result<(), Fail> {
+    play(&rt, rt.alloc(), Scene::LateRing)
 }
 
 #[test]
