@@ -53,8 +53,12 @@ fn opened(alloc: Global, frames: Vec<Vec<u8>>, key: &[u8]) -> Result<Option<Open
 }
 
 impl<R: Read + Drop, W: Write + Drop> Frontend<R, W> {
-    /// Sends a request on shell, and answers its number.
-    fn send(&mut self, draft: &Draft) -> Result<u64, ConsoleFault> {
+    /// Sends a request on shell, and answers its number: its octets go out, those of the message of the session under this number, signed.
+    pub fn send(&mut self, draft: &Draft) -> Result<u64, ConsoleFault>
+        ensures number { IfOk result (λ n. n ≡ self.old.next) }
+        ensures written { OnOk result (Appends (W.contents self.old.shell.writer) (W.contents self.new.shell.writer)
+            (request_octets (string_bytes self.old.key) (string_bytes self.old.session) self.old.next (said_of draft.now))) }
+    {
         let n = self.next;
         let message = message(self.alloc, &self.session, n, draft)?;
         let Ok(frames) = seal(self.alloc, &message, self.key.as_bytes()) else {

@@ -38,7 +38,7 @@ fn hear_all<R: Wait, I: Read>(
 }
 
 /// The reading half: it feeds the peer all that comes, and then tells the other half that nothing more does.
-pub(crate) fn hear<R: Wait, I: Read>(
+pub fn hear<R: Wait, I: Read>(
     rt: &R,
     bulletin: &Bulletin,
     shared: &Mutex<Subscriber>,
@@ -117,7 +117,7 @@ fn go_on<R: Wait, W: Write>(
 }
 
 /// The writing half: it writes what the peer wants from where it joined on, until nothing more comes from the peer and all was written.
-pub(crate) fn speak<R: Wait, W: Write>(
+pub fn speak<R: Wait, W: Write>(
     rt: &R,
     alloc: Global,
     bulletin: &Bulletin,

@@ -8,7 +8,7 @@
 //! [`serve_subscriber`] is a connection, over any reader and writer. The peer joins the board as it is ready; one that falls behind what
 //! the board keeps is disconnected.
 //!
-//! Its promise is that of the writing half (`speak` and `write_from`, by specs/Round.antt). It goes in rounds, each of them one read of the board, from the place where
+//! Its promise is that of the writing half ([`speak`], by specs/Round.antt). It goes in rounds, each of them one read of the board, from the place where
 //! the round before ended. What goes out of a round are exactly the broadcasts of its read to which the peer had subscribed by all that it was fed
 //! until it was asked, in their order and each whole; where a round fails, a beginning of these octets goes out behind those of the rounds before,
 //! and nothing more. Board and peer lie under locks, and no clause can name what lies there as a call takes it: so each round speaks of some log that the board's
@@ -30,5 +30,7 @@ mod subscriber;
 
 pub use bulletin::Bulletin;
 pub use fault::SubscriberFault;
+pub use half::{hear, speak};
 pub use serve::{HangUp, serve_subscriber};
 pub use signal::Signal;
+pub use subscriber::Subscriber;

@@ -15,7 +15,7 @@ use zmtp_wire::WireFault;
 
 /// The peer, and how far it is. Its type keeps that the peer is a publisher's, and stands as some octets from the first of a connection on have it.
 #[derive(Drop)]
-pub(crate) struct Subscriber {
+pub struct Subscriber {
     peer: Peer,
     ghost publishes: { peer.role ≡ Pub },
     ghost fed: { WasFed peer },

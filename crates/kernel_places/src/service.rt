@@ -34,6 +34,14 @@ pub struct Service<W: Ledger, L: Ledger> {
     last: Mutex<u64>,
 }
 
+/// A board with nothing on it, and no connections, of callers and of subscribers.
+fn shared(alloc: Global) -> Result<(Bulletin, Connections, Connections), AllocError> {
+    let bulletin = Bulletin::new(alloc)?;
+    let callers = Connections::new(alloc, CALLED_SOCKETS * PLACES)?;
+    let subscribers = Connections::new(alloc, PLACES)?;
+    Ok((bulletin, callers, subscribers))
+}
+
 impl<W: Ledger, L: Ledger> Service<W, L> {
     /// What the places of a kernel share, before any of them is started: its session's name, the key under which messages are signed, and
     /// its hall.
@@ -49,24 +57,33 @@ impl<W: Ledger, L: Ledger> Service<W, L> {
     ) -> Result<Service<W, L>, AllocError>
         ensures { IfOk result (λ s. s.hall ≡ hall) }
     {
-        let bulletin = Bulletin::new(alloc)?;
-        let callers = Connections::new(alloc, CALLED_SOCKETS * PLACES)?;
-        let subscribers = Connections::new(alloc, PLACES)?;
-        Ok(Service {
-            alloc,
-            session,
-            key,
-            hall,
-            bulletin,
-            callers,
-            subscribers,
-            ending: Ending::new(),
-            last: Mutex::new(0),
-        })
+        match shared(alloc) {
+            Ok((bulletin, callers, subscribers)) => Ok(Service {
+                alloc,
+                session,
+                key,
+                hall,
+                bulletin,
+                callers,
+                subscribers,
+                ending: Ending::new(),
+                last: Mutex::new(0),
+            }),
+            Err(fault) => {
+                hall.discard();
+                Err(fault)
+            }
+        }
+    }
+
+    /// Lets all of it go, once no place is served any longer.
+    pub fn discard(self) {
+        let Service { hall, .. } = self;
+        hall.discard();
     }
 
     /// The number of the next connection: from 1 on, and none after the last.
-    pub(crate) fn number<R: Wait>(&self, rt: &R) -> Option<u64>
+    pub fn number<R: Wait>(&self, rt: &R) -> Option<u64>
         ensures { IfSome result (λ n. 1 ≤ n) }
     {
         let mut last = self.last.lock(rt);
@@ -78,7 +95,7 @@ impl<W: Ledger, L: Ledger> Service<W, L> {
     }
 
     /// What is stamped on the messages of a connection, before its desk has set the date.
-    pub(crate) fn stamp(&self, connection: u64) -> Result<Stamp, AllocError>
+    pub fn stamp(&self, connection: u64) -> Result<Stamp, AllocError>
         ensures connection { IfOk result (λ s. s.connection ≡ connection) }
         ensures next { IfOk result (λ s. s.next ≡ 0) }
     {

@@ -1,5 +1,5 @@
 //! The program over the words of its command line.
-ghost use Rattle.std.specs.Prelude.{◌≡◌, ◌<◌};
+ghost use Rattle.std.specs.Prelude.{◌≡◌, ◌≢◌, ◌<◌, IfOk, All};
 
 use crate::fault::ProgramFault;
 use crate::opening::{connection_of, listeners_of};
@@ -13,7 +13,7 @@ use kernel_places::{Listeners, Seats, Service, serve_all};
 use rand::make_rng;
 use rand::rngs::StdRng;
 use stamp_texts::session_name;
-use std::alloc::Global;
+use std::alloc::{AllocError, Global};
 use std::convert::AsStr;
 use std::io::{ErrorKind, Write};
 use std::marker::Brand;
@@ -37,6 +37,42 @@ fn new_session<R: RandomSource>(rt: &R, alloc: Global) -> Result<String, Program
     Ok(session_name(alloc, &mut rng)?)
 }
 
+/// A hall round a new kernel, with the seats of its bell.
+fn new_hall<W: Ledger, L: Ledger>(
+    alloc: Global,
+    writes: Blank,
+    posts: Blank,
+) -> Result<(Hall<W, L>, Seats), AllocError>
+    requires writes { (writes.name ≡ W.name) × (writes.parts ≡ W.parts) × (0 < W.parts) }
+    requires posts { (posts.name ≡ L.name) × (posts.parts ≡ 65537) × (posts.parts ≡ L.parts) }
+    ensures runner { IfOk result (λ made. made.1.runner.bell ≡ made.0) }
+    ensures ringers { IfOk result (λ made. All (λ seat. seat.bell ≡ made.0) made.1.ringers.items) }
+{
+    let (bell, runner, ringers) = Bell::new(alloc, RINGERS)?;
+    let kernel = Kernel::<W>::new(alloc, writes)?;
+    let hall = Hall::<W, L>::new(alloc, posts, kernel, Comms::new(alloc), bell);
+    Ok((hall, Seats { runner, ringers }))
+}
+
+/// Builds a new kernel and all that its places share.
+fn new_service<W: Ledger, L: Ledger, R: RandomSource>(
+    rt: &R,
+    alloc: Global,
+    writes: Blank,
+    posts: Blank,
+    key: Vec<u8>,
+) -> Result<(Service<W, L>, Seats), ProgramFault>
+    requires writes { (writes.name ≡ W.name) × (writes.parts ≡ W.parts) × (0 < W.parts) }
+    requires posts { (posts.name ≡ L.name) × (posts.parts ≡ 65537) × (posts.parts ≡ L.parts) }
+    ensures runner { IfOk result (λ made. made.1.runner.bell ≡ made.0.hall) }
+    ensures ringers { IfOk result (λ made. All (λ seat. seat.bell ≡ made.0.hall) made.1.ringers.items) }
+{
+    let session = new_session(rt, alloc)?;
+    let (hall, seats) = new_hall::<W, L>(alloc, writes, posts)?;
+    let service = Service::new(alloc, session, key, hall)?;
+    Ok((service, seats))
+}
+
 /// Builds a new kernel and all that its places share, and serves these sockets until a shutdown.
 fn serve_new_kernel<W: Ledger + Send + Sync, L: Ledger + Send + Sync, R, O: Write>(
     rt: &R,
@@ -52,13 +88,10 @@ where
     requires writes { (writes.name ≡ W.name) × (writes.parts ≡ W.parts) × (0 < W.parts) }
     requires posts { (posts.name ≡ L.name) × (posts.parts ≡ 65537) × (posts.parts ≡ L.parts) }
 {
-    let session = new_session(rt, alloc)?;
-    let kernel = Kernel::<W>::new(alloc, writes)?;
-    let (bell, runner, ringers) = Bell::new(alloc, RINGERS)?;
-    let hall = Hall::<W, L>::new(alloc, posts, kernel, Comms::new(alloc), bell);
-    let service = Service::new(alloc, session, key, hall)?;
-    let seats = Seats { runner, ringers };
-    match serve_all(rt, &service, listeners, seats, out) {
+    let (service, seats) = new_service::<W, L, R>(rt, alloc, writes, posts, key)?;
+    let served = serve_all(rt, &service, listeners, seats, out);
+    service.discard();
+    match served {
         Ok(true) => Ok(()),
         _ => Err(ProgramFault::Memory),
     }
@@ -106,8 +139,11 @@ fn refuse_words<O: Write, E: Write>(error: &Error, out: &mut O, err: &mut E) -> 
     words_status(error.kind())
 }
 
-/// Tells why the words of the command line could not be had, and answers the program's status.
-pub fn refuse_unread_words<E: Write>(kind: ErrorKind, err: &mut E) -> u8 {
+/// Tells why the words of the command line could not be had, and answers the program's status: 1 where there was no memory for them, else 2.
+pub fn refuse_unread_words<E: Write>(kind: ErrorKind, err: &mut E) -> u8
+    ensures memory { kind ≡ ErrorKind.OutOfMemory → result ≡ 1 }
+    ensures wrong { kind ≢ ErrorKind.OutOfMemory → result ≡ 2 }
+{
     if kind == ErrorKind::OutOfMemory {
         ProgramFault::Memory.tell(err);
     } else {

@@ -17,4 +17,4 @@ mod register;
 pub use connections::Connections;
 pub use input::Input;
 pub use listener::Listener;
-pub use register::Stream;
+pub use register::{Register, Stream};

@@ -8,9 +8,9 @@ use std::sync::Arc;
 /// A connection, shared by who serves it and the register.
 pub type Stream = Arc<TcpStream, Global>;
 
-/// Which connection is served at which place, and whether more may come.
+/// Which connection is served at which place, and whether more may come: what lies under the lock of [`Connections`](crate::Connections).
 #[derive(Drop)]
-pub(crate) struct Register {
+pub struct Register {
     pub streams: Vec<Option<Stream>>,
     pub is_closed: bool,
 }
