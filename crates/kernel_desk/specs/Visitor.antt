@@ -1,7 +1,7 @@
 -- What a desk before a hall holds, and what each call leads to. What lies under the hall's lock when a call takes it can't be named, so an answer is said to be
 -- that of some legal kernel.
 use Rattle.std.specs.Prelude.{◌≡◌, ℕ, ◌+◌, ◌≤◌, ℤ, ◌<◌, Bool, true, List, [], ◌++◌, ◌⊎◌, Option, Some, None, Result, Ok, Err, length}
-use Rattle.kernel_core.specs.Runs.{Machine}
+use Rattle.kernel_core.specs.Runs.{Machine, IsRefusal}
 use Rattle.kernel_core.specs.LegalMinutes.{IsLegalMachine}
 use Rattle.kernel_core.specs.declared.post.PostFault.{PostFault}
 use Rattle.kernel_ask.specs.Answer.{IsAnswer}
@@ -50,11 +50,12 @@ pub data AreRead (from : ℕ) : List Frames → ℕ → Type 0 where
 abbrev pub IsDate : List ℕ → Type 0
 IsDate date = (instant : ℤ) × HasDate instant × IsDateText instant date
 
--- A job that was posted is counted by the pass, and its end stands in the minutes of a legal kernel. A refused one changes nothing.
+-- A job that was posted is counted by the pass, and its end stands in the minutes of a legal kernel. A refused one changes nothing, and is refused by a legal
+-- kernel.
 abbrev pub IsPosted : Visitor → Result Done PostFault → Visitor → Type 0
 IsPosted old (Ok done) new =
     ((k : Machine) × IsLegalMachine k × HasEnd k.minutes done) × (new ≡ record old { pass = pass_of old.pass.lane (old.pass.posts + 1) })
-IsPosted old (Err fault) new = new ≡ old
+IsPosted old (Err fault) new = ((k : Machine) × IsLegalMachine k × IsRefusal k fault) × (new ≡ old)
 
 -- a question is answered of a legal kernel with at least as many minutes as the pass has posts; a refusal is want of memory
 abbrev pub IsAnswered : Visitor → Question → Result Answer HallFault → Type 0

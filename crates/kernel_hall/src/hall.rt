@@ -1,6 +1,6 @@
 //! The hall that threads share.
 ghost use Rattle.std.specs.Prelude.{◌≡◌, ℕ, ◌+◌, ◌-◌, ◌^◌, ◌≤◌, ◌↔◌, ◌⊎◌, [], List, IfOk, IfErr, length};
-ghost use Rattle.kernel_core.specs.Runs.{Machine};
+ghost use Rattle.kernel_core.specs.Runs.{Machine, IsRefusal};
 ghost use Rattle.kernel_core.specs.LegalMinutes.{IsLegalMachine};
 ghost use Rattle.kernel_ask.specs.Answer.{IsAnswer};
 ghost use Rattle.kernel_audit.specs.Passes.{pass_of, ticket_of};
@@ -86,7 +86,8 @@ impl<W: Ledger, L: Ledger> Hall<W, L> {
         }
     }
 
-    /// Posts a job. The pass comes back, and has counted it. A refused post leaves the pass, and drops the job and the wishes.
+    /// Posts a job. The pass comes back, and has counted it. A refused post leaves the pass, and drops the job and the wishes; the refusal is
+    /// that of the kernel that was met.
     pub fn post<R: Wait>(
         &self,
         rt: &R,
@@ -97,6 +98,7 @@ impl<W: Ledger, L: Ledger> Hall<W, L> {
         ensures ticket { IfOk result (λ r. r.0 ≡ ticket_of pass r.0.number job) }
         ensures counted { IfOk result (λ r. r.1 ≡ pass_of pass.lane (pass.posts + 1)) }
         ensures refused { IfErr result (λ r. r.1 ≡ pass) }
+        ensures refusal { IfErr result (λ r. (k : Machine) × IsLegalMachine k × IsRefusal k r.0) }
     {
         let posted = self.state.lock(rt).post(&mut pass, job, wishes);
         match posted {

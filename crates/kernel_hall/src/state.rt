@@ -79,7 +79,9 @@ impl<W: Ledger, L: Ledger> State<W, L> {
         ensures comms { self.new.comms ≡ self.old.comms }
         ensures extra { IfOk result (λ t. (e : Extra) × IsNewExtra (length self.old.kernel.machine.minutes) wishes.items e × (self.new.extras.items ≡ self.old.extras.items ++ e ∷ [])) }
         ensures extras { OnErr result (self.new.extras.items ≡ self.old.extras.items) }
+        ensures legal { IsLegalMachine self.old.kernel.machine }
     {
+        is_legal(&self.kernel);
         let State {
             kernel,
             extras,

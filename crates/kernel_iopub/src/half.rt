@@ -31,8 +31,10 @@ fn hear_all<R: Wait, I: Read>(
             Ok(count) => count,
             Err(_) => return Err(SubscriberFault::Read),
         };
-        take(rt, bulletin, shared, &room[..count])?;
-        bulletin.signal().raise(rt);
+        // What else it sends, as that it subscribes, is nothing to wake the writers of all connections for.
+        if take(rt, bulletin, shared, &room[..count])? {
+            bulletin.signal().raise(rt);
+        }
     }
     Err(SubscriberFault::Read)
 }

@@ -66,17 +66,18 @@ impl Subscriber {
         Ok(is_ready)
     }
 
-    /// Feeds the peer what came. As it is ready it joins the board.
+    /// Feeds the peer what came. As it is ready it joins the board. Whether it is ready by that.
     fn take<R: Wait>(
         &mut self,
         rt: &R,
         bulletin: &Bulletin,
         piece: &[u8],
-    ) -> Result<(), SubscriberFault> {
-        if self.feed(piece)? {
+    ) -> Result<bool, SubscriberFault> {
+        let is_ready = self.feed(piece)?;
+        if is_ready {
             self.joined = Some(bulletin.join(rt));
         }
-        Ok(())
+        Ok(is_ready)
     }
 }
 
@@ -102,18 +103,19 @@ fn wanted_of(
     Ok(kept)
 }
 
-/// Feeds the peer what came, and tells its fault.
+/// Feeds the peer what came, and tells its fault. Whether it is ready by that.
 pub(crate) fn take<R: Wait>(
     rt: &R,
     bulletin: &Bulletin,
     shared: &Mutex<Subscriber>,
     piece: &[u8],
-) -> Result<(), SubscriberFault> {
+) -> Result<bool, SubscriberFault> {
     let mut guard = shared.lock(rt);
     let subscriber = &mut *guard;
-    subscriber.take(rt, bulletin, piece)?;
+    let is_ready = subscriber.take(rt, bulletin, piece)?;
     // A fault behind the events is told by a call of its own.
-    subscriber.take(rt, bulletin, &[])
+    subscriber.take(rt, bulletin, &[])?;
+    Ok(is_ready)
 }
 
 /// Nothing more comes from the peer.

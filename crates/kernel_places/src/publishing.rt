@@ -58,6 +58,7 @@ pub(crate) fn attend_subscribers<
     L: Ledger + Send + Sync,
     R: Threads + Wait + Clock + Sync,
 >(rt: &R, service: &Service<W, L>, listener: &Listener, index: usize) {
+    service.started.wait(rt);
     for _ in rt.forever() {
         if service.ending.is_told() {
             break;

@@ -66,6 +66,7 @@ pub(crate) fn attend<W: Ledger, L: Ledger, R: Wait + Clock>(
     place: Place,
     mut desk: HallDesk<'_, W, L, R>,
 ) {
+    service.started.wait(rt);
     for _ in rt.forever() {
         if service.ending.is_told() {
             break;
@@ -87,6 +88,7 @@ pub(crate) fn attend_silently<W: Ledger, L: Ledger, R: Wait + Clock>(
     place: Place,
 ) {
     let mut desk = QuietDesk;
+    service.started.wait(rt);
     for _ in rt.forever() {
         if service.ending.is_told() {
             break;

@@ -1,8 +1,8 @@
 //! What all places share.
-ghost use Rattle.std.specs.Prelude.{◌≡◌, ◌≤◌, ◌<◌, ◌^◌, IfOk, IfSome};
+ghost use Rattle.std.specs.Prelude.{◌≡◌, ◌≤◌, ◌<◌, ◌^◌, IfOk, IfSome, string_bytes};
 
-use crate::ending::Ending;
 use crate::places::PLACES;
+use crate::word::Word;
 use kernel_hall::Hall;
 use kernel_iopub::Bulletin;
 use kernel_message::Stamp;
@@ -21,7 +21,7 @@ const NO_DATE: [u8; 20] = *b"1970-01-01T00:00:00Z";
 #[derive(Drop)]
 pub struct Service<W: Ledger, L: Ledger> {
     pub(crate) alloc: Global,
-    session: String,
+    pub(crate) session: String,
     pub(crate) key: Vec<u8>,
     pub(crate) hall: Hall<W, L>,
     pub(crate) bulletin: Bulletin,
@@ -29,7 +29,12 @@ pub struct Service<W: Ledger, L: Ledger> {
     pub(crate) callers: Connections,
     /// Those of iopub.
     pub(crate) subscribers: Connections,
-    pub(crate) ending: Ending,
+    /// All threads stand, or all is to come to an end.
+    pub(crate) started: Word,
+    /// All is to come to an end.
+    pub(crate) ending: Word,
+    /// The worker has come to its end, or there is none.
+    pub(crate) rested: Word,
     /// The number of the connection that was accepted last.
     last: Mutex<u64>,
 }
@@ -55,7 +60,8 @@ impl<W: Ledger, L: Ledger> Service<W, L> {
         key: Vec<u8>,
         hall: Hall<W, L>,
     ) -> Result<Service<W, L>, AllocError>
-        ensures { IfOk result (λ s. s.hall ≡ hall) }
+        ensures hall { IfOk result (λ s. s.hall ≡ hall) }
+        ensures session { IfOk result (λ s. s.session ≡ session) }
     {
         match shared(alloc) {
             Ok((bulletin, callers, subscribers)) => Ok(Service {
@@ -66,7 +72,9 @@ impl<W: Ledger, L: Ledger> Service<W, L> {
                 bulletin,
                 callers,
                 subscribers,
-                ending: Ending::new(),
+                started: Word::new(),
+                ending: Word::new(),
+                rested: Word::new(),
                 last: Mutex::new(0),
             }),
             Err(fault) => {
@@ -96,6 +104,7 @@ impl<W: Ledger, L: Ledger> Service<W, L> {
 
     /// What is stamped on the messages of a connection, before its desk has set the date.
     pub fn stamp(&self, connection: u64) -> Result<Stamp, AllocError>
+        ensures session { IfOk result (λ s. string_bytes s.session ≡ string_bytes self.now.session) }
         ensures connection { IfOk result (λ s. s.connection ≡ connection) }
         ensures next { IfOk result (λ s. s.next ≡ 0) }
     {

@@ -9,7 +9,7 @@ use crate::worker::Worker;
 use kernel_bell::{RingerSeat, RunnerSeat};
 use kernel_desk::HallDesk;
 use kernel_session::Socket;
-use kernel_sockets::Listener;
+use kernel_sockets::{Connections, Listener};
 use std::alloc::AllocError;
 use std::io::Write;
 use std::net::Shutdown;
@@ -19,8 +19,8 @@ use std::thread;
 use std::thread::{Scope, Threads};
 use std::time::{Clock, Duration};
 
-/// How long connections that still write are waited for at the end: once those that call, and then those that subscribe, so that both
-/// stay within a second.
+/// How long connections that still write are waited for at the end, once the worker has come to its own: first those that call, and then those that
+/// subscribe, so that both stay within a second.
 const GRACE_MILLISECONDS: u64 = 400;
 
 /// The seats of a hall's bell: that of the worker, and one for each place of shell and control.
@@ -140,6 +140,23 @@ fn first_place(socket: Socket) -> Place {
     Place { socket, index }
 }
 
+/// Starts the worker. False where its thread could not be made; then there is none that has to come to its end.
+fn start_worker<'s, E, W: Ledger + Send + Sync, L: Ledger + Send + Sync, R: Threads + Wait + Sync>(
+    scope: &Scope<'s, E>,
+    rt: &'s R,
+    service: &'s Service<W, L>,
+    worker: Worker<'s, W, L>,
+) -> bool {
+    if scope
+        .spawn(move || worker.run(rt, &service.rested))
+        .is_err()
+    {
+        service.rested.tell(rt);
+        return false;
+    }
+    true
+}
+
 /// Starts the worker and all places on which something comes. False where a thread could not be made.
 fn start_all<
     's,
@@ -160,7 +177,7 @@ fn start_all<
     let control = first_place(Socket::Control);
     let stdin = first_place(Socket::Stdin);
     let heartbeat = first_place(Socket::Heartbeat);
-    scope.spawn(move || worker.run(rt)).is_ok()
+    start_worker(scope, rt, service, worker)
         && start_attending(scope, rt, service, &listeners.shell, shell, &mut desks)
         && start_attending(scope, rt, service, &listeners.control, control, &mut desks)
         && start_attending_silently(scope, rt, service, &listeners.stdin, stdin)
@@ -173,30 +190,26 @@ fn tell_ready<O: Write>(out: &mut O) {
     let _ = out.flush();
 }
 
-/// Lets no more connections in, and brings those on which something comes to an end.
-fn end_callers<W: Ledger, L: Ledger, R: Wait + Clock>(
-    rt: &R,
-    service: &Service<W, L>,
-    listeners: &Listeners,
-) {
+/// Tells all places and the worker that all is to come to an end, and lets no more connections in. What comes on those that are served comes to its end.
+fn end_all<W: Ledger, L: Ledger, R: Wait>(rt: &R, service: &Service<W, L>, listeners: &Listeners) {
     service.ending.tell(rt);
+    service.started.tell(rt);
     service.hall.shut(rt);
     listeners.close();
     service.callers.close(rt, Shutdown::Read);
-    service
-        .callers
-        .wait_until_empty(rt, Duration::from_millis(GRACE_MILLISECONDS));
-    service.callers.close(rt, Shutdown::Both);
+}
+
+/// Waits until these connections have come to their end, or for their grace, and ends those that are left.
+fn see_out<R: Wait + Clock>(rt: &R, connections: &Connections) {
+    connections.wait_until_empty(rt, Duration::from_millis(GRACE_MILLISECONDS));
+    connections.close(rt, Shutdown::Both);
 }
 
 /// Brings the subscribers to an end, behind what was published last.
 fn end_subscribers<W: Ledger, L: Ledger, R: Wait + Clock>(rt: &R, service: &Service<W, L>) {
     service.subscribers.close(rt, Shutdown::Read);
     service.bulletin.signal().raise(rt);
-    service
-        .subscribers
-        .wait_until_empty(rt, Duration::from_millis(GRACE_MILLISECONDS));
-    service.subscribers.close(rt, Shutdown::Both);
+    see_out(rt, &service.subscribers);
 }
 
 /// Serves requests until a shutdown was answered, and brings all that serve them to an end. False where a thread could not be made.
@@ -216,10 +229,13 @@ fn serve_callers<
     thread::scope(thread::scope_env(), rt, |scope| {
         let is_started = start_all(scope, rt, service, listeners, worker, desks);
         if is_started {
+            service.started.tell(rt);
             tell_ready(out);
             service.ending.wait(rt);
         }
-        end_callers(rt, service, listeners);
+        end_all(rt, service, listeners);
+        service.rested.wait(rt);
+        see_out(rt, &service.callers);
         is_started
     })
 }
@@ -252,7 +268,7 @@ pub fn serve_all<
         let is_started = if start_publishing(scope, rt, service, &listeners.iopub) {
             serve_callers(rt, service, listeners, worker, desks, out)
         } else {
-            end_callers(rt, service, listeners);
+            end_all(rt, service, listeners);
             false
         };
         end_subscribers(rt, service);

@@ -1,15 +1,18 @@
 //! The program over the words of its command line.
 ghost use Rattle.std.specs.Prelude.{◌≡◌, ◌≢◌, ◌<◌, IfOk, All};
+ghost use Rattle.clap.specs.Values.{kind_of};
+ghost use Rattle.kernel_program.specs.Status.{words_status as words_status_of};
 
 use crate::fault::ProgramFault;
 use crate::opening::{connection_of, listeners_of};
 use crate::words::{file_of, unread_words_status, words_status};
 use clap::Error;
+use clap::error::ErrorKind as ClapErrorKind;
 use kernel_ask::Comms;
 use kernel_bell::{Bell, RINGERS};
 use kernel_core::Kernel;
 use kernel_hall::Hall;
-use kernel_places::{Listeners, Seats, Service, serve_all};
+use kernel_places::{Listeners, PLACES, Seats, Service, serve_all};
 use rand::make_rng;
 use rand::rngs::StdRng;
 use stamp_texts::session_name;
@@ -27,6 +30,9 @@ use std::time::Clock;
 
 /// The status of a program that was shut down, or told its help.
 const DONE: u8 = 0;
+
+/// Each place of shell and of control has a ringer's seat.
+const _: () = prove!(RINGERS == 2 * PLACES);
 
 /// The name of the kernel's session, drawn from the system's random numbers.
 fn new_session<R: RandomSource>(rt: &R, alloc: Global) -> Result<String, ProgramFault> {
@@ -128,15 +134,20 @@ where
 }
 
 /// Tells why words run nothing: the help to the output, all else to the errors. A fault of the streams is passed over.
-fn refuse_words<O: Write, E: Write>(error: &Error, out: &mut O, err: &mut E) -> u8 {
-    if error.use_stderr() {
+fn refuse_words<O: Write, E: Write>(error: &Error, out: &mut O, err: &mut E) -> u8
+    ensures { result ≡ words_status_of (kind_of error.now) }
+{
+    let kind = error.kind();
+    if kind == ClapErrorKind::OutOfMemory {
+        ProgramFault::Memory.tell(err);
+    } else if error.use_stderr() {
         let _ = write!(err, "{error}");
         let _ = err.flush();
     } else {
         let _ = write!(out, "{error}");
         let _ = out.flush();
     }
-    words_status(error.kind())
+    words_status(kind)
 }
 
 /// Tells why the words of the command line could not be had, and answers the program's status: 1 where there was no memory for them, else 2.

@@ -1,31 +1,31 @@
-//! The word that all is to come to an end.
+//! What is told once to all threads.
 use std::sync::atomic::{AtomicBool, Ordering};
 use std::sync::{Condvar, Mutex, Wait};
 
-/// Whether all is to come to an end.
+/// A word that is told once, and for which any thread can wait.
 #[derive(Drop)]
-pub(crate) struct Ending {
+pub(crate) struct Word {
     is_told: AtomicBool,
     told: Mutex<bool>,
     telling: Condvar,
 }
 
-impl Ending {
-    /// All goes on.
-    pub fn new() -> Ending {
-        Ending {
+impl Word {
+    /// It isn't told.
+    pub fn new() -> Word {
+        Word {
             is_told: AtomicBool::new(false),
             told: Mutex::new(false),
             telling: Condvar::new(),
         }
     }
 
-    /// Whether all is to come to an end.
+    /// Whether it is told.
     pub fn is_told(&self) -> bool {
         self.is_told.load(Ordering::SeqCst)
     }
 
-    /// All is to come to an end.
+    /// Tells it.
     pub fn tell<R: Wait>(&self, rt: &R) {
         self.is_told.store(true, Ordering::SeqCst);
         let mut told = self.told.lock(rt);
@@ -34,7 +34,7 @@ impl Ending {
         self.telling.notify_all();
     }
 
-    /// Waits until that is told.
+    /// Waits until it is told.
     pub fn wait<R: Wait>(&self, rt: &R) {
         drop(
             self.telling
