@@ -88,7 +88,6 @@ fn closed_in<W: Ledger, L: Ledger, R: Wait + Abort>(
     requires posts { (posts.name ≡ L.name) × (posts.parts ≡ 65537) × (posts.parts ≡ L.parts) }
 {
     let mut desk = Desk::<W, L>::new(alloc, writes, posts)?;
-<<<<<<< HEAD
     match bent(rt, alloc, &mut desk, how) {
         Ok(away) => {
             let Desk { hall, .. } = desk;
@@ -98,19 +97,6 @@ fn closed_in<W: Ledger, L: Ledger, R: Wait + Abort>(
             desk.discard();
             Err(fail)
         }
-=======
-    let mut away = away(rt, alloc, &mut desk)?;
-    bend_it(alloc, &mut away, how)?;
-    let Away {
-        passes,
-        tickets,
-        dones,
-    } = away;
-    let Desk { hall, .. } = desk;
-    match hall.close(passes, tickets, dones) {
-        Ok(minutes) => Ok(Ok(minutes.entries().len())),
-        Err(fault) => Ok(Err(fault)),
->>>>>>> 960e36a7 (Tests of a ring through a hall: it stops the cell that runs, and no later one)
     }
 }
 

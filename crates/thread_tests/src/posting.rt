@@ -115,23 +115,11 @@ fn first_cell<W: Ledger, L: Ledger, R: Wait + Abort>(
 fn post_all<W: Ledger + Send + Sync, L: Ledger + Send + Sync, R: Threads + Wait + Abort + Sync>(
     rt: &R,
     alloc: Global,
-<<<<<<< HEAD
     desk: Desk<W, L>,
     first: Away<L>,
 ) {
     let all = Mutex::new(first);
     let Desk { hall, seat, .. } = desk;
-=======
-    writes: Blank,
-    posts: Blank,
-) -> Result<(), Fail>
-    requires writes { (writes.name ≡ W.name) × (writes.parts ≡ W.parts) × (0 < W.parts) }
-    requires posts { (posts.name ≡ L.name) × (posts.parts ≡ 65537) × (posts.parts ≡ L.parts) }
-{
-    let mut desk = Desk::<W, L>::new(alloc, writes, posts)?;
-    let all = Mutex::new(first_cell(rt, alloc, &mut desk)?);
-    let Desk { hall, seat, .. } = desk;
->>>>>>> 960e36a7 (Tests of a ring through a hall: it stops the cell that runs, and no later one)
     assert!(rt; posted_beside(rt, alloc, Worker { hall: &hall, seat }, &all) == 0);
     let away = all.into_inner();
     assert!(rt; away.tickets.len() == 641 && away.dones.len() == 641 && away.passes.len() == 33);
