@@ -1,36 +1,10 @@
-//! `janus-cells`: Janus cells with undo, redo, show and list over a stream of lines.
-//!
-//! It reads all standard input, at most 16 MiB, and then runs it line by line. Lines that begin with `%` are commands; all
-//! others gather to the text of a cell. What it promises is said of `run`, over any reader and writer; its clauses speak of
-//! those whose octets are known, as over memory, and std's `Stdin` and `Stdout` tell none. `program` takes the words of the
-//! command line before it; `serve` brings one request of a
-//! kernel to its end; `laws` says that an input has at most one transcript that nowhere tells want of memory, and how a request
-//! that is served ends; `fault` and `words` say with which status and line the program ends. The language is Janus (Yokoyama and Glück 2007).
+//! `janus-cells`: cells of Janus with undo, redo, show and list over a stream of lines. All of it is [`program`]; this is the words of the command
+//! line and the three streams.
 #![tactic(auto)]
 
-mod closed;
-mod command;
-mod counted;
-mod fault;
-mod gathered;
-mod input;
-mod laws;
-mod lines;
-mod listing;
-mod output;
-mod program;
-mod run;
-mod serve;
-#[cfg(test)]
-mod tests;
-#[cfg(test)]
-mod transcripts;
-mod words;
-
-use crate::fault::{RunFault, status};
-use crate::output::send_run_fault;
-use crate::program::{program, without_output};
-use crate::words::{unread_words_status, words_status};
+use cells_program::{
+    RunFault, program, send_run_fault, status, unread_words_status, without_output, words_status,
+};
 use clap::error::ErrorKind;
 use kernel_text::WriteFailed;
 use std::env;

@@ -1,5 +1,5 @@
-//! Rows of texts, cells and schedules with their answers, through the public calls of the Janus crates and of the kernel over
-//! them: what no contract says.
+//! Rows of texts, cells, schedules and transcripts with their answers, through the public calls of the Janus crates, of the kernel over
+//! them and of `janus-cells`: what no contract says.
 //!
 //! Contracts say what each call answers where it succeeds. Here each call that takes memory is seen to succeed, and to answer
 //! what was worked out by hand. The rows stand in the file `stdin`, the rows with their answers in the file `stdout`, in the form
@@ -14,7 +14,9 @@ mod outlines;
 mod questions;
 mod schedules;
 mod stores;
+mod streams;
 mod texts;
+mod transcripts;
 mod values;
 
 use std::alloc::{AllocError, Global};
@@ -49,6 +51,7 @@ fn tell(alloc: Global, subject: &str, calls: &str, out: &mut String) -> Result<(
         "stores" => stores::tell(alloc, calls, out),
         "lines" => lines::tell(alloc, calls, out),
         "comms" => comms::tell(alloc, calls, out),
+        "transcripts" => transcripts::tell(alloc, calls, out),
         _ => schedules::tell(alloc, calls, out),
     }
 }

@@ -1,0 +1,52 @@
+//! The program over any reader and writer, with the ledger in which its kernel counts the writes of the store.
+ghost use Rattle.std.specs.Prelude.{◌≡◌, ◌≢◌, ◌+◌, ◌<◌, ℕ, List, IfErr, IfSome, MatchResult, OnOk};
+ghost use Rattle.std.specs.Io.KnownBytes.{Appends, Keeps};
+ghost use Rattle.kernel_text.specs.Sending.{SentSome};
+ghost use Rattle.cells_program.specs.RunFault.{IsServed, IsWhyUnread, TakesAtMost, input_limit};
+ghost use Rattle.cells_program.specs.Transcript.{IsTranscript};
+
+use crate::fault::RunFault;
+use crate::input::read_text;
+use crate::run::run_text;
+use kernel_core::Kernel;
+use std::alloc::Global;
+use std::io::{Read, Write};
+use std::sync::ledger::{Blank, Ledger};
+
+/// Does what [`run`](crate::run::run) says. The blank opens the ledger of the kernel.
+pub(crate) fn run_counted<L: Ledger, R: Read, W: Write>(
+    alloc: Global,
+    blank: Blank,
+    steps: u64,
+    reader: &mut R,
+    writer: &mut W,
+) -> Result<(), RunFault>
+    requires name { blank.name ≡ L.name }
+    requires parts { blank.parts ≡ L.parts }
+    requires some { 0 < L.parts }
+    ensures written { OnOk result (IfSome (R.remaining reader.old) (λ input.
+        (out : List ℕ) × IsTranscript steps input out × Appends (W.contents writer.old) (W.contents writer.new) out)) }
+    ensures served { MatchResult result (λ _. IfSome (R.remaining reader.old) IsServed)
+        (λ fault. fault ≡ RunFault.Write → IfSome (R.remaining reader.old) IsServed) }
+    ensures cut { IfErr result (λ fault. fault ≡ RunFault.Write → IfSome (R.remaining reader.old) (λ input.
+        (out : List ℕ) × IsTranscript steps input out × SentSome (W.contents writer.old) (W.contents writer.new) out)) }
+    ensures unread { IfErr result (λ fault. fault ≢ RunFault.Write → IfSome (R.remaining reader.old) (IsWhyUnread fault)) }
+    ensures unwritten { IfErr result (λ fault. fault ≢ RunFault.Write → Keeps (W.contents writer.old) (W.contents writer.new)) }
+    ensures taken { TakesAtMost (input_limit + 1) (R.remaining reader.old) (R.remaining reader.new) }
+    ensures within { MatchResult result (λ _. TakesAtMost input_limit (R.remaining reader.old) (R.remaining reader.new))
+        (λ fault. fault ≢ RunFault.TooLong → TakesAtMost input_limit (R.remaining reader.old) (R.remaining reader.new)) }
+{
+    let Ok(mut kernel) = Kernel::<L>::new(alloc, blank) else {
+        return Err(RunFault::Memory);
+    };
+    let text = read_text(alloc, reader)?;
+    let served = run_text(alloc, steps, &mut kernel, &text, writer);
+    let_go(kernel);
+    match served {
+        Ok(()) => Ok(()),
+        Err(_) => Err(RunFault::Write),
+    }
+}
+
+/// Lets a kernel go that is over.
+fn let_go<L: Ledger>(_kernel: Kernel<L>) {}

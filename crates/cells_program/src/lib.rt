@@ -1,0 +1,31 @@
+//! The program `janus-cells`, over the words of its command line, a reader and a writer: Janus cells with undo, redo, show and list over a
+//! stream of lines.
+//!
+//! It reads all of its input, at most 16 MiB, and then runs it line by line. Lines that begin with `%` are commands; all
+//! others gather to the text of a cell. What it promises is said of [`run`], over any reader and writer; its clauses speak of
+//! those whose octets are known, as over memory, and std's `Stdin` and `Stdout` tell none. [`program`] takes the words of the
+//! command line before it; `serve` brings one request of a
+//! kernel to its end; [`laws`] says that an input has at most one transcript that nowhere tells want of memory, and how a request
+//! that is served ends; `fault` and `words` say with which status and line the program ends. The language is Janus (Yokoyama and Glück 2007).
+#![tactic(auto)]
+
+mod closed;
+mod command;
+mod counted;
+mod fault;
+mod gathered;
+mod input;
+pub mod laws;
+mod lines;
+mod listing;
+mod output;
+mod program;
+mod run;
+mod serve;
+mod words;
+
+pub use fault::{RunFault, status};
+pub use output::send_run_fault;
+pub use program::{program, without_output};
+pub use run::run;
+pub use words::{steps_of, unread_words_status, words_status};

@@ -1,0 +1,69 @@
+//! The program over the words of its command line.
+ghost use Rattle.std.specs.Prelude.{◌≡◌, ◌≢◌, ◌⊎◌, ℕ, List, map, IfOk, IfErr, IfSome, IsErrAnd, OnErr, Err, MatchResult, ◌+◌};
+ghost use Rattle.std.specs.Io.KnownBytes.{Appends, Keeps};
+ghost use Rattle.clap.specs.Values.{kind_of};
+ghost use Rattle.cells_program.specs.CommandLine.{Runs};
+ghost use Rattle.cells_program.specs.Ending.{AsksForHelp};
+ghost use Rattle.kernel_text.specs.Sending.{SentSome};
+ghost use Rattle.cells_program.specs.RunFault.{IsServed, IsWhyUnread, TakesAtMost, input_limit};
+ghost use Rattle.cells_program.specs.Transcript.{IsTranscript};
+
+use crate::fault::RunFault;
+use crate::run::run;
+use crate::words::steps_of;
+use clap::Error;
+use clap::error::ErrorKind;
+use std::alloc::Global;
+use std::convert::AsStr;
+use std::io::{Read, Write};
+
+/// Runs all of the input, with as many steps for each cell as the words of the command line choose (see
+/// [`steps_of`](crate::words::steps_of)). What it answers, reads and writes is that of [`run`](crate::run::run).
+///
+/// # Errors
+/// What is wrong with the words, or that they ask for help. Nothing is read or written then.
+pub fn program<'a, S: AsStr, R: Read, W: Write>(
+    alloc: Global,
+    words: &'a [S],
+    reader: &mut R,
+    writer: &mut W,
+) -> Result<Result<(), RunFault>, Error>
+    ensures written { IfOk result (λ ended. IfOk ended (λ _. IfSome (R.remaining reader.old) (λ input.
+        (steps : ℕ) × (out : List ℕ) × Runs (map S.text words.now) steps × IsTranscript steps input out
+        × Appends (W.contents writer.old) (W.contents writer.new) out))) }
+    ensures cut { IfOk result (λ ended. IfErr ended (λ fault. fault ≡ RunFault.Write → IfSome (R.remaining reader.old) (λ input.
+        (steps : ℕ) × (out : List ℕ) × Runs (map S.text words.now) steps × IsTranscript steps input out
+        × SentSome (W.contents writer.old) (W.contents writer.new) out))) }
+    ensures unwritten { IfOk result (λ ended. IfErr ended (λ fault. fault ≢ RunFault.Write → Keeps (W.contents writer.old) (W.contents writer.new))) }
+    ensures served { IfOk result (λ ended. MatchResult ended (λ _. IfSome (R.remaining reader.old) IsServed)
+        (λ fault. fault ≡ RunFault.Write → IfSome (R.remaining reader.old) IsServed)) }
+    ensures unread { IfOk result (λ ended. IfErr ended (λ fault. fault ≢ RunFault.Write → IfSome (R.remaining reader.old) (IsWhyUnread fault))) }
+    ensures taken { IfOk result (λ ended. TakesAtMost (input_limit + 1) (R.remaining reader.old) (R.remaining reader.new)) }
+    ensures within { IfOk result (λ ended. MatchResult ended (λ _. TakesAtMost input_limit (R.remaining reader.old) (R.remaining reader.new))
+        (λ fault. fault ≢ RunFault.TooLong → TakesAtMost input_limit (R.remaining reader.old) (R.remaining reader.new))) }
+    ensures refused { OnErr result ((reader.new ≡ reader.old) × (writer.new ≡ writer.old)) }
+    ensures err { IfErr result (λ error. (n : ℕ) → Runs (map S.text words.now) n → kind_of error ≡ ErrorKind.OutOfMemory) }
+    ensures help { AsksForHelp (map S.text words.now) → IsErrAnd result (λ error.
+        (kind_of error ≡ ErrorKind.OutOfMemory) ⊎ (kind_of error ≡ ErrorKind.DisplayHelp)) }
+{
+    match steps_of(alloc, words) {
+        Ok(steps) => Ok(run(alloc, steps, reader, writer)),
+        Err(error) => Err(error),
+    }
+}
+
+/// What the program answers where it has no memory for its output: what is wrong with the words comes first.
+pub fn without_output<'a, S: AsStr>(
+    alloc: Global,
+    words: &'a [S],
+) -> Result<Result<(), RunFault>, Error>
+    ensures memory { IfOk result (λ ended. ended ≡ Err RunFault.Memory) }
+    ensures err { IfErr result (λ error. (n : ℕ) → Runs (map S.text words.now) n → kind_of error ≡ ErrorKind.OutOfMemory) }
+    ensures help { AsksForHelp (map S.text words.now) → IsErrAnd result (λ error.
+        (kind_of error ≡ ErrorKind.OutOfMemory) ⊎ (kind_of error ≡ ErrorKind.DisplayHelp)) }
+{
+    match steps_of(alloc, words) {
+        Ok(_) => Ok(Err(RunFault::Memory)),
+        Err(error) => Err(error),
+    }
+}

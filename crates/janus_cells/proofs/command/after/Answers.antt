@@ -1,5 +1,0 @@
-use Rattle.janus_cells.proofs.CommandLemmas.{stripped_words}
-use Rattle.janus_cells.proofs.command.after.Goals as goal
-
-pub returns : goal.returns
-returns c = stripped_words c.args.words.now c.args.line.now c.strip_prefix.result c.strip_prefix.ensures.cases

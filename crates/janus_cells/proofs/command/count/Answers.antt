@@ -1,6 +1,0 @@
-use Rattle.std.proofs.Common.{◌∙◌, sym}
-use Rattle.janus_cells.proofs.CommandLemmas.{count_is}
-use Rattle.janus_cells.proofs.command.count.Goals as goal
-
-pub returns : goal.returns
-returns c = c.ok.ensures.value ∙ count_is c.args.digits.now c.parse.result c.parse.ensures.value.0 (sym c.if-not-is_short_number.ensures)

@@ -1,5 +1,0 @@
-use Rattle.janus_cells.proofs.ServedEnds.{served_job_ends}
-use Rattle.janus_cells.proofs.laws.served_job_ends_law.Goals as goal
-
-pub returns : goal.returns
-returns c = served_job_ends c.jobs_end_law.ensures

@@ -1,5 +1,0 @@
-use Rattle.janus_cells.proofs.ServedEnds.{serves_by_a_run}
-use Rattle.janus_cells.proofs.laws.serves_by_a_run_law.Goals as goal
-
-pub returns : goal.returns
-returns c = serves_by_a_run
