@@ -83,7 +83,7 @@ fn closed_in<W: Ledger, L: Ledger, R: Wait + Abort>(
         tickets,
         dones,
     } = away;
-    let Desk { hall, seat: _ } = desk;
+    let Desk { hall, .. } = desk;
     match hall.close(passes, tickets, dones) {
         Ok(minutes) => Ok(Ok(minutes.entries().len())),
         Err(fault) => Ok(Err(fault)),

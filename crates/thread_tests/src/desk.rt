@@ -2,7 +2,7 @@
 ghost use Rattle.std.specs.Prelude.{◌≡◌, ◌<◌};
 
 use kernel_ask::{Answer, Ask, Comms, Content, Done, Wish};
-use kernel_bell::{Bell, RunnerSeat};
+use kernel_bell::{Bell, RingerSeat, RunnerSeat};
 use kernel_core::{Begun, Job, Kernel, Outcome, Sliced};
 use kernel_hall::{Gate, Hall, Pass, SLICE, Ticket, Turn, work};
 use std::alloc::{AllocError, Global};
@@ -10,12 +10,14 @@ use std::process::Abort;
 use std::sync::Wait;
 use std::sync::ledger::{Blank, Ledger};
 
-/// A hall, and its runner's seat.
+/// A hall, with its runner's seat and a ringer's.
 #[derive(Drop)]
 pub(crate) struct Desk<W: Ledger, L: Ledger> {
     pub hall: Hall<W, L>,
     pub seat: RunnerSeat,
+    ringer: RingerSeat,
     ghost own: { seat.bell ≡ hall },
+    ghost hears: { ringer.bell ≡ hall },
 }
 
 impl<W: Ledger, L: Ledger> Desk<W, L> {
@@ -25,13 +27,23 @@ impl<W: Ledger, L: Ledger> Desk<W, L> {
         requires posts { (posts.name ≡ L.name) × (posts.parts ≡ 65537) × (posts.parts ≡ L.parts) }
     {
         let kernel = Kernel::new(alloc, writes)?;
-        let (bell, seat, _) = Bell::new(alloc, 1)?;
+        let (bell, seat, mut ringers) = Bell::new(alloc, 1)?;
+        let Some(ringer) = ringers.pop() else {
+            unreachable!()
+        };
         let hall = Hall::new(alloc, posts, kernel, Comms::new(alloc), bell);
-        Ok(Desk { hall, seat })
+        Ok(Desk { hall, seat, ringer })
     }
 
-    fn turn<R: Wait>(&mut self, rt: &R) -> Turn {
+    /// Takes one turn.
+    pub fn turn<R: Wait>(&mut self, rt: &R) -> Turn {
         self.hall.turn(rt, &mut self.seat, SLICE)
+    }
+
+    /// Asks the job that runs to stop.
+    pub fn ring(&mut self) {
+        let Desk { hall, ringer, .. } = self;
+        let _serial = hall.bell().ring(ringer);
     }
 
     /// Takes turns until a job ends, ten at most: its outcome.

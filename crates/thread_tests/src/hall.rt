@@ -3,8 +3,8 @@ ghost use Rattle.std.specs.Prelude.{◌≡◌, ◌<◌};
 
 use crate::desk::{Desk, cell, is_one, is_world, pass, post};
 use kernel_ask::{Answer, Ask, Content, Done, HallFault, Wish};
-use kernel_core::{Job, Outcome, PostFault, Refusal};
-use kernel_hall::{CommChange, Gate, Hall, Moment, PASSES, Pass, work};
+use kernel_core::{Begun, Job, Outcome, PostFault, Refusal, Sliced};
+use kernel_hall::{CommChange, Gate, Hall, Moment, PASSES, Pass, Turn, work};
 use std::alloc::{AllocError, Global};
 use std::marker::Brand;
 use std::process::Abort;
@@ -19,6 +19,8 @@ enum Scene {
     FirstWait,
     Comms,
     Shut,
+    Ring,
+    LateRing,
     /// A cell `int x x +=` this, after which the world is asked for.
     State(&'static str, &'static str),
 }
@@ -124,7 +126,7 @@ impl Gate for Open {
 
 /// After a shutdown a post is refused and the pass comes back, a job that waits is refused, and the worker ends.
 fn shut<W: Ledger, L: Ledger, R: Wait + Abort>(rt: &R, alloc: Global, desk: Desk<W, L>) {
-    let Desk { hall, seat } = desk;
+    let Desk { hall, seat, .. } = desk;
     let (ticket, first) = post(rt, alloc, &hall, pass(rt, &hall), Job::Undo(0));
     hall.shut(rt);
     let refused = hall.post(rt, first, Job::Undo(0), Vec::new(alloc));
@@ -150,6 +152,50 @@ fn own_state<W: Ledger, L: Ledger, R: Wait + Abort>(
     Ok(())
 }
 
+/// Takes the turn that begins a posted cell, and the two slices that it takes then.
+fn begin<W: Ledger, L: Ledger, R: Wait + Abort>(rt: &R, desk: &mut Desk<W, L>) {
+    assert!(rt; desk.turn(rt) == Turn::Began(Begun::Going));
+    assert!(rt; desk.turn(rt) == Turn::Cut(Sliced::Going));
+    assert!(rt; desk.turn(rt) == Turn::Cut(Sliced::Going));
+}
+
+/// A ring for a cell that runs stops it, and leaves all as before it.
+fn ring<W: Ledger, L: Ledger, R: Wait + Abort>(
+    rt: &R,
+    alloc: Global,
+    desk: &mut Desk<W, L>,
+) -> Result<(), Fail> {
+    let short = cell(alloc, "int x x += 5")?;
+    let (_, pass) = post(rt, alloc, &desk.hall, pass(rt, &desk.hall), short);
+    assert!(rt; desk.run(rt) == Some(Outcome::Ran(1, 3)));
+    let long = cell(alloc, "from x = 5 do x += 1 until x = 4")?;
+    let (ticket, pass) = post(rt, alloc, &desk.hall, pass, long);
+    begin(rt, desk);
+    desk.ring();
+    assert!(rt; desk.turn(rt) == Turn::Cut(Sliced::Backing));
+    assert!(rt; desk.run(rt) == Some(Outcome::Interrupted(8192)));
+    let done = desk.hall.wait(rt, &ticket);
+    assert!(rt; done.outcome == Outcome::Interrupted(8192) && done.node == 1);
+    assert!(rt; is_world(rt, &desk.hall, &pass, 4, "x = 5"));
+    Ok(())
+}
+
+/// A ring that comes once its job has ended does not stop the next one, which waits already.
+fn late_ring<W: Ledger, L: Ledger, R: Wait + Abort>(
+    rt: &R,
+    alloc: Global,
+    desk: &mut Desk<W, L>,
+) -> Result<(), Fail> {
+    let short = cell(alloc, "int x x += 5")?;
+    let (_, pass) = post(rt, alloc, &desk.hall, pass(rt, &desk.hall), short);
+    let (_, pass) = post(rt, alloc, &desk.hall, pass, cell(alloc, "x += 1")?);
+    assert!(rt; desk.run(rt) == Some(Outcome::Ran(1, 3)));
+    desk.ring();
+    assert!(rt; desk.run(rt) == Some(Outcome::Ran(2, 3)));
+    assert!(rt; is_world(rt, &desk.hall, &pass, 4, "x = 6"));
+    Ok(())
+}
+
 fn play_in<W: Ledger, L: Ledger, R: Wait + Abort>(
     rt: &R,
     alloc: Global,
@@ -166,6 +212,8 @@ fn play_in<W: Ledger, L: Ledger, R: Wait + Abort>(
         Scene::FirstWait => first_wait(rt, alloc, &mut desk)?,
         Scene::Comms => comms(rt, alloc, &desk.hall)?,
         Scene::Shut => shut(rt, alloc, desk),
+        Scene::Ring => ring(rt, alloc, &mut desk)?,
+        Scene::LateRing => late_ring(rt, alloc, &mut desk)?,
         Scene::State(code, line) => own_state(rt, alloc, &mut desk, code, line)?,
     }
     Ok(())
@@ -194,6 +242,16 @@ fn a_comm_is_opened_listed_and_closed(rt: HostRuntime) -> Result<(), Fail> {
 #[test]
 fn a_shut_hall_refuses_and_its_worker_ends(rt: HostRuntime) -> Result<(), Fail> {
     play(&rt, rt.alloc(), Scene::Shut)
+}
+
+#[test]
+fn a_ring_stops_the_cell_that_runs(rt: HostRuntime) -> Result<(), Fail> {
+    play(&rt, rt.alloc(), Scene::Ring)
+}
+
+#[test]
+fn a_late_ring_does_not_stop_the_next_job(rt: HostRuntime) -> Result<(), Fail> {
+    play(&rt, rt.alloc(), Scene::LateRing)
 }
 
 #[test]

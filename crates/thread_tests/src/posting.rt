@@ -122,7 +122,7 @@ fn play_in<W: Ledger + Send + Sync, L: Ledger + Send + Sync, R: Threads + Wait +
 {
     let mut desk = Desk::<W, L>::new(alloc, writes, posts)?;
     let all = Mutex::new(first_cell(rt, alloc, &mut desk)?);
-    let Desk { hall, seat } = desk;
+    let Desk { hall, seat, .. } = desk;
     assert!(rt; posted_beside(rt, alloc, Worker { hall: &hall, seat }, &all) == 0);
     let away = all.into_inner();
     assert!(rt; away.tickets.len() == 641 && away.dones.len() == 641 && away.passes.len() == 33);

@@ -129,7 +129,7 @@ fn play_in<W: Ledger + Send + Sync, L: Ledger + Send + Sync, R: Threads + Wait +
     requires writes { (writes.name ≡ W.name) × (writes.parts ≡ W.parts) × (0 < W.parts) }
     requires posts { (posts.name ≡ L.name) × (posts.parts ≡ 65537) × (posts.parts ≡ L.parts) }
 {
-    let Desk { hall, seat } = Desk::<W, L>::new(alloc, writes, posts)?;
+    let Desk { hall, seat, .. } = Desk::<W, L>::new(alloc, writes, posts)?;
     let word = AtomicU64::new(0);
     let away = held_beside(rt, alloc, Worker { hall: &hall, seat }, &word)?;
     assert!(rt; word.load(Ordering::SeqCst) == FREE && are_three(&away.dones));
