@@ -1,4 +1,4 @@
-use Rattle.session_replay.proofs.main.Given as goal
+use Rattle.session_replay.proofs.replay_session.Given as goal
 
-abbrev pub ghosts-replay_all : goal.ghosts-replay_all
-ghosts-replay_all a = record { name = a.blank.name; parts = a.blank.parts }
+abbrev pub ghosts-replay_to_new : goal.ghosts-replay_to_new
+ghosts-replay_to_new a = record { name = a.blank.name; parts = a.blank.parts }
