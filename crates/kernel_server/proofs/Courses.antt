@@ -1,5 +1,6 @@
 -- The calls of a connection, one after the other.
-use Rattle.std.proofs.Common.{◌≡◌, ◌∙◌, ℕ, List, [], ◌∷◌, ◌++◌, append_assoc, Option, Result, Ok, Err, refl, sym, ap, subst, ⊎_elim}
+use Rattle.std.proofs.Common.{◌≡◌, ◌∙◌, ℕ, true, List, [], ◌∷◌, ◌++◌, append_assoc, Option, Result, Ok, Err, refl, sym, ap, subst, ⊎_elim}
+use Rattle.std.proofs.lemmas.Bool.{false≢true}
 use Rattle.std.proofs.lemmas.List.{append-nil}
 use Rattle.kernel_core.specs.Runs.{Machine, IsPost, Run}
 use Rattle.kernel_core.specs.declared.events.Event.{Event}
@@ -19,6 +20,7 @@ use Rattle.kernel_server.specs.Pace.{ArePaced, behind}
 use Rattle.kernel_server.specs.Jobs.{lane}
 use Rattle.kernel_server.specs.Lone.{Lone, lone_leads}
 use Rattle.kernel_server.specs.Course.{RanOn}
+use Rattle.kernel_server.specs.Laws.{handed, all_handed, LoneDesksKeepAll}
 
 -- ---- runs in a row
 
@@ -89,9 +91,9 @@ call_ran old new (Published b) h =
       later = b ∷ [];
       kept = ap (λ (d : Lone). d.kept) e;
     })
-    (λ e. same old new e)
+    (λ e. stays old new (ap (λ (d : Lone). d.machine) e) (ap (λ (d : Lone). d.slices) e) (ap (λ (d : Lone). d.kept) e))
     h
-call_ran old new (Kept bs) h = same old new h.1
+call_ran old new (Kept bs) h = same old new h.2
 call_ran old new (Dated before after) h = same old new h.1
 
 -- ---- all calls of a connection
@@ -116,3 +118,35 @@ module _ {W : Type 0} (contents : W → Option (List ℕ)) (socket : Socket) (ke
       (λ h. ⊎_elim (λ h. calls_ran desk desk' _ h.acts.called) (λ h. calls_ran desk desk' _ h.acts.called) h.3.3)
       (λ h. calls_ran desk desk' _ h.3.2.acts.called)
       h
+
+-- ---- the broadcasts
+
+-- a call that hands over nothing leaves the broadcasts
+nothing_handed : (old new : Lone) → new.kept ≡ old.kept → new.is_whole ≡ old.is_whole → new.is_whole ≡ true → (old.is_whole ≡ true) × (new.kept ≡ old.kept ++ [])
+nothing_handed old new k e w = (sym e ∙ w, k ∙ sym (append-nil old.kept))
+
+left_alone : (old new : Lone) → new ≡ old → new.is_whole ≡ true → (old.is_whole ≡ true) × (new.kept ≡ old.kept ++ [])
+left_alone old new e w = nothing_handed old new (ap (λ (d : Lone). d.kept) e) (ap (λ (d : Lone). d.is_whole) e) w
+
+call_keeps : (old new : Lone) (call : Call) → lone_leads old call new → new.is_whole ≡ true → (old.is_whole ≡ true) × (new.kept ≡ old.kept ++ handed call)
+call_keeps old new (Posted request wishes (Ok d)) h w = nothing_handed old new h.2 h.3 w
+call_keeps old new (Posted request wishes (Err fault)) h w = left_alone old new h.1 w
+call_keeps old new (Asked q answer) h w = left_alone old new h.1 w
+call_keeps old new (Changed change answer) h w =
+    nothing_handed old new (ap (λ (d : Lone). d.kept) h.new_is) (ap (λ (d : Lone). d.is_whole) h.new_is) w
+call_keeps old new Rang h w = left_alone old new h w
+call_keeps old new Shut h w = nothing_handed old new (ap (λ (d : Lone). d.kept) h) (ap (λ (d : Lone). d.is_whole) h) w
+call_keeps old new (Published b) h w =
+    ⊎_elim
+    (λ e. (sym (ap (λ (d : Lone). d.is_whole) e) ∙ w, ap (λ (d : Lone). d.kept) e))
+    (λ e. absurd (false≢true (sym (ap (λ (d : Lone). d.is_whole) e) ∙ w)))
+    h
+call_keeps old new (Kept bs) h w = left_alone old new h.2 w
+call_keeps old new (Dated before after) h w = left_alone old new h.1 w
+
+pub lone_desks_keep_all : LoneDesksKeepAll
+lone_desks_keep_all old new [] h w = left_alone old new h w
+lone_desks_keep_all old new (call ∷ calls) h w =
+    let later = lone_desks_keep_all h.0 new calls h.2 w in
+    let first = call_keeps old h.0 call h.1 later.0 in
+    (first.0, later.1 ∙ ap (λ bs. bs ++ all_handed calls) first.1 ∙ append_assoc old.kept (handed call) (all_handed calls))

@@ -57,9 +57,9 @@ IsShownOf s (Undo k) o shown = shown ≡ None
 IsShownOf s (Redo k) o shown = shown ≡ None
 IsShownOf s (Goto n) o shown = shown ≡ None
 
--- the values of the user expressions; none where there is no memory for them
+-- the values of the user expressions: the room for them was made before the post
 abbrev pub AreValuesOf : Past → Wishes → Outcome → List NamedValue → Type 0
-AreValuesOf s wishes o values = ((list : List Wish) × (wishes_of list ≡ wishes) × AreValuesAfter o s list values) ⊎ (values ≡ [])
+AreValuesOf s wishes o values = (list : List Wish) × (wishes_of list ≡ wishes) × AreValuesAfter o s list values
 
 -- the counter and the position as the job ended, and what is seen there
 pub record IsToldOf (m : Machine) (job : Request) (wishes : Wishes) (d : Done) : Type 0 where

@@ -1,15 +1,16 @@
 //! A job, and what is told of it.
-ghost use Rattle.std.specs.Prelude.{◌≡◌, [], IfOk, IfErr, OnErr, option_map, string_bytes};
+ghost use Rattle.std.specs.Prelude.{◌≡◌, ◌≤◌, [], IfOk, IfErr, OnErr, option_map, string_bytes, vec_len, vec_capacity};
 ghost use Rattle.kernel_core.specs.Request.{request_of};
 ghost use Rattle.kernel_core.specs.Runs.{IsRefusal};
 ghost use Rattle.kernel_core.specs.State.{Idle};
 ghost use Rattle.kernel_ask.specs.EndedAt.{StandsAtEnd};
 ghost use Rattle.kernel_session.specs.Question.{wishes_of};
-ghost use Rattle.kernel_server.specs.Jobs.{IsDone, IsToldOf, IsShownOf, AreValuesOf};
+ghost use Rattle.kernel_server.specs.Jobs.{IsDone, IsToldOf, IsShownOf};
 
 use crate::finish::run_out;
 use crate::slice::Slice;
-use kernel_ask::{Done, NamedValue, Wish, evaluate_all, shown_text};
+use crate::values::values_after;
+use kernel_ask::{Done, NamedValue, Wish, shown_text};
 use kernel_core::laws::jobs_end_law;
 use kernel_core::{Job, Kernel, Outcome, PostFault};
 use std::alloc::Global;
@@ -38,40 +39,26 @@ fn shown_of<L: Ledger>(
     }
 }
 
-/// The values of the user expressions after a job that has ended; none where there is no memory for them.
-fn values_of<L: Ledger>(
-    alloc: Global,
-    kernel: &Kernel<L>,
-    outcome: &Outcome,
-    wishes: &[Wish],
-) -> Vec<NamedValue>
-    requires idle { kernel.now.machine.state.job ≡ Idle }
-    requires still { StandsAtEnd outcome.now kernel.now.machine.state.past }
-    ensures { AreValuesOf kernel.now.machine.state.past (wishes_of wishes.now) outcome.now result.items }
-{
-    match evaluate_all(alloc, kernel, outcome, wishes) {
-        Ok(values) => values,
-        Err(_) => Vec::new(alloc),
-    }
-}
-
-/// What is told of the job of this number, which has ended.
+/// What is told of the job of this number, which has ended. There is room for its values.
 fn told_of<L: Ledger>(
     alloc: Global,
     kernel: &Kernel<L>,
     number: u64,
     outcome: Outcome,
     job: &Job,
-    wishes: &[Wish],
+    wishes: Vec<Wish>,
+    room: Vec<NamedValue>,
 ) -> Done
     requires idle { kernel.now.machine.state.job ≡ Idle }
     requires still { StandsAtEnd outcome kernel.now.machine.state.past }
-    ensures told { IsToldOf kernel.now.machine (request_of job.now) (wishes_of wishes.now) result }
+    requires empty { room.items ≡ [] }
+    requires room { vec_len wishes ≤ vec_capacity room }
+    ensures told { IsToldOf kernel.now.machine (request_of job.now) (wishes_of wishes.items) result }
     ensures number { result.number ≡ number }
     ensures outcome { result.outcome ≡ outcome }
 {
     let shown = shown_of(alloc, kernel, &outcome, job);
-    let values = values_of(alloc, kernel, &outcome, wishes);
+    let values = values_after(alloc, kernel, &outcome, wishes, room);
     Done {
         number,
         outcome,
@@ -82,7 +69,7 @@ fn told_of<L: Ledger>(
     }
 }
 
-/// Why a job is refused that finds no memory for its copy.
+/// Why a job is refused that finds no memory for its copy or for the values.
 fn refusal<L: Ledger>(kernel: &Kernel<L>) -> PostFault
     ensures { IsRefusal kernel.now.machine result }
 {
@@ -92,17 +79,18 @@ fn refusal<L: Ledger>(kernel: &Kernel<L>) -> PostFault
     }
 }
 
-/// Posts a job to a kernel without an open job, brings it to its end by the slices, and tells what came of it.
+/// Posts a job to a kernel without an open job, brings it to its end by the slices, and tells what came of it. The room for the values of
+/// the user expressions is made before the post.
 pub(crate) fn run_job<L: Ledger>(
     alloc: Global,
     kernel: &mut Kernel<L>,
     slices: &mut VecDeque<Slice>,
     job: Job,
-    wishes: &[Wish],
+    wishes: Vec<Wish>,
 ) -> Result<Done, PostFault>
     requires idle { kernel.old.machine.state.job ≡ Idle }
     requires alone { kernel.old.machine.queue ≡ [] }
-    ensures ok { IfOk result (λ d. IsDone kernel.old.machine slices.old.items (request_of job) (wishes_of wishes.now) d
+    ensures ok { IfOk result (λ d. IsDone kernel.old.machine slices.old.items (request_of job) (wishes_of wishes.items) d
         kernel.new.machine slices.new.items) }
     ensures refusal { IfErr result (IsRefusal kernel.old.machine) }
     ensures err { OnErr result (kernel.new.machine ≡ kernel.old.machine) }
@@ -110,14 +98,16 @@ pub(crate) fn run_job<L: Ledger>(
     ensures idle { kernel.new.machine.state.job ≡ Idle }
     ensures alone { kernel.new.machine.queue ≡ [] }
 {
-    let copy = match job.try_clone() {
-        Ok(copy) => copy,
-        Err(_) => return Err(refusal(kernel)),
+    let Ok(copy) = job.try_clone() else {
+        return Err(refusal(kernel));
+    };
+    let Ok(room) = Vec::with_capacity(alloc, wishes.len()) else {
+        return Err(refusal(kernel));
     };
     match run_out(kernel, slices, copy) {
         Ok((number, outcome)) => {
             jobs_end_law();
-            Ok(told_of(alloc, kernel, number, outcome, &job, wishes))
+            Ok(told_of(alloc, kernel, number, outcome, &job, wishes, room))
         }
         Err(fault) => Err(fault),
     }

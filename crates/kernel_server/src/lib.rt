@@ -4,8 +4,8 @@
 //! to be given. To the layer above it promises that each call answers what such a kernel answers (specs/Lone.antt): a job is posted and
 //! brought to its end by the next slices (`Jobs`, `Pace`), and what is told of it stands in the kernel that it left; a question is
 //! answered of this kernel. [`serve_lone`] is a connection to it: what is written is the session of what was read, in which each answer is
-//! the kernel's own, and the kernel ran on by whole jobs (`Course`). `laws` says of these definitions how jobs end, and that the kernel
-//! and the slices alone decide what comes of one, where memory is ample.
+//! the kernel's own, and the kernel ran on by whole jobs (`Course`). `laws` says of these definitions how jobs end, that the kernel
+//! and the slices alone decide what comes of one, where memory is ample, and that the broadcasts that are told are all that there were.
 #![tactic(auto)]
 
 mod finish;
@@ -14,6 +14,7 @@ pub mod laws;
 mod lone;
 mod session;
 mod slice;
+mod values;
 
 pub use kernel_session::{Desk, ServeFault, Socket, serve};
 pub use lone::LoneDesk;

@@ -1,5 +1,5 @@
 //! A lone kernel as a desk.
-ghost use Rattle.std.specs.Prelude.{◌≡◌, []};
+ghost use Rattle.std.specs.Prelude.{◌≡◌, [], true};
 ghost use Rattle.kernel_core.specs.State.{Idle};
 
 use crate::job::run_job;
@@ -17,7 +17,7 @@ use std::sync::ledger::Ledger;
 
 /// A kernel that no runner and no other frontend has a part in, with the slices that its jobs are to be given, and the broadcasts that it
 /// keeps. No job is open between two calls. Contracts see the machine that the kernel is, the ids of the open comms, the slices that are
-/// left, and the broadcasts.
+/// left, the broadcasts, and whether these are all.
 #[derive(Drop)]
 pub struct LoneDesk<L: Ledger> {
     alloc: Global,
@@ -25,6 +25,8 @@ pub struct LoneDesk<L: Ledger> {
     comms: Comms,
     slices: VecDeque<Slice>,
     kept: Vec<Broadcast>,
+    /// Whether each broadcast found memory.
+    is_whole: bool,
 }
 
 impl<L: Ledger> Model for LoneDesk<L> {
@@ -36,7 +38,7 @@ impl<L: Ledger> Model for LoneDesk<L> {
 
     ghost coded = { lone_code };
 
-    ghost view = { λ d. record { machine = d.kernel.machine; comms = d.comms; slices = d.slices.items; kept = d.kept.items } };
+    ghost view = { λ d. record { machine = d.kernel.machine; comms = d.comms; slices = d.slices.items; kept = d.kept.items; is_whole = d.is_whole } };
 
     ghost invariant = { λ d. (d.kernel.machine.state.job ≡ Idle) × (d.kernel.machine.queue ≡ []) };
 }
@@ -47,7 +49,7 @@ impl<L: Ledger> LoneDesk<L> {
     pub fn new(alloc: Global, kernel: Kernel<L>, comms: Comms, slices: Vec<Slice>) -> LoneDesk<L>
         requires idle { kernel.machine.state.job ≡ Idle }
         requires alone { kernel.machine.queue ≡ [] }
-        ensures { result ≡ record { machine = kernel.machine; comms = comms; slices = slices.items; kept = [] } }
+        ensures { result ≡ record { machine = kernel.machine; comms = comms; slices = slices.items; kept = []; is_whole = true } }
     {
         LoneDesk {
             alloc,
@@ -55,6 +57,7 @@ impl<L: Ledger> LoneDesk<L> {
             comms,
             slices: VecDeque::from_vec(slices),
             kept: Vec::new(alloc),
+            is_whole: true,
         }
     }
 
@@ -87,7 +90,7 @@ impl<L: Ledger> Desk for LoneDesk<L> {
             slices,
             ..
         } = self;
-        run_job(*alloc, kernel, slices, job, &wishes)
+        run_job(*alloc, kernel, slices, job, wishes)
     }
 
     fn ask(&mut self, ask: Ask) -> Result<Answer, HallFault> {
@@ -106,12 +109,17 @@ impl<L: Ledger> Desk for LoneDesk<L> {
         kernel.shut();
     }
 
-    /// What finds no memory is not kept.
+    /// One that finds no memory is not kept, and then the list is not told any more.
     fn publish(&mut self, broadcast: Broadcast) {
-        let _ = self.kept.push(broadcast);
+        if self.kept.push(broadcast).is_err() {
+            self.is_whole = false;
+        }
     }
 
     fn broadcasts(&mut self, alloc: Global) -> Result<Vec<Broadcast>, AllocError> {
+        if !self.is_whole {
+            return Err(AllocError);
+        }
         self.kept.as_slice().to_vec(alloc)
     }
 

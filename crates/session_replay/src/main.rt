@@ -1,22 +1,28 @@
-//! `session-replay`: replays recorded connections, one after another, to one kernel over memory, and writes what goes out on them.
+//! `session-replay`: replays recorded sessions over memory, each to a kernel of its own, and writes what goes out.
 //!
-//! The first line of standard input is the key of the messages. Each further line is a socket's name and the octets that a frontend
-//! sent on a connection to it, in hexadecimal digits. For each such line it writes the socket's name and how the connection ended, and
-//! then the octets that went out in a line of their own: printable ones of ASCII as
-//! they are, others as `\xNN`. Each connection stands on the store that the ones before it left. The kernel is that of `kernel_server`
-//! in which nobody else has a part, so that what goes out is the session of what came in, as `serve_lone` promises.
+//! Standard input has sessions, parted by an empty line. The first line of a session is the key of its messages. A line
+//! `slices 3 go, 1 ask` behind it names the slices that the kernel is given, each by its number of steps and whether it asks the job to
+//! stop; behind them, and where there is no such line, come unasked ones of 4,096 steps. Each further line is a socket's name and the
+//! octets that a frontend sent on a connection to it, in hexadecimal digits.
+//!
+//! For each connection the program writes the socket's name and how it ended, and then the octets that went out, in a line of their own:
+//! printable ones of ASCII as they are, others as `\xNN`. Each connection stands on the store that the ones before it in its session
+//! left. The kernel is that of `kernel_server` in which nobody else has a part, so that what goes out is the session of what came in, as
+//! `serve_lone` promises.
 #![tactic(auto)]
 
 mod escaped;
+mod slices;
 
 ghost use Rattle.std.specs.Prelude.{◌≡◌, ◌<◌};
 
 use crate::escaped::escaped;
+use crate::slices::slices_of;
 use anyhow::anyhow;
 use kernel_ask::Comms;
 use kernel_core::Kernel;
 use kernel_message::Stamp;
-use kernel_server::{LoneDesk, Socket, serve_lone};
+use kernel_server::{LoneDesk, Slice, Socket, serve_lone};
 use std::alloc::{AllocError, Global};
 use std::io;
 use std::marker::Brand;
@@ -76,27 +82,61 @@ fn replay<L: Ledger>(
     Ok(())
 }
 
-/// Replays all connections of a text to a new kernel, whose writes are counted in the ledger of this blank.
-fn replay_all<L: Ledger>(rt: &HostRuntime, blank: Blank, text: String) -> anyhow::Result<()>
+/// Replays connections to the kernel of a desk.
+fn replay_all<L: Ledger>(
+    rt: &HostRuntime,
+    desk: &mut LoneDesk<L>,
+    key: &str,
+    connections: &str,
+) -> anyhow::Result<()> {
+    let mut number = 0u64;
+    for line in connections.lines() {
+        number = number.saturating_add(1);
+        replay(rt, desk, key, number, line)?;
+    }
+    Ok(())
+}
+
+/// Replays connections to a new kernel with these slices, whose writes are counted in the ledger of this blank.
+fn replay_to_new<L: Ledger>(
+    rt: &HostRuntime,
+    blank: Blank,
+    slices: Vec<Slice>,
+    key: &str,
+    connections: &str,
+) -> anyhow::Result<()>
     requires name { blank.name ≡ L.name }
     requires parts { blank.parts ≡ L.parts }
     requires some { 0 < L.parts }
 {
     let alloc = rt.alloc();
     let kernel = Kernel::<L>::new(alloc, blank)?;
-    let mut desk = LoneDesk::new(alloc, kernel, Comms::new(alloc), Vec::new(alloc));
-    let Some((key, connections)) = text.split_once('\n') else {
-        return Err(anyhow!("the first line is the key"));
-    };
-    let mut number = 0u64;
-    for line in connections.lines() {
-        number = number.saturating_add(1);
-        replay(rt, &mut desk, key, number, line)?;
+    let mut desk = LoneDesk::new(alloc, kernel, Comms::new(alloc), slices);
+    replay_all(rt, &mut desk, key, connections)
+}
+
+/// The list of slices and the connections behind a session's key.
+fn parts_of(behind: &str) -> (&str, &str) {
+    match behind.strip_prefix("slices ") {
+        Some(named) => named.split_once('\n').unwrap_or((named, "")),
+        None => ("", behind),
     }
-    Ok(())
+}
+
+/// Replays a session.
+fn replay_session(rt: &HostRuntime, session: &str) -> anyhow::Result<()> {
+    let Some((key, behind)) = session.split_once('\n') else {
+        return Err(anyhow!("the first line of a session is the key"));
+    };
+    let (list, connections) = parts_of(behind);
+    let slices = slices_of(rt.alloc(), list)?;
+    replay_to_new::<Brand>(rt, Blank::new(1), slices, key, connections)
 }
 
 fn main(rt: HostRuntime) -> anyhow::Result<()> {
     let text = io::read_to_string(rt.alloc(), rt.stdin())?;
-    replay_all::<Brand>(&rt, Blank::new(1), text)
+    for session in text.split("\n\n") {
+        replay_session(&rt, session)?;
+    }
+    Ok(())
 }
