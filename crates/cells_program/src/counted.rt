@@ -7,13 +7,13 @@ ghost use Rattle.cells_program.specs.Transcript.{IsTranscript};
 
 use crate::fault::RunFault;
 use crate::input::read_text;
-use crate::run::run_text;
+use crate::transcript::run_text;
 use kernel_core::Kernel;
 use std::alloc::Global;
 use std::io::{Read, Write};
 use std::sync::ledger::{Blank, Ledger};
 
-/// Does what [`run`](crate::run::run) says. The blank opens the ledger of the kernel.
+/// Does what [`run`](crate::transcript::run) says. The blank opens the ledger of the kernel.
 pub(crate) fn run_counted<L: Ledger, R: Read, W: Write>(
     alloc: Global,
     blank: Blank,

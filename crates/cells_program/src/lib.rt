@@ -11,6 +11,7 @@
 
 mod closed;
 mod command;
+mod command_line;
 mod counted;
 mod fault;
 mod gathered;
@@ -19,13 +20,12 @@ pub mod laws;
 mod lines;
 mod listing;
 mod output;
-mod program;
-mod run;
 mod serve;
+mod transcript;
 mod words;
 
+pub use command_line::{program, without_output};
 pub use fault::{RunFault, status};
 pub use output::send_run_fault;
-pub use program::{program, without_output};
-pub use run::run;
+pub use transcript::run;
 pub use words::{steps_of, unread_words_status, words_status};

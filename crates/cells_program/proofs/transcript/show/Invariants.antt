@@ -2,7 +2,7 @@ use Rattle.std.specs.Io.KnownBytes.{Appends}
 use Rattle.janus_meaning.specs.World.{listed}
 use Rattle.kernel_core.specs.State.{here}
 use Rattle.cells_program.proofs.ShownLemmas.{first_text}
-use Rattle.cells_program.proofs.run.show.Given as goal
+use Rattle.cells_program.proofs.transcript.show.Given as goal
 
 -- the first i names are written
 abbrev pub invariant-loop-i : goal.invariant-loop-i

@@ -4,7 +4,7 @@ use denote.Shadow.{shadow}
 use Rattle.kernel_core.specs.State.{Idle}
 use Rattle.cells_program.specs.Lines.{lines}
 use Rattle.cells_program.proofs.TranscriptLemmas.{Served}
-use Rattle.cells_program.proofs.run.run_text.Given as goal
+use Rattle.cells_program.proofs.transcript.run_text.Given as goal
 
 -- between two lines no job is open and none is posted, and what was written is the transcript of the lines so far
 abbrev pub invariant-loop-line : goal.invariant-loop-line

@@ -2,7 +2,7 @@ use Rattle.std.proofs.Common.{rules}
 use Rattle.cells_program.specs.Lines.{lines}
 use Rattle.cells_program.proofs.LinesLemmas.{cut_lines, cut_shorter}
 use Rattle.cells_program.proofs.TranscriptLemmas.{served_none, served_line, line_failed, served_all, served_some, end_failed}
-use Rattle.cells_program.proofs.run.run_text.Goals as goal
+use Rattle.cells_program.proofs.transcript.run_text.Goals as goal
 
 pub loop-line-init : goal.loop-line-init
 loop-line-init g c = (c.utf8.text, c.requires.idle, c.requires.alone, served_none c.args.steps c.args.kernel.now.machine c.args.text.now c.new-gathered.result (g.W.Write.contents c.args.writer.now) c.new-gathered.ensures)

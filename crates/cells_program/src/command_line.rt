@@ -9,7 +9,7 @@ ghost use Rattle.cells_program.specs.RunFault.{IsServed, IsWhyUnread, TakesAtMos
 ghost use Rattle.cells_program.specs.Transcript.{IsTranscript};
 
 use crate::fault::RunFault;
-use crate::run::run;
+use crate::transcript::run;
 use crate::words::steps_of;
 use clap::Error;
 use clap::error::ErrorKind;
@@ -18,7 +18,7 @@ use std::convert::AsStr;
 use std::io::{Read, Write};
 
 /// Runs all of the input, with as many steps for each cell as the words of the command line choose (see
-/// [`steps_of`](crate::words::steps_of)). What it answers, reads and writes is that of [`run`](crate::run::run).
+/// [`steps_of`](crate::words::steps_of)). What it answers, reads and writes is that of [`run`](crate::transcript::run).
 ///
 /// # Errors
 /// What is wrong with the words, or that they ask for help. Nothing is read or written then.

@@ -1,6 +1,6 @@
 use Rattle.kernel_core.specs.State.{here}
 use Rattle.cells_program.proofs.ListedLemmas.{want_err}
-use Rattle.cells_program.proofs.run.list.Goals as goal
+use Rattle.cells_program.proofs.transcript.list.Goals as goal
 
 pub returns-in-Err-clause-err : goal.returns-in-Err-clause-err
 returns-in-Err-clause-err g c =

@@ -7,7 +7,7 @@ use Rattle.cells_program.specs.Lines.{ended_line}
 use Rattle.cells_program.specs.Shown.{position_line, value_lines, world_text}
 use Rattle.kernel_text.proofs.Sending.{some_first, some_now}
 use Rattle.cells_program.proofs.ShownLemmas.{entry_then, entry_failed, first_all}
-use Rattle.cells_program.proofs.run.show.Goals as goal
+use Rattle.cells_program.proofs.transcript.show.Goals as goal
 
 pub returns-in_err-send_position-clause-err : goal.returns-in_err-send_position-clause-err
 returns-in_err-send_position-clause-err g c =

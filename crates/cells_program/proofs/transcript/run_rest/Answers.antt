@@ -1,5 +1,5 @@
 use Rattle.cells_program.proofs.TranscriptLemmas.{rest_err}
-use Rattle.cells_program.proofs.run.run_rest.Goals as goal
+use Rattle.cells_program.proofs.transcript.run_rest.Goals as goal
 
 pub returns-then-gathered-clause-err : goal.returns-then-gathered-clause-err
 returns-then-gathered-clause-err g c =

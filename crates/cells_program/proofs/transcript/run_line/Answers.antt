@@ -1,6 +1,6 @@
 use Rattle.std.proofs.Common.{sym}
 use Rattle.cells_program.proofs.TranscriptLemmas.{command_ok, command_err}
-use Rattle.cells_program.proofs.run.run_line.Goals as goal
+use Rattle.cells_program.proofs.transcript.run_line.Goals as goal
 
 pub returns-clause-ok : goal.returns-clause-ok
 returns-clause-ok g c =

@@ -1,5 +1,5 @@
 use Rattle.cells_program.proofs.TranscriptLemmas.{ran_err, rest_failed, obeyed_ok, obeyed_err}
-use Rattle.cells_program.proofs.run.run_command.Goals as goal
+use Rattle.cells_program.proofs.transcript.run_command.Goals as goal
 
 pub returns-in-Run-clause-err : goal.returns-in-Run-clause-err
 returns-in-Run-clause-err g c =

@@ -1,5 +1,5 @@
 use Rattle.cells_program.proofs.TranscriptLemmas.{lost_ok, lost_err}
-use Rattle.cells_program.proofs.run.run_cell.Goals as goal
+use Rattle.cells_program.proofs.transcript.run_cell.Goals as goal
 
 pub returns-in-None-clause-ok : goal.returns-in-None-clause-ok
 returns-in-None-clause-ok g c =

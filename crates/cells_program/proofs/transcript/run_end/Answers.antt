@@ -1,7 +1,7 @@
 use Rattle.cells_program.specs.Lines.{lines}
 use Rattle.cells_program.proofs.LinesLemmas.{last_line, no_line, some_octets, no_octets}
 use Rattle.cells_program.proofs.TranscriptLemmas.{empty_ok, empty_err, last_ok, last_err, last_failed}
-use Rattle.cells_program.proofs.run.run_end.Goals as goal
+use Rattle.cells_program.proofs.transcript.run_end.Goals as goal
 
 pub returns-then-is_empty-clause-ok : goal.returns-then-is_empty-clause-ok
 returns-then-is_empty-clause-ok g c =

@@ -4,7 +4,7 @@ use Rattle.cells_program.specs.Loop.{Does}
 use Rattle.cells_program.specs.Shown.{world_text}
 use Rattle.cells_program.specs.Transcript.{bad_command_line}
 use Rattle.cells_program.proofs.TranscriptLemmas.{does_err, does_same_err, unknown_does}
-use Rattle.cells_program.proofs.run.obey.Goals as goal
+use Rattle.cells_program.proofs.transcript.obey.Goals as goal
 
 pub returns-in-Undo-clause-err : goal.returns-in-Undo-clause-err
 returns-in-Undo-clause-err g c =
