@@ -212,16 +212,23 @@ impl<R: Read + Drop, W: Write + Drop> Frontend<R, W> {
         }
     }
 
+    /// Closes the comm, and waits until the kernel is done with that.
+    fn close_comm(&mut self, close: &Draft) -> Result<(), ConsoleFault> {
+        let n = self.send(close)?;
+        self.is_closed_by(n)?;
+        Ok(())
+    }
+
     /// Opens a comm, asks on it, and closes it: also where the answer isn't understood, or memory ran out.
     fn ask_on_comm(&mut self, asked: &Draft) -> Result<Told, ConsoleFault> {
         let open = comm_open_draft(self.alloc, &self.session)?;
         let close = comm_close_draft(self.alloc, &self.session)?;
         let n = self.send(&open)?;
         let came = self.ask_on_open_comm(n, asked);
-        if matches!(came, Err(ConsoleFault::NoComm)) {
+        if matches!(&came, Err(ConsoleFault::NoComm)) {
             return came;
         }
-        let closed = self.send(&close).and_then(|n| self.is_closed_by(n));
+        let closed = self.close_comm(&close);
         let told = came?;
         closed?;
         Ok(told)

@@ -1,5 +1,5 @@
 //! The program over its command line and its two output streams.
-ghost use Rattle.std.specs.Prelude.{◌≡◌, ◌≢◌, codes, string_bytes, IfOk, IfErr, OnErr};
+ghost use Rattle.std.specs.Prelude.{◌≡◌, ◌≢◌, string_bytes, IfOk, IfErr, OnErr};
 ghost use Rattle.console_talk.specs.Faults.{status_of as fault_status};
 ghost use Rattle.console_talk.specs.Lines.{status_of as told_status};
 ghost use Rattle.console_words.specs.Refusals.{status_of as refusal_status};

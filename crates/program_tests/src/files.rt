@@ -108,7 +108,7 @@ fn wrong_words_are_told(rt: HostRuntime) -> Result<(), Fail> {
     assert!(rt; out.is_empty());
     assert!(rt; err.as_slice().starts_with(b"error: "));
     for line in WRONG_WORDS {
-        let words: Vec<&str> = line.split(' ').collect(alloc)?;
+        let words = line.split(' ').collect::<Vec<&str>>(alloc)?;
         let ran = run_console(&rt, alloc, &words);
         assert!(rt; ran.out.is_empty(), "{line}");
         assert!(rt; ran.err.as_slice().starts_with(b"error: "), "{line}");

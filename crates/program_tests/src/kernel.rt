@@ -66,9 +66,10 @@ where
     R: Net<Listener = TcpListener, Stream = TcpStream> + Files,
 {
     let [shell, iopub, stdin, control, heartbeat] = free_ports(rt)?;
+    let key = KEY;
     let path = format!(in alloc; "kernel-{shell}.json")?;
     let text = format!(in alloc;
-        "{{\"transport\":\"tcp\",\"ip\":\"127.0.0.1\",\"shell_port\":{shell},\"iopub_port\":{iopub},\"stdin_port\":{stdin},\"control_port\":{control},\"hb_port\":{heartbeat},\"key\":\"{KEY}\"}}"
+        "{{\"transport\":\"tcp\",\"ip\":\"127.0.0.1\",\"shell_port\":{shell},\"iopub_port\":{iopub},\"stdin_port\":{stdin},\"control_port\":{control},\"hb_port\":{heartbeat},\"key\":\"{key}\"}}"
     )?;
     fs::write(rt, path.as_str(), text.as_bytes())?;
     Ok(Site {

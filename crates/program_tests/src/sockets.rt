@@ -56,7 +56,7 @@ fn numbers_of(reply: &Opened) -> Option<(u64, u64)> {
     let session = field(reply, "session");
     let rest = field(reply, "msg_id").strip_prefix(session)?;
     let (connection, number) = rest.strip_prefix("_")?.split_once("_")?;
-    Some((connection.parse().ok()?, number.parse().ok()?))
+    Some((connection.parse::<u64>().ok()?, number.parse::<u64>().ok()?))
 }
 
 /// Two replies of one kernel on two connections: the ids have the form of ids, under two numbers of connections, and the dates are of today.
