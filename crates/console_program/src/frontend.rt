@@ -19,8 +19,8 @@ use std::io::{Read, Write};
 /// So often the kernel is asked what it is, until a status with its parent came.
 const ASKS: u32 = 100;
 
-/// So many broadcasts are looked at for each asking, at most.
-const LOOKS: u32 = 4096;
+/// So many broadcasts are looked at for each asking, at most, be they refused or not: in all askings more than a kernel keeps.
+const LOOKS: u32 = 64;
 
 /// A conversation with a kernel: a connection to shell, one to iopub that is subscribed to all, and the session.
 #[derive(Drop)]
@@ -69,39 +69,39 @@ impl<R: Read + Drop, W: Write + Drop> Frontend<R, W> {
         Ok(n)
     }
 
-    /// The next broadcast; none where none came in the time that the reader waits.
-    fn next_broadcast(&mut self) -> Result<Option<Opened>, ConsoleFault> {
+    /// The next broadcast, where one has to come. Those that are refused are passed over.
+    fn some_broadcast(&mut self) -> Result<Opened, ConsoleFault> {
         for _ in 0..u64::MAX {
             let Some(frames) = self.iopub.next()? else {
-                return Ok(None);
+                return Err(ConsoleFault::NoConnection);
             };
-            let read = opened(self.alloc, frames, self.key.as_bytes())?;
-            if read.is_some() {
-                return Ok(read);
+            if let Some(broadcast) = opened(self.alloc, frames, self.key.as_bytes())? {
+                return Ok(broadcast);
             }
         }
         Err(ConsoleFault::NoConnection)
     }
 
-    /// The next broadcast, where one has to come.
-    fn some_broadcast(&mut self) -> Result<Opened, ConsoleFault> {
-        match self.next_broadcast()? {
-            Some(broadcast) => Ok(broadcast),
-            None => Err(ConsoleFault::NoConnection),
+    /// Whether a broadcast, as it came, is a status that answers this session.
+    fn is_own_status(&self, frames: Vec<Vec<u8>>) -> Result<bool, ConsoleFault> {
+        let Some(broadcast) = opened(self.alloc, frames, self.key.as_bytes())? else {
+            return Ok(false);
+        };
+        match what_is_heard(&broadcast.header, &broadcast.content) {
+            Heard::Idle | Heard::Status => {
+                Ok(is_in_session(self.alloc, &broadcast.message, &self.session)?)
+            }
+            Heard::Result | Heard::CommData | Heard::CommClosed | Heard::Other => Ok(false),
         }
     }
 
-    /// Whether a status that answers this session comes in the time that the reader waits.
+    /// Whether a status that answers this session comes among the next broadcasts, and in the time that the reader waits.
     fn hears_status(&mut self) -> Result<bool, ConsoleFault> {
         for _ in 0..LOOKS {
-            let Some(broadcast) = self.next_broadcast()? else {
+            let Some(frames) = self.iopub.next()? else {
                 return Ok(false);
             };
-            let is_status = match what_is_heard(&broadcast.header, &broadcast.content) {
-                Heard::Idle | Heard::Status => true,
-                Heard::Result | Heard::CommData | Heard::CommClosed | Heard::Other => false,
-            };
-            if is_status && is_in_session(self.alloc, &broadcast.message, &self.session)? {
+            if self.is_own_status(frames)? {
                 return Ok(true);
             }
         }
@@ -183,12 +183,12 @@ impl<R: Read + Drop, W: Write + Drop> Frontend<R, W> {
         Err(ConsoleFault::NoConnection)
     }
 
-    /// Runs a text as a cell.
+    /// Runs a text as a cell. The broadcasts are read first, so that none wait unread while others run theirs; the last of them comes behind the reply.
     fn run(&mut self, code: &str) -> Result<Told, ConsoleFault> {
         let asked = execute_draft(self.alloc, code)?;
         let n = self.send(&asked)?;
-        let reply = self.reply_to(n)?;
         let shown = self.result_of(n)?;
+        let reply = self.reply_to(n)?;
         Ok(run_told(self.alloc, &reply.content, shown.as_ref())?)
     }
 
@@ -200,22 +200,38 @@ impl<R: Read + Drop, W: Write + Drop> Frontend<R, W> {
         Ok(completion_told(self.alloc, &reply.content)?)
     }
 
-    /// Opens a comm, asks on it, and closes it.
-    fn ask_on_comm(&mut self, asked: &Draft) -> Result<Told, ConsoleFault> {
-        let open = comm_open_draft(self.alloc, &self.session)?;
-        let close = comm_close_draft(self.alloc, &self.session)?;
-        let opened = self.send(&open)?;
-        if self.is_closed_by(opened)? {
+    /// Asks on the comm that the n-th message opened.
+    fn ask_on_open_comm(&mut self, n: u64, asked: &Draft) -> Result<Told, ConsoleFault> {
+        if self.is_closed_by(n)? {
             return Err(ConsoleFault::NoComm);
         }
         let n = self.send(asked)?;
-        let told = self.data_of(n)?;
-        let closed = self.send(&close)?;
-        self.is_closed_by(closed)?;
-        match told {
+        match self.data_of(n)? {
             Some(told) => Ok(told),
             None => Err(ConsoleFault::NoConnection),
         }
+    }
+
+    /// Closes the comm, and waits until the kernel is done with that.
+    fn close_comm(&mut self, close: &Draft) -> Result<(), ConsoleFault> {
+        let n = self.send(close)?;
+        self.is_closed_by(n)?;
+        Ok(())
+    }
+
+    /// Opens a comm, asks on it, and closes it: also where the answer isn't understood, or memory ran out.
+    fn ask_on_comm(&mut self, asked: &Draft) -> Result<Told, ConsoleFault> {
+        let open = comm_open_draft(self.alloc, &self.session)?;
+        let close = comm_close_draft(self.alloc, &self.session)?;
+        let n = self.send(&open)?;
+        let came = self.ask_on_open_comm(n, asked);
+        if matches!(&came, Err(ConsoleFault::NoComm)) {
+            return came;
+        }
+        let closed = self.close_comm(&close);
+        let told = came?;
+        closed?;
+        Ok(told)
     }
 
     /// Has the kernel make a move.

@@ -6,8 +6,9 @@
 //! writer, and [`Frontend`], which is a conversation over two wires; what is said and what is printed are functions of `console_talk`, and the words are
 //! read by `console_words`.
 //!
-//! Proved is that all of it is safe, that a wire writes just the frames that it is given, and that what is printed goes out or a beginning of
-//! it. How the parts are put together is tested, over memory. Nothing is said of what a socket gives or takes, nor that an answer comes.
+//! Proved is that all of it is safe, that a wire writes just the frames that it is given, that a request goes out as the signed message of its session, and the
+//! status of each way in which the program ends; of what is told where all went well, of the help and of what is wrong with the words, that it goes out or a
+//! beginning of it. How the parts are put together is tested by `program_tests`. Nothing is said of what a socket gives or takes, nor that an answer comes.
 #![tactic(auto)]
 
 mod frontend;
@@ -16,5 +17,5 @@ mod program;
 mod wire;
 
 pub use frontend::{Frontend, subscribe};
-pub use program::console;
+pub use program::{console, refuse_unread_words};
 pub use wire::Wire;

@@ -1,5 +1,9 @@
 //! The program over its command line and its two output streams.
-ghost use Rattle.std.specs.Prelude.{◌≡◌};
+ghost use Rattle.std.specs.Prelude.{◌≡◌, ◌≢◌, string_bytes, IfOk, IfErr, OnErr};
+ghost use Rattle.console_talk.specs.Faults.{status_of as fault_status};
+ghost use Rattle.console_talk.specs.Lines.{status_of as told_status};
+ghost use Rattle.console_words.specs.Refusals.{status_of as refusal_status};
+ghost use Rattle.console_program.specs.Sending.{SentSome};
 
 use crate::frontend::{Frontend, subscribe};
 use crate::output::print;
@@ -9,15 +13,24 @@ use console_words::{Arguments, Kind, Refused, arguments_of};
 use jupyter_msg::{Connection, Setting};
 use std::alloc::Global;
 use std::convert::AsStr;
-use std::io::Write;
+use std::io::{ErrorKind, Write};
 use std::net::{Net, TcpListener, TcpStream};
 use std::rt::Files;
 use std::time::Duration;
 use std::{fs, io};
 use zmtp_peer::Role;
 
+/// So long a read waits until the kernel is ready on a connection: its places may all be taken, or no kernel listens there.
+const OPENING_SECONDS: u64 = 2;
+
 /// So long a read of iopub waits while it is not known whether broadcasts come.
 const GREETING_MILLISECONDS: u64 = 20;
+
+/// The status of a program that had no memory for its words.
+const NO_MEMORY: u8 = 3;
+
+/// The status of a program whose words are wrong.
+const WRONG_WORDS: u8 = 2;
 
 /// Reads the connection file.
 fn read_file<R: Files>(rt: &R, alloc: Global, path: &str) -> Result<Connection, ConsoleFault> {
@@ -25,7 +38,7 @@ fn read_file<R: Files>(rt: &R, alloc: Global, path: &str) -> Result<Connection, 
         Ok(octets) => octets,
         Err(error) => {
             return Err(match error.kind() {
-                io::ErrorKind::OutOfMemory => ConsoleFault::NoMemory,
+                ErrorKind::OutOfMemory => ConsoleFault::NoMemory,
                 _ => ConsoleFault::BadFile(Setting::File),
             });
         }
@@ -39,7 +52,7 @@ fn read_file<R: Files>(rt: &R, alloc: Global, path: &str) -> Result<Connection, 
 /// What a fault of a socket comes to.
 fn socket_fault(error: io::Error) -> ConsoleFault {
     match error.kind() {
-        io::ErrorKind::OutOfMemory => ConsoleFault::NoMemory,
+        ErrorKind::OutOfMemory => ConsoleFault::NoMemory,
         _ => ConsoleFault::NoConnection,
     }
 }
@@ -68,6 +81,18 @@ fn set_patience(stream: &TcpStream, patience: Option<Duration>) -> Result<(), Co
     }
 }
 
+/// The connection over a stream, which is given up where the kernel isn't ready in time.
+fn open_wire(
+    alloc: Global,
+    stream: &TcpStream,
+    role: Role,
+) -> Result<Wire<&TcpStream, &TcpStream>, ConsoleFault> {
+    set_patience(stream, Some(Duration::from_secs(OPENING_SECONDS)))?;
+    let wire = Wire::open(alloc, stream, stream, role)?;
+    set_patience(stream, None)?;
+    Ok(wire)
+}
+
 /// The port of this end of a stream.
 fn local_port(stream: &TcpStream) -> Result<u16, ConsoleFault> {
     match stream.local_addr() {
@@ -87,10 +112,10 @@ where
     R: Net<Listener = TcpListener, Stream = TcpStream>,
 {
     let broadcasts = dial(rt, &file, file.iopub_port)?;
-    let mut iopub = Wire::open(alloc, &broadcasts, &broadcasts, Role::Sub)?;
+    let mut iopub = open_wire(alloc, &broadcasts, Role::Sub)?;
     subscribe(&mut iopub)?;
     let requests = dial(rt, &file, file.shell_port)?;
-    let shell = Wire::open(alloc, &requests, &requests, Role::Dealer)?;
+    let shell = open_wire(alloc, &requests, Role::Dealer)?;
     let session = session_name(alloc, local_port(&requests)?)?;
     let mut frontend = Frontend {
         alloc,
@@ -119,30 +144,63 @@ where
     converse(rt, alloc, file, &command)
 }
 
+/// Prints why nothing came of it.
+fn tell<E: Write>(fault: ConsoleFault, err: &mut E) {
+    print(err, "janus-console: ");
+    print(err, fault.reason());
+    print(err, "\n");
+}
+
 /// Prints what came of it, and answers the status.
-fn end<W: Write, E: Write>(came: Result<Told, ConsoleFault>, out: &mut W, err: &mut E) -> u8 {
+fn end<W: Write, E: Write>(came: Result<Told, ConsoleFault>, out: &mut W, err: &mut E) -> u8
+    ensures told { IfOk came (λ told. result ≡ told_status told.is_well) }
+    ensures fault { IfErr came (λ fault. result ≡ fault_status fault) }
+    ensures lines { IfOk came (λ told. SentSome (W.contents out.old) (W.contents out.new) (string_bytes told.lines)) }
+    ensures no_error { IfOk came (λ _. err.new ≡ err.old) }
+    ensures no_line { OnErr came (out.new ≡ out.old) }
+{
     match came {
         Ok(told) => {
             print(out, &told.lines);
             told.status()
         }
         Err(fault) => {
-            print(err, "janus-console: ");
-            print(err, fault.reason());
-            print(err, "\n");
+            tell(fault, err);
             fault.status()
         }
     }
 }
 
 /// Prints the help, or why the words ask for nothing, and answers the status.
-fn refuse<W: Write, E: Write>(refused: &Refused, out: &mut W, err: &mut E) -> u8 {
+fn refuse<W: Write, E: Write>(refused: &Refused, out: &mut W, err: &mut E) -> u8
+    ensures status { result ≡ refusal_status refused.now.kind }
+    ensures help { refused.now.kind ≡ Kind.Help → SentSome (W.contents out.old) (W.contents out.new) (string_bytes refused.now.text) }
+    ensures wrong { refused.now.kind ≡ Kind.Wrong → SentSome (E.contents err.old) (E.contents err.new) (string_bytes refused.now.text) }
+{
     match refused.kind {
         Kind::Help => print(out, &refused.text),
         Kind::Wrong => print(err, &refused.text),
-        Kind::Memory => print(err, "janus-console: no memory\n"),
+        Kind::Memory => tell(ConsoleFault::NoMemory, err),
     }
     refused.kind.status()
+}
+
+/// Tells why the words of the command line could not be had, and answers the program's status: 3 where there was no memory for them, else 2. A fault of the
+/// stream is passed over.
+pub fn refuse_unread_words<E: Write>(kind: ErrorKind, err: &mut E) -> u8
+    ensures memory { kind ≡ ErrorKind.OutOfMemory → result ≡ 3 }
+    ensures wrong { kind ≢ ErrorKind.OutOfMemory → result ≡ 2 }
+{
+    if kind == ErrorKind::OutOfMemory {
+        tell(ConsoleFault::NoMemory, err);
+        NO_MEMORY
+    } else {
+        print(
+            err,
+            "error: invalid UTF-8 was detected in one or more arguments\n",
+        );
+        WRONG_WORDS
+    }
 }
 
 /// Runs the program over the words of its command line (see [`arguments_of`]), and answers its status: 0 where all went well; 1 where the kernel answered an

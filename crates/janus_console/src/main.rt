@@ -3,35 +3,22 @@
 //! The program is [`console`] of `console_program`, over the words of the command line, standard output and standard error.
 #![tactic(auto)]
 
-use console_program::console;
+use console_program::{console, refuse_unread_words};
 use std::env;
 use std::io::ErrorKind;
 use std::process::ExitCode;
 
-fn main(rt: HostRuntime) -> anyhow::Result<ExitCode> {
+fn main(rt: HostRuntime) -> ExitCode {
     let alloc = rt.alloc();
     let words = match env::args(&rt) {
         Ok(words) => words,
-        Err(error) => return unread(&rt, error.kind()),
+        Err(error) => {
+            return ExitCode::from(refuse_unread_words(error.kind(), &mut rt.stderr()));
+        }
     };
-    match words.collect::<Vec<String>>(alloc) {
-        Ok(words) => Ok(ExitCode::from(console(
-            &rt,
-            alloc,
-            words.as_slice(),
-            &mut rt.stdout(),
-            &mut rt.stderr(),
-        ))),
-        Err(_) => unread(&rt, ErrorKind::OutOfMemory),
-    }
-}
-
-/// Tells why the words of the command line could not be had, and answers the program's status.
-fn unread(rt: &HostRuntime, kind: ErrorKind) -> anyhow::Result<ExitCode> {
-    if kind == ErrorKind::OutOfMemory {
-        eprintln!(rt; "janus-console: no memory")?;
-        return Ok(ExitCode::from(3));
-    }
-    eprintln!(rt; "error: invalid UTF-8 was detected in one or more arguments")?;
-    Ok(ExitCode::from(2))
+    let Ok(words) = words.collect::<Vec<String>>(alloc) else {
+        return ExitCode::from(refuse_unread_words(ErrorKind::OutOfMemory, &mut rt.stderr()));
+    };
+    let status = console(&rt, alloc, &words, &mut rt.stdout(), &mut rt.stderr());
+    ExitCode::from(status)
 }

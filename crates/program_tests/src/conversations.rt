@@ -21,6 +21,9 @@ const BUSY: &str = r#"{"execution_state":"busy"}"#;
 
 const IDLE: &str = r#"{"execution_state":"idle"}"#;
 
+/// So many broadcasts can't be opened: those that are looked at for 100 askings, and some more.
+const NOISES: u32 = 6_500;
+
 /// Gives its octets, in pieces of two sizes, and each time before that no octet comes in time.
 #[derive(Drop)]
 struct Slow {
@@ -105,6 +108,22 @@ fn stream(alloc: Global, role: Role, said: &[Said], waits: u64) -> Result<Slow, 
     })
 }
 
+/// A stream of more broadcasts than a console looks at, each of them of one frame, which no console can open.
+fn noise(alloc: Global) -> Result<Slow, Fail> {
+    let mut octets = Peer::new(alloc, Role::Pub).opening()?;
+    let at_once = octets.len();
+    let frames = Vec::from_array(alloc, [b"status".to_vec(alloc)?])?;
+    for _ in 0..NOISES {
+        write_message(&mut octets, &frames)?;
+    }
+    Ok(Slow {
+        octets,
+        at: 0,
+        at_once,
+        waits: 0,
+    })
+}
+
 /// What a console wrote on shell: the type and the content of each message.
 fn written(alloc: Global, octets: &[u8]) -> Result<String, Fail> {
     let mut peer = Peer::new(alloc, Role::Router);
@@ -131,6 +150,16 @@ fn converse(
     command: &Command,
 ) -> Result<(Result<Told, ConsoleFault>, String), Fail> {
     let broadcasts = stream(alloc, Role::Pub, iopub, waits)?;
+    converse_over(alloc, shell, broadcasts, command)
+}
+
+/// Has a conversation over this stream of broadcasts.
+fn converse_over(
+    alloc: Global,
+    shell: &[Said],
+    broadcasts: Slow,
+    command: &Command,
+) -> Result<(Result<Told, ConsoleFault>, String), Fail> {
     let replies = stream(alloc, Role::Router, shell, 0)?;
     let mut iopub = Wire::open(alloc, broadcasts, Vec::new(alloc), Role::Sub)?;
     subscribe(&mut iopub)?;
@@ -338,36 +367,70 @@ fn moves(rt: HostRuntime) -> Result<(), Fail> {
     Ok(())
 }
 
+/// How a conversation ends that asks where the kernel stands, over these broadcasts and so many waits, and what was written on shell.
+fn shown_by(
+    alloc: Global,
+    iopub: &[Said],
+    waits: u64,
+) -> Result<(Result<Told, ConsoleFault>, String), Fail> {
+    converse(alloc, &[], iopub, waits, &Command::Show)
+}
+
 #[test]
-fn ends_without_an_answer(rt: HostRuntime) -> Result<(), Fail> {
+fn ends_where_the_kernel_breaks_off(rt: HostRuntime) -> Result<(), Fail> {
     let alloc = rt.alloc();
     // The comm is closed at once.
-    let (came, _) = converse(
+    let (came, text) = shown_by(
         alloc,
-        &[],
         &[
             ("status", 0, BUSY),
             ("comm_close", 1, r#"{"comm_id":"console-7","data":{}}"#),
             ("status", 1, IDLE),
         ],
         0,
-        &Command::Show,
     )?;
     assert_eq!(rt; came, Err(ConsoleFault::NoComm));
-    // The kernel breaks off.
-    let (came, _) = converse(alloc, &[], &[("status", 0, BUSY)], 0, &Command::Show)?;
+    assert!(rt; !text.contains("comm_close"));
+    let (came, _) = shown_by(alloc, &[("status", 0, BUSY)], 0)?;
     assert_eq!(rt; came, Err(ConsoleFault::NoConnection));
-    // The first broadcasts come after three askings.
-    let (came, text) = converse(
+    Ok(())
+}
+
+#[test]
+fn closes_its_comm_behind_an_answer_of_another_form(rt: HostRuntime) -> Result<(), Fail> {
+    let alloc = rt.alloc();
+    let (came, text) = shown_by(
         alloc,
-        &[],
+        &[
+            ("status", 0, BUSY),
+            ("status", 1, IDLE),
+            (
+                "comm_msg",
+                2,
+                r#"{"comm_id":"console-7","data":{"op":"state"}}"#,
+            ),
+            ("status", 2, IDLE),
+            ("status", 3, IDLE),
+        ],
+        0,
+    )?;
+    assert_eq!(rt; came, Err(ConsoleFault::NoConnection));
+    assert!(rt; text.ends_with("\ncomm_close {\"comm_id\":\"console-7\",\"data\":{}}\n"));
+    Ok(())
+}
+
+#[test]
+fn asks_until_a_status_comes(rt: HostRuntime) -> Result<(), Fail> {
+    let alloc = rt.alloc();
+    // The first broadcasts come after three askings.
+    let (came, text) = shown_by(
+        alloc,
         &[
             ("status", 2, BUSY),
             ("comm_close", 3, "{}"),
             ("status", 3, IDLE),
         ],
         2,
-        &Command::Show,
     )?;
     assert_eq!(rt; came, Err(ConsoleFault::NoComm));
     assert!(rt;
@@ -376,7 +439,16 @@ fn ends_without_an_answer(rt: HostRuntime) -> Result<(), Fail> {
         )
     );
     // None comes.
-    let (came, text) = converse(alloc, &[], &[], 1000, &Command::Show)?;
+    let (came, text) = shown_by(alloc, &[], 1000)?;
+    assert_eq!(rt; came, Err(ConsoleFault::NoConnection));
+    assert_eq!(rt; text.lines().count(), 100);
+    Ok(())
+}
+
+#[test]
+fn gives_up_where_broadcasts_cannot_be_opened(rt: HostRuntime) -> Result<(), Fail> {
+    let alloc = rt.alloc();
+    let (came, text) = converse_over(alloc, &[], noise(alloc)?, &Command::Show)?;
     assert_eq!(rt; came, Err(ConsoleFault::NoConnection));
     assert_eq!(rt; text.lines().count(), 100);
     Ok(())

@@ -1,4 +1,4 @@
-//! A connection to shell or control, for what a console has no words for.
+//! A connection to a socket of the kernel, for what a console has no words for.
 use jupyter_msg::{Message, Opened, open, seal};
 use std::alloc::Global;
 use std::collections::VecDeque;
@@ -9,15 +9,22 @@ use std::{io, str};
 use zmtp_peer::{Peer, PeerEvent, Role};
 use zmtp_wire::write_message;
 
+/// The key under which the messages of a kernel and its frontends are signed.
+pub(crate) const KEY: &str = "the key of the tests";
+
 /// So long a read waits.
 const PATIENCE_MILLISECONDS: u64 = 5;
 
-/// A connection to shell or control.
+/// So many reads wait for what has to come.
+const READS: u32 = 4_000;
+
+/// A connection to a socket of the kernel.
 #[derive(Drop)]
 pub(crate) struct Frontend {
     alloc: Global,
     stream: TcpStream,
     peer: Peer,
+    is_ready: bool,
     messages: VecDeque<Vec<Vec<u8>>>,
 }
 
@@ -42,12 +49,44 @@ impl Frontend {
             alloc,
             stream,
             peer,
+            is_ready: false,
             messages: VecDeque::new(alloc),
         })
     }
 
+    /// Waits until the kernel is ready on this connection.
+    pub(crate) fn wait_until_ready(&mut self) -> io::Result<()> {
+        for _ in 0..READS {
+            if self.is_ready {
+                return Ok(());
+            }
+            self.hear()?;
+        }
+        Err(wrong())
+    }
+
+    /// Sends a message of these frames.
+    pub(crate) fn write(&mut self, frames: &[Vec<u8>]) -> io::Result<()> {
+        let mut octets = Vec::new(self.alloc);
+        if !frames.is_empty() {
+            write_message(&mut octets, frames).map_err(|_| wrong())?;
+        }
+        let mut stream = &self.stream;
+        stream.write_all(&octets)
+    }
+
     /// Sends a request.
     pub(crate) fn send(&mut self, msg_type: &str, content: &str) -> io::Result<()> {
+        self.send_under(KEY, msg_type, content)
+    }
+
+    /// Sends a request that is signed under this key.
+    pub(crate) fn send_under(
+        &mut self,
+        key: &str,
+        msg_type: &str,
+        content: &str,
+    ) -> io::Result<()> {
         let header = format!(in self.alloc;
             "{{\"msg_id\":\"a\",\"msg_type\":\"{msg_type}\",\"session\":\"s\"}}"
         )?;
@@ -59,13 +98,8 @@ impl Frontend {
             content: content.as_bytes().to_vec(self.alloc)?,
             buffers: Vec::new(self.alloc),
         };
-        let frames = seal(self.alloc, &message, b"").map_err(|_| wrong())?;
-        let mut octets = Vec::new(self.alloc);
-        if !frames.is_empty() {
-            write_message(&mut octets, &frames).map_err(|_| wrong())?;
-        }
-        let mut stream = &self.stream;
-        stream.write_all(&octets)
+        let frames = seal(self.alloc, &message, key.as_bytes()).map_err(|_| wrong())?;
+        self.write(&frames)
     }
 
     /// Takes in what comes in the time that a read waits.
@@ -81,21 +115,38 @@ impl Frontend {
             },
         };
         for event in self.peer.feed(&room[..count]).map_err(|_| wrong())? {
-            if let PeerEvent::Message(frames) = event {
-                self.messages.push_back(frames)?;
+            match event {
+                PeerEvent::Ready => self.is_ready = true,
+                PeerEvent::Message(frames) => self.messages.push_back(frames)?,
+                PeerEvent::Subscribe(_) | PeerEvent::Cancel(_) => {}
             }
         }
         Ok(())
     }
 
-    /// The next reply; none where none comes in the time that a read waits.
-    pub(crate) fn next(&mut self) -> io::Result<Option<Opened>> {
+    /// The frames of the next message; none where none comes in the time that a read waits.
+    pub(crate) fn next_frames(&mut self) -> io::Result<Option<Vec<Vec<u8>>>> {
         if self.messages.is_empty() {
             self.hear()?;
         }
-        match self.messages.pop_front() {
+        Ok(self.messages.pop_front())
+    }
+
+    /// The frames of the next message, which comes.
+    pub(crate) fn frames(&mut self) -> io::Result<Vec<Vec<u8>>> {
+        for _ in 0..READS {
+            if let Some(frames) = self.next_frames()? {
+                return Ok(frames);
+            }
+        }
+        Err(wrong())
+    }
+
+    /// The next reply; none where none comes in the time that a read waits.
+    pub(crate) fn next(&mut self) -> io::Result<Option<Opened>> {
+        match self.next_frames()? {
             None => Ok(None),
-            Some(frames) => match open(self.alloc, frames, b"") {
+            Some(frames) => match open(self.alloc, frames, KEY.as_bytes()) {
                 Ok(opened) => Ok(Some(opened)),
                 Err(_) => Err(wrong()),
             },
@@ -104,7 +155,7 @@ impl Frontend {
 
     /// The next reply, which comes.
     pub(crate) fn reply(&mut self) -> io::Result<Opened> {
-        for _ in 0..u64::MAX {
+        for _ in 0..READS {
             if let Some(reply) = self.next()? {
                 return Ok(reply);
             }
@@ -113,12 +164,14 @@ impl Frontend {
     }
 }
 
-/// Shuts the kernel that listens at this control port.
+/// Shuts the kernel that listens at this control port, and answers what it replied. A request under another key, which would be answered otherwise, goes
+/// first: no reply comes to it.
 pub(crate) fn shut_down<R>(rt: &R, alloc: Global, port: u16) -> io::Result<String>
 where
     R: Net<Listener = TcpListener, Stream = TcpStream>,
 {
     let mut control = Frontend::open(rt, alloc, port)?;
+    control.send_under("another key", "shutdown_request", "{\"restart\":true}")?;
     control.send("shutdown_request", "{\"restart\":false}")?;
     let reply = control.reply()?;
     match str::from_utf8(&reply.message.content) {

@@ -1,6 +1,6 @@
 //! An endless cell, which another connection interrupts.
 use crate::frontend::{Frontend, shut_down};
-use crate::kernel::{Ran, ask, kernel, make_site};
+use crate::kernel::{Ran, Site, ask, kernel, make_site, wait_until_ready};
 use jupyter_msg::Opened;
 use std::alloc::Global;
 use std::net::{Net, TcpListener, TcpStream};
@@ -22,26 +22,20 @@ fn interrupted(shell: &mut Frontend, control: &mut Frontend) -> io::Result<Opene
 }
 
 /// Runs an endless cell on a new kernel and interrupts it: the reply, and what the next console is shown.
-fn run_endlessly<R>(
-    rt: &R,
-    alloc: Global,
-    path: &str,
-    ports: (u16, u16),
-) -> io::Result<(Opened, Ran)>
+fn run_endlessly<R>(rt: &R, alloc: Global, site: &Site) -> io::Result<(Opened, Ran)>
 where
     R: Net<Listener = TcpListener, Stream = TcpStream> + Files + Clock,
 {
-    // The first console waits until the kernel listens.
-    let _before = ask(rt, alloc, path, "show", "")?;
-    let mut shell = Frontend::open(rt, alloc, ports.0)?;
-    let mut control = Frontend::open(rt, alloc, ports.1)?;
+    wait_until_ready(rt, alloc, site)?;
+    let mut shell = Frontend::open(rt, alloc, site.shell)?;
+    let mut control = Frontend::open(rt, alloc, site.control)?;
     shell.send(
         "execute_request",
         "{\"code\":\"int x from x = 0 loop x += 1 until 0\"}",
     )?;
     let reply = interrupted(&mut shell, &mut control)?;
-    let after = ask(rt, alloc, path, "show", "")?;
-    let _told = shut_down(rt, alloc, ports.1)?;
+    let after = ask(rt, alloc, &site.path, "show", "")?;
+    let _told = shut_down(rt, alloc, site.control)?;
     Ok((reply, after))
 }
 
@@ -52,7 +46,7 @@ fn an_endless_cell_is_interrupted(rt: HostRuntime) -> Result<(), Fail> {
     let (ran, came) = thread::join(
         &rt,
         || kernel(&rt, alloc, &site.path),
-        || run_endlessly(&rt, alloc, &site.path, (site.shell, site.control)),
+        || run_endlessly(&rt, alloc, &site),
     );
     let (reply, shown) = came?;
     assert!(rt;

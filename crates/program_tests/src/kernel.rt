@@ -1,7 +1,9 @@
 //! A kernel on ports of its own, and the consoles that talk to it.
+use crate::frontend::{Frontend, KEY};
 use console_program::console;
 use kernel_program::kernel_main;
 use std::alloc::{AllocError, Global};
+use std::io::ErrorKind;
 use std::net::{Net, TcpListener, TcpStream};
 use std::random::RandomSource;
 use std::rt::Files;
@@ -10,14 +12,11 @@ use std::thread::Threads;
 use std::time::{Clock, Duration};
 use std::{fs, io, thread};
 
-/// A program is tried so often, until the kernel listens.
+/// A connection is tried so often, until the kernel listens.
 const TRIES: u32 = 500;
 
 /// So long it is waited before the next try.
 const PAUSE_MILLISECONDS: u64 = 10;
-
-/// The status of a console that found no kernel.
-const NO_CONNECTION: u8 = 3;
 
 /// Where a kernel listens.
 #[derive(Drop)]
@@ -25,7 +24,9 @@ pub(crate) struct Site {
     /// The connection file.
     pub path: String,
     pub shell: u16,
+    pub stdin: u16,
     pub control: u16,
+    pub heartbeat: u16,
 }
 
 /// What a program wrote, and its status.
@@ -36,35 +37,62 @@ pub(crate) struct Ran {
     pub err: Vec<u8>,
 }
 
-/// A port that was free a moment ago.
-fn free_port<R: Net<Listener = TcpListener, Stream = TcpStream>>(rt: &R) -> io::Result<u16> {
-    Ok(
-        TcpListener::bind(rt, ("127.0.0.1", 0u16))?
-            .local_addr()?
-            .port(),
-    )
+/// Listens at a port that was free.
+fn listen<R: Net<Listener = TcpListener, Stream = TcpStream>>(rt: &R) -> io::Result<TcpListener> {
+    TcpListener::bind(rt, ("127.0.0.1", 0u16))
 }
 
-/// Writes a connection file with free ports and an empty key.
+/// The port of a listener.
+fn port_of(listener: &TcpListener) -> io::Result<u16> {
+    Ok(listener.local_addr()?.port())
+}
+
+/// Five ports that were free a moment ago, none of them twice.
+fn free_ports<R: Net<Listener = TcpListener, Stream = TcpStream>>(rt: &R) -> io::Result<[u16; 5]> {
+    let (shell, iopub, stdin) = (listen(rt)?, listen(rt)?, listen(rt)?);
+    let (control, heartbeat) = (listen(rt)?, listen(rt)?);
+    Ok([
+        port_of(&shell)?,
+        port_of(&iopub)?,
+        port_of(&stdin)?,
+        port_of(&control)?,
+        port_of(&heartbeat)?,
+    ])
+}
+
+/// Writes a connection file with free ports and the key.
 pub(crate) fn make_site<R>(rt: &R, alloc: Global) -> io::Result<Site>
 where
     R: Net<Listener = TcpListener, Stream = TcpStream> + Files,
 {
-    let shell = free_port(rt)?;
-    let iopub = free_port(rt)?;
-    let stdin = free_port(rt)?;
-    let control = free_port(rt)?;
-    let heartbeat = free_port(rt)?;
+    let [shell, iopub, stdin, control, heartbeat] = free_ports(rt)?;
+    let key = KEY;
     let path = format!(in alloc; "kernel-{shell}.json")?;
     let text = format!(in alloc;
-        "{{\"transport\":\"tcp\",\"ip\":\"127.0.0.1\",\"shell_port\":{shell},\"iopub_port\":{iopub},\"stdin_port\":{stdin},\"control_port\":{control},\"hb_port\":{heartbeat},\"key\":\"\"}}"
+        "{{\"transport\":\"tcp\",\"ip\":\"127.0.0.1\",\"shell_port\":{shell},\"iopub_port\":{iopub},\"stdin_port\":{stdin},\"control_port\":{control},\"hb_port\":{heartbeat},\"key\":\"{key}\"}}"
     )?;
     fs::write(rt, path.as_str(), text.as_bytes())?;
     Ok(Site {
         path,
         shell,
+        stdin,
         control,
+        heartbeat,
     })
+}
+
+/// Waits until the kernel serves its sockets. (The threads of all of them stand before it accepts a connection.)
+pub(crate) fn wait_until_ready<R>(rt: &R, alloc: Global, site: &Site) -> io::Result<()>
+where
+    R: Net<Listener = TcpListener, Stream = TcpStream> + Clock,
+{
+    for _ in 0..TRIES {
+        if let Ok(mut control) = Frontend::open(rt, alloc, site.control) {
+            return control.wait_until_ready();
+        }
+        thread::sleep(rt, Duration::from_millis(PAUSE_MILLISECONDS));
+    }
+    Err(ErrorKind::TimedOut.into())
 }
 
 /// Runs the kernel of a connection file to its end.
@@ -97,8 +125,8 @@ fn words<'a>(
     Ok(words)
 }
 
-/// Runs a console once.
-fn ask_once<R>(rt: &R, alloc: Global, words: &[&str]) -> Ran
+/// Runs a console over the words of its command line.
+pub(crate) fn run_console<R>(rt: &R, alloc: Global, words: &[&str]) -> Ran
 where
     R: Net<Listener = TcpListener, Stream = TcpStream> + Files,
 {
@@ -107,7 +135,7 @@ where
     Ran { status, out, err }
 }
 
-/// Runs a console, anew for as long as no kernel listens.
+/// Runs a console with this command and its word. An empty word is left out.
 pub(crate) fn ask<R>(
     rt: &R,
     alloc: Global,
@@ -116,15 +144,8 @@ pub(crate) fn ask<R>(
     word: &str,
 ) -> Result<Ran, AllocError>
 where
-    R: Net<Listener = TcpListener, Stream = TcpStream> + Files + Clock,
+    R: Net<Listener = TcpListener, Stream = TcpStream> + Files,
 {
     let words = words(alloc, path, command, word)?;
-    for _ in 0..TRIES {
-        let ran = ask_once(rt, alloc, &words);
-        if ran.status != NO_CONNECTION {
-            return Ok(ran);
-        }
-        thread::sleep(rt, Duration::from_millis(PAUSE_MILLISECONDS));
-    }
-    Ok(ask_once(rt, alloc, &words))
+    Ok(run_console(rt, alloc, &words))
 }

@@ -1,6 +1,6 @@
 //! One console after the other at one kernel, which all of them share.
 use crate::frontend::shut_down;
-use crate::kernel::{ask, kernel, make_site};
+use crate::kernel::{Site, ask, kernel, make_site, wait_until_ready};
 use std::alloc::Global;
 use std::net::{Net, TcpListener, TcpStream};
 use std::process::Abort;
@@ -24,18 +24,19 @@ const ROWS: [(&str, &str, &str, u8); 11] = [
     ("show", "", "at node 1\nx = 5\n", 0),
 ];
 
-/// Runs the consoles, and then shuts the kernel.
-fn run_consoles<R>(rt: &R, alloc: Global, path: &str, control: u16) -> io::Result<String>
+/// Runs the consoles, each of them once, and then shuts the kernel.
+fn run_consoles<R>(rt: &R, alloc: Global, site: &Site) -> io::Result<String>
 where
     R: Net<Listener = TcpListener, Stream = TcpStream> + Files + Clock + Abort,
 {
+    wait_until_ready(rt, alloc, site)?;
     for (command, word, printed, status) in ROWS {
-        let ran = ask(rt, alloc, path, command, word)?;
+        let ran = ask(rt, alloc, &site.path, command, word)?;
         assert_eq!(rt; ran.out.as_slice(), printed.as_bytes(), "{command} {word}");
         assert_eq!(rt; ran.err.as_slice(), b"".as_slice());
         assert_eq!(rt; ran.status, status, "{command} {word}");
     }
-    shut_down(rt, alloc, control)
+    shut_down(rt, alloc, site.control)
 }
 
 #[test]
@@ -45,7 +46,7 @@ fn consoles_share_a_kernel(rt: HostRuntime) -> Result<(), Fail> {
     let (ran, told) = thread::join(
         &rt,
         || kernel(&rt, alloc, &site.path),
-        || run_consoles(&rt, alloc, &site.path, site.control),
+        || run_consoles(&rt, alloc, &site),
     );
     assert_eq!(rt; told?.as_str(), "{\"restart\":false,\"status\":\"ok\"}");
     assert_eq!(rt; ran.status, 0);
