@@ -3,9 +3,14 @@ use crate::kernel::{Ran, ask, kernel, make_site, run_console};
 use kernel_program::kernel_main;
 use std::alloc::Global;
 use std::fs;
-use std::net::TcpListener;
+use std::net::{Net, TcpListener, TcpStream};
 use std::process::Abort;
+use std::random::RandomSource;
+use std::rt::Files;
+use std::sync::Wait;
 use std::test::Fail;
+use std::thread::Threads;
+use std::time::Clock;
 
 /// What stands in a connection file, and the field that is told.
 const WRONG: [(&str, &str); 5] = [
@@ -49,7 +54,17 @@ fn check(rt: &impl Abort, ran: &Ran, line: &str, status: u8) {
 }
 
 /// Runs both programs on this file, of which they tell a field.
-fn check_file(rt: &HostRuntime, alloc: Global, path: &str, field: &str) -> Result<(), Fail> {
+fn check_file<R>(rt: &R, alloc: Global, path: &str, field: &str) -> Result<(), Fail>
+where
+    R: Net<Listener = TcpListener, Stream = TcpStream>
+        + Files
+        + RandomSource
+        + Threads
+        + Wait
+        + Clock
+        + Abort
+        + Sync,
+{
     let line = format!(in alloc; "janus-kernel: connection file: {field}\n")?;
     check(rt, &kernel(rt, alloc, path), &line, 2);
     let line = format!(in alloc; "janus-console: connection file: {field}\n")?;

@@ -29,7 +29,7 @@ pub(crate) struct Frontend {
 }
 
 /// Something came that no kernel sends.
-fn wrong() -> Error {
+pub(crate) fn wrong() -> Error {
     ErrorKind::InvalidData.into()
 }
 
@@ -66,7 +66,7 @@ impl Frontend {
     }
 
     /// Sends a message of these frames.
-    pub(crate) fn write(&mut self, frames: &[Vec<u8>]) -> io::Result<()> {
+    fn write(&mut self, frames: &[Vec<u8>]) -> io::Result<()> {
         let mut octets = Vec::new(self.alloc);
         if !frames.is_empty() {
             write_message(&mut octets, frames).map_err(|_| wrong())?;
@@ -130,16 +130,6 @@ impl Frontend {
             self.hear()?;
         }
         Ok(self.messages.pop_front())
-    }
-
-    /// The frames of the next message, which comes.
-    pub(crate) fn frames(&mut self) -> io::Result<Vec<Vec<u8>>> {
-        for _ in 0..READS {
-            if let Some(frames) = self.next_frames()? {
-                return Ok(frames);
-            }
-        }
-        Err(wrong())
     }
 
     /// The next reply; none where none comes in the time that a read waits.

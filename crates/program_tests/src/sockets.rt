@@ -1,17 +1,47 @@
 //! What comes on each of the sockets, and how the messages of two connections are stamped.
-use crate::frontend::{Frontend, shut_down};
+use crate::frontend::{Frontend, shut_down, wrong};
 use crate::kernel::{Site, kernel, make_site, wait_until_ready};
 use jupyter_msg::Opened;
 use serde_json::Value;
 use std::alloc::Global;
+use std::io::{Read, Write};
 use std::net::{Net, TcpListener, TcpStream};
 use std::process::Abort;
 use std::test::Fail;
-use std::time::Clock;
+use std::time::{Clock, Duration};
 use std::{fs, io, thread};
+use zmtp_peer::{Peer, Role};
+use zmtp_wire::write_message;
 
 /// So many reads wait for what doesn't come.
 const SILENT_READS: u32 = 10;
+
+/// So long a read of the heartbeat waits.
+const PATIENCE_SECONDS: u64 = 5;
+
+/// Whether a message that is sent to the heartbeat comes back, octet for octet, behind what that socket says first.
+fn beats<R>(rt: &R, alloc: Global, port: u16) -> io::Result<bool>
+where
+    R: Net<Listener = TcpListener, Stream = TcpStream>,
+{
+    let frames = Vec::from_array(alloc, [b"".to_vec(alloc)?, b"ping".to_vec(alloc)?])?;
+    let mut sent = opening_of(alloc, Role::Dealer)?;
+    write_message(&mut sent, &frames).map_err(|_| wrong())?;
+    let mut wanted = opening_of(alloc, Role::Rep)?;
+    write_message(&mut wanted, &frames).map_err(|_| wrong())?;
+    let stream = TcpStream::connect(rt, ("127.0.0.1", port))?;
+    stream.set_read_timeout(Some(Duration::from_secs(PATIENCE_SECONDS)))?;
+    let mut octets = &stream;
+    octets.write_all(&sent)?;
+    let mut came = vec![in alloc; 0u8; wanted.len()]?;
+    octets.read_exact(&mut came)?;
+    Ok(came == wanted)
+}
+
+/// What an end in this role sends first.
+fn opening_of(alloc: Global, role: Role) -> io::Result<Vec<u8>> {
+    Peer::new(alloc, role).opening().map_err(|_| wrong())
+}
 
 /// What is sent to the heartbeat comes back, and what is sent to stdin doesn't.
 fn beat<R>(rt: &R, alloc: Global, site: &Site) -> io::Result<()>
@@ -21,11 +51,7 @@ where
     let mut stdin = Frontend::open(rt, alloc, site.stdin)?;
     stdin.wait_until_ready()?;
     stdin.send("kernel_info_request", "{}")?;
-    let mut heartbeat = Frontend::open(rt, alloc, site.heartbeat)?;
-    let frames = Vec::from_array(alloc, [b"".to_vec(alloc)?, b"ping".to_vec(alloc)?])?;
-    heartbeat.write(&frames)?;
-    let back = heartbeat.frames()?;
-    assert!(rt; back == frames);
+    assert!(rt; beats(rt, alloc, site.heartbeat)?);
     for _ in 0..SILENT_READS {
         let came = stdin.next_frames()?;
         assert!(rt; came.is_none());
