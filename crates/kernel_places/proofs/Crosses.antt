@@ -12,7 +12,7 @@ use Rattle.kernel_hall.proofs.Crosses.{Hall-sync}
 use Rattle.kernel_iopub.specs.contracts.bulletin.Bulletin as Bulletin
 use Rattle.kernel_sockets.specs.contracts.connections.Connections as Connections
 use Rattle.kernel_sockets.specs.contracts.listener.Listener as Listener
-use Rattle.kernel_places.specs.contracts.ending.Ending as Ending
+use Rattle.kernel_places.specs.contracts.word.Word as Word
 use Rattle.kernel_places.specs.contracts.service.Service as Service
 
 Broadcast-send : IsSend (Broadcast.the_field).row
@@ -30,9 +30,9 @@ Connections-sync = search (crosses, sendable) depth 60 fits 20000
 pub Listener-sync : IsSync (Listener.the_field).row
 Listener-sync = search (crosses, sendable) depth 60 fits 20000
 
-Ending-sync : IsSync (Ending.the_field).row
-Ending-sync = search (crosses, sendable) depth 60 fits 20000
+Word-sync : IsSync (Word.the_field).row
+Word-sync = search (crosses, sendable) depth 60 fits 20000
 
 module _ (W L : RattleType) (w : Ledger.Ghosts W.Denot) (l : Ledger.Ghosts L.Denot) where
   pub Service-sync : IsSend W → IsSend L → IsSync (Service.the_field W L w l).row
-  Service-sync s t = let hall = Hall-sync W L w l s t in search (crosses, Bulletin-sync, Connections-sync, Ending-sync, sendable) depth 60 fits 20000
+  Service-sync s t = let hall = Hall-sync W L w l s t in search (crosses, Bulletin-sync, Connections-sync, Word-sync, sendable) depth 60 fits 20000

@@ -1,4 +1,4 @@
-use Rattle.thread_tests.proofs.closing.closed.Given as goal
+use Rattle.thread_tests.proofs.closing.closed_by.Given as goal
 
 abbrev pub ghosts-closed_in-W-Ledger : goal.ghosts-closed_in-W-Ledger
 ghosts-closed_in-W-Ledger g a = record { name = a.writes.name; parts = a.writes.parts }

@@ -1,0 +1,10 @@
+-- What the kernel's parts are counted in may go to the threads of the places.
+use denote.Param.Send.{sendable}
+use Rattle.std.proofs.Crossing.{crosses}
+use Rattle.kernel_places.proofs.start.fn.serve_all.scope.Goals as goal
+
+pub serve_callers-is_started-requires-send-W : goal.serve_callers-is_started-requires-send-W
+serve_callers-is_started-requires-send-W g c κs within = search (crosses, sendable) depth 40 fits 20000
+
+pub serve_callers-is_started-requires-send-L : goal.serve_callers-is_started-requires-send-L
+serve_callers-is_started-requires-send-L g c κs within = search (crosses, sendable) depth 40 fits 20000
