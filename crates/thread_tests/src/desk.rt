@@ -42,8 +42,7 @@ impl<W: Ledger, L: Ledger> Desk<W, L> {
 
     /// Asks the job that runs to stop.
     pub fn ring(&mut self) {
-        let Desk { hall, ringer, .. } = self;
-        let _serial = hall.bell().ring(ringer);
+        let _serial = self.hall.bell().ring(&mut self.ringer);
     }
 
     /// Takes turns until a job ends, ten at most: its outcome.
