@@ -97,6 +97,14 @@ fn replay_all<L: Ledger>(
     Ok(())
 }
 
+/// The list of slices and the connections behind a session's key.
+fn parts_of(behind: &str) -> (&str, &str) {
+    match behind.strip_prefix("slices ") {
+        Some(named) => named.split_once('\n').unwrap_or((named, "")),
+        None => ("", behind),
+    }
+}
+
 /// Replays connections to a new kernel with these slices, whose writes are counted in the ledger of this blank.
 fn replay_to_new<L: Ledger>(
     rt: &HostRuntime,
@@ -115,28 +123,29 @@ fn replay_to_new<L: Ledger>(
     replay_all(rt, &mut desk, key, connections)
 }
 
-/// The list of slices and the connections behind a session's key.
-fn parts_of(behind: &str) -> (&str, &str) {
-    match behind.strip_prefix("slices ") {
-        Some(named) => named.split_once('\n').unwrap_or((named, "")),
-        None => ("", behind),
-    }
-}
-
-/// Replays a session.
-fn replay_session(rt: &HostRuntime, session: &str) -> anyhow::Result<()> {
+/// Replays a session to a new kernel, whose writes are counted in the ledger of this blank.
+fn replay_session<L: Ledger>(rt: &HostRuntime, blank: Blank, session: String) -> anyhow::Result<()>
+    requires name { blank.name ≡ L.name }
+    requires parts { blank.parts ≡ L.parts }
+    requires some { 0 < L.parts }
+{
     let Some((key, behind)) = session.split_once('\n') else {
         return Err(anyhow!("the first line of a session is the key"));
     };
     let (list, connections) = parts_of(behind);
     let slices = slices_of(rt.alloc(), list)?;
-    replay_to_new::<Brand>(rt, Blank::new(1), slices, key, connections)
+    replay_to_new::<L>(rt, blank, slices, key, connections)
+}
+
+/// Replays a session to a kernel of its own.
+fn replay_alone(rt: &HostRuntime, session: String) -> anyhow::Result<()> {
+    replay_session::<Brand>(rt, Blank::new(1), session)
 }
 
 fn main(rt: HostRuntime) -> anyhow::Result<()> {
     let text = io::read_to_string(rt.alloc(), rt.stdin())?;
     for session in text.split("\n\n") {
-        replay_session(&rt, session)?;
+        replay_alone(&rt, String::from_str(rt.alloc(), session)?)?;
     }
     Ok(())
 }
