@@ -84,10 +84,12 @@ fn try_desk<W: Ledger, L: Ledger, R: Wait + Clock + Abort>(
     tried
 }
 
+/// Tries a desk before a hall of its own.
+fn play<R: Wait + Clock + Abort>(rt: &R, alloc: Global) -> Result<(), AllocError> {
+    try_desk::<Brand, Brand, R>(rt, alloc, Blank::new(1), Blank::new(65_537))
+}
+
 #[test]
 fn a_desk_that_was_shut_has_no_job_done(rt: HostRuntime) -> Result<(), Fail> {
-    let alloc = rt.alloc();
-    let (writes, posts) = (Blank::new(1), Blank::new(65_537));
-    try_desk::<Brand, Brand, HostRuntime>(&rt, alloc, writes, posts)?;
-    Ok(())
+    Ok(play(&rt, rt.alloc())?)
 }

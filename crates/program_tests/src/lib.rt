@@ -1,12 +1,10 @@
-//! Tests of the two programs over loopback: a kernel and its frontends, each on threads of one process; and of a console's conversations over memory.
+//! Tests of the two programs over loopback: a kernel and its frontends, each on threads of one process.
 //!
 //! No contract says what a socket delivers, nor that an end comes. These tests run the programs from their command lines: what the consoles print, which
 //! statuses come, that an endless cell is interrupted from another connection, what comes on each socket and under which key, and that a kernel ends once a
 //! shutdown was asked for, with all its threads. What a desk does under a hall's lock is tried beside them.
 #![tactic(auto)]
 
-#[cfg(test)]
-mod conversations;
 #[cfg(test)]
 mod desk;
 #[cfg(test)]
