@@ -4,7 +4,7 @@ use crate::judgement::Completeness;
 use thiserror::Error;
 
 /// What a frontend asks. A cursor counts Unicode code points; none is the end of the code, and so is one past it.
-#[derive(Debug, Drop, PartialEq, Eq)]
+#[derive(Drop)]
 pub enum Ask {
     /// Which names go on with what stands in front of the cursor.
     Complete { code: String, cursor: Option<u64> },
@@ -21,7 +21,7 @@ pub enum Ask {
 }
 
 /// The names that begin with the longest name in front of a cursor, and where that stands, in Unicode code points.
-#[derive(Debug, Drop, PartialEq, Eq)]
+#[derive(Debug, Drop)]
 pub struct Completion {
     /// Declared names and reserved words, each once, in the order of their octets.
     pub matches: Vec<String>,
@@ -30,7 +30,7 @@ pub struct Completion {
 }
 
 /// What is answered.
-#[derive(Debug, Drop, PartialEq, Eq)]
+#[derive(Debug, Drop)]
 pub enum Content {
     Completion(Completion),
     /// The value text of the name, if it is declared.
@@ -44,7 +44,7 @@ pub enum Content {
 }
 
 /// The state of a kernel.
-#[derive(Debug, Drop, PartialEq, Eq)]
+#[derive(Debug, Drop)]
 pub struct KernelState {
     /// The number of the node at which the kernel stands.
     pub node: usize,
@@ -63,7 +63,7 @@ pub struct KernelState {
 }
 
 /// An answer, and how many minutes it has seen.
-#[derive(Debug, Drop, PartialEq, Eq)]
+#[derive(Debug, Drop)]
 pub struct Answer {
     pub seen: usize,
     pub content: Content,

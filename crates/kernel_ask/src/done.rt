@@ -2,7 +2,7 @@
 use kernel_core::{Fault, Outcome, Refusal};
 
 /// A user expression: the text of an expression, and the name under which its value is told.
-#[derive(Debug, Drop, PartialEq, Eq)]
+#[derive(Drop)]
 pub struct Wish {
     pub name: String,
     pub exp: String,
@@ -18,14 +18,14 @@ pub enum ExpFault {
 }
 
 /// The value of an expression, under its name.
-#[derive(Debug, Drop, PartialEq, Eq)]
+#[derive(Debug, Drop)]
 pub struct NamedValue {
     pub name: String,
     pub value: Result<i32, ExpFault>,
 }
 
 /// What came of a job.
-#[derive(Debug, Drop, PartialEq, Eq)]
+#[derive(Drop)]
 pub struct Done {
     /// The number of the post.
     pub number: u64,

@@ -9,14 +9,14 @@ use kernel_core::{Entry, Job};
 use std::alloc::{AllocError, Global};
 
 /// A cell of the history: the number under which it was counted, from 1 on, and its text.
-#[derive(Debug, Drop, PartialEq, Eq)]
+#[derive(Debug, Drop)]
 pub struct Input {
     pub number: u64,
     pub code: String,
 }
 
 /// Which inputs are asked for.
-#[derive(Clone, Copy, Debug, PartialEq, Eq)]
+#[derive(Clone, Copy, PartialEq, Eq)]
 pub enum HistoryAsk {
     /// Those of a session from the number `start` on, without `stop`. The present session is 1, and also 0; of others nothing
     /// is kept.

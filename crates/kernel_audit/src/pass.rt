@@ -72,7 +72,7 @@ impl<L: Ledger> Pass<L> {
 }
 
 /// That a post was taken: whose it is, which of that pass's posts it is, its number and its job.
-#[derive(Debug, Drop)]
+#[derive(Drop)]
 pub struct Ticket {
     pub lane: u32,
     pub nth: u64,

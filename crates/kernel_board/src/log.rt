@@ -35,7 +35,7 @@ impl Model for BroadcastLog {
 }
 
 /// Where a reader stands: the number of the broadcast that it wants next.
-#[derive(Clone, Copy, Debug, PartialEq, Eq)]
+#[derive(Clone, Copy, PartialEq, Eq)]
 pub struct Place {
     /// The number.
     pub number: u64,

@@ -7,7 +7,7 @@ ghost use Rattle.kernel_core.specs.Extent.{IsExtent};
 use crate::tree::Tree;
 
 /// How far an undo and a redo can go from the position, and how many nodes there are.
-#[derive(Clone, Copy, Debug, PartialEq, Eq)]
+#[derive(Clone, Copy, PartialEq, Eq)]
 pub struct Extent {
     /// How many cells can be undone.
     pub undo: usize,

@@ -9,7 +9,7 @@ use crate::post::Job;
 use std::alloc::{AllocError, Global};
 
 /// One entry of the minutes.
-#[derive(Debug, Drop, PartialEq, Eq)]
+#[derive(Debug, Drop)]
 pub enum Entry {
     /// A job that was posted, and the lane of the frontend that did. Jobs are numbered 1, 2, .. in the order of their posts.
     Posted {

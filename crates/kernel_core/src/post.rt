@@ -6,7 +6,7 @@ use std::alloc::AllocError;
 use thiserror::Error;
 
 /// What a frontend posts.
-#[derive(Debug, Drop, PartialEq, Eq)]
+#[derive(Debug, Drop)]
 pub enum Job {
     /// The text of a cell. One that is not silent and is to be stored raises the execution counter as it is begun.
     Cell {

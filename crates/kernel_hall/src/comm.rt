@@ -4,7 +4,7 @@ ghost use Rattle.kernel_hall.specs.Changes.{IsChange};
 use kernel_ask::{Comms, HallFault};
 
 /// A change of the open comms, by the id of one.
-#[derive(Debug, Drop)]
+#[derive(Drop)]
 pub enum CommChange {
     Open(String),
     Close(String),

@@ -12,7 +12,7 @@ use std::sync::ledger::Ledger;
 pub const SLICE: u64 = 4096;
 
 /// When a gate is passed.
-#[derive(Clone, Copy, Debug, PartialEq, Eq)]
+#[derive(Clone, Copy, PartialEq, Eq)]
 pub enum Moment {
     BeforeBegin,
     AfterSlice,

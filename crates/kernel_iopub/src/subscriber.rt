@@ -26,7 +26,7 @@ pub struct Subscriber {
 }
 
 /// What the writing half finds.
-#[derive(Clone, Copy, Debug, PartialEq, Eq)]
+#[derive(Clone, Copy, PartialEq, Eq)]
 pub(crate) struct Sight {
     pub joined: Option<Place>,
     pub is_silent: bool,

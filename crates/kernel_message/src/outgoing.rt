@@ -15,7 +15,7 @@ use std::marker::Model;
 
 /// A message for all who subscribe to its topic, before it is signed. It has one identity, which is the topic: its type. Contracts
 /// see it as the octets of its parts.
-#[derive(Debug, Drop)]
+#[derive(Drop)]
 pub struct Broadcast {
     message: Message,
 }
@@ -39,7 +39,7 @@ impl Broadcast {
 
 /// The messages that go out in answer to a request, before they are signed. They are sent in the order in which they are numbered:
 /// the reply, then the broadcasts.
-#[derive(Debug, Drop)]
+#[derive(Drop)]
 pub struct Outgoing {
     /// The reply to who asked, if the request has one.
     pub reply: Option<Message>,

@@ -3,7 +3,7 @@ ghost use Rattle.std.specs.Prelude.{◌≡◌, true};
 ghost use Rattle.std.specs.Str.{is_utf8};
 
 /// Who sends, and the number and the date of the next message. The names of messages are `SESSION_CONNECTION_NEXT`.
-#[derive(Debug, Drop)]
+#[derive(Drop)]
 pub struct Stamp {
     /// The kernel's session.
     pub session: String,

@@ -10,7 +10,7 @@ use std::sync::ledger::Ledger;
 use std::time::Clock;
 
 /// Which place it is: of which socket, and where among those of all four.
-#[derive(Clone, Copy, Debug, PartialEq, Eq)]
+#[derive(Clone, Copy, PartialEq, Eq)]
 pub(crate) struct Place {
     pub socket: Socket,
     pub index: usize,

@@ -8,7 +8,7 @@ use kernel_core::{Outcome, PostFault};
 use std::alloc::{AllocError, Global};
 
 /// What went wrong: its name, and the line that tells it.
-#[derive(Debug, Drop)]
+#[derive(Drop)]
 pub(crate) struct Problem {
     pub ename: &'static str,
     pub evalue: String,

@@ -5,7 +5,7 @@ ghost use Rattle.kernel_server.specs.Pace.{next_slice, behind};
 use std::collections::VecDeque;
 
 /// A slice of an open job.
-#[derive(Clone, Copy, Debug, PartialEq, Eq)]
+#[derive(Clone, Copy, PartialEq, Eq)]
 pub struct Slice {
     /// How many steps it takes at most.
     pub steps: u64,

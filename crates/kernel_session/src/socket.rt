@@ -6,7 +6,7 @@ use jupyter_msg::RequestType;
 use zmtp_peer::Role;
 
 /// Which socket of the kernel a connection came to (Jupyter messaging page, "Introduction").
-#[derive(Clone, Copy, Debug, PartialEq, Eq)]
+#[derive(Clone, Copy, PartialEq, Eq)]
 pub enum Socket {
     /// Requests of frontends.
     Shell,

@@ -25,7 +25,7 @@ use kernel_reply::COMM_TARGET;
 use std::alloc::{AllocError, Global};
 
 /// What a request is answered from.
-#[derive(Debug, Drop)]
+#[derive(Drop)]
 pub enum Told {
     /// It became a job, which ended so.
     Ended(Done),
