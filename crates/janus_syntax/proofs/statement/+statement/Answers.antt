@@ -8,7 +8,7 @@ use Rattle.janus_syntax.specs.declared.fault.What.TheVariants as what
 use Rattle.janus_syntax.specs.Forms.{Local}
 use Rattle.janus_syntax.specs.Grammar.{Expected}
 use Rattle.janus_syntax.specs.Reading.{FailsPart}
-use Rattle.janus_syntax.specs.Statements.{IsStmOrOther, FailsStm, IsAssignment, FailsAssignment, IsIf, IsLoop, IsLocalInt, IsLocalStack, left}
+use Rattle.janus_syntax.specs.Statements.{IsStmOrOther, FailsStm, IsAssignment, FailsAssignment, left}
 use Rattle.janus_syntax.proofs.Steps.{first_token, passes_on}
 use Rattle.janus_syntax.proofs.StatementSteps.{if_stops_then, if_stops_body, if_stops_else, from_stops_do, from_stops_loop}
 use Rattle.janus_syntax.proofs.Assignments.{name_begins, name_stops}
