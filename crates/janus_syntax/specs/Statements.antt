@@ -11,9 +11,9 @@ use Rattle.janus_syntax.specs.declared.tree.Kind.{Kind}
 use Rattle.janus_syntax.specs.declared.tree.Stm as code_stm
 use Rattle.janus_syntax.specs.declared.tree.Declaration as code_declaration
 use Rattle.janus_syntax.specs.Tokens.{Token, Name, Word_of, views}
-use Rattle.janus_syntax.specs.Tree.{Name as Named, Exp, Stm, If, Loop, Block, Empty, More, Declaration, stm_view, declaration_view}
+use Rattle.janus_syntax.specs.Tree.{Name as Named, Exp, Stm, If, Loop, Block, Empty, More, Declaration, Cell, cell_of, stm_view, declaration_view}
 use Rattle.janus_syntax.specs.Forms.{Part, Body, Statements, Names, More_names, Declarations, Bound, Whole, Else_part, Do_part, Loop_part, Target_index, A_name, The_word, The_sign, An_update, Form, take, part, close}
-use Rattle.janus_syntax.specs.Table.{word_then, call_then, delocal_then, local_int, local_stack, statement, declaration, declared, assignment, skip_block}
+use Rattle.janus_syntax.specs.Table.{word_then, call_then, delocal_then, local_int, local_stack, statement, declaration, declared, assignment, skip_block, is_bare}
 use Rattle.janus_syntax.specs.Grammar.{Count, all, depth_limit, operator_limit, Refusal, Expected}
 use Rattle.janus_syntax.specs.Reader.{Stack, at, run, start, Outcome, Ended, outcome_of, next}
 use Rattle.janus_syntax.specs.Reading.{begun, count, BeginsWith, TokenGoes, Stands, Moves, Stops, IsPart, FailsPart}
@@ -269,6 +269,16 @@ pub record AtDeclarations (ds : List Declaration) (goal : Part) (out : Outcome g
 pub record AreDeclared (ds : List Declaration) (from rest : List Token) : Type 0 where
   pub goes : (p : Part) (k : List Declaration → Form p) (goal : Part) (S : Stack goal p) (u : ℕ) → u ≤ operator_limit → AtDeclarations ds goal (run all from (at (part Declarations k) S (count 0 u))) rest p k S
   pub shorter : length rest ≤ length from
+
+-- the declarations and the statements of the cell c, which has nothing else; `main` may follow where there are none
+pub record AreFirstParts (main : Bool) (c : Cell) (from rest : List Token) : Type 0 where
+  pub listed : List Declaration
+  pub block : Block
+  pub between : List Token
+  pub declarations : IsPart Declarations 0 listed from between
+  pub statements : IsPart Statements 0 block between rest
+  pub cell : c ≡ cell_of listed block []
+  pub bare : main ≡ is_bare listed block
 
 -- ---- the end
 
