@@ -86,7 +86,7 @@ fn construct(
     }
 }
 
-/// The statement of one line that this word begins, behind that word, and the tokens behind it; nothing, if the word begins none.
+/// The statement that this word begins, behind that word, and the tokens behind it, where it is no construct; or none begins.
 fn plain_statement(
     alloc: Global,
     word: Word,
