@@ -101,32 +101,21 @@ inverse_block_is rs ss h = ap plain_block h ∙ turned_plain (block_view ss) Emp
 
 -- ---- statements with blocks, made from their vectors
 
-pub if_turned : (a b c d : code_exp.Exp) (v w x y : Vec code_stm.Stm Global) → exp_view c ≡ exp_view a → exp_view d ≡ exp_view b → block_view x.items ≡ turned (block_view v.items) Empty → block_view y.items ≡ turned (block_view w.items) Empty → stm_view (code_stm.If d x y c) ≡ inverse_stm (stm_view (code_stm.If a v w b))
-if_turned a b c d v w x y e f g h =
-    view_if d c x y
-    ∙ ap (λ e. If e (block_view x.items) (block_view y.items) (exp_view c)) f
-    ∙ ap (λ s. If (exp_view b) s (block_view y.items) (exp_view c)) g
-    ∙ ap (λ s. If (exp_view b) (turned (block_view v.items) Empty) s (exp_view c)) h
-    ∙ ap (If (exp_view b) (turned (block_view v.items) Empty) (turned (block_view w.items) Empty)) e
+pub if_turned : (a b : code_exp.Exp) (v w x y : Vec code_stm.Stm Global) → block_view x.items ≡ turned (block_view v.items) Empty → block_view y.items ≡ turned (block_view w.items) Empty → If (exp_view b) (block_view x.items) (block_view y.items) (exp_view a) ≡ inverse_stm (stm_view (code_stm.If a v w b))
+if_turned a b v w x y g h =
+    ap (λ s. If (exp_view b) s (block_view y.items) (exp_view a)) g
+    ∙ ap (λ s. If (exp_view b) (turned (block_view v.items) Empty) s (exp_view a)) h
     ∙ ap inverse_stm (sym (view_if a b v w))
 
-pub loop_turned : (a b c d : code_exp.Exp) (v w x y : Vec code_stm.Stm Global) → exp_view c ≡ exp_view a → exp_view d ≡ exp_view b → block_view x.items ≡ turned (block_view v.items) Empty → block_view y.items ≡ turned (block_view w.items) Empty → stm_view (code_stm.Loop d x y c) ≡ inverse_stm (stm_view (code_stm.Loop a v w b))
-loop_turned a b c d v w x y e f g h =
-    view_loop d c x y
-    ∙ ap (λ e. Loop e (block_view x.items) (block_view y.items) (exp_view c)) f
-    ∙ ap (λ s. Loop (exp_view b) s (block_view y.items) (exp_view c)) g
-    ∙ ap (λ s. Loop (exp_view b) (turned (block_view v.items) Empty) s (exp_view c)) h
-    ∙ ap (Loop (exp_view b) (turned (block_view v.items) Empty) (turned (block_view w.items) Empty)) e
+pub loop_turned : (a b : code_exp.Exp) (v w x y : Vec code_stm.Stm Global) → block_view x.items ≡ turned (block_view v.items) Empty → block_view y.items ≡ turned (block_view w.items) Empty → Loop (exp_view b) (block_view x.items) (block_view y.items) (exp_view a) ≡ inverse_stm (stm_view (code_stm.Loop a v w b))
+loop_turned a b v w x y g h =
+    ap (λ s. Loop (exp_view b) s (block_view y.items) (exp_view a)) g
+    ∙ ap (λ s. Loop (exp_view b) (turned (block_view v.items) Empty) s (exp_view a)) h
     ∙ ap inverse_stm (sym (view_loop a b v w))
 
-pub local_int_turned : (m n x y : code_name.Name) (a b c d : code_exp.Exp) (v w : Vec code_stm.Stm Global) → name_view x ≡ name_view m → name_view y ≡ name_view n → exp_view c ≡ exp_view a → exp_view d ≡ exp_view b → block_view w.items ≡ turned (block_view v.items) Empty → stm_view (code_stm.LocalInt x d w y c) ≡ inverse_stm (stm_view (code_stm.LocalInt m a v n b))
-local_int_turned m n x y a b c d v w i j e f g =
-    view_local_int x y d c w
-    ∙ ap (λ z. LocalInt z (exp_view d) (block_view w.items) (name_view y) (exp_view c)) i
-    ∙ ap (λ z. LocalInt (name_view m) z (block_view w.items) (name_view y) (exp_view c)) f
-    ∙ ap (λ z. LocalInt (name_view m) (exp_view b) z (name_view y) (exp_view c)) g
-    ∙ ap (λ z. LocalInt (name_view m) (exp_view b) (turned (block_view v.items) Empty) z (exp_view c)) j
-    ∙ ap (LocalInt (name_view m) (exp_view b) (turned (block_view v.items) Empty) (name_view n)) e
+pub local_int_turned : (m n : code_name.Name) (a b : code_exp.Exp) (v w : Vec code_stm.Stm Global) → block_view w.items ≡ turned (block_view v.items) Empty → LocalInt (name_view m) (exp_view b) (block_view w.items) (name_view n) (exp_view a) ≡ inverse_stm (stm_view (code_stm.LocalInt m a v n b))
+local_int_turned m n a b v w g =
+    ap (λ z. LocalInt (name_view m) (exp_view b) z (name_view n) (exp_view a)) g
     ∙ ap inverse_stm (sym (view_local_int m n a b v))
 
 pub local_stack_turned : (m n x y : code_name.Name) (v w : Vec code_stm.Stm Global) → name_view x ≡ name_view m → name_view y ≡ name_view n → block_view w.items ≡ turned (block_view v.items) Empty → stm_view (code_stm.LocalStack x w y) ≡ inverse_stm (stm_view (code_stm.LocalStack m v n))

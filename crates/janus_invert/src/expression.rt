@@ -5,7 +5,7 @@ ghost use Rattle.janus_names.specs.Numbers.{IsMet};
 ghost use Rattle.janus_syntax.specs.Tree.{names_view};
 ghost use Rattle.janus_syntax.specs.View.{name_of, text_of, exp_of as plain};
 ghost use Rattle.janus_invert.specs.Expressions.{exp_of};
-ghost use Rattle.janus_invert.specs.Numbered.{HasItsNumber, HaveTheirNumbers, HasNumbers, AreSame, IsCopy, texts_of};
+ghost use Rattle.janus_invert.specs.Numbered.{HasItsNumber, HaveTheirNumbers, HasNumbers, IsSame, AreSame, IsCopy, texts_of};
 ghost use Rattle.janus_invert.specs.Met.{AreAllMet, MeetsExp};
 
 use crate::code::{Exp, Symbol};
@@ -56,7 +56,62 @@ pub(crate) fn copies(alloc: Global, symbols: &[Symbol]) -> Result<Vec<Symbol>, A
     Ok(copies)
 }
 
+/// Two names that were met with their numbers; an error for want of memory.
+pub(crate) fn two_symbols(
+    names: &Names,
+    first: &tree::Name,
+    second: &tree::Name,
+) -> Result<(Symbol, Symbol), AllocError>
+    requires first { IsMet names.now (name_of first.now) }
+    requires second { IsMet names.now (name_of second.now) }
+    ensures texts { IfOk result (λ x. (string_bytes x.0.text ≡ name_of first.now) × (string_bytes x.1.text ≡ name_of second.now)) }
+    ensures numbered { IfOk result (λ x. HasItsNumber names.now x.0 × HasItsNumber names.now x.1) }
+{
+    let first = symbol(names, first)?;
+    Ok((first, symbol(names, second)?))
+}
+
+/// The name of a procedure and those of its arguments, which were met, with their numbers; an error for want of memory.
+pub(crate) fn call_symbols(
+    alloc: Global,
+    names: &Names,
+    called: &tree::Name,
+    arguments: &[tree::Name],
+) -> Result<(Symbol, Vec<Symbol>), AllocError>
+    requires called { IsMet names.now (name_of called.now) }
+    requires arguments { AreAllMet names.now (map text_of (names_view arguments.now)) }
+    ensures texts { IfOk result (λ x. (string_bytes x.0.text ≡ name_of called.now) × (texts_of x.1.items ≡ map text_of (names_view arguments.now))) }
+    ensures numbered { IfOk result (λ x. HasItsNumber names.now x.0 × HaveTheirNumbers names.now x.1.items) }
+{
+    let arguments = symbols(alloc, names, arguments)?;
+    Ok((symbol(names, called)?, arguments))
+}
+
+/// Two symbols in memory of their own; an error for want of memory.
+pub(crate) fn two_symbol_copies(
+    first: &Symbol,
+    second: &Symbol,
+) -> Result<(Symbol, Symbol), AllocError>
+    ensures { IfOk result (λ x. IsSame first.now x.0 × IsSame second.now x.1) }
+{
+    let first = first.copy()?;
+    Ok((first, second.copy()?))
+}
+
+/// The symbols of a call in memory of their own; an error for want of memory.
+pub(crate) fn call_copies(
+    alloc: Global,
+    called: &Symbol,
+    arguments: &[Symbol],
+) -> Result<(Symbol, Vec<Symbol>), AllocError>
+    ensures { IfOk result (λ x. IsSame called.now x.0 × AreSame arguments.now x.1.items) }
+{
+    let arguments = copies(alloc, arguments)?;
+    Ok((called.copy()?, arguments))
+}
+
 /// An expression whose names were met, with their numbers; an error for want of memory.
+#[cycle(flat_exp)]
 pub fn flat_exp(alloc: Global, exp: &tree::Exp, names: &Names) -> Result<Exp, AllocError>
     requires { MeetsExp names.now (plain exp.now) }
     ensures tree { IfOk result (λ flat. exp_of flat ≡ plain exp.now) }
@@ -66,34 +121,61 @@ pub fn flat_exp(alloc: Global, exp: &tree::Exp, names: &Names) -> Result<Exp, Al
         tree::Exp::Number(number, _) => Ok(Exp::Number(*number)),
         tree::Exp::Variable(name) => Ok(Exp::Variable(symbol(names, name)?)),
         tree::Exp::Element(name, index) => {
-            let index = Box::new(alloc, flat_exp(alloc, index, names)?)?;
+            let index = boxed_flat_exp(alloc, index, names)?;
             Ok(Exp::Element(symbol(names, name)?, index))
         }
         tree::Exp::Empty(name) => Ok(Exp::Empty(symbol(names, name)?)),
         tree::Exp::Top(name) => Ok(Exp::Top(symbol(names, name)?)),
         tree::Exp::Negative(operand) => {
-            let operand = flat_exp(alloc, operand, names)?;
-            Ok(Exp::Negative(Box::new(alloc, operand)?))
+            Ok(Exp::Negative(boxed_flat_exp(alloc, operand, names)?))
         }
         tree::Exp::Binary(operator, left, right) => {
-            let left = Box::new(alloc, flat_exp(alloc, left, names)?)?;
-            let right = Box::new(alloc, flat_exp(alloc, right, names)?)?;
+            let left = boxed_flat_exp(alloc, left, names)?;
+            let right = boxed_flat_exp(alloc, right, names)?;
             Ok(Exp::Binary(*operator, left, right))
         }
         tree::Exp::And(left, right) => {
-            let left = Box::new(alloc, flat_exp(alloc, left, names)?)?;
-            let right = Box::new(alloc, flat_exp(alloc, right, names)?)?;
+            let left = boxed_flat_exp(alloc, left, names)?;
+            let right = boxed_flat_exp(alloc, right, names)?;
             Ok(Exp::And(left, right))
         }
         tree::Exp::Or(left, right) => {
-            let left = Box::new(alloc, flat_exp(alloc, left, names)?)?;
-            let right = Box::new(alloc, flat_exp(alloc, right, names)?)?;
+            let left = boxed_flat_exp(alloc, left, names)?;
+            let right = boxed_flat_exp(alloc, right, names)?;
             Ok(Exp::Or(left, right))
         }
     }
 }
 
+/// The flat form of a part.
+#[cycle(flat_exp)]
+fn boxed_flat_exp(alloc: Global, exp: &tree::Exp, names: &Names) -> Result<Box<Exp>, AllocError>
+    requires { MeetsExp names.now (plain exp.now) }
+    ensures tree { IfOk result (λ flat. exp_of flat.value ≡ plain exp.now) }
+    ensures numbered { IfOk result (λ flat. HasNumbers names.now flat.value) }
+{
+    let flat = flat_exp(alloc, exp, names)?;
+    Ok(Box::new(alloc, flat)?)
+}
+
+/// Two expressions whose names were met, with their numbers; an error for want of memory.
+pub(crate) fn two_flat_exps(
+    alloc: Global,
+    first: &tree::Exp,
+    second: &tree::Exp,
+    names: &Names,
+) -> Result<(Exp, Exp), AllocError>
+    requires first { MeetsExp names.now (plain first.now) }
+    requires second { MeetsExp names.now (plain second.now) }
+    ensures trees { IfOk result (λ x. (exp_of x.0 ≡ plain first.now) × (exp_of x.1 ≡ plain second.now)) }
+    ensures numbered { IfOk result (λ x. HasNumbers names.now x.0 × HasNumbers names.now x.1) }
+{
+    let first = flat_exp(alloc, first, names)?;
+    Ok((first, flat_exp(alloc, second, names)?))
+}
+
 /// The same expression in memory of its own; an error for want of memory.
+#[cycle(copy)]
 pub(crate) fn copy(alloc: Global, exp: &Exp) -> Result<Exp, AllocError>
     ensures { IfOk result (λ copy. IsCopy exp.now copy) }
 {
@@ -101,29 +183,46 @@ pub(crate) fn copy(alloc: Global, exp: &Exp) -> Result<Exp, AllocError>
         Exp::Number(number) => Ok(Exp::Number(*number)),
         Exp::Variable(name) => Ok(Exp::Variable(name.copy()?)),
         Exp::Element(name, index) => {
-            let index = Box::new(alloc, copy(alloc, index)?)?;
+            let index = boxed_copy(alloc, index)?;
             Ok(Exp::Element(name.copy()?, index))
         }
         Exp::Empty(name) => Ok(Exp::Empty(name.copy()?)),
         Exp::Top(name) => Ok(Exp::Top(name.copy()?)),
         Exp::Negative(operand) => {
-            let operand = copy(alloc, operand)?;
-            Ok(Exp::Negative(Box::new(alloc, operand)?))
+            let operand = boxed_copy(alloc, operand)?;
+            Ok(Exp::Negative(operand))
         }
         Exp::Binary(operator, left, right) => {
-            let left = Box::new(alloc, copy(alloc, left)?)?;
-            let right = Box::new(alloc, copy(alloc, right)?)?;
+            let left = boxed_copy(alloc, left)?;
+            let right = boxed_copy(alloc, right)?;
             Ok(Exp::Binary(*operator, left, right))
         }
         Exp::And(left, right) => {
-            let left = Box::new(alloc, copy(alloc, left)?)?;
-            let right = Box::new(alloc, copy(alloc, right)?)?;
+            let left = boxed_copy(alloc, left)?;
+            let right = boxed_copy(alloc, right)?;
             Ok(Exp::And(left, right))
         }
         Exp::Or(left, right) => {
-            let left = Box::new(alloc, copy(alloc, left)?)?;
-            let right = Box::new(alloc, copy(alloc, right)?)?;
+            let left = boxed_copy(alloc, left)?;
+            let right = boxed_copy(alloc, right)?;
             Ok(Exp::Or(left, right))
         }
     }
+}
+
+/// The copy of a part.
+#[cycle(copy)]
+fn boxed_copy(alloc: Global, exp: &Exp) -> Result<Box<Exp>, AllocError>
+    ensures { IfOk result (λ copy. IsCopy exp.now copy.value) }
+{
+    let copy = copy(alloc, exp)?;
+    Ok(Box::new(alloc, copy)?)
+}
+
+/// Two expressions in memory of their own; an error for want of memory.
+pub(crate) fn two_copies(alloc: Global, first: &Exp, second: &Exp) -> Result<(Exp, Exp), AllocError>
+    ensures { IfOk result (λ x. IsCopy first.now x.0 × IsCopy second.now x.1) }
+{
+    let first = copy(alloc, first)?;
+    Ok((first, copy(alloc, second)?))
 }

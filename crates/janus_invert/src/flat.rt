@@ -11,7 +11,7 @@ ghost use Rattle.janus_invert.specs.Numbered.{StatementHasNumbers, HaveNumbers};
 ghost use Rattle.janus_invert.specs.Met.{MeetsStm, MeetsBlk};
 
 use crate::code::{Block, Code, Statement};
-use crate::expression::{flat_exp, symbol, symbols};
+use crate::expression::{call_symbols, flat_exp, symbol, two_flat_exps, two_symbols};
 use crate::fault::InvertFault;
 use janus_check::Checked;
 use janus_names::Names;
@@ -113,54 +113,46 @@ fn flat_statement(
         }
         Stm::AssignElement(name, index, update, exp) => {
             let name = symbol(names, name)?;
-            let index = flat_exp(alloc, index, names)?;
-            let exp = flat_exp(alloc, exp, names)?;
+            let (index, exp) = two_flat_exps(alloc, index, exp, names)?;
             add(draft, Statement::AssignElement(name, index, *update, exp))
         }
         Stm::Push(variable, stack) => {
-            let variable = symbol(names, variable)?;
-            let stack = symbol(names, stack)?;
+            let (variable, stack) = two_symbols(names, variable, stack)?;
             add(draft, Statement::Push(variable, stack))
         }
         Stm::Pop(variable, stack) => {
-            let variable = symbol(names, variable)?;
-            let stack = symbol(names, stack)?;
+            let (variable, stack) = two_symbols(names, variable, stack)?;
             add(draft, Statement::Pop(variable, stack))
         }
         Stm::If(test, then_part, else_part, last) => {
-            let test = flat_exp(alloc, test, names)?;
-            let last = flat_exp(alloc, last, names)?;
             let then_part = flat_block(alloc, then_part, names, draft)?;
             let else_part = flat_block(alloc, else_part, names, draft)?;
+            let (test, last) = two_flat_exps(alloc, test, last, names)?;
             add(draft, Statement::If(test, then_part, else_part, last))
         }
         Stm::Loop(entry, do_part, loop_part, exit) => {
-            let entry = flat_exp(alloc, entry, names)?;
-            let exit = flat_exp(alloc, exit, names)?;
             let do_part = flat_block(alloc, do_part, names, draft)?;
             let loop_part = flat_block(alloc, loop_part, names, draft)?;
+            let (entry, exit) = two_flat_exps(alloc, entry, exit, names)?;
             add(draft, Statement::Loop(entry, do_part, loop_part, exit))
         }
         Stm::LocalInt(name, first, block, _, last) => {
-            let name = symbol(names, name)?;
-            let first = flat_exp(alloc, first, names)?;
-            let last = flat_exp(alloc, last, names)?;
             let block = flat_block(alloc, block, names, draft)?;
+            let name = symbol(names, name)?;
+            let (first, last) = two_flat_exps(alloc, first, last, names)?;
             add(draft, Statement::LocalInt(name, first, block, last))
         }
         Stm::LocalStack(name, block, _) => {
-            let name = symbol(names, name)?;
             let block = flat_block(alloc, block, names, draft)?;
+            let name = symbol(names, name)?;
             add(draft, Statement::LocalStack(name, block))
         }
         Stm::Call(called, arguments) => {
-            let called = symbol(names, called)?;
-            let arguments = symbols(alloc, names, arguments)?;
+            let (called, arguments) = call_symbols(alloc, names, called, arguments)?;
             add(draft, Statement::Call(called, arguments))
         }
         Stm::Uncall(called, arguments) => {
-            let called = symbol(names, called)?;
-            let arguments = symbols(alloc, names, arguments)?;
+            let (called, arguments) = call_symbols(alloc, names, called, arguments)?;
             add(draft, Statement::Uncall(called, arguments))
         }
     }

@@ -3,12 +3,12 @@
 ghost use Rattle.std.specs.Prelude.{◌≡◌, IfOk};
 ghost use Rattle.janus_meaning.specs.Syntax.{inverse_block};
 ghost use Rattle.janus_syntax.specs.View.{block_of};
-ghost use Rattle.janus_syntax.specs.Tree.{stm_view, cell_view, declaration_view, declarations_view, names_view, parameter_view, parameters_view, procedure_view, procedures_view, block_view, Empty};
+ghost use Rattle.janus_syntax.specs.Tree.{name_view, exp_view, If, Loop, LocalInt, stm_view, cell_view, declaration_view, declarations_view, names_view, parameter_view, parameters_view, procedure_view, procedures_view, block_view, Empty};
 ghost use Rattle.janus_invert.specs.Inverted.{IsOpposite};
 ghost use Rattle.janus_invert.specs.Cells.{opposite_of, inverse_stm, inverse_cell, turned};
 
 use crate::fault::InvertFault;
-use janus_syntax::tree::{Cell, Declaration, Name, Parameter, Procedure, Stm, Update};
+use janus_syntax::tree::{Cell, Declaration, Exp, Name, Parameter, Procedure, Stm, Update};
 use std::alloc::{AllocError, Global};
 
 /// The operator that takes an assignment back.
@@ -146,48 +146,115 @@ fn inverse_statement(alloc: Global, statement: &Stm) -> Result<Stm, AllocError>
         }
         Stm::AssignElement(name, index, update, exp) => {
             let name = name.copy()?;
-            let index = index.copy(alloc)?;
-            Ok(Stm::AssignElement(name, index, opposite(*update), exp.copy(alloc)?))
+            let (index, exp) = two_exps(alloc, index, exp)?;
+            Ok(Stm::AssignElement(name, index, opposite(*update), exp))
         }
         Stm::Push(variable, stack) => {
-            let variable = variable.copy()?;
-            Ok(Stm::Pop(variable, stack.copy()?))
+            let (variable, stack) = two_names(variable, stack)?;
+            Ok(Stm::Pop(variable, stack))
         }
         Stm::Pop(variable, stack) => {
-            let variable = variable.copy()?;
-            Ok(Stm::Push(variable, stack.copy()?))
+            let (variable, stack) = two_names(variable, stack)?;
+            Ok(Stm::Push(variable, stack))
         }
         Stm::If(test, then_part, else_part, last) => {
             let then_part = inverse_statements(alloc, then_part)?;
             let else_part = inverse_statements(alloc, else_part)?;
-            let test = test.copy(alloc)?;
-            Ok(Stm::If(last.copy(alloc)?, then_part, else_part, test))
+            inverse_if(alloc, test, then_part, else_part, last)
         }
         Stm::Loop(entry, do_part, loop_part, exit) => {
             let do_part = inverse_statements(alloc, do_part)?;
             let loop_part = inverse_statements(alloc, loop_part)?;
-            let entry = entry.copy(alloc)?;
-            Ok(Stm::Loop(exit.copy(alloc)?, do_part, loop_part, entry))
+            inverse_loop(alloc, entry, do_part, loop_part, exit)
         }
         Stm::LocalInt(name, first, block, end, last) => {
             let block = inverse_statements(alloc, block)?;
-            let name = name.copy()?;
-            let end = end.copy()?;
-            let first = first.copy(alloc)?;
-            Ok(Stm::LocalInt(name, last.copy(alloc)?, block, end, first))
+            inverse_int(alloc, name, first, block, end, last)
         }
         Stm::LocalStack(name, block, end) => {
             let block = inverse_statements(alloc, block)?;
-            let name = name.copy()?;
-            Ok(Stm::LocalStack(name, block, end.copy()?))
+            let (name, end) = two_names(name, end)?;
+            Ok(Stm::LocalStack(name, block, end))
         }
         Stm::Call(called, arguments) => {
-            let arguments = same_names(alloc, arguments)?;
-            Ok(Stm::Uncall(called.copy()?, arguments))
+            let (called, arguments) = same_call(alloc, called, arguments)?;
+            Ok(Stm::Uncall(called, arguments))
         }
         Stm::Uncall(called, arguments) => {
-            let arguments = same_names(alloc, arguments)?;
-            Ok(Stm::Call(called.copy()?, arguments))
+            let (called, arguments) = same_call(alloc, called, arguments)?;
+            Ok(Stm::Call(called, arguments))
         }
     }
+}
+
+/// The inverse of an `if` of these tests, whose parts are inverted.
+fn inverse_if(
+    alloc: Global,
+    test: &Exp,
+    then_part: Vec<Stm>,
+    else_part: Vec<Stm>,
+    last: &Exp,
+) -> Result<Stm, AllocError>
+    ensures { IfOk result (λ inverse. stm_view inverse ≡ If (exp_view last.now) (block_view then_part.items) (block_view else_part.items) (exp_view test.now)) }
+{
+    let (test, last) = two_exps(alloc, test, last)?;
+    Ok(Stm::If(last, then_part, else_part, test))
+}
+
+/// The inverse of a loop of these tests, whose parts are inverted.
+fn inverse_loop(
+    alloc: Global,
+    entry: &Exp,
+    do_part: Vec<Stm>,
+    loop_part: Vec<Stm>,
+    exit: &Exp,
+) -> Result<Stm, AllocError>
+    ensures { IfOk result (λ inverse. stm_view inverse ≡ Loop (exp_view exit.now) (block_view do_part.items) (block_view loop_part.items) (exp_view entry.now)) }
+{
+    let (entry, exit) = two_exps(alloc, entry, exit)?;
+    Ok(Stm::Loop(exit, do_part, loop_part, entry))
+}
+
+/// The inverse of a local number, whose statements are inverted.
+fn inverse_int(
+    alloc: Global,
+    name: &Name,
+    first: &Exp,
+    block: Vec<Stm>,
+    end: &Name,
+    last: &Exp,
+) -> Result<Stm, AllocError>
+    ensures { IfOk result (λ inverse. stm_view inverse ≡ LocalInt (name_view name.now) (exp_view last.now) (block_view block.items) (name_view end.now) (exp_view first.now)) }
+{
+    let (name, end) = two_names(name, end)?;
+    let (first, last) = two_exps(alloc, first, last)?;
+    Ok(Stm::LocalInt(name, last, block, end, first))
+}
+
+/// The same two names in memory of their own.
+fn two_names(first: &Name, second: &Name) -> Result<(Name, Name), AllocError>
+    ensures { IfOk result (λ x. (name_view x.0 ≡ name_view first.now) × (name_view x.1 ≡ name_view second.now)) }
+{
+    let first = first.copy()?;
+    Ok((first, second.copy()?))
+}
+
+/// The same two expressions in memory of their own.
+fn two_exps(alloc: Global, first: &Exp, second: &Exp) -> Result<(Exp, Exp), AllocError>
+    ensures { IfOk result (λ x. (exp_view x.0 ≡ exp_view first.now) × (exp_view x.1 ≡ exp_view second.now)) }
+{
+    let first = first.copy(alloc)?;
+    Ok((first, second.copy(alloc)?))
+}
+
+/// The procedure's name and the arguments of a call in memory of their own.
+fn same_call(
+    alloc: Global,
+    called: &Name,
+    arguments: &[Name],
+) -> Result<(Name, Vec<Name>), AllocError>
+    ensures { IfOk result (λ x. (name_view x.0 ≡ name_view called.now) × (names_view x.1.items ≡ names_view arguments.now)) }
+{
+    let arguments = same_names(alloc, arguments)?;
+    Ok((called.copy()?, arguments))
 }

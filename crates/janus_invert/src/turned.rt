@@ -9,7 +9,7 @@ ghost use Rattle.janus_invert.specs.CodeBlock.{code_block};
 ghost use Rattle.janus_invert.specs.Longer.{IsLonger};
 
 use crate::code::{Block, Code, Statement};
-use crate::expression::{copies, copy};
+use crate::expression::{call_copies, copy, two_copies, two_symbol_copies};
 use crate::fault::InvertFault;
 use crate::inverse::opposite;
 use std::alloc::{AllocError, Global};
@@ -64,46 +64,46 @@ fn inverse_one(
         }
         Statement::AssignElement(name, index, update, exp) => {
             let name = name.copy()?;
-            let index = copy(alloc, index)?;
-            Ok(Statement::AssignElement(name, index, opposite(*update), copy(alloc, exp)?))
+            let (index, exp) = two_copies(alloc, index, exp)?;
+            Ok(Statement::AssignElement(name, index, opposite(*update), exp))
         }
         Statement::Push(variable, stack) => {
-            let variable = variable.copy()?;
-            Ok(Statement::Pop(variable, stack.copy()?))
+            let (variable, stack) = two_symbol_copies(variable, stack)?;
+            Ok(Statement::Pop(variable, stack))
         }
         Statement::Pop(variable, stack) => {
-            let variable = variable.copy()?;
-            Ok(Statement::Push(variable, stack.copy()?))
+            let (variable, stack) = two_symbol_copies(variable, stack)?;
+            Ok(Statement::Push(variable, stack))
         }
         Statement::If(test, then_part, else_part, last) => {
             let then_part = backward(members, *then_part, others)?;
             let else_part = backward(members, *else_part, others)?;
-            let test = copy(alloc, test)?;
-            Ok(Statement::If(copy(alloc, last)?, then_part, else_part, test))
+            let (test, last) = two_copies(alloc, test, last)?;
+            Ok(Statement::If(last, then_part, else_part, test))
         }
         Statement::Loop(entry, do_part, loop_part, exit) => {
             let do_part = backward(members, *do_part, others)?;
             let loop_part = backward(members, *loop_part, others)?;
-            let entry = copy(alloc, entry)?;
-            Ok(Statement::Loop(copy(alloc, exit)?, do_part, loop_part, entry))
+            let (entry, exit) = two_copies(alloc, entry, exit)?;
+            Ok(Statement::Loop(exit, do_part, loop_part, entry))
         }
         Statement::LocalInt(name, first, block, last) => {
             let block = backward(members, *block, others)?;
             let name = name.copy()?;
-            let first = copy(alloc, first)?;
-            Ok(Statement::LocalInt(name, copy(alloc, last)?, block, first))
+            let (first, last) = two_copies(alloc, first, last)?;
+            Ok(Statement::LocalInt(name, last, block, first))
         }
         Statement::LocalStack(name, block) => {
             let block = backward(members, *block, others)?;
             Ok(Statement::LocalStack(name.copy()?, block))
         }
         Statement::Call(called, arguments) => {
-            let arguments = copies(alloc, arguments)?;
-            Ok(Statement::Uncall(called.copy()?, arguments))
+            let (called, arguments) = call_copies(alloc, called, arguments)?;
+            Ok(Statement::Uncall(called, arguments))
         }
         Statement::Uncall(called, arguments) => {
-            let arguments = copies(alloc, arguments)?;
-            Ok(Statement::Call(called.copy()?, arguments))
+            let (called, arguments) = call_copies(alloc, called, arguments)?;
+            Ok(Statement::Call(called, arguments))
         }
     }
 }

@@ -3,6 +3,7 @@ pub mod Fronts
 pub mod Longest
 pub mod Lexing
 pub mod Locals
+pub mod Constructs
 pub mod Calls
 pub mod Parameters
 pub mod Procedures

@@ -4,18 +4,19 @@ use Rattle.std.specs.Borrow.{Bor}
 use Rattle.janus_syntax.specs.declared.fault.What.TheVariants as what
 use Rattle.janus_syntax.specs.declared.token.Word.{Word}
 use Rattle.janus_syntax.specs.declared.token.Word.TheVariants as word
+use Rattle.janus_syntax.specs.declared.token.Sign.TheVariants as sign
 use Rattle.janus_syntax.specs.declared.token.Token as code_token
 use Rattle.janus_syntax.specs.declared.tree.Name as code_name
 use Rattle.janus_syntax.specs.declared.tree.Kind.{Kind}
 use Rattle.janus_syntax.specs.declared.tree.Stm as code_stm
 use Rattle.janus_syntax.specs.declared.tree.Declaration as code_declaration
 use Rattle.janus_syntax.specs.Tokens.{Token, Name, Word_of, views}
-use Rattle.janus_syntax.specs.Tree.{Name as Named, Stm, If, Loop, Block, Empty, More, Declaration, stm_view, declaration_view}
-use Rattle.janus_syntax.specs.Forms.{Part, Body, Statements, Names, More_names, Declarations, Bound, Whole, Else_part, Do_part, Loop_part, Target_index, An_update, Form, take, part, close}
-use Rattle.janus_syntax.specs.Table.{word_then, call_then, delocal_then, local_int, local_stack, statement, declaration, declared, assignment, skip_block}
+use Rattle.janus_syntax.specs.Tree.{Name as Named, Exp, Stm, If, Loop, Block, Empty, More, Declaration, Cell, cell_of, stm_view, declaration_view}
+use Rattle.janus_syntax.specs.Forms.{Part, Body, Statements, Names, More_names, Declarations, Bound, Whole, Else_part, Do_part, Loop_part, Target_index, A_name, The_word, The_sign, An_update, Form, take, part, close}
+use Rattle.janus_syntax.specs.Table.{word_then, call_then, delocal_then, local_int, local_stack, statement, declaration, declared, assignment, skip_block, is_bare}
 use Rattle.janus_syntax.specs.Grammar.{Count, all, depth_limit, operator_limit, Refusal, Expected}
 use Rattle.janus_syntax.specs.Reader.{Stack, at, run, start, Outcome, Ended, outcome_of, next}
-use Rattle.janus_syntax.specs.Reading.{begun, count, BeginsWith, Stands, Moves, Stops, IsPart, FailsPart}
+use Rattle.janus_syntax.specs.Reading.{begun, count, BeginsWith, TokenGoes, Stands, Moves, Stops, IsPart, FailsPart}
 
 -- ---- statements
 
@@ -51,6 +52,13 @@ pub record FailsStm (depth : ℕ) (from : List Token) (e : Refusal) : Type 0 whe
 abbrev pub IsStmOrOther : ℕ → List Token → Option (code_stm.Stm × Bor (List code_token.Token)) → Type 0
 IsStmOrOther depth from None = is_statement (next from) ≡ false
 IsStmOrOther depth from (Some x) = IsStm depth (stm_view x.0) from (views x.1.now)
+
+-- whether a word begins a construct
+abbrev pub opens_construct : Word → Bool
+opens_construct word.If = true
+opens_construct word.From = true
+opens_construct word.Local = true
+opens_construct _ = false
 
 -- what an `if` and a loop are behind their first word, but for the end of the construct
 abbrev pub if_form : {p : Part} → (Stm → Form p) → Form p
@@ -149,6 +157,21 @@ pub record IsLocalStack (depth : ℕ) (s : Stm) (from rest : List Token) : Type 
 abbrev pub FailsLocalStack : ℕ → List Token → Refusal → Type 0
 FailsLocalStack depth from e = (p : Part) (k : Stm → Form p) → Stops depth (local_stack k) from e
 
+-- a local number up to its statements, and a local stack up to those
+pub record IsIntHead (depth : ℕ) (x : Named) (e : Exp) (from rest : List Token) : Type 0 where
+  pub behind_name : List Token
+  pub behind_sign : List Token
+  pub name : TokenGoes A_name x from behind_name
+  pub equals : TokenGoes (The_sign sign.Equals) tt behind_name behind_sign
+  pub first : IsPart Whole depth e behind_sign rest
+
+pub record IsStackHead (x : Named) (from rest : List Token) : Type 0 where
+  pub behind_name : List Token
+  pub behind_sign : List Token
+  pub name : TokenGoes A_name x from behind_name
+  pub equals : TokenGoes (The_sign sign.Equals) tt behind_name behind_sign
+  pub empty : TokenGoes (The_word word.Nil) tt behind_sign rest
+
 -- ---- blocks
 
 -- statements, and then others
@@ -184,6 +207,23 @@ pub data IsOptional (w : Word) (depth : ℕ) : Block → List Token → List Tok
 
 abbrev pub FailsOptional : Word → ℕ → List Token → Refusal → Type 0
 FailsOptional w depth from e = (behind : List Token) × BeginsWith w from behind × FailsPart Body depth behind e
+
+-- an `if` up to `fi`, and a loop up to `until`
+pub record IsIfBegun (depth : ℕ) (e : Exp) (s t : Block) (from rest : List Token) : Type 0 where
+  pub behind_test : List Token
+  pub behind_then : List Token
+  pub behind_part : List Token
+  pub test : IsPart Whole depth e from behind_test
+  pub then_word : TokenGoes (The_word word.Then) tt behind_test behind_then
+  pub then_part : IsPart Body depth s behind_then behind_part
+  pub else_part : IsOptional word.Else depth t behind_part rest
+
+pub record IsLoopBegun (depth : ℕ) (e : Exp) (s t : Block) (from rest : List Token) : Type 0 where
+  pub behind_test : List Token
+  pub behind_part : List Token
+  pub assertion : IsPart Whole depth e from behind_test
+  pub do_part : IsOptional word.Do depth s behind_test behind_part
+  pub loop_part : IsOptional word.Loop depth t behind_part rest
 
 -- ---- declarations
 
@@ -229,6 +269,16 @@ pub record AtDeclarations (ds : List Declaration) (goal : Part) (out : Outcome g
 pub record AreDeclared (ds : List Declaration) (from rest : List Token) : Type 0 where
   pub goes : (p : Part) (k : List Declaration → Form p) (goal : Part) (S : Stack goal p) (u : ℕ) → u ≤ operator_limit → AtDeclarations ds goal (run all from (at (part Declarations k) S (count 0 u))) rest p k S
   pub shorter : length rest ≤ length from
+
+-- the declarations and the statements of the cell c, which has nothing else; `main` may follow where there are none
+pub record AreFirstParts (main : Bool) (c : Cell) (from rest : List Token) : Type 0 where
+  pub listed : List Declaration
+  pub block : Block
+  pub between : List Token
+  pub declarations : IsPart Declarations 0 listed from between
+  pub statements : IsPart Statements 0 block between rest
+  pub cell : c ≡ cell_of listed block []
+  pub bare : main ≡ is_bare listed block
 
 -- ---- the end
 

@@ -7,7 +7,7 @@ ghost use Rattle.janus_syntax.specs.Tokens.{views};
 ghost use Rattle.janus_syntax.specs.Forms.{A_cell, Whole, Declarations};
 ghost use Rattle.janus_syntax.specs.Grammar.{all, IsTree, IsRefused};
 ghost use Rattle.janus_syntax.specs.Reading.{Reads, IsPart, FailsPart};
-ghost use Rattle.janus_syntax.specs.Statements.{IsDeclarationOrOther, FailsDeclaration, IsBound, FailsBound, AtEnd, Refused};
+ghost use Rattle.janus_syntax.specs.Statements.{IsDeclarationOrOther, FailsDeclaration, IsBound, FailsBound, AreFirstParts, AtEnd, Refused};
 
 use crate::expression::whole_expression;
 use crate::fault::What;
@@ -102,17 +102,25 @@ pub(crate) fn cell(alloc: Global, tokens: &[Token]) -> Result<Cell, Problem>
 fn all_tokens_cell(alloc: Global, tokens: &[Token]) -> Result<Cell, Problem>
     ensures { Reads (λ cell. IsTree A_cell all (cell_view cell) (views tokens.now)) (Refused A_cell (views tokens.now)) result }
 {
+    let (read, main, rest) = first_parts(alloc, tokens)?;
+    let (cell, rest) = procedures(alloc, read, main, rest)?;
+    end(rest)?;
+    Ok(cell)
+}
+
+/// The cell of the declarations and the statements that stand here, whether `main` may follow, and the tokens behind them.
+fn first_parts(alloc: Global, tokens: &[Token]) -> Result<(Cell, bool, &[Token]), Problem>
+    ensures { Reads (λ x. AreFirstParts x.1 (cell_view x.0) (views tokens.now) (views x.2.now)) (Refused A_cell (views tokens.now)) result }
+{
     let (declarations, rest) = declarations(alloc, tokens)?;
     let (statements, rest) = statements(alloc, rest)?;
     let main = is_bare(&declarations, &statements);
-    let read = Cell {
+    let cell = Cell {
         declarations,
         statements,
         procedures: Vec::new(alloc),
     };
-    let (cell, rest) = procedures(alloc, read, main, rest)?;
-    end(rest)?;
-    Ok(cell)
+    Ok((cell, main, rest))
 }
 
 /// The expression that the tokens spell.

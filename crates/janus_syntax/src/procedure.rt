@@ -1,7 +1,8 @@
 //! Procedures, and `main`.
 
-ghost use Rattle.std.specs.Prelude.{◌≡◌, List, IfSome, IfNone};
-ghost use Rattle.janus_syntax.specs.Tree.{name_view, parameter_view, parameters_view, procedure_view, declarations_view, block_view, cell_view};
+ghost use Rattle.std.specs.Prelude.{◌≡◌, List, Bool, IfSome, IfNone};
+ghost use Rattle.janus_syntax.specs.Table.{with_procedure};
+ghost use Rattle.janus_syntax.specs.Tree.{Name as Named, Cell as Tree, procedure_of, name_view, parameter_view, parameters_view, procedure_view, declarations_view, block_view, cell_view};
 ghost use Rattle.janus_syntax.specs.Tokens.{Token as AToken, views};
 ghost use Rattle.janus_syntax.specs.Forms.{Parameters, Procedures, A_procedure};
 ghost use Rattle.janus_syntax.specs.Reading.{Reads, IsPart, FailsPart};
@@ -75,10 +76,7 @@ fn behind_name(
 ) -> Result<(Procedure, &[Token]), Problem>
     ensures { Reads (λ x. IsBehindName (name_view name) (procedure_view x.0) (views tokens.now) (views x.1.now)) (FailsBehindName (name_view name) (views tokens.now)) result }
 {
-    let rest = behind_sign(Sign::Open, tokens)?;
-    let (parameters, rest) = parameters(alloc, rest)?;
-    let rest = behind_sign(Sign::Close, rest)?;
-    let (body, rest) = body(alloc, rest, 0)?;
+    let (parameters, body, rest) = parameters_and_body(alloc, tokens)?;
     Ok((
         Procedure {
             name,
@@ -87,6 +85,34 @@ fn behind_name(
         },
         rest,
     ))
+}
+
+/// The parameters in parentheses and the body behind a procedure's name, and the tokens behind them.
+fn parameters_and_body(
+    alloc: Global,
+    tokens: &[Token],
+) -> Result<(Vec<Parameter>, Vec<Stm>, &[Token]), Problem>
+    ensures { (name : Named) → Reads (λ x. IsBehindName name (procedure_of name (parameters_view x.0.items) (block_view x.1.items)) (views tokens.now) (views x.2.now)) (FailsBehindName name (views tokens.now)) result }
+{
+    let rest = behind_sign(Sign::Open, tokens)?;
+    let (parameters, rest) = parameters(alloc, rest)?;
+    let rest = behind_sign(Sign::Close, rest)?;
+    let (body, rest) = body(alloc, rest, 0)?;
+    Ok((parameters, body, rest))
+}
+
+/// The procedure whose name stands here, where `main` does not, and the tokens behind it.
+fn named_procedure(alloc: Global, tokens: &[Token]) -> Result<(Procedure, &[Token]), Problem>
+    ensures { (main : Bool) (cell : Tree) → ((behind : List AToken) → IsMain main (views tokens.now) behind → ⊥) → Reads (λ x. IsNext main cell main (with_procedure cell (procedure_view x.0)) (views tokens.now) (views x.1.now)) (FailsPart (A_procedure main cell) 0 (views tokens.now)) result }
+{
+    let Some((name, rest)) = name_at(tokens)? else {
+        return Err(Problem::Expected {
+            what: What::Name,
+            left: tokens.len(),
+        });
+    };
+    let (procedure, rest) = behind_name(alloc, name, rest)?;
+    Ok((procedure, rest))
 }
 
 /// The declarations and the statements of `main`, behind that word, and the tokens behind them.
@@ -134,13 +160,7 @@ fn next_procedure(
         };
         return Ok((whole, false, rest));
     }
-    let Some((name, rest)) = name_at(tokens)? else {
-        return Err(Problem::Expected {
-            what: What::Name,
-            left: tokens.len(),
-        });
-    };
-    let (procedure, rest) = behind_name(alloc, name, rest)?;
+    let (procedure, rest) = named_procedure(alloc, tokens)?;
     let mut whole = cell;
     whole.procedures.push(procedure)?;
     Ok((whole, main, rest))

@@ -1,12 +1,13 @@
 //! Statements and blocks.
 
-ghost use Rattle.std.specs.Prelude.{◌≡◌, ◌≤◌};
-ghost use Rattle.janus_syntax.specs.Tree.{name_view, stm_view, block_view};
-ghost use Rattle.janus_syntax.specs.Tokens.{views};
+ghost use Rattle.std.specs.Prelude.{◌≡◌, ◌<◌, ◌≤◌, ℕ, List, ◌∷◌, true, false};
+ghost use Rattle.janus_syntax.specs.declared.token.Span.{Span};
+ghost use Rattle.janus_syntax.specs.Tree.{name_view, exp_view, stm_view, block_view};
+ghost use Rattle.janus_syntax.specs.Tokens.{Token as AToken, Word_of, views};
 ghost use Rattle.janus_syntax.specs.Forms.{Body, Local, Statements};
 ghost use Rattle.janus_syntax.specs.Grammar.{depth_limit};
 ghost use Rattle.janus_syntax.specs.Reading.{Reads, IsPart, FailsPart};
-ghost use Rattle.janus_syntax.specs.Statements.{IsStmOrOther, FailsStm, IsAssignment, FailsAssignment, IsIf, FailsIf, IsLoop, FailsLoop, IsLocalInt, FailsLocalInt, IsLocalStack, FailsLocalStack, AreStatements, IsOptional, FailsOptional};
+ghost use Rattle.janus_syntax.specs.Statements.{IsStmOrOther, FailsStm, IsAssignment, FailsAssignment, IsIf, FailsIf, IsLoop, FailsLoop, IsLocalInt, FailsLocalInt, IsLocalStack, FailsLocalStack, opens_construct, IsStm, IsIfBegun, IsLoopBegun, IsIntHead, IsStackHead, AreStatements, IsOptional, FailsOptional};
 
 use crate::call::call;
 use crate::expression::{DEPTH_LIMIT, whole_expression};
@@ -16,7 +17,7 @@ use crate::item::{
 };
 use crate::problem::Problem;
 use crate::token::{Sign, Token, TokenKind, Word};
-use crate::tree::{Kind, Name, Stm};
+use crate::tree::{Exp, Kind, Name, Stm};
 use std::alloc::Global;
 
 /// A statement and the tokens behind it, if one begins here, with `depth` constructs open before it.
@@ -41,47 +42,77 @@ fn statement(
             let (stm, rest) = assignment(alloc, name, rest, depth)?;
             Ok(Some((stm, rest)))
         }
-        TokenKind::Word(word) => match word {
-            Word::Skip => Ok(Some((Stm::Skip, rest))),
-            Word::Push => {
-                let (variable, stack, rest) = variable_and_stack(rest)?;
-                Ok(Some((Stm::Push(variable, stack), rest)))
-            }
-            Word::Pop => {
-                let (variable, stack, rest) = variable_and_stack(rest)?;
-                Ok(Some((Stm::Pop(variable, stack), rest)))
-            }
-            Word::If => {
+        TokenKind::Word(word) => {
+            if opens_construct(*word) {
                 if depth == DEPTH_LIMIT {
                     return Err(Problem::TooNested { left: tokens.len() });
                 }
-                let (stm, rest) = behind_if(alloc, rest, depth + 1)?;
+                let (stm, rest) = construct(alloc, *word, rest, depth)?;
                 Ok(Some((stm, rest)))
+            } else {
+                plain_statement(alloc, *word, rest)
             }
-            Word::From => {
-                if depth == DEPTH_LIMIT {
-                    return Err(Problem::TooNested { left: tokens.len() });
-                }
-                let (stm, rest) = behind_from(alloc, rest, depth + 1)?;
-                Ok(Some((stm, rest)))
-            }
-            Word::Call => {
-                let (procedure, arguments, rest) = call(alloc, rest)?;
-                Ok(Some((Stm::Call(procedure, arguments), rest)))
-            }
-            Word::Uncall => {
-                let (procedure, arguments, rest) = call(alloc, rest)?;
-                Ok(Some((Stm::Uncall(procedure, arguments), rest)))
-            }
-            Word::Local => {
-                if depth == DEPTH_LIMIT {
-                    return Err(Problem::TooNested { left: tokens.len() });
-                }
-                let (stm, rest) = behind_local(alloc, rest, depth + 1)?;
-                Ok(Some((stm, rest)))
-            }
-            _ => Ok(None),
-        },
+        }
+        _ => Ok(None),
+    }
+}
+
+/// Whether a word begins a construct.
+fn opens_construct(word: Word) -> bool
+    ensures { result ≡ opens_construct word }
+{
+    match word {
+        Word::If | Word::From | Word::Local => true,
+        _ => false,
+    }
+}
+
+/// The construct that this word begins, behind that word, with `depth` constructs open before it, and the tokens behind it.
+#[cycle(statement)]
+fn construct(
+    alloc: Global,
+    word: Word,
+    tokens: &[Token],
+    depth: usize,
+) -> Result<(Stm, &[Token]), Problem>
+    requires opens { opens_construct word ≡ true }
+    requires room { depth < depth_limit }
+    ensures { (place : Span) → Reads (λ x. IsStm depth (stm_view x.0) (Word_of word place ∷ views tokens.now) (views x.1.now)) (FailsStm depth (Word_of word place ∷ views tokens.now)) result }
+{
+    match word {
+        Word::If => behind_if(alloc, tokens, depth + 1),
+        Word::From => behind_from(alloc, tokens, depth + 1),
+        _ => behind_local(alloc, tokens, depth + 1),
+    }
+}
+
+/// The statement that this word begins, behind that word, and the tokens behind it, where it is no construct; or none begins.
+fn plain_statement(
+    alloc: Global,
+    word: Word,
+    tokens: &[Token],
+) -> Result<Option<(Stm, &[Token])>, Problem>
+    requires { opens_construct word ≡ false }
+    ensures { (depth : ℕ) (place : Span) → depth ≤ depth_limit → Reads (IsStmOrOther depth (Word_of word place ∷ views tokens.now)) (FailsStm depth (Word_of word place ∷ views tokens.now)) result }
+{
+    match word {
+        Word::Skip => Ok(Some((Stm::Skip, tokens))),
+        Word::Push => {
+            let (variable, stack, rest) = variable_and_stack(tokens)?;
+            Ok(Some((Stm::Push(variable, stack), rest)))
+        }
+        Word::Pop => {
+            let (variable, stack, rest) = variable_and_stack(tokens)?;
+            Ok(Some((Stm::Pop(variable, stack), rest)))
+        }
+        Word::Call => {
+            let (procedure, arguments, rest) = call(alloc, tokens)?;
+            Ok(Some((Stm::Call(procedure, arguments), rest)))
+        }
+        Word::Uncall => {
+            let (procedure, arguments, rest) = call(alloc, tokens)?;
+            Ok(Some((Stm::Uncall(procedure, arguments), rest)))
+        }
         _ => Ok(None),
     }
 }
@@ -121,7 +152,22 @@ fn behind_if(alloc: Global, tokens: &[Token], depth: usize) -> Result<(Stm, &[To
     let rest = behind_word(Word::Then, rest)?;
     let (then_part, rest) = body(alloc, rest, depth)?;
     let (else_part, rest) = optional_body(alloc, Word::Else, rest, depth)?;
-    let rest = behind_word(Word::Fi, rest)?;
+    end_of_if(alloc, test, then_part, else_part, rest, depth)
+}
+
+/// An `if` of this test and these parts, behind them, and the tokens behind it.
+fn end_of_if(
+    alloc: Global,
+    test: Exp,
+    then_part: Vec<Stm>,
+    else_part: Vec<Stm>,
+    tokens: &[Token],
+    depth: usize,
+) -> Result<(Stm, &[Token]), Problem>
+    requires { depth ≤ depth_limit }
+    ensures { (from : List AToken) → IsIfBegun depth (exp_view test) (block_view then_part.items) (block_view else_part.items) from (views tokens.now) → Reads (λ x. IsIf depth (stm_view x.0) from (views x.1.now)) (FailsIf depth from) result }
+{
+    let rest = behind_word(Word::Fi, tokens)?;
     let (assertion, rest) = whole_expression(alloc, rest, depth)?;
     Ok((Stm::If(test, then_part, else_part, assertion), rest))
 }
@@ -135,7 +181,22 @@ fn behind_from(alloc: Global, tokens: &[Token], depth: usize) -> Result<(Stm, &[
     let (assertion, rest) = whole_expression(alloc, tokens, depth)?;
     let (do_part, rest) = optional_body(alloc, Word::Do, rest, depth)?;
     let (loop_part, rest) = optional_body(alloc, Word::Loop, rest, depth)?;
-    let rest = behind_word(Word::Until, rest)?;
+    end_of_loop(alloc, assertion, do_part, loop_part, rest, depth)
+}
+
+/// A loop of this assertion and these parts, behind them, and the tokens behind it.
+fn end_of_loop(
+    alloc: Global,
+    assertion: Exp,
+    do_part: Vec<Stm>,
+    loop_part: Vec<Stm>,
+    tokens: &[Token],
+    depth: usize,
+) -> Result<(Stm, &[Token]), Problem>
+    requires { depth ≤ depth_limit }
+    ensures { (from : List AToken) → IsLoopBegun depth (exp_view assertion) (block_view do_part.items) (block_view loop_part.items) from (views tokens.now) → Reads (λ x. IsLoop depth (stm_view x.0) from (views x.1.now)) (FailsLoop depth from) result }
+{
+    let rest = behind_word(Word::Until, tokens)?;
     let (test, rest) = whole_expression(alloc, rest, depth)?;
     Ok((Stm::Loop(assertion, do_part, loop_part, test), rest))
 }
@@ -166,11 +227,39 @@ fn local_int(alloc: Global, tokens: &[Token], depth: usize) -> Result<(Stm, &[To
     requires { depth ≤ depth_limit }
     ensures { Reads (λ x. IsLocalInt depth (stm_view x.0) (views tokens.now) (views x.1.now)) (FailsLocalInt depth (views tokens.now)) result }
 {
+    let (name, exp, rest) = head_of_int(alloc, tokens, depth)?;
+    let (statements, rest) = body(alloc, rest, depth)?;
+    end_of_int(alloc, name, exp, statements, rest, depth)
+}
+
+/// The name of a local number and what it begins with, and the tokens behind them.
+fn head_of_int(
+    alloc: Global,
+    tokens: &[Token],
+    depth: usize,
+) -> Result<(Name, Exp, &[Token]), Problem>
+    requires { depth ≤ depth_limit }
+    ensures { Reads (λ x. IsIntHead depth (name_view x.0) (exp_view x.1) (views tokens.now) (views x.2.now)) (FailsLocalInt depth (views tokens.now)) result }
+{
     let (name, rest) = name(tokens)?;
     let rest = behind_sign(Sign::Equals, rest)?;
     let (exp, rest) = whole_expression(alloc, rest, depth)?;
-    let (statements, rest) = body(alloc, rest, depth)?;
-    let (again, rest) = behind_delocal(Kind::Int, &name, rest)?;
+    Ok((name, exp, rest))
+}
+
+/// A local number of this head and these statements, behind them, and the tokens behind it.
+fn end_of_int(
+    alloc: Global,
+    name: Name,
+    exp: Exp,
+    statements: Vec<Stm>,
+    tokens: &[Token],
+    depth: usize,
+) -> Result<(Stm, &[Token]), Problem>
+    requires { depth ≤ depth_limit }
+    ensures { (from start : List AToken) → IsIntHead depth (name_view name) (exp_view exp) from start → IsPart Body depth (block_view statements.items) start (views tokens.now) → Reads (λ x. IsLocalInt depth (stm_view x.0) from (views x.1.now)) (FailsLocalInt depth from) result }
+{
+    let (again, rest) = behind_delocal(Kind::Int, &name, tokens)?;
     let (test, rest) = whole_expression(alloc, rest, depth)?;
     Ok((Stm::LocalInt(name, exp, statements, again, test), rest))
 }
@@ -181,11 +270,30 @@ fn local_stack(alloc: Global, tokens: &[Token], depth: usize) -> Result<(Stm, &[
     requires { depth ≤ depth_limit }
     ensures { Reads (λ x. IsLocalStack depth (stm_view x.0) (views tokens.now) (views x.1.now)) (FailsLocalStack depth (views tokens.now)) result }
 {
+    let (name, rest) = head_of_stack(tokens)?;
+    let (statements, rest) = body(alloc, rest, depth)?;
+    end_of_stack(name, statements, rest)
+}
+
+/// The name of a local stack, behind which stands `= nil`, and the tokens behind them.
+fn head_of_stack(tokens: &[Token]) -> Result<(Name, &[Token]), Problem>
+    ensures { (depth : ℕ) → Reads (λ x. IsStackHead (name_view x.0) (views tokens.now) (views x.1.now)) (FailsLocalStack depth (views tokens.now)) result }
+{
     let (name, rest) = name(tokens)?;
     let rest = behind_sign(Sign::Equals, rest)?;
     let rest = behind_word(Word::Nil, rest)?;
-    let (statements, rest) = body(alloc, rest, depth)?;
-    let (again, rest) = behind_delocal(Kind::Stack, &name, rest)?;
+    Ok((name, rest))
+}
+
+/// A local stack of this name and these statements, behind them, and the tokens behind it.
+fn end_of_stack(
+    name: Name,
+    statements: Vec<Stm>,
+    tokens: &[Token],
+) -> Result<(Stm, &[Token]), Problem>
+    ensures { (depth : ℕ) (from start : List AToken) → IsStackHead (name_view name) from start → IsPart Body depth (block_view statements.items) start (views tokens.now) → Reads (λ x. IsLocalStack depth (stm_view x.0) from (views x.1.now)) (FailsLocalStack depth from) result }
+{
+    let (again, rest) = behind_delocal(Kind::Stack, &name, tokens)?;
     let rest = behind_word(Word::Nil, rest)?;
     Ok((Stm::LocalStack(name, statements, again), rest))
 }

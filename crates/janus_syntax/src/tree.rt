@@ -66,6 +66,7 @@ pub enum Exp {
 
 impl Exp {
     /// The same expression, at the same places, in memory of its own; an error for want of memory.
+    #[cycle(copy)]
     pub fn copy(&self, alloc: Global) -> Result<Exp, AllocError>
         ensures { IfOk result (λ copy. exp_view copy ≡ exp_view self.now) }
     {
@@ -73,32 +74,34 @@ impl Exp {
             Exp::Number(number, span) => Ok(Exp::Number(*number, *span)),
             Exp::Variable(name) => Ok(Exp::Variable(name.copy()?)),
             Exp::Element(name, index) => {
-                let name = name.copy()?;
-                let index = index.copy(alloc)?;
-                Ok(Exp::Element(name, Box::new(alloc, index)?))
+                let index = index.boxed_copy(alloc)?;
+                Ok(Exp::Element(name.copy()?, index))
             }
             Exp::Empty(name) => Ok(Exp::Empty(name.copy()?)),
             Exp::Top(name) => Ok(Exp::Top(name.copy()?)),
-            Exp::Negative(operand) => {
-                let operand = operand.copy(alloc)?;
-                Ok(Exp::Negative(Box::new(alloc, operand)?))
-            }
+            Exp::Negative(operand) => Ok(Exp::Negative(operand.boxed_copy(alloc)?)),
             Exp::Binary(operator, left, right) => {
-                let left = left.copy(alloc)?;
-                let right = right.copy(alloc)?;
-                Ok(Exp::Binary(*operator, Box::new(alloc, left)?, Box::new(alloc, right)?))
+                let left = left.boxed_copy(alloc)?;
+                Ok(Exp::Binary(*operator, left, right.boxed_copy(alloc)?))
             }
             Exp::And(left, right) => {
-                let left = left.copy(alloc)?;
-                let right = right.copy(alloc)?;
-                Ok(Exp::And(Box::new(alloc, left)?, Box::new(alloc, right)?))
+                let left = left.boxed_copy(alloc)?;
+                Ok(Exp::And(left, right.boxed_copy(alloc)?))
             }
             Exp::Or(left, right) => {
-                let left = left.copy(alloc)?;
-                let right = right.copy(alloc)?;
-                Ok(Exp::Or(Box::new(alloc, left)?, Box::new(alloc, right)?))
+                let left = left.boxed_copy(alloc)?;
+                Ok(Exp::Or(left, right.boxed_copy(alloc)?))
             }
         }
+    }
+
+    /// The copy of a part.
+    #[cycle(copy)]
+    fn boxed_copy(&self, alloc: Global) -> Result<Box<Exp>, AllocError>
+        ensures { IfOk result (λ copy. exp_view copy.value ≡ exp_view self.now) }
+    {
+        let copy = self.copy(alloc)?;
+        Ok(Box::new(alloc, copy)?)
     }
 }
 

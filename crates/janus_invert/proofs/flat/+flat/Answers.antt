@@ -23,26 +23,26 @@ flat_block-returns-clause-block t c =
     ∙ v.trees j s (omega (arith, slice_get_within c.args.block.now j s e)) e) in
     if_ok c.add_block.result (λ b e. e ∙ row) c.add_block.ensures.block
 
-pub flat_statement-returns-in_ok-else_part-in-If-clause-tree : goal.flat_statement-returns-in_ok-else_part-in-If-clause-tree
-flat_statement-returns-in_ok-else_part-in-If-clause-tree t c =
+pub flat_statement-returns-in_ok-test-in-If-clause-tree : goal.flat_statement-returns-in_ok-test-in-If-clause-tree
+flat_statement-returns-in_ok-test-in-If-clause-tree t c =
     let d = c.flat_block.new.draft in
     let e = c.flat_block-in-If.new.draft in
     let kept = block_grown d.members.items e.members.items d.statements.items e.statements.items c.in_ok-then_part-in-If.then_part c.in_ok-else_part-in-If.ensures.grows c.in_ok-then_part-in-If.ensures.below in
     if_ok c.add-in-If.result (λ n h.
-    h ∙ if_flat c.in-If.test c.in-If.last c.in_ok-test-in-If.test c.in_ok-last-in-If.last c.in-If.then_part c.in-If.else_part _ _
-    c.in_ok-test-in-If.ensures.tree c.in_ok-last-in-If.ensures.tree
+    h ∙ if_flat c.in-If.test c.in-If.last c.in_ok-test-in-If.test c.in_ok-test-in-If.last c.in-If.then_part c.in-If.else_part _ _
+    c.in_ok-test-in-If.ensures.trees.0 c.in_ok-test-in-If.ensures.trees.1
     (kept.0 ∙ c.in_ok-then_part-in-If.ensures.block ∙ ap block_of c.deref.ensures.value)
     (c.in_ok-else_part-in-If.ensures.block ∙ ap block_of c.deref-in-If.ensures.value)
     ∙ ap stm_of (sym c.in-If.is)) c.add-in-If.ensures.tree
 
-pub flat_statement-returns-in_ok-loop_part-in-Loop-clause-tree : goal.flat_statement-returns-in_ok-loop_part-in-Loop-clause-tree
-flat_statement-returns-in_ok-loop_part-in-Loop-clause-tree t c =
+pub flat_statement-returns-in_ok-entry-in-Loop-clause-tree : goal.flat_statement-returns-in_ok-entry-in-Loop-clause-tree
+flat_statement-returns-in_ok-entry-in-Loop-clause-tree t c =
     let d = c.flat_block-in-Loop.new.draft in
     let e = c.flat_block-in-Loop-2.new.draft in
     let kept = block_grown d.members.items e.members.items d.statements.items e.statements.items c.in_ok-do_part-in-Loop.do_part c.in_ok-loop_part-in-Loop.ensures.grows c.in_ok-do_part-in-Loop.ensures.below in
     if_ok c.add-in-Loop.result (λ n h.
-    h ∙ loop_flat c.in-Loop.entry c.in-Loop.exit c.in_ok-entry-in-Loop.entry c.in_ok-exit-in-Loop.exit c.in-Loop.do_part c.in-Loop.loop_part _ _
-    c.in_ok-entry-in-Loop.ensures.tree c.in_ok-exit-in-Loop.ensures.tree
+    h ∙ loop_flat c.in-Loop.entry c.in-Loop.exit c.in_ok-entry-in-Loop.entry c.in_ok-entry-in-Loop.exit c.in-Loop.do_part c.in-Loop.loop_part _ _
+    c.in_ok-entry-in-Loop.ensures.trees.0 c.in_ok-entry-in-Loop.ensures.trees.1
     (kept.0 ∙ c.in_ok-do_part-in-Loop.ensures.block ∙ ap block_of c.deref-in-Loop.ensures.value)
     (c.in_ok-loop_part-in-Loop.ensures.block ∙ ap block_of c.deref-in-Loop-2.ensures.value)
     ∙ ap stm_of (sym c.in-Loop.is)) c.add-in-Loop.ensures.tree
@@ -51,13 +51,13 @@ pub flat_block-returns-clause-numbered : goal.flat_block-returns-clause-numbered
 flat_block-returns-clause-numbered t c =
     always_ok c.add_block.result (λ b p. subst (HaveNumbers c.args.names.now) (sym c.add_block.ensures.statements) (c.loop-i.invariant.numbered p))
 
-pub flat_statement-returns-in_ok-else_part-in-If-clause-numbered : goal.flat_statement-returns-in_ok-else_part-in-If-clause-numbered
-flat_statement-returns-in_ok-else_part-in-If-clause-numbered t c =
-    if_ok c.add-in-If.result (λ n h p. h c.args.names.now (c.in_ok-else_part-in-If.ensures.numbered (c.in_ok-then_part-in-If.ensures.numbered p)) (c.in_ok-test-in-If.ensures.numbered, c.in_ok-last-in-If.ensures.numbered)) c.add-in-If.ensures.numbered
+pub flat_statement-returns-in_ok-test-in-If-clause-numbered : goal.flat_statement-returns-in_ok-test-in-If-clause-numbered
+flat_statement-returns-in_ok-test-in-If-clause-numbered t c =
+    if_ok c.add-in-If.result (λ n h p. h c.args.names.now (c.in_ok-else_part-in-If.ensures.numbered (c.in_ok-then_part-in-If.ensures.numbered p)) c.in_ok-test-in-If.ensures.numbered) c.add-in-If.ensures.numbered
 
-pub flat_statement-returns-in_ok-loop_part-in-Loop-clause-numbered : goal.flat_statement-returns-in_ok-loop_part-in-Loop-clause-numbered
-flat_statement-returns-in_ok-loop_part-in-Loop-clause-numbered t c =
-    if_ok c.add-in-Loop.result (λ n h p. h c.args.names.now (c.in_ok-loop_part-in-Loop.ensures.numbered (c.in_ok-do_part-in-Loop.ensures.numbered p)) (c.in_ok-entry-in-Loop.ensures.numbered, c.in_ok-exit-in-Loop.ensures.numbered)) c.add-in-Loop.ensures.numbered
+pub flat_statement-returns-in_ok-entry-in-Loop-clause-numbered : goal.flat_statement-returns-in_ok-entry-in-Loop-clause-numbered
+flat_statement-returns-in_ok-entry-in-Loop-clause-numbered t c =
+    if_ok c.add-in-Loop.result (λ n h p. h c.args.names.now (c.in_ok-loop_part-in-Loop.ensures.numbered (c.in_ok-do_part-in-Loop.ensures.numbered p)) c.in_ok-entry-in-Loop.ensures.numbered) c.add-in-Loop.ensures.numbered
 
 pub flat_block-flat_statement-requires : goal.flat_block-flat_statement-requires
 flat_block-flat_statement-requires t c =
@@ -123,26 +123,26 @@ flat_statement-flat_block-requires-in-LocalStack t c =
     let same = c.deref-in-LocalStack.ensures.value in
     (omega (arith, c.decreases, part.lighter, ap (λ ss. block_weight (block_of ss)) same), subst (λ ss. MeetsBlk c.args.names.now (block_of ss)) (sym same) part.block)
 
-pub flat_statement-returns-in_ok-block-in-LocalInt-clause-tree : goal.flat_statement-returns-in_ok-block-in-LocalInt-clause-tree
-flat_statement-returns-in_ok-block-in-LocalInt-clause-tree t c =
+pub flat_statement-returns-in_ok-first-in-LocalInt-clause-tree : goal.flat_statement-returns-in_ok-first-in-LocalInt-clause-tree
+flat_statement-returns-in_ok-first-in-LocalInt-clause-tree t c =
     if_ok c.add-in-LocalInt.result (λ n h.
-    h ∙ local_int_flat c.in-LocalInt.name c.in-LocalInt.field-3 c.in-LocalInt.first c.in-LocalInt.last _ c.in_ok-first-in-LocalInt.first c.in_ok-last-in-LocalInt.last c.in-LocalInt.block _
-    c.in_ok-name-in-LocalInt.ensures.text c.in_ok-first-in-LocalInt.ensures.tree c.in_ok-last-in-LocalInt.ensures.tree
+    h ∙ local_int_flat c.in-LocalInt.name c.in-LocalInt.field-3 c.in-LocalInt.first c.in-LocalInt.last _ c.in_ok-first-in-LocalInt.first c.in_ok-first-in-LocalInt.last c.in-LocalInt.block _
+    c.in_ok-name-in-LocalInt.ensures.text c.in_ok-first-in-LocalInt.ensures.trees.0 c.in_ok-first-in-LocalInt.ensures.trees.1
     (c.in_ok-block-in-LocalInt.ensures.block ∙ ap block_of c.deref-in-LocalInt.ensures.value)
     ∙ ap stm_of (sym c.in-LocalInt.is)) c.add-in-LocalInt.ensures.tree
 
-pub flat_statement-returns-in_ok-block-in-LocalStack-clause-tree : goal.flat_statement-returns-in_ok-block-in-LocalStack-clause-tree
-flat_statement-returns-in_ok-block-in-LocalStack-clause-tree t c =
+pub flat_statement-returns-in_ok-name-in-LocalStack-clause-tree : goal.flat_statement-returns-in_ok-name-in-LocalStack-clause-tree
+flat_statement-returns-in_ok-name-in-LocalStack-clause-tree t c =
     if_ok c.add-in-LocalStack.result (λ n h.
     h ∙ local_stack_flat c.in-LocalStack.name c.in-LocalStack.field-2 _ c.in-LocalStack.block _
     c.in_ok-name-in-LocalStack.ensures.text
     (c.in_ok-block-in-LocalStack.ensures.block ∙ ap block_of c.deref-in-LocalStack.ensures.value)
     ∙ ap stm_of (sym c.in-LocalStack.is)) c.add-in-LocalStack.ensures.tree
 
-pub flat_statement-returns-in_ok-block-in-LocalInt-clause-numbered : goal.flat_statement-returns-in_ok-block-in-LocalInt-clause-numbered
-flat_statement-returns-in_ok-block-in-LocalInt-clause-numbered t c =
-    if_ok c.add-in-LocalInt.result (λ n h p. h c.args.names.now (c.in_ok-block-in-LocalInt.ensures.numbered p) (c.in_ok-name-in-LocalInt.ensures.numbered, c.in_ok-first-in-LocalInt.ensures.numbered, c.in_ok-last-in-LocalInt.ensures.numbered)) c.add-in-LocalInt.ensures.numbered
+pub flat_statement-returns-in_ok-first-in-LocalInt-clause-numbered : goal.flat_statement-returns-in_ok-first-in-LocalInt-clause-numbered
+flat_statement-returns-in_ok-first-in-LocalInt-clause-numbered t c =
+    if_ok c.add-in-LocalInt.result (λ n h p. h c.args.names.now (c.in_ok-block-in-LocalInt.ensures.numbered p) (c.in_ok-name-in-LocalInt.ensures.numbered, c.in_ok-first-in-LocalInt.ensures.numbered.0, c.in_ok-first-in-LocalInt.ensures.numbered.1)) c.add-in-LocalInt.ensures.numbered
 
-pub flat_statement-returns-in_ok-block-in-LocalStack-clause-numbered : goal.flat_statement-returns-in_ok-block-in-LocalStack-clause-numbered
-flat_statement-returns-in_ok-block-in-LocalStack-clause-numbered t c =
+pub flat_statement-returns-in_ok-name-in-LocalStack-clause-numbered : goal.flat_statement-returns-in_ok-name-in-LocalStack-clause-numbered
+flat_statement-returns-in_ok-name-in-LocalStack-clause-numbered t c =
     if_ok c.add-in-LocalStack.result (λ n h p. h c.args.names.now (c.in_ok-block-in-LocalStack.ensures.numbered p) c.in_ok-name-in-LocalStack.ensures.numbered) c.add-in-LocalStack.ensures.numbered

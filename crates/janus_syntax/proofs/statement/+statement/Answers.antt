@@ -1,7 +1,6 @@
-use Rattle.std.proofs.Common.{arith, sym, subst, ap, ◌∙◌}
+use Rattle.std.proofs.Common.{arith, sym, subst}
 use Rattle.std.proofs.lemmas.List.{length-map}
 use Rattle.std.proofs.lemmas.Result.{err_from_is_err_and}
-use Rattle.janus_syntax.specs.declared.token.Word.TheVariants as word
 use Rattle.janus_syntax.specs.declared.token.TokenKind.TheVariants as kinds
 use Rattle.janus_syntax.specs.Tree.{named, stm_view, block_view}
 use Rattle.janus_syntax.specs.Tokens.{views, token_view}
@@ -9,14 +8,13 @@ use Rattle.janus_syntax.specs.declared.fault.What.TheVariants as what
 use Rattle.janus_syntax.specs.Forms.{Local}
 use Rattle.janus_syntax.specs.Grammar.{Expected}
 use Rattle.janus_syntax.specs.Reading.{FailsPart}
-use Rattle.janus_syntax.specs.Statements.{IsStmOrOther, FailsStm, IsAssignment, FailsAssignment, IsIf, IsLoop, IsLocalInt, IsLocalStack, left}
-use Rattle.janus_syntax.proofs.Views.{view_if, view_loop, view_local_int, view_local_stack}
+use Rattle.janus_syntax.specs.Statements.{IsStmOrOther, FailsStm, IsAssignment, FailsAssignment, left}
 use Rattle.janus_syntax.proofs.Steps.{first_token, passes_on}
-use Rattle.janus_syntax.proofs.StatementSteps.{if_is, if_stops_then, if_stops_body, if_stops_else, if_stops_fi, if_stops_end, from_is, from_stops_do, from_stops_loop, from_stops_until, from_stops_end}
-use Rattle.janus_syntax.proofs.Assignments.{name_begins, name_stops, skip_is, push_is, pop_is, if_begins, from_begins}
+use Rattle.janus_syntax.proofs.StatementSteps.{if_stops_then, if_stops_body, if_stops_else, from_stops_do, from_stops_loop}
+use Rattle.janus_syntax.proofs.Assignments.{name_begins, name_stops}
 use Rattle.janus_syntax.proofs.Blocks.{view_push, so_far_begins, so_far_goes_on, so_far_fails, so_far_ends, body_stops_first, body_result, optional_result}
-use Rattle.janus_syntax.proofs.Locals.{int_is, int_stops_name, int_stops_equals, int_stops_first, int_stops_body, int_stops_delocal, int_stops_last, stack_is, stack_stops_name, stack_stops_equals, stack_stops_nil, stack_stops_body, stack_stops_delocal, stack_stops_last, local_int_is, local_int_stops, local_stack_is, local_stack_stops, kind_is_wanted, local_begins}
-use Rattle.janus_syntax.proofs.Calls.{call_begins, uncall_begins}
+use Rattle.janus_syntax.proofs.Locals.{int_stops_body, stack_stops_body, local_int_is, local_int_stops, local_stack_is, local_stack_stops, kind_is_wanted}
+use Rattle.janus_syntax.proofs.Constructs.{if_result, from_result, local_result, is_local}
 use Rattle.janus_syntax.proofs.statement.+statement.Goals as goal
 
 pub behind_if-returns-in_err-rest : goal.behind_if-returns-in_err-rest
@@ -34,20 +32,10 @@ behind_if-returns-in_err-else_part t c =
     let p = err_from_is_err_and c.from_residual-in_err-else_part.result c.from_residual-in_err-else_part.ensures.1 in
     rw (p.1, p.2) (passes_on _ _ c.in_err-else_part.field-0.0 c.in_err-else_part.ensures (λ out f. if_stops_else c.args.depth c.requires out c.in_ok-test.ensures c.in_ok-rest.ensures c.in_ok-then_part.ensures f))
 
-pub behind_if-returns-in_err-rest-2 : goal.behind_if-returns-in_err-rest-2
-behind_if-returns-in_err-rest-2 t c =
-    let p = err_from_is_err_and c.from_residual-in_err-rest-2.result c.from_residual-in_err-rest-2.ensures.1 in
-    rw (p.1, p.2) (passes_on _ _ c.in_err-rest-2.field-0.0 c.in_err-rest-2.ensures (λ out f. if_stops_fi c.args.depth c.requires out c.in_ok-test.ensures c.in_ok-rest.ensures c.in_ok-then_part.ensures c.in_ok-else_part.ensures f))
-
-pub behind_if-returns-in_err-assertion : goal.behind_if-returns-in_err-assertion
-behind_if-returns-in_err-assertion t c =
-    let p = err_from_is_err_and c.from_residual-in_err-assertion.result c.from_residual-in_err-assertion.ensures.1 in
-    rw (p.1, p.2) (passes_on _ _ c.in_err-assertion.field-0.0 c.in_err-assertion.ensures (λ out f. if_stops_end c.args.depth c.requires out c.in_ok-test.ensures c.in_ok-rest.ensures c.in_ok-then_part.ensures c.in_ok-else_part.ensures c.in_ok-rest-2.ensures f))
-
 pub behind_if-returns : goal.behind_if-returns
 behind_if-returns t c =
-    subst (λ s. IsIf c.args.depth s (views c.args.tokens.now) (views c.in_ok-assertion.rest.now)) (sym (view_if c.in_ok-test.test c.in_ok-assertion.assertion c.in_ok-then_part.then_part c.in_ok-else_part.else_part))
-    (if_is c.args.depth c.requires c.in_ok-test.ensures c.in_ok-rest.ensures c.in_ok-then_part.ensures c.in_ok-else_part.ensures c.in_ok-rest-2.ensures c.in_ok-assertion.ensures)
+    c.end_of_if.ensures (views c.args.tokens.now)
+    (record { behind_test = _; behind_then = _; behind_part = _; test = c.in_ok-test.ensures; then_word = c.in_ok-rest.ensures; then_part = c.in_ok-then_part.ensures; else_part = c.in_ok-else_part.ensures })
 
 pub behind_from-returns-in_err-do_part : goal.behind_from-returns-in_err-do_part
 behind_from-returns-in_err-do_part t c =
@@ -59,90 +47,41 @@ behind_from-returns-in_err-loop_part t c =
     let p = err_from_is_err_and c.from_residual-in_err-loop_part.result c.from_residual-in_err-loop_part.ensures.1 in
     rw (p.1, p.2) (passes_on _ _ c.in_err-loop_part.field-0.0 c.in_err-loop_part.ensures (λ out f. from_stops_loop c.args.depth c.requires out c.in_ok-assertion.ensures c.in_ok-do_part.ensures f))
 
-pub behind_from-returns-in_err-rest : goal.behind_from-returns-in_err-rest
-behind_from-returns-in_err-rest t c =
-    let p = err_from_is_err_and c.from_residual-in_err-rest.result c.from_residual-in_err-rest.ensures.1 in
-    rw (p.1, p.2) (passes_on _ _ c.in_err-rest.field-0.0 c.in_err-rest.ensures (λ out f. from_stops_until c.args.depth c.requires out c.in_ok-assertion.ensures c.in_ok-do_part.ensures c.in_ok-loop_part.ensures f))
-
-pub behind_from-returns-in_err-test : goal.behind_from-returns-in_err-test
-behind_from-returns-in_err-test t c =
-    let p = err_from_is_err_and c.from_residual-in_err-test.result c.from_residual-in_err-test.ensures.1 in
-    rw (p.1, p.2) (passes_on _ _ c.in_err-test.field-0.0 c.in_err-test.ensures (λ out f. from_stops_end c.args.depth c.requires out c.in_ok-assertion.ensures c.in_ok-do_part.ensures c.in_ok-loop_part.ensures c.in_ok-rest.ensures f))
-
 pub behind_from-returns : goal.behind_from-returns
 behind_from-returns t c =
-    subst (λ s. IsLoop c.args.depth s (views c.args.tokens.now) (views c.in_ok-test.rest.now)) (sym (view_loop c.in_ok-assertion.assertion c.in_ok-test.test c.in_ok-do_part.do_part c.in_ok-loop_part.loop_part))
-    (from_is c.args.depth c.requires c.in_ok-assertion.ensures c.in_ok-do_part.ensures c.in_ok-loop_part.ensures c.in_ok-rest.ensures c.in_ok-test.ensures)
-
-pub local_int-returns-in_err-name : goal.local_int-returns-in_err-name
-local_int-returns-in_err-name t c =
-    let p = err_from_is_err_and c.from_residual.result c.from_residual.ensures.1 in
-    rw (p.1, p.2) (passes_on _ _ c.in_err-name.field-0.0 c.in_err-name.ensures (λ out f. int_stops_name c.args.depth (views c.args.tokens.now) out f))
-
-pub local_int-returns-in_err-rest : goal.local_int-returns-in_err-rest
-local_int-returns-in_err-rest t c =
-    let p = err_from_is_err_and c.from_residual-in_err-rest.result c.from_residual-in_err-rest.ensures.1 in
-    rw (p.1, p.2) (passes_on _ _ c.in_err-rest.field-0.0 c.in_err-rest.ensures (λ out f. int_stops_equals c.args.depth out c.in_ok-name.ensures f))
-
-pub local_int-returns-in_err-exp : goal.local_int-returns-in_err-exp
-local_int-returns-in_err-exp t c =
-    let p = err_from_is_err_and c.from_residual-in_err-exp.result c.from_residual-in_err-exp.ensures.1 in
-    rw (p.1, p.2) (passes_on _ _ c.in_err-exp.field-0.0 c.in_err-exp.ensures (λ out f. int_stops_first c.args.depth out c.in_ok-name.ensures c.in_ok-rest.ensures f))
+    c.end_of_loop.ensures (views c.args.tokens.now)
+    (record { behind_test = _; behind_part = _; assertion = c.in_ok-assertion.ensures; do_part = c.in_ok-do_part.ensures; loop_part = c.in_ok-loop_part.ensures })
 
 pub local_int-returns-in_err-statements : goal.local_int-returns-in_err-statements
 local_int-returns-in_err-statements t c =
     let p = err_from_is_err_and c.from_residual-in_err-statements.result c.from_residual-in_err-statements.ensures.1 in
-    rw (p.1, p.2) (passes_on _ _ c.in_err-statements.field-0.0 c.in_err-statements.ensures (λ out f. int_stops_body c.args.depth out c.in_ok-name.ensures c.in_ok-rest.ensures c.in_ok-exp.ensures f))
-
-pub local_int-returns-in_err-again : goal.local_int-returns-in_err-again
-local_int-returns-in_err-again t c =
-    let p = err_from_is_err_and c.from_residual-in_err-again.result c.from_residual-in_err-again.ensures.1 in
-    rw (p.1, p.2) (passes_on _ _ c.in_err-again.field-0.0 c.in_err-again.ensures (λ out f. int_stops_delocal c.args.depth out c.in_ok-name.ensures c.in_ok-rest.ensures c.in_ok-exp.ensures c.in_ok-statements.ensures f))
-
-pub local_int-returns-in_err-test : goal.local_int-returns-in_err-test
-local_int-returns-in_err-test t c =
-    let p = err_from_is_err_and c.from_residual-in_err-test.result c.from_residual-in_err-test.ensures.1 in
-    rw (p.1, p.2) (passes_on _ _ c.in_err-test.field-0.0 c.in_err-test.ensures (λ out f. int_stops_last c.args.depth out c.in_ok-name.ensures c.in_ok-rest.ensures c.in_ok-exp.ensures c.in_ok-statements.ensures c.in_ok-again.ensures f))
+    let h = c.in_ok-name.ensures in
+    rw (p.1, p.2) (passes_on _ _ c.in_err-statements.field-0.0 c.in_err-statements.ensures (λ out f. int_stops_body c.args.depth out h.name h.equals h.first f))
 
 pub local_int-returns : goal.local_int-returns
-local_int-returns t c =
-    subst (λ s. IsLocalInt c.args.depth s (views c.args.tokens.now) (views c.in_ok-test.rest.now)) (sym (view_local_int c.in_ok-name.name c.in_ok-again.again c.in_ok-exp.exp c.in_ok-test.test c.in_ok-statements.statements))
-    (int_is c.args.depth c.in_ok-name.ensures c.in_ok-rest.ensures c.in_ok-exp.ensures c.in_ok-statements.ensures c.in_ok-again.ensures c.in_ok-test.ensures)
+local_int-returns t c = c.end_of_int.ensures (views c.args.tokens.now) _ c.in_ok-name.ensures c.in_ok-statements.ensures
 
 pub local_stack-returns-in_err-name : goal.local_stack-returns-in_err-name
 local_stack-returns-in_err-name t c =
     let p = err_from_is_err_and c.from_residual.result c.from_residual.ensures.1 in
-    rw (p.1, p.2) (passes_on _ _ c.in_err-name.field-0.0 c.in_err-name.ensures (λ out f. stack_stops_name c.args.depth (views c.args.tokens.now) out f))
+    rw (p.1, p.2) (c.in_err-name.ensures c.args.depth)
 
-pub local_stack-returns-in_err-rest : goal.local_stack-returns-in_err-rest
-local_stack-returns-in_err-rest t c =
-    let p = err_from_is_err_and c.from_residual-in_err-rest.result c.from_residual-in_err-rest.ensures.1 in
-    rw (p.1, p.2) (passes_on _ _ c.in_err-rest.field-0.0 c.in_err-rest.ensures (λ out f. stack_stops_equals c.args.depth out c.in_ok-name.ensures f))
-
-pub local_stack-returns-in_err-rest-2 : goal.local_stack-returns-in_err-rest-2
-local_stack-returns-in_err-rest-2 t c =
-    let p = err_from_is_err_and c.from_residual-in_err-rest-2.result c.from_residual-in_err-rest-2.ensures.1 in
-    rw (p.1, p.2) (passes_on _ _ c.in_err-rest-2.field-0.0 c.in_err-rest-2.ensures (λ out f. stack_stops_nil c.args.depth out c.in_ok-name.ensures c.in_ok-rest.ensures f))
+pub local_stack-body-requires : goal.local_stack-body-requires
+local_stack-body-requires t c =
+    let h = c.in_ok-name.ensures c.args.depth in
+    let s1 = h.name.shorter in
+    let s2 = h.equals.shorter in
+    let s3 = h.empty.shorter in
+    (omega (arith, c.decreases, s1, s2, s3), c.requires)
 
 pub local_stack-returns-in_err-statements : goal.local_stack-returns-in_err-statements
 local_stack-returns-in_err-statements t c =
     let p = err_from_is_err_and c.from_residual-in_err-statements.result c.from_residual-in_err-statements.ensures.1 in
-    rw (p.1, p.2) (passes_on _ _ c.in_err-statements.field-0.0 c.in_err-statements.ensures (λ out f. stack_stops_body c.args.depth out c.in_ok-name.ensures c.in_ok-rest.ensures c.in_ok-rest-2.ensures f))
-
-pub local_stack-returns-in_err-again : goal.local_stack-returns-in_err-again
-local_stack-returns-in_err-again t c =
-    let p = err_from_is_err_and c.from_residual-in_err-again.result c.from_residual-in_err-again.ensures.1 in
-    rw (p.1, p.2) (passes_on _ _ c.in_err-again.field-0.0 c.in_err-again.ensures (λ out f. stack_stops_delocal c.args.depth out c.in_ok-name.ensures c.in_ok-rest.ensures c.in_ok-rest-2.ensures c.in_ok-statements.ensures f))
-
-pub local_stack-returns-in_err-rest-3 : goal.local_stack-returns-in_err-rest-3
-local_stack-returns-in_err-rest-3 t c =
-    let p = err_from_is_err_and c.from_residual-in_err-rest-3.result c.from_residual-in_err-rest-3.ensures.1 in
-    rw (p.1, p.2) (passes_on _ _ c.in_err-rest-3.field-0.0 c.in_err-rest-3.ensures (λ out f. stack_stops_last c.args.depth out c.in_ok-name.ensures c.in_ok-rest.ensures c.in_ok-rest-2.ensures c.in_ok-statements.ensures c.in_ok-again.ensures f))
+    let h = c.in_ok-name.ensures c.args.depth in
+    rw (p.1, p.2) (passes_on _ _ c.in_err-statements.field-0.0 c.in_err-statements.ensures (λ out f. stack_stops_body c.args.depth out h.name h.equals h.empty f))
 
 pub local_stack-returns : goal.local_stack-returns
-local_stack-returns t c =
-    subst (λ s. IsLocalStack c.args.depth s (views c.args.tokens.now) (views c.in_ok-rest-3.rest.now)) (sym (view_local_stack c.in_ok-name.name c.in_ok-again.again c.in_ok-statements.statements))
-    (stack_is c.args.depth c.in_ok-name.ensures c.in_ok-rest.ensures c.in_ok-rest-2.ensures c.in_ok-statements.ensures c.in_ok-again.ensures c.in_ok-rest-3.ensures)
+local_stack-returns t c = c.end_of_stack.ensures c.args.depth (views c.args.tokens.now) _ (c.in_ok-name.ensures c.args.depth) c.in_ok-statements.ensures
 
 pub behind_local-returns-in_err-stm : goal.behind_local-returns-in_err-stm
 behind_local-returns-in_err-stm t c =
@@ -191,45 +130,21 @@ statement-returns-in_ok-stm-in-Name t c =
     let e = first_token c.args.tokens.now c.in-Some.rest.now c.in-Some.first.now (kinds.Name c.in-Name.text) c.in-Some.ensures.cases c.in-Name.is in
     rw e (name_begins _ _ c.requires (subst (λ y. IsAssignment c.args.depth (named y c.in-Some.first.now.span) (stm_view c.in_ok-stm-in-Name.stm) (views c.in-Some.rest.now) (views c.in_ok-stm-in-Name.rest.now)) c.in_ok-clone-in-Name.ensures.cases c.in_ok-stm-in-Name.ensures))
 
-pub statement-returns-in-Skip : goal.statement-returns-in-Skip
-statement-returns-in-Skip t c =
-    let e = first_token c.args.tokens.now c.in-Some.rest.now c.in-Some.first.now (kinds.Word word.Skip) c.in-Some.ensures.cases (c.in-Word.is ∙ ap kinds.Word c.in-Skip.is) in
-    rw e (skip_is _ c.args.depth (views c.in-Some.rest.now) c.requires)
+pub statement-returns-in_err-stm-in-Word : goal.statement-returns-in_err-stm-in-Word
+statement-returns-in_err-stm-in-Word t c =
+    let p = err_from_is_err_and c.from_residual-in_err-stm-in-Word.result c.from_residual-in_err-stm-in-Word.ensures.1 in
+    let e = first_token c.args.tokens.now c.in-Some.rest.now c.in-Some.first.now (kinds.Word c.in-Word.word) c.in-Some.ensures.cases c.in-Word.is in
+    rw (p.1, p.2, e) (c.in_err-stm-in-Word.ensures c.in-Some.first.now.span)
 
-pub statement-returns-in_ok-variable-in-Push : goal.statement-returns-in_ok-variable-in-Push
-statement-returns-in_ok-variable-in-Push t c =
-    let e = first_token c.args.tokens.now c.in-Some.rest.now c.in-Some.first.now (kinds.Word word.Push) c.in-Some.ensures.cases (c.in-Word.is ∙ ap kinds.Word c.in-Push.is) in
-    rw e (push_is _ c.args.depth c.requires c.in_ok-variable-in-Push.ensures)
+pub statement-returns-in_ok-stm-in-Word : goal.statement-returns-in_ok-stm-in-Word
+statement-returns-in_ok-stm-in-Word t c =
+    let e = first_token c.args.tokens.now c.in-Some.rest.now c.in-Some.first.now (kinds.Word c.in-Word.word) c.in-Some.ensures.cases c.in-Word.is in
+    rw e (c.in_ok-stm-in-Word.ensures c.in-Some.first.now.span)
 
-pub statement-returns-in_ok-variable-in-Pop : goal.statement-returns-in_ok-variable-in-Pop
-statement-returns-in_ok-variable-in-Pop t c =
-    let e = first_token c.args.tokens.now c.in-Some.rest.now c.in-Some.first.now (kinds.Word word.Pop) c.in-Some.ensures.cases (c.in-Word.is ∙ ap kinds.Word c.in-Pop.is) in
-    rw e (pop_is _ c.args.depth c.requires c.in_ok-variable-in-Pop.ensures)
-
-pub statement-returns-in_ok-procedure-in-Call : goal.statement-returns-in_ok-procedure-in-Call
-statement-returns-in_ok-procedure-in-Call t c =
-    let e = first_token c.args.tokens.now c.in-Some.rest.now c.in-Some.first.now (kinds.Word word.Call) c.in-Some.ensures.cases (c.in-Word.is ∙ ap kinds.Word c.in-Call.is) in
-    rw e (call_begins _ c.args.depth c.requires c.in_ok-procedure-in-Call.ensures)
-
-pub statement-returns-in_ok-procedure-in-Uncall : goal.statement-returns-in_ok-procedure-in-Uncall
-statement-returns-in_ok-procedure-in-Uncall t c =
-    let e = first_token c.args.tokens.now c.in-Some.rest.now c.in-Some.first.now (kinds.Word word.Uncall) c.in-Some.ensures.cases (c.in-Word.is ∙ ap kinds.Word c.in-Uncall.is) in
-    rw e (uncall_begins _ c.args.depth c.requires c.in_ok-procedure-in-Uncall.ensures)
-
-pub statement-returns-in_ok-stm-in-If : goal.statement-returns-in_ok-stm-in-If
-statement-returns-in_ok-stm-in-If t c =
-    let e = first_token c.args.tokens.now c.in-Some.rest.now c.in-Some.first.now (kinds.Word word.If) c.in-Some.ensures.cases (c.in-Word.is ∙ ap kinds.Word c.in-If.is) in
-    rw e (if_begins _ (omega (arith, c.requires, c.if-depth-eq-DEPTH_LIMIT.false)) c.in_ok-stm-in-If.ensures)
-
-pub statement-returns-in_ok-stm-in-From : goal.statement-returns-in_ok-stm-in-From
-statement-returns-in_ok-stm-in-From t c =
-    let e = first_token c.args.tokens.now c.in-Some.rest.now c.in-Some.first.now (kinds.Word word.From) c.in-Some.ensures.cases (c.in-Word.is ∙ ap kinds.Word c.in-From.is) in
-    rw e (from_begins _ (omega (arith, c.requires, c.if-depth-eq-DEPTH_LIMIT-2.false)) c.in_ok-stm-in-From.ensures)
-
-pub statement-returns-in_ok-stm-in-Local : goal.statement-returns-in_ok-stm-in-Local
-statement-returns-in_ok-stm-in-Local t c =
-    let e = first_token c.args.tokens.now c.in-Some.rest.now c.in-Some.first.now (kinds.Word word.Local) c.in-Some.ensures.cases (c.in-Word.is ∙ ap kinds.Word c.in-Local.is) in
-    rw e (local_begins _ (omega (arith, c.requires, c.if-depth-eq-DEPTH_LIMIT-3.false)) c.in_ok-stm-in-Local.ensures)
+pub statement-returns-else-opens_construct : goal.statement-returns-else-opens_construct
+statement-returns-else-opens_construct t c =
+    let e = first_token c.args.tokens.now c.in-Some.rest.now c.in-Some.first.now (kinds.Word c.in-Word.word) c.in-Some.ensures.cases c.in-Word.is in
+    rw e (c.plain_statement.ensures c.args.depth c.in-Some.first.now.span c.requires)
 
 pub statements_behind-statements-init : goal.statements_behind-statements-init
 statements_behind-statements-init t c = so_far_begins c.args.depth (block_view c.args.before.items) (views c.args.tokens.now)
@@ -246,3 +161,13 @@ statements_behind-statements-preserved t c =
 
 pub statements_behind-returns : goal.statements_behind-returns
 statements_behind-returns t c = so_far_ends c.statements.invariant (subst (IsStmOrOther c.args.depth (views c.statements.rest.now)) c.in_default.is c.in_ok-next.ensures)
+
+pub construct-returns-in-If : goal.construct-returns-in-If
+construct-returns-in-If t c = λ place. rw c.in-If.is (if_result place c.args.depth c.requires.room (views c.args.tokens.now) (λ x. stm_view x.0) (λ x. views x.1.now) c.behind_if.result c.behind_if.ensures)
+
+pub construct-returns-in-From : goal.construct-returns-in-From
+construct-returns-in-From t c = λ place. rw c.in-From.is (from_result place c.args.depth c.requires.room (views c.args.tokens.now) (λ x. stm_view x.0) (λ x. views x.1.now) c.behind_from.result c.behind_from.ensures)
+
+pub construct-returns-in_default : goal.construct-returns-in_default
+construct-returns-in_default t c =
+    λ place. rw (is_local c.args.word c.requires.opens c.in_default.not-If c.in_default.not-From) (local_result place c.args.depth c.requires.room (views c.args.tokens.now) (λ x. stm_view x.0) (λ x. views x.1.now) c.behind_local.result c.behind_local.ensures)

@@ -23,6 +23,9 @@ decreases-behind_if l = 8 * length (views l.tokens.now) + 4
 abbrev pub decreases-behind_from : goal.decreases-behind_from
 decreases-behind_from l = 8 * length (views l.tokens.now) + 4
 
+abbrev pub decreases-construct : goal.decreases-construct
+decreases-construct l = 8 * length (views l.tokens.now) + 5
+
 abbrev pub decreases-local_int : goal.decreases-local_int
 decreases-local_int l = 8 * length (views l.tokens.now) + 3
 
