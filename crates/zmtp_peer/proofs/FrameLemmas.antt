@@ -1,17 +1,20 @@
 -- One more frame of a stream, and what frames tell.
-use Rattle.std.proofs.Common.{◌≡◌, ℕ, ◌<◌, List, [], ◌∷◌, ◌++◌, length, refl, ap, sym, ◌∙◌, arith, append_assoc, append-nil, length-append}
+use Rattle.std.proofs.Common.{◌≡◌, ℕ, ◌<◌, List, [], ◌∷◌, ◌++◌, length, refl, ap, sym, ◌∙◌, arith, append_assoc, append-nil, length-append, inl, inr}
 use Rattle.std.proofs.Common.{Result, Ok, Err, OnOk, IfOk, IsErr, map, get_or}
 use Rattle.std.specs.declared.alloc.Global.{Global}
 use Rattle.std.specs.declared.vec.Vec.{Vec}
 use Rattle.std.proofs.lemmas.List.{take-append-le}
 use Rattle.std.proofs.lemmas.Bool.{false≢true}
 use Rattle.zmtp_wire.specs.Frame.{Frame}
-use Rattle.zmtp_wire.specs.Stream.{Rest, Takes, Leaves}
+use Rattle.zmtp_wire.specs.Stream.{Rest, Takes, Leaves, IsPartial}
 use Rattle.zmtp_wire.proofs.Streams.{leaves_more}
 use Rattle.zmtp_peer.specs.declared.role.Role.{Role}
 use Rattle.zmtp_peer.specs.declared.intake.Intake.{Intake}
 use Rattle.zmtp_peer.specs.Events.{Event, State, after_frame, frame_told, after, told, bodies}
-use Rattle.zmtp_peer.specs.Intake.{first_of, state_of, told_by, Keeps}
+use Rattle.zmtp_peer.specs.declared.fault.PeerFault.{PeerFault}
+use Rattle.zmtp_peer.specs.declared.intake.Stage.{Stage}
+use Rattle.zmtp_peer.specs.declared.intake.Stage.TheVariants as stage
+use Rattle.zmtp_peer.specs.Intake.{first_of, state_at, state_of, told_by, Keeps, IsRefusal, TakesFrames}
 
 -- frames are taken, and nothing ends them yet
 pub record Taken (role : Role) (rest : Rest) (old : Intake) (behind : Rest) (new : Intake) : Type 0 where
@@ -80,6 +83,19 @@ taken-more role rest old behind next new last f t takes state events = record {
   events = events-more role (state_of old) t.frames f (told_by role old) (told_by role new) (told_by role last) t.events (events ∙ ap (λ s. told_by role new ++ frame_told role s f) t.state);
   state = state ∙ ap (λ s. after_frame role s f) t.state ∙ sym (after-append role (state_of old) t.frames (f ∷ []));
 }
+
+-- frames are taken, up to one that refuses the peer, or up to the end of what came
+pub taken-refused : (role : Role) (rest : Rest) (old : Intake) (behind : Rest) (new : Intake) → Taken role rest old behind new → IsRefusal (state_of new) → TakesFrames role rest old behind new
+taken-refused role rest old behind new t refused = record { frames = t.frames; left = t.left; events = t.events; ends = inr (inl (t.state, refused)) }
+
+pub taken-partial : (role : Role) (rest : Rest) (old : Intake) (behind : Rest) (new : Intake) → Taken role rest old behind new → IsPartial behind → ¬ (IsRefusal (state_of new)) → TakesFrames role rest old behind new
+taken-partial role rest old behind new t partial going = record { frames = t.frames; left = t.left; events = t.events; ends = inl (partial, t.state, going) }
+
+-- a stage that is no refusal
+pub going-on : (at : Stage) (held : List (List ℕ)) → ((fault : PeerFault) → at ≡ stage.Refused fault → ⊥) → ¬ (IsRefusal (state_at at held))
+going-on stage.Opening held h = λ refused. refused
+going-on stage.Open held h = λ refused. refused
+going-on (stage.Refused fault) held h = λ refused. h fault refl
 
 -- what holds anyway holds at Ok
 pub on_ok : {T E P : Type 0} (r : Result T E) → P → OnOk r P
