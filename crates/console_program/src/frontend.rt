@@ -52,6 +52,9 @@ fn opened(alloc: Global, frames: Vec<Vec<u8>>, key: &[u8]) -> Result<Option<Open
     }
 }
 
+/// Passes over a message.
+fn pass_over(_: Opened) {}
+
 /// The content of a message.
 fn content_of(opened: Opened) -> Value {
     opened.content
@@ -72,6 +75,11 @@ impl<R: Read + Drop, W: Write + Drop> Frontend<R, W> {
         self.shell.write(&frames)?;
         self.next = n.wrapping_add(1);
         Ok(n)
+    }
+
+    /// Sends a request that is sent once, and answers its number.
+    fn ask(&mut self, draft: Draft) -> Result<u64, ConsoleFault> {
+        self.send(&draft)
     }
 
     /// The broadcast that comes next, where one has to come; none where it is refused.
@@ -125,8 +133,7 @@ impl<R: Read + Drop, W: Write + Drop> Frontend<R, W> {
 
     /// Asks what the kernel is, and answers whether a status with its parent came.
     fn is_greeted(&mut self) -> Result<bool, ConsoleFault> {
-        let asked = kernel_info_draft(self.alloc);
-        self.send(&asked)?;
+        self.ask(kernel_info_draft(self.alloc))?;
         self.hears_status()
     }
 
@@ -152,8 +159,14 @@ impl<R: Read + Drop, W: Write + Drop> Frontend<R, W> {
     fn if_answers(&self, came: Opened, n: u64) -> Result<Option<Opened>, ConsoleFault> {
         match is_answer_to(self.alloc, &came.message, &self.session, n) {
             Ok(true) => Ok(Some(came)),
-            Ok(false) => Ok(None),
-            Err(fault) => Err(ConsoleFault::from(fault)),
+            Ok(false) => {
+                pass_over(came);
+                Ok(None)
+            }
+            Err(fault) => {
+                pass_over(came);
+                Err(ConsoleFault::from(fault))
+            }
         }
     }
 
@@ -198,15 +211,42 @@ impl<R: Read + Drop, W: Write + Drop> Frontend<R, W> {
         Ok((heard, content_of(broadcast)))
     }
 
-    /// Waits until the kernel is done with the n-th message, and answers what its cell shows, if it shows something.
-    fn result_of(&mut self, n: u64) -> Result<Option<Value>, ConsoleFault> {
-        let mut shown = None;
+    /// Waits until the kernel is done with the n-th message, and keeps what its cell shows, if it shows something.
+    fn hear_result(&mut self, n: u64, shown: &mut Option<Value>) -> Result<(), ConsoleFault> {
         for _ in 0..u64::MAX {
             let (heard, content) = self.hear(n)?;
             match heard {
-                Heard::Idle => return Ok(shown),
-                Heard::Result => shown = Some(content),
+                Heard::Idle => return Ok(()),
+                Heard::Result => *shown = Some(content),
                 Heard::Status | Heard::CommData | Heard::CommClosed | Heard::Other => {}
+            }
+        }
+        Err(ConsoleFault::NoConnection)
+    }
+
+    /// Waits until the kernel is done with the n-th message, and answers what its cell shows, if it shows something.
+    fn result_of(&mut self, n: u64) -> Result<Option<Value>, ConsoleFault> {
+        let mut shown = None;
+        self.hear_result(n, &mut shown)?;
+        Ok(shown)
+    }
+
+    /// What is printed of what was said on a comm.
+    fn data_told(&self, content: Value) -> Result<Told, ConsoleFault> {
+        match comm_told(self.alloc, &content) {
+            Ok(told) => Ok(told),
+            Err(fault) => Err(ConsoleFault::from(fault)),
+        }
+    }
+
+    /// Waits until the kernel is done with the n-th message, and keeps what it said on the comm, if it said something.
+    fn hear_data(&mut self, n: u64, told: &mut Option<Told>) -> Result<(), ConsoleFault> {
+        for _ in 0..u64::MAX {
+            let (heard, content) = self.hear(n)?;
+            match heard {
+                Heard::Idle => return Ok(()),
+                Heard::CommData => *told = Some(self.data_told(content)?),
+                Heard::Status | Heard::Result | Heard::CommClosed | Heard::Other => {}
             }
         }
         Err(ConsoleFault::NoConnection)
@@ -215,15 +255,8 @@ impl<R: Read + Drop, W: Write + Drop> Frontend<R, W> {
     /// Waits until the kernel is done with the n-th message, and answers what it said on the comm, if it said something.
     fn data_of(&mut self, n: u64) -> Result<Option<Told>, ConsoleFault> {
         let mut told = None;
-        for _ in 0..u64::MAX {
-            let (heard, content) = self.hear(n)?;
-            match heard {
-                Heard::Idle => return Ok(told),
-                Heard::CommData => told = Some(comm_told(self.alloc, &content)?),
-                Heard::Status | Heard::Result | Heard::CommClosed | Heard::Other => {}
-            }
-        }
-        Err(ConsoleFault::NoConnection)
+        self.hear_data(n, &mut told)?;
+        Ok(told)
     }
 
     /// Waits until the kernel is done with the n-th message, and answers whether it closed the comm.
@@ -242,8 +275,7 @@ impl<R: Read + Drop, W: Write + Drop> Frontend<R, W> {
 
     /// Runs a text as a cell. The broadcasts are read first, so that none wait unread while others run theirs; the last of them comes behind the reply.
     fn run(&mut self, code: &str) -> Result<Told, ConsoleFault> {
-        let asked = execute_draft(self.alloc, code)?;
-        let n = self.send(&asked)?;
+        let n = self.ask(execute_draft(self.alloc, code)?)?;
         self.ran(n)
     }
 
@@ -256,8 +288,12 @@ impl<R: Read + Drop, W: Write + Drop> Frontend<R, W> {
 
     /// Completes the name at the end of a text.
     fn complete(&mut self, text: &str) -> Result<Told, ConsoleFault> {
-        let asked = complete_draft(self.alloc, text)?;
-        let n = self.send(&asked)?;
+        let n = self.ask(complete_draft(self.alloc, text)?)?;
+        self.completed(n)
+    }
+
+    /// What came of the completion that the n-th message asks for.
+    fn completed(&mut self, n: u64) -> Result<Told, ConsoleFault> {
         let reply = content_of(self.reply_to(n)?);
         Ok(completion_told(self.alloc, &reply)?)
     }
@@ -312,7 +348,7 @@ impl<R: Read + Drop, W: Write + Drop> Frontend<R, W> {
     fn ask_on_comm(&mut self, asked: &Draft) -> Result<Told, ConsoleFault> {
         let open = comm_open_draft(self.alloc, &self.session)?;
         let close = comm_close_draft(self.alloc, &self.session)?;
-        let n = self.send(&open)?;
+        let n = self.ask(open)?;
         self.ask_and_close(n, asked, &close)
     }
 
