@@ -52,6 +52,14 @@ fn opened(alloc: Global, frames: Vec<Vec<u8>>, key: &[u8]) -> Result<Option<Open
     }
 }
 
+/// Passes over a message.
+fn pass_over(_: Opened) {}
+
+/// The content of a message.
+fn content_of(opened: Opened) -> Value {
+    opened.content
+}
+
 impl<R: Read + Drop, W: Write + Drop> Frontend<R, W> {
     /// Sends a request on shell, and answers its number: its octets go out, those of the message of the session under this number, signed.
     pub fn send(&mut self, draft: &Draft) -> Result<u64, ConsoleFault>
@@ -69,29 +77,44 @@ impl<R: Read + Drop, W: Write + Drop> Frontend<R, W> {
         Ok(n)
     }
 
+    /// Sends a request that is sent once, and answers its number.
+    fn ask(&mut self, draft: Draft) -> Result<u64, ConsoleFault> {
+        self.send(&draft)
+    }
+
+    /// The broadcast that comes next, where one has to come; none where it is refused.
+    fn next_broadcast(&mut self) -> Result<Option<Opened>, ConsoleFault> {
+        let Some(frames) = self.iopub.next()? else {
+            return Err(ConsoleFault::NoConnection);
+        };
+        opened(self.alloc, frames, self.key.as_bytes())
+    }
+
     /// The next broadcast, where one has to come. Those that are refused are passed over.
     fn some_broadcast(&mut self) -> Result<Opened, ConsoleFault> {
         for _ in 0..u64::MAX {
-            let Some(frames) = self.iopub.next()? else {
-                return Err(ConsoleFault::NoConnection);
-            };
-            if let Some(broadcast) = opened(self.alloc, frames, self.key.as_bytes())? {
+            if let Some(broadcast) = self.next_broadcast()? {
                 return Ok(broadcast);
             }
         }
         Err(ConsoleFault::NoConnection)
     }
 
-    /// Whether a broadcast, as it came, is a status that answers this session.
-    fn is_own_status(&self, frames: Vec<Vec<u8>>) -> Result<bool, ConsoleFault> {
-        let Some(broadcast) = opened(self.alloc, frames, self.key.as_bytes())? else {
-            return Ok(false);
-        };
+    /// Whether a broadcast is a status that answers this session.
+    fn has_own_status(&self, broadcast: &Opened) -> Result<bool, ConsoleFault> {
         match what_is_heard(&broadcast.header, &broadcast.content) {
             Heard::Idle | Heard::Status => {
                 Ok(is_in_session(self.alloc, &broadcast.message, &self.session)?)
             }
             Heard::Result | Heard::CommData | Heard::CommClosed | Heard::Other => Ok(false),
+        }
+    }
+
+    /// Whether a broadcast, as it came, is a status that answers this session.
+    fn is_own_status(&self, frames: Vec<Vec<u8>>) -> Result<bool, ConsoleFault> {
+        match opened(self.alloc, frames, self.key.as_bytes())? {
+            Some(broadcast) => self.has_own_status(&broadcast),
+            None => Ok(false),
         }
     }
 
@@ -108,28 +131,94 @@ impl<R: Read + Drop, W: Write + Drop> Frontend<R, W> {
         Ok(false)
     }
 
+    /// Asks what the kernel is, and answers whether a status with its parent came.
+    fn is_greeted(&mut self) -> Result<bool, ConsoleFault> {
+        self.ask(kernel_info_draft(self.alloc))?;
+        self.hears_status()
+    }
+
     /// Asks what the kernel is, until a status with its parent came: then all later broadcasts come too.
     pub fn greet(&mut self) -> Result<(), ConsoleFault> {
         for _ in 0..ASKS {
-            let asked = kernel_info_draft(self.alloc);
-            self.send(&asked)?;
-            if self.hears_status()? {
+            if self.is_greeted()? {
                 return Ok(());
             }
         }
         Err(ConsoleFault::NoConnection)
     }
 
+    /// The message that comes next on shell, where one has to come; none where it is refused.
+    fn next_reply(&mut self) -> Result<Option<Opened>, ConsoleFault> {
+        let Some(frames) = self.shell.next()? else {
+            return Err(ConsoleFault::NoConnection);
+        };
+        opened(self.alloc, frames, self.key.as_bytes())
+    }
+
+    /// The message, if it answers the n-th one.
+    fn if_answers(&self, came: Opened, n: u64) -> Result<Option<Opened>, ConsoleFault> {
+        match is_answer_to(self.alloc, &came.message, &self.session, n) {
+            Ok(true) => Ok(Some(came)),
+            Ok(false) => {
+                pass_over(came);
+                Ok(None)
+            }
+            Err(fault) => {
+                pass_over(came);
+                Err(ConsoleFault::from(fault))
+            }
+        }
+    }
+
+    /// The message that comes next on shell, if it is the reply to the n-th message.
+    fn if_reply_to(&mut self, n: u64) -> Result<Option<Opened>, ConsoleFault> {
+        match self.next_reply()? {
+            Some(reply) => self.if_answers(reply, n),
+            None => Ok(None),
+        }
+    }
+
     /// The reply to the n-th message.
     fn reply_to(&mut self, n: u64) -> Result<Opened, ConsoleFault> {
         for _ in 0..u64::MAX {
-            let Some(frames) = self.shell.next()? else {
-                return Err(ConsoleFault::NoConnection);
-            };
-            if let Some(reply) = opened(self.alloc, frames, self.key.as_bytes())? {
-                if is_answer_to(self.alloc, &reply.message, &self.session, n)? {
-                    return Ok(reply);
-                }
+            if let Some(reply) = self.if_reply_to(n)? {
+                return Ok(reply);
+            }
+        }
+        Err(ConsoleFault::NoConnection)
+    }
+
+    /// The next broadcast, if it answers the n-th message.
+    fn if_broadcast_for(&mut self, n: u64) -> Result<Option<Opened>, ConsoleFault> {
+        let broadcast = self.some_broadcast()?;
+        self.if_answers(broadcast, n)
+    }
+
+    /// The next broadcast that answers the n-th message.
+    fn broadcast_for(&mut self, n: u64) -> Result<Opened, ConsoleFault> {
+        for _ in 0..u64::MAX {
+            if let Some(broadcast) = self.if_broadcast_for(n)? {
+                return Ok(broadcast);
+            }
+        }
+        Err(ConsoleFault::NoConnection)
+    }
+
+    /// What is heard in the next broadcast that answers the n-th message, and its content.
+    fn hear(&mut self, n: u64) -> Result<(Heard, Value), ConsoleFault> {
+        let broadcast = self.broadcast_for(n)?;
+        let heard = what_is_heard(&broadcast.header, &broadcast.content);
+        Ok((heard, content_of(broadcast)))
+    }
+
+    /// Waits until the kernel is done with the n-th message, and keeps what its cell shows, if it shows something.
+    fn hear_result(&mut self, n: u64, shown: &mut Option<Value>) -> Result<(), ConsoleFault> {
+        for _ in 0..u64::MAX {
+            let (heard, content) = self.hear(n)?;
+            match heard {
+                Heard::Idle => return Ok(()),
+                Heard::Result => *shown = Some(content),
+                Heard::Status | Heard::CommData | Heard::CommClosed | Heard::Other => {}
             }
         }
         Err(ConsoleFault::NoConnection)
@@ -138,14 +227,26 @@ impl<R: Read + Drop, W: Write + Drop> Frontend<R, W> {
     /// Waits until the kernel is done with the n-th message, and answers what its cell shows, if it shows something.
     fn result_of(&mut self, n: u64) -> Result<Option<Value>, ConsoleFault> {
         let mut shown = None;
+        self.hear_result(n, &mut shown)?;
+        Ok(shown)
+    }
+
+    /// What is printed of what was said on a comm.
+    fn data_told(&self, content: Value) -> Result<Told, ConsoleFault> {
+        match comm_told(self.alloc, &content) {
+            Ok(told) => Ok(told),
+            Err(fault) => Err(ConsoleFault::from(fault)),
+        }
+    }
+
+    /// Waits until the kernel is done with the n-th message, and keeps what it said on the comm, if it said something.
+    fn hear_data(&mut self, n: u64, told: &mut Option<Told>) -> Result<(), ConsoleFault> {
         for _ in 0..u64::MAX {
-            let broadcast = self.some_broadcast()?;
-            if is_answer_to(self.alloc, &broadcast.message, &self.session, n)? {
-                match what_is_heard(&broadcast.header, &broadcast.content) {
-                    Heard::Idle => return Ok(shown),
-                    Heard::Result => shown = Some(broadcast.content),
-                    Heard::Status | Heard::CommData | Heard::CommClosed | Heard::Other => {}
-                }
+            let (heard, content) = self.hear(n)?;
+            match heard {
+                Heard::Idle => return Ok(()),
+                Heard::CommData => *told = Some(self.data_told(content)?),
+                Heard::Status | Heard::Result | Heard::CommClosed | Heard::Other => {}
             }
         }
         Err(ConsoleFault::NoConnection)
@@ -154,30 +255,19 @@ impl<R: Read + Drop, W: Write + Drop> Frontend<R, W> {
     /// Waits until the kernel is done with the n-th message, and answers what it said on the comm, if it said something.
     fn data_of(&mut self, n: u64) -> Result<Option<Told>, ConsoleFault> {
         let mut told = None;
-        for _ in 0..u64::MAX {
-            let broadcast = self.some_broadcast()?;
-            if is_answer_to(self.alloc, &broadcast.message, &self.session, n)? {
-                match what_is_heard(&broadcast.header, &broadcast.content) {
-                    Heard::Idle => return Ok(told),
-                    Heard::CommData => told = Some(comm_told(self.alloc, &broadcast.content)?),
-                    Heard::Status | Heard::Result | Heard::CommClosed | Heard::Other => {}
-                }
-            }
-        }
-        Err(ConsoleFault::NoConnection)
+        self.hear_data(n, &mut told)?;
+        Ok(told)
     }
 
     /// Waits until the kernel is done with the n-th message, and answers whether it closed the comm.
     fn is_closed_by(&mut self, n: u64) -> Result<bool, ConsoleFault> {
         let mut is_closed = false;
         for _ in 0..u64::MAX {
-            let broadcast = self.some_broadcast()?;
-            if is_answer_to(self.alloc, &broadcast.message, &self.session, n)? {
-                match what_is_heard(&broadcast.header, &broadcast.content) {
-                    Heard::Idle => return Ok(is_closed),
-                    Heard::CommClosed => is_closed = true,
-                    Heard::Status | Heard::Result | Heard::CommData | Heard::Other => {}
-                }
+            let (heard, _) = self.hear(n)?;
+            match heard {
+                Heard::Idle => return Ok(is_closed),
+                Heard::CommClosed => is_closed = true,
+                Heard::Status | Heard::Result | Heard::CommData | Heard::Other => {}
             }
         }
         Err(ConsoleFault::NoConnection)
@@ -185,19 +275,27 @@ impl<R: Read + Drop, W: Write + Drop> Frontend<R, W> {
 
     /// Runs a text as a cell. The broadcasts are read first, so that none wait unread while others run theirs; the last of them comes behind the reply.
     fn run(&mut self, code: &str) -> Result<Told, ConsoleFault> {
-        let asked = execute_draft(self.alloc, code)?;
-        let n = self.send(&asked)?;
+        let n = self.ask(execute_draft(self.alloc, code)?)?;
+        self.ran(n)
+    }
+
+    /// What came of the cell that the n-th message runs.
+    fn ran(&mut self, n: u64) -> Result<Told, ConsoleFault> {
         let shown = self.result_of(n)?;
-        let reply = self.reply_to(n)?;
-        Ok(run_told(self.alloc, &reply.content, shown.as_ref())?)
+        let reply = content_of(self.reply_to(n)?);
+        Ok(run_told(self.alloc, &reply, shown.as_ref())?)
     }
 
     /// Completes the name at the end of a text.
     fn complete(&mut self, text: &str) -> Result<Told, ConsoleFault> {
-        let asked = complete_draft(self.alloc, text)?;
-        let n = self.send(&asked)?;
-        let reply = self.reply_to(n)?;
-        Ok(completion_told(self.alloc, &reply.content)?)
+        let n = self.ask(complete_draft(self.alloc, text)?)?;
+        self.completed(n)
+    }
+
+    /// What came of the completion that the n-th message asks for.
+    fn completed(&mut self, n: u64) -> Result<Told, ConsoleFault> {
+        let reply = content_of(self.reply_to(n)?);
+        Ok(completion_told(self.alloc, &reply)?)
     }
 
     /// Asks on the comm that the n-th message opened.
@@ -219,19 +317,39 @@ impl<R: Read + Drop, W: Write + Drop> Frontend<R, W> {
         Ok(())
     }
 
+    /// Closes the comm behind an answer, and gives the answer.
+    fn close_after(&mut self, close: &Draft, told: Told) -> Result<Told, ConsoleFault> {
+        self.close_comm(close)?;
+        Ok(told)
+    }
+
+    /// Closes the comm behind a fault, and gives that fault, also where closing fails.
+    fn close_after_fault(&mut self, close: &Draft, fault: ConsoleFault) -> ConsoleFault {
+        match self.close_comm(close) {
+            Ok(()) | Err(_) => fault,
+        }
+    }
+
+    /// Asks on the comm that the n-th message opened, and closes it, unless the kernel closed it at once.
+    fn ask_and_close(
+        &mut self,
+        n: u64,
+        asked: &Draft,
+        close: &Draft,
+    ) -> Result<Told, ConsoleFault> {
+        match self.ask_on_open_comm(n, asked) {
+            Ok(told) => self.close_after(close, told),
+            Err(ConsoleFault::NoComm) => Err(ConsoleFault::NoComm),
+            Err(fault) => Err(self.close_after_fault(close, fault)),
+        }
+    }
+
     /// Opens a comm, asks on it, and closes it: also where the answer isn't understood, or memory ran out.
     fn ask_on_comm(&mut self, asked: &Draft) -> Result<Told, ConsoleFault> {
         let open = comm_open_draft(self.alloc, &self.session)?;
         let close = comm_close_draft(self.alloc, &self.session)?;
-        let n = self.send(&open)?;
-        let came = self.ask_on_open_comm(n, asked);
-        if matches!(&came, Err(ConsoleFault::NoComm)) {
-            return came;
-        }
-        let closed = self.close_comm(&close);
-        let told = came?;
-        closed?;
-        Ok(told)
+        let n = self.ask(open)?;
+        self.ask_and_close(n, asked, &close)
     }
 
     /// Has the kernel make a move.

@@ -32,17 +32,24 @@ const NO_MEMORY: u8 = 3;
 /// The status of a program whose words are wrong.
 const WRONG_WORDS: u8 = 2;
 
+/// The octets of the connection file.
+fn octets_of_file<'a, R: Files>(
+    rt: &R,
+    alloc: &'a Global,
+    path: &str,
+) -> Result<Vec<u8, &'a Global>, ConsoleFault> {
+    match fs::read(&(rt, alloc), path) {
+        Ok(octets) => Ok(octets),
+        Err(error) => match error.kind() {
+            ErrorKind::OutOfMemory => Err(ConsoleFault::NoMemory),
+            _ => Err(ConsoleFault::BadFile(Setting::File)),
+        },
+    }
+}
+
 /// Reads the connection file.
 fn read_file<R: Files>(rt: &R, alloc: Global, path: &str) -> Result<Connection, ConsoleFault> {
-    let octets = match fs::read(&(rt, &alloc), path) {
-        Ok(octets) => octets,
-        Err(error) => {
-            return Err(match error.kind() {
-                ErrorKind::OutOfMemory => ConsoleFault::NoMemory,
-                _ => ConsoleFault::BadFile(Setting::File),
-            });
-        }
-    };
+    let octets = octets_of_file(rt, &alloc, path)?;
     match Connection::read(alloc, &octets) {
         Ok(file) => Ok(file),
         Err(fault) => Err(ConsoleFault::of_file(fault)),
@@ -101,6 +108,68 @@ fn local_port(stream: &TcpStream) -> Result<u16, ConsoleFault> {
     }
 }
 
+/// The connection to iopub over a stream, subscribed to all broadcasts.
+fn open_iopub(
+    alloc: Global,
+    stream: &TcpStream,
+) -> Result<Wire<&TcpStream, &TcpStream>, ConsoleFault> {
+    let mut iopub = open_wire(alloc, stream, Role::Sub)?;
+    subscribe(&mut iopub)?;
+    Ok(iopub)
+}
+
+/// The name of the session over a stream.
+fn session_over(alloc: Global, stream: &TcpStream) -> Result<String, ConsoleFault> {
+    let port = local_port(stream)?;
+    Ok(session_name(alloc, port)?)
+}
+
+/// The connection to shell over a stream, and the name of the session.
+fn open_shell(
+    alloc: Global,
+    stream: &TcpStream,
+) -> Result<(Wire<&TcpStream, &TcpStream>, String), ConsoleFault> {
+    let shell = open_wire(alloc, stream, Role::Dealer)?;
+    let session = session_over(alloc, stream)?;
+    Ok((shell, session))
+}
+
+/// Waits until broadcasts come over the stream, and then has the kernel do what the command says.
+fn greet_and_obey(
+    frontend: &mut Frontend<&TcpStream, &TcpStream>,
+    broadcasts: &TcpStream,
+    command: &Command,
+) -> Result<Told, ConsoleFault> {
+    set_patience(
+        broadcasts,
+        Some(Duration::from_millis(GREETING_MILLISECONDS)),
+    )?;
+    frontend.greet()?;
+    set_patience(broadcasts, None)?;
+    frontend.obey(command)
+}
+
+/// Opens the connection to shell, and has the kernel do what the command says, over it and the one to iopub.
+fn converse_over(
+    alloc: Global,
+    key: String,
+    broadcasts: &TcpStream,
+    iopub: Wire<&TcpStream, &TcpStream>,
+    requests: &TcpStream,
+    command: &Command,
+) -> Result<Told, ConsoleFault> {
+    let (shell, session) = open_shell(alloc, requests)?;
+    let mut frontend = Frontend {
+        alloc,
+        key,
+        session,
+        next: 0,
+        shell,
+        iopub,
+    };
+    greet_and_obey(&mut frontend, broadcasts, command)
+}
+
 /// Connects to iopub and then to shell, and has the kernel do what the command says.
 fn converse<R>(
     rt: &R,
@@ -112,26 +181,9 @@ where
     R: Net<Listener = TcpListener, Stream = TcpStream>,
 {
     let broadcasts = dial(rt, &file, file.iopub_port)?;
-    let mut iopub = open_wire(alloc, &broadcasts, Role::Sub)?;
-    subscribe(&mut iopub)?;
+    let iopub = open_iopub(alloc, &broadcasts)?;
     let requests = dial(rt, &file, file.shell_port)?;
-    let shell = open_wire(alloc, &requests, Role::Dealer)?;
-    let session = session_name(alloc, local_port(&requests)?)?;
-    let mut frontend = Frontend {
-        alloc,
-        key: file.key,
-        session,
-        next: 0,
-        shell,
-        iopub,
-    };
-    set_patience(
-        &broadcasts,
-        Some(Duration::from_millis(GREETING_MILLISECONDS)),
-    )?;
-    frontend.greet()?;
-    set_patience(&broadcasts, None)?;
-    frontend.obey(command)
+    converse_over(alloc, file.key, &broadcasts, iopub, &requests, command)
 }
 
 /// Has the kernel of a connection file do what the command says.

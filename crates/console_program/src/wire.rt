@@ -51,16 +51,27 @@ impl<R: Read + Drop, W: Write + Drop> Wire<R, W> {
             is_ready: false,
             messages: VecDeque::new(alloc),
         };
-        match wire.peer.opening() {
-            Ok(opening) => send(&mut wire.writer, &opening)?,
+        wire.begin()?;
+        Ok(wire)
+    }
+
+    /// Sends what goes first, and waits until the kernel is ready.
+    fn begin(&mut self) -> Result<(), ConsoleFault> {
+        match self.peer.opening() {
+            Ok(opening) => send(&mut self.writer, &opening)?,
             Err(fault) => return Err(peer_fault(fault)),
         }
+        self.await_ready()
+    }
+
+    /// Reads until the kernel is ready.
+    fn await_ready(&mut self) -> Result<(), ConsoleFault> {
         // A loop is proved to end, so this one counts its reads.
         for _ in 0..u64::MAX {
-            if wire.is_ready {
-                return Ok(wire);
+            if self.is_ready {
+                return Ok(());
             }
-            if !wire.read_once()? {
+            if !self.read_once()? {
                 return Err(ConsoleFault::NoConnection);
             }
         }
@@ -91,11 +102,17 @@ impl<R: Read + Drop, W: Write + Drop> Wire<R, W> {
             Err(fault) => return Err(peer_fault(fault)),
         };
         for event in events {
-            match event {
-                PeerEvent::Ready => self.is_ready = true,
-                PeerEvent::Message(frames) => self.messages.push_back(frames)?,
-                PeerEvent::Subscribe(_) | PeerEvent::Cancel(_) => {}
-            }
+            self.keep(event)?;
+        }
+        Ok(())
+    }
+
+    /// Keeps what an event tells.
+    fn keep(&mut self, event: PeerEvent) -> Result<(), ConsoleFault> {
+        match event {
+            PeerEvent::Ready => self.is_ready = true,
+            PeerEvent::Message(frames) => self.messages.push_back(frames)?,
+            PeerEvent::Subscribe(_) | PeerEvent::Cancel(_) => {}
         }
         Ok(())
     }

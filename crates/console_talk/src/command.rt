@@ -1,7 +1,7 @@
 //! What a console is asked to do.
 
 /// What a console is asked to do, once.
-#[derive(Debug, Drop, PartialEq, Eq)]
+#[derive(Drop)]
 pub enum Command {
     /// To run this text as a cell.
     Run(String),

@@ -8,18 +8,15 @@ use thiserror::Error;
 
 /// Why a console ends without an answer of the kernel.
 #[derive(Clone, Copy, Debug, PartialEq, Eq, Error)]
+#[error("{}", self.reason())]
 pub enum ConsoleFault {
     /// The field of the connection file is missing or wrong; `file` where there is no such file, or where it is no JSON object.
-    #[error("connection file: {}", .0.name())]
     BadFile(Setting),
     /// The kernel could not be reached, or it broke off, or what it said is no answer.
-    #[error("no connection")]
     NoConnection,
     /// There was no memory.
-    #[error("no memory")]
     NoMemory,
     /// The kernel closed the comm at once: as many are open as may be.
-    #[error("comm refused")]
     NoComm,
 }
 

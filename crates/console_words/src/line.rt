@@ -83,28 +83,40 @@ fn complete<'a>(alloc: Global) -> Result<Command<'a>, AllocError> {
     )
 }
 
-/// The program without its commands.
-fn bare<'a>(alloc: Global) -> Result<Command<'a>, AllocError> {
-    let connect = Arg::new(alloc, CONNECT)
+/// The option that gives the connection file.
+fn connect<'a>(alloc: Global) -> Arg<'a> {
+    Arg::new(alloc, CONNECT)
         .long("connect")
         .value_name("FILE")
         .required(true)
-        .help("The connection file of the kernel");
+        .help("The connection file of the kernel")
+}
+
+/// The program without its commands.
+fn bare<'a>(alloc: Global) -> Result<Command<'a>, AllocError> {
     Command::new(alloc, "janus-console")
         .bin_name("janus-console")?
         .about("Has a running kernel of Janus do one thing, and prints what came of it.")
         .subcommand_required(true)
         .disable_help_subcommand(true)
-        .arg(connect)
+        .arg(connect(alloc))
+}
+
+/// The program with one more command, if there was memory for that.
+fn with_command<'a>(
+    program: Command<'a>,
+    command: Result<Command<'a>, AllocError>,
+) -> Result<Command<'a>, AllocError> {
+    program.subcommand(command?)
 }
 
 /// The program's command line.
 pub(crate) fn program<'a>(alloc: Global) -> Result<Command<'a>, AllocError> {
     let program = bare(alloc)?;
-    let program = program.subcommand(run(alloc)?)?;
-    let program = program.subcommand(undo(alloc)?)?;
-    let program = program.subcommand(redo(alloc)?)?;
-    let program = program.subcommand(goto(alloc)?)?;
+    let program = with_command(program, run(alloc))?;
+    let program = with_command(program, undo(alloc))?;
+    let program = with_command(program, redo(alloc))?;
+    let program = with_command(program, goto(alloc))?;
     let program = program.subcommand(show(alloc))?;
-    program.subcommand(complete(alloc)?)
+    with_command(program, complete(alloc))
 }

@@ -32,7 +32,7 @@ impl Kind {
 }
 
 /// What is printed where the words ask for nothing that the kernel is to do.
-#[derive(Debug, Drop, PartialEq, Eq)]
+#[derive(Drop)]
 pub struct Refused {
     /// Why.
     pub kind: Kind,

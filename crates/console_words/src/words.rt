@@ -10,7 +10,7 @@ use std::alloc::{AllocError, Global};
 use std::convert::AsStr;
 
 /// What the words of a command line ask for.
-#[derive(Debug, Drop, PartialEq, Eq)]
+#[derive(Drop)]
 pub struct Arguments {
     /// The path of the connection file.
     pub file: String,

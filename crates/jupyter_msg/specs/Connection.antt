@@ -6,6 +6,7 @@ use Rattle.serde_json.specs.Find.{get, as_str, as_number, as_u64}
 use Rattle.jupyter_msg.specs.Fault.{setting_name}
 use Rattle.jupyter_msg.specs.Table.{first_failing}
 use Rattle.jupyter_msg.specs.declared.connection.Connection.{Connection}
+use Rattle.jupyter_msg.specs.declared.connection.Ports.{Ports}
 use Rattle.jupyter_msg.specs.declared.fault.MsgFault.{MsgFault}
 use Rattle.jupyter_msg.specs.declared.fault.MsgFault.TheVariants.{BadConnection}
 use Rattle.jupyter_msg.specs.declared.fault.Setting.{Setting}
@@ -40,17 +41,28 @@ is_text value = is_some (text value)
 abbrev pub is_port : Option Data → Bool
 is_port value = is_some (port value)
 
+-- the fields from the ports on, in the order in which they are looked at, and what each may be
+abbrev pub settings_from_ports : List (Setting × (Option Data → Bool))
+settings_from_ports =
+    (ShellPort, is_port) ∷ (IopubPort, is_port) ∷ (StdinPort, is_port) ∷ (ControlPort, is_port) ∷ (HbPort, is_port)
+    ∷ (Key, is_text) ∷ (SignatureScheme, is_word_if_there (codes "hmac-sha256")) ∷ []
+
 -- the fields in the order in which they are looked at, and what each may be
 abbrev pub settings : List (Setting × (Option Data → Bool))
-settings =
-    (Transport, is_word (codes "tcp")) ∷ (Ip, is_text)
-    ∷ (ShellPort, is_port) ∷ (IopubPort, is_port) ∷ (StdinPort, is_port) ∷ (ControlPort, is_port) ∷ (HbPort, is_port)
-    ∷ (Key, is_text) ∷ (SignatureScheme, is_word_if_there (codes "hmac-sha256")) ∷ []
+settings = (Transport, is_word (codes "tcp")) ∷ (Ip, is_text) ∷ settings_from_ports
 
 -- why octets are refused as a connection file: they are no JSON object, or the first wrong field
 abbrev pub file_refusal : Option Data → Option MsgFault
 file_refusal None = Some (BadConnection File)
 file_refusal (Some file) = option_map BadConnection (first_failing (λ s. setting s file) settings)
+
+-- the ports are the file's
+pub record ArePorts (file : Data) (p : Ports) : Type 0 where
+  pub shell : port (setting ShellPort file) ≡ Some p.shell
+  pub iopub : port (setting IopubPort file) ≡ Some p.iopub
+  pub stdin : port (setting StdinPort file) ≡ Some p.stdin
+  pub control : port (setting ControlPort file) ≡ Some p.control
+  pub hb : port (setting HbPort file) ≡ Some p.hb
 
 -- the connection has the file's fields
 pub record IsConnection (file : Data) (c : Connection) : Type 0 where

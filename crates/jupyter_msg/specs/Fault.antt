@@ -70,6 +70,17 @@ setting_name setting.HbPort = codes "hb_port"
 setting_name setting.Key = codes "key"
 setting_name setting.SignatureScheme = codes "signature_scheme"
 
+-- the name of the part or the field that is refused, if it is one alone
+abbrev pub place_name : MsgFault → Option (List ℕ)
+place_name NoDelimiter = None
+place_name ShortMessage = None
+place_name BadSignature = None
+place_name (NotJson p) = Some (part_name p)
+place_name (BadField f) = Some (field_name f)
+place_name UnknownType = None
+place_name Memory = None
+place_name (BadConnection s) = Some (setting_name s)
+
 -- There is an answer exactly where there is no refusal; else that refusal is told, or there was no memory.
 abbrev pub Refuses : {A : Type 0} → Result A MsgFault → Option MsgFault → Type 0
 Refuses (Ok x) refusal = refusal ≡ None

@@ -1,5 +1,5 @@
 //! Comms: channels of a frontend to a target in the kernel (Jupyter messaging page, "Custom Messages").
-ghost use Rattle.std.specs.Prelude.{◌≡◌, Some, option_and_then, option_map, string_bytes};
+ghost use Rattle.std.specs.Prelude.{◌≡◌, Some, None, option_and_then, option_map, string_bytes};
 ghost use Rattle.serde_json.specs.View.{view};
 ghost use Rattle.jupyter_msg.specs.Asked.{Reads};
 ghost use Rattle.jupyter_msg.specs.Fields.{first_wrong, text_at, count_at};
@@ -68,20 +68,39 @@ fn number_asked(data: &Value) -> Option<u32>
     }
 }
 
+/// What an operation asks with a number beside it.
+fn numbered_ask(name: &str, n: u32) -> CommAsk
+    ensures { result ≡ operation_asks name.now (Some n) }
+{
+    if name == "undo" {
+        CommAsk::Undo(n)
+    } else if name == "redo" {
+        CommAsk::Redo(n)
+    } else if name == "goto" {
+        CommAsk::Goto(n)
+    } else {
+        bare_ask(name)
+    }
+}
+
+/// What an operation asks with no number beside it.
+fn bare_ask(name: &str) -> CommAsk
+    ensures { result ≡ operation_asks name.now None }
+{
+    if name == "state" {
+        CommAsk::State
+    } else {
+        CommAsk::Other
+    }
+}
+
 /// What an operation asks, with the number beside it.
 fn operation_ask(name: &str, n: Option<u32>) -> CommAsk
     ensures { result ≡ operation_asks name.now n }
 {
-    if name == "undo" {
-        n.map_or(CommAsk::Other, CommAsk::Undo)
-    } else if name == "redo" {
-        n.map_or(CommAsk::Other, CommAsk::Redo)
-    } else if name == "goto" {
-        n.map_or(CommAsk::Other, CommAsk::Goto)
-    } else if name == "state" {
-        CommAsk::State
-    } else {
-        CommAsk::Other
+    match n {
+        Some(n) => numbered_ask(name, n),
+        None => bare_ask(name),
     }
 }
 

@@ -5,7 +5,8 @@ ghost use Rattle.serde_json.specs.View.{view};
 ghost use Rattle.serde_json.specs.Data.{Data};
 ghost use Rattle.jupyter_msg.specs.Object.{object_of};
 ghost use Rattle.jupyter_msg.specs.Fault.{Refuses};
-ghost use Rattle.jupyter_msg.specs.Connection.{setting, text, port, is_word, is_word_if_there, file_refusal, IsConnection};
+ghost use Rattle.jupyter_msg.specs.Connection.{setting, text, port, is_word, is_word_if_there, settings_from_ports, file_refusal, ArePorts, IsConnection};
+ghost use Rattle.jupyter_msg.specs.Table.{first_failing};
 
 use crate::fault::{MsgFault, Setting};
 use crate::object::object_of;
@@ -77,6 +78,36 @@ fn port_of(file: &Value, of: Setting) -> Result<u16, MsgFault>
     }
 }
 
+/// The ports of a connection file.
+#[derive(Drop)]
+struct Ports {
+    shell: u16,
+    iopub: u16,
+    stdin: u16,
+    control: u16,
+    hb: u16,
+}
+
+/// The ports of a file.
+fn ports_of(file: &Value) -> Result<Ports, MsgFault>
+    ensures ports { IfOk result (ArePorts (view file.now)) }
+    ensures refused { IfErr result (λ e. option_map MsgFault.BadConnection
+        (first_failing (λ s. setting s (view file.now)) settings_from_ports) ≡ Some e) }
+{
+    let shell = port_of(file, Setting::ShellPort)?;
+    let iopub = port_of(file, Setting::IopubPort)?;
+    let stdin = port_of(file, Setting::StdinPort)?;
+    let control = port_of(file, Setting::ControlPort)?;
+    let hb = port_of(file, Setting::HbPort)?;
+    Ok(Ports {
+        shell,
+        iopub,
+        stdin,
+        control,
+        hb,
+    })
+}
+
 /// Passes a field that is this text.
 fn check_word(file: &Value, of: Setting, word: &str) -> Result<(), MsgFault>
     ensures word { OnOk result (is_word word.now (setting of (view file.now)) ≡ true) }
@@ -125,22 +156,26 @@ impl Connection {
         ensures exactly { Refuses result (file_refusal (object_of octets.now)) }
     {
         let file = file_of(alloc, octets)?;
-        check_word(&file, Setting::Transport, "tcp")?;
-        let ip = text_of(alloc, &file, Setting::Ip)?;
-        let shell_port = port_of(&file, Setting::ShellPort)?;
-        let iopub_port = port_of(&file, Setting::IopubPort)?;
-        let stdin_port = port_of(&file, Setting::StdinPort)?;
-        let control_port = port_of(&file, Setting::ControlPort)?;
-        let hb_port = port_of(&file, Setting::HbPort)?;
-        let key = text_of(alloc, &file, Setting::Key)?;
-        check_word_if_there(&file, Setting::SignatureScheme, "hmac-sha256")?;
+        Connection::of_file(alloc, &file)
+    }
+
+    /// Reads the fields of a connection file.
+    fn of_file(alloc: Global, file: &Value) -> Result<Connection, MsgFault>
+        ensures connection { IfOk result (IsConnection (view file.now)) }
+        ensures exactly { Refuses result (file_refusal (Some (view file.now))) }
+    {
+        check_word(file, Setting::Transport, "tcp")?;
+        let ip = text_of(alloc, file, Setting::Ip)?;
+        let ports = ports_of(file)?;
+        let key = text_of(alloc, file, Setting::Key)?;
+        check_word_if_there(file, Setting::SignatureScheme, "hmac-sha256")?;
         Ok(Connection {
             ip,
-            shell_port,
-            iopub_port,
-            stdin_port,
-            control_port,
-            hb_port,
+            shell_port: ports.shell,
+            iopub_port: ports.iopub,
+            stdin_port: ports.stdin,
+            control_port: ports.control,
+            hb_port: ports.hb,
             key,
         })
     }

@@ -1,5 +1,5 @@
 //! The request to execute a cell (Jupyter messaging page, "Execute").
-ghost use Rattle.std.specs.Prelude.{◌≡◌, ◌⊎◌, [], true, false, Some, None, IfOk, IfErr, option_and_then, unwrap_or, string_bytes};
+ghost use Rattle.std.specs.Prelude.{◌≡◌, ◌⊎◌, ◌++◌, ◌∷◌, [], true, false, Some, None, IfOk, IfErr, OnOk, option_and_then, unwrap_or, string_bytes};
 ghost use Rattle.serde_json.specs.Find.{as_str};
 ghost use Rattle.serde_json.specs.View.{view, members_view};
 ghost use Rattle.jupyter_msg.specs.Asked.{Reads};
@@ -51,6 +51,23 @@ fn expression_of(alloc: Global, name: &str, value: &Value) -> Result<UserExpress
     }
 }
 
+/// Adds the expression of one member.
+fn push_expression(
+    alloc: Global,
+    expressions: &mut Vec<UserExpression>,
+    name: &str,
+    value: &Value,
+) -> Result<(), MsgFault>
+    ensures more { OnOk result ((e : UserExpression) × (expressions.new.items ≡ expressions.old.items ++ e ∷ [])
+        × (string_bytes e.name ≡ name.now) × (as_str (view value.now) ≡ Some (string_bytes e.expression))) }
+    ensures refused { IfErr result (λ e. (e ≡ MsgFault.Memory)
+        ⊎ ((e ≡ MsgFault.BadField Field.UserExpressions) × (as_str (view value.now) ≡ None))) }
+{
+    let expression = expression_of(alloc, name, value)?;
+    expressions.push(expression)?;
+    Ok(())
+}
+
 /// The expressions of an object whose members are all texts.
 fn expressions_in(alloc: Global, map: &Map<String, Value>) -> Result<Vec<UserExpression>, MsgFault>
     ensures value { IfOk result (λ v. texts_in (members_view map.now.entries)
@@ -61,7 +78,7 @@ fn expressions_in(alloc: Global, map: &Map<String, Value>) -> Result<Vec<UserExp
 {
     let mut expressions = Vec::with_capacity(alloc, map.len())?;
     for (name, value) in map.iter() {
-        expressions.push(expression_of(alloc, name, value)?)?;
+        push_expression(alloc, &mut expressions, name, value)?;
     }
     Ok(expressions)
 }

@@ -1,8 +1,9 @@
 //! Why a message, a request or a connection file is refused.
-ghost use Rattle.std.specs.Prelude.{◌≡◌};
-ghost use Rattle.jupyter_msg.specs.Fault.{number_of, fault_name, part_name, field_name, setting_name};
+ghost use Rattle.std.specs.Prelude.{◌≡◌, option_map};
+ghost use Rattle.jupyter_msg.specs.Fault.{number_of, fault_name, place_name, part_name, field_name, setting_name};
 
 use std::alloc::{AllocError, AllocFailed};
+use std::fmt;
 use thiserror::Error;
 
 /// One of the four parts of a message that are signed.
@@ -148,7 +149,6 @@ impl Setting {
 
 /// Why a message, a request or a connection file is refused.
 #[derive(Clone, Copy, Debug, PartialEq, Eq, Error)]
-#[error("{}", self.name())]
 pub enum MsgFault {
     /// No frame is the delimiter `<IDS|MSG>`.
     NoDelimiter,
@@ -157,17 +157,14 @@ pub enum MsgFault {
     /// The signature is not that of the four parts under the key.
     BadSignature,
     /// The part is not the text of a JSON object.
-    #[error("{} {}", self.name(), .0.name())]
     NotJson(Part),
     /// The field is missing, or its value is none that the field may have.
-    #[error("{} {}", self.name(), .0.name())]
     BadField(Field),
     /// No request has this type.
     UnknownType,
     /// There was no memory.
     Memory,
     /// The field of the connection file is missing, or its value is none that the field may have.
-    #[error("{} {}", self.name(), .0.name())]
     BadConnection(Setting),
 }
 
@@ -201,6 +198,35 @@ impl MsgFault {
             MsgFault::UnknownType => "UnknownType",
             MsgFault::Memory => "Memory",
             MsgFault::BadConnection(_) => "BadConnection",
+        }
+    }
+}
+
+impl MsgFault {
+    /// The name of the part or the field that is refused, if it is one alone.
+    fn place(self) -> Option<&'static str>
+        ensures { option_map (λ name. name.now) result ≡ place_name self }
+    {
+        match self {
+            MsgFault::NotJson(part) => Some(part.name()),
+            MsgFault::BadField(field) => Some(field.name()),
+            MsgFault::BadConnection(setting) => Some(setting.name()),
+            MsgFault::NoDelimiter
+            | MsgFault::ShortMessage
+            | MsgFault::BadSignature
+            | MsgFault::UnknownType
+            | MsgFault::Memory => None,
+        }
+    }
+}
+
+/// The refusal's word, and behind a space the name of what is refused, if there is one.
+impl fmt::Display for MsgFault {
+    fn fmt<W: fmt::Write>(&self, f: &mut fmt::Formatter<W>) -> fmt::Result {
+        f.write_str(self.name())?;
+        match self.place() {
+            Some(place) => write!(f, " {place}"),
+            None => Ok(()),
         }
     }
 }

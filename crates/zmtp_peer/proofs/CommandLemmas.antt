@@ -2,10 +2,9 @@
 use Rattle.std.proofs.Common.{◌≡◌, ℕ, zero, suc, ◌<◌, ◌≤◌, Bool, true, false, List, [], ◌∷◌, Option, Some, None, length, refl, ap, sym, subst, ◌∙◌, arith, cond}
 use Rattle.std.specs.Option.{option_and_then, option_map, option_or}
 use Rattle.std.specs.Str.{str_eq_ignore_ascii_case}
-use Rattle.std.specs.Int.{w32, from_be_bytes}
 use Rattle.std.proofs.lemmas.Option.{option_and_then_some, cond_some}
 use Rattle.std.proofs.lemmas.List.{length-drop}
-use Rattle.zmtp_peer.specs.Commands.{cut, sized, Property, property_at, metadata_within, metadata_of, value_of}
+use Rattle.zmtp_peer.specs.Commands.{cut, sized, sized_by_four, Property, property_at, metadata_within, metadata_of, value_of}
 
 -- a cut leaves no more than there was
 pub cut-shorter : (n : ℕ) (xs : List ℕ) (y : List ℕ × List ℕ) → cut n xs ≡ Some y → length y.1 ≤ length xs
@@ -21,16 +20,21 @@ sized-shorter (n ∷ xs) y h = omega (arith, cut-shorter n xs y h)
 second_of : (p : Property) (r : List ℕ) (y : Property × List ℕ) → ◌≡◌ {A = Option (Property × List ℕ)} (Some (p, r)) (Some y) → r ≡ y.1
 second_of p r y h = ap (λ (o : Option (Property × List ℕ)). elim o [ None ↦ r | Some q ↦ q.1 ]) h
 
+-- octets behind a length of four octets are no more than there were
+sized_by_four-shorter : (xs : List ℕ) (y : List ℕ × List ℕ) → sized_by_four xs ≡ Some y → length y.1 ≤ length xs
+sized_by_four-shorter xs y h =
+    option_and_then_some _ (cut 4 xs) y h (λ (size : List ℕ × List ℕ) is_size after_size.
+    omega (arith, cut-shorter 4 xs size is_size, cut-shorter _ size.1 y after_size))
+
 -- a property leaves fewer than there were
 pub property_at-shorter : (xs : List ℕ) (y : Property × List ℕ) → property_at xs ≡ Some y → length y.1 < length xs
 unfolding property_at
 property_at-shorter xs y h =
     option_and_then_some _ (sized xs) y h (λ (name : List ℕ × List ℕ) is_name after_name.
-    option_and_then_some _ (cut 4 name.1) y after_name (λ (size : List ℕ × List ℕ) is_size after_size.
-    option_and_then_some _ (cut (from_be_bytes w32 size.0) size.1) y after_size (λ (value : List ℕ × List ℕ) is_value end.
+    option_and_then_some _ (sized_by_four name.1) y after_name (λ (value : List ℕ × List ℕ) is_value end.
     let last : value.1 ≡ y.1 = second_of _ _ y end in
-    let shorter : length value.1 < length xs = omega (arith, sized-shorter xs name is_name, cut-shorter 4 name.1 size is_size, cut-shorter _ size.1 value is_value) in
-    subst (λ (r : List ℕ). length r < length xs) last shorter)))
+    let shorter : length value.1 < length xs = omega (arith, sized-shorter xs name is_name, sized_by_four-shorter name.1 value is_value) in
+    subst (λ (r : List ℕ). length r < length xs) last shorter))
 
 -- two ways on from an option are one where they are one at its value
 and_then-same : {A B : Type 0} (f g : A → Option B) (o : Option A) → ((y : A) → o ≡ Some y → f y ≡ g y) → option_and_then f o ≡ option_and_then g o

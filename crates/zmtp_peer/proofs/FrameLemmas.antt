@@ -1,15 +1,20 @@
 -- One more frame of a stream, and what frames tell.
-use Rattle.std.proofs.Common.{◌≡◌, ℕ, ◌<◌, List, [], ◌∷◌, ◌++◌, length, refl, ap, sym, ◌∙◌, arith, append_assoc, append-nil, length-append}
-use Rattle.std.proofs.Common.{Result, Ok, Err, OnOk, map, get_or}
+use Rattle.std.proofs.Common.{◌≡◌, ℕ, ◌<◌, List, [], ◌∷◌, ◌++◌, length, refl, ap, sym, ◌∙◌, arith, append_assoc, append-nil, length-append, inl, inr}
+use Rattle.std.proofs.Common.{Result, Ok, Err, OnOk, IfOk, IsErr, map, get_or}
 use Rattle.std.specs.declared.alloc.Global.{Global}
 use Rattle.std.specs.declared.vec.Vec.{Vec}
+use Rattle.std.proofs.lemmas.List.{take-append-le}
+use Rattle.std.proofs.lemmas.Bool.{false≢true}
 use Rattle.zmtp_wire.specs.Frame.{Frame}
-use Rattle.zmtp_wire.specs.Stream.{Rest, Takes, Leaves}
+use Rattle.zmtp_wire.specs.Stream.{Rest, Takes, Leaves, IsPartial}
 use Rattle.zmtp_wire.proofs.Streams.{leaves_more}
 use Rattle.zmtp_peer.specs.declared.role.Role.{Role}
 use Rattle.zmtp_peer.specs.declared.intake.Intake.{Intake}
 use Rattle.zmtp_peer.specs.Events.{Event, State, after_frame, frame_told, after, told, bodies}
-use Rattle.zmtp_peer.specs.Intake.{first_of, state_of, told_by, Keeps}
+use Rattle.zmtp_peer.specs.declared.fault.PeerFault.{PeerFault}
+use Rattle.zmtp_peer.specs.declared.intake.Stage.{Stage}
+use Rattle.zmtp_peer.specs.declared.intake.Stage.TheVariants as stage
+use Rattle.zmtp_peer.specs.Intake.{first_of, state_at, state_of, told_by, Keeps, IsRefusal, TakesFrames}
 
 -- frames are taken, and nothing ends them yet
 pub record Taken (role : Role) (rest : Rest) (old : Intake) (behind : Rest) (new : Intake) : Type 0 where
@@ -51,6 +56,18 @@ keeps-same xs n h = (h, refl)
 pub keeps-then : (xs ys zs : List (List ℕ)) → Keeps xs ys → Keeps ys zs → Keeps xs zs
 keeps-then xs ys zs a b n h = ((b n (a n h).0).0, (b n (a n h).0).1 ∙ (a n h).1)
 
+keeps-append : (xs ys : List (List ℕ)) → Keeps xs (xs ++ ys)
+keeps-append xs ys n h = (omega (arith, length-append xs ys), take-append-le n xs ys h)
+
+-- the front where more frames are held, and where they became a whole message
+pub keeps-held : (messages : List (List (List ℕ))) (held more : List (List ℕ)) → Keeps (first_of messages held) (first_of messages (held ++ more))
+keeps-held [] held more = keeps-append held more
+keeps-held (message ∷ messages) held more = keeps-same message
+
+pub keeps-whole : (messages : List (List (List ℕ))) (held left : List (List ℕ)) → Keeps (first_of messages held) (first_of (messages ++ held ∷ []) left)
+keeps-whole [] held left = keeps-same held
+keeps-whole (message ∷ messages) held left = keeps-same message
+
 -- nothing is taken yet
 pub taken-none : (role : Role) (rest : Rest) (intake : Intake) → Taken role rest intake rest intake
 taken-none role rest intake = record { frames = []; left = refl; events = sym (append-nil (told_by role intake)); state = refl }
@@ -67,10 +84,32 @@ taken-more role rest old behind next new last f t takes state events = record {
   state = state ∙ ap (λ s. after_frame role s f) t.state ∙ sym (after-append role (state_of old) t.frames (f ∷ []));
 }
 
+-- frames are taken, up to one that refuses the peer, or up to the end of what came
+pub taken-refused : (role : Role) (rest : Rest) (old : Intake) (behind : Rest) (new : Intake) → Taken role rest old behind new → IsRefusal (state_of new) → TakesFrames role rest old behind new
+taken-refused role rest old behind new t refused = record { frames = t.frames; left = t.left; events = t.events; ends = inr (inl (t.state, refused)) }
+
+pub taken-partial : (role : Role) (rest : Rest) (old : Intake) (behind : Rest) (new : Intake) → Taken role rest old behind new → IsPartial behind → ¬ (IsRefusal (state_of new)) → TakesFrames role rest old behind new
+taken-partial role rest old behind new t partial going = record { frames = t.frames; left = t.left; events = t.events; ends = inl (partial, t.state, going) }
+
+-- a stage that is no refusal
+pub going-on : (at : Stage) (held : List (List ℕ)) → ((fault : PeerFault) → at ≡ stage.Refused fault → ⊥) → ¬ (IsRefusal (state_at at held))
+going-on stage.Opening held h = λ refused. refused
+going-on stage.Open held h = λ refused. refused
+going-on (stage.Refused fault) held h = λ refused. h fault refl
+
 -- what holds anyway holds at Ok
 pub on_ok : {T E P : Type 0} (r : Result T E) → P → OnOk r P
 on_ok (Ok x) p = p
 on_ok (Err e) p = tt
+
+-- what would hold at Ok, where there is an error
+pub not_ok : {T E : Type 0} (P : Type 0) (r : Result T E) → IsErr r → OnOk r P
+not_ok P (Ok x) h = absurd (false≢true h)
+not_ok P (Err e) h = tt
+
+pub not_if_ok : {T E : Type 0} (P : T → Type 0) (r : Result T E) → IsErr r → IfOk r P
+not_if_ok P (Ok x) h = absurd (false≢true h)
+not_if_ok P (Err e) h = tt
 
 -- the front where no message became whole, and where one did
 pub front-none : (ws : List (Vec (Vec ℕ Global) Global)) (held : List (List ℕ)) → length ws ≡ 0 → first_of (map (λ message. bodies message.items) ws) held ≡ held

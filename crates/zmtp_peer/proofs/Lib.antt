@@ -2,6 +2,7 @@ pub mod CommandLemmas
 pub mod TableLemmas
 pub mod TidyLemmas
 pub mod FrameLemmas
+pub mod FeedLemmas
 pub mod GivingBack
 pub mod RoomLemmas
 pub mod ReadingLemmas

@@ -19,6 +19,10 @@ grows-more n m a b c g h less = record {
   room = omega (arith, g.held, g.room, h.room);
 }
 
+-- no more than more
+pub grows-within : (n m : ℕ) (a b : Intake) → GrowsBy n a b → n ≤ m → GrowsBy m a b
+grows-within n m a b g less = record { whole = omega (arith, g.whole); held = omega (arith, g.held); room = omega (arith, g.room) }
+
 -- more octets came, and fewer events
 pub reserves-within : (octets more frames : ℕ) (old new : Room) (events : ℕ) → ReservesFor octets frames old new events → octets ≤ more → ReservesFor more frames old new events
 reserves-within octets more frames old new events r less = record { stream = omega (arith, r.stream); held = omega (arith, r.held); told = omega (arith, r.told) }

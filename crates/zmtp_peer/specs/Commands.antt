@@ -16,6 +16,12 @@ abbrev pub sized : List ℕ → Option (List ℕ × List ℕ)
 sized [] = None
 sized (n ∷ octets) = cut n octets
 
+-- the same with a length of four octets, in network order
+abbrev pub sized_by_four : List ℕ → Option (List ℕ × List ℕ)
+sized_by_four octets = do
+  size ← cut 4 octets
+  cut (from_be_bytes w32 size.0) size.1
+
 -- a command's body is an octet with the name's length, the name, and data: its name and its data
 unfoldable pub command_of : List ℕ → Option (List ℕ × List ℕ)
 command_of body = sized body
@@ -36,8 +42,7 @@ pub record Property : Type 0 where
 unfoldable pub property_at : List ℕ → Option (Property × List ℕ)
 property_at octets = do
   name ← sized octets
-  size ← cut 4 name.1
-  value ← cut (from_be_bytes w32 size.0) size.1
+  value ← sized_by_four name.1
   Some (record { name = name.0; value = value.0 }, value.1)
 
 -- the properties that octets are, one behind the other, where there are no more than n

@@ -3,16 +3,17 @@ ghost use Rattle.std.specs.Prelude.{◌≡◌, ◌<◌, ◌≤◌, Option, optio
 ghost use Rattle.std.specs.Option.{option_or, option_copied};
 ghost use Rattle.std.specs.Result.{result_ok};
 ghost use Rattle.std.specs.Str.{str_eq_ignore_ascii_case};
-ghost use Rattle.zmtp_peer.specs.Commands.{command_of, reason_of, property_at, sized, cut, announced};
+ghost use Rattle.zmtp_peer.specs.Commands.{command_of, reason_of, property_at, sized, sized_by_four, announced};
 
 /// The data of a READY doesn't fit its lengths.
-#[derive(Clone, Copy, Debug, PartialEq, Eq)]
+#[derive(Drop)]
 pub(crate) struct Misfit;
 
 /// An octet with a length, so many octets, and those behind them.
 fn sized(octets: &[u8]) -> Option<(&[u8], &[u8])>
     ensures read { option_map (λ x. (x.0.now, x.1.now)) result ≡ sized octets.now }
     ensures short { IfSome result (λ x. length x.0.now ≤ 255) }
+    ensures less { IfSome result (λ x. length x.1.now < length octets.now) }
 {
     let (length, octets) = octets.split_first()?;
     octets.split_at_checked(*length as usize)
@@ -36,6 +37,15 @@ pub(crate) fn reason(octets: &[u8]) -> Option<&[u8]>
     if rest.is_empty() { Some(reason) } else { None }
 }
 
+/// Four octets with a length, so many octets, and those behind them.
+fn sized_by_four(octets: &[u8]) -> Option<(&[u8], &[u8])>
+    ensures read { option_map (λ x. (x.0.now, x.1.now)) result ≡ sized_by_four octets.now }
+    ensures less { IfSome result (λ x. length x.1.now < length octets.now) }
+{
+    let (size, octets) = octets.split_first_chunk::<4>()?;
+    octets.split_at_checked(u32::from_be_bytes(*size) as usize)
+}
+
 /// The property at the front: its name, its value, and the octets behind it.
 #[tactic(auto, unfolding(crate::specs::Commands::property_at))]
 fn property(octets: &[u8]) -> Option<(&[u8], &[u8], &[u8])>
@@ -44,9 +54,7 @@ fn property(octets: &[u8]) -> Option<(&[u8], &[u8], &[u8])>
     ensures less { IfSome result (λ x. length x.2.now < length octets.now) }
 {
     let (name, octets) = sized(octets)?;
-    let (size, octets) = octets.split_first_chunk::<4>()?;
-    let size = u32::from_be_bytes(*size);
-    let (value, octets) = octets.split_at_checked(size as usize)?;
+    let (value, octets) = sized_by_four(octets)?;
     Some((name, value, octets))
 }
 

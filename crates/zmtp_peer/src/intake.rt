@@ -1,5 +1,5 @@
 //! What the frames of one piece bring. The peer keeps none of it until all memory is there.
-ghost use Rattle.std.specs.Prelude.{◌≡◌, ◌++◌, ◌∷◌, [], ℕ, ◌+◌, ◌*◌, ◌≤◌, ◌≢◌, OnOk, OnErr, length, max, true, false, vec_len, vec_capacity};
+ghost use Rattle.std.specs.Prelude.{◌≡◌, ◌++◌, ◌∷◌, [], ℕ, ◌+◌, ◌*◌, ◌≤◌, ◌≢◌, OnOk, OnErr, length, map, max, true, false, vec_len, vec_capacity};
 ghost use Rattle.zmtp_peer.specs.declared.role.Role.{Role};
 ghost use Rattle.zmtp_wire.specs.Frame.{frame_of};
 ghost use Rattle.zmtp_peer.specs.Events.{after_frame, frame_told, bodies};
@@ -119,15 +119,38 @@ fn hold(alloc: Global, intake: &mut Intake, more: bool, body: Vec<u8>) -> Result
     ensures grows { OnOk result (GrowsBy 1 intake.old intake.new) }
 {
     if !more && intake.held.is_empty() {
-        let mut message = Vec::with_capacity(alloc, 1)?;
-        message.push_reserved(body);
-        intake.whole.push(message)?;
-        return Ok(());
+        return add_alone(alloc, &mut intake.whole, body);
     }
     add_frame(&mut intake.held, body)?;
     if more {
         return Ok(());
     }
+    complete(alloc, intake)
+}
+
+/// Adds a whole message of one frame.
+fn add_alone(alloc: Global, whole: &mut Vec<Vec<Vec<u8>>>, body: Vec<u8>) -> Result<(), AllocError>
+    ensures ok { OnOk result (map (λ message. bodies message.items) whole.new.items
+        ≡ map (λ message. bodies message.items) whole.old.items ++ (body.items ∷ []) ∷ []) }
+    ensures err { OnErr result (whole.new.items ≡ whole.old.items) }
+    ensures length { OnOk result (vec_len whole.new ≡ vec_len whole.old + 1) }
+{
+    let mut message = Vec::with_capacity(alloc, 1)?;
+    message.push_reserved(body);
+    whole.push(message)?;
+    Ok(())
+}
+
+/// Makes the frames that are held a whole message.
+fn complete(alloc: Global, intake: &mut Intake) -> Result<(), AllocError>
+    ensures stage { intake.new.stage ≡ intake.old.stage }
+    ensures ready { intake.new.ready ≡ intake.old.ready }
+    ensures kept { Keeps (front_of intake.old) (front_of intake.new) }
+    ensures whole { OnOk result (messages_of intake.new ≡ messages_of intake.old ++ bodies intake.old.held.items ∷ []) }
+    ensures held { OnOk result (intake.new.held.items ≡ []) }
+    ensures room { OnOk result (vec_capacity intake.new.held ≡ 0) }
+    ensures length { OnOk result (vec_len intake.new.whole ≡ vec_len intake.old.whole + 1) }
+{
     let message = mem::replace(&mut intake.held, Vec::new(alloc));
     match intake.whole.push(message) {
         Ok(()) => Ok(()),

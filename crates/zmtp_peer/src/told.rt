@@ -1,7 +1,7 @@
 //! What whole messages are told as, by role.
 ghost use Rattle.std.specs.Prelude.{◌≡◌, ◌++◌, ◌∷◌, [], ◌+◌, ◌<◌, ◌≤◌, drop, map, option_map, option_to_list, length, vec_len, vec_capacity, if◌then◌else◌};
 ghost use Rattle.std.specs.List.{flat_map};
-ghost use Rattle.zmtp_peer.specs.Events.{Ready, event_of, events_of, bodies, message_told, told_to_publisher};
+ghost use Rattle.zmtp_peer.specs.Events.{Ready, event_of, events_of, bodies, message_told, subscription_told, told_to_publisher};
 
 use crate::event::PeerEvent;
 use crate::role::Role;
@@ -29,6 +29,13 @@ fn subscription(mut message: Vec<Vec<u8>>) -> Option<PeerEvent>
         return None;
     }
     let frame = message.pop()?;
+    subscription_in(frame)
+}
+
+/// The subscription that a frame makes or takes back, if it does.
+fn subscription_in(frame: Vec<u8>) -> Option<PeerEvent>
+    ensures { option_to_list (option_map event_of result) ≡ subscription_told frame.items }
+{
     let first = *frame.first()?;
     match first {
         1 => Some(PeerEvent::Subscribe(behind_first(frame))),
@@ -44,6 +51,19 @@ fn behind_first(mut octets: Vec<u8>) -> Vec<u8>
 {
     octets.remove(0);
     octets
+}
+
+/// Adds what a whole message is told as, if it is told at all. There is room for it.
+fn push_told(role: Role, message: Vec<Vec<u8>>, events: &mut Vec<PeerEvent>)
+    requires { vec_len events.old < vec_capacity events.old }
+    ensures told { events_of events.new.items
+        ≡ events_of events.old.items ++ message_told role (bodies message.items) }
+    ensures few { vec_len events.new ≤ vec_len events.old + 1 }
+    ensures capacity { vec_capacity events.new ≡ vec_capacity events.old }
+{
+    if let Some(event) = told_as(role, message) {
+        events.push_reserved(event);
+    }
 }
 
 /// The events of messages, behind READY where it came. They go into the room that was made for them.
@@ -66,11 +86,8 @@ pub(crate) fn tell(
         events.push_reserved(PeerEvent::Ready);
     }
     for i in 0..messages.len() {
-        let slot = &mut messages[i];
-        let message = mem::replace(slot, Vec::new(alloc));
-        if let Some(event) = told_as(role, message) {
-            events.push_reserved(event);
-        }
+        let message = mem::replace(&mut messages[i], Vec::new(alloc));
+        push_told(role, message, &mut events);
     }
     events
 }
