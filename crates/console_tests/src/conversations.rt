@@ -141,14 +141,20 @@ fn noise(rt: &impl Abort, alloc: Global) -> Slow {
     stream
 }
 
-/// A line of the type and the content of a message that a console wrote.
-fn line_of(rt: &impl Abort, alloc: Global, frames: Vec<Vec<u8>>) -> String {
-    let message = open(alloc, frames, KEY)
-        .expect(rt, "a message under the key")
-        .message;
+/// Adds a line of the type and the content of a message.
+fn push_line(rt: &impl Abort, alloc: Global, text: &mut String, message: &Message) {
     let msg_type = message.msg_type(alloc).expect(rt, "a type");
-    let content = str::from_utf8(&message.content).expect(rt, "a text");
-    format!(in alloc; "{msg_type} {content}\n").expect(rt, "a line")
+    let content = str::from_utf8(&message.content).expect(rt, "a content");
+    let line = format!(in alloc; "{msg_type} {content}\n").expect(rt, "a line");
+    text.push_str(&line).expect(rt, "a longer text");
+}
+
+/// Adds a line of what a console wrote by this event of its connection.
+fn push_event(rt: &impl Abort, alloc: Global, text: &mut String, event: PeerEvent) {
+    if let PeerEvent::Message(frames) = event {
+        let opened = open(alloc, frames, KEY).expect(rt, "a message under the key");
+        push_line(rt, alloc, text, &opened.message);
+    }
 }
 
 /// What a console wrote on shell: the type and the content of each message.
@@ -156,10 +162,7 @@ fn written(rt: &impl Abort, alloc: Global, octets: &[u8]) -> String {
     let mut peer = Peer::new(alloc, Role::Router);
     let mut text = String::new(alloc);
     for event in peer.feed(octets).expect(rt, "frames") {
-        if let PeerEvent::Message(frames) = event {
-            text.push_str(&line_of(rt, alloc, frames))
-                .expect(rt, "a longer text");
-        }
+        push_event(rt, alloc, &mut text, event);
     }
     text
 }
@@ -204,6 +207,17 @@ fn converse_over(
     (came, text)
 }
 
+/// Compares what is printed, and the status.
+fn check_told(rt: &impl Abort, told: &Told, lines: &str, status: u8) {
+    assert_eq!(rt; told.lines.as_str(), lines);
+    assert_eq!(rt; told.status(), status);
+}
+
+/// Compares what was written on shell.
+fn check_written(rt: &impl Abort, text: &str, want: &str) {
+    assert_eq!(rt; text, want);
+}
+
 /// Has a conversation, and compares what is printed, the status, and what was written on shell.
 fn check(
     rt: &impl Abort,
@@ -213,12 +227,11 @@ fn check(
     command: &Command,
     want: (&str, u8, &str),
 ) {
+    let (lines, status, asked) = want;
     let broadcasts = stream(rt, alloc, Role::Pub, iopub);
     let (came, text) = converse_over(rt, alloc, shell, broadcasts, command);
-    let told = came.expect(rt, "what is printed");
-    assert_eq!(rt; told.lines.as_str(), want.0);
-    assert_eq!(rt; told.status(), want.1);
-    assert_eq!(rt; text.as_str(), want.2);
+    check_told(rt, &came.expect(rt, "what is printed"), lines, status);
+    check_written(rt, &text, asked);
 }
 
 #[test]
@@ -317,52 +330,71 @@ fn completes(rt: HostRuntime) {
     );
 }
 
+/// What is wanted of the kernel on a comm.
+#[derive(Clone, Copy)]
+enum Wanted {
+    Undo(u32),
+    Redo(u32),
+    Goto(u32),
+    Show,
+}
+
+/// The command that asks for it.
+fn command_of(wanted: Wanted) -> Command {
+    match wanted {
+        Wanted::Undo(k) => Command::Undo(k),
+        Wanted::Redo(k) => Command::Redo(k),
+        Wanted::Goto(node) => Command::Goto(node),
+        Wanted::Show => Command::Show,
+    }
+}
+
 /// The data of an answer on a comm, what is printed of it, and the status.
-const ANSWERS: [(Command, &str, &str, &str, u8); 7] = [
+const ANSWERS: [(Wanted, &str, &str, &str, u8); 7] = [
     (
-        Command::Undo(1),
+        Wanted::Undo(1),
         r#"{"n":1,"op":"undo"}"#,
         r#"{"comm_id":"console-7","data":{"end":"all","node":0,"op":"undo","redone":0,"status":"ok","undone":1}}"#,
         "undid 1\n",
         0,
     ),
     (
-        Command::Redo(2),
+        Wanted::Redo(2),
         r#"{"n":2,"op":"redo"}"#,
         r#"{"comm_id":"console-7","data":{"end":"memory","node":1,"op":"redo","redone":1,"status":"ok","undone":0}}"#,
         "redid 1 then no memory\n",
         0,
     ),
     (
-        Command::Goto(4294967295),
+        Wanted::Goto(4294967295),
         r#"{"n":4294967295,"op":"goto"}"#,
         r#"{"comm_id":"console-7","data":{"name":"NoNode","node":1,"number":71,"op":"goto","status":"refused"}}"#,
         "refused 71 NoNode\n",
         1,
     ),
     (
-        Command::Goto(3),
+        Wanted::Goto(3),
         r#"{"n":3,"op":"goto"}"#,
         r#"{"comm_id":"console-7","data":{"end":"all","node":3,"op":"goto","redone":2,"status":"ok","undone":1}}"#,
         "went 1 up 2 down\n",
         0,
     ),
     (
-        Command::Undo(9),
+        Wanted::Undo(9),
         r#"{"n":9,"op":"undo"}"#,
         r#"{"comm_id":"console-7","data":{"name":"TooFar","node":1,"number":73,"op":"undo","status":"refused"}}"#,
         "refused 73 TooFar\n",
         1,
     ),
     (
-        Command::Show,
+        Wanted::Show,
         r#"{"op":"state"}"#,
         r#"{"comm_id":"console-7","data":{"busy":false,"depth":0,"node":0,"nodes":0,"op":"state","redo":0,"status":"ok","world":[]}}"#,
         "at node 0\n",
         0,
     ),
     (
-        Command::Show,
+        Wanted::Show,
         r#"{"op":"state"}"#,
         r#"{"comm_id":"console-7","data":{"busy":false,"depth":2,"node":2,"nodes":3,"op":"state","redo":0,"status":"ok","world":["x = 5","s(0) ="]}}"#,
         "at node 2\nx = 5\ns(0) =\n",
@@ -378,65 +410,83 @@ fn written_for(rt: &impl Abort, alloc: Global, asked: &str) -> String {
     text.expect(rt, "a text")
 }
 
+/// Has a conversation whose answer on the comm has these data, and compares what is printed, the status, and what was written on shell.
+fn check_move(
+    rt: &impl Abort,
+    alloc: Global,
+    wanted: Wanted,
+    data: &'static str,
+    want: (&str, u8, &str),
+) {
+    check(
+        rt,
+        alloc,
+        &[],
+        &[
+            ("status", 0, BUSY),
+            ("status", 1, IDLE),
+            ("status", 2, BUSY),
+            ("comm_msg", 2, data),
+            ("status", 2, IDLE),
+            ("status", 3, IDLE),
+        ],
+        &command_of(wanted),
+        want,
+    );
+}
+
 #[test]
 fn moves(rt: HostRuntime) {
     let alloc = rt.alloc();
-    for (command, asked, data, lines, status) in &ANSWERS {
-        check(
-            &rt,
-            alloc,
-            &[],
-            &[
-                ("status", 0, BUSY),
-                ("status", 1, IDLE),
-                ("status", 2, BUSY),
-                ("comm_msg", 2, data),
-                ("status", 2, IDLE),
-                ("status", 3, IDLE),
-            ],
-            command,
-            (lines, *status, &written_for(&rt, alloc, asked)),
-        );
+    for &(wanted, asked, data, lines, status) in &ANSWERS {
+        let written = written_for(&rt, alloc, asked);
+        check_move(&rt, alloc, wanted, data, (lines, status, &written));
     }
 }
 
-/// How a conversation ends that asks where the kernel stands, over these broadcasts and so many waits, and what was written on shell.
-fn shown_by(rt: &impl Abort, alloc: Global, iopub: &[Said], waits: u64) -> Conversation {
-    let mut broadcasts = stream(rt, alloc, Role::Pub, iopub);
-    broadcasts.waits = waits;
-    converse_over(rt, alloc, &[], broadcasts, &Command::Show)
+/// What is written on shell where the kernel is asked where it stands, over these broadcasts, and this fault ends the conversation.
+fn asked_until(rt: &impl Abort, alloc: Global, broadcasts: Slow, fault: ConsoleFault) -> String {
+    let (came, text) = converse_over(rt, alloc, &[], broadcasts, &Command::Show);
+    assert_eq!(rt; came, Err(fault));
+    text
+}
+
+/// Compares how often was asked.
+fn check_askings(rt: &impl Abort, text: &str, count: usize) {
+    assert_eq!(rt; text.lines().count(), count);
 }
 
 #[test]
 fn ends_where_its_comm_is_closed(rt: HostRuntime) {
     let alloc = rt.alloc();
-    let (came, text) = shown_by(
+    let broadcasts = stream(
         &rt,
         alloc,
+        Role::Pub,
         &[
             ("status", 0, BUSY),
             ("comm_close", 1, r#"{"comm_id":"console-7","data":{}}"#),
             ("status", 1, IDLE),
         ],
-        0,
     );
-    assert_eq!(rt; came, Err(ConsoleFault::NoComm));
+    let text = asked_until(&rt, alloc, broadcasts, ConsoleFault::NoComm);
     assert!(rt; !text.contains("comm_close"));
 }
 
 #[test]
 fn ends_where_the_broadcasts_end(rt: HostRuntime) {
     let alloc = rt.alloc();
-    let (came, _) = shown_by(&rt, alloc, &[("status", 0, BUSY)], 0);
-    assert_eq!(rt; came, Err(ConsoleFault::NoConnection));
+    let broadcasts = stream(&rt, alloc, Role::Pub, &[("status", 0, BUSY)]);
+    let _text = asked_until(&rt, alloc, broadcasts, ConsoleFault::NoConnection);
 }
 
 #[test]
 fn closes_its_comm_behind_an_answer_of_another_form(rt: HostRuntime) {
     let alloc = rt.alloc();
-    let (came, text) = shown_by(
+    let broadcasts = stream(
         &rt,
         alloc,
+        Role::Pub,
         &[
             ("status", 0, BUSY),
             ("status", 1, IDLE),
@@ -448,17 +498,23 @@ fn closes_its_comm_behind_an_answer_of_another_form(rt: HostRuntime) {
             ("status", 2, IDLE),
             ("status", 3, IDLE),
         ],
-        0,
     );
-    assert_eq!(rt; came, Err(ConsoleFault::NoConnection));
+    let text = asked_until(&rt, alloc, broadcasts, ConsoleFault::NoConnection);
     assert!(rt; text.ends_with("\ncomm_close {\"comm_id\":\"console-7\",\"data\":{}}\n"));
+}
+
+/// A stream of these broadcasts, before which none comes so often.
+fn late(rt: &impl Abort, alloc: Global, said: &[Said], waits: u64) -> Slow {
+    let mut stream = stream(rt, alloc, Role::Pub, said);
+    stream.waits = waits;
+    stream
 }
 
 #[test]
 fn asks_until_a_status_comes(rt: HostRuntime) {
     let alloc = rt.alloc();
     // The first broadcasts come after three askings.
-    let (came, text) = shown_by(
+    let broadcasts = late(
         &rt,
         alloc,
         &[
@@ -468,7 +524,7 @@ fn asks_until_a_status_comes(rt: HostRuntime) {
         ],
         2,
     );
-    assert_eq!(rt; came, Err(ConsoleFault::NoComm));
+    let text = asked_until(&rt, alloc, broadcasts, ConsoleFault::NoComm);
     assert!(rt;
         text.starts_with(
             "kernel_info_request {}\nkernel_info_request {}\nkernel_info_request {}\ncomm_open "
@@ -479,15 +535,15 @@ fn asks_until_a_status_comes(rt: HostRuntime) {
 #[test]
 fn asks_no_longer_where_no_status_comes(rt: HostRuntime) {
     let alloc = rt.alloc();
-    let (came, text) = shown_by(&rt, alloc, &[], 1000);
-    assert_eq!(rt; came, Err(ConsoleFault::NoConnection));
-    assert_eq!(rt; text.lines().count(), 100);
+    let broadcasts = late(&rt, alloc, &[], 1000);
+    let text = asked_until(&rt, alloc, broadcasts, ConsoleFault::NoConnection);
+    check_askings(&rt, &text, 100);
 }
 
 #[test]
 fn gives_up_where_broadcasts_cannot_be_opened(rt: HostRuntime) {
     let alloc = rt.alloc();
-    let (came, text) = converse_over(&rt, alloc, &[], noise(&rt, alloc), &Command::Show);
-    assert_eq!(rt; came, Err(ConsoleFault::NoConnection));
-    assert_eq!(rt; text.lines().count(), 100);
+    let broadcasts = noise(&rt, alloc);
+    let text = asked_until(&rt, alloc, broadcasts, ConsoleFault::NoConnection);
+    check_askings(&rt, &text, 100);
 }
