@@ -3,10 +3,9 @@ use console_program::{Frontend, Wire, subscribe};
 use console_talk::{Command, ConsoleFault, Told, session_name};
 use jupyter_msg::{Message, open, seal};
 use std::alloc::Global;
-use std::io;
 use std::io::{ErrorKind, Read};
 use std::process::Abort;
-use std::test::Fail;
+use std::{io, str};
 use zmtp_peer::{Peer, PeerEvent, Role};
 use zmtp_wire::write_message;
 
@@ -15,6 +14,9 @@ const KEY: &[u8] = b"key";
 
 /// A message of the kernel: its type, the number of the message that it answers, and its content.
 type Said = (&'static str, u64, &'static str);
+
+/// How a conversation ended, and what was written on shell.
+type Conversation = (Result<Told, ConsoleFault>, String);
 
 /// What the kernel says on iopub as it takes a request, and as it is done with it.
 const BUSY: &str = r#"{"execution_state":"busy"}"#;
@@ -56,128 +58,164 @@ impl Read for Slow {
     }
 }
 
-/// The octets of a message of the kernel.
-fn push_said(
-    alloc: Global,
-    octets: &mut Vec<u8>,
-    said: Said,
-    topic: Option<&str>,
-) -> Result<(), Fail> {
-    let (msg_type, parent, content) = said;
-    let mut identities = Vec::new(alloc);
-    if let Some(topic) = topic {
-        identities.push(topic.as_bytes().to_vec(alloc)?)?;
-    }
+/// A text of its own.
+fn string(rt: &impl Abort, alloc: Global, text: &str) -> String {
+    String::from_str(alloc, text).expect(rt, "a text")
+}
+
+/// The octets of a text.
+fn octets_of(rt: &impl Abort, alloc: Global, text: &str) -> Vec<u8> {
+    text.as_bytes()
+        .to_vec(alloc)
+        .expect(rt, "the octets of a text")
+}
+
+/// The header of a message of the kernel.
+fn header(rt: &impl Abort, alloc: Global, msg_type: &str) -> Vec<u8> {
     let header = format!(in alloc;
         "{{\"msg_id\":\"k_1_1\",\"msg_type\":\"{msg_type}\",\"session\":\"k\"}}"
-    )?;
-    let parent = format!(in alloc;
-        "{{\"msg_id\":\"console-7_{parent}\",\"msg_type\":\"a\",\"session\":\"console-7\"}}"
-    )?;
+    );
+    header.expect(rt, "a header").into_bytes()
+}
+
+/// The header of the console's message of this number.
+fn parent(rt: &impl Abort, alloc: Global, number: u64) -> Vec<u8> {
+    let header = format!(in alloc;
+        "{{\"msg_id\":\"console-7_{number}\",\"msg_type\":\"a\",\"session\":\"console-7\"}}"
+    );
+    header.expect(rt, "a parent").into_bytes()
+}
+
+/// What stands before a message in this role: on iopub its type, and else nothing.
+fn identities(rt: &impl Abort, alloc: Global, role: Role, msg_type: &str) -> Vec<Vec<u8>> {
+    match role {
+        Role::Pub => Vec::from_array(alloc, [octets_of(rt, alloc, msg_type)]).expect(rt, "a topic"),
+        _ => Vec::new(alloc),
+    }
+}
+
+/// Adds the octets of a message of the kernel in this role.
+fn push_said(rt: &impl Abort, alloc: Global, octets: &mut Vec<u8>, role: Role, said: &Said) {
+    let (msg_type, number, content) = *said;
     let message = Message {
-        identities,
-        header: header.into_bytes(),
-        parent: parent.into_bytes(),
-        metadata: b"{}".to_vec(alloc)?,
-        content: content.as_bytes().to_vec(alloc)?,
+        identities: identities(rt, alloc, role, msg_type),
+        header: header(rt, alloc, msg_type),
+        parent: parent(rt, alloc, number),
+        metadata: octets_of(rt, alloc, "{}"),
+        content: octets_of(rt, alloc, content),
         buffers: Vec::new(alloc),
     };
-    let frames = seal(alloc, &message, KEY)?;
-    if !frames.is_empty() {
-        write_message(octets, &frames)?;
-    }
-    Ok(())
+    let frames = seal(alloc, &message, KEY).expect(rt, "a sealed message");
+    assert!(rt; !frames.is_empty());
+    write_message(octets, &frames).expect(rt, "the octets of a message");
 }
 
-/// A stream of the kernel: its opening in this role, and what it says, with this many waits behind the opening.
-fn stream(alloc: Global, role: Role, said: &[Said], waits: u64) -> Result<Slow, Fail> {
-    let mut octets = Peer::new(alloc, role).opening()?;
+/// A stream of the kernel in this role that has said nothing behind its opening, which comes at once.
+fn opened(rt: &impl Abort, alloc: Global, role: Role) -> Slow {
+    let octets = Peer::new(alloc, role).opening().expect(rt, "an opening");
     let at_once = octets.len();
-    for said in said {
-        let topic = match role {
-            Role::Pub => Some(said.0),
-            _ => None,
-        };
-        push_said(alloc, &mut octets, *said, topic)?;
-    }
-    Ok(Slow {
-        octets,
-        at: 0,
-        at_once,
-        waits,
-    })
-}
-
-/// A stream of more broadcasts than a console looks at, each of them of one frame, which no console can open.
-fn noise(alloc: Global) -> Result<Slow, Fail> {
-    let mut octets = Peer::new(alloc, Role::Pub).opening()?;
-    let at_once = octets.len();
-    let frames = Vec::from_array(alloc, [b"status".to_vec(alloc)?])?;
-    for _ in 0..NOISES {
-        write_message(&mut octets, &frames)?;
-    }
-    Ok(Slow {
+    Slow {
         octets,
         at: 0,
         at_once,
         waits: 0,
-    })
+    }
+}
+
+/// A stream of the kernel: its opening in this role, and what it says.
+fn stream(rt: &impl Abort, alloc: Global, role: Role, said: &[Said]) -> Slow {
+    let mut stream = opened(rt, alloc, role);
+    for said in said {
+        push_said(rt, alloc, &mut stream.octets, role, said);
+    }
+    stream
+}
+
+/// A stream of more broadcasts than a console looks at, each of them of one frame, which no console can open.
+fn noise(rt: &impl Abort, alloc: Global) -> Slow {
+    let mut stream = opened(rt, alloc, Role::Pub);
+    let frames = Vec::from_array(alloc, [octets_of(rt, alloc, "status")]).expect(rt, "a frame");
+    for _ in 0..NOISES {
+        write_message(&mut stream.octets, &frames).expect(rt, "the octets of a message");
+    }
+    stream
+}
+
+/// Adds a line of the type and the content of a message.
+fn push_line(rt: &impl Abort, alloc: Global, text: &mut String, message: &Message) {
+    let msg_type = message.msg_type(alloc).expect(rt, "a type");
+    let content = str::from_utf8(&message.content).expect(rt, "a content");
+    let line = format!(in alloc; "{msg_type} {content}\n").expect(rt, "a line");
+    text.push_str(&line).expect(rt, "a longer text");
+}
+
+/// Adds a line of what a console wrote by this event of its connection.
+fn push_event(rt: &impl Abort, alloc: Global, text: &mut String, event: PeerEvent) {
+    if let PeerEvent::Message(frames) = event {
+        let opened = open(alloc, frames, KEY).expect(rt, "a message under the key");
+        push_line(rt, alloc, text, &opened.message);
+    }
 }
 
 /// What a console wrote on shell: the type and the content of each message.
-fn written(alloc: Global, octets: &[u8]) -> Result<String, Fail> {
+fn written(rt: &impl Abort, alloc: Global, octets: &[u8]) -> String {
     let mut peer = Peer::new(alloc, Role::Router);
     let mut text = String::new(alloc);
-    for event in peer.feed(octets)? {
-        if let PeerEvent::Message(frames) = event {
-            let opened = open(alloc, frames, KEY)?;
-            text.push_str(&opened.message.msg_type(alloc)?)?;
-            text.push_str(" ")?;
-            let content = opened.message.content.as_slice().to_vec(alloc)?;
-            text.push_str(&String::from_utf8(content)?)?;
-            text.push_str("\n")?;
-        }
+    for event in peer.feed(octets).expect(rt, "frames") {
+        push_event(rt, alloc, &mut text, event);
     }
-    Ok(text)
+    text
 }
 
-/// Has a conversation: how it ended, and what was written on shell.
-fn converse(
+/// A console that subscribed to these broadcasts, with these replies on shell.
+fn frontend(
+    rt: &impl Abort,
     alloc: Global,
-    shell: &[Said],
-    iopub: &[Said],
-    waits: u64,
-    command: &Command,
-) -> Result<(Result<Told, ConsoleFault>, String), Fail> {
-    let broadcasts = stream(alloc, Role::Pub, iopub, waits)?;
-    converse_over(alloc, shell, broadcasts, command)
+    replies: Slow,
+    broadcasts: Slow,
+) -> Frontend<Slow, Vec<u8>> {
+    let mut iopub = Wire::open(alloc, broadcasts, Vec::new(alloc), Role::Sub).expect(rt, "iopub");
+    subscribe(&mut iopub).expect(rt, "a subscription");
+    Frontend {
+        alloc,
+        key: string(rt, alloc, "key"),
+        session: session_name(alloc, 7).expect(rt, "a session"),
+        next: 0,
+        shell: Wire::open(alloc, replies, Vec::new(alloc), Role::Dealer).expect(rt, "shell"),
+        iopub,
+    }
+}
+
+/// Greets the kernel and obeys a command.
+fn obey(frontend: &mut Frontend<Slow, Vec<u8>>, command: &Command) -> Result<Told, ConsoleFault> {
+    frontend.greet()?;
+    frontend.obey(command)
 }
 
 /// Has a conversation over this stream of broadcasts.
 fn converse_over(
+    rt: &impl Abort,
     alloc: Global,
     shell: &[Said],
     broadcasts: Slow,
     command: &Command,
-) -> Result<(Result<Told, ConsoleFault>, String), Fail> {
-    let replies = stream(alloc, Role::Router, shell, 0)?;
-    let mut iopub = Wire::open(alloc, broadcasts, Vec::new(alloc), Role::Sub)?;
-    subscribe(&mut iopub)?;
-    let shell = Wire::open(alloc, replies, Vec::new(alloc), Role::Dealer)?;
-    let mut frontend = Frontend {
-        alloc,
-        key: String::from_utf8(KEY.to_vec(alloc)?)?,
-        session: session_name(alloc, 7)?,
-        next: 0,
-        shell,
-        iopub,
-    };
-    let told = match frontend.greet() {
-        Ok(()) => frontend.obey(command),
-        Err(fault) => Err(fault),
-    };
-    let text = written(alloc, &frontend.shell.writer)?;
-    Ok((told, text))
+) -> Conversation {
+    let replies = stream(rt, alloc, Role::Router, shell);
+    let mut frontend = frontend(rt, alloc, replies, broadcasts);
+    let came = obey(&mut frontend, command);
+    let text = written(rt, alloc, &frontend.shell.writer);
+    (came, text)
+}
+
+/// Compares what is printed, and the status.
+fn check_told(rt: &impl Abort, told: &Told, lines: &str, status: u8) {
+    assert_eq!(rt; told.lines.as_str(), lines);
+    assert_eq!(rt; told.status(), status);
+}
+
+/// Compares what was written on shell.
+fn check_written(rt: &impl Abort, text: &str, want: &str) {
+    assert_eq!(rt; text, want);
 }
 
 /// Has a conversation, and compares what is printed, the status, and what was written on shell.
@@ -188,19 +226,18 @@ fn check(
     iopub: &[Said],
     command: &Command,
     want: (&str, u8, &str),
-) -> Result<(), Fail> {
-    let (came, text) = converse(alloc, shell, iopub, 0, command)?;
-    let told = came?;
-    assert_eq!(rt; told.lines.as_str(), want.0);
-    assert_eq!(rt; told.status(), want.1);
-    assert_eq!(rt; text.as_str(), want.2);
-    Ok(())
+) {
+    let (lines, status, asked) = want;
+    let broadcasts = stream(rt, alloc, Role::Pub, iopub);
+    let (came, text) = converse_over(rt, alloc, shell, broadcasts, command);
+    check_told(rt, &came.expect(rt, "what is printed"), lines, status);
+    check_written(rt, &text, asked);
 }
 
 #[test]
-fn runs_cells(rt: HostRuntime) -> Result<(), Fail> {
+fn runs_a_cell(rt: HostRuntime) {
     let alloc = rt.alloc();
-    let code = Command::Run(String::from_str(alloc, "int x x += 5")?);
+    let code = Command::Run(string(&rt, alloc, "int x x += 5"));
     check(
         &rt,
         alloc,
@@ -239,8 +276,13 @@ fn runs_cells(rt: HostRuntime) -> Result<(), Fail> {
             0,
             "kernel_info_request {}\nexecute_request {\"allow_stdin\":false,\"code\":\"int x x += 5\",\"silent\":false,\"stop_on_error\":true,\"store_history\":true,\"user_expressions\":{}}\n",
         ),
-    )?;
-    let code = Command::Run(String::from_str(alloc, "x += 1 / 0")?);
+    );
+}
+
+#[test]
+fn tells_the_fault_of_a_cell(rt: HostRuntime) {
+    let alloc = rt.alloc();
+    let code = Command::Run(string(&rt, alloc, "x += 1 / 0"));
     check(
         &rt,
         alloc,
@@ -264,11 +306,11 @@ fn runs_cells(rt: HostRuntime) -> Result<(), Fail> {
             1,
             "kernel_info_request {}\nexecute_request {\"allow_stdin\":false,\"code\":\"x += 1 / 0\",\"silent\":false,\"stop_on_error\":true,\"store_history\":true,\"user_expressions\":{}}\n",
         ),
-    )
+    );
 }
 
 #[test]
-fn completes(rt: HostRuntime) -> Result<(), Fail> {
+fn completes(rt: HostRuntime) {
     let alloc = rt.alloc();
     check(
         &rt,
@@ -279,61 +321,80 @@ fn completes(rt: HostRuntime) -> Result<(), Fail> {
             r#"{"cursor_end":4,"cursor_start":2,"matches":["call","cat"],"metadata":{},"status":"ok"}"#,
         )],
         &[("status", 0, BUSY)],
-        &Command::Complete(String::from_str(alloc, "ä ca")?),
+        &Command::Complete(string(&rt, alloc, "ä ca")),
         (
             "call\ncat\n",
             0,
             "kernel_info_request {}\ncomplete_request {\"code\":\"ä ca\",\"cursor_pos\":4}\n",
         ),
-    )
+    );
+}
+
+/// What is wanted of the kernel on a comm.
+#[derive(Clone, Copy)]
+enum Wanted {
+    Undo(u32),
+    Redo(u32),
+    Goto(u32),
+    Show,
+}
+
+/// The command that asks for it.
+fn command_of(wanted: Wanted) -> Command {
+    match wanted {
+        Wanted::Undo(k) => Command::Undo(k),
+        Wanted::Redo(k) => Command::Redo(k),
+        Wanted::Goto(node) => Command::Goto(node),
+        Wanted::Show => Command::Show,
+    }
 }
 
 /// The data of an answer on a comm, what is printed of it, and the status.
-const ANSWERS: [(Command, &str, &str, &str, u8); 7] = [
+const ANSWERS: [(Wanted, &str, &str, &str, u8); 7] = [
     (
-        Command::Undo(1),
+        Wanted::Undo(1),
         r#"{"n":1,"op":"undo"}"#,
         r#"{"comm_id":"console-7","data":{"end":"all","node":0,"op":"undo","redone":0,"status":"ok","undone":1}}"#,
         "undid 1\n",
         0,
     ),
     (
-        Command::Redo(2),
+        Wanted::Redo(2),
         r#"{"n":2,"op":"redo"}"#,
         r#"{"comm_id":"console-7","data":{"end":"memory","node":1,"op":"redo","redone":1,"status":"ok","undone":0}}"#,
         "redid 1 then no memory\n",
         0,
     ),
     (
-        Command::Goto(4294967295),
+        Wanted::Goto(4294967295),
         r#"{"n":4294967295,"op":"goto"}"#,
         r#"{"comm_id":"console-7","data":{"name":"NoNode","node":1,"number":71,"op":"goto","status":"refused"}}"#,
         "refused 71 NoNode\n",
         1,
     ),
     (
-        Command::Goto(3),
+        Wanted::Goto(3),
         r#"{"n":3,"op":"goto"}"#,
         r#"{"comm_id":"console-7","data":{"end":"all","node":3,"op":"goto","redone":2,"status":"ok","undone":1}}"#,
         "went 1 up 2 down\n",
         0,
     ),
     (
-        Command::Undo(9),
+        Wanted::Undo(9),
         r#"{"n":9,"op":"undo"}"#,
         r#"{"comm_id":"console-7","data":{"name":"TooFar","node":1,"number":73,"op":"undo","status":"refused"}}"#,
         "refused 73 TooFar\n",
         1,
     ),
     (
-        Command::Show,
+        Wanted::Show,
         r#"{"op":"state"}"#,
         r#"{"comm_id":"console-7","data":{"busy":false,"depth":0,"node":0,"nodes":0,"op":"state","redo":0,"status":"ok","world":[]}}"#,
         "at node 0\n",
         0,
     ),
     (
-        Command::Show,
+        Wanted::Show,
         r#"{"op":"state"}"#,
         r#"{"comm_id":"console-7","data":{"busy":false,"depth":2,"node":2,"nodes":3,"op":"state","redo":0,"status":"ok","world":["x = 5","s(0) ="]}}"#,
         "at node 2\nx = 5\ns(0) =\n",
@@ -341,66 +402,91 @@ const ANSWERS: [(Command, &str, &str, &str, u8); 7] = [
     ),
 ];
 
-#[test]
-fn moves(rt: HostRuntime) -> Result<(), Fail> {
-    let alloc = rt.alloc();
-    for (command, asked, data, lines, status) in &ANSWERS {
-        let text = format!(in alloc;
-            "kernel_info_request {{}}\ncomm_open {{\"comm_id\":\"console-7\",\"data\":{{}},\"target_name\":\"janus.undo\"}}\ncomm_msg {{\"comm_id\":\"console-7\",\"data\":{asked}}}\ncomm_close {{\"comm_id\":\"console-7\",\"data\":{{}}}}\n"
-        )?;
-        check(
-            &rt,
-            alloc,
-            &[],
-            &[
-                ("status", 0, BUSY),
-                ("status", 1, IDLE),
-                ("status", 2, BUSY),
-                ("comm_msg", 2, data),
-                ("status", 2, IDLE),
-                ("status", 3, IDLE),
-            ],
-            command,
-            (lines, *status, &text),
-        )?;
-    }
-    Ok(())
+/// What is written on shell where a command is asked for with these data, and its comm is closed behind it.
+fn written_for(rt: &impl Abort, alloc: Global, asked: &str) -> String {
+    let text = format!(in alloc;
+        "kernel_info_request {{}}\ncomm_open {{\"comm_id\":\"console-7\",\"data\":{{}},\"target_name\":\"janus.undo\"}}\ncomm_msg {{\"comm_id\":\"console-7\",\"data\":{asked}}}\ncomm_close {{\"comm_id\":\"console-7\",\"data\":{{}}}}\n"
+    );
+    text.expect(rt, "a text")
 }
 
-/// How a conversation ends that asks where the kernel stands, over these broadcasts and so many waits, and what was written on shell.
-fn shown_by(
+/// Has a conversation whose answer on the comm has these data, and compares what is printed, the status, and what was written on shell.
+fn check_move(
+    rt: &impl Abort,
     alloc: Global,
-    iopub: &[Said],
-    waits: u64,
-) -> Result<(Result<Told, ConsoleFault>, String), Fail> {
-    converse(alloc, &[], iopub, waits, &Command::Show)
+    wanted: Wanted,
+    data: &'static str,
+    want: (&str, u8, &str),
+) {
+    check(
+        rt,
+        alloc,
+        &[],
+        &[
+            ("status", 0, BUSY),
+            ("status", 1, IDLE),
+            ("status", 2, BUSY),
+            ("comm_msg", 2, data),
+            ("status", 2, IDLE),
+            ("status", 3, IDLE),
+        ],
+        &command_of(wanted),
+        want,
+    );
 }
 
 #[test]
-fn ends_where_the_kernel_breaks_off(rt: HostRuntime) -> Result<(), Fail> {
+fn moves(rt: HostRuntime) {
     let alloc = rt.alloc();
-    // The comm is closed at once.
-    let (came, text) = shown_by(
+    for &(wanted, asked, data, lines, status) in &ANSWERS {
+        let written = written_for(&rt, alloc, asked);
+        check_move(&rt, alloc, wanted, data, (lines, status, &written));
+    }
+}
+
+/// What is written on shell where the kernel is asked where it stands, over these broadcasts, and this fault ends the conversation.
+fn asked_until(rt: &impl Abort, alloc: Global, broadcasts: Slow, fault: ConsoleFault) -> String {
+    let (came, text) = converse_over(rt, alloc, &[], broadcasts, &Command::Show);
+    assert_eq!(rt; came, Err(fault));
+    text
+}
+
+/// Compares how often was asked.
+fn check_askings(rt: &impl Abort, text: &str, count: usize) {
+    assert_eq!(rt; text.lines().count(), count);
+}
+
+#[test]
+fn ends_where_its_comm_is_closed(rt: HostRuntime) {
+    let alloc = rt.alloc();
+    let broadcasts = stream(
+        &rt,
         alloc,
+        Role::Pub,
         &[
             ("status", 0, BUSY),
             ("comm_close", 1, r#"{"comm_id":"console-7","data":{}}"#),
             ("status", 1, IDLE),
         ],
-        0,
-    )?;
-    assert_eq!(rt; came, Err(ConsoleFault::NoComm));
+    );
+    let text = asked_until(&rt, alloc, broadcasts, ConsoleFault::NoComm);
     assert!(rt; !text.contains("comm_close"));
-    let (came, _) = shown_by(alloc, &[("status", 0, BUSY)], 0)?;
-    assert_eq!(rt; came, Err(ConsoleFault::NoConnection));
-    Ok(())
 }
 
 #[test]
-fn closes_its_comm_behind_an_answer_of_another_form(rt: HostRuntime) -> Result<(), Fail> {
+fn ends_where_the_broadcasts_end(rt: HostRuntime) {
     let alloc = rt.alloc();
-    let (came, text) = shown_by(
+    let broadcasts = stream(&rt, alloc, Role::Pub, &[("status", 0, BUSY)]);
+    let _text = asked_until(&rt, alloc, broadcasts, ConsoleFault::NoConnection);
+}
+
+#[test]
+fn closes_its_comm_behind_an_answer_of_another_form(rt: HostRuntime) {
+    let alloc = rt.alloc();
+    let broadcasts = stream(
+        &rt,
         alloc,
+        Role::Pub,
         &[
             ("status", 0, BUSY),
             ("status", 1, IDLE),
@@ -412,18 +498,24 @@ fn closes_its_comm_behind_an_answer_of_another_form(rt: HostRuntime) -> Result<(
             ("status", 2, IDLE),
             ("status", 3, IDLE),
         ],
-        0,
-    )?;
-    assert_eq!(rt; came, Err(ConsoleFault::NoConnection));
+    );
+    let text = asked_until(&rt, alloc, broadcasts, ConsoleFault::NoConnection);
     assert!(rt; text.ends_with("\ncomm_close {\"comm_id\":\"console-7\",\"data\":{}}\n"));
-    Ok(())
+}
+
+/// A stream of these broadcasts, before which none comes so often.
+fn late(rt: &impl Abort, alloc: Global, said: &[Said], waits: u64) -> Slow {
+    let mut stream = stream(rt, alloc, Role::Pub, said);
+    stream.waits = waits;
+    stream
 }
 
 #[test]
-fn asks_until_a_status_comes(rt: HostRuntime) -> Result<(), Fail> {
+fn asks_until_a_status_comes(rt: HostRuntime) {
     let alloc = rt.alloc();
     // The first broadcasts come after three askings.
-    let (came, text) = shown_by(
+    let broadcasts = late(
+        &rt,
         alloc,
         &[
             ("status", 2, BUSY),
@@ -431,25 +523,27 @@ fn asks_until_a_status_comes(rt: HostRuntime) -> Result<(), Fail> {
             ("status", 3, IDLE),
         ],
         2,
-    )?;
-    assert_eq!(rt; came, Err(ConsoleFault::NoComm));
+    );
+    let text = asked_until(&rt, alloc, broadcasts, ConsoleFault::NoComm);
     assert!(rt;
         text.starts_with(
             "kernel_info_request {}\nkernel_info_request {}\nkernel_info_request {}\ncomm_open "
         )
     );
-    // None comes.
-    let (came, text) = shown_by(alloc, &[], 1000)?;
-    assert_eq!(rt; came, Err(ConsoleFault::NoConnection));
-    assert_eq!(rt; text.lines().count(), 100);
-    Ok(())
 }
 
 #[test]
-fn gives_up_where_broadcasts_cannot_be_opened(rt: HostRuntime) -> Result<(), Fail> {
+fn asks_no_longer_where_no_status_comes(rt: HostRuntime) {
     let alloc = rt.alloc();
-    let (came, text) = converse_over(alloc, &[], noise(alloc)?, &Command::Show)?;
-    assert_eq!(rt; came, Err(ConsoleFault::NoConnection));
-    assert_eq!(rt; text.lines().count(), 100);
-    Ok(())
+    let broadcasts = late(&rt, alloc, &[], 1000);
+    let text = asked_until(&rt, alloc, broadcasts, ConsoleFault::NoConnection);
+    check_askings(&rt, &text, 100);
+}
+
+#[test]
+fn gives_up_where_broadcasts_cannot_be_opened(rt: HostRuntime) {
+    let alloc = rt.alloc();
+    let broadcasts = noise(&rt, alloc);
+    let text = asked_until(&rt, alloc, broadcasts, ConsoleFault::NoConnection);
+    check_askings(&rt, &text, 100);
 }
