@@ -9,18 +9,18 @@ use kernel_desk::HallDesk;
 use kernel_hall::{Hall, Pass};
 use kernel_iopub::Bulletin;
 use kernel_session::Desk;
-use std::alloc::{AllocError, Global};
+use std::alloc::Global;
 use std::marker::Brand;
 use std::process::Abort;
 use std::sync::Wait;
 use std::sync::ledger::{Blank, Ledger};
-use std::test::Fail;
 use std::time::Clock;
 
 /// A broadcast of this topic.
-fn broadcast(alloc: Global, topic: &str) -> Result<Broadcast, AllocError> {
-    let topic = topic.as_bytes().to_vec(alloc)?;
-    Broadcast::new(alloc, Vec::from_array(alloc, [topic])?)
+fn broadcast(rt: &impl Abort, alloc: Global, topic: &str) -> Broadcast {
+    let topic = topic.as_bytes().to_vec(alloc).expect(rt, "a topic");
+    let frames = Vec::from_array(alloc, [topic]).expect(rt, "frames");
+    Broadcast::new(alloc, frames).expect(rt, "a broadcast")
 }
 
 /// Whether these are the one broadcast of this topic.
@@ -36,17 +36,16 @@ fn visit<W: Ledger, L: Ledger, R: Wait + Clock + Abort>(
     rt: &R,
     alloc: Global,
     mut desk: HallDesk<'_, W, L, R>,
-) -> Result<(), AllocError> {
-    desk.publish(broadcast(alloc, "status")?);
-    let kept = desk.broadcasts(alloc)?;
+) {
+    desk.publish(broadcast(rt, alloc, "status"));
+    let kept = desk.broadcasts(alloc).expect(rt, "broadcasts");
     assert!(rt; is_one(&kept, "status"));
-    let kept = desk.broadcasts(alloc)?;
+    let kept = desk.broadcasts(alloc).expect(rt, "broadcasts");
     assert!(rt; kept.is_empty() && !desk.was_shut());
     desk.shut();
     assert!(rt; desk.was_shut());
     let refused = desk.job(Job::Undo(0), Vec::new(alloc)).err();
     assert!(rt; refused == Some(PostFault::Closing));
-    Ok(())
 }
 
 /// Sits down at a desk before a hall, with a seat of its bell.
@@ -55,12 +54,12 @@ fn sit_down<W: Ledger, L: Ledger, R: Wait + Clock + Abort>(
     alloc: Global,
     hall: &Hall<W, L>,
     seat: RingerSeat,
-) -> Result<(), AllocError>
+)
     requires { seat.bell ≡ hall.now }
 {
-    let bulletin = Bulletin::new(alloc)?;
-    let pass: Pass<L> = hall.pass(rt).ok().expect(rt, "a pass");
-    visit(rt, alloc, HallDesk::new(rt, hall, &bulletin, pass, seat))
+    let bulletin = Bulletin::new(alloc).expect(rt, "a bulletin");
+    let pass: Pass<L> = hall.pass(rt).expect(rt, "a pass");
+    visit(rt, alloc, HallDesk::new(rt, hall, &bulletin, pass, seat));
 }
 
 /// Tries a desk before a new hall.
@@ -69,27 +68,24 @@ fn try_desk<W: Ledger, L: Ledger, R: Wait + Clock + Abort>(
     alloc: Global,
     writes: Blank,
     posts: Blank,
-) -> Result<(), AllocError>
+)
     requires writes { (writes.name ≡ W.name) × (writes.parts ≡ W.parts) × (0 < W.parts) }
     requires posts { (posts.name ≡ L.name) × (posts.parts ≡ 65537) × (posts.parts ≡ L.parts) }
 {
-    let (bell, _runner, mut ringers) = Bell::new(alloc, 1)?;
-    let Some(seat) = ringers.pop() else {
-        unreachable!()
-    };
-    let kernel = Kernel::<W>::new(alloc, writes)?;
+    let (bell, _runner, mut ringers) = Bell::new(alloc, 1).expect(rt, "a bell");
+    let seat = ringers.pop().expect(rt, "a seat");
+    let kernel = Kernel::<W>::new(alloc, writes).expect(rt, "a kernel");
     let hall = Hall::<W, L>::new(alloc, posts, kernel, Comms::new(alloc), bell);
-    let tried = sit_down(rt, alloc, &hall, seat);
+    sit_down(rt, alloc, &hall, seat);
     hall.discard();
-    tried
 }
 
 /// Tries a desk before a hall of its own.
-fn play<R: Wait + Clock + Abort>(rt: &R, alloc: Global) -> Result<(), AllocError> {
-    try_desk::<Brand, Brand, R>(rt, alloc, Blank::new(1), Blank::new(65_537))
+fn play<R: Wait + Clock + Abort>(rt: &R, alloc: Global) {
+    try_desk::<Brand, Brand, R>(rt, alloc, Blank::new(1), Blank::new(65_537));
 }
 
 #[test]
-fn a_desk_that_was_shut_has_no_job_done(rt: HostRuntime) -> Result<(), Fail> {
-    Ok(play(&rt, rt.alloc())?)
+fn a_desk_that_was_shut_has_no_job_done(rt: HostRuntime) {
+    play(&rt, rt.alloc());
 }

@@ -1,14 +1,14 @@
 //! Connection files and words that no program takes, a port that another has, and ports where no kernel listens.
-use crate::kernel::{Ran, ask, kernel, make_site, run_console};
-use kernel_program::kernel_main;
+use crate::kernel::{
+    Ran, ask, check_ran, connection_text, kernel, listen, make_site, port_of, remove, run_console,
+    run_kernel, write_file,
+};
 use std::alloc::Global;
-use std::fs;
 use std::net::{Net, TcpListener, TcpStream};
 use std::process::Abort;
 use std::random::RandomSource;
 use std::rt::Files;
 use std::sync::Wait;
-use std::test::Fail;
 use std::thread::Threads;
 use std::time::Clock;
 
@@ -48,13 +48,16 @@ const NO_NUMBER: &str =
 
 /// Compares how a program ended that printed nothing but this line of what is wrong.
 fn check(rt: &impl Abort, ran: &Ran, line: &str, status: u8) {
-    assert!(rt; ran.out.is_empty());
-    assert_eq!(rt; ran.err.as_slice(), line.as_bytes());
-    assert_eq!(rt; ran.status, status);
+    check_ran(rt, ("what is told:", line), ran, "", line, status);
+}
+
+/// What a program says of a field of its connection file.
+fn line_of(rt: &impl Abort, alloc: Global, program: &str, field: &str) -> String {
+    format!(in alloc; "{program}: connection file: {field}\n").expect(rt, "a line")
 }
 
 /// Runs both programs on this file, of which they tell a field.
-fn check_file<R>(rt: &R, alloc: Global, path: &str, field: &str) -> Result<(), Fail>
+fn check_file<R>(rt: &R, alloc: Global, path: &str, field: &str)
 where
     R: Net<Listener = TcpListener, Stream = TcpStream>
         + Files
@@ -65,91 +68,96 @@ where
         + Abort
         + Sync,
 {
-    let line = format!(in alloc; "janus-kernel: connection file: {field}\n")?;
+    let line = line_of(rt, alloc, "janus-kernel", field);
     check(rt, &kernel(rt, alloc, path), &line, 2);
-    let line = format!(in alloc; "janus-console: connection file: {field}\n")?;
-    check(rt, &ask(rt, alloc, path, "show", "")?, &line, 2);
-    Ok(())
+    let line = line_of(rt, alloc, "janus-console", field);
+    check(rt, &ask(rt, alloc, path, "show", ""), &line, 2);
 }
 
 #[test]
-fn wrong_connection_files_are_told(rt: HostRuntime) -> Result<(), Fail> {
+fn wrong_connection_files_are_told(rt: HostRuntime) {
     let alloc = rt.alloc();
-    for (text, field) in WRONG {
-        fs::write(&rt, "wrong.json", text.as_bytes())?;
-        check_file(&rt, alloc, "wrong.json", field)?;
+    for &(text, field) in &WRONG {
+        write_file(&rt, "wrong.json", text);
+        check_file(&rt, alloc, "wrong.json", field);
     }
-    fs::remove_file(&rt, "wrong.json")?;
+    remove(&rt, "wrong.json");
     // A file that can't be read.
-    check_file(&rt, alloc, "wrong.json", "file")
+    check_file(&rt, alloc, "wrong.json", "file");
 }
 
 #[test]
-fn a_console_without_a_kernel_gives_up(rt: HostRuntime) -> Result<(), Fail> {
+fn a_console_without_a_kernel_gives_up(rt: HostRuntime) {
     let alloc = rt.alloc();
-    let site = make_site(&rt, alloc)?;
-    let ran = ask(&rt, alloc, &site.path, "show", "")?;
+    let site = make_site(&rt, alloc);
+    let ran = ask(&rt, alloc, &site.path, "show", "");
     check(&rt, &ran, "janus-console: no connection\n", 3);
-    fs::remove_file(&rt, site.path.as_str())?;
-    Ok(())
+    remove(&rt, &site.path);
 }
 
 #[test]
-fn a_port_that_is_taken_is_told(rt: HostRuntime) -> Result<(), Fail> {
+fn a_port_that_is_taken_is_told(rt: HostRuntime) {
     let alloc = rt.alloc();
-    let taken = TcpListener::bind(&rt, ("127.0.0.1", 0u16))?;
-    let port = taken.local_addr()?.port();
-    let text = format!(in alloc;
-        "{{\"transport\":\"tcp\",\"ip\":\"127.0.0.1\",\"shell_port\":{port},\"iopub_port\":{port},\"stdin_port\":{port},\"control_port\":{port},\"hb_port\":{port},\"key\":\"\"}}"
-    )?;
-    fs::write(&rt, "taken.json", text.as_bytes())?;
+    let taken = listen(&rt);
+    let port = port_of(&rt, &taken);
+    let text = connection_text(&rt, alloc, [port, port, port, port, port], "");
+    write_file(&rt, "taken.json", &text);
     let ran = kernel(&rt, alloc, "taken.json");
     check(&rt, &ran, "janus-kernel: cannot bind shell_port\n", 3);
     // Who has the port says nothing.
-    let ran = ask(&rt, alloc, "taken.json", "show", "")?;
+    let ran = ask(&rt, alloc, "taken.json", "show", "");
     check(&rt, &ran, "janus-console: no connection\n", 3);
-    fs::remove_file(&rt, "taken.json")?;
-    Ok(())
+    remove(&rt, "taken.json");
+}
+
+/// Compares how a program ended that could not read its words, those of this line.
+fn check_refused(rt: &impl Abort, ran: &Ran, line: &str) {
+    assert!(rt; ran.out.is_empty(), "{line}");
+    assert!(rt; ran.err.as_slice().starts_with(b"error: "), "{line}");
+    assert_eq!(rt; ran.status, 2, "{line}");
+}
+
+/// The words of a line.
+fn words_of<'a>(rt: &impl Abort, alloc: Global, line: &'a str) -> Vec<&'a str> {
+    let words = line.split(' ').collect::<Vec<&str>>(alloc);
+    words.expect(rt, "the words of a line")
 }
 
 #[test]
-fn wrong_words_are_told(rt: HostRuntime) -> Result<(), Fail> {
+fn a_kernel_without_words_tells_it(rt: HostRuntime) {
+    let ran = run_kernel(&rt, rt.alloc(), &["janus-kernel"]);
+    check_refused(&rt, &ran, "janus-kernel");
+}
+
+#[test]
+fn wrong_words_are_told(rt: HostRuntime) {
     let alloc = rt.alloc();
-    let (mut out, mut err) = (Vec::new(alloc), Vec::new(alloc));
-    assert_eq!(rt;
-        kernel_main(&rt, alloc, &["janus-kernel"], &mut out, &mut err),
-        2
-    );
-    assert!(rt; out.is_empty());
-    assert!(rt; err.as_slice().starts_with(b"error: "));
-    for line in WRONG_WORDS {
-        let words = line.split(' ').collect::<Vec<&str>>(alloc)?;
-        let ran = run_console(&rt, alloc, &words);
-        assert!(rt; ran.out.is_empty(), "{line}");
-        assert!(rt; ran.err.as_slice().starts_with(b"error: "), "{line}");
-        assert_eq!(rt; ran.status, 2, "{line}");
+    for line in &WRONG_WORDS {
+        let ran = run_console(&rt, alloc, &words_of(&rt, alloc, line));
+        check_refused(&rt, &ran, line);
     }
-    Ok(())
+}
+
+/// A console with this command tells of each wrong number.
+fn check_numbers<R>(rt: &R, alloc: Global, command: &str)
+where
+    R: Net<Listener = TcpListener, Stream = TcpStream> + Files + Abort,
+{
+    for word in &WRONG_NUMBERS {
+        let ran = ask(rt, alloc, "wrong.json", command, word);
+        check(rt, &ran, NO_NUMBER, 2);
+    }
 }
 
 #[test]
-fn wrong_numbers_are_told(rt: HostRuntime) -> Result<(), Fail> {
-    let alloc = rt.alloc();
+fn wrong_numbers_are_told(rt: HostRuntime) {
     for command in ["undo", "redo", "goto"] {
-        for word in WRONG_NUMBERS {
-            check(
-                &rt,
-                &ask(&rt, alloc, "wrong.json", command, word)?,
-                NO_NUMBER,
-                2,
-            );
-        }
+        check_numbers(&rt, rt.alloc(), command);
     }
-    Ok(())
 }
 
 #[test]
-fn a_console_tells_its_help(rt: HostRuntime) -> Result<(), Fail> {
+fn a_console_tells_its_help(rt: HostRuntime) {
     let alloc = rt.alloc();
     let ran = run_console(&rt, alloc, &["janus-console", "--help"]);
     assert!(rt;
@@ -159,5 +167,4 @@ fn a_console_tells_its_help(rt: HostRuntime) -> Result<(), Fail> {
     );
     assert!(rt; ran.err.is_empty());
     assert_eq!(rt; ran.status, 0);
-    Ok(())
 }

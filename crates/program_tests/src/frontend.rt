@@ -4,6 +4,7 @@ use std::alloc::Global;
 use std::collections::VecDeque;
 use std::io::{Error, ErrorKind, Read, Write};
 use std::net::{Net, TcpListener, TcpStream};
+use std::process::Abort;
 use std::time::Duration;
 use std::{io, str};
 use zmtp_peer::{Peer, PeerEvent, Role};
@@ -28,144 +29,192 @@ pub(crate) struct Frontend {
     messages: VecDeque<Vec<Vec<u8>>>,
 }
 
-/// Something came that no kernel sends.
-pub(crate) fn wrong() -> Error {
-    ErrorKind::InvalidData.into()
+/// Connects to a port, at which a kernel may not listen yet.
+pub(crate) fn connect<R>(rt: &R, port: u16) -> io::Result<TcpStream>
+where
+    R: Net<Listener = TcpListener, Stream = TcpStream>,
+{
+    TcpStream::connect(rt, ("127.0.0.1", port))
+}
+
+/// What an end in this role sends first.
+pub(crate) fn opening_of(rt: &impl Abort, alloc: Global, role: Role) -> Vec<u8> {
+    Peer::new(alloc, role).opening().expect(rt, "an opening")
+}
+
+/// Adds the octets of a message of these frames.
+pub(crate) fn push_message(rt: &impl Abort, octets: &mut Vec<u8>, frames: &[Vec<u8>]) {
+    assert!(rt; !frames.is_empty());
+    write_message(octets, frames).expect(rt, "the octets of a message");
+}
+
+/// Writes these octets to a stream.
+pub(crate) fn write_to(rt: &impl Abort, stream: &TcpStream, octets: &[u8]) {
+    let mut writer = stream;
+    writer.write_all(octets).expect(rt, "octets that go out");
+}
+
+/// The octets of a text.
+fn octets_of(rt: &impl Abort, alloc: Global, text: &str) -> Vec<u8> {
+    text.as_bytes()
+        .to_vec(alloc)
+        .expect(rt, "the octets of a text")
+}
+
+/// The header of a request.
+fn header(rt: &impl Abort, alloc: Global, msg_type: &str) -> Vec<u8> {
+    let header = format!(in alloc;
+        "{{\"msg_id\":\"a\",\"msg_type\":\"{msg_type}\",\"session\":\"s\"}}"
+    );
+    header.expect(rt, "a header").into_bytes()
+}
+
+/// A request.
+fn request(rt: &impl Abort, alloc: Global, msg_type: &str, content: &str) -> Message {
+    Message {
+        identities: Vec::new(alloc),
+        header: header(rt, alloc, msg_type),
+        parent: octets_of(rt, alloc, "{}"),
+        metadata: octets_of(rt, alloc, "{}"),
+        content: octets_of(rt, alloc, content),
+        buffers: Vec::new(alloc),
+    }
+}
+
+/// Whether a read ended because nothing came in the time that it waits.
+fn is_late(error: &Error) -> bool {
+    matches!(error.kind(), ErrorKind::WouldBlock | ErrorKind::TimedOut)
 }
 
 impl Frontend {
-    /// Connects to a port of a kernel that listens.
-    pub(crate) fn open<R>(rt: &R, alloc: Global, port: u16) -> io::Result<Frontend>
-    where
-        R: Net<Listener = TcpListener, Stream = TcpStream>,
-    {
-        let stream = TcpStream::connect(rt, ("127.0.0.1", port))?;
-        stream.set_read_timeout(Some(Duration::from_millis(PATIENCE_MILLISECONDS)))?;
-        let peer = Peer::new(alloc, Role::Dealer);
-        let opening = peer.opening().map_err(|_| wrong())?;
-        let mut octets = &stream;
-        octets.write_all(&opening)?;
-        Ok(Frontend {
+    /// Opens a connection over this stream.
+    pub(crate) fn over(rt: &impl Abort, alloc: Global, stream: TcpStream) -> Frontend {
+        let patience = Duration::from_millis(PATIENCE_MILLISECONDS);
+        stream
+            .set_read_timeout(Some(patience))
+            .expect(rt, "a time that a read waits");
+        write_to(rt, &stream, &opening_of(rt, alloc, Role::Dealer));
+        Frontend {
             alloc,
             stream,
-            peer,
+            peer: Peer::new(alloc, Role::Dealer),
             is_ready: false,
             messages: VecDeque::new(alloc),
-        })
+        }
+    }
+
+    /// Connects to a port of a kernel that listens.
+    pub(crate) fn open<R>(rt: &R, alloc: Global, port: u16) -> Frontend
+    where
+        R: Net<Listener = TcpListener, Stream = TcpStream> + Abort,
+    {
+        Frontend::over(rt, alloc, connect(rt, port).expect(rt, "a connection"))
     }
 
     /// Waits until the kernel is ready on this connection.
-    pub(crate) fn wait_until_ready(&mut self) -> io::Result<()> {
+    pub(crate) fn wait_until_ready(&mut self, rt: &impl Abort) {
         for _ in 0..READS {
             if self.is_ready {
-                return Ok(());
+                return;
             }
-            self.hear()?;
+            self.hear(rt);
         }
-        Err(wrong())
-    }
-
-    /// Sends a message of these frames.
-    fn write(&mut self, frames: &[Vec<u8>]) -> io::Result<()> {
-        let mut octets = Vec::new(self.alloc);
-        if !frames.is_empty() {
-            write_message(&mut octets, frames).map_err(|_| wrong())?;
-        }
-        let mut stream = &self.stream;
-        stream.write_all(&octets)
+        panic!(rt; "the kernel is not ready");
     }
 
     /// Sends a request.
-    pub(crate) fn send(&mut self, msg_type: &str, content: &str) -> io::Result<()> {
-        self.send_under(KEY, msg_type, content)
+    pub(crate) fn send(&mut self, rt: &impl Abort, msg_type: &str, content: &str) {
+        self.send_under(rt, KEY, msg_type, content);
     }
 
     /// Sends a request that is signed under this key.
-    pub(crate) fn send_under(
-        &mut self,
-        key: &str,
-        msg_type: &str,
-        content: &str,
-    ) -> io::Result<()> {
-        let header = format!(in self.alloc;
-            "{{\"msg_id\":\"a\",\"msg_type\":\"{msg_type}\",\"session\":\"s\"}}"
-        )?;
-        let message = Message {
-            identities: Vec::new(self.alloc),
-            header: header.into_bytes(),
-            parent: b"{}".to_vec(self.alloc)?,
-            metadata: b"{}".to_vec(self.alloc)?,
-            content: content.as_bytes().to_vec(self.alloc)?,
-            buffers: Vec::new(self.alloc),
-        };
-        let frames = seal(self.alloc, &message, key.as_bytes()).map_err(|_| wrong())?;
-        self.write(&frames)
+    pub(crate) fn send_under(&mut self, rt: &impl Abort, key: &str, msg_type: &str, content: &str) {
+        let message = request(rt, self.alloc, msg_type, content);
+        let frames = seal(self.alloc, &message, key.as_bytes()).expect(rt, "a sealed message");
+        let mut octets = Vec::new(self.alloc);
+        push_message(rt, &mut octets, &frames);
+        write_to(rt, &self.stream, &octets);
+    }
+
+    /// Takes in an event of the connection.
+    fn take(&mut self, rt: &impl Abort, event: PeerEvent) {
+        match event {
+            PeerEvent::Ready => self.is_ready = true,
+            PeerEvent::Message(frames) => {
+                self.messages
+                    .push_back(frames)
+                    .expect(rt, "room for a message");
+            }
+            PeerEvent::Subscribe(_) | PeerEvent::Cancel(_) => {}
+        }
+    }
+
+    /// Takes in octets that came; none come where the kernel has closed the connection.
+    fn take_in(&mut self, rt: &impl Abort, octets: &[u8]) {
+        assert!(rt; !octets.is_empty());
+        for event in self.peer.feed(octets).expect(rt, "frames of a kernel") {
+            self.take(rt, event);
+        }
     }
 
     /// Takes in what comes in the time that a read waits.
-    fn hear(&mut self) -> io::Result<()> {
+    fn hear(&mut self, rt: &impl Abort) {
         let mut room = [0u8; 4096];
         let mut stream = &self.stream;
-        let count = match stream.read(&mut room) {
-            Ok(0) => return Err(wrong()),
-            Ok(count) => count,
-            Err(error) => match error.kind() {
-                ErrorKind::WouldBlock | ErrorKind::TimedOut => return Ok(()),
-                _ => return Err(error),
-            },
-        };
-        for event in self.peer.feed(&room[..count]).map_err(|_| wrong())? {
-            match event {
-                PeerEvent::Ready => self.is_ready = true,
-                PeerEvent::Message(frames) => self.messages.push_back(frames)?,
-                PeerEvent::Subscribe(_) | PeerEvent::Cancel(_) => {}
-            }
+        match stream.read(&mut room) {
+            Ok(count) => self.take_in(rt, &room[..count]),
+            Err(error) => assert!(rt; is_late(&error)),
         }
-        Ok(())
     }
 
     /// The frames of the next message; none where none comes in the time that a read waits.
-    pub(crate) fn next_frames(&mut self) -> io::Result<Option<Vec<Vec<u8>>>> {
+    pub(crate) fn next_frames(&mut self, rt: &impl Abort) -> Option<Vec<Vec<u8>>> {
         if self.messages.is_empty() {
-            self.hear()?;
+            self.hear(rt);
         }
-        Ok(self.messages.pop_front())
+        self.messages.pop_front()
     }
 
     /// The next reply; none where none comes in the time that a read waits.
-    pub(crate) fn next(&mut self) -> io::Result<Option<Opened>> {
-        match self.next_frames()? {
-            None => Ok(None),
-            Some(frames) => match open(self.alloc, frames, KEY.as_bytes()) {
-                Ok(opened) => Ok(Some(opened)),
-                Err(_) => Err(wrong()),
-            },
+    pub(crate) fn next(&mut self, rt: &impl Abort) -> Option<Opened> {
+        match self.next_frames(rt) {
+            None => None,
+            Some(frames) => {
+                Some(open(self.alloc, frames, KEY.as_bytes()).expect(rt, "a message under the key"))
+            }
         }
     }
 
     /// The next reply, which comes.
-    pub(crate) fn reply(&mut self) -> io::Result<Opened> {
+    pub(crate) fn reply(&mut self, rt: &impl Abort) -> Opened {
         for _ in 0..READS {
-            if let Some(reply) = self.next()? {
-                return Ok(reply);
+            if let Some(reply) = self.next(rt) {
+                return reply;
             }
         }
-        Err(wrong())
+        panic!(rt; "no reply comes")
     }
+}
+
+/// The content of a message.
+fn content_of(rt: &impl Abort, alloc: Global, message: &Message) -> String {
+    let content = str::from_utf8(&message.content).expect(rt, "a text");
+    String::from_str(alloc, content).expect(rt, "a content")
 }
 
 /// Shuts the kernel that listens at this control port, and answers what it replied. A request under another key, which would be answered otherwise, goes
 /// first: no reply comes to it.
-pub(crate) fn shut_down<R>(rt: &R, alloc: Global, port: u16) -> io::Result<String>
+pub(crate) fn shut_down<R>(rt: &R, alloc: Global, port: u16) -> String
 where
-    R: Net<Listener = TcpListener, Stream = TcpStream>,
+    R: Net<Listener = TcpListener, Stream = TcpStream> + Abort,
 {
-    let mut control = Frontend::open(rt, alloc, port)?;
-    control.send_under("another key", "shutdown_request", "{\"restart\":true}")?;
-    control.send("shutdown_request", "{\"restart\":false}")?;
-    let reply = control.reply()?;
-    match str::from_utf8(&reply.message.content) {
-        Ok(content) => Ok(String::from_str(alloc, content)?),
-        Err(_) => Err(wrong()),
-    }
+    let mut control = Frontend::open(rt, alloc, port);
+    control.send_under(rt, "another key", "shutdown_request", "{\"restart\":true}");
+    control.send(rt, "shutdown_request", "{\"restart\":false}");
+    content_of(rt, alloc, &control.reply(rt).message)
+}
+
+/// Compares what a kernel replied to a shutdown.
+pub(crate) fn check_shut(rt: &impl Abort, told: &str) {
+    assert_eq!(rt; told, "{\"restart\":false,\"status\":\"ok\"}");
 }

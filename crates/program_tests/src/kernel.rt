@@ -1,16 +1,16 @@
 //! A kernel on ports of its own, and the consoles that talk to it.
-use crate::frontend::{Frontend, KEY};
+use crate::frontend::{Frontend, KEY, connect};
 use console_program::console;
 use kernel_program::kernel_main;
-use std::alloc::{AllocError, Global};
-use std::io::ErrorKind;
+use std::alloc::Global;
 use std::net::{Net, TcpListener, TcpStream};
+use std::process::Abort;
 use std::random::RandomSource;
 use std::rt::Files;
 use std::sync::Wait;
 use std::thread::Threads;
 use std::time::{Clock, Duration};
-use std::{fs, io, thread};
+use std::{fs, thread};
 
 /// A connection is tried so often, until the kernel listens.
 const TRIES: u32 = 500;
@@ -38,61 +38,113 @@ pub(crate) struct Ran {
 }
 
 /// Listens at a port that was free.
-fn listen<R: Net<Listener = TcpListener, Stream = TcpStream>>(rt: &R) -> io::Result<TcpListener> {
-    TcpListener::bind(rt, ("127.0.0.1", 0u16))
+pub(crate) fn listen<R>(rt: &R) -> TcpListener
+where
+    R: Net<Listener = TcpListener, Stream = TcpStream> + Abort,
+{
+    TcpListener::bind(rt, ("127.0.0.1", 0u16)).expect(rt, "a listener")
 }
 
 /// The port of a listener.
-fn port_of(listener: &TcpListener) -> io::Result<u16> {
-    Ok(listener.local_addr()?.port())
+pub(crate) fn port_of(rt: &impl Abort, listener: &TcpListener) -> u16 {
+    listener.local_addr().expect(rt, "an address").port()
 }
 
 /// Five ports that were free a moment ago, none of them twice.
-fn free_ports<R: Net<Listener = TcpListener, Stream = TcpStream>>(rt: &R) -> io::Result<[u16; 5]> {
-    let (shell, iopub, stdin) = (listen(rt)?, listen(rt)?, listen(rt)?);
-    let (control, heartbeat) = (listen(rt)?, listen(rt)?);
-    Ok([
-        port_of(&shell)?,
-        port_of(&iopub)?,
-        port_of(&stdin)?,
-        port_of(&control)?,
-        port_of(&heartbeat)?,
-    ])
+fn free_ports<R>(rt: &R) -> [u16; 5]
+where
+    R: Net<Listener = TcpListener, Stream = TcpStream> + Abort,
+{
+    let (shell, iopub, stdin) = (listen(rt), listen(rt), listen(rt));
+    let (control, heartbeat) = (listen(rt), listen(rt));
+    [
+        port_of(rt, &shell),
+        port_of(rt, &iopub),
+        port_of(rt, &stdin),
+        port_of(rt, &control),
+        port_of(rt, &heartbeat),
+    ]
+}
+
+/// The text of a connection file with these ports.
+pub(crate) fn connection_text(
+    rt: &impl Abort,
+    alloc: Global,
+    ports: [u16; 5],
+    key: &str,
+) -> String {
+    let [shell, iopub, stdin, control, heartbeat] = ports;
+    let text = format!(in alloc;
+        "{{\"transport\":\"tcp\",\"ip\":\"127.0.0.1\",\"shell_port\":{shell},\"iopub_port\":{iopub},\"stdin_port\":{stdin},\"control_port\":{control},\"hb_port\":{heartbeat},\"key\":\"{key}\"}}"
+    );
+    text.expect(rt, "a connection file")
+}
+
+/// Writes a file.
+pub(crate) fn write_file<R: Files + Abort>(rt: &R, path: &str, text: &str) {
+    fs::write(rt, path, text.as_bytes()).expect(rt, "a file that is written");
+}
+
+/// Removes a file.
+pub(crate) fn remove<R: Files + Abort>(rt: &R, path: &str) {
+    fs::remove_file(rt, path).expect(rt, "a file that is removed");
 }
 
 /// Writes a connection file with free ports and the key.
-pub(crate) fn make_site<R>(rt: &R, alloc: Global) -> io::Result<Site>
+pub(crate) fn make_site<R>(rt: &R, alloc: Global) -> Site
 where
-    R: Net<Listener = TcpListener, Stream = TcpStream> + Files,
+    R: Net<Listener = TcpListener, Stream = TcpStream> + Files + Abort,
 {
-    let [shell, iopub, stdin, control, heartbeat] = free_ports(rt)?;
-    let key = KEY;
-    let path = format!(in alloc; "kernel-{shell}.json")?;
-    let text = format!(in alloc;
-        "{{\"transport\":\"tcp\",\"ip\":\"127.0.0.1\",\"shell_port\":{shell},\"iopub_port\":{iopub},\"stdin_port\":{stdin},\"control_port\":{control},\"hb_port\":{heartbeat},\"key\":\"{key}\"}}"
-    )?;
-    fs::write(rt, path.as_str(), text.as_bytes())?;
-    Ok(Site {
+    let ports = free_ports(rt);
+    let [shell, _, stdin, control, heartbeat] = ports;
+    let path = format!(in alloc; "kernel-{shell}.json").expect(rt, "a path");
+    write_file(rt, &path, &connection_text(rt, alloc, ports, KEY));
+    Site {
         path,
         shell,
         stdin,
         control,
         heartbeat,
-    })
+    }
 }
 
-/// Waits until the kernel serves its sockets. (The threads of all of them stand before it accepts a connection.)
-pub(crate) fn wait_until_ready<R>(rt: &R, alloc: Global, site: &Site) -> io::Result<()>
+/// Waits until something listens at a port, and connects to it.
+fn wait_until_heard<R>(rt: &R, port: u16) -> TcpStream
 where
-    R: Net<Listener = TcpListener, Stream = TcpStream> + Clock,
+    R: Net<Listener = TcpListener, Stream = TcpStream> + Clock + Abort,
 {
     for _ in 0..TRIES {
-        if let Ok(mut control) = Frontend::open(rt, alloc, site.control) {
-            return control.wait_until_ready();
+        if let Ok(stream) = connect(rt, port) {
+            return stream;
         }
         thread::sleep(rt, Duration::from_millis(PAUSE_MILLISECONDS));
     }
-    Err(ErrorKind::TimedOut.into())
+    panic!(rt; "nothing listens at {port}")
+}
+
+/// Waits until the kernel serves its sockets. (The threads of all of them stand before it accepts a connection.)
+pub(crate) fn wait_until_ready<R>(rt: &R, alloc: Global, site: &Site)
+where
+    R: Net<Listener = TcpListener, Stream = TcpStream> + Clock + Abort,
+{
+    let stream = wait_until_heard(rt, site.control);
+    Frontend::over(rt, alloc, stream).wait_until_ready(rt);
+}
+
+/// Runs a kernel over the words of its command line, to its end.
+pub(crate) fn run_kernel<R>(rt: &R, alloc: Global, words: &[&str]) -> Ran
+where
+    R: Net<Listener = TcpListener, Stream = TcpStream>
+        + Files
+        + RandomSource
+        + Threads
+        + Wait
+        + Clock
+        + Sync,
+{
+    let (mut out, mut err) = (Vec::new(alloc), Vec::new(alloc));
+    let status = kernel_main(rt, alloc, words, &mut out, &mut err);
+    Ran { status, out, err }
 }
 
 /// Runs the kernel of a connection file to its end.
@@ -106,23 +158,23 @@ where
         + Clock
         + Sync,
 {
-    let (mut out, mut err) = (Vec::new(alloc), Vec::new(alloc));
-    let status = kernel_main(rt, alloc, &["janus-kernel", path], &mut out, &mut err);
-    Ran { status, out, err }
+    run_kernel(rt, alloc, &["janus-kernel", path])
 }
 
 /// The words of a console's command line. An empty word is left out.
 fn words<'a>(
+    rt: &impl Abort,
     alloc: Global,
     path: &'a str,
     command: &'a str,
     word: &'a str,
-) -> Result<Vec<&'a str>, AllocError> {
-    let mut words = Vec::from_array(alloc, ["janus-console", "--connect", path, command])?;
+) -> Vec<&'a str> {
+    let first = ["janus-console", "--connect", path, command];
+    let mut words = Vec::from_array(alloc, first).expect(rt, "words");
     if !word.is_empty() {
-        words.push(word)?;
+        words.push(word).expect(rt, "room for a word");
     }
-    Ok(words)
+    words
 }
 
 /// Runs a console over the words of its command line.
@@ -136,16 +188,30 @@ where
 }
 
 /// Runs a console with this command and its word. An empty word is left out.
-pub(crate) fn ask<R>(
-    rt: &R,
-    alloc: Global,
-    path: &str,
-    command: &str,
-    word: &str,
-) -> Result<Ran, AllocError>
+pub(crate) fn ask<R>(rt: &R, alloc: Global, path: &str, command: &str, word: &str) -> Ran
 where
-    R: Net<Listener = TcpListener, Stream = TcpStream> + Files,
+    R: Net<Listener = TcpListener, Stream = TcpStream> + Files + Abort,
 {
-    let words = words(alloc, path, command, word)?;
-    Ok(run_console(rt, alloc, &words))
+    run_console(rt, alloc, &words(rt, alloc, path, command, word))
+}
+
+/// Compares what a program wrote. A failure names what was asked of it.
+fn check_octets(rt: &impl Abort, asked: (&str, &str), octets: &[u8], text: &str) {
+    let (command, word) = asked;
+    assert_eq!(rt; octets, text.as_bytes(), "{command} {word}");
+}
+
+/// Compares what a program wrote of which a command with a word was asked, and its status.
+pub(crate) fn check_ran(
+    rt: &impl Abort,
+    asked: (&str, &str),
+    ran: &Ran,
+    out: &str,
+    err: &str,
+    status: u8,
+) {
+    check_octets(rt, asked, &ran.out, out);
+    check_octets(rt, asked, &ran.err, err);
+    let (command, word) = asked;
+    assert_eq!(rt; ran.status, status, "{command} {word}");
 }

@@ -1,13 +1,12 @@
 //! One console after the other at one kernel, which all of them share.
-use crate::frontend::shut_down;
-use crate::kernel::{Site, ask, kernel, make_site, wait_until_ready};
+use crate::frontend::{check_shut, shut_down};
+use crate::kernel::{Site, ask, check_ran, kernel, make_site, remove, wait_until_ready};
 use std::alloc::Global;
 use std::net::{Net, TcpListener, TcpStream};
 use std::process::Abort;
 use std::rt::Files;
-use std::test::Fail;
+use std::thread;
 use std::time::Clock;
-use std::{fs, io, thread};
 
 /// A console's command and its word, what it prints, and its status.
 const ROWS: [(&str, &str, &str, u8); 11] = [
@@ -25,33 +24,28 @@ const ROWS: [(&str, &str, &str, u8); 11] = [
 ];
 
 /// Runs the consoles, each of them once, and then shuts the kernel.
-fn run_consoles<R>(rt: &R, alloc: Global, site: &Site) -> io::Result<String>
+fn run_consoles<R>(rt: &R, alloc: Global, site: &Site) -> String
 where
     R: Net<Listener = TcpListener, Stream = TcpStream> + Files + Clock + Abort,
 {
-    wait_until_ready(rt, alloc, site)?;
-    for (command, word, printed, status) in ROWS {
-        let ran = ask(rt, alloc, &site.path, command, word)?;
-        assert_eq!(rt; ran.out.as_slice(), printed.as_bytes(), "{command} {word}");
-        assert_eq!(rt; ran.err.as_slice(), b"".as_slice());
-        assert_eq!(rt; ran.status, status, "{command} {word}");
+    wait_until_ready(rt, alloc, site);
+    for &(command, word, printed, status) in &ROWS {
+        let ran = ask(rt, alloc, &site.path, command, word);
+        check_ran(rt, (command, word), &ran, printed, "", status);
     }
     shut_down(rt, alloc, site.control)
 }
 
 #[test]
-fn consoles_share_a_kernel(rt: HostRuntime) -> Result<(), Fail> {
+fn consoles_share_a_kernel(rt: HostRuntime) {
     let alloc = rt.alloc();
-    let site = make_site(&rt, alloc)?;
+    let site = make_site(&rt, alloc);
     let (ran, told) = thread::join(
         &rt,
         || kernel(&rt, alloc, &site.path),
         || run_consoles(&rt, alloc, &site),
     );
-    assert_eq!(rt; told?.as_str(), "{\"restart\":false,\"status\":\"ok\"}");
-    assert_eq!(rt; ran.status, 0);
-    assert_eq!(rt; ran.out.as_slice(), b"ready\n".as_slice());
-    assert_eq!(rt; ran.err.as_slice(), b"".as_slice());
-    fs::remove_file(&rt, site.path.as_str())?;
-    Ok(())
+    check_shut(&rt, &told);
+    check_ran(&rt, ("the kernel", ""), &ran, "ready\n", "", 0);
+    remove(&rt, &site.path);
 }

@@ -5,14 +5,17 @@ use crate::rows::{
     SHUT_DOWN, SHUT_DOWN_ANSWERED, SUBSCRIPTION,
 };
 use crate::streams::{Counted, Pieces, Taken, Watching};
+use kernel_board::Broadcast;
 use kernel_message::Stamp;
 use kernel_session::{ServeFault, Socket, serve};
 use std::alloc::{AllocError, Global};
 use std::process::Abort;
 use std::sync::atomic::AtomicUsize;
-use std::test::Fail;
 use zmtp_peer::PeerFault;
 use zmtp_wire::{WireFault, write_message};
+
+/// How a connection ended, and what went out.
+type Served = (Result<(), ServeFault>, Vec<u8>);
 
 /// The stamp of session `k` and connection 1, with this number next.
 fn stamp(alloc: Global, next: u64) -> Result<Stamp, AllocError> {
@@ -24,22 +27,17 @@ fn stamp(alloc: Global, next: u64) -> Result<Stamp, AllocError> {
     })
 }
 
-/// Serves a connection in pieces of a size, with so many reads and writes before the streams fail: how it ended, and what went out.
-pub(crate) fn served(
+/// Serves a connection over this reader, with so many writes before the writer fails, and with this number next.
+fn served_over(
+    rt: &impl Abort,
     desk: &mut NoKernel,
     socket: Socket,
-    octets: &[u8],
-    size: usize,
-    reads_left: u64,
+    mut reader: Pieces<'_>,
     writes_left: u64,
-) -> Result<(Result<(), ServeFault>, Vec<u8>), Fail> {
+    next: u64,
+) -> Served {
     let alloc = desk.alloc;
-    let mut stamp = stamp(alloc, 0)?;
-    let mut reader = Pieces {
-        octets,
-        size,
-        reads_left,
-    };
+    let mut stamp = stamp(alloc, next).expect(rt, "a stamp");
     let mut writer = Taken {
         octets: Vec::new(alloc),
         writes_left,
@@ -53,7 +51,25 @@ pub(crate) fn served(
         desk,
         &mut stamp,
     );
-    Ok((ended, writer.octets))
+    (ended, writer.octets)
+}
+
+/// Serves a connection in pieces of a size, with so many reads and writes before the streams fail.
+pub(crate) fn served(
+    rt: &impl Abort,
+    desk: &mut NoKernel,
+    socket: Socket,
+    octets: &[u8],
+    size: usize,
+    reads_left: u64,
+    writes_left: u64,
+) -> Served {
+    let reader = Pieces {
+        octets,
+        size,
+        reads_left,
+    };
+    served_over(rt, desk, socket, reader, writes_left, 0)
 }
 
 /// Serves a connection whose streams don't fail, and compares how it ended and what went out.
@@ -65,53 +81,41 @@ fn check(
     size: usize,
     want: Result<(), ServeFault>,
     out: &[u8],
-) -> Result<(), Fail> {
-    let (ended, written) = served(desk, socket, octets, size, 10000, 10000)?;
+) {
+    let (ended, written) = served(rt, desk, socket, octets, size, 10000, 10000);
     assert_eq!(rt; ended, want);
     assert_eq!(rt; written.as_slice(), out);
-    Ok(())
+}
+
+/// The octets of a broadcast.
+fn octets_of(rt: &impl Abort, alloc: Global, broadcast: &Broadcast) -> Vec<u8> {
+    let mut octets = Vec::new(alloc);
+    if !broadcast.frames().is_empty() {
+        write_message(&mut octets, broadcast.frames()).expect(rt, "the octets of a broadcast");
+    }
+    octets
 }
 
 /// Compares what was published.
-fn check_published(rt: &impl Abort, desk: &NoKernel, want: &[&[u8]]) -> Result<(), Fail> {
+fn check_published(rt: &impl Abort, desk: &NoKernel, want: &[&[u8]]) {
     assert_eq!(rt; desk.kept.len(), want.len());
     for (broadcast, octets) in desk.kept.iter().zip(want) {
-        let mut written = Vec::new(desk.alloc);
-        if !broadcast.frames().is_empty() {
-            write_message(&mut written, broadcast.frames())?;
-        }
-        assert_eq!(rt; written.as_slice(), *octets);
+        assert_eq!(rt; octets_of(rt, desk.alloc, broadcast).as_slice(), *octets);
     }
-    Ok(())
 }
 
-/// Serves the question to shell, with this number next: how the connection ended, and what went out.
-fn served_from(desk: &mut NoKernel, next: u64) -> Result<(Result<(), ServeFault>, Vec<u8>), Fail> {
-    let alloc = desk.alloc;
-    let mut stamp = stamp(alloc, next)?;
-    let mut reader = Pieces {
+/// Serves the question to shell, with this number next.
+fn served_from(rt: &impl Abort, desk: &mut NoKernel, next: u64) -> Served {
+    let reader = Pieces {
         octets: QUESTION,
         size: 10000,
         reads_left: 10,
     };
-    let mut writer = Taken {
-        octets: Vec::new(alloc),
-        writes_left: 10,
-    };
-    let ended = serve(
-        alloc,
-        Socket::Shell,
-        b"",
-        &mut reader,
-        &mut writer,
-        desk,
-        &mut stamp,
-    );
-    Ok((ended, writer.octets))
+    served_over(rt, desk, Socket::Shell, reader, 10, next)
 }
 
 #[test]
-fn a_question_is_answered_in_pieces_of_any_size(rt: HostRuntime) -> Result<(), Fail> {
+fn a_question_is_answered_in_pieces_of_any_size(rt: HostRuntime) {
     for size in [1, 7, 10000] {
         let mut desk = NoKernel::new(rt.alloc());
         check(
@@ -122,14 +126,13 @@ fn a_question_is_answered_in_pieces_of_any_size(rt: HostRuntime) -> Result<(), F
             size,
             Ok(()),
             ANSWERED,
-        )?;
-        check_published(&rt, &desk, &BROADCASTS)?;
+        );
+        check_published(&rt, &desk, &BROADCASTS);
     }
-    Ok(())
 }
 
 #[test]
-fn a_shutdown_is_answered_and_ends_the_connection(rt: HostRuntime) -> Result<(), Fail> {
+fn a_shutdown_is_answered_and_ends_the_connection(rt: HostRuntime) {
     for size in [1, 10000] {
         let mut desk = NoKernel::new(rt.alloc());
         check(
@@ -140,16 +143,15 @@ fn a_shutdown_is_answered_and_ends_the_connection(rt: HostRuntime) -> Result<(),
             size,
             Ok(()),
             SHUT_DOWN_ANSWERED,
-        )?;
+        );
         assert!(rt; desk.is_shut);
         assert!(rt; desk.is_rung);
         assert_eq!(rt; desk.kept.len(), 4);
     }
-    Ok(())
 }
 
 #[test]
-fn control_passes_execution_over(rt: HostRuntime) -> Result<(), Fail> {
+fn control_passes_execution_over(rt: HostRuntime) {
     let mut desk = NoKernel::new(rt.alloc());
     check(
         &rt,
@@ -159,8 +161,8 @@ fn control_passes_execution_over(rt: HostRuntime) -> Result<(), Fail> {
         10000,
         Ok(()),
         ROUTER,
-    )?;
-    check_published(&rt, &desk, &[])?;
+    );
+    check_published(&rt, &desk, &[]);
     check(
         &rt,
         &mut desk,
@@ -169,11 +171,11 @@ fn control_passes_execution_over(rt: HostRuntime) -> Result<(), Fail> {
         10000,
         Ok(()),
         ANSWERED,
-    )
+    );
 }
 
 #[test]
-fn a_beat_is_sent_back_and_stdin_passes_over(rt: HostRuntime) -> Result<(), Fail> {
+fn a_beat_is_sent_back_and_stdin_passes_over(rt: HostRuntime) {
     let mut desk = NoKernel::new(rt.alloc());
     check(
         &rt,
@@ -183,13 +185,13 @@ fn a_beat_is_sent_back_and_stdin_passes_over(rt: HostRuntime) -> Result<(), Fail
         1,
         Ok(()),
         BEAT_BACK,
-    )?;
-    check(&rt, &mut desk, Socket::Stdin, QUESTION, 1, Ok(()), ROUTER)?;
-    check_published(&rt, &desk, &[])
+    );
+    check(&rt, &mut desk, Socket::Stdin, QUESTION, 1, Ok(()), ROUTER);
+    check_published(&rt, &desk, &[]);
 }
 
 #[test]
-fn a_subscriber_gets_what_the_desk_keeps(rt: HostRuntime) -> Result<(), Fail> {
+fn a_subscriber_gets_what_the_desk_keeps(rt: HostRuntime) {
     let mut desk = NoKernel::new(rt.alloc());
     check(
         &rt,
@@ -199,20 +201,19 @@ fn a_subscriber_gets_what_the_desk_keeps(rt: HostRuntime) -> Result<(), Fail> {
         1,
         Ok(()),
         PUBLISHER,
-    )?;
-    check(&rt, &mut desk, Socket::Shell, QUESTION, 1, Ok(()), ANSWERED)?;
-    let (ended, written) = served(&mut desk, Socket::Iopub, SUBSCRIPTION, 1, 10000, 10000)?;
+    );
+    check(&rt, &mut desk, Socket::Shell, QUESTION, 1, Ok(()), ANSWERED);
+    let (ended, written) = served(&rt, &mut desk, Socket::Iopub, SUBSCRIPTION, 1, 10000, 10000);
     assert_eq!(rt; ended, Ok(()));
-    let mut want = PUBLISHER.to_vec(rt.alloc())?;
+    let mut want = PUBLISHER.to_vec(rt.alloc()).expect(&rt, "octets");
     for octets in BROADCASTS {
-        want.extend_from_slice(octets)?;
+        want.extend_from_slice(octets).expect(&rt, "more octets");
     }
     assert_eq!(rt; written.as_slice(), want.as_slice());
-    Ok(())
 }
 
 #[test]
-fn a_fault_behind_a_message_ends_the_connection(rt: HostRuntime) -> Result<(), Fail> {
+fn a_fault_behind_a_message_ends_the_connection(rt: HostRuntime) {
     let mut desk = NoKernel::new(rt.alloc());
     let fault = ServeFault::Peer(PeerFault::Wire(WireFault::ReservedBits));
     check(
@@ -223,82 +224,76 @@ fn a_fault_behind_a_message_ends_the_connection(rt: HostRuntime) -> Result<(), F
         10000,
         Err(fault),
         ANSWERED,
-    )
+    );
+}
+
+/// Serves the question with a reader that fails behind so many reads.
+fn check_reader(rt: &impl Abort, alloc: Global, reads: u64) {
+    let mut desk = NoKernel::new(alloc);
+    let (ended, written) = served(rt, &mut desk, Socket::Shell, QUESTION, 50, reads, 10000);
+    let want = if reads < 5 {
+        Err(ServeFault::Read)
+    } else {
+        Ok(())
+    };
+    assert_eq!(rt; ended, want);
+    assert!(rt; ANSWERED.starts_with(&written));
 }
 
 #[test]
-fn a_reader_that_fails_leaves_a_beginning(rt: HostRuntime) -> Result<(), Fail> {
+fn a_reader_that_fails_leaves_a_beginning(rt: HostRuntime) {
     for reads in 0..8u64 {
-        let mut desk = NoKernel::new(rt.alloc());
-        let (ended, written) = served(&mut desk, Socket::Shell, QUESTION, 50, reads, 10000)?;
-        assert_eq!(rt;
-            ended,
-            if reads < 5 {
-                Err(ServeFault::Read)
-            } else {
-                Ok(())
-            }
-        );
-        assert!(rt; ANSWERED.starts_with(&written));
+        check_reader(&rt, rt.alloc(), reads);
     }
-    Ok(())
+}
+
+/// Serves the question with a writer that fails behind so many writes, and compares how many broadcasts were published.
+fn check_writer(rt: &impl Abort, alloc: Global, writes: u64, published: usize) {
+    let mut desk = NoKernel::new(alloc);
+    let (ended, written) = served(rt, &mut desk, Socket::Shell, QUESTION, 50, 10000, writes);
+    let want = if writes < 2 {
+        Err(ServeFault::Write)
+    } else {
+        Ok(())
+    };
+    assert_eq!(rt; ended, want);
+    assert!(rt; ANSWERED.starts_with(&written));
+    assert_eq!(rt; desk.kept.len(), published);
 }
 
 #[test]
-fn a_writer_that_fails_leaves_a_beginning(rt: HostRuntime) -> Result<(), Fail> {
-    for writes in 0..4u64 {
-        let mut desk = NoKernel::new(rt.alloc());
-        let (ended, written) = served(&mut desk, Socket::Shell, QUESTION, 50, 10000, writes)?;
-        assert_eq!(rt;
-            ended,
-            if writes < 2 {
-                Err(ServeFault::Write)
-            } else {
-                Ok(())
-            }
-        );
-        assert!(rt; ANSWERED.starts_with(&written));
-        assert_eq!(rt;
-            desk.kept.len(),
-            if writes == 0 {
-                0
-            } else if writes == 1 {
-                1
-            } else {
-                2
-            }
-        );
+fn a_writer_that_fails_leaves_a_beginning(rt: HostRuntime) {
+    for (writes, published) in [(0, 0), (1, 1), (2, 2), (3, 2)] {
+        check_writer(&rt, rt.alloc(), writes, published);
     }
-    Ok(())
 }
 
 /// The end of the input inside a frame is an ordinary end.
 #[test]
-fn an_end_inside_a_frame_is_no_fault(rt: HostRuntime) -> Result<(), Fail> {
+fn an_end_inside_a_frame_is_no_fault(rt: HostRuntime) {
     let mut desk = NoKernel::new(rt.alloc());
     let cut = &QUESTION[..QUESTION.len() - 1];
-    check(&rt, &mut desk, Socket::Shell, cut, 7, Ok(()), ROUTER)?;
-    check_published(&rt, &desk, &[])
+    check(&rt, &mut desk, Socket::Shell, cut, 7, Ok(()), ROUTER);
+    check_published(&rt, &desk, &[]);
 }
 
 /// The last number from which a request is served is 2^64 - 16.
 #[test]
-fn the_last_numbers_are_kept(rt: HostRuntime) -> Result<(), Fail> {
+fn the_last_numbers_are_kept(rt: HostRuntime) {
     let mut desk = NoKernel::new(rt.alloc());
-    let (ended, written) = served_from(&mut desk, u64::MAX - 14)?;
+    let (ended, written) = served_from(&rt, &mut desk, u64::MAX - 14);
     assert_eq!(rt; ended, Err(ServeFault::Read));
     assert_eq!(rt; written.as_slice(), ROUTER);
     assert_eq!(rt; desk.kept.len(), 0);
-    let (ended, written) = served_from(&mut desk, u64::MAX - 15)?;
+    let (ended, written) = served_from(&rt, &mut desk, u64::MAX - 15);
     assert_eq!(rt; ended, Ok(()));
     assert!(rt; written.len() > ROUTER.len());
     assert_eq!(rt; desk.kept.len(), 2);
-    Ok(())
 }
 
 /// A desk that finds no memory ends the connection behind the status busy.
 #[test]
-fn a_desk_without_memory_ends_the_connection(rt: HostRuntime) -> Result<(), Fail> {
+fn a_desk_without_memory_ends_the_connection(rt: HostRuntime) {
     let mut desk = NoKernel::new(rt.alloc());
     desk.is_poor = true;
     check(
@@ -309,16 +304,16 @@ fn a_desk_without_memory_ends_the_connection(rt: HostRuntime) -> Result<(), Fail
         10000,
         Err(ServeFault::Memory),
         ROUTER,
-    )?;
-    check_published(&rt, &desk, &BROADCASTS[..1])
+    );
+    check_published(&rt, &desk, &BROADCASTS[..1]);
 }
 
 /// A request is answered before the connection reads on.
 #[test]
-fn a_question_is_answered_before_the_next_read(rt: HostRuntime) -> Result<(), Fail> {
+fn a_question_is_answered_before_the_next_read(rt: HostRuntime) {
     let alloc = rt.alloc();
     let mut desk = NoKernel::new(alloc);
-    let mut stamp = stamp(alloc, 0)?;
+    let mut stamp = stamp(alloc, 0).expect(&rt, "a stamp");
     let written = AtomicUsize::new(0);
     let mut reader = Watching {
         octets: QUESTION,
@@ -337,5 +332,4 @@ fn a_question_is_answered_before_the_next_read(rt: HostRuntime) -> Result<(), Fa
     );
     assert_eq!(rt; ended, Ok(()));
     assert_eq!(rt; reader.seen, ANSWERED.len());
-    Ok(())
 }

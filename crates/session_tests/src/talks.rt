@@ -5,35 +5,37 @@ use crate::rows::{QUESTION, ROUTER};
 use kernel_ask::{Ask, HistoryAsk};
 use kernel_core::Job;
 use kernel_session::Socket;
-use std::alloc::{AllocError, Global};
+use std::alloc::Global;
 use std::process::Abort;
-use std::test::Fail;
 use zmtp_wire::write_message;
 
 /// A frame with this text.
-fn frame(alloc: Global, text: &str) -> Result<Vec<u8>, AllocError> {
-    text.as_bytes().to_vec(alloc)
+fn frame(rt: &impl Abort, alloc: Global, text: &str) -> Vec<u8> {
+    text.as_bytes().to_vec(alloc).expect(rt, "a frame")
+}
+
+/// The header of a request of this type.
+fn header(rt: &impl Abort, alloc: Global, msg_type: &str) -> Vec<u8> {
+    let header = format!(in alloc;
+        "{{\"msg_id\":\"a\",\"msg_type\":\"{msg_type}\",\"session\":\"s\"}}"
+    );
+    header.expect(rt, "a header").into_bytes()
 }
 
 /// The octets of a dealer's opening, which is as long as a router's, and of a request of this type and content, unsigned.
-fn asking(alloc: Global, msg_type: &str, content: &str) -> Result<Vec<u8>, Fail> {
-    let header = format!(in alloc;
-        "{{\"msg_id\":\"a\",\"msg_type\":\"{msg_type}\",\"session\":\"s\"}}"
-    )?;
-    let frames = Vec::from_array(
-        alloc,
-        [
-            frame(alloc, "<IDS|MSG>")?,
-            Vec::new(alloc),
-            frame(alloc, header.as_str())?,
-            frame(alloc, "{}")?,
-            frame(alloc, "{}")?,
-            frame(alloc, content)?,
-        ],
-    )?;
-    let mut octets = QUESTION[..ROUTER.len()].to_vec(alloc)?;
-    write_message(&mut octets, &frames)?;
-    Ok(octets)
+fn asking(rt: &impl Abort, alloc: Global, msg_type: &str, content: &str) -> Vec<u8> {
+    let frames = [
+        frame(rt, alloc, "<IDS|MSG>"),
+        Vec::new(alloc),
+        header(rt, alloc, msg_type),
+        frame(rt, alloc, "{}"),
+        frame(rt, alloc, "{}"),
+        frame(rt, alloc, content),
+    ];
+    let opening = &QUESTION[..ROUTER.len()];
+    let mut octets = opening.to_vec(alloc).expect(rt, "an opening");
+    write_message(&mut octets, &frames).expect(rt, "a message");
+    octets
 }
 
 /// Serves a request, and compares which jobs it posted and what it asked.
@@ -44,19 +46,18 @@ fn check(
     content: &str,
     jobs: &[Job],
     asks: &[Ask],
-) -> Result<(), Fail> {
+) {
     let mut desk = NoKernel::new(alloc);
-    let octets = asking(alloc, msg_type, content)?;
-    let (ended, _) = served(&mut desk, Socket::Shell, &octets, 10000, 10, 10)?;
+    let octets = asking(rt, alloc, msg_type, content);
+    let (ended, _) = served(rt, &mut desk, Socket::Shell, &octets, 10000, 10, 10);
     assert_eq!(rt; ended, Ok(()));
     assert!(rt; *desk.jobs == *jobs);
     assert!(rt; *desk.asks == *asks);
-    Ok(())
 }
 
 /// A move on the open comm is posted, and where it is refused the state is asked for.
 #[test]
-fn a_redo_on_a_comm_is_posted(rt: HostRuntime) -> Result<(), Fail> {
+fn a_redo_on_a_comm_is_posted(rt: HostRuntime) {
     let content = "{\"comm_id\":\"c\",\"data\":{\"n\":2,\"op\":\"redo\"}}";
     check(
         &rt,
@@ -65,11 +66,11 @@ fn a_redo_on_a_comm_is_posted(rt: HostRuntime) -> Result<(), Fail> {
         content,
         &[Job::Redo(2)],
         &[Ask::Comms, Ask::State],
-    )
+    );
 }
 
 #[test]
-fn a_goto_on_a_comm_is_posted(rt: HostRuntime) -> Result<(), Fail> {
+fn a_goto_on_a_comm_is_posted(rt: HostRuntime) {
     let content = "{\"comm_id\":\"c\",\"data\":{\"n\":3,\"op\":\"goto\"}}";
     check(
         &rt,
@@ -78,18 +79,18 @@ fn a_goto_on_a_comm_is_posted(rt: HostRuntime) -> Result<(), Fail> {
         content,
         &[Job::Goto(3)],
         &[Ask::Comms, Ask::State],
-    )
+    );
 }
 
 /// On a comm that is not open nothing is done.
 #[test]
-fn an_undo_on_another_comm_is_passed_over(rt: HostRuntime) -> Result<(), Fail> {
+fn an_undo_on_another_comm_is_passed_over(rt: HostRuntime) {
     let content = "{\"comm_id\":\"d\",\"data\":{\"n\":1,\"op\":\"undo\"}}";
-    check(&rt, rt.alloc(), "comm_msg", content, &[], &[Ask::Comms])
+    check(&rt, rt.alloc(), "comm_msg", content, &[], &[Ask::Comms]);
 }
 
 #[test]
-fn the_state_is_asked_for_on_a_comm(rt: HostRuntime) -> Result<(), Fail> {
+fn the_state_is_asked_for_on_a_comm(rt: HostRuntime) {
     let content = "{\"comm_id\":\"c\",\"data\":{\"op\":\"state\"}}";
     check(
         &rt,
@@ -98,18 +99,18 @@ fn the_state_is_asked_for_on_a_comm(rt: HostRuntime) -> Result<(), Fail> {
         content,
         &[],
         &[Ask::Comms, Ask::State],
-    )
+    );
 }
 
 #[test]
-fn the_last_inputs_are_asked_for(rt: HostRuntime) -> Result<(), Fail> {
+fn the_last_inputs_are_asked_for(rt: HostRuntime) {
     let content = "{\"hist_access_type\":\"tail\",\"n\":7}";
     let want = [Ask::History(HistoryAsk::Tail(7))];
-    check(&rt, rt.alloc(), "history_request", content, &[], &want)
+    check(&rt, rt.alloc(), "history_request", content, &[], &want);
 }
 
 #[test]
-fn a_range_of_inputs_is_asked_for(rt: HostRuntime) -> Result<(), Fail> {
+fn a_range_of_inputs_is_asked_for(rt: HostRuntime) {
     let content = "{\"hist_access_type\":\"range\",\"start\":2,\"stop\":5}";
     let range = HistoryAsk::Range {
         session: 0,
@@ -123,5 +124,5 @@ fn a_range_of_inputs_is_asked_for(rt: HostRuntime) -> Result<(), Fail> {
         content,
         &[],
         &[Ask::History(range)],
-    )
+    );
 }

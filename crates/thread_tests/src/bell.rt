@@ -2,9 +2,9 @@
 ghost use Rattle.std.specs.Prelude.{◌≡◌};
 
 use kernel_bell::{Bell, RINGERS, RingerSeat, RunnerSeat};
+use std::process::Abort;
 use std::sync::Wait;
 use std::sync::atomic::{AtomicBool, AtomicU64, Ordering};
-use std::test::Fail;
 use std::thread;
 use std::thread::Threads;
 
@@ -98,9 +98,38 @@ impl Ringer<'_> {
     }
 }
 
+/// The runner begins the job of this serial, and is not asked to stop it.
+fn begin_unasked(rt: &impl Abort, runner: &mut Runner<'_>, serial: u64) {
+    assert!(rt; runner.begin() == Some(serial));
+    assert!(rt; !runner.is_asked());
+}
+
+/// A ring for no job asks for nothing, and then seven jobs begin.
+fn begin_seven(rt: &impl Abort, runner: &mut Runner<'_>, ringer: &mut Ringer<'_>) {
+    assert!(rt; !runner.is_asked());
+    assert!(rt; ringer.ring() == 0);
+    assert!(rt; !runner.is_asked());
+    for serial in 1..8u64 {
+        begin_unasked(rt, runner, serial);
+    }
+}
+
+/// The ringer looks at the seventh job and raises once the eighth has begun, which is asked to stop only by a ring of its own.
+fn raise_late(rt: &impl Abort, runner: &mut Runner<'_>, ringer: &mut Ringer<'_>) {
+    assert!(rt; ringer.look() == 7);
+    assert!(rt; runner.begin() == Some(8));
+    assert!(rt; ringer.raise() == 7);
+    assert!(rt; !runner.is_asked());
+    assert!(rt; ringer.ring() == 8);
+    assert!(rt; runner.is_asked());
+    assert!(rt; runner.is_asked());
+    assert!(rt; runner.seat.serial() == 8);
+    begin_unasked(rt, runner, 9);
+}
+
 #[test]
-fn a_late_raise_stops_no_later_job(rt: HostRuntime) -> Result<(), Fail> {
-    let (bell, runner, mut seats) = Bell::new(rt.alloc(), RINGERS)?;
+fn a_late_raise_stops_no_later_job(rt: HostRuntime) {
+    let (bell, runner, mut seats) = Bell::new(rt.alloc(), RINGERS).expect(&rt, "a bell");
     assert!(rt; seats.len() == 64);
     let mut runner = Runner {
         bell: &bell,
@@ -110,17 +139,8 @@ fn a_late_raise_stops_no_later_job(rt: HostRuntime) -> Result<(), Fail> {
         bell: &bell,
         seat: seats.pop().expect(&rt, "a seat"),
     };
-    assert!(rt; !runner.is_asked() && ringer.ring() == 0 && !runner.is_asked());
-    for serial in 1..8u64 {
-        assert!(rt; runner.begin() == Some(serial) && !runner.is_asked());
-    }
-    assert!(rt; ringer.look() == 7);
-    assert!(rt; runner.begin() == Some(8));
-    assert!(rt; ringer.raise() == 7 && !runner.is_asked());
-    assert!(rt; ringer.ring() == 8 && runner.is_asked() && runner.is_asked());
-    assert!(rt; runner.seat.serial() == 8);
-    assert!(rt; runner.begin() == Some(9) && !runner.is_asked());
-    Ok(())
+    begin_seven(&rt, &mut runner, &mut ringer);
+    raise_late(&rt, &mut runner, &mut ringer);
 }
 
 /// Begins jobs and runs each until it is asked to stop, while threads ring: how many were stopped, and how many answers of rings were wrong.
@@ -149,9 +169,9 @@ fn stopped_by_threads<R: Threads + Wait>(
 }
 
 #[test]
-fn rings_from_threads_stop_the_job_that_runs(rt: HostRuntime) -> Result<(), Fail> {
+fn rings_from_threads_stop_the_job_that_runs(rt: HostRuntime) {
     let alloc = rt.alloc();
-    let (bell, runner, mut seats) = Bell::new(alloc, 3)?;
+    let (bell, runner, mut seats) = Bell::new(alloc, 3).expect(&rt, "a bell");
     let first = Ringer {
         bell: &bell,
         seat: seats.pop().expect(&rt, "a seat"),
@@ -164,12 +184,11 @@ fn rings_from_threads_stop_the_job_that_runs(rt: HostRuntime) -> Result<(), Fail
         bell: &bell,
         seat: seats.pop().expect(&rt, "a seat"),
     };
-    let ringers = Vec::from_array(alloc, [first, second, third])?;
+    let ringers = Vec::from_array(alloc, [first, second, third]).expect(&rt, "a list");
     let runner = Runner {
         bell: &bell,
         seat: runner,
     };
     let (stopped, wrong) = stopped_by_threads(&rt, runner, ringers);
     assert!(rt; stopped == JOBS && wrong == 0);
-    Ok(())
 }

@@ -1,9 +1,9 @@
 //! The board of broadcasts.
 use kernel_board::{Board, BoardFault, Broadcast, KEPT, MOST, Place, Read};
-use std::alloc::{AllocError, Global};
+use std::alloc::Global;
+use std::process::Abort;
 use std::sync::Wait;
 use std::sync::atomic::{AtomicU64, Ordering};
-use std::test::Fail;
 use std::thread;
 use std::thread::Threads;
 
@@ -17,10 +17,11 @@ const READERS: usize = 3;
 const TURNS: u32 = 1_000_000;
 
 /// A broadcast whose second frame is the number.
-fn numbered(alloc: Global, number: u64) -> Result<Broadcast, AllocError> {
-    let topic = Vec::from_array(alloc, *b"status")?;
-    let body = Vec::from_array(alloc, number.to_be_bytes())?;
-    Broadcast::new(alloc, Vec::from_array(alloc, [topic, body])?)
+fn numbered<R: Abort>(rt: &R, alloc: Global, number: u64) -> Broadcast {
+    let topic = Vec::from_array(alloc, *b"status").expect(rt, "a topic");
+    let body = Vec::from_array(alloc, number.to_be_bytes()).expect(rt, "a body");
+    let frames = Vec::from_array(alloc, [topic, body]).expect(rt, "frames");
+    Broadcast::new(alloc, frames).expect(rt, "a broadcast")
 }
 
 /// Whether this is the broadcast of the number.
@@ -49,19 +50,19 @@ fn are_numbered(got: &[Broadcast], from: Place, next: Place) -> bool {
 }
 
 /// Publishes the broadcasts of some numbers. Whether each got its number.
-fn publish_all<R: Wait>(
+fn publish_all<R: Wait + Abort>(
     rt: &R,
     alloc: Global,
     board: &Board,
     first: u64,
     end: u64,
-) -> Result<bool, AllocError> {
+) -> bool {
     for number in first..end {
-        if board.publish(rt, numbered(alloc, number)?) != number {
-            return Ok(false);
+        if board.publish(rt, numbered(rt, alloc, number)) != number {
+            return false;
         }
     }
-    Ok(true)
+    true
 }
 
 /// What a reader came by.
@@ -143,44 +144,41 @@ fn is_no_news(told: Result<Read, BoardFault>, place: Place) -> bool {
 }
 
 #[test]
-fn the_last_4096_are_kept(rt: HostRuntime) -> Result<(), Fail> {
+fn the_last_4096_are_kept(rt: HostRuntime) {
     let alloc = rt.alloc();
-    let board = Board::new(alloc)?;
+    let board = Board::new(alloc).expect(&rt, "a board");
     let start = board.join(&rt);
     assert!(rt; start.number == 0 && is_no_news(board.read_from(&rt, start), start));
-    assert!(rt; publish_all(&rt, alloc, &board, 0, 4096)?);
+    assert!(rt; publish_all(&rt, alloc, &board, 0, 4096));
     let mut account = Account::at(start);
     assert!(rt; account.take(board.read_from(&rt, start)) && account.is(64, 64, 0));
-    assert!(rt; publish_all(&rt, alloc, &board, 4096, 4097)?);
+    assert!(rt; publish_all(&rt, alloc, &board, 4096, 4097));
     let mut account = Account::at(start);
     assert!(rt; account.take(board.read_from(&rt, start)) && account.is(1, 0, 1));
     let account = follow(&rt, &board, start, 4097);
     assert!(rt; account.is(4097, 4096, 1) && account.place == board.join(&rt));
     assert!(rt; is_no_news(board.read_from(&rt, account.place), account.place));
-    Ok(())
 }
 
 #[test]
-fn a_fault_has_its_number_and_name(rt: HostRuntime) -> Result<(), Fail> {
+fn a_fault_has_its_number_and_name(rt: HostRuntime) {
     let fault = BoardFault::Memory;
-    let text = format!(in rt.alloc(); "{fault}")?;
+    let text = format!(in rt.alloc(); "{fault}").expect(&rt, "a text");
     assert!(rt; fault.number() == 76 && fault.name() == "Memory" && text.as_str() == "Memory");
     assert!(rt; KEPT == 4096 && MOST == 64);
-    Ok(())
 }
 
 /// A clone is the same broadcast, and stands when the first is gone.
 #[test]
-fn a_clone_is_the_same_broadcast(rt: HostRuntime) -> Result<(), Fail> {
+fn a_clone_is_the_same_broadcast(rt: HostRuntime) {
     let alloc = rt.alloc();
-    let first = numbered(alloc, 7)?;
-    let second = first.clone()?;
+    let first = numbered(&rt, alloc, 7);
+    let second = first.clone().expect(&rt, "a clone");
     assert!(rt; is_numbered(&first, 7));
     drop(first);
     assert!(rt; is_numbered(&second, 7));
-    let empty = Broadcast::new(alloc, Vec::new(alloc))?;
+    let empty = Broadcast::new(alloc, Vec::new(alloc)).expect(&rt, "a broadcast");
     assert!(rt; empty.frames().is_empty() && empty.topic().is_empty());
-    Ok(())
 }
 
 /// Reads on up to the end, and counts itself as wrong where it went wrong.
@@ -196,7 +194,7 @@ fn follow_to_the_end<R: Wait>(rt: &R, board: &Board, from: Place, wrong: &Atomic
 }
 
 /// Publishes, while threads read on from the start: whether each broadcast got its number, and how many readers went wrong.
-fn followed_by_threads<R: Threads + Wait + Sync>(
+fn followed_by_threads<R: Threads + Wait + Abort + Sync>(
     rt: &R,
     alloc: Global,
     board: &Board,
@@ -211,19 +209,18 @@ fn followed_by_threads<R: Threads + Wait + Sync>(
                 wrong_seen.fetch_add(1, Ordering::SeqCst);
             }
         }
-        publish_all(rt, alloc, board, 0, PUBLISHED).unwrap_or(false)
+        publish_all(rt, alloc, board, 0, PUBLISHED)
     });
     (is_published, wrong.into_inner())
 }
 
 #[test]
-fn readers_on_threads_miss_nothing_untold(rt: HostRuntime) -> Result<(), Fail> {
+fn readers_on_threads_miss_nothing_untold(rt: HostRuntime) {
     let alloc = rt.alloc();
-    let board = Board::new(alloc)?;
+    let board = Board::new(alloc).expect(&rt, "a board");
     let start = board.join(&rt);
     let (is_published, wrong) = followed_by_threads(&rt, alloc, &board, start);
     assert!(rt; is_published && wrong == 0);
     let slow = follow(&rt, &board, start, PUBLISHED);
     assert!(rt; slow.is(PUBLISHED, 4096, PUBLISHED - 4096));
-    Ok(())
 }

@@ -4,12 +4,11 @@ ghost use Rattle.std.specs.Prelude.{◌≡◌, ◌<◌};
 use crate::desk::{Away, Desk, cell, closed, ends, pass, post};
 use kernel_core::{Job, Outcome};
 use kernel_hall::{AuditFault, Ticket};
-use std::alloc::{AllocError, Global};
+use std::alloc::Global;
 use std::marker::Brand;
 use std::process::Abort;
 use std::sync::Wait;
 use std::sync::ledger::{Blank, Ledger};
-use std::test::Fail;
 
 /// How what the frontends came away with is bent before the close.
 #[derive(Clone, Copy, Debug)]
@@ -29,87 +28,74 @@ fn away<W: Ledger, L: Ledger, R: Wait + Abort>(
     rt: &R,
     alloc: Global,
     desk: &mut Desk<W, L>,
-) -> Result<Away<L>, Fail> {
+) -> Away<L> {
     let (first, second) = (pass(rt, &desk.hall), pass(rt, &desk.hall));
-    let (declared, first) = post(rt, alloc, &desk.hall, first, cell(alloc, "int x")?);
-    let (added, second) = post(rt, alloc, &desk.hall, second, cell(alloc, "x += 5")?);
+    let (declared, first) = post(rt, alloc, &desk.hall, first, cell(rt, alloc, "int x"));
+    let (added, second) = post(rt, alloc, &desk.hall, second, cell(rt, alloc, "x += 5"));
     let (undone, first) = post(rt, alloc, &desk.hall, first, Job::Undo(1));
     desk.run_all(rt, 3);
-    let tickets = Vec::from_array(alloc, [undone, declared, added])?;
-    Ok(Away {
-        passes: Vec::from_array(alloc, [first, second])?,
-        dones: ends(rt, alloc, &desk.hall, &tickets)?,
+    let tickets = Vec::from_array(alloc, [undone, declared, added]).expect(rt, "a list");
+    Away {
+        passes: Vec::from_array(alloc, [first, second]).expect(rt, "a list"),
+        dones: ends(rt, alloc, &desk.hall, &tickets),
         tickets,
-    })
+    }
 }
 
-fn bend_it<L: Ledger>(alloc: Global, away: &mut Away<L>, how: Bend) -> Result<(), AllocError> {
+/// A ticket of another hall, with this number.
+fn other_ticket<R: Abort>(rt: &R, alloc: Global, number: u64) -> Ticket {
+    Ticket {
+        lane: 1,
+        nth: 1,
+        number,
+        job: cell(rt, alloc, "int x"),
+    }
+}
+
+/// Bends what the frontends came away with.
+
+fn bend_it<L: Ledger, R: Abort>(rt: &R, alloc: Global, away: &mut Away<L>, how: Bend) {
     match how {
         Bend::Nothing => {}
         Bend::LostPass => {
             let _lost = away.passes.pop();
         }
-        Bend::OtherTicket(number) => away.tickets.push(Ticket {
-            lane: 1,
-            nth: 1,
-            number,
-            job: cell(alloc, "int x")?,
-        })?,
+        Bend::OtherTicket(number) => {
+            let ticket = other_ticket(rt, alloc, number);
+            away.tickets.push(ticket).expect(rt, "room for a ticket");
+        }
         Bend::OtherOutcome => {
             if let Some(done) = away.dones.last_mut() {
                 done.outcome = Outcome::Ran(2, 4);
             }
         }
     }
-    Ok(())
 }
 
-/// What the frontends of a new hall come away with, bent.
-fn bent<W: Ledger, L: Ledger, R: Wait + Abort>(
-    rt: &R,
-    alloc: Global,
-    desk: &mut Desk<W, L>,
-    how: Bend,
-) -> Result<Away<L>, Fail> {
-    let mut away = away(rt, alloc, desk)?;
-    bend_it(alloc, &mut away, how)?;
-    Ok(away)
-}
-
-/// How many minutes a hall closes with, or its fault.
+/// How many minutes a new hall closes with, or its fault, where what its frontends came away with is bent.
 fn closed_in<W: Ledger, L: Ledger, R: Wait + Abort>(
     rt: &R,
     alloc: Global,
     writes: Blank,
     posts: Blank,
     how: Bend,
-) -> Result<Result<usize, AuditFault>, Fail>
+) -> Result<usize, AuditFault>
     requires writes { (writes.name ≡ W.name) × (writes.parts ≡ W.parts) × (0 < W.parts) }
     requires posts { (posts.name ≡ L.name) × (posts.parts ≡ 65537) × (posts.parts ≡ L.parts) }
 {
-    let mut desk = Desk::<W, L>::new(alloc, writes, posts)?;
-    match bent(rt, alloc, &mut desk, how) {
-        Ok(away) => {
-            let Desk { hall, .. } = desk;
-            Ok(closed(hall, away))
-        }
-        Err(fail) => {
-            desk.discard();
-            Err(fail)
-        }
-    }
+    let mut desk = Desk::<W, L>::new(alloc, writes, posts).expect(rt, "a desk");
+    let mut away = away(rt, alloc, &mut desk);
+    bend_it(rt, alloc, &mut away, how);
+    let Desk { hall, .. } = desk;
+    closed(hall, away)
 }
 
-fn closed_by<R: Wait + Abort>(
-    rt: &R,
-    alloc: Global,
-    how: Bend,
-) -> Result<Result<usize, AuditFault>, Fail> {
+fn closed_by<R: Wait + Abort>(rt: &R, alloc: Global, how: Bend) -> Result<usize, AuditFault> {
     closed_in::<Brand, Brand, R>(rt, alloc, Blank::new(1), Blank::new(65_537), how)
 }
 
 #[test]
-fn a_hall_closes_with_what_is_so(rt: HostRuntime) -> Result<(), Fail> {
+fn a_hall_closes_with_what_is_so(rt: HostRuntime) {
     let cases = [
         (Bend::Nothing, Ok(6)),
         (Bend::LostPass, Err(AuditFault::PassMissing)),
@@ -118,7 +104,6 @@ fn a_hall_closes_with_what_is_so(rt: HostRuntime) -> Result<(), Fail> {
         (Bend::OtherOutcome, Err(AuditFault::TicketUnknown(2))),
     ];
     for (how, want) in cases {
-        assert_eq!(rt; closed_by(&rt, rt.alloc(), how)?, want, "where {how:?}");
+        assert_eq!(rt; closed_by(&rt, rt.alloc(), how), want, "where {how:?}");
     }
-    Ok(())
 }

@@ -118,7 +118,7 @@ pub(crate) fn closed<W: Ledger, L: Ledger>(
 
 /// A new pass.
 pub(crate) fn pass<W: Ledger, L: Ledger, R: Wait + Abort>(rt: &R, hall: &Hall<W, L>) -> Pass<L> {
-    hall.pass(rt).ok().expect(rt, "a pass")
+    hall.pass(rt).expect(rt, "a pass")
 }
 
 /// Posts a job that is taken.
@@ -134,26 +134,28 @@ pub(crate) fn post<W: Ledger, L: Ledger, R: Wait + Abort>(
 }
 
 /// A cell that is counted.
-pub(crate) fn cell(alloc: Global, code: &str) -> Result<Job, AllocError> {
-    Ok(Job::Cell {
-        code: String::from_str(alloc, code)?,
+pub(crate) fn cell<R: Abort>(rt: &R, alloc: Global, code: &str) -> Job {
+    Job::Cell {
+        code: String::from_str(alloc, code).expect(rt, "the code of a cell"),
         silent: false,
         store: true,
-    })
+    }
 }
 
 /// What came of the jobs of these tickets.
-pub(crate) fn ends<W: Ledger, L: Ledger, R: Wait>(
+pub(crate) fn ends<W: Ledger, L: Ledger, R: Wait + Abort>(
     rt: &R,
     alloc: Global,
     hall: &Hall<W, L>,
     tickets: &[Ticket],
-) -> Result<Vec<Done>, AllocError> {
+) -> Vec<Done> {
     let mut dones = Vec::new(alloc);
     for ticket in tickets {
-        dones.push(hall.wait(rt, ticket))?;
+        dones
+            .push(hall.wait(rt, ticket))
+            .expect(rt, "room for what came of a job");
     }
-    Ok(dones)
+    dones
 }
 
 /// Whether these texts are this one.

@@ -5,12 +5,11 @@ use crate::desk::{Desk, cell, is_one, is_world, pass, post};
 use kernel_ask::{Answer, Ask, Content, Done, HallFault, Wish};
 use kernel_core::{Begun, Job, Outcome, PostFault, Refusal, Sliced};
 use kernel_hall::{CommChange, Gate, Hall, Moment, PASSES, Pass, Turn, work};
-use std::alloc::{AllocError, Global};
+use std::alloc::Global;
 use std::marker::Brand;
 use std::process::Abort;
 use std::sync::Wait;
 use std::sync::ledger::{Blank, Ledger};
-use std::test::Fail;
 
 /// What is tried in a hall.
 #[derive(Clone, Copy)]
@@ -54,36 +53,42 @@ fn is_valued(done: &Done, name: &str, number: i32) -> bool {
     }
 }
 
-/// The shown text and the values go to the first wait alone.
-fn first_wait<W: Ledger, L: Ledger, R: Wait + Abort>(
-    rt: &R,
-    alloc: Global,
-    desk: &mut Desk<W, L>,
-) -> Result<(), Fail> {
+/// The wish for twice `x`, named `a`.
+fn wishes<R: Abort>(rt: &R, alloc: Global) -> Vec<Wish> {
     let wish = Wish {
-        name: String::from_str(alloc, "a")?,
-        exp: String::from_str(alloc, "x * 2")?,
+        name: String::from_str(alloc, "a").expect(rt, "a name"),
+        exp: String::from_str(alloc, "x * 2").expect(rt, "an expression"),
     };
-    let wishes = Vec::from_array(alloc, [wish])?;
-    let job = cell(alloc, "int x x += 5")?;
-    let posted = desk.hall.post(rt, pass(rt, &desk.hall), job, wishes);
+    Vec::from_array(alloc, [wish]).expect(rt, "a list")
+}
+
+/// The shown text and the values go to the first wait alone.
+fn first_wait<W: Ledger, L: Ledger, R: Wait + Abort>(rt: &R, alloc: Global, desk: &mut Desk<W, L>) {
+    let job = cell(rt, alloc, "int x x += 5");
+    let posted = desk
+        .hall
+        .post(rt, pass(rt, &desk.hall), job, wishes(rt, alloc));
     let (ticket, _) = posted.ok().expect(rt, "a post");
     assert!(rt; desk.run(rt) == Some(Outcome::Ran(1, 3)));
     let first = desk.hall.wait(rt, &ticket);
     assert!(rt; is_five(&first) && is_shown(&first, "x = 5") && is_valued(&first, "a", 10));
     let second = desk.hall.wait(rt, &ticket);
     assert!(rt; is_five(&second) && second.shown.is_none() && second.values.is_empty());
-    Ok(())
+}
+
+/// The id of the comm `k`.
+fn comm_id<R: Abort>(rt: &R, alloc: Global) -> String {
+    String::from_str(alloc, "k").expect(rt, "an id")
 }
 
 /// Opens the comm `k`.
-fn open_comm<W: Ledger, L: Ledger, R: Wait>(
+fn open_comm<W: Ledger, L: Ledger, R: Wait + Abort>(
     rt: &R,
     alloc: Global,
     hall: &Hall<W, L>,
     pass: &Pass<L>,
-) -> Result<Result<bool, HallFault>, AllocError> {
-    Ok(hall.comm(rt, pass, CommChange::Open(String::from_str(alloc, "k")?)))
+) -> Result<bool, HallFault> {
+    hall.comm(rt, pass, CommChange::Open(comm_id(rt, alloc)))
 }
 
 /// Whether that comm is the open one.
@@ -100,19 +105,14 @@ fn is_listed<W: Ledger, L: Ledger, R: Wait>(rt: &R, hall: &Hall<W, L>, pass: &Pa
 }
 
 /// A comm is opened once, is listed, and is closed once.
-fn comms<W: Ledger, L: Ledger, R: Wait + Abort>(
-    rt: &R,
-    alloc: Global,
-    hall: &Hall<W, L>,
-) -> Result<(), Fail> {
+fn comms<W: Ledger, L: Ledger, R: Wait + Abort>(rt: &R, alloc: Global, hall: &Hall<W, L>) {
     let pass = pass(rt, hall);
-    assert!(rt; open_comm(rt, alloc, hall, &pass)? == Ok(true));
-    assert!(rt; open_comm(rt, alloc, hall, &pass)? == Ok(false));
+    assert!(rt; open_comm(rt, alloc, hall, &pass) == Ok(true));
+    assert!(rt; open_comm(rt, alloc, hall, &pass) == Ok(false));
     assert!(rt; is_listed(rt, hall, &pass));
-    let id = String::from_str(alloc, "k")?;
-    assert!(rt; hall.comm(rt, &pass, CommChange::Close(id)) == Ok(true));
+    let close = CommChange::Close(comm_id(rt, alloc));
+    assert!(rt; hall.comm(rt, &pass, close) == Ok(true));
     assert!(rt; !is_listed(rt, hall, &pass));
-    Ok(())
 }
 
 /// A gate that holds nobody.
@@ -144,12 +144,11 @@ fn own_state<W: Ledger, L: Ledger, R: Wait + Abort>(
     desk: &mut Desk<W, L>,
     code: &str,
     line: &str,
-) -> Result<(), Fail> {
+) {
     let pass = pass(rt, &desk.hall);
-    let (_, pass) = post(rt, alloc, &desk.hall, pass, cell(alloc, code)?);
+    let (_, pass) = post(rt, alloc, &desk.hall, pass, cell(rt, alloc, code));
     assert!(rt; desk.run(rt) == Some(Outcome::Ran(1, 3)));
     assert!(rt; is_world(rt, &desk.hall, &pass, 2, line));
-    Ok(())
 }
 
 /// Takes the turn that begins a posted cell, and the two slices that it takes then.
@@ -160,15 +159,11 @@ fn begin<W: Ledger, L: Ledger, R: Wait + Abort>(rt: &R, desk: &mut Desk<W, L>) {
 }
 
 /// A ring for a cell that runs stops it, and leaves all as before it.
-fn ring<W: Ledger, L: Ledger, R: Wait + Abort>(
-    rt: &R,
-    alloc: Global,
-    desk: &mut Desk<W, L>,
-) -> Result<(), Fail> {
-    let short = cell(alloc, "int x x += 5")?;
+fn ring<W: Ledger, L: Ledger, R: Wait + Abort>(rt: &R, alloc: Global, desk: &mut Desk<W, L>) {
+    let short = cell(rt, alloc, "int x x += 5");
     let (_, pass) = post(rt, alloc, &desk.hall, pass(rt, &desk.hall), short);
     assert!(rt; desk.run(rt) == Some(Outcome::Ran(1, 3)));
-    let long = cell(alloc, "from x = 5 do x += 1 until x = 4")?;
+    let long = cell(rt, alloc, "from x = 5 do x += 1 until x = 4");
     let (ticket, pass) = post(rt, alloc, &desk.hall, pass, long);
     begin(rt, desk);
     desk.ring();
@@ -177,23 +172,17 @@ fn ring<W: Ledger, L: Ledger, R: Wait + Abort>(
     let done = desk.hall.wait(rt, &ticket);
     assert!(rt; done.outcome == Outcome::Interrupted(8192) && done.node == 1);
     assert!(rt; is_world(rt, &desk.hall, &pass, 4, "x = 5"));
-    Ok(())
 }
 
 /// A ring that comes once its job has ended does not stop the next one, which waits already.
-fn late_ring<W: Ledger, L: Ledger, R: Wait + Abort>(
-    rt: &R,
-    alloc: Global,
-    desk: &mut Desk<W, L>,
-) -> Result<(), Fail> {
-    let short = cell(alloc, "int x x += 5")?;
+fn late_ring<W: Ledger, L: Ledger, R: Wait + Abort>(rt: &R, alloc: Global, desk: &mut Desk<W, L>) {
+    let short = cell(rt, alloc, "int x x += 5");
     let (_, pass) = post(rt, alloc, &desk.hall, pass(rt, &desk.hall), short);
-    let (_, pass) = post(rt, alloc, &desk.hall, pass, cell(alloc, "x += 1")?);
+    let (_, pass) = post(rt, alloc, &desk.hall, pass, cell(rt, alloc, "x += 1"));
     assert!(rt; desk.run(rt) == Some(Outcome::Ran(1, 3)));
     desk.ring();
     assert!(rt; desk.run(rt) == Some(Outcome::Ran(2, 3)));
     assert!(rt; is_world(rt, &desk.hall, &pass, 4, "x = 6"));
-    Ok(())
 }
 
 /// Tries something in a hall.
@@ -202,91 +191,89 @@ fn play_at<W: Ledger, L: Ledger, R: Wait + Abort>(
     alloc: Global,
     desk: &mut Desk<W, L>,
     scene: Scene,
-) -> Result<(), Fail> {
+) {
     match scene {
         Scene::AllPasses => all_passes(rt, &desk.hall),
-        Scene::FirstWait => first_wait(rt, alloc, desk)?,
-        Scene::Comms => comms(rt, alloc, &desk.hall)?,
-        Scene::Ring => ring(rt, alloc, desk)?,
-        Scene::LateRing => late_ring(rt, alloc, desk)?,
-        Scene::State(code, line) => own_state(rt, alloc, desk, code, line)?,
+        Scene::FirstWait => first_wait(rt, alloc, desk),
+        Scene::Comms => comms(rt, alloc, &desk.hall),
+        Scene::Ring => ring(rt, alloc, desk),
+        Scene::LateRing => late_ring(rt, alloc, desk),
+        Scene::State(code, line) => own_state(rt, alloc, desk, code, line),
     }
-    Ok(())
 }
 
+/// Tries something in a new hall, and lets it go.
 fn play_in<W: Ledger, L: Ledger, R: Wait + Abort>(
     rt: &R,
     alloc: Global,
     writes: Blank,
     posts: Blank,
     scene: Scene,
-) -> Result<(), Fail>
+)
     requires writes { (writes.name ≡ W.name) × (writes.parts ≡ W.parts) × (0 < W.parts) }
     requires posts { (posts.name ≡ L.name) × (posts.parts ≡ 65537) × (posts.parts ≡ L.parts) }
 {
-    let mut desk = Desk::<W, L>::new(alloc, writes, posts)?;
-    let played = play_at(rt, alloc, &mut desk, scene);
+    let mut desk = Desk::<W, L>::new(alloc, writes, posts).expect(rt, "a desk");
+    play_at(rt, alloc, &mut desk, scene);
     desk.discard();
-    played
 }
 
+/// Shuts a new hall, and lets it go.
 fn shut_in<W: Ledger, L: Ledger, R: Wait + Abort>(
     rt: &R,
     alloc: Global,
     writes: Blank,
     posts: Blank,
-) -> Result<(), AllocError>
+)
     requires writes { (writes.name ≡ W.name) × (writes.parts ≡ W.parts) × (0 < W.parts) }
     requires posts { (posts.name ≡ L.name) × (posts.parts ≡ 65537) × (posts.parts ≡ L.parts) }
 {
-    let desk = Desk::<W, L>::new(alloc, writes, posts)?;
+    let desk = Desk::<W, L>::new(alloc, writes, posts).expect(rt, "a desk");
     shut(rt, alloc, desk);
-    Ok(())
 }
 
 /// Tries something in a new hall.
-fn play<R: Wait + Abort>(rt: &R, alloc: Global, scene: Scene) -> Result<(), Fail> {
-    play_in::<Brand, Brand, R>(rt, alloc, Blank::new(1), Blank::new(65_537), scene)
+fn play<R: Wait + Abort>(rt: &R, alloc: Global, scene: Scene) {
+    play_in::<Brand, Brand, R>(rt, alloc, Blank::new(1), Blank::new(65_537), scene);
 }
 
 /// Shuts a new hall.
-fn play_shut<R: Wait + Abort>(rt: &R, alloc: Global) -> Result<(), AllocError> {
-    shut_in::<Brand, Brand, R>(rt, alloc, Blank::new(1), Blank::new(65_537))
+fn play_shut<R: Wait + Abort>(rt: &R, alloc: Global) {
+    shut_in::<Brand, Brand, R>(rt, alloc, Blank::new(1), Blank::new(65_537));
 }
 
 #[test]
-fn each_pass_has_the_next_lane(rt: HostRuntime) -> Result<(), Fail> {
-    play(&rt, rt.alloc(), Scene::AllPasses)
+fn each_pass_has_the_next_lane(rt: HostRuntime) {
+    play(&rt, rt.alloc(), Scene::AllPasses);
 }
 
 #[test]
-fn the_first_wait_has_what_is_shown(rt: HostRuntime) -> Result<(), Fail> {
-    play(&rt, rt.alloc(), Scene::FirstWait)
+fn the_first_wait_has_what_is_shown(rt: HostRuntime) {
+    play(&rt, rt.alloc(), Scene::FirstWait);
 }
 
 #[test]
-fn a_comm_is_opened_listed_and_closed(rt: HostRuntime) -> Result<(), Fail> {
-    play(&rt, rt.alloc(), Scene::Comms)
+fn a_comm_is_opened_listed_and_closed(rt: HostRuntime) {
+    play(&rt, rt.alloc(), Scene::Comms);
 }
 
 #[test]
-fn a_shut_hall_refuses_and_its_worker_ends(rt: HostRuntime) -> Result<(), Fail> {
-    play_shut(&rt, rt.alloc())?;
-    Ok(())
+fn a_shut_hall_refuses_and_its_worker_ends(rt: HostRuntime) {
+    play_shut(&rt, rt.alloc());
 }
 
 #[test]
-fn a_ring_stops_the_cell_that_runs(rt: HostRuntime) -> Result<(), Fail> {
-    play(&rt, rt.alloc(), Scene::Ring)
+fn a_ring_stops_the_cell_that_runs(rt: HostRuntime) {
+    play(&rt, rt.alloc(), Scene::Ring);
 }
 
 #[test]
-fn a_late_ring_does_not_stop_the_next_job(rt: HostRuntime) -> Result<(), Fail> {
-    play(&rt, rt.alloc(), Scene::LateRing)
+fn a_late_ring_does_not_stop_the_next_job(rt: HostRuntime) {
+    play(&rt, rt.alloc(), Scene::LateRing);
 }
 
 #[test]
-fn a_hall_answers_of_its_own_world(rt: HostRuntime) -> Result<(), Fail> {
-    play(&rt, rt.alloc(), Scene::State("int x x += 1", "x = 1"))?;
-    play(&rt, rt.alloc(), Scene::State("int x x += 2", "x = 2"))
+fn a_hall_answers_of_its_own_world(rt: HostRuntime) {
+    play(&rt, rt.alloc(), Scene::State("int x x += 1", "x = 1"));
+    play(&rt, rt.alloc(), Scene::State("int x x += 2", "x = 2"));
 }

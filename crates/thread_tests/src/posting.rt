@@ -2,15 +2,14 @@
 ghost use Rattle.std.specs.Prelude.{◌≡◌, ◌<◌};
 
 use crate::desk::{Away, Desk, Worker, cell, closed, is_world, pass, post};
+use kernel_ask::Done;
 use kernel_core::Outcome;
-use kernel_hall::{Gate, Hall, Moment};
-use std::alloc::{AllocError, Global};
+use kernel_hall::{Gate, Hall, Moment, Ticket};
+use std::alloc::Global;
 use std::marker::Brand;
 use std::process::Abort;
-use std::sync::atomic::{AtomicU64, Ordering};
 use std::sync::ledger::{Blank, Ledger};
 use std::sync::{Mutex, Wait};
-use std::test::Fail;
 use std::thread;
 use std::thread::Threads;
 
@@ -28,65 +27,59 @@ impl Gate for Open {
     fn pass(&mut self, _moment: Moment) {}
 }
 
+/// Puts a ticket and what came of its job to the others.
+fn put<L: Ledger, R: Wait + Abort>(rt: &R, all: &Mutex<Away<L>>, ticket: Ticket, done: Done) {
+    let mut away = all.lock(rt);
+    away.tickets.push(ticket).expect(rt, "room for a ticket");
+    away.dones.push(done).expect(rt, "room for what came of it");
+}
+
 /// Posts a cell for a new pass and waits for it, so many times. All that it comes away with is added.
 fn post_and_wait<W: Ledger, L: Ledger, R: Wait + Abort>(
     rt: &R,
     alloc: Global,
     hall: &Hall<W, L>,
     all: &Mutex<Away<L>>,
-) -> Result<(), AllocError> {
+) {
     let mut own = pass(rt, hall);
     for _ in 0..EACH {
-        let (ticket, next) = post(rt, alloc, hall, own, cell(alloc, "x += 1")?);
+        let (ticket, next) = post(rt, alloc, hall, own, cell(rt, alloc, "x += 1"));
         own = next;
         let done = hall.wait(rt, &ticket);
         assert!(rt; matches!(done.outcome, Outcome::Ran(_, 3)));
-        let mut away = all.lock(rt);
-        away.tickets.push(ticket)?;
-        away.dones.push(done)?;
+        put(rt, all, ticket, done);
     }
-    all.lock(rt).passes.push(own)?;
-    Ok(())
+    all.lock(rt).passes.push(own).expect(rt, "room for a pass");
 }
 
-/// Each of the threads posts. How many of them failed.
+/// Each of the threads posts.
 fn posted_by_threads<
     W: Ledger + Send + Sync,
     L: Ledger + Send + Sync,
     R: Threads + Wait + Abort + Sync,
->(rt: &R, alloc: Global, hall: &Hall<W, L>, all: &Mutex<Away<L>>) -> u64 {
-    let failed = AtomicU64::new(0);
-    let failed_seen = &failed;
+>(rt: &R, alloc: Global, hall: &Hall<W, L>, all: &Mutex<Away<L>>) {
     thread::scope(thread::scope_env(), rt, |scope| {
         for _ in 0..POSTERS {
-            let started = scope.spawn(move || {
-                if post_and_wait(rt, alloc, hall, all).is_err() {
-                    failed_seen.fetch_add(1, Ordering::SeqCst);
-                }
-            });
-            if started.is_err() {
-                failed_seen.fetch_add(1, Ordering::SeqCst);
-            }
+            let started = scope.spawn(move || post_and_wait(rt, alloc, hall, all));
+            assert!(rt; started.is_ok());
         }
     });
-    failed.into_inner()
 }
 
-/// The worker runs beside these threads. How many of them failed.
+/// The worker runs beside these threads.
 fn posted_beside<
     'a,
     W: Ledger + Send + Sync,
     L: Ledger + Send + Sync,
     R: Threads + Wait + Abort + Sync,
->(rt: &R, alloc: Global, worker: Worker<'a, W, L>, all: &Mutex<Away<L>>) -> u64 {
+>(rt: &R, alloc: Global, worker: Worker<'a, W, L>, all: &Mutex<Away<L>>) {
     let hall = worker.hall;
     thread::scope(thread::scope_env(), rt, |scope| {
         let started = scope.spawn(move || worker.serve(rt, Open));
         assert!(rt; started.is_ok());
-        let failed = posted_by_threads(rt, alloc, hall, all);
+        posted_by_threads(rt, alloc, hall, all);
         hall.shut(rt);
-        failed
-    })
+    });
 }
 
 /// A first cell makes the variable to which each of the others adds one.
@@ -94,21 +87,16 @@ fn first_cell<W: Ledger, L: Ledger, R: Wait + Abort>(
     rt: &R,
     alloc: Global,
     desk: &mut Desk<W, L>,
-) -> Result<Away<L>, AllocError> {
-    let (ticket, own) = post(
-        rt,
-        alloc,
-        &desk.hall,
-        pass(rt, &desk.hall),
-        cell(alloc, "int x")?,
-    );
+) -> Away<L> {
+    let job = cell(rt, alloc, "int x");
+    let (ticket, own) = post(rt, alloc, &desk.hall, pass(rt, &desk.hall), job);
     desk.run_all(rt, 1);
     let done = desk.hall.wait(rt, &ticket);
-    Ok(Away {
-        passes: Vec::from_array(alloc, [own])?,
-        tickets: Vec::from_array(alloc, [ticket])?,
-        dones: Vec::from_array(alloc, [done])?,
-    })
+    Away {
+        passes: Vec::from_array(alloc, [own]).expect(rt, "a list"),
+        tickets: Vec::from_array(alloc, [ticket]).expect(rt, "a list"),
+        dones: Vec::from_array(alloc, [done]).expect(rt, "a list"),
+    }
 }
 
 /// All threads post beside the worker, and the hall closes with all that they came away with.
@@ -120,7 +108,7 @@ fn post_all<W: Ledger + Send + Sync, L: Ledger + Send + Sync, R: Threads + Wait 
 ) {
     let all = Mutex::new(first);
     let Desk { hall, seat, .. } = desk;
-    assert!(rt; posted_beside(rt, alloc, Worker { hall: &hall, seat }, &all) == 0);
+    posted_beside(rt, alloc, Worker { hall: &hall, seat }, &all);
     let away = all.into_inner();
     assert!(rt; away.tickets.len() == 641 && away.dones.len() == 641 && away.passes.len() == 33);
     assert!(rt; is_world(rt, &hall, &pass(rt, &hall), 1282, "x = 640"));
@@ -132,29 +120,21 @@ fn play_in<W: Ledger + Send + Sync, L: Ledger + Send + Sync, R: Threads + Wait +
     alloc: Global,
     writes: Blank,
     posts: Blank,
-) -> Result<(), AllocError>
+)
     requires writes { (writes.name ≡ W.name) × (writes.parts ≡ W.parts) × (0 < W.parts) }
     requires posts { (posts.name ≡ L.name) × (posts.parts ≡ 65537) × (posts.parts ≡ L.parts) }
 {
-    let mut desk = Desk::<W, L>::new(alloc, writes, posts)?;
-    match first_cell(rt, alloc, &mut desk) {
-        Ok(first) => {
-            post_all(rt, alloc, desk, first);
-            Ok(())
-        }
-        Err(fault) => {
-            desk.discard();
-            Err(fault)
-        }
-    }
+    let mut desk = Desk::<W, L>::new(alloc, writes, posts).expect(rt, "a desk");
+    let first = first_cell(rt, alloc, &mut desk);
+    post_all(rt, alloc, desk, first);
 }
 
-fn play<R: Threads + Wait + Abort + Sync>(rt: &R, alloc: Global) -> Result<(), AllocError> {
-    play_in::<Brand, Brand, R>(rt, alloc, Blank::new(1), Blank::new(65_537))
+fn play<R: Threads + Wait + Abort + Sync>(rt: &R, alloc: Global) {
+    play_in::<Brand, Brand, R>(rt, alloc, Blank::new(1), Blank::new(65_537));
 }
 
 /// Nothing of what they post is lost, and nothing is run twice.
 #[test]
-fn threads_that_post_lose_nothing(rt: HostRuntime) -> Result<(), Fail> {
-    Ok(play(&rt, rt.alloc())?)
+fn threads_that_post_lose_nothing(rt: HostRuntime) {
+    play(&rt, rt.alloc());
 }

@@ -5,13 +5,12 @@ use crate::desk::{Away, Desk, Worker, cell, closed, ends, is_world, pass, post};
 use kernel_ask::Done;
 use kernel_core::{End, Job, Outcome};
 use kernel_hall::{Gate, Hall, Moment};
-use std::alloc::{AllocError, Global};
+use std::alloc::Global;
 use std::marker::Brand;
 use std::process::Abort;
 use std::sync::Wait;
 use std::sync::atomic::{AtomicU64, Ordering};
 use std::sync::ledger::{Blank, Ledger};
-use std::test::Fail;
 use std::thread;
 use std::thread::Threads;
 
@@ -67,23 +66,23 @@ fn ask_meanwhile<W: Ledger, L: Ledger, R: Wait + Abort>(
     alloc: Global,
     hall: &Hall<W, L>,
     word: &AtomicU64,
-) -> Result<Away<L>, AllocError> {
+) -> Away<L> {
     let (first, second, third) = (pass(rt, hall), pass(rt, hall), pass(rt, hall));
-    let long = cell(alloc, "int x from x = 0 do x += 1 until x = 5000")?;
+    let long = cell(rt, alloc, "int x from x = 0 do x += 1 until x = 5000");
     let (looped, first) = post(rt, alloc, hall, first, long);
-    let (added, second) = post(rt, alloc, hall, second, cell(alloc, "x += 1")?);
+    let (added, second) = post(rt, alloc, hall, second, cell(rt, alloc, "x += 1"));
     let (undone, first) = post(rt, alloc, hall, first, Job::Undo(1));
     await_word(word, HELD);
     assert!(rt; is_world(rt, hall, &third, 3, "x = 512"));
     word.store(FREE, Ordering::SeqCst);
-    let tickets = Vec::from_array(alloc, [looped, added, undone])?;
-    let dones = ends(rt, alloc, hall, &tickets)?;
+    let tickets = Vec::from_array(alloc, [looped, added, undone]).expect(rt, "a list");
+    let dones = ends(rt, alloc, hall, &tickets);
     assert!(rt; is_world(rt, hall, &third, 6, "x = 5000"));
-    Ok(Away {
-        passes: Vec::from_array(alloc, [first, second, third])?,
+    Away {
+        passes: Vec::from_array(alloc, [first, second, third]).expect(rt, "a list"),
         tickets,
         dones,
-    })
+    }
 }
 
 /// Whether these are the outcomes of the three jobs.
@@ -104,12 +103,7 @@ fn held_beside<
     W: Ledger + Send + Sync,
     L: Ledger + Send + Sync,
     R: Threads + Wait + Abort + Sync,
->(
-    rt: &R,
-    alloc: Global,
-    worker: Worker<'a, W, L>,
-    word: &'a AtomicU64,
-) -> Result<Away<L>, AllocError> {
+>(rt: &R, alloc: Global, worker: Worker<'a, W, L>, word: &'a AtomicU64) -> Away<L> {
     let hall = worker.hall;
     thread::scope(thread::scope_env(), rt, |scope| {
         let started = scope.spawn(move || worker.serve(rt, holding(word)));
@@ -131,31 +125,22 @@ fn play_in<W: Ledger + Send + Sync, L: Ledger + Send + Sync, R: Threads + Wait +
     alloc: Global,
     writes: Blank,
     posts: Blank,
-) -> Result<(), AllocError>
+)
     requires writes { (writes.name ≡ W.name) × (writes.parts ≡ W.parts) × (0 < W.parts) }
     requires posts { (posts.name ≡ L.name) × (posts.parts ≡ 65537) × (posts.parts ≡ L.parts) }
 {
-    let Desk { hall, seat, .. } = Desk::<W, L>::new(alloc, writes, posts)?;
+    let Desk { hall, seat, .. } = Desk::<W, L>::new(alloc, writes, posts).expect(rt, "a desk");
     let word = AtomicU64::new(0);
-    let held = held_beside(rt, alloc, Worker { hall: &hall, seat }, &word);
+    let away = held_beside(rt, alloc, Worker { hall: &hall, seat }, &word);
     assert!(rt; word.load(Ordering::SeqCst) == FREE);
-    match held {
-        Ok(away) => {
-            close_all(rt, hall, away);
-            Ok(())
-        }
-        Err(fault) => {
-            hall.discard();
-            Err(fault)
-        }
-    }
+    close_all(rt, hall, away);
 }
 
-fn play<R: Threads + Wait + Abort + Sync>(rt: &R, alloc: Global) -> Result<(), AllocError> {
-    play_in::<Brand, Brand, R>(rt, alloc, Blank::new(1), Blank::new(65_537))
+fn play<R: Threads + Wait + Abort + Sync>(rt: &R, alloc: Global) {
+    play_in::<Brand, Brand, R>(rt, alloc, Blank::new(1), Blank::new(65_537));
 }
 
 #[test]
-fn a_question_is_answered_while_a_cell_runs(rt: HostRuntime) -> Result<(), Fail> {
-    Ok(play(&rt, rt.alloc())?)
+fn a_question_is_answered_while_a_cell_runs(rt: HostRuntime) {
+    play(&rt, rt.alloc());
 }
