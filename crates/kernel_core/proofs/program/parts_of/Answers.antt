@@ -9,7 +9,7 @@ use Rattle.janus_machine.specs.Bodies.{kept_in, AreBelow}
 use Rattle.kernel_core.specs.Met.{AreProceduresMet}
 use Rattle.kernel_core.specs.Program.{declaration_of}
 use Rattle.kernel_core.proofs.Made.{all_kept, shows_more, bodies_within, kept_count, cell_met, ready_made, ok_fact}
-use Rattle.kernel_core.proofs.program.Program.of_checked.Goals as goal
+use Rattle.kernel_core.proofs.program.parts_of.Goals as goal
 
 pub returns-in_err-met-clause-shown : goal.returns-in_err-met-clause-shown
 returns-in_err-met-clause-shown g c = λ stack w h.
@@ -25,17 +25,17 @@ returns-in_err-book-clause-shown g c = λ stack w h.
 
 pub flatten-requires : goal.flatten-requires
 flatten-requires g c =
-    subst (λ (xs : List Name). MeetsBlk xs (plain_cell (cell_in c.args.checked)).block) (sym c.names-names.ensures.names)
-    (cell_met c.args.runner.now c.meet_cell-met.new.store c.requires.shows.0 c.requires.shows.1 _ (cell_in c.args.checked) _ c.requires.shows.2 c.requires.shows.3 c.requires.shows.4 c.requires.whole c.meet_cell-met.ensures.kept c.names-names.ensures.known c.cell-cell.ensures
+    subst (λ (xs : List Name). MeetsBlk xs (plain_cell (cell_in c.args.checked.now)).block) (sym c.names-names.ensures.names)
+    (cell_met c.args.runner.now c.meet_cell-met.new.store c.requires.shows.0 c.requires.shows.1 _ (cell_in c.args.checked.now) _ c.requires.shows.2 c.requires.shows.3 c.requires.shows.4 c.requires.whole c.meet_cell-met.ensures.kept c.names-names.ensures.known c.cell-cell.ensures
     (ap (λ l. map declaration_of l) c.deref-2.ensures.value ∙ c.in_ok-declarations.ensures ∙ ap (λ l. map plain_declaration (declarations_view l)) c.deref.ensures.value) c.in_ok-met.ensures.declared c.in_ok-met.ensures.procedures c.in_ok-met.ensures.locals).0
 
 pub keep_all-requires : goal.keep_all-requires
 keep_all-requires g c =
-    let same : map plain_procedure (procedures_view c.deref-3.result.now) ≡ (plain_cell (cell_in c.args.checked)).procedures =
+    let same : map plain_procedure (procedures_view c.deref-3.result.now) ≡ (plain_cell (cell_in c.args.checked.now)).procedures =
     ap (λ l. map plain_procedure (procedures_view l)) c.deref-3.ensures.value ∙ ap (λ (t : tree.Cell). (plain_cell t).procedures) c.cell-cell.ensures in
     subst (λ (xs : List Name). AreProceduresMet xs (map plain_procedure (procedures_view c.deref-3.result.now))) (sym c.names-names.ensures.names)
     (subst (λ (ps : List Proc). AreProceduresMet c.meet_cell-met.new.store.names ps) (sym same)
-    (cell_met c.args.runner.now c.meet_cell-met.new.store c.requires.shows.0 c.requires.shows.1 _ (cell_in c.args.checked) _ c.requires.shows.2 c.requires.shows.3 c.requires.shows.4 c.requires.whole c.meet_cell-met.ensures.kept c.names-names.ensures.known c.cell-cell.ensures
+    (cell_met c.args.runner.now c.meet_cell-met.new.store c.requires.shows.0 c.requires.shows.1 _ (cell_in c.args.checked.now) _ c.requires.shows.2 c.requires.shows.3 c.requires.shows.4 c.requires.whole c.meet_cell-met.ensures.kept c.names-names.ensures.known c.cell-cell.ensures
     (ap (λ l. map declaration_of l) c.deref-2.ensures.value ∙ c.in_ok-declarations.ensures ∙ ap (λ l. map plain_declaration (declarations_view l)) c.deref.ensures.value) c.in_ok-met.ensures.declared c.in_ok-met.ensures.procedures c.in_ok-met.ensures.locals).1)
 
 pub returns-then-is_err-clause-shown : goal.returns-then-is_err-clause-shown
