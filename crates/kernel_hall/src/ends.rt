@@ -1,6 +1,8 @@
 //! Where frontends wait for the ends of jobs.
 ghost use Rattle.std.specs.Prelude.{◌<◌};
 
+use crate::spin::watch;
+use std::sync::atomic::{AtomicBool, Ordering};
 use std::sync::{Condvar, MutexGuard, Wait};
 
 /// So many places there are.
@@ -10,6 +12,8 @@ const PLACES: u64 = 16;
 #[derive(Drop)]
 pub(crate) struct Ends {
     places: [Condvar; 16],
+    /// Whether a thread watches one of them.
+    is_watched: AtomicBool,
 }
 
 impl Ends {
@@ -34,7 +38,23 @@ impl Ends {
                 Condvar::new(),
                 Condvar::new(),
             ],
+            is_watched: AtomicBool::new(false),
         }
+    }
+
+    /// How often those were woken who wait for the job of this number: to be taken before one looks under the lock.
+    pub fn wakings(&self, number: u64) -> u64 {
+        self.places[place_of(number)].notifications()
+    }
+
+    /// Watches for a while whether those are woken who wait for the job of this number, since so many wakings. One thread does at a time, so
+    /// that many who wait keep no processors busy: another one goes on at once.
+    pub fn watch(&self, number: u64, seen: u64) {
+        if self.is_watched.swap(true, Ordering::SeqCst) {
+            return;
+        }
+        watch(&self.places[place_of(number)], seen);
+        self.is_watched.store(false, Ordering::SeqCst);
     }
 
     /// Wakes those who wait for the job of this number.

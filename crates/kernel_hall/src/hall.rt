@@ -11,6 +11,7 @@ ghost use Rattle.kernel_audit.specs.Audit.{Audited, IsAuditFault};
 use crate::comm::{CommChange, comm_on};
 use crate::ends::Ends;
 use crate::minutes::Minutes;
+use crate::spin::watch;
 use crate::state::State;
 use crate::turn::Turn;
 use kernel_ask::{Answer, Ask, Comms, Done, HallFault, Wish};
@@ -132,17 +133,24 @@ impl<W: Ledger, L: Ledger> Hall<W, L> {
         turn
     }
 
-    /// Waits until the ticket's job has ended, and answers what came of it. The shown text and the values go to the first wait for it.
+    /// Waits until the ticket's job has ended, and answers what came of it. The shown text and the values go to the first wait for it. Most jobs
+    /// end before a thread is asleep, so it watches for a while first.
     pub fn wait<R: Wait>(&self, rt: &R, ticket: &Ticket) -> Done
         ensures number { result.number ≡ ticket.now.number }
         ensures end { (k : Machine) × IsLegalMachine k × HasEnd k.minutes result }
     {
+        let number = ticket.number;
+        let seen = self.ended.wakings(number);
+        if let Some(done) = self.state.lock(rt).done(number) {
+            return done;
+        }
+        self.ended.watch(number, seen);
         let mut state = self.state.lock(rt);
         for _ in rt.forever() {
-            if let Some(done) = state.done(ticket.number) {
+            if let Some(done) = state.done(number) {
                 return done;
             }
-            state = self.ended.wait(rt, ticket.number, state);
+            state = self.ended.wait(rt, number, state);
         }
         unreachable!()
     }
@@ -201,8 +209,13 @@ impl<W: Ledger, L: Ledger> Hall<W, L> {
     /// go himself, and so nothing to prove of that: it is proved once, here.
     pub fn discard(self) {}
 
-    /// Waits until there is something to do. False where the kernel is shut and nothing is left.
+    /// Waits until there is something to do. False where the kernel is shut and nothing is left. Where posts come one upon another the next is
+    /// there before a thread is asleep, so it watches for a while first.
     pub(crate) fn has_work<R: Wait>(&self, rt: &R) -> bool {
+        let seen = self.moved.notifications();
+        if self.state.lock(rt).is_at_rest() {
+            watch(&self.moved, seen);
+        }
         let mut state = self.state.lock(rt);
         for _ in rt.forever() {
             if state.kernel.phase() != Phase::Idle {

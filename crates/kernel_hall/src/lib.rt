@@ -12,6 +12,7 @@ mod extra;
 mod hall;
 mod minutes;
 mod passes;
+mod spin;
 mod state;
 mod turn;
 mod worker;

@@ -21,7 +21,7 @@ use crate::turn::{Turn, turn_on};
 use kernel_ask::{Answer, Ask, Comms, Done, HallFault, Wish, ask_on};
 use kernel_audit::{AuditFault, Pass, Ticket, audit};
 use kernel_bell::{Bell, RunnerSeat};
-use kernel_core::{Job, Kernel, PostFault};
+use kernel_core::{Job, Kernel, Phase, PostFault};
 use std::alloc::Global;
 use std::sync::ledger::{Book, Ledger, Share};
 
@@ -157,6 +157,11 @@ impl<W: Ledger, L: Ledger> State<W, L> {
         ensures { IsTrue result ↔ (posts ≤ length self.now.kernel.machine.minutes) }
     {
         posts <= self.kernel.minutes().len() as u64
+    }
+
+    /// Whether nothing is to be done, and posts may still come.
+    pub(crate) fn is_at_rest(&self) -> bool {
+        self.kernel.phase() == Phase::Idle && !self.kernel.is_closing()
     }
 
     /// Answers a question: `ask_on` over the kernel and the comms.

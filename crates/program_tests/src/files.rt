@@ -1,7 +1,7 @@
 //! Connection files and words that no program takes, a port that another has, and ports where no kernel listens.
 use crate::kernel::{
-    Ran, ask, check_ran, connection_text, kernel, listen, make_site, port_of, remove, run_console,
-    run_kernel, write_file,
+    Ran, ask, check_ran, connection_text, free_ports, kernel, listen, make_site, port_of, remove,
+    run_console, run_kernel, write_file,
 };
 use std::alloc::Global;
 use std::net::{Net, TcpListener, TcpStream};
@@ -28,6 +28,15 @@ const WRONG: [(&str, &str); 5] = [
         "{\"transport\":\"tcp\",\"ip\":\"127.0.0.1\",\"shell_port\":1,\"iopub_port\":2,\"stdin_port\":3,\"control_port\":4,\"hb_port\":5,\"key\":\"\",\"signature_scheme\":\"hmac-md5\"}",
         "signature_scheme",
     ),
+];
+
+/// The ports of a connection file, in the order in which they are bound.
+const PORTS: [&str; 5] = [
+    "shell_port",
+    "iopub_port",
+    "stdin_port",
+    "control_port",
+    "hb_port",
 ];
 
 /// Words of a console that ask for nothing.
@@ -95,19 +104,45 @@ fn a_console_without_a_kernel_gives_up(rt: HostRuntime) {
     remove(&rt, &site.path);
 }
 
+/// Runs a kernel on these ports, the one at this place being taken, which it tells.
+fn check_taken<R>(rt: &R, alloc: Global, ports: [u16; 5], at: usize, field: &str)
+where
+    R: Net<Listener = TcpListener, Stream = TcpStream>
+        + Files
+        + RandomSource
+        + Threads
+        + Wait
+        + Clock
+        + Abort
+        + Sync,
+{
+    let taken = TcpListener::bind(rt, ("127.0.0.1", ports[at])).expect(rt, "a listener");
+    write_file(rt, "taken.json", &connection_text(rt, alloc, ports, ""));
+    let ran = kernel(rt, alloc, "taken.json");
+    drop(taken);
+    let line = format!(in alloc; "janus-kernel: cannot bind {field}\n").expect(rt, "a line");
+    check(rt, &ran, &line, 3);
+}
+
 #[test]
 fn a_port_that_is_taken_is_told(rt: HostRuntime) {
     let alloc = rt.alloc();
-    let taken = listen(&rt);
-    let port = port_of(&rt, &taken);
-    let text = connection_text(&rt, alloc, [port, port, port, port, port], "");
-    write_file(&rt, "taken.json", &text);
-    let ran = kernel(&rt, alloc, "taken.json");
-    check(&rt, &ran, "janus-kernel: cannot bind shell_port\n", 3);
-    // Who has the port says nothing.
-    let ran = ask(&rt, alloc, "taken.json", "show", "");
-    check(&rt, &ran, "janus-console: no connection\n", 3);
+    for at in 0..PORTS.len() {
+        check_taken(&rt, alloc, free_ports(&rt), at, PORTS[at]);
+    }
     remove(&rt, "taken.json");
+}
+
+#[test]
+fn a_console_at_a_silent_listener_gives_up(rt: HostRuntime) {
+    let alloc = rt.alloc();
+    let silent = listen(&rt);
+    let port = port_of(&rt, &silent);
+    let text = connection_text(&rt, alloc, [port, port, port, port, port], "");
+    write_file(&rt, "silent.json", &text);
+    let ran = ask(&rt, alloc, "silent.json", "show", "");
+    check(&rt, &ran, "janus-console: no connection\n", 3);
+    remove(&rt, "silent.json");
 }
 
 /// Compares how a program ended that could not read its words, those of this line.

@@ -61,6 +61,16 @@ fn octets_of(rt: &impl Abort, alloc: Global, text: &str) -> Vec<u8> {
         .expect(rt, "the octets of a text")
 }
 
+/// The message by which a subscriber asks for what begins with this text.
+pub(crate) fn subscription(rt: &impl Abort, alloc: Global, prefix: &str) -> Vec<u8> {
+    let mut body = octets_of(rt, alloc, "\u{1}");
+    body.extend_from_slice(prefix.as_bytes())
+        .expect(rt, "a prefix");
+    let mut octets = Vec::new(alloc);
+    push_message(rt, &mut octets, &[body]);
+    octets
+}
+
 /// The header of a request.
 fn header(rt: &impl Abort, alloc: Global, msg_type: &str) -> Vec<u8> {
     let header = format!(in alloc;
@@ -87,17 +97,22 @@ fn is_late(error: &Error) -> bool {
 }
 
 impl Frontend {
-    /// Opens a connection over this stream.
+    /// Opens a connection over this stream, as frontends of shell and control do.
     pub(crate) fn over(rt: &impl Abort, alloc: Global, stream: TcpStream) -> Frontend {
+        Frontend::over_as(rt, alloc, stream, Role::Dealer)
+    }
+
+    /// Opens a connection over this stream in this role.
+    fn over_as(rt: &impl Abort, alloc: Global, stream: TcpStream, role: Role) -> Frontend {
         let patience = Duration::from_millis(PATIENCE_MILLISECONDS);
         stream
             .set_read_timeout(Some(patience))
             .expect(rt, "a time that a read waits");
-        write_to(rt, &stream, &opening_of(rt, alloc, Role::Dealer));
+        write_to(rt, &stream, &opening_of(rt, alloc, role));
         Frontend {
             alloc,
             stream,
-            peer: Peer::new(alloc, Role::Dealer),
+            peer: Peer::new(alloc, role),
             is_ready: false,
             messages: VecDeque::new(alloc),
         }
@@ -111,15 +126,43 @@ impl Frontend {
         Frontend::over(rt, alloc, connect(rt, port).expect(rt, "a connection"))
     }
 
-    /// Waits until the kernel is ready on this connection.
-    pub(crate) fn wait_until_ready(&mut self, rt: &impl Abort) {
-        for _ in 0..READS {
+    /// Connects in this role to a port of a kernel that listens.
+    pub(crate) fn open_as<R>(rt: &R, alloc: Global, port: u16, role: Role) -> Frontend
+    where
+        R: Net<Listener = TcpListener, Stream = TcpStream> + Abort,
+    {
+        Frontend::over_as(
+            rt,
+            alloc,
+            connect(rt, port).expect(rt, "a connection"),
+            role,
+        )
+    }
+
+    /// Connects to the publish port of a kernel that listens, and subscribes to what begins with this text.
+    pub(crate) fn subscribe<R>(rt: &R, alloc: Global, port: u16, prefix: &str) -> Frontend
+    where
+        R: Net<Listener = TcpListener, Stream = TcpStream> + Abort,
+    {
+        let subscriber = Frontend::open_as(rt, alloc, port, Role::Sub);
+        write_to(rt, &subscriber.stream, &subscription(rt, alloc, prefix));
+        subscriber
+    }
+
+    /// Whether the kernel is ready on this connection, for all that comes in the time that so many reads wait.
+    pub(crate) fn is_ready_within(&mut self, rt: &impl Abort, reads: u32) -> bool {
+        for _ in 0..reads {
             if self.is_ready {
-                return;
+                return true;
             }
             self.hear(rt);
         }
-        panic!(rt; "the kernel is not ready");
+        self.is_ready
+    }
+
+    /// Waits until the kernel is ready on this connection.
+    pub(crate) fn wait_until_ready(&mut self, rt: &impl Abort) {
+        assert!(rt; self.is_ready_within(rt, READS), "the kernel is not ready");
     }
 
     /// Sends a request.
@@ -175,6 +218,34 @@ impl Frontend {
         self.messages.pop_front()
     }
 
+    /// The frames of the next message, which comes.
+    pub(crate) fn frames(&mut self, rt: &impl Abort) -> Vec<Vec<u8>> {
+        for _ in 0..READS {
+            if let Some(frames) = self.next_frames(rt) {
+                return frames;
+            }
+        }
+        panic!(rt; "no message comes")
+    }
+
+    /// Whether the kernel has closed the connection, once all that came before is read.
+    pub(crate) fn is_closed(&mut self, rt: &impl Abort) -> bool {
+        let mut room = [0u8; 4096];
+        for _ in 0..READS {
+            let mut stream = &self.stream;
+            match stream.read(&mut room) {
+                Ok(0) => return true,
+                Ok(_) => {}
+                Err(error) => {
+                    if !is_late(&error) {
+                        return true;
+                    }
+                }
+            }
+        }
+        false
+    }
+
     /// The next reply; none where none comes in the time that a read waits.
     pub(crate) fn next(&mut self, rt: &impl Abort) -> Option<Opened> {
         match self.next_frames(rt) {
@@ -193,6 +264,17 @@ impl Frontend {
             }
         }
         panic!(rt; "no reply comes")
+    }
+
+    /// Sends a request, and compares the content of the reply.
+    pub(crate) fn check(&mut self, rt: &impl Abort, msg_type: &str, content: &str, wanted: &str) {
+        self.send(rt, msg_type, content);
+        let reply = self.reply(rt);
+        assert_eq!(rt;
+            reply.message.content.as_slice(),
+            wanted.as_bytes(),
+            "{msg_type}"
+        );
     }
 }
 

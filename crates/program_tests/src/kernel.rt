@@ -24,6 +24,7 @@ pub(crate) struct Site {
     /// The connection file.
     pub path: String,
     pub shell: u16,
+    pub iopub: u16,
     pub stdin: u16,
     pub control: u16,
     pub heartbeat: u16,
@@ -51,7 +52,7 @@ pub(crate) fn port_of(rt: &impl Abort, listener: &TcpListener) -> u16 {
 }
 
 /// Five ports that were free a moment ago, none of them twice.
-fn free_ports<R>(rt: &R) -> [u16; 5]
+pub(crate) fn free_ports<R>(rt: &R) -> [u16; 5]
 where
     R: Net<Listener = TcpListener, Stream = TcpStream> + Abort,
 {
@@ -96,12 +97,13 @@ where
     R: Net<Listener = TcpListener, Stream = TcpStream> + Files + Abort,
 {
     let ports = free_ports(rt);
-    let [shell, _, stdin, control, heartbeat] = ports;
+    let [shell, iopub, stdin, control, heartbeat] = ports;
     let path = format!(in alloc; "kernel-{shell}.json").expect(rt, "a path");
     write_file(rt, &path, &connection_text(rt, alloc, ports, KEY));
     Site {
         path,
         shell,
+        iopub,
         stdin,
         control,
         heartbeat,

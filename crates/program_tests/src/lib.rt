@@ -6,6 +6,8 @@
 #![tactic(auto)]
 
 #[cfg(test)]
+mod company;
+#[cfg(test)]
 mod desk;
 #[cfg(test)]
 mod files;
@@ -15,6 +17,10 @@ mod frontend;
 mod interrupts;
 #[cfg(test)]
 mod kernel;
+#[cfg(test)]
+mod places;
+#[cfg(test)]
+mod publishing;
 #[cfg(test)]
 mod rows;
 #[cfg(test)]

@@ -118,9 +118,11 @@ fn check_session(rt: &impl Abort, first: &Opened, second: &Opened) {
     assert_eq!(rt; session.len(), 36);
 }
 
-/// Two replies of one kernel on two connections: the ids have the form of ids, under two numbers of connections, and the dates are of today.
+/// Two replies of one kernel on two connections, of which it had accepted three before: the ids have the form of ids, under the numbers of the
+/// connections, and the dates are of today.
 fn check_headers(rt: &impl Abort, first: &Opened, second: &Opened) {
-    assert!(rt; connection_of(rt, first) != connection_of(rt, second));
+    assert_eq!(rt; connection_of(rt, first), 4);
+    assert_eq!(rt; connection_of(rt, second), 5);
     check_session(rt, first, second);
     check_date(rt, first);
     check_date(rt, second);
