@@ -31,7 +31,7 @@ fn speak_and_hang_up<R: Wait, W: Write + HangUp + Drop>(
 
 /// Serves one connection of the publish socket: a thread beside this one writes what the peer wants of the broadcasts from the time on at
 /// which it is ready, while this one reads what it subscribes to. Once nothing more comes, what is left on the board is still written. It
-/// answers how the reading half ended; the writer hangs up in any case.
+/// answers how the reading half ended; the writer hangs up once its thread has begun, and else goes away with the call.
 ///
 /// # Errors
 ///
