@@ -10,7 +10,7 @@ use console_talk::{
     complete_draft, completion_told, execute_draft, is_answer_to, is_in_session, kernel_info_draft,
     message, move_draft, run_told, state_draft, what_is_heard,
 };
-use jupyter_msg::{MsgFault, Opened, open, seal};
+use jupyter_msg::{Key, MsgFault, Opened, open, seal};
 use kernel_message::Draft;
 use serde_json::Value;
 use std::alloc::Global;
@@ -26,7 +26,7 @@ const LOOKS: u32 = 64;
 #[derive(Drop)]
 pub struct Frontend<R, W> {
     pub alloc: Global,
-    pub key: String,
+    pub key: Key,
     pub session: String,
     /// The number of the next message.
     pub next: u64,
@@ -44,7 +44,7 @@ pub fn subscribe<R: Read + Drop, W: Write + Drop>(
 }
 
 /// The message of these frames; none where it is refused.
-fn opened(alloc: Global, frames: Vec<Vec<u8>>, key: &[u8]) -> Result<Option<Opened>, ConsoleFault> {
+fn opened(alloc: Global, frames: Vec<Vec<u8>>, key: &Key) -> Result<Option<Opened>, ConsoleFault> {
     match open(alloc, frames, key) {
         Ok(opened) => Ok(Some(opened)),
         Err(MsgFault::Memory) => Err(ConsoleFault::NoMemory),
@@ -65,11 +65,11 @@ impl<R: Read + Drop, W: Write + Drop> Frontend<R, W> {
     pub fn send(&mut self, draft: &Draft) -> Result<u64, ConsoleFault>
         ensures number { IfOk result (λ n. n ≡ self.old.next) }
         ensures written { OnOk result (Appends (W.contents self.old.shell.writer) (W.contents self.new.shell.writer)
-            (request_octets (string_bytes self.old.key) (string_bytes self.old.session) self.old.next (said_of draft.now))) }
+            (request_octets self.old.key (string_bytes self.old.session) self.old.next (said_of draft.now))) }
     {
         let n = self.next;
         let message = message(self.alloc, &self.session, n, draft)?;
-        let Ok(frames) = seal(self.alloc, &message, self.key.as_bytes()) else {
+        let Ok(frames) = seal(self.alloc, &message, &self.key) else {
             return Err(ConsoleFault::NoMemory);
         };
         self.shell.write(&frames)?;
@@ -87,7 +87,7 @@ impl<R: Read + Drop, W: Write + Drop> Frontend<R, W> {
         let Some(frames) = self.iopub.next()? else {
             return Err(ConsoleFault::NoConnection);
         };
-        opened(self.alloc, frames, self.key.as_bytes())
+        opened(self.alloc, frames, &self.key)
     }
 
     /// The next broadcast, where one has to come. Those that are refused are passed over.
@@ -112,7 +112,7 @@ impl<R: Read + Drop, W: Write + Drop> Frontend<R, W> {
 
     /// Whether a broadcast, as it came, is a status that answers this session.
     fn is_own_status(&self, frames: Vec<Vec<u8>>) -> Result<bool, ConsoleFault> {
-        match opened(self.alloc, frames, self.key.as_bytes())? {
+        match opened(self.alloc, frames, &self.key)? {
             Some(broadcast) => self.has_own_status(&broadcast),
             None => Ok(false),
         }
@@ -152,7 +152,7 @@ impl<R: Read + Drop, W: Write + Drop> Frontend<R, W> {
         let Some(frames) = self.shell.next()? else {
             return Err(ConsoleFault::NoConnection);
         };
-        opened(self.alloc, frames, self.key.as_bytes())
+        opened(self.alloc, frames, &self.key)
     }
 
     /// The message, if it answers the n-th one.

@@ -10,7 +10,7 @@ use crate::output::print;
 use crate::wire::Wire;
 use console_talk::{Command, ConsoleFault, Told, session_name};
 use console_words::{Arguments, Kind, Refused, arguments_of};
-use jupyter_msg::{Connection, Setting};
+use jupyter_msg::{Connection, Key, Setting};
 use std::alloc::Global;
 use std::convert::AsStr;
 use std::io::{ErrorKind, Write};
@@ -152,7 +152,7 @@ fn greet_and_obey(
 /// Opens the connection to shell, and has the kernel do what the command says, over it and the one to iopub.
 fn converse_over(
     alloc: Global,
-    key: String,
+    key: Key,
     broadcasts: &TcpStream,
     iopub: Wire<&TcpStream, &TcpStream>,
     requests: &TcpStream,
@@ -183,7 +183,8 @@ where
     let broadcasts = dial(rt, &file, file.iopub_port)?;
     let iopub = open_iopub(alloc, &broadcasts)?;
     let requests = dial(rt, &file, file.shell_port)?;
-    converse_over(alloc, file.key, &broadcasts, iopub, &requests, command)
+    let key = Key::new(file.key.into_bytes());
+    converse_over(alloc, key, &broadcasts, iopub, &requests, command)
 }
 
 /// Has the kernel of a connection file do what the command says.

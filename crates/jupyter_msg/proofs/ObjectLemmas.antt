@@ -1,8 +1,11 @@
 -- What a text is read as, and whether it is an object.
-use Rattle.std.proofs.Common.{◌≡◌, ℕ, List, Bool, true, false, cond, Option, Some, None, is_some, option_and_then, refl, ap}
+use Rattle.std.proofs.Common.{◌≡◌, ℕ, List, [], ◌∷◌, Bool, true, false, cond, Option, Some, None, is_some, option_and_then, refl, ap, arith}
 use Rattle.std.specs.Str.{IsUtf8, is_utf8}
-use Rattle.std.proofs.lemmas.Str.{is_utf8-from_IsUtf8, IsUtf8-from_is_utf8}
-use Rattle.serde_json.specs.Data.{Data, null, boolean, number, string, array, object}
+use Rattle.std.proofs.lemmas.Str.{is_utf8-from_IsUtf8, IsUtf8-from_is_utf8, IsUtf8-from_ascii}
+use Rattle.std.proofs.lemmas.Str.Ascii.{IsAscii-nil, IsAscii-cons}
+use Rattle.json.specs.Lex.{lex, punctuate}
+use Rattle.json.specs.Json.{value, members}
+use Rattle.serde_json.specs.Data.{Data, null, boolean, number, string, array, object, no_members}
 use Rattle.serde_json.specs.Find.{as_object}
 use Rattle.serde_json.specs.Read.{read}
 use Rattle.jupyter_msg.specs.Object.{only_object, object_of}
@@ -18,6 +21,12 @@ when_unread false o h = refl
 pub object_of-read : (text : List ℕ) (d : Data) → IsUtf8 text → read text ≡ Some d → object_of text ≡ only_object d
 unfolding object_of
 object_of-read text d u e = when_true (is_utf8 text) (read text) (Some d) (is_utf8-from_IsUtf8 text u) e
+
+-- the object without members
+pub object_of-empty : object_of (123 ∷ 125 ∷ []) ≡ Some (object no_members)
+unfolding lex punctuate value members
+object_of-empty =
+    object_of-read (123 ∷ 125 ∷ []) (object no_members) (IsUtf8-from_ascii (123 ∷ 125 ∷ []) (IsAscii-cons 123 (125 ∷ []) (omega arith) (IsAscii-cons 125 [] (omega arith) IsAscii-nil))) refl
 
 pub object_of-unread : (text : List ℕ) → (IsUtf8 text → read text ≡ None) → object_of text ≡ None
 unfolding object_of

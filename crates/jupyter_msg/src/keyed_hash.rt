@@ -10,10 +10,10 @@ use sha2::{Digest, Sha256};
 const BLOCK: usize = 64;
 
 /// The pad of the inner hash.
-const INNER: u8 = 0x36;
+pub(crate) const INNER: u8 = 0x36;
 
 /// The pad of the outer hash.
-const OUTER: u8 = 0x5C;
+pub(crate) const OUTER: u8 = 0x5C;
 
 /// The octets, with zeros after them up to one block.
 fn full_block(octets: &[u8]) -> [u8; BLOCK]
@@ -26,7 +26,7 @@ fn full_block(octets: &[u8]) -> [u8; BLOCK]
 }
 
 /// The key as one block: a key longer than a block is hashed first.
-fn key_block(key: &[u8]) -> [u8; BLOCK]
+pub(crate) fn key_block(key: &[u8]) -> [u8; BLOCK]
     ensures { result ≡ key_block key.now }
 {
     if key.len() > BLOCK {
@@ -46,24 +46,18 @@ fn xor_pad(mut block: [u8; BLOCK], pad: u8) -> [u8; BLOCK]
     block
 }
 
-/// A hasher that has taken the inner block of the key, and the key's block. It is fed the text, and then given to
-/// `finish_hash`.
-pub(crate) fn begin_hash(key: &[u8]) -> (Sha256, [u8; BLOCK])
-    ensures block { result.1 ≡ key_block key.now }
-    ensures inner { Holds256 result.0 (xor_pad 0x36 (key_block key.now)) }
+/// A hasher that has taken the block under the pad.
+pub(crate) fn hasher_of(block: [u8; BLOCK], pad: u8) -> Sha256
+    ensures { Holds256 result (xor_pad pad block) }
 {
-    let block = key_block(key);
-    let mut inner = Sha256::new();
-    inner.update(xor_pad(block, INNER));
-    (inner, block)
+    Sha256::new_with_prefix(xor_pad(block, pad))
 }
 
-/// The keyed hash, once the inner hasher has taken the text.
-pub(crate) fn finish_hash(inner: Sha256, block: [u8; BLOCK]) -> [u8; 32]
-    ensures { (taken : List ℕ) → Holds256 inner taken → result ≡ sha256 (xor_pad 0x5C block ++ sha256 taken) }
+/// The outer hash, once the inner hasher has taken its block and the text, and the outer one its block.
+pub(crate) fn finish_hash(inner: Sha256, mut outer: Sha256) -> [u8; 32]
+    ensures { (taken : List ℕ) → Holds256 inner taken → (block : List ℕ) → Holds256 outer block
+        → result ≡ sha256 (block ++ sha256 taken) }
 {
-    let mut outer = Sha256::new();
-    outer.update(xor_pad(block, OUTER));
     outer.update(inner.finalize());
     outer.finalize()
 }
@@ -72,7 +66,8 @@ pub(crate) fn finish_hash(inner: Sha256, block: [u8; BLOCK]) -> [u8; 32]
 pub fn hmac(key: &[u8], text: &[u8]) -> [u8; 32]
     ensures { result ≡ hmac_of key.now text.now }
 {
-    let (mut inner, block) = begin_hash(key);
+    let block = key_block(key);
+    let mut inner = hasher_of(block, INNER);
     inner.update(text);
-    finish_hash(inner, block)
+    finish_hash(inner, hasher_of(block, OUTER))
 }

@@ -9,6 +9,7 @@ ghost use Rattle.jupyter_msg.specs.Message.{AreObjects, IsMessage, IsRefused, re
 
 use crate::fault::{Field, MsgFault, Part};
 use crate::fields::text;
+use crate::key::Key;
 use crate::object::part_object;
 use crate::signature::{Parts, is_signed, sign};
 use serde_json::Value;
@@ -119,7 +120,7 @@ fn read_objects(alloc: Global, parts: &Parts<'_>) -> Result<ReadParts, MsgFault>
 }
 
 /// Passes frames after a delimiter that are a signed message's, and reads its header and its content.
-fn read_after(alloc: Global, after: &[Vec<u8>], key: &[u8]) -> Result<ReadParts, MsgFault>
+fn read_after(alloc: Global, after: &[Vec<u8>], key: &Key) -> Result<ReadParts, MsgFault>
     ensures refused { Refuses result (refusal_after key.now (octets after.now)) }
     ensures early { (fault : MsgFault) → IsTrue (comes_before_parts fault)
         → refusal_after key.now (octets after.now) ≡ Some fault → result ≡ Err fault }
@@ -179,7 +180,7 @@ fn take_apart(mut frames: Vec<Vec<u8>>, at: usize, read: ReadParts) -> Result<Op
 /// The first that holds of: `NoDelimiter`; `ShortMessage` for fewer than five frames after the delimiter; `BadSignature`;
 /// `NotJson` with the first part that is no JSON object. `Memory` may stand in the place of a message and of `NotJson`, and of no
 /// other: nothing is allocated before the signature fits. With each of them the frames are dropped.
-pub fn open(alloc: Global, frames: Vec<Vec<u8>>, key: &[u8]) -> Result<Opened, MsgFault>
+pub fn open(alloc: Global, frames: Vec<Vec<u8>>, key: &Key) -> Result<Opened, MsgFault>
     ensures message { IfOk result (λ o. IsMessage key.now (octets frames.items) (octets_of o.message)) }
     ensures read { IfOk result IsRead }
     ensures refused { IfErr result (λ e. (e ≡ MsgFault.Memory) ⊎ IsRefused key.now (octets frames.items) e) }
@@ -232,7 +233,7 @@ pub(crate) fn push_copies(
 /// # Errors
 ///
 /// `Memory` where there is none for the frames.
-pub fn seal(alloc: Global, message: &Message, key: &[u8]) -> Result<Vec<Vec<u8>>, MsgFault>
+pub fn seal(alloc: Global, message: &Message, key: &Key) -> Result<Vec<Vec<u8>>, MsgFault>
     ensures frames { IfOk result (λ frames. octets frames.items ≡ frames_of key.now (octets_of message.now)) }
     ensures opens { IfOk result (λ frames. AreObjects (octets_of message.now)
         → NoneIsDelimiter (octets message.now.identities.items)

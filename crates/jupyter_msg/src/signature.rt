@@ -4,7 +4,7 @@ ghost use Rattle.jupyter_msg.specs.Hmac.{hmac_of};
 ghost use Rattle.jupyter_msg.specs.Signature.{signed_text, signature_of, fits};
 
 use crate::fault::MsgFault;
-use crate::keyed_hash::{begin_hash, finish_hash};
+use crate::key::Key;
 use sha2::Digest;
 use std::alloc::Global;
 
@@ -22,15 +22,15 @@ pub struct Parts<'a> {
 }
 
 /// The keyed hash of the four parts, one after another; it takes no memory and joins nothing.
-fn hash_of(key: &[u8], parts: &Parts<'_>) -> [u8; 32]
+fn hash_of(key: &Key, parts: &Parts<'_>) -> [u8; 32]
     ensures { result ≡ hmac_of key.now (signed_text parts.now) }
 {
-    let (mut inner, block) = begin_hash(key);
+    let mut inner = key.begin_hash();
     inner.update(parts.header);
     inner.update(parts.parent);
     inner.update(parts.metadata);
     inner.update(parts.content);
-    finish_hash(inner, block)
+    key.finish_hash(inner)
 }
 
 /// The signature that is written for the parts under the key: the lower-case hex of HMAC with SHA-256 over header,
@@ -39,7 +39,7 @@ fn hash_of(key: &[u8], parts: &Parts<'_>) -> [u8; 32]
 /// # Errors
 ///
 /// `Memory` where there is none for the text.
-pub fn sign(alloc: Global, key: &[u8], parts: &Parts<'_>) -> Result<String, MsgFault>
+pub fn sign(alloc: Global, key: &Key, parts: &Parts<'_>) -> Result<String, MsgFault>
     ensures text { IfOk result (λ s. string_bytes s ≡ signature_of key.now (signed_text parts.now)) }
     ensures memory { IfErr result (λ e. e ≡ MsgFault.Memory) }
 {
@@ -50,7 +50,7 @@ pub fn sign(alloc: Global, key: &[u8], parts: &Parts<'_>) -> Result<String, MsgF
 }
 
 /// Whether the signature is the one of the parts under the key; under an empty key any is. It takes no memory.
-pub(crate) fn is_signed(key: &[u8], signature: &[u8], parts: &Parts<'_>) -> bool
+pub(crate) fn is_signed(key: &Key, signature: &[u8], parts: &Parts<'_>) -> bool
     ensures { result ≡ fits key.now signature.now (signed_text parts.now) }
 {
     if key.is_empty() {

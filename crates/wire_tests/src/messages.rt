@@ -4,7 +4,7 @@
 ghost use Rattle.jupyter_msg.specs.Opened.{IsRead};
 
 use crate::octets::hex_of;
-use jupyter_msg::{Message, MsgFault, Opened, Parts, Request, hmac, open, seal, sign};
+use jupyter_msg::{Key, Message, MsgFault, Opened, Parts, Request, hmac, open, seal, sign};
 use std::alloc::{AllocError, Global};
 use test_rows::{cut, cut_frame, frames_of, number, octets_of, push_answer, shown};
 
@@ -23,11 +23,12 @@ pub(crate) fn tell(alloc: Global, calls: &str, out: &mut String) -> Result<(), A
 fn answer(alloc: Global, call: &str) -> Result<String, MsgFault> {
     let (word, rest) = cut(call);
     let (key, row) = cut_frame(rest);
+    let key = Key::new(key.as_bytes().to_vec(alloc)?);
     match word {
         "hmac" => hash(alloc, rest),
-        "open" => opens(alloc, key.as_bytes(), row),
-        "changed" => changed(alloc, key.as_bytes(), row),
-        "sign" => signature(alloc, key.as_bytes(), &frames_of(alloc, row)?),
+        "open" => opens(alloc, &key, row),
+        "changed" => changed(alloc, &key, row),
+        "sign" => signature(alloc, &key, &frames_of(alloc, row)?),
         _ => nested(alloc, number(rest)),
     }
 }
@@ -40,13 +41,13 @@ fn hash(alloc: Global, row: &str) -> Result<String, MsgFault> {
 }
 
 /// What is read of a message.
-fn opens(alloc: Global, key: &[u8], row: &str) -> Result<String, MsgFault> {
+fn opens(alloc: Global, key: &Key, row: &str) -> Result<String, MsgFault> {
     let opened = open(alloc, frames_of(alloc, row)?, key)?;
     opened_told(alloc, key, row, &opened)
 }
 
 /// What is told of a message, and whether it is written under the key as it came.
-fn opened_told(alloc: Global, key: &[u8], row: &str, opened: &Opened) -> Result<String, MsgFault>
+fn opened_told(alloc: Global, key: &Key, row: &str, opened: &Opened) -> Result<String, MsgFault>
     requires { IsRead opened.now }
 {
     let is_sealed = is_sealed(alloc, key, row, &opened.message)?;
@@ -56,7 +57,7 @@ fn opened_told(alloc: Global, key: &[u8], row: &str, opened: &Opened) -> Result<
 }
 
 /// Whether a message is written under the key as it came.
-fn is_sealed(alloc: Global, key: &[u8], row: &str, message: &Message) -> Result<bool, MsgFault> {
+fn is_sealed(alloc: Global, key: &Key, row: &str, message: &Message) -> Result<bool, MsgFault> {
     Ok(seal(alloc, message, key)? == frames_of(alloc, row)?)
 }
 
@@ -79,7 +80,7 @@ fn request_told(alloc: Global, opened: &Opened) -> Result<String, MsgFault>
 }
 
 /// What becomes of the frames where one octet is changed, for each octet of those behind the delimiter in the first frame.
-fn changed(alloc: Global, key: &[u8], row: &str) -> Result<String, MsgFault> {
+fn changed(alloc: Global, key: &Key, row: &str) -> Result<String, MsgFault> {
     for (place, frame) in frames_of(alloc, row)?.iter().enumerate() {
         for at in 0..frame.len() {
             if place > 0 && !is_refused(alloc, key, row, place, at)? {
@@ -93,7 +94,7 @@ fn changed(alloc: Global, key: &[u8], row: &str) -> Result<String, MsgFault> {
 /// Whether the frames are refused for their signature where one octet is changed.
 fn is_refused(
     alloc: Global,
-    key: &[u8],
+    key: &Key,
     row: &str,
     place: usize,
     at: usize,
@@ -108,7 +109,7 @@ fn is_refused(
 }
 
 /// The signature of a header, a parent, metadata and a content.
-fn signature(alloc: Global, key: &[u8], frames: &[Vec<u8>]) -> Result<String, MsgFault> {
+fn signature(alloc: Global, key: &Key, frames: &[Vec<u8>]) -> Result<String, MsgFault> {
     match frames {
         [header, parent, metadata, content] => {
             let parts = Parts {
@@ -127,6 +128,6 @@ fn signature(alloc: Global, key: &[u8], frames: &[Vec<u8>]) -> Result<String, Ms
 fn nested(alloc: Global, lists: usize) -> Result<String, MsgFault> {
     let (before, behind) = ("[".repeat(alloc, lists)?, "]".repeat(alloc, lists)?);
     let row = format!(in alloc; "<IDS|MSG> ~  ~ {{}} ~ {{}} ~ {{}} ~ {{\"a\":{before}{behind}}}")?;
-    open(alloc, frames_of(alloc, &row)?, b"")?;
+    open(alloc, frames_of(alloc, &row)?, &Key::new(Vec::new(alloc)))?;
     Ok(String::from_str(alloc, "opened")?)
 }

@@ -1,5 +1,5 @@
 //! Rows of requests, the type and the content with a bar between them: `told` says `read`, or names the wrong field or the fault; `read` gives what is read.
-use jupyter_msg::{MsgFault, Request, open};
+use jupyter_msg::{Key, MsgFault, Request, open};
 use std::alloc::{AllocError, Global};
 use test_rows::{cut, cut_cell, frames_of, push_answer, shown};
 
@@ -31,7 +31,7 @@ pub(crate) fn header_of(alloc: Global, msg_type: &str) -> Result<String, AllocEr
 /// The request with this header and content, under an empty key.
 fn request_of(alloc: Global, header: &str, content: &str) -> Result<Request, MsgFault> {
     let row = format!(in alloc; "<IDS|MSG> ~  ~ {header} ~ {{}} ~ {{}} ~ {content}")?;
-    let opened = open(alloc, frames_of(alloc, &row)?, b"")?;
+    let opened = open(alloc, frames_of(alloc, &row)?, &Key::new(Vec::new(alloc)))?;
     Request::read(alloc, &opened)
 }
 
