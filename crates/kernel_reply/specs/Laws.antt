@@ -1,5 +1,5 @@
 -- What holds of all answers.
-use Rattle.std.specs.Prelude.{◌≡◌, ◌↔◌, ℕ, ◌+◌, ◌≤◌, suc, true, false, List, [], ◌∷◌, ◌++◌, length, map, drop, slice_get, Some, Vec, String, string_bytes, if◌then◌else◌}
+use Rattle.std.specs.Prelude.{◌≡◌, ◌↔◌, ℕ, ◌+◌, ◌≤◌, suc, Bool, true, false, List, [], ◌∷◌, ◌++◌, length, map, codes, drop, slice_get, Option, Some, None, option_map, Vec, String, string_bytes, if◌then◌else◌}
 use Rattle.std.specs.declared.alloc.Global.{Global}
 use Rattle.std.specs.Ordering.{nat_cmp}
 use Rattle.std.specs.Cmp.Lexicographic.{slice_cmp}
@@ -10,6 +10,8 @@ use Rattle.serde_json.specs.Find.{get_member}
 use Rattle.jupyter_msg.specs.Octets.{Octets}
 use Rattle.jupyter_msg.specs.declared.request.RequestContent.{RequestContent}
 use Rattle.jupyter_msg.specs.declared.request.RequestContent.TheVariants as request
+use Rattle.jupyter_msg.specs.declared.history.HistoryAccess.{HistoryAccess}
+use Rattle.jupyter_msg.specs.declared.history.HistoryAccess.TheVariants.{Range, Tail, Search}
 use Rattle.jupyter_msg.specs.declared.comm.CommOpen.{CommOpen}
 use Rattle.kernel_core.specs.declared.post.PostFault.{PostFault}
 use Rattle.kernel_ask.specs.declared.done.Done.{Done}
@@ -17,7 +19,7 @@ use Rattle.kernel_ask.specs.declared.done.NamedValue.{NamedValue}
 use Rattle.kernel_ask.specs.Comms.{comm_limit, is_open, opened}
 use Rattle.kernel_ask.specs.declared.answer.Content.{Content}
 use Rattle.kernel_ask.specs.declared.answer.Content.TheVariants as content
-use Rattle.kernel_message.specs.Said.{Says}
+use Rattle.kernel_message.specs.Said.{Said, Says}
 use Rattle.kernel_message.specs.Message.{Asker, broadcast_message}
 use Rattle.kernel_message.specs.Sent.{sent, next_after}
 use Rattle.kernel_message.specs.Laws.{in_order}
@@ -25,7 +27,9 @@ use Rattle.kernel_message.specs.declared.stamp.Stamp.{Stamp}
 use Rattle.kernel_reply.specs.Status.{idle}
 use Rattle.kernel_reply.specs.Comms.{is_target, comm_close, comm_shown, with_comms}
 use Rattle.kernel_reply.specs.Execution.{value_shown, with_values}
-use Rattle.kernel_reply.specs.Answers.{job_says, ask_says, refusal_says, status_alone, tells}
+use Rattle.kernel_reply.specs.Answers.{is_of_cell, job_says, ask_says, refusal_says, status_alone, tells}
+
+-- ---- the status of the kernel
 
 -- of the messages that are sent the last, with the last number, is the status idle
 pub record EndsIdle (asker : Asker) (stamp : Stamp) (says : Says) : Type 0 where
@@ -45,6 +49,118 @@ AsksEndIdle = (asker : Asker) (stamp : Stamp) (r : RequestContent) (c : Content)
 -- Whatever post was refused, the last message is the status idle.
 abbrev pub RefusalsEndIdle : Type 0
 RefusalsEndIdle = (asker : Asker) (stamp : Stamp) (r : RequestContent) (f : PostFault) (c : Content) → EndsIdle asker stamp (refusal_says r f c)
+
+-- ---- replies
+
+-- the type of the reply to each request; a message on comms has no reply
+abbrev pub reply_type : RequestContent → Option (List ℕ)
+reply_type request.KernelInfo = Some (codes "kernel_info_reply")
+reply_type (request.Execute r) = Some (codes "execute_reply")
+reply_type (request.Complete r) = Some (codes "complete_reply")
+reply_type (request.Inspect r) = Some (codes "inspect_reply")
+reply_type (request.IsComplete r) = Some (codes "is_complete_reply")
+reply_type (request.History r) = Some (codes "history_reply")
+reply_type (request.CommInfo r) = Some (codes "comm_info_reply")
+reply_type request.Interrupt = Some (codes "interrupt_reply")
+reply_type (request.Shutdown r) = Some (codes "shutdown_reply")
+reply_type (request.CommOpen r) = None
+reply_type (request.CommMessage r) = None
+reply_type (request.CommClose r) = None
+
+-- the reply is of the request's type; there is none where the request has none
+abbrev pub IsReplied : RequestContent → Says → Type 0
+IsReplied r says = option_map (λ (reply : Said). reply.msg_type) says.reply ≡ reply_type r
+
+-- what an answer holds
+abbrev pub is_completion : Content → Bool
+is_completion (content.Completion c) = true
+is_completion _ = false
+
+abbrev pub is_inspection : Content → Bool
+is_inspection (content.Inspection known) = true
+is_inspection _ = false
+
+abbrev pub is_completeness : Content → Bool
+is_completeness (content.Completeness c) = true
+is_completeness _ = false
+
+abbrev pub is_inputs : Content → Bool
+is_inputs (content.History inputs) = true
+is_inputs _ = false
+
+abbrev pub is_comms : Content → Bool
+is_comms (content.Comms ids) = true
+is_comms _ = false
+
+abbrev pub is_state : Content → Bool
+is_state (content.State s) = true
+is_state _ = false
+
+-- a search asks nothing, so each answer will do
+abbrev pub is_history_for : HistoryAccess → Content → Bool
+is_history_for Range c = is_inputs c
+is_history_for Tail c = is_inputs c
+is_history_for Search c = true
+
+-- A job of the request ended so: of a request to execute a cell. Of messages on comms, which have no reply, each end is meant.
+abbrev pub is_end_for : RequestContent → Done → Bool
+is_end_for (request.Execute r) done = is_of_cell done.outcome
+is_end_for (request.CommOpen r) done = true
+is_end_for (request.CommMessage r) done = true
+is_end_for (request.CommClose r) done = true
+is_end_for request.KernelInfo done = false
+is_end_for (request.Complete r) done = false
+is_end_for (request.Inspect r) done = false
+is_end_for (request.IsComplete r) done = false
+is_end_for (request.History r) done = false
+is_end_for (request.CommInfo r) done = false
+is_end_for request.Interrupt done = false
+is_end_for (request.Shutdown r) done = false
+
+-- A post of the request is refused with this: of a request to execute with the state. Of messages on comms all is meant.
+abbrev pub is_refusal_for : RequestContent → Content → Bool
+is_refusal_for (request.Execute r) c = is_state c
+is_refusal_for (request.CommOpen r) c = true
+is_refusal_for (request.CommMessage r) c = true
+is_refusal_for (request.CommClose r) c = true
+is_refusal_for request.KernelInfo c = false
+is_refusal_for (request.Complete r) c = false
+is_refusal_for (request.Inspect r) c = false
+is_refusal_for (request.IsComplete r) c = false
+is_refusal_for (request.History r) c = false
+is_refusal_for (request.CommInfo r) c = false
+is_refusal_for request.Interrupt c = false
+is_refusal_for (request.Shutdown r) c = false
+
+-- An answer to the request holds this. What asks no question takes any answer; so do messages on comms. A request to execute is never answered
+-- at once.
+abbrev pub is_answer_for : RequestContent → Content → Bool
+is_answer_for request.KernelInfo c = true
+is_answer_for (request.Execute r) c = false
+is_answer_for (request.Complete r) c = is_completion c
+is_answer_for (request.Inspect r) c = is_inspection c
+is_answer_for (request.IsComplete r) c = is_completeness c
+is_answer_for (request.History r) c = is_history_for r.access c
+is_answer_for (request.CommInfo r) c = is_comms c
+is_answer_for request.Interrupt c = true
+is_answer_for (request.Shutdown r) c = true
+is_answer_for (request.CommOpen r) c = true
+is_answer_for (request.CommMessage r) c = true
+is_answer_for (request.CommClose r) c = true
+
+-- Where a job of the request ended, it is replied to by its own type, and a message on comms not at all.
+abbrev pub EndsAreReplied : Type 0
+EndsAreReplied = (r : RequestContent) (done : Done) → is_end_for r done ≡ true → IsReplied r (job_says r done)
+
+-- So where its post was refused.
+abbrev pub RefusalsAreReplied : Type 0
+RefusalsAreReplied = (r : RequestContent) (f : PostFault) (c : Content) → is_refusal_for r c ≡ true → IsReplied r (refusal_says r f c)
+
+-- So where it was answered at once.
+abbrev pub AnswersAreReplied : Type 0
+AnswersAreReplied = (r : RequestContent) (c : Content) → is_answer_for r c ≡ true → IsReplied r (ask_says r c)
+
+-- ---- comms
 
 -- what an open of a comm comes to over these open comms: it opens nothing, and its answer says this, however the comms after it are kept
 pub record OpensNothing (r : CommOpen) (ids : List (List ℕ)) (says : Says) : Type 0 where

@@ -1,6 +1,6 @@
 //! What holds of all answers. The functions do nothing: their contracts are the laws. That the messages are numbered without a gap in
 //! their order, and that their parent header is the header of the request, are laws of `kernel_message`.
-ghost use Rattle.kernel_reply.specs.Laws.{JobsEndIdle, AsksEndIdle, RefusalsEndIdle, OpensPastTheLimitClose, OpensOfOpenComms, OpensForOtherTargetsClose, ListsEachCommOnce, ListsEachWithItsTarget, TellsEachNameOnce, TellsValuesByName};
+ghost use Rattle.kernel_reply.specs.Laws.{JobsEndIdle, AsksEndIdle, RefusalsEndIdle, EndsAreReplied, RefusalsAreReplied, AnswersAreReplied, OpensPastTheLimitClose, OpensOfOpenComms, OpensForOtherTargetsClose, ListsEachCommOnce, ListsEachWithItsTarget, TellsEachNameOnce, TellsValuesByName};
 
 /// The last message of an answer to a job is the status idle.
 pub fn jobs_end_idle_law()
@@ -15,6 +15,14 @@ pub fn asks_end_idle_law()
 /// The last message of an answer to a refused post is the status idle.
 pub fn refusals_end_idle_law()
     ensures { RefusalsEndIdle }
+{}
+
+/// Where what is told belongs to the request, be it a job that ended, the refusal of a post or an answer, each request has a reply of its own
+/// type, as `execute_reply` to an `execute_request`; but a message on comms has none, whatever is told.
+pub fn requests_are_replied_law()
+    ensures ends { EndsAreReplied }
+    ensures refusals { RefusalsAreReplied }
+    ensures answers { AnswersAreReplied }
 {}
 
 /// An open of a comm while as many are open as may be is answered by a close of it, and opens nothing.

@@ -1,5 +1,6 @@
 pub mod Question
 pub mod Call
+pub mod Order
 pub mod Action
 pub mod Talk
 pub mod Session

@@ -1,24 +1,19 @@
 //! What holds of all sessions. The functions do nothing: their contracts are the laws.
-ghost use Rattle.kernel_session.specs.Laws.{BusyFirstAndIdleLast, PostsWhatIsWanted, SignalsWhatIsWanted, ChangesWhatIsWanted, SessionsGoOn};
+ghost use Rattle.kernel_session.specs.Laws.{BusyFirstAndIdleLast, OrdersWhatIsWanted, SessionsGoOn};
 
-/// Of what a served request brings, the status busy is the first message and the status idle the last, unless the desk finds no memory.
+/// Of what a served request brings, the status busy is the first message and the status idle the last, unless the desk finds no memory;
+/// between them the desk gets the orders of the request, and no broadcast among them.
 pub fn busy_first_and_idle_last_law()
     ensures { BusyFirstAndIdleLast }
 {}
 
-/// A request to execute posts its cell, once; a message on an open comm that asks for a move posts the move, once; nothing else posts.
-pub fn posts_what_is_wanted_law()
-    ensures { PostsWhatIsWanted }
-{}
-
-/// An interrupt rings, a shutdown shuts and then rings, and nothing else does either.
-pub fn signals_what_is_wanted_law()
-    ensures { SignalsWhatIsWanted }
-{}
-
-/// A comm is opened by an opening for the one target, closed by a close, each once under its own id, and nothing else opens or closes any.
-pub fn changes_what_is_wanted_law()
-    ensures { ChangesWhatIsWanted }
+/// Each request orders of the desk what the table has for it, in this order, and nothing else: an execution its cell with its user
+/// expressions; a completion, an inspection, a question whether code is whole, a history and a question for the comms that question, with all
+/// that it carries; an interrupt a ring, and a shutdown to shut and then a ring; an opening for the one target its change and then the comms,
+/// and for another the comms; a close its change; a message on a comm the comms, and, where its comm is among them, its move or the state. Of
+/// a post that is refused the state is asked for.
+pub fn orders_what_is_wanted_law()
+    ensures { OrdersWhatIsWanted }
 {}
 
 /// The session of the events of two parts is that of the first part, and then that of the second.

@@ -72,8 +72,39 @@ pub(crate) fn served(
     served_over(rt, desk, socket, reader, writes_left, 0)
 }
 
+/// Serves shell with this key, in pieces of a size, over streams that don't fail.
+pub(crate) fn served_under(
+    rt: &impl Abort,
+    desk: &mut NoKernel,
+    key: &[u8],
+    octets: &[u8],
+    size: usize,
+) -> Served {
+    let alloc = desk.alloc;
+    let mut stamp = stamp(alloc, 0).expect(rt, "a stamp");
+    let mut reader = Pieces {
+        octets,
+        size,
+        reads_left: 10000,
+    };
+    let mut writer = Taken {
+        octets: Vec::new(alloc),
+        writes_left: 10000,
+    };
+    let ended = serve(
+        alloc,
+        Socket::Shell,
+        key,
+        &mut reader,
+        &mut writer,
+        desk,
+        &mut stamp,
+    );
+    (ended, writer.octets)
+}
+
 /// Serves a connection whose streams don't fail, and compares how it ended and what went out.
-fn check(
+pub(crate) fn check(
     rt: &impl Abort,
     desk: &mut NoKernel,
     socket: Socket,
@@ -97,7 +128,7 @@ fn octets_of(rt: &impl Abort, alloc: Global, broadcast: &Broadcast) -> Vec<u8> {
 }
 
 /// Compares what was published.
-fn check_published(rt: &impl Abort, desk: &NoKernel, want: &[&[u8]]) {
+pub(crate) fn check_published(rt: &impl Abort, desk: &NoKernel, want: &[&[u8]]) {
     assert_eq!(rt; desk.kept.len(), want.len());
     for (broadcast, octets) in desk.kept.iter().zip(want) {
         assert_eq!(rt; octets_of(rt, desk.alloc, broadcast).as_slice(), *octets);

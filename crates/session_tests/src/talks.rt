@@ -1,4 +1,4 @@
-//! What requests have the desk do, where no law of sessions says it.
+//! What requests have the desk do, with all that their questions and moves carry.
 use crate::connections::served;
 use crate::desk::NoKernel;
 use crate::rows::{QUESTION, ROUTER};
@@ -54,10 +54,26 @@ fn check_jobs(rt: &impl Abort, posted: &[Job], wanted: &[Job]) {
     }
 }
 
-/// Whether two questions are the same, of those without code.
+/// Whether two questions are the same.
 fn is_same_ask(one: &Ask, other: &Ask) -> bool {
     match (one, other) {
         (Ask::Comms, Ask::Comms) | (Ask::State, Ask::State) => true,
+        (
+            Ask::Complete { code, cursor },
+            Ask::Complete {
+                code: text,
+                cursor: at,
+            },
+        )
+        | (
+            Ask::Inspect { code, cursor },
+            Ask::Inspect {
+                code: text,
+                cursor: at,
+            },
+        ) => { code.as_str() == text.as_str() && *cursor == *at }
+        (Ask::IsComplete { code }, Ask::IsComplete { code: text }) => code.as_str()
+            == text.as_str(),
         (Ask::History(one), Ask::History(other)) => *one == *other,
         _ => false,
     }
@@ -158,4 +174,51 @@ fn a_range_of_inputs_is_asked_for(rt: HostRuntime) {
         &[],
         &[Ask::History(range)],
     );
+}
+
+/// A negative session counts back from the present one.
+#[test]
+fn a_range_of_an_earlier_session_is_asked_for(rt: HostRuntime) {
+    let content = "{\"hist_access_type\":\"range\",\"session\":-1}";
+    let range = HistoryAsk::Range {
+        session: -1,
+        start: 1,
+        stop: None,
+    };
+    check(
+        &rt,
+        rt.alloc(),
+        "history_request",
+        content,
+        &[],
+        &[Ask::History(range)],
+    );
+}
+
+#[test]
+fn a_search_of_the_history_asks_nothing(rt: HostRuntime) {
+    let content = "{\"hist_access_type\":\"search\"}";
+    check(&rt, rt.alloc(), "history_request", content, &[], &[]);
+}
+
+#[test]
+fn a_completion_is_asked_for_at_its_cursor(rt: HostRuntime) {
+    let content = "{\"code\":\"x += yy\",\"cursor_pos\":6}";
+    let code = String::from_str(rt.alloc(), "x += yy").expect(&rt, "a code");
+    let want = Ask::Complete {
+        code,
+        cursor: Some(6),
+    };
+    check(&rt, rt.alloc(), "complete_request", content, &[], &[want]);
+}
+
+#[test]
+fn an_inspection_is_asked_for_at_its_cursor(rt: HostRuntime) {
+    let content = "{\"code\":\"x += yy\",\"cursor_pos\":1}";
+    let code = String::from_str(rt.alloc(), "x += yy").expect(&rt, "a code");
+    let want = Ask::Inspect {
+        code,
+        cursor: Some(1),
+    };
+    check(&rt, rt.alloc(), "inspect_request", content, &[], &[want]);
 }
