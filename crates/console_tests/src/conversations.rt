@@ -1,16 +1,13 @@
 //! Conversations of a console over memory, with a kernel that says what was written down by hand.
 use console_program::{Frontend, Wire, subscribe};
 use console_talk::{Command, ConsoleFault, Told, session_name};
-use jupyter_msg::{Message, open, seal};
+use jupyter_msg::{Key, Message, open, seal};
 use std::alloc::Global;
 use std::io::{ErrorKind, Read};
 use std::process::Abort;
 use std::{io, str};
 use zmtp_peer::{Peer, PeerEvent, Role};
 use zmtp_wire::write_message;
-
-/// The key under which messages are signed.
-const KEY: &[u8] = b"key";
 
 /// A message of the kernel: its type, the number of the message that it answers, and its content.
 type Said = (&'static str, u64, &'static str);
@@ -70,6 +67,11 @@ fn octets_of(rt: &impl Abort, alloc: Global, text: &str) -> Vec<u8> {
         .expect(rt, "the octets of a text")
 }
 
+/// The key under which messages are signed.
+fn key(rt: &impl Abort, alloc: Global) -> Key {
+    Key::new(octets_of(rt, alloc, "key"))
+}
+
 /// The header of a message of the kernel.
 fn header(rt: &impl Abort, alloc: Global, msg_type: &str) -> Vec<u8> {
     let header = format!(in alloc;
@@ -94,8 +96,15 @@ fn identities(rt: &impl Abort, alloc: Global, role: Role, msg_type: &str) -> Vec
     }
 }
 
-/// Adds the octets of a message of the kernel in this role.
-fn push_said(rt: &impl Abort, alloc: Global, octets: &mut Vec<u8>, role: Role, said: &Said) {
+/// Adds the octets of a message of the kernel in this role, signed under the key.
+fn push_said(
+    rt: &impl Abort,
+    alloc: Global,
+    octets: &mut Vec<u8>,
+    key: &Key,
+    role: Role,
+    said: &Said,
+) {
     let (msg_type, number, content) = *said;
     let message = Message {
         identities: identities(rt, alloc, role, msg_type),
@@ -105,7 +114,7 @@ fn push_said(rt: &impl Abort, alloc: Global, octets: &mut Vec<u8>, role: Role, s
         content: octets_of(rt, alloc, content),
         buffers: Vec::new(alloc),
     };
-    let frames = seal(alloc, &message, KEY).expect(rt, "a sealed message");
+    let frames = seal(alloc, &message, key).expect(rt, "a sealed message");
     assert!(rt; !frames.is_empty());
     write_message(octets, &frames).expect(rt, "the octets of a message");
 }
@@ -124,9 +133,10 @@ fn opened(rt: &impl Abort, alloc: Global, role: Role) -> Slow {
 
 /// A stream of the kernel: its opening in this role, and what it says.
 fn stream(rt: &impl Abort, alloc: Global, role: Role, said: &[Said]) -> Slow {
+    let key = key(rt, alloc);
     let mut stream = opened(rt, alloc, role);
     for said in said {
-        push_said(rt, alloc, &mut stream.octets, role, said);
+        push_said(rt, alloc, &mut stream.octets, &key, role, said);
     }
     stream
 }
@@ -150,19 +160,20 @@ fn push_line(rt: &impl Abort, alloc: Global, text: &mut String, message: &Messag
 }
 
 /// Adds a line of what a console wrote by this event of its connection.
-fn push_event(rt: &impl Abort, alloc: Global, text: &mut String, event: PeerEvent) {
+fn push_event(rt: &impl Abort, alloc: Global, text: &mut String, key: &Key, event: PeerEvent) {
     if let PeerEvent::Message(frames) = event {
-        let opened = open(alloc, frames, KEY).expect(rt, "a message under the key");
+        let opened = open(alloc, frames, key).expect(rt, "a message under the key");
         push_line(rt, alloc, text, &opened.message);
     }
 }
 
 /// What a console wrote on shell: the type and the content of each message.
 fn written(rt: &impl Abort, alloc: Global, octets: &[u8]) -> String {
+    let key = key(rt, alloc);
     let mut peer = Peer::new(alloc, Role::Router);
     let mut text = String::new(alloc);
     for event in peer.feed(octets).expect(rt, "frames") {
-        push_event(rt, alloc, &mut text, event);
+        push_event(rt, alloc, &mut text, &key, event);
     }
     text
 }
@@ -178,7 +189,7 @@ fn frontend(
     subscribe(&mut iopub).expect(rt, "a subscription");
     Frontend {
         alloc,
-        key: string(rt, alloc, "key"),
+        key: key(rt, alloc),
         session: session_name(alloc, 7).expect(rt, "a session"),
         next: 0,
         shell: Wire::open(alloc, replies, Vec::new(alloc), Role::Dealer).expect(rt, "shell"),

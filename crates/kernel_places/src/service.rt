@@ -3,6 +3,7 @@ ghost use Rattle.std.specs.Prelude.{◌≡◌, ◌≤◌, ◌<◌, ◌^◌, IfOk
 
 use crate::places::PLACES;
 use crate::word::Word;
+use jupyter_msg::Key;
 use kernel_hall::Hall;
 use kernel_iopub::Bulletin;
 use kernel_message::Stamp;
@@ -22,7 +23,7 @@ const NO_DATE: [u8; 20] = *b"1970-01-01T00:00:00Z";
 pub struct Service<W: Ledger, L: Ledger> {
     pub(crate) alloc: Global,
     pub(crate) session: String,
-    pub(crate) key: Vec<u8>,
+    pub(crate) key: Key,
     pub(crate) hall: Hall<W, L>,
     pub(crate) bulletin: Bulletin,
     /// The connections of shell, control, stdin and heartbeat.
@@ -57,7 +58,7 @@ impl<W: Ledger, L: Ledger> Service<W, L> {
     pub fn new(
         alloc: Global,
         session: String,
-        key: Vec<u8>,
+        key: Key,
         hall: Hall<W, L>,
     ) -> Result<Service<W, L>, AllocError>
         ensures hall { IfOk result (λ s. s.hall ≡ hall) }

@@ -8,6 +8,7 @@ use crate::opening::{connection_of, listeners_of};
 use crate::words::{file_of, unread_words_status, words_status};
 use clap::Error;
 use clap::error::ErrorKind as ClapErrorKind;
+use jupyter_msg::Key;
 use kernel_ask::Comms;
 use kernel_bell::{Bell, RINGERS};
 use kernel_core::Kernel;
@@ -66,7 +67,7 @@ fn new_service<W: Ledger, L: Ledger, R: RandomSource>(
     alloc: Global,
     writes: Blank,
     posts: Blank,
-    key: Vec<u8>,
+    key: Key,
 ) -> Result<(Service<W, L>, Seats), ProgramFault>
     requires writes { (writes.name ≡ W.name) × (writes.parts ≡ W.parts) × (0 < W.parts) }
     requires posts { (posts.name ≡ L.name) × (posts.parts ≡ 65537) × (posts.parts ≡ L.parts) }
@@ -86,7 +87,7 @@ fn serve_new_kernel<W: Ledger + Send + Sync, L: Ledger + Send + Sync, R, O: Writ
     writes: Blank,
     posts: Blank,
     listeners: &Listeners,
-    key: Vec<u8>,
+    key: Key,
     out: &mut O,
 ) -> Result<(), ProgramFault>
 where
@@ -121,7 +122,7 @@ where
 {
     let file = connection_of(rt, alloc, path)?;
     let listeners = listeners_of(rt, &file)?;
-    let key = file.key.as_bytes().to_vec(alloc)?;
+    let key = Key::new(file.key.into_bytes());
     serve_new_kernel::<Brand, Brand, R, O>(
         rt,
         alloc,

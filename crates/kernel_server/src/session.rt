@@ -9,6 +9,7 @@ ghost use Rattle.kernel_server.specs.Lone.{lone_leads};
 ghost use Rattle.kernel_server.specs.Course.{RanOn};
 
 use crate::lone::LoneDesk;
+use jupyter_msg::Key;
 use kernel_message::Stamp;
 use kernel_session::{ServeFault, Socket, serve};
 use std::alloc::Global;
@@ -24,7 +25,7 @@ use std::sync::ledger::Ledger;
 pub fn serve_lone<R: Read, W: Write, L: Ledger>(
     alloc: Global,
     socket: Socket,
-    key: &[u8],
+    key: &Key,
     reader: &mut R,
     writer: &mut W,
     desk: &mut LoneDesk<L>,

@@ -18,6 +18,7 @@ use crate::flow::Flow;
 use crate::message::take_all;
 use crate::send::{send, send_message};
 use crate::socket::Socket;
+use jupyter_msg::Key;
 use kernel_board::Broadcast;
 use kernel_message::Stamp;
 use std::alloc::Global;
@@ -55,7 +56,7 @@ fn stop(fault: PeerFault) -> ServeFault
 fn advance<W: Write, D: Desk>(
     alloc: Global,
     socket: Socket,
-    key: &[u8],
+    key: &Key,
     peer: &mut Peer,
     writer: &mut W,
     desk: &mut D,
@@ -199,7 +200,7 @@ fn send_opening<W: Write>(writer: &mut W, peer: &Peer) -> Result<(), ServeFault>
 pub fn serve<R: Read, W: Write, D: Desk>(
     alloc: Global,
     socket: Socket,
-    key: &[u8],
+    key: &Key,
     reader: &mut R,
     writer: &mut W,
     desk: &mut D,

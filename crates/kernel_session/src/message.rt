@@ -15,7 +15,7 @@ use crate::flow::Flow;
 use crate::request::take_request;
 use crate::send::send_message;
 use crate::socket::Socket;
-use jupyter_msg::{Message, MsgFault, Request, open};
+use jupyter_msg::{Key, Message, MsgFault, Request, open};
 use kernel_message::Stamp;
 use std::alloc::Global;
 use std::io::Write;
@@ -33,7 +33,7 @@ struct Asked {
 fn read_request(
     alloc: Global,
     socket: Socket,
-    key: &[u8],
+    key: &Key,
     frames: Vec<Vec<u8>>,
 ) -> Result<Option<Asked>, ServeFault>
     ensures asked { IfOk result (λ read. IfSome read (λ r. IsAsked socket key.now (octets frames.items) r.request)) }
@@ -65,7 +65,7 @@ fn read_request(
 fn take_turn<W: Write, D: Desk>(
     alloc: Global,
     socket: Socket,
-    key: &[u8],
+    key: &Key,
     writer: &mut W,
     desk: &mut D,
     stamp: &mut Stamp,
@@ -111,7 +111,7 @@ fn echo<W: Write>(alloc: Global, writer: &mut W, frames: &[Vec<u8>]) -> Result<F
 fn take_event<W: Write, D: Desk>(
     alloc: Global,
     socket: Socket,
-    key: &[u8],
+    key: &Key,
     writer: &mut W,
     desk: &mut D,
     stamp: &mut Stamp,
@@ -141,7 +141,7 @@ fn take_event<W: Write, D: Desk>(
 pub(crate) fn take_all<W: Write, D: Desk>(
     alloc: Global,
     socket: Socket,
-    key: &[u8],
+    key: &Key,
     writer: &mut W,
     desk: &mut D,
     stamp: &mut Stamp,

@@ -17,7 +17,7 @@ use crate::fault::ServeFault;
 use crate::flow::Flow;
 use crate::send::send_message;
 use crate::talk::{Told, consult};
-use jupyter_msg::{Message, Request, RequestContent, seal};
+use jupyter_msg::{Key, Message, Request, RequestContent, seal};
 use kernel_board::Broadcast;
 use kernel_message::{Outgoing, Stamp};
 use kernel_reply::{answer, answer_ask, opening, refuse};
@@ -31,7 +31,7 @@ const LAST_NEXT: u64 = u64::MAX - 15;
 fn publish<D: Desk>(
     alloc: Global,
     desk: &mut D,
-    key: &[u8],
+    key: &Key,
     message: &Message,
 ) -> Result<(), ServeFault>
     ensures ok { OnOk result (Leads D.leads desk.old (Published (frames_of key.now (octets_of message.now)) ∷ []) desk.new) }
@@ -52,7 +52,7 @@ fn publish<D: Desk>(
 fn publish_all<D: Desk>(
     alloc: Global,
     desk: &mut D,
-    key: &[u8],
+    key: &Key,
     broadcasts: &[kernel_message::Broadcast],
 ) -> Result<(), ServeFault>
     ensures ok { OnOk result (Leads D.leads desk.old (map (λ b. Published (frames_of key.now b)) broadcasts.now) desk.new) }
@@ -68,7 +68,7 @@ fn publish_all<D: Desk>(
 /// Sets the date, and publishes the status busy.
 fn begin<D: Desk>(
     alloc: Global,
-    key: &[u8],
+    key: &Key,
     desk: &mut D,
     stamp: &mut Stamp,
     message: &Message,
@@ -88,7 +88,7 @@ fn begin<D: Desk>(
 /// Sets the date, publishes the status busy and has the desk do what the request asks.
 fn take_up<D: Desk>(
     alloc: Global,
-    key: &[u8],
+    key: &Key,
     desk: &mut D,
     stamp: &mut Stamp,
     message: &Message,
@@ -135,7 +135,7 @@ fn outgoing(
 /// Seals a reply and writes it, if there is one.
 fn send_reply<W: Write>(
     alloc: Global,
-    key: &[u8],
+    key: &Key,
     writer: &mut W,
     reply: &Option<Message>,
 ) -> Result<(), ServeFault>
@@ -155,7 +155,7 @@ fn send_reply<W: Write>(
 /// Answers a request: writes the reply, and publishes the broadcasts behind it.
 fn finish<W: Write, D: Desk>(
     alloc: Global,
-    key: &[u8],
+    key: &Key,
     writer: &mut W,
     desk: &mut D,
     stamp: &mut Stamp,
@@ -198,7 +198,7 @@ fn flow_after(content: &RequestContent) -> Flow
 /// Serves a request that was read of the message.
 pub(crate) fn take_request<W: Write, D: Desk>(
     alloc: Global,
-    key: &[u8],
+    key: &Key,
     writer: &mut W,
     desk: &mut D,
     stamp: &mut Stamp,

@@ -1,5 +1,5 @@
 //! A connection to a socket of the kernel, for what a console has no words for.
-use jupyter_msg::{Message, Opened, open, seal};
+use jupyter_msg::{Key, Message, Opened, open, seal};
 use std::alloc::Global;
 use std::collections::VecDeque;
 use std::io::{Error, ErrorKind, Read, Write};
@@ -23,6 +23,7 @@ const READS: u32 = 4_000;
 #[derive(Drop)]
 pub(crate) struct Frontend {
     alloc: Global,
+    key: Key,
     stream: TcpStream,
     peer: Peer,
     is_ready: bool,
@@ -71,6 +72,11 @@ pub(crate) fn subscription(rt: &impl Abort, alloc: Global, prefix: &str) -> Vec<
     octets
 }
 
+/// The key whose octets are those of the text.
+fn key_of(rt: &impl Abort, alloc: Global, text: &str) -> Key {
+    Key::new(octets_of(rt, alloc, text))
+}
+
 /// The header of a request.
 fn header(rt: &impl Abort, alloc: Global, msg_type: &str) -> Vec<u8> {
     let header = format!(in alloc;
@@ -111,6 +117,7 @@ impl Frontend {
         write_to(rt, &stream, &opening_of(rt, alloc, role));
         Frontend {
             alloc,
+            key: key_of(rt, alloc, KEY),
             stream,
             peer: Peer::new(alloc, role),
             is_ready: false,
@@ -167,13 +174,13 @@ impl Frontend {
 
     /// Sends a request.
     pub(crate) fn send(&mut self, rt: &impl Abort, msg_type: &str, content: &str) {
-        self.send_under(rt, KEY, msg_type, content);
+        self.send_under(rt, &self.key, msg_type, content);
     }
 
     /// Sends a request that is signed under this key.
-    pub(crate) fn send_under(&mut self, rt: &impl Abort, key: &str, msg_type: &str, content: &str) {
+    pub(crate) fn send_under(&self, rt: &impl Abort, key: &Key, msg_type: &str, content: &str) {
         let message = request(rt, self.alloc, msg_type, content);
-        let frames = seal(self.alloc, &message, key.as_bytes()).expect(rt, "a sealed message");
+        let frames = seal(self.alloc, &message, key).expect(rt, "a sealed message");
         let mut octets = Vec::new(self.alloc);
         push_message(rt, &mut octets, &frames);
         write_to(rt, &self.stream, &octets);
@@ -251,7 +258,7 @@ impl Frontend {
         match self.next_frames(rt) {
             None => None,
             Some(frames) => {
-                Some(open(self.alloc, frames, KEY.as_bytes()).expect(rt, "a message under the key"))
+                Some(open(self.alloc, frames, &self.key).expect(rt, "a message under the key"))
             }
         }
     }
@@ -291,7 +298,8 @@ where
     R: Net<Listener = TcpListener, Stream = TcpStream> + Abort,
 {
     let mut control = Frontend::open(rt, alloc, port);
-    control.send_under(rt, "another key", "shutdown_request", "{\"restart\":true}");
+    let another = key_of(rt, alloc, "another key");
+    control.send_under(rt, &another, "shutdown_request", "{\"restart\":true}");
     control.send(rt, "shutdown_request", "{\"restart\":false}");
     content_of(rt, alloc, &control.reply(rt).message)
 }

@@ -2,7 +2,7 @@
 ghost use Rattle.jupyter_msg.specs.Opened.{IsRead};
 
 use crate::told::{Told, tell};
-use jupyter_msg::{Message, MsgFault, Opened, Request, open, seal};
+use jupyter_msg::{Key, Message, MsgFault, Opened, Request, open, seal};
 use kernel_ask::{Answer, Comms};
 use kernel_core::Kernel;
 use kernel_message::{Outgoing, Stamp};
@@ -22,7 +22,7 @@ pub(crate) fn exchange<L: Ledger>(
     comms: &mut Comms,
     stamp: &mut Stamp,
     how: &str,
-    key: &[u8],
+    key: &Key,
     frames: Vec<Vec<u8>>,
 ) -> Result<String, MsgFault> {
     let opened = open(alloc, frames, key)?;
@@ -40,7 +40,7 @@ fn push_busy(
     out: &mut String,
     opened: &Opened,
     stamp: &mut Stamp,
-    key: &[u8],
+    key: &Key,
 ) -> Result<(), MsgFault> {
     if stamp.next > MESSAGES {
         return Err(MsgFault::Memory);
@@ -85,7 +85,7 @@ fn sent(
 }
 
 /// Writes the reply and the broadcasts, in the order in which they are sent.
-fn push_sent(alloc: Global, out: &mut String, sent: &Outgoing, key: &[u8]) -> Result<(), MsgFault> {
+fn push_sent(alloc: Global, out: &mut String, sent: &Outgoing, key: &Key) -> Result<(), MsgFault> {
     if let Some(reply) = &sent.reply {
         push_message(alloc, out, reply, key)?;
     }
@@ -100,7 +100,7 @@ fn push_message(
     alloc: Global,
     out: &mut String,
     message: &Message,
-    key: &[u8],
+    key: &Key,
 ) -> Result<(), MsgFault> {
     let frames = seal(alloc, message, key)?;
     push_both(out, "\n", &frames_shown(alloc, frames)?)?;

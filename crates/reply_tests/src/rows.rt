@@ -4,7 +4,7 @@ ghost use Rattle.std.specs.Prelude.{◌≡◌, ◌<◌};
 use crate::exchange::exchange;
 use crate::lines::run_lines;
 use crate::stamps::stamp;
-use jupyter_msg::MsgFault;
+use jupyter_msg::{Key, MsgFault};
 use kernel_ask::Comms;
 use kernel_core::Kernel;
 use kernel_message::Stamp;
@@ -42,7 +42,8 @@ fn row_by<L: Ledger>(alloc: Global, kernel: &mut Kernel<L>, row: &str) -> Result
     let (how, request) = cut_cell(rest);
     run_lines(alloc, kernel, &mut comms, lines)?;
     let frames = request_frames(alloc, request)?;
-    exchange(alloc, kernel, &mut comms, &mut stamp, how, b"", frames)
+    let key = Key::new(Vec::new(alloc));
+    exchange(alloc, kernel, &mut comms, &mut stamp, how, &key, frames)
 }
 
 /// The frames of a request that comes with the identity `who` under an empty key.
@@ -98,8 +99,9 @@ fn push_rows<L: Ledger>(
 ) -> Result<(), MsgFault> {
     for row in rows.lines() {
         let (key, frames) = cut_frame(row);
+        let key = Key::new(key.as_bytes().to_vec(alloc)?);
         let frames = frames_of(alloc, frames)?;
-        match exchange(alloc, kernel, comms, stamp, "asked", key.as_bytes(), frames) {
+        match exchange(alloc, kernel, comms, stamp, "asked", &key, frames) {
             Ok(answer) => push_answer(out, row, &answer)?,
             Err(fault) => push_answer(out, row, &shown(alloc, &fault)?)?,
         }

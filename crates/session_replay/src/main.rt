@@ -19,6 +19,7 @@ ghost use Rattle.std.specs.Prelude.{◌≡◌, ◌<◌};
 use crate::escaped::escaped;
 use crate::slices::slices_of;
 use anyhow::anyhow;
+use jupyter_msg::Key;
 use kernel_ask::Comms;
 use kernel_core::Kernel;
 use kernel_message::Stamp;
@@ -54,7 +55,7 @@ fn socket_of(name: &str) -> Option<Socket> {
 fn replay<L: Ledger>(
     rt: &HostRuntime,
     desk: &mut LoneDesk<L>,
-    key: &str,
+    key: &Key,
     number: u64,
     line: &str,
 ) -> anyhow::Result<()> {
@@ -71,7 +72,7 @@ fn replay<L: Ledger>(
     let ended = serve_lone(
         alloc,
         socket,
-        key.as_bytes(),
+        key,
         &mut octets.as_slice(),
         &mut written,
         desk,
@@ -86,7 +87,7 @@ fn replay<L: Ledger>(
 fn replay_all<L: Ledger>(
     rt: &HostRuntime,
     desk: &mut LoneDesk<L>,
-    key: &str,
+    key: &Key,
     connections: &str,
 ) -> anyhow::Result<()> {
     let mut number = 0u64;
@@ -110,7 +111,7 @@ fn replay_to_new<L: Ledger>(
     rt: &HostRuntime,
     blank: Blank,
     slices: Vec<Slice>,
-    key: &str,
+    key: &Key,
     connections: &str,
 ) -> anyhow::Result<()>
     requires name { blank.name ≡ L.name }
@@ -134,7 +135,8 @@ fn replay_session<L: Ledger>(rt: &HostRuntime, blank: Blank, session: String) ->
     };
     let (list, connections) = parts_of(behind);
     let slices = slices_of(rt.alloc(), list)?;
-    replay_to_new::<L>(rt, blank, slices, key, connections)
+    let key = Key::new(key.as_bytes().to_vec(rt.alloc())?);
+    replay_to_new::<L>(rt, blank, slices, &key, connections)
 }
 
 /// Replays a session to a kernel of its own.

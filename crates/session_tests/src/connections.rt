@@ -5,6 +5,7 @@ use crate::rows::{
     SHUT_DOWN, SHUT_DOWN_ANSWERED, SUBSCRIPTION,
 };
 use crate::streams::{Counted, Pieces, Taken, Watching};
+use jupyter_msg::Key;
 use kernel_board::Broadcast;
 use kernel_message::Stamp;
 use kernel_session::{ServeFault, Socket, serve};
@@ -45,7 +46,7 @@ fn served_over(
     let ended = serve(
         alloc,
         socket,
-        b"",
+        &Key::new(Vec::new(alloc)),
         &mut reader,
         &mut writer,
         desk,
@@ -355,7 +356,7 @@ fn a_question_is_answered_before_the_next_read(rt: HostRuntime) {
     let ended = serve(
         alloc,
         Socket::Shell,
-        b"",
+        &Key::new(Vec::new(alloc)),
         &mut reader,
         &mut writer,
         &mut desk,
