@@ -92,10 +92,11 @@ pub(crate) fn served_under(
         octets: Vec::new(alloc),
         writes_left: 10000,
     };
+    let key = Key::new(key.to_vec(alloc).expect(rt, "a key"));
     let ended = serve(
         alloc,
         Socket::Shell,
-        key,
+        &key,
         &mut reader,
         &mut writer,
         desk,
