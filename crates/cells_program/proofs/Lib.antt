@@ -7,7 +7,6 @@ pub mod GoingBack
 pub mod InputLemmas
 pub mod LinesLemmas
 pub mod ByName
-pub mod ClosedLemmas
 pub mod ListedLemmas
 pub mod OneListing
 pub mod ScriptLemmas

@@ -1,44 +1,33 @@
--- Procedures are printed one after the other.
-use Rattle.std.proofs.Common.{◌≡◌, ◌<◌, ◌+◌, ℕ, zero, suc, length, get_or, take, arith, List, [], ◌∷◌, ◌++◌, refl, sym, ap, subst, ◌∙◌, append_assoc, append-nil, add-one, Option, inr}
+-- Procedures are told one after the other.
+use Rattle.std.proofs.Common.{◌≡◌, ◌<◌, ◌+◌, ℕ, zero, suc, length, get_or, take, arith, List, [], ◌∷◌, ◌++◌, refl, sym, ap, ◌∙◌, append_assoc, append-nil, add-one, Option, inr}
 use Rattle.std.specs.Prelude.{Result, Ok, Err, OnErr}
 use Rattle.std.specs.Borrow.{Bor}
 use Rattle.janus_meaning.specs.Syntax.{Proc}
 use Rattle.janus_meaning.specs.World.{World}
-use Rattle.janus_syntax.specs.Tree.{Procedure as Tree, procedure_view}
-use Rattle.janus_syntax.specs.View.{plain_procedure}
-use Rattle.janus_syntax.specs.Printing.{printed_procedure}
 use Rattle.janus_syntax.specs.declared.tree.Procedure.{Procedure}
 use Rattle.kernel_core.specs.Defined.{in_a_row}
 use Rattle.kernel_core.specs.declared.post.PostFault.TheVariants.{Memory}
 use Rattle.kernel_text.specs.Lines.{post_fault_line}
+use Rattle.kernel_text.specs.ProcedureTexts.{procedure_text}
 use Rattle.kernel_text.specs.Sending.{SentSome}
+use Rattle.kernel_text.proofs.Newest.{plain}
 use Rattle.cells_program.specs.Lines.{ended_line}
-use Rattle.cells_program.specs.Closed.{closed_procedure}
-use Rattle.cells_program.specs.Listing.{ArePrinted, IsListed}
+use Rattle.cells_program.specs.Listing.{IsListed, listing_text}
 
 -- one procedure more
-printed_more : (ps : List Proc) (q : Tree) (text : List ℕ) → ArePrinted ps text → ArePrinted (ps ++ plain_procedure q ∷ []) (text ++ ended_line (printed_procedure (closed_procedure q)))
-printed_more [] q text e = (q, [], refl, refl, ap (λ (t : List ℕ). t ++ ended_line (printed_procedure (closed_procedure q))) e ∙ sym (append-nil (ended_line (printed_procedure (closed_procedure q)))))
-printed_more (p ∷ ps) q text (r, more, is, h, e) = (
-  r,
-  more ++ ended_line (printed_procedure (closed_procedure q)),
-  is,
-  printed_more ps q more h,
-  ap (λ (t : List ℕ). t ++ ended_line (printed_procedure (closed_procedure q))) e ∙ append_assoc (ended_line (printed_procedure (closed_procedure r))) more (ended_line (printed_procedure (closed_procedure q))),
-)
+told_more : (ps : List Proc) (p : Proc) → listing_text (ps ++ p ∷ []) ≡ listing_text ps ++ ended_line (procedure_text p)
+told_more [] p = append-nil (ended_line (procedure_text p))
+told_more (q ∷ ps) p = ap (λ (t : List ℕ). ended_line (procedure_text q) ++ t) (told_more ps p) ∙ sym (append_assoc (ended_line (procedure_text q)) (listing_text ps) (ended_line (procedure_text p)))
 
-row_more : (all : List (Bor Procedure)) (i : ℕ) (b : Bor Procedure) → i < length all → get_or all i b ≡ b →
-    in_a_row (take (suc i) all) ≡ in_a_row (take i all) ++ plain_procedure (procedure_view b.now) ∷ []
+row_more : (all : List (Bor Procedure)) (i : ℕ) (b : Bor Procedure) → i < length all → get_or all i b ≡ b → in_a_row (take (suc i) all) ≡ in_a_row (take i all) ++ plain b ∷ []
 row_more [] i b l e = absurd (omega arith)
-row_more (z ∷ all) zero b l e = ap (λ (c : Bor Procedure). plain_procedure (procedure_view c.now) ∷ []) e
-row_more (z ∷ all) (suc i) b l e = ap (λ (ps : List Proc). plain_procedure (procedure_view z.now) ∷ ps) (row_more all i b (omega arith) e)
+row_more (z ∷ all) zero b l e = ap (λ (c : Bor Procedure). plain c ∷ []) e
+row_more (z ∷ all) (suc i) b l e = ap (λ (ps : List Proc). plain z ∷ ps) (row_more all i b (omega arith) e)
 
-pub printed_next : (all : List (Bor Procedure)) (i : ℕ) (b : Bor Procedure) (before after : List ℕ) → i < length all → get_or all i b ≡ b → ArePrinted (in_a_row (take i all)) before
-    → after ≡ before ++ ended_line (printed_procedure (closed_procedure (procedure_view b.now))) → ArePrinted (in_a_row (take (i + 1) all)) after
-printed_next all i b before after l is h e =
-    subst (λ (n : ℕ). ArePrinted (in_a_row (take n all)) after) (sym (add-one i))
-    (subst (λ (ps : List Proc). ArePrinted ps after) (sym (row_more all i b l is))
-    (subst (ArePrinted (in_a_row (take i all) ++ plain_procedure (procedure_view b.now) ∷ [])) (sym e) (printed_more (in_a_row (take i all)) (procedure_view b.now) before h)))
+pub listed_next : (all : List (Bor Procedure)) (i : ℕ) (b : Bor Procedure) → i < length all → get_or all i b ≡ b →
+    listing_text (in_a_row (take (i + 1) all)) ≡ listing_text (in_a_row (take i all)) ++ ended_line (procedure_text (plain b))
+listed_next all i b l is =
+    ap (λ (n : ℕ). listing_text (in_a_row (take n all))) (add-one i) ∙ ap listing_text (row_more all i b l is) ∙ told_more (in_a_row (take i all)) (plain b)
 
 -- there was no memory for the list, and its line did not go out as a whole
 pub want_err : {E : Type 0} (a b : Option (List ℕ)) (w : World) (res : Result (Unit {0}) E) → OnErr res (SentSome a b (ended_line (post_fault_line Memory)))

@@ -1,5 +1,5 @@
 -- Procedures have one listing, and that one text.
-use Rattle.std.proofs.Common.{◌≡◌, ℕ, List, [], ◌∷◌, ◌++◌, refl, sym, ap, subst, ◌∙◌, inl, inr, ◌⊎◌, Contains}
+use Rattle.std.proofs.Common.{◌≡◌, ℕ, List, [], ◌∷◌, refl, sym, ap, subst, ◌∙◌, inl, inr, ◌⊎◌, Contains}
 use Rattle.std.specs.declared.cmp.Ordering.{Ordering}
 use Rattle.std.specs.declared.cmp.Ordering.TheVariants as ordering
 use Rattle.std.specs.Ordering.{nat_cmp, ordering_reverse}
@@ -9,12 +9,8 @@ use Rattle.std.specs.List.Sorted.{IsStrictlySortedBy}
 use Rattle.std.proofs.lemmas.Cmp.{nat_list_cmp_total}
 use Rattle.janus_meaning.specs.Syntax.{Name, Proc}
 use Rattle.janus_meaning.specs.World.{World}
-use Rattle.janus_syntax.specs.Printing.{printed_procedure}
-use Rattle.cells_program.specs.Closed.{closed_procedure}
-use Rattle.cells_program.specs.Lines.{ended_line}
-use Rattle.cells_program.specs.Listing.{ArePrinted, IsListing, IsListText, procedure_names}
+use Rattle.cells_program.specs.Listing.{IsListing, IsListText, listing_text, procedure_names}
 use Rattle.cells_program.proofs.ByName.{contains_cases, contains_first, contains_later, contains_none}
-use Rattle.cells_program.proofs.ClosedLemmas.{same_print}
 
 -- ---- two lists in the same order with the same members
 
@@ -86,13 +82,6 @@ same_members (x ∷ xs) (y ∷ ys) s t f g =
 same_listing : (all xs ys : List Proc) → IsListing all xs → IsListing all ys → xs ≡ ys
 same_listing all xs ys a b = same_members xs ys a.ordered b.ordered (λ p c. (b.each p).1 ((a.each p).0 c)) (λ p c. (a.each p).1 ((b.each p).0 c))
 
-same_lines : (ps : List Proc) (text other : List ℕ) → ArePrinted ps text → ArePrinted ps other → text ≡ other
-same_lines [] text other a b = a ∙ sym b
-same_lines (p ∷ ps) text other (q, more, is, h, e) (r, rest, same, k, d) =
-    e ∙ ap (λ (line : List ℕ). ended_line line ++ more) (same_print q r (is ∙ sym same))
-    ∙ ap (λ (l : List ℕ). ended_line (printed_procedure (closed_procedure r)) ++ l) (same_lines ps more rest h k) ∙ sym d
-
 -- a world's procedures are listed in one way
 pub one_list_text : (w : World) (text other : List ℕ) → IsListText w text → IsListText w other → text ≡ other
-one_list_text w text other (xs, a, h) (ys, b, k) =
-    same_lines xs text other h (subst (λ (ps : List Proc). ArePrinted ps other) (sym (same_listing w.procedures xs ys a b)) k)
+one_list_text w text other (xs, a, h) (ys, b, k) = h ∙ ap listing_text (same_listing w.procedures xs ys a b) ∙ sym k

@@ -5,7 +5,6 @@ pub mod Ending
 pub mod Served
 pub mod ServedEnds
 pub mod Shown
-pub mod Closed
 pub mod ByName
 pub mod Listing
 pub mod Script

@@ -9,7 +9,6 @@
 //! that is served ends; `fault` and `words` say with which status and line the program ends. The language is Janus (Yokoyama and Glück 2007).
 #![tactic(auto)]
 
-mod closed;
 mod command;
 mod command_line;
 mod counted;

@@ -5,13 +5,11 @@ ghost use Rattle.std.specs.String.{string_cmp};
 ghost use Rattle.kernel_core.specs.Defined.{in_a_row};
 ghost use Rattle.kernel_core.specs.State.{Idle, here};
 ghost use Rattle.cells_program.specs.ByName.{found, with_names};
-ghost use Rattle.cells_program.specs.Listing.{ArePrinted, IsListText, IsListing, procedure_names};
+ghost use Rattle.cells_program.specs.Listing.{IsListText, IsListing, listing_text, procedure_names};
 
-use crate::closed::closed;
-use janus_syntax::print_procedure;
 use janus_syntax::tree::Procedure;
 use kernel_core::Kernel;
-use kernel_text::newest_of;
+use kernel_text::{newest_of, procedure_text};
 use std::alloc::{AllocError, Global};
 use std::collections::BTreeSet;
 use std::sync::ledger::Ledger;
@@ -74,14 +72,13 @@ fn newest_of_each<'a>(
     Ok(all)
 }
 
-/// Procedures as they are printed, one a line.
+/// The texts of procedures, one a line.
 fn lines_of(alloc: Global, procedures: &[&Procedure]) -> Result<String, AllocError>
-    ensures { IfOk result (λ text. ArePrinted (in_a_row procedures.now) (string_bytes text)) }
+    ensures { IfOk result (λ text. string_bytes text ≡ listing_text (in_a_row procedures.now)) }
 {
     let mut text = String::new(alloc);
     for i in 0..procedures.len() {
-        let procedure = closed(alloc, procedures[i])?;
-        let line = print_procedure(alloc, &procedure)?;
+        let line = procedure_text(alloc, procedures[i])?;
         text.push_str(line.as_str())?;
         text.push('\n')?;
     }

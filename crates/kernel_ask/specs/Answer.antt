@@ -1,10 +1,10 @@
 -- What is answered to a frontend's question: filters of the names, the shown world and the minutes.
-use Rattle.std.specs.Prelude.{◌≡◌, ℕ, List, length, map, string_bytes}
+use Rattle.std.specs.Prelude.{◌≡◌, ℕ, List, length, map, option_map, string_bytes}
 use Rattle.std.specs.Str.{chars}
 use Rattle.kernel_core.specs.Runs.{Machine}
 use Rattle.kernel_ask.specs.Cursor.{word_at}
 use Rattle.kernel_ask.specs.Completion.{IsCompletion}
-use Rattle.kernel_ask.specs.Inspection.{IsInspection}
+use Rattle.kernel_ask.specs.Inspection.{inspection}
 use Rattle.kernel_ask.specs.Judgement.{IsJudged}
 use Rattle.kernel_ask.specs.History.{inputs, told, input_of}
 use Rattle.kernel_ask.specs.State.{OfShown, IsState}
@@ -17,7 +17,7 @@ use Rattle.kernel_ask.specs.declared.answer.Answer.{Answer}
 -- the content answers the question; comms are seen as their ids
 abbrev pub IsContent : Machine → List (List ℕ) → Ask → Content → Type 0
 IsContent m comms (ask.Complete code cursor) (content.Completion c) = OfShown m (λ w. IsCompletion w (chars (string_bytes code)) cursor c)
-IsContent m comms (ask.Inspect code cursor) (content.Inspection text) = OfShown m (λ w. IsInspection w (word_at cursor (chars (string_bytes code))) text)
+IsContent m comms (ask.Inspect code cursor) (content.Inspection text) = OfShown m (λ w. option_map string_bytes text ≡ inspection w (word_at cursor (chars (string_bytes code))))
 IsContent m comms (ask.IsComplete code) (content.Completeness c) = IsJudged (string_bytes code) c
 IsContent m comms (ask.History range) (content.History all) = map input_of all.items ≡ told range (inputs m.minutes m.counter)
 IsContent m comms ask.Comms (content.Comms ids) = map string_bytes ids.items ≡ comms

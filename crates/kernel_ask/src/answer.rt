@@ -23,7 +23,7 @@ pub enum Ask {
 /// The names that begin with the longest name in front of a cursor, and where that stands, in Unicode code points.
 #[derive(Debug, Drop)]
 pub struct Completion {
-    /// Declared names and reserved words, each once, in the order of their octets.
+    /// Declared names, names of procedures and reserved words, each once, in the order of their octets.
     pub matches: Vec<String>,
     pub start: usize,
     pub end: usize,
@@ -33,7 +33,7 @@ pub struct Completion {
 #[derive(Debug, Drop)]
 pub enum Content {
     Completion(Completion),
-    /// The value text of the name, if it is declared.
+    /// The value text of the name, if it is declared, and the text of its procedure, if it has one, parted by LF.
     Inspection(Option<String>),
     Completeness(Completeness),
     /// The inputs, in rising order.

@@ -4,7 +4,7 @@ ghost use Rattle.std.specs.Str.{chars};
 ghost use Rattle.kernel_core.specs.State.{Idle, here};
 ghost use Rattle.kernel_ask.specs.Cursor.{word_at};
 ghost use Rattle.kernel_ask.specs.Completion.{IsCompletion};
-ghost use Rattle.kernel_ask.specs.Inspection.{IsInspection};
+ghost use Rattle.kernel_ask.specs.Inspection.{inspection};
 ghost use Rattle.kernel_ask.specs.History.{inputs, told, input_of};
 ghost use Rattle.kernel_ask.specs.Evaluation.{IsEvaluated, AreValuesAfter};
 ghost use Rattle.kernel_ask.specs.Shown.{IsShownAfter};
@@ -43,15 +43,15 @@ pub fn complete<L: Ledger>(
     completion_of(alloc, world.store(), &procedures, code, cursor)
 }
 
-/// The value text of the declared name that touches a cursor and the print of its procedure, if it has them, parted by LF. Places count as in [`complete`]. The only error is
-/// want of memory.
+/// The value text of the declared name that touches a cursor and the text of its procedure, if it has them, parted by LF. Places count
+/// as in [`complete`]. The only error is want of memory.
 pub fn inspect<L: Ledger>(
     alloc: Global,
     kernel: &Kernel<L>,
     code: &str,
     cursor: Option<u64>,
 ) -> Result<Option<String>, AllocError>
-    ensures { IfOk result (λ text. OfShown kernel.now.machine (λ w. IsInspection w (word_at cursor (chars code.now)) text)) }
+    ensures { IfOk result (λ text. OfShown kernel.now.machine (λ w. option_map string_bytes text ≡ inspection w (word_at cursor (chars code.now)))) }
 {
     let world = kernel.world();
     let procedures = world.procedures(alloc)?;

@@ -3,15 +3,14 @@ ghost use Rattle.std.specs.Prelude.{◌≡◌, option_map, string_bytes, IfOk};
 ghost use Rattle.std.specs.Str.{chars};
 ghost use Rattle.janus_meaning.specs.Store.{look, find};
 ghost use Rattle.kernel_ask.specs.Cursor.{word_at as word_at_of};
-ghost use Rattle.kernel_ask.specs.Inspection.{value_told, IsProcedureTold, both_told, IsInspection};
+ghost use Rattle.kernel_ask.specs.Inspection.{value_told, procedure_told, both_told, inspection};
 ghost use Rattle.kernel_core.specs.Defined.{in_a_row};
 ghost use Rattle.janus_store.specs.Held.{shown_store};
 
 use crate::cursor::word_at;
 use janus_store::Store;
-use janus_syntax::print_procedure;
 use janus_syntax::tree::Procedure;
-use kernel_text::{newest_of, value_text};
+use kernel_text::{newest_of, procedure_text, value_text};
 use std::alloc::{AllocError, Global};
 use std::sync::ledger::Ledger;
 
@@ -32,17 +31,17 @@ fn value_of<L: Ledger>(
     }
 }
 
-/// The print of the procedure of a name, if there is one.
+/// The text of the procedure of a name, if there is one.
 fn print_of(
     alloc: Global,
     procedures: &[&Procedure],
     name: &str,
 ) -> Result<Option<String>, AllocError>
-    ensures { IfOk result (λ text. IsProcedureTold (find name.now (in_a_row procedures.now)) (option_map string_bytes text)) }
+    ensures { IfOk result (λ text. option_map string_bytes text ≡ procedure_told (find name.now (in_a_row procedures.now))) }
 {
     match newest_of(procedures, name) {
         Some(procedure) => {
-            let text = print_procedure(alloc, procedure)?;
+            let text = procedure_text(alloc, procedure)?;
             Ok(Some(text))
         }
         None => Ok(None),
@@ -65,7 +64,7 @@ fn both(first: Option<String>, second: Option<String>) -> Result<Option<String>,
     }
 }
 
-/// What is known of the name that touches the cursor: its value text if it is declared, and the print of its procedure if it has one.
+/// What is known of the name that touches the cursor: its value text if it is declared, and the text of its procedure if it has one.
 pub(crate) fn inspection_of<L: Ledger>(
     alloc: Global,
     store: &Store<L>,
@@ -73,7 +72,8 @@ pub(crate) fn inspection_of<L: Ledger>(
     code: &str,
     cursor: Option<u64>,
 ) -> Result<Option<String>, AllocError>
-    ensures { IfOk result (IsInspection (record { store = shown_store store.now; procedures = in_a_row procedures.now }) (word_at_of cursor (chars code.now))) }
+    ensures { IfOk result (λ text. option_map string_bytes text
+        ≡ inspection (record { store = shown_store store.now; procedures = in_a_row procedures.now }) (word_at_of cursor (chars code.now))) }
 {
     let word = word_at(alloc, code, cursor)?;
     let value = value_of(alloc, store, word.as_str())?;

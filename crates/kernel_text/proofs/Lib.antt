@@ -2,3 +2,5 @@ pub mod Sending
 pub mod Numbers
 mod Utf8
 pub mod Newest
+pub mod ClosedLemmas
+pub mod OnePrint

@@ -3,3 +3,6 @@ pub mod Lines
 pub mod ValueTexts
 -- procedures
 pub mod Procedures
+pub mod Closed
+pub mod ProcedureTexts
+pub mod Laws

@@ -1,12 +1,15 @@
 //! The texts in which a kernel's user reads what came of a job, and what names are worth: lines of outcomes, faults and refusals,
-//! and value texts.
+//! value texts, and the texts of procedures.
 //!
 //! Each goes to any writer, a beginning of it where the writer fails (`send_outcome`, `send_post_fault`, `send_value`), or is made
-//! as a text of its own, which is UTF-8 (`outcome_line`, `post_fault_line`, `fault_line`, `refusal_line`, `value_text`). A line stands without its LF.
+//! as a text of its own, which is UTF-8 (`outcome_line`, `post_fault_line`, `fault_line`, `refusal_line`, `value_text`, `procedure_text`). A line
+//! stands without its LF.
 //! Programs that write lines and messages that tell errors say the same words, since both take them from here (specs/: `Lines`,
-//! `ValueTexts`).
+//! `ValueTexts`, `ProcedureTexts`). [`laws`] says that a procedure has one text, however its tree is placed.
 #![tactic(auto)]
 
+mod closed;
+pub mod laws;
 mod lines;
 mod procedures;
 mod text;
@@ -16,6 +19,6 @@ mod writing;
 pub use crate::lines::{
     fault_line, outcome_line, post_fault_line, refusal_line, send_outcome, send_post_fault,
 };
-pub use crate::procedures::newest_of;
+pub use crate::procedures::{newest_of, procedure_text};
 pub use crate::values::{SHOWN_VALUES, send_value, value_text};
 pub use crate::writing::{WriteFailed, send, send_counted};

@@ -1,8 +1,8 @@
 use Rattle.std.proofs.Common.{ap, ◌∙◌}
 use Rattle.janus_syntax.specs.Tree.{procedure_of, name_view, parameters_view, block_view}
-use Rattle.cells_program.specs.Closed.{closed_block}
-use Rattle.cells_program.proofs.ClosedLemmas.{name_copied}
-use Rattle.cells_program.proofs.closed.closed.Goals as goal
+use Rattle.kernel_text.specs.Closed.{closed_block}
+use Rattle.kernel_text.proofs.ClosedLemmas.{name_copied}
+use Rattle.kernel_text.proofs.closed.closed.Goals as goal
 
 pub returns : goal.returns
 returns c =

@@ -1,8 +1,8 @@
 use Rattle.std.proofs.Common.{ap, ◌∙◌, sym}
 use Rattle.janus_syntax.specs.Tree.{stm_view, block_view}
-use Rattle.cells_program.specs.Closed.{closed_stm, closed_block}
-use Rattle.cells_program.proofs.ClosedLemmas.{one_more, if_closed, loop_closed, local_int_closed, local_stack_closed, name_copied}
-use Rattle.cells_program.proofs.closed.+closing.Goals as goal
+use Rattle.kernel_text.specs.Closed.{closed_stm, closed_block}
+use Rattle.kernel_text.proofs.ClosedLemmas.{one_more, if_closed, loop_closed, local_int_closed, local_stack_closed, name_copied}
+use Rattle.kernel_text.proofs.closed.+closing.Goals as goal
 
 pub closed_statement-returns-in_ok-copy-in-If : goal.closed_statement-returns-in_ok-copy-in-If
 closed_statement-returns-in_ok-copy-in-If t c =

@@ -4,7 +4,7 @@
 //! name at both ends.
 ghost use Rattle.std.specs.Prelude.{◌≡◌, IfOk};
 ghost use Rattle.janus_syntax.specs.Tree.{block_view, names_view, parameter_view, parameters_view, procedure_view, stm_view};
-ghost use Rattle.cells_program.specs.Closed.{closed_block, closed_procedure, closed_stm};
+ghost use Rattle.kernel_text.specs.Closed.{closed_block, closed_procedure, closed_stm};
 
 use janus_syntax::tree::{Name, Parameter, Procedure, Stm};
 use std::alloc::{AllocError, Global};
