@@ -29,10 +29,10 @@ fn refused_messages_bring_nothing(rt: HostRuntime) {
 /// Behind the question the request to execute, and the question once more.
 fn execution_between_questions(rt: &impl Abort, alloc: Global) -> Vec<u8> {
     let mut octets = QUESTION.to_vec(alloc).expect(rt, "a question");
-    for more in [EXECUTION, QUESTION] {
-        let message = &more[ROUTER.len()..];
-        octets.extend_from_slice(message).expect(rt, "a message");
-    }
+    let execution = &EXECUTION[ROUTER.len()..];
+    octets.extend_from_slice(execution).expect(rt, "a request");
+    let question = &QUESTION[ROUTER.len()..];
+    octets.extend_from_slice(question).expect(rt, "a question");
     octets
 }
 
