@@ -90,16 +90,24 @@ fn skip_to(rt: &impl Abort, subscriber: &mut Frontend, topic: &str) {
     }
 }
 
+/// Takes in what a subscriber to the status hears, until nothing more comes: it is the status alone.
+fn hear_out(rt: &impl Abort, subscriber: &mut Frontend) {
+    for _ in 0..u64::MAX {
+        let Some(frames) = subscriber.next_frames(rt) else {
+            return;
+        };
+        assert!(rt; !frames.is_empty());
+        assert_eq!(rt; frames[0].as_slice(), b"status".as_slice());
+    }
+}
+
 /// A cell is answered with its user expression, and each subscriber hears of it what it subscribed to.
 fn run_cell(rt: &impl Abort, company: &mut Company) {
     company.shell.check(rt, "execute_request", CELL, ENDED);
     skip_to(rt, &mut company.all, "execute_input");
     check_topic(rt, &mut company.all, "execute_result");
     check_topic(rt, &mut company.all, "status");
-    while let Some(frames) = company.status.next_frames(rt) {
-        assert!(rt; !frames.is_empty());
-        assert_eq!(rt; frames[0].as_slice(), b"status".as_slice());
-    }
+    hear_out(rt, &mut company.status);
 }
 
 /// A comm that is opened is told, and one that was closed isn't.

@@ -104,8 +104,8 @@ fn a_console_without_a_kernel_gives_up(rt: HostRuntime) {
     remove(&rt, &site.path);
 }
 
-/// Runs a kernel on these ports, the one at this place being taken, which it tells.
-fn check_taken<R>(rt: &R, alloc: Global, ports: [u16; 5], at: usize, field: &str)
+/// Runs a kernel on these ports, one of which is taken, of which it tells this field.
+fn check_taken<R>(rt: &R, alloc: Global, ports: [u16; 5], port: u16, field: &str)
 where
     R: Net<Listener = TcpListener, Stream = TcpStream>
         + Files
@@ -116,7 +116,7 @@ where
         + Abort
         + Sync,
 {
-    let taken = TcpListener::bind(rt, ("127.0.0.1", ports[at])).expect(rt, "a listener");
+    let taken = TcpListener::bind(rt, ("127.0.0.1", port)).expect(rt, "a listener");
     write_file(rt, "taken.json", &connection_text(rt, alloc, ports, ""));
     let ran = kernel(rt, alloc, "taken.json");
     drop(taken);
@@ -127,8 +127,9 @@ where
 #[test]
 fn a_port_that_is_taken_is_told(rt: HostRuntime) {
     let alloc = rt.alloc();
-    for at in 0..PORTS.len() {
-        check_taken(&rt, alloc, free_ports(&rt), at, PORTS[at]);
+    for at in 0..5 {
+        let ports = free_ports(&rt);
+        check_taken(&rt, alloc, ports, ports[at], PORTS[at]);
     }
     remove(&rt, "taken.json");
 }
