@@ -3,7 +3,7 @@ ghost use Rattle.std.specs.Prelude.{◌≡◌, ◌≢◌, string_bytes, IfOk, If
 ghost use Rattle.console_talk.specs.Faults.{status_of as fault_status};
 ghost use Rattle.console_talk.specs.Lines.{status_of as told_status};
 ghost use Rattle.console_words.specs.Refusals.{status_of as refusal_status};
-ghost use Rattle.console_program.specs.Sending.{SentSome};
+ghost use Rattle.exact_write.specs.Sent.{SentSome};
 
 use crate::frontend::{Frontend, subscribe};
 use crate::output::print;

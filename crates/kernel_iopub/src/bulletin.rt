@@ -1,7 +1,5 @@
 //! The broadcasts of a kernel, and who waits for more.
 ghost use Rattle.std.specs.Prelude.{IfOk};
-ghost use Rattle.std.specs.Bool.{OnTrue, OnFalse};
-ghost use Rattle.zmtp_wire.specs.Message.{IsWithinLimits, bodies_of};
 ghost use Rattle.kernel_board.specs.Log.{Log, IsLog};
 ghost use Rattle.kernel_board.specs.Reads.{IsRead};
 
@@ -9,30 +7,7 @@ use crate::signal::Signal;
 use kernel_board::{Board, BoardFault, Broadcast, Place, Read};
 use std::alloc::{AllocError, Global};
 use std::sync::Wait;
-
-/// So many frames a message has at most that is taken by a reader, and so many octets in all of them (`zmtp_wire`).
-const FRAMES: usize = 1024;
-
-const OCTETS: usize = 16_777_216;
-
-/// Whether a reader takes a message of these frames.
-fn is_within_limits(frames: &[Vec<u8>]) -> bool
-    ensures within { OnTrue result (IsWithinLimits (bodies_of frames.now)) }
-    ensures past { OnFalse result (¬ (IsWithinLimits (bodies_of frames.now))) }
-{
-    if frames.len() > FRAMES {
-        return false;
-    }
-    let mut size = 0;
-    for frame in frames {
-        let more = frame.len();
-        if more > OCTETS - size {
-            return false;
-        }
-        size += more;
-    }
-    true
-}
+use zmtp_wire::is_within_limits;
 
 /// The board, and the count that rises with each broadcast.
 #[derive(Drop)]

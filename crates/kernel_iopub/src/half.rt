@@ -3,7 +3,8 @@ ghost use Rattle.std.specs.Prelude.{ℕ, List, Option, IfOk, OnOk, OnErr};
 ghost use Rattle.std.specs.List.{flat_map};
 ghost use Rattle.std.specs.Io.KnownBytes.{Appends};
 ghost use Rattle.zmtp_wire.specs.Message.{message_octets};
-ghost use Rattle.kernel_iopub.specs.Round.{SentSome, IsSent, IsSentInPart, AreSentTo, IsServed, IsServedInPart};
+ghost use Rattle.exact_write.specs.Sent.{SentSome};
+ghost use Rattle.kernel_iopub.specs.Round.{IsSent, IsSentInPart, AreSentTo, IsServed, IsServedInPart};
 
 use crate::bulletin::Bulletin;
 use crate::fault::SubscriberFault;

@@ -2,8 +2,8 @@
 use crate::bulletin::Bulletin;
 use crate::fault::SubscriberFault;
 use crate::half::{hear, speak};
-use crate::send::send;
 use crate::subscriber::Subscriber;
+use exact_write::send;
 use std::alloc::Global;
 use std::io::{Read, Write};
 use std::marker::Send;
@@ -45,7 +45,10 @@ pub fn serve_subscriber<R: Threads + Wait + Sync, I: Read, W: Write + HangUp + S
     mut writer: W,
 ) -> Result<(), SubscriberFault> {
     let subscriber = Subscriber::new(alloc);
-    send(&mut writer, &subscriber.opening()?)?;
+    let opening = subscriber.opening()?;
+    if send(&mut writer, &opening).is_err() {
+        return Err(SubscriberFault::Write);
+    }
     let shared = Mutex::new(subscriber);
     let shared_by = &shared;
     thread::scope(thread::scope_env(), rt, |scope| {

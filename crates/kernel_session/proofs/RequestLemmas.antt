@@ -12,7 +12,8 @@ use Rattle.kernel_session.specs.declared.talk.Told.{Told}
 use Rattle.kernel_session.specs.declared.flow.Flow.{Flow}
 use Rattle.kernel_session.specs.declared.flow.Flow.TheVariants.{Starved, Worn}
 use Rattle.kernel_session.specs.Call.{Call, Published, Dated, Leads}
-use Rattle.kernel_session.specs.Action.{Action, Sent as SentOctet, Called, Acts, IsStartOf, SentSome, sends, asks}
+use Rattle.exact_write.specs.Sent.{SentSome}
+use Rattle.kernel_session.specs.Action.{Action, Sent as SentOctet, Called, Acts, IsStartOf, sends, asks}
 use Rattle.kernel_session.specs.Talk.{Heard, IsHeld, talk, says_of}
 use Rattle.kernel_session.specs.Session.{State, IsServed, IsWorn, opened, asking, busy_frames, reply_octets, answered, outgoing, stamp_behind, flow_behind, state_behind, ends_with, served, last_next}
 use Rattle.kernel_session.specs.Parts.{LedPart, ActedPart, IsBegun, IsDatedAlone, IsTakenUp, IsTakenUpPart}

@@ -18,9 +18,8 @@ use jupyter_msg::{
     CommAsk, CommMessage, CommOpen, CompleteRequest, ExecuteRequest, HistoryAccess, HistoryRequest,
     InspectRequest, IsCompleteRequest, RequestContent, UserExpression,
 };
-use kernel_ask::{Answer, Ask, Content, Done, HallFault, HistoryAsk, Wish};
+use kernel_ask::{Answer, Ask, CommChange, Content, Done, HallFault, HistoryAsk, Wish};
 use kernel_core::{Job, PostFault};
-use kernel_hall::CommChange;
 use kernel_reply::COMM_TARGET;
 use std::alloc::{AllocError, Global};
 

@@ -5,7 +5,8 @@ use Rattle.zmtp_peer.specs.declared.role.Role.{Role}
 use Rattle.zmtp_peer.specs.Opening.{opening_of}
 use Rattle.zmtp_peer.specs.Reading.{ending_of}
 use Rattle.kernel_session.specs.declared.flow.Flow.TheVariants.{Going, Closed, Worn, Starved}
-use Rattle.kernel_session.specs.Action.{Sent, SentSome, sends}
+use Rattle.exact_write.specs.Sent.{SentSome}
+use Rattle.kernel_session.specs.Action.{Sent, sends}
 use Rattle.kernel_session.specs.Session.{going, role_of}
 use Rattle.kernel_session.proofs.ActsLemmas.{consumes_none, consumes_join, acts_sends}
 use Rattle.kernel_session.proofs.SessionLemmas.{whole_none, cut_none}

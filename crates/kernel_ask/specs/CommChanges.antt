@@ -3,8 +3,8 @@ use Rattle.std.specs.Prelude.{◌≡◌, ℕ, Bool, List, Result, Ok, Err, strin
 use Rattle.kernel_ask.specs.Comms.{is_open, can_open, opened, without_id}
 use Rattle.kernel_ask.specs.declared.answer.HallFault.{HallFault}
 use Rattle.kernel_ask.specs.declared.answer.HallFault.TheVariants.{Memory}
-use Rattle.kernel_hall.specs.declared.comm.CommChange.{CommChange}
-use Rattle.kernel_hall.specs.declared.comm.CommChange.TheVariants.{Open, Close}
+use Rattle.kernel_ask.specs.declared.comm_change.CommChange.{CommChange}
+use Rattle.kernel_ask.specs.declared.comm_change.CommChange.TheVariants.{Open, Close}
 
 -- a comm is opened if it can be, and closed if it is open; a refusal is want of memory for an opening, and changes nothing
 abbrev pub IsChange : List (List ℕ) → CommChange → Result Bool HallFault → List (List ℕ) → Type 0

@@ -1,7 +1,7 @@
 use Rattle.std.proofs.Common.{◌+◌, arith}
 use Rattle.std.proofs.lemmas.List.{length-drop}
-use Rattle.kernel_session.proofs.ActsLemmas.{appends_more, appends_kept, sent_some}
-use Rattle.kernel_session.proofs.send.send.Goals as goal
+use Rattle.exact_write.proofs.SendLemmas.{appends_more, appends_kept, sent_some}
+use Rattle.exact_write.proofs.send.Goals as goal
 
 pub returns-in-Ok-eq0-clause-err : goal.returns-in-Ok-eq0-clause-err
 returns-in-Ok-eq0-clause-err g c =

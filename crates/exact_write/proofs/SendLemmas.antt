@@ -2,10 +2,9 @@
 use Rattle.std.proofs.Common.{◌≡◌, ℕ, List, [], ◌++◌, Option, Some, None, sym, ap, ◌∙◌, subst, append_assoc, append-nil, ◌+◌, take, drop, length, ◌-◌}
 use Rattle.std.proofs.Math.Seq.{take-add}
 use Rattle.std.specs.Prelude.{Result, Ok, Err, OnOk, OnErr}
-use Rattle.std.specs.Option.{unwrap_or}
 use Rattle.std.specs.Io.KnownBytes.{Appends, Keeps}
 use Rattle.std.proofs.lemmas.List.{take-append-drop, take_rest}
-use Rattle.kernel_text.specs.Sending.{SentSome}
+use Rattle.exact_write.specs.Sent.{SentSome}
 
 pub appends_none : (a : Option (List ℕ)) → Appends a a []
 appends_none None = tt
@@ -61,6 +60,3 @@ some_first a b xs ys zs (Err f) e p = subst (SentSome a b) (sym e) (sent_first a
 pub some_now : {E : Type 0} (a b : Option (List ℕ)) (xs : List ℕ) (r : Result (Unit {0}) E) → SentSome a b xs → OnErr r (SentSome a b xs)
 some_now a b xs (Ok x) p = tt
 some_now a b xs (Err f) p = p
-
-pub Some_inj : {A : Type 0} {x y : A} → Some x ≡ Some y → x ≡ y
-Some_inj {x = x} h = ap (λ o. unwrap_or o x) h

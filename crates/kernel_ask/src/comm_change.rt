@@ -1,7 +1,8 @@
 //! Changes of the open comms.
-ghost use Rattle.kernel_hall.specs.Changes.{IsChange};
+ghost use Rattle.kernel_ask.specs.CommChanges.{IsChange};
 
-use kernel_ask::{Comms, HallFault};
+use crate::answer::HallFault;
+use crate::comms::Comms;
 
 /// A change of the open comms, by the id of one.
 #[derive(Drop)]
