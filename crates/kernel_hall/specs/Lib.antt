@@ -1,3 +1,3 @@
 pub mod Turns
-pub mod Extras
+pub mod PendingResults
 pub mod LastEnds

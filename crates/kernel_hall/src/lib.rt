@@ -7,7 +7,7 @@
 #![tactic(auto)]
 
 mod ends;
-mod extra;
+mod pending_result;
 mod hall;
 mod minutes;
 mod passes;
@@ -16,7 +16,7 @@ mod state;
 mod turn;
 mod worker;
 
-pub use extra::Extra;
+pub use pending_result::PendingResult;
 pub use hall::Hall;
 pub use kernel_ask::{Answer, Ask, CommChange, Comms, Done, HallFault, Wish, ask_on, comm_on};
 pub use kernel_audit::{AuditFault, Pass, Ticket, audit};

@@ -3,7 +3,7 @@ ghost use Rattle.std.specs.Prelude.{IfOk};
 ghost use Rattle.kernel_board.specs.Log.{Log, IsLog};
 ghost use Rattle.kernel_board.specs.Reads.{IsRead};
 
-use crate::signal::Signal;
+use crate::event_count::EventCount;
 use kernel_board::{Board, BoardFault, Broadcast, Place, Read};
 use std::alloc::{AllocError, Global};
 use std::sync::Wait;
@@ -13,7 +13,7 @@ use zmtp_wire::is_within_limits;
 #[derive(Drop)]
 pub struct Bulletin {
     board: Board,
-    signal: Signal,
+    event_count: EventCount,
 }
 
 impl Bulletin {
@@ -26,7 +26,7 @@ impl Bulletin {
         let board = Board::new(alloc)?;
         Ok(Bulletin {
             board,
-            signal: Signal::new(),
+            event_count: EventCount::new(),
         })
     }
 
@@ -37,7 +37,7 @@ impl Bulletin {
             return;
         }
         let _number = self.board.publish(rt, broadcast);
-        self.signal.raise(rt);
+        self.event_count.raise(rt);
     }
 
     /// The place after the last broadcast: the end of the log as it is under the board's lock.
@@ -57,7 +57,7 @@ impl Bulletin {
     }
 
     /// The count that rises with each broadcast, and whenever else there is something to look at.
-    pub fn signal(&self) -> &Signal {
-        &self.signal
+    pub fn event_count(&self) -> &EventCount {
+        &self.event_count
     }
 }

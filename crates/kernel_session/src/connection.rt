@@ -240,7 +240,7 @@ pub fn serve<R: Read, W: Write, D: Desk>(
             Ok(Flow::Going) => {}
             Ok(Flow::Closed) => return Ok(()),
             Ok(Flow::Worn) => return Err(ServeFault::Read),
-            Ok(Flow::Starved) => return Err(ServeFault::Memory),
+            Ok(Flow::OutOfMemory) => return Err(ServeFault::Memory),
             Err(fault) => return Err(fault),
         }
         if count == 0 {

@@ -1,5 +1,5 @@
-use Rattle.kernel_hall.proofs.Extras.{numbered, unnumbered}
-use Rattle.kernel_hall.proofs.extra.last_number.Goals as goal
+use Rattle.kernel_hall.proofs.PendingResults.{numbered, unnumbered}
+use Rattle.kernel_hall.proofs.pending_result.last_number.Goals as goal
 
 pub returns-in-Some : goal.returns-in-Some
 returns-in-Some c = numbered _ _ c.in-Some.ensures.some

@@ -7,12 +7,12 @@ use Rattle.kernel_core.specs.declared.outcome.Sliced.{Sliced}
 use Rattle.kernel_core.specs.declared.outcome.Sliced.TheVariants as sliced
 use Rattle.kernel_ask.specs.declared.done.Done.{Done}
 use Rattle.kernel_ask.specs.declared.done.Wish.{Wish}
-use Rattle.kernel_hall.specs.declared.extra.Extra.{Extra}
+use Rattle.kernel_hall.specs.declared.pending_result.PendingResult.{PendingResult}
 use Rattle.kernel_hall.specs.declared.turn.Turn.{Turn}
 use Rattle.kernel_hall.specs.declared.turn.Turn.TheVariants.{Cut, Began, Worn}
 
 -- of a post at this place of the minutes, with these wishes, which has not ended; nothing was made yet
-pub record IsNewExtra (place : ℕ) (given : List Wish) (e : Extra) : Type 0 where
+pub record IsNewPending (place : ℕ) (given : List Wish) (e : PendingResult) : Type 0 where
   pub posted : e.posted ≡ place
   pub ended : e.ended ≡ None
   pub wishes : e.wishes.items ≡ given
@@ -20,9 +20,9 @@ pub record IsNewExtra (place : ℕ) (given : List Wish) (e : Extra) : Type 0 whe
   pub values : e.values.items ≡ []
 
 -- what is told of this number has the shown text and the values that were kept for it, of which nothing is kept any more; all else is as it was
-pub record IsTold (old : List Extra) (n : ℕ) (d : Done) (new : List Extra) : Type 0 where
-  pub kept : Extra
-  pub left : Extra
+pub record IsTold (old : List PendingResult) (n : ℕ) (d : Done) (new : List PendingResult) : Type 0 where
+  pub kept : PendingResult
+  pub left : PendingResult
   pub there : slice_get old (n - 1) ≡ Some kept
   pub shown : d.shown ≡ kept.shown
   pub values : d.values ≡ kept.values
@@ -34,28 +34,28 @@ pub record IsTold (old : List Extra) (n : ℕ) (d : Done) (new : List Extra) : T
   pub others : new ≡ slice_set old (n - 1) left
 
 -- the job has ended at this place of the minutes, and its wishes are spent
-pub record IsSettled (old : Extra) (place : ℕ) (new : Extra) : Type 0 where
+pub record IsSettled (old : PendingResult) (place : ℕ) (new : PendingResult) : Type 0 where
   pub posted : new.posted ≡ old.posted
   pub ended : new.ended ≡ Some place
   pub wishes : new.wishes.items ≡ []
 
 -- the one at this index, if there is one, is settled at this place, and all others are as they were
-pub record Settles (old : List Extra) (index place : ℕ) (new : List Extra) : Type 0 where
-  pub within : (e : Extra) → slice_get old index ≡ Some e → (left : Extra) × (new ≡ slice_set old index left) × IsSettled e place left
+pub record Settles (old : List PendingResult) (index place : ℕ) (new : List PendingResult) : Type 0 where
+  pub within : (e : PendingResult) → slice_get old index ≡ Some e → (left : PendingResult) × (new ≡ slice_set old index left) × IsSettled e place left
   pub beyond : length old ≤ index → new ≡ old
 
 -- the jobs are numbered from 1
-abbrev pub SettlesNumber : ℕ → List Extra → ℕ → List Extra → Type 0
+abbrev pub SettlesNumber : ℕ → List PendingResult → ℕ → List PendingResult → Type 0
 SettlesNumber zero old place new = new ≡ old
 SettlesNumber (suc index) old place new = Settles old index place new
 
-abbrev pub SettlesEntry : Option Entry → List Extra → ℕ → List Extra → Type 0
+abbrev pub SettlesEntry : Option Entry → List PendingResult → ℕ → List PendingResult → Type 0
 SettlesEntry None old place new = new ≡ old
 SettlesEntry (Some (Posted lane job)) old place new = new ≡ old
 SettlesEntry (Some (Ended number o count node)) old place new = SettlesNumber number old place new
 
 -- the job whose end stands last in the minutes is settled there, and all others are as they were
-abbrev pub SettlesLast : List Entry → List Extra → List Extra → Type 0
+abbrev pub SettlesLast : List Entry → List PendingResult → List PendingResult → Type 0
 SettlesLast entries old new = SettlesEntry (slice_get entries (length entries - 1)) old (length entries - 1) new
 
 -- whether a turn ended a job

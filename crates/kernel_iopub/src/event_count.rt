@@ -3,15 +3,15 @@ use std::sync::{Condvar, Mutex, Wait};
 
 /// A count that rises whenever there is something to look at.
 #[derive(Drop)]
-pub struct Signal {
+pub struct EventCount {
     count: Mutex<u64>,
     risen: Condvar,
 }
 
-impl Signal {
+impl EventCount {
     /// A count that hasn't risen. It takes no memory.
-    pub fn new() -> Signal {
-        Signal {
+    pub fn new() -> EventCount {
+        EventCount {
             count: Mutex::new(0),
             risen: Condvar::new(),
         }

@@ -22,7 +22,7 @@ use Rattle.kernel_session.specs.Call.{Call, Posted, Asked, Changed, Rang, Shut, 
 use Rattle.stamp_texts.specs.Date.{HasDate, IsDateText}
 
 -- the pass, the ringer's seat, the number of the next broadcast that it reads, and whether a shutdown came
-pub record Visitor : Type 0 where
+pub record DeskState : Type 0 where
   pub pass : PassOf
   pub seat : RingerOf
   pub place : ℕ
@@ -52,13 +52,13 @@ IsDate date = (instant : ℤ) × HasDate instant × IsDateText instant date
 
 -- A job that was posted is counted by the pass, and its end stands in the minutes of a legal kernel. A refused one changes nothing, and is refused by a legal
 -- kernel.
-abbrev pub IsPosted : Visitor → Result Done PostFault → Visitor → Type 0
+abbrev pub IsPosted : DeskState → Result Done PostFault → DeskState → Type 0
 IsPosted old (Ok done) new =
     ((k : Machine) × IsLegalMachine k × HasEnd k.minutes done) × (new ≡ record old { pass = pass_of old.pass.lane (old.pass.posts + 1) })
 IsPosted old (Err fault) new = ((k : Machine) × IsLegalMachine k × IsRefusal k fault) × (new ≡ old)
 
 -- a question is answered of a legal kernel with at least as many minutes as the pass has posts; a refusal is want of memory
-abbrev pub IsAnswered : Visitor → Question → Result Answer HallFault → Type 0
+abbrev pub IsAnswered : DeskState → Question → Result Answer HallFault → Type 0
 IsAnswered old q (Ok answer) =
     (asked : Ask) × (question_of asked ≡ q) × (k : Machine) × (comms : List (List ℕ)) × IsLegalMachine k × (old.pass.posts ≤ length k.minutes)
     × IsAnswer k comms asked answer
@@ -77,12 +77,12 @@ pub record IsRung (old new : RingerOf) : Type 0 where
   pub within : IsNeverLater new.knows
 
 -- THE DESK BEFORE A HALL: what each call may answer, and what the desk holds after it. The date set is that of some instant, or the one before.
-abbrev pub visitor_leads : Visitor → Call → Visitor → Type 0
-visitor_leads old (Posted job wishes told) new = IsPosted old told new
-visitor_leads old (Asked q told) new = IsAnswered old q told × (new ≡ old)
-visitor_leads old (Changed change told) new = IsChanged told × (new ≡ old)
-visitor_leads old Rang new = (seat : RingerOf) × IsRung old.seat seat × (new ≡ record old { seat = seat })
-visitor_leads old Shut new = new ≡ record old { was_shut = true }
-visitor_leads old (Published b) new = new ≡ old
-visitor_leads old (Kept bs) new = (place : ℕ) × AreRead old.place bs place × (new ≡ record old { place = place })
-visitor_leads old (Dated before after) new = (IsDate after ⊎ (after ≡ before)) × (new ≡ old)
+abbrev pub hall_desk_leads : DeskState → Call → DeskState → Type 0
+hall_desk_leads old (Posted job wishes told) new = IsPosted old told new
+hall_desk_leads old (Asked q told) new = IsAnswered old q told × (new ≡ old)
+hall_desk_leads old (Changed change told) new = IsChanged told × (new ≡ old)
+hall_desk_leads old Rang new = (seat : RingerOf) × IsRung old.seat seat × (new ≡ record old { seat = seat })
+hall_desk_leads old Shut new = new ≡ record old { was_shut = true }
+hall_desk_leads old (Published b) new = new ≡ old
+hall_desk_leads old (Kept bs) new = (place : ℕ) × AreRead old.place bs place × (new ≡ record old { place = place })
+hall_desk_leads old (Dated before after) new = (IsDate after ⊎ (after ≡ before)) × (new ≡ old)

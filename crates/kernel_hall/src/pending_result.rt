@@ -3,7 +3,7 @@ ghost use Rattle.std.specs.Prelude.{◌≡◌, ◌-◌, [], IfSome, IfNone, IfOk
 ghost use Rattle.kernel_core.specs.State.{Idle};
 ghost use Rattle.kernel_core.specs.Written.{entry_of};
 ghost use Rattle.kernel_audit.specs.Ends.{HasEnd};
-ghost use Rattle.kernel_hall.specs.Extras.{IsNewExtra, IsTold, IsSettled, SettlesLast};
+ghost use Rattle.kernel_hall.specs.PendingResults.{IsNewPending, IsTold, IsSettled, SettlesLast};
 ghost use Rattle.kernel_hall.specs.LastEnds.{IsLastEnd, EndsNoNumber, last_of, number_in};
 
 use kernel_ask::{Done, NamedValue, Wish, evaluate, is_settled, shown_text, stands_at_end};
@@ -15,7 +15,7 @@ use std::sync::ledger::Ledger;
 /// What stands beside a post, with no fact kept of it: where the minutes have the post and its end, its wishes until it ends, and what
 /// was made as it ended until the first wait.
 #[derive(Drop)]
-pub struct Extra {
+pub struct PendingResult {
     posted: usize,
     ended: Option<usize>,
     wishes: Vec<Wish>,
@@ -23,13 +23,13 @@ pub struct Extra {
     values: Vec<NamedValue>,
 }
 
-impl Extra {
+impl PendingResult {
     /// For a post at this place of the minutes. The memory for the values is taken here: the only error is want of it.
-    pub(crate) fn new(alloc: Global, posted: usize, wishes: Vec<Wish>) -> Result<Extra, AllocError>
-        ensures { IfOk result (IsNewExtra posted wishes.items) }
+    pub(crate) fn new(alloc: Global, posted: usize, wishes: Vec<Wish>) -> Result<PendingResult, AllocError>
+        ensures { IfOk result (IsNewPending posted wishes.items) }
     {
         let values = Vec::with_capacity(alloc, wishes.len())?;
-        Ok(Extra {
+        Ok(PendingResult {
             posted,
             ended: None,
             wishes,
@@ -122,8 +122,8 @@ fn add_values<W: Ledger>(
 }
 
 /// Takes down the end that stands last in the minutes.
-pub(crate) fn settle_last<W: Ledger>(alloc: Global, kernel: &Kernel<W>, extras: &mut [Extra])
-    ensures { SettlesLast kernel.now.machine.minutes extras.old extras.new }
+pub(crate) fn settle_last<W: Ledger>(alloc: Global, kernel: &Kernel<W>, pending_results: &mut [PendingResult])
+    ensures { SettlesLast kernel.now.machine.minutes pending_results.old pending_results.new }
 {
     let Some(end) = last_end(kernel.minutes()) else {
         return;
@@ -134,12 +134,12 @@ pub(crate) fn settle_last<W: Ledger>(alloc: Global, kernel: &Kernel<W>, extras: 
         outcome,
         ..
     } = end;
-    if index < extras.len() {
-        extras[index].settle(alloc, kernel, place, &outcome);
+    if index < pending_results.len() {
+        pending_results[index].settle(alloc, kernel, place, &outcome);
     }
 }
 
-/// Of the end that stands last in the minutes: its number, where the extra of its post stands, its place, and what came of the job.
+/// Of the end that stands last in the minutes: its number, where the pending_result of its post stands, its place, and what came of the job.
 #[derive(Clone, Copy)]
 struct LastEnd {
     number: u64,
@@ -181,7 +181,7 @@ pub(crate) fn last_number(minutes: &[Entry]) -> u64
     }
 }
 
-/// Where the extra of a post stands.
+/// Where the pending_result of a post stands.
 fn index_of(number: u64) -> Option<usize>
     ensures some { IfSome result (λ index. number ≡ suc index) }
     ensures none { IfNone result (number ≡ 0) }
@@ -193,17 +193,17 @@ fn index_of(number: u64) -> Option<usize>
 pub(crate) fn fetch<W: Ledger>(
     alloc: Global,
     kernel: &Kernel<W>,
-    extras: &mut [Extra],
+    pending_results: &mut [PendingResult],
     number: u64,
 ) -> Option<Done>
     ensures number { IfSome result (λ d. d.number ≡ number) }
     ensures end { IfSome result (HasEnd kernel.now.machine.minutes) }
-    ensures told { IfSome result (λ d. IsTold extras.old number d extras.new) }
-    ensures none { IfNone result (extras.new ≡ extras.old) }
+    ensures told { IfSome result (λ d. IsTold pending_results.old number d pending_results.new) }
+    ensures none { IfNone result (pending_results.new ≡ pending_results.old) }
 {
     let index = index_of(number)?;
-    if index >= extras.len() {
+    if index >= pending_results.len() {
         return None;
     }
-    extras[index].done(alloc, kernel.minutes(), number)
+    pending_results[index].done(alloc, kernel.minutes(), number)
 }

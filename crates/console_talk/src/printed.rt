@@ -12,14 +12,14 @@ use thiserror::Error;
 
 /// What is printed of an answer, and whether all went well.
 #[derive(Debug, Drop, PartialEq, Eq)]
-pub struct Told {
+pub struct Printed {
     /// The lines, each with its LF.
     pub lines: String,
     /// Whether the kernel did what it was asked to do.
     pub is_well: bool,
 }
 
-impl Told {
+impl Printed {
     ghost use Rattle.console_talk.specs.Lines.{status_of};
 
     /// The status with which the program ends: 0 where all went well, else 1.
@@ -105,27 +105,27 @@ fn push_lines_in(text: &mut String, value: &Value, name: &str) -> Result<(), Ans
 }
 
 /// These lines, of an answer by which all went well.
-fn well(lines: String) -> Told
+fn well(lines: String) -> Printed
     ensures { told_of result ≡ table.well (string_bytes lines) }
 {
-    Told {
+    Printed {
         lines,
         is_well: true,
     }
 }
 
 /// These lines, of an answer by which the kernel did not do what it was asked to do.
-fn ill(lines: String) -> Told
+fn ill(lines: String) -> Printed
     ensures { told_of result ≡ table.ill (string_bytes lines) }
 {
-    Told {
+    Printed {
         lines,
         is_well: false,
     }
 }
 
 /// What is printed of an error reply.
-fn failed(alloc: Global, reply: &Value) -> Result<Told, AnswerFault>
+fn failed(alloc: Global, reply: &Value) -> Result<Printed, AnswerFault>
     ensures { Answers result (table.failed (view reply.now)) }
 {
     let Some(line) = text_in(reply, "evalue") else {
@@ -158,7 +158,7 @@ fn push_shown(text: &mut String, shown: Option<&Value>) -> Result<(), AllocError
 }
 
 /// What is printed of a cell that ran.
-fn ran(alloc: Global, reply: &Value, shown: Option<&Value>) -> Result<Told, AnswerFault>
+fn ran(alloc: Global, reply: &Value, shown: Option<&Value>) -> Result<Printed, AnswerFault>
     ensures { Answers result (table.ran (view reply.now) (option_map (λ v. view v.now) shown.entry)) }
 {
     let Some(count) = count_in(reply, "execution_count") else {
@@ -176,7 +176,7 @@ fn ran(alloc: Global, reply: &Value, shown: Option<&Value>) -> Result<Told, Answ
 ///
 /// # Errors
 /// `NoAnswer` where the reply's content is none of an `execute_reply`; `Memory`.
-pub fn run_told(alloc: Global, reply: &Value, shown: Option<&Value>) -> Result<Told, AnswerFault>
+pub fn run_told(alloc: Global, reply: &Value, shown: Option<&Value>) -> Result<Printed, AnswerFault>
     ensures { Answers result (table.run_told (view reply.now) (option_map (λ v. view v.now) shown.entry)) }
 {
     if is_word(reply, "status", "ok") {
@@ -187,7 +187,7 @@ pub fn run_told(alloc: Global, reply: &Value, shown: Option<&Value>) -> Result<T
 }
 
 /// What is printed of the names that fit.
-fn matches_told(alloc: Global, reply: &Value) -> Result<Told, AnswerFault>
+fn matches_told(alloc: Global, reply: &Value) -> Result<Printed, AnswerFault>
     ensures { Answers result (option_map table.well (table.with_lines_in (codes "matches") [] (view reply.now))) }
 {
     let mut lines = String::new(alloc);
@@ -199,7 +199,7 @@ fn matches_told(alloc: Global, reply: &Value) -> Result<Told, AnswerFault>
 ///
 /// # Errors
 /// `NoAnswer` where the content is none of a `complete_reply`; `Memory`.
-pub fn completion_told(alloc: Global, reply: &Value) -> Result<Told, AnswerFault>
+pub fn completion_told(alloc: Global, reply: &Value) -> Result<Printed, AnswerFault>
     ensures { Answers result (table.completion_told (view reply.now)) }
 {
     if is_word(reply, "status", "ok") {
@@ -221,7 +221,7 @@ fn end_text(said: &Value) -> &'static str
 }
 
 /// The line of so many cells, behind these words.
-fn cells_told(alloc: Global, words: &str, n: u64, ending: &str) -> Result<Told, AllocError>
+fn cells_told(alloc: Global, words: &str, n: u64, ending: &str) -> Result<Printed, AllocError>
     ensures { IfOk result (λ told. told_of told ≡ table.well (table.line (words.now ++ decimal n ++ ending.now))) }
 {
     let mut lines = String::from_str(alloc, words)?;
@@ -231,7 +231,7 @@ fn cells_told(alloc: Global, words: &str, n: u64, ending: &str) -> Result<Told, 
 }
 
 /// What is printed of an undo.
-fn undid(alloc: Global, said: &Value) -> Result<Told, AnswerFault>
+fn undid(alloc: Global, said: &Value) -> Result<Printed, AnswerFault>
     ensures { Answers result (table.undid (view said.now)) }
 {
     let Some(n) = count_in(said, "undone") else {
@@ -241,7 +241,7 @@ fn undid(alloc: Global, said: &Value) -> Result<Told, AnswerFault>
 }
 
 /// What is printed of a redo.
-fn redid(alloc: Global, said: &Value) -> Result<Told, AnswerFault>
+fn redid(alloc: Global, said: &Value) -> Result<Printed, AnswerFault>
     ensures { Answers result (table.redid (view said.now)) }
 {
     let Some(n) = count_in(said, "redone") else {
@@ -251,7 +251,7 @@ fn redid(alloc: Global, said: &Value) -> Result<Told, AnswerFault>
 }
 
 /// The line of a way up and down.
-fn way_told(alloc: Global, up: u64, down: u64, ending: &str) -> Result<Told, AllocError>
+fn way_told(alloc: Global, up: u64, down: u64, ending: &str) -> Result<Printed, AllocError>
     ensures { IfOk result (λ told. told_of told ≡ table.well (table.way_line up down ending.now)) }
 {
     let mut lines = String::from_str(alloc, "went ")?;
@@ -264,7 +264,7 @@ fn way_told(alloc: Global, up: u64, down: u64, ending: &str) -> Result<Told, All
 }
 
 /// What is printed of a goto.
-fn went(alloc: Global, said: &Value) -> Result<Told, AnswerFault>
+fn went(alloc: Global, said: &Value) -> Result<Printed, AnswerFault>
     ensures { Answers result (table.went (view said.now)) }
 {
     let Some(up) = count_in(said, "undone") else {
@@ -287,7 +287,7 @@ fn position_line(alloc: Global, node: u64) -> Result<String, AllocError>
 }
 
 /// What is printed of where the kernel stands.
-fn stands(alloc: Global, said: &Value) -> Result<Told, AnswerFault>
+fn stands(alloc: Global, said: &Value) -> Result<Printed, AnswerFault>
     ensures { Answers result (table.stands (view said.now)) }
 {
     let Some(node) = count_in(said, "node") else {
@@ -299,7 +299,7 @@ fn stands(alloc: Global, said: &Value) -> Result<Told, AnswerFault>
 }
 
 /// The line of a refusal.
-fn refusal_told(alloc: Global, number: u64, name: &str) -> Result<Told, AllocError>
+fn refusal_told(alloc: Global, number: u64, name: &str) -> Result<Printed, AllocError>
     ensures { IfOk result (λ told. told_of told ≡ table.ill (table.line (codes "refused " ++ decimal number ++ codes " " ++ name.now))) }
 {
     let mut lines = String::from_str(alloc, "refused ")?;
@@ -310,7 +310,7 @@ fn refusal_told(alloc: Global, number: u64, name: &str) -> Result<Told, AllocErr
 }
 
 /// What is printed of a refusal.
-fn refused(alloc: Global, said: &Value) -> Result<Told, AnswerFault>
+fn refused(alloc: Global, said: &Value) -> Result<Printed, AnswerFault>
     ensures { Answers result (table.refused (view said.now)) }
 {
     let Some(number) = count_in(said, "number") else {
@@ -323,7 +323,7 @@ fn refused(alloc: Global, said: &Value) -> Result<Told, AnswerFault>
 }
 
 /// What is printed of what was done, by its operation.
-fn done(alloc: Global, said: &Value) -> Result<Told, AnswerFault>
+fn done(alloc: Global, said: &Value) -> Result<Printed, AnswerFault>
     ensures { Answers result (table.done (view said.now)) }
 {
     if is_word(said, "op", "undo") {
@@ -342,7 +342,7 @@ fn done(alloc: Global, said: &Value) -> Result<Told, AnswerFault>
 }
 
 /// What is printed of the data of what the kernel says on a comm.
-fn data_told(alloc: Global, said: &Value) -> Result<Told, AnswerFault>
+fn data_told(alloc: Global, said: &Value) -> Result<Printed, AnswerFault>
     ensures { Answers result (table.data_told (view said.now)) }
 {
     if is_word(said, "status", "ok") {
@@ -359,7 +359,7 @@ fn data_told(alloc: Global, said: &Value) -> Result<Told, AnswerFault>
 ///
 /// # Errors
 /// `NoAnswer` where the content has no data that a kernel answers; `Memory`.
-pub fn comm_told(alloc: Global, content: &Value) -> Result<Told, AnswerFault>
+pub fn comm_told(alloc: Global, content: &Value) -> Result<Printed, AnswerFault>
     ensures { Answers result (table.comm_told (view content.now)) }
 {
     match member_in(content, "data") {
