@@ -80,41 +80,44 @@ module _ {D : Type 0} (leads : D → Call → D → Type 0) (d d1 d2 : D) (key h
   }
 
 module _ {W D : Type 0} (contents : W → Option (List ℕ)) (leads : D → Call → D → Type 0) (key : List ℕ) where
+  abbrev pub published : Sent → List Call
+  published s = map (λ b. Published (frames_of key b)) s.broadcasts
+
   abbrev pub goes_out : Sent → List Action
-  goes_out s = sends (reply_octets key s.reply) ++ asks (map (λ b. Published (frames_of key b)) s.broadcasts)
+  goes_out s = asks (published s) ++ sends (reply_octets key s.reply)
 
   -- nothing was done
   pub none_done : (w : W) (d : D) (all : List Action) → ActedPart contents leads w w d d all
   none_done w d all = ([], acts_none contents leads w d, (all, refl))
 
   module _ (w w' : W) (d d' : D) (s t : Sent) (same : s ≡ t) where
-    pub out_whole : Appends (contents w) (contents w') (reply_octets key s.reply) → Leads leads d (map (λ b. Published (frames_of key b)) s.broadcasts) d'
+    pub out_whole : Leads leads d (published s) d' → Appends (contents w) (contents w') (reply_octets key s.reply)
         → Acts contents leads w w' d d' (goes_out t)
-    out_whole p q =
+    out_whole q p =
         subst (λ (x : Sent). Acts contents leads w w' d d' (goes_out x)) same
-        (acts_join contents leads w w' w' d d d' _ _ (acts_sends contents leads w w' d _ p) (acts_asks contents leads w' d d' _ q))
+        (acts_join contents leads w w w' d d' d' _ _ (acts_asks contents leads w d d' _ q) (acts_sends contents leads w w' d' _ p))
 
-    pub out_led : Appends (contents w) (contents w') (reply_octets key s.reply) → LedPart leads d (map (λ b. Published (frames_of key b)) s.broadcasts) d'
-        → ActedPart contents leads w w' d d' (goes_out t)
-    out_led p q =
+    pub out_led : LedPart leads d (published s) d' → ActedPart contents leads w w d d' (goes_out t)
+    out_led q =
         let reply = sends (reply_octets key s.reply) in
-        subst (λ (x : Sent). ActedPart contents leads w w' d d' (goes_out x)) same (
-          reply ++ asks q.0,
-          acts_join contents leads w w' w' d d d' _ _ (acts_sends contents leads w w' d _ p) (acts_asks contents leads w' d d' _ q.3),
-          starts_with reply (asks q.0) (asks (map (λ b. Published (frames_of key b)) s.broadcasts))
-              (subst (λ (x : List Call). IsStartOf (asks q.0) (asks x)) (sym q.2) (asks_start q.0 q.1)),
+        subst (λ (x : Sent). ActedPart contents leads w w d d' (goes_out x)) same (
+          asks q.0,
+          acts_asks contents leads w d d' _ q.3,
+          (
+            asks q.1 ++ reply,
+            ap (λ (x : List Call). asks x ++ reply) q.2 ∙ ap (λ (x : List Action). x ++ reply) (map-append Called q.0 q.1)
+                ∙ append_assoc (asks q.0) (asks q.1) reply,
+          ),
         )
 
-    pub out_cut : SentSome (contents w) (contents w') (reply_octets key s.reply) → ActedPart contents leads w w' d d (goes_out t)
-    out_cut p =
-        let rest = asks (map (λ b. Published (frames_of key b)) s.broadcasts) in
-        subst (λ (x : Sent). ActedPart contents leads w w' d d (goes_out x)) same (
-          sends p.0,
-          acts_sends contents leads w w' d p.0 p.3,
-          (
-            sends p.1 ++ rest,
-            ap (λ (x : List ℕ). sends x ++ rest) p.2 ∙ ap (λ (x : List Action). x ++ rest) (map-append SentOctet p.0 p.1) ∙ append_assoc (sends p.0) (sends p.1) rest,
-          ),
+    pub out_cut : Leads leads d (published s) d' → SentSome (contents w) (contents w') (reply_octets key s.reply)
+        → ActedPart contents leads w w' d d' (goes_out t)
+    out_cut q p =
+        let first = asks (published s) in
+        subst (λ (x : Sent). ActedPart contents leads w w' d d' (goes_out x)) same (
+          first ++ sends p.0,
+          acts_join contents leads w w w' d d' d' _ _ (acts_asks contents leads w d d' _ q) (acts_sends contents leads w w' d' p.0 p.3),
+          starts_with first (sends p.0) (sends (reply_octets key s.reply)) (sends p.1, ap (λ (x : List ℕ). sends x) p.2 ∙ map-append SentOctet p.0 p.1),
         )
 
   module _ (w w' : W) (d d1 d2 : D) (r : Request) (stamp stamp1 stamp2 : Stamp) where

@@ -89,7 +89,7 @@ OrdersWhatIsWanted = (r : RequestContent) (h : Heard) → AreOrders (talk r h).c
 -- ---- the status of the kernel
 
 -- Behind the date the status busy comes first, then the desk gets the orders of the request, with no broadcast among them, and then comes an
--- answer whose last message is the status idle.
+-- answer whose last broadcast is the status idle, with the reply behind it.
 pub record IsFramed (key : List ℕ) (r : Asked) (stamp : Stamp) (actions : List Action) : Type 0 where
   pub dated : Stamp
   pub is_dated : IsDated stamp dated

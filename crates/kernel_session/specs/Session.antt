@@ -118,11 +118,11 @@ abbrev pub reply_octets : List ℕ → Option Octets → List ℕ
 reply_octets key None = []
 reply_octets key (Some m) = message_octets (frames_of key m)
 
--- the reply, and then the broadcasts, the status idle last
+-- the broadcasts, the status idle last, and then the reply: who else listens hears of the end also where the one that asked is gone
 abbrev pub answered : List ℕ → Request → Stamp → Says → List Action
 answered key r stamp says =
     let out = sent (asker_of r) stamp says in
-    sends (reply_octets key out.reply) ++ asks (map (λ b. Published (frames_of key b)) out.broadcasts)
+    asks (map (λ b. Published (frames_of key b)) out.broadcasts) ++ sends (reply_octets key out.reply)
 
 -- what goes out once the desk has told; nothing where it found no memory
 abbrev pub outgoing : List ℕ → Request → Stamp → Option DeskReply → List Action

@@ -153,7 +153,7 @@ fn send_reply<W: Write>(
     send_message(alloc, writer, &frames)
 }
 
-/// Answers a request: writes the reply, and publishes the broadcasts behind it.
+/// Answers a request: publishes the broadcasts, the status idle last, and then writes the reply.
 fn finish<W: Write, D: Desk>(
     alloc: Global,
     key: &Key,
@@ -172,8 +172,8 @@ fn finish<W: Write, D: Desk>(
     ensures midway { IfErr result IsMidway }
 {
     let out = outgoing(alloc, stamp, request, told)?;
-    send_reply(alloc, key, writer, &out.reply)?;
-    publish_all(alloc, desk, key, &out.broadcasts)
+    publish_all(alloc, desk, key, &out.broadcasts)?;
+    send_reply(alloc, key, writer, &out.reply)
 }
 
 /// How a session goes on once the request is answered.
