@@ -60,6 +60,17 @@ fn content_of(opened: Opened) -> Value {
     opened.content
 }
 
+/// What a kernel told of a message until it was done with it.
+#[derive(Drop)]
+struct News {
+    /// What its cell shows, if it shows something.
+    shown: Option<Value>,
+    /// What is printed of what was said on the comm, if something was.
+    said: Option<Printed>,
+    /// Whether the comm was closed.
+    is_closed: bool,
+}
+
 impl<R: Read + Drop, W: Write + Drop> Frontend<R, W> {
     /// Sends a request on shell, and answers its number: its octets go out, those of the message of the session under this number, signed.
     pub fn send(&mut self, draft: &Draft) -> Result<u64, ConsoleFault>
@@ -211,26 +222,6 @@ impl<R: Read + Drop, W: Write + Drop> Frontend<R, W> {
         Ok((heard, content_of(broadcast)))
     }
 
-    /// Waits until the kernel is done with the n-th message, and keeps what its cell shows, if it shows something.
-    fn hear_result(&mut self, n: u64, shown: &mut Option<Value>) -> Result<(), ConsoleFault> {
-        for _ in 0..u64::MAX {
-            let (heard, content) = self.hear(n)?;
-            match heard {
-                Heard::Idle => return Ok(()),
-                Heard::Result => *shown = Some(content),
-                Heard::Status | Heard::CommData | Heard::CommClosed | Heard::Other => {}
-            }
-        }
-        Err(ConsoleFault::NoConnection)
-    }
-
-    /// Waits until the kernel is done with the n-th message, and answers what its cell shows, if it shows something.
-    fn result_of(&mut self, n: u64) -> Result<Option<Value>, ConsoleFault> {
-        let mut shown = None;
-        self.hear_result(n, &mut shown)?;
-        Ok(shown)
-    }
-
     /// What is printed of what was said on a comm.
     fn data_told(&self, content: Value) -> Result<Printed, ConsoleFault> {
         match comm_told(self.alloc, &content) {
@@ -239,38 +230,38 @@ impl<R: Read + Drop, W: Write + Drop> Frontend<R, W> {
         }
     }
 
-    /// Waits until the kernel is done with the n-th message, and keeps what it said on the comm, if it said something.
-    fn hear_data(&mut self, n: u64, told: &mut Option<Printed>) -> Result<(), ConsoleFault> {
+    /// Notes what a broadcast tells. Whether it is the last one: the kernel is done with the message.
+    fn note(&self, heard: Heard, content: Value, news: &mut News) -> Result<bool, ConsoleFault> {
+        match heard {
+            Heard::Idle => return Ok(true),
+            Heard::Result => news.shown = Some(content),
+            Heard::CommData => news.said = Some(self.data_told(content)?),
+            Heard::CommClosed => news.is_closed = true,
+            Heard::Status | Heard::Other => {}
+        }
+        Ok(false)
+    }
+
+    /// Waits until the kernel is done with the n-th message, and keeps what it tells of it until then.
+    fn listen(&mut self, n: u64, news: &mut News) -> Result<(), ConsoleFault> {
         for _ in 0..u64::MAX {
             let (heard, content) = self.hear(n)?;
-            match heard {
-                Heard::Idle => return Ok(()),
-                Heard::CommData => *told = Some(self.data_told(content)?),
-                Heard::Status | Heard::Result | Heard::CommClosed | Heard::Other => {}
+            if self.note(heard, content, news)? {
+                return Ok(());
             }
         }
         Err(ConsoleFault::NoConnection)
     }
 
-    /// Waits until the kernel is done with the n-th message, and answers what it said on the comm, if it said something.
-    fn data_of(&mut self, n: u64) -> Result<Option<Printed>, ConsoleFault> {
-        let mut told = None;
-        self.hear_data(n, &mut told)?;
-        Ok(told)
-    }
-
-    /// Waits until the kernel is done with the n-th message, and answers whether it closed the comm.
-    fn is_closed_by(&mut self, n: u64) -> Result<bool, ConsoleFault> {
-        let mut is_closed = false;
-        for _ in 0..u64::MAX {
-            let (heard, _) = self.hear(n)?;
-            match heard {
-                Heard::Idle => return Ok(is_closed),
-                Heard::CommClosed => is_closed = true,
-                Heard::Status | Heard::Result | Heard::CommData | Heard::Other => {}
-            }
-        }
-        Err(ConsoleFault::NoConnection)
+    /// Waits until the kernel is done with the n-th message, and answers what it told of it until then.
+    fn news_of(&mut self, n: u64) -> Result<News, ConsoleFault> {
+        let mut news = News {
+            shown: None,
+            said: None,
+            is_closed: false,
+        };
+        self.listen(n, &mut news)?;
+        Ok(news)
     }
 
     /// Runs a text as a cell. The broadcasts are read first, so that none wait unread while others run theirs; the last of them comes behind the reply.
@@ -281,9 +272,9 @@ impl<R: Read + Drop, W: Write + Drop> Frontend<R, W> {
 
     /// What came of the cell that the n-th message runs.
     fn ran(&mut self, n: u64) -> Result<Printed, ConsoleFault> {
-        let shown = self.result_of(n)?;
+        let news = self.news_of(n)?;
         let reply = content_of(self.reply_to(n)?);
-        Ok(run_told(self.alloc, &reply, shown.as_ref())?)
+        Ok(run_told(self.alloc, &reply, news.shown.as_ref())?)
     }
 
     /// Completes the name at the end of a text.
@@ -300,12 +291,12 @@ impl<R: Read + Drop, W: Write + Drop> Frontend<R, W> {
 
     /// Asks on the comm that the n-th message opened.
     fn ask_on_open_comm(&mut self, n: u64, asked: &Draft) -> Result<Printed, ConsoleFault> {
-        if self.is_closed_by(n)? {
+        if self.news_of(n)?.is_closed {
             return Err(ConsoleFault::NoComm);
         }
         let n = self.send(asked)?;
-        match self.data_of(n)? {
-            Some(told) => Ok(told),
+        match self.news_of(n)?.said {
+            Some(said) => Ok(said),
             None => Err(ConsoleFault::NoConnection),
         }
     }
@@ -313,7 +304,7 @@ impl<R: Read + Drop, W: Write + Drop> Frontend<R, W> {
     /// Closes the comm, and waits until the kernel is done with that.
     fn close_comm(&mut self, close: &Draft) -> Result<(), ConsoleFault> {
         let n = self.send(close)?;
-        self.is_closed_by(n)?;
+        let _news = self.news_of(n)?;
         Ok(())
     }
 
