@@ -294,9 +294,10 @@ fn check_writer(rt: &impl Abort, alloc: Global, writes: u64, published: usize) {
     assert_eq!(rt; desk.kept.len(), published);
 }
 
+/// Where the reply can't be written the others have heard of the end: both broadcasts of the question, busy and idle, are published.
 #[test]
 fn a_writer_that_fails_leaves_a_beginning(rt: HostRuntime) {
-    for (writes, published) in [(0, 0), (1, 1), (2, 2), (3, 2)] {
+    for (writes, published) in [(0, 0), (1, 2), (2, 2), (3, 2)] {
         check_writer(&rt, rt.alloc(), writes, published);
     }
 }
