@@ -1,5 +1,5 @@
 //! Rows of octets that a peer is fed in any cut: the role, and all octets from the greeting on. The answer has the events that they
-//! tell the role, and behind a bar the number of the fault. A message has its bodies behind it, a subscription its
+//! tell the role, and behind a bar the number of the fault; where a stream that is left behind an octet tells more or else, the answer says so. A message has its bodies behind it, a subscription its
 //! prefix, and an ERROR its reason.
 use crate::octets::hex_of;
 use std::alloc::{AllocError, Global};
@@ -27,15 +27,32 @@ pub(crate) fn role_of(name: &str) -> Role {
     }
 }
 
-/// What octets tell a role, octet by octet and in each cut into two.
+/// What octets tell a role, octet by octet and in each cut into two, and where they are left behind each octet.
 fn any_cut(alloc: Global, role: Role, octets: &[u8]) -> Result<String, AllocError> {
     let by_octet = told(alloc, role, octets, 1, 1)?;
     for first in 0..=octets.len() {
         if told(alloc, role, octets, first, octets.len())? != by_octet {
             return format!(in alloc; "differs at the cut {first}");
         }
+        let (front, _) = octets.split_at(first.min(octets.len()));
+        if !is_beginning(&told(alloc, role, front, first, 1)?, &by_octet) {
+            return format!(in alloc; "differs where it is left at {first}");
+        }
     }
     Ok(by_octet)
+}
+
+/// Whether what was told of a beginning is a beginning of what was told of all, with no fault but that of all.
+fn is_beginning(left: &str, whole: &str) -> bool {
+    let (Some((told, fault)), Some((all, end))) = (left.rsplit_once('|'), whole.rsplit_once('|'))
+    else {
+        return false;
+    };
+    let Some(rest) = all.strip_prefix(told) else {
+        return false;
+    };
+    let is_whole = rest.is_empty() || told.is_empty() || rest.starts_with(' ');
+    is_whole && (fault.is_empty() || fault == end)
 }
 
 /// What octets tell a role, cut after so many of them, the rest in pieces of this length and then an empty piece.
