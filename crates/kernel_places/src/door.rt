@@ -51,9 +51,15 @@ impl Door {
         next
     }
 
-    /// Has a connection wait for a place. Whether a place waits for one.
+    /// Has a connection wait for a place, once none waits before it. Whether a place waits for one.
     pub fn offer<R: Wait>(&self, rt: &R, stream: TcpStream, number: u64) -> bool {
-        let mut entrance = self.entrance.lock(rt);
+        let entrance = self.entrance.lock(rt);
+        let mut entrance = self
+            .taken
+            .wait_while(rt, entrance, |entrance| entrance.next.is_some());
+        if entrance.is_closed {
+            return true;
+        }
         entrance.next = Some((stream, number));
         let is_awaited = entrance.idle > 0;
         drop(entrance);

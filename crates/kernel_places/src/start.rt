@@ -11,7 +11,7 @@ use crate::worker::Worker;
 use kernel_bell::{RingerSeat, RunnerSeat};
 use kernel_desk::HallDesk;
 use kernel_session::Socket;
-use kernel_sockets::{Connections, Listener};
+use kernel_sockets::{Connections, Listener, MOMENT};
 use std::alloc::AllocError;
 use std::io::Write;
 use std::net::Shutdown;
@@ -202,7 +202,7 @@ fn signed_row(socket: Socket) -> Row {
     Row {
         first: first_place(socket).index,
         count: PLACES,
-        patience: 0,
+        silence: MOMENT,
     }
 }
 
@@ -211,7 +211,7 @@ fn quiet_row(socket: Socket) -> Row {
     Row {
         first: first_place(socket).index,
         count: PLACES,
-        patience: SILENCE_MILLISECONDS,
+        silence: SILENCE_MILLISECONDS,
     }
 }
 

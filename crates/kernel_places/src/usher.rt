@@ -20,8 +20,8 @@ const WAIT_MILLISECONDS: u64 = 50;
 pub(crate) struct Row {
     pub first: usize,
     pub count: usize,
-    /// So many milliseconds a ready connection may be silent before it has to make room; none where a signed message shows who has the key.
-    pub patience: u64,
+    /// So many milliseconds a ready connection on which no signed message came may be silent before it has to make room.
+    pub silence: u64,
 }
 
 /// The next connection of a socket, with its number. `None` where none could be accepted, after a rest: no descriptor may be free for
@@ -44,12 +44,8 @@ fn accept<W: Ledger, L: Ledger, R: Wait + Clock>(
 /// Has strangers make room, one after another, until a place has taken the connection that waits at the door.
 fn see_in<R: Wait + Clock>(rt: &R, connections: &Connections, door: &Door, row: Row) {
     for _ in rt.forever() {
-        let since = if row.patience == 0 {
-            u64::MAX
-        } else {
-            milliseconds(rt).saturating_sub(row.patience)
-        };
-        let _ = connections.make_room(rt, row.first, row.count, since);
+        let now = milliseconds(rt);
+        let _ = connections.make_room(rt, row.first, row.count, now, row.silence);
         if door.is_free_within(rt, Duration::from_millis(WAIT_MILLISECONDS)) {
             return;
         }

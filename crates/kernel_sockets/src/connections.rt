@@ -63,13 +63,20 @@ impl Connections {
         self.left.notify_all();
     }
 
-    /// Ends the stranger that has been longest at one of so many places from the first on: a connection on which no signed message came, and which
-    /// is not ready or was not heard since a time in milliseconds. False where there is none.
-    pub fn make_room<R: Wait>(&self, rt: &R, first: usize, count: usize, since: u64) -> bool {
+    /// Ends the stranger that was heard longest ago at one of so many places from the first on: a connection on which no signed message came, and which was
+    /// not heard for so many milliseconds once it was ready, or for a moment where it is not. False where there is none.
+    pub fn make_room<R: Wait>(
+        &self,
+        rt: &R,
+        first: usize,
+        count: usize,
+        now: u64,
+        silence: u64,
+    ) -> bool {
         let register = self.register.lock(rt);
         let mut longest: Option<(usize, u64)> = None;
         for place in first..first.saturating_add(count) {
-            let Some(heard) = self.stranger_at(&register, place, since) else {
+            let Some(heard) = self.stranger_at(&register, place, now, silence) else {
                 continue;
             };
             if is_longer(longest, heard) {
@@ -84,12 +91,18 @@ impl Connections {
     }
 
     /// When the connection at a place was last heard, where it is a stranger that may have to make room.
-    fn stranger_at(&self, register: &Register, place: usize, since: u64) -> Option<u64> {
+    fn stranger_at(
+        &self,
+        register: &Register,
+        place: usize,
+        now: u64,
+        silence: u64,
+    ) -> Option<u64> {
         if !register.is_taken(place) {
             return None;
         }
         let presence = self.presences.get(place)?;
-        presence.heard_as_stranger(since)
+        presence.heard_as_stranger(now, silence)
     }
 
     /// Lets no more connections in, and shuts those that are there: for reading, so that each is still answered, or altogether.

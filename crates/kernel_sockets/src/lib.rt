@@ -19,5 +19,5 @@ mod register;
 pub use connections::Connections;
 pub use input::Input;
 pub use listener::Listener;
-pub use presence::Presence;
+pub use presence::{MOMENT, Presence};
 pub use register::{Register, Stream};

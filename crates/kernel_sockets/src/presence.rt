@@ -1,6 +1,9 @@
 //! What is known of the connection at a place.
 use std::sync::atomic::{AtomicBool, AtomicU64, Ordering};
 
+/// So many milliseconds a connection has at least before it has to make room: who comes with the key shows it sooner.
+pub const MOMENT: u64 = 200;
+
 /// What is known of the connection at a place, for all who look, without a lock.
 #[derive(Drop)]
 pub struct Presence {
@@ -44,13 +47,19 @@ impl Presence {
         &self.is_trusted
     }
 
-    /// When it was last heard, where it may have to make room: no signed message came on it, and it is not ready, or was not heard since a time.
-    pub(crate) fn heard_as_stranger(&self, since: u64) -> Option<u64> {
+    /// When it was last heard, where it has to make room now: no signed message came on it, and it was not heard for so long once it was ready, or
+    /// for a moment where it is not.
+    pub(crate) fn heard_as_stranger(&self, now: u64, silence: u64) -> Option<u64> {
         if self.is_trusted.load(Ordering::SeqCst) {
             return None;
         }
+        let patience = if self.is_ready.load(Ordering::SeqCst) {
+            silence
+        } else {
+            MOMENT
+        };
         let heard = self.heard.load(Ordering::SeqCst);
-        if self.is_ready.load(Ordering::SeqCst) && heard > since {
+        if heard.saturating_add(patience) > now {
             return None;
         }
         Some(heard)
