@@ -11,10 +11,10 @@ use Rattle.kernel_core.specs.Runs.{Machine, IsBegin, BeginsAt, IsSliceOf}
 use Rattle.kernel_core.specs.Travel.{Travel, Way, Up, Down, next_way}
 use Rattle.kernel_core.specs.Turn.{Why, Turn, GoesOn, GoesBack}
 use Rattle.kernel_core.proofs.Trees.{way_up, way_down}
-use Rattle.kernel_core.specs.declared.outcome.Sliced.{Sliced}
-use Rattle.kernel_core.specs.declared.outcome.Sliced.TheVariants as sliced
-use Rattle.kernel_core.specs.declared.outcome.Begun.{Begun}
-use Rattle.kernel_core.specs.declared.outcome.Begun.TheVariants as begun
+use Rattle.kernel_core.specs.outcome.Sliced.{Sliced}
+use Rattle.kernel_core.specs.outcome.Sliced.TheVariants as sliced
+use Rattle.kernel_core.specs.outcome.Begun.{Begun}
+use Rattle.kernel_core.specs.outcome.Begun.TheVariants as begun
 
 -- ---- how much is left of a job
 

@@ -7,8 +7,8 @@ use Rattle.kernel_core.specs.State.{Past, State, Work, Posted, Job, Idle, Border
 use Rattle.kernel_core.specs.Slices.{Backs, Comes, SlicesIn, SlicesAt}
 use Rattle.kernel_core.specs.Runs.{Machine, IsSliceOf}
 use Rattle.kernel_core.specs.Turn.{Why, WasAsked, Faulted, Turn, GoesOn, GoesBack}
-use Rattle.kernel_core.specs.declared.outcome.Sliced.{Sliced}
-use Rattle.kernel_core.specs.declared.outcome.Sliced.TheVariants as sliced
+use Rattle.kernel_core.specs.outcome.Sliced.{Sliced}
+use Rattle.kernel_core.specs.outcome.Sliced.TheVariants as sliced
 use Rattle.cells_program.specs.OpenJob.{IsInCell, MustGoBack, TurnsBack}
 
 -- how many steps are still to be taken back

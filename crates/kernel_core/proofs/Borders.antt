@@ -27,13 +27,13 @@ use Rattle.janus_machine.specs.declared.cursor.Cursor.{Cursor}
 use Rattle.janus_machine.specs.declared.procedures.Procedures.{Procedures}
 use Rattle.janus_machine.proofs.BodiesInEffect.{all_defined, all_retired, bodies_from_same}
 use Rattle.janus_machine.proofs.Courses.{blocks_are_safe, books_turn}
-use Rattle.kernel_core.specs.Language.{Forward, Backward, CodeExec, IsFormed, IsSound}
+use Rattle.kernel_machine.specs.Language.{Forward, Backward, CodeExec, IsFormed, IsSound}
 use Rattle.kernel_core.specs.Program.{cell_of_program, procedures_of, IsReady, with_bodies}
 use Rattle.kernel_core.specs.Runner.{Becomes, Shows, Stands, CanEnter, CanReturn, CanLeave}
 use Rattle.kernel_core.specs.declared.program.Program.{Program}
 use Rattle.kernel_core.specs.declared.runner.Runner.{Runner}
 use Rattle.kernel_core.proofs.Growing.{defined_grow, ready_grows}
-use Rattle.kernel_core.proofs.LanguageLaws.{sound_good}
+use Rattle.kernel_machine.proofs.LanguageLaws.{sound_good}
 
 -- a store in which no local and no call is open shows all that it has
 pub all_shown : (h : Held) → IsWhole h → shown_store h ≡ h.sight

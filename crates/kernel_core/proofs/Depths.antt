@@ -1,9 +1,9 @@
 -- The walks up to the root, and down to where no favourite is.
 use Rattle.std.proofs.Common.{◌≡◌, ℕ, ◌+◌, ◌-◌, ◌<◌, ◌≤◌, ◌==◌, suc, true, false, IsTrue, List, length, get_or, sym, ap, ◌∙◌, arith, inl, inr, if◌then◌else◌, ◌↔◌}
 use Rattle.std.proofs.lemmas.Bool.{cases_lt, false≢true}
-use Rattle.kernel_core.specs.State.{Past, Node, root, favourite_of}
-use Rattle.kernel_core.specs.Legal.{can_undo, can_redo, IsRun, IsChild, IsLegal}
-use Rattle.kernel_core.proofs.Trees.{not_zero_is}
+use Rattle.kernel_machine.specs.State.{Past, Node, root, favourite_of}
+use Rattle.kernel_machine.specs.Legal.{can_undo, can_redo, IsRun, IsChild, IsLegal}
+use Rattle.kernel_machine.proofs.Trees.{not_zero_is}
 
 -- ---- up
 

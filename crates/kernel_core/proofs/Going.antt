@@ -19,7 +19,7 @@ use Rattle.janus_machine.specs.declared.cursor.Cursor.{Cursor}
 use Rattle.janus_machine.specs.declared.fault.Fault as machine
 use Rattle.janus_machine.proofs.BodiesInEffect.{defined_in_effect}
 use Rattle.janus_machine.proofs.Courses.{runs_mean, backs_mean}
-use Rattle.kernel_core.specs.Language.{Code, CodeStop, run_block, start_of}
+use Rattle.kernel_machine.specs.Language.{Code, CodeStop, run_block, start_of}
 use Rattle.kernel_core.specs.Program.{IsReady}
 use Rattle.kernel_core.specs.Runner.{Stands}
 use Rattle.kernel_core.specs.declared.program.Program.{Program}

@@ -9,10 +9,10 @@ use Rattle.janus_check.specs.Names.{Known, heads_in}
 use Rattle.janus_machine.specs.Bodies.{AreBodies}
 use Rattle.janus_machine.specs.declared.procedure.Procedure.{Procedure}
 use Rattle.janus_meaning.specs.World.{World, Cell as ACell, define}
-use Rattle.kernel_core.specs.State.{Past, node_at, world_at, here}
-use Rattle.kernel_core.specs.Legal.{IsLegal, IsRun}
+use Rattle.kernel_machine.specs.State.{Past, node_at, world_at, here}
+use Rattle.kernel_machine.specs.Legal.{IsLegal, IsRun}
 use Rattle.kernel_core.specs.Known.{FindTheSame}
-use Rattle.kernel_core.proofs.LanguageLaws.{exec_procedures}
+use Rattle.kernel_machine.proofs.LanguageLaws.{exec_procedures}
 use Rattle.kernel_core.proofs.OlderHeads.{heads_over}
 
 -- with those of the node's world behind them, they are those of the position's world

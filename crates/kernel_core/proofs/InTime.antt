@@ -1,16 +1,16 @@
 -- After a slice the open job still has steps to take.
 use Rattle.std.proofs.Common.{ℕ, Bool}
 use Rattle.kernel_core.specs.Fields.{past_of, job_of, state_of}
-use Rattle.kernel_core.specs.State.{procedures_at}
-use Rattle.kernel_core.specs.Slices.{IsSlice}
+use Rattle.kernel_machine.specs.State.{procedures_at}
+use Rattle.kernel_machine.specs.Slices.{IsSlice}
 use Rattle.kernel_core.specs.Runner.{world_of}
 use Rattle.kernel_core.specs.Kept.{Kept, IsKept}
 use Rattle.kernel_core.specs.declared.tree.Tree.{Tree}
 use Rattle.kernel_core.specs.declared.runner.Runner.{Runner}
 use Rattle.kernel_core.specs.declared.job.Open.{Open}
-use Rattle.kernel_core.specs.declared.outcome.Sliced.{Sliced}
+use Rattle.kernel_machine.specs.declared.outcome.Sliced.{Sliced}
 use Rattle.kernel_core.proofs.Standing.{shown_by}
-use Rattle.kernel_core.proofs.Stays.{slice_fit}
+use Rattle.kernel_machine.proofs.Stays.{slice_fit}
 
 pub slice_kept : {L : Type 0} (tree moved-to : Tree) (runner at : Runner L) (old new : Open) (m : ℕ) (asked : Bool) (told : Sliced) → IsKept tree runner old → Kept moved-to at new →
     IsSlice (state_of tree old) m asked told (state_of moved-to new) → IsKept moved-to at new

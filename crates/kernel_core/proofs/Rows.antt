@@ -8,11 +8,11 @@ use Rattle.janus_syntax.specs.Tree.{procedure_view, procedures_view}
 use Rattle.janus_syntax.specs.View.{plain_procedure}
 use Rattle.janus_syntax.specs.declared.tree.Procedure.{Procedure}
 use Rattle.kernel_core.specs.Defined.{in_a_row}
-use Rattle.kernel_core.specs.State as state
-use Rattle.kernel_core.specs.State.{Past, node_at, world_at, here, below, code_of}
-use Rattle.kernel_core.specs.Travel.{Travel, Down, next_way}
-use Rattle.kernel_core.specs.Language.{start_of}
-use Rattle.kernel_core.specs.Legal.{IsLegal}
+use Rattle.kernel_machine.specs.State as state
+use Rattle.kernel_machine.specs.State.{Past, node_at, world_at, here, below, code_of}
+use Rattle.kernel_machine.specs.Travel.{Travel, Down, next_way}
+use Rattle.kernel_machine.specs.Language.{start_of}
+use Rattle.kernel_machine.specs.Legal.{IsLegal}
 use Rattle.kernel_core.proofs.HeadsAbove.{world_procedures}
 
 pub over : (more qs : List Proc) → define more qs ≡ define more [] ++ qs

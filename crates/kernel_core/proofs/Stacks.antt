@@ -11,10 +11,10 @@ use Rattle.janus_machine.specs.declared.procedure.Procedure.{Procedure}
 use Rattle.janus_machine.specs.declared.procedures.Procedures.{Procedures}
 use Rattle.janus_machine.proofs.Bodies.{onto_below}
 use Rattle.janus_machine.proofs.BodiesInEffect.{bodies_from_below, bodies_from_same}
-use Rattle.kernel_core.specs.State.{root, node_at}
+use Rattle.kernel_machine.specs.State.{root, node_at}
 use Rattle.kernel_core.specs.Fields.{node_of, past_of}
 use Rattle.kernel_core.specs.Kept.{IsCellAt, AreInOrder, bodies_over, stack_up, stack_at}
-use Rattle.kernel_core.specs.Legal.{IsLegal}
+use Rattle.kernel_machine.specs.Legal.{IsLegal}
 use Rattle.kernel_core.specs.Program.{procedures_of, IsReady, with_bodies}
 use Rattle.kernel_core.specs.declared.program.Program.{Program}
 use Rattle.kernel_core.specs.declared.tree.Cell.{Cell}

@@ -7,15 +7,15 @@ use Rattle.std.proofs.lemmas.List.{get_or_at, length-map}
 use Rattle.std.proofs.lemmas.Option.{slice_get_within}
 use Rattle.cell_tree.specs.declared.node.Node.{Node}
 use Rattle.janus_meaning.specs.World.{World, empty_world, entered, Cell as ACell}
-use Rattle.kernel_core.specs.Travel.{next_way, Travel, Aim, Undo, Redo, Goto, Way, Up, Down}
-use Rattle.kernel_core.specs.Language.{IsFormed, IsSound, Code, Forward, Backward, CodePart, CodeExec, start_of, end_of}
-use Rattle.kernel_core.specs.State as state
-use Rattle.kernel_core.specs.State.{State, Past, new_state, root, node_at, world_at, here, below, code_of, ShownAt, procedures_at, worlds_from}
+use Rattle.kernel_machine.specs.Travel.{next_way, Travel, Aim, Undo, Redo, Goto, Way, Up, Down}
+use Rattle.kernel_machine.specs.Language.{IsFormed, IsSound, Code, Forward, Backward, CodePart, CodeExec, start_of, end_of}
+use Rattle.kernel_machine.specs.State as state
+use Rattle.kernel_machine.specs.State.{State, Past, new_state, root, node_at, world_at, here, below, code_of, ShownAt, procedures_at, worlds_from}
 use Rattle.cell_tree.specs.Tree.{contents_of, root_alone}
 use Rattle.kernel_core.specs.Fields.{nodes_of, aim_of, travel_of, work_of, job_of, past_of, state_of}
-use Rattle.kernel_core.specs.Legal.{CanGo, IsLegal, IsPossible, IsPossibleWork, IsCounted}
-use Rattle.kernel_core.specs.Slices.{cells, stepped, moved, grown, Arrives, Settles, HasEnded}
-use Rattle.kernel_core.specs.Begins.{Declares}
+use Rattle.kernel_machine.specs.Legal.{CanGo, IsLegal, IsPossible, IsPossibleWork, IsCounted}
+use Rattle.kernel_machine.specs.Slices.{cells, stepped, moved, grown, Arrives, Settles, HasEnded}
+use Rattle.kernel_machine.specs.Begins.{Declares}
 use Rattle.janus_meaning.specs.Syntax.{Name}
 use Rattle.janus_names.specs.Numbers.{GoOn, HaveOneNumber}
 use Rattle.janus_store.specs.Held.{Held, IsWhole, shown_store}
@@ -29,7 +29,7 @@ use Rattle.kernel_core.specs.declared.runner.Runner.{Runner}
 use Rattle.kernel_core.specs.declared.program.Program.{Program}
 use Rattle.kernel_core.specs.declared.tree.Cell.{Cell}
 use Rattle.kernel_core.specs.declared.tree.Tree.{Tree}
-use Rattle.kernel_core.specs.declared.outcome.Sliced.{Sliced}
+use Rattle.kernel_machine.specs.declared.outcome.Sliced.{Sliced}
 use Rattle.kernel_core.specs.declared.job.Work.{Work}
 use Rattle.kernel_core.specs.declared.job.Work.TheVariants.{Cell as RunCell, Move}
 use Rattle.kernel_core.specs.declared.job.Travel.{Travel as CodeTravel}
@@ -38,13 +38,13 @@ use Rattle.kernel_core.specs.declared.job.Turn.TheVariants.{Going, Backing}
 use Rattle.kernel_core.specs.declared.job.Why.{Why}
 use Rattle.kernel_core.specs.declared.job.Open.{Open}
 use Rattle.kernel_core.specs.declared.job.Open.TheVariants.{Idle, Border, Inside}
-use Rattle.kernel_core.proofs.LanguageLaws.{part_none_forward, part_none_backward, exec_end, exec_some}
+use Rattle.kernel_machine.proofs.LanguageLaws.{part_none_forward, part_none_backward, exec_end, exec_some}
 use Rattle.kernel_core.proofs.Growing.{ready_grows, defined_grow}
 use Rattle.kernel_core.proofs.Borders.{all_shown}
 use Rattle.kernel_core.proofs.Running.{stands_part}
 use Rattle.kernel_core.proofs.Stacks.{stack_same, stack_of_cell, stack_new, stack_below, cell_behind, ready_same, ready_less, ready_more}
 use Rattle.kernel_core.proofs.Nodes.{count_of_nodes, cell_there, one_cell, cell_kept, cell_added}
-use Rattle.kernel_core.proofs.Trees.{worlds-more, legal_up, legal_down, legal_grown, undone_world, redone_world, run_here, parent_sound, IsNext, formed_below, next_below, up_possible, down_possible, way_up, way_down, new_legal, new_worlds}
+use Rattle.kernel_machine.proofs.Trees.{worlds-more, legal_up, legal_down, legal_grown, undone_world, redone_world, run_here, parent_sound, IsNext, formed_below, next_below, up_possible, down_possible, way_up, way_down, new_legal, new_worlds}
 
 -- the shown world is the runner's
 pub shown_by : {L : Type 0} (tree : Tree) (job : Open) (runner : Runner L) → StandsAt tree job runner → ShownAt (past_of tree) (job_of job) (world_of (procedures_at (past_of tree) (job_of job)) runner)

@@ -3,10 +3,10 @@ use Rattle.std.specs.Prelude.{◌≡◌, ℕ, zero, suc, ◌+◌, ◌-◌, ◌<�
 use Rattle.cell_tree.specs.Tree.{contents_of}
 use Rattle.cell_tree.specs.declared.node.Node.{Node}
 use Rattle.janus_store.specs.Held.{IsWhole}
-use Rattle.kernel_core.specs.State.{here, ancestor, below, code_of}
-use Rattle.kernel_core.specs.Travel.{Up, Down, Aim, Undo, Redo, Goto, next_way}
+use Rattle.kernel_machine.specs.State.{here, ancestor, below, code_of}
+use Rattle.kernel_machine.specs.Travel.{Up, Down, Aim, Undo, Redo, Goto, next_way}
 use Rattle.kernel_core.specs.Fields.{nodes_of, past_of, aim_of, travel_of, work_of, job_of}
-use Rattle.kernel_core.specs.Legal.{IsLegal, IsPossibleAt, IsInTimeAt, IsCountedAt}
+use Rattle.kernel_machine.specs.Legal.{IsLegal, IsPossibleAt, IsInTimeAt, IsCountedAt}
 use Rattle.kernel_core.specs.Program.{procedures_of, IsReady, with_bodies}
 use Rattle.kernel_core.specs.Runner.{Shows, Stands}
 use Rattle.kernel_core.specs.declared.program.Program.{Program}

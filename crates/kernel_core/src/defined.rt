@@ -7,9 +7,9 @@ ghost use Rattle.janus_syntax.specs.View.{plain_procedure};
 ghost use Rattle.kernel_core.specs.Defined.{in_a_row};
 ghost use Rattle.kernel_core.specs.Fields.{past_of, job_of, work_of};
 ghost use Rattle.kernel_core.specs.Kept.{HasPathAt, HasPathFor};
-ghost use Rattle.kernel_core.specs.Language.{start_of};
-ghost use Rattle.kernel_core.specs.Legal.{IsLegal, IsPossibleAt, IsPossibleWork};
-ghost use Rattle.kernel_core.specs.State.{here, code_of, procedures_at};
+ghost use Rattle.kernel_machine.specs.Language.{start_of};
+ghost use Rattle.kernel_machine.specs.Legal.{IsLegal, IsPossibleAt, IsPossibleWork};
+ghost use Rattle.kernel_machine.specs.State.{here, code_of, procedures_at};
 
 use crate::job::{Open, Way, Work};
 use crate::tree::{Tree, below};

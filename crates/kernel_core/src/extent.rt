@@ -1,21 +1,11 @@
 //! How far an undo and a redo can go.
 ghost use Rattle.std.specs.Prelude.{ℕ, ◌≤◌, ◌↔◌, IsTrue};
 ghost use Rattle.kernel_core.specs.Fields.{past_of, nodes_of};
-ghost use Rattle.kernel_core.specs.Legal.{IsLegal, can_undo, can_redo};
-ghost use Rattle.kernel_core.specs.Extent.{IsExtent};
+ghost use Rattle.kernel_machine.specs.Legal.{IsLegal, can_undo, can_redo};
+ghost use Rattle.kernel_machine.specs.Extent.{IsExtent};
 
 use crate::tree::Tree;
-
-/// How far an undo and a redo can go from the position, and how many nodes there are.
-#[derive(Clone, Copy, PartialEq, Eq)]
-pub struct Extent {
-    /// How many cells can be undone.
-    pub undo: usize,
-    /// How many cells can be redone, along favourites.
-    pub redo: usize,
-    /// How many nodes there are beside the root.
-    pub nodes: usize,
-}
+use kernel_machine::Extent;
 
 /// How many nodes the position can go up.
 fn nodes_above(tree: &Tree) -> usize

@@ -1,22 +1,21 @@
 //! The history: the tree of cells, the one store, and the open job. It is what a kernel has besides its queue.
 ghost use Rattle.std.specs.Prelude.{◌≡◌, ◌≤◌, IfOk, OnOk, OnErr, length, nat_lt, vec_capacity};
-ghost use Rattle.kernel_core.specs.State.{State, Idle, Border, here, is_full, Shown, new_state};
+ghost use Rattle.kernel_machine.specs.State.{State, Idle, Border, here, is_full, Shown, new_state};
 ghost use Rattle.kernel_core.specs.Fields.{past_of, nodes_of, aim_of, travel_of, state_of, IsStageOf};
-ghost use Rattle.kernel_core.specs.Travel.{Undo, Redo};
-ghost use Rattle.kernel_core.specs.Legal.{IsLegal, IsPossible, IsCounted, CanGo, can_undo, can_redo};
-ghost use Rattle.kernel_core.specs.Slices.{IsSlice, cells};
-ghost use Rattle.kernel_core.specs.StepsOfSlices.{WritesOnSlice};
-ghost use Rattle.kernel_core.specs.Begins.{TakesCell, TakesMove, TakesGoto, Departs, Enters, Declares, travel_to};
+ghost use Rattle.kernel_machine.specs.Travel.{Undo, Redo};
+ghost use Rattle.kernel_machine.specs.Legal.{IsLegal, IsPossible, IsCounted, CanGo, can_undo, can_redo};
+ghost use Rattle.kernel_machine.specs.Slices.{IsSlice, cells};
+ghost use Rattle.kernel_machine.specs.StepsOfSlices.{WritesOnSlice};
+ghost use Rattle.kernel_machine.specs.Begins.{TakesCell, TakesMove, TakesGoto, Departs, Enters, Declares, travel_to};
 ghost use Rattle.janus_names.specs.Numbers.{GoOn};
 ghost use Rattle.janus_store.specs.Held.{IsWhole};
 ghost use Rattle.janus_machine.specs.Bodies.{kept_in};
 ghost use Rattle.kernel_core.specs.Runner.{Becomes, Shows};
-ghost use Rattle.kernel_core.specs.Extent.{IsExtent};
+ghost use Rattle.kernel_machine.specs.Extent.{IsExtent};
 ghost use Rattle.kernel_core.specs.Kept.{HasRoom, HasPath, NodesAreReady, AreInOrder, stack_at, Kept, IsKept, StandsAt};
 
-use crate::extent::{Extent, extent_of};
+use crate::extent::extent_of;
 use crate::job::{Aim, Entered, Open, Stage, Travel, Turn, Way, Why, Work};
-use crate::outcome::{Begun, End, Outcome, Refusal, Sliced};
 use crate::program::Program;
 use crate::runner::Runner;
 use crate::settle::{finished, go_back, go_on, turn_back};
@@ -24,6 +23,7 @@ use crate::tree::{Tree, below, can_go_down, can_go_up, find_way, is_full};
 use crate::view::View;
 use cell_tree::Tree as Cells;
 use janus_machine::{Store, Writes};
+use kernel_machine::{Begun, End, Extent, Outcome, Refusal, Sliced};
 use std::alloc::{AllocError, Global};
 use std::marker::Model;
 use std::mem;
@@ -39,8 +39,8 @@ pub struct History<L: Ledger> {
 }
 
 impl<L: Ledger> Model for History<L> {
-    ghost use Rattle.kernel_core.specs.State.{State};
-    ghost use Rattle.kernel_core.specs.StateCode.{state_code};
+    ghost use Rattle.kernel_machine.specs.State.{State};
+    ghost use Rattle.kernel_machine.specs.StateCode.{state_code};
 
     ghost Value = { State };
 

@@ -1,10 +1,10 @@
 //! The open job: what it does, and how far it is.
 ghost use Rattle.std.specs.Prelude.{◌≡◌, ◌<◌, ◌↔◌, IsTrue};
-ghost use Rattle.kernel_core.specs.Travel.{next_way};
+ghost use Rattle.kernel_machine.specs.Travel.{next_way};
 ghost use Rattle.kernel_core.specs.Fields.{way_of, aim_of, travel_of};
-ghost use Rattle.kernel_core.specs.Slices.{cells, stepped};
-ghost use Rattle.kernel_core.specs.Begins.{travel_to};
-ghost use Rattle.kernel_core.specs.Legal.{IsCounted};
+ghost use Rattle.kernel_machine.specs.Slices.{cells, stepped};
+ghost use Rattle.kernel_machine.specs.Begins.{travel_to};
+ghost use Rattle.kernel_machine.specs.Legal.{IsCounted};
 
 use crate::program::Program;
 use janus_machine::Fault;

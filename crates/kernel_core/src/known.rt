@@ -8,10 +8,10 @@ ghost use Rattle.janus_syntax.specs.View.{plain_procedure};
 ghost use Rattle.janus_check.specs.Check.{kinds_of as the_kinds_of};
 ghost use Rattle.janus_check.specs.Names.{shape_in, heads_in, meant_kind, meant_kinds};
 ghost use Rattle.janus_store.specs.Held.{shown_store};
-ghost use Rattle.kernel_core.specs.State.{here};
+ghost use Rattle.kernel_machine.specs.State.{here};
 ghost use Rattle.kernel_core.specs.Fields.{past_of};
 ghost use Rattle.kernel_core.specs.Known.{FindTheSame};
-ghost use Rattle.kernel_core.specs.Legal.{IsLegal};
+ghost use Rattle.kernel_machine.specs.Legal.{IsLegal};
 ghost use Rattle.kernel_core.specs.Runner.{Shows};
 
 use crate::program::names_in_sight;

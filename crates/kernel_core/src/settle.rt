@@ -1,26 +1,26 @@
 //! The parts of a slice: steps onward and back, and what comes at the end of a cell. None of them takes memory.
 ghost use Rattle.std.specs.Prelude.{◌≡◌, ◌-◌};
-ghost use Rattle.kernel_core.specs.Language.{CodePart};
-ghost use Rattle.kernel_core.specs.State.{Past, here, code_of};
-ghost use Rattle.kernel_core.specs.Travel.{Up, Down, next_way};
+ghost use Rattle.kernel_machine.specs.Language.{CodePart};
+ghost use Rattle.kernel_machine.specs.State.{Past, here, code_of};
+ghost use Rattle.kernel_machine.specs.Travel.{Up, Down, next_way};
 ghost use Rattle.kernel_core.specs.Fields.{past_of, state_of, travel_of, why_of, work_of, job_of};
-ghost use Rattle.kernel_core.specs.Legal.{IsLegal, IsPossibleWork};
-ghost use Rattle.kernel_core.specs.Slices.{finished as the_finished, turned as the_turned, Backs, cells, Arrives, Settles, Goes, HasEnded};
+ghost use Rattle.kernel_machine.specs.Legal.{IsLegal, IsPossibleWork};
+ghost use Rattle.kernel_machine.specs.Slices.{finished as the_finished, turned as the_turned, Backs, cells, Arrives, Settles, Goes, HasEnded};
 ghost use Rattle.janus_machine.specs.Counts.{IsWritten};
-ghost use Rattle.kernel_core.specs.StepsOfSlices.{steps_back, WritesOn};
+ghost use Rattle.kernel_machine.specs.StepsOfSlices.{steps_back, WritesOn};
 ghost use Rattle.janus_names.specs.Numbers.{GoOn};
 ghost use Rattle.janus_store.specs.Held.{IsWhole};
-ghost use Rattle.kernel_core.specs.Language.{start_of};
+ghost use Rattle.kernel_machine.specs.Language.{start_of};
 ghost use Rattle.kernel_core.specs.Runner.{world_of, Shows};
 ghost use Rattle.kernel_core.specs.Kept.{Kept, IsProgramOf, HasPathFor, NodesAreReady, stack_at};
 
 use crate::job::{Aim, Entered, Open, Travel, Turn, Way, Why, Work};
-use crate::outcome::{End, Outcome, Sliced};
 use crate::program::Program;
 use crate::runner::{Progress, Runner};
 use crate::tree::{Cell, Tree, below};
 use cell_tree::Node;
 use janus_machine::Writes;
+use kernel_machine::{End, Outcome, Sliced};
 use std::sync::ledger::Ledger;
 
 /// The program that the work runs: forward, or for an undo backward.

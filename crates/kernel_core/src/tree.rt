@@ -1,9 +1,9 @@
 //! The tree of cells that ended well, and where the kernel stands in it.
 ghost use Rattle.std.specs.Prelude.{◌≡◌, ◌<◌, ◌≤◌, ◌↔◌, IsErr, IfOk, length};
-ghost use Rattle.kernel_core.specs.State.{below, is_full};
-ghost use Rattle.kernel_core.specs.Travel.{Down, Goto, next_way};
+ghost use Rattle.kernel_machine.specs.State.{below, is_full};
+ghost use Rattle.kernel_machine.specs.Travel.{Down, Goto, next_way};
 ghost use Rattle.kernel_core.specs.Fields.{past_of, nodes_of, aim_of, travel_of};
-ghost use Rattle.kernel_core.specs.Legal.{IsLegal, IsPossible, IsMeeting, can_undo, can_redo};
+ghost use Rattle.kernel_machine.specs.Legal.{IsLegal, IsPossible, IsMeeting, can_undo, can_redo};
 ghost use Rattle.kernel_core.specs.Kept.{HasPath};
 
 use crate::job::{Aim, Travel};

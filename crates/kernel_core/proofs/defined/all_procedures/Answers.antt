@@ -4,7 +4,7 @@ use Rattle.janus_syntax.specs.Tree.{procedures_view}
 use Rattle.janus_syntax.specs.View.{plain_procedure}
 use Rattle.kernel_core.specs.Defined.{in_a_row}
 use Rattle.kernel_core.specs.Fields.{past_of}
-use Rattle.kernel_core.specs.State.{here}
+use Rattle.kernel_machine.specs.State.{here}
 use Rattle.kernel_core.proofs.Nodes.{count_of_nodes, parent_there, cell_there}
 use Rattle.kernel_core.proofs.Rows.{over, climbed, at_root}
 use Rattle.kernel_core.proofs.Standing.{position_known}

@@ -4,7 +4,7 @@ use Rattle.janus_syntax.specs.Tree.{procedures_view}
 use Rattle.janus_syntax.specs.View.{plain_procedure}
 use Rattle.kernel_core.specs.Defined.{in_a_row}
 use Rattle.kernel_core.specs.Fields.{past_of}
-use Rattle.kernel_core.specs.State.{here, world_at}
+use Rattle.kernel_machine.specs.State.{here, world_at}
 use Rattle.kernel_core.proofs.defined.all_procedures.Given as goal
 
 abbrev pub invariant-loop-at : goal.invariant-loop-at

@@ -2,7 +2,7 @@ use Rattle.std.proofs.Common.{List, sym, ap, ◌∙◌}
 use Rattle.janus_meaning.specs.Syntax.{Proc}
 use Rattle.janus_meaning.specs.World.{Cell, define}
 use Rattle.kernel_core.specs.Fields.{past_of, work_of, travel_of, way_of}
-use Rattle.kernel_core.specs.State.{here}
+use Rattle.kernel_machine.specs.State.{here}
 use Rattle.kernel_core.proofs.Nodes.{cell_there}
 use Rattle.kernel_core.proofs.Rows.{started_down}
 use Rattle.kernel_core.proofs.Standing.{work_possible, below_there, cell_of_down}

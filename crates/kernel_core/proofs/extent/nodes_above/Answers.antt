@@ -1,5 +1,5 @@
 use Rattle.std.proofs.Common.{◌≡◌, ℕ, ◌+◌, ◌<◌, get_or, sym, subst, ◌∙◌, arith}
-use Rattle.kernel_core.specs.State.{root}
+use Rattle.kernel_machine.specs.State.{root}
 use Rattle.kernel_core.specs.Fields.{nodes_of}
 use Rattle.kernel_core.proofs.Depths.{Climbs, climbs_more, climbs_end}
 use Rattle.kernel_core.proofs.Nodes.{parent_there}

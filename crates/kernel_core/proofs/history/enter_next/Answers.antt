@@ -1,5 +1,5 @@
 use Rattle.std.proofs.Common.{sym, ◌∙◌, ap}
-use Rattle.kernel_core.specs.State.{here}
+use Rattle.kernel_machine.specs.State.{here}
 use Rattle.kernel_core.specs.Fields.{past_of, travel_of, way_of}
 use Rattle.kernel_core.specs.Kept.{stack_at}
 use Rattle.janus_store.specs.Held.{Held}

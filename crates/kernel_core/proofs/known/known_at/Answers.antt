@@ -4,7 +4,7 @@ use Rattle.janus_meaning.specs.Syntax.{Proc}
 use Rattle.janus_machine.specs.Bodies.{kept_in}
 use Rattle.janus_machine.specs.declared.procedures.Body.{Body}
 use Rattle.kernel_core.specs.Fields.{past_of}
-use Rattle.kernel_core.specs.State.{here}
+use Rattle.kernel_machine.specs.State.{here}
 use Rattle.kernel_core.proofs.HeadsAbove.{none_kept, none_found}
 use Rattle.kernel_core.proofs.known.known_at.Goals as goal
 

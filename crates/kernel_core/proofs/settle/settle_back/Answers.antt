@@ -1,5 +1,5 @@
 use Rattle.std.proofs.Common.{refl, sym, ap, ◌∙◌}
-use Rattle.kernel_core.specs.State.{here}
+use Rattle.kernel_machine.specs.State.{here}
 use Rattle.kernel_core.specs.Fields.{past_of, work_of, travel_of, way_of}
 use Rattle.kernel_core.specs.Kept.{stack_at}
 use Rattle.kernel_core.proofs.Growing.{no_more}

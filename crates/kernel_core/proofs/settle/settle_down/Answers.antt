@@ -1,17 +1,17 @@
 use Rattle.std.proofs.Common.{ℕ, refl, ap, sym, subst}
 use Rattle.cell_tree.specs.Tree as cells
-use Rattle.kernel_core.specs.State as state
-use Rattle.kernel_core.specs.State.{here, code_of}
-use Rattle.kernel_core.specs.Language.{start_of}
+use Rattle.kernel_machine.specs.State as state
+use Rattle.kernel_machine.specs.State.{here, code_of}
+use Rattle.kernel_machine.specs.Language.{start_of}
 use Rattle.kernel_core.specs.Fields.{past_of, state_of, travel_of}
-use Rattle.kernel_core.specs.Slices.{Arrives, cells as cells_left}
+use Rattle.kernel_machine.specs.Slices.{Arrives, cells as cells_left}
 use Rattle.kernel_core.specs.Runner.{world_of}
-use Rattle.kernel_core.specs.Travel.{Travel}
+use Rattle.kernel_machine.specs.Travel.{Travel}
 use Rattle.kernel_core.specs.declared.tree.Cell.{Cell}
 use Rattle.kernel_core.specs.declared.tree.Tree.{Tree}
 use Rattle.kernel_core.proofs.Nodes.{child_below}
 use Rattle.kernel_core.proofs.Standing.{kept_down, shows_down, settled_down}
-use Rattle.kernel_core.proofs.Trees.{next_below}
+use Rattle.kernel_machine.proofs.Trees.{next_below}
 use Rattle.kernel_core.proofs.settle.settle_down.Given as given
 use Rattle.kernel_core.proofs.settle.settle_down.Goals as goal
 

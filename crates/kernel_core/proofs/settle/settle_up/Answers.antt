@@ -1,16 +1,16 @@
 use Rattle.std.proofs.Common.{false, sym, ◌∙◌, subst}
 use Rattle.janus_meaning.specs.World.{World}
-use Rattle.kernel_core.specs.State as state
-use Rattle.kernel_core.specs.State.{here, code_of, node_at, world_at}
-use Rattle.kernel_core.specs.Language.{start_of}
+use Rattle.kernel_machine.specs.State as state
+use Rattle.kernel_machine.specs.State.{here, code_of, node_at, world_at}
+use Rattle.kernel_machine.specs.Language.{start_of}
 use Rattle.kernel_core.specs.Fields.{past_of, state_of, travel_of}
 use Rattle.kernel_core.specs.Kept.{IsCellAt}
-use Rattle.kernel_core.specs.Slices.{Arrives, cells}
-use Rattle.kernel_core.specs.Travel.{Travel}
+use Rattle.kernel_machine.specs.Slices.{Arrives, cells}
+use Rattle.kernel_machine.specs.Travel.{Travel}
 use Rattle.kernel_core.specs.Runner.{world_of}
 use Rattle.kernel_core.proofs.Nodes.{parent_there}
 use Rattle.kernel_core.proofs.Standing.{kept_up, up_names, settled_up, nodes_ready, can_leave_up}
-use Rattle.kernel_core.proofs.Trees.{up_possible}
+use Rattle.kernel_machine.proofs.Trees.{up_possible}
 use Rattle.kernel_core.proofs.settle.settle_up.Goals as goal
 
 pub leave-requires : goal.leave-requires

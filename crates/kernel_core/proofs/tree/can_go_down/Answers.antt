@@ -1,6 +1,6 @@
 use Rattle.std.proofs.Common.{◌≡◌, ℕ, ◌+◌, ◌-◌, get_or, sym, subst, ◌∙◌, arith}
-use Rattle.kernel_core.specs.Legal.{can_redo}
-use Rattle.kernel_core.proofs.Trees.{redo_step}
+use Rattle.kernel_machine.specs.Legal.{can_redo}
+use Rattle.kernel_machine.proofs.Trees.{redo_step}
 use Rattle.kernel_core.proofs.tree.can_go_down.Goals as goal
 
 pub loop-i-preserved : goal.loop-i-preserved

@@ -1,5 +1,5 @@
 use Rattle.std.proofs.Common.{◌≡◌, ◌-◌, ◌≤◌, length}
-use Rattle.kernel_core.specs.Legal.{can_redo}
+use Rattle.kernel_machine.specs.Legal.{can_redo}
 use Rattle.kernel_core.proofs.tree.can_go_down.Given as goal
 
 abbrev pub invariant-loop-i : goal.invariant-loop-i

@@ -1,6 +1,6 @@
 use Rattle.std.proofs.Common.{◌≡◌, ◌-◌, ◌≤◌, length}
 use Rattle.kernel_core.specs.Fields.{nodes_of}
-use Rattle.kernel_core.specs.Legal.{can_undo}
+use Rattle.kernel_machine.specs.Legal.{can_undo}
 use Rattle.kernel_core.proofs.tree.can_go_up.Given as goal
 
 abbrev pub invariant-loop-i : goal.invariant-loop-i

@@ -1,15 +1,15 @@
 use Rattle.std.proofs.Common.{◌≡◌, ◌<◌, length, inl, inr, sym, ap, subst}
 use Rattle.std.proofs.lemmas.Bool.{cases_lt}
-use Rattle.kernel_core.specs.State as state
-use Rattle.kernel_core.specs.State.{State, Past}
+use Rattle.kernel_machine.specs.State as state
+use Rattle.kernel_machine.specs.State.{State, Past}
 use Rattle.kernel_core.specs.Kept.{Kept, IsKept}
 use Rattle.kernel_core.specs.declared.job.Open.{Open}
 use Rattle.kernel_core.specs.declared.job.Open.TheVariants.{Idle}
 use Rattle.kernel_core.proofs.Standing.{idle_job, idle_in_time, kept_with_room}
 use Rattle.kernel_core.specs.Fields.{past_of, nodes_of}
-use Rattle.kernel_core.specs.Legal.{IsLegal, CanGo}
-use Rattle.kernel_core.specs.Travel.{Travel}
-use Rattle.kernel_core.proofs.Trees.{meeting_way}
+use Rattle.kernel_machine.specs.Legal.{IsLegal, CanGo}
+use Rattle.kernel_machine.specs.Travel.{Travel}
+use Rattle.kernel_machine.proofs.Trees.{meeting_way}
 use Rattle.kernel_core.proofs.history.History.begin_goto.Goals as goal
 
 pub depart-job-requires-clause-way : goal.depart-job-requires-clause-way

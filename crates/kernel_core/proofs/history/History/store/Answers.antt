@@ -1,6 +1,6 @@
 use Rattle.std.proofs.Common.{◌≡◌, sym, subst}
-use Rattle.kernel_core.specs.State as state
-use Rattle.kernel_core.specs.State.{State, here}
+use Rattle.kernel_machine.specs.State as state
+use Rattle.kernel_machine.specs.State.{State, here}
 use Rattle.kernel_core.specs.Fields.{job_of}
 use Rattle.kernel_core.proofs.Standing.{idle_store}
 use Rattle.kernel_core.proofs.history.History.store.Goals as goal
