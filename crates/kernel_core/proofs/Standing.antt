@@ -12,7 +12,7 @@ use Rattle.kernel_machine.specs.Language.{IsFormed, IsSound, Code, Forward, Back
 use Rattle.kernel_machine.specs.State as state
 use Rattle.kernel_machine.specs.State.{State, Past, new_state, root, node_at, world_at, here, below, code_of, ShownAt, procedures_at, worlds_from}
 use Rattle.cell_tree.specs.Tree.{contents_of, root_alone}
-use Rattle.kernel_core.specs.Fields.{nodes_of, aim_of, travel_of, work_of, job_of, past_of, state_of}
+use Rattle.kernel_core.specs.Fields.{nodes_of, work_of, job_of, past_of, state_of}
 use Rattle.kernel_machine.specs.Legal.{CanGo, IsLegal, IsPossible, IsPossibleWork, IsCounted}
 use Rattle.kernel_machine.specs.Slices.{cells, stepped, moved, grown, Arrives, Settles, HasEnded}
 use Rattle.kernel_machine.specs.Begins.{Declares}
@@ -32,10 +32,7 @@ use Rattle.kernel_core.specs.declared.tree.Tree.{Tree}
 use Rattle.kernel_machine.specs.declared.outcome.Sliced.{Sliced}
 use Rattle.kernel_core.specs.declared.job.Work.{Work}
 use Rattle.kernel_core.specs.declared.job.Work.TheVariants.{Cell as RunCell, Move}
-use Rattle.kernel_core.specs.declared.job.Travel.{Travel as CodeTravel}
-use Rattle.kernel_core.specs.declared.job.Turn.{Turn as CodeTurn}
-use Rattle.kernel_core.specs.declared.job.Turn.TheVariants.{Going, Backing}
-use Rattle.kernel_core.specs.declared.job.Why.{Why}
+use Rattle.kernel_machine.specs.Turn.{Why, Turn, GoesOn, GoesBack}
 use Rattle.kernel_core.specs.declared.job.Open.{Open}
 use Rattle.kernel_core.specs.declared.job.Open.TheVariants.{Idle, Border, Inside}
 use Rattle.kernel_machine.proofs.LanguageLaws.{part_none_forward, part_none_backward, exec_end, exec_some}
@@ -63,7 +60,7 @@ pub nodes_ready : {L : Type 0} (tree : Tree) (runner at : Runner L) → GoOn run
 nodes_ready tree runner at more same h = λ n cell is.
     ready_same at.store.names runner.procedures at.procedures cell.program same (ready_grows runner.store.names at.store.names more runner.procedures cell.program (h n cell is))
 
-pub kept_inside : {L : Type 0} (tree : Tree) (work : Work) (count c : ℕ) (turn to : CodeTurn) (runner at : Runner L) → Kept tree runner (Inside (record { work = work; count = count; turn = turn })) → GoOn runner.store.names at.store.names →
+pub kept_inside : {L : Type 0} (tree : Tree) (work : Work) (count c : ℕ) (turn to : Turn) (runner at : Runner L) → Kept tree runner (Inside (record { work = work; count = count; turn = turn })) → GoOn runner.store.names at.store.names →
     kept_in at.procedures ≡ kept_in runner.procedures → StandsIn tree work c (is_back to) at → Kept tree at (Inside (record { work = work; count = c; turn = to }))
 kept_inside tree work count c turn to runner at k more same p = record {
   legal = k.legal;
@@ -195,7 +192,7 @@ idle_job (Border travel) e = cc
 idle_job (Inside x) e = cc
 
 -- a border of the code, where its model is known
-border_job : (job : Open) (travel : Travel) → job_of job ≡ state.Border travel → (t : CodeTravel) × (job ≡ Border t) × (travel_of t ≡ travel)
+border_job : (job : Open) (travel : Travel) → job_of job ≡ state.Border travel → (t : Travel) × (job ≡ Border t) × (t ≡ travel)
 border_job Idle travel e = cc
 border_job (Border t) travel e = (t, refl, cc)
 border_job (Inside x) travel e = cc
@@ -290,7 +287,7 @@ ended_down s travel n v way legal possible e = redone_world s (below s travel) n
 -- ---- the program of the open job
 
 -- the work has one program
-same_up : (tree : Tree) (travel : CodeTravel) (way : Way) (p q : Program) → next_way (travel_of travel) ≡ way → IsProgramOf tree (Move travel) p → IsProgramOf tree (Move travel) q → p ≡ q
+same_up : (tree : Tree) (travel : Travel) (way : Way) (p q : Program) → next_way travel ≡ way → IsProgramOf tree (Move travel) p → IsProgramOf tree (Move travel) q → p ≡ q
 same_up tree travel Up p q way a b =
     let c = rw (way, IsProgramOf) at a in
     let d = rw (way, IsProgramOf) at b in
@@ -302,7 +299,7 @@ same_up tree travel Down p q way a b =
 
 pub same_program : (tree : Tree) (work : Work) (p q : Program) → IsProgramOf tree work p → IsProgramOf tree work q → p ≡ q
 same_program tree (RunCell program) p q a b = a ∙ sym b
-same_program tree (Move travel) p q a b = same_up tree travel (next_way (travel_of travel)) p q refl a b
+same_program tree (Move travel) p q a b = same_up tree travel (next_way travel) p q refl a b
 
 -- where a runner stands, for the program that was found
 pub stands_with : {L : Type 0} (tree : Tree) (work : Work) (count : ℕ) (back : Bool) (runner : Runner L) (p : Program) → IsProgramOf tree work p → StandsIn tree work count back runner →
@@ -318,7 +315,7 @@ position_known tree g =
     omega arith
 
 -- a posted cell that ended becomes a node, whose code runs as it stands, behind those of the others
-module _ {L : Type 0} (tree larger : Tree) (program : Program) (n : ℕ) (runner : Runner L) (k : Kept tree runner (Inside (record { work = RunCell program; count = n; turn = Going }))) (nodes : larger.cells.nodes ≡ tree.cells.nodes ++ record { parent = tree.position; content = record { program = program; steps = n } } ∷ []) where
+module _ {L : Type 0} (tree larger : Tree) (program : Program) (n : ℕ) (runner : Runner L) (k : Kept tree runner (Inside (record { work = RunCell program; count = n; turn = GoesOn }))) (nodes : larger.cells.nodes ≡ tree.cells.nodes ++ record { parent = tree.position; content = record { program = program; steps = n } } ∷ []) where
   pub placed_more : NodesAreReady larger runner
   placed_more =
       placed_grown tree larger (record { parent = tree.position; content = record { program = program; steps = n } }) runner nodes k.ready (stands_with tree (RunCell program) n false runner program refl k.stands).ready
@@ -339,8 +336,8 @@ module _ {L : Type 0} (tree larger : Tree) (program : Program) (n : ℕ) (runner
 
 -- ---- begins
 
-pub kept_entered : {L : Type 0} (tree : Tree) (runner at : Runner L) (travel : CodeTravel) → Kept tree runner (Border travel) → GoOn runner.store.names at.store.names → kept_in at.procedures ≡ kept_in runner.procedures → StandsIn tree (Move travel) 0 false at →
-    IsKept tree at (Inside (record { work = Move travel; count = 0; turn = Going }))
+pub kept_entered : {L : Type 0} (tree : Tree) (runner at : Runner L) (travel : Travel) → Kept tree runner (Border travel) → GoOn runner.store.names at.store.names → kept_in at.procedures ≡ kept_in runner.procedures → StandsIn tree (Move travel) 0 false at →
+    IsKept tree at (Inside (record { work = Move travel; count = 0; turn = GoesOn }))
 kept_entered tree runner at travel k more same stands = record {
   kept = record {
     legal = k.legal;
@@ -354,7 +351,7 @@ kept_entered tree runner at travel k more same stands = record {
     order = k.order;
     behind = tt;
   };
-  in_time = exec_some (code_of (past_of tree) (state.Move (travel_of travel))) (here (past_of tree));
+  in_time = exec_some (code_of (past_of tree) (state.Move travel)) (here (past_of tree));
 }
 
 -- with no open job nothing is due
@@ -365,7 +362,7 @@ behind_nodes : (tree other : Tree) (program : Program) → other.cells.nodes ≡
 behind_nodes tree other program e h = subst (λ (nodes : List (Node Cell)). IsBehindNodes (record other { cells = record other.cells { nodes = nodes } }) (RunCell program)) (sym e) h
 
 pub kept_begun : {L : Type 0} (tree made : Tree) (runner at : Runner L) (program : Program) → Kept tree runner Idle → NodesAreReady tree at → IsBehindNodes tree (RunCell program) → past_of made ≡ past_of tree → made.cells.nodes ≡ tree.cells.nodes → made.position ≡ tree.position → HasRoom made → IsFormed (cell_of_program program) (here (past_of tree)) →
-    Stands at program (with_bodies program (stack_at tree tree.position)) (Forward (cell_of_program program)) (here (past_of tree)) 0 false → IsKept made at (Inside (record { work = RunCell program; count = 0; turn = Going }))
+    Stands at program (with_bodies program (stack_at tree tree.position)) (Forward (cell_of_program program)) (here (past_of tree)) 0 false → IsKept made at (Inside (record { work = RunCell program; count = 0; turn = GoesOn }))
 kept_begun tree made runner at program k ready behind same nodes position room formed stands =
     let stack : stack_at made made.position ≡ stack_at tree tree.position = stack_same tree made made.position nodes ∙ ap (stack_at tree) position in
     record {
@@ -419,24 +416,24 @@ err_fact P (Err x) e h = h
 pub began_cell : (tree : Tree) (work : Work) (program : Program) (v : World) → work ≡ RunCell program → CodePart (code_of (past_of tree) (work_of work)) (here (past_of tree)) 0 v → v ≡ entered (cell_of_program program) (here (past_of tree))
 began_cell tree work program v e p = part_none_forward (cell_of_program program) (here (past_of tree)) v (rw e at p)
 
-pub began_up : (tree : Tree) (work : Work) (travel : CodeTravel) (v : World) → work ≡ Move travel → next_way (travel_of travel) ≡ Up → CodePart (code_of (past_of tree) (work_of work)) (here (past_of tree)) 0 v → v ≡ here (past_of tree)
+pub began_up : (tree : Tree) (work : Work) (travel : Travel) (v : World) → work ≡ Move travel → next_way travel ≡ Up → CodePart (code_of (past_of tree) (work_of work)) (here (past_of tree)) 0 v → v ≡ here (past_of tree)
 began_up tree work travel v e way p =
     let s : Past = past_of tree in
-    let q : CodePart (code_of (past_of tree) (state.Move (travel_of travel))) (here (past_of tree)) 0 v = rw e at p in
+    let q : CodePart (code_of (past_of tree) (state.Move travel)) (here (past_of tree)) 0 v = rw e at p in
     part_none_backward (node_at (past_of tree) tree.position).cell (here (past_of tree)) v (rw (way, code_of) at q)
 
-pub began_down : (tree : Tree) (work : Work) (travel : CodeTravel) (v : World) (cell : Cell) → work ≡ Move travel → next_way (travel_of travel) ≡ Down → IsCellAt tree (below (past_of tree) (travel_of travel)) cell →
+pub began_down : (tree : Tree) (work : Work) (travel : Travel) (v : World) (cell : Cell) → work ≡ Move travel → next_way travel ≡ Down → IsCellAt tree (below (past_of tree) travel) cell →
     CodePart (code_of (past_of tree) (work_of work)) (here (past_of tree)) 0 v → v ≡ entered (cell_of_program cell.program) (here (past_of tree))
 began_down tree work travel v cell e way at p =
-    let q : CodePart (code_of (past_of tree) (state.Move (travel_of travel))) (here (past_of tree)) 0 v = rw e at p in
-    part_none_forward (node_at (past_of tree) (below (past_of tree) (travel_of travel))).cell (here (past_of tree)) v (rw (way, code_of) at q)
+    let q : CodePart (code_of (past_of tree) (state.Move travel)) (here (past_of tree)) 0 v = rw e at p in
+    part_none_forward (node_at (past_of tree) (below (past_of tree) travel)).cell (here (past_of tree)) v (rw (way, code_of) at q)
     ∙ ap (λ (c : ACell). entered c (here (past_of tree))) (sym (cell_there tree _ cell at))
 
 -- what a call of `below` asks for, and where its node stands
 pub work_possible : (s : Past) (work : state.Work) (travel : Travel) → work ≡ state.Move travel → IsPossibleWork s work → IsPossible s.nodes s.favourites s.position travel
 work_possible s work travel e p = rw e at p
 
-pub work_path : (tree : Tree) (work : Work) (travel : CodeTravel) → work ≡ Move travel → HasPathFor tree work → HasPath (aim_of travel.aim) tree travel.down
+pub work_path : (tree : Tree) (work : Work) (travel : Travel) → work ≡ Move travel → HasPathFor tree work → HasPath travel.aim tree travel.down
 work_path tree work travel e p = rw e at p
 
 pub below_there : (tree : Tree) (travel : Travel) (i : ℕ) → IsLegal (past_of tree) → next_way travel ≡ Down → IsPossible (nodes_of tree) tree.cells.favourites tree.position travel → i ≡ below (past_of tree) travel →
@@ -489,36 +486,36 @@ kept_new tree runner e position shown whole = record {
 }
 
 -- the program of an undo and of a redo, as it is read
-up_is : (tree : Tree) (travel : CodeTravel) (p : Program) → next_way (travel_of travel) ≡ Up → (cell : Cell) × IsCellAt tree tree.position cell × (p ≡ cell.program) → IsProgramOf tree (Move travel) p
+up_is : (tree : Tree) (travel : Travel) (p : Program) → next_way travel ≡ Up → (cell : Cell) × IsCellAt tree tree.position cell × (p ≡ cell.program) → IsProgramOf tree (Move travel) p
 up_is tree travel p way h = rw (way, IsProgramOf) h
 
-down_is : (tree : Tree) (travel : CodeTravel) (p : Program) → next_way (travel_of travel) ≡ Down → (cell : Cell) × IsCellAt tree (below (past_of tree) (travel_of travel)) cell × (p ≡ cell.program) → IsProgramOf tree (Move travel) p
+down_is : (tree : Tree) (travel : Travel) (p : Program) → next_way travel ≡ Down → (cell : Cell) × IsCellAt tree (below (past_of tree) travel) cell × (p ≡ cell.program) → IsProgramOf tree (Move travel) p
 down_is tree travel p way h = rw (way, IsProgramOf) h
 
-pub cell_of_up : (tree : Tree) (work : Work) (travel : CodeTravel) (cell : Cell) → IsLegal (past_of tree) → IsPossibleWork (past_of tree) (work_of work) → work ≡ Move travel → next_way (travel_of travel) ≡ Up →
+pub cell_of_up : (tree : Tree) (work : Work) (travel : Travel) (cell : Cell) → IsLegal (past_of tree) → IsPossibleWork (past_of tree) (work_of work) → work ≡ Move travel → next_way travel ≡ Up →
     slice_get (contents_of tree.cells) (tree.position - 1) ≡ Some cell → IsCellAt tree tree.position cell
 cell_of_up tree work travel cell legal possible e way read =
-    (up_work (past_of tree) (work_of work) (travel_of travel) (ap work_of e) way possible, read)
+    (up_work (past_of tree) (work_of work) travel (ap work_of e) way possible, read)
 
-pub cell_of_down : (tree : Tree) (work : Work) (travel : CodeTravel) (cell : Cell) (i : ℕ) → IsLegal (past_of tree) → IsPossibleWork (past_of tree) (work_of work) → work ≡ Move travel → next_way (travel_of travel) ≡ Down →
-    i ≡ below (past_of tree) (travel_of travel) → slice_get (contents_of tree.cells) (i - 1) ≡ Some cell → IsCellAt tree (below (past_of tree) (travel_of travel)) cell
+pub cell_of_down : (tree : Tree) (work : Work) (travel : Travel) (cell : Cell) (i : ℕ) → IsLegal (past_of tree) → IsPossibleWork (past_of tree) (work_of work) → work ≡ Move travel → next_way travel ≡ Down →
+    i ≡ below (past_of tree) travel → slice_get (contents_of tree.cells) (i - 1) ≡ Some cell → IsCellAt tree (below (past_of tree) travel) cell
 cell_of_down tree work travel cell i legal possible e way at read =
-    cell_below tree (travel_of travel) cell i (down_work (past_of tree) (work_of work) (travel_of travel) (ap work_of e) way legal possible) at read
+    cell_below tree travel cell i (down_work (past_of tree) (work_of work) travel (ap work_of e) way legal possible) at read
 
-pub program_up : (tree : Tree) (work : Work) (travel : CodeTravel) (cell : Cell) → work ≡ Move travel → next_way (travel_of travel) ≡ Up → IsCellAt tree tree.position cell → IsProgramOf tree work cell.program
+pub program_up : (tree : Tree) (work : Work) (travel : Travel) (cell : Cell) → work ≡ Move travel → next_way travel ≡ Up → IsCellAt tree tree.position cell → IsProgramOf tree work cell.program
 program_up tree work travel cell e way at = rw e (up_is tree travel cell.program way (cell, at, refl))
 
-pub program_down : (tree : Tree) (work : Work) (travel : CodeTravel) (cell : Cell) → work ≡ Move travel → next_way (travel_of travel) ≡ Down → IsCellAt tree (below (past_of tree) (travel_of travel)) cell → IsProgramOf tree work cell.program
+pub program_down : (tree : Tree) (work : Work) (travel : Travel) (cell : Cell) → work ≡ Move travel → next_way travel ≡ Down → IsCellAt tree (below (past_of tree) travel) cell → IsProgramOf tree work cell.program
 program_down tree work travel cell e way at = rw e (down_is tree travel cell.program way (cell, at, refl))
 
 -- the runner has gone on, or back, in the work's program
-pub kept_at : {L : Type 0} (tree : Tree) (work : Work) (count c : ℕ) (turn to : CodeTurn) (runner at : Runner L) (p : Program) → Kept tree runner (Inside (record { work = work; count = count; turn = turn })) → GoOn runner.store.names at.store.names → kept_in at.procedures ≡ kept_in runner.procedures →
+pub kept_at : {L : Type 0} (tree : Tree) (work : Work) (count c : ℕ) (turn to : Turn) (runner at : Runner L) (p : Program) → Kept tree runner (Inside (record { work = work; count = count; turn = turn })) → GoOn runner.store.names at.store.names → kept_in at.procedures ≡ kept_in runner.procedures →
     IsProgramOf tree work p → Stands at p (stack_in tree work p) (code_of (past_of tree) (work_of work)) (here (past_of tree)) c (is_back to) → Kept tree at (Inside (record { work = work; count = c; turn = to }))
 kept_at tree work count c turn to runner at p k more same of stands =
     kept_inside tree work count c turn to runner at k more same (record { program = p; of_work = of; stands = stands })
 
 -- in the form in which the calls of the runner ask for it
-pub inside_with : {L : Type 0} (tree : Tree) (work : Work) (count : ℕ) (turn : CodeTurn) (runner : Runner L) (p : Program) → Kept tree runner (Inside (record { work = work; count = count; turn = turn })) → IsProgramOf tree work p → IsInside runner p count (is_back turn)
+pub inside_with : {L : Type 0} (tree : Tree) (work : Work) (count : ℕ) (turn : Turn) (runner : Runner L) (p : Program) → Kept tree runner (Inside (record { work = work; count = count; turn = turn })) → IsProgramOf tree work p → IsInside runner p count (is_back turn)
 inside_with tree work count turn runner p k of = (_, _, _, stands_with tree work count (is_back turn) runner p of k.stands)
 
 -- a cell of a travel settles
@@ -570,11 +567,11 @@ can_go_down_to tree travel cell runner way legal possible at shows whole ready o
   behind = cell_behind tree legal order tree.position (below (past_of tree) travel) cell (before_below tree travel way legal possible) at;
 }
 
-pub stands_next_down : {L : Type 0} (tree : Tree) (travel : CodeTravel) (cell : Cell) (at : Runner L) → next_way (travel_of travel) ≡ Down → IsCellAt tree (below (past_of tree) (travel_of travel)) cell →
+pub stands_next_down : {L : Type 0} (tree : Tree) (travel : Travel) (cell : Cell) (at : Runner L) → next_way travel ≡ Down → IsCellAt tree (below (past_of tree) travel) cell →
     Stands at cell.program (with_bodies cell.program (stack_at tree tree.position)) (Forward (cell_of_program cell.program)) (here (past_of tree)) 0 false → StandsIn tree (Move travel) 0 false at
 stands_next_down tree travel cell at way is stands =
     let same = cell_there tree _ cell is in
-    let code : Forward (cell_of_program cell.program) ≡ code_of (past_of tree) (state.Move (travel_of travel)) = rw (way, code_of) (ap (λ (c : ACell). Forward c) same) in
+    let code : Forward (cell_of_program cell.program) ≡ code_of (past_of tree) (state.Move travel) = rw (way, code_of) (ap (λ (c : ACell). Forward c) same) in
     let stack : with_bodies cell.program (stack_at tree tree.position) ≡ stack_in tree (Move travel) cell.program = rw (way, stack_in) refl in
     record {
       program = cell.program;
@@ -604,11 +601,11 @@ can_go_up_from tree travel cell runner way legal possible at shows whole ready =
       ready = ready _ cell at;
     }
 
-pub stands_next_up : {L : Type 0} (tree : Tree) (travel : CodeTravel) (cell : Cell) (at : Runner L) → next_way (travel_of travel) ≡ Up → IsCellAt tree tree.position cell →
+pub stands_next_up : {L : Type 0} (tree : Tree) (travel : Travel) (cell : Cell) (at : Runner L) → next_way travel ≡ Up → IsCellAt tree tree.position cell →
     Stands at cell.program (stack_at tree tree.position) (Backward (cell_of_program cell.program)) (here (past_of tree)) 0 false → StandsIn tree (Move travel) 0 false at
 stands_next_up tree travel cell at way is stands =
     let same = cell_there tree _ cell is in
-    let code : Backward (cell_of_program cell.program) ≡ code_of (past_of tree) (state.Move (travel_of travel)) = rw (way, code_of) (ap (λ (c : ACell). Backward c) same) in
+    let code : Backward (cell_of_program cell.program) ≡ code_of (past_of tree) (state.Move travel) = rw (way, code_of) (ap (λ (c : ACell). Backward c) same) in
     let stack : stack_at tree tree.position ≡ stack_in tree (Move travel) cell.program = rw (way, stack_in) refl in
     record {
       program = cell.program;
@@ -644,13 +641,13 @@ idle_store tree runner (Inside i) stands whole e = absurd (cc e)
 
 module _ {L : Type 0} (tree : Tree) (runner : Runner L) (cell : Cell) (n : ℕ) (at : IsCellAt tree tree.position cell) (legal : IsLegal (past_of tree)) where
   -- the cell of the position is undone: what it declared and defined is left to be taken back
-  pub can_leave_up : (travel : CodeTravel) (back : Bool) → next_way (travel_of travel) ≡ Up → StandsIn tree (Move travel) n back runner → IsWhole runner.store → IsReady runner.store.names runner.procedures cell.program →
-      world_of (start_of (code_of (past_of tree) (state.Move (travel_of travel))) (here (past_of tree))).procedures runner ≡ entered (cell_of_program cell.program) (world_at (past_of tree) (node_at (past_of tree) tree.position).parent) →
+  pub can_leave_up : (travel : Travel) (back : Bool) → next_way travel ≡ Up → StandsIn tree (Move travel) n back runner → IsWhole runner.store → IsReady runner.store.names runner.procedures cell.program →
+      world_of (start_of (code_of (past_of tree) (state.Move travel)) (here (past_of tree))).procedures runner ≡ entered (cell_of_program cell.program) (world_at (past_of tree) (node_at (past_of tree) tree.position).parent) →
       CanLeave runner cell.program (stack_at tree (node_at (past_of tree) tree.position).parent) (world_at (past_of tree) (node_at (past_of tree) tree.position).parent)
   can_leave_up travel back way stands whole ready world =
       let p : Program = cell.program in
       let s = stands_with tree (Move travel) n back runner p (up_is tree travel p way (cell, at, refl)) stands in
-      let shows = stands_shows runner p (stack_in tree (Move travel) p) (code_of (past_of tree) (state.Move (travel_of travel))) (here (past_of tree)) n back s in
+      let shows = stands_shows runner p (stack_in tree (Move travel) p) (code_of (past_of tree) (state.Move travel)) (here (past_of tree)) n back s in
       let stack : stack_in tree (Move travel) p ≡ with_bodies p (stack_at tree (node_at (past_of tree) tree.position).parent) = rw (way, stack_in) (stack_of_cell tree tree.position cell legal at) in
       record {
         shows = subst (λ (l : List ℕ). Shows runner l (entered (cell_of_program p) (world_at (past_of tree) (node_at (past_of tree) tree.position).parent))) stack
@@ -660,19 +657,19 @@ module _ {L : Type 0} (tree : Tree) (runner : Runner L) (cell : Cell) (n : ℕ) 
       }
 
 -- a redone cell has ended: its bodies are defined over those of the position, and are those of its node
-pub shows_down : {L : Type 0} (tree : Tree) (runner : Runner L) (travel : CodeTravel) (n : ℕ) → Kept tree runner (Inside (record { work = Move travel; count = n; turn = Going })) → next_way (travel_of travel) ≡ Down →
-    HasEnded (past_of tree) (state.Move (travel_of travel)) n (world_of (start_of (code_of (past_of tree) (state.Move (travel_of travel))) (here (past_of tree))).procedures runner) →
-    Shows runner (stack_at tree (below (past_of tree) (travel_of travel))) (world_at (past_of tree) (below (past_of tree) (travel_of travel)))
+pub shows_down : {L : Type 0} (tree : Tree) (runner : Runner L) (travel : Travel) (n : ℕ) → Kept tree runner (Inside (record { work = Move travel; count = n; turn = GoesOn })) → next_way travel ≡ Down →
+    HasEnded (past_of tree) (state.Move travel) n (world_of (start_of (code_of (past_of tree) (state.Move travel)) (here (past_of tree))).procedures runner) →
+    Shows runner (stack_at tree (below (past_of tree) travel)) (world_at (past_of tree) (below (past_of tree) travel))
 shows_down tree runner travel n k way ended =
     let s : Past = past_of tree in
     let p : Program = k.stands.program in
     let of = rw (way, IsProgramOf) at k.stands.of_work in
-    let next = next_below s (travel_of travel) k.legal way k.possible in
-    let stack : stack_in tree (Move travel) p ≡ stack_at tree (below s (travel_of travel)) =
-    rw (way, stack_in) (ap (λ (q : Program). with_bodies q (stack_at tree tree.position)) of.2 ∙ ap (λ (m : ℕ). with_bodies of.0.program (stack_at tree m)) (sym next.parent) ∙ sym (stack_of_cell tree (below s (travel_of travel)) of.0 k.legal of.1)) in
-    let world = ended_down s (travel_of travel) n (world_of (start_of (code_of s (state.Move (travel_of travel))) (here s)).procedures runner) way k.legal k.possible ended in
-    subst (λ (l : List ℕ). Shows runner l (world_at s (below s (travel_of travel)))) stack
-    (subst (λ (w : World). Shows runner (stack_in tree (Move travel) p) w) world (stands_shows runner p (stack_in tree (Move travel) p) (code_of s (state.Move (travel_of travel))) (here s) n false k.stands.stands))
+    let next = next_below s travel k.legal way k.possible in
+    let stack : stack_in tree (Move travel) p ≡ stack_at tree (below s travel) =
+    rw (way, stack_in) (ap (λ (q : Program). with_bodies q (stack_at tree tree.position)) of.2 ∙ ap (λ (m : ℕ). with_bodies of.0.program (stack_at tree m)) (sym next.parent) ∙ sym (stack_of_cell tree (below s travel) of.0 k.legal of.1)) in
+    let world = ended_down s travel n (world_of (start_of (code_of s (state.Move travel)) (here s)).procedures runner) way k.legal k.possible ended in
+    subst (λ (l : List ℕ). Shows runner l (world_at s (below s travel))) stack
+    (subst (λ (w : World). Shows runner (stack_in tree (Move travel) p) w) world (stands_shows runner p (stack_in tree (Move travel) p) (code_of s (state.Move travel)) (here s) n false k.stands.stands))
 
 -- a cell is posted: its bodies are kept behind those of all nodes
 pub posted_behind : {L : Type 0} (tree : Tree) (runner : Runner L) (program : Program) → NodesAreReady tree runner → program.first ≡ length (kept_in runner.procedures) → IsBehindNodes tree (RunCell program)
@@ -686,7 +683,7 @@ pub behind_stack : (tree : Tree) (program : Program) → IsLegal (past_of tree) 
 behind_stack tree program legal order behind = stack_below tree legal order program.first tree.position (λ m cell low there. behind m cell there)
 
 -- back at the count 0 what a cell declared and defined is left to be taken back
-module _ {L : Type 0} (tree : Tree) (runner : Runner L) (work : Work) (why : Why) (k : Kept tree runner (Inside (record { work = work; count = 0; turn = Backing why }))) where
+module _ {L : Type 0} (tree : Tree) (runner : Runner L) (work : Work) (why : Why) (k : Kept tree runner (Inside (record { work = work; count = 0; turn = GoesBack why }))) where
   abbrev start : World
   start = start_of (code_of (past_of tree) (work_of work)) (here (past_of tree))
 
@@ -707,13 +704,13 @@ module _ {L : Type 0} (tree : Tree) (runner : Runner L) (work : Work) (why : Why
       let is : stack_in tree work program ≡ with_bodies program (stack_at tree tree.position) = rw e refl in
       record { shows = shows_back program _ _ of is (began_cell tree work program (world_of start.procedures runner) e part_back); whole = whole; ready = (stands_back program of).ready }
 
-  pub can_leave_down : (travel : CodeTravel) (cell : Cell) → work ≡ Move travel → next_way (travel_of travel) ≡ Down → IsCellAt tree (below (past_of tree) (travel_of travel)) cell → IsWhole runner.store → CanLeave runner cell.program (stack_at tree tree.position) (here (past_of tree))
+  pub can_leave_down : (travel : Travel) (cell : Cell) → work ≡ Move travel → next_way travel ≡ Down → IsCellAt tree (below (past_of tree) travel) cell → IsWhole runner.store → CanLeave runner cell.program (stack_at tree tree.position) (here (past_of tree))
   can_leave_down travel cell e way at whole =
       let of : IsProgramOf tree work cell.program = program_down tree work travel cell e way at in
       let is : stack_in tree work cell.program ≡ with_bodies cell.program (stack_at tree tree.position) = rw (e, stack_in) (rw way refl) in
       record { shows = shows_back cell.program _ _ of is (began_down tree work travel (world_of start.procedures runner) cell e way at part_back); whole = whole; ready = (stands_back cell.program of).ready }
 
-  pub shows_up : (travel : CodeTravel) → work ≡ Move travel → next_way (travel_of travel) ≡ Up → Shows runner (stack_at tree tree.position) (here (past_of tree))
+  pub shows_up : (travel : Travel) → work ≡ Move travel → next_way travel ≡ Up → Shows runner (stack_at tree tree.position) (here (past_of tree))
   shows_up travel e way =
       let p : Program = k.stands.program in
       let is : stack_in tree work p ≡ stack_at tree tree.position = rw (e, stack_in) (rw way refl) in

@@ -5,7 +5,8 @@ use Rattle.cell_tree.specs.declared.node.Node.{Node}
 use Rattle.janus_store.specs.Held.{IsWhole}
 use Rattle.kernel_machine.specs.State.{here, ancestor, below, code_of}
 use Rattle.kernel_machine.specs.Travel.{Up, Down, Aim, Undo, Redo, Goto, next_way}
-use Rattle.kernel_core.specs.Fields.{nodes_of, past_of, aim_of, travel_of, work_of, job_of}
+use Rattle.kernel_machine.specs.Turn.{Turn, GoesOn, GoesBack}
+use Rattle.kernel_core.specs.Fields.{nodes_of, past_of, work_of, job_of}
 use Rattle.kernel_machine.specs.Legal.{IsLegal, IsPossibleAt, IsInTimeAt, IsCountedAt}
 use Rattle.kernel_core.specs.Program.{procedures_of, IsReady, with_bodies}
 use Rattle.kernel_core.specs.Runner.{Shows, Stands}
@@ -15,8 +16,6 @@ use Rattle.kernel_core.specs.declared.tree.Tree.{Tree}
 use Rattle.kernel_core.specs.declared.tree.Cell.{Cell}
 use Rattle.kernel_core.specs.declared.job.Work.{Work}
 use Rattle.kernel_core.specs.declared.job.Work.TheVariants.{Cell as RunCell, Move}
-use Rattle.kernel_core.specs.declared.job.Turn.{Turn}
-use Rattle.kernel_core.specs.declared.job.Turn.TheVariants.{Going as GoesOn, Backing as GoesBack}
 use Rattle.kernel_core.specs.declared.job.Open.{Open}
 use Rattle.kernel_core.specs.declared.job.Open.TheVariants.{Idle, Border, Inside}
 
@@ -27,9 +26,9 @@ IsCellAt tree n cell = (0 < n) × (slice_get (contents_of tree.cells) (n - 1) �
 -- the program that the work runs, forward or backward
 abbrev pub IsProgramOf : Tree → Work → Program → Type 0
 IsProgramOf tree (RunCell program) p = p ≡ program
-IsProgramOf tree (Move travel) p = elim (next_way (travel_of travel)) [
+IsProgramOf tree (Move travel) p = elim (next_way travel) [
   | Up ↦ (cell : Cell) × IsCellAt tree tree.position cell × (p ≡ cell.program)
-  | Down ↦ (cell : Cell) × IsCellAt tree (below (past_of tree) (travel_of travel)) cell × (p ≡ cell.program)
+  | Down ↦ (cell : Cell) × IsCellAt tree (below (past_of tree) travel) cell × (p ≡ cell.program)
 ]
 
 -- ---- the procedures that are defined
@@ -52,7 +51,7 @@ stack_at tree n = stack_up n tree n
 -- inside a cell its own are defined, also while it is undone
 abbrev pub stack_in : Tree → Work → Program → List ℕ
 stack_in tree (RunCell p) program = with_bodies program (stack_at tree tree.position)
-stack_in tree (Move travel) program = elim (next_way (travel_of travel)) [
+stack_in tree (Move travel) program = elim (next_way travel) [
   | Up ↦ stack_at tree tree.position
   | Down ↦ with_bodies program (stack_at tree tree.position)
 ]
@@ -125,11 +124,11 @@ HasPath (Goto n) tree down =
 
 abbrev pub HasPathFor : Tree → Work → Type 0
 HasPathFor tree (RunCell program) = Unit {0}
-HasPathFor tree (Move travel) = HasPath (aim_of travel.aim) tree travel.down
+HasPathFor tree (Move travel) = HasPath travel.aim tree travel.down
 
 abbrev pub HasPathAt : Tree → Open → Type 0
 HasPathAt tree Idle = Unit {0}
-HasPathAt tree (Border travel) = HasPath (aim_of travel.aim) tree travel.down
+HasPathAt tree (Border travel) = HasPath travel.aim tree travel.down
 HasPathAt tree (Inside e) = HasPathFor tree e.work
 
 -- also in the middle of a slice

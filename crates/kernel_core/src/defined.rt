@@ -11,9 +11,10 @@ ghost use Rattle.kernel_machine.specs.Language.{start_of};
 ghost use Rattle.kernel_machine.specs.Legal.{IsLegal, IsPossibleAt, IsPossibleWork};
 ghost use Rattle.kernel_machine.specs.State.{here, code_of, procedures_at};
 
-use crate::job::{Open, Way, Work};
+use crate::job::{Open, Work};
 use crate::tree::{Tree, below};
 use janus_syntax::tree::Procedure;
+use kernel_machine::Way;
 use std::alloc::{AllocError, Global};
 
 /// The procedures of the cell that is open, which its steps began with; none between two cells, and none of a cell that is undone.

@@ -1,7 +1,7 @@
 //! The history: the tree of cells, the one store, and the open job. It is what a kernel has besides its queue.
 ghost use Rattle.std.specs.Prelude.{◌≡◌, ◌≤◌, IfOk, OnOk, OnErr, length, nat_lt, vec_capacity};
 ghost use Rattle.kernel_machine.specs.State.{State, Idle, Border, here, is_full, Shown, new_state};
-ghost use Rattle.kernel_core.specs.Fields.{past_of, nodes_of, aim_of, travel_of, state_of, IsStageOf};
+ghost use Rattle.kernel_core.specs.Fields.{past_of, nodes_of, state_of, IsStageOf};
 ghost use Rattle.kernel_machine.specs.Travel.{Undo, Redo};
 ghost use Rattle.kernel_machine.specs.Legal.{IsLegal, IsPossible, IsCounted, CanGo, can_undo, can_redo};
 ghost use Rattle.kernel_machine.specs.Slices.{IsSlice, cells};
@@ -15,7 +15,7 @@ ghost use Rattle.kernel_machine.specs.Extent.{IsExtent};
 ghost use Rattle.kernel_core.specs.Kept.{HasRoom, HasPath, NodesAreReady, AreInOrder, stack_at, Kept, IsKept, StandsAt};
 
 use crate::extent::extent_of;
-use crate::job::{Aim, Entered, Open, Stage, Travel, Turn, Way, Why, Work};
+use crate::job::{Entered, Open, Stage, Work};
 use crate::program::Program;
 use crate::runner::Runner;
 use crate::settle::{finished, go_back, go_on, turn_back};
@@ -23,7 +23,9 @@ use crate::tree::{Tree, below, can_go_down, can_go_up, find_way, is_full};
 use crate::view::View;
 use cell_tree::Tree as Cells;
 use janus_machine::{Store, Writes};
-use kernel_machine::{Begun, End, Extent, Outcome, Refusal, Sliced};
+use kernel_machine::{
+    Aim, Begun, End, Extent, Outcome, Refusal, Sliced, Travel, Turn, Way, Why,
+};
 use std::alloc::{AllocError, Global};
 use std::marker::Model;
 use std::mem;
@@ -61,18 +63,18 @@ fn enter_next<L: Ledger>(
     travel: Travel,
 ) -> Result<(), AllocError>
     requires legal { IsLegal (past_of tree.now) }
-    requires possible { IsPossible (nodes_of tree.now) tree.now.cells.favourites tree.now.position (travel_of travel) }
-    requires path { HasPath (aim_of travel.aim) tree.now travel.down }
+    requires possible { IsPossible (nodes_of tree.now) tree.now.cells.favourites tree.now.position travel }
+    requires path { HasPath travel.aim tree.now travel.down }
     requires shows { Shows runner.old (stack_at tree.now tree.now.position) (here (past_of tree.now)) }
     requires whole { IsWhole runner.old.store }
     requires ready { NodesAreReady tree.now runner.old }
     requires order { AreInOrder tree.now }
-    ensures ok { OnOk result (StandsAt tree.now (Open.Inside (record { work = Work.Move travel; count = 0; turn = Turn.Going })) runner.new) }
+    ensures ok { OnOk result (StandsAt tree.now (Open.Inside (record { work = Work.Move travel; count = 0; turn = Turn.GoesOn })) runner.new) }
     ensures err { OnErr result (Becomes runner.old.store runner.new.store runner.old.store.sight) }
     ensures same { OnErr result (runner.new.procedures ≡ runner.old.procedures) }
     ensures bodies { kept_in runner.new.procedures ≡ kept_in runner.old.procedures }
     ensures names { GoOn runner.old.store.names runner.new.store.names }
-    ensures declares { OnErr result (Declares (past_of tree.now) (travel_of travel)) }
+    ensures declares { OnErr result (Declares (past_of tree.now) travel) }
 {
     match travel.way() {
         Way::Up => {
@@ -86,7 +88,7 @@ fn enter_next<L: Ledger>(
 /// Enters the next cell of a travel, or ends it for want of memory.
 fn enter<L: Ledger>(tree: &Tree, runner: &mut Runner<L>, travel: Travel) -> (Open, Begun)
     requires { Kept tree.now runner.old (Open.Border travel) }
-    ensures step { Enters (past_of tree.now) (travel_of travel) result.1 (state_of tree.now result.0) }
+    ensures step { Enters (past_of tree.now) travel result.1 (state_of tree.now result.0) }
     ensures kept { IsKept tree.now runner.new result.0 }
 {
     if enter_next(tree, runner, travel).is_err() {
@@ -95,7 +97,7 @@ fn enter<L: Ledger>(tree: &Tree, runner: &mut Runner<L>, travel: Travel) -> (Ope
     let entered = Entered {
         work: Work::Move(travel),
         count: 0,
-        turn: Turn::Going,
+        turn: Turn::GoesOn,
     };
     (Open::Inside(entered), Begun::Going)
 }
@@ -103,10 +105,10 @@ fn enter<L: Ledger>(tree: &Tree, runner: &mut Runner<L>, travel: Travel) -> (Ope
 /// Ends a travel without cells at once, or enters its first cell.
 fn depart<L: Ledger>(tree: &Tree, runner: &mut Runner<L>, travel: Travel) -> (Open, Begun)
     requires idle { Kept tree.now runner.old Open.Idle }
-    requires way { CanGo (aim_of travel.aim) (nodes_of tree.now) tree.now.cells.favourites tree.now.position travel.up travel.down }
-    requires counted { IsCounted (travel_of travel) }
-    requires path { HasPath (aim_of travel.aim) tree.now travel.down }
-    ensures step { Departs (cells (travel_of travel)) (past_of tree.now) (travel_of travel) result.1 (state_of tree.now result.0) }
+    requires way { CanGo travel.aim (nodes_of tree.now) tree.now.cells.favourites tree.now.position travel.up travel.down }
+    requires counted { IsCounted travel }
+    requires path { HasPath travel.aim tree.now travel.down }
+    ensures step { Departs (cells travel) (past_of tree.now) travel result.1 (state_of tree.now result.0) }
     ensures kept { IsKept tree.now runner.new result.0 }
 {
     if travel.is_over() {
@@ -179,7 +181,7 @@ impl<L: Ledger> History<L> {
         self.job = Open::Inside(Entered {
             work: Work::Cell(program),
             count: 0,
-            turn: Turn::Going,
+            turn: Turn::GoesOn,
         });
         Begun::Going
     }
@@ -229,8 +231,8 @@ impl<L: Ledger> History<L> {
 
     /// Enters the next cell of a travel.
     pub fn enter(&mut self, travel: Travel) -> Begun
-        requires { self.old.job ≡ Border (travel_of travel) }
-        ensures { Enters self.old.past (travel_of travel) result self.new }
+        requires { self.old.job ≡ Border travel }
+        ensures { Enters self.old.past travel result self.new }
     {
         let (job, told) = enter(&self.tree, &mut self.runner, travel);
         self.job = job;
@@ -262,14 +264,14 @@ impl<L: Ledger> History<L> {
             Open::Inside(entered) => {
                 let Entered { work, count, turn } = entered;
                 let (job, told) = match turn {
-                    Turn::Backing(why) => {
+                    Turn::GoesBack(why) => {
                         go_back(&self.tree, &mut self.runner, writes, work, count, why, m)
                     }
-                    Turn::Going if asked => {
-                        let why = Why::Asked(count);
+                    Turn::GoesOn if asked => {
+                        let why = Why::WasAsked(count);
                         turn_back(&self.tree, &mut self.runner, writes, work, count, why, m)
                     }
-                    Turn::Going => {
+                    Turn::GoesOn => {
                         go_on(&mut self.tree, &mut self.runner, writes, work, count, m)
                     }
                 };

@@ -3,7 +3,7 @@ ghost use Rattle.std.specs.Prelude.{◌≡◌, ◌-◌};
 ghost use Rattle.kernel_machine.specs.Language.{CodePart};
 ghost use Rattle.kernel_machine.specs.State.{Past, here, code_of};
 ghost use Rattle.kernel_machine.specs.Travel.{Up, Down, next_way};
-ghost use Rattle.kernel_core.specs.Fields.{past_of, state_of, travel_of, why_of, work_of, job_of};
+ghost use Rattle.kernel_core.specs.Fields.{past_of, state_of, work_of, job_of};
 ghost use Rattle.kernel_machine.specs.Legal.{IsLegal, IsPossibleWork};
 ghost use Rattle.kernel_machine.specs.Slices.{finished as the_finished, turned as the_turned, Backs, cells, Arrives, Settles, Goes, HasEnded};
 ghost use Rattle.janus_machine.specs.Counts.{IsWritten};
@@ -14,13 +14,13 @@ ghost use Rattle.kernel_machine.specs.Language.{start_of};
 ghost use Rattle.kernel_core.specs.Runner.{world_of, Shows};
 ghost use Rattle.kernel_core.specs.Kept.{Kept, IsProgramOf, HasPathFor, NodesAreReady, stack_at};
 
-use crate::job::{Aim, Entered, Open, Travel, Turn, Way, Why, Work};
+use crate::job::{Entered, Open, Work};
 use crate::program::Program;
-use crate::runner::{Progress, Runner};
+use crate::runner::Runner;
 use crate::tree::{Cell, Tree, below};
 use cell_tree::Node;
 use janus_machine::Writes;
-use kernel_machine::{End, Outcome, Sliced};
+use kernel_machine::{Aim, End, Outcome, Progress, Sliced, Travel, Turn, Way, Why};
 use std::sync::ledger::Ledger;
 
 /// The program that the work runs: forward, or for an undo backward.
@@ -40,7 +40,7 @@ fn program_of<'a>(tree: &'a Tree, work: &'a Work) -> &'a Program
 }
 
 pub fn finished(travel: Travel, end: End) -> Outcome
-    ensures { result ≡ the_finished (travel_of travel) end }
+    ensures { result ≡ the_finished travel end }
 {
     match travel.aim {
         Aim::Undo => Outcome::Undid(travel.went_up, end),
@@ -50,11 +50,11 @@ pub fn finished(travel: Travel, end: End) -> Outcome
 }
 
 fn turned(work: &Work, why: Why) -> Outcome
-    ensures { result ≡ the_turned (work_of work.now) (why_of why) }
+    ensures { result ≡ the_turned (work_of work.now) why }
 {
     match work {
         Work::Cell(_) => match why {
-            Why::Asked(at) => Outcome::Interrupted(at),
+            Why::WasAsked(at) => Outcome::Interrupted(at),
             Why::Faulted(fault, at) => Outcome::Failed(fault, at),
         },
         Work::Move(travel) => finished(*travel, End::Asked),
@@ -64,7 +64,7 @@ fn turned(work: &Work, why: Why) -> Outcome
 /// Back at the count 0: the names that were declared at the begin and the procedures that were defined are taken back, and those of a
 /// posted cell are forgotten.
 fn settle_back<L: Ledger>(tree: &Tree, runner: &mut Runner<L>, work: &Work)
-    requires kept { (why : Why) × Kept tree.now runner.old (Open.Inside (record { work = work.now; count = 0; turn = Turn.Backing why })) }
+    requires kept { (why : Why) × Kept tree.now runner.old (Open.Inside (record { work = work.now; count = 0; turn = Turn.GoesBack why })) }
     requires whole { IsWhole runner.old.store }
     ensures shows { Shows runner.new (stack_at tree.now tree.now.position) (here (past_of tree.now)) }
     ensures ready { NodesAreReady tree.now runner.new }
@@ -93,8 +93,8 @@ pub fn go_back<L: Ledger>(
     why: Why,
     m: u64,
 ) -> (Open, Sliced)
-    requires { Kept tree.now runner.old (Open.Inside (record { work = work; count = count; turn = Turn.Backing why })) }
-    ensures step { Backs (past_of tree.now) (work_of work) (why_of why) (count - m) result.1 (state_of tree.now result.0) }
+    requires { Kept tree.now runner.old (Open.Inside (record { work = work; count = count; turn = Turn.GoesBack why })) }
+    ensures step { Backs (past_of tree.now) (work_of work) why (count - m) result.1 (state_of tree.now result.0) }
     ensures kept { Kept tree.now runner.new result.0 }
     ensures written { IsWritten (steps_back count m) writes.old writes.new }
 {
@@ -105,7 +105,7 @@ pub fn go_back<L: Ledger>(
         let outcome = turned(&work, why);
         (Open::Idle, Sliced::Ended(outcome))
     } else {
-        let turn = Turn::Backing(why);
+        let turn = Turn::GoesBack(why);
         (
             Open::Inside(Entered {
                 work,
@@ -127,8 +127,8 @@ pub fn turn_back<L: Ledger>(
     why: Why,
     m: u64,
 ) -> (Open, Sliced)
-    requires { Kept tree.now runner.old (Open.Inside (record { work = work; count = count; turn = Turn.Going })) }
-    ensures step { Backs (past_of tree.now) (work_of work) (why_of why) (count - m) result.1 (state_of tree.now result.0) }
+    requires { Kept tree.now runner.old (Open.Inside (record { work = work; count = count; turn = Turn.GoesOn })) }
+    ensures step { Backs (past_of tree.now) (work_of work) why (count - m) result.1 (state_of tree.now result.0) }
     ensures kept { Kept tree.now runner.new result.0 }
     ensures written { IsWritten (steps_back count m) writes.old writes.new }
 {
@@ -138,7 +138,7 @@ pub fn turn_back<L: Ledger>(
 
 /// A cell of the travel is done, which has so many left.
 fn arrive(travel: Travel) -> (Open, Sliced)
-    ensures { (past : Past) → Arrives (cells (travel_of travel)) past (travel_of travel) result.1 (record { past = past; job = job_of result.0 }) }
+    ensures { (past : Past) → Arrives (cells travel) past travel result.1 (record { past = past; job = job_of result.0 }) }
 {
     if travel.is_over() {
         (Open::Idle, Sliced::Ended(finished(travel, End::All)))
@@ -154,7 +154,7 @@ fn settle_cell<L: Ledger>(
     program: Program,
     n: u64,
 ) -> (Open, Sliced)
-    requires kept { Kept tree.old runner.now (Open.Inside (record { work = Work.Cell program; count = n; turn = Turn.Going })) }
+    requires kept { Kept tree.old runner.now (Open.Inside (record { work = Work.Cell program; count = n; turn = Turn.GoesOn })) }
     requires ended { HasEnded (past_of tree.old) (work_of (Work.Cell program)) n (world_of (start_of (code_of (past_of tree.old) (work_of (Work.Cell program))) (here (past_of tree.old))).procedures runner.now) }
     requires whole { IsWhole runner.now.store }
     ensures step { Settles (past_of tree.old) (work_of (Work.Cell program)) n (world_of (start_of (code_of (past_of tree.old) (work_of (Work.Cell program))) (here (past_of tree.old))).procedures runner.now) result.1 (state_of tree.new result.0) }
@@ -175,8 +175,8 @@ fn settle_up<L: Ledger>(
     travel: Travel,
     n: u64,
 ) -> (Open, Sliced)
-    requires way { next_way (travel_of travel) ≡ Up }
-    requires kept { Kept tree.old runner.old (Open.Inside (record { work = Work.Move travel; count = n; turn = Turn.Going })) }
+    requires way { next_way travel ≡ Up }
+    requires kept { Kept tree.old runner.old (Open.Inside (record { work = Work.Move travel; count = n; turn = Turn.GoesOn })) }
     requires ended { HasEnded (past_of tree.old) (work_of (Work.Move travel)) n (world_of (start_of (code_of (past_of tree.old) (work_of (Work.Move travel))) (here (past_of tree.old))).procedures runner.old) }
     requires whole { IsWhole runner.old.store }
     ensures step { Settles (past_of tree.old) (work_of (Work.Move travel)) n (world_of (start_of (code_of (past_of tree.old) (work_of (Work.Move travel))) (here (past_of tree.old))).procedures runner.old) result.1 (state_of tree.new result.0) }
@@ -194,8 +194,8 @@ fn settle_down<L: Ledger>(
     travel: Travel,
     n: u64,
 ) -> (Open, Sliced)
-    requires way { next_way (travel_of travel) ≡ Down }
-    requires kept { Kept tree.old runner.now (Open.Inside (record { work = Work.Move travel; count = n; turn = Turn.Going })) }
+    requires way { next_way travel ≡ Down }
+    requires kept { Kept tree.old runner.now (Open.Inside (record { work = Work.Move travel; count = n; turn = Turn.GoesOn })) }
     requires ended { HasEnded (past_of tree.old) (work_of (Work.Move travel)) n (world_of (start_of (code_of (past_of tree.old) (work_of (Work.Move travel))) (here (past_of tree.old))).procedures runner.now) }
     requires whole { IsWhole runner.now.store }
     ensures step { Settles (past_of tree.old) (work_of (Work.Move travel)) n (world_of (start_of (code_of (past_of tree.old) (work_of (Work.Move travel))) (here (past_of tree.old))).procedures runner.now) result.1 (state_of tree.new result.0) }
@@ -209,7 +209,7 @@ fn settle_down<L: Ledger>(
 
 /// A cell came to its end, in `n` steps.
 fn settle<L: Ledger>(tree: &mut Tree, runner: &mut Runner<L>, work: Work, n: u64) -> (Open, Sliced)
-    requires kept { Kept tree.old runner.old (Open.Inside (record { work = work; count = n; turn = Turn.Going })) }
+    requires kept { Kept tree.old runner.old (Open.Inside (record { work = work; count = n; turn = Turn.GoesOn })) }
     requires ended { HasEnded (past_of tree.old) (work_of work) n (world_of (start_of (code_of (past_of tree.old) (work_of work)) (here (past_of tree.old))).procedures runner.old) }
     requires whole { IsWhole runner.old.store }
     ensures step { Settles (past_of tree.old) (work_of work) n (world_of (start_of (code_of (past_of tree.old) (work_of work)) (here (past_of tree.old))).procedures runner.old) result.1 (state_of tree.new result.0) }
@@ -233,7 +233,7 @@ pub fn go_on<L: Ledger>(
     count: u64,
     m: u64,
 ) -> (Open, Sliced)
-    requires { Kept tree.old runner.old (Open.Inside (record { work = work; count = count; turn = Turn.Going })) }
+    requires { Kept tree.old runner.old (Open.Inside (record { work = work; count = count; turn = Turn.GoesOn })) }
     ensures step { Goes (past_of tree.old) (work_of work) count m result.1 (state_of tree.new result.0) }
     ensures kept { Kept tree.new runner.new result.0 }
     ensures written { WritesOn (past_of tree.old) (work_of work) count m writes.old writes.new }
@@ -243,7 +243,7 @@ pub fn go_on<L: Ledger>(
             Open::Inside(Entered {
                 work,
                 count: runner.count(),
-                turn: Turn::Going,
+                turn: Turn::GoesOn,
             }),
             Sliced::Going,
         ),

@@ -2,13 +2,13 @@
 ghost use Rattle.std.specs.Prelude.{◌≡◌, ◌<◌, ◌≤◌, ◌↔◌, IsErr, IfOk, length};
 ghost use Rattle.kernel_machine.specs.State.{below, is_full};
 ghost use Rattle.kernel_machine.specs.Travel.{Down, Goto, next_way};
-ghost use Rattle.kernel_core.specs.Fields.{past_of, nodes_of, aim_of, travel_of};
+ghost use Rattle.kernel_core.specs.Fields.{past_of, nodes_of};
 ghost use Rattle.kernel_machine.specs.Legal.{IsLegal, IsPossible, IsMeeting, can_undo, can_redo};
 ghost use Rattle.kernel_core.specs.Kept.{HasPath};
 
-use crate::job::{Aim, Travel};
 use crate::program::Program;
 use cell_tree::{NODE_LIMIT, Tree as Cells, TreeFault, Way};
+use kernel_machine::{Aim, Travel};
 
 /// A cell that ended well, with the steps that it took: what a node of the tree holds.
 #[derive(Drop)]
@@ -65,10 +65,10 @@ pub fn can_go_down(tree: &Tree, k: u32) -> bool
 /// The node to which the travel goes down next.
 pub fn below(tree: &Tree, travel: Travel) -> usize
     requires legal { IsLegal (past_of tree.now) }
-    requires possible { IsPossible (nodes_of tree.now) tree.now.cells.favourites tree.now.position (travel_of travel) }
-    requires way { next_way (travel_of travel) ≡ Down }
-    requires path { HasPath (aim_of travel.aim) tree.now travel.down }
-    ensures { result ≡ below (past_of tree.now) (travel_of travel) }
+    requires possible { IsPossible (nodes_of tree.now) tree.now.cells.favourites tree.now.position travel }
+    requires way { next_way travel ≡ Down }
+    requires path { HasPath travel.aim tree.now travel.down }
+    ensures { result ≡ below (past_of tree.now) travel }
 {
     match travel.aim {
         Aim::Undo => tree.cells.favourite(tree.position).unwrap(),

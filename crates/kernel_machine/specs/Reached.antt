@@ -4,12 +4,9 @@ use Rattle.janus_meaning.specs.World.{World}
 use Rattle.kernel_machine.specs.Language.{Code, CodePart, CodeExec, CodeStop}
 use Rattle.janus_machine.specs.Faults.{fault_of}
 use Rattle.janus_machine.specs.declared.fault.Fault.{Fault}
-
 -- how far: it went on, or ended after so many steps, or met a fault after so many
-pub data Progress : Type 0 where
-  Went : Progress
-  Ended : (steps : ℕ) → Progress
-  Stopped : (steps : ℕ) (fault : Fault) → Progress
+pub use Rattle.kernel_machine.specs.declared.progress.Progress.{Progress}
+pub use Rattle.kernel_machine.specs.declared.progress.Progress.TheVariants.{Went, Ended, Stopped}
 
 -- From w, with at most m steps to take in all, the code comes thus far, and to the world v: it went on, and has no end within m steps; or it
 -- ended within them; or it met a fault before all of them were taken.

@@ -1,24 +1,10 @@
 -- A travel in the tree: how an undo, a redo and a goto go, up first and then down.
 use Rattle.std.specs.Prelude.{ℕ, zero, suc}
-
--- the two ways along the tree
-pub data Way : Type 0 where
-  Up : Way
-  Down : Way
-
--- what a travel was asked for: some cells up, some cells down along favourites, or a node
-pub data Aim : Type 0 where
-  Undo : Aim
-  Redo : Aim
-  Goto : (n : ℕ) → Aim
-
--- how many cells are still to go each way, and how many are gone
-pub record Travel : Type 0 where
-  pub aim : Aim
-  pub up : ℕ
-  pub down : ℕ
-  pub went_up : ℕ
-  pub went_down : ℕ
+pub use Rattle.kernel_machine.specs.declared.travel.Way.{Way}
+pub use Rattle.kernel_machine.specs.declared.travel.Way.TheVariants.{Up, Down}
+pub use Rattle.kernel_machine.specs.declared.travel.Aim.{Aim}
+pub use Rattle.kernel_machine.specs.declared.travel.Aim.TheVariants.{Undo, Redo, Goto}
+pub use Rattle.kernel_machine.specs.declared.travel.Travel.{Travel}
 
 -- it goes up first, and then down
 abbrev pub way_from : ℕ → Way

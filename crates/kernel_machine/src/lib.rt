@@ -18,8 +18,14 @@ mod extent;
 pub mod laws;
 mod outcome;
 mod post;
+mod progress;
+mod travel;
+mod turn;
 
 pub use crate::events::{Event, Told};
 pub use crate::extent::Extent;
 pub use crate::outcome::{Begun, End, Outcome, Phase, Refusal, Sliced};
 pub use crate::post::{Job, PostFault};
+pub use crate::progress::Progress;
+pub use crate::travel::{Aim, Travel, Way};
+pub use crate::turn::{Turn, Why};

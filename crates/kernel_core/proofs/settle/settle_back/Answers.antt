@@ -1,6 +1,6 @@
 use Rattle.std.proofs.Common.{refl, sym, ap, ◌∙◌}
 use Rattle.kernel_machine.specs.State.{here}
-use Rattle.kernel_core.specs.Fields.{past_of, work_of, travel_of, way_of}
+use Rattle.kernel_core.specs.Fields.{past_of, work_of}
 use Rattle.kernel_core.specs.Kept.{stack_at}
 use Rattle.kernel_core.proofs.Growing.{no_more}
 use Rattle.kernel_core.proofs.Standing.{work_possible, below_there, cell_of_down, can_leave_cell, can_leave_down, shows_up, below_posted, nodes_forgotten, nodes_ready, shows_forgotten}
@@ -29,14 +29,14 @@ returns-in-Cell-clause-ready g c =
 pub leave-requires-in-Down : goal.leave-requires-in-Down
 leave-requires-in-Down g c =
     let k = c.requires.kept in
-    let way = sym c.way.ensures ∙ ap way_of c.in-Down.is in
+    let way = sym c.way.ensures ∙ c.in-Down.is in
     let at = cell_of_down c.args.tree.now c.args.work.now c.in-Move.travel c.content.result.now c.below.result k.1.legal k.1.possible c.in-Move.is way c.below.ensures c.content.ensures in
     (stack_at c.args.tree.now c.args.tree.now.position, here (past_of c.args.tree.now), can_leave_down c.args.tree.now c.args.runner.now c.args.work.now k.0 k.1 c.in-Move.travel c.content.result.now c.in-Move.is way at c.requires.whole)
 
 pub returns-in-Down-clause-shows : goal.returns-in-Down-clause-shows
 returns-in-Down-clause-shows g c =
     let k = c.requires.kept in
-    let way = sym c.way.ensures ∙ ap way_of c.in-Down.is in
+    let way = sym c.way.ensures ∙ c.in-Down.is in
     let at = cell_of_down c.args.tree.now c.args.work.now c.in-Move.travel c.content.result.now c.below.result k.1.legal k.1.possible c.in-Move.is way c.below.ensures c.content.ensures in
     c.leave-in-Down.ensures.shows _ _ (can_leave_down c.args.tree.now c.args.runner.now c.args.work.now k.0 k.1 c.in-Move.travel c.content.result.now c.in-Move.is way at c.requires.whole)
 
@@ -46,7 +46,7 @@ returns-in-Down-clause-ready g c = nodes_ready c.args.tree.now c.args.runner.now
 pub returns-in-Up-clause-shows : goal.returns-in-Up-clause-shows
 returns-in-Up-clause-shows g c =
     let k = c.requires.kept in
-    shows_up c.args.tree.now c.args.runner.now c.args.work.now k.0 k.1 c.in-Move.travel c.in-Move.is (sym c.way.ensures ∙ ap way_of c.in-Up.is)
+    shows_up c.args.tree.now c.args.runner.now c.args.work.now k.0 k.1 c.in-Move.travel c.in-Move.is (sym c.way.ensures ∙ c.in-Up.is)
 
 pub returns-in-Up-clause-ready : goal.returns-in-Up-clause-ready
 returns-in-Up-clause-ready g c = c.requires.kept.1.ready
@@ -54,14 +54,14 @@ returns-in-Up-clause-ready g c = c.requires.kept.1.ready
 pub content-requires-clause-below_root : goal.content-requires-clause-below_root
 content-requires-clause-below_root g c =
     let k = c.requires.kept in
-    let possible = work_possible (past_of c.args.tree.now) (work_of c.args.work.now) (travel_of c.in-Move.travel) (ap work_of c.in-Move.is) k.1.possible in
-    (below_there c.args.tree.now (travel_of c.in-Move.travel) c.below.result k.1.legal (sym c.way.ensures ∙ ap way_of c.in-Down.is) possible c.below.ensures).0
+    let possible = work_possible (past_of c.args.tree.now) (work_of c.args.work.now) c.in-Move.travel (ap work_of c.in-Move.is) k.1.possible in
+    (below_there c.args.tree.now c.in-Move.travel c.below.result k.1.legal (sym c.way.ensures ∙ c.in-Down.is) possible c.below.ensures).0
 
 pub content-requires-clause-known : goal.content-requires-clause-known
 content-requires-clause-known g c =
     let k = c.requires.kept in
-    let possible = work_possible (past_of c.args.tree.now) (work_of c.args.work.now) (travel_of c.in-Move.travel) (ap work_of c.in-Move.is) k.1.possible in
-    (below_there c.args.tree.now (travel_of c.in-Move.travel) c.below.result k.1.legal (sym c.way.ensures ∙ ap way_of c.in-Down.is) possible c.below.ensures).1
+    let possible = work_possible (past_of c.args.tree.now) (work_of c.args.work.now) c.in-Move.travel (ap work_of c.in-Move.is) k.1.possible in
+    (below_there c.args.tree.now c.in-Move.travel c.below.result k.1.legal (sym c.way.ensures ∙ c.in-Down.is) possible c.below.ensures).1
 
 pub returns-in-Up-clause-names : goal.returns-in-Up-clause-names
 returns-in-Up-clause-names g c = no_more c.args.runner.now.store.names

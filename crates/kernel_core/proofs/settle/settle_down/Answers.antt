@@ -3,7 +3,7 @@ use Rattle.cell_tree.specs.Tree as cells
 use Rattle.kernel_machine.specs.State as state
 use Rattle.kernel_machine.specs.State.{here, code_of}
 use Rattle.kernel_machine.specs.Language.{start_of}
-use Rattle.kernel_core.specs.Fields.{past_of, state_of, travel_of}
+use Rattle.kernel_core.specs.Fields.{past_of, state_of}
 use Rattle.kernel_machine.specs.Slices.{Arrives, cells as cells_left}
 use Rattle.kernel_core.specs.Runner.{world_of}
 use Rattle.kernel_machine.specs.Travel.{Travel}
@@ -20,18 +20,18 @@ there g c = record { cells = c.set_favourite.new.self; position = c.below-child.
 
 pub set_favourite-requires : goal.set_favourite-requires
 set_favourite-requires g c =
-    let next = next_below (past_of c.args.tree.now) (travel_of c.args.travel) c.requires.kept.legal c.requires.way c.requires.kept.possible in
+    let next = next_below (past_of c.args.tree.now) c.args.travel c.requires.kept.legal c.requires.way c.requires.kept.possible in
     subst (λ (n : ℕ). cells.IsChild c.args.tree.now.cells c.args.tree.now.position n) (sym c.below-child.ensures) (child_below c.args.tree.now _ next)
 
 pub returns-clause-step : goal.returns-clause-step
 returns-clause-step g c =
-    settled_down c.args.tree.now (there g c) c.below-child.result (travel_of c.args.travel) c.args.n (world_of (start_of (code_of (past_of c.args.tree.now) (state.Move (travel_of c.args.travel))) (here (past_of c.args.tree.now))).procedures c.args.runner.now) c.arrive.result.1 _ c.requires.way c.below-child.ensures
+    settled_down c.args.tree.now (there g c) c.below-child.result c.args.travel c.args.n (world_of (start_of (code_of (past_of c.args.tree.now) (state.Move c.args.travel)) (here (past_of c.args.tree.now))).procedures c.args.runner.now) c.arrive.result.1 _ c.requires.way c.below-child.ensures
     (ap (λ (t : cells.Tree Cell). t.nodes) c.set_favourite.ensures) (ap (λ (t : cells.Tree Cell). t.favourites) c.set_favourite.ensures) refl
     (subst (λ (t : Travel). Arrives (cells_left t) (past_of (there g c)) t c.arrive.result.1 (state_of (there g c) c.arrive.result.0)) c.stepped.ensures (c.arrive.ensures _))
 
 pub returns-clause-kept : goal.returns-clause-kept
 returns-clause-kept g c =
-    kept_down c.args.tree.now (there g c) c.below-child.result (travel_of c.args.travel) c.args.runner.now c.arrive.result.1 c.arrive.result.0 c.requires.way c.requires.kept.legal c.requires.kept.possible c.requires.kept.counted c.requires.kept.path c.requires.kept.ready c.requires.kept.order c.requires.whole
+    kept_down c.args.tree.now (there g c) c.below-child.result c.args.travel c.args.runner.now c.arrive.result.1 c.arrive.result.0 c.requires.way c.requires.kept.legal c.requires.kept.possible c.requires.kept.counted c.requires.kept.path c.requires.kept.ready c.requires.kept.order c.requires.whole
     c.below-child.ensures (ap (λ (t : cells.Tree Cell). t.nodes) c.set_favourite.ensures) (ap (λ (t : cells.Tree Cell). t.favourites) c.set_favourite.ensures) refl (ap (λ (t : cells.Tree Cell). t.way) c.set_favourite.ensures)
     (shows_down c.args.tree.now c.args.runner.now c.args.travel c.args.n c.requires.kept c.requires.way c.requires.ended)
     (subst (λ (t : Travel). Arrives (cells_left t) (past_of (there g c)) t c.arrive.result.1 (state_of (there g c) c.arrive.result.0)) c.stepped.ensures (c.arrive.ensures _))
