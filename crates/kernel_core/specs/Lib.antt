@@ -32,15 +32,8 @@ pub use Rattle.kernel_machine.specs.declared.outcome
 pub use Rattle.kernel_machine.specs.declared.post
 pub use Rattle.kernel_machine.specs.contracts.outcome as contracts_of_outcome
 pub use Rattle.kernel_machine.specs.contracts.post as contracts_of_post
--- The code's own words: its types read as those of the machine, what its fields keep, and how contracts have states as values.
-pub mod Program
-pub mod Met
-pub mod Known
-pub mod Kinds
-pub mod Declarable
-pub mod Runner
-pub mod Fields
-pub mod Kept
-pub mod Defined
+-- Procedures that are lent, and the view of the shown world.
+pub use Rattle.kernel_runner.specs.Defined
+-- The code's own words: the minutes as it writes them, and how its fields are the machine.
 pub mod Written
 pub mod MachineParts

@@ -10,11 +10,9 @@ ghost use Rattle.kernel_machine.specs.StepsOfSlices.{WritesOnSlice};
 ghost use Rattle.kernel_machine.specs.Extent.{IsExtent};
 ghost use Rattle.kernel_machine.specs.Runs.{new_machine, IsReady, IsRefusal, IsPost, BeginsAt, IsBegin, IsSliceOf, TakesUnless, noted, phase_of, shut};
 
-use crate::history::History;
-use crate::job::Stage;
 use crate::minutes::{Entry, MINUTES_LIMIT, Minutes};
-use crate::view::View;
 use janus_machine::{Store, Writes};
+use kernel_history::{History, Stage, View};
 use kernel_machine::{Begun, Extent, Job, Outcome, Phase, PostFault, Refusal, Sliced};
 use std::alloc::{AllocError, Global};
 use std::collections::VecDeque;
