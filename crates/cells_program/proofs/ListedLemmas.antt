@@ -9,7 +9,7 @@ use Rattle.kernel_core.specs.Defined.{in_a_row}
 use Rattle.kernel_core.specs.post.PostFault.TheVariants.{Memory}
 use Rattle.kernel_text.specs.Lines.{post_fault_line}
 use Rattle.kernel_text.specs.ProcedureTexts.{procedure_text}
-use Rattle.kernel_text.specs.Sending.{SentSome}
+use Rattle.exact_write.specs.Sent.{SentSome}
 use Rattle.kernel_text.proofs.Newest.{plain}
 use Rattle.cells_program.specs.Lines.{ended_line}
 use Rattle.cells_program.specs.Listing.{IsListed, listing_text}

@@ -7,10 +7,10 @@ use Rattle.janus_meaning.specs.Syntax.{Name}
 use Rattle.janus_meaning.specs.Store.{Val, Store, Bare, Slot}
 use Rattle.janus_meaning.specs.World.{size_of, listed}
 use Rattle.cells_program.specs.Lines.{ended_line}
-use Rattle.kernel_text.specs.Sending.{SentSome}
+use Rattle.exact_write.specs.Sent.{SentSome}
 use Rattle.kernel_text.specs.ValueTexts.{value_text}
 use Rattle.cells_program.specs.Shown.{position_line, value_lines, show_text}
-use Rattle.kernel_text.proofs.Sending.{appends_join, sent_then, sent_first}
+use Rattle.exact_write.proofs.SendLemmas.{appends_join, sent_then, sent_first}
 
 pub Some_inj : {A : Type 0} {x y : A} → Some x ≡ Some y → x ≡ y
 Some_inj {x = x} h = ap (λ o. unwrap_or o x) h

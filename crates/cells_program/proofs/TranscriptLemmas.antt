@@ -14,7 +14,7 @@ use Rattle.cells_program.specs.declared.gathered.Gathered.{Gathered}
 use Rattle.cells_program.specs.Command.{command_of}
 use Rattle.cells_program.specs.Gathering.{IsGathered}
 use Rattle.cells_program.specs.Lines.{ended_line, is_blank, is_command_line, lines, trimmed}
-use Rattle.kernel_text.specs.Sending.{SentSome}
+use Rattle.exact_write.specs.Sent.{SentSome}
 use Rattle.cells_program.specs.Served.{Came, Serves, NotPosted, not_posted}
 use Rattle.cells_program.specs.Shown.{world_text}
 use Rattle.cells_program.specs.Script.{script}
@@ -22,7 +22,7 @@ use Rattle.cells_program.specs.Transcript.{ActionsServe, came_line, Answers, bad
 use Rattle.kernel_text.specs.Lines.{post_fault_line}
 use Rattle.cells_program.specs.Loop.{RestAt, RunsRest, Does, DoesAfterRest, CommandServes, LineAt, LineServes, text_after, LinesServe}
 use Rattle.cells_program.proofs.LinesLemmas.{blank_more}
-use Rattle.kernel_text.proofs.Sending.{appends_none, appends_join, appends_kept, sent_first, sent_then}
+use Rattle.exact_write.proofs.SendLemmas.{appends_none, appends_join, appends_kept, sent_first, sent_then}
 use Rattle.cells_program.proofs.ScriptLemmas.{script_serves}
 
 not_true : (b : Bool) → not b ≡ true → b ≡ false

@@ -4,7 +4,7 @@ ghost use Rattle.std.specs.Io.KnownBytes.{Appends, Keeps};
 ghost use Rattle.clap.specs.Values.{kind_of};
 ghost use Rattle.cells_program.specs.CommandLine.{Runs};
 ghost use Rattle.cells_program.specs.Ending.{AsksForHelp};
-ghost use Rattle.kernel_text.specs.Sending.{SentSome};
+ghost use Rattle.exact_write.specs.Sent.{SentSome};
 ghost use Rattle.cells_program.specs.RunFault.{IsServed, IsWhyUnread, TakesAtMost, input_limit};
 ghost use Rattle.cells_program.specs.Transcript.{IsTranscript};
 

@@ -3,7 +3,7 @@ ghost use Rattle.std.specs.Prelude.{OnOk, OnErr};
 ghost use Rattle.std.specs.Io.KnownBytes.{Appends};
 ghost use Rattle.janus_store.specs.Values.{shown};
 ghost use Rattle.kernel_text.specs.Lines.{outcome_line, post_fault_line};
-ghost use Rattle.kernel_text.specs.Sending.{SentSome};
+ghost use Rattle.exact_write.specs.Sent.{SentSome};
 ghost use Rattle.kernel_text.specs.ValueTexts.{value_text};
 ghost use Rattle.cells_program.specs.Ending.{fault_line};
 ghost use Rattle.cells_program.specs.Lines.{ended_line};

@@ -9,7 +9,7 @@ ghost use Rattle.cells_program.specs.Gathering.{IsGathered};
 ghost use Rattle.cells_program.specs.Lines.{ended_line, lines};
 ghost use Rattle.cells_program.specs.Listing.{IsListed};
 ghost use Rattle.cells_program.specs.Loop.{CommandServes, Does, LineServes, LinesServe, RunsRest, text_after};
-ghost use Rattle.kernel_text.specs.Sending.{SentSome};
+ghost use Rattle.exact_write.specs.Sent.{SentSome};
 ghost use Rattle.cells_program.specs.RunFault.{IsServed, IsWhyUnread, TakesAtMost, input_limit};
 ghost use Rattle.cells_program.specs.Script.{script};
 ghost use Rattle.cells_program.specs.Served.{Came, Serves};

@@ -1,2 +1,1 @@
-pub mod Sending
 pub mod Requests

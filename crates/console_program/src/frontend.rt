@@ -6,7 +6,7 @@ ghost use Rattle.console_program.specs.Requests.{request_octets};
 
 use crate::wire::Wire;
 use console_talk::{
-    Command, ConsoleFault, Heard, Told, comm_close_draft, comm_open_draft, comm_told,
+    Command, ConsoleFault, Heard, Printed, comm_close_draft, comm_open_draft, comm_told,
     complete_draft, completion_told, execute_draft, is_answer_to, is_in_session, kernel_info_draft,
     message, move_draft, run_told, state_draft, what_is_heard,
 };
@@ -232,7 +232,7 @@ impl<R: Read + Drop, W: Write + Drop> Frontend<R, W> {
     }
 
     /// What is printed of what was said on a comm.
-    fn data_told(&self, content: Value) -> Result<Told, ConsoleFault> {
+    fn data_told(&self, content: Value) -> Result<Printed, ConsoleFault> {
         match comm_told(self.alloc, &content) {
             Ok(told) => Ok(told),
             Err(fault) => Err(ConsoleFault::from(fault)),
@@ -240,7 +240,7 @@ impl<R: Read + Drop, W: Write + Drop> Frontend<R, W> {
     }
 
     /// Waits until the kernel is done with the n-th message, and keeps what it said on the comm, if it said something.
-    fn hear_data(&mut self, n: u64, told: &mut Option<Told>) -> Result<(), ConsoleFault> {
+    fn hear_data(&mut self, n: u64, told: &mut Option<Printed>) -> Result<(), ConsoleFault> {
         for _ in 0..u64::MAX {
             let (heard, content) = self.hear(n)?;
             match heard {
@@ -253,7 +253,7 @@ impl<R: Read + Drop, W: Write + Drop> Frontend<R, W> {
     }
 
     /// Waits until the kernel is done with the n-th message, and answers what it said on the comm, if it said something.
-    fn data_of(&mut self, n: u64) -> Result<Option<Told>, ConsoleFault> {
+    fn data_of(&mut self, n: u64) -> Result<Option<Printed>, ConsoleFault> {
         let mut told = None;
         self.hear_data(n, &mut told)?;
         Ok(told)
@@ -274,32 +274,32 @@ impl<R: Read + Drop, W: Write + Drop> Frontend<R, W> {
     }
 
     /// Runs a text as a cell. The broadcasts are read first, so that none wait unread while others run theirs; the last of them comes behind the reply.
-    fn run(&mut self, code: &str) -> Result<Told, ConsoleFault> {
+    fn run(&mut self, code: &str) -> Result<Printed, ConsoleFault> {
         let n = self.ask(execute_draft(self.alloc, code)?)?;
         self.ran(n)
     }
 
     /// What came of the cell that the n-th message runs.
-    fn ran(&mut self, n: u64) -> Result<Told, ConsoleFault> {
+    fn ran(&mut self, n: u64) -> Result<Printed, ConsoleFault> {
         let shown = self.result_of(n)?;
         let reply = content_of(self.reply_to(n)?);
         Ok(run_told(self.alloc, &reply, shown.as_ref())?)
     }
 
     /// Completes the name at the end of a text.
-    fn complete(&mut self, text: &str) -> Result<Told, ConsoleFault> {
+    fn complete(&mut self, text: &str) -> Result<Printed, ConsoleFault> {
         let n = self.ask(complete_draft(self.alloc, text)?)?;
         self.completed(n)
     }
 
     /// What came of the completion that the n-th message asks for.
-    fn completed(&mut self, n: u64) -> Result<Told, ConsoleFault> {
+    fn completed(&mut self, n: u64) -> Result<Printed, ConsoleFault> {
         let reply = content_of(self.reply_to(n)?);
         Ok(completion_told(self.alloc, &reply)?)
     }
 
     /// Asks on the comm that the n-th message opened.
-    fn ask_on_open_comm(&mut self, n: u64, asked: &Draft) -> Result<Told, ConsoleFault> {
+    fn ask_on_open_comm(&mut self, n: u64, asked: &Draft) -> Result<Printed, ConsoleFault> {
         if self.is_closed_by(n)? {
             return Err(ConsoleFault::NoComm);
         }
@@ -318,7 +318,7 @@ impl<R: Read + Drop, W: Write + Drop> Frontend<R, W> {
     }
 
     /// Closes the comm behind an answer, and gives the answer.
-    fn close_after(&mut self, close: &Draft, told: Told) -> Result<Told, ConsoleFault> {
+    fn close_after(&mut self, close: &Draft, told: Printed) -> Result<Printed, ConsoleFault> {
         self.close_comm(close)?;
         Ok(told)
     }
@@ -336,7 +336,7 @@ impl<R: Read + Drop, W: Write + Drop> Frontend<R, W> {
         n: u64,
         asked: &Draft,
         close: &Draft,
-    ) -> Result<Told, ConsoleFault> {
+    ) -> Result<Printed, ConsoleFault> {
         match self.ask_on_open_comm(n, asked) {
             Ok(told) => self.close_after(close, told),
             Err(ConsoleFault::NoComm) => Err(ConsoleFault::NoComm),
@@ -345,7 +345,7 @@ impl<R: Read + Drop, W: Write + Drop> Frontend<R, W> {
     }
 
     /// Opens a comm, asks on it, and closes it: also where the answer isn't understood, or memory ran out.
-    fn ask_on_comm(&mut self, asked: &Draft) -> Result<Told, ConsoleFault> {
+    fn ask_on_comm(&mut self, asked: &Draft) -> Result<Printed, ConsoleFault> {
         let open = comm_open_draft(self.alloc, &self.session)?;
         let close = comm_close_draft(self.alloc, &self.session)?;
         let n = self.ask(open)?;
@@ -353,19 +353,19 @@ impl<R: Read + Drop, W: Write + Drop> Frontend<R, W> {
     }
 
     /// Has the kernel make a move.
-    fn go(&mut self, op: &str, n: u32) -> Result<Told, ConsoleFault> {
+    fn go(&mut self, op: &str, n: u32) -> Result<Printed, ConsoleFault> {
         let asked = move_draft(self.alloc, &self.session, op, n)?;
         self.ask_on_comm(&asked)
     }
 
     /// Asks where the kernel stands.
-    fn show(&mut self) -> Result<Told, ConsoleFault> {
+    fn show(&mut self) -> Result<Printed, ConsoleFault> {
         let asked = state_draft(self.alloc, &self.session)?;
         self.ask_on_comm(&asked)
     }
 
     /// Has the kernel do what the command says, and answers what is printed.
-    pub fn obey(&mut self, command: &Command) -> Result<Told, ConsoleFault> {
+    pub fn obey(&mut self, command: &Command) -> Result<Printed, ConsoleFault> {
         match command {
             Command::Run(code) => self.run(code),
             Command::Undo(k) => self.go("undo", *k),

@@ -3,12 +3,12 @@ ghost use Rattle.std.specs.Prelude.{◌≡◌, ◌≢◌, string_bytes, IfOk, If
 ghost use Rattle.console_talk.specs.Faults.{status_of as fault_status};
 ghost use Rattle.console_talk.specs.Lines.{status_of as told_status};
 ghost use Rattle.console_words.specs.Refusals.{status_of as refusal_status};
-ghost use Rattle.console_program.specs.Sending.{SentSome};
+ghost use Rattle.exact_write.specs.Sent.{SentSome};
 
 use crate::frontend::{Frontend, subscribe};
 use crate::output::print;
 use crate::wire::Wire;
-use console_talk::{Command, ConsoleFault, Told, session_name};
+use console_talk::{Command, ConsoleFault, Printed, session_name};
 use console_words::{Arguments, Kind, Refused, arguments_of};
 use jupyter_msg::{Connection, Key, Setting};
 use std::alloc::Global;
@@ -139,7 +139,7 @@ fn greet_and_obey(
     frontend: &mut Frontend<&TcpStream, &TcpStream>,
     broadcasts: &TcpStream,
     command: &Command,
-) -> Result<Told, ConsoleFault> {
+) -> Result<Printed, ConsoleFault> {
     set_patience(
         broadcasts,
         Some(Duration::from_millis(GREETING_MILLISECONDS)),
@@ -157,7 +157,7 @@ fn converse_over(
     iopub: Wire<&TcpStream, &TcpStream>,
     requests: &TcpStream,
     command: &Command,
-) -> Result<Told, ConsoleFault> {
+) -> Result<Printed, ConsoleFault> {
     let (shell, session) = open_shell(alloc, requests)?;
     let mut frontend = Frontend {
         alloc,
@@ -176,7 +176,7 @@ fn converse<R>(
     alloc: Global,
     file: Connection,
     command: &Command,
-) -> Result<Told, ConsoleFault>
+) -> Result<Printed, ConsoleFault>
 where
     R: Net<Listener = TcpListener, Stream = TcpStream>,
 {
@@ -188,7 +188,7 @@ where
 }
 
 /// Has the kernel of a connection file do what the command says.
-fn run<R>(rt: &R, alloc: Global, arguments: Arguments) -> Result<Told, ConsoleFault>
+fn run<R>(rt: &R, alloc: Global, arguments: Arguments) -> Result<Printed, ConsoleFault>
 where
     R: Net<Listener = TcpListener, Stream = TcpStream> + Files,
 {
@@ -205,7 +205,7 @@ fn tell<E: Write>(fault: ConsoleFault, err: &mut E) {
 }
 
 /// Prints what came of it, and answers the status.
-fn end<W: Write, E: Write>(came: Result<Told, ConsoleFault>, out: &mut W, err: &mut E) -> u8
+fn end<W: Write, E: Write>(came: Result<Printed, ConsoleFault>, out: &mut W, err: &mut E) -> u8
     ensures told { IfOk came (λ told. result ≡ told_status told.is_well) }
     ensures fault { IfErr came (λ fault. result ≡ fault_status fault) }
     ensures lines { IfOk came (λ told. SentSome (W.contents out.old) (W.contents out.new) (string_bytes told.lines)) }

@@ -1,7 +1,7 @@
 //! What goes wrong beside the kernel.
 ghost use Rattle.std.specs.Prelude.{◌≡◌};
 
-use crate::told::AnswerFault;
+use crate::printed::AnswerFault;
 use jupyter_msg::{MsgFault, Setting};
 use std::alloc::{AllocError, AllocFailed};
 use thiserror::Error;

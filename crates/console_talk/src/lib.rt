@@ -2,8 +2,8 @@
 //!
 //! A [`Command`] is what a console was asked to do. The functions of `request` make of it what is said ([`Draft`](kernel_message::Draft)s:
 //! the contents are those of the Jupyter messaging page, version 5.4, and for moves those of the comms with the target `janus.undo`),
-//! and [`message`] the message, under the console's session. Those of `told` read an answer's content, as JSON, and give the lines that are printed
-//! ([`Told`]), or say that it is no such answer; [`is_answer_to`] says whose answer a message is. [`ConsoleFault`] has the lines and statuses of what goes wrong beside the kernel.
+//! and [`message`] the message, under the console's session. Those of `printed` read an answer's content, as JSON, and give the lines that are printed
+//! ([`Printed`]), or say that it is no such answer; [`is_answer_to`] says whose answer a message is. [`ConsoleFault`] has the lines and statuses of what goes wrong beside the kernel.
 //!
 //! To the layer above it promises that all of these are the functions of specs/ (`Requests`, `Headers`, `Lines`, `Faults`), exactly, want of memory
 //! aside; and, in `laws`, that the kernel's own reading of each request gives what was asked.
@@ -17,7 +17,7 @@ pub mod laws;
 mod look;
 mod parent;
 mod request;
-mod told;
+mod printed;
 
 pub use broadcast::{Heard, what_is_heard};
 pub use command::Command;
@@ -28,4 +28,4 @@ pub use request::{
     comm_close_draft, comm_open_draft, complete_draft, execute_draft, kernel_info_draft,
     move_draft, state_draft,
 };
-pub use told::{AnswerFault, Told, comm_told, completion_told, run_told};
+pub use printed::{AnswerFault, Printed, comm_told, completion_told, run_told};

@@ -1,6 +1,6 @@
 //! Conversations of a console over memory, with a kernel that says what was written down by hand.
 use console_program::{Frontend, Wire, subscribe};
-use console_talk::{Command, ConsoleFault, Told, session_name};
+use console_talk::{Command, ConsoleFault, Printed, session_name};
 use jupyter_msg::{Key, Message, open, seal};
 use std::alloc::Global;
 use std::io::{ErrorKind, Read};
@@ -13,7 +13,7 @@ use zmtp_wire::write_message;
 type Said = (&'static str, u64, &'static str);
 
 /// How a conversation ended, and what was written on shell.
-type Conversation = (Result<Told, ConsoleFault>, String);
+type Conversation = (Result<Printed, ConsoleFault>, String);
 
 /// What the kernel says on iopub as it takes a request, and as it is done with it.
 const BUSY: &str = r#"{"execution_state":"busy"}"#;
@@ -198,7 +198,7 @@ fn frontend(
 }
 
 /// Greets the kernel and obeys a command.
-fn obey(frontend: &mut Frontend<Slow, Vec<u8>>, command: &Command) -> Result<Told, ConsoleFault> {
+fn obey(frontend: &mut Frontend<Slow, Vec<u8>>, command: &Command) -> Result<Printed, ConsoleFault> {
     frontend.greet()?;
     frontend.obey(command)
 }
@@ -219,7 +219,7 @@ fn converse_over(
 }
 
 /// Compares what is printed, and the status.
-fn check_told(rt: &impl Abort, told: &Told, lines: &str, status: u8) {
+fn check_told(rt: &impl Abort, told: &Printed, lines: &str, status: u8) {
     assert_eq!(rt; told.lines.as_str(), lines);
     assert_eq!(rt; told.status(), status);
 }

@@ -12,6 +12,7 @@ pub mod Evaluation
 pub mod Comms
 pub mod Completion
 pub mod HallFault
+pub mod CommChanges
 pub mod State
 pub mod Answer
 pub mod Naming

@@ -1,8 +1,16 @@
-//! What a frontend is told of a kernel: the lines of outcomes, the texts of values, and the answers to its questions.
+//! What a frontend asks of a kernel, and what it is answered.
+//!
+//! To the layers above it promises that each answer is a filter of names, of the shown world and of the minutes (specs/: `Completion`,
+//! `Inspection`, `Judgement`, `History`, `State`, `Evaluation`, `Comms`), and that the kernel is lent and stays as it was. It also keeps which
+//! comms are open, and says what opening and closing one comes to.
+//!
+//! The questions and their answers are those of the page "Messaging in Jupyter": complete, inspect, is_complete, history, comm_info, and the
+//! user expressions of an execute request.
 #![tactic(auto)]
 
 mod answer;
 mod ask;
+mod comm_change;
 mod comms;
 mod completion;
 mod cursor;
@@ -25,6 +33,7 @@ pub use crate::answer::{Answer, Ask, Completion, Content, HallFault, KernelState
 pub use crate::ask::{
     ask_on, complete, evaluate, evaluate_all, history, inspect, shown as shown_text,
 };
+pub use crate::comm_change::{CommChange, comm_on};
 pub use crate::comms::{COMM_LIMIT, Comms};
 pub use crate::done::{Done, ExpFault, NamedValue, Wish};
 pub use crate::inputs::{HistoryAsk, Input};

@@ -4,7 +4,7 @@ use Rattle.kernel_board.specs.Frames.{Frames}
 use Rattle.kernel_board.specs.Log.{Log, IsLog, oldest_of}
 use Rattle.kernel_board.specs.Reads.{batch_from, IsRead}
 use Rattle.kernel_board.specs.declared.log.Read.{Read}
-use Rattle.kernel_desk.specs.Visitor.{AreRead, more, skipped}
+use Rattle.kernel_desk.specs.HallDesk.{AreRead, more, skipped}
 
 -- a read of some log
 abbrev pub IsReadOfSome : ℕ → Read → Type 0

@@ -1,2 +1,2 @@
-pub mod Visitor
+pub mod HallDesk
 pub mod Quiet

@@ -1,7 +1,7 @@
 //! The present date.
 ghost use Rattle.std.specs.Prelude.{◌≡◌, true, IfSome};
 ghost use Rattle.std.specs.Str.{is_utf8};
-ghost use Rattle.kernel_desk.specs.Visitor.{IsDate};
+ghost use Rattle.kernel_desk.specs.HallDesk.{IsDate};
 ghost use Rattle.stamp_texts.specs.Date.{HasDate, IsDateText};
 
 use jiff::Timestamp;

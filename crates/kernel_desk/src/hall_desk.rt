@@ -1,6 +1,6 @@
 //! The desk before a hall.
 ghost use Rattle.std.specs.Prelude.{◌≡◌, ℕ, false, IfOk};
-ghost use Rattle.kernel_desk.specs.Visitor.{AreRead};
+ghost use Rattle.kernel_desk.specs.HallDesk.{AreRead};
 
 use crate::date::present_date;
 use kernel_bell::RingerSeat;
@@ -13,6 +13,7 @@ use kernel_session::Desk;
 use std::alloc::{AllocError, Global};
 use std::marker::Model;
 use std::sync::Wait;
+use std::sync::atomic::{AtomicBool, Ordering};
 use std::sync::ledger::Ledger;
 use std::time::Clock;
 
@@ -28,13 +29,15 @@ pub struct HallDesk<'a, W: Ledger, L: Ledger, R: Wait + Clock> {
     /// Where the next broadcast is read.
     place: Place,
     was_shut: bool,
+    /// Where it is noted that a message with a valid signature came.
+    trusted: &'a AtomicBool,
 }
 
 impl<'a, W: Ledger, L: Ledger, R: Wait + Clock> Model for HallDesk<'a, W, L, R> {
     ghost use Rattle.std.specs.Prelude.{◌≡◌, true, is_some};
-    ghost use Rattle.kernel_desk.specs.Visitor.{Visitor, held};
+    ghost use Rattle.kernel_desk.specs.HallDesk.{DeskState, held};
 
-    ghost Value = { Visitor };
+    ghost Value = { DeskState };
 
     ghost view = { λ d. record { pass = held d.pass; seat = d.seat; place = d.place.number; was_shut = d.was_shut } };
 
@@ -42,13 +45,15 @@ impl<'a, W: Ledger, L: Ledger, R: Wait + Clock> Model for HallDesk<'a, W, L, R> 
 }
 
 impl<'a, W: Ledger, L: Ledger, R: Wait + Clock> HallDesk<'a, W, L, R> {
-    /// The desk of a pass of the hall and a seat of its bell. It reads the broadcasts that are published from now on.
+    /// The desk of a pass of the hall and a seat of its bell. It reads the broadcasts that are published from now on, and notes at `trusted` that a
+    /// message with a valid signature came.
     pub fn new(
         rt: &'a R,
         hall: &'a Hall<W, L>,
         bulletin: &'a Bulletin,
         pass: Pass<L>,
         seat: RingerSeat,
+        trusted: &'a AtomicBool,
     ) -> HallDesk<'a, W, L, R>
         requires own { seat.bell ≡ hall.now }
         ensures pass { result.pass ≡ pass }
@@ -63,6 +68,7 @@ impl<'a, W: Ledger, L: Ledger, R: Wait + Clock> HallDesk<'a, W, L, R> {
             seat,
             place: bulletin.join(rt),
             was_shut: false,
+            trusted,
         }
     }
 
@@ -117,9 +123,9 @@ fn read_all<R: Wait>(
 }
 
 impl<W: Ledger, L: Ledger, R: Wait + Clock> Desk for HallDesk<'_, W, L, R> {
-    ghost use Rattle.kernel_desk.specs.Visitor.{visitor_leads};
+    ghost use Rattle.kernel_desk.specs.HallDesk.{hall_desk_leads};
 
-    ghost leads = { visitor_leads };
+    ghost leads = { hall_desk_leads };
 
     /// Where the post is refused, the desk holds the pass as before.
     fn job(&mut self, job: Job, wishes: Vec<Wish>) -> Result<Done, PostFault> {
@@ -175,6 +181,8 @@ impl<W: Ledger, L: Ledger, R: Wait + Clock> Desk for HallDesk<'_, W, L, R> {
 
     /// The present date, where its year is 0 to 9999; else the date stays.
     fn date(&mut self, stamp: &mut Stamp) {
+        // A date is asked for each request whose signature is valid, and for nothing else.
+        self.trusted.store(true, Ordering::SeqCst);
         let Some(date) = present_date(self.rt) else {
             return;
         };

@@ -1,8 +1,7 @@
 //! The desk of connections at which nothing is asked.
-use kernel_ask::{Answer, Ask, Done, HallFault, Wish};
+use kernel_ask::{Answer, Ask, CommChange, Done, HallFault, Wish};
 use kernel_board::Broadcast;
 use kernel_core::{Job, PostFault};
-use kernel_hall::CommChange;
 use kernel_message::Stamp;
 use kernel_session::Desk;
 use std::alloc::{AllocError, Global};

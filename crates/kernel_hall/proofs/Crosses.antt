@@ -41,7 +41,7 @@ use Rattle.kernel_bell.specs.contracts.bell.Bell as Bell
 use Rattle.kernel_bell.specs.contracts.seats.RingerSeat as RingerSeat
 use Rattle.kernel_bell.specs.contracts.seats.RunnerSeat as RunnerSeat
 use Rattle.kernel_hall.specs.contracts.ends.Ends as Ends
-use Rattle.kernel_hall.specs.contracts.extra.Extra as Extra
+use Rattle.kernel_hall.specs.contracts.pending_result.PendingResult as PendingResult
 use Rattle.kernel_hall.specs.contracts.passes.Passes as Passes
 use Rattle.kernel_hall.specs.contracts.state.State as State
 use Rattle.kernel_hall.specs.contracts.hall.Hall as Hall
@@ -109,8 +109,8 @@ RunnerSeat-send = search (crosses, seat_send, sendable) depth 60 fits 20000
 pub RingerSeat-send : IsSend (RingerSeat.the_field).row
 RingerSeat-send = search (crosses, seat_send, sendable) depth 60 fits 20000
 
-Extra-send : IsSend (Extra.the_field).row
-Extra-send = search (crosses, maps, NamedValue-send, sendable) depth 60 fits 20000
+PendingResult-send : IsSend (PendingResult.the_field).row
+PendingResult-send = search (crosses, maps, NamedValue-send, sendable) depth 60 fits 20000
 
 Bell-sync : IsSync (Bell.the_field).row
 Bell-sync = search (crosses, table_sync, lease_sync, sendable) depth 60 fits 20000
@@ -136,7 +136,7 @@ module _ (W : RattleType) (w : Ledger.Ghosts W.Denot) where
 
 module _ (W L : RattleType) (w : Ledger.Ghosts W.Denot) (l : Ledger.Ghosts L.Denot) where
   State-send : IsSend W → IsSend L → IsSend (State.the_field W L w l).row
-  State-send s t = let a = Kernel-send W w s in let b = Passes-send L l t in search (crosses, book_send, Comms-send, Extra-send, sendable) depth 60 fits 20000
+  State-send s t = let a = Kernel-send W w s in let b = Passes-send L l t in search (crosses, book_send, Comms-send, PendingResult-send, sendable) depth 60 fits 20000
 
   pub Hall-sync : IsSend W → IsSend L → IsSync (Hall.the_field W L w l).row
   Hall-sync s t = let a = State-send s t in search (crosses, condvar_sync, Ends-sync, Bell-sync, sendable) depth 60 fits 20000

@@ -1,3 +1,3 @@
 pub mod Posts
-pub mod Extras
+pub mod PendingResults
 pub mod Crosses

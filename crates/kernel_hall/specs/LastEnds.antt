@@ -1,7 +1,7 @@
 -- How the end that stands last in the minutes is read.
 use Rattle.std.specs.Prelude.{◌≡◌, ℕ, ◌-◌, List, Option, None, Some, length, slice_get, zero, suc}
 use Rattle.kernel_core.specs.Minutes.{Entry, Posted, Ended}
-use Rattle.kernel_hall.specs.declared.extra.LastEnd.{LastEnd}
+use Rattle.kernel_hall.specs.declared.pending_result.LastEnd.{LastEnd}
 
 -- the entry that stands last
 abbrev pub last_of : List Entry → Option Entry

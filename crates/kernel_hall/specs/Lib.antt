@@ -1,4 +1,3 @@
 pub mod Turns
-pub mod Changes
-pub mod Extras
+pub mod PendingResults
 pub mod LastEnds

@@ -8,13 +8,12 @@ ghost use Rattle.kernel_hall.specs.Turns.{IsTurn};
 ghost use Rattle.kernel_audit.specs.Ends.{HasEnd};
 ghost use Rattle.kernel_audit.specs.Audit.{Audited, IsAuditFault};
 
-use crate::comm::{CommChange, comm_on};
 use crate::ends::Ends;
 use crate::minutes::Minutes;
 use crate::spin::watch;
 use crate::state::State;
 use crate::turn::Turn;
-use kernel_ask::{Answer, Ask, Comms, Done, HallFault, Wish};
+use kernel_ask::{Answer, Ask, CommChange, Comms, Done, HallFault, Wish, comm_on};
 use kernel_audit::{AuditFault, Pass, Ticket};
 use kernel_bell::{Bell, RunnerSeat};
 use kernel_core::{Job, Kernel, Phase, PostFault};

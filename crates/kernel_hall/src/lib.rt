@@ -6,9 +6,8 @@
 //! a hall is closed, what the frontends came away with is compared with the minutes.
 #![tactic(auto)]
 
-mod comm;
 mod ends;
-mod extra;
+mod pending_result;
 mod hall;
 mod minutes;
 mod passes;
@@ -17,10 +16,9 @@ mod state;
 mod turn;
 mod worker;
 
-pub use comm::{CommChange, comm_on};
-pub use extra::Extra;
+pub use pending_result::PendingResult;
 pub use hall::Hall;
-pub use kernel_ask::{Answer, Ask, Comms, Done, HallFault, Wish, ask_on};
+pub use kernel_ask::{Answer, Ask, CommChange, Comms, Done, HallFault, Wish, ask_on, comm_on};
 pub use kernel_audit::{AuditFault, Pass, Ticket, audit};
 pub use minutes::Minutes;
 pub use passes::{PASSES, Passes};

@@ -8,13 +8,13 @@ ghost use Rattle.kernel_core.specs.Runs.{IsRefusal, posted, shut};
 ghost use Rattle.kernel_ask.specs.Answer.{IsAnswer};
 ghost use Rattle.kernel_audit.specs.Passes.{pass_of, ticket_of};
 ghost use Rattle.kernel_hall.specs.Turns.{IsTurn};
-ghost use Rattle.kernel_hall.specs.Extras.{IsNewExtra, IsTold, SettlesLast, ends_job};
+ghost use Rattle.kernel_hall.specs.PendingResults.{IsNewPending, IsTold, SettlesLast, ends_job};
 ghost use Rattle.kernel_hall.specs.LastEnds.{last_of, number_in};
-ghost use Rattle.kernel_hall.specs.declared.extra.Extra.{Extra};
+ghost use Rattle.kernel_hall.specs.declared.pending_result.PendingResult.{PendingResult};
 ghost use Rattle.kernel_audit.specs.Ends.{HasEnd};
 ghost use Rattle.kernel_audit.specs.Audit.{Audited, IsAuditFault};
 
-use crate::extra::{Extra, fetch, last_number, settle_last};
+use crate::pending_result::{PendingResult, fetch, last_number, settle_last};
 use crate::minutes::Minutes;
 use crate::passes::Passes;
 use crate::turn::{Turn, turn_on};
@@ -31,7 +31,7 @@ pub struct State<W: Ledger, L: Ledger> {
     pub(crate) kernel: Kernel<W>,
     pub(crate) comms: Comms,
     pub(crate) passes: Passes<L>,
-    pub(crate) extras: Vec<Extra>,
+    pub(crate) pending_results: Vec<PendingResult>,
     pub(crate) alloc: Global,
     book: Book<L>,
     pub ghost counted: { book.total ≡ posted_in kernel.machine.minutes },
@@ -57,7 +57,7 @@ impl<W: Ledger, L: Ledger> State<W, L> {
             kernel,
             comms,
             passes: Passes::new(rest),
-            extras: Vec::new(alloc),
+            pending_results: Vec::new(alloc),
             alloc,
             book,
         }
@@ -77,14 +77,14 @@ impl<W: Ledger, L: Ledger> State<W, L> {
         ensures kernel { OnErr result (self.new.kernel.machine ≡ self.old.kernel.machine) }
         ensures pass { OnErr result (pass.new ≡ pass.old) }
         ensures comms { self.new.comms ≡ self.old.comms }
-        ensures extra { IfOk result (λ t. (e : Extra) × IsNewExtra (length self.old.kernel.machine.minutes) wishes.items e × (self.new.extras.items ≡ self.old.extras.items ++ e ∷ [])) }
-        ensures extras { OnErr result (self.new.extras.items ≡ self.old.extras.items) }
+        ensures pending_result { IfOk result (λ t. (e : PendingResult) × IsNewPending (length self.old.kernel.machine.minutes) wishes.items e × (self.new.pending_results.items ≡ self.old.pending_results.items ++ e ∷ [])) }
+        ensures pending_results { OnErr result (self.new.pending_results.items ≡ self.old.pending_results.items) }
         ensures legal { IsLegalMachine self.old.kernel.machine }
     {
         is_legal(&self.kernel);
         let State {
             kernel,
-            extras,
+            pending_results,
             alloc,
             book,
             ..
@@ -95,14 +95,14 @@ impl<W: Ledger, L: Ledger> State<W, L> {
         let Ok(copy) = job.try_clone() else {
             return Err(PostFault::Memory);
         };
-        let Ok(extra) = Extra::new(*alloc, kernel.minutes().len(), wishes) else {
+        let Ok(pending_result) = PendingResult::new(*alloc, kernel.minutes().len(), wishes) else {
             return Err(PostFault::Memory);
         };
-        if extras.reserve(1).is_err() {
+        if pending_results.reserve(1).is_err() {
             return Err(PostFault::Memory);
         }
         let number = kernel.post(pass.lane(), copy)?;
-        extras.push_reserved(extra);
+        pending_results.push_reserved(pending_result);
         pass.count(book);
         Ok(Ticket {
             lane: pass.lane(),
@@ -119,14 +119,14 @@ impl<W: Ledger, L: Ledger> State<W, L> {
         ensures turn { IsTurn self.old.kernel.machine runner.old m result self.new.kernel.machine runner.new }
         ensures legal { IsLegalMachine self.old.kernel.machine }
         ensures comms { self.new.comms ≡ self.old.comms }
-        ensures settled { OnTrue (ends_job result) (SettlesLast self.new.kernel.machine.minutes self.old.extras.items self.new.extras.items) }
-        ensures extras { OnFalse (ends_job result) (self.new.extras.items ≡ self.old.extras.items) }
+        ensures settled { OnTrue (ends_job result) (SettlesLast self.new.kernel.machine.minutes self.old.pending_results.items self.new.pending_results.items) }
+        ensures pending_results { OnFalse (ends_job result) (self.new.pending_results.items ≡ self.old.pending_results.items) }
     {
         is_legal(&self.kernel);
         let State { kernel, .. } = self;
         let turn = turn_on(kernel, bell, runner, m);
         if turn.is_end() {
-            settle_last(self.alloc, &self.kernel, &mut self.extras);
+            settle_last(self.alloc, &self.kernel, &mut self.pending_results);
         }
         turn
     }
@@ -135,14 +135,14 @@ impl<W: Ledger, L: Ledger> State<W, L> {
     pub fn done(&mut self, number: u64) -> Option<Done>
         ensures number { IfSome result (λ d. d.number ≡ number) }
         ensures end { IfSome result (HasEnd self.old.kernel.machine.minutes) }
-        ensures told { IfSome result (λ d. IsTold self.old.extras.items number d self.new.extras.items) }
-        ensures none { IfNone result (self.new.extras.items ≡ self.old.extras.items) }
+        ensures told { IfSome result (λ d. IsTold self.old.pending_results.items number d self.new.pending_results.items) }
+        ensures none { IfNone result (self.new.pending_results.items ≡ self.old.pending_results.items) }
         ensures legal { IsLegalMachine self.old.kernel.machine }
         ensures kernel { self.new.kernel ≡ self.old.kernel }
         ensures comms { self.new.comms ≡ self.old.comms }
     {
         is_legal(&self.kernel);
-        fetch(self.alloc, &self.kernel, &mut self.extras, number)
+        fetch(self.alloc, &self.kernel, &mut self.pending_results, number)
     }
 
     /// The number of the job whose end stands last in the minutes; 0 where no end does.
@@ -178,7 +178,7 @@ impl<W: Ledger, L: Ledger> State<W, L> {
     pub fn shut(&mut self)
         ensures shut { self.new.kernel.machine ≡ shut self.old.kernel.machine }
         ensures comms { self.new.comms ≡ self.old.comms }
-        ensures extras { self.new.extras ≡ self.old.extras }
+        ensures pending_results { self.new.pending_results ≡ self.old.pending_results }
     {
         let State { kernel, .. } = self;
         kernel.shut();

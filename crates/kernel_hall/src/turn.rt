@@ -1,7 +1,7 @@
 //! One turn of the runner over the lent kernel.
 ghost use Rattle.std.specs.Prelude.{◌≡◌, ◌-◌, ◌^◌, ◌<◌};
 ghost use Rattle.kernel_core.specs.Minutes.{posted_in};
-ghost use Rattle.kernel_hall.specs.Extras.{ends_job};
+ghost use Rattle.kernel_hall.specs.PendingResults.{ends_job};
 ghost use Rattle.kernel_hall.specs.Turns.{IsTurn};
 
 use kernel_bell::{Bell, RunnerSeat};

@@ -1,4 +1,3 @@
-mod SendLemmas
 mod RoundLemmas
 mod FedLemmas
 mod ServedLemmas

@@ -7,7 +7,7 @@ use Rattle.std.proofs.lemmas.Grind.{flat_map-append}
 use Rattle.zmtp_wire.specs.Message.{message_octets}
 use Rattle.kernel_board.specs.declared.log.Place.{Place}
 use Rattle.kernel_iopub.specs.Round.{none, more, IsSent, IsSentInPart, AreSentTo, IsServedInPart}
-use Rattle.kernel_iopub.proofs.SendLemmas.{appends_join}
+use Rattle.exact_write.proofs.SendLemmas.{appends_join}
 
 pub sent_on : (a b c : Option (List ℕ)) (place next : Place) → AreSentTo a b (Some place) → IsSent b c place.number next.number → AreSentTo a c (Some next)
 sent_on a b c place next s r = (

@@ -2,6 +2,7 @@
 use Rattle.std.specs.Prelude.{◌≡◌, ℕ, ◌⊎◌, List, [], ◌∷◌, ◌++◌, Option, Some, None}
 use Rattle.std.specs.List.{flat_map}
 use Rattle.std.specs.Io.KnownBytes.{Appends}
+use Rattle.exact_write.specs.Sent.{SentSome}
 use Rattle.zmtp_wire.specs.Message.{message_octets}
 use Rattle.zmtp_peer.specs.declared.role.Role.TheVariants.{Pub}
 use Rattle.zmtp_peer.specs.Events.{Event}
@@ -13,10 +14,6 @@ use Rattle.kernel_board.specs.Reads.{IsRead}
 use Rattle.kernel_board.specs.declared.log.Place.{Place}
 use Rattle.kernel_board.specs.declared.log.Read.{Read}
 use Rattle.kernel_board.specs.declared.log.Read.TheVariants.{Got, Lagged}
-
--- some of the octets went out
-abbrev pub SentSome : Option (List ℕ) → Option (List ℕ) → List ℕ → Type 0
-SentSome old new octets = (part : List ℕ) × (rest : List ℕ) × (octets ≡ part ++ rest) × Appends old new part
 
 -- those of the broadcasts to which a peer has subscribed by these events, in their order
 abbrev pub AreWanted : List Event → List Frames → List Frames → Type 0

@@ -1,44 +1,19 @@
 //! The broadcasts of a kernel, and who waits for more.
 ghost use Rattle.std.specs.Prelude.{IfOk};
-ghost use Rattle.std.specs.Bool.{OnTrue, OnFalse};
-ghost use Rattle.zmtp_wire.specs.Message.{IsWithinLimits, bodies_of};
 ghost use Rattle.kernel_board.specs.Log.{Log, IsLog};
 ghost use Rattle.kernel_board.specs.Reads.{IsRead};
 
-use crate::signal::Signal;
+use crate::event_count::EventCount;
 use kernel_board::{Board, BoardFault, Broadcast, Place, Read};
 use std::alloc::{AllocError, Global};
 use std::sync::Wait;
-
-/// So many frames a message has at most that is taken by a reader, and so many octets in all of them (`zmtp_wire`).
-const FRAMES: usize = 1024;
-
-const OCTETS: usize = 16_777_216;
-
-/// Whether a reader takes a message of these frames.
-fn is_within_limits(frames: &[Vec<u8>]) -> bool
-    ensures within { OnTrue result (IsWithinLimits (bodies_of frames.now)) }
-    ensures past { OnFalse result (¬ (IsWithinLimits (bodies_of frames.now))) }
-{
-    if frames.len() > FRAMES {
-        return false;
-    }
-    let mut size = 0;
-    for frame in frames {
-        let more = frame.len();
-        if more > OCTETS - size {
-            return false;
-        }
-        size += more;
-    }
-    true
-}
+use zmtp_wire::is_within_limits;
 
 /// The board, and the count that rises with each broadcast.
 #[derive(Drop)]
 pub struct Bulletin {
     board: Board,
-    signal: Signal,
+    event_count: EventCount,
 }
 
 impl Bulletin {
@@ -51,7 +26,7 @@ impl Bulletin {
         let board = Board::new(alloc)?;
         Ok(Bulletin {
             board,
-            signal: Signal::new(),
+            event_count: EventCount::new(),
         })
     }
 
@@ -62,7 +37,7 @@ impl Bulletin {
             return;
         }
         let _number = self.board.publish(rt, broadcast);
-        self.signal.raise(rt);
+        self.event_count.raise(rt);
     }
 
     /// The place after the last broadcast: the end of the log as it is under the board's lock.
@@ -82,7 +57,7 @@ impl Bulletin {
     }
 
     /// The count that rises with each broadcast, and whenever else there is something to look at.
-    pub fn signal(&self) -> &Signal {
-        &self.signal
+    pub fn event_count(&self) -> &EventCount {
+        &self.event_count
     }
 }

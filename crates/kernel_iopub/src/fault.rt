@@ -14,6 +14,9 @@ pub enum SubscriberFault {
     /// The peer broke the protocol of the wire.
     #[error("Peer {0}")]
     Peer(PeerFault),
+    /// The peer subscribed to more than a connection may, or sent more than that takes.
+    #[error("TooMuch")]
+    TooMuch,
     /// The subscriber fell behind what the board keeps.
     #[error("Lagged")]
     Lagged,

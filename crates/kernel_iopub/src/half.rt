@@ -3,7 +3,8 @@ ghost use Rattle.std.specs.Prelude.{ℕ, List, Option, IfOk, OnOk, OnErr};
 ghost use Rattle.std.specs.List.{flat_map};
 ghost use Rattle.std.specs.Io.KnownBytes.{Appends};
 ghost use Rattle.zmtp_wire.specs.Message.{message_octets};
-ghost use Rattle.kernel_iopub.specs.Round.{SentSome, IsSent, IsSentInPart, AreSentTo, IsServed, IsServedInPart};
+ghost use Rattle.exact_write.specs.Sent.{SentSome};
+ghost use Rattle.kernel_iopub.specs.Round.{IsSent, IsSentInPart, AreSentTo, IsServed, IsServedInPart};
 
 use crate::bulletin::Bulletin;
 use crate::fault::SubscriberFault;
@@ -17,6 +18,9 @@ use std::sync::{Mutex, Wait};
 /// How many octets are read at once, at most.
 const ROOM: usize = 512;
 
+/// So many octets a subscriber may send over its life: each prefix that it may subscribe to, once to subscribe and once to cancel.
+const HEARD: usize = 2_359_296;
+
 /// Feeds the peer all that comes, up to the end of the input.
 fn hear_all<R: Wait, I: Read>(
     rt: &R,
@@ -25,15 +29,20 @@ fn hear_all<R: Wait, I: Read>(
     reader: &mut I,
 ) -> Result<(), SubscriberFault> {
     let mut room = [0u8; ROOM];
+    let mut heard: usize = 0;
     for _ in 0..u64::MAX {
         let count = match reader.read(&mut room) {
             Ok(0) => return Ok(()),
             Ok(count) => count,
             Err(_) => return Err(SubscriberFault::Read),
         };
+        heard = heard.saturating_add(count);
+        if heard > HEARD {
+            return Err(SubscriberFault::TooMuch);
+        }
         // What else it sends, as that it subscribes, is nothing to wake the writers of all connections for.
         if take(rt, bulletin, shared, &room[..count])? {
-            bulletin.signal().raise(rt);
+            bulletin.event_count().raise(rt);
         }
     }
     Err(SubscriberFault::Read)
@@ -48,7 +57,7 @@ pub fn hear<R: Wait, I: Read>(
 ) -> Result<(), SubscriberFault> {
     let heard = hear_all(rt, bulletin, shared, reader);
     fall_silent(rt, shared);
-    bulletin.signal().raise(rt);
+    bulletin.event_count().raise(rt);
     heard
 }
 
@@ -131,7 +140,7 @@ pub fn speak<R: Wait, W: Write>(
 {
     let mut at: Option<Place> = None;
     for _ in rt.forever() {
-        let seen = bulletin.signal().seen(rt);
+        let seen = bulletin.event_count().seen(rt);
         let sight = look(rt, shared);
         let before = at.or(sight.joined);
         at = match go_on(rt, alloc, bulletin, shared, writer, before) {
@@ -142,7 +151,7 @@ pub fn speak<R: Wait, W: Write>(
             if sight.is_silent {
                 return Ok(());
             }
-            bulletin.signal().wait_past(rt, seen);
+            bulletin.event_count().wait_past(rt, seen);
         }
     }
     unreachable!()

@@ -21,16 +21,16 @@
 #![tactic(auto)]
 
 mod bulletin;
+mod event_count;
 mod fault;
 mod half;
 mod send;
 mod serve;
-mod signal;
 mod subscriber;
 
 pub use bulletin::Bulletin;
+pub use event_count::EventCount;
 pub use fault::SubscriberFault;
 pub use half::{hear, speak};
 pub use serve::{HangUp, serve_subscriber};
-pub use signal::Signal;
 pub use subscriber::Subscriber;

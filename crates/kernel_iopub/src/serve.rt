@@ -2,8 +2,8 @@
 use crate::bulletin::Bulletin;
 use crate::fault::SubscriberFault;
 use crate::half::{hear, speak};
-use crate::send::send;
 use crate::subscriber::Subscriber;
+use exact_write::send;
 use std::alloc::Global;
 use std::io::{Read, Write};
 use std::marker::Send;
@@ -36,6 +36,7 @@ fn speak_and_hang_up<R: Wait, W: Write + HangUp + Drop>(
 /// # Errors
 ///
 /// `Read` where the reader failed; `Write` where the opening could not be written; `Peer` where the peer broke the protocol of the wire;
+/// `TooMuch` where it subscribed to more than a connection may;
 /// `Memory` where there is none, also for a thread. What the writing half met is not told.
 pub fn serve_subscriber<R: Threads + Wait + Sync, I: Read, W: Write + HangUp + Send + Drop>(
     rt: &R,
@@ -45,7 +46,10 @@ pub fn serve_subscriber<R: Threads + Wait + Sync, I: Read, W: Write + HangUp + S
     mut writer: W,
 ) -> Result<(), SubscriberFault> {
     let subscriber = Subscriber::new(alloc);
-    send(&mut writer, &subscriber.opening()?)?;
+    let opening = subscriber.opening()?;
+    if send(&mut writer, &opening).is_err() {
+        return Err(SubscriberFault::Write);
+    }
     let shared = Mutex::new(subscriber);
     let shared_by = &shared;
     thread::scope(thread::scope_env(), rt, |scope| {

@@ -13,6 +13,12 @@ use std::sync::{Mutex, Wait};
 use zmtp_peer::{Peer, PeerEvent, PeerFault, Role};
 use zmtp_wire::WireFault;
 
+/// So many prefixes a connection may subscribe to over its life: each is kept, and whoever connects may have no key.
+const PREFIXES: u32 = 4096;
+
+/// So many octets those prefixes may have together.
+const PREFIX_OCTETS: usize = 1_048_576;
+
 /// The peer, and how far it is. Its type keeps that the peer is a publisher's, and stands as some octets from the first of a connection on have it.
 #[derive(Drop)]
 pub struct Subscriber {
@@ -23,6 +29,9 @@ pub struct Subscriber {
     joined: Option<Place>,
     /// Nothing more comes from it.
     is_silent: bool,
+    /// How many prefixes it has subscribed to over its life, and how many octets they have together.
+    prefixes: u32,
+    prefix_octets: usize,
 }
 
 /// What the writing half finds.
@@ -39,6 +48,8 @@ impl Subscriber {
             peer: Peer::new(alloc, Role::Pub),
             joined: None,
             is_silent: false,
+            prefixes: 0,
+            prefix_octets: 0,
         }
     }
 
@@ -50,6 +61,18 @@ impl Subscriber {
         }
     }
 
+    /// Counts a prefix that the peer subscribes to.
+    fn count(&mut self, octets: usize) -> Result<(), SubscriberFault>
+        ensures same { self.new.peer ≡ self.old.peer }
+    {
+        self.prefixes = self.prefixes.saturating_add(1);
+        self.prefix_octets = self.prefix_octets.saturating_add(octets);
+        if self.prefixes > PREFIXES || self.prefix_octets > PREFIX_OCTETS {
+            return Err(SubscriberFault::TooMuch);
+        }
+        Ok(())
+    }
+
     /// Feeds the peer what came. Whether it is ready by that.
     fn feed(&mut self, piece: &[u8]) -> Result<bool, SubscriberFault> {
         let events = match self.peer.feed(piece) {
@@ -59,8 +82,10 @@ impl Subscriber {
         };
         let mut is_ready = false;
         for event in events {
-            if let PeerEvent::Ready = event {
-                is_ready = true;
+            match event {
+                PeerEvent::Ready => is_ready = true,
+                PeerEvent::Subscribe(prefix) => self.count(prefix.len())?,
+                PeerEvent::Cancel(_) | PeerEvent::Message(_) => {}
             }
         }
         Ok(is_ready)

@@ -12,7 +12,8 @@ use Rattle.kernel_hall.proofs.Crosses.{Hall-sync}
 use Rattle.kernel_iopub.specs.contracts.bulletin.Bulletin as Bulletin
 use Rattle.kernel_sockets.specs.contracts.connections.Connections as Connections
 use Rattle.kernel_sockets.specs.contracts.listener.Listener as Listener
-use Rattle.kernel_places.specs.contracts.word.Word as Word
+use Rattle.kernel_places.specs.contracts.latch.Latch as Latch
+use Rattle.kernel_places.specs.contracts.door.Door as Door
 use Rattle.kernel_places.specs.contracts.service.Service as Service
 
 Broadcast-send : IsSend (Broadcast.the_field).row
@@ -24,15 +25,18 @@ BroadcastLog-send = search (crosses, cells_send, deed_send, frees, Broadcast-sen
 pub Bulletin-sync : IsSync (Bulletin.the_field).row
 Bulletin-sync = search (crosses, BroadcastLog-send, sendable) depth 60 fits 20000
 
-Connections-sync : IsSync (Connections.the_field).row
+pub Connections-sync : IsSync (Connections.the_field).row
 Connections-sync = search (crosses, sendable) depth 60 fits 20000
 
 pub Listener-sync : IsSync (Listener.the_field).row
 Listener-sync = search (crosses, sendable) depth 60 fits 20000
 
-Word-sync : IsSync (Word.the_field).row
-Word-sync = search (crosses, sendable) depth 60 fits 20000
+Latch-sync : IsSync (Latch.the_field).row
+Latch-sync = search (crosses, sendable) depth 60 fits 20000
+
+pub Door-sync : IsSync (Door.the_field).row
+Door-sync = search (crosses, sendable) depth 60 fits 20000
 
 module _ (W L : RattleType) (w : Ledger.Ghosts W.Denot) (l : Ledger.Ghosts L.Denot) where
   pub Service-sync : IsSend W → IsSend L → IsSync (Service.the_field W L w l).row
-  Service-sync s t = let hall = Hall-sync W L w l s t in search (crosses, Bulletin-sync, Connections-sync, Word-sync, sendable) depth 60 fits 20000
+  Service-sync s t = let hall = Hall-sync W L w l s t in search (crosses, Bulletin-sync, Connections-sync, Latch-sync, Door-sync, sendable) depth 60 fits 20000

@@ -1,8 +1,14 @@
-//! The places at which a kernel serves its connections: 32 for each of the five sockets, each of which accepts a connection, serves it to
-//! its end and accepts again; beside them the worker that runs the cells; and how all of them come to an end.
+//! The places at which a kernel serves its connections: 32 for each of the five sockets, each of which takes a connection, serves it to
+//! its end and takes the next; an usher for each socket, who accepts the connections; beside them the worker that runs the cells; and how all of
+//! them come to an end.
 //!
-//! [`Service`] is what all places share: the hall, the board, the connections that are served, and the words that all threads are told. [`serve_all`] starts
-//! the threads, and no place accepts a connection before all of them stand; it tells when it is ready, waits for a shutdown and joins every thread. A place of
+//! Whoever lacks the key can't keep its owner out. A connection whose handshake takes ten seconds fails, and so does a message that takes ten
+//! seconds to be written. Where all places of a socket are taken and another connection comes, the stranger that has been there longest makes room: on
+//! shell and control one on which no message with a valid signature came, on the others, where none is signed, one that is not ready or was silent for a minute.
+//! Where all 32 show the key the next one waits.
+//!
+//! [`Service`] is what all places share: the hall, the board, the connections that are served, and the latches that all threads look at. [`serve_all`] starts
+//! the threads, and no connection is accepted before all of them stand; it tells when it is ready, waits for a shutdown and joins every thread. A place of
 //! shell or control has a pass of the hall and a ringer's seat for as long as it lives.
 //!
 //! As a shutdown is answered no more connections are accepted, and those on which requests come are shut for reading. The worker comes to its end first: the cell
@@ -13,12 +19,15 @@
 //! `HallDesk`): that a thread runs, a connection is served or an end comes, no contract can say.
 #![tactic(auto)]
 
+mod arrivals;
+mod door;
+mod latch;
 mod places;
 mod publishing;
 mod requests;
 mod service;
 mod start;
-mod word;
+mod usher;
 mod worker;
 
 pub use places::{Listeners, PLACES};

@@ -1,41 +1,47 @@
 //! The places of the iopub socket.
-use crate::places::{accept, share};
+use crate::arrivals::{Arrivals, Departures, milliseconds};
+use crate::door::Door;
+use crate::places::share;
 use crate::service::Service;
 use kernel_iopub::{HangUp, serve_subscriber};
-use kernel_sockets::{Input, Listener};
-use std::io;
-use std::io::Write;
-use std::net::{Shutdown, TcpStream};
+use kernel_sockets::Input;
+use std::net::TcpStream;
 use std::sync::Wait;
 use std::sync::ledger::Ledger;
 use std::thread::Threads;
 use std::time::Clock;
+use zmtp_peer::Role;
 
-/// What goes out on a connection.
-#[derive(Drop)]
-struct Output<'a> {
-    stream: &'a TcpStream,
-}
-
-impl Write for Output<'_> {
-    fn write(&mut self, buf: &[u8]) -> io::Result<usize> {
-        let mut stream = self.stream;
-        stream.write(buf)
-    }
-
-    fn flush(&mut self) -> io::Result<()> {
-        Ok(())
-    }
-}
-
-impl HangUp for Output<'_> {
+impl<R: Clock> HangUp for Departures<'_, R> {
     fn hang_up(&mut self) {
-        let _ = self.stream.shutdown(Shutdown::Both);
+        self.end();
     }
+}
+
+/// Serves a subscriber that was let in, to its end.
+fn supply<W: Ledger + Sync, L: Ledger + Sync, R: Threads + Wait + Clock + Sync>(
+    rt: &R,
+    service: &Service<W, L>,
+    index: usize,
+    stream: &TcpStream,
+) {
+    let Some(presence) = service.subscribers.presence(index) else {
+        return;
+    };
+    let input = Input::new(stream, &service.subscribers);
+    let mut arrivals = Arrivals::new(rt, service.alloc, stream, input, presence, Role::Pub, true);
+    let departures = Departures::new(rt, stream);
+    let _ = serve_subscriber(
+        rt,
+        service.alloc,
+        &service.bulletin,
+        &mut arrivals,
+        departures,
+    );
 }
 
 /// Takes a subscriber in, serves it and sees it out.
-fn receive<W: Ledger + Sync, L: Ledger + Sync, R: Threads + Wait + Sync>(
+fn receive<W: Ledger + Sync, L: Ledger + Sync, R: Threads + Wait + Clock + Sync>(
     rt: &R,
     service: &Service<W, L>,
     index: usize,
@@ -44,10 +50,11 @@ fn receive<W: Ledger + Sync, L: Ledger + Sync, R: Threads + Wait + Sync>(
     let Some((stream, shared)) = share(service.alloc, stream) else {
         return;
     };
-    if service.subscribers.enter(rt, index, shared) {
-        let mut input = Input::new(&stream, &service.subscribers);
-        let output = Output { stream: &stream };
-        let _ = serve_subscriber(rt, service.alloc, &service.bulletin, &mut input, output);
+    if service
+        .subscribers
+        .enter(rt, index, shared, milliseconds(rt))
+    {
+        supply(rt, service, index, &stream);
         service.subscribers.leave(rt, index);
     }
 }
@@ -57,14 +64,11 @@ pub(crate) fn attend_subscribers<
     W: Ledger + Send + Sync,
     L: Ledger + Send + Sync,
     R: Threads + Wait + Clock + Sync,
->(rt: &R, service: &Service<W, L>, listener: &Listener, index: usize) {
-    service.started.wait(rt);
+>(rt: &R, service: &Service<W, L>, door: &Door, index: usize) {
     for _ in rt.forever() {
-        if service.ending.is_told() {
+        let Some((stream, _)) = door.take(rt) else {
             break;
-        }
-        if let Some((stream, _)) = accept(rt, service, listener) {
-            receive(rt, service, index, stream);
-        }
+        };
+        receive(rt, service, index, stream);
     }
 }

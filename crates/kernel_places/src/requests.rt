@@ -1,13 +1,16 @@
 //! The places of the sockets on which something comes: shell, control, stdin and heartbeat.
-use crate::places::{accept, share};
+use crate::arrivals::{Arrivals, Departures, milliseconds};
+use crate::door::Door;
+use crate::places::share;
 use crate::service::Service;
 use kernel_desk::{HallDesk, QuietDesk};
 use kernel_session::{Desk, Socket, serve};
-use kernel_sockets::{Input, Listener};
+use kernel_sockets::Input;
 use std::net::TcpStream;
 use std::sync::Wait;
 use std::sync::ledger::Ledger;
 use std::time::Clock;
+use zmtp_peer::Role;
 
 /// Which place it is: of which socket, and where among those of all four.
 #[derive(Clone, Copy, PartialEq, Eq)]
@@ -16,32 +19,47 @@ pub(crate) struct Place {
     pub index: usize,
 }
 
+/// The role of a socket on which requests come, or octets to send back.
+fn role_of(socket: Socket) -> Role {
+    match socket {
+        Socket::Heartbeat => Role::Rep,
+        _ => Role::Router,
+    }
+}
+
 /// Serves a connection that was let in, to its end.
-fn converse<W: Ledger, L: Ledger, D: Desk>(
+fn converse<W: Ledger, L: Ledger, D: Desk, R: Clock>(
+    rt: &R,
     service: &Service<W, L>,
     desk: &mut D,
-    socket: Socket,
+    place: Place,
     stream: &TcpStream,
     number: u64,
 ) {
     let Ok(mut stamp) = service.stamp(number) else {
         return;
     };
-    let mut input = Input::new(stream, &service.callers);
-    let mut output = stream;
+    let Some(presence) = service.callers.presence(place.index) else {
+        return;
+    };
+    let input = Input::new(stream, &service.callers);
+    let is_noted = matches!(place.socket, Socket::Stdin | Socket::Heartbeat);
+    let role = role_of(place.socket);
+    let mut arrivals = Arrivals::new(rt, service.alloc, stream, input, presence, role, is_noted);
+    let mut departures = Departures::new(rt, stream);
     let _ = serve(
         service.alloc,
-        socket,
+        place.socket,
         &service.key,
-        &mut input,
-        &mut output,
+        &mut arrivals,
+        &mut departures,
         desk,
         &mut stamp,
     );
 }
 
 /// Takes a connection in, serves it and sees it out.
-fn receive<W: Ledger, L: Ledger, D: Desk, R: Wait>(
+fn receive<W: Ledger, L: Ledger, D: Desk, R: Wait + Clock>(
     rt: &R,
     service: &Service<W, L>,
     desk: &mut D,
@@ -52,8 +70,11 @@ fn receive<W: Ledger, L: Ledger, D: Desk, R: Wait>(
     let Some((stream, shared)) = share(service.alloc, stream) else {
         return;
     };
-    if service.callers.enter(rt, place.index, shared) {
-        converse(service, desk, place.socket, &stream, number);
+    if service
+        .callers
+        .enter(rt, place.index, shared, milliseconds(rt))
+    {
+        converse(rt, service, desk, place, &stream, number);
         service.callers.leave(rt, place.index);
     }
 }
@@ -62,20 +83,17 @@ fn receive<W: Ledger, L: Ledger, D: Desk, R: Wait>(
 pub(crate) fn attend<W: Ledger, L: Ledger, R: Wait + Clock>(
     rt: &R,
     service: &Service<W, L>,
-    listener: &Listener,
+    door: &Door,
     place: Place,
     mut desk: HallDesk<'_, W, L, R>,
 ) {
-    service.started.wait(rt);
     for _ in rt.forever() {
-        if service.ending.is_told() {
+        let Some((stream, number)) = door.take(rt) else {
             break;
-        }
-        if let Some((stream, number)) = accept(rt, service, listener) {
-            receive(rt, service, &mut desk, place, stream, number);
-            if desk.was_shut() {
-                service.ending.tell(rt);
-            }
+        };
+        receive(rt, service, &mut desk, place, stream, number);
+        if desk.was_shut() {
+            service.ending.set(rt);
         }
     }
 }
@@ -84,17 +102,14 @@ pub(crate) fn attend<W: Ledger, L: Ledger, R: Wait + Clock>(
 pub(crate) fn attend_silently<W: Ledger, L: Ledger, R: Wait + Clock>(
     rt: &R,
     service: &Service<W, L>,
-    listener: &Listener,
+    door: &Door,
     place: Place,
 ) {
     let mut desk = QuietDesk;
-    service.started.wait(rt);
     for _ in rt.forever() {
-        if service.ending.is_told() {
+        let Some((stream, number)) = door.take(rt) else {
             break;
-        }
-        if let Some((stream, number)) = accept(rt, service, listener) {
-            receive(rt, service, &mut desk, place, stream, number);
-        }
+        };
+        receive(rt, service, &mut desk, place, stream, number);
     }
 }

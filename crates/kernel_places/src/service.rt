@@ -1,8 +1,9 @@
 //! What all places share.
 ghost use Rattle.std.specs.Prelude.{◌≡◌, ◌≤◌, ◌<◌, ◌^◌, IfOk, IfSome, string_bytes};
 
+use crate::door::Doors;
+use crate::latch::Latch;
 use crate::places::PLACES;
-use crate::word::Word;
 use jupyter_msg::Key;
 use kernel_hall::Hall;
 use kernel_iopub::Bulletin;
@@ -30,12 +31,14 @@ pub struct Service<W: Ledger, L: Ledger> {
     pub(crate) callers: Connections,
     /// Those of iopub.
     pub(crate) subscribers: Connections,
+    /// Where connections that were accepted wait for a place.
+    pub(crate) doors: Doors,
     /// All threads stand, or all is to come to an end.
-    pub(crate) started: Word,
+    pub(crate) started: Latch,
     /// All is to come to an end.
-    pub(crate) ending: Word,
+    pub(crate) ending: Latch,
     /// The worker has come to its end, or there is none.
-    pub(crate) rested: Word,
+    pub(crate) rested: Latch,
     /// The number of the connection that was accepted last.
     last: Mutex<u64>,
 }
@@ -73,9 +76,10 @@ impl<W: Ledger, L: Ledger> Service<W, L> {
                 bulletin,
                 callers,
                 subscribers,
-                started: Word::new(),
-                ending: Word::new(),
-                rested: Word::new(),
+                doors: Doors::new(),
+                started: Latch::new(),
+                ending: Latch::new(),
+                rested: Latch::new(),
                 last: Mutex::new(0),
             }),
             Err(fault) => {

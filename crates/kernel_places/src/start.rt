@@ -1,10 +1,12 @@
 //! How the threads are started, and how they come to an end.
 ghost use Rattle.std.specs.Prelude.{◌≡◌, All};
 
+use crate::door::Door;
 use crate::places::{Listeners, PLACES};
 use crate::publishing::attend_subscribers;
 use crate::requests::{Place, attend, attend_silently};
 use crate::service::Service;
+use crate::usher::{Row, usher};
 use crate::worker::Worker;
 use kernel_bell::{RingerSeat, RunnerSeat};
 use kernel_desk::HallDesk;
@@ -30,7 +32,11 @@ pub struct Seats {
     pub ringers: Vec<RingerSeat>,
 }
 
-/// The desks of the places of shell and control, as many as there are seats.
+/// How long a ready connection of iopub, stdin or heartbeat may be silent before it has to make room for another one.
+const SILENCE_MILLISECONDS: u64 = 60_000;
+
+/// The desks of the places of shell and control, as many as there are seats, that of the last place first. Each notes at its place that a
+/// message with a valid signature came.
 fn desks_of<'a, W: Ledger, L: Ledger, R: Wait + Clock>(
     rt: &'a R,
     service: &'a Service<W, L>,
@@ -39,11 +45,23 @@ fn desks_of<'a, W: Ledger, L: Ledger, R: Wait + Clock>(
     requires { All (λ seat. seat.bell ≡ service.now.hall) seats.items }
 {
     let mut desks = Vec::with_capacity(service.alloc, seats.len())?;
+    let mut index = seats.len();
     for seat in seats {
+        index = index.saturating_sub(1);
+        let Some(presence) = service.callers.presence(index) else {
+            return Err(AllocError);
+        };
         let Ok(pass) = service.hall.pass(rt) else {
             return Err(AllocError);
         };
-        desks.push(HallDesk::new(rt, &service.hall, &service.bulletin, pass, seat))?;
+        desks.push(HallDesk::new(
+            rt,
+            &service.hall,
+            &service.bulletin,
+            pass,
+            seat,
+            presence.trust(),
+        ))?;
     }
     Ok(desks)
 }
@@ -59,7 +77,7 @@ fn start_attending<
     scope: &Scope<'s, E>,
     rt: &'s R,
     service: &'s Service<W, L>,
-    listener: &'s Listener,
+    door: &'s Door,
     first: Place,
     desks: &mut Vec<HallDesk<'s, W, L, R>>,
 ) -> bool {
@@ -72,7 +90,7 @@ fn start_attending<
             return false;
         };
         if scope
-            .spawn(move || attend(rt, service, listener, place, desk))
+            .spawn(move || attend(rt, service, door, place, desk))
             .is_err()
         {
             return false;
@@ -92,7 +110,7 @@ fn start_attending_silently<
     scope: &Scope<'s, E>,
     rt: &'s R,
     service: &'s Service<W, L>,
-    listener: &'s Listener,
+    door: &'s Door,
     first: Place,
 ) -> bool {
     for at in 0..PLACES {
@@ -101,7 +119,7 @@ fn start_attending_silently<
             index: first.index.saturating_add(at),
         };
         if scope
-            .spawn(move || attend_silently(rt, service, listener, place))
+            .spawn(move || attend_silently(rt, service, door, place))
             .is_err()
         {
             return false;
@@ -117,10 +135,11 @@ fn start_publishing<
     W: Ledger + Send + Sync,
     L: Ledger + Send + Sync,
     R: Threads + Wait + Clock + Sync,
->(scope: &Scope<'s, E>, rt: &'s R, service: &'s Service<W, L>, listener: &'s Listener) -> bool {
+>(scope: &Scope<'s, E>, rt: &'s R, service: &'s Service<W, L>) -> bool {
+    let door = &service.doors.iopub;
     for index in 0..PLACES {
         if scope
-            .spawn(move || attend_subscribers(rt, service, listener, index))
+            .spawn(move || attend_subscribers(rt, service, door, index))
             .is_err()
         {
             return false;
@@ -151,10 +170,118 @@ fn start_worker<'s, E, W: Ledger + Send + Sync, L: Ledger + Send + Sync, R: Thre
         .spawn(move || worker.run(rt, &service.rested))
         .is_err()
     {
-        service.rested.tell(rt);
+        service.rested.set(rt);
         return false;
     }
     true
+}
+
+/// Starts the usher of a socket. False where its thread could not be made.
+fn start_usher<
+    's,
+    E,
+    W: Ledger + Send + Sync,
+    L: Ledger + Send + Sync,
+    R: Threads + Wait + Clock + Sync,
+>(
+    scope: &Scope<'s, E>,
+    rt: &'s R,
+    service: &'s Service<W, L>,
+    listener: &'s Listener,
+    connections: &'s Connections,
+    door: &'s Door,
+    row: Row,
+) -> bool {
+    scope
+        .spawn(move || usher(rt, service, listener, connections, door, row))
+        .is_ok()
+}
+
+/// The places of a socket in the register of those that call, where a signed message shows who has the key.
+fn signed_row(socket: Socket) -> Row {
+    Row {
+        first: first_place(socket).index,
+        count: PLACES,
+        patience: 0,
+    }
+}
+
+/// The places of a socket on which no signed message comes.
+fn quiet_row(socket: Socket) -> Row {
+    Row {
+        first: first_place(socket).index,
+        count: PLACES,
+        patience: SILENCE_MILLISECONDS,
+    }
+}
+
+/// Starts the ushers of shell and control. False where a thread could not be made.
+fn start_callers_ushers<
+    's,
+    E,
+    W: Ledger + Send + Sync,
+    L: Ledger + Send + Sync,
+    R: Threads + Wait + Clock + Sync,
+>(scope: &Scope<'s, E>, rt: &'s R, service: &'s Service<W, L>, listeners: &'s Listeners) -> bool {
+    let (callers, doors) = (&service.callers, &service.doors);
+    let shell = signed_row(Socket::Shell);
+    let control = signed_row(Socket::Control);
+    start_usher(
+        scope,
+        rt,
+        service,
+        &listeners.shell,
+        callers,
+        &doors.shell,
+        shell,
+    ) && start_usher(
+        scope,
+        rt,
+        service,
+        &listeners.control,
+        callers,
+        &doors.control,
+        control,
+    )
+}
+
+/// Starts the ushers of iopub, stdin and heartbeat. False where a thread could not be made.
+fn start_quiet_ushers<
+    's,
+    E,
+    W: Ledger + Send + Sync,
+    L: Ledger + Send + Sync,
+    R: Threads + Wait + Clock + Sync,
+>(scope: &Scope<'s, E>, rt: &'s R, service: &'s Service<W, L>, listeners: &'s Listeners) -> bool {
+    let (callers, doors) = (&service.callers, &service.doors);
+    let iopub = quiet_row(Socket::Iopub);
+    let stdin = quiet_row(Socket::Stdin);
+    let beat = quiet_row(Socket::Heartbeat);
+    start_usher(
+        scope,
+        rt,
+        service,
+        &listeners.iopub,
+        &service.subscribers,
+        &doors.iopub,
+        iopub,
+    ) && start_usher(
+        scope,
+        rt,
+        service,
+        &listeners.stdin,
+        callers,
+        &doors.stdin,
+        stdin,
+    ) && start_usher(
+        scope,
+        rt,
+        service,
+        &listeners.heartbeat,
+        callers,
+        &doors.heartbeat,
+        beat,
+    )
 }
 
 /// Starts the worker and all places on which something comes. False where a thread could not be made.
@@ -178,10 +305,19 @@ fn start_all<
     let stdin = first_place(Socket::Stdin);
     let heartbeat = first_place(Socket::Heartbeat);
     start_worker(scope, rt, service, worker)
-        && start_attending(scope, rt, service, &listeners.shell, shell, &mut desks)
-        && start_attending(scope, rt, service, &listeners.control, control, &mut desks)
-        && start_attending_silently(scope, rt, service, &listeners.stdin, stdin)
-        && start_attending_silently(scope, rt, service, &listeners.heartbeat, heartbeat)
+        && start_attending(scope, rt, service, &service.doors.shell, shell, &mut desks)
+        && start_attending(
+            scope,
+            rt,
+            service,
+            &service.doors.control,
+            control,
+            &mut desks,
+        )
+        && start_attending_silently(scope, rt, service, &service.doors.stdin, stdin)
+        && start_attending_silently(scope, rt, service, &service.doors.heartbeat, heartbeat)
+        && start_callers_ushers(scope, rt, service, listeners)
+        && start_quiet_ushers(scope, rt, service, listeners)
 }
 
 /// Tells that all is ready. A fault of the stream is passed over.
@@ -192,10 +328,11 @@ fn tell_ready<O: Write>(out: &mut O) {
 
 /// Tells all places and the worker that all is to come to an end, and lets no more connections in. What comes on those that are served comes to its end.
 fn end_all<W: Ledger, L: Ledger, R: Wait>(rt: &R, service: &Service<W, L>, listeners: &Listeners) {
-    service.ending.tell(rt);
-    service.started.tell(rt);
+    service.ending.set(rt);
+    service.started.set(rt);
     service.hall.shut(rt);
     listeners.close();
+    service.doors.close(rt);
     service.callers.close(rt, Shutdown::Read);
 }
 
@@ -208,7 +345,7 @@ fn see_out<R: Wait + Clock>(rt: &R, connections: &Connections) {
 /// Brings the subscribers to an end, behind what was published last.
 fn end_subscribers<W: Ledger, L: Ledger, R: Wait + Clock>(rt: &R, service: &Service<W, L>) {
     service.subscribers.close(rt, Shutdown::Read);
-    service.bulletin.signal().raise(rt);
+    service.bulletin.event_count().raise(rt);
     see_out(rt, &service.subscribers);
 }
 
@@ -229,7 +366,7 @@ fn serve_callers<
     thread::scope(thread::scope_env(), rt, |scope| {
         let is_started = start_all(scope, rt, service, listeners, worker, desks);
         if is_started {
-            service.started.tell(rt);
+            service.started.set(rt);
             tell_ready(out);
             service.ending.wait(rt);
         }
@@ -265,7 +402,7 @@ pub fn serve_all<
     let desks = desks_of(rt, service, ringers)?;
     let worker = Worker::new(&service.hall, runner);
     let is_started = thread::scope(thread::scope_env(), rt, |scope| {
-        let is_started = if start_publishing(scope, rt, service, &listeners.iopub) {
+        let is_started = if start_publishing(scope, rt, service) {
             serve_callers(rt, service, listeners, worker, desks, out)
         } else {
             end_all(rt, service, listeners);

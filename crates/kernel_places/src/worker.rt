@@ -1,7 +1,7 @@
 //! The worker, which runs the cells.
 ghost use Rattle.std.specs.Prelude.{◌≡◌};
 
-use crate::word::Word;
+use crate::latch::Latch;
 use kernel_bell::RunnerSeat;
 use kernel_hall::{Gate, Hall, Moment, work};
 use std::sync::Wait;
@@ -32,10 +32,10 @@ impl<'a, W: Ledger, L: Ledger> Worker<'a, W, L> {
     }
 
     /// Takes turns until the hall is shut and nothing is left, and tells that it has come to its end.
-    pub fn run<R: Wait>(self, rt: &R, rested: &Word) {
+    pub fn run<R: Wait>(self, rt: &R, rested: &Latch) {
         let Worker { hall, seat } = self;
         let mut gate = OpenGate;
         work(hall, rt, seat, &mut gate);
-        rested.tell(rt);
+        rested.set(rt);
     }
 }

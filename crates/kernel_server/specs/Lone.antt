@@ -12,8 +12,8 @@ use Rattle.kernel_ask.specs.declared.answer.HallFault.{HallFault}
 use Rattle.kernel_ask.specs.declared.answer.HallFault.TheVariants.{Memory}
 use Rattle.kernel_ask.specs.declared.done.Done.{Done}
 use Rattle.kernel_board.specs.Frames.{Frames}
-use Rattle.kernel_hall.specs.Changes.{IsChange}
-use Rattle.kernel_hall.specs.declared.comm.CommChange.{CommChange}
+use Rattle.kernel_ask.specs.CommChanges.{IsChange}
+use Rattle.kernel_ask.specs.declared.comm_change.CommChange.{CommChange}
 use Rattle.kernel_session.specs.Question.{Question, question_of, Change, change_of, Wishes}
 use Rattle.kernel_session.specs.Call.{Call, Posted, Asked, Changed, Rang, Shut, Published, Kept, Dated}
 use Rattle.kernel_server.specs.declared.slice.Slice.{Slice}

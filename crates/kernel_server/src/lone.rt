@@ -4,10 +4,9 @@ ghost use Rattle.kernel_core.specs.State.{Idle};
 
 use crate::job::run_job;
 use crate::slice::Slice;
-use kernel_ask::{Answer, Ask, Comms, Done, HallFault, Wish, ask_on};
+use kernel_ask::{Answer, Ask, CommChange, Comms, Done, HallFault, Wish, ask_on, comm_on};
 use kernel_board::Broadcast;
 use kernel_core::{Job, Kernel, PostFault};
-use kernel_hall::{CommChange, comm_on};
 use kernel_message::Stamp;
 use kernel_session::Desk;
 use std::alloc::{AllocError, Global};

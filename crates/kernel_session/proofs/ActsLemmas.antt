@@ -1,27 +1,9 @@
 -- What is done one after the other is done together.
-use Rattle.std.proofs.Common.{◌≡◌, ℕ, List, [], ◌∷◌, ◌++◌, Option, Some, None, refl, sym, ap, ◌∙◌, subst, append_assoc, append-nil, ◌+◌, take, drop, length, ◌-◌}
-use Rattle.std.proofs.Math.Seq.{take-add}
+use Rattle.std.proofs.Common.{◌≡◌, ℕ, List, [], ◌∷◌, ◌++◌, Option, Some, None, refl, sym, ap, ◌∙◌, subst, append_assoc}
 use Rattle.std.specs.Io.KnownBytes.{Appends, Consumes, Keeps}
-use Rattle.std.proofs.lemmas.List.{take-append-drop, take_rest}
-use Rattle.kernel_session.specs.Action.{SentSome}
+use Rattle.exact_write.proofs.SendLemmas.{appends_none, appends_join}
 use Rattle.kernel_session.specs.Call.{Call, Leads}
 use Rattle.kernel_session.specs.Action.{Action, Sent, Called, Acts, sends, asks, sent_of, calls_of}
-
-pub appends_none : (a : Option (List ℕ)) → Appends a a []
-appends_none None = tt
-appends_none (Some x) = sym (append-nil x)
-
-pub appends_join : (a b c : Option (List ℕ)) (xs ys : List ℕ) → Appends a b xs → Appends b c ys → Appends a c (xs ++ ys)
-appends_join None b c xs ys p q = tt
-appends_join (Some x) None c xs ys p q = absurd p
-appends_join (Some x) (Some y) None xs ys p q = absurd q
-appends_join (Some x) (Some y) (Some z) xs ys p q = q ∙ ap (λ l. l ++ ys) p ∙ append_assoc x xs ys
-
-pub appends_kept : (a b c : Option (List ℕ)) (xs : List ℕ) → Appends a b xs → Keeps b c → Appends a c xs
-appends_kept None b c xs p q = tt
-appends_kept (Some x) None c xs p q = absurd p
-appends_kept (Some x) (Some y) None xs p q = absurd q
-appends_kept (Some x) (Some y) (Some z) xs p q = q ∙ p
 
 pub consumes_none : (a : Option (List ℕ)) → Consumes a a []
 consumes_none None = tt
@@ -38,17 +20,6 @@ consumes_kept None b c xs p q = tt
 consumes_kept (Some x) None c xs p q = absurd p
 consumes_kept (Some x) (Some y) None xs p q = absurd q
 consumes_kept (Some x) (Some y) (Some z) xs p q = p ∙ ap (λ l. xs ++ l) (sym q)
-
--- a write of some of what was left
-pub appends_more : (a b c : Option (List ℕ)) (xs : List ℕ) (at n : ℕ) → Appends a b (take at xs) → Appends b c (take n (take (length xs - at) (drop at xs)))
-    → Appends a c (take (at + n) xs)
-appends_more a b c xs at n p q =
-    let e : take at xs ++ take n (take (length xs - at) (drop at xs)) ≡ take (at + n) xs =
-    ap (λ t. take at xs ++ take n t) (take_rest xs at) ∙ sym (take-add at n xs) in
-    subst (Appends a c) e (appends_join a b c _ _ p q)
-
-pub sent_some : (a b : Option (List ℕ)) (xs : List ℕ) (at : ℕ) → Appends a b (take at xs) → SentSome a b xs
-sent_some a b xs at p = (take at xs, drop at xs, sym (take-append-drop at xs), p)
 
 module _ {D : Type 0} (leads : D → Call → D → Type 0) where
   pub leads_join : (a b c : D) (xs ys : List Call) → Leads leads a xs b → Leads leads b ys c → Leads leads a (xs ++ ys) c

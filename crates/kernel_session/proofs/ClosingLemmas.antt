@@ -5,7 +5,8 @@ use Rattle.std.specs.Io.KnownBytes.{Appends}
 use Rattle.zmtp_peer.specs.Events.{Event}
 use Rattle.kernel_board.specs.Frames.{Frames}
 use Rattle.kernel_session.specs.Call.{Call, Kept}
-use Rattle.kernel_session.specs.Action.{Action, Sent, Acts, SentSome, sends, asks}
+use Rattle.exact_write.specs.Sent.{SentSome}
+use Rattle.kernel_session.specs.Action.{Action, Sent, Acts, sends, asks}
 use Rattle.kernel_session.specs.Closing.{IsShown, AreShown, IsFarewell, IsFarewellPart}
 use Rattle.kernel_session.specs.Parts.{ActedPart}
 use Rattle.kernel_session.proofs.ActsLemmas.{leads_one, acts_none, acts_join, acts_asks, acts_sends}

@@ -12,7 +12,8 @@ use Rattle.kernel_session.specs.declared.socket.Socket.TheVariants.{Heartbeat}
 use Rattle.kernel_session.specs.declared.flow.Flow.{Flow}
 use Rattle.kernel_session.specs.declared.flow.Flow.TheVariants.{Going}
 use Rattle.kernel_session.specs.Call.{Call}
-use Rattle.kernel_session.specs.Action.{Action, Sent, Acts, SentSome, sends}
+use Rattle.exact_write.specs.Sent.{SentSome}
+use Rattle.kernel_session.specs.Action.{Action, Sent, Acts, sends}
 use Rattle.kernel_session.specs.Session.{State, going, IsAsked, IsTurn, IsStep}
 use Rattle.kernel_session.specs.Parts.{ActedPart}
 use Rattle.kernel_session.specs.Ends.{Takes, Breaks, Whole, Cut}

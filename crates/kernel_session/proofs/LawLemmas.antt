@@ -22,9 +22,9 @@ use Rattle.kernel_reply.specs.Laws.{EndsIdle}
 use Rattle.kernel_reply.specs.Comms.{target as undo_target}
 use Rattle.kernel_reply.proofs.Idle.{jobs_end_idle, asks_end_idle, refusals_end_idle}
 use Rattle.kernel_session.specs.declared.socket.Socket.{Socket}
-use Rattle.kernel_session.specs.declared.flow.Flow.TheVariants.{Starved}
-use Rattle.kernel_session.specs.declared.talk.Told.{Told}
-use Rattle.kernel_session.specs.declared.talk.Told.TheVariants.{Ended, Unposted, Answered}
+use Rattle.kernel_session.specs.declared.flow.Flow.TheVariants.{OutOfMemory}
+use Rattle.kernel_session.specs.declared.talk.DeskReply.{DeskReply}
+use Rattle.kernel_session.specs.declared.talk.DeskReply.TheVariants.{Ended, Unposted, Answered}
 use Rattle.kernel_session.specs.Question.{Open, Close, Comms, Wishes}
 use Rattle.kernel_session.specs.Call as call
 use Rattle.kernel_session.specs.Call.{Call}
@@ -98,14 +98,14 @@ orders_what_is_wanted (request.CommClose r) h = closed_once (string_bytes r.comm
 
 -- ---- the status of the kernel
 
-ends_idle : (r : Asked) (stamp : Stamp) (told : Told) → EndsIdle (asker_of r) stamp (says_of r.content told)
+ends_idle : (r : Asked) (stamp : Stamp) (told : DeskReply) → EndsIdle (asker_of r) stamp (says_of r.content told)
 ends_idle r stamp (Ended done) = jobs_end_idle (asker_of r) stamp r.content done
 ends_idle r stamp (Unposted fault a) = refusals_end_idle (asker_of r) stamp r.content fault a.content
 ends_idle r stamp (Answered a) = asks_end_idle (asker_of r) stamp r.content a.content
 
-framed : (key : List ℕ) (r : Asked) (stamp dated : Stamp) (heard : Heard) (calls : List Call) (told : Option Told) (actions : List Action) (new : State)
+framed : (key : List ℕ) (r : Asked) (stamp dated : Stamp) (heard : Heard) (calls : List Call) (told : Option DeskReply) (actions : List Action) (new : State)
     → IsDated stamp dated → AreOrders calls (orders_wanted r.content heard)
-    → actions ≡ served key r stamp dated (record { calls = calls; told = told }) → new ≡ state_behind r (opened dated) told → new.flow ≢ Starved
+    → actions ≡ served key r stamp dated (record { calls = calls; told = told }) → new ≡ state_behind r (opened dated) told → new.flow ≢ OutOfMemory
     → IsFramed key r stamp actions
 framed key r stamp dated heard calls None actions new d o e n goes = absurd (goes (ap (λ (s : State). s.flow) n))
 framed key r stamp dated heard calls (Some told) actions new d o e n goes = record {

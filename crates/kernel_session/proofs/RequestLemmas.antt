@@ -8,11 +8,12 @@ use Rattle.kernel_message.specs.declared.stamp.Stamp.{Stamp}
 use Rattle.kernel_message.specs.Message.{broadcast_message}
 use Rattle.kernel_message.specs.Sent.{Sent}
 use Rattle.kernel_reply.specs.Status.{busy}
-use Rattle.kernel_session.specs.declared.talk.Told.{Told}
+use Rattle.kernel_session.specs.declared.talk.DeskReply.{DeskReply}
 use Rattle.kernel_session.specs.declared.flow.Flow.{Flow}
-use Rattle.kernel_session.specs.declared.flow.Flow.TheVariants.{Starved, Worn}
+use Rattle.kernel_session.specs.declared.flow.Flow.TheVariants.{OutOfMemory, Worn}
 use Rattle.kernel_session.specs.Call.{Call, Published, Dated, Leads}
-use Rattle.kernel_session.specs.Action.{Action, Sent as SentOctet, Called, Acts, IsStartOf, SentSome, sends, asks}
+use Rattle.exact_write.specs.Sent.{SentSome}
+use Rattle.kernel_session.specs.Action.{Action, Sent as SentOctet, Called, Acts, IsStartOf, sends, asks}
 use Rattle.kernel_session.specs.Talk.{Heard, IsHeld, talk, says_of}
 use Rattle.kernel_session.specs.Session.{State, IsServed, IsWorn, opened, asking, busy_frames, reply_octets, answered, outgoing, stamp_behind, flow_behind, state_behind, ends_with, served, last_next}
 use Rattle.kernel_session.specs.Parts.{LedPart, ActedPart, IsBegun, IsDatedAlone, IsTakenUp, IsTakenUpPart}
@@ -46,7 +47,7 @@ module _ {D : Type 0} (leads : D → Call → D → Type 0) (d d1 d2 : D) (key h
   begun_for : (p : IsBegun leads d d1 key header stamp stamp1) → r.header.items ≡ header → Leads leads d (opening r.header.items p.dated) d1
   begun_for p e = subst (λ (x : List ℕ). Leads leads d (opening x p.dated) d1) (sym e) p.called
 
-  pub taken_up : IsBegun leads d d1 key header stamp stamp1 → r.header.items ≡ header → (told : Option Told) (h : Heard)
+  pub taken_up : IsBegun leads d d1 key header stamp stamp1 → r.header.items ≡ header → (told : Option DeskReply) (h : Heard)
       → IsHeld leads d1 (talk r.content h) told d2 → IsTakenUp leads d d2 key r stamp stamp1 told
   taken_up p e told h q = record {
     dated = p.dated;
@@ -126,16 +127,16 @@ module _ {W D : Type 0} (contents : W → Option (List ℕ)) (leads : D → Call
     ServesPart =
         (actions : List Action) × (new : State) × IsServed key r stamp actions new × ActedPart contents leads w w' d d2 actions
 
-    pub request_whole : stamp.next ≤ last_next → (told : Told) → IsTakenUp leads d d1 key r stamp stamp1 (Some told)
+    pub request_whole : stamp.next ≤ last_next → (told : DeskReply) → IsTakenUp leads d d1 key r stamp stamp1 (Some told)
         → Acts contents leads w w' d1 d2 (answered key r stamp1 (says_of r.content told)) → stamp2 ≡ stamp_behind r stamp1 (Some told)
         → (flow : Flow) → flow ≡ ends_with r.content → Serves flow
     request_whole fits told p q moved flow ends =
         let t = talk r.content p.heard in
         let out : outgoing key r stamp1 (Some told) ≡ outgoing key r (opened p.dated) t.told =
-        ap (λ (s : Stamp). outgoing key r s (Some told)) p.moved ∙ ap (λ (o : Option Told). outgoing key r (opened p.dated) o) p.tells in
+        ap (λ (s : Stamp). outgoing key r s (Some told)) p.moved ∙ ap (λ (o : Option DeskReply). outgoing key r (opened p.dated) o) p.tells in
         let end : stamp2 ≡ stamp_behind r (opened p.dated) t.told =
-        moved ∙ ap (λ (s : Stamp). stamp_behind r s (Some told)) p.moved ∙ ap (λ (o : Option Told). stamp_behind r (opened p.dated) o) p.tells in
-        let on : flow ≡ flow_behind r t.told = ends ∙ ap (λ (o : Option Told). flow_behind r o) p.tells in (
+        moved ∙ ap (λ (s : Stamp). stamp_behind r s (Some told)) p.moved ∙ ap (λ (o : Option DeskReply). stamp_behind r (opened p.dated) o) p.tells in
+        let on : flow ≡ flow_behind r t.told = ends ∙ ap (λ (o : Option DeskReply). flow_behind r o) p.tells in (
           served key r stamp p.dated t,
           acts_join contents leads w w w' d d1 d2 _ _ (acts_asks contents leads w d d1 (asking key r stamp p.dated t) p.called)
               (subst (λ (x : List Action). Acts contents leads w w' d1 d2 x) out q),
@@ -149,13 +150,13 @@ module _ {W D : Type 0} (contents : W → Option (List ℕ)) (leads : D → Call
           },
         )
 
-    pub request_cut : stamp.next ≤ last_next → (told : Told) → IsTakenUp leads d d1 key r stamp stamp1 (Some told)
+    pub request_cut : stamp.next ≤ last_next → (told : DeskReply) → IsTakenUp leads d d1 key r stamp stamp1 (Some told)
         → ActedPart contents leads w w' d1 d2 (answered key r stamp1 (says_of r.content told)) → ServesPart
     request_cut fits told p q =
         let t = talk r.content p.heard in
         let first = asks (asking key r stamp p.dated t) in
         let out : outgoing key r stamp1 (Some told) ≡ outgoing key r (opened p.dated) t.told =
-        ap (λ (s : Stamp). outgoing key r s (Some told)) p.moved ∙ ap (λ (o : Option Told). outgoing key r (opened p.dated) o) p.tells in (
+        ap (λ (s : Stamp). outgoing key r s (Some told)) p.moved ∙ ap (λ (o : Option DeskReply). outgoing key r (opened p.dated) o) p.tells in (
           served key r stamp p.dated t,
           state_behind r (opened p.dated) t.told,
           record {
@@ -175,15 +176,15 @@ module _ {W D : Type 0} (contents : W → Option (List ℕ)) (leads : D → Call
 
   -- the desk found no memory
   pub request_starved : (w : W) (d d1 : D) (r : Request) (stamp stamp1 : Stamp) → stamp.next ≤ last_next
-      → IsTakenUp leads d d1 key r stamp stamp1 None → Serves w w d d d1 r stamp stamp1 stamp1 Starved
+      → IsTakenUp leads d d1 key r stamp stamp1 None → Serves w w d d d1 r stamp stamp1 stamp1 OutOfMemory
   request_starved w d d1 r stamp stamp1 fits p =
       let t = talk r.content p.heard in
       let none : t.told ≡ None = sym p.tells in
       let first = asks (asking key r stamp p.dated t) in
       let out : served key r stamp p.dated t ≡ first =
-      ap (λ (o : Option Told). first ++ outgoing key r (opened p.dated) o) none ∙ append-nil first in
-      let end : stamp1 ≡ stamp_behind r (opened p.dated) t.told = p.moved ∙ ap (λ (o : Option Told). stamp_behind r (opened p.dated) o) p.tells in
-      let on : Starved ≡ flow_behind r t.told = ap (λ (o : Option Told). flow_behind r o) p.tells in (
+      ap (λ (o : Option DeskReply). first ++ outgoing key r (opened p.dated) o) none ∙ append-nil first in
+      let end : stamp1 ≡ stamp_behind r (opened p.dated) t.told = p.moved ∙ ap (λ (o : Option DeskReply). stamp_behind r (opened p.dated) o) p.tells in
+      let on : OutOfMemory ≡ flow_behind r t.told = ap (λ (o : Option DeskReply). flow_behind r o) p.tells in (
         served key r stamp p.dated t,
         subst (λ (x : List Action). Acts contents leads w w d d1 x) (sym out) (acts_asks contents leads w d d1 (asking key r stamp p.dated t) p.called),
         inl record {

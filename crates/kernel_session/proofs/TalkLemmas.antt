@@ -7,8 +7,8 @@ use Rattle.kernel_ask.specs.declared.done.Done.{Done}
 use Rattle.kernel_ask.specs.declared.answer.Answer.{Answer}
 use Rattle.kernel_ask.specs.declared.answer.HallFault.{HallFault}
 use Rattle.kernel_ask.specs.declared.answer.HallFault.TheVariants as hall_fault
-use Rattle.kernel_session.specs.declared.talk.Told.{Told}
-use Rattle.kernel_session.specs.declared.talk.Told.TheVariants.{Answered}
+use Rattle.kernel_session.specs.declared.talk.DeskReply.{DeskReply}
+use Rattle.kernel_session.specs.declared.talk.DeskReply.TheVariants.{Answered}
 use Rattle.kernel_reply.specs.Comms.{target as undo_target}
 use Rattle.kernel_session.specs.Question.{Comms, Open}
 use Rattle.kernel_session.specs.Call.{Call, Asked}
@@ -44,7 +44,7 @@ abbrev pub heard_comms : Result Answer HallFault → Heard → Heard
 heard_comms a h = record h { comms = a }
 
 module _ {D : Type 0} (leads : D → Call → D → Type 0) (d d1 : D) where
-  pub open_held : (d2 : D) (id : List ℕ) (a : Answer) (t : Talk) (told : Option Told) → is_listed id a.content ≡ true
+  pub open_held : (d2 : D) (id : List ℕ) (a : Answer) (t : Talk) (told : Option DeskReply) → is_listed id a.content ≡ true
       → leads d (Asked Comms (Ok a)) d1 → IsHeld leads d1 t told d2 → IsHeld leads d (if_open id (Ok a) t) told d2
   open_held d2 id a t told e p q =
       subst (λ (b : Bool). IsHeld leads d (if b then before (Asked Comms (Ok a) ∷ []) t else ask Comms (Ok a)) told d2) (sym e)
@@ -56,13 +56,13 @@ module _ {D : Type 0} (leads : D → Call → D → Type 0) (d d1 : D) where
       subst (λ (b : Bool). IsHeld leads d (if b then before (Asked Comms (Ok a) ∷ []) t else ask Comms (Ok a)) (Some (Answered a)) d1) (sym e)
       ((d1, p, refl), refl)
 
-  pub target_held : (target id : List ℕ) (b : Result Bool HallFault) (a : Result Answer HallFault) (told : Option Told)
+  pub target_held : (target id : List ℕ) (b : Result Bool HallFault) (a : Result Answer HallFault) (told : Option DeskReply)
       → bytes_eq target undo_target ≡ true → IsHeld leads d (change_then_list (Open id) b a) told d1
       → IsHeld leads d (open_comm target id (heard_change b a)) told d1
   target_held target id b a told e p =
       subst (λ (t : Bool). IsHeld leads d (if t then change_then_list (Open id) b a else ask Comms a) told d1) (sym e) p
 
-  pub other_held : (target id : List ℕ) (a : Result Answer HallFault) (told : Option Told)
+  pub other_held : (target id : List ℕ) (a : Result Answer HallFault) (told : Option DeskReply)
       → bytes_eq target undo_target ≡ false → IsHeld leads d (ask Comms a) told d1
       → IsHeld leads d (open_comm target id (heard_answer a)) told d1
   other_held target id a told e p =
@@ -77,35 +77,35 @@ follow-comms comm.State a h = refl
 follow-comms comm.Other a h = refl
 
 module _ {D : Type 0} (leads : D → Call → D → Type 0) (d d' : D) where
-  abbrev pub Held : RequestContent → Option Told → Type 0
+  abbrev pub Held : RequestContent → Option DeskReply → Type 0
   Held content told = (h : Heard) × IsHeld leads d (talk content h) told d'
 
   -- the talk of a request, told by its kind
-  pub held_as : (content x : RequestContent) → content ≡ x → (told : Option Told) (h : Heard) (t : Talk) → talk x h ≡ t → IsHeld leads d t told d'
+  pub held_as : (content x : RequestContent) → content ≡ x → (told : Option DeskReply) (h : Heard) (t : Talk) → talk x h ≡ t → IsHeld leads d t told d'
       → Held content told
   held_as content x e told h t same p =
       (h, subst (λ (y : RequestContent). IsHeld leads d (talk y h) told d') (sym e) (subst (λ (y : Talk). IsHeld leads d y told d') (sym same) p))
 
   pub held_heard : {E : Type 0} (content x : RequestContent) → content ≡ x → (t : Heard → Talk) → ((h : Heard) → talk x h ≡ t h)
-      → (r : Result (Option Told) E) → IfOk r (λ told. (h : Heard) × IsHeld leads d (t h) told d') → IfOk r (Held content)
+      → (r : Result (Option DeskReply) E) → IfOk r (λ told. (h : Heard) × IsHeld leads d (t h) told d') → IfOk r (Held content)
   held_heard content x e t same (Ok told) p = held_as content x e told p.0 (t p.0) (same p.0) p.1
   held_heard content x e t same (Err f) p = tt
 
   pub held_answer : {E : Type 0} (content x : RequestContent) → content ≡ x → (t : Result Answer HallFault → Talk)
       → ((a : Result Answer HallFault) → talk x (heard_answer a) ≡ t a)
-      → (r : Result (Option Told) E) → IfOk r (λ told. (a : Result Answer HallFault) × IsHeld leads d (t a) told d') → IfOk r (Held content)
+      → (r : Result (Option DeskReply) E) → IfOk r (λ told. (a : Result Answer HallFault) × IsHeld leads d (t a) told d') → IfOk r (Held content)
   held_answer content x e t same (Ok told) p = held_as content x e told (heard_answer p.0) (t p.0) (same p.0) p.1
   held_answer content x e t same (Err f) p = tt
 
   pub held_change : {E : Type 0} (content x : RequestContent) → content ≡ x → (t : Result Bool HallFault → Talk)
       → ((b : Result Bool HallFault) → talk x (heard_change b unasked) ≡ t b)
-      → (r : Result (Option Told) E) → IfOk r (λ told. (b : Result Bool HallFault) × IsHeld leads d (t b) told d') → IfOk r (Held content)
+      → (r : Result (Option DeskReply) E) → IfOk r (λ told. (b : Result Bool HallFault) × IsHeld leads d (t b) told d') → IfOk r (Held content)
   held_change content x e t same (Ok told) p = held_as content x e told (heard_change p.0 unasked) (t p.0) (same p.0) p.1
   held_change content x e t same (Err f) p = tt
 
   pub held_job : {E : Type 0} (content x : RequestContent) → content ≡ x → (t : Result Done PostFault → Result Answer HallFault → Talk)
       → ((j : Result Done PostFault) (a : Result Answer HallFault) → talk x (heard_job j a) ≡ t j a)
-      → (r : Result (Option Told) E) → IfOk r (λ told. (j : Result Done PostFault) × (a : Result Answer HallFault) × IsHeld leads d (t j a) told d')
+      → (r : Result (Option DeskReply) E) → IfOk r (λ told. (j : Result Done PostFault) × (a : Result Answer HallFault) × IsHeld leads d (t j a) told d')
       → IfOk r (Held content)
   held_job content x e t same (Ok told) p = held_as content x e told (heard_job p.0 p.1) (t p.0 p.1) (same p.0 p.1) p.2
   held_job content x e t same (Err f) p = tt

@@ -35,7 +35,3 @@ pub record Acts {W D : Type 0} (contents : W → Option (List ℕ)) (leads : D �
 -- a beginning of the actions
 abbrev pub IsStartOf : List Action → List Action → Type 0
 IsStartOf actions all = (more : List Action) × (all ≡ actions ++ more)
-
--- some of the octets went out
-abbrev pub SentSome : Option (List ℕ) → Option (List ℕ) → List ℕ → Type 0
-SentSome old new octets = (part : List ℕ) × (rest : List ℕ) × (octets ≡ part ++ rest) × Appends old new part

@@ -7,7 +7,7 @@ use Rattle.zmtp_peer.specs.Faults.{fault_of, want_of_memory}
 use Rattle.zmtp_peer.specs.Reading.{Ending, Awaiting, Failing, PeerReads, Standing, Brings}
 use Rattle.kernel_session.specs.declared.socket.Socket.{Socket}
 use Rattle.kernel_session.specs.declared.flow.Flow.{Flow}
-use Rattle.kernel_session.specs.declared.flow.Flow.TheVariants.{Going, Closed, Worn, Starved}
+use Rattle.kernel_session.specs.declared.flow.Flow.TheVariants.{Going, Closed, Worn, OutOfMemory}
 use Rattle.kernel_session.specs.declared.fault.ServeFault.{ServeFault}
 use Rattle.kernel_session.specs.declared.fault.ServeFault.TheVariants.{Read, Write, Peer, Memory}
 use Rattle.kernel_session.specs.Call.{Call}
@@ -127,5 +127,5 @@ module _ {W D : Type 0} (contents : W → Option (List ℕ)) (leads : D → Call
     ends_by (Err Write) input left = Reading (λ events ending. is_cut events ⊎ is_cut_at_end left events ending) input
     ends_by (Err Memory) input left =
         ((part : List ℕ) × (rest : List ℕ) × (input ≡ part ++ rest)
-        × Reading (λ events ending. comes_to Starved events ⊎ is_cut events) part)
+        × Reading (λ events ending. comes_to OutOfMemory events ⊎ is_cut events) part)
         ⊎ Reading (λ events ending. is_cut_at_end left events ending) input

@@ -23,7 +23,7 @@ use Rattle.kernel_message.specs.declared.stamp.Stamp.{Stamp}
 use Rattle.kernel_reply.specs.Comms.{target as undo_target}
 use Rattle.kernel_reply.specs.Laws.{EndsIdle}
 use Rattle.kernel_session.specs.declared.socket.Socket.{Socket}
-use Rattle.kernel_session.specs.declared.flow.Flow.TheVariants.{Starved}
+use Rattle.kernel_session.specs.declared.flow.Flow.TheVariants.{OutOfMemory}
 use Rattle.kernel_session.specs.Question.{Complete, Inspect, IsComplete, History, Comms, State as StateAsk, Open, Close, Wishes}
 use Rattle.kernel_session.specs.Call as call
 use Rattle.kernel_session.specs.Call.{Call}
@@ -105,7 +105,7 @@ pub record IsFramed (key : List ℕ) (r : Asked) (stamp : Stamp) (actions : List
 abbrev pub BusyFirstAndIdleLast : Type 0
 BusyFirstAndIdleLast =
     (key : List ℕ) (r : Asked) (stamp : Stamp) (actions : List Action) (new : State) →
-    IsServed key r stamp actions new → new.flow ≢ Starved → IsFramed key r stamp actions
+    IsServed key r stamp actions new → new.flow ≢ OutOfMemory → IsFramed key r stamp actions
 
 -- ---- sessions
 

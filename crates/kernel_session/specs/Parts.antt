@@ -5,7 +5,7 @@ use Rattle.jupyter_msg.specs.Message.{frames_of}
 use Rattle.kernel_message.specs.Message.{broadcast_message}
 use Rattle.kernel_reply.specs.Status.{busy}
 use Rattle.kernel_message.specs.declared.stamp.Stamp.{Stamp}
-use Rattle.kernel_session.specs.declared.talk.Told.{Told}
+use Rattle.kernel_session.specs.declared.talk.DeskReply.{DeskReply}
 use Rattle.kernel_session.specs.Call.{Call, Published, Dated, Leads}
 use Rattle.kernel_session.specs.Action.{Action, Acts, IsStartOf}
 use Rattle.kernel_session.specs.Talk.{Heard, talk}
@@ -36,7 +36,7 @@ pub record IsDatedAlone {D : Type 0} (leads : D → Call → D → Type 0) (desk
 
 module _ {D : Type 0} (leads : D → Call → D → Type 0) (desk desk' : D) (key : List ℕ) (r : Request) (stamp : Stamp) where
   -- the request was dated and opened, and the desk was asked
-  pub record IsTakenUp (stamp' : Stamp) (told : Option Told) : Type 0 where
+  pub record IsTakenUp (stamp' : Stamp) (told : Option DeskReply) : Type 0 where
     pub dated : Stamp
     pub is_dated : IsDated stamp dated
     pub heard : Heard

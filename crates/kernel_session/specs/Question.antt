@@ -4,8 +4,8 @@ use Rattle.kernel_ask.specs.declared.inputs.HistoryAsk.{HistoryAsk}
 use Rattle.kernel_ask.specs.declared.answer.Ask.{Ask}
 use Rattle.kernel_ask.specs.declared.answer.Ask.TheVariants as ask
 use Rattle.kernel_ask.specs.declared.done.Wish.{Wish}
-use Rattle.kernel_hall.specs.declared.comm.CommChange.{CommChange}
-use Rattle.kernel_hall.specs.declared.comm.CommChange.TheVariants as comm
+use Rattle.kernel_ask.specs.declared.comm_change.CommChange.{CommChange}
+use Rattle.kernel_ask.specs.declared.comm_change.CommChange.TheVariants as comm
 
 -- a question, with its texts as octets
 pub data Question : Type 0 where

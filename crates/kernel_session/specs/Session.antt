@@ -26,8 +26,8 @@ use Rattle.kernel_board.specs.Frames.{Frames}
 use Rattle.kernel_session.specs.declared.socket.Socket.{Socket}
 use Rattle.kernel_session.specs.declared.socket.Socket.TheVariants.{Shell, Control, Iopub, Stdin, Heartbeat}
 use Rattle.kernel_session.specs.declared.flow.Flow.{Flow}
-use Rattle.kernel_session.specs.declared.flow.Flow.TheVariants.{Going, Closed, Worn, Starved}
-use Rattle.kernel_session.specs.declared.talk.Told.{Told}
+use Rattle.kernel_session.specs.declared.flow.Flow.TheVariants.{Going, Closed, Worn, OutOfMemory}
+use Rattle.kernel_session.specs.declared.talk.DeskReply.{DeskReply}
 use Rattle.kernel_session.specs.Call.{Call, Published, Dated}
 use Rattle.kernel_session.specs.Action.{Action, sends, asks}
 use Rattle.kernel_session.specs.Talk.{Heard, Talk, talk, says_of}
@@ -125,11 +125,11 @@ answered key r stamp says =
     sends (reply_octets key out.reply) ++ asks (map (λ b. Published (frames_of key b)) out.broadcasts)
 
 -- what goes out once the desk has told; nothing where it found no memory
-abbrev pub outgoing : List ℕ → Request → Stamp → Option Told → List Action
+abbrev pub outgoing : List ℕ → Request → Stamp → Option DeskReply → List Action
 outgoing key r stamp None = []
 outgoing key r stamp (Some told) = answered key r stamp (says_of r.content told)
 
-abbrev pub stamp_behind : Request → Stamp → Option Told → Stamp
+abbrev pub stamp_behind : Request → Stamp → Option DeskReply → Stamp
 stamp_behind r stamp None = stamp
 stamp_behind r stamp (Some told) = record stamp { next = next_after stamp (says_of r.content told) }
 
@@ -148,8 +148,8 @@ ends_with (request.CommOpen r) = Going
 ends_with (request.CommMessage r) = Going
 ends_with (request.CommClose r) = Going
 
-abbrev pub flow_behind : Request → Option Told → Flow
-flow_behind r None = Starved
+abbrev pub flow_behind : Request → Option DeskReply → Flow
+flow_behind r None = OutOfMemory
 flow_behind r (Some told) = ends_with r.content
 
 -- the date is set, the status busy is published, and the desk is asked
@@ -160,7 +160,7 @@ asking key r stamp dated t = Dated stamp.date dated.date ∷ Published (busy_fra
 abbrev pub served : List ℕ → Request → Stamp → Stamp → Talk → List Action
 served key r stamp dated t = asks (asking key r stamp dated t) ++ outgoing key r (opened dated) t.told
 
-abbrev pub state_behind : Request → Stamp → Option Told → State
+abbrev pub state_behind : Request → Stamp → Option DeskReply → State
 state_behind r stamp told = record { stamp = stamp_behind r stamp told; flow = flow_behind r told }
 
 -- the greatest number that a request may begin with

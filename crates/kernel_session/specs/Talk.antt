@@ -21,8 +21,8 @@ use Rattle.kernel_ask.specs.declared.answer.HallFault.{HallFault}
 use Rattle.kernel_message.specs.Said.{Says}
 use Rattle.kernel_reply.specs.Answers.{job_says, ask_says, refusal_says}
 use Rattle.kernel_reply.specs.Comms.{target as undo_target}
-use Rattle.kernel_session.specs.declared.talk.Told.{Told}
-use Rattle.kernel_session.specs.declared.talk.Told.TheVariants.{Ended, Unposted, Answered}
+use Rattle.kernel_session.specs.declared.talk.DeskReply.{DeskReply}
+use Rattle.kernel_session.specs.declared.talk.DeskReply.TheVariants.{Ended, Unposted, Answered}
 use Rattle.kernel_session.specs.Question.{Question, Complete, Inspect, IsComplete, History, Comms, State, Change, Open, Close, Wishes}
 use Rattle.kernel_session.specs.Call.{Call, Posted, Asked, Changed, Rang, Shut, Leads}
 
@@ -36,7 +36,7 @@ pub record Heard : Type 0 where
 -- the calls, and what the request is answered from; nothing where the desk found no memory
 pub record Talk : Type 0 where
   pub calls : List Call
-  pub told : Option Told
+  pub told : Option DeskReply
 
 abbrev pub before : List Call → Talk → Talk
 before calls talk = record { calls = calls ++ talk.calls; told = talk.told }
@@ -49,7 +49,7 @@ no_answer = record { seen = 0; content = content.Inspection None }
 abbrev pub only : List Call → Talk
 only calls = record { calls = calls; told = Some (Answered no_answer) }
 
-abbrev pub answered : Result Answer HallFault → Option Told
+abbrev pub answered : Result Answer HallFault → Option DeskReply
 answered (Ok a) = Some (Answered a)
 answered (Err fault) = None
 
@@ -57,7 +57,7 @@ abbrev pub ask : Question → Result Answer HallFault → Talk
 ask q a = record { calls = Asked q a ∷ []; told = answered a }
 
 -- a post that is refused is told with the state
-abbrev pub unposted : PostFault → Result Answer HallFault → Option Told
+abbrev pub unposted : PostFault → Result Answer HallFault → Option DeskReply
 unposted fault (Ok a) = Some (Unposted fault a)
 unposted fault (Err e) = None
 
@@ -122,11 +122,11 @@ talk (request.CommMessage r) h = if_open (string_bytes r.comm_id) h.comms (follo
 talk (request.CommClose r) h = close_comm (string_bytes r.comm_id) h.changed
 
 -- the desk was asked so, and this was told
-abbrev pub IsHeld : {D : Type 0} → (D → Call → D → Type 0) → D → Talk → Option Told → D → Type 0
+abbrev pub IsHeld : {D : Type 0} → (D → Call → D → Type 0) → D → Talk → Option DeskReply → D → Type 0
 IsHeld leads old t told new = Leads leads old t.calls new × (told ≡ t.told)
 
 -- what is said in answer, by the tables of the replies
-abbrev pub says_of : RequestContent → Told → Says
+abbrev pub says_of : RequestContent → DeskReply → Says
 says_of r (Ended done) = job_says r done
 says_of r (Unposted fault a) = refusal_says r fault a.content
 says_of r (Answered a) = ask_says r a.content

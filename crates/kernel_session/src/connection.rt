@@ -6,7 +6,8 @@ ghost use Rattle.zmtp_peer.specs.Faults.{fault_of, want_of_memory};
 ghost use Rattle.zmtp_peer.specs.Opening.{opening_of};
 ghost use Rattle.zmtp_peer.specs.Reading.{Stands, Brings, Awaiting, ending_of};
 ghost use Rattle.kernel_board.specs.Frames.{Frames};
-ghost use Rattle.kernel_session.specs.Action.{Action, Acts, SentSome, sends};
+ghost use Rattle.exact_write.specs.Sent.{SentSome};
+ghost use Rattle.kernel_session.specs.Action.{Action, Acts, sends};
 ghost use Rattle.kernel_session.specs.Parts.{ActedPart};
 ghost use Rattle.kernel_session.specs.Closing.{Closes, ClosesPart, IsFarewell, IsFarewellPart, IsShown, AreShown};
 ghost use Rattle.kernel_session.specs.Session.{going, role_of};
@@ -16,8 +17,9 @@ use crate::desk::Desk;
 use crate::fault::ServeFault;
 use crate::flow::Flow;
 use crate::message::take_all;
-use crate::send::{send, send_message};
+use crate::send::send_message;
 use crate::socket::Socket;
+use exact_write::send;
 use jupyter_msg::Key;
 use kernel_board::Broadcast;
 use kernel_message::Stamp;
@@ -185,7 +187,10 @@ fn send_opening<W: Write>(writer: &mut W, peer: &Peer) -> Result<(), ServeFault>
     let Ok(opening) = peer.opening() else {
         return Err(ServeFault::Memory);
     };
-    send(writer, &opening)
+    match send(writer, &opening) {
+        Ok(()) => Ok(()),
+        Err(_) => Err(ServeFault::Write),
+    }
 }
 
 /// Serves one connection: what is written and what is asked of the desk is the session of what was read, and before it the opening of
@@ -235,7 +240,7 @@ pub fn serve<R: Read, W: Write, D: Desk>(
             Ok(Flow::Going) => {}
             Ok(Flow::Closed) => return Ok(()),
             Ok(Flow::Worn) => return Err(ServeFault::Read),
-            Ok(Flow::Starved) => return Err(ServeFault::Memory),
+            Ok(Flow::OutOfMemory) => return Err(ServeFault::Memory),
             Err(fault) => return Err(fault),
         }
         if count == 0 {

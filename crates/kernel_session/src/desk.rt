@@ -4,10 +4,9 @@ ghost use Rattle.kernel_core.specs.Request.{request_of};
 ghost use Rattle.kernel_session.specs.Question.{question_of, change_of, wishes_of};
 ghost use Rattle.kernel_session.specs.Session.{IsDated};
 
-use kernel_ask::{Answer, Ask, Done, HallFault, Wish};
+use kernel_ask::{Answer, Ask, CommChange, Done, HallFault, Wish};
 use kernel_board::Broadcast;
 use kernel_core::{Job, PostFault};
-use kernel_hall::CommChange;
 use kernel_message::Stamp;
 use std::alloc::{AllocError, Global};
 

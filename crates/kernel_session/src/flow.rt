@@ -10,5 +10,5 @@ pub enum Flow {
     /// No number is left for a request.
     Worn,
     /// The desk found no memory to answer.
-    Starved,
+    OutOfMemory,
 }

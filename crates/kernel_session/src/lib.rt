@@ -37,4 +37,4 @@ pub use desk::Desk;
 pub use fault::ServeFault;
 pub use flow::Flow;
 pub use socket::Socket;
-pub use talk::Told;
+pub use talk::DeskReply;

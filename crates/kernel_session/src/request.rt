@@ -6,7 +6,8 @@ ghost use Rattle.jupyter_msg.specs.Message.{frames_of};
 ghost use Rattle.kernel_message.specs.Message.{asker_of};
 ghost use Rattle.kernel_message.specs.Sent.{sent, sent_of, next_after};
 ghost use Rattle.kernel_session.specs.Call.{Leads, Published};
-ghost use Rattle.kernel_session.specs.Action.{Action, Acts, IsStartOf, SentSome};
+ghost use Rattle.exact_write.specs.Sent.{SentSome};
+ghost use Rattle.kernel_session.specs.Action.{Action, Acts, IsStartOf};
 ghost use Rattle.kernel_session.specs.Talk.{says_of};
 ghost use Rattle.kernel_session.specs.Session.{State, IsServed, IsWorn, answered, reply_octets, stamp_behind, ends_with};
 ghost use Rattle.kernel_session.specs.Parts.{LedPart, IsBegun, IsDatedAlone, IsTakenUp, IsTakenUpPart, ActedPart};
@@ -16,7 +17,7 @@ use crate::desk::Desk;
 use crate::fault::ServeFault;
 use crate::flow::Flow;
 use crate::send::send_message;
-use crate::talk::{Told, consult};
+use crate::talk::{DeskReply, consult};
 use jupyter_msg::{Key, Message, Request, RequestContent, seal};
 use kernel_board::Broadcast;
 use kernel_message::{Outgoing, Stamp};
@@ -93,7 +94,7 @@ fn take_up<D: Desk>(
     stamp: &mut Stamp,
     message: &Message,
     request: &Request,
-) -> Result<Option<Told>, ServeFault>
+) -> Result<Option<DeskReply>, ServeFault>
     requires numbered { stamp.old.next ≤ 2 ^ 64 - 16 }
     requires header { request.now.header.items ≡ message.now.header.items }
     ensures ok { IfOk result (λ told. IsTakenUp D.leads desk.old desk.new key.now request.now stamp.old stamp.new told) }
@@ -112,7 +113,7 @@ fn outgoing(
     alloc: Global,
     stamp: &mut Stamp,
     request: &Request,
-    told: &Told,
+    told: &DeskReply,
 ) -> Result<Outgoing, ServeFault>
     requires { stamp.old.next ≤ 2 ^ 64 - 15 }
     ensures sent { IfOk result (λ out. sent_of out
@@ -122,9 +123,9 @@ fn outgoing(
     ensures midway { IfErr result IsMidway }
 {
     let out = match told {
-        Told::Ended(done) => answer(alloc, request, done, stamp),
-        Told::Unposted(fault, state) => refuse(alloc, request, fault, state, stamp),
-        Told::Answered(told) => answer_ask(alloc, request, told, stamp),
+        DeskReply::Ended(done) => answer(alloc, request, done, stamp),
+        DeskReply::Unposted(fault, state) => refuse(alloc, request, fault, state, stamp),
+        DeskReply::Answered(told) => answer_ask(alloc, request, told, stamp),
     };
     match out {
         Ok(out) => Ok(out),
@@ -160,7 +161,7 @@ fn finish<W: Write, D: Desk>(
     desk: &mut D,
     stamp: &mut Stamp,
     request: &Request,
-    told: &Told,
+    told: &DeskReply,
 ) -> Result<(), ServeFault>
     requires { stamp.old.next ≤ 2 ^ 64 - 15 }
     ensures ok { OnOk result (Acts W.contents D.leads writer.old writer.new desk.old desk.new
@@ -220,7 +221,7 @@ pub(crate) fn take_request<W: Write, D: Desk>(
     let told = take_up(alloc, key, desk, stamp, message, request)?;
     let told = match told {
         Some(told) => told,
-        None => return Ok(Flow::Starved),
+        None => return Ok(Flow::OutOfMemory),
     };
     finish(alloc, key, writer, desk, stamp, request, &told)?;
     Ok(flow_after(&request.content))

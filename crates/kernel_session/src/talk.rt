@@ -18,15 +18,14 @@ use jupyter_msg::{
     CommAsk, CommMessage, CommOpen, CompleteRequest, ExecuteRequest, HistoryAccess, HistoryRequest,
     InspectRequest, IsCompleteRequest, RequestContent, UserExpression,
 };
-use kernel_ask::{Answer, Ask, Content, Done, HallFault, HistoryAsk, Wish};
+use kernel_ask::{Answer, Ask, CommChange, Content, Done, HallFault, HistoryAsk, Wish};
 use kernel_core::{Job, PostFault};
-use kernel_hall::CommChange;
 use kernel_reply::COMM_TARGET;
 use std::alloc::{AllocError, Global};
 
 /// What a request is answered from.
 #[derive(Drop)]
-pub enum Told {
+pub enum DeskReply {
     /// It became a job, which ended so.
     Ended(Done),
     /// It became a job that was refused as it was posted, for this reason and in this state.
@@ -46,31 +45,31 @@ fn no_answer() -> Answer
 }
 
 /// What an answer of the desk tells; nothing where it found no memory.
-fn answered(answer: Result<Answer, HallFault>) -> Option<Told>
+fn answered(answer: Result<Answer, HallFault>) -> Option<DeskReply>
     ensures { result ≡ answered_by answer }
 {
     match answer {
-        Ok(answer) => Some(Told::Answered(answer)),
+        Ok(answer) => Some(DeskReply::Answered(answer)),
         Err(_) => None,
     }
 }
 
 /// Asks the desk one question.
-fn ask<D: Desk>(desk: &mut D, question: Ask) -> Option<Told>
+fn ask<D: Desk>(desk: &mut D, question: Ask) -> Option<DeskReply>
     ensures { (a : Result Answer HallFault) × IsHeld D.leads desk.old (ask_talk (question_of question) a) result desk.new }
 {
     answered(desk.ask(question))
 }
 
 /// Posts a job, and asks for the state where it is refused.
-fn post<D: Desk>(desk: &mut D, job: Job, wishes: Vec<Wish>) -> Option<Told>
+fn post<D: Desk>(desk: &mut D, job: Job, wishes: Vec<Wish>) -> Option<DeskReply>
     ensures { (j : Result Done PostFault) × (a : Result Answer HallFault)
         × IsHeld D.leads desk.old (post_talk (request_of job) (wishes_of wishes.items) j a) result desk.new }
 {
     match desk.job(job, wishes) {
-        Ok(done) => Some(Told::Ended(done)),
+        Ok(done) => Some(DeskReply::Ended(done)),
         Err(fault) => match desk.ask(Ask::State) {
-            Ok(answer) => Some(Told::Unposted(fault, answer)),
+            Ok(answer) => Some(DeskReply::Unposted(fault, answer)),
             Err(_) => None,
         },
     }
@@ -104,7 +103,7 @@ fn execute<D: Desk>(
     alloc: Global,
     desk: &mut D,
     request: &ExecuteRequest,
-) -> Result<Option<Told>, AllocError>
+) -> Result<Option<DeskReply>, AllocError>
     ensures ok { IfOk result (λ told. (j : Result Done PostFault) × (a : Result Answer HallFault)
         × IsHeld D.leads desk.old (post_talk (RunCell (string_bytes request.now.code) request.now.silent request.now.store_history)
         (expressions_of request.now.user_expressions.items) j a) told desk.new) }
@@ -120,7 +119,7 @@ fn execute<D: Desk>(
 }
 
 /// Asks for the history, unless it is to be searched.
-fn history<D: Desk>(desk: &mut D, request: &HistoryRequest) -> Option<Told>
+fn history<D: Desk>(desk: &mut D, request: &HistoryRequest) -> Option<DeskReply>
     ensures { (a : Result Answer HallFault) × IsHeld D.leads desk.old (history_talk request.now request.now.access a) result desk.new }
 {
     match request.access {
@@ -133,12 +132,12 @@ fn history<D: Desk>(desk: &mut D, request: &HistoryRequest) -> Option<Told>
             ask(desk, Ask::History(range))
         }
         HistoryAccess::Tail => ask(desk, Ask::History(HistoryAsk::Tail(request.n))),
-        HistoryAccess::Search => Some(Told::Answered(no_answer())),
+        HistoryAccess::Search => Some(DeskReply::Answered(no_answer())),
     }
 }
 
 /// Changes the comms, and asks for them after it.
-fn change_then_list<D: Desk>(desk: &mut D, change: CommChange) -> Option<Told>
+fn change_then_list<D: Desk>(desk: &mut D, change: CommChange) -> Option<DeskReply>
     ensures { (b : Result Bool HallFault) × (a : Result Answer HallFault)
         × IsHeld D.leads desk.old (change_talk (change_of change) b a) result desk.new }
 {
@@ -156,7 +155,7 @@ fn is_undo_target(name: &str) -> bool
 }
 
 /// Opens a comm, if it is for the one target, and asks for the comms after it.
-fn open_comm<D: Desk>(desk: &mut D, request: &CommOpen) -> Result<Option<Told>, AllocError>
+fn open_comm<D: Desk>(desk: &mut D, request: &CommOpen) -> Result<Option<DeskReply>, AllocError>
     ensures ok { IfOk result (λ told. (h : Heard)
         × IsHeld D.leads desk.old (open_talk (string_bytes request.now.target_name) (string_bytes request.now.comm_id) h) told desk.new) }
     ensures err { OnErr result (desk.new ≡ desk.old) }
@@ -169,12 +168,12 @@ fn open_comm<D: Desk>(desk: &mut D, request: &CommOpen) -> Result<Option<Told>, 
 }
 
 /// Closes a comm.
-fn close_comm<D: Desk>(desk: &mut D, id: &String) -> Result<Option<Told>, AllocError>
+fn close_comm<D: Desk>(desk: &mut D, id: &String) -> Result<Option<DeskReply>, AllocError>
     ensures ok { IfOk result (λ told. (b : Result Bool HallFault) × IsHeld D.leads desk.old (close_talk (string_bytes id.now) b) told desk.new) }
     ensures err { OnErr result (desk.new ≡ desk.old) }
 {
     match desk.comm(CommChange::Close(id.clone()?)) {
-        Ok(_) => Ok(Some(Told::Answered(no_answer()))),
+        Ok(_) => Ok(Some(DeskReply::Answered(no_answer()))),
         Err(_) => Ok(None),
     }
 }
@@ -201,7 +200,7 @@ fn is_listed(id: &str, content: &Content) -> bool
 }
 
 /// Does what is asked on an open comm.
-fn follow<D: Desk>(alloc: Global, desk: &mut D, asked: CommAsk) -> Option<Told>
+fn follow<D: Desk>(alloc: Global, desk: &mut D, asked: CommAsk) -> Option<DeskReply>
     ensures { (h : Heard) × IsHeld D.leads desk.old (follow_talk asked h) result desk.new }
 {
     match asked {
@@ -209,12 +208,12 @@ fn follow<D: Desk>(alloc: Global, desk: &mut D, asked: CommAsk) -> Option<Told>
         CommAsk::Redo(k) => post(desk, Job::Redo(k), Vec::new(alloc)),
         CommAsk::Goto(n) => post(desk, Job::Goto(n), Vec::new(alloc)),
         CommAsk::State => ask(desk, Ask::State),
-        CommAsk::Other => Some(Told::Answered(no_answer())),
+        CommAsk::Other => Some(DeskReply::Answered(no_answer())),
     }
 }
 
 /// Does what a message on a comm asks, if the comm is open.
-fn on_comm<D: Desk>(alloc: Global, desk: &mut D, request: &CommMessage) -> Option<Told>
+fn on_comm<D: Desk>(alloc: Global, desk: &mut D, request: &CommMessage) -> Option<DeskReply>
     ensures { (h : Heard) × IsHeld D.leads desk.old (if_open (string_bytes request.now.comm_id) h.comms (follow_talk request.now.ask h)) result desk.new }
 {
     let open = match desk.ask(Ask::Comms) {
@@ -224,29 +223,29 @@ fn on_comm<D: Desk>(alloc: Global, desk: &mut D, request: &CommMessage) -> Optio
     if is_listed(request.comm_id.as_str(), &open.content) {
         follow(alloc, desk, request.ask)
     } else {
-        Some(Told::Answered(open))
+        Some(DeskReply::Answered(open))
     }
 }
 
 /// Interrupts the open job.
-fn interrupt<D: Desk>(desk: &mut D) -> Option<Told>
+fn interrupt<D: Desk>(desk: &mut D) -> Option<DeskReply>
     ensures { IsHeld D.leads desk.old (only (Rang ∷ [])) result desk.new }
 {
     desk.ring();
-    Some(Told::Answered(no_answer()))
+    Some(DeskReply::Answered(no_answer()))
 }
 
 /// Shuts the desk, and interrupts the open job.
-fn shut<D: Desk>(desk: &mut D) -> Option<Told>
+fn shut<D: Desk>(desk: &mut D) -> Option<DeskReply>
     ensures { IsHeld D.leads desk.old (only (Shut ∷ Rang ∷ [])) result desk.new }
 {
     desk.shut();
     desk.ring();
-    Some(Told::Answered(no_answer()))
+    Some(DeskReply::Answered(no_answer()))
 }
 
 /// Asks for the completion of a name.
-fn complete<D: Desk>(desk: &mut D, request: &CompleteRequest) -> Result<Option<Told>, AllocError>
+fn complete<D: Desk>(desk: &mut D, request: &CompleteRequest) -> Result<Option<DeskReply>, AllocError>
     ensures ok { IfOk result (λ told. (a : Result Answer HallFault)
         × IsHeld D.leads desk.old (ask_talk (Complete (string_bytes request.now.code) request.now.cursor) a) told desk.new) }
     ensures err { OnErr result (desk.new ≡ desk.old) }
@@ -257,7 +256,7 @@ fn complete<D: Desk>(desk: &mut D, request: &CompleteRequest) -> Result<Option<T
 }
 
 /// Asks what is known of a name.
-fn inspect<D: Desk>(desk: &mut D, request: &InspectRequest) -> Result<Option<Told>, AllocError>
+fn inspect<D: Desk>(desk: &mut D, request: &InspectRequest) -> Result<Option<DeskReply>, AllocError>
     ensures ok { IfOk result (λ told. (a : Result Answer HallFault)
         × IsHeld D.leads desk.old (ask_talk (Inspect (string_bytes request.now.code) request.now.cursor) a) told desk.new) }
     ensures err { OnErr result (desk.new ≡ desk.old) }
@@ -268,7 +267,7 @@ fn inspect<D: Desk>(desk: &mut D, request: &InspectRequest) -> Result<Option<Tol
 }
 
 /// Asks whether code can be executed as it stands.
-fn judge<D: Desk>(desk: &mut D, request: &IsCompleteRequest) -> Result<Option<Told>, AllocError>
+fn judge<D: Desk>(desk: &mut D, request: &IsCompleteRequest) -> Result<Option<DeskReply>, AllocError>
     ensures ok { IfOk result (λ told. (a : Result Answer HallFault)
         × IsHeld D.leads desk.old (ask_talk (IsComplete (string_bytes request.now.code)) a) told desk.new) }
     ensures err { OnErr result (desk.new ≡ desk.old) }
@@ -283,12 +282,12 @@ pub(crate) fn consult<D: Desk>(
     alloc: Global,
     desk: &mut D,
     content: &RequestContent,
-) -> Result<Option<Told>, AllocError>
+) -> Result<Option<DeskReply>, AllocError>
     ensures ok { IfOk result (λ told. (h : Heard) × IsHeld D.leads desk.old (talk content.now h) told desk.new) }
     ensures err { OnErr result (desk.new ≡ desk.old) }
 {
     match content {
-        RequestContent::KernelInfo => Ok(Some(Told::Answered(no_answer()))),
+        RequestContent::KernelInfo => Ok(Some(DeskReply::Answered(no_answer()))),
         RequestContent::Execute(request) => execute(alloc, desk, request),
         RequestContent::Complete(request) => complete(desk, request),
         RequestContent::Inspect(request) => inspect(desk, request),

@@ -1,4 +1,5 @@
 //! The connections that are served.
+use crate::presence::Presence;
 use crate::register::{Register, Stream};
 use std::alloc::{AllocError, Global};
 use std::net::Shutdown;
@@ -13,6 +14,8 @@ pub struct Connections {
     left: Condvar,
     /// Whether the register is closed, for readers who don't wait for the lock.
     is_closed: AtomicBool,
+    /// What is known of the connection at each place.
+    presences: Vec<Presence>,
 }
 
 impl Connections {
@@ -23,10 +26,12 @@ impl Connections {
     /// `AllocError` where there is no memory. No other call takes any.
     pub fn new(alloc: Global, places: usize) -> Result<Connections, AllocError> {
         let register = Register::new(alloc, places)?;
+        let presences = presences_of(alloc, places)?;
         Ok(Connections {
             register: Mutex::new(register),
             left: Condvar::new(),
             is_closed: AtomicBool::new(false),
+            presences,
         })
     }
 
@@ -35,10 +40,18 @@ impl Connections {
         self.is_closed.load(Ordering::SeqCst)
     }
 
-    /// Enters a connection at a place. False where no more are let in, or where there is no such place: what `Register::enter` answers of
-    /// the register as it is under the lock.
-    pub fn enter<R: Wait>(&self, rt: &R, place: usize, stream: Stream) -> bool {
+    /// What is known of the connection at a place, where there is such a place.
+    pub fn presence(&self, place: usize) -> Option<&Presence> {
+        self.presences.get(place)
+    }
+
+    /// Enters a connection at a place, at a time in milliseconds. False where no more are let in, or where there is no such place: what
+    /// `Register::enter` answers of the register as it is under the lock.
+    pub fn enter<R: Wait>(&self, rt: &R, place: usize, stream: Stream, now: u64) -> bool {
         let mut register = self.register.lock(rt);
+        if let Some(presence) = self.presences.get(place) {
+            presence.begin(now);
+        }
         register.enter(place, stream)
     }
 
@@ -48,6 +61,35 @@ impl Connections {
         register.leave(place);
         drop(register);
         self.left.notify_all();
+    }
+
+    /// Ends the stranger that has been longest at one of so many places from the first on: a connection on which no signed message came, and which
+    /// is not ready or was not heard since a time in milliseconds. False where there is none.
+    pub fn make_room<R: Wait>(&self, rt: &R, first: usize, count: usize, since: u64) -> bool {
+        let register = self.register.lock(rt);
+        let mut longest: Option<(usize, u64)> = None;
+        for place in first..first.saturating_add(count) {
+            let Some(heard) = self.stranger_at(&register, place, since) else {
+                continue;
+            };
+            if is_longer(longest, heard) {
+                longest = Some((place, heard));
+            }
+        }
+        let Some((place, _)) = longest else {
+            return false;
+        };
+        register.end(place);
+        true
+    }
+
+    /// When the connection at a place was last heard, where it is a stranger that may have to make room.
+    fn stranger_at(&self, register: &Register, place: usize, since: u64) -> Option<u64> {
+        if !register.is_taken(place) {
+            return None;
+        }
+        let presence = self.presences.get(place)?;
+        presence.heard_as_stranger(since)
     }
 
     /// Lets no more connections in, and shuts those that are there: for reading, so that each is still answered, or altogether.
@@ -64,5 +106,22 @@ impl Connections {
             self.left
                 .wait_timeout_while(rt, register, most, |register| !register.is_empty()),
         );
+    }
+}
+
+/// What is known at so many places, where no connection has been yet.
+fn presences_of(alloc: Global, places: usize) -> Result<Vec<Presence>, AllocError> {
+    let mut presences = Vec::with_capacity(alloc, places)?;
+    for _ in 0..places {
+        presences.push(Presence::new())?;
+    }
+    Ok(presences)
+}
+
+/// Whether one that was last heard at this time has been there longer than the one found before.
+fn is_longer(found: Option<(usize, u64)>, heard: u64) -> bool {
+    match found {
+        Some((_, other)) => heard < other,
+        None => true,
     }
 }

@@ -58,6 +58,23 @@ impl Register {
         }
     }
 
+    /// Whether a connection is at a place.
+    pub fn is_taken(&self, place: usize) -> bool
+        ensures { IsTrue result → place < length self.now.streams.items }
+    {
+        match self.streams.get(place) {
+            Some(stream) => stream.is_some(),
+            None => false,
+        }
+    }
+
+    /// Shuts the connection at a place, where there is one: who serves it meets its end, and takes it away.
+    pub fn end(&self, place: usize) {
+        if let Some(Some(stream)) = self.streams.get(place) {
+            let _ = stream.shutdown(Shutdown::Both);
+        }
+    }
+
     /// Lets no more connections in, and shuts those that are there.
     pub fn close(&mut self, how: Shutdown)
         ensures closed { self.new.is_closed ≡ true }

@@ -1,4 +1,3 @@
-pub mod Sending
 pub mod Numbers
 mod Utf8
 pub mod Newest

@@ -5,9 +5,13 @@ use Rattle.std.proofs.lemmas.Bool.{lt-leb, le-leb}
 use Rattle.std.proofs.lemmas.List.{take-append-drop, take_all}
 use Rattle.std.specs.Fmt.{signed_decimal}
 use Rattle.std.specs.Io.KnownBytes.{Appends}
-use Rattle.kernel_text.specs.Sending.{SentSome}
+use Rattle.exact_write.specs.Sent.{SentSome}
 use Rattle.kernel_text.specs.ValueTexts.{spaced_text, numbers_text}
-use Rattle.kernel_text.proofs.Sending.{appends_join, sent_then, sent_first, Some_inj}
+use Rattle.exact_write.proofs.SendLemmas.{appends_join, sent_then, sent_first}
+use Rattle.std.specs.Option.{unwrap_or}
+
+Some_inj : {A : Type 0} {x y : A} → Some x ≡ Some y → x ≡ y
+Some_inj {x = x} h = ap (λ o. unwrap_or o x) h
 
 -- one number behind its space
 abbrev pub one_text : ℤ → List ℕ

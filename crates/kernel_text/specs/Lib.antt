@@ -1,4 +1,3 @@
-pub mod Sending
 pub mod Lines
 pub mod ValueTexts
 -- procedures

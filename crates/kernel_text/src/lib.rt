@@ -21,4 +21,5 @@ pub use crate::lines::{
 };
 pub use crate::procedures::{newest_of, procedure_text};
 pub use crate::values::{SHOWN_VALUES, send_value, value_text};
-pub use crate::writing::{WriteFailed, send, send_counted};
+pub use crate::writing::send_counted;
+pub use exact_write::{WriteFailed, send};

@@ -1,11 +1,12 @@
 //! The lines in which outcomes and refusals are told, each without an LF.
 ghost use Rattle.std.specs.Prelude.{◌≡◌, ◌++◌, codes, string_bytes, IfOk, OnOk, OnErr};
 ghost use Rattle.std.specs.Io.KnownBytes.{Appends};
-ghost use Rattle.kernel_text.specs.Sending.{SentSome};
+ghost use Rattle.exact_write.specs.Sent.{SentSome};
 ghost use Rattle.kernel_text.specs.Lines.{counted_text, end_text, failed_text, fault_text, outcome_line as outcome_line_of, place_text, post_fault_line as post_fault_line_of, refusal_text, way_text};
 
 use crate::text::as_text;
-use crate::writing::{WriteFailed, send, send_counted, send_numbered, send_pair};
+use crate::writing::{send_counted, send_numbered, send_pair};
+use exact_write::{WriteFailed, send};
 use kernel_core::{End, Fault, Outcome, PostFault, Refusal, Span};
 use std::alloc::{AllocError, Global};
 use std::io::Write;

@@ -5,11 +5,12 @@ ghost use Rattle.std.specs.Io.KnownBytes.{Appends};
 ghost use Rattle.janus_meaning.specs.Store.{Stk};
 ghost use Rattle.janus_store.specs.Stacks.{held};
 ghost use Rattle.janus_store.specs.Values.{shown};
-ghost use Rattle.kernel_text.specs.Sending.{SentSome};
+ghost use Rattle.exact_write.specs.Sent.{SentSome};
 ghost use Rattle.kernel_text.specs.ValueTexts.{equated_text, length_text, height_text, spaced_text, numbers_text, told_text, value_text as value_text_of};
 
 use crate::text::as_text;
-use crate::writing::{WriteFailed, send, send_counted};
+use crate::writing::send_counted;
+use exact_write::{WriteFailed, send};
 use itoa::Buffer;
 use janus_store::{StackView, View};
 use std::alloc::{AllocError, Global};

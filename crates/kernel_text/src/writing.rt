@@ -1,37 +1,12 @@
-//! Octets, words and numbers on their way to a writer, and what has gone out where it fails.
+//! Words and numbers on their way to a writer.
 ghost use Rattle.std.specs.Prelude.{◌++◌, decimal, OnOk, OnErr};
 ghost use Rattle.std.specs.Io.KnownBytes.{Appends};
-ghost use Rattle.kernel_text.specs.Sending.{SentSome};
+ghost use Rattle.exact_write.specs.Sent.{SentSome};
 ghost use Rattle.kernel_text.specs.Lines.{counted_text, named_text, numbered_text};
 
+use exact_write::{WriteFailed, send};
 use itoa::Buffer;
 use std::io::Write;
-use thiserror::Error;
-
-/// The writer failed.
-#[derive(Clone, Copy, Debug, PartialEq, Eq, Error)]
-#[error("cannot write")]
-pub struct WriteFailed;
-
-/// Writes all the octets, or a beginning of them and then fails. `write_all` doesn't say what went out before it failed.
-pub fn send<W: Write>(writer: &mut W, octets: &[u8]) -> Result<(), WriteFailed>
-    ensures ok { OnOk result (Appends (W.contents writer.old) (W.contents writer.new) octets.now) }
-    ensures err { OnErr result (SentSome (W.contents writer.old) (W.contents writer.new) octets.now) }
-{
-    let mut at = 0;
-    // Each write takes an octet at least.
-    for _ in 0..u64::MAX {
-        if at >= octets.len() {
-            return Ok(());
-        }
-        match writer.write(&octets[at..]) {
-            Ok(0) => return Err(WriteFailed),
-            Ok(count) => at += count,
-            Err(_) => return Err(WriteFailed),
-        }
-    }
-    Err(WriteFailed)
-}
 
 /// Writes a number in decimal digits.
 fn send_number<W: Write>(writer: &mut W, n: u64) -> Result<(), WriteFailed>

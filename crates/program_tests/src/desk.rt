@@ -13,6 +13,7 @@ use std::alloc::Global;
 use std::marker::Brand;
 use std::process::Abort;
 use std::sync::Wait;
+use std::sync::atomic::AtomicBool;
 use std::sync::ledger::{Blank, Ledger};
 use std::time::Clock;
 
@@ -59,7 +60,12 @@ fn sit_down<W: Ledger, L: Ledger, R: Wait + Clock + Abort>(
 {
     let bulletin = Bulletin::new(alloc).expect(rt, "a bulletin");
     let pass: Pass<L> = hall.pass(rt).expect(rt, "a pass");
-    visit(rt, alloc, HallDesk::new(rt, hall, &bulletin, pass, seat));
+    let trusted = AtomicBool::new(false);
+    visit(
+        rt,
+        alloc,
+        HallDesk::new(rt, hall, &bulletin, pass, seat, &trusted),
+    );
 }
 
 /// Tries a desk before a new hall.

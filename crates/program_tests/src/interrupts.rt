@@ -9,16 +9,19 @@ use std::rt::Files;
 use std::thread;
 use std::time::Clock;
 
+/// So many times an interrupt is asked for, at most.
+const ASKINGS: u32 = 1_000;
+
 /// Asks for interrupts, one after the reply to the other, until the cell on shell is answered.
 fn interrupted(rt: &impl Abort, shell: &mut Frontend, control: &mut Frontend) -> Opened {
-    for _ in 0..u64::MAX {
+    for _ in 0..ASKINGS {
         control.send(rt, "interrupt_request", "{}");
         let _reply = control.reply(rt);
         if let Some(reply) = shell.next(rt) {
             return reply;
         }
     }
-    shell.reply(rt)
+    panic!(rt; "the cell goes on behind so many interrupts")
 }
 
 /// Runs an endless cell and interrupts it: the reply.

@@ -1,6 +1,7 @@
 //! The places of the sockets.
-use crate::frontend::{Frontend, check_shut, shut_down};
+use crate::frontend::{Frontend, check_shut, connect, shut_down};
 use crate::kernel::{Site, kernel, make_site, remove, wait_until_ready};
+use crate::sockets::check_beat;
 use std::alloc::Global;
 use std::net::{Net, TcpListener, TcpStream};
 use std::process::Abort;
@@ -28,12 +29,24 @@ where
     frontends
 }
 
-/// One connection more than a socket serves at once is served as soon as another one has left.
-fn check_places<R>(rt: &R, alloc: Global, port: u16, role: Role)
+/// Asks the kernel on each connection what it is, and hears its answer.
+fn ask_on_each(rt: &impl Abort, frontends: &mut [Frontend]) {
+    for i in 0..frontends.len() {
+        frontends[i].send(rt, "kernel_info_request", "{}");
+        let _reply = frontends[i].reply(rt);
+    }
+}
+
+/// One connection more than a socket serves at once is served as soon as another one has left, where those that are served have shown the key, or are
+/// of a socket on which none is shown and have only just been heard.
+fn check_places<R>(rt: &R, alloc: Global, port: u16, role: Role, is_signed: bool)
 where
     R: Net<Listener = TcpListener, Stream = TcpStream> + Abort,
 {
     let mut frontends = fill(rt, alloc, port, role);
+    if is_signed {
+        ask_on_each(rt, &mut frontends);
+    }
     let mut next = Frontend::open_as(rt, alloc, port, role);
     assert!(rt; !next.is_ready_within(rt, SILENT_READS), "{port}");
     drop(frontends.pop());
@@ -46,10 +59,68 @@ where
     R: Net<Listener = TcpListener, Stream = TcpStream> + Clock + Abort,
 {
     wait_until_ready(rt, alloc, site);
-    for port in [site.shell, site.stdin, site.control] {
-        check_places(rt, alloc, port, Role::Dealer);
+    check_places(rt, alloc, site.shell, Role::Dealer, true);
+    check_places(rt, alloc, site.control, Role::Dealer, true);
+    check_places(rt, alloc, site.stdin, Role::Dealer, false);
+    check_places(rt, alloc, site.iopub, Role::Sub, false);
+    shut_down(rt, alloc, site.control)
+}
+
+/// As many connections as a socket serves at once, on which nothing comes.
+fn hold<R>(rt: &R, streams: &mut Vec<TcpStream>, port: u16)
+where
+    R: Net<Listener = TcpListener, Stream = TcpStream> + Abort,
+{
+    for _ in 0..PLACES {
+        let stream = connect(rt, port).expect(rt, "a connection");
+        streams.push(stream).expect(rt, "room for a connection");
     }
-    check_places(rt, alloc, site.iopub, Role::Sub);
+}
+
+/// Silent connections at all places of all sockets, each of which a frontend has got into before.
+fn hold_all<R>(rt: &R, alloc: Global, site: &Site) -> Vec<TcpStream>
+where
+    R: Net<Listener = TcpListener, Stream = TcpStream> + Abort,
+{
+    let mut streams = Vec::new(alloc);
+    for port in [
+        site.shell,
+        site.iopub,
+        site.stdin,
+        site.control,
+        site.heartbeat,
+    ] {
+        hold(rt, &mut streams, port);
+    }
+    streams
+}
+
+/// A frontend comes in at each socket, and is answered where something is asked.
+fn come_in<R>(rt: &R, alloc: Global, site: &Site)
+where
+    R: Net<Listener = TcpListener, Stream = TcpStream> + Abort,
+{
+    for port in [site.shell, site.control] {
+        let mut frontend = Frontend::open(rt, alloc, port);
+        frontend.send(rt, "kernel_info_request", "{}");
+        let _reply = frontend.reply(rt);
+    }
+    Frontend::open(rt, alloc, site.stdin).wait_until_ready(rt);
+    Frontend::subscribe(rt, alloc, site.iopub, "").wait_until_ready(rt);
+    check_beat(rt, alloc, site.heartbeat);
+}
+
+/// Comes in while strangers hold all places, twice over, and then shuts the kernel.
+fn come_in_past_strangers<R>(rt: &R, alloc: Global, site: &Site) -> String
+where
+    R: Net<Listener = TcpListener, Stream = TcpStream> + Clock + Abort,
+{
+    wait_until_ready(rt, alloc, site);
+    let first = hold_all(rt, alloc, site);
+    come_in(rt, alloc, site);
+    let second = hold_all(rt, alloc, site);
+    come_in(rt, alloc, site);
+    assert!(rt; first.len() == 5 * PLACES && second.len() == 5 * PLACES);
     shut_down(rt, alloc, site.control)
 }
 
@@ -61,6 +132,20 @@ fn a_socket_serves_32_connections_at_once(rt: HostRuntime) {
         &rt,
         || kernel(&rt, alloc, &site.path),
         || fill_all(&rt, alloc, &site),
+    );
+    check_shut(&rt, &told);
+    assert_eq!(rt; ran.status, 0);
+    remove(&rt, &site.path);
+}
+
+#[test]
+fn strangers_at_all_places_keep_nobody_out(rt: HostRuntime) {
+    let alloc = rt.alloc();
+    let site = make_site(&rt, alloc);
+    let (ran, told) = thread::join(
+        &rt,
+        || kernel(&rt, alloc, &site.path),
+        || come_in_past_strangers(&rt, alloc, &site),
     );
     check_shut(&rt, &told);
     assert_eq!(rt; ran.status, 0);

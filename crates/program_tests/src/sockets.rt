@@ -38,7 +38,7 @@ fn read_from(rt: &impl Abort, alloc: Global, stream: &TcpStream, count: usize) -
 }
 
 /// A message that is sent to the heartbeat comes back, octet for octet, behind what that socket says first.
-fn check_beat<R>(rt: &R, alloc: Global, port: u16)
+pub(crate) fn check_beat<R>(rt: &R, alloc: Global, port: u16)
 where
     R: Net<Listener = TcpListener, Stream = TcpStream> + Abort,
 {

@@ -1,6 +1,7 @@
 //! Messages (RFC 23, "Formal Grammar": message).
 ghost use Rattle.std.specs.Prelude.{◌≡◌, ◌≤◌, ◌<◌, ◌++◌, length, sum_by, take, IfErr, IfNone, IfSome, OnErr, OnOk};
 ghost use Rattle.std.specs.Prelude.{false};
+ghost use Rattle.std.specs.Bool.{OnTrue, OnFalse};
 ghost use Rattle.zmtp_wire.specs.Frame.{written};
 ghost use Rattle.zmtp_wire.specs.Message.{bodies_of, message_octets, IsWithinLimits, IsMessageFault};
 
@@ -37,6 +38,15 @@ pub fn write_message(octets: &mut Vec<u8>, bodies: &[Vec<u8>]) -> Result<(), Wir
             Err(WireFault::Memory)
         }
     }
+}
+
+/// Whether a message with these bodies passes no limit: at most 1,024 bodies, and at most 16,777,216 octets in all of them. Such a
+/// message is taken by each reader, and no other.
+pub fn is_within_limits(bodies: &[Vec<u8>]) -> bool
+    ensures within { OnTrue result (IsWithinLimits (bodies_of bodies.now)) }
+    ensures past { OnFalse result (¬ (IsWithinLimits (bodies_of bodies.now))) }
+{
+    size_within(bodies).is_some()
 }
 
 /// How many octets all bodies of a message have; none where it passes a limit.

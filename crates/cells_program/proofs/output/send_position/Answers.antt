@@ -2,7 +2,7 @@ use Rattle.std.proofs.Common.{codes, refl}
 use Rattle.cells_program.specs.Lines.{ended_line}
 use Rattle.kernel_text.specs.Lines.{counted_text}
 use Rattle.cells_program.specs.Shown.{position_line}
-use Rattle.kernel_text.proofs.Sending.{some_first, some_then}
+use Rattle.exact_write.proofs.SendLemmas.{some_first, some_then}
 use Rattle.cells_program.proofs.output.send_position.Goals as goal
 
 pub returns-in_err-send_counted-clause-err : goal.returns-in_err-send_counted-clause-err

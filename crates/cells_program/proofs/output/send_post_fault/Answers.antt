@@ -1,6 +1,6 @@
 use Rattle.std.proofs.Common.{codes, refl}
 use Rattle.kernel_text.specs.Lines.{post_fault_line}
-use Rattle.kernel_text.proofs.Sending.{some_first, some_then}
+use Rattle.exact_write.proofs.SendLemmas.{some_first, some_then}
 use Rattle.cells_program.specs.Lines.{ended_line}
 use Rattle.cells_program.proofs.output.send_post_fault.Goals as goal
 

@@ -5,7 +5,7 @@ use Rattle.janus_store.specs.Values.{shown}
 use Rattle.kernel_core.specs.State.{here}
 use Rattle.cells_program.specs.Lines.{ended_line}
 use Rattle.cells_program.specs.Shown.{position_line, value_lines, world_text}
-use Rattle.kernel_text.proofs.Sending.{some_first, some_now}
+use Rattle.exact_write.proofs.SendLemmas.{some_first, some_now}
 use Rattle.cells_program.proofs.ShownLemmas.{entry_then, entry_failed, first_all}
 use Rattle.cells_program.proofs.transcript.show.Goals as goal
 

@@ -1,6 +1,6 @@
 use Rattle.std.proofs.Common.{List, sym, subst}
 use Rattle.kernel_board.specs.Frames.{Frames}
-use Rattle.kernel_desk.specs.Visitor.{AreRead, none}
+use Rattle.kernel_desk.specs.HallDesk.{AreRead, none}
 use Rattle.kernel_desk.proofs.hall_desk.read_all.Goals as goal
 
 pub loop-init : goal.loop-init

@@ -1,4 +1,4 @@
-use Rattle.kernel_desk.specs.Visitor.{AreRead}
+use Rattle.kernel_desk.specs.HallDesk.{AreRead}
 use Rattle.kernel_desk.proofs.hall_desk.read_all.Given as goal
 
 -- what was read stands between the place where it began and the place where it goes on

@@ -1,7 +1,7 @@
 use Rattle.std.proofs.Common.{List, sym, subst}
 use Rattle.kernel_board.specs.Frames.{Frames}
 use Rattle.kernel_board.specs.declared.log.Read.TheVariants.{Got, Lagged}
-use Rattle.kernel_desk.specs.Visitor.{AreRead}
+use Rattle.kernel_desk.specs.HallDesk.{AreRead}
 use Rattle.kernel_desk.proofs.Reading.{known_read, read_got, read_lagged}
 use Rattle.kernel_desk.proofs.hall_desk.read_more.Goals as goal
 

@@ -3,7 +3,7 @@ use Rattle.std.specs.List.{flat_map}
 use Rattle.std.proofs.lemmas.List.{take_more}
 use Rattle.zmtp_wire.specs.Message.{message_octets}
 use Rattle.kernel_board.specs.Frames.{Frames}
-use Rattle.kernel_iopub.proofs.SendLemmas.{appends_join}
+use Rattle.exact_write.proofs.SendLemmas.{appends_join}
 use Rattle.kernel_iopub.proofs.RoundLemmas.{split_at}
 use Rattle.kernel_iopub.proofs.half.send_all.Goals as goal
 

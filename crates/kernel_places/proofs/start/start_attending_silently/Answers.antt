@@ -2,11 +2,11 @@
 use denote.Param.{param}
 use denote.Param.Send.{sendable}
 use Rattle.std.proofs.Crossing.{crosses}
-use Rattle.kernel_places.proofs.Crosses.{Listener-sync, Service-sync}
+use Rattle.kernel_places.proofs.Crosses.{Door-sync, Service-sync}
 use Rattle.kernel_places.proofs.start.start_attending_silently.Goals as goal
 
 pub spawn-requires-send-F : goal.spawn-requires-send-F
 spawn-requires-send-F g c κs h =
     let rt = c.type_bounds.sync-R in
     let service = Service-sync (param 1 g.row.W) (param 2 g.row.L) g.W.Ledger g.L.Ledger c.type_bounds.send-W c.type_bounds.send-L in
-    search (crosses, Listener-sync, sendable) depth 40 fits 20000
+    search (crosses, Door-sync, sendable) depth 40 fits 20000

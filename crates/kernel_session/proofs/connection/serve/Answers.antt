@@ -4,8 +4,9 @@ use Rattle.std.specs.Io.KnownBytes.{Appends}
 use Rattle.zmtp_peer.specs.declared.role.Role.{Role}
 use Rattle.zmtp_peer.specs.Opening.{opening_of}
 use Rattle.zmtp_peer.specs.Reading.{ending_of}
-use Rattle.kernel_session.specs.declared.flow.Flow.TheVariants.{Going, Closed, Worn, Starved}
-use Rattle.kernel_session.specs.Action.{Sent, SentSome, sends}
+use Rattle.kernel_session.specs.declared.flow.Flow.TheVariants.{Going, Closed, Worn, OutOfMemory}
+use Rattle.exact_write.specs.Sent.{SentSome}
+use Rattle.kernel_session.specs.Action.{Sent, sends}
 use Rattle.kernel_session.specs.Session.{going, role_of}
 use Rattle.kernel_session.proofs.ActsLemmas.{consumes_none, consumes_join, acts_sends}
 use Rattle.kernel_session.proofs.SessionLemmas.{whole_none, cut_none}
@@ -79,19 +80,19 @@ returns-in-Ok-Worn g c =
     c.in-Ok-Worn.field-0 Worn c.in-Ok-Worn.field-0-is p.0 p.2 in
     record { session = (inv.0 ++ piece, read, (inv.1 ++ p.0, ending_of c.advance.new.peer.state, reads, inr whole)) }
 
-pub returns-in-Ok-Starved : goal.returns-in-Ok-Starved
-returns-in-Ok-Starved g c =
+pub returns-in-Ok-OutOfMemory : goal.returns-in-Ok-OutOfMemory
+returns-in-Ok-OutOfMemory g c =
     let inv = c.loop.invariant in
     let before = sends (opening_of (role_of c.args.socket)) in
     let piece = take c.in-Ok-read.count c.read.new.buf in
     let read = consumes_join _ _ _ inv.0 piece inv.2 c.in-Ok-read.ensures.bytes.0 in
-    let role = c.in-Ok-Starved.ensures.role ∙ inv.4 in
-    let p = c.in-Ok-Starved.ensures.ok in
+    let role = c.in-Ok-OutOfMemory.ensures.role ∙ inv.4 in
+    let p = c.in-Ok-OutOfMemory.ensures.ok in
     let stands = p.1 inv.0 inv.1 inv.3 in
     let reads = reads_as c.args.socket (inv.0 ++ piece) (inv.1 ++ p.0) c.advance.new.peer stands role in
     let whole = comes_by_piece g.W.Write.contents g.D.Desk.leads c.args.socket c.args.key.now before c.args.writer.now c.loop.writer c.advance.new.writer
     c.args.desk.now c.loop.desk c.advance.new.desk (going c.args.stamp.now) c.loop.stamp c.advance.new.stamp c.loop.peer c.advance.new.peer inv.0 piece inv.1 inv.6 inv.3 role
-    c.in-Ok-Starved.field-0 Starved c.in-Ok-Starved.field-0-is p.0 p.2 in
+    c.in-Ok-OutOfMemory.field-0 OutOfMemory c.in-Ok-OutOfMemory.field-0-is p.0 p.2 in
     record { session = (inv.0 ++ piece, read, inl (inv.0 ++ piece, [], sym (append-nil (inv.0 ++ piece)), (inv.1 ++ p.0, ending_of c.advance.new.peer.state, reads, inl whole))) }
 
 pub returns-in-Err-advance : goal.returns-in-Err-advance

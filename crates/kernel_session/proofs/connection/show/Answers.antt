@@ -4,9 +4,9 @@ use Rattle.zmtp_peer.specs.Events.{Event}
 use Rattle.zmtp_peer.specs.Reading.{Stands}
 use Rattle.zmtp_peer.specs.Subscriptions.{IsWanted}
 use Rattle.kernel_board.specs.Frames.{Frames}
-use Rattle.kernel_session.specs.Action.{SentSome}
+use Rattle.exact_write.specs.Sent.{SentSome}
 use Rattle.kernel_session.specs.Closing.{IsShown}
-use Rattle.kernel_session.proofs.ActsLemmas.{appends_none}
+use Rattle.exact_write.proofs.SendLemmas.{appends_none}
 use Rattle.kernel_session.proofs.RequestLemmas.{on_err}
 use Rattle.kernel_session.proofs.connection.show.Goals as goal
 

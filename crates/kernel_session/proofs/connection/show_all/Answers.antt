@@ -2,7 +2,7 @@ use Rattle.std.proofs.Common.{◌≡◌, ◌+◌, ℕ, List, [], ◌∷◌, ◌+
 use Rattle.std.proofs.lemmas.List.{take_more, take-append-drop}
 use Rattle.kernel_board.specs.Frames.{Frames}
 use Rattle.kernel_session.specs.Closing.{IsShown, AreShown}
-use Rattle.kernel_session.proofs.ActsLemmas.{appends_join}
+use Rattle.exact_write.proofs.SendLemmas.{appends_join}
 use Rattle.kernel_session.proofs.ClosingLemmas.{shown_more}
 use Rattle.zmtp_peer.specs.Events.{Event}
 use Rattle.kernel_session.proofs.connection.show_all.Goals as goal

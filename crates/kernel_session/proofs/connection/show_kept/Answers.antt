@@ -4,7 +4,8 @@ use Rattle.zmtp_peer.specs.Events.{Event}
 use Rattle.zmtp_peer.specs.Reading.{Stands}
 use Rattle.kernel_board.specs.Frames.{Frames}
 use Rattle.kernel_session.specs.Call.{Kept}
-use Rattle.kernel_session.specs.Action.{Action, Acts, SentSome}
+use Rattle.exact_write.specs.Sent.{SentSome}
+use Rattle.kernel_session.specs.Action.{Action, Acts}
 use Rattle.kernel_session.specs.Closing.{AreShown, IsFarewell, IsFarewellPart}
 use Rattle.kernel_session.specs.Parts.{ActedPart}
 use Rattle.kernel_session.proofs.RequestLemmas.{on_ok, on_err}

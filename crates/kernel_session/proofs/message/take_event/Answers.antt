@@ -5,7 +5,7 @@ use Rattle.zmtp_wire.specs.Message.{message_octets}
 use Rattle.zmtp_peer.specs.declared.event.PeerEvent.TheVariants.{Message}
 use Rattle.kernel_session.specs.declared.socket.Socket.TheVariants.{Shell, Control}
 use Rattle.kernel_session.specs.declared.flow.Flow.TheVariants.{Going}
-use Rattle.kernel_session.specs.Action.{SentSome}
+use Rattle.exact_write.specs.Sent.{SentSome}
 use Rattle.kernel_session.proofs.EventLemmas.{turn_takes, turn_breaks, echo_takes, echo_breaks}
 use Rattle.kernel_session.proofs.message.take_event.Goals as goal
 

@@ -2,7 +2,7 @@ use Rattle.std.proofs.Common.{List, ℕ, Option, OnErr, option_map, ap, sym, sub
 use Rattle.zmtp_wire.specs.Message.{bodies_of, message_octets}
 use Rattle.jupyter_msg.specs.Octets.{octets_of}
 use Rattle.jupyter_msg.specs.declared.message.Message.{Message}
-use Rattle.kernel_session.specs.Action.{SentSome}
+use Rattle.exact_write.specs.Sent.{SentSome}
 use Rattle.kernel_session.specs.Session.{reply_octets}
 use Rattle.kernel_session.proofs.request.send_reply.Goals as goal
 

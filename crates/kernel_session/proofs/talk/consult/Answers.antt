@@ -2,7 +2,7 @@ use Rattle.std.proofs.Common.{[], ◌∷◌, Some, refl, ap, string_bytes}
 use Rattle.jupyter_msg.specs.Requests.{expressions_of}
 use Rattle.jupyter_msg.specs.declared.request.RequestContent.TheVariants as request
 use Rattle.kernel_core.specs.Request.{RunCell}
-use Rattle.kernel_session.specs.declared.talk.Told.TheVariants.{Answered}
+use Rattle.kernel_session.specs.declared.talk.DeskReply.TheVariants.{Answered}
 use Rattle.kernel_session.specs.Question.{Complete, Inspect, IsComplete, Comms}
 use Rattle.kernel_session.specs.Call.{Rang, Shut}
 use Rattle.kernel_session.specs.Talk.{ask, post, only, history, open_comm, close_comm, follow, if_open}

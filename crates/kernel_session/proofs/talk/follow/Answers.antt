@@ -2,7 +2,7 @@ use Rattle.std.proofs.Common.{List, Some, refl, sym, ap, subst}
 use Rattle.jupyter_msg.specs.declared.comm.CommAsk.{CommAsk}
 use Rattle.kernel_ask.specs.declared.done.Wish.{Wish}
 use Rattle.kernel_core.specs.Request.{Undo, Redo, Goto}
-use Rattle.kernel_session.specs.declared.talk.Told.TheVariants.{Answered}
+use Rattle.kernel_session.specs.declared.talk.DeskReply.TheVariants.{Answered}
 use Rattle.kernel_session.specs.Question.{wishes_of}
 use Rattle.kernel_session.specs.Talk.{IsHeld, post, follow}
 use Rattle.kernel_session.proofs.TalkLemmas.{nobody, heard_job, heard_answer}

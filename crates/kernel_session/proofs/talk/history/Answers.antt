@@ -1,6 +1,6 @@
 use Rattle.std.proofs.Common.{Some, refl, sym, ap, subst}
 use Rattle.jupyter_msg.specs.declared.history.HistoryAccess.{HistoryAccess}
-use Rattle.kernel_session.specs.declared.talk.Told.TheVariants.{Answered}
+use Rattle.kernel_session.specs.declared.talk.DeskReply.TheVariants.{Answered}
 use Rattle.kernel_session.specs.Talk.{IsHeld, history}
 use Rattle.kernel_session.proofs.TalkLemmas.{unasked}
 use Rattle.kernel_session.proofs.talk.history.Goals as goal

@@ -1,6 +1,6 @@
 use Rattle.std.proofs.Common.{codes, ◌++◌, refl}
 use Rattle.kernel_text.specs.Lines.{end_text}
-use Rattle.kernel_text.proofs.Sending.{some_first, some_then}
+use Rattle.exact_write.proofs.SendLemmas.{some_first, some_then}
 use Rattle.kernel_text.proofs.lines.send_down.Goals as goal
 
 pub returns-in_err-send-clause-err : goal.returns-in_err-send-clause-err

@@ -1,7 +1,7 @@
 use Rattle.std.proofs.Common.{codes, refl}
 use Rattle.kernel_core.specs.Refusal.{span_of}
 use Rattle.kernel_text.specs.Lines.{numbered_text, place_text, refusal_text}
-use Rattle.kernel_text.proofs.Sending.{some_first, some_then}
+use Rattle.exact_write.proofs.SendLemmas.{some_first, some_then}
 use Rattle.kernel_text.proofs.lines.send_refusal.Goals as goal
 
 pub returns-in_err-send_numbered-clause-err : goal.returns-in_err-send_numbered-clause-err

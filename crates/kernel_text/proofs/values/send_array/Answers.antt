@@ -1,6 +1,6 @@
 use Rattle.std.proofs.Common.{◌++◌, length, refl}
 use Rattle.kernel_text.specs.ValueTexts.{length_text, numbers_text}
-use Rattle.kernel_text.proofs.Sending.{some_first, some_then}
+use Rattle.exact_write.proofs.SendLemmas.{some_first, some_then}
 use Rattle.kernel_text.proofs.values.send_array.Goals as goal
 
 pub returns-in_err-send_length-clause-err : goal.returns-in_err-send_length-clause-err

@@ -2,7 +2,7 @@ use Rattle.std.proofs.Common.{◌≡◌, codes, refl, ap, sym, arith, to_z, of_z
 use Rattle.std.proofs.lemmas.Int.{to_z-of_z}
 use Rattle.std.specs.Fmt.{signed_decimal}
 use Rattle.kernel_text.specs.ValueTexts.{equated_text}
-use Rattle.kernel_text.proofs.Sending.{some_first, some_then}
+use Rattle.exact_write.proofs.SendLemmas.{some_first, some_then}
 use Rattle.kernel_text.proofs.values.send_equated.Goals as goal
 
 pub returns-in_err-send-clause-err : goal.returns-in_err-send-clause-err

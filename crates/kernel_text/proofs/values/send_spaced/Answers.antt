@@ -1,7 +1,7 @@
 use Rattle.std.proofs.Common.{◌≡◌, ◌++◌, codes, refl, ap, sym, arith, to_z, of_z, w32}
 use Rattle.std.proofs.lemmas.Int.{to_z-of_z}
 use Rattle.std.specs.Fmt.{signed_decimal}
-use Rattle.kernel_text.proofs.Sending.{some_first, some_then}
+use Rattle.exact_write.proofs.SendLemmas.{some_first, some_then}
 use Rattle.kernel_text.proofs.values.send_spaced.Goals as goal
 
 pub returns-in_err-send-clause-err : goal.returns-in_err-send-clause-err

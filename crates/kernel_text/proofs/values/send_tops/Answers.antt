@@ -2,9 +2,9 @@ use Rattle.std.proofs.Common.{◌≡◌, subst, Some, slice_get, to_z, of_z, w32
 use Rattle.std.proofs.lemmas.Int.{to_z-of_z}
 use Rattle.std.specs.Io.KnownBytes.{Appends}
 use Rattle.janus_store.specs.Stacks.{held}
-use Rattle.kernel_text.specs.Sending.{SentSome}
+use Rattle.exact_write.specs.Sent.{SentSome}
 use Rattle.kernel_text.specs.ValueTexts.{spaced_text}
-use Rattle.kernel_text.proofs.Sending.{some_now}
+use Rattle.exact_write.proofs.SendLemmas.{some_now}
 use Rattle.kernel_text.proofs.Numbers.{one_text, taken_at, number_then, number_failed}
 use Rattle.kernel_text.proofs.values.send_tops.Goals as goal
 

@@ -1,7 +1,7 @@
 use Rattle.std.proofs.Common.{◌++◌, ap, sym}
 use Rattle.janus_store.specs.Values.{shown}
 use Rattle.kernel_text.specs.ValueTexts.{told_text, value_text}
-use Rattle.kernel_text.proofs.Sending.{some_first, some_then}
+use Rattle.exact_write.proofs.SendLemmas.{some_first, some_then}
 use Rattle.kernel_text.proofs.values.send_value.Goals as goal
 
 pub returns-in_err-send-clause-err : goal.returns-in_err-send-clause-err

@@ -1,6 +1,6 @@
 use Rattle.std.proofs.Common.{◌++◌, codes, refl, sym, ap}
 use Rattle.kernel_text.specs.Lines.{named_text}
-use Rattle.kernel_text.proofs.Sending.{some_first, some_then}
+use Rattle.exact_write.proofs.SendLemmas.{some_first, some_then}
 use Rattle.kernel_text.proofs.writing.send_name.Goals as goal
 
 pub returns-in_err-send-clause-err : goal.returns-in_err-send-clause-err

@@ -1,6 +1,6 @@
 use Rattle.std.proofs.Common.{refl}
 use Rattle.kernel_text.specs.Lines.{counted_text, named_text, numbered_text}
-use Rattle.kernel_text.proofs.Sending.{some_first, some_then}
+use Rattle.exact_write.proofs.SendLemmas.{some_first, some_then}
 use Rattle.kernel_text.proofs.writing.send_numbered.Goals as goal
 
 pub returns-in_err-send_counted-clause-err : goal.returns-in_err-send_counted-clause-err

@@ -4,7 +4,7 @@ use Rattle.kernel_core.specs.Request.{request_of}
 use Rattle.kernel_core.specs.Minutes.{posted_in}
 use Rattle.kernel_core.specs.Runs.{Machine}
 use Rattle.kernel_core.specs.Written.{entry_of}
-use Rattle.kernel_hall.specs.Extras.{IsNewExtra}
+use Rattle.kernel_hall.specs.PendingResults.{IsNewPending}
 use Rattle.kernel_hall.proofs.Posts.{one_more}
 use Rattle.kernel_hall.proofs.state.State.post.Goals as goal
 
@@ -15,11 +15,11 @@ invariant_of-self-2 g c =
     ap (λ (m : Machine). posted_in m.minutes) c.in_ok-number.ensures.post.2 ∙ one_more old c.lane.result (request_of c.in-Ok.copy) in
     record { counted = omega arith }
 
-pub returns-clause-extra : goal.returns-clause-extra
-returns-clause-extra g c =
-    let e = c.in-Ok-new.extra in
+pub returns-clause-pending_result : goal.returns-clause-pending_result
+returns-clause-pending_result g c =
+    let e = c.in-Ok-new.pending_result in
     let place : length c.minutes.result.now ≡ length c.args.self.now.kernel.machine.minutes = sym (length-map c.minutes.result.now entry_of) ∙ ap length c.minutes.ensures.entries in (
       e,
-      subst (λ (n : ℕ). IsNewExtra n c.args.wishes.items e) place c.in-Ok-new.ensures,
+      subst (λ (n : ℕ). IsNewPending n c.args.wishes.items e) place c.in-Ok-new.ensures,
       c.push_reserved.ensures.items ∙ ap (λ es. es ++ e ∷ []) c.reserve.ensures.items,
     )

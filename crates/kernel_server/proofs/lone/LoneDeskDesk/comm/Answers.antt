@@ -1,5 +1,5 @@
 use Rattle.std.proofs.Common.{refl, ap, subst}
-use Rattle.kernel_hall.specs.Changes.{IsChange}
+use Rattle.kernel_ask.specs.CommChanges.{IsChange}
 use Rattle.kernel_server.specs.Lone.{Lone}
 use Rattle.kernel_server.proofs.lone.LoneDeskDesk.comm.Goals as goal
 

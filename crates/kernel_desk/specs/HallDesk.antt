@@ -1,0 +1,88 @@
+-- What a desk before a hall holds, and what each call leads to. What lies under the hall's lock when a call takes it can't be named, so an answer is said to be
+-- that of some legal kernel.
+use Rattle.std.specs.Prelude.{◌≡◌, ℕ, ◌+◌, ◌≤◌, ℤ, ◌<◌, Bool, true, List, [], ◌++◌, ◌⊎◌, Option, Some, None, Result, Ok, Err, length}
+use Rattle.kernel_core.specs.Runs.{Machine, IsRefusal}
+use Rattle.kernel_core.specs.LegalMinutes.{IsLegalMachine}
+use Rattle.kernel_core.specs.post.PostFault.{PostFault}
+use Rattle.kernel_ask.specs.Answer.{IsAnswer}
+use Rattle.kernel_ask.specs.declared.answer.Ask.{Ask}
+use Rattle.kernel_ask.specs.declared.answer.Answer.{Answer}
+use Rattle.kernel_ask.specs.declared.answer.HallFault.{HallFault}
+use Rattle.kernel_ask.specs.declared.answer.HallFault.TheVariants.{Memory}
+use Rattle.kernel_ask.specs.declared.done.Done.{Done}
+use Rattle.kernel_audit.specs.Ends.{HasEnd}
+use Rattle.kernel_audit.specs.Passes.{PassOf, pass_of}
+use Rattle.kernel_bell.specs.Seats.{RingerOf, ringer_seat, IsNeverLater}
+use Rattle.kernel_bell.specs.Views.{after_look, after_raise}
+use Rattle.kernel_board.specs.Frames.{Frames}
+use Rattle.kernel_board.specs.Log.{Log, IsLog, oldest_of}
+use Rattle.kernel_board.specs.Reads.{batch_from}
+use Rattle.kernel_session.specs.Question.{Question, question_of}
+use Rattle.kernel_session.specs.Call.{Call, Posted, Asked, Changed, Rang, Shut, Published, Kept, Dated}
+use Rattle.stamp_texts.specs.Date.{HasDate, IsDateText}
+
+-- the pass, the ringer's seat, the number of the next broadcast that it reads, and whether a shutdown came
+pub record DeskState : Type 0 where
+  pub pass : PassOf
+  pub seat : RingerOf
+  pub place : ℕ
+  pub was_shut : Bool
+
+-- the pass that is held
+abbrev pub held : Option PassOf → PassOf
+held (Some pass) = pass
+held None = pass_of 0 0
+
+-- ---- broadcasts
+
+-- Read one after another from a place on, these stand behind one another up to another place. Where what stands at the place is no longer kept, it goes on at the
+-- oldest that is.
+pub data AreRead (from : ℕ) : List Frames → ℕ → Type 0 where
+  none : AreRead from [] from
+  more : (front : List Frames) (at : ℕ) (k : Log) (got : List Frames) (next : ℕ)
+      → AreRead from front at → IsLog k → (oldest_of k ≤ at) → (got ≡ batch_from k at) → (next ≡ at + length got) → AreRead from (front ++ got) next
+  skipped : (front : List Frames) (at : ℕ) (k : Log) (oldest : ℕ)
+      → AreRead from front at → IsLog k → (at < oldest_of k) → (oldest ≡ oldest_of k) → AreRead from front oldest
+
+-- ---- calls
+
+-- the date of some instant
+abbrev pub IsDate : List ℕ → Type 0
+IsDate date = (instant : ℤ) × HasDate instant × IsDateText instant date
+
+-- A job that was posted is counted by the pass, and its end stands in the minutes of a legal kernel. A refused one changes nothing, and is refused by a legal
+-- kernel.
+abbrev pub IsPosted : DeskState → Result Done PostFault → DeskState → Type 0
+IsPosted old (Ok done) new =
+    ((k : Machine) × IsLegalMachine k × HasEnd k.minutes done) × (new ≡ record old { pass = pass_of old.pass.lane (old.pass.posts + 1) })
+IsPosted old (Err fault) new = ((k : Machine) × IsLegalMachine k × IsRefusal k fault) × (new ≡ old)
+
+-- a question is answered of a legal kernel with at least as many minutes as the pass has posts; a refusal is want of memory
+abbrev pub IsAnswered : DeskState → Question → Result Answer HallFault → Type 0
+IsAnswered old q (Ok answer) =
+    (asked : Ask) × (question_of asked ≡ q) × (k : Machine) × (comms : List (List ℕ)) × IsLegalMachine k × (old.pass.posts ≤ length k.minutes)
+    × IsAnswer k comms asked answer
+IsAnswered old q (Err fault) = fault ≡ Memory
+
+-- a change of the comms is refused for want of memory alone
+abbrev pub IsChanged : Result Bool HallFault → Type 0
+IsChanged (Ok told) = Unit
+IsChanged (Err fault) = fault ≡ Memory
+
+-- a ring is one look and one raise, to a serial that is at most the current one
+pub record IsRung (old new : RingerOf) : Type 0 where
+  pub serial : ℕ
+  pub later : old.knows.seen ≤ serial
+  pub seat : new ≡ ringer_seat old.bell (after_raise (after_look old.knows serial))
+  pub within : IsNeverLater new.knows
+
+-- THE DESK BEFORE A HALL: what each call may answer, and what the desk holds after it. The date set is that of some instant, or the one before.
+abbrev pub hall_desk_leads : DeskState → Call → DeskState → Type 0
+hall_desk_leads old (Posted job wishes told) new = IsPosted old told new
+hall_desk_leads old (Asked q told) new = IsAnswered old q told × (new ≡ old)
+hall_desk_leads old (Changed change told) new = IsChanged told × (new ≡ old)
+hall_desk_leads old Rang new = (seat : RingerOf) × IsRung old.seat seat × (new ≡ record old { seat = seat })
+hall_desk_leads old Shut new = new ≡ record old { was_shut = true }
+hall_desk_leads old (Published b) new = new ≡ old
+hall_desk_leads old (Kept bs) new = (place : ℕ) × AreRead old.place bs place × (new ≡ record old { place = place })
+hall_desk_leads old (Dated before after) new = (IsDate after ⊎ (after ≡ before)) × (new ≡ old)

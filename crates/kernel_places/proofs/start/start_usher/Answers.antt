@@ -1,0 +1,12 @@
+-- What an usher's thread takes along may go there.
+use denote.Param.{param}
+use denote.Param.Send.{sendable}
+use Rattle.std.proofs.Crossing.{crosses}
+use Rattle.kernel_places.proofs.Crosses.{Connections-sync, Door-sync, Listener-sync, Service-sync}
+use Rattle.kernel_places.proofs.start.start_usher.Goals as goal
+
+pub spawn-requires-send-F : goal.spawn-requires-send-F
+spawn-requires-send-F g c κs h =
+    let rt = c.type_bounds.sync-R in
+    let service = Service-sync (param 1 g.row.W) (param 2 g.row.L) g.W.Ledger g.L.Ledger c.type_bounds.send-W c.type_bounds.send-L in
+    search (crosses, Listener-sync, Connections-sync, Door-sync, sendable) depth 40 fits 20000

@@ -1,0 +1,180 @@
+//! What comes on a connection and what goes out on it, each in its time.
+use kernel_sockets::{Input, Presence};
+use std::alloc::Global;
+use std::io;
+use std::io::{ErrorKind, Read, Write};
+use std::net::{Shutdown, TcpStream};
+use std::time::{Clock, Duration};
+use zmtp_peer::{Peer, PeerEvent, Role};
+
+/// A handshake may take so long from the time at which the connection was accepted.
+const HANDSHAKE_SECONDS: u64 = 10;
+
+/// A message may take so long to be written, whatever the pieces.
+const MESSAGE_SECONDS: u64 = 10;
+
+/// The time on the clock; its start where it can't be read.
+pub(crate) fn clock_of<R: Clock>(rt: &R) -> Duration {
+    match rt.monotonic() {
+        Ok(time) => time,
+        Err(_) => Duration::ZERO,
+    }
+}
+
+/// What comes on a connection, up to its end. A handshake that takes longer than ten seconds fails.
+#[derive(Drop)]
+pub(crate) struct Arrivals<'a, R: Clock> {
+    rt: &'a R,
+    stream: &'a TcpStream,
+    input: Input<'a>,
+    presence: &'a Presence,
+    /// The peer as it is told of here, until it is ready.
+    handshake: Option<Peer>,
+    /// When the handshake has to be over.
+    until: Duration,
+    /// Whether what comes is noted, as where no signed message shows who is there.
+    is_noted: bool,
+}
+
+impl<'a, R: Clock> Arrivals<'a, R> {
+    /// What comes on a connection that was accepted just now, to a socket of this role.
+    pub fn new(
+        rt: &'a R,
+        alloc: Global,
+        stream: &'a TcpStream,
+        input: Input<'a>,
+        presence: &'a Presence,
+        role: Role,
+        is_noted: bool,
+    ) -> Arrivals<'a, R> {
+        Arrivals {
+            rt,
+            stream,
+            input,
+            presence,
+            handshake: Some(Peer::new(alloc, role)),
+            until: clock_of(rt).saturating_add(Duration::from_secs(HANDSHAKE_SECONDS)),
+            is_noted,
+        }
+    }
+
+    /// Reads within what is left of the time for the handshake, and looks whether it is over.
+    fn read_handshake(&mut self, buf: &mut [u8]) -> io::Result<usize> {
+        let left = self.until.saturating_sub(clock_of(self.rt));
+        if left.is_zero() {
+            return Err(io::Error::from(ErrorKind::TimedOut));
+        }
+        self.stream.set_read_timeout(Some(left))?;
+        let count = self.input.read(buf)?;
+        if is_over(&mut self.handshake, &buf[..count]) {
+            self.handshake = None;
+            self.presence.set_ready();
+            self.stream.set_read_timeout(None)?;
+        }
+        Ok(count)
+    }
+}
+
+impl<R: Clock> Read for Arrivals<'_, R> {
+    fn read(&mut self, buf: &mut [u8]) -> io::Result<usize> {
+        if self.handshake.is_some() {
+            return self.read_handshake(buf);
+        }
+        let count = self.input.read(buf)?;
+        if self.is_noted {
+            self.presence.hear(milliseconds(self.rt));
+        }
+        Ok(count)
+    }
+}
+
+/// Whether the handshake is over with this piece. Who serves the connection meets a fault of the peer itself.
+fn is_over(handshake: &mut Option<Peer>, piece: &[u8]) -> bool {
+    let Some(peer) = handshake else {
+        return true;
+    };
+    let Ok(events) = peer.feed(piece) else {
+        return true;
+    };
+    events.iter().any(is_ready)
+}
+
+/// Whether it is the end of a handshake.
+fn is_ready(event: &PeerEvent) -> bool {
+    match event {
+        PeerEvent::Ready => true,
+        PeerEvent::Message(_) | PeerEvent::Subscribe(_) | PeerEvent::Cancel(_) => false,
+    }
+}
+
+/// Milliseconds of the clock.
+pub(crate) fn milliseconds<R: Clock>(rt: &R) -> u64 {
+    let now = clock_of(rt);
+    now.as_secs()
+        .saturating_mul(1000)
+        .saturating_add(now.subsec_millis() as u64)
+}
+
+/// What goes out on a connection. A message that takes longer than ten seconds fails, in whatever pieces it is taken.
+#[derive(Drop)]
+pub(crate) struct Departures<'a, R: Clock> {
+    rt: &'a R,
+    stream: &'a TcpStream,
+    /// When the message has to be out of which a piece is.
+    until: Option<Duration>,
+}
+
+impl<'a, R: Clock> Departures<'a, R> {
+    /// What goes out on a connection.
+    pub fn new(rt: &'a R, stream: &'a TcpStream) -> Departures<'a, R> {
+        Departures {
+            rt,
+            stream,
+            until: None,
+        }
+    }
+
+    /// Ends the connection both ways.
+    pub fn end(&self) {
+        let _ = self.stream.shutdown(Shutdown::Both);
+    }
+
+    /// Writes some of these octets until a time.
+    fn write_until(&mut self, buf: &[u8], until: Duration) -> io::Result<usize> {
+        let mut stream = self.stream;
+        let count = stream.write(buf)?;
+        self.until = if count < buf.len() { Some(until) } else { None };
+        Ok(count)
+    }
+
+    /// Writes on in a message of which a piece went out, within what is left of its time.
+    fn write_on(&mut self, buf: &[u8], until: Duration) -> io::Result<usize> {
+        let left = until.saturating_sub(clock_of(self.rt));
+        if left.is_zero() {
+            return Err(io::Error::from(ErrorKind::TimedOut));
+        }
+        self.stream.set_write_timeout(Some(left))?;
+        let count = self.write_until(buf, until)?;
+        if self.until.is_none() {
+            self.stream
+                .set_write_timeout(Some(Duration::from_secs(MESSAGE_SECONDS)))?;
+        }
+        Ok(count)
+    }
+}
+
+impl<R: Clock> Write for Departures<'_, R> {
+    fn write(&mut self, buf: &[u8]) -> io::Result<usize> {
+        match self.until {
+            Some(until) => self.write_on(buf, until),
+            None => {
+                let until = clock_of(self.rt).saturating_add(Duration::from_secs(MESSAGE_SECONDS));
+                self.write_until(buf, until)
+            }
+        }
+    }
+
+    fn flush(&mut self) -> io::Result<()> {
+        Ok(())
+    }
+}

@@ -1,0 +1,114 @@
+//! The door of a socket: where a connection that was accepted waits for a place.
+use std::net::TcpStream;
+use std::sync::{Condvar, Mutex, Wait};
+use std::time::{Clock, Duration};
+
+/// What lies under the lock of a door.
+#[derive(Drop)]
+struct Entrance {
+    /// The connection that waits for a place, with its number.
+    next: Option<(TcpStream, u64)>,
+    /// How many places wait for a connection.
+    idle: usize,
+    is_closed: bool,
+}
+
+/// The door of a socket: one connection at a time waits here until a place takes it.
+#[derive(Drop)]
+pub(crate) struct Door {
+    entrance: Mutex<Entrance>,
+    offered: Condvar,
+    taken: Condvar,
+}
+
+impl Door {
+    /// A door at which nobody waits. It takes no memory.
+    pub fn new() -> Door {
+        Door {
+            entrance: Mutex::new(Entrance {
+                next: None,
+                idle: 0,
+                is_closed: false,
+            }),
+            offered: Condvar::new(),
+            taken: Condvar::new(),
+        }
+    }
+
+    /// The next connection for a place, with its number, once there is one; `None` once the door is closed.
+    pub fn take<R: Wait>(&self, rt: &R) -> Option<(TcpStream, u64)> {
+        let mut entrance = self.entrance.lock(rt);
+        entrance.idle = entrance.idle.saturating_add(1);
+        let mut entrance = self.offered.wait_while(
+            rt,
+            entrance,
+            |entrance| entrance.next.is_none() && !entrance.is_closed,
+        );
+        entrance.idle = entrance.idle.saturating_sub(1);
+        let next = entrance.next.take();
+        drop(entrance);
+        self.taken.notify_all();
+        next
+    }
+
+    /// Has a connection wait for a place. Whether a place waits for one.
+    pub fn offer<R: Wait>(&self, rt: &R, stream: TcpStream, number: u64) -> bool {
+        let mut entrance = self.entrance.lock(rt);
+        entrance.next = Some((stream, number));
+        let is_awaited = entrance.idle > 0;
+        drop(entrance);
+        self.offered.notify_one();
+        is_awaited
+    }
+
+    /// Waits until no connection waits for a place, or for so long. Whether none does.
+    pub fn is_free_within<R: Wait + Clock>(&self, rt: &R, most: Duration) -> bool {
+        let entrance = self.entrance.lock(rt);
+        let (entrance, _) = self
+            .taken
+            .wait_timeout_while(rt, entrance, most, |entrance| entrance.next.is_some());
+        entrance.next.is_none()
+    }
+
+    /// Lets no more connections in: the one that waits goes away, and each place is told.
+    pub fn close<R: Wait>(&self, rt: &R) {
+        let mut entrance = self.entrance.lock(rt);
+        entrance.is_closed = true;
+        entrance.next = None;
+        drop(entrance);
+        self.offered.notify_all();
+        self.taken.notify_all();
+    }
+}
+
+/// The doors of the five sockets.
+#[derive(Drop)]
+pub(crate) struct Doors {
+    pub shell: Door,
+    pub iopub: Door,
+    pub stdin: Door,
+    pub control: Door,
+    pub heartbeat: Door,
+}
+
+impl Doors {
+    /// Doors at which nobody waits. It takes no memory.
+    pub fn new() -> Doors {
+        Doors {
+            shell: Door::new(),
+            iopub: Door::new(),
+            stdin: Door::new(),
+            control: Door::new(),
+            heartbeat: Door::new(),
+        }
+    }
+
+    /// Closes all of them.
+    pub fn close<R: Wait>(&self, rt: &R) {
+        self.shell.close(rt);
+        self.iopub.close(rt);
+        self.stdin.close(rt);
+        self.control.close(rt);
+        self.heartbeat.close(rt);
+    }
+}

@@ -1,0 +1,80 @@
+//! The usher of a socket: it accepts connections, and has a stranger make room where all places are taken.
+use crate::arrivals::milliseconds;
+use crate::door::Door;
+use crate::service::Service;
+use kernel_sockets::{Connections, Listener};
+use std::net::TcpStream;
+use std::sync::Wait;
+use std::sync::ledger::Ledger;
+use std::thread;
+use std::time::{Clock, Duration};
+
+/// How long the usher rests where no connection could be accepted.
+const REST_MILLISECONDS: u64 = 20;
+
+/// How long a connection waits for a place before a further stranger has to make room.
+const WAIT_MILLISECONDS: u64 = 50;
+
+/// One place after another of a socket, among those of its register.
+#[derive(Clone, Copy)]
+pub(crate) struct Row {
+    pub first: usize,
+    pub count: usize,
+    /// So many milliseconds a ready connection may be silent before it has to make room; none where a signed message shows who has the key.
+    pub patience: u64,
+}
+
+/// The next connection of a socket, with its number. `None` where none could be accepted, after a rest: no descriptor may be free for
+/// a while, and the usher is not to spin.
+fn accept<W: Ledger, L: Ledger, R: Wait + Clock>(
+    rt: &R,
+    service: &Service<W, L>,
+    listener: &Listener,
+) -> Option<(TcpStream, u64)> {
+    let Ok(stream) = listener.accept() else {
+        if !service.ending.is_set() {
+            thread::sleep(rt, Duration::from_millis(REST_MILLISECONDS));
+        }
+        return None;
+    };
+    let number = service.number(rt)?;
+    Some((stream, number))
+}
+
+/// Has strangers make room, one after another, until a place has taken the connection that waits at the door.
+fn see_in<R: Wait + Clock>(rt: &R, connections: &Connections, door: &Door, row: Row) {
+    for _ in rt.forever() {
+        let since = if row.patience == 0 {
+            u64::MAX
+        } else {
+            milliseconds(rt).saturating_sub(row.patience)
+        };
+        let _ = connections.make_room(rt, row.first, row.count, since);
+        if door.is_free_within(rt, Duration::from_millis(WAIT_MILLISECONDS)) {
+            return;
+        }
+    }
+}
+
+/// Accepts the connections of a socket until all is to end, and then closes its door. No connection is accepted before all threads stand.
+pub(crate) fn usher<W: Ledger, L: Ledger, R: Wait + Clock>(
+    rt: &R,
+    service: &Service<W, L>,
+    listener: &Listener,
+    connections: &Connections,
+    door: &Door,
+    row: Row,
+) {
+    service.started.wait(rt);
+    for _ in rt.forever() {
+        if service.ending.is_set() {
+            break;
+        }
+        if let Some((stream, number)) = accept(rt, service, listener) {
+            if !door.offer(rt, stream, number) {
+                see_in(rt, connections, door, row);
+            }
+        }
+    }
+    door.close(rt);
+}

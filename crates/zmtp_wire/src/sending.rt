@@ -1,0 +1,62 @@
+//! A message on its way to a writer.
+ghost use Rattle.std.specs.Prelude.{◌≡◌, IfErr, IfOk, OnErr, OnOk};
+ghost use Rattle.std.specs.Io.KnownBytes.{Appends};
+ghost use Rattle.exact_write.specs.Sent.{SentSome};
+ghost use Rattle.zmtp_wire.specs.Message.{bodies_of, message_octets, IsWithinLimits};
+
+use crate::fault::WireFault;
+use crate::message::write_message;
+use exact_write::send;
+use std::alloc::Global;
+use std::io::Write;
+use thiserror::Error;
+
+/// Why a message did not go out whole.
+#[derive(Clone, Copy, Debug, PartialEq, Eq, Error)]
+pub enum SendFault {
+    /// The message passes a limit, so no reader takes it. Nothing went out.
+    #[error("TooLong")]
+    TooLong,
+    /// There was no memory. Nothing went out.
+    #[error("Memory")]
+    Memory,
+    /// The writer failed.
+    #[error("Write")]
+    Write,
+}
+
+/// The octets of a message of these bodies; none where there is no body.
+fn octets_of(alloc: Global, bodies: &[Vec<u8>]) -> Result<Vec<u8>, SendFault>
+    ensures ok { IfOk result (λ octets. octets.items ≡ message_octets (bodies_of bodies.now)) }
+    ensures too_long { IfErr result (λ fault. fault ≡ SendFault.TooLong → ¬ (IsWithinLimits (bodies_of bodies.now))) }
+{
+    let mut octets = Vec::new(alloc);
+    if bodies.is_empty() {
+        return Ok(octets);
+    }
+    match write_message(&mut octets, bodies) {
+        Ok(()) => Ok(octets),
+        Err(WireFault::TooLong) => Err(SendFault::TooLong),
+        Err(_) => Err(SendFault::Memory),
+    }
+}
+
+/// Writes a message, a frame for each of the bodies: all its octets, or a beginning of them. Without a body nothing is written.
+///
+/// # Errors
+/// `TooLong` for a message that passes a limit, and for no other; `Memory` where there is none; `Write` where the writer failed.
+pub fn send_message<W: Write>(
+    alloc: Global,
+    writer: &mut W,
+    bodies: &[Vec<u8>],
+) -> Result<(), SendFault>
+    ensures ok { OnOk result (Appends (W.contents writer.old) (W.contents writer.new) (message_octets (bodies_of bodies.now))) }
+    ensures err { OnErr result (SentSome (W.contents writer.old) (W.contents writer.new) (message_octets (bodies_of bodies.now))) }
+    ensures too_long { IfErr result (λ fault. fault ≡ SendFault.TooLong → ¬ (IsWithinLimits (bodies_of bodies.now))) }
+{
+    let octets = octets_of(alloc, bodies)?;
+    match send(writer, &octets) {
+        Ok(()) => Ok(()),
+        Err(_) => Err(SendFault::Write),
+    }
+}
