@@ -9,8 +9,8 @@ use Rattle.kernel_core.specs.Determined.{StepIsDetermined}
 use Rattle.kernel_core.specs.LegalState.{IsLegalState}
 use Rattle.kernel_core.specs.State.{here}
 use Rattle.kernel_core.specs.Theorems.{StaysLegal}
-use Rattle.kernel_core.specs.Travel.{Aim}
-use Rattle.kernel_core.specs.Travel as aim
+use Rattle.kernel_core.specs.travel.Aim.{Aim}
+use Rattle.kernel_core.specs.travel.Aim.TheVariants as aim
 use Rattle.kernel_core.specs.Slices.{finished_by, finished}
 use Rattle.kernel_core.specs.Runs.{Machine, IsPost, IsBegin, IsSliceOf}
 use Rattle.kernel_core.specs.Request.{Request, RunCell, Undo, Redo, Goto}

@@ -5,13 +5,17 @@ use Rattle.janus_meaning.specs.Limit.{step_limit}
 use Rattle.janus_machine.specs.declared.fault.Fault.{Fault}
 use Rattle.kernel_core.specs.LegalState.{IsLegalState}
 use Rattle.kernel_core.specs.Legal.{IsLegal}
-use Rattle.kernel_core.specs.Reached.{Progress, Went, Ended, Stopped}
+use Rattle.kernel_core.specs.progress.Progress.{Progress}
+use Rattle.kernel_core.specs.progress.Progress.TheVariants.{Went, Ended, Stopped}
 use Rattle.kernel_core.specs.State.{Past, State, Work, Posted, Move, Job, Idle, Border, Inside, is_full}
 use Rattle.kernel_core.specs.Slices.{Backs, Comes, SlicesIn, SlicesAt, turned}
 use Rattle.kernel_core.specs.Begins.{TakesCell}
 use Rattle.kernel_core.specs.Runs.{Machine, IsPost, IsBegin, IsSliceOf, BeginsAt, TakesUnless, Run, IsNext}
 use Rattle.kernel_core.specs.Request.{Request, RunCell, Undo, Redo, Goto}
-use Rattle.kernel_core.specs.Turn.{Why, WasAsked, Faulted, Turn, GoesOn, GoesBack as TurnedBack}
+use Rattle.kernel_core.specs.turn.Why.{Why}
+use Rattle.kernel_core.specs.turn.Why.TheVariants.{WasAsked, Faulted}
+use Rattle.kernel_core.specs.turn.Turn.{Turn}
+use Rattle.kernel_core.specs.turn.Turn.TheVariants.{GoesOn, GoesBack as TurnedBack}
 use Rattle.kernel_core.specs.Theorems.{EndsAs, EndsUnless, JobEnds, JobsEnd, CellEnds, TextEnds, WasStopped, HasAsked, OnlyAskedSlicesStop}
 use Rattle.kernel_core.specs.events.Event.{Event}
 use Rattle.kernel_core.specs.events.Event.TheVariants as event

@@ -30,6 +30,9 @@ pub use Rattle.kernel_machine.specs.MachineCode
 pub use Rattle.kernel_machine.specs.declared.events
 pub use Rattle.kernel_machine.specs.declared.outcome
 pub use Rattle.kernel_machine.specs.declared.post
+pub use Rattle.kernel_machine.specs.declared.progress
+pub use Rattle.kernel_machine.specs.declared.travel
+pub use Rattle.kernel_machine.specs.declared.turn
 pub use Rattle.kernel_machine.specs.contracts.outcome as contracts_of_outcome
 pub use Rattle.kernel_machine.specs.contracts.post as contracts_of_post
 -- Procedures that are lent, and the view of the shown world.

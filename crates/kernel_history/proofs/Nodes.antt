@@ -14,7 +14,7 @@ use Rattle.cell_tree.proofs.Trees.{count_of_parents, parents_more}
 use Rattle.cell_tree.proofs.Ways.{length-upward, upward_are_ancestors}
 use Rattle.kernel_machine.specs.State as state
 use Rattle.kernel_machine.specs.State.{root, ancestor, node_at}
-use Rattle.kernel_machine.specs.Travel.{Goto}
+use Rattle.kernel_machine.specs.declared.travel.Aim.TheVariants.{Goto}
 use Rattle.kernel_runner.specs.Program.{cell_of_program}
 use Rattle.kernel_history.specs.Fields.{node_of, nodes_of, past_of}
 use Rattle.kernel_machine.specs.Legal.{IsLegal, IsMeeting}

@@ -16,7 +16,9 @@ use Rattle.kernel_runner.specs.Runner.{Shows, world_of}
 use Rattle.kernel_runner.specs.declared.runner.Runner.{Runner}
 use Rattle.kernel_machine.specs.State as state
 use Rattle.kernel_machine.specs.State.{Past, node_at, world_at, here, below, code_of}
-use Rattle.kernel_machine.specs.Travel.{Travel, Down, next_way}
+use Rattle.kernel_machine.specs.declared.travel.Travel.{Travel}
+use Rattle.kernel_machine.specs.declared.travel.Way.TheVariants.{Down}
+use Rattle.kernel_machine.specs.Travel.{next_way}
 use Rattle.kernel_machine.specs.Language.{start_of}
 use Rattle.kernel_machine.specs.Legal.{IsLegal, IsRun}
 use Rattle.kernel_machine.proofs.LanguageLaws.{exec_procedures}

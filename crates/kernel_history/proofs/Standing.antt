@@ -7,7 +7,12 @@ use Rattle.std.proofs.lemmas.List.{get_or_at, length-map}
 use Rattle.std.proofs.lemmas.Option.{slice_get_within}
 use Rattle.cell_tree.specs.declared.node.Node.{Node}
 use Rattle.janus_meaning.specs.World.{World, empty_world, entered, Cell as ACell}
-use Rattle.kernel_machine.specs.Travel.{next_way, Travel, Aim, Undo, Redo, Goto, Way, Up, Down}
+use Rattle.kernel_machine.specs.Travel.{next_way}
+use Rattle.kernel_machine.specs.declared.travel.Travel.{Travel}
+use Rattle.kernel_machine.specs.declared.travel.Aim.{Aim}
+use Rattle.kernel_machine.specs.declared.travel.Aim.TheVariants.{Undo, Redo, Goto}
+use Rattle.kernel_machine.specs.declared.travel.Way.{Way}
+use Rattle.kernel_machine.specs.declared.travel.Way.TheVariants.{Up, Down}
 use Rattle.kernel_machine.specs.Language.{IsFormed, IsSound, Code, Forward, Backward, CodePart, CodeExec, start_of, end_of}
 use Rattle.kernel_machine.specs.State as state
 use Rattle.kernel_machine.specs.State.{State, Past, new_state, root, node_at, world_at, here, below, code_of, ShownAt, procedures_at, worlds_from}
@@ -32,7 +37,9 @@ use Rattle.kernel_history.specs.declared.tree.Tree.{Tree}
 use Rattle.kernel_machine.specs.declared.outcome.Sliced.{Sliced}
 use Rattle.kernel_history.specs.declared.job.Work.{Work}
 use Rattle.kernel_history.specs.declared.job.Work.TheVariants.{Cell as RunCell, Move}
-use Rattle.kernel_machine.specs.Turn.{Why, Turn, GoesOn, GoesBack}
+use Rattle.kernel_machine.specs.declared.turn.Why.{Why}
+use Rattle.kernel_machine.specs.declared.turn.Turn.{Turn}
+use Rattle.kernel_machine.specs.declared.turn.Turn.TheVariants.{GoesOn, GoesBack}
 use Rattle.kernel_history.specs.declared.job.Open.{Open}
 use Rattle.kernel_history.specs.declared.job.Open.TheVariants.{Idle, Border, Inside}
 use Rattle.kernel_machine.proofs.LanguageLaws.{part_none_forward, part_none_backward, exec_end, exec_some}

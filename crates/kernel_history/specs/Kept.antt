@@ -7,8 +7,12 @@ use Rattle.janus_meaning.specs.World.{World}
 use Rattle.kernel_machine.specs.Language.{start_of}
 use Rattle.kernel_machine.specs.Slices.{HasEnded}
 use Rattle.kernel_machine.specs.State.{here, ancestor, below, code_of}
-use Rattle.kernel_machine.specs.Travel.{Up, Down, Aim, Undo, Redo, Goto, next_way}
-use Rattle.kernel_machine.specs.Turn.{Turn, GoesOn, GoesBack}
+use Rattle.kernel_machine.specs.declared.travel.Way.TheVariants.{Up, Down}
+use Rattle.kernel_machine.specs.declared.travel.Aim.{Aim}
+use Rattle.kernel_machine.specs.declared.travel.Aim.TheVariants.{Undo, Redo, Goto}
+use Rattle.kernel_machine.specs.Travel.{next_way}
+use Rattle.kernel_machine.specs.declared.turn.Turn.{Turn}
+use Rattle.kernel_machine.specs.declared.turn.Turn.TheVariants.{GoesOn, GoesBack}
 use Rattle.kernel_history.specs.Fields.{nodes_of, past_of, work_of, job_of}
 use Rattle.kernel_machine.specs.Legal.{IsLegal, IsPossibleAt, IsInTimeAt, IsCountedAt}
 use Rattle.kernel_runner.specs.Program.{procedures_of, IsReady, with_bodies}

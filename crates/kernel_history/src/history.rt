@@ -3,7 +3,7 @@ ghost use Rattle.std.specs.Prelude.{◌≡◌, ◌≤◌, ℕ, List, IfOk, IfErr
 ghost use Rattle.janus_meaning.specs.World.{World};
 ghost use Rattle.kernel_machine.specs.State.{State, Idle, Border, here, is_full, Shown, new_state};
 ghost use Rattle.kernel_history.specs.Fields.{past_of, nodes_of, state_of, IsStageOf};
-ghost use Rattle.kernel_machine.specs.Travel.{Undo, Redo};
+ghost use Rattle.kernel_machine.specs.declared.travel.Aim.TheVariants.{Undo, Redo};
 ghost use Rattle.kernel_machine.specs.Legal.{IsLegal, IsPossible, IsCounted, CanGo, can_undo, can_redo};
 ghost use Rattle.kernel_machine.specs.Slices.{IsSlice, cells};
 ghost use Rattle.kernel_machine.specs.StepsOfSlices.{WritesOnSlice};

@@ -2,7 +2,8 @@
 ghost use Rattle.std.specs.Prelude.{◌≡◌, ◌-◌};
 ghost use Rattle.kernel_machine.specs.Language.{CodePart};
 ghost use Rattle.kernel_machine.specs.State.{Past, here, code_of};
-ghost use Rattle.kernel_machine.specs.Travel.{Up, Down, next_way};
+ghost use Rattle.kernel_machine.specs.declared.travel.Way.TheVariants.{Up, Down};
+ghost use Rattle.kernel_machine.specs.Travel.{next_way};
 ghost use Rattle.kernel_history.specs.Fields.{past_of, state_of, work_of, job_of};
 ghost use Rattle.kernel_machine.specs.Legal.{IsLegal, IsPossibleWork};
 ghost use Rattle.kernel_machine.specs.Slices.{finished as the_finished, turned as the_turned, Backs, cells, Arrives, Settles, Goes, HasEnded};

@@ -1,7 +1,9 @@
 //! The tree of cells that ended well, and where the kernel stands in it.
 ghost use Rattle.std.specs.Prelude.{◌≡◌, ◌<◌, ◌≤◌, ◌↔◌, IsErr, IfOk, length};
 ghost use Rattle.kernel_machine.specs.State.{below, is_full};
-ghost use Rattle.kernel_machine.specs.Travel.{Down, Goto, next_way};
+ghost use Rattle.kernel_machine.specs.declared.travel.Way.TheVariants.{Down};
+ghost use Rattle.kernel_machine.specs.declared.travel.Aim.TheVariants.{Goto};
+ghost use Rattle.kernel_machine.specs.Travel.{next_way};
 ghost use Rattle.kernel_history.specs.Fields.{past_of, nodes_of};
 ghost use Rattle.kernel_machine.specs.Legal.{IsLegal, IsPossible, IsMeeting, can_undo, can_redo};
 ghost use Rattle.kernel_history.specs.Kept.{HasPath};

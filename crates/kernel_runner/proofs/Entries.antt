@@ -21,7 +21,7 @@ use Rattle.janus_machine.specs.declared.book.Direction.TheVariants.{Forward}
 use Rattle.kernel_runner.specs.Kinds.{kind_in}
 use Rattle.kernel_runner.specs.Program.{procedures_of, declaration_of, cell_of_program}
 use Rattle.kernel_runner.specs.declared.program.Program.{Program}
-use Rattle.kernel_runner.proofs.Declared.{LendNothing}
+use Rattle.kernel_runner.proofs.Declaring.{LendNothing}
 
 abbrev pub entry_of : Name × Val → Name × Kind
 entry_of e = (e.0, kind_in e.1)

@@ -3,7 +3,7 @@ pub mod Kept
 pub mod Going
 pub mod OlderHeads
 pub mod Made
-pub mod Declared
+pub mod Declaring
 pub mod Growing
 pub mod NamesMet
 pub mod Entries

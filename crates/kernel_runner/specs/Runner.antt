@@ -14,7 +14,8 @@ use Rattle.janus_machine.specs.Law.{HasRun, FacesBack, NeverBroken}
 use Rattle.kernel_machine.specs.Language.{Code, Forward, CodeExec, IsFormed, IsSound, cell_of, run_block, start_of}
 use Rattle.kernel_runner.specs.Program.{cell_of_program, IsReady, with_bodies}
 use Rattle.kernel_runner.specs.declared.program.Program.{Program}
-use Rattle.kernel_machine.specs.Reached.{Progress, Went, Ended, Stopped}
+use Rattle.kernel_machine.specs.declared.progress.Progress.{Progress}
+use Rattle.kernel_machine.specs.declared.progress.Progress.TheVariants.{Went, Ended, Stopped}
 use Rattle.kernel_runner.specs.declared.runner.Runner.{Runner}
 
 -- the declared names of the store, without the locals that are open, and beside them these procedures

@@ -6,8 +6,9 @@ use Rattle.kernel_core.specs.Runs.{Machine, IsPost, IsBegin, IsSliceOf, IsNext, 
 use Rattle.kernel_core.specs.Slices.{finished_by}
 use Rattle.kernel_core.specs.Begins.{travel_to}
 use Rattle.kernel_core.specs.Midway.{after}
-use Rattle.kernel_core.specs.Travel as aim
-use Rattle.kernel_core.specs.Travel.{Travel, Aim}
+use Rattle.kernel_core.specs.travel.Aim.TheVariants as aim
+use Rattle.kernel_core.specs.travel.Travel.{Travel}
+use Rattle.kernel_core.specs.travel.Aim.{Aim}
 use Rattle.kernel_core.specs.Theorems.{JobsEnd, EndsUnless, JobEnds, CellEnds, TextEnds, MoveEnds, GotoEnds, TravelEnds, IsNoNode}
 use Rattle.kernel_core.specs.events.Event.TheVariants as event
 use Rattle.kernel_core.specs.events.Told.TheVariants as told

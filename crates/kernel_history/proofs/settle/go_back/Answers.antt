@@ -7,7 +7,7 @@ use Rattle.kernel_machine.specs.State.{here, code_of}
 use Rattle.kernel_history.specs.Fields.{past_of, work_of}
 use Rattle.kernel_history.specs.Kept.{stack_in, Kept}
 use Rattle.kernel_runner.specs.Runner.{Stands}
-use Rattle.kernel_machine.specs.Turn.{GoesBack}
+use Rattle.kernel_machine.specs.declared.turn.Turn.TheVariants.{GoesBack}
 use Rattle.kernel_history.specs.declared.job.Open.TheVariants.{Inside}
 use Rattle.kernel_runner.proofs.Growing.{same_more}
 use Rattle.kernel_runner.proofs.Running.{whole_at_start}

@@ -10,14 +10,15 @@ use Rattle.kernel_history.specs.declared.tree.Tree.{Tree}
 use Rattle.kernel_history.specs.declared.job.Work.{Work}
 use Rattle.kernel_machine.specs.State as state
 use Rattle.kernel_machine.specs.State.{here, code_of}
-use Rattle.kernel_machine.specs.Turn.{GoesOn, Faulted}
+use Rattle.kernel_machine.specs.declared.turn.Turn.TheVariants.{GoesOn}
+use Rattle.kernel_machine.specs.declared.turn.Why.TheVariants.{Faulted}
 use Rattle.kernel_history.specs.Kept.{Kept}
 use Rattle.kernel_history.specs.declared.job.Open.TheVariants.{Inside}
 use Rattle.kernel_history.specs.Fields.{past_of, work_of, state_of}
 use Rattle.kernel_machine.specs.Slices.{Backs}
 use Rattle.kernel_runner.specs.Runner.{world_of}
-use Rattle.kernel_machine.specs.Reached.{Went, Stopped, Ended}
-use Rattle.kernel_machine.specs.Turn.{GoesOn}
+use Rattle.kernel_machine.specs.declared.progress.Progress.TheVariants.{Went, Stopped, Ended}
+use Rattle.kernel_machine.specs.declared.turn.Turn.TheVariants.{GoesOn}
 use Rattle.kernel_runner.proofs.Growing.{same_more}
 use Rattle.kernel_history.proofs.Standing.{stands_with, inside_with, kept_at}
 use Rattle.kernel_history.proofs.settle.go_on.Given as given

@@ -6,7 +6,7 @@ use Rattle.kernel_machine.specs.Language.{start_of}
 use Rattle.kernel_history.specs.Fields.{past_of, state_of}
 use Rattle.kernel_machine.specs.Slices.{Arrives, cells as cells_left}
 use Rattle.kernel_runner.specs.Runner.{world_of}
-use Rattle.kernel_machine.specs.Travel.{Travel}
+use Rattle.kernel_machine.specs.declared.travel.Travel.{Travel}
 use Rattle.kernel_history.specs.declared.tree.Cell.{Cell}
 use Rattle.kernel_history.specs.declared.tree.Tree.{Tree}
 use Rattle.kernel_history.proofs.Nodes.{child_below}

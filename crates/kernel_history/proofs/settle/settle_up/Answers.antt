@@ -6,7 +6,7 @@ use Rattle.kernel_machine.specs.Language.{start_of}
 use Rattle.kernel_history.specs.Fields.{past_of, state_of}
 use Rattle.kernel_history.specs.Kept.{IsCellAt}
 use Rattle.kernel_machine.specs.Slices.{Arrives, cells}
-use Rattle.kernel_machine.specs.Travel.{Travel}
+use Rattle.kernel_machine.specs.declared.travel.Travel.{Travel}
 use Rattle.kernel_runner.specs.Runner.{world_of}
 use Rattle.kernel_history.proofs.Nodes.{parent_there}
 use Rattle.kernel_history.proofs.Standing.{kept_up, up_names, settled_up, nodes_ready, can_leave_up}

@@ -4,7 +4,7 @@ use Rattle.janus_meaning.specs.World.{Declaration, DeclareInt, declared_name}
 use Rattle.janus_names.specs.Numbers.{IsMet}
 use Rattle.kernel_runner.specs.Met.{AreDeclaredMet}
 use Rattle.kernel_runner.specs.Program.{declaration_of}
-use Rattle.kernel_runner.proofs.Declared.{mapped_at}
+use Rattle.kernel_runner.proofs.Declaring.{mapped_at}
 use Rattle.kernel_runner.proofs.Growing.{declared_grow}
 use Rattle.kernel_runner.proofs.NamesMet.{keeps_more, declared_one_more}
 use Rattle.kernel_runner.proofs.meeting.meet_declared.Goals as goal

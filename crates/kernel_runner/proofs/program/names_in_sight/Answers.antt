@@ -9,7 +9,7 @@ use Rattle.janus_store.specs.Held.{shown_store}
 use Rattle.janus_store.specs.Values.{shown}
 use Rattle.kernel_runner.specs.Kinds.{kind_in}
 use Rattle.kernel_runner.proofs.Entries.{entries, entries_shape, entries_count, entry_new, entry_read, taken_more, taken_all}
-use Rattle.kernel_runner.proofs.Declared.{values_lend_nothing}
+use Rattle.kernel_runner.proofs.Declaring.{values_lend_nothing}
 use Rattle.kernel_runner.proofs.program.names_in_sight.Goals as goal
 
 pub declare-requires : goal.declare-requires

@@ -5,7 +5,7 @@ use Rattle.janus_meaning.specs.Store.{Store, look}
 use Rattle.janus_meaning.specs.World.{Declaration, DeclareInt, declare, declare_one, declared_name}
 use Rattle.kernel_runner.specs.Declarable.{HasStackRoom}
 use Rattle.kernel_runner.specs.Program.{declaration_of}
-use Rattle.kernel_runner.proofs.Declared.{new_at, room_at, values_lend_nothing, declared_more, mapped_at, all_taken, taken_count, becomes_then, becomes_same}
+use Rattle.kernel_runner.proofs.Declaring.{new_at, room_at, values_lend_nothing, declared_more, mapped_at, all_taken, taken_count, becomes_then, becomes_same}
 use Rattle.kernel_runner.proofs.runner.declare.Goals as goal
 
 pub declare_one-requires : goal.declare_one-requires

@@ -3,7 +3,7 @@ use Rattle.janus_meaning.specs.Store.{Store}
 use Rattle.janus_meaning.specs.World.{dropped, declare}
 use Rattle.janus_store.specs.Held.{Held}
 use Rattle.janus_store.specs.Stores.{IsFirstOnTop, rest_of}
-use Rattle.kernel_runner.proofs.Declared.{dropped_more, dropped_all, first_on_top, becomes_then, becomes_rest, becomes_same}
+use Rattle.kernel_runner.proofs.Declaring.{dropped_more, dropped_all, first_on_top, becomes_then, becomes_rest, becomes_same}
 use Rattle.kernel_runner.proofs.runner.retire.Goals as goal
 
 pub retire-requires-clause-first : goal.retire-requires-clause-first

@@ -7,7 +7,7 @@ use Rattle.kernel_history.specs.Fields.{past_of}
 use Rattle.kernel_history.specs.declared.tree.Cell.{Cell as TreeCell}
 use Rattle.kernel_history.specs.declared.tree.Tree.{Tree}
 use Rattle.kernel_machine.specs.Begins.{TakesCell}
-use Rattle.kernel_machine.specs.Turn.{GoesOn}
+use Rattle.kernel_machine.specs.declared.turn.Turn.TheVariants.{GoesOn}
 use Rattle.kernel_machine.specs.declared.outcome.Begun.TheVariants as begun
 use Rattle.kernel_runner.specs.Program.{cell_of_program}
 use Rattle.kernel_runner.specs.Runner.{CanEnter}
@@ -15,7 +15,7 @@ use Rattle.kernel_history.specs.Kept.{Kept, IsKept, stack_at}
 use Rattle.kernel_history.specs.declared.job.Open.{Open}
 use Rattle.kernel_history.specs.declared.job.Open.TheVariants.{Idle}
 use Rattle.kernel_machine.proofs.Texts.{accepted_formed}
-use Rattle.kernel_runner.proofs.Declared.{becomes_kept}
+use Rattle.kernel_runner.proofs.Declaring.{becomes_kept}
 use Rattle.kernel_runner.proofs.Growing.{more_yet}
 use Rattle.kernel_history.proofs.Standing.{ok_fact, err_fact, kept_begun, kept_idle, idle_in_time, here_sound, idle_job, nodes_more, nodes_ready, posted_behind, behind_stack, shows_still, IsUnentered, kept_dropped}
 use Rattle.kernel_history.proofs.history.History.begin_cell.Goals as goal

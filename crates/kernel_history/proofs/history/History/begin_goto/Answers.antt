@@ -8,7 +8,7 @@ use Rattle.kernel_history.specs.declared.job.Open.TheVariants.{Idle}
 use Rattle.kernel_history.proofs.Standing.{idle_job, idle_in_time, kept_with_room}
 use Rattle.kernel_history.specs.Fields.{past_of, nodes_of}
 use Rattle.kernel_machine.specs.Legal.{IsLegal, CanGo}
-use Rattle.kernel_machine.specs.Travel.{Travel}
+use Rattle.kernel_machine.specs.declared.travel.Travel.{Travel}
 use Rattle.kernel_machine.proofs.Trees.{meeting_way}
 use Rattle.kernel_history.proofs.history.History.begin_goto.Goals as goal
 

@@ -7,7 +7,7 @@ use Rattle.janus_syntax.specs.View.{plain_procedure}
 use Rattle.janus_machine.specs.Bodies.{AreDefined, onto}
 use Rattle.kernel_runner.specs.Program.{declaration_of, procedures_of}
 use Rattle.kernel_runner.proofs.Borders.{entered_here}
-use Rattle.kernel_runner.proofs.Declared.{becomes_same}
+use Rattle.kernel_runner.proofs.Declaring.{becomes_same}
 use Rattle.kernel_runner.proofs.runner.Runner.enter.Goals as goal
 
 pub returns-clause-ok : goal.returns-clause-ok
