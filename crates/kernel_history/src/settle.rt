@@ -154,7 +154,7 @@ fn settle_cell<L: Ledger>(
     program: Program,
     n: u64,
 ) -> (Open, Sliced)
-    requires come { HasCome tree.old runner.now (Work.Cell program) n }
+    requires { HasCome tree.old runner.now (Work.Cell program) n }
     ensures step { Settles (past_of tree.old) (work_of (Work.Cell program)) n (reached tree.old runner.now (Work.Cell program)) result.1 (state_of tree.new result.0) }
     ensures kept { Kept tree.new runner.now result.0 }
 {
@@ -203,7 +203,7 @@ fn settle_down<L: Ledger>(
 
 /// A cell came to its end, in `n` steps.
 fn settle<L: Ledger>(tree: &mut Tree, runner: &mut Runner<L>, work: Work, n: u64) -> (Open, Sliced)
-    requires come { HasCome tree.old runner.old work n }
+    requires { HasCome tree.old runner.old work n }
     ensures step { Settles (past_of tree.old) (work_of work) n (reached tree.old runner.old work) result.1 (state_of tree.new result.0) }
     ensures kept { Kept tree.new runner.new result.0 }
 {

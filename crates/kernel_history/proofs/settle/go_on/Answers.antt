@@ -27,8 +27,8 @@ use Rattle.kernel_history.proofs.settle.go_on.Goals as goal
 pub run-requires : goal.run-requires
 run-requires g c = (c.args.count, inside_with c.args.tree.now c.args.work c.args.count GoesOn c.args.runner.now c.program_of.result.now c.requires c.program_of.ensures)
 
-pub settle-requires-clause-come : goal.settle-requires-clause-come
-settle-requires-clause-come g c =
+pub settle-requires : goal.settle-requires
+settle-requires g c =
     let stands = stands_with c.args.tree.now c.args.work c.args.count false c.args.runner.now c.program_of.result.now c.program_of.ensures c.requires.stands in
     let came = c.in-Ended.ensures.stands _ _ _ c.args.count stands in
     record {
