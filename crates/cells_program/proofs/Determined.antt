@@ -9,25 +9,25 @@ use Rattle.kernel_core.specs.Determined.{StepIsDetermined}
 use Rattle.kernel_core.specs.LegalState.{IsLegalState}
 use Rattle.kernel_core.specs.State.{here}
 use Rattle.kernel_core.specs.Theorems.{StaysLegal}
-use Rattle.kernel_core.specs.Travel.{Aim}
-use Rattle.kernel_core.specs.Travel as aim
+use Rattle.kernel_core.specs.travel.Aim.{Aim}
+use Rattle.kernel_core.specs.travel.Aim.TheVariants as aim
 use Rattle.kernel_core.specs.Slices.{finished_by, finished}
 use Rattle.kernel_core.specs.Runs.{Machine, IsPost, IsBegin, IsSliceOf}
 use Rattle.kernel_core.specs.Request.{Request, RunCell, Undo, Redo, Goto}
 use Rattle.kernel_core.proofs.Determined.{post_same}
-use Rattle.kernel_core.specs.declared.events.Event.TheVariants as event
-use Rattle.kernel_core.specs.declared.events.Told.{Told}
-use Rattle.kernel_core.specs.declared.events.Told.TheVariants as told
-use Rattle.kernel_core.specs.declared.post.PostFault.{PostFault}
-use Rattle.kernel_core.specs.declared.post.PostFault.TheVariants.{Closing, MinutesFull, QueueFull, Memory}
-use Rattle.kernel_core.specs.declared.outcome.Begun.{Begun}
-use Rattle.kernel_core.specs.declared.outcome.Begun.TheVariants as begun
-use Rattle.kernel_core.specs.declared.outcome.Sliced.{Sliced}
-use Rattle.kernel_core.specs.declared.outcome.Sliced.TheVariants as sliced
-use Rattle.kernel_core.specs.declared.outcome.Outcome.{Outcome}
-use Rattle.kernel_core.specs.declared.outcome.Outcome.TheVariants as outcome
-use Rattle.kernel_core.specs.declared.outcome.Refusal.TheVariants as refusal
-use Rattle.kernel_core.specs.declared.outcome.End.TheVariants.{NoMemory}
+use Rattle.kernel_core.specs.events.Event.TheVariants as event
+use Rattle.kernel_core.specs.events.Told.{Told}
+use Rattle.kernel_core.specs.events.Told.TheVariants as told
+use Rattle.kernel_core.specs.post.PostFault.{PostFault}
+use Rattle.kernel_core.specs.post.PostFault.TheVariants.{Closing, MinutesFull, QueueFull, Memory}
+use Rattle.kernel_core.specs.outcome.Begun.{Begun}
+use Rattle.kernel_core.specs.outcome.Begun.TheVariants as begun
+use Rattle.kernel_core.specs.outcome.Sliced.{Sliced}
+use Rattle.kernel_core.specs.outcome.Sliced.TheVariants as sliced
+use Rattle.kernel_core.specs.outcome.Outcome.{Outcome}
+use Rattle.kernel_core.specs.outcome.Outcome.TheVariants as outcome
+use Rattle.kernel_core.specs.outcome.Refusal.TheVariants as refusal
+use Rattle.kernel_core.specs.outcome.End.TheVariants.{NoMemory}
 use Rattle.cells_program.specs.Determined.{Holds, TellsWant}
 use Rattle.cells_program.specs.Lines.{ended_line}
 use Rattle.kernel_text.specs.Lines.{counted_text}

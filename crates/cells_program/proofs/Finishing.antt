@@ -3,18 +3,25 @@ use Rattle.std.proofs.Common.{◌≡◌, ℕ, zero, suc, ◌+◌, ◌-◌, ◌*�
 use Rattle.janus_meaning.specs.World.{World}
 use Rattle.janus_meaning.specs.Limit.{step_limit}
 use Rattle.kernel_core.specs.Language.{Code, CodePart}
-use Rattle.kernel_core.specs.Reached.{Progress, Went, Ended, Stopped, Reaches}
+use Rattle.kernel_core.specs.progress.Progress.{Progress}
+use Rattle.kernel_core.specs.progress.Progress.TheVariants.{Went, Ended, Stopped}
+use Rattle.kernel_core.specs.Reached.{Reaches}
 use Rattle.kernel_core.specs.State.{Past, State, Work, Posted, Move, Entered, Job, Idle, Border, Inside, here, code_of}
 use Rattle.kernel_core.specs.Slices.{cells, stepped, moved, Backs, Arrives, Settles, Comes, SlicesIn, SlicesAt}
 use Rattle.kernel_core.specs.Begins.{Enters}
 use Rattle.kernel_core.specs.Runs.{Machine, IsBegin, BeginsAt, IsSliceOf}
-use Rattle.kernel_core.specs.Travel.{Travel, Way, Up, Down, next_way}
-use Rattle.kernel_core.specs.Turn.{Why, Turn, GoesOn, GoesBack}
+use Rattle.kernel_core.specs.travel.Travel.{Travel}
+use Rattle.kernel_core.specs.travel.Way.{Way}
+use Rattle.kernel_core.specs.travel.Way.TheVariants.{Up, Down}
+use Rattle.kernel_core.specs.Travel.{next_way}
+use Rattle.kernel_core.specs.turn.Why.{Why}
+use Rattle.kernel_core.specs.turn.Turn.{Turn}
+use Rattle.kernel_core.specs.turn.Turn.TheVariants.{GoesOn, GoesBack}
 use Rattle.kernel_core.proofs.Trees.{way_up, way_down}
-use Rattle.kernel_core.specs.declared.outcome.Sliced.{Sliced}
-use Rattle.kernel_core.specs.declared.outcome.Sliced.TheVariants as sliced
-use Rattle.kernel_core.specs.declared.outcome.Begun.{Begun}
-use Rattle.kernel_core.specs.declared.outcome.Begun.TheVariants as begun
+use Rattle.kernel_core.specs.outcome.Sliced.{Sliced}
+use Rattle.kernel_core.specs.outcome.Sliced.TheVariants as sliced
+use Rattle.kernel_core.specs.outcome.Begun.{Begun}
+use Rattle.kernel_core.specs.outcome.Begun.TheVariants as begun
 
 -- ---- how much is left of a job
 

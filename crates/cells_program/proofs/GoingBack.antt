@@ -2,13 +2,17 @@
 use Rattle.std.proofs.Common.{◌≡◌, ℕ, Bool, true, false, zero, suc, ◌+◌, ◌-◌, ◌<◌, refl, ap, sym, subst, arith}
 use Rattle.janus_meaning.specs.World.{World, Cell}
 use Rattle.janus_meaning.specs.Limit.{step_limit}
-use Rattle.kernel_core.specs.Reached.{Progress, Went, Ended, Stopped}
+use Rattle.kernel_core.specs.progress.Progress.{Progress}
+use Rattle.kernel_core.specs.progress.Progress.TheVariants.{Went, Ended, Stopped}
 use Rattle.kernel_core.specs.State.{Past, State, Work, Posted, Job, Idle, Border, Inside}
 use Rattle.kernel_core.specs.Slices.{Backs, Comes, SlicesIn, SlicesAt}
 use Rattle.kernel_core.specs.Runs.{Machine, IsSliceOf}
-use Rattle.kernel_core.specs.Turn.{Why, WasAsked, Faulted, Turn, GoesOn, GoesBack}
-use Rattle.kernel_core.specs.declared.outcome.Sliced.{Sliced}
-use Rattle.kernel_core.specs.declared.outcome.Sliced.TheVariants as sliced
+use Rattle.kernel_core.specs.turn.Why.{Why}
+use Rattle.kernel_core.specs.turn.Why.TheVariants.{WasAsked, Faulted}
+use Rattle.kernel_core.specs.turn.Turn.{Turn}
+use Rattle.kernel_core.specs.turn.Turn.TheVariants.{GoesOn, GoesBack}
+use Rattle.kernel_core.specs.outcome.Sliced.{Sliced}
+use Rattle.kernel_core.specs.outcome.Sliced.TheVariants as sliced
 use Rattle.cells_program.specs.OpenJob.{IsInCell, MustGoBack, TurnsBack}
 
 -- how many steps are still to be taken back

@@ -6,7 +6,7 @@ use Rattle.janus_meaning.specs.Syntax.{Proc}
 use Rattle.janus_meaning.specs.World.{World}
 use Rattle.janus_syntax.specs.declared.tree.Procedure.{Procedure}
 use Rattle.kernel_core.specs.Defined.{in_a_row}
-use Rattle.kernel_core.specs.declared.post.PostFault.TheVariants.{Memory}
+use Rattle.kernel_core.specs.post.PostFault.TheVariants.{Memory}
 use Rattle.kernel_text.specs.Lines.{post_fault_line}
 use Rattle.kernel_text.specs.ProcedureTexts.{procedure_text}
 use Rattle.exact_write.specs.Sent.{SentSome}

@@ -5,23 +5,27 @@ use Rattle.janus_meaning.specs.Limit.{step_limit}
 use Rattle.janus_machine.specs.declared.fault.Fault.{Fault}
 use Rattle.kernel_core.specs.LegalState.{IsLegalState}
 use Rattle.kernel_core.specs.Legal.{IsLegal}
-use Rattle.kernel_core.specs.Reached.{Progress, Went, Ended, Stopped}
+use Rattle.kernel_core.specs.progress.Progress.{Progress}
+use Rattle.kernel_core.specs.progress.Progress.TheVariants.{Went, Ended, Stopped}
 use Rattle.kernel_core.specs.State.{Past, State, Work, Posted, Move, Job, Idle, Border, Inside, is_full}
 use Rattle.kernel_core.specs.Slices.{Backs, Comes, SlicesIn, SlicesAt, turned}
 use Rattle.kernel_core.specs.Begins.{TakesCell}
 use Rattle.kernel_core.specs.Runs.{Machine, IsPost, IsBegin, IsSliceOf, BeginsAt, TakesUnless, Run, IsNext}
 use Rattle.kernel_core.specs.Request.{Request, RunCell, Undo, Redo, Goto}
-use Rattle.kernel_core.specs.Turn.{Why, WasAsked, Faulted, Turn, GoesOn, GoesBack as TurnedBack}
+use Rattle.kernel_core.specs.turn.Why.{Why}
+use Rattle.kernel_core.specs.turn.Why.TheVariants.{WasAsked, Faulted}
+use Rattle.kernel_core.specs.turn.Turn.{Turn}
+use Rattle.kernel_core.specs.turn.Turn.TheVariants.{GoesOn, GoesBack as TurnedBack}
 use Rattle.kernel_core.specs.Theorems.{EndsAs, EndsUnless, JobEnds, JobsEnd, CellEnds, TextEnds, WasStopped, HasAsked, OnlyAskedSlicesStop}
-use Rattle.kernel_core.specs.declared.events.Event.{Event}
-use Rattle.kernel_core.specs.declared.events.Event.TheVariants as event
-use Rattle.kernel_core.specs.declared.events.Told.{Told}
-use Rattle.kernel_core.specs.declared.events.Told.TheVariants as told
-use Rattle.kernel_core.specs.declared.outcome.Outcome.{Outcome}
-use Rattle.kernel_core.specs.declared.outcome.Outcome.TheVariants as outcome
-use Rattle.kernel_core.specs.declared.outcome.Begun.TheVariants as begun
-use Rattle.kernel_core.specs.declared.outcome.Sliced.{Sliced}
-use Rattle.kernel_core.specs.declared.outcome.Sliced.TheVariants as sliced
+use Rattle.kernel_core.specs.events.Event.{Event}
+use Rattle.kernel_core.specs.events.Event.TheVariants as event
+use Rattle.kernel_core.specs.events.Told.{Told}
+use Rattle.kernel_core.specs.events.Told.TheVariants as told
+use Rattle.kernel_core.specs.outcome.Outcome.{Outcome}
+use Rattle.kernel_core.specs.outcome.Outcome.TheVariants as outcome
+use Rattle.kernel_core.specs.outcome.Begun.TheVariants as begun
+use Rattle.kernel_core.specs.outcome.Sliced.{Sliced}
+use Rattle.kernel_core.specs.outcome.Sliced.TheVariants as sliced
 use Rattle.cells_program.specs.OpenJob.{is_cell}
 use Rattle.cells_program.specs.Served.{lane, GoesBack, is_back, not_yet_back, CellFinishes, in_time, interrupted, faulted, FinishesAs, Finishes, ended, going, backing, next_cell, no_next_cell, Came, NotPosted, Finished, Serves, not_posted, at_once, later}
 use Rattle.cells_program.specs.ServedEnds.{RunsToItsEnd, ServesByARun, ServedJobEnds, StopsCellsAlone}

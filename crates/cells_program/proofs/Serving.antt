@@ -4,14 +4,14 @@ use Rattle.kernel_core.specs.State.{Past, State, Job, Idle, Border}
 use Rattle.kernel_core.specs.Begins.{travel_to, Enters, Departs, TakesCell, TakesMove, TakesGoto}
 use Rattle.kernel_core.specs.Runs.{Machine, Takes, TakesUnless, BeginsAt, IsPost, IsBegin, IsSliceOf}
 use Rattle.kernel_core.specs.Request.{Request, RunCell, Undo, Redo, Goto}
-use Rattle.kernel_core.specs.Travel as aim
-use Rattle.kernel_core.specs.Travel.{Travel}
+use Rattle.kernel_core.specs.travel.Aim.TheVariants as aim
+use Rattle.kernel_core.specs.travel.Travel.{Travel}
 use Rattle.kernel_core.specs.Slices.{cells}
-use Rattle.kernel_core.specs.declared.post.PostFault.{PostFault}
-use Rattle.kernel_core.specs.declared.outcome.Begun.{Begun}
-use Rattle.kernel_core.specs.declared.outcome.Begun.TheVariants as begun
-use Rattle.kernel_core.specs.declared.outcome.Outcome.{Outcome}
-use Rattle.kernel_core.specs.declared.outcome.Sliced.{Sliced}
+use Rattle.kernel_core.specs.post.PostFault.{PostFault}
+use Rattle.kernel_core.specs.outcome.Begun.{Begun}
+use Rattle.kernel_core.specs.outcome.Begun.TheVariants as begun
+use Rattle.kernel_core.specs.outcome.Outcome.{Outcome}
+use Rattle.kernel_core.specs.outcome.Sliced.{Sliced}
 use Rattle.cells_program.specs.OpenJob.{IsInCell, is_cell}
 use Rattle.cells_program.specs.Served.{lane, CellFinishes, Finishes, FinishesAs}
 use Rattle.cells_program.proofs.Finishing.{IsInside, IsBorder}

@@ -4,8 +4,8 @@ use Rattle.std.specs.Prelude.{Result, Ok, Err, OnOk, OnErr, ◌||◌, string_byt
 use Rattle.std.specs.Io.KnownBytes.{Appends, Keeps}
 use Rattle.kernel_core.specs.Runs.{Machine, IsRefusal}
 use Rattle.kernel_core.specs.Request.{Request, RunCell}
-use Rattle.kernel_core.specs.declared.post.PostFault.{PostFault}
-use Rattle.kernel_core.specs.declared.post.PostFault.TheVariants.{Memory}
+use Rattle.kernel_core.specs.post.PostFault.{PostFault}
+use Rattle.kernel_core.specs.post.PostFault.TheVariants.{Memory}
 use Rattle.kernel_core.proofs.Posts.{some_refusal}
 use Rattle.cells_program.specs.declared.command.Command.{Command}
 use Rattle.cells_program.specs.declared.command.Command.TheVariants.{Run, Undo, Redo, Goto, Show, Unknown}

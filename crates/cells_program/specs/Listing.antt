@@ -8,7 +8,7 @@ use Rattle.janus_meaning.specs.Fault.{Fine}
 use Rattle.janus_meaning.specs.Syntax.{Name, Proc}
 use Rattle.janus_meaning.specs.Store.{find}
 use Rattle.janus_meaning.specs.World.{World}
-use Rattle.kernel_core.specs.declared.post.PostFault.TheVariants.{Memory}
+use Rattle.kernel_core.specs.post.PostFault.TheVariants.{Memory}
 use Rattle.kernel_text.specs.Lines.{post_fault_line}
 use Rattle.kernel_text.specs.ProcedureTexts.{procedure_text}
 use Rattle.cells_program.specs.Lines.{ended_line}

@@ -3,7 +3,8 @@ use Rattle.std.specs.Prelude.{◌≡◌, Bool, true, false, ⊤}
 use Rattle.janus_meaning.specs.World.{Cell}
 use Rattle.kernel_core.specs.Request.{Request, RunCell, Undo, Redo, Goto}
 use Rattle.kernel_core.specs.State.{Entered, Job, Inside, Posted}
-use Rattle.kernel_core.specs.Turn.{Turn, GoesOn, GoesBack}
+use Rattle.kernel_core.specs.turn.Turn.{Turn}
+use Rattle.kernel_core.specs.turn.Turn.TheVariants.{GoesOn, GoesBack}
 
 -- a request for a cell, not for a move
 abbrev pub is_cell : Request → Bool

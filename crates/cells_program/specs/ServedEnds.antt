@@ -5,11 +5,11 @@ use Rattle.kernel_core.specs.Request.{Request}
 use Rattle.kernel_core.specs.Runs.{Machine, IsPost, Run}
 use Rattle.kernel_core.specs.State.{Idle}
 use Rattle.kernel_core.specs.Theorems.{EndsAs, JobEnds, WasStopped}
-use Rattle.kernel_core.specs.declared.events.Event.{Event}
-use Rattle.kernel_core.specs.declared.events.Event.TheVariants as event
-use Rattle.kernel_core.specs.declared.events.Told.{Told}
-use Rattle.kernel_core.specs.declared.outcome.Outcome.{Outcome}
-use Rattle.kernel_core.specs.declared.outcome.Outcome.TheVariants as outcome
+use Rattle.kernel_core.specs.events.Event.{Event}
+use Rattle.kernel_core.specs.events.Event.TheVariants as event
+use Rattle.kernel_core.specs.events.Told.{Told}
+use Rattle.kernel_core.specs.outcome.Outcome.{Outcome}
+use Rattle.kernel_core.specs.outcome.Outcome.TheVariants as outcome
 use Rattle.cells_program.specs.OpenJob.{is_cell}
 use Rattle.cells_program.specs.Served.{lane, Serves, Finished}
 

@@ -11,7 +11,7 @@ use Rattle.kernel_core.specs.Runs.{Machine}
 use Rattle.kernel_core.specs.LegalMinutes.{Account, new_account, EndsFirst, Give, HasLegalMinutes}
 use Rattle.kernel_core.specs.Counters.{counted_to}
 use Rattle.kernel_core.specs.Written.{entry_of}
-use Rattle.kernel_core.specs.declared.outcome.Outcome.{Outcome}
+use Rattle.kernel_core.specs.outcome.Outcome.{Outcome}
 use Rattle.kernel_core.specs.declared.minutes.Entry.{Entry as Kept}
 use Rattle.kernel_core.proofs.Posts.{posts-append, posted-append, entry_count}
 use Rattle.kernel_core.proofs.Noted.{give_ended}

@@ -7,8 +7,8 @@ use Rattle.janus_syntax.specs.Tree.{Cell, cell_view}
 use Rattle.janus_syntax.specs.declared.tree.Cell as code
 use Rattle.janus_syntax.specs.Text.{HasTree}
 use Rattle.kernel_core.specs.State.{Past, world_at}
-use Rattle.kernel_core.specs.declared.outcome.Outcome.{Outcome}
-use Rattle.kernel_core.specs.declared.outcome.Outcome.TheVariants.{Ran, Failed, Interrupted, Undid, Redid, Went, Refused}
+use Rattle.kernel_core.specs.outcome.Outcome.{Outcome}
+use Rattle.kernel_core.specs.outcome.Outcome.TheVariants.{Ran, Failed, Interrupted, Undid, Redid, Went, Refused}
 use Rattle.kernel_ask.specs.Naming.{in_cell}
 use Rattle.kernel_text.specs.ValueTexts.{value_text}
 

@@ -4,7 +4,7 @@ use Rattle.kernel_core.specs.Request.{Request}
 use Rattle.kernel_core.specs.Minutes.{Entry, Posted, Ended, ended_in}
 use Rattle.kernel_core.specs.Runs.{Machine}
 use Rattle.kernel_core.specs.LegalMinutes.{Account, new_account, EndsFirst, Tells, Give, HasLegalMinutes}
-use Rattle.kernel_core.specs.declared.outcome.Outcome.{Outcome}
+use Rattle.kernel_core.specs.outcome.Outcome.{Outcome}
 use Rattle.kernel_audit.specs.Marks.{EndsInOrder}
 
 one_end : (a : Account) (waiting : List Request) (number : ℕ) (o : Outcome) (count node : ℕ) (b : Account) → EndsFirst a waiting number o count node b → (number ≡ suc a.ended) × (b.ended ≡ number)

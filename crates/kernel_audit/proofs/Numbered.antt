@@ -4,7 +4,7 @@ use Rattle.std.proofs.Common.{◌==◌}
 use Rattle.std.proofs.lemmas.Bool.Decides.{nat_tests}
 use Rattle.kernel_core.specs.declared.minutes.Entry.{Entry}
 use Rattle.kernel_core.specs.declared.minutes.Entry.TheVariants.{Posted, Ended}
-use Rattle.kernel_core.specs.declared.outcome.Outcome.{Outcome}
+use Rattle.kernel_core.specs.outcome.Outcome.{Outcome}
 use Rattle.kernel_core.specs.Request.{Request, request_of}
 use Rattle.kernel_core.specs.Minutes as minutes
 use Rattle.kernel_core.specs.Minutes.{Post, posts_of, ended_in, IsNumberOf}

@@ -3,18 +3,18 @@ use Rattle.std.specs.Prelude.{vec_capacity, if◌then◌else◌}
 use Rattle.std.specs.Result.{is_ok, is_err}
 use Rattle.std.proofs.Common.{◌≡◌, ℕ, ◌+◌, ◌*◌, ◌<◌, ◌≤◌, Bool, false, Result, Ok, Err, List, [], ◌∷◌, ◌++◌, length, map, get_or, zero, suc, refl, sym, ap, ◌∙◌, subst, arith, length-append}
 use Rattle.std.proofs.lemmas.List.{length-map, map-append}
-use Rattle.kernel_core.specs.State.{State}
-use Rattle.kernel_core.specs.Request.{Request, Undo, request_of}
-use Rattle.kernel_core.specs.Runs.{Machine, posted}
-use Rattle.kernel_core.specs.Minutes as minutes
-use Rattle.kernel_core.specs.Minutes.{posted_in, ended_in, minutes_limit}
+use Rattle.kernel_machine.specs.State.{State}
+use Rattle.kernel_machine.specs.Request.{Request, Undo, request_of}
+use Rattle.kernel_machine.specs.Runs.{Machine, posted}
+use Rattle.kernel_machine.specs.Minutes as minutes
+use Rattle.kernel_machine.specs.Minutes.{posted_in, ended_in, minutes_limit}
 use Rattle.kernel_core.specs.Written.{entry_of, entries_in, job_in, job_at, IsPost, IsPostAt, ArePosts, HasPlaces}
-use Rattle.kernel_core.specs.declared.outcome.Outcome.{Outcome}
-use Rattle.kernel_core.specs.declared.post.Job.{Job}
+use Rattle.kernel_machine.specs.declared.outcome.Outcome.{Outcome}
+use Rattle.kernel_machine.specs.declared.post.Job.{Job}
 use Rattle.kernel_core.specs.declared.minutes.Entry.{Entry}
 use Rattle.kernel_core.specs.declared.minutes.Entry.TheVariants.{Posted, Ended}
 use Rattle.kernel_core.specs.declared.minutes.Minutes.{Minutes}
-use Rattle.kernel_core.proofs.Posts.{posted-append, ended-append, entry_count}
+use Rattle.kernel_machine.proofs.Posts.{posted-append, ended-append, entry_count}
 
 -- ---- entries
 

@@ -1,42 +1,42 @@
--- The definitions of the kernel, in three groups.
+-- The definitions of the kernel.
 
--- What the machine is told of the language: cells that run and are taken back, how far code came, and which cell a text is.
-pub mod Language
-pub mod Reached
-pub mod Text
-pub mod Refusal
--- The machine, in reading order: travels and turns, its states, which of them are legal, its slices and begins, its minutes and runs, and
--- the laws of its runs.
-pub mod Travel
-pub mod Turn
-pub mod State
-pub mod Legal
-pub mod Slices
-pub mod Begins
-pub mod Extent
-pub mod Request
-pub mod Minutes
-pub mod Runs
-pub mod PostFault
-pub mod Midway
-pub mod LegalState
-pub mod Theorems
-pub mod Travels
-pub mod StepsOfSlices
-pub mod LegalMinutes
-pub mod Counters
-pub mod Determined
--- The code's own words: its types read as those of the machine, what its fields keep, and how contracts have states as values.
-pub mod Program
-pub mod Met
-pub mod Known
-pub mod Kinds
-pub mod Declarable
-pub mod Runner
-pub mod Fields
-pub mod Kept
-pub mod Defined
+-- Those of the machine, passed on: a file that names them names this crate alone.
+pub use Rattle.kernel_machine.specs.Language
+pub use Rattle.kernel_machine.specs.Reached
+pub use Rattle.kernel_machine.specs.Text
+pub use Rattle.kernel_machine.specs.Refusal
+pub use Rattle.kernel_machine.specs.Travel
+pub use Rattle.kernel_machine.specs.Turn
+pub use Rattle.kernel_machine.specs.State
+pub use Rattle.kernel_machine.specs.Legal
+pub use Rattle.kernel_machine.specs.Slices
+pub use Rattle.kernel_machine.specs.Begins
+pub use Rattle.kernel_machine.specs.Extent
+pub use Rattle.kernel_machine.specs.Request
+pub use Rattle.kernel_machine.specs.Minutes
+pub use Rattle.kernel_machine.specs.Runs
+pub use Rattle.kernel_machine.specs.PostFault
+pub use Rattle.kernel_machine.specs.Midway
+pub use Rattle.kernel_machine.specs.LegalState
+pub use Rattle.kernel_machine.specs.Theorems
+pub use Rattle.kernel_machine.specs.Travels
+pub use Rattle.kernel_machine.specs.StepsOfSlices
+pub use Rattle.kernel_machine.specs.LegalMinutes
+pub use Rattle.kernel_machine.specs.Counters
+pub use Rattle.kernel_machine.specs.Determined
+pub use Rattle.kernel_machine.specs.StateCode
+pub use Rattle.kernel_machine.specs.MachineCode
+-- Its plain types.
+pub use Rattle.kernel_machine.specs.declared.events
+pub use Rattle.kernel_machine.specs.declared.outcome
+pub use Rattle.kernel_machine.specs.declared.post
+pub use Rattle.kernel_machine.specs.declared.progress
+pub use Rattle.kernel_machine.specs.declared.travel
+pub use Rattle.kernel_machine.specs.declared.turn
+pub use Rattle.kernel_machine.specs.contracts.outcome as contracts_of_outcome
+pub use Rattle.kernel_machine.specs.contracts.post as contracts_of_post
+-- Procedures that are lent, and the view of the shown world.
+pub use Rattle.kernel_runner.specs.Defined
+-- The code's own words: the minutes as it writes them, and how its fields are the machine.
 pub mod Written
 pub mod MachineParts
-pub mod StateCode
-pub mod MachineCode

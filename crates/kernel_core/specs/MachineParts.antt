@@ -1,6 +1,6 @@
 -- How the fields of the code are the machine.
 use Rattle.std.specs.Prelude.{map}
-use Rattle.kernel_core.specs.Runs.{Machine}
+use Rattle.kernel_machine.specs.Runs.{Machine}
 use Rattle.kernel_core.specs.Written.{entries_in, job_at, ArePosts, HasPlaces}
 use Rattle.kernel_core.specs.declared.machine.Machine.TheInside.{Inside}
 

@@ -1,8 +1,8 @@
 -- How the code writes the minutes, and names posted jobs by the places of their entries.
 use Rattle.std.specs.Prelude.{◌≡◌, ℕ, ◌*◌, ◌<◌, ◌≤◌, List, [], ◌∷◌, get_or, length, map, vec_capacity}
-use Rattle.kernel_core.specs.Request.{Request, Undo, request_of}
-use Rattle.kernel_core.specs.Minutes as minutes
-use Rattle.kernel_core.specs.Minutes.{posted_in, ended_in, minutes_limit}
+use Rattle.kernel_machine.specs.Request.{Request, Undo, request_of}
+use Rattle.kernel_machine.specs.Minutes as minutes
+use Rattle.kernel_machine.specs.Minutes.{posted_in, ended_in, minutes_limit}
 use Rattle.kernel_core.specs.declared.minutes.Entry.{Entry}
 use Rattle.kernel_core.specs.declared.minutes.Entry.TheVariants.{Posted, Ended}
 use Rattle.kernel_core.specs.declared.minutes.Minutes.{Minutes}

@@ -1,23 +1,19 @@
 //! The kernel machine: the history, the queue of posted jobs, the execution counter and the minutes.
 ghost use Rattle.std.specs.Prelude.{◌≡◌, ◌≢◌, ◌+◌, ◌<◌, ◌^◌, IfOk, IfSome, IfNone, Some, length, map};
-ghost use Rattle.kernel_core.specs.State.{Idle, Shown, here};
+ghost use Rattle.kernel_machine.specs.State.{Idle, Shown, here};
 ghost use Rattle.janus_store.specs.Held.{IsWhole};
-ghost use Rattle.kernel_core.specs.Request.{request_of, raised as the_raised};
-ghost use Rattle.kernel_core.specs.Minutes.{posted_in, ended_in};
-ghost use Rattle.kernel_core.specs.LegalMinutes.{HasLegalMinutes};
+ghost use Rattle.kernel_machine.specs.Request.{request_of, raised as the_raised};
+ghost use Rattle.kernel_machine.specs.Minutes.{posted_in, ended_in};
+ghost use Rattle.kernel_machine.specs.LegalMinutes.{HasLegalMinutes};
 ghost use Rattle.kernel_core.specs.Written.{entry_of};
-ghost use Rattle.kernel_core.specs.StepsOfSlices.{WritesOnSlice};
-ghost use Rattle.kernel_core.specs.Extent.{IsExtent};
-ghost use Rattle.kernel_core.specs.Runs.{new_machine, IsReady, IsRefusal, IsPost, BeginsAt, IsBegin, IsSliceOf, TakesUnless, noted, phase_of, shut};
+ghost use Rattle.kernel_machine.specs.StepsOfSlices.{WritesOnSlice};
+ghost use Rattle.kernel_machine.specs.Extent.{IsExtent};
+ghost use Rattle.kernel_machine.specs.Runs.{new_machine, IsReady, IsRefusal, IsPost, BeginsAt, IsBegin, IsSliceOf, TakesUnless, noted, phase_of, shut};
 
-use crate::extent::Extent;
-use crate::history::History;
-use crate::job::Stage;
 use crate::minutes::{Entry, MINUTES_LIMIT, Minutes};
-use crate::outcome::{Begun, Outcome, Phase, Refusal, Sliced};
-use crate::post::{Job, PostFault};
-use crate::view::View;
 use janus_machine::{Store, Writes};
+use kernel_history::{History, Stage, View};
+use kernel_machine::{Begun, Extent, Job, Outcome, Phase, PostFault, Refusal, Sliced};
 use std::alloc::{AllocError, Global};
 use std::collections::VecDeque;
 use std::marker::Model;
@@ -39,8 +35,8 @@ pub struct Machine<L: Ledger> {
 }
 
 impl<L: Ledger> Model for Machine<L> {
-    ghost use Rattle.kernel_core.specs.Runs.{Machine};
-    ghost use Rattle.kernel_core.specs.MachineCode.{machine_code};
+    ghost use Rattle.kernel_machine.specs.Runs.{Machine};
+    ghost use Rattle.kernel_machine.specs.MachineCode.{machine_code};
 
     ghost Value = { Machine };
 

@@ -1,11 +1,10 @@
 //! The minutes: each post, and how each job ended. The room for the end of a job is taken with its post.
 ghost use Rattle.std.specs.Prelude.{◌≡◌, ◌+◌, ◌*◌, ◌<◌, ◌≤◌, ◌∷◌, ◌++◌, [], OnOk, suc, length, vec_capacity};
-ghost use Rattle.kernel_core.specs.Request.{request_of};
-ghost use Rattle.kernel_core.specs.Minutes.{minutes_limit};
+ghost use Rattle.kernel_machine.specs.Request.{request_of};
+ghost use Rattle.kernel_machine.specs.Minutes.{minutes_limit};
 ghost use Rattle.kernel_core.specs.Written.{HasPlaces, IsPostAt, entries_in, job_at};
 
-use crate::outcome::Outcome;
-use crate::post::Job;
+use kernel_machine::{Job, Outcome};
 use std::alloc::{AllocError, Global};
 
 /// One entry of the minutes.

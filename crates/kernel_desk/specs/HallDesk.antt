@@ -3,7 +3,7 @@
 use Rattle.std.specs.Prelude.{◌≡◌, ℕ, ◌+◌, ◌≤◌, ℤ, ◌<◌, Bool, true, List, [], ◌++◌, ◌⊎◌, Option, Some, None, Result, Ok, Err, length}
 use Rattle.kernel_core.specs.Runs.{Machine, IsRefusal}
 use Rattle.kernel_core.specs.LegalMinutes.{IsLegalMachine}
-use Rattle.kernel_core.specs.declared.post.PostFault.{PostFault}
+use Rattle.kernel_core.specs.post.PostFault.{PostFault}
 use Rattle.kernel_ask.specs.Answer.{IsAnswer}
 use Rattle.kernel_ask.specs.declared.answer.Ask.{Ask}
 use Rattle.kernel_ask.specs.declared.answer.Answer.{Answer}

@@ -28,9 +28,9 @@ use Rattle.janus_linear.specs.contracts.code.Linear as Linear
 use Rattle.janus_machine.specs.contracts.book.Book as Book
 use Rattle.janus_store.specs.contracts.store.Store as Store
 use Rattle.janus_store.specs.contracts.writes.Writes as Writes
-use Rattle.kernel_core.specs.contracts.post.Job as Job
+use Rattle.kernel_core.specs.contracts_of_post.Job as Job
 use Rattle.kernel_core.specs.contracts.minutes.Entry as Entry
-use Rattle.kernel_core.specs.contracts.outcome.Outcome as Outcome
+use Rattle.kernel_core.specs.contracts_of_outcome.Outcome as Outcome
 use Rattle.kernel_core.specs.contracts.kernel.Kernel as Kernel
 use Rattle.kernel_ask.specs.contracts.comms.Comms as Comms
 use Rattle.kernel_ask.specs.contracts.done.Done as Done

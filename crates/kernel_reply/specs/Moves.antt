@@ -5,11 +5,11 @@ use Rattle.jupyter_msg.specs.declared.comm.CommAsk.{CommAsk}
 use Rattle.jupyter_msg.specs.declared.comm.CommAsk.TheVariants.{Undo, Redo, Goto, State, Other}
 use Rattle.kernel_core.specs.Refusal as refusal
 use Rattle.kernel_core.specs.PostFault as post_fault
-use Rattle.kernel_core.specs.declared.outcome.End.{End}
-use Rattle.kernel_core.specs.declared.outcome.End.TheVariants.{All, Asked, NoMemory}
-use Rattle.kernel_core.specs.declared.outcome.Outcome.{Outcome}
-use Rattle.kernel_core.specs.declared.outcome.Outcome.TheVariants.{Ran, Failed, Interrupted, Undid, Redid, Went, Refused}
-use Rattle.kernel_core.specs.declared.post.PostFault.{PostFault}
+use Rattle.kernel_core.specs.outcome.End.{End}
+use Rattle.kernel_core.specs.outcome.End.TheVariants.{All, Asked, NoMemory}
+use Rattle.kernel_core.specs.outcome.Outcome.{Outcome}
+use Rattle.kernel_core.specs.outcome.Outcome.TheVariants.{Ran, Failed, Interrupted, Undid, Redid, Went, Refused}
+use Rattle.kernel_core.specs.post.PostFault.{PostFault}
 use Rattle.kernel_message.specs.Json.{record_of, text, count}
 use Rattle.kernel_reply.specs.Status.{ok}
 

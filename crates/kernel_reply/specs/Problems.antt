@@ -3,9 +3,9 @@ use Rattle.std.specs.Prelude.{ℕ, List, codes, Option, Some, None}
 use Rattle.janus_machine.specs.Faults as fault
 use Rattle.kernel_core.specs.Refusal as refusal
 use Rattle.kernel_core.specs.PostFault as post_fault
-use Rattle.kernel_core.specs.declared.outcome.Outcome.{Outcome}
-use Rattle.kernel_core.specs.declared.outcome.Outcome.TheVariants.{Ran, Failed, Interrupted, Undid, Redid, Went, Refused}
-use Rattle.kernel_core.specs.declared.post.PostFault.{PostFault}
+use Rattle.kernel_core.specs.outcome.Outcome.{Outcome}
+use Rattle.kernel_core.specs.outcome.Outcome.TheVariants.{Ran, Failed, Interrupted, Undid, Redid, Went, Refused}
+use Rattle.kernel_core.specs.post.PostFault.{PostFault}
 use Rattle.kernel_text.specs.Lines.{outcome_line, post_fault_line}
 use Rattle.kernel_ask.specs.Lines.{exp_fault_line}
 use Rattle.kernel_ask.specs.declared.done.ExpFault.{ExpFault}

@@ -10,16 +10,16 @@ use Rattle.kernel_core.specs.Determined.{AreAmple, TellsWant}
 use Rattle.kernel_core.proofs.Determined.{step_is_determined}
 use Rattle.kernel_core.proofs.Stays.{step_legal}
 use Rattle.kernel_core.proofs.Jobs.{jobs_end}
-use Rattle.kernel_core.specs.declared.post.Job.{Job}
-use Rattle.kernel_core.specs.declared.events.Event.{Event}
-use Rattle.kernel_core.specs.declared.events.Event.TheVariants as event
-use Rattle.kernel_core.specs.declared.events.Told.{Told}
-use Rattle.kernel_core.specs.declared.events.Told.TheVariants as told
-use Rattle.kernel_core.specs.declared.outcome.Outcome.{Outcome}
-use Rattle.kernel_core.specs.declared.outcome.Begun.{Begun}
-use Rattle.kernel_core.specs.declared.outcome.Begun.TheVariants as begun
-use Rattle.kernel_core.specs.declared.outcome.Sliced.{Sliced}
-use Rattle.kernel_core.specs.declared.outcome.Sliced.TheVariants as sliced
+use Rattle.kernel_core.specs.post.Job.{Job}
+use Rattle.kernel_core.specs.events.Event.{Event}
+use Rattle.kernel_core.specs.events.Event.TheVariants as event
+use Rattle.kernel_core.specs.events.Told.{Told}
+use Rattle.kernel_core.specs.events.Told.TheVariants as told
+use Rattle.kernel_core.specs.outcome.Outcome.{Outcome}
+use Rattle.kernel_core.specs.outcome.Begun.{Begun}
+use Rattle.kernel_core.specs.outcome.Begun.TheVariants as begun
+use Rattle.kernel_core.specs.outcome.Sliced.{Sliced}
+use Rattle.kernel_core.specs.outcome.Sliced.TheVariants as sliced
 use Rattle.kernel_ask.specs.declared.done.Done.{Done}
 use Rattle.kernel_session.specs.Question.{Wishes}
 use Rattle.kernel_server.specs.declared.slice.Slice.{Slice}

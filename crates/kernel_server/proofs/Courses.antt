@@ -3,10 +3,10 @@ use Rattle.std.proofs.Common.{◌≡◌, ◌∙◌, ℕ, true, List, [], ◌∷�
 use Rattle.std.proofs.lemmas.Bool.{false≢true}
 use Rattle.std.proofs.lemmas.List.{append-nil}
 use Rattle.kernel_core.specs.Runs.{Machine, IsPost, Run}
-use Rattle.kernel_core.specs.declared.events.Event.{Event}
-use Rattle.kernel_core.specs.declared.events.Event.TheVariants as event
-use Rattle.kernel_core.specs.declared.events.Told.{Told}
-use Rattle.kernel_core.specs.declared.events.Told.TheVariants as told
+use Rattle.kernel_core.specs.events.Event.{Event}
+use Rattle.kernel_core.specs.events.Event.TheVariants as event
+use Rattle.kernel_core.specs.events.Told.{Told}
+use Rattle.kernel_core.specs.events.Told.TheVariants as told
 use Rattle.kernel_message.specs.declared.stamp.Stamp.{Stamp}
 use Rattle.kernel_session.specs.declared.socket.Socket.{Socket}
 use Rattle.kernel_session.specs.declared.fault.ServeFault.{ServeFault}

@@ -6,16 +6,17 @@ use Rattle.kernel_core.specs.Runs.{Machine, IsPost, IsBegin, IsSliceOf, IsNext, 
 use Rattle.kernel_core.specs.Slices.{finished_by}
 use Rattle.kernel_core.specs.Begins.{travel_to}
 use Rattle.kernel_core.specs.Midway.{after}
-use Rattle.kernel_core.specs.Travel as aim
-use Rattle.kernel_core.specs.Travel.{Travel, Aim}
+use Rattle.kernel_core.specs.travel.Aim.TheVariants as aim
+use Rattle.kernel_core.specs.travel.Travel.{Travel}
+use Rattle.kernel_core.specs.travel.Aim.{Aim}
 use Rattle.kernel_core.specs.Theorems.{JobsEnd, EndsUnless, JobEnds, CellEnds, TextEnds, MoveEnds, GotoEnds, TravelEnds, IsNoNode}
-use Rattle.kernel_core.specs.declared.events.Event.TheVariants as event
-use Rattle.kernel_core.specs.declared.events.Told.TheVariants as told
-use Rattle.kernel_core.specs.declared.outcome.End.{End}
-use Rattle.kernel_core.specs.declared.outcome.Outcome.{Outcome}
-use Rattle.kernel_core.specs.declared.outcome.Outcome.TheVariants as outcome
-use Rattle.kernel_core.specs.declared.outcome.Begun.TheVariants as begun
-use Rattle.kernel_core.specs.declared.outcome.Sliced.TheVariants as sliced
+use Rattle.kernel_core.specs.events.Event.TheVariants as event
+use Rattle.kernel_core.specs.events.Told.TheVariants as told
+use Rattle.kernel_core.specs.outcome.End.{End}
+use Rattle.kernel_core.specs.outcome.Outcome.{Outcome}
+use Rattle.kernel_core.specs.outcome.Outcome.TheVariants as outcome
+use Rattle.kernel_core.specs.outcome.Begun.TheVariants as begun
+use Rattle.kernel_core.specs.outcome.Sliced.TheVariants as sliced
 use Rattle.kernel_ask.specs.EndedAt.{StandsAtEnd}
 use Rattle.kernel_server.specs.declared.slice.Slice.{Slice}
 use Rattle.kernel_server.specs.Pace.{next_slice, behind}

@@ -4,12 +4,12 @@ use Rattle.kernel_core.specs.State.{Past, State, Job, Idle, Border}
 use Rattle.kernel_core.specs.Begins.{travel_to, Enters, Departs, TakesCell, TakesMove, TakesGoto}
 use Rattle.kernel_core.specs.Runs.{Machine, Takes, TakesUnless, BeginsAt, IsPost, IsBegin, IsSliceOf}
 use Rattle.kernel_core.specs.Request.{Request, RunCell, Undo, Redo, Goto}
-use Rattle.kernel_core.specs.Travel as aim
-use Rattle.kernel_core.specs.Travel.{Travel}
+use Rattle.kernel_core.specs.travel.Aim.TheVariants as aim
+use Rattle.kernel_core.specs.travel.Travel.{Travel}
 use Rattle.kernel_core.specs.Slices.{cells}
-use Rattle.kernel_core.specs.declared.outcome.Begun.{Begun}
-use Rattle.kernel_core.specs.declared.outcome.Begun.TheVariants as begun
-use Rattle.kernel_core.specs.declared.outcome.Sliced.{Sliced}
+use Rattle.kernel_core.specs.outcome.Begun.{Begun}
+use Rattle.kernel_core.specs.outcome.Begun.TheVariants as begun
+use Rattle.kernel_core.specs.outcome.Sliced.{Sliced}
 use Rattle.kernel_server.specs.Jobs.{lane}
 use Rattle.kernel_server.proofs.Nearing.{IsInside, IsBorder}
 

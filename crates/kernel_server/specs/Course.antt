@@ -1,8 +1,8 @@
 -- What connections leave of a lone desk.
 use Rattle.std.specs.Prelude.{◌≡◌, List, ◌++◌}
 use Rattle.kernel_core.specs.Runs.{Run}
-use Rattle.kernel_core.specs.declared.events.Event.{Event}
-use Rattle.kernel_core.specs.declared.events.Told.{Told}
+use Rattle.kernel_core.specs.events.Event.{Event}
+use Rattle.kernel_core.specs.events.Told.{Told}
 use Rattle.kernel_board.specs.Frames.{Frames}
 use Rattle.kernel_server.specs.Pace.{ArePaced}
 use Rattle.kernel_server.specs.Lone.{Lone}

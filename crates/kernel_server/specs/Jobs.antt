@@ -4,14 +4,14 @@ use Rattle.kernel_core.specs.State.{Past}
 use Rattle.kernel_core.specs.Request.{Request, RunCell, Undo, Redo, Goto, request_of}
 use Rattle.kernel_core.specs.Runs.{Machine, Run, IsPost}
 use Rattle.kernel_core.specs.Theorems.{EndsAs}
-use Rattle.kernel_core.specs.declared.post.Job.{Job}
-use Rattle.kernel_core.specs.declared.events.Event.{Event}
-use Rattle.kernel_core.specs.declared.events.Event.TheVariants as event
-use Rattle.kernel_core.specs.declared.events.Told.{Told}
-use Rattle.kernel_core.specs.declared.events.Told.TheVariants as told
-use Rattle.kernel_core.specs.declared.outcome.Outcome.{Outcome}
-use Rattle.kernel_core.specs.declared.outcome.Begun.TheVariants as begun
-use Rattle.kernel_core.specs.declared.outcome.Sliced.TheVariants as sliced
+use Rattle.kernel_core.specs.post.Job.{Job}
+use Rattle.kernel_core.specs.events.Event.{Event}
+use Rattle.kernel_core.specs.events.Event.TheVariants as event
+use Rattle.kernel_core.specs.events.Told.{Told}
+use Rattle.kernel_core.specs.events.Told.TheVariants as told
+use Rattle.kernel_core.specs.outcome.Outcome.{Outcome}
+use Rattle.kernel_core.specs.outcome.Begun.TheVariants as begun
+use Rattle.kernel_core.specs.outcome.Sliced.TheVariants as sliced
 use Rattle.kernel_ask.specs.Shown.{IsShownAfter}
 use Rattle.kernel_ask.specs.Evaluation.{AreValuesAfter}
 use Rattle.kernel_ask.specs.declared.done.Done.{Done}

@@ -4,7 +4,7 @@ use Rattle.std.specs.Coded.{Coded, code_by, coded×, coded_ℕ, coded_bool, code
 use Rattle.kernel_core.specs.Request.{Request}
 use Rattle.kernel_core.specs.Runs.{Machine, IsRefusal, shut}
 use Rattle.kernel_core.specs.MachineCode.{machine_code}
-use Rattle.kernel_core.specs.declared.post.PostFault.{PostFault}
+use Rattle.kernel_core.specs.post.PostFault.{PostFault}
 use Rattle.kernel_ask.specs.Answer.{IsAnswer}
 use Rattle.kernel_ask.specs.declared.answer.Ask.{Ask}
 use Rattle.kernel_ask.specs.declared.answer.Answer.{Answer}

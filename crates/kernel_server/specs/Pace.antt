@@ -1,7 +1,7 @@
 -- The slices of a kernel that has no runner: those of a list, and behind its end unasked ones of one size.
 use Rattle.std.specs.Prelude.{◌≡◌, ℕ, false, List, [], ◌∷◌}
-use Rattle.kernel_core.specs.declared.events.Event.{Event}
-use Rattle.kernel_core.specs.declared.events.Event.TheVariants as event
+use Rattle.kernel_core.specs.events.Event.{Event}
+use Rattle.kernel_core.specs.events.Event.TheVariants as event
 use Rattle.kernel_server.specs.declared.slice.Slice.{Slice}
 
 -- the slice behind the end of the list

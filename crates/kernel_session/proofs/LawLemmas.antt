@@ -11,7 +11,7 @@ use Rattle.jupyter_msg.specs.declared.comm.CommAsk.{CommAsk}
 use Rattle.jupyter_msg.specs.declared.comm.CommAsk.TheVariants as comm
 use Rattle.zmtp_peer.specs.Events.{Event}
 use Rattle.kernel_core.specs.Request.{Request, Undo, Redo, Goto}
-use Rattle.kernel_core.specs.declared.post.PostFault.{PostFault}
+use Rattle.kernel_core.specs.post.PostFault.{PostFault}
 use Rattle.kernel_ask.specs.declared.done.Done.{Done}
 use Rattle.kernel_ask.specs.declared.answer.Answer.{Answer}
 use Rattle.kernel_ask.specs.declared.answer.HallFault.{HallFault}

@@ -1,8 +1,8 @@
 -- What a request has the desk do, from what was said to it.
 use Rattle.std.proofs.Common.{◌≡◌, ℕ, Bool, true, false, List, [], ◌∷◌, Option, Some, Result, Ok, Err, IfOk, refl, sym, subst, if◌then◌else◌}
 use Rattle.std.specs.Str.{bytes_eq}
-use Rattle.kernel_core.specs.declared.post.PostFault.{PostFault}
-use Rattle.kernel_core.specs.declared.post.PostFault.TheVariants as post_fault
+use Rattle.kernel_core.specs.post.PostFault.{PostFault}
+use Rattle.kernel_core.specs.post.PostFault.TheVariants as post_fault
 use Rattle.kernel_ask.specs.declared.done.Done.{Done}
 use Rattle.kernel_ask.specs.declared.answer.Answer.{Answer}
 use Rattle.kernel_ask.specs.declared.answer.HallFault.{HallFault}

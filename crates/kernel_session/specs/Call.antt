@@ -1,7 +1,7 @@
 -- The calls that a connection makes of its desk, each with its answer.
 use Rattle.std.specs.Prelude.{◌≡◌, ℕ, Bool, List, [], ◌∷◌, Result}
 use Rattle.kernel_core.specs.Request.{Request}
-use Rattle.kernel_core.specs.declared.post.PostFault.{PostFault}
+use Rattle.kernel_core.specs.post.PostFault.{PostFault}
 use Rattle.kernel_ask.specs.declared.done.Done.{Done}
 use Rattle.kernel_ask.specs.declared.answer.Answer.{Answer}
 use Rattle.kernel_ask.specs.declared.answer.HallFault.{HallFault}

@@ -4,7 +4,7 @@ ghost use Rattle.std.specs.List.{list_any};
 ghost use Rattle.std.specs.Str.{bytes_eq};
 ghost use Rattle.jupyter_msg.specs.Requests.{expressions_of};
 ghost use Rattle.kernel_core.specs.Request.{request_of, RunCell};
-ghost use Rattle.kernel_core.specs.declared.post.PostFault.{PostFault};
+ghost use Rattle.kernel_core.specs.post.PostFault.{PostFault};
 ghost use Rattle.kernel_ask.specs.declared.done.Done.{Done};
 ghost use Rattle.kernel_ask.specs.declared.answer.Answer.{Answer};
 ghost use Rattle.kernel_ask.specs.declared.answer.HallFault.{HallFault};

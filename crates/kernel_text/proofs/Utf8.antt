@@ -18,15 +18,15 @@ use Rattle.janus_check.specs.Fault as check
 use Rattle.janus_check.specs.declared.fault.CheckFault.{CheckFault}
 use Rattle.janus_check.specs.declared.fault.CheckFault.TheVariants as c
 use Rattle.kernel_core.specs.Refusal as refusal
-use Rattle.kernel_core.specs.declared.outcome.End.{End}
-use Rattle.kernel_core.specs.declared.outcome.End.TheVariants.{All, Asked, NoMemory}
-use Rattle.kernel_core.specs.declared.outcome.Outcome.{Outcome}
-use Rattle.kernel_core.specs.declared.outcome.Outcome.TheVariants.{Ran, Failed, Interrupted, Undid, Redid, Went, Refused}
-use Rattle.kernel_core.specs.declared.outcome.Refusal.{Refusal}
-use Rattle.kernel_core.specs.declared.outcome.Refusal.TheVariants.{Syntax, Check, HistoryFull, TooFar, NoNode, Closing, Memory}
+use Rattle.kernel_core.specs.outcome.End.{End}
+use Rattle.kernel_core.specs.outcome.End.TheVariants.{All, Asked, NoMemory}
+use Rattle.kernel_core.specs.outcome.Outcome.{Outcome}
+use Rattle.kernel_core.specs.outcome.Outcome.TheVariants.{Ran, Failed, Interrupted, Undid, Redid, Went, Refused}
+use Rattle.kernel_core.specs.outcome.Refusal.{Refusal}
+use Rattle.kernel_core.specs.outcome.Refusal.TheVariants.{Syntax, Check, HistoryFull, TooFar, NoNode, Closing, Memory}
 use Rattle.kernel_core.specs.PostFault as post_fault
-use Rattle.kernel_core.specs.declared.post.PostFault.{PostFault}
-use Rattle.kernel_core.specs.declared.post.PostFault.TheVariants as p
+use Rattle.kernel_core.specs.post.PostFault.{PostFault}
+use Rattle.kernel_core.specs.post.PostFault.TheVariants as p
 use Rattle.kernel_text.specs.Lines.{counted_text, numbered_text, place_text, end_text, fault_text, refusal_text, outcome_line, post_fault_line}
 use Rattle.kernel_text.specs.ValueTexts.{spaced_text, numbers_text, told_text, value_text}
 

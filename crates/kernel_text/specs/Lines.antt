@@ -5,12 +5,12 @@ use Rattle.janus_machine.specs.declared.fault.Fault.{Fault}
 use Rattle.janus_syntax.specs.declared.token.Span.{Span}
 use Rattle.kernel_core.specs.Refusal as refusal
 use Rattle.kernel_core.specs.PostFault as post_fault
-use Rattle.kernel_core.specs.declared.outcome.End.{End}
-use Rattle.kernel_core.specs.declared.outcome.End.TheVariants.{All, Asked, NoMemory}
-use Rattle.kernel_core.specs.declared.outcome.Outcome.{Outcome}
-use Rattle.kernel_core.specs.declared.outcome.Outcome.TheVariants.{Ran, Failed, Interrupted, Undid, Redid, Went, Refused}
-use Rattle.kernel_core.specs.declared.outcome.Refusal.{Refusal}
-use Rattle.kernel_core.specs.declared.post.PostFault.{PostFault}
+use Rattle.kernel_core.specs.outcome.End.{End}
+use Rattle.kernel_core.specs.outcome.End.TheVariants.{All, Asked, NoMemory}
+use Rattle.kernel_core.specs.outcome.Outcome.{Outcome}
+use Rattle.kernel_core.specs.outcome.Outcome.TheVariants.{Ran, Failed, Interrupted, Undid, Redid, Went, Refused}
+use Rattle.kernel_core.specs.outcome.Refusal.{Refusal}
+use Rattle.kernel_core.specs.post.PostFault.{PostFault}
 
 -- words, and then a number
 abbrev pub counted_text : List ℕ → ℕ → List ℕ

@@ -1,7 +1,7 @@
 use Rattle.std.proofs.Common.{◌≡◌, subst, ◌∙◌, false, arith}
 use Rattle.kernel_core.specs.Runs.{Machine, IsBegin, IsSliceOf}
-use Rattle.kernel_core.specs.declared.outcome.Sliced.{Sliced}
-use Rattle.kernel_core.specs.declared.outcome.Begun.{Begun}
+use Rattle.kernel_core.specs.outcome.Sliced.{Sliced}
+use Rattle.kernel_core.specs.outcome.Begun.{Begun}
 use Rattle.janus_meaning.specs.Limit.{step_limit}
 use Rattle.cells_program.specs.Served.{ended, going, backing, next_cell, no_next_cell}
 use Rattle.cells_program.proofs.Finishing.{IsInside, IsBorder, Nearer, Begins, slice_nearer, begin_nearer}

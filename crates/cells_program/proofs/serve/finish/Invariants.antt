@@ -1,6 +1,6 @@
 use Rattle.std.proofs.Common.{◌≡◌}
 use Rattle.kernel_core.specs.Runs.{Machine}
-use Rattle.kernel_core.specs.declared.outcome.Outcome.{Outcome}
+use Rattle.kernel_core.specs.outcome.Outcome.{Outcome}
 use Rattle.cells_program.specs.Served.{Finishes}
 use Rattle.cells_program.proofs.Finishing.{left, IsInside}
 use Rattle.cells_program.proofs.serve.finish.Given as goal

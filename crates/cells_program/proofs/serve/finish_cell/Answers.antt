@@ -1,6 +1,6 @@
 use Rattle.std.proofs.Common.{◌≡◌, ℕ, false, subst}
 use Rattle.kernel_core.specs.Runs.{Machine, IsSliceOf}
-use Rattle.kernel_core.specs.declared.outcome.Sliced.{Sliced}
+use Rattle.kernel_core.specs.outcome.Sliced.{Sliced}
 use Rattle.cells_program.specs.OpenJob.{IsInCell}
 use Rattle.cells_program.specs.Served.{in_time, interrupted, faulted}
 use Rattle.cells_program.proofs.GoingBack.{Tells, cell_slice}

@@ -1,6 +1,6 @@
 use Rattle.std.proofs.Common.{◌≡◌, ◌∙◌, Bool, subst}
 use Rattle.kernel_core.specs.Runs.{Machine, IsSliceOf}
-use Rattle.kernel_core.specs.declared.outcome.Sliced.{Sliced}
+use Rattle.kernel_core.specs.outcome.Sliced.{Sliced}
 use Rattle.janus_meaning.specs.Limit.{step_limit}
 use Rattle.cells_program.specs.OpenJob.{MustGoBack}
 use Rattle.cells_program.specs.Served.{is_back, not_yet_back}

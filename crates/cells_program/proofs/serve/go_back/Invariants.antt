@@ -1,6 +1,6 @@
 use Rattle.std.proofs.Common.{◌≡◌}
 use Rattle.kernel_core.specs.Runs.{Machine}
-use Rattle.kernel_core.specs.declared.outcome.Outcome.{Outcome}
+use Rattle.kernel_core.specs.outcome.Outcome.{Outcome}
 use Rattle.cells_program.specs.OpenJob.{MustGoBack}
 use Rattle.cells_program.specs.Served.{GoesBack}
 use Rattle.cells_program.proofs.GoingBack.{count_of}

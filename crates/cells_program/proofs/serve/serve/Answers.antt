@@ -2,7 +2,7 @@ use Rattle.std.proofs.Common.{◌≡◌, ◌∙◌, subst, sym}
 use Rattle.kernel_core.specs.Runs.{Machine, IsPost, IsBegin}
 use Rattle.kernel_core.specs.Request.{Request, request_of}
 use Rattle.kernel_core.specs.State.{Idle}
-use Rattle.kernel_core.specs.declared.outcome.Begun.{Begun}
+use Rattle.kernel_core.specs.outcome.Begun.{Begun}
 use Rattle.cells_program.specs.Served.{lane, not_posted, at_once, later}
 use Rattle.cells_program.proofs.Serving.{IsAlone, posted_alone, begun_alone, begun_cell, cell_as, move_as, Took}
 use Rattle.std.proofs.lemmas.Result.{err_from_is_err_and}

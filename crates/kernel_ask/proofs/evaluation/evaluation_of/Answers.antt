@@ -22,7 +22,7 @@ use Rattle.janus_store.specs.Held.{Held, IsWhole, shown_store}
 use Rattle.kernel_core.proofs.Borders.{all_shown}
 use Rattle.kernel_core.proofs.NamesMet.{sight_met}
 use Rattle.kernel_core.specs.Text.{refused_by_check}
-use Rattle.kernel_core.specs.declared.outcome.Refusal.{Refusal}
+use Rattle.kernel_core.specs.outcome.Refusal.{Refusal}
 use Rattle.kernel_ask.specs.declared.done.ExpFault.TheVariants.{Refused}
 use Rattle.kernel_ask.specs.Evaluation.{HasValue, IsEvaluated}
 use Rattle.kernel_ask.proofs.Sound.{not_broken}

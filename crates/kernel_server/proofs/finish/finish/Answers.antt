@@ -1,7 +1,7 @@
 use Rattle.std.proofs.Common.{◌≡◌, ◌∙◌, ℕ, ◌+◌, ◌<◌, List, [], ◌∷◌, length, sym, subst, ap, refl, arith}
 use Rattle.kernel_core.specs.Runs.{Machine, IsBegin, IsSliceOf}
-use Rattle.kernel_core.specs.declared.outcome.Sliced.{Sliced}
-use Rattle.kernel_core.specs.declared.outcome.Begun.{Begun}
+use Rattle.kernel_core.specs.outcome.Sliced.{Sliced}
+use Rattle.kernel_core.specs.outcome.Begun.{Begun}
 use Rattle.kernel_server.specs.declared.slice.Slice.{Slice}
 use Rattle.kernel_server.specs.Pace.{next_slice, behind}
 use Rattle.kernel_server.specs.Jobs.{Finishes}

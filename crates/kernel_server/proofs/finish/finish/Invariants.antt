@@ -1,6 +1,6 @@
 use Rattle.std.proofs.Common.{◌≡◌, ◌+◌, List, length}
 use Rattle.kernel_core.specs.Runs.{Machine}
-use Rattle.kernel_core.specs.declared.outcome.Outcome.{Outcome}
+use Rattle.kernel_core.specs.outcome.Outcome.{Outcome}
 use Rattle.kernel_server.specs.declared.slice.Slice.{Slice}
 use Rattle.kernel_server.specs.Jobs.{Finishes}
 use Rattle.kernel_server.proofs.Nearing.{left, IsInside}

@@ -1,4 +1,4 @@
-use Rattle.kernel_core.proofs.Noted.{begin_kept}
+use Rattle.kernel_machine.proofs.Noted.{begin_kept}
 use Rattle.kernel_core.proofs.kernel.Kernel.begin.Goals as goal
 
 pub invariant_of-self : goal.invariant_of-self

@@ -1,5 +1,5 @@
-use Rattle.kernel_core.specs.Request.{request_of}
-use Rattle.kernel_core.proofs.Noted.{post_kept}
+use Rattle.kernel_machine.specs.Request.{request_of}
+use Rattle.kernel_machine.proofs.Noted.{post_kept}
 use Rattle.kernel_core.proofs.kernel.Kernel.post.Goals as goal
 
 pub invariant_of-self : goal.invariant_of-self

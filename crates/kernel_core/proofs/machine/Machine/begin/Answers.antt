@@ -1,4 +1,4 @@
-use Rattle.kernel_core.proofs.Noted.{begun_unended}
+use Rattle.kernel_machine.proofs.Noted.{begun_unended}
 use Rattle.kernel_core.proofs.machine.Machine.begin.Goals as goal
 
 pub note-requires : goal.note-requires

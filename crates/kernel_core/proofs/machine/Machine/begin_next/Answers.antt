@@ -1,12 +1,12 @@
 use Rattle.std.proofs.Common.{◌≡◌, ℕ, List, map, sym, ap, ◌∙◌, subst, arith}
-use Rattle.kernel_core.specs.State as state
-use Rattle.kernel_core.specs.State.{Idle}
-use Rattle.kernel_core.specs.Request.{Request, raised}
-use Rattle.kernel_core.specs.Runs.{Machine, BeginsAt, TakesUnless}
-use Rattle.kernel_core.specs.LegalMinutes.{HasLegalMinutes}
+use Rattle.kernel_machine.specs.State as state
+use Rattle.kernel_machine.specs.State.{Idle}
+use Rattle.kernel_machine.specs.Request.{Request, raised}
+use Rattle.kernel_machine.specs.Runs.{Machine, BeginsAt, TakesUnless}
+use Rattle.kernel_machine.specs.LegalMinutes.{HasLegalMinutes}
 use Rattle.kernel_core.specs.Written.{entries_in, job_at}
 use Rattle.kernel_core.specs.MachineParts.{machine_of}
-use Rattle.kernel_core.proofs.Noted.{counter_within}
+use Rattle.kernel_machine.proofs.Noted.{counter_within}
 use Rattle.kernel_core.proofs.Writing.{machine_with}
 use Rattle.kernel_core.proofs.machine.Machine.begin_next.Goals as goal
 

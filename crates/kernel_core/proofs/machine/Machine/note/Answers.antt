@@ -1,7 +1,7 @@
 use Rattle.std.proofs.Common.{◌≡◌, ℕ, List, [], ◌∷◌, ◌++◌, map, suc, Some, sym, ap, ◌∙◌, subst}
-use Rattle.kernel_core.specs.Minutes as minutes
-use Rattle.kernel_core.specs.Minutes.{ended_in}
-use Rattle.kernel_core.specs.Runs.{Machine, noted}
+use Rattle.kernel_machine.specs.Minutes as minutes
+use Rattle.kernel_machine.specs.Minutes.{ended_in}
+use Rattle.kernel_machine.specs.Runs.{Machine, noted}
 use Rattle.kernel_core.specs.Written.{entries_in, job_at, ArePosts}
 use Rattle.kernel_core.specs.declared.minutes.Entry.TheVariants.{Ended}
 use Rattle.kernel_core.proofs.Writing.{one_more, posts_stay, written_view, machine_with}

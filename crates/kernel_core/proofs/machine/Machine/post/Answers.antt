@@ -1,9 +1,9 @@
 use Rattle.std.proofs.Common.{◌≡◌, ℕ, List, [], ◌∷◌, ◌++◌, length, map, suc, sym, ap, ◌∙◌, subst, arith}
 use Rattle.std.proofs.lemmas.List.{length-map}
-use Rattle.kernel_core.specs.Request.{request_of}
-use Rattle.kernel_core.specs.Minutes as minutes
-use Rattle.kernel_core.specs.Minutes.{posted_in}
-use Rattle.kernel_core.specs.Runs.{Machine, posted}
+use Rattle.kernel_machine.specs.Request.{request_of}
+use Rattle.kernel_machine.specs.Minutes as minutes
+use Rattle.kernel_machine.specs.Minutes.{posted_in}
+use Rattle.kernel_machine.specs.Runs.{Machine, posted}
 use Rattle.kernel_core.specs.Written.{entry_of, entries_in, job_at, ArePosts}
 use Rattle.kernel_core.specs.declared.minutes.Entry.TheVariants.{Posted}
 use Rattle.kernel_core.proofs.Writing.{one_more, place_posted, posted_view, pushed, machine_with}

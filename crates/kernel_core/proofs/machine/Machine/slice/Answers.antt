@@ -1,8 +1,8 @@
 use Rattle.std.proofs.Common.{sym, subst}
-use Rattle.kernel_core.specs.Runs.{Machine}
-use Rattle.kernel_core.specs.LegalMinutes.{HasLegalMinutes}
+use Rattle.kernel_machine.specs.Runs.{Machine}
+use Rattle.kernel_machine.specs.LegalMinutes.{HasLegalMinutes}
 use Rattle.kernel_core.specs.MachineParts.{machine_of}
-use Rattle.kernel_core.proofs.Noted.{sliced_unended}
+use Rattle.kernel_machine.proofs.Noted.{sliced_unended}
 use Rattle.kernel_core.proofs.machine.Machine.slice.Goals as goal
 
 pub note-requires : goal.note-requires

@@ -1,0 +1,767 @@
+-- What the answers on slices and begins share: how runner, tree and open job go on together.
+use Rattle.std.specs.Result.{is_err, IsOk, OnOk, OnErr}
+use Rattle.std.specs.Prelude.{slice_get}
+use Rattle.std.proofs.Common.{inl, inr, ◌≤◌, Some, Result, Ok, Err, true, false, ◌≡◌, ℕ, ◌+◌, ◌-◌, ◌<◌, Bool, List, [], ◌∷◌, ◌++◌, length, set, get_or, take, zero, suc, refl, sym, ap, ◌∙◌, subst, arith}
+use Rattle.std.proofs.lemmas.Bool.{cases_lt}
+use Rattle.std.proofs.lemmas.List.{get_or_at, length-map}
+use Rattle.std.proofs.lemmas.Option.{slice_get_within}
+use Rattle.cell_tree.specs.declared.node.Node.{Node}
+use Rattle.janus_meaning.specs.World.{World, empty_world, entered, Cell as ACell}
+use Rattle.kernel_machine.specs.Travel.{next_way}
+use Rattle.kernel_machine.specs.declared.travel.Travel.{Travel}
+use Rattle.kernel_machine.specs.declared.travel.Aim.{Aim}
+use Rattle.kernel_machine.specs.declared.travel.Aim.TheVariants.{Undo, Redo, Goto}
+use Rattle.kernel_machine.specs.declared.travel.Way.{Way}
+use Rattle.kernel_machine.specs.declared.travel.Way.TheVariants.{Up, Down}
+use Rattle.kernel_machine.specs.Language.{IsFormed, IsSound, Code, Forward, Backward, CodePart, CodeExec, start_of, end_of}
+use Rattle.kernel_machine.specs.State as state
+use Rattle.kernel_machine.specs.State.{State, Past, new_state, root, node_at, world_at, here, below, code_of, ShownAt, procedures_at, worlds_from}
+use Rattle.cell_tree.specs.Tree.{contents_of, root_alone}
+use Rattle.kernel_history.specs.Fields.{nodes_of, work_of, job_of, past_of, state_of}
+use Rattle.kernel_machine.specs.Legal.{CanGo, IsLegal, IsPossible, IsPossibleWork, IsCounted}
+use Rattle.kernel_machine.specs.Slices.{cells, stepped, moved, grown, Arrives, Settles, HasEnded}
+use Rattle.kernel_machine.specs.Begins.{Declares}
+use Rattle.janus_meaning.specs.Syntax.{Name}
+use Rattle.janus_names.specs.Numbers.{GoOn, HaveOneNumber}
+use Rattle.janus_store.specs.Held.{Held, IsWhole, shown_store}
+use Rattle.janus_machine.specs.Bodies.{kept_in, AreBelow, AreDefined, Define}
+use Rattle.janus_machine.proofs.BodiesInEffect.{forgotten_still_defined}
+use Rattle.janus_machine.specs.declared.procedures.Procedures.{Procedures}
+use Rattle.kernel_runner.specs.Program.{cell_of_program, IsReady, with_bodies}
+use Rattle.kernel_runner.specs.Runner.{world_of, Becomes, Shows, Stands, IsInside, CanEnter, CanReturn, CanLeave}
+use Rattle.kernel_history.specs.Kept.{is_back, IsCellAt, IsBefore, IsBehindNodes, NodesAreReady, AreInOrder, stack_at, stack_in, IsProgramOf, StandsIn, StandsAt, IsWholeAt, Kept, IsKept, HasRoom, HasPath, HasPathFor}
+use Rattle.kernel_runner.specs.declared.runner.Runner.{Runner}
+use Rattle.kernel_runner.specs.declared.program.Program.{Program}
+use Rattle.kernel_history.specs.declared.tree.Cell.{Cell}
+use Rattle.kernel_history.specs.declared.tree.Tree.{Tree}
+use Rattle.kernel_machine.specs.declared.outcome.Sliced.{Sliced}
+use Rattle.kernel_history.specs.declared.job.Work.{Work}
+use Rattle.kernel_history.specs.declared.job.Work.TheVariants.{Cell as RunCell, Move}
+use Rattle.kernel_machine.specs.declared.turn.Why.{Why}
+use Rattle.kernel_machine.specs.declared.turn.Turn.{Turn}
+use Rattle.kernel_machine.specs.declared.turn.Turn.TheVariants.{GoesOn, GoesBack}
+use Rattle.kernel_history.specs.declared.job.Open.{Open}
+use Rattle.kernel_history.specs.declared.job.Open.TheVariants.{Idle, Border, Inside}
+use Rattle.kernel_machine.proofs.LanguageLaws.{part_none_forward, part_none_backward, exec_end, exec_some}
+use Rattle.kernel_runner.proofs.Growing.{ready_grows, defined_grow}
+use Rattle.kernel_runner.proofs.Borders.{all_shown}
+use Rattle.kernel_runner.proofs.Running.{stands_part}
+use Rattle.kernel_history.proofs.Stacks.{stack_same, stack_of_cell, stack_new, stack_below, cell_behind, ready_same, ready_less, ready_more}
+use Rattle.kernel_history.proofs.Nodes.{count_of_nodes, cell_there, one_cell, cell_kept, cell_added}
+use Rattle.kernel_machine.proofs.Trees.{worlds-more, legal_up, legal_down, legal_grown, undone_world, redone_world, run_here, parent_sound, IsNext, formed_below, next_below, up_possible, down_possible, way_up, way_down, new_legal, new_worlds}
+
+-- the shown world is the runner's
+pub shown_by : {L : Type 0} (tree : Tree) (job : Open) (runner : Runner L) → StandsAt tree job runner → ShownAt (past_of tree) (job_of job) (world_of (procedures_at (past_of tree) (job_of job)) runner)
+shown_by tree Idle runner h = ap (λ s. record { store = s; procedures = (here (past_of tree)).procedures }) h.store
+shown_by tree (Border travel) runner h = ap (λ s. record { store = s; procedures = (here (past_of tree)).procedures }) h.store
+shown_by tree (Inside e) runner h = stands_part _ _ _ _ _ _ _ h.stands
+
+-- a runner shows the world at which it stands
+pub stands_shows : {L : Type 0} (runner : Runner L) (program : Program) (stack : List ℕ) (code : Code) (w : World) (count : ℕ) (back : Bool) → Stands runner program stack code w count back → Shows runner stack (world_of (start_of code w).procedures runner)
+stands_shows runner program stack code w count back h = record { store = refl; one_number = h.one_number; defined = h.defined }
+
+-- ---- the nodes stay ready
+
+-- the names that nodes have numbers for only grow, and their bodies stay kept
+pub nodes_ready : {L : Type 0} (tree : Tree) (runner at : Runner L) → GoOn runner.store.names at.store.names → kept_in at.procedures ≡ kept_in runner.procedures → NodesAreReady tree runner → NodesAreReady tree at
+nodes_ready tree runner at more same h = λ n cell is.
+    ready_same at.store.names runner.procedures at.procedures cell.program same (ready_grows runner.store.names at.store.names more runner.procedures cell.program (h n cell is))
+
+pub kept_inside : {L : Type 0} (tree : Tree) (work : Work) (count c : ℕ) (turn to : Turn) (runner at : Runner L) → Kept tree runner (Inside (record { work = work; count = count; turn = turn })) → GoOn runner.store.names at.store.names →
+    kept_in at.procedures ≡ kept_in runner.procedures → StandsIn tree work c (is_back to) at → Kept tree at (Inside (record { work = work; count = c; turn = to }))
+kept_inside tree work count c turn to runner at k more same p = record {
+  legal = k.legal;
+  possible = k.possible;
+  counted = k.counted;
+  stands = p;
+  whole = tt;
+  room = k.room;
+  path = k.path;
+  ready = nodes_ready tree runner at more same k.ready;
+  order = k.order;
+  behind = k.behind;
+}
+
+pub kept_idle : {L : Type 0} (tree : Tree) (job : Open) (runner at : Runner L) → Kept tree runner job → NodesAreReady tree at → IsWhole at.store → Shows at (stack_at tree tree.position) (here (past_of tree)) → Kept tree at Idle
+kept_idle tree job runner at k ready whole shows = record {
+  legal = k.legal;
+  possible = tt;
+  counted = tt;
+  stands = shows;
+  whole = whole;
+  room = tt;
+  path = tt;
+  ready = ready;
+  order = k.order;
+  behind = tt;
+}
+
+-- the same store shows the same world
+pub shows_still : {L : Type 0} (runner at : Runner L) (stack : List ℕ) (w : World) → IsWhole runner.store → Becomes runner.store at.store runner.store.sight → at.procedures ≡ runner.procedures → Shows runner stack w → Shows at stack w
+shows_still runner at stack w whole h same shows = record {
+  store = all_shown at.store h.whole ∙ h.sight ∙ sym (all_shown runner.store whole) ∙ shows.store;
+  one_number = h.one_number shows.one_number;
+  defined = subst (λ (t : Procedures). Define at.store.names t stack w.procedures) (sym same) (defined_grow runner.store.names at.store.names h.names runner.procedures stack w.procedures shows.defined);
+}
+
+-- no cell could be entered
+pub kept_refused : {L : Type 0} (tree : Tree) (job : Open) (runner at : Runner L) → Kept tree runner job → IsWhole runner.store → Shows runner (stack_at tree tree.position) (here (past_of tree)) → Becomes runner.store at.store runner.store.sight → at.procedures ≡ runner.procedures → Kept tree at Idle
+kept_refused tree job runner at k whole shows h same =
+    kept_idle tree job runner at k (nodes_ready tree runner at h.names (ap kept_in same) k.ready) h.whole (shows_still runner at (stack_at tree tree.position) (here (past_of tree)) whole h same shows)
+
+-- ---- what is kept of the nodes alone
+
+pub placed_nodes : {L : Type 0} (tree other : Tree) (runner : Runner L) → other.cells.nodes ≡ tree.cells.nodes → NodesAreReady tree runner → NodesAreReady other runner
+placed_nodes tree other runner e h = subst (λ (nodes : List (Node Cell)). NodesAreReady (record other { cells = record other.cells { nodes = nodes } }) runner) (sym e) h
+
+pub ordered_nodes : (tree other : Tree) → other.cells.nodes ≡ tree.cells.nodes → AreInOrder tree → AreInOrder other
+ordered_nodes tree other e h = subst (λ (nodes : List (Node Cell)). AreInOrder (record other { cells = record other.cells { nodes = nodes } })) (sym e) h
+
+no_cell : (tree : Tree) (n : ℕ) (cell : Cell) → past_of tree ≡ new_state.past → IsCellAt tree n cell → ⊥
+no_cell tree n cell e at =
+    let size = count_of_nodes tree in
+    let one : length (nodes_of tree) ≡ 1 = ap (λ (s : Past). length s.nodes) e in
+    let count : length (contents_of tree.cells) ≡ length tree.cells.nodes = length-map tree.cells.nodes (λ (node : Node Cell). node.content) in
+    let place = slice_get_within (contents_of tree.cells) (n - 1) cell at.1 in
+    omega arith
+
+placed_none : {L : Type 0} (tree : Tree) (runner : Runner L) → past_of tree ≡ new_state.past → NodesAreReady tree runner
+placed_none tree runner e = λ n cell at. absurd (no_cell tree n cell e at)
+
+ordered_none : (tree : Tree) → past_of tree ≡ new_state.past → AreInOrder tree
+ordered_none tree e = λ m n c d l at other. absurd (no_cell tree m c e at)
+
+placed_grown : {L : Type 0} (tree larger : Tree) (node : Node Cell) (runner : Runner L) → larger.cells.nodes ≡ tree.cells.nodes ++ node ∷ [] →
+    NodesAreReady tree runner → IsReady runner.store.names runner.procedures node.content.program → NodesAreReady larger runner
+placed_grown tree larger node runner nodes ready new = λ n cell at.
+    elim (cases_lt (length tree.cells.nodes) n) [
+      | inl high ↦
+          (let last = cell_added tree larger node n cell nodes at high in
+          subst (λ (c : Cell). IsReady runner.store.names runner.procedures c.program) last.1 new)
+      | inr low ↦ ready n cell (cell_kept tree larger node n cell nodes at low)
+    ]
+
+ordered_grown : (tree larger : Tree) (node : Node Cell) → larger.cells.nodes ≡ tree.cells.nodes ++ node ∷ [] → AreInOrder tree →
+    ((n : ℕ) (cell : Cell) → IsCellAt tree n cell → IsBefore cell.program node.content.program) → AreInOrder larger
+ordered_grown tree larger node nodes order behind = λ m n c d l at other.
+    let size = count_of_nodes tree in
+    elim (cases_lt (length tree.cells.nodes) n) [
+      | inl high ↦
+          (let last = cell_added tree larger node n d nodes other high in
+          let low : m ≤ length tree.cells.nodes = let a = last.0 in omega arith in
+          subst (λ (x : Cell). IsBefore c.program x.program) last.1 (behind m c (cell_kept tree larger node m c nodes at low)))
+      | inr low ↦ order m n c d l (cell_kept tree larger node m c nodes at (omega arith)) (cell_kept tree larger node n d nodes other low)
+    ]
+
+-- ---- a new node
+
+pub state_grown : (tree larger : Tree) (program : ACell) (n : ℕ) (w : World) →
+    nodes_of larger ≡ nodes_of tree ++ record { parent = tree.position; cell = program; steps = n } ∷ [] →
+    larger.cells.favourites ≡ set tree.cells.favourites tree.position (length (nodes_of tree)) ++ 0 ∷ [] →
+    larger.position ≡ length (nodes_of tree) →
+    CodeExec (Forward program) (here (past_of tree)) n w →
+    past_of larger ≡ grown (past_of tree) program n w
+state_grown tree larger program n w nodes favourites position ran =
+    let last : w ≡ end_of program (here (past_of tree)) n = exec_end _ _ _ _ ran in
+    let more = worlds-more [] (nodes_of tree) (record { parent = tree.position; cell = program; steps = n }) in
+    rw (nodes, favourites, position, more, last) refl
+
+pub kept_grown : {L : Type 0} (tree larger : Tree) (program : ACell) (n : ℕ) (runner : Runner L) (v : World) →
+    nodes_of larger ≡ nodes_of tree ++ record { parent = tree.position; cell = program; steps = n } ∷ [] →
+    larger.cells.favourites ≡ set tree.cells.favourites tree.position (length (nodes_of tree)) ++ 0 ∷ [] →
+    larger.position ≡ length (nodes_of tree) →
+    IsLegal (past_of tree) → IsFormed program (here (past_of tree)) →
+    CodeExec (Forward program) (here (past_of tree)) n v → Shows runner (stack_at larger larger.position) v → IsWhole runner.store → NodesAreReady larger runner → AreInOrder larger →
+    Kept larger runner Idle
+kept_grown tree larger program n runner v nodes favourites position legal formed ran shows whole ready order =
+    let e = state_grown tree larger program n v nodes favourites position ran in
+    let last : get_or (worlds_from [] (nodes_of tree) ++ v ∷ []) (length (nodes_of tree)) empty_world ≡ v =
+    get_or_at (worlds_from [] (nodes_of tree)) v [] empty_world (length (nodes_of tree)) legal.worlds in
+    record {
+      legal = subst (λ (s : Past). IsLegal s) (sym e) (legal_grown (past_of tree) program n v legal formed ran);
+      stands = subst (λ (w : World). Shows runner (stack_at larger larger.position) w) (sym last ∙ ap (λ (s : Past). here s) (sym e)) shows;
+      whole = whole;
+      possible = tt;
+      counted = tt;
+      room = tt;
+      path = tt;
+      ready = ready;
+      order = order;
+      behind = tt;
+    }
+
+-- ---- a cell of a travel
+
+-- the open job of the code, where its model is known
+pub idle_job : (job : Open) → job_of job ≡ state.Idle → job ≡ Idle
+idle_job Idle e = refl
+idle_job (Border travel) e = cc
+idle_job (Inside x) e = cc
+
+-- a border of the code, where its model is known
+border_job : (job : Open) (travel : Travel) → job_of job ≡ state.Border travel → (t : Travel) × (job ≡ Border t) × (t ≡ travel)
+border_job Idle travel e = cc
+border_job (Border t) travel e = (t, refl, cc)
+border_job (Inside x) travel e = cc
+
+pub kept_arrived : {L : Type 0} (left : ℕ) (moved-to : Tree) (travel : Travel) (told : Sliced) (job : Open) (runner : Runner L) → left ≡ cells travel →
+    IsLegal (past_of moved-to) → Shows runner (stack_at moved-to moved-to.position) (here (past_of moved-to)) → IsWhole runner.store → CanGo travel.aim (nodes_of moved-to) moved-to.cells.favourites moved-to.position travel.up travel.down → IsCounted travel →
+    HasPath travel.aim moved-to travel.down → NodesAreReady moved-to runner → AreInOrder moved-to → Arrives left (past_of moved-to) travel told (state_of moved-to job) → Kept moved-to runner job
+kept_arrived zero tree travel told job runner size legal shown whole can small path ready order a =
+    let e : job ≡ Idle = idle_job job (ap (λ (s : State). s.job) a.1) in
+    rw e (record { legal = legal; possible = tt; counted = tt; stands = shown; whole = whole; room = tt; path = tt; ready = ready; order = order; behind = tt })
+kept_arrived (suc left) tree travel told job runner size legal shown whole can small path ready order a =
+    let at = border_job job _ (ap (λ (s : State). s.job) a.1) in
+    let possible : IsPossible (nodes_of tree) tree.cells.favourites tree.position travel = record { some = omega arith; way_there = can } in
+    rw at.1 (record {
+      legal = legal;
+      possible = subst (λ (x : Travel). IsPossible (nodes_of tree) tree.cells.favourites tree.position x) (sym at.2) possible;
+      counted = subst (λ (x : Travel). IsCounted x) (sym at.2) small;
+      stands = shown;
+      whole = whole;
+      room = tt;
+      path = subst (λ (x : Travel). HasPath x.aim tree x.down) (sym at.2) path;
+      ready = ready;
+      order = order;
+      behind = tt;
+    })
+
+-- a path is kept for a way that is one node shorter
+pub path_shorter : (a : Aim) (tree : Tree) (down : ℕ) → HasPath a tree down → HasPath a tree (down - 1)
+path_shorter Undo tree down h = tt
+path_shorter Redo tree down h = tt
+path_shorter (Goto n) tree down h = (let l = h.0 in omega arith, λ i l. h.1 i (omega arith))
+
+path_of : (a : Aim) (tree other : Tree) (down : ℕ) → other.cells.nodes ≡ tree.cells.nodes → other.cells.way ≡ tree.cells.way → HasPath a tree down → HasPath a other down
+path_of Undo tree other down e f h = tt
+path_of Redo tree other down e f h = tt
+path_of (Goto n) tree other down e f h = rw (e, f) h
+
+pub kept_up : {L : Type 0} (tree : Tree) (p : ℕ) (travel : Travel) (runner : Runner L) (told : Sliced) (job : Open) → next_way travel ≡ Up → IsLegal (past_of tree) →
+    IsPossible (nodes_of tree) tree.cells.favourites tree.position travel → IsCounted travel → HasPath travel.aim tree travel.down → NodesAreReady tree runner → AreInOrder tree → IsWhole runner.store →
+    p ≡ (node_at (past_of tree) tree.position).parent → Shows runner (stack_at tree (node_at (past_of tree) tree.position).parent) (world_at (past_of tree) (node_at (past_of tree) tree.position).parent) →
+    Arrives (cells (stepped travel)) (past_of (record tree { position = p })) (stepped travel) told (state_of (record tree { position = p }) job) → Kept (record tree { position = p }) runner job
+kept_up tree p travel runner told job way legal possible small path ready order whole to shows a =
+    let can = up_possible (past_of tree) travel way possible in
+    let some = possible.some in
+    let first = small.0 in
+    let up = way_up travel.up way in
+    let above : Tree = record tree { position = p } in
+    let on : Travel = record travel { up = travel.up - 1; went_up = travel.went_up + 1 } in
+    let e : stepped travel ≡ on = rw (way, stepped) refl in
+    kept_arrived (cells on) above on told job runner refl (rw to (legal_up (past_of tree) legal))
+    (subst (λ (stack : List ℕ). Shows runner stack (world_at (past_of tree) p)) (sym (stack_same tree above p refl))
+    (subst (λ (m : ℕ). Shows runner (stack_at tree m) (world_at (past_of tree) m)) (sym to) shows))
+    whole (rw to can.1) (omega arith, small.1)
+    (path_of travel.aim tree above travel.down refl refl path) (placed_nodes tree above runner refl ready) (ordered_nodes tree above refl order)
+    (subst (λ (t : Travel). Arrives (cells t) (past_of above) t told (state_of above job)) e a)
+
+pub kept_down : {L : Type 0} (tree moved-to : Tree) (c : ℕ) (travel : Travel) (runner : Runner L) (told : Sliced) (job : Open) → next_way travel ≡ Down → IsLegal (past_of tree) →
+    IsPossible (nodes_of tree) tree.cells.favourites tree.position travel → IsCounted travel → HasPath travel.aim tree travel.down → NodesAreReady tree runner → AreInOrder tree → IsWhole runner.store →
+    c ≡ below (past_of tree) travel → moved-to.cells.nodes ≡ tree.cells.nodes → moved-to.cells.favourites ≡ set tree.cells.favourites tree.position c → moved-to.position ≡ c → moved-to.cells.way ≡ tree.cells.way →
+    Shows runner (stack_at tree (below (past_of tree) travel)) (world_at (past_of tree) (below (past_of tree) travel)) →
+    Arrives (cells (stepped travel)) (past_of moved-to) (stepped travel) told (state_of moved-to job) → Kept moved-to runner job
+kept_down tree moved-to c travel runner told job way legal possible small path ready order whole to nodes favourites position kept-path shows a =
+    let next = next_below (past_of tree) travel legal way possible in
+    let can = down_possible (past_of tree) travel legal way possible in
+    let some = possible.some in
+    let second = small.1 in
+    let none : travel.up ≡ 0 = way_down travel.up way in
+    let on : Travel = record travel { down = travel.down - 1; went_down = travel.went_down + 1 } in
+    let e : stepped travel ≡ on = rw (way, stepped) refl in
+    let down : 0 < travel.down = omega arith in
+    let past : past_of moved-to ≡ record (past_of tree) { favourites = set tree.cells.favourites tree.position (below (past_of tree) travel); position = below (past_of tree) travel } = rw (nodes, favourites, position, to) refl in
+    let kept : HasPath travel.aim moved-to (travel.down - 1) = path_of travel.aim tree moved-to (travel.down - 1) nodes kept-path (path_shorter travel.aim tree travel.down path) in
+    let stack : stack_at moved-to moved-to.position ≡ stack_at tree (below (past_of tree) travel) = stack_same tree moved-to moved-to.position nodes ∙ ap (stack_at tree) (position ∙ to) in
+    kept_arrived (cells on) moved-to on told job runner refl
+    (subst (λ (s : Past). IsLegal s) (sym past) (legal_down (past_of tree) (below (past_of tree) travel) legal next))
+    (subst (λ (s : Past). Shows runner (stack_at moved-to moved-to.position) (here s)) (sym past) (subst (λ (l : List ℕ). Shows runner l (world_at (past_of tree) (below (past_of tree) travel))) (sym stack) shows)) whole
+    (subst (λ (s : Past). CanGo travel.aim s.nodes s.favourites s.position travel.up (travel.down - 1)) (sym past)
+    (subst (λ (u : ℕ). CanGo travel.aim (nodes_of tree) (set tree.cells.favourites tree.position (below (past_of tree) travel)) (below (past_of tree) travel) u (travel.down - 1)) (sym none) can))
+    (small.0, omega arith) kept (placed_nodes tree moved-to runner nodes ready) (ordered_nodes tree moved-to nodes order)
+    (subst (λ (t : Travel). Arrives (cells t) (past_of moved-to) t told (state_of moved-to job)) e a)
+
+-- the world at the end of an undone cell, and of a redone one
+pub ended_up : (s : Past) (travel : Travel) (n : ℕ) (v : World) → next_way travel ≡ Up → IsLegal s → IsPossible s.nodes s.favourites s.position travel → HasEnded s (state.Move travel) n v →
+    v ≡ entered (node_at s s.position).cell (world_at s (node_at s s.position).parent)
+ended_up s travel n v way legal possible e =
+    undone_world s n v legal (up_possible s travel way possible).0 (rw (way, code_of) at e)
+
+pub ended_down : (s : Past) (travel : Travel) (n : ℕ) (v : World) → next_way travel ≡ Down → IsLegal s → IsPossible s.nodes s.favourites s.position travel → HasEnded s (state.Move travel) n v →
+    v ≡ world_at s (below s travel)
+ended_down s travel n v way legal possible e = redone_world s (below s travel) n v legal (next_below s travel legal way possible) (rw (way, code_of) at e)
+
+-- ---- the program of the open job
+
+-- the work has one program
+same_up : (tree : Tree) (travel : Travel) (way : Way) (p q : Program) → next_way travel ≡ way → IsProgramOf tree (Move travel) p → IsProgramOf tree (Move travel) q → p ≡ q
+same_up tree travel Up p q way a b =
+    let c = rw (way, IsProgramOf) at a in
+    let d = rw (way, IsProgramOf) at b in
+    c.2 ∙ ap (λ (x : Cell). x.program) (one_cell tree tree.position c.0 d.0 c.1 d.1) ∙ sym d.2
+same_up tree travel Down p q way a b =
+    let c = rw (way, IsProgramOf) at a in
+    let d = rw (way, IsProgramOf) at b in
+    c.2 ∙ ap (λ (x : Cell). x.program) (one_cell tree _ c.0 d.0 c.1 d.1) ∙ sym d.2
+
+pub same_program : (tree : Tree) (work : Work) (p q : Program) → IsProgramOf tree work p → IsProgramOf tree work q → p ≡ q
+same_program tree (RunCell program) p q a b = a ∙ sym b
+same_program tree (Move travel) p q a b = same_up tree travel (next_way travel) p q refl a b
+
+-- where a runner stands, for the program that was found
+pub stands_with : {L : Type 0} (tree : Tree) (work : Work) (count : ℕ) (back : Bool) (runner : Runner L) (p : Program) → IsProgramOf tree work p → StandsIn tree work count back runner →
+    Stands runner p (stack_in tree work p) (code_of (past_of tree) (work_of work)) (here (past_of tree)) count back
+stands_with tree work count back runner p of h =
+    subst (λ (x : Program). Stands runner x (stack_in tree work x) (code_of (past_of tree) (work_of work)) (here (past_of tree)) count back) (same_program tree work h.program p h.of_work of) h.stands
+
+-- the position is a node
+pub position_known : (tree : Tree) → IsLegal (past_of tree) → tree.position ≤ length tree.cells.nodes
+position_known tree g =
+    let size = count_of_nodes tree in
+    let low : tree.position < length (nodes_of tree) = g.position in
+    omega arith
+
+-- a posted cell that ended becomes a node, whose code runs as it stands, behind those of the others
+module _ {L : Type 0} (tree larger : Tree) (program : Program) (n : ℕ) (runner : Runner L) (k : Kept tree runner (Inside (record { work = RunCell program; count = n; turn = GoesOn }))) (nodes : larger.cells.nodes ≡ tree.cells.nodes ++ record { parent = tree.position; content = record { program = program; steps = n } } ∷ []) where
+  pub placed_more : NodesAreReady larger runner
+  placed_more =
+      placed_grown tree larger (record { parent = tree.position; content = record { program = program; steps = n } }) runner nodes k.ready (stands_with tree (RunCell program) n false runner program refl k.stands).ready
+
+  pub ordered_more : AreInOrder larger
+  ordered_more = ordered_grown tree larger (record { parent = tree.position; content = record { program = program; steps = n } }) nodes k.order k.behind
+
+  -- its own bodies are defined over those of the position
+  pub shown_more : larger.position ≡ length (nodes_of tree) → Shows runner (stack_at larger larger.position) (world_of (start_of (Forward (cell_of_program program)) (here (past_of tree))).procedures runner)
+  shown_more position =
+      let size = count_of_nodes tree in
+      let low = position_known tree k.legal in
+      let last : larger.position ≡ suc (length tree.cells.nodes) = omega arith in
+      let stack : stack_at larger larger.position ≡ with_bodies program (stack_at tree tree.position) =
+      ap (stack_at larger) last ∙ stack_new tree larger (record { parent = tree.position; content = record { program = program; steps = n } }) k.legal nodes low in
+      subst (λ (l : List ℕ). Shows runner l (world_of (start_of (Forward (cell_of_program program)) (here (past_of tree))).procedures runner)) (sym stack)
+      (stands_shows runner program (with_bodies program (stack_at tree tree.position)) (Forward (cell_of_program program)) (here (past_of tree)) n false (stands_with tree (RunCell program) n false runner program refl k.stands))
+
+-- ---- begins
+
+pub kept_entered : {L : Type 0} (tree : Tree) (runner at : Runner L) (travel : Travel) → Kept tree runner (Border travel) → GoOn runner.store.names at.store.names → kept_in at.procedures ≡ kept_in runner.procedures → StandsIn tree (Move travel) 0 false at →
+    IsKept tree at (Inside (record { work = Move travel; count = 0; turn = GoesOn }))
+kept_entered tree runner at travel k more same stands = record {
+  kept = record {
+    legal = k.legal;
+    possible = k.possible;
+    counted = k.counted;
+    stands = stands;
+    whole = tt;
+    room = tt;
+    path = k.path;
+    ready = nodes_ready tree runner at more same k.ready;
+    order = k.order;
+    behind = tt;
+  };
+  in_time = exec_some (code_of (past_of tree) (state.Move travel)) (here (past_of tree));
+}
+
+-- with no open job nothing is due
+pub idle_in_time : {L : Type 0} (tree : Tree) (runner : Runner L) → Kept tree runner Idle → IsKept tree runner Idle
+idle_in_time tree runner k = record { kept = k; in_time = tt }
+
+behind_nodes : (tree other : Tree) (program : Program) → other.cells.nodes ≡ tree.cells.nodes → IsBehindNodes tree (RunCell program) → IsBehindNodes other (RunCell program)
+behind_nodes tree other program e h = subst (λ (nodes : List (Node Cell)). IsBehindNodes (record other { cells = record other.cells { nodes = nodes } }) (RunCell program)) (sym e) h
+
+pub kept_begun : {L : Type 0} (tree made : Tree) (runner at : Runner L) (program : Program) → Kept tree runner Idle → NodesAreReady tree at → IsBehindNodes tree (RunCell program) → past_of made ≡ past_of tree → made.cells.nodes ≡ tree.cells.nodes → made.position ≡ tree.position → HasRoom made → IsFormed (cell_of_program program) (here (past_of tree)) →
+    Stands at program (with_bodies program (stack_at tree tree.position)) (Forward (cell_of_program program)) (here (past_of tree)) 0 false → IsKept made at (Inside (record { work = RunCell program; count = 0; turn = GoesOn }))
+kept_begun tree made runner at program k ready behind same nodes position room formed stands =
+    let stack : stack_at made made.position ≡ stack_at tree tree.position = stack_same tree made made.position nodes ∙ ap (stack_at tree) position in
+    record {
+      kept = record {
+        legal = subst (λ (s : Past). IsLegal s) (sym same) k.legal;
+        possible = subst (λ (s : Past). IsFormed (cell_of_program program) (here s)) (sym same) formed;
+        counted = tt;
+        stands = record {
+          program = program;
+          of_work = refl;
+          stands = subst (λ (s : Past). Stands at program (with_bodies program (stack_at made made.position)) (Forward (cell_of_program program)) (here s) 0 false) (sym same)
+              (subst (λ (l : List ℕ). Stands at program (with_bodies program l) (Forward (cell_of_program program)) (here (past_of tree)) 0 false) (sym stack) stands);
+        };
+        whole = tt;
+        room = room;
+        path = tt;
+        ready = placed_nodes tree made at nodes ready;
+        order = ordered_nodes tree made nodes k.order;
+        behind = behind_nodes tree made program nodes behind;
+      };
+      in_time = exec_some (code_of (past_of made) (state.Posted (cell_of_program program))) (here (past_of made));
+    }
+
+-- a tree with room for a node more is the same tree
+pub kept_with_room : {L : Type 0} (tree made : Tree) (runner : Runner L) → Kept tree runner Idle → past_of made ≡ past_of tree → made.cells.nodes ≡ tree.cells.nodes → made.position ≡ tree.position → Kept made runner Idle
+kept_with_room tree made runner k same nodes position =
+    let stack : stack_at made made.position ≡ stack_at tree tree.position = stack_same tree made made.position nodes ∙ ap (stack_at tree) position in
+    record {
+      legal = subst (λ (s : Past). IsLegal s) (sym same) k.legal;
+      possible = tt;
+      counted = tt;
+      stands = subst (λ (s : Past). Shows runner (stack_at made made.position) (here s)) (sym same) (subst (λ (l : List ℕ). Shows runner l (here (past_of tree))) (sym stack) k.stands);
+      whole = k.whole;
+      room = tt;
+      path = tt;
+      ready = placed_nodes tree made runner nodes k.ready;
+      order = ordered_nodes tree made nodes k.order;
+      behind = tt;
+    }
+
+pub ok_fact : {A E : Type 0} (P : Type 0) (r : Result A E) → is_err r ≡ false → OnOk r P → P
+ok_fact P (Ok x) e h = h
+ok_fact P (Err x) e h = absurd (cc)
+
+pub err_fact : {A E : Type 0} (P : Type 0) (r : Result A E) → is_err r ≡ true → OnErr r P → P
+err_fact P (Ok x) e h = absurd (cc)
+err_fact P (Err x) e h = h
+
+-- ---- back at the count 0
+
+pub began_cell : (tree : Tree) (work : Work) (program : Program) (v : World) → work ≡ RunCell program → CodePart (code_of (past_of tree) (work_of work)) (here (past_of tree)) 0 v → v ≡ entered (cell_of_program program) (here (past_of tree))
+began_cell tree work program v e p = part_none_forward (cell_of_program program) (here (past_of tree)) v (rw e at p)
+
+pub began_up : (tree : Tree) (work : Work) (travel : Travel) (v : World) → work ≡ Move travel → next_way travel ≡ Up → CodePart (code_of (past_of tree) (work_of work)) (here (past_of tree)) 0 v → v ≡ here (past_of tree)
+began_up tree work travel v e way p =
+    let s : Past = past_of tree in
+    let q : CodePart (code_of (past_of tree) (state.Move travel)) (here (past_of tree)) 0 v = rw e at p in
+    part_none_backward (node_at (past_of tree) tree.position).cell (here (past_of tree)) v (rw (way, code_of) at q)
+
+pub began_down : (tree : Tree) (work : Work) (travel : Travel) (v : World) (cell : Cell) → work ≡ Move travel → next_way travel ≡ Down → IsCellAt tree (below (past_of tree) travel) cell →
+    CodePart (code_of (past_of tree) (work_of work)) (here (past_of tree)) 0 v → v ≡ entered (cell_of_program cell.program) (here (past_of tree))
+began_down tree work travel v cell e way at p =
+    let q : CodePart (code_of (past_of tree) (state.Move travel)) (here (past_of tree)) 0 v = rw e at p in
+    part_none_forward (node_at (past_of tree) (below (past_of tree) travel)).cell (here (past_of tree)) v (rw (way, code_of) at q)
+    ∙ ap (λ (c : ACell). entered c (here (past_of tree))) (sym (cell_there tree _ cell at))
+
+-- what a call of `below` asks for, and where its node stands
+pub work_possible : (s : Past) (work : state.Work) (travel : Travel) → work ≡ state.Move travel → IsPossibleWork s work → IsPossible s.nodes s.favourites s.position travel
+work_possible s work travel e p = rw e at p
+
+pub work_path : (tree : Tree) (work : Work) (travel : Travel) → work ≡ Move travel → HasPathFor tree work → HasPath travel.aim tree travel.down
+work_path tree work travel e p = rw e at p
+
+pub below_there : (tree : Tree) (travel : Travel) (i : ℕ) → IsLegal (past_of tree) → next_way travel ≡ Down → IsPossible (nodes_of tree) tree.cells.favourites tree.position travel → i ≡ below (past_of tree) travel →
+    (0 < i) × (i ≤ length tree.cells.nodes)
+below_there tree travel i legal way possible e =
+    let next = next_below (past_of tree) travel legal way possible in
+    let size = count_of_nodes tree in
+    let some : 0 < below (past_of tree) travel = next.some in
+    let known : below (past_of tree) travel < length (nodes_of tree) = next.known in
+    (omega arith, omega arith)
+
+-- the cells of a travel, as they are read
+pub down_work : (s : Past) (work : state.Work) (travel : Travel) → work ≡ state.Move travel → next_way travel ≡ Down → IsLegal s → IsPossibleWork s work → IsNext s (below s travel)
+down_work s work travel e way g p =
+    let q : IsPossible s.nodes s.favourites s.position travel = rw e at p in
+    next_below s travel g way q
+
+pub up_work : (s : Past) (work : state.Work) (travel : Travel) → work ≡ state.Move travel → next_way travel ≡ Up → IsPossibleWork s work → 0 < s.position
+up_work s work travel e way p =
+    let q : IsPossible s.nodes s.favourites s.position travel = rw e at p in
+    (up_possible s travel way q).0
+
+pub cell_below : (tree : Tree) (travel : Travel) (cell : Cell) (i : ℕ) → IsNext (past_of tree) (below (past_of tree) travel) → i ≡ below (past_of tree) travel →
+    slice_get (contents_of tree.cells) (i - 1) ≡ Some cell → IsCellAt tree (below (past_of tree) travel) cell
+cell_below tree travel cell i next e read = (next.some, rw e at read)
+
+-- at the end of an undo, its names are the newest
+pub up_names : (tree : Tree) (travel : Travel) (n : ℕ) (v : World) (cell : Cell) → next_way travel ≡ Up → IsLegal (past_of tree) → IsPossible (nodes_of tree) tree.cells.favourites tree.position travel → HasEnded (past_of tree) (state.Move travel) n v →
+    IsCellAt tree tree.position cell → v ≡ entered (cell_of_program cell.program) (world_at (past_of tree) (node_at (past_of tree) tree.position).parent)
+up_names tree travel n v cell way legal possible ended at =
+    ended_up (past_of tree) travel n v way legal possible ended
+    ∙ ap (λ (c : ACell). entered c (world_at (past_of tree) (node_at (past_of tree) tree.position).parent)) (sym (cell_there tree tree.position cell at))
+
+-- a tree of the root alone
+pub new_past : (tree : Tree) → tree.cells ≡ root_alone tree.cells.room → tree.position ≡ 0 → past_of tree ≡ new_state.past
+new_past tree alone position = rw (alone, position, new_worlds) refl
+
+pub kept_new : {L : Type 0} (tree : Tree) (runner : Runner L) → past_of tree ≡ new_state.past → tree.position ≡ 0 → Shows runner [] empty_world → IsWhole runner.store → Kept tree runner Idle
+kept_new tree runner e position shown whole = record {
+  legal = subst (λ (s : Past). IsLegal s) (sym e) new_legal;
+  possible = tt;
+  counted = tt;
+  stands = subst (λ (s : Past). Shows runner (stack_at tree tree.position) (here s)) (sym e) (subst (λ (n : ℕ). Shows runner (stack_at tree n) empty_world) (sym position) shown);
+  whole = whole;
+  room = tt;
+  path = tt;
+  ready = placed_none tree runner e;
+  order = ordered_none tree e;
+  behind = tt;
+}
+
+-- the program of an undo and of a redo, as it is read
+up_is : (tree : Tree) (travel : Travel) (p : Program) → next_way travel ≡ Up → (cell : Cell) × IsCellAt tree tree.position cell × (p ≡ cell.program) → IsProgramOf tree (Move travel) p
+up_is tree travel p way h = rw (way, IsProgramOf) h
+
+down_is : (tree : Tree) (travel : Travel) (p : Program) → next_way travel ≡ Down → (cell : Cell) × IsCellAt tree (below (past_of tree) travel) cell × (p ≡ cell.program) → IsProgramOf tree (Move travel) p
+down_is tree travel p way h = rw (way, IsProgramOf) h
+
+pub cell_of_up : (tree : Tree) (work : Work) (travel : Travel) (cell : Cell) → IsLegal (past_of tree) → IsPossibleWork (past_of tree) (work_of work) → work ≡ Move travel → next_way travel ≡ Up →
+    slice_get (contents_of tree.cells) (tree.position - 1) ≡ Some cell → IsCellAt tree tree.position cell
+cell_of_up tree work travel cell legal possible e way read =
+    (up_work (past_of tree) (work_of work) travel (ap work_of e) way possible, read)
+
+pub cell_of_down : (tree : Tree) (work : Work) (travel : Travel) (cell : Cell) (i : ℕ) → IsLegal (past_of tree) → IsPossibleWork (past_of tree) (work_of work) → work ≡ Move travel → next_way travel ≡ Down →
+    i ≡ below (past_of tree) travel → slice_get (contents_of tree.cells) (i - 1) ≡ Some cell → IsCellAt tree (below (past_of tree) travel) cell
+cell_of_down tree work travel cell i legal possible e way at read =
+    cell_below tree travel cell i (down_work (past_of tree) (work_of work) travel (ap work_of e) way legal possible) at read
+
+pub program_up : (tree : Tree) (work : Work) (travel : Travel) (cell : Cell) → work ≡ Move travel → next_way travel ≡ Up → IsCellAt tree tree.position cell → IsProgramOf tree work cell.program
+program_up tree work travel cell e way at = rw e (up_is tree travel cell.program way (cell, at, refl))
+
+pub program_down : (tree : Tree) (work : Work) (travel : Travel) (cell : Cell) → work ≡ Move travel → next_way travel ≡ Down → IsCellAt tree (below (past_of tree) travel) cell → IsProgramOf tree work cell.program
+program_down tree work travel cell e way at = rw e (down_is tree travel cell.program way (cell, at, refl))
+
+-- the runner has gone on, or back, in the work's program
+pub kept_at : {L : Type 0} (tree : Tree) (work : Work) (count c : ℕ) (turn to : Turn) (runner at : Runner L) (p : Program) → Kept tree runner (Inside (record { work = work; count = count; turn = turn })) → GoOn runner.store.names at.store.names → kept_in at.procedures ≡ kept_in runner.procedures →
+    IsProgramOf tree work p → Stands at p (stack_in tree work p) (code_of (past_of tree) (work_of work)) (here (past_of tree)) c (is_back to) → Kept tree at (Inside (record { work = work; count = c; turn = to }))
+kept_at tree work count c turn to runner at p k more same of stands =
+    kept_inside tree work count c turn to runner at k more same (record { program = p; of_work = of; stands = stands })
+
+-- in the form in which the calls of the runner ask for it
+pub inside_with : {L : Type 0} (tree : Tree) (work : Work) (count : ℕ) (turn : Turn) (runner : Runner L) (p : Program) → Kept tree runner (Inside (record { work = work; count = count; turn = turn })) → IsProgramOf tree work p → IsInside runner p count (is_back turn)
+inside_with tree work count turn runner p k of = (_, _, _, stands_with tree work count (is_back turn) runner p of k.stands)
+
+-- a cell of a travel settles
+pub settled_up : (tree : Tree) (p : ℕ) (travel : Travel) (n : ℕ) (w : World) (told : Sliced) (new : State) → next_way travel ≡ Up → p ≡ (node_at (past_of tree) tree.position).parent →
+    Arrives (cells (stepped travel)) (past_of (record tree { position = p })) (stepped travel) told new → Settles (past_of tree) (state.Move travel) n w told new
+settled_up tree p travel n w told new way to a =
+    let e : past_of (record tree { position = p }) ≡ moved (past_of tree) travel = rw (way, moved, to) refl in
+    subst (λ (s : Past). Arrives (cells (stepped travel)) s (stepped travel) told new) e a
+
+pub settled_down : (tree moved-to : Tree) (c : ℕ) (travel : Travel) (n : ℕ) (w : World) (told : Sliced) (new : State) → next_way travel ≡ Down → c ≡ below (past_of tree) travel →
+    moved-to.cells.nodes ≡ tree.cells.nodes → moved-to.cells.favourites ≡ set tree.cells.favourites tree.position c → moved-to.position ≡ c →
+    Arrives (cells (stepped travel)) (past_of moved-to) (stepped travel) told new → Settles (past_of tree) (state.Move travel) n w told new
+settled_down tree moved-to c travel n w told new way to nodes favourites position a =
+    let e : past_of moved-to ≡ moved (past_of tree) travel = rw (way, moved, nodes, favourites, position, to) refl in
+    subst (λ (s : Past). Arrives (cells (stepped travel)) s (stepped travel) told new) e a
+
+-- ---- the next cell of a travel, where the runner stands at a border
+
+pub here_sound : (tree : Tree) → IsLegal (past_of tree) → IsSound (here (past_of tree))
+here_sound tree legal = legal.sound tree.position legal.position
+
+pub next_down : (tree : Tree) (travel : Travel) (cell : Cell) (i : ℕ) → next_way travel ≡ Down → IsLegal (past_of tree) → IsPossible (nodes_of tree) tree.cells.favourites tree.position travel →
+    i ≡ below (past_of tree) travel → slice_get (contents_of tree.cells) (i - 1) ≡ Some cell → IsCellAt tree (below (past_of tree) travel) cell
+next_down tree travel cell i way legal possible at read =
+    cell_below tree travel cell i (next_below (past_of tree) travel legal way possible) at read
+
+pub formed_next : (tree : Tree) (travel : Travel) (cell : Cell) → next_way travel ≡ Down → IsLegal (past_of tree) → IsPossible (nodes_of tree) tree.cells.favourites tree.position travel →
+    IsCellAt tree (below (past_of tree) travel) cell → IsFormed (cell_of_program cell.program) (here (past_of tree))
+formed_next tree travel cell way legal possible at =
+    let next = next_below (past_of tree) travel legal way possible in
+    subst (λ (c : ACell). IsFormed c (here (past_of tree))) (sym (cell_there tree _ cell at)) (formed_below (past_of tree) (below (past_of tree) travel) legal next)
+
+-- the position stands before the node below
+before_below : (tree : Tree) (travel : Travel) → next_way travel ≡ Down → IsLegal (past_of tree) → IsPossible (nodes_of tree) tree.cells.favourites tree.position travel → tree.position < below (past_of tree) travel
+before_below tree travel way legal possible =
+    let next = next_below (past_of tree) travel legal way possible in
+    let parent = (legal.ran (below (past_of tree) travel) next.some next.known).parent in
+    let same = next.parent in
+    omega arith
+
+pub can_go_down_to : {L : Type 0} (tree : Tree) (travel : Travel) (cell : Cell) (runner : Runner L) → next_way travel ≡ Down → IsLegal (past_of tree) → IsPossible (nodes_of tree) tree.cells.favourites tree.position travel →
+    IsCellAt tree (below (past_of tree) travel) cell → Shows runner (stack_at tree tree.position) (here (past_of tree)) → IsWhole runner.store → NodesAreReady tree runner → AreInOrder tree → CanEnter runner cell.program (stack_at tree tree.position) (here (past_of tree))
+can_go_down_to tree travel cell runner way legal possible at shows whole ready order = record {
+  shows = shows;
+  sound = here_sound tree legal;
+  formed = formed_next tree travel cell way legal possible at;
+  whole = whole;
+  ready = ready _ cell at;
+  behind = cell_behind tree legal order tree.position (below (past_of tree) travel) cell (before_below tree travel way legal possible) at;
+}
+
+pub stands_next_down : {L : Type 0} (tree : Tree) (travel : Travel) (cell : Cell) (at : Runner L) → next_way travel ≡ Down → IsCellAt tree (below (past_of tree) travel) cell →
+    Stands at cell.program (with_bodies cell.program (stack_at tree tree.position)) (Forward (cell_of_program cell.program)) (here (past_of tree)) 0 false → StandsIn tree (Move travel) 0 false at
+stands_next_down tree travel cell at way is stands =
+    let same = cell_there tree _ cell is in
+    let code : Forward (cell_of_program cell.program) ≡ code_of (past_of tree) (state.Move travel) = rw (way, code_of) (ap (λ (c : ACell). Forward c) same) in
+    let stack : with_bodies cell.program (stack_at tree tree.position) ≡ stack_in tree (Move travel) cell.program = rw (way, stack_in) refl in
+    record {
+      program = cell.program;
+      of_work = down_is tree travel cell.program way (cell, is, refl);
+      stands = subst (λ (c : Code). Stands at cell.program (stack_in tree (Move travel) cell.program) c (here (past_of tree)) 0 false) code
+          (subst (λ (l : List ℕ). Stands at cell.program l (Forward (cell_of_program cell.program)) (here (past_of tree)) 0 false) stack stands);
+    }
+
+pub next_up : (tree : Tree) (travel : Travel) (cell : Cell) → next_way travel ≡ Up → IsLegal (past_of tree) → IsPossible (nodes_of tree) tree.cells.favourites tree.position travel →
+    slice_get (contents_of tree.cells) (tree.position - 1) ≡ Some cell → IsCellAt tree tree.position cell
+next_up tree travel cell way legal possible read =
+    ((up_possible (past_of tree) travel way possible).0, read)
+
+pub can_go_up_from : {L : Type 0} (tree : Tree) (travel : Travel) (cell : Cell) (runner : Runner L) → next_way travel ≡ Up → IsLegal (past_of tree) → IsPossible (nodes_of tree) tree.cells.favourites tree.position travel →
+    IsCellAt tree tree.position cell → Shows runner (stack_at tree tree.position) (here (past_of tree)) → IsWhole runner.store → NodesAreReady tree runner → CanReturn runner cell.program (stack_at tree tree.position) (here (past_of tree))
+can_go_up_from tree travel cell runner way legal possible at shows whole ready =
+    let some = (up_possible (past_of tree) travel way possible).0 in
+    let run = run_here (past_of tree) legal some in
+    record {
+      shows = shows;
+      before = world_at (past_of tree) (node_at (past_of tree) tree.position).parent;
+      steps = (node_at (past_of tree) tree.position).steps;
+      ran = subst (λ (c : ACell). CodeExec (Forward c) (world_at (past_of tree) (node_at (past_of tree) tree.position).parent) (node_at (past_of tree) tree.position).steps (here (past_of tree))) (sym (cell_there tree tree.position cell at)) run.ran;
+      sound = parent_sound (past_of tree) legal some;
+      formed = subst (λ (c : ACell). IsFormed c (world_at (past_of tree) (node_at (past_of tree) tree.position).parent)) (sym (cell_there tree tree.position cell at)) run.formed;
+      whole = whole;
+      ready = ready _ cell at;
+    }
+
+pub stands_next_up : {L : Type 0} (tree : Tree) (travel : Travel) (cell : Cell) (at : Runner L) → next_way travel ≡ Up → IsCellAt tree tree.position cell →
+    Stands at cell.program (stack_at tree tree.position) (Backward (cell_of_program cell.program)) (here (past_of tree)) 0 false → StandsIn tree (Move travel) 0 false at
+stands_next_up tree travel cell at way is stands =
+    let same = cell_there tree _ cell is in
+    let code : Backward (cell_of_program cell.program) ≡ code_of (past_of tree) (state.Move travel) = rw (way, code_of) (ap (λ (c : ACell). Backward c) same) in
+    let stack : stack_at tree tree.position ≡ stack_in tree (Move travel) cell.program = rw (way, stack_in) refl in
+    record {
+      program = cell.program;
+      of_work = up_is tree travel cell.program way (cell, is, refl);
+      stands = subst (λ (c : Code). Stands at cell.program (stack_in tree (Move travel) cell.program) c (here (past_of tree)) 0 false) code
+          (subst (λ (l : List ℕ). Stands at cell.program l (Backward (cell_of_program cell.program)) (here (past_of tree)) 0 false) stack stands);
+    }
+
+not_ok : (A E : Type 0) (x : E) → IsOk {T = A} {E = E} (Err x) → ⊥
+not_ok A E x h = cc
+
+-- only a cell with declarations may find no memory
+pub declares_next : (A E : Type 0) (tree : Tree) (travel : Travel) (cell : Cell) (r : Result A E) → next_way travel ≡ Down → IsCellAt tree (below (past_of tree) travel) cell →
+    ((cell_of_program cell.program).declarations ≡ [] → IsOk r) → OnErr r (Declares (past_of tree) travel)
+declares_next A E tree travel cell (Ok x) way is none = tt
+declares_next A E tree travel cell (Err x) way is none =
+    let same = cell_there tree _ cell is in
+    rw (way, Declares) (λ (e : (node_at (past_of tree) (below (past_of tree) travel)).cell.declarations ≡ []). not_ok A E x (none (ap (λ (c : ACell). c.declarations) same ∙ e)))
+
+pub ok_map : {A E : Type 0} {P Q : Type 0} (r : Result A E) → (P → Q) → OnOk r P → OnOk r Q
+ok_map (Ok x) f h = f h
+ok_map (Err x) f h = tt
+
+-- ---- between two jobs
+
+pub idle_store : {L : Type 0} (tree : Tree) (runner : Runner L) (job : Open) → StandsAt tree job runner → IsWholeAt job runner → job_of job ≡ state.Idle →
+    (runner.store.sight ≡ (here (past_of tree)).store) × IsWhole runner.store
+idle_store tree runner Idle stands whole e = (sym (all_shown runner.store whole) ∙ stands.store, whole)
+idle_store tree runner (Border travel) stands whole e = absurd (cc e)
+idle_store tree runner (Inside i) stands whole e = absurd (cc e)
+
+-- ---- what a runner leaves, from where it stands
+
+module _ {L : Type 0} (tree : Tree) (runner : Runner L) (cell : Cell) (n : ℕ) (at : IsCellAt tree tree.position cell) (legal : IsLegal (past_of tree)) where
+  -- the cell of the position is undone: what it declared and defined is left to be taken back
+  pub can_leave_up : (travel : Travel) (back : Bool) → next_way travel ≡ Up → StandsIn tree (Move travel) n back runner → IsWhole runner.store → IsReady runner.store.names runner.procedures cell.program →
+      world_of (start_of (code_of (past_of tree) (state.Move travel)) (here (past_of tree))).procedures runner ≡ entered (cell_of_program cell.program) (world_at (past_of tree) (node_at (past_of tree) tree.position).parent) →
+      CanLeave runner cell.program (stack_at tree (node_at (past_of tree) tree.position).parent) (world_at (past_of tree) (node_at (past_of tree) tree.position).parent)
+  can_leave_up travel back way stands whole ready world =
+      let p : Program = cell.program in
+      let s = stands_with tree (Move travel) n back runner p (up_is tree travel p way (cell, at, refl)) stands in
+      let shows = stands_shows runner p (stack_in tree (Move travel) p) (code_of (past_of tree) (state.Move travel)) (here (past_of tree)) n back s in
+      let stack : stack_in tree (Move travel) p ≡ with_bodies p (stack_at tree (node_at (past_of tree) tree.position).parent) = rw (way, stack_in) (stack_of_cell tree tree.position cell legal at) in
+      record {
+        shows = subst (λ (l : List ℕ). Shows runner l (entered (cell_of_program p) (world_at (past_of tree) (node_at (past_of tree) tree.position).parent))) stack
+            (subst (λ (w : World). Shows runner (stack_in tree (Move travel) p) w) world shows);
+        whole = whole;
+        ready = ready;
+      }
+
+-- a redone cell has ended: its bodies are defined over those of the position, and are those of its node
+pub shows_down : {L : Type 0} (tree : Tree) (runner : Runner L) (travel : Travel) (n : ℕ) → Kept tree runner (Inside (record { work = Move travel; count = n; turn = GoesOn })) → next_way travel ≡ Down →
+    HasEnded (past_of tree) (state.Move travel) n (world_of (start_of (code_of (past_of tree) (state.Move travel)) (here (past_of tree))).procedures runner) →
+    Shows runner (stack_at tree (below (past_of tree) travel)) (world_at (past_of tree) (below (past_of tree) travel))
+shows_down tree runner travel n k way ended =
+    let s : Past = past_of tree in
+    let p : Program = k.stands.program in
+    let of = rw (way, IsProgramOf) at k.stands.of_work in
+    let next = next_below s travel k.legal way k.possible in
+    let stack : stack_in tree (Move travel) p ≡ stack_at tree (below s travel) =
+    rw (way, stack_in) (ap (λ (q : Program). with_bodies q (stack_at tree tree.position)) of.2 ∙ ap (λ (m : ℕ). with_bodies of.0.program (stack_at tree m)) (sym next.parent) ∙ sym (stack_of_cell tree (below s travel) of.0 k.legal of.1)) in
+    let world = ended_down s travel n (world_of (start_of (code_of s (state.Move travel)) (here s)).procedures runner) way k.legal k.possible ended in
+    subst (λ (l : List ℕ). Shows runner l (world_at s (below s travel))) stack
+    (subst (λ (w : World). Shows runner (stack_in tree (Move travel) p) w) world (stands_shows runner p (stack_in tree (Move travel) p) (code_of s (state.Move travel)) (here s) n false k.stands.stands))
+
+-- a cell is posted: its bodies are kept behind those of all nodes
+pub posted_behind : {L : Type 0} (tree : Tree) (runner : Runner L) (program : Program) → NodesAreReady tree runner → program.first ≡ length (kept_in runner.procedures) → IsBehindNodes tree (RunCell program)
+posted_behind tree runner program ready first = λ n cell is. let within = (ready n cell is).within in omega (arith, within, first)
+
+pub nodes_more : {L : Type 0} (tree : Tree) (runner at : Runner L) → GoOn runner.store.names at.store.names → take (length (kept_in runner.procedures)) (kept_in at.procedures) ≡ kept_in runner.procedures → NodesAreReady tree runner → NodesAreReady tree at
+nodes_more tree runner at more older h = λ n cell is.
+    ready_more at.store.names runner.procedures at.procedures cell.program older (ready_grows runner.store.names at.store.names more runner.procedures cell.program (h n cell is))
+
+pub behind_stack : (tree : Tree) (program : Program) → IsLegal (past_of tree) → AreInOrder tree → IsBehindNodes tree (RunCell program) → AreBelow program.first (stack_at tree tree.position)
+behind_stack tree program legal order behind = stack_below tree legal order program.first tree.position (λ m cell low there. behind m cell there)
+
+-- back at the count 0 what a cell declared and defined is left to be taken back
+module _ {L : Type 0} (tree : Tree) (runner : Runner L) (work : Work) (why : Why) (k : Kept tree runner (Inside (record { work = work; count = 0; turn = GoesBack why }))) where
+  abbrev start : World
+  start = start_of (code_of (past_of tree) (work_of work)) (here (past_of tree))
+
+  stands_back : (p : Program) → IsProgramOf tree work p → Stands runner p (stack_in tree work p) (code_of (past_of tree) (work_of work)) (here (past_of tree)) 0 true
+  stands_back p of = stands_with tree work 0 true runner p of k.stands
+
+  shows_back : (p : Program) (stack : List ℕ) (w : World) → IsProgramOf tree work p → stack_in tree work p ≡ stack → world_of start.procedures runner ≡ w → Shows runner stack w
+  shows_back p stack w of is world =
+      let s = stands_back p of in
+      subst (λ (l : List ℕ). Shows runner l w) is (subst (λ (v : World). Shows runner (stack_in tree work p) v) world (stands_shows runner p (stack_in tree work p) (code_of (past_of tree) (work_of work)) (here (past_of tree)) 0 true s))
+
+  part_back : CodePart (code_of (past_of tree) (work_of work)) (here (past_of tree)) 0 (world_of start.procedures runner)
+  part_back = stands_part runner k.stands.program (stack_in tree work k.stands.program) (code_of (past_of tree) (work_of work)) (here (past_of tree)) 0 true k.stands.stands
+
+  pub can_leave_cell : (program : Program) → work ≡ RunCell program → IsWhole runner.store → CanLeave runner program (stack_at tree tree.position) (here (past_of tree))
+  can_leave_cell program e whole =
+      let of : IsProgramOf tree work program = rw e refl in
+      let is : stack_in tree work program ≡ with_bodies program (stack_at tree tree.position) = rw e refl in
+      record { shows = shows_back program _ _ of is (began_cell tree work program (world_of start.procedures runner) e part_back); whole = whole; ready = (stands_back program of).ready }
+
+  pub can_leave_down : (travel : Travel) (cell : Cell) → work ≡ Move travel → next_way travel ≡ Down → IsCellAt tree (below (past_of tree) travel) cell → IsWhole runner.store → CanLeave runner cell.program (stack_at tree tree.position) (here (past_of tree))
+  can_leave_down travel cell e way at whole =
+      let of : IsProgramOf tree work cell.program = program_down tree work travel cell e way at in
+      let is : stack_in tree work cell.program ≡ with_bodies cell.program (stack_at tree tree.position) = rw (e, stack_in) (rw way refl) in
+      record { shows = shows_back cell.program _ _ of is (began_down tree work travel (world_of start.procedures runner) cell e way at part_back); whole = whole; ready = (stands_back cell.program of).ready }
+
+  pub shows_up : (travel : Travel) → work ≡ Move travel → next_way travel ≡ Up → Shows runner (stack_at tree tree.position) (here (past_of tree))
+  shows_up travel e way =
+      let p : Program = k.stands.program in
+      let is : stack_in tree work p ≡ stack_at tree tree.position = rw (e, stack_in) (rw way refl) in
+      shows_back p _ _ k.stands.of_work is (began_up tree work travel (world_of start.procedures runner) e way part_back)
+
+  -- the bodies of a posted cell are behind all others, and can be dropped
+  pub below_posted : (program : Program) → work ≡ RunCell program → AreBelow program.first (stack_at tree tree.position)
+  below_posted program e =
+      let behind : IsBehindNodes tree (RunCell program) = subst (λ (w : Work). IsBehindNodes tree w) e k.behind in
+      behind_stack tree program k.legal k.order behind
+
+  pub nodes_forgotten : {M : Type 0} (old new : Runner M) (program : Program) → work ≡ RunCell program → new.store.names ≡ old.store.names → kept_in new.procedures ≡ take program.first (kept_in old.procedures) → NodesAreReady tree old → NodesAreReady tree new
+  nodes_forgotten old new program e names kept ready = λ n cell is.
+      let behind : IsBehindNodes tree (RunCell program) = subst (λ (w : Work). IsBehindNodes tree w) e k.behind in
+      subst (λ (xs : List Name). IsReady xs new.procedures cell.program) (sym names) (ready_less old.store.names old.procedures new.procedures program.first cell.program (behind n cell is) kept (ready n cell is))
+
+-- what is shown stays where bodies that are not defined are dropped
+pub shows_forgotten : {L : Type 0} (old new : Runner L) (from : ℕ) (stack : List ℕ) (w : World) → new.store ≡ old.store → Shows old stack w → AreBelow from stack → kept_in new.procedures ≡ take from (kept_in old.procedures) → AreDefined new.procedures stack → Shows new stack w
+shows_forgotten old new from stack w same shows low kept defined = record {
+  store = ap (λ (h : Held). shown_store h) same ∙ shows.store;
+  one_number = subst (λ (h : Held). HaveOneNumber h.names) (sym same) shows.one_number;
+  defined = subst (λ (h : Held). Define h.names new.procedures stack w.procedures) (sym same) (forgotten_still_defined old.store.names old.procedures new.procedures stack w.procedures from shows.defined low kept defined);
+}
+
+-- ---- a posted cell that could not be entered
+
+-- its text was read, and what it declares and defines is not in effect
+pub record IsUnentered {L : Type 0} (tree : Tree) (old : Runner L) (made : Tree) (at : Runner L) (job : Open) : Type 0 where
+  pub past : past_of made ≡ past_of tree
+  pub nodes : made.cells.nodes ≡ tree.cells.nodes
+  pub position : made.position ≡ tree.position
+  pub names : GoOn old.store.names at.store.names
+  pub whole : IsWhole at.store
+  pub shows : Shows at (stack_at tree tree.position) (here (past_of tree))
+  pub older : take (length (kept_in old.procedures)) (kept_in at.procedures) ≡ kept_in old.procedures
+  pub idle : job ≡ Idle
+
+-- its bodies are dropped
+pub kept_dropped : {L : Type 0} (tree made : Tree) (old at new : Runner L) (job : Open) (first : ℕ) → Kept tree old Idle → IsUnentered tree old made at job → first ≡ length (kept_in old.procedures) → AreBelow first (stack_at tree tree.position) →
+    new.store ≡ at.store → kept_in new.procedures ≡ take first (kept_in at.procedures) → ((stack : List ℕ) → AreDefined at.procedures stack → AreBelow first stack → AreDefined new.procedures stack) → IsKept made new job
+kept_dropped tree made old at new job first k un is low store kept defined =
+    let same : kept_in new.procedures ≡ kept_in old.procedures = kept ∙ ap (λ (n : ℕ). take n (kept_in at.procedures)) is ∙ un.older in
+    let names : GoOn old.store.names new.store.names = subst (λ (h : Held). GoOn old.store.names h.names) (sym store) un.names in
+    let whole : IsWhole new.store = subst (λ (h : Held). IsWhole h) (sym store) un.whole in
+    let shows = shows_forgotten at new first (stack_at tree tree.position) (here (past_of tree)) store un.shows low kept (defined (stack_at tree tree.position) un.shows.defined.defined low) in
+    let idle = kept_idle tree Idle old new k (nodes_ready tree old new names same k.ready) whole shows in
+    subst (λ (j : Open). IsKept made new j) (sym un.idle) (idle_in_time made new (kept_with_room tree made new idle un.past un.nodes un.position))

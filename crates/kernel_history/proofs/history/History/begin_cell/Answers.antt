@@ -1,0 +1,180 @@
+use Rattle.std.proofs.Common.{◌≡◌, length, take, Bool, false, inl, refl, sym, ap, ◌∙◌, subst}
+use Rattle.janus_meaning.specs.World.{Cell}
+use Rattle.kernel_machine.specs.State as state
+use Rattle.kernel_machine.specs.State.{State, here}
+use Rattle.cell_tree.specs.Tree as cells
+use Rattle.kernel_history.specs.Fields.{past_of}
+use Rattle.kernel_history.specs.declared.tree.Cell.{Cell as TreeCell}
+use Rattle.kernel_history.specs.declared.tree.Tree.{Tree}
+use Rattle.kernel_machine.specs.Begins.{TakesCell}
+use Rattle.kernel_machine.specs.declared.turn.Turn.TheVariants.{GoesOn}
+use Rattle.kernel_machine.specs.declared.outcome.Begun.TheVariants as begun
+use Rattle.kernel_runner.specs.Program.{cell_of_program}
+use Rattle.kernel_runner.specs.Runner.{CanEnter}
+use Rattle.kernel_history.specs.Kept.{Kept, IsKept, stack_at}
+use Rattle.kernel_history.specs.declared.job.Open.{Open}
+use Rattle.kernel_history.specs.declared.job.Open.TheVariants.{Idle}
+use Rattle.kernel_machine.proofs.Texts.{accepted_formed}
+use Rattle.kernel_runner.proofs.Declaring.{becomes_kept}
+use Rattle.kernel_runner.proofs.Growing.{more_yet}
+use Rattle.kernel_history.proofs.Standing.{ok_fact, err_fact, kept_begun, kept_idle, idle_in_time, here_sound, idle_job, nodes_more, nodes_ready, posted_behind, behind_stack, shows_still, IsUnentered, kept_dropped}
+use Rattle.kernel_history.proofs.history.History.begin_cell.Goals as goal
+use Rattle.kernel_history.proofs.history.History.begin_cell.Goals.{then-is_err-via-then-is_err, then-is_err-via-else-is_err+then-is_err-2}
+use Rattle.janus_machine.specs.Bodies.{kept_in}
+use Rattle.janus_machine.specs.declared.procedures.Procedures.{Procedures}
+
+pub prepare-requires-clause-legal : goal.prepare-requires-clause-legal
+prepare-requires-clause-legal g c =
+    let idle : c.self.inside.job ≡ Idle = idle_job c.self.inside.job (subst (λ (s : State). s.job ≡ state.Idle) (sym c.self.view_is) c.requires) in
+    let kept : Kept c.self.inside.tree c.self.inside.runner Idle = subst (λ (j : Open). Kept c.self.inside.tree c.self.inside.runner j) idle c.self.invariant.kept in
+    let tree = c.self.inside.tree in
+    let old = c.self.inside.runner in
+    let stack = stack_at tree tree.position in
+    let world = here (past_of tree) in
+    kept.legal
+
+pub prepare-requires-clause-shows : goal.prepare-requires-clause-shows
+prepare-requires-clause-shows g c =
+    let idle : c.self.inside.job ≡ Idle = idle_job c.self.inside.job (subst (λ (s : State). s.job ≡ state.Idle) (sym c.self.view_is) c.requires) in
+    let kept : Kept c.self.inside.tree c.self.inside.runner Idle = subst (λ (j : Open). Kept c.self.inside.tree c.self.inside.runner j) idle c.self.invariant.kept in
+    let tree = c.self.inside.tree in
+    let old = c.self.inside.runner in
+    let stack = stack_at tree tree.position in
+    let world = here (past_of tree) in
+    (stack, kept.stands)
+
+pub prepare-requires-clause-whole : goal.prepare-requires-clause-whole
+prepare-requires-clause-whole g c =
+    let idle : c.self.inside.job ≡ Idle = idle_job c.self.inside.job (subst (λ (s : State). s.job ≡ state.Idle) (sym c.self.view_is) c.requires) in
+    let kept : Kept c.self.inside.tree c.self.inside.runner Idle = subst (λ (j : Open). Kept c.self.inside.tree c.self.inside.runner j) idle c.self.invariant.kept in
+    let tree = c.self.inside.tree in
+    let old = c.self.inside.runner in
+    let stack = stack_at tree tree.position in
+    let world = here (past_of tree) in
+    kept.whole
+
+pub enter-requires : goal.enter-requires
+enter-requires g c =
+    let idle : c.self.inside.job ≡ Idle = idle_job c.self.inside.job (subst (λ (s : State). s.job ≡ state.Idle) (sym c.self.view_is) c.requires) in
+    let kept : Kept c.self.inside.tree c.self.inside.runner Idle = subst (λ (j : Open). Kept c.self.inside.tree c.self.inside.runner j) idle c.self.invariant.kept in
+    let tree = c.self.inside.tree in
+    let old = c.self.inside.runner in
+    let stack = stack_at tree tree.position in
+    let world = here (past_of tree) in
+    let met = c.prepare.new.runner in
+    let shows = c.prepare.ensures.shown stack world kept.stands in
+    let becomes = becomes_kept old.store met.store kept.whole shows.one_number c.prepare.ensures.kept in
+    let behind = posted_behind tree old c.in-Ok.program kept.ready c.in-Ok.ensures.behind in
+    let low = behind_stack tree c.in-Ok.program kept.legal kept.order behind in (
+      stack,
+      world,
+      record {
+        shows = shows;
+        sound = here_sound tree kept.legal;
+        formed = accepted_formed _ _ _ c.in-Ok.ensures.accepts;
+        whole = becomes.whole;
+        ready = c.in-Ok.ensures.ready;
+        behind = low;
+      },
+    )
+
+pub invariant_of-self-2 : goal.invariant_of-self-2
+invariant_of-self-2 g c =
+    let idle : c.self.inside.job ≡ Idle = idle_job c.self.inside.job (subst (λ (s : State). s.job ≡ state.Idle) (sym c.self.view_is) c.requires) in
+    let kept : Kept c.self.inside.tree c.self.inside.runner Idle = subst (λ (j : Open). Kept c.self.inside.tree c.self.inside.runner j) idle c.self.invariant.kept in
+    let tree = c.self.inside.tree in
+    let old = c.self.inside.runner in
+    let stack = stack_at tree tree.position in
+    let world = here (past_of tree) in
+    let met = c.prepare.new.runner in
+    let shows = c.prepare.ensures.shown stack world kept.stands in
+    let becomes = becomes_kept old.store met.store kept.whole shows.one_number c.prepare.ensures.kept in
+    let behind = posted_behind tree old c.in-Ok.program kept.ready c.in-Ok.ensures.behind in
+    let low = behind_stack tree c.in-Ok.program kept.legal kept.order behind in
+    let room = ok_fact _ c.room.result (sym c.is_err.ensures.value ∙ c.if-is_err.false) c.room.ensures.ok in
+    let same = ap (λ (t : cells.Tree TreeCell). past_of (record { cells = t; position = tree.position })) c.room.ensures.same in
+    let nodes = ap (λ (t : cells.Tree TreeCell). t.nodes) c.room.ensures.same in
+    let stands = ok_fact _ c.enter.result (sym c.is_err-else-is_err.ensures.value ∙ c.if-is_err-2.false) c.enter.ensures.ok in
+    let formed = accepted_formed _ _ _ c.in-Ok.ensures.accepts in
+    let can : CanEnter met c.in-Ok.program stack world = record { shows = shows; sound = here_sound tree kept.legal; formed = formed; whole = becomes.whole; ready = c.in-Ok.ensures.ready; behind = low } in
+    let at_text = nodes_more tree old met c.prepare.ensures.kept.names c.prepare.ensures.older kept.ready in
+    kept_begun tree (record { cells = c.room.new.self; position = tree.position }) old c.enter.new.self c.in-Ok.program kept
+    (nodes_ready tree met c.enter.new.self c.enter.ensures.names c.enter.ensures.kept at_text) behind same nodes refl room formed (stands stack world can)
+
+-- a refused text: names may have been met
+pub invariant_of-self : goal.invariant_of-self
+invariant_of-self g c =
+    let idle : c.self.inside.job ≡ Idle = idle_job c.self.inside.job (subst (λ (s : State). s.job ≡ state.Idle) (sym c.self.view_is) c.requires) in
+    let kept : Kept c.self.inside.tree c.self.inside.runner Idle = subst (λ (j : Open). Kept c.self.inside.tree c.self.inside.runner j) idle c.self.invariant.kept in
+    let tree = c.self.inside.tree in
+    let old = c.self.inside.runner in
+    let stack = stack_at tree tree.position in
+    let world = here (past_of tree) in
+    let met = c.prepare.new.runner in
+    let shows = c.prepare.ensures.shown stack world kept.stands in
+    let becomes = becomes_kept old.store met.store kept.whole shows.one_number c.prepare.ensures.kept in
+    subst (λ (j : Open). IsKept tree met j) (sym idle)
+    (idle_in_time tree met (kept_idle tree Idle old met kept (nodes_more tree old met c.prepare.ensures.kept.names c.prepare.ensures.older kept.ready) becomes.whole shows))
+
+-- no memory for its node or its names: its bodies are dropped again
+pub invariant_of-self-then-is_err : goal.invariant_of-self-then-is_err
+invariant_of-self-then-is_err g c =
+    let idle : c.self.inside.job ≡ Idle = idle_job c.self.inside.job (subst (λ (s : State). s.job ≡ state.Idle) (sym c.self.view_is) c.requires) in
+    let kept : Kept c.self.inside.tree c.self.inside.runner Idle = subst (λ (j : Open). Kept c.self.inside.tree c.self.inside.runner j) idle c.self.invariant.kept in
+    let tree = c.self.inside.tree in
+    let old = c.self.inside.runner in
+    let stack = stack_at tree tree.position in
+    let world = here (past_of tree) in
+    let met = c.prepare.new.runner in
+    let shows = c.prepare.ensures.shown stack world kept.stands in
+    let becomes = becomes_kept old.store met.store kept.whole shows.one_number c.prepare.ensures.kept in
+    let behind = posted_behind tree old c.in-Ok.program kept.ready c.in-Ok.ensures.behind in
+    let low = behind_stack tree c.in-Ok.program kept.legal kept.order behind in
+    let past = ap (λ (t : cells.Tree TreeCell). past_of (record { cells = t; position = tree.position })) c.room.ensures.same in
+    let nodes = ap (λ (t : cells.Tree TreeCell). t.nodes) c.room.ensures.same in
+    let left = c.then-is_err.self-inside in
+    let unentered : IsUnentered tree old left.tree left.runner left.job = elim c.then-is_err.branch [
+      | then-is_err-via-then-is_err w ↦ rw w.self-inside-is (record {
+        past = past;
+        nodes = nodes;
+        position = refl;
+        names = c.prepare.ensures.kept.names;
+        whole = becomes.whole;
+        shows = shows;
+        older = c.prepare.ensures.older;
+        idle = idle;
+      })
+      | then-is_err-via-else-is_err+then-is_err-2 w ↦
+          (let failed = sym w.is_err-else-is_err.ensures.value ∙ w.if-is_err-2.true in
+          let entered = err_fact _ w.enter.result failed w.enter.ensures.err in
+          let same = err_fact _ w.enter.result failed w.enter.ensures.same in
+          rw w.self-inside-is (record {
+            past = past;
+            nodes = nodes;
+            position = refl;
+            names = more_yet old.store.names met.store.names w.enter.new.self.store.names c.prepare.ensures.kept.names entered.names;
+            whole = entered.whole;
+            shows = shows_still met w.enter.new.self stack world becomes.whole entered same shows;
+            older = subst (λ (t : Procedures). take (length (kept_in old.procedures)) (kept_in t) ≡ kept_in old.procedures) (sym same) c.prepare.ensures.older;
+            idle = idle;
+          }))
+    ] in
+    kept_dropped tree left.tree old left.runner (record { store = left.runner.store; cursor = left.runner.cursor; procedures = c.forget.new.self }) left.job c.in-Ok.program.first kept unentered c.in-Ok.ensures.behind low refl c.forget.ensures.kept c.forget.ensures.defined
+
+pub returns : goal.returns
+returns g c =
+    let idle : c.self.inside.job ≡ Idle = idle_job c.self.inside.job (subst (λ (s : State). s.job ≡ state.Idle) (sym c.self.view_is) c.requires) in
+    let kept : Kept c.self.inside.tree c.self.inside.runner Idle = subst (λ (j : Open). Kept c.self.inside.tree c.self.inside.runner j) idle c.self.invariant.kept in
+    let cell : Cell = cell_of_program c.in-Ok.program in
+    let job : state.Job = state.Inside (record { work = state.Posted (cell_of_program c.in-Ok.program); count = 0; turn = GoesOn }) in
+    let made : Tree = record { cells = c.room.new.self; position = c.self.inside.tree.position } in
+    let same = ap (λ (t : cells.Tree TreeCell). past_of (record { cells = t; position = c.self.inside.tree.position })) c.room.ensures.same in
+    let room : state.is_full (past_of c.self.inside.tree) ≡ false = sym c.is_full.ensures ∙ c.if-is_full.false in
+    subst (λ (s : State). TakesCell s.past c.args.text.now (state.is_full s.past) begun.Going (record { past = past_of made; job = job })) c.self.view_is
+    (subst (λ (full : Bool). TakesCell (past_of c.self.inside.tree) c.args.text.now full begun.Going (record { past = past_of made; job = job })) (sym room)
+    (inl (
+      cell_of_program c.in-Ok.program,
+      c.in-Ok.ensures.accepts,
+      refl,
+      ap (λ (p : state.Past). record { past = p; job = job }) same,
+    )))

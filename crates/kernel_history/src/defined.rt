@@ -1,0 +1,106 @@
+//! The procedures of a world, the newest first, as the cells on the path from its node to the root define them.
+ghost use Rattle.std.specs.Prelude.{◌≡◌, ℕ, ◌++◌, [], List, map, IfOk, OnOk};
+ghost use Rattle.janus_meaning.specs.Syntax.{Proc};
+ghost use Rattle.janus_meaning.specs.World.{define as defined_over};
+ghost use Rattle.janus_syntax.specs.Tree.{procedures_view};
+ghost use Rattle.janus_syntax.specs.View.{plain_procedure};
+ghost use Rattle.kernel_runner.specs.Defined.{in_a_row};
+ghost use Rattle.kernel_history.specs.Fields.{past_of, job_of, work_of};
+ghost use Rattle.kernel_history.specs.Kept.{HasPathAt, HasPathFor};
+ghost use Rattle.kernel_machine.specs.Language.{start_of};
+ghost use Rattle.kernel_runner.specs.Runner.{Shows};
+ghost use Rattle.kernel_machine.specs.Legal.{IsLegal, IsPossibleAt, IsPossibleWork};
+ghost use Rattle.kernel_machine.specs.State.{here, code_of, procedures_at};
+
+use crate::job::{Open, Work};
+use crate::tree::{Tree, below};
+use janus_syntax::tree::Procedure;
+use kernel_machine::Way;
+use kernel_runner::Runner;
+use std::alloc::{AllocError, Global};
+use std::sync::ledger::Ledger;
+
+/// The procedures of the cell that is open, which its steps began with; none between two cells, and none of a cell that is undone.
+pub fn own_procedures<'a>(tree: &'a Tree, job: &'a Open) -> &'a [Procedure]
+    requires legal { IsLegal (past_of tree.now) }
+    requires possible { IsPossibleAt (past_of tree.now) (job_of job.now) }
+    requires path { HasPathAt tree.now job.now }
+    ensures { defined_over (map plain_procedure (procedures_view result.now)) (here (past_of tree.now)).procedures ≡ procedures_at (past_of tree.now) (job_of job.now) }
+{
+    match job {
+        Open::Idle | Open::Border(_) => &[],
+        Open::Inside(entered) => procedures_of(tree, &entered.work),
+    }
+}
+
+/// The procedures that the work's cell defines as it begins.
+fn procedures_of<'a>(tree: &'a Tree, work: &'a Work) -> &'a [Procedure]
+    requires legal { IsLegal (past_of tree.now) }
+    requires possible { IsPossibleWork (past_of tree.now) (work_of work.now) }
+    requires path { HasPathFor tree.now work.now }
+    ensures { defined_over (map plain_procedure (procedures_view result.now)) (here (past_of tree.now)).procedures ≡ (start_of (code_of (past_of tree.now) (work_of work.now)) (here (past_of tree.now))).procedures }
+{
+    match work {
+        Work::Cell(program) => program.procedures(),
+        Work::Move(travel) => match travel.way() {
+            Way::Up => &[],
+            Way::Down => tree
+                .cells
+                .content(below(tree, *travel))
+                .program
+                .procedures(),
+        },
+    }
+}
+
+/// The procedures of the position's world with these defined over them, the newest first. A newer one hides an older one of its name, which
+/// stands behind it. The only error is want of memory.
+pub fn all_procedures<'a>(
+    alloc: Global,
+    tree: &'a Tree,
+    own: &'a [Procedure],
+) -> Result<Vec<&'a Procedure>, AllocError>
+    requires { IsLegal (past_of tree.now) }
+    ensures { IfOk result (λ all. in_a_row all.items ≡ defined_over (map plain_procedure (procedures_view own.now)) (here (past_of tree.now)).procedures) }
+{
+    let mut all = Vec::new(alloc);
+    add_newest_first(&mut all, own)?;
+    let mut at = tree.position;
+    while at != 0 {
+        add_newest_first(&mut all, tree.cells.content(at).program.procedures())?;
+        at = tree.cells.parent(at);
+    }
+    Ok(all)
+}
+
+/// The procedures of the position's world, which a runner shows, the newest first. Where no body is kept there is none, and no node is
+/// walked over. The only error is want of memory.
+pub fn procedures_here<'a, L: Ledger>(
+    alloc: Global,
+    tree: &'a Tree,
+    runner: &Runner<L>,
+) -> Result<Vec<&'a Procedure>, AllocError>
+    requires legal { IsLegal (past_of tree.now) }
+    requires shows { (stack : List ℕ) × Shows runner.now stack (here (past_of tree.now)) }
+    ensures { IfOk result (λ all. in_a_row all.items ≡ (here (past_of tree.now)).procedures) }
+{
+    if runner.procedures.len() == 0 {
+        return Ok(Vec::new(alloc));
+    }
+    all_procedures(alloc, tree, &[])
+}
+
+/// Adds the procedures of a cell, the last one first. The only error is want of memory.
+fn add_newest_first<'a>(
+    all: &mut Vec<&'a Procedure>,
+    procedures: &'a [Procedure],
+) -> Result<(), AllocError>
+    ensures { OnOk result (in_a_row all.new.items ≡ in_a_row all.old.items ++ defined_over (map plain_procedure (procedures_view procedures.now)) []) }
+{
+    let mut left = procedures.len();
+    while left > 0 {
+        left -= 1;
+        all.push(&procedures[left])?;
+    }
+    Ok(())
+}

@@ -1,0 +1,309 @@
+//! The history: the tree of cells, the one store, and the open job. It is what a kernel has besides its queue.
+ghost use Rattle.std.specs.Prelude.{◌≡◌, ◌≤◌, ℕ, List, IfOk, IfErr, OnOk, OnErr, length, nat_lt, take, vec_capacity};
+ghost use Rattle.janus_meaning.specs.World.{World};
+ghost use Rattle.kernel_machine.specs.State.{State, Idle, Border, here, is_full, Shown, new_state};
+ghost use Rattle.kernel_history.specs.Fields.{past_of, nodes_of, state_of, IsStageOf};
+ghost use Rattle.kernel_machine.specs.declared.travel.Aim.TheVariants.{Undo, Redo};
+ghost use Rattle.kernel_machine.specs.Legal.{IsLegal, IsPossible, IsCounted, CanGo, can_undo, can_redo};
+ghost use Rattle.kernel_machine.specs.Slices.{IsSlice, cells};
+ghost use Rattle.kernel_machine.specs.StepsOfSlices.{WritesOnSlice};
+ghost use Rattle.kernel_machine.specs.Begins.{TakesCell, TakesMove, TakesGoto, Departs, Enters, Declares, travel_to};
+ghost use Rattle.janus_names.specs.Numbers.{GoOn};
+ghost use Rattle.janus_store.specs.Held.{IsWhole, KeepsSight};
+ghost use Rattle.janus_machine.specs.Bodies.{kept_in};
+ghost use Rattle.kernel_machine.specs.Text.{Accepts, Refuses};
+ghost use Rattle.kernel_runner.specs.Program.{cell_of_program, IsReady};
+ghost use Rattle.kernel_runner.specs.Runner.{Becomes, Shows};
+ghost use Rattle.kernel_machine.specs.Extent.{IsExtent};
+ghost use Rattle.kernel_history.specs.Kept.{HasRoom, HasPath, NodesAreReady, AreInOrder, stack_at, Kept, IsKept, StandsAt};
+
+use crate::defined::procedures_here;
+use crate::extent::extent_of;
+use crate::job::{Entered, Open, Stage, Work};
+use crate::settle::{finished, go_back, go_on, turn_back};
+use crate::tree::{Tree, below, can_go_down, can_go_up, find_way, is_full};
+use crate::view::View;
+use cell_tree::Tree as Cells;
+use janus_machine::{Store, Writes};
+use kernel_machine::{Aim, Begun, End, Extent, Outcome, Refusal, Sliced, Travel, Turn, Way, Why};
+use kernel_runner::{Program, Runner};
+use std::alloc::{AllocError, Global};
+use std::marker::Model;
+use std::mem;
+use std::sync::ledger::Ledger;
+
+/// The tree, the runner with the one store, and the open job.
+/// Contracts see a state of the machine, with the worlds of all nodes. None of them is kept here.
+#[derive(Drop)]
+pub struct History<L: Ledger> {
+    tree: Tree,
+    runner: Runner<L>,
+    job: Open,
+}
+
+impl<L: Ledger> Model for History<L> {
+    ghost use Rattle.kernel_machine.specs.State.{State};
+    ghost use Rattle.kernel_machine.specs.StateCode.{state_code};
+
+    ghost Value = { State };
+
+    ghost coded = { state_code };
+
+    ghost use Rattle.kernel_history.specs.Fields.{state_of};
+    ghost use Rattle.kernel_history.specs.Kept.{IsKept};
+
+    ghost view = { λ a. state_of a.tree a.job };
+
+    ghost invariant = { λ a. IsKept a.tree a.runner a.job };
+}
+
+/// Enters the next cell of a travel: an undone one takes no memory.
+fn enter_next<L: Ledger>(
+    tree: &Tree,
+    runner: &mut Runner<L>,
+    travel: Travel,
+) -> Result<(), AllocError>
+    requires legal { IsLegal (past_of tree.now) }
+    requires possible { IsPossible (nodes_of tree.now) tree.now.cells.favourites tree.now.position travel }
+    requires path { HasPath travel.aim tree.now travel.down }
+    requires shows { Shows runner.old (stack_at tree.now tree.now.position) (here (past_of tree.now)) }
+    requires whole { IsWhole runner.old.store }
+    requires ready { NodesAreReady tree.now runner.old }
+    requires order { AreInOrder tree.now }
+    ensures ok { OnOk result (StandsAt tree.now (Open.Inside (record { work = Work.Move travel; count = 0; turn = Turn.GoesOn })) runner.new) }
+    ensures err { OnErr result (Becomes runner.old.store runner.new.store runner.old.store.sight) }
+    ensures same { OnErr result (runner.new.procedures ≡ runner.old.procedures) }
+    ensures bodies { kept_in runner.new.procedures ≡ kept_in runner.old.procedures }
+    ensures names { GoOn runner.old.store.names runner.new.store.names }
+    ensures declares { OnErr result (Declares (past_of tree.now) travel) }
+{
+    match travel.way() {
+        Way::Up => {
+            runner.enter_inverse(&tree.cells.content(tree.position).program);
+            Ok(())
+        }
+        Way::Down => runner.enter(&tree.cells.content(below(tree, travel)).program),
+    }
+}
+
+/// Enters the next cell of a travel, or ends it for want of memory.
+fn enter<L: Ledger>(tree: &Tree, runner: &mut Runner<L>, travel: Travel) -> (Open, Begun)
+    requires { Kept tree.now runner.old (Open.Border travel) }
+    ensures step { Enters (past_of tree.now) travel result.1 (state_of tree.now result.0) }
+    ensures kept { IsKept tree.now runner.new result.0 }
+{
+    if enter_next(tree, runner, travel).is_err() {
+        return (Open::Idle, Begun::Ended(finished(travel, End::NoMemory)));
+    }
+    let entered = Entered {
+        work: Work::Move(travel),
+        count: 0,
+        turn: Turn::GoesOn,
+    };
+    (Open::Inside(entered), Begun::Going)
+}
+
+/// Ends a travel without cells at once, or enters its first cell.
+fn depart<L: Ledger>(tree: &Tree, runner: &mut Runner<L>, travel: Travel) -> (Open, Begun)
+    requires idle { Kept tree.now runner.old Open.Idle }
+    requires way { CanGo travel.aim (nodes_of tree.now) tree.now.cells.favourites tree.now.position travel.up travel.down }
+    requires counted { IsCounted travel }
+    requires path { HasPath travel.aim tree.now travel.down }
+    ensures step { Departs (cells travel) (past_of tree.now) travel result.1 (state_of tree.now result.0) }
+    ensures kept { IsKept tree.now runner.new result.0 }
+{
+    if travel.is_over() {
+        return (Open::Idle, Begun::Ended(finished(travel, End::All)));
+    }
+    enter(tree, runner, travel)
+}
+
+/// The program of a posted cell's text over the world of the position; or why the text is refused.
+fn prepare<L: Ledger>(
+    alloc: Global,
+    text: &str,
+    tree: &Tree,
+    runner: &mut Runner<L>,
+) -> Result<Program, Refusal>
+    requires legal { IsLegal (past_of tree.now) }
+    requires shows { (stack : List ℕ) × Shows runner.old stack (here (past_of tree.now)) }
+    requires whole { IsWhole runner.old.store }
+    ensures accepts { IfOk result (λ program. Accepts (here (past_of tree.now)) text.now (cell_of_program program)) }
+    ensures refuses { IfErr result (Refuses (here (past_of tree.now)) text.now) }
+    ensures ready { IfOk result (λ program. IsReady runner.new.store.names runner.new.procedures program) }
+    // Its bodies are behind those that were kept, and what is refused leaves those alone.
+    ensures behind { IfOk result (λ program. program.first ≡ length (kept_in runner.old.procedures)) }
+    ensures older { take (length (kept_in runner.old.procedures)) (kept_in runner.new.procedures) ≡ kept_in runner.old.procedures }
+    ensures kept { KeepsSight runner.old.store runner.new.store }
+    ensures shown { (stack : List ℕ) (w : World) → Shows runner.old stack w → Shows runner.new stack w }
+{
+    let Ok(procedures) = procedures_here(alloc, tree, runner) else {
+        return Err(Refusal::Memory);
+    };
+    Program::of_text(alloc, text, &procedures, runner)
+}
+
+impl<L: Ledger> History<L> {
+    /// An empty history.
+    pub fn new(alloc: Global) -> Result<History<L>, AllocError>
+        ensures { IfOk result (λ history. history ≡ new_state) }
+    {
+        let cells = Cells::new(alloc)?;
+        let runner = Runner::new(alloc)?;
+        Ok(History {
+            tree: Tree { cells, position: 0 },
+            runner,
+            job: Open::Idle,
+        })
+    }
+
+    /// The shown world.
+    pub fn world(&self) -> View<'_, L>
+        ensures { Shown self.now result }
+    {
+        View::of(&self.runner, &self.tree, &self.job)
+    }
+
+    /// The store between two jobs: it has the names and values of the position's world, and no local is open.
+    pub fn store(&self) -> &Store<L>
+        requires { self.now.job ≡ Idle }
+        ensures sight { result.now.sight ≡ (here self.now.past).store }
+        ensures whole { IsWhole result.now }
+    {
+        &self.runner.store
+    }
+
+    /// The number of the node at which the kernel stands.
+    pub fn position(&self) -> usize
+        ensures { result ≡ self.now.past.position }
+    {
+        self.tree.position
+    }
+
+    /// How far an undo and a redo can go, and how many nodes there are.
+    pub fn extent(&self) -> Extent
+        ensures { IsExtent self.now.past result }
+    {
+        extent_of(&self.tree)
+    }
+
+    /// Begins a posted cell: it takes all memory of its run, that of its node included. Where the history has as many nodes as it
+    /// may have, the cell is refused whatever its text.
+    pub fn begin_cell(&mut self, alloc: Global, text: &str) -> Begun
+        requires { self.old.job ≡ Idle }
+        ensures { TakesCell self.old.past text.now (is_full self.old.past) result self.new }
+    {
+        if is_full(&self.tree) {
+            return Begun::Ended(Outcome::Refused(Refusal::HistoryFull));
+        }
+        let program = match prepare(alloc, text, &self.tree, &mut self.runner) {
+            Ok(program) => program,
+            Err(refusal) => return Begun::Ended(Outcome::Refused(refusal)),
+        };
+        if self.tree.cells.room().is_err() || self.runner.enter(&program).is_err() {
+            self.runner.procedures.forget(program.first);
+            return Begun::Ended(Outcome::Refused(Refusal::Memory));
+        }
+        self.job = Open::Inside(Entered {
+            work: Work::Cell(program),
+            count: 0,
+            turn: Turn::GoesOn,
+        });
+        Begun::Going
+    }
+
+    /// Begins an undo of `k` cells.
+    pub fn begin_undo(&mut self, k: u32) -> Begun
+        requires { self.old.job ≡ Idle }
+        ensures { TakesMove self.old.past (travel_to Undo k 0) (can_undo self.old.past.nodes self.old.past.position k) result self.new }
+    {
+        if !can_go_up(&self.tree, k) {
+            return Begun::Ended(Outcome::Refused(Refusal::TooFar));
+        }
+        let travel = Travel::new(Aim::Undo, k as usize, 0);
+        let (job, told) = depart(&self.tree, &mut self.runner, travel);
+        self.job = job;
+        told
+    }
+
+    /// Begins a redo of `k` cells.
+    pub fn begin_redo(&mut self, k: u32) -> Begun
+        requires { self.old.job ≡ Idle }
+        ensures { TakesMove self.old.past (travel_to Redo 0 k) (can_redo self.old.past.favourites self.old.past.position k) result self.new }
+    {
+        if !can_go_down(&self.tree, k) {
+            return Begun::Ended(Outcome::Refused(Refusal::TooFar));
+        }
+        let travel = Travel::new(Aim::Redo, 0, k as usize);
+        let (job, told) = depart(&self.tree, &mut self.runner, travel);
+        self.job = job;
+        told
+    }
+
+    /// Begins a goto to the node `n`.
+    pub fn begin_goto(&mut self, n: u32) -> Begun
+        requires { self.old.job ≡ Idle }
+        ensures { TakesGoto self.old.past n (nat_lt n (length self.old.past.nodes)) result self.new }
+    {
+        let n = n as usize;
+        let Ok(way) = find_way(&mut self.tree, n) else {
+            return Begun::Ended(Outcome::Refused(Refusal::NoNode));
+        };
+        let travel = Travel::new(Aim::Goto(n), way.up, way.down);
+        let (job, told) = depart(&self.tree, &mut self.runner, travel);
+        self.job = job;
+        told
+    }
+
+    /// Enters the next cell of a travel.
+    pub fn enter(&mut self, travel: Travel) -> Begun
+        requires { self.old.job ≡ Border travel }
+        ensures { Enters self.old.past travel result self.new }
+    {
+        let (job, told) = enter(&self.tree, &mut self.runner, travel);
+        self.job = job;
+        told
+    }
+
+    /// Where the open job stands.
+    pub fn stage(&self) -> Stage
+        ensures { IsStageOf self.now result }
+    {
+        match &self.job {
+            Open::Idle => Stage::Idle,
+            Open::Border(travel) => Stage::Border(*travel),
+            Open::Inside(_) => Stage::Inside,
+        }
+    }
+
+    /// One slice of up to `m` steps. It takes no memory.
+    pub fn slice(&mut self, writes: &mut Writes<L>, m: u64, asked: bool) -> Sliced
+        ensures slice { IsSlice self.old m asked result self.new }
+        ensures written { WritesOnSlice self.old m asked writes.old writes.new }
+    {
+        match mem::replace(&mut self.job, Open::Idle) {
+            Open::Idle => Sliced::Nothing,
+            Open::Border(travel) => {
+                self.job = Open::Border(travel);
+                Sliced::Nothing
+            }
+            Open::Inside(entered) => {
+                let Entered { work, count, turn } = entered;
+                let (job, told) = match turn {
+                    Turn::GoesBack(why) => {
+                        go_back(&self.tree, &mut self.runner, writes, work, count, why, m)
+                    }
+                    Turn::GoesOn if asked => {
+                        let why = Why::WasAsked(count);
+                        turn_back(&self.tree, &mut self.runner, writes, work, count, why, m)
+                    }
+                    Turn::GoesOn => {
+                        go_on(&mut self.tree, &mut self.runner, writes, work, count, m)
+                    }
+                };
+                self.job = job;
+                told
+            }
+        }
+    }
+}

@@ -1,0 +1,35 @@
+//! The open job: what it does, and how far it is.
+use kernel_machine::{Travel, Turn};
+use kernel_runner::Program;
+
+/// What runs inside a cell: a posted cell, or the next cell of a travel.
+#[derive(Drop)]
+pub enum Work {
+    Cell(Program),
+    Move(Travel),
+}
+
+/// A job inside a cell, and how many steps of the cell are taken.
+#[derive(Drop)]
+pub struct Entered {
+    pub work: Work,
+    pub count: u64,
+    pub turn: Turn,
+}
+
+/// The open job, if there is one.
+#[derive(Drop)]
+pub enum Open {
+    Idle,
+    /// A travel between two of its cells.
+    Border(Travel),
+    Inside(Entered),
+}
+
+/// Where the open job stands.
+#[derive(Clone, Copy)]
+pub enum Stage {
+    Idle,
+    Border(Travel),
+    Inside,
+}

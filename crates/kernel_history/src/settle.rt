@@ -1,0 +1,247 @@
+//! The parts of a slice: steps onward and back, and what comes at the end of a cell. None of them takes memory.
+ghost use Rattle.std.specs.Prelude.{◌≡◌, ◌-◌};
+ghost use Rattle.kernel_machine.specs.Language.{CodePart};
+ghost use Rattle.kernel_machine.specs.State.{Past, here, code_of};
+ghost use Rattle.kernel_machine.specs.declared.travel.Way.TheVariants.{Up, Down};
+ghost use Rattle.kernel_machine.specs.Travel.{next_way};
+ghost use Rattle.kernel_history.specs.Fields.{past_of, state_of, work_of, job_of};
+ghost use Rattle.kernel_machine.specs.Legal.{IsLegal, IsPossibleWork};
+ghost use Rattle.kernel_machine.specs.Slices.{finished as the_finished, turned as the_turned, Backs, cells, Arrives, Settles, Goes, HasEnded};
+ghost use Rattle.janus_machine.specs.Counts.{IsWritten};
+ghost use Rattle.kernel_machine.specs.StepsOfSlices.{steps_back, WritesOn};
+ghost use Rattle.janus_names.specs.Numbers.{GoOn};
+ghost use Rattle.janus_store.specs.Held.{IsWhole};
+ghost use Rattle.kernel_machine.specs.Language.{start_of};
+ghost use Rattle.kernel_runner.specs.Runner.{world_of, Shows};
+ghost use Rattle.kernel_history.specs.Kept.{Kept, HasCome, IsProgramOf, HasPathFor, NodesAreReady, reached, stack_at};
+
+use crate::job::{Entered, Open, Work};
+use crate::tree::{Cell, Tree, below};
+use cell_tree::Node;
+use janus_machine::Writes;
+use kernel_machine::{Aim, End, Outcome, Progress, Sliced, Travel, Turn, Way, Why};
+use kernel_runner::{Program, Runner};
+use std::sync::ledger::Ledger;
+
+/// The program that the work runs: forward, or for an undo backward.
+fn program_of<'a>(tree: &'a Tree, work: &'a Work) -> &'a Program
+    requires legal { IsLegal (past_of tree.now) }
+    requires possible { IsPossibleWork (past_of tree.now) (work_of work.now) }
+    requires path { HasPathFor tree.now work.now }
+    ensures { IsProgramOf tree.now work.now result.now }
+{
+    match work {
+        Work::Cell(program) => program,
+        Work::Move(travel) => match travel.way() {
+            Way::Up => &tree.cells.content(tree.position).program,
+            Way::Down => &tree.cells.content(below(tree, *travel)).program,
+        },
+    }
+}
+
+pub fn finished(travel: Travel, end: End) -> Outcome
+    ensures { result ≡ the_finished travel end }
+{
+    match travel.aim {
+        Aim::Undo => Outcome::Undid(travel.went_up, end),
+        Aim::Redo => Outcome::Redid(travel.went_down, end),
+        Aim::Goto(_) => Outcome::Went(travel.went_up, travel.went_down, end),
+    }
+}
+
+fn turned(work: &Work, why: Why) -> Outcome
+    ensures { result ≡ the_turned (work_of work.now) why }
+{
+    match work {
+        Work::Cell(_) => match why {
+            Why::WasAsked(at) => Outcome::Interrupted(at),
+            Why::Faulted(fault, at) => Outcome::Failed(fault, at),
+        },
+        Work::Move(travel) => finished(*travel, End::Asked),
+    }
+}
+
+/// Back at the count 0: the names that were declared at the begin and the procedures that were defined are taken back, and those of a
+/// posted cell are forgotten.
+fn settle_back<L: Ledger>(tree: &Tree, runner: &mut Runner<L>, work: &Work)
+    requires kept { (why : Why) × Kept tree.now runner.old (Open.Inside (record { work = work.now; count = 0; turn = Turn.GoesBack why })) }
+    requires whole { IsWhole runner.old.store }
+    ensures shows { Shows runner.new (stack_at tree.now tree.now.position) (here (past_of tree.now)) }
+    ensures ready { NodesAreReady tree.now runner.new }
+    ensures whole { IsWhole runner.new.store }
+    ensures names { GoOn runner.old.store.names runner.new.store.names }
+{
+    match work {
+        Work::Cell(program) => {
+            runner.leave(program);
+            runner.procedures.forget(program.first);
+        }
+        Work::Move(travel) => match travel.way() {
+            Way::Up => {}
+            Way::Down => runner.leave(&tree.cells.content(below(tree, *travel)).program),
+        },
+    }
+}
+
+/// Goes back `m` steps, and settles as not done at the count 0.
+pub fn go_back<L: Ledger>(
+    tree: &Tree,
+    runner: &mut Runner<L>,
+    writes: &mut Writes<L>,
+    work: Work,
+    count: u64,
+    why: Why,
+    m: u64,
+) -> (Open, Sliced)
+    requires { Kept tree.now runner.old (Open.Inside (record { work = work; count = count; turn = Turn.GoesBack why })) }
+    ensures step { Backs (past_of tree.now) (work_of work) why (count - m) result.1 (state_of tree.now result.0) }
+    ensures kept { Kept tree.now runner.new result.0 }
+    ensures written { IsWritten (steps_back count m) writes.old writes.new }
+{
+    runner.back(program_of(tree, &work), writes, m);
+    let left = count.saturating_sub(m);
+    if left == 0 {
+        settle_back(tree, runner, &work);
+        let outcome = turned(&work, why);
+        (Open::Idle, Sliced::Ended(outcome))
+    } else {
+        let turn = Turn::GoesBack(why);
+        (
+            Open::Inside(Entered {
+                work,
+                count: left,
+                turn,
+            }),
+            Sliced::Backing,
+        )
+    }
+}
+
+/// Turns to going back, and goes back `m` steps.
+pub fn turn_back<L: Ledger>(
+    tree: &Tree,
+    runner: &mut Runner<L>,
+    writes: &mut Writes<L>,
+    work: Work,
+    count: u64,
+    why: Why,
+    m: u64,
+) -> (Open, Sliced)
+    requires { Kept tree.now runner.old (Open.Inside (record { work = work; count = count; turn = Turn.GoesOn })) }
+    ensures step { Backs (past_of tree.now) (work_of work) why (count - m) result.1 (state_of tree.now result.0) }
+    ensures kept { Kept tree.now runner.new result.0 }
+    ensures written { IsWritten (steps_back count m) writes.old writes.new }
+{
+    runner.turn(program_of(tree, &work));
+    go_back(tree, runner, writes, work, count, why, m)
+}
+
+/// A cell of the travel is done, which has so many left.
+fn arrive(travel: Travel) -> (Open, Sliced)
+    ensures { (past : Past) → Arrives (cells travel) past travel result.1 (record { past = past; job = job_of result.0 }) }
+{
+    if travel.is_over() {
+        (Open::Idle, Sliced::Ended(finished(travel, End::All)))
+    } else {
+        (Open::Border(travel), Sliced::Border)
+    }
+}
+
+/// A posted cell came to its end, in `n` steps: it becomes a node. The room for it was made before.
+fn settle_cell<L: Ledger>(
+    tree: &mut Tree,
+    runner: &Runner<L>,
+    program: Program,
+    n: u64,
+) -> (Open, Sliced)
+    requires { HasCome tree.old runner.now (Work.Cell program) n }
+    ensures step { Settles (past_of tree.old) (work_of (Work.Cell program)) n (reached tree.old runner.now (Work.Cell program)) result.1 (state_of tree.new result.0) }
+    ensures kept { Kept tree.new runner.now result.0 }
+{
+    let parent = tree.position;
+    let content = Cell { program, steps: n };
+    let number = tree.cells.add(Node { parent, content });
+    tree.cells.set_favourite(parent, number);
+    tree.position = number;
+    (Open::Idle, Sliced::Ended(Outcome::Ran(number, n)))
+}
+
+/// A cell on the way up came to the end of its inverse: its names are zero, and are taken back.
+fn settle_up<L: Ledger>(
+    tree: &mut Tree,
+    runner: &mut Runner<L>,
+    travel: Travel,
+    n: u64,
+) -> (Open, Sliced)
+    requires way { next_way travel ≡ Up }
+    requires come { HasCome tree.old runner.old (Work.Move travel) n }
+    ensures step { Settles (past_of tree.old) (work_of (Work.Move travel)) n (reached tree.old runner.old (Work.Move travel)) result.1 (state_of tree.new result.0) }
+    ensures kept { Kept tree.new runner.new result.0 }
+{
+    runner.leave(&tree.cells.content(tree.position).program);
+    tree.position = tree.cells.parent(tree.position);
+    arrive(travel.stepped())
+}
+
+/// A cell on the way down came to its end: it is the favourite of the one above it.
+fn settle_down<L: Ledger>(
+    tree: &mut Tree,
+    runner: &Runner<L>,
+    travel: Travel,
+    n: u64,
+) -> (Open, Sliced)
+    requires way { next_way travel ≡ Down }
+    requires come { HasCome tree.old runner.now (Work.Move travel) n }
+    ensures step { Settles (past_of tree.old) (work_of (Work.Move travel)) n (reached tree.old runner.now (Work.Move travel)) result.1 (state_of tree.new result.0) }
+    ensures kept { Kept tree.new runner.now result.0 }
+{
+    let child = below(tree, travel);
+    tree.cells.set_favourite(tree.position, child);
+    tree.position = child;
+    arrive(travel.stepped())
+}
+
+/// A cell came to its end, in `n` steps.
+fn settle<L: Ledger>(tree: &mut Tree, runner: &mut Runner<L>, work: Work, n: u64) -> (Open, Sliced)
+    requires { HasCome tree.old runner.old work n }
+    ensures step { Settles (past_of tree.old) (work_of work) n (reached tree.old runner.old work) result.1 (state_of tree.new result.0) }
+    ensures kept { Kept tree.new runner.new result.0 }
+{
+    match work {
+        Work::Cell(program) => settle_cell(tree, runner, program, n),
+        Work::Move(travel) => match travel.way() {
+            Way::Up => settle_up(tree, runner, travel, n),
+            Way::Down => settle_down(tree, runner, travel, n),
+        },
+    }
+}
+
+/// Goes on for `m` steps, or to the end of the cell, or to its stop.
+pub fn go_on<L: Ledger>(
+    tree: &mut Tree,
+    runner: &mut Runner<L>,
+    writes: &mut Writes<L>,
+    work: Work,
+    count: u64,
+    m: u64,
+) -> (Open, Sliced)
+    requires { Kept tree.old runner.old (Open.Inside (record { work = work; count = count; turn = Turn.GoesOn })) }
+    ensures step { Goes (past_of tree.old) (work_of work) count m result.1 (state_of tree.new result.0) }
+    ensures kept { Kept tree.new runner.new result.0 }
+    ensures written { WritesOn (past_of tree.old) (work_of work) count m writes.old writes.new }
+{
+    match runner.run(program_of(tree, &work), writes, m) {
+        Progress::Went => (
+            Open::Inside(Entered {
+                work,
+                count: runner.count(),
+                turn: Turn::GoesOn,
+            }),
+            Sliced::Going,
+        ),
+        Progress::Ended(n) => settle(tree, runner, work, n),
+        Progress::Stopped(j, fault) => {
+            turn_back(tree, runner, writes, work, j, Why::Faulted(fault, j), 0)
+        },
+    }
+}

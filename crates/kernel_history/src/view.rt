@@ -1,0 +1,113 @@
+//! The shown world, lent.
+ghost use Rattle.std.specs.Prelude.{◌≡◌, ◌<◌, ◌↔◌, IsTrue, IfOk, Some, slice_get};
+ghost use Rattle.janus_meaning.specs.Store.{look};
+ghost use Rattle.janus_meaning.specs.World.{size_of, listed};
+ghost use Rattle.janus_store.specs.Held.{shown_store};
+ghost use Rattle.janus_store.specs.Values.{found, shown};
+ghost use Rattle.kernel_runner.specs.Defined.{in_a_row};
+ghost use Rattle.kernel_machine.specs.State.{procedures_at};
+ghost use Rattle.kernel_history.specs.Fields.{past_of, job_of};
+ghost use Rattle.kernel_history.specs.Kept.{HasPathAt};
+ghost use Rattle.kernel_machine.specs.Legal.{IsLegal, IsPossibleAt};
+ghost use Rattle.kernel_runner.specs.Runner.{world_of};
+
+use crate::defined::{all_procedures, own_procedures};
+use crate::job::Open;
+use crate::tree::Tree;
+use janus_machine::Store;
+use janus_store::View as Value;
+use janus_syntax::tree::Procedure;
+use kernel_runner::Runner;
+use std::alloc::{AllocError, Global};
+use std::marker::Model;
+use std::sync::ledger::Ledger;
+
+/// The shown world: the declared names in the order of their declaration, with their values, and the procedures that are defined.
+#[derive(Drop)]
+pub struct View<'a, L: Ledger> {
+    store: &'a Store<L>,
+    tree: &'a Tree,
+    /// The procedures of the open cell, over those of the position.
+    own: &'a [Procedure],
+}
+
+impl<'a, L: Ledger> Model for View<'a, L> {
+    ghost use Rattle.janus_meaning.specs.World.{World};
+    ghost use Rattle.janus_meaning.specs.Codes.{world_code};
+    ghost use Rattle.std.specs.Prelude.{map};
+    ghost use Rattle.janus_meaning.specs.World.{define};
+    ghost use Rattle.janus_syntax.specs.Tree.{procedures_view};
+    ghost use Rattle.janus_syntax.specs.View.{plain_procedure};
+    ghost use Rattle.janus_store.specs.Held.{shown_store};
+    ghost use Rattle.kernel_history.specs.Fields.{past_of};
+    ghost use Rattle.kernel_machine.specs.Legal.{IsLegal};
+    ghost use Rattle.kernel_machine.specs.State.{here};
+
+    ghost Value = { World };
+
+    ghost coded = { world_code };
+
+    ghost view = { λ v. record { store = shown_store v.store.now; procedures = define (map plain_procedure (procedures_view v.own.now)) (here (past_of v.tree.now)).procedures } };
+
+    ghost invariant = { λ v. IsLegal (past_of v.tree.now) };
+}
+
+impl<'a, L: Ledger> View<'a, L> {
+    /// The world that a runner shows, where the tree and the open job are these.
+    pub(crate) fn of(runner: &'a Runner<L>, tree: &'a Tree, job: &'a Open) -> View<'a, L>
+        requires legal { IsLegal (past_of tree.now) }
+        requires possible { IsPossibleAt (past_of tree.now) (job_of job.now) }
+        requires path { HasPathAt tree.now job.now }
+        ensures { result ≡ world_of (procedures_at (past_of tree.now) (job_of job.now)) runner.now }
+    {
+        View {
+            store: &runner.store,
+            tree,
+            own: own_procedures(tree, job),
+        }
+    }
+
+    /// The store that holds the names and their values.
+    pub fn store(&self) -> &Store<L>
+        ensures { shown_store result.now ≡ self.now.store }
+    {
+        self.store
+    }
+
+    /// How many names are declared.
+    pub fn len(&self) -> usize
+        ensures { result ≡ size_of self.now.store }
+    {
+        self.store.len()
+    }
+
+    /// Whether no name is declared.
+    pub fn is_empty(&self) -> bool
+        ensures { IsTrue result ↔ (size_of self.now.store ≡ 0) }
+    {
+        self.store.has_no_names()
+    }
+
+    /// The i-th name in the order of declaration, the oldest being 0, with its value.
+    pub fn entry(&self, i: usize) -> (&str, Value<'_>)
+        requires { i < size_of self.now.store }
+        ensures { slice_get (listed self.now.store) i ≡ Some (result.0.now, shown result.1) }
+    {
+        self.store.entry(i)
+    }
+
+    /// The value of a name, if it is declared.
+    pub fn value(&self, name: &str) -> Option<Value<'_>>
+        ensures { found result ≡ look name.now self.now.store }
+    {
+        self.store.value(name)
+    }
+
+    /// The procedures that are defined, the newest first. A newer one hides an older one of its name, which stands behind it. The only
+    /// error is want of memory.
+    pub fn procedures(&self, alloc: Global) -> Result<Vec<&Procedure>, AllocError>
+        ensures { IfOk result (λ all. in_a_row all.items ≡ self.now.procedures) }
+    {
+        all_procedures(alloc, self.tree, self.own)
+    }
+}

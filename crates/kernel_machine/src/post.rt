@@ -1,0 +1,106 @@
+//! What frontends post, and why a post is refused.
+ghost use Rattle.std.specs.Prelude.{◌≡◌, IfOk};
+ghost use Rattle.kernel_machine.specs.Request.{request_of, is_counted};
+
+use std::alloc::AllocError;
+use thiserror::Error;
+
+/// What a frontend posts.
+#[derive(Debug, Drop)]
+pub enum Job {
+    /// The text of a cell. One that is not silent and is to be stored raises the execution counter as it is begun.
+    Cell {
+        code: String,
+        silent: bool,
+        store: bool,
+    },
+    /// The cells of so many nodes, from the position up.
+    Undo(u32),
+    /// The cells of so many nodes, from the position down along favourites.
+    Redo(u32),
+    /// The cells from the position up to where the paths meet, and from there down to the node of this number.
+    Goto(u32),
+}
+
+impl Job {
+    /// The same job, in memory of its own. The only error is want of memory.
+    pub fn try_clone(&self) -> Result<Job, AllocError>
+        ensures { IfOk result (λ job. request_of job ≡ request_of self.now) }
+    {
+        match self {
+            Job::Cell {
+                code,
+                silent,
+                store,
+            } => Ok(Job::Cell {
+                code: code.clone()?,
+                silent: *silent,
+                store: *store,
+            }),
+            Job::Undo(k) => Ok(Job::Undo(*k)),
+            Job::Redo(k) => Ok(Job::Redo(*k)),
+            Job::Goto(n) => Ok(Job::Goto(*n)),
+        }
+    }
+
+    /// Whether it raises the execution counter.
+    pub fn is_counted(&self) -> bool
+        ensures { result ≡ is_counted (request_of self.now) }
+    {
+        match self {
+            Job::Cell {
+                code: _,
+                silent,
+                store,
+            } => !*silent && *store,
+            Job::Undo(_) => false,
+            Job::Redo(_) => false,
+            Job::Goto(_) => false,
+        }
+    }
+}
+
+/// Why a post was refused. It changed nothing.
+#[derive(Clone, Copy, Debug, PartialEq, Eq, Error)]
+pub enum PostFault {
+    /// The kernel was shut.
+    #[error("Closing")]
+    Closing,
+    /// The minutes have no places for one more post and its end.
+    #[error("MinutesFull")]
+    MinutesFull,
+    /// As many jobs as may wait are posted and not begun.
+    #[error("QueueFull")]
+    QueueFull,
+    /// There was no memory for the queue and the minutes, or for a copy of the job.
+    #[error("Memory")]
+    Memory,
+}
+
+impl PostFault {
+    ghost use Rattle.kernel_machine.specs.PostFault.{number_of, name_of};
+
+    /// The number under which the refusal is told.
+    pub fn number(self) -> u8
+        ensures { result ≡ number_of self }
+    {
+        match self {
+            PostFault::QueueFull => 74,
+            PostFault::Closing => 75,
+            PostFault::Memory => 76,
+            PostFault::MinutesFull => 77,
+        }
+    }
+
+    /// The word under which the refusal is told.
+    pub fn name(self) -> &'static str
+        ensures { result.now ≡ name_of self }
+    {
+        match self {
+            PostFault::QueueFull => "QueueFull",
+            PostFault::Closing => "Closing",
+            PostFault::Memory => "Memory",
+            PostFault::MinutesFull => "MinutesFull",
+        }
+    }
+}

@@ -1,0 +1,181 @@
+-- Names that are declared one after another, and retired again.
+use Rattle.std.proofs.Common.{get_or, ◌≡◌, ℕ, pos, ◌-◌, ◌<◌, ◌≤◌, inl, inr, List, [], ◌∷◌, length, map, take, zero, suc, Bool, true, false, Some, None, refl, ap, sym, ◌∙◌, subst, arith}
+use Rattle.std.proofs.lemmas.Bool.{cases_lt}
+use Rattle.janus_meaning.specs.Fault.{Res, Bad, Broken}
+use Rattle.janus_meaning.specs.Syntax.{Name, Kind, ANumber, AnArray, AStack}
+use Rattle.janus_meaning.specs.Store.{Val, Num, Arr, Stk, Lent, Store, Bare, Slot, zeros, look, look_at, same_name}
+use Rattle.janus_meaning.specs.Shape.{Shape, stack_count, shape_of, with_slot, kind_of, kind_at, pick_newest}
+use Rattle.janus_meaning.specs.FormedWorld.{AreNew, declared_kind, HasRoom, HaveValues}
+use Rattle.janus_meaning.proofs.Scopes.{without_other}
+use Rattle.janus_meaning.specs.World.{Declaration, DeclareInt, DeclareArray, DeclareStack, declare, declare_one, declared_name, dropped, stacks_in, size_of}
+use Rattle.janus_meaning.specs.Limit.{live_stack_limit}
+use Rattle.janus_names.specs.Numbers.{HaveOneNumber}
+use Rattle.janus_store.specs.Held.{Held, IsWhole, Declares, KeepsSight}
+use Rattle.janus_store.specs.Stores.{IsFirstOnTop, rest_of}
+use Rattle.kernel_runner.specs.Declarable.{HasStackRoom}
+use Rattle.kernel_runner.specs.Runner.{Becomes}
+use Rattle.kernel_runner.proofs.Growing.{no_more, more_yet}
+
+-- one name more is dropped
+pub dropped_more : (i : ℕ) (s : Store) → dropped (suc i) s ≡ rest_of (dropped i s)
+dropped_more zero Bare = refl
+dropped_more zero (Slot x v s) = refl
+dropped_more (suc i) Bare = refl
+dropped_more (suc i) (Slot x v s) = dropped_more i s
+
+-- what a name is declared with stands on top
+declared_rest : (d : Declaration) (s : Store) → rest_of (declare_one d s) ≡ s
+declared_rest (DeclareInt x) s = refl
+declared_rest (DeclareArray x n) s = refl
+declared_rest (DeclareStack x) s = refl
+
+zeros_length : (n : ℕ) → length (zeros n) ≡ n
+zeros_length zero = refl
+zeros_length (suc n) = ap suc (zeros_length n)
+
+declared_on_top : (d : Declaration) (s : Store) → IsFirstOnTop (declare_one d s)
+declared_on_top (DeclareInt x) s = (x, Num (pos 0), s, refl, refl)
+declared_on_top (DeclareArray x n) s = (x, Arr (zeros n), s, refl, ap (λ n. Arr (zeros n)) (zeros_length n))
+declared_on_top (DeclareStack x) s = (x, Stk [], s, refl, refl)
+
+pub dropped_all : (ds : List Declaration) (s : Store) → dropped (length ds) (declare ds s) ≡ s
+dropped_all [] s = refl
+dropped_all (d ∷ ds) s = dropped_more (length ds) (declare ds (declare_one d s)) ∙ ap rest_of (dropped_all ds (declare_one d s)) ∙ declared_rest d s
+
+-- the newest of them have the values that they were declared with
+pub first_on_top : (ds : List Declaration) (s : Store) (i : ℕ) → i < length ds → IsFirstOnTop (dropped i (declare ds s))
+first_on_top [] s i l = absurd (omega arith)
+first_on_top (d ∷ ds) s i l = elim (cases_lt i (length ds)) [
+  | inl below ↦ first_on_top ds (declare_one d s) i below
+  | inr last ↦ (let e : i ≡ length ds = omega arith in
+      subst IsFirstOnTop (sym (ap (λ i. dropped i (declare ds (declare_one d s))) e ∙ dropped_all ds (declare_one d s))) (declared_on_top d s))
+]
+
+-- ---- new names
+
+some_is_none : {P : Type 0} (k : Kind) → Some k ≡ None → P
+some_is_none k h = cc
+
+absent_at : (b : Bool) (x y : Name) (v : Val) (g : Shape) (r : Res Val) → same_name x y ≡ b → kind_at x (with_slot y (kind_of v) g) ≡ None → (kind_at x g ≡ None → r ≡ Bad Broken) → look_at b v r ≡ Bad Broken
+absent_at true x y (Num n) g r s e f = some_is_none ANumber (sym (ap (λ b. pick_newest b ANumber (kind_at x g)) s) ∙ e)
+absent_at true x y (Arr l) g r s e f = some_is_none AnArray (sym (ap (λ b. pick_newest b AnArray (kind_at x g)) s) ∙ e)
+absent_at true x y (Stk l) g r s e f = some_is_none AStack (sym (ap (λ b. pick_newest b AStack (kind_at x g)) s) ∙ e)
+absent_at true x y Lent g r s e f = refl
+absent_at false x y (Num n) g r s e f = f (sym (ap (λ b. pick_newest b ANumber (kind_at x g)) s) ∙ e)
+absent_at false x y (Arr l) g r s e f = f (sym (ap (λ b. pick_newest b AnArray (kind_at x g)) s) ∙ e)
+absent_at false x y (Stk l) g r s e f = f (sym (ap (λ b. pick_newest b AStack (kind_at x g)) s) ∙ e)
+absent_at false x y Lent g r s e f = f (sym (without_other x y g s) ∙ e)
+
+-- a name that is out of sight is not found
+pub absent_look : (x : Name) (s : Store) → kind_at x (shape_of s) ≡ None → look x s ≡ Bad Broken
+absent_look x Bare e = refl
+absent_look x (Slot y v s) e = absent_at (same_name x y) x y v (shape_of s) (look x s) refl e (λ h. absent_look x s h)
+
+declared_shape : (d : Declaration) (s : Store) → shape_of (declare_one d s) ≡ (declared_name d, declared_kind d) ∷ shape_of s
+declared_shape (DeclareInt x) s = refl
+declared_shape (DeclareArray x n) s = refl
+declared_shape (DeclareStack x) s = refl
+
+-- each of the names is new behind those before it
+pub new_at : (ds : List Declaration) (s : Store) (i : ℕ) (d : Declaration) → AreNew (shape_of s) ds → i < length ds → look (declared_name (get_or ds i d)) (declare (take i ds) s) ≡ Bad Broken
+new_at [] s i d new l = absurd (omega arith)
+new_at (e ∷ ds) s zero d new l = absent_look (declared_name e) s new.0.name
+new_at (e ∷ ds) s (suc i) d new l = new_at ds (declare_one e s) i d (subst (λ g. AreNew g ds) (sym (declared_shape e s)) new.1) (omega arith)
+
+-- one name more
+pub declared_more : (ds : List Declaration) (s : Store) (i : ℕ) (d : Declaration) → i < length ds → declare (take (suc i) ds) s ≡ declare_one (get_or ds i d) (declare (take i ds) s)
+declared_more [] s i d l = absurd (omega arith)
+declared_more (e ∷ ds) s zero d l = refl
+declared_more (e ∷ ds) s (suc i) d l = declared_more ds (declare_one e s) i d (omega arith)
+
+pub mapped_at : {A B : Type 0} (f : A → B) (xs : List A) (i : ℕ) (d : A) (e : B) → i < length xs → get_or (map f xs) i e ≡ f (get_or xs i d)
+mapped_at f [] i d e l = absurd (omega arith)
+mapped_at f (x ∷ xs) zero d e l = refl
+mapped_at f (x ∷ xs) (suc i) d e l = mapped_at f xs i d e (omega arith)
+
+pub all_taken : {A : Type 0} (xs : List A) (n : ℕ) → length xs ≤ n → take n xs ≡ xs
+all_taken [] zero l = refl
+all_taken [] (suc n) l = refl
+all_taken (x ∷ xs) zero l = absurd (omega arith)
+all_taken (x ∷ xs) (suc n) l = ap (λ ys. x ∷ ys) (all_taken xs n (omega arith))
+
+pub taken_count : {A : Type 0} (xs : List A) (n : ℕ) → n ≤ length xs → length (take n xs) ≡ n
+taken_count [] zero l = refl
+taken_count [] (suc n) l = absurd (omega arith)
+taken_count (x ∷ xs) zero l = refl
+taken_count (x ∷ xs) (suc n) l = ap suc (taken_count xs n (omega arith))
+
+-- ---- nothing is lent, and stacks are counted
+
+-- no value is lent
+abbrev pub LendNothing : Store → Type 0
+LendNothing Bare = Unit {0}
+LendNothing (Slot x (Num n) s) = LendNothing s
+LendNothing (Slot x (Arr l) s) = LendNothing s
+LendNothing (Slot x (Stk l) s) = LendNothing s
+LendNothing (Slot x Lent s) = ⊥
+
+pub values_lend_nothing : (s : Store) → HaveValues s → LendNothing s
+values_lend_nothing Bare h = tt
+values_lend_nothing (Slot x (Num n) s) h = values_lend_nothing s h.1
+values_lend_nothing (Slot x (Arr l) s) h = values_lend_nothing s h.1
+values_lend_nothing (Slot x (Stk l) s) h = values_lend_nothing s h.1
+values_lend_nothing (Slot x Lent s) h = absurd h.0
+
+pub declared_lend_nothing : (ds : List Declaration) (s : Store) → LendNothing s → LendNothing (declare ds s)
+declared_lend_nothing [] s h = h
+declared_lend_nothing (DeclareInt x ∷ ds) s h = declared_lend_nothing ds (Slot x (Num (pos 0)) s) h
+declared_lend_nothing (DeclareArray x n ∷ ds) s h = declared_lend_nothing ds (Slot x (Arr (zeros n)) s) h
+declared_lend_nothing (DeclareStack x ∷ ds) s h = declared_lend_nothing ds (Slot x (Stk []) s) h
+
+stacks_counted : (s : Store) → LendNothing s → stack_count (shape_of s) ≡ stacks_in s
+stacks_counted Bare h = refl
+stacks_counted (Slot x (Num n) s) h = stacks_counted s h
+stacks_counted (Slot x (Arr l) s) h = stacks_counted s h
+stacks_counted (Slot x (Stk l) s) h = ap suc (stacks_counted s h)
+stacks_counted (Slot x Lent s) h = absurd h
+
+room_by : (d : Declaration) (s : Store) → LendNothing s → HasRoom (shape_of s) d → HasStackRoom d s
+room_by (DeclareInt x) s h r = tt
+room_by (DeclareArray x n) s h r = tt
+room_by (DeclareStack x) s h r = subst (λ n. n < live_stack_limit) (stacks_counted s h) r
+
+-- there is room for each of the stacks behind those before it
+pub room_at : (ds : List Declaration) (s : Store) (i : ℕ) (d : Declaration) → LendNothing s → AreNew (shape_of s) ds → i < length ds → HasStackRoom (get_or ds i d) (declare (take i ds) s)
+room_at [] s i d h new l = absurd (omega arith)
+room_at (e ∷ ds) s zero d h new l = room_by e s h new.0.extent
+room_at (e ∷ ds) s (suc i) d h new l = room_at ds (declare_one e s) i d (declared_lend_nothing (e ∷ []) s h) (subst (λ g. AreNew g ds) (sym (declared_shape e s)) new.1) (omega arith)
+
+-- ---- what a store becomes
+
+-- nothing yet
+pub becomes_itself : (h : Held) → IsWhole h → Becomes h h h.sight
+becomes_itself h whole = record { sight = refl; whole = whole; names = no_more h.names; one_number = λ one. one }
+
+pub becomes_then : (a b c : Held) (s t : Store) → Becomes a b s → Becomes b c t → Becomes a c t
+becomes_then a b c s t h k = record { sight = k.sight; whole = k.whole; names = more_yet a.names b.names c.names h.names k.names; one_number = λ one. k.one_number (h.one_number one) }
+
+-- one name more is declared
+pub becomes_declared : (old new : Held) (x : Name) (v : Val) → IsWhole old → HaveOneNumber new.names → Declares old new x v → Becomes old new (Slot x v old.sight)
+becomes_declared old new x v whole one h = record { sight = h.sight; whole = record { declared = h.declared ∙ ap suc whole.declared ∙ sym (ap size_of h.sight); callers = h.callers ∙ whole.callers }; names = h.names; one_number = λ old_one. one }
+
+-- what is declared stays
+pub becomes_kept : (old new : Held) → IsWhole old → HaveOneNumber new.names → KeepsSight old new → Becomes old new old.sight
+becomes_kept old new whole one h = record { sight = h.sight; whole = record { declared = h.declared ∙ whole.declared ∙ sym (ap size_of h.sight); callers = h.callers ∙ whole.callers }; names = h.names; one_number = λ old_one. one }
+
+rest_size : (s : Store) → size_of (rest_of s) ≡ size_of s - 1
+rest_size Bare = refl
+rest_size (Slot x v s) = omega arith
+
+-- the newest name is taken away
+pub becomes_rest : (old new : Held) → IsWhole old → new ≡ record { sight = rest_of old.sight; declared = old.declared - 1; names = old.names; callers = [] } → Becomes old new (rest_of old.sight)
+becomes_rest old new whole e = subst (λ (h : Held). Becomes old h (rest_of old.sight)) (sym e) (record {
+  sight = refl;
+  whole = record { declared = ap (λ (n : ℕ). n - 1) whole.declared ∙ sym (rest_size old.sight); callers = refl };
+  names = no_more old.names;
+  one_number = λ one. one;
+})
+
+-- for a store that is the same
+pub becomes_same : (a b : Held) (s t : Store) → s ≡ t → Becomes a b s → Becomes a b t
+becomes_same a b s t e h = subst (Becomes a b) e h

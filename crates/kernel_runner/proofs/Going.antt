@@ -1,0 +1,141 @@
+-- A runner that goes on or back through the code of a cell: what a slice of the machine makes of where it stood.
+use Rattle.std.proofs.Common.{◌≡◌, ℕ, List, ◌+◌, ◌-◌, ◌<◌, ◌≤◌, Bool, true, false, sym, ap, ◌∙◌, subst, arith, inl, inr}
+use Rattle.janus_meaning.specs.Syntax.{Name, Proc}
+use Rattle.janus_meaning.specs.Stepping.{Halt}
+use Rattle.janus_meaning.specs.World.{World, stacks_in}
+use Rattle.janus_meaning.specs.Limit.{step_limit}
+use Rattle.janus_names.specs.Numbers.{HaveOneNumber}
+use Rattle.janus_store.specs.Held.{Held}
+use Rattle.janus_machine.specs.Bodies.{AreInEffect, Define}
+use Rattle.janus_machine.specs.Counts.{counted, Counts, IsWritten}
+use Rattle.janus_machine.specs.Cursors.{IsStanding, has_ended}
+use Rattle.janus_machine.specs.Faults.{fault_of}
+use Rattle.janus_machine.specs.Law.{RunMeans, BackMeans}
+use Rattle.janus_machine.specs.Open.{Agrees}
+use Rattle.janus_machine.specs.Steps.{AreSteps, next_of, IsSafeAhead, KeepsMet, SliceEndsBy}
+use Rattle.janus_machine.specs.declared.machine.End as ends
+use Rattle.janus_machine.specs.declared.machine.End.TheVariants as end
+use Rattle.janus_machine.specs.declared.cursor.Cursor.{Cursor}
+use Rattle.janus_machine.specs.declared.fault.Fault as machine
+use Rattle.janus_machine.proofs.BodiesInEffect.{defined_in_effect}
+use Rattle.janus_machine.proofs.Courses.{runs_mean, backs_mean}
+use Rattle.kernel_machine.specs.Language.{Code, CodeStop, run_block, start_of}
+use Rattle.kernel_runner.specs.Program.{IsReady}
+use Rattle.kernel_runner.specs.Runner.{Stands}
+use Rattle.kernel_runner.specs.declared.program.Program.{Program}
+use Rattle.kernel_runner.specs.declared.runner.Runner.{Runner}
+
+module _ {L : Type 0} (runner : Runner L) (program : Program) (stack : List ℕ) (code : Code) (w : World) (count : ℕ) where
+  pub in_effect : (back : Bool) → Stands runner program stack code w count back → AreInEffect runner.store.names runner.procedures (start_of code w).procedures
+  in_effect back h = defined_in_effect runner.store.names runner.procedures stack (start_of code w).procedures h.one_number h.defined
+
+  -- the laws of the machine, at a runner
+  pub run_means : Stands runner program stack code w count false → RunMeans (start_of code w).procedures (stacks_in (start_of code w).store) (run_block code) (start_of code w).store count runner.procedures program.book runner.cursor runner.store
+  run_means h = runs_mean _ _ _ _ _ _ _ _ _ h.standing h.faces.0
+
+  pub back_means : Stands runner program stack code w count true → BackMeans (start_of code w).procedures (stacks_in (start_of code w).store) (run_block code) (start_of code w).store count runner.procedures program.book runner.cursor runner.store
+  back_means h = backs_mean _ _ _ _ _ _ _ _ _ h.good h.standing h.faces
+
+  pub safe_on : (m : ℕ) → Stands runner program stack code w count false → IsSafeAhead runner.procedures program.book m runner.cursor runner.store
+  safe_on m h = (run_means h).safe m (in_effect false h) h.agrees h.faces.1
+
+  pub safe_back : (m : ℕ) → Stands runner program stack code w count true → IsSafeAhead runner.procedures program.book m runner.cursor runner.store
+  safe_back m h = (back_means h).safe m (in_effect true h) h.agrees
+
+  pub stops_at : (f : machine.Fault) → Stands runner program stack code w count false → count < step_limit →
+      next_of (start_of code w).procedures (stacks_in (start_of code w).store) runner.procedures program.book runner.cursor runner.store ≡ Halt (fault_of f) → CodeStop code w count (fault_of f)
+  unfolding CodeStop
+  stops_at f h early halts = inl (early, (run_means h).stop (fault_of f) halts)
+
+  pub at_start : Stands runner program stack code w count true → has_ended runner.cursor ≡ true → count ≡ 0
+  at_start h ended = (back_means h).begun.0 ended
+
+  pub no_fault_back : (f : machine.Fault) → Stands runner program stack code w count true →
+      next_of (start_of code w).procedures (stacks_in (start_of code w).store) runner.procedures program.book runner.cursor runner.store ≡ Halt (fault_of f) → ⊥
+  no_fault_back f h halts = (back_means h).fault (fault_of f) halts
+
+module _ {L : Type 0} (program : Program) (stack : List ℕ) (code : Code) (w : World) where
+  back_means_at : (at : Runner L) (n : ℕ) → Stands at program stack code w n true → BackMeans (start_of code w).procedures (stacks_in (start_of code w).store) (run_block code) (start_of code w).store n at.procedures program.book at.cursor at.store
+  back_means_at at n h = back_means at program stack code w n h
+
+module _ {L : Type 0} (runner : Runner L) (program : Program) (stack : List ℕ) (code : Code) (w : World) (count : ℕ) where
+  module _ (store : Held) (cursor : Cursor) (t : ℕ) where
+    -- what a slice promises of its steps, and of what is open, where the store agrees with the cursor
+    abbrev pub TakesSteps : Type 0
+    TakesSteps = (ps : List Proc) (k : ℕ) → AreInEffect runner.store.names runner.procedures ps → Agrees k runner.procedures program.book runner.cursor runner.store → AreSteps ps k t runner.procedures program.book runner.cursor runner.store cursor store
+
+    abbrev pub KeepsAgreement : Type 0
+    KeepsAgreement = (k : ℕ) → Agrees k runner.procedures program.book runner.cursor runner.store → Agrees k runner.procedures program.book cursor store
+
+    abbrev pub gone : Runner L
+    gone = record { store = store; cursor = cursor; procedures = runner.procedures }
+
+    pub gone_on : Stands runner program stack code w count false → IsStanding runner.procedures program.book cursor store → KeepsMet runner.store store → KeepsAgreement → Counts t runner.cursor cursor → TakesSteps → Stands gone program stack code w (count + t) false
+    gone_on h standing names agrees counts steps =
+        let now : cursor.count ≡ count + t = counts.count ∙ ap (λ (b : Bool). counted b runner.cursor.count t) h.turned ∙ ap (λ (n : ℕ). n + t) h.counted in
+        let few = standing.few in
+        record {
+          cell = h.cell;
+          good = h.good;
+          few = omega arith;
+          counted = now;
+          turned = counts.turned ∙ h.turned;
+          standing = standing;
+          declared = names.declared ∙ h.declared;
+          agrees = agrees _ h.agrees;
+          ready = subst (λ (xs : List Name). IsReady xs runner.procedures program) (sym names.names) h.ready;
+          one_number = subst (λ (xs : List Name). HaveOneNumber xs) (sym names.names) h.one_number;
+          defined = subst (λ (xs : List Name). Define xs runner.procedures stack (start_of code w).procedures) (sym names.names) h.defined;
+          faces = ((run_means runner program stack code w count h).more t cursor store (steps _ _ (in_effect runner program stack code w count false h) h.agrees), h.faces.1);
+        }
+
+    pub gone_back : Stands runner program stack code w count true → IsStanding runner.procedures program.book cursor store → KeepsMet runner.store store → KeepsAgreement → Counts t runner.cursor cursor → TakesSteps → Stands gone program stack code w (count - t) true × (t ≤ count)
+    gone_back h standing names agrees counts steps =
+        let means = back_means runner program stack code w count h in
+        let within : t ≤ count = means.no_further t cursor store (steps _ _ (in_effect runner program stack code w count true h) h.agrees) in
+        let few = h.few in (
+          record {
+            cell = h.cell;
+            good = h.good;
+            few = omega arith;
+            counted = counts.count ∙ ap (λ (b : Bool). counted b runner.cursor.count t) h.turned ∙ ap (λ (n : ℕ). n - t) h.counted;
+            turned = counts.turned ∙ h.turned;
+            standing = standing;
+            declared = names.declared ∙ h.declared;
+            agrees = agrees _ h.agrees;
+            ready = subst (λ (xs : List Name). IsReady xs runner.procedures program) (sym names.names) h.ready;
+            one_number = subst (λ (xs : List Name). HaveOneNumber xs) (sym names.names) h.one_number;
+            defined = subst (λ (xs : List Name). Define xs runner.procedures stack (start_of code w).procedures) (sym names.names) h.defined;
+            faces = means.back t cursor store within (steps _ _ (in_effect runner program stack code w count true h) h.agrees);
+          },
+          within,
+        )
+
+    -- a slice back, by why it ends
+    pub back_cut : (m : ℕ) (e : ends.End) → Stands runner program stack code w count true → IsStanding runner.procedures program.book cursor store → KeepsMet runner.store store → KeepsAgreement → t ≤ m → Counts t runner.cursor cursor → TakesSteps →
+        ((ps : List Proc) (k : ℕ) → AreInEffect runner.store.names runner.procedures ps → Agrees k runner.procedures program.book runner.cursor runner.store → SliceEndsBy ps k m t runner.procedures program.book cursor store e) → Stands gone program stack code w (count - m) true
+    back_cut m end.Cut h standing names agrees low counts steps why =
+        let s = gone_back h standing names agrees counts steps in
+        subst (λ (x : ℕ). Stands gone program stack code w (count - x) true) (why _ _ (in_effect runner program stack code w count true h) h.agrees).0 s.0
+    back_cut m end.Ended h standing names agrees low counts steps why =
+        let s = gone_back h standing names agrees counts steps in
+        let start : count - t ≡ 0 = (back_means_at program stack code w gone (count - t) s.0).begun.0 (why _ _ (in_effect runner program stack code w count true h) h.agrees) in
+        let e : count - t ≡ count - m = omega arith in
+        subst (λ (x : ℕ). Stands gone program stack code w x true) e s.0
+    back_cut m (end.Fault f) h standing names agrees low counts steps why =
+        let s = gone_back h standing names agrees counts steps in
+        absurd (
+        elim (why _ _ (in_effect runner program stack code w count true h) h.agrees).2 [
+          | inl at ↦ (let facing : true ≡ false = sym s.0.turned ∙ at.0.forward in cc)
+          | inr halted ↦ (back_means_at program stack code w gone (count - t) s.0).fault (fault_of f) halted.1
+        ]
+        )
+
+-- how many steps a cursor that faces onward has counted
+pub counted_on : (turned : Bool) (old new t : ℕ) → turned ≡ false → new ≡ counted turned old t → new - old ≡ t
+counted_on true old new t e h = cc
+counted_on false old new t e h = omega arith
+
+-- more steps may write more
+pub written_more : (k j old new : ℕ) → k ≤ j → IsWritten k old new → IsWritten j old new
+written_more k j old new l w = (w.0, let high = w.1 in omega arith)

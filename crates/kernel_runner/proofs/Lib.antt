@@ -1,0 +1,10 @@
+pub mod Borders
+pub mod Kept
+pub mod Going
+pub mod OlderHeads
+pub mod Made
+pub mod Declaring
+pub mod Growing
+pub mod NamesMet
+pub mod Entries
+pub mod Running

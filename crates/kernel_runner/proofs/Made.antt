@@ -1,0 +1,142 @@
+-- What is shown stays shown while the names of a cell are met and its bodies are kept.
+use Rattle.std.proofs.Common.{◌≡◌, ℕ, zero, suc, ◌+◌, false, List, [], ◌∷◌, length, map, take, Some, Result, Ok, Err, refl, sym, ap, ◌∙◌, subst, arith}
+use Rattle.std.specs.Prelude.{slice_get}
+use Rattle.std.specs.Result.{is_err, OnOk}
+use Rattle.std.proofs.lemmas.List.{length-map}
+use Rattle.std.proofs.lemmas.Option.{slice_get_within}
+use Rattle.janus_meaning.specs.Syntax.{Name, Proc}
+use Rattle.janus_meaning.specs.Store.{Store}
+use Rattle.janus_meaning.specs.World.{World, Declaration, oldest}
+use Rattle.janus_names.specs.Numbers.{HaveOneNumber}
+use Rattle.janus_meaning.specs.Shape.{Shape, Heads, shape_of, heads_of}
+use Rattle.janus_meaning.specs.FormedWorld.{HaveValues}
+use Rattle.janus_syntax.specs.Tree as tree
+use Rattle.janus_syntax.specs.Tree.{procedures_view}
+use Rattle.janus_syntax.specs.View.{plain_cell, plain_procedure}
+use Rattle.janus_syntax.specs.declared.tree.Procedure as Defined
+use Rattle.janus_check.specs.WellFormed.{IsWellFormed}
+use Rattle.janus_check.proofs.SameHeads.{formed_same}
+use Rattle.janus_invert.specs.Met.{MeetsBlk, MeetsLocalsOf}
+use Rattle.janus_invert.proofs.Meeting.{AreMet, AreCalledMet}
+use Rattle.janus_store.specs.Held.{Held, Caller, AreKnown, IsWhole, KeepsSight, shown_store, given_back}
+use Rattle.janus_machine.specs.Bodies.{kept_in, AreBelow, AreBodies, AreBodiesFrom, AreDefined, Define}
+use Rattle.janus_machine.specs.Places.{BookHasNumbers}
+use Rattle.janus_machine.specs.declared.procedure.Procedure.{Procedure}
+use Rattle.janus_machine.specs.declared.procedures.Procedures.{Procedures}
+use Rattle.kernel_runner.specs.Known.{FindTheSame}
+use Rattle.kernel_runner.specs.Met.{AreDeclaredMet, MeetOwn, AreProceduresMet}
+use Rattle.kernel_runner.specs.Program.{procedures_of, IsReady}
+use Rattle.kernel_runner.specs.Runner.{Shows}
+use Rattle.kernel_runner.specs.declared.program.Program.{Program}
+use Rattle.kernel_runner.specs.declared.runner.Runner.{Runner}
+use Rattle.kernel_runner.proofs.Borders.{all_shown}
+use Rattle.kernel_runner.proofs.Growing.{defined_grow}
+use Rattle.kernel_runner.proofs.NamesMet.{sight_met, defined_met, all_met, all_procedures_met}
+
+-- ---- indices of bodies
+
+-- the bodies that are defined are kept
+pub bodies_within : (xs : List Name) (bodies : List Procedure) (stack : List ℕ) (ps : List Proc) → AreBodies xs bodies stack ps → AreBelow (length bodies) stack
+bodies_within xs bodies [] [] h = tt
+bodies_within xs bodies [] (p ∷ ps) h = absurd h
+bodies_within xs bodies (i ∷ stack) [] h = absurd h
+bodies_within xs bodies (i ∷ stack) (p ∷ ps) h = (slice_get_within bodies i h.0.0 h.0.1, bodies_within xs bodies stack ps h.1)
+
+get_taken : (n : ℕ) (xs : List Procedure) (i : ℕ) (b : Procedure) → slice_get (take n xs) i ≡ Some b → slice_get xs i ≡ Some b
+get_taken zero xs i b e = absurd (let l = slice_get_within {A = Procedure} [] i b e in omega arith)
+get_taken (suc n) [] i b e = e
+get_taken (suc n) (x ∷ xs) zero b e = e
+get_taken (suc n) (x ∷ xs) (suc i) b e = get_taken n xs i b e
+
+-- they are at their indices among more
+bodies_of_more : (xs : List Name) (n : ℕ) (bodies : List Procedure) (stack : List ℕ) (ps : List Proc) → AreBodies xs (take n bodies) stack ps → AreBodies xs bodies stack ps
+bodies_of_more xs n bodies [] [] h = tt
+bodies_of_more xs n bodies [] (p ∷ ps) h = absurd h
+bodies_of_more xs n bodies (i ∷ stack) [] h = absurd h
+bodies_of_more xs n bodies (i ∷ stack) (p ∷ ps) h = ((h.0.0, get_taken n bodies i h.0.0 h.0.1, h.0.2, h.0.3), bodies_of_more xs n bodies stack ps h.1)
+
+-- ---- what is shown
+
+pub shown_kept : (old new : Held) → KeepsSight old new → shown_store new ≡ shown_store old
+shown_kept old new k =
+    ap (λ (n : ℕ). oldest n (given_back new.sight new.callers)) k.declared
+    ∙ ap (λ (s : Store). oldest old.declared (given_back s new.callers)) k.sight
+    ∙ ap (λ (cs : List Caller). oldest old.declared (given_back old.sight cs)) k.callers
+
+-- more names may be met, and more bodies kept behind the others
+pub shows_more : {L : Type 0} (old new : Runner L) (stack : List ℕ) (w : World) → KeepsSight old.store new.store → HaveOneNumber new.store.names → take (length (kept_in old.procedures)) (kept_in new.procedures) ≡ kept_in old.procedures →
+    (AreDefined old.procedures stack → AreDefined new.procedures stack) → Shows old stack w → Shows new stack w
+shows_more old new stack w sight one kept still h =
+    let grown : Define new.store.names old.procedures stack w.procedures = defined_grow old.store.names new.store.names sight.names old.procedures stack w.procedures h.defined in
+    record {
+      store = shown_kept old.store new.store sight ∙ h.store;
+      one_number = one;
+      defined = record {
+        defined = still h.defined.defined;
+        bodies = bodies_of_more new.store.names (length (kept_in old.procedures)) (kept_in new.procedures) stack w.procedures (subst (λ (bs : List Procedure). AreBodies new.store.names bs stack w.procedures) (sym kept) grown.bodies);
+      };
+    }
+
+-- the same bodies are all of them
+pub all_kept : (old new : List Procedure) → new ≡ old → take (length old) new ≡ old
+all_kept old new e = ap (take (length old)) e ∙ all_of old
+  where
+    all_of : (xs : List Procedure) → take (length xs) xs ≡ xs
+    all_of [] = refl
+    all_of (x ∷ xs) = ap (λ ys. x ∷ ys) (all_of xs)
+
+-- ---- keeping bodies, and forgetting them
+
+pub kept_count : (t : Procedures) → length (kept_in t) ≡ length t.bodies.items
+kept_count t = length-map t.bodies.items _
+
+-- where its names were met, all names of a cell were that is checked over the shown world
+pub cell_met : {L : Type 0} (runner : Runner L) (h : Held) (stack : List ℕ) (w : World) (t c : tree.Cell) (ds : List Declaration) → Shows runner stack w → IsWellFormed (shape_of w.store) (heads_of w.procedures) c → HaveValues w.store → IsWhole runner.store → KeepsSight runner.store h → AreKnown h → t ≡ c → ds ≡ (plain_cell t).declarations →
+    AreDeclaredMet h.names ds → MeetOwn h.names (plain_cell t).procedures → MeetsLocalsOf h.names (plain_cell t).block →
+    MeetsBlk h.names (plain_cell c).block × AreProceduresMet h.names (plain_cell c).procedures
+cell_met runner h stack w t c ds shows formed values whole kept known is same declared own locals =
+    let sight : h.sight ≡ w.store = kept.sight ∙ sym (all_shown runner.store whole) ∙ shows.store in
+    let grown : Define h.names runner.procedures stack w.procedures = defined_grow runner.store.names h.names kept.names runner.procedures stack w.procedures shows.defined in
+    let met : AreMet (shape_of w.store) h.names = subst (λ (s : Store). AreMet (shape_of s) h.names) sight (sight_met h (subst HaveValues (sym sight) values) known) in
+    let called : AreCalledMet (heads_of w.procedures) h.names = defined_met h.names (kept_in runner.procedures) stack w.procedures grown.bodies in
+    let declared_here = subst (λ (ds : List Declaration). AreDeclaredMet h.names ds) (same ∙ ap (λ (t : tree.Cell). (plain_cell t).declarations) is) declared in
+    let own_here = subst (λ (t : tree.Cell). MeetOwn h.names (plain_cell t).procedures) is own in
+    let locals_here = subst (λ (t : tree.Cell). MeetsLocalsOf h.names (plain_cell t).block) is locals in (
+      all_met (shape_of w.store) (heads_of w.procedures) h.names c formed met called declared_here own_here locals_here,
+      all_procedures_met (shape_of w.store) (heads_of w.procedures) h.names c formed called own_here,
+    )
+
+viewed_count : (ys : List Defined.Procedure) → length (map plain_procedure (procedures_view ys)) ≡ length ys
+viewed_count [] = refl
+viewed_count (y ∷ ys) = ap suc (viewed_count ys)
+
+-- a program is ready whose code has its numbers, and whose bodies are kept behind the others
+pub ready_made : (xs ys : List Name) (old new : Procedures) (program : Program) (defs : List Defined.Procedure) → ys ≡ xs → BookHasNumbers ys program.book → program.first ≡ length (kept_in old) → map plain_procedure (procedures_view defs) ≡ procedures_of program →
+    AreBodiesFrom ys (kept_in new) (length (kept_in old)) (map plain_procedure (procedures_view defs)) → length (kept_in new) ≡ length (kept_in old) + length defs → IsReady xs new program
+ready_made xs ys old new program defs names numbered first same bodies count =
+    let several : length (procedures_of program) ≡ length defs = ap (λ (ps : List Proc). length ps) (sym same) ∙ viewed_count defs in
+    record {
+      numbered = subst (λ (xs : List Name). BookHasNumbers xs program.book) names numbered;
+      within = omega (arith, several, first, count);
+      bodies = subst (λ (xs : List Name). AreBodiesFrom xs (kept_in new) program.first (procedures_of program)) names
+          (subst (λ (n : ℕ). AreBodiesFrom ys (kept_in new) n (procedures_of program)) (sym first)
+          (subst (λ (ps : List Proc). AreBodiesFrom ys (kept_in new) (length (kept_in old)) ps) same bodies));
+    }
+
+-- ---- what a call told
+
+pub ok_fact : {A E : Type 0} (P : Type 0) (r : Result A E) → is_err r ≡ false → OnOk r P → P
+ok_fact P (Ok x) e h = h
+ok_fact P (Err x) e h = cc
+
+pub ok_map : {A E P Q : Type 0} (r : Result A E) → (P → Q) → OnOk r P → OnOk r Q
+ok_map (Ok x) f h = f h
+ok_map (Err x) f h = tt
+
+-- ---- what a cell is checked over
+
+-- a cell is well formed over what finds the same as the world
+pub formed_here : (w : World) (g : Shape) (hs : Heads) (t u : tree.Cell) → IsWellFormed g hs t → g ≡ shape_of w.store → FindTheSame hs (heads_of w.procedures) → u ≡ t → IsWellFormed (shape_of w.store) (heads_of w.procedures) u
+formed_here w g hs t u formed same heads e =
+    subst (λ (t : tree.Cell). IsWellFormed (shape_of w.store) (heads_of w.procedures) t) (sym e)
+    (formed_same (shape_of w.store) hs (heads_of w.procedures) (plain_cell t) heads (subst (λ (g : Shape). IsWellFormed g hs t) same formed))

@@ -1,0 +1,37 @@
+-- The cell that a program is.
+use Rattle.std.specs.Prelude.{ℕ, ◌+◌, ◌≤◌, List, length, map, string_bytes}
+use Rattle.janus_meaning.specs.Syntax.{Name, Proc}
+use Rattle.janus_meaning.specs.World.{Cell, Declaration, DeclareInt, DeclareArray, DeclareStack}
+use Rattle.janus_syntax.specs.View.{plain_cell}
+use Rattle.janus_check.specs.Checked.{cell_in}
+use Rattle.janus_machine.specs.Places.{block_in, BookHasNumbers}
+use Rattle.janus_machine.specs.Bodies.{kept_in, AreBodiesFrom, onto}
+use Rattle.janus_machine.specs.declared.book.Direction.TheVariants.{Forward}
+use Rattle.janus_machine.specs.declared.procedures.Procedures.{Procedures}
+use Rattle.kernel_runner.specs.declared.program.Declared.{Declared}
+use Rattle.kernel_runner.specs.declared.program.Declared.TheVariants.{Number, Array, Stack}
+use Rattle.kernel_runner.specs.declared.program.Program.{Program}
+
+-- what a program declares
+abbrev pub declaration_of : Declared → Declaration
+declaration_of (Number x) = DeclareInt (string_bytes x)
+declaration_of (Array x n) = DeclareArray (string_bytes x) n
+declaration_of (Stack x) = DeclareStack (string_bytes x)
+
+-- what it defines
+abbrev pub procedures_of : Program → List Proc
+procedures_of program = (plain_cell (cell_in program.checked)).procedures
+
+abbrev pub cell_of_program : Program → Cell
+cell_of_program program = record { declarations = map declaration_of program.declarations.items; procedures = procedures_of program; block = block_in program.book Forward }
+
+-- What runs of it has its numbers among the names that were met: its code, and the bodies of its procedures, which are kept one behind
+-- another.
+pub record IsReady (names : List Name) (t : Procedures) (program : Program) : Type 0 where
+  pub numbered : BookHasNumbers names program.book
+  pub within : program.first + length (procedures_of program) ≤ length (kept_in t)
+  pub bodies : AreBodiesFrom names (kept_in t) program.first (procedures_of program)
+
+-- its bodies defined one after another over older ones
+abbrev pub with_bodies : Program → List ℕ → List ℕ
+with_bodies program stack = onto program.first (length (procedures_of program)) stack

@@ -1,0 +1,72 @@
+//! What a cell is checked over: the names that are declared, and the procedures that are defined.
+ghost use Rattle.std.specs.Prelude.{◌≡◌, List, ◌++◌, [], ◌∷◌, IfOk, OnOk, map};
+ghost use Rattle.janus_meaning.specs.Shape.{AreDistinct, Heads, shape_of, head_of, heads_of};
+ghost use Rattle.janus_meaning.specs.FormedWorld.{HaveValues};
+ghost use Rattle.janus_syntax.specs.Tree.{parameter_view, parameters_view, procedure_view};
+ghost use Rattle.janus_syntax.specs.View.{plain_procedure};
+ghost use Rattle.janus_check.specs.Check.{kinds_of as the_kinds_of};
+ghost use Rattle.janus_check.specs.Names.{shape_in, heads_in, meant_kind, meant_kinds};
+ghost use Rattle.janus_store.specs.Held.{shown_store};
+ghost use Rattle.kernel_runner.specs.Defined.{in_a_row};
+ghost use Rattle.kernel_runner.specs.Known.{FindTheSame};
+
+use crate::program::names_in_sight;
+use janus_check::{Env, Kind};
+use janus_machine::Store;
+use janus_syntax::tree::{Parameter, Procedure};
+use std::alloc::{AllocError, Global};
+use std::sync::ledger::Ledger;
+
+/// The declared names of a store, and these procedures, the newest first, as the check of a cell sees them. The only error is want of
+/// memory.
+pub fn known_over<L: Ledger>(
+    alloc: Global,
+    store: &Store<L>,
+    procedures: &[&Procedure],
+) -> Result<Env, AllocError>
+    requires values { HaveValues (shown_store store.now) }
+    requires distinct { AreDistinct (shape_of (shown_store store.now)) }
+    ensures names { IfOk result (λ env. shape_in env.names ≡ shape_of (shown_store store.now)) }
+    ensures heads { IfOk result (λ env. FindTheSame (heads_in env.procedures) (heads_of (in_a_row procedures.now))) }
+{
+    let mut env = names_in_sight(alloc, store)?;
+    for i in 0..procedures.len() {
+        define_behind(alloc, &mut env, procedures[i])?;
+    }
+    Ok(env)
+}
+
+/// Adds a procedure where no newer one hides it. The only error is want of memory.
+fn define_behind(alloc: Global, env: &mut Env, procedure: &Procedure) -> Result<(), AllocError>
+    ensures heads { OnOk result ((newer : Heads) → FindTheSame (heads_in env.old.procedures) newer → FindTheSame (heads_in env.new.procedures) (newer ++ head_of (plain_procedure (procedure_view procedure.now)) ∷ [])) }
+    ensures names { env.new.names ≡ env.old.names }
+{
+    if env.head(procedure.name.text.as_str()).is_some() {
+        return Ok(());
+    }
+    let kinds = kinds_of(alloc, &procedure.parameters)?;
+    env.define(procedure.name.text.clone()?, kinds)?;
+    Ok(())
+}
+
+/// The kinds of parameters. The only error is want of memory.
+fn kinds_of(alloc: Global, parameters: &[Parameter]) -> Result<Vec<Kind>, AllocError>
+    ensures { IfOk result (λ kinds. meant_kinds kinds.items ≡ the_kinds_of (parameters_view parameters.now)) }
+{
+    let mut kinds = Vec::new(alloc);
+    for i in 0..parameters.len() {
+        kinds.push(kind_of(&parameters[i]))?;
+    }
+    Ok(kinds)
+}
+
+/// The kind of a parameter.
+fn kind_of(parameter: &Parameter) -> Kind
+    ensures { the_kinds_of (parameter_view parameter.now ∷ []) ≡ meant_kind result ∷ [] }
+{
+    match parameter {
+        Parameter::Int(_) => Kind::Number,
+        Parameter::Array(_) => Kind::Array,
+        Parameter::Stack(_) => Kind::Stack,
+    }
+}

@@ -1,0 +1,256 @@
+//! A cell that can be run both ways: what a node of the history keeps, and no earlier store.
+ghost use Rattle.std.specs.Prelude.{◌≡◌, ◌+◌, ◌≤◌, ◌++◌, ◌∷◌, [], ℕ, List, IfOk, IfErr, OnOk, OnErr, length, map, take};
+ghost use Rattle.janus_meaning.specs.Limit.{parameter_limit};
+ghost use Rattle.janus_meaning.specs.Shape.{AreDistinct, shape_of, heads_of};
+ghost use Rattle.janus_meaning.specs.World.{World};
+ghost use Rattle.janus_syntax.specs.Tree.{declaration_view, declarations_view, procedure_view, procedures_view};
+ghost use Rattle.janus_syntax.specs.View.{plain_declaration, plain_procedure, plain_cell};
+ghost use Rattle.janus_names.specs.Numbers.{IsNumbered};
+ghost use Rattle.janus_invert.specs.Met.{MeetsProc};
+ghost use Rattle.janus_store.specs.Held.{IsWhole, KeepsSight, shown_store};
+ghost use Rattle.janus_store.specs.Values.{shown};
+ghost use Rattle.janus_machine.specs.Bodies.{kept_in, AreDefined, AreBodiesFrom, IsBody};
+ghost use Rattle.janus_machine.specs.declared.procedure.Procedure as Kept;
+ghost use Rattle.kernel_runner.specs.Kinds.{kind_in};
+ghost use Rattle.janus_check.specs.Names.{shape_in};
+ghost use Rattle.janus_check.specs.Checked.{cell_in};
+ghost use Rattle.janus_check.specs.WellFormed.{IsWellFormed};
+ghost use Rattle.janus_meaning.specs.FormedWorld.{HaveValues};
+ghost use Rattle.kernel_machine.specs.Language.{IsSound};
+ghost use Rattle.kernel_runner.specs.Met.{AreProceduresMet};
+ghost use Rattle.kernel_machine.specs.Text.{Accepts, Refuses, refused_by_syntax, refused_by_check};
+ghost use Rattle.kernel_runner.specs.Program.{cell_of_program, declaration_of, procedures_of, IsReady};
+ghost use Rattle.kernel_runner.specs.Defined.{in_a_row};
+ghost use Rattle.kernel_runner.specs.Runner.{Shows, world_of};
+
+use crate::known::known_over;
+use crate::meeting::meet_cell;
+use crate::runner::Runner;
+use janus_check::{CheckFault, Checked, Env, Kind, check};
+use janus_invert::{flatten, flatten_procedure};
+use janus_machine::{Book, Procedures, Store};
+use janus_names::Names;
+use janus_store::View;
+use janus_syntax::tree::{Declaration, Procedure};
+use janus_syntax::{SyntaxFault, parse_cell};
+use kernel_machine::Refusal;
+use std::alloc::{AllocError, Global};
+use std::sync::ledger::Ledger;
+
+/// A name that a cell declares.
+#[derive(Drop)]
+pub enum Declared {
+    Number(String),
+    /// An array, and how long it is.
+    Array(String, usize),
+    Stack(String),
+}
+
+/// What a cell declares and defines, and its code both ways.
+#[derive(Drop)]
+pub struct Program {
+    pub declarations: Vec<Declared>,
+    pub book: Book,
+    /// The cell as it was checked. What it defines is told from it.
+    pub checked: Checked,
+    /// Where the bodies of its procedures begin among those that are kept.
+    pub first: usize,
+}
+
+impl Program {
+    /// The program of a text, over the names that the runner's store declares and these procedures, the newest first; or why the text is
+    /// refused. A fault of the text is told before one of the check. The names of the text are met in the runner's store, and the bodies
+    /// of its procedures are kept behind the others; all else stays.
+    pub fn of_text<L: Ledger>(
+        alloc: Global,
+        text: &str,
+        procedures: &[&Procedure],
+        runner: &mut Runner<L>,
+    ) -> Result<Program, Refusal>
+        requires shows { (stack : List ℕ) × Shows runner.old stack (world_of (in_a_row procedures.now) runner.old) }
+        requires sound { IsSound (world_of (in_a_row procedures.now) runner.old) }
+        requires whole { IsWhole runner.old.store }
+        ensures accepts { IfOk result (λ program. Accepts (world_of (in_a_row procedures.now) runner.old) text.now (cell_of_program program)) }
+        ensures refuses { IfErr result (Refuses (world_of (in_a_row procedures.now) runner.old) text.now) }
+        ensures ready { IfOk result (λ program. IsReady runner.new.store.names runner.new.procedures program) }
+        // Its bodies are behind those that were kept, and what is refused leaves those alone.
+        ensures behind { IfOk result (λ program. program.first ≡ length (kept_in runner.old.procedures)) }
+        ensures older { take (length (kept_in runner.old.procedures)) (kept_in runner.new.procedures) ≡ kept_in runner.old.procedures }
+        ensures none { OnErr result (kept_in runner.new.procedures ≡ kept_in runner.old.procedures) }
+        ensures kept { KeepsSight runner.old.store runner.new.store }
+        ensures shown { (stack : List ℕ) (w : World) → Shows runner.old stack w → Shows runner.new stack w }
+    {
+        let cell = match parse_cell(alloc, text) {
+            Ok(cell) => cell,
+            Err(fault) => return Err(refusal_of_syntax(fault)),
+        };
+        let Ok(env) = known_over(alloc, &runner.store, procedures) else {
+            return Err(Refusal::Memory);
+        };
+        let checked = match check(alloc, &env, cell) {
+            Ok(checked) => checked,
+            Err(fault) => return Err(refusal_of_check(fault)),
+        };
+        match Program::of_checked(alloc, checked, runner) {
+            Ok(program) => Ok(program),
+            Err(_) => Err(Refusal::Memory),
+        }
+    }
+
+    /// The program of a cell that was checked over the shown world. Its names are met in the store.
+    fn of_checked<L: Ledger>(
+        alloc: Global,
+        checked: Checked,
+        runner: &mut Runner<L>,
+    ) -> Result<Program, AllocError>
+        requires shows { (stack : List ℕ) × (w : World) × Shows runner.old stack w × IsWellFormed (shape_of w.store) (heads_of w.procedures) (cell_in checked) × HaveValues w.store }
+        requires whole { IsWhole runner.old.store }
+        ensures cell { IfOk result (λ program. cell_of_program program ≡ plain_cell (cell_in checked)) }
+        ensures ready { IfOk result (λ program. IsReady runner.new.store.names runner.new.procedures program) }
+        ensures behind { IfOk result (λ program. program.first ≡ length (kept_in runner.old.procedures)) }
+        ensures older { take (length (kept_in runner.old.procedures)) (kept_in runner.new.procedures) ≡ kept_in runner.old.procedures }
+        ensures none { OnErr result (kept_in runner.new.procedures ≡ kept_in runner.old.procedures) }
+        ensures kept { KeepsSight runner.old.store runner.new.store }
+        ensures shown { (stack : List ℕ) (w : World) → Shows runner.old stack w → Shows runner.new stack w }
+    {
+        let cell = checked.cell();
+        let declarations = all_declared(alloc, &cell.declarations)?;
+        let met = meet_cell(&mut runner.store, &declarations, cell);
+        let names = runner.store.names();
+        met?;
+        let Ok(code) = flatten(alloc, &checked, names) else {
+            return Err(AllocError);
+        };
+        let book = Book::new(alloc, code)?;
+        let first = runner.procedures.len();
+        if keep_all(alloc, &cell.procedures, names, &mut runner.procedures).is_err() {
+            runner.procedures.forget(first);
+            return Err(AllocError);
+        }
+        Ok(Program {
+            declarations,
+            book,
+            checked,
+            first,
+        })
+    }
+
+    /// The procedures that it defines.
+    pub fn procedures(&self) -> &[Procedure]
+        ensures { map plain_procedure (procedures_view result.now) ≡ procedures_of self.now }
+    {
+        &self.checked.cell().procedures
+    }
+}
+
+/// Keeps the bodies of procedures whose names were met, one behind another; an error for want of memory, after which some of them may be
+/// kept.
+fn keep_all(
+    alloc: Global,
+    procedures: &[Procedure],
+    names: &Names,
+    kept: &mut Procedures,
+) -> Result<(), AllocError>
+    requires { AreProceduresMet names.now (map plain_procedure (procedures_view procedures.now)) }
+    ensures bodies { OnOk result (AreBodiesFrom names.now (kept_in kept.new) (length (kept_in kept.old)) (map plain_procedure (procedures_view procedures.now))) }
+    ensures count { OnOk result (length (kept_in kept.new) ≡ length (kept_in kept.old) + length procedures.now) }
+    ensures older { take (length (kept_in kept.old)) (kept_in kept.new) ≡ kept_in kept.old }
+    ensures defined { (stack : List ℕ) → AreDefined kept.old stack → AreDefined kept.new stack }
+{
+    for i in 0..procedures.len() {
+        keep(alloc, &procedures[i], names, kept)?;
+    }
+    Ok(())
+}
+
+/// Keeps the body of a procedure; an error for want of memory, after which what was kept is.
+fn keep(
+    alloc: Global,
+    procedure: &Procedure,
+    names: &Names,
+    kept: &mut Procedures,
+) -> Result<(), AllocError>
+    requires met { MeetsProc names.now (plain_procedure (procedure_view procedure.now)) }
+    requires few { length (plain_procedure (procedure_view procedure.now)).params ≤ parameter_limit }
+    ensures ok { OnOk result ((b : Kept.Procedure) × (kept_in kept.new ≡ kept_in kept.old ++ b ∷ []) × IsNumbered names.now b.name (plain_procedure (procedure_view procedure.now)).name × IsBody names.now b (plain_procedure (procedure_view procedure.now))) }
+    ensures err { OnErr result (kept_in kept.new ≡ kept_in kept.old) }
+    ensures defined { (stack : List ℕ) → AreDefined kept.old stack → AreDefined kept.new stack }
+{
+    let Ok(flat) = flatten_procedure(alloc, procedure, names) else {
+        return Err(AllocError);
+    };
+    let body = janus_machine::Procedure::new(alloc, flat)?;
+    let _index = kept.add(body)?;
+    Ok(())
+}
+
+/// How a text is refused for a fault of its own, or for want of memory.
+fn refusal_of_syntax(fault: SyntaxFault) -> Refusal
+    ensures { result ≡ refused_by_syntax fault }
+{
+    match fault {
+        SyntaxFault::Memory => Refusal::Memory,
+        fault => Refusal::Syntax(fault),
+    }
+}
+
+/// How a cell is refused for a fault of the check, or for want of memory.
+fn refusal_of_check(fault: CheckFault) -> Refusal
+    ensures { result ≡ refused_by_check fault }
+{
+    match fault {
+        CheckFault::Memory => Refusal::Memory,
+        fault => Refusal::Check(fault),
+    }
+}
+
+/// The declared names of a store, as the check of a cell sees them. The only error is want of memory.
+pub fn names_in_sight<L: Ledger>(alloc: Global, store: &Store<L>) -> Result<Env, AllocError>
+    requires values { HaveValues (shown_store store.now) }
+    requires distinct { AreDistinct (shape_of (shown_store store.now)) }
+    ensures names { IfOk result (λ env. shape_in env.names ≡ shape_of (shown_store store.now)) }
+    ensures procedures { IfOk result (λ env. env.procedures ≡ []) }
+{
+    let mut env = Env::new(alloc);
+    for i in 0..store.len() {
+        let (name, value) = store.entry(i);
+        let name = String::from_str(alloc, name)?;
+        env.declare(name, kind_of(value))?;
+    }
+    Ok(env)
+}
+
+/// The kind of a value.
+fn kind_of(value: View<'_>) -> Kind
+    ensures { result ≡ kind_in (shown value.entry) }
+{
+    match value {
+        View::Number(_) => Kind::Number,
+        View::Array(_) => Kind::Array,
+        View::Stack(_) => Kind::Stack,
+    }
+}
+
+/// What declarations declare, in their order.
+fn all_declared(alloc: Global, declarations: &[Declaration]) -> Result<Vec<Declared>, AllocError>
+    ensures { IfOk result (λ all. map declaration_of all.items ≡ map plain_declaration (declarations_view declarations.now)) }
+{
+    let mut all = Vec::new(alloc);
+    for declaration in declarations {
+        all.push(declared_by(declaration)?)?;
+    }
+    Ok(all)
+}
+
+fn declared_by(declaration: &Declaration) -> Result<Declared, AllocError>
+    ensures { IfOk result (λ one. declaration_of one ≡ plain_declaration (declaration_view declaration.now)) }
+{
+    match declaration {
+        Declaration::Int(name) => Ok(Declared::Number(name.text.clone()?)),
+        Declaration::Array(name, length, _) => Ok(Declared::Array(
+            name.text.clone()?,
+            *length as usize,
+        )),
+        Declaration::Stack(name) => Ok(Declared::Stack(name.text.clone()?)),
+    }
+}

@@ -1,0 +1,194 @@
+//! The one store, the procedures in effect, and the place in the code of the open cell.
+//!
+//! It alone runs the machine of Janus: what stands above runs cells by these contracts.
+ghost use Rattle.std.specs.Prelude.{◌≡◌, ℕ, ◌+◌, ◌-◌, ◌^◌, ◌<◌, [], List, length, map, IfOk, OnOk, OnErr, IsOk, true, false};
+ghost use Rattle.janus_meaning.specs.Store.{Store as TheStore, look};
+ghost use Rattle.janus_meaning.specs.Shape.{shape_of};
+ghost use Rattle.janus_meaning.specs.FormedWorld.{AreNew, HaveValues};
+ghost use Rattle.janus_meaning.specs.World.{World, Declaration, empty_world, declare as declared_in, declare_one as declared_one_in, declared_name};
+ghost use Rattle.janus_meaning.specs.Fault.{Bad, Broken};
+ghost use Rattle.kernel_runner.specs.Declarable.{HasStackRoom};
+ghost use Rattle.kernel_machine.specs.Language.{Code, Forward, Backward, start_of};
+ghost use Rattle.kernel_runner.specs.Program.{cell_of_program, declaration_of, with_bodies};
+ghost use Rattle.kernel_machine.specs.Reached.{Reaches};
+ghost use Rattle.janus_names.specs.Numbers.{GoOn};
+ghost use Rattle.janus_store.specs.Held.{IsWhole};
+ghost use Rattle.janus_machine.specs.Bodies.{kept_in};
+ghost use Rattle.janus_machine.specs.Counts.{IsWritten};
+ghost use Rattle.kernel_runner.specs.Runner.{world_of, Becomes, Shows, Stands, IsInside, CameTo, CanEnter, CanReturn, CanLeave};
+ghost use Rattle.kernel_machine.specs.StepsOfSlices.{steps_on, steps_back};
+
+use crate::program::{Declared, Program};
+use janus_machine::{Cursor, End, Procedures, Store, Writes, slice};
+use kernel_machine::Progress;
+use std::alloc::{AllocError, Global};
+use std::sync::ledger::Ledger;
+
+/// The store, whose declared names are the shown world, the procedures in effect, and the cursor in the open cell's code.
+#[derive(Drop)]
+pub struct Runner<L: Ledger> {
+    pub store: Store<L>,
+    pub cursor: Cursor,
+    pub procedures: Procedures,
+}
+
+impl<L: Ledger> Runner<L> {
+    /// The empty world. It takes the memory that every run needs, that of all stacks, locals and calls; the only error is want of it.
+    pub fn new(alloc: Global) -> Result<Runner<L>, AllocError>
+        ensures shows { IfOk result (λ runner. Shows runner [] empty_world) }
+        ensures none { IfOk result (λ runner. kept_in runner.procedures ≡ []) }
+        ensures whole { IfOk result (λ runner. IsWhole runner.store) }
+    {
+        Ok(Runner {
+            store: Store::new(alloc)?,
+            cursor: Cursor::new(alloc)?,
+            procedures: Procedures::new(alloc),
+        })
+    }
+
+    /// Declares the names of a cell and defines its procedures, and stands before its first step.
+    pub fn enter(&mut self, program: &Program) -> Result<(), AllocError>
+        requires { (stack : List ℕ) × (w : World) × CanEnter self.old program.now stack w }
+        ensures ok { OnOk result ((stack : List ℕ) (w : World) → CanEnter self.old program.now stack w → Stands self.new program.now (with_bodies program.now stack) (Forward (cell_of_program program.now)) w 0 false) }
+        ensures err { OnErr result (Becomes self.old.store self.new.store self.old.store.sight) }
+        ensures same { OnErr result (self.new.procedures ≡ self.old.procedures) }
+        ensures kept { kept_in self.new.procedures ≡ kept_in self.old.procedures }
+        ensures names { GoOn self.old.store.names self.new.store.names }
+        // Without names it takes no memory.
+        ensures none { (cell_of_program program.now).declarations ≡ [] → IsOk result }
+    {
+        declare(&mut self.store, &program.declarations)?;
+        self.procedures
+            .define_all(program.first, program.procedures().len());
+        self.cursor.enter(&program.book);
+        Ok(())
+    }
+
+    /// Stands before the first step of the cell's inverse. The cell has led to the shown world.
+    pub fn enter_inverse(&mut self, program: &Program)
+        requires { (stack : List ℕ) × (w : World) × CanReturn self.old program.now stack w }
+        ensures stands { (stack : List ℕ) (w : World) → CanReturn self.old program.now stack w → Stands self.new program.now stack (Backward (cell_of_program program.now)) w 0 false }
+        ensures store { self.new.store ≡ self.old.store }
+        ensures procedures { self.new.procedures ≡ self.old.procedures }
+    {
+        self.cursor.enter_inverse(&program.book);
+    }
+
+    /// How many steps of the open cell are taken, and not taken back.
+    pub fn count(&self) -> u64
+        ensures { result ≡ self.now.cursor.count }
+    {
+        self.cursor.count()
+    }
+
+    /// Takes up to `m` steps, or all that are left to the end or to a fault.
+    pub fn run(&mut self, program: &Program, writes: &mut Writes<L>, m: u64) -> Progress
+        requires { (count : ℕ) × IsInside self.old program.now count false }
+        ensures reaches { (stack : List ℕ) (code : Code) (w : World) (count : ℕ) → Stands self.old program.now stack code w count false → Reaches code w (count + m) result (world_of (start_of code w).procedures self.new) }
+        ensures stands { (stack : List ℕ) (code : Code) (w : World) (count : ℕ) → Stands self.old program.now stack code w count false → CameTo self.new program.now stack code w (count + m) result }
+        ensures names { self.new.store.names ≡ self.old.store.names }
+        ensures procedures { self.new.procedures ≡ self.old.procedures }
+        ensures written { IsWritten (steps_on self.old.cursor.count m result) writes.old writes.new }
+    {
+        let sliced = slice(
+            &self.procedures,
+            &program.book,
+            &mut self.cursor,
+            &mut self.store,
+            writes,
+            m,
+        );
+        let count = self.cursor.count();
+        match sliced.end {
+            End::Ended => Progress::Ended(count),
+            End::Fault(fault) => Progress::Stopped(count, fault),
+            End::Cut => Progress::Went,
+        }
+    }
+
+    /// Turns round where it stands: the next steps go back.
+    pub fn turn(&mut self, program: &Program)
+        requires { (count : ℕ) × IsInside self.old program.now count false }
+        ensures stands { (stack : List ℕ) (code : Code) (w : World) (count : ℕ) → Stands self.old program.now stack code w count false → Stands self.new program.now stack code w count true }
+        ensures store { self.new.store ≡ self.old.store }
+        ensures procedures { self.new.procedures ≡ self.old.procedures }
+    {
+        self.cursor.mirror(&self.procedures, &program.book);
+    }
+
+    /// Goes `m` steps back, or all.
+    pub fn back(&mut self, program: &Program, writes: &mut Writes<L>, m: u64)
+        requires { (count : ℕ) × IsInside self.old program.now count true }
+        ensures stands { (stack : List ℕ) (code : Code) (w : World) (count : ℕ) → Stands self.old program.now stack code w count true → Stands self.new program.now stack code w (count - m) true }
+        ensures names { self.new.store.names ≡ self.old.store.names }
+        ensures procedures { self.new.procedures ≡ self.old.procedures }
+        ensures written { IsWritten (steps_back self.old.cursor.count m) writes.old writes.new }
+    {
+        let _sliced = slice(
+            &self.procedures,
+            &program.book,
+            &mut self.cursor,
+            &mut self.store,
+            writes,
+            m,
+        );
+    }
+
+    /// Takes back the declarations and the definitions of a cell, from the world in which its statements begin.
+    pub fn leave(&mut self, program: &Program)
+        requires { (stack : List ℕ) × (before : World) × CanLeave self.old program.now stack before }
+        ensures shows { (stack : List ℕ) (before : World) → CanLeave self.old program.now stack before → Shows self.new stack before }
+        ensures whole { IsWhole self.new.store }
+        ensures kept { kept_in self.new.procedures ≡ kept_in self.old.procedures }
+        ensures names { GoOn self.old.store.names self.new.store.names }
+    {
+        retire(&mut self.store, program.declarations.len());
+        self.procedures
+            .retire_all(program.first, program.procedures().len());
+    }
+}
+
+/// Takes the newest names away, which have the values that they were declared with.
+fn retire<L: Ledger>(store: &mut Store<L>, count: usize)
+    requires declared { (ds : List Declaration) × (before : TheStore) × (length ds ≡ count) × (store.old.sight ≡ declared_in ds before) }
+    requires whole { IsWhole store.old }
+    ensures becomes { (ds : List Declaration) (before : TheStore) → length ds ≡ count → store.old.sight ≡ declared_in ds before → Becomes store.old store.new before }
+    ensures names { store.new.names ≡ store.old.names }
+{
+    for _i in 0..count {
+        store.retire();
+    }
+}
+
+/// Declares new names, which are 0 or empty then. An error for want of memory leaves what is declared.
+fn declare<L: Ledger>(store: &mut Store<L>, declarations: &[Declared]) -> Result<(), AllocError>
+    requires values { HaveValues store.old.sight }
+    requires new { AreNew (shape_of store.old.sight) (map declaration_of declarations.now) }
+    requires whole { IsWhole store.old }
+    ensures ok { OnOk result (Becomes store.old store.new (declared_in (map declaration_of declarations.now) store.old.sight)) }
+    ensures err { OnErr result (Becomes store.old store.new store.old.sight) }
+    ensures none { declarations.now ≡ [] → IsOk result }
+{
+    for i in 0..declarations.len() {
+        if let Err(error) = declare_one(store, &declarations[i]) {
+            retire(store, i);
+            return Err(error);
+        }
+    }
+    Ok(())
+}
+
+/// Declares a new name. An error for want of memory leaves what is declared.
+fn declare_one<L: Ledger>(store: &mut Store<L>, declared: &Declared) -> Result<(), AllocError>
+    requires absent { look (declared_name (declaration_of declared.now)) store.old.sight ≡ Bad Broken }
+    requires whole { IsWhole store.old }
+    requires room { HasStackRoom (declaration_of declared.now) store.old.sight }
+    ensures ok { OnOk result (Becomes store.old store.new (declared_one_in (declaration_of declared.now) store.old.sight)) }
+    ensures err { OnErr result (Becomes store.old store.new store.old.sight) }
+{
+    match declared {
+        Declared::Number(name) => store.declare(name.as_str()),
+        Declared::Array(name, length) => store.declare_array(name.as_str(), *length),
+        Declared::Stack(name) => store.declare_stack(name.as_str()),
+    }
+}
