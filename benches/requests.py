@@ -1,7 +1,7 @@
-"""Writes what session_replay reads: a key, and a connection on shell with many requests, signed, as jupyter_client writes them.
+"""Writes what tests_replay reads: a key, and a connection on shell with many requests, signed, as jupyter_client writes them.
 
     python3 benches/requests.py execute 20000 > /tmp/input
-    crates/session_replay/out/session_replay < /tmp/input > /dev/null
+    crates/tests_replay/out/tests_replay < /tmp/input > /dev/null
 
 Kinds: execute (x += 1), values (the same with four user expressions), info, complete (a kernel with 256 names, all of which match),
 complete-few (11 of them match), judge (is_complete, over the same kernel), history (65,536 inputs, and then so many questions for the last ten).

@@ -18,7 +18,7 @@
 //! which orders each request gives the desk (`Order`), with all that they carry, and that a session goes on event by event.
 //!
 //! No contract says when `serve` reads: that it answers each request before it reads the next is tested, not proved. No contract can say that
-//! a stream failed: that `Read` and `Write` come only where one did is tested, not proved. The tests stand in `session_tests`.
+//! a stream failed: that `Read` and `Write` come only where one did is tested, not proved. The tests stand in `tests_sessions`.
 #![tactic(auto)]
 
 mod connection;

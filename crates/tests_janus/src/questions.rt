@@ -1,0 +1,117 @@
+//! Rows of questions to a kernel. `complete` and `inspect` have a cursor (or `-`) and code, `judge` has code, `tail` a number, `range` a
+//! session, a start and a stop (or `-`); `comms` and `state` have nothing. `evaluate` has an expression. `wish` (an expression)
+//! and `shown` (a cell) are told behind a cell that ran, `unwish` and `unshown` behind one that was interrupted.
+use kernel_ask::{
+    Ask, Comms, HistoryAsk, Wish, ask_on, evaluate, evaluate_all, is_settled, shown_text,
+};
+use kernel_core::{Kernel, Outcome};
+use std::alloc::{AllocError, Global};
+use std::sync::ledger::Ledger;
+use tests_rows::{cut, shown};
+
+/// The answer to a question.
+pub(crate) fn question<L: Ledger>(
+    alloc: Global,
+    kernel: &Kernel<L>,
+    word: &str,
+    rest: &str,
+) -> Result<String, AllocError> {
+    match word {
+        "evaluate" => value(alloc, kernel, rest),
+        "wish" | "unwish" => wished(alloc, kernel, word == "wish", rest),
+        "shown" | "unshown" => shown_of(alloc, kernel, word == "shown", rest),
+        _ => {
+            let ask = ask_of(alloc, word, rest)?;
+            shown(alloc, &ask_on(alloc, kernel, &Comms::new(alloc), ask))
+        }
+    }
+}
+
+/// A number; none for any other word.
+fn number(word: &str) -> Option<u64> {
+    word.parse::<u64>().ok()
+}
+
+/// What is asked.
+fn ask_of(alloc: Global, word: &str, rest: &str) -> Result<Ask, AllocError> {
+    let (first, second) = cut(rest);
+    let cursor = number(first);
+    match word {
+        "complete" => Ok(Ask::Complete {
+            code: String::from_str(alloc, second)?,
+            cursor,
+        }),
+        "inspect" => Ok(Ask::Inspect {
+            code: String::from_str(alloc, second)?,
+            cursor,
+        }),
+        "judge" => Ok(Ask::IsComplete {
+            code: String::from_str(alloc, rest)?,
+        }),
+        "tail" => Ok(Ask::History(HistoryAsk::Tail(cursor.unwrap_or(0)))),
+        "range" => Ok(Ask::History(range_of(first, second))),
+        "comms" => Ok(Ask::Comms),
+        _ => Ok(Ask::State),
+    }
+}
+
+/// The history of a session, from a start to a stop.
+fn range_of(session: &str, rest: &str) -> HistoryAsk {
+    let (start, stop) = cut(rest);
+    HistoryAsk::Range {
+        session: session.parse::<i64>().unwrap_or(0),
+        start: number(start).unwrap_or(0),
+        stop: number(stop),
+    }
+}
+
+/// The value of an expression, where no job is open.
+fn value<L: Ledger>(alloc: Global, kernel: &Kernel<L>, text: &str) -> Result<String, AllocError> {
+    if !is_settled(kernel) {
+        return String::from_str(alloc, "a job is open");
+    }
+    shown(alloc, &evaluate(alloc, kernel, text))
+}
+
+/// What comes of a user expression behind a cell with this outcome.
+fn wished<L: Ledger>(
+    alloc: Global,
+    kernel: &Kernel<L>,
+    ran: bool,
+    text: &str,
+) -> Result<String, AllocError> {
+    let wish = Wish {
+        name: String::from_str(alloc, "a")?,
+        exp: String::from_str(alloc, text)?,
+    };
+    let wishes = vec![in alloc; wish]?;
+    if !is_settled(kernel) {
+        return String::from_str(alloc, "a job is open");
+    }
+    let node = kernel.position();
+    let outcome = if ran {
+        Outcome::Ran(node, 1)
+    } else {
+        Outcome::Interrupted(1)
+    };
+    shown(alloc, &evaluate_all(alloc, kernel, &outcome, &wishes)?)
+}
+
+/// What is shown of a cell with this text, whether it ran or was interrupted.
+fn shown_of<L: Ledger>(
+    alloc: Global,
+    kernel: &Kernel<L>,
+    ran: bool,
+    text: &str,
+) -> Result<String, AllocError> {
+    if !is_settled(kernel) {
+        return String::from_str(alloc, "a job is open");
+    }
+    let node = kernel.position();
+    let outcome = if ran {
+        Outcome::Ran(node, 1)
+    } else {
+        Outcome::Interrupted(1)
+    };
+    shown(alloc, &shown_text(alloc, kernel, &outcome, text)?)
+}

@@ -1,0 +1,29 @@
+//! Values of names as texts.
+use janus_store::{StackView, View};
+use std::alloc::{AllocError, Global};
+use tests_rows::{push_both, shown};
+
+/// The number of a number, the numbers of an array, or those of a stack from the bottom.
+pub(crate) fn value_shown(alloc: Global, value: View<'_>) -> Result<String, AllocError> {
+    match value {
+        View::Number(number) => shown(alloc, &number),
+        View::Array(numbers) => format!(in alloc; "{numbers:?}"),
+        View::Stack(values) => stack_shown(alloc, &values),
+    }
+}
+
+/// The numbers of a stack, the bottom first.
+fn stack_shown(alloc: Global, values: &StackView<'_>) -> Result<String, AllocError> {
+    let mut text = String::from_str(alloc, "stack[")?;
+    let count = values.len();
+    for i in 0..count {
+        let before = if i == 0 { "" } else { ", " };
+        push_both(
+            &mut text,
+            before,
+            &shown(alloc, &values.get(count - 1 - i))?,
+        )?;
+    }
+    text.push(']')?;
+    Ok(text)
+}
