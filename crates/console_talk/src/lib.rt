@@ -16,16 +16,16 @@ mod header;
 pub mod laws;
 mod look;
 mod parent;
-mod request;
 mod printed;
+mod request;
 
 pub use broadcast::{Heard, what_is_heard};
 pub use command::Command;
 pub use fault::ConsoleFault;
 pub use header::{message, session_name};
 pub use parent::{is_answer_to, is_in_session};
+pub use printed::{AnswerFault, Printed, comm_told, completion_told, run_told};
 pub use request::{
     comm_close_draft, comm_open_draft, complete_draft, execute_draft, kernel_info_draft,
     move_draft, state_draft,
 };
-pub use printed::{AnswerFault, Printed, comm_told, completion_told, run_told};

@@ -7,21 +7,21 @@
 #![tactic(auto)]
 
 mod ends;
-mod pending_result;
 mod hall;
 mod minutes;
 mod passes;
+mod pending_result;
 mod spin;
 mod state;
 mod turn;
 mod worker;
 
-pub use pending_result::PendingResult;
 pub use hall::Hall;
 pub use kernel_ask::{Answer, Ask, CommChange, Comms, Done, HallFault, Wish, ask_on, comm_on};
 pub use kernel_audit::{AuditFault, Pass, Ticket, audit};
 pub use minutes::Minutes;
 pub use passes::{PASSES, Passes};
+pub use pending_result::PendingResult;
 pub use state::State;
 pub use turn::{Turn, turn_on};
 pub use worker::{Gate, Moment, SLICE, work};

@@ -25,7 +25,11 @@ pub struct PendingResult {
 
 impl PendingResult {
     /// For a post at this place of the minutes. The memory for the values is taken here: the only error is want of it.
-    pub(crate) fn new(alloc: Global, posted: usize, wishes: Vec<Wish>) -> Result<PendingResult, AllocError>
+    pub(crate) fn new(
+        alloc: Global,
+        posted: usize,
+        wishes: Vec<Wish>,
+    ) -> Result<PendingResult, AllocError>
         ensures { IfOk result (IsNewPending posted wishes.items) }
     {
         let values = Vec::with_capacity(alloc, wishes.len())?;
@@ -122,7 +126,11 @@ fn add_values<W: Ledger>(
 }
 
 /// Takes down the end that stands last in the minutes.
-pub(crate) fn settle_last<W: Ledger>(alloc: Global, kernel: &Kernel<W>, pending_results: &mut [PendingResult])
+pub(crate) fn settle_last<W: Ledger>(
+    alloc: Global,
+    kernel: &Kernel<W>,
+    pending_results: &mut [PendingResult],
+)
     ensures { SettlesLast kernel.now.machine.minutes pending_results.old pending_results.new }
 {
     let Some(end) = last_end(kernel.minutes()) else {

@@ -14,9 +14,9 @@ ghost use Rattle.kernel_hall.specs.declared.pending_result.PendingResult.{Pendin
 ghost use Rattle.kernel_audit.specs.Ends.{HasEnd};
 ghost use Rattle.kernel_audit.specs.Audit.{Audited, IsAuditFault};
 
-use crate::pending_result::{PendingResult, fetch, last_number, settle_last};
 use crate::minutes::Minutes;
 use crate::passes::Passes;
+use crate::pending_result::{PendingResult, fetch, last_number, settle_last};
 use crate::turn::{Turn, turn_on};
 use kernel_ask::{Answer, Ask, Comms, Done, HallFault, Wish, ask_on};
 use kernel_audit::{AuditFault, Pass, Ticket, audit};

@@ -245,7 +245,10 @@ fn shut<D: Desk>(desk: &mut D) -> Option<DeskReply>
 }
 
 /// Asks for the completion of a name.
-fn complete<D: Desk>(desk: &mut D, request: &CompleteRequest) -> Result<Option<DeskReply>, AllocError>
+fn complete<D: Desk>(
+    desk: &mut D,
+    request: &CompleteRequest,
+) -> Result<Option<DeskReply>, AllocError>
     ensures ok { IfOk result (λ told. (a : Result Answer HallFault)
         × IsHeld D.leads desk.old (ask_talk (Complete (string_bytes request.now.code) request.now.cursor) a) told desk.new) }
     ensures err { OnErr result (desk.new ≡ desk.old) }
@@ -267,7 +270,10 @@ fn inspect<D: Desk>(desk: &mut D, request: &InspectRequest) -> Result<Option<Des
 }
 
 /// Asks whether code can be executed as it stands.
-fn judge<D: Desk>(desk: &mut D, request: &IsCompleteRequest) -> Result<Option<DeskReply>, AllocError>
+fn judge<D: Desk>(
+    desk: &mut D,
+    request: &IsCompleteRequest,
+) -> Result<Option<DeskReply>, AllocError>
     ensures ok { IfOk result (λ told. (a : Result Answer HallFault)
         × IsHeld D.leads desk.old (ask_talk (IsComplete (string_bytes request.now.code)) a) told desk.new) }
     ensures err { OnErr result (desk.new ≡ desk.old) }
