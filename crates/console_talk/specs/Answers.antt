@@ -2,8 +2,8 @@
 use Rattle.std.specs.Prelude.{◌≡◌, ◌⊎◌, List, ℕ, Option, Some, None, Result, Ok, Err, string_bytes}
 use Rattle.console_talk.specs.Lines as table
 use Rattle.console_talk.specs.declared.printed.Printed.{Printed}
-use Rattle.console_talk.specs.declared.told.AnswerFault.{AnswerFault}
-use Rattle.console_talk.specs.declared.told.AnswerFault.TheVariants.{NoAnswer, Memory}
+use Rattle.console_talk.specs.declared.printed.AnswerFault.{AnswerFault}
+use Rattle.console_talk.specs.declared.printed.AnswerFault.TheVariants.{NoAnswer, Memory}
 
 -- what is printed, without where it lies in memory
 abbrev pub told_of : Printed → table.Printed

@@ -6,8 +6,8 @@ use Rattle.jupyter_msg.specs.declared.fault.MsgFault.TheVariants as message
 use Rattle.jupyter_msg.specs.declared.fault.Setting.TheVariants as setting
 use Rattle.console_talk.specs.declared.fault.ConsoleFault.{ConsoleFault}
 use Rattle.console_talk.specs.declared.fault.ConsoleFault.TheVariants.{BadFile, NoConnection, NoMemory, NoComm}
-use Rattle.console_talk.specs.declared.told.AnswerFault.{AnswerFault}
-use Rattle.console_talk.specs.declared.told.AnswerFault.TheVariants as answer
+use Rattle.console_talk.specs.declared.printed.AnswerFault.{AnswerFault}
+use Rattle.console_talk.specs.declared.printed.AnswerFault.TheVariants as answer
 
 abbrev pub reason_of : ConsoleFault → List ℕ
 reason_of (BadFile s) = codes "connection file: " ++ setting_name s

@@ -43,7 +43,7 @@ pub enum AnswerFault {
 
 impl From<AllocError> for AnswerFault {
     ghost use Rattle.std.specs.Prelude.{◌≡◌};
-    ghost use Rattle.console_talk.specs.declared.told.AnswerFault.TheVariants.{Memory};
+    ghost use Rattle.console_talk.specs.declared.printed.AnswerFault.TheVariants.{Memory};
 
     ghost from_gives = { λ _ e. e ≡ Memory };
 
@@ -54,7 +54,7 @@ impl From<AllocError> for AnswerFault {
 
 impl<T: Drop> From<AllocFailed<T>> for AnswerFault {
     ghost use Rattle.std.specs.Prelude.{◌≡◌};
-    ghost use Rattle.console_talk.specs.declared.told.AnswerFault.TheVariants.{Memory};
+    ghost use Rattle.console_talk.specs.declared.printed.AnswerFault.TheVariants.{Memory};
 
     ghost from_gives = { λ _ e. e ≡ Memory };
 
