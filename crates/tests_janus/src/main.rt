@@ -15,6 +15,7 @@ mod questions;
 mod schedules;
 mod stores;
 mod streams;
+mod sweeps;
 mod texts;
 mod transcripts;
 mod values;

@@ -1,10 +1,11 @@
 //! Rows of schedules: the calls of a new kernel. `cell`, `silent` and `unstored` post a cell, `undo`, `redo` and `goto` a move; `begin`,
 //! `slice` with a number of steps, `ask` (a slice that asks to stop) and `shut` are the further calls. `world` gives the shown
 //! world, `minutes` the counter, the phase and the minutes, and `events` runs a whole list of events. `repeat` makes calls so often, and
-//! gives the last answers. Other rows are questions.
+//! gives the last answers. `sweep` and `fault` are told by the module `sweeps`. Other rows are questions.
 ghost use Rattle.std.specs.Prelude.{◌≡◌, ◌<◌};
 
 use crate::questions::question;
+use crate::sweeps::swept;
 use crate::values::value_shown;
 use kernel_core::{Event, Job, Kernel, run_events};
 use std::alloc::{AllocError, Global};
@@ -52,17 +53,27 @@ fn told_by<L: Ledger>(
     Ok(out)
 }
 
-/// The answer to a call, or to the last of calls that are repeated.
+/// The answer to a call, to a sweep, or to the last of calls that are repeated.
 fn answered<L: Ledger>(
     alloc: Global,
     kernel: &mut Kernel<L>,
     call: &str,
 ) -> Result<String, AllocError> {
     let (word, rest) = cut(call);
-    if word != "repeat" {
-        return answer(alloc, kernel, call);
+    match word {
+        "sweep" | "fault" => swept(alloc, kernel, rest, word == "fault"),
+        "repeat" => repeated(alloc, kernel, rest),
+        _ => answer(alloc, kernel, call),
     }
-    let (times, calls) = cut(rest);
+}
+
+/// The answers to the last of calls that are repeated so often.
+fn repeated<L: Ledger>(
+    alloc: Global,
+    kernel: &mut Kernel<L>,
+    row: &str,
+) -> Result<String, AllocError> {
+    let (times, calls) = cut(row);
     let mut last = String::new(alloc);
     for _ in 0..number(times) {
         last = answers(alloc, kernel, calls)?;
@@ -71,7 +82,7 @@ fn answered<L: Ledger>(
 }
 
 /// The answers to calls with a semicolon between them.
-fn answers<L: Ledger>(
+pub(crate) fn answers<L: Ledger>(
     alloc: Global,
     kernel: &mut Kernel<L>,
     calls: &str,
@@ -164,7 +175,7 @@ fn job_of(alloc: Global, word: &str, rest: &str) -> Result<Job, AllocError> {
 }
 
 /// The shown world: the position, and each name with its value.
-fn world<L: Ledger>(alloc: Global, kernel: &Kernel<L>) -> Result<String, AllocError> {
+pub(crate) fn world<L: Ledger>(alloc: Global, kernel: &Kernel<L>) -> Result<String, AllocError> {
     let mut text = shown(alloc, &kernel.position())?;
     let world = kernel.world();
     for i in 0..world.len() {
