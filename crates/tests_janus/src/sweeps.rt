@@ -14,7 +14,7 @@ use kernel_core::{Begun, Kernel, Outcome, Sliced};
 use kernel_text::procedure_text;
 use std::alloc::{AllocError, Global};
 use std::sync::ledger::Ledger;
-use test_rows::{cut, number, shown};
+use tests_rows::{cut, number, shown};
 
 /// How many steps a slice takes back.
 const PIECES: [u64; 4] = [1, 2, 7, u64::MAX];
