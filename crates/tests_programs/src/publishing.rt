@@ -90,3 +90,29 @@ fn lag<R: Wait + Abort>(rt: &R, alloc: Global) {
 fn a_subscriber_that_lags_is_told_so(rt: HostRuntime) {
     lag(&rt, rt.alloc());
 }
+
+/// How a connection ends that subscribes to the empty prefix so often.
+fn subscribe_often<R: Wait + Abort>(
+    rt: &R,
+    alloc: Global,
+    times: u32,
+) -> Result<(), SubscriberFault> {
+    let bulletin = Bulletin::new(alloc).expect(rt, "a bulletin");
+    let shared = Mutex::new(Subscriber::new(alloc));
+    let mut octets = opening_of(rt, alloc, Role::Sub);
+    for _ in 0..times {
+        octets
+            .extend_from_slice(&subscription(rt, alloc, ""))
+            .expect(rt, "octets");
+    }
+    let mut reader = octets.as_slice();
+    hear(rt, &bulletin, &shared, &mut reader)
+}
+
+#[test]
+fn a_subscriber_has_4096_prefixes_at_most(rt: HostRuntime) {
+    let alloc = rt.alloc();
+    assert!(&rt; subscribe_often(&rt, alloc, 4_096).is_ok());
+    let past = subscribe_often(&rt, alloc, 4_097);
+    assert!(&rt; matches!(past, Err(SubscriberFault::TooMuch)));
+}
