@@ -112,7 +112,7 @@ fn subscribe_often<R: Wait + Abort>(
 #[test]
 fn a_subscriber_has_4096_prefixes_at_most(rt: HostRuntime) {
     let alloc = rt.alloc();
-    assert!(&rt; subscribe_often(&rt, alloc, 4_096).is_ok());
+    assert!(rt; subscribe_often(&rt, alloc, 4_096).is_ok());
     let past = subscribe_often(&rt, alloc, 4_097);
-    assert!(&rt; matches!(past, Err(SubscriberFault::TooMuch)));
+    assert!(rt; matches!(past, Err(SubscriberFault::TooMuch)));
 }
