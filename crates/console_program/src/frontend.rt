@@ -264,7 +264,7 @@ impl<R: Read + Drop, W: Write + Drop> Frontend<R, W> {
         Ok(news)
     }
 
-    /// Runs a text as a cell. The broadcasts are read first, so that none wait unread while others run theirs; the last of them comes behind the reply.
+    /// Runs a text as a cell. The broadcasts are read first, so that none wait unread while others run theirs.
     fn run(&mut self, code: &str) -> Result<Printed, ConsoleFault> {
         let n = self.ask(execute_draft(self.alloc, code)?)?;
         self.ran(n)
@@ -295,7 +295,12 @@ impl<R: Read + Drop, W: Write + Drop> Frontend<R, W> {
             return Err(ConsoleFault::NoComm);
         }
         let n = self.send(asked)?;
-        match self.news_of(n)?.said {
+        let News {
+            shown: _,
+            said,
+            is_closed: _,
+        } = self.news_of(n)?;
+        match said {
             Some(said) => Ok(said),
             None => Err(ConsoleFault::NoConnection),
         }

@@ -120,17 +120,27 @@ pub(crate) fn milliseconds<R: Clock>(rt: &R) -> u64 {
 pub(crate) struct Departures<'a, R: Clock> {
     rt: &'a R,
     stream: &'a TcpStream,
+    presence: &'a Presence,
     /// When the message has to be out of which a piece is.
     until: Option<Duration>,
+    /// Whether what goes out is noted, as where no signed message shows who is there: who takes it is there.
+    is_noted: bool,
 }
 
 impl<'a, R: Clock> Departures<'a, R> {
     /// What goes out on a connection.
-    pub fn new(rt: &'a R, stream: &'a TcpStream) -> Departures<'a, R> {
+    pub fn new(
+        rt: &'a R,
+        stream: &'a TcpStream,
+        presence: &'a Presence,
+        is_noted: bool,
+    ) -> Departures<'a, R> {
         Departures {
             rt,
             stream,
+            presence,
             until: None,
+            is_noted,
         }
     }
 
@@ -143,6 +153,9 @@ impl<'a, R: Clock> Departures<'a, R> {
     fn write_until(&mut self, buf: &[u8], until: Duration) -> io::Result<usize> {
         let mut stream = self.stream;
         let count = stream.write(buf)?;
+        if self.is_noted {
+            self.presence.hear(milliseconds(self.rt));
+        }
         self.until = if count < buf.len() { Some(until) } else { None };
         Ok(count)
     }

@@ -30,7 +30,7 @@ fn supply<W: Ledger + Sync, L: Ledger + Sync, R: Threads + Wait + Clock + Sync>(
     };
     let input = Input::new(stream, &service.subscribers);
     let mut arrivals = Arrivals::new(rt, service.alloc, stream, input, presence, Role::Pub, true);
-    let departures = Departures::new(rt, stream);
+    let departures = Departures::new(rt, stream, presence, true);
     let _ = serve_subscriber(
         rt,
         service.alloc,

@@ -46,7 +46,7 @@ fn converse<W: Ledger, L: Ledger, D: Desk, R: Clock>(
     let is_noted = matches!(place.socket, Socket::Stdin | Socket::Heartbeat);
     let role = role_of(place.socket);
     let mut arrivals = Arrivals::new(rt, service.alloc, stream, input, presence, role, is_noted);
-    let mut departures = Departures::new(rt, stream);
+    let mut departures = Departures::new(rt, stream, presence, is_noted);
     let _ = serve(
         service.alloc,
         place.socket,

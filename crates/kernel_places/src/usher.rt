@@ -45,7 +45,7 @@ fn accept<W: Ledger, L: Ledger, R: Wait + Clock>(
 fn see_in<R: Wait + Clock>(rt: &R, connections: &Connections, door: &Door, row: Row) {
     for _ in rt.forever() {
         let now = milliseconds(rt);
-        let _ = connections.make_room(rt, row.first, row.count, now, row.silence);
+        connections.make_room(rt, row.first, row.count, now, row.silence);
         if door.is_free_within(rt, Duration::from_millis(WAIT_MILLISECONDS)) {
             return;
         }

@@ -1,5 +1,5 @@
 //! The connections that are served.
-use crate::presence::Presence;
+use crate::presence::{MOMENT, Presence};
 use crate::register::{Register, Stream};
 use std::alloc::{AllocError, Global};
 use std::net::Shutdown;
@@ -63,46 +63,60 @@ impl Connections {
         self.left.notify_all();
     }
 
-    /// Ends the stranger that was heard longest ago at one of so many places from the first on: a connection on which no signed message came, and which was
-    /// not heard for so many milliseconds once it was ready, or for a moment where it is not. False where there is none.
-    pub fn make_room<R: Wait>(
-        &self,
-        rt: &R,
-        first: usize,
-        count: usize,
-        now: u64,
-        silence: u64,
-    ) -> bool {
+    /// Ends a stranger at one of so many places from the first on, if there is one: a connection on which no signed message came. While any is there
+    /// whose handshake is not over, it is of these the one that was heard longest ago, once it had its moment; else, of those that were not heard for so
+    /// many milliseconds, the one that was heard longest ago.
+    pub fn make_room<R: Wait>(&self, rt: &R, first: usize, count: usize, now: u64, silence: u64) {
         let register = self.register.lock(rt);
+        let has_new = self.has_new(&register, first, count);
+        let patience = if has_new { MOMENT } else { silence };
         let mut longest: Option<(usize, u64)> = None;
         for place in first..first.saturating_add(count) {
-            let Some(heard) = self.stranger_at(&register, place, now, silence) else {
+            let Some(heard) = self.stranger_at(&register, place, has_new, now, patience) else {
                 continue;
             };
             if is_longer(longest, heard) {
                 longest = Some((place, heard));
             }
         }
-        let Some((place, _)) = longest else {
-            return false;
-        };
-        register.end(place);
-        true
+        if let Some((place, _)) = longest {
+            register.end(place);
+        }
     }
 
-    /// When the connection at a place was last heard, where it is a stranger that may have to make room.
+    /// Whether a connection is at one of these places whose handshake is not over.
+    fn has_new(&self, register: &Register, first: usize, count: usize) -> bool {
+        for place in first..first.saturating_add(count) {
+            if self.is_new_at(register, place) {
+                return true;
+            }
+        }
+        false
+    }
+
+    /// Whether a connection is at a place whose handshake is not over.
+    fn is_new_at(&self, register: &Register, place: usize) -> bool {
+        match self.presences.get(place) {
+            Some(presence) => register.is_taken(place) && presence.is_new(),
+            None => false,
+        }
+    }
+
+    /// When the connection at a place was last heard, where it is a stranger that may have to make room: among those whose handshake is not over, or
+    /// among all.
     fn stranger_at(
         &self,
         register: &Register,
         place: usize,
+        is_new: bool,
         now: u64,
         silence: u64,
     ) -> Option<u64> {
-        if !register.is_taken(place) {
+        if !register.is_taken(place) || is_new && !self.is_new_at(register, place) {
             return None;
         }
         let presence = self.presences.get(place)?;
-        presence.heard_as_stranger(now, silence)
+        presence.silent_since(now, silence)
     }
 
     /// Lets no more connections in, and shuts those that are there: for reading, so that each is still answered, or altogether.

@@ -47,19 +47,18 @@ impl Presence {
         &self.is_trusted
     }
 
-    /// When it was last heard, where it has to make room now: no signed message came on it, and it was not heard for so long once it was ready, or
-    /// for a moment where it is not.
-    pub(crate) fn heard_as_stranger(&self, now: u64, silence: u64) -> Option<u64> {
+    /// Whether its handshake is not over yet.
+    pub(crate) fn is_new(&self) -> bool {
+        !self.is_ready.load(Ordering::SeqCst)
+    }
+
+    /// When it was last heard, where it may have to make room: no signed message came on it, and it was not heard for so many milliseconds.
+    pub(crate) fn silent_since(&self, now: u64, silence: u64) -> Option<u64> {
         if self.is_trusted.load(Ordering::SeqCst) {
             return None;
         }
-        let patience = if self.is_ready.load(Ordering::SeqCst) {
-            silence
-        } else {
-            MOMENT
-        };
         let heard = self.heard.load(Ordering::SeqCst);
-        if heard.saturating_add(patience) > now {
+        if heard.saturating_add(silence) > now {
             return None;
         }
         Some(heard)

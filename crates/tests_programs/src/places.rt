@@ -12,8 +12,11 @@ use zmtp_peer::Role;
 /// So many connections a socket serves at once.
 const PLACES: usize = 32;
 
-/// So many reads wait for what doesn't come.
-const SILENT_READS: u32 = 20;
+/// So many reads wait for what doesn't come, longer than a stranger has before it makes room.
+const SILENT_READS: u32 = 100;
+
+/// So many reads wait for what comes soon, much shorter than a handshake may take.
+const SOON: u32 = 400;
 
 /// Opens as many connections as a socket serves at once, each of which it is ready on.
 fn fill<R>(rt: &R, alloc: Global, port: u16, role: Role) -> Vec<Frontend>
@@ -102,11 +105,12 @@ where
 {
     for port in [site.shell, site.control] {
         let mut frontend = Frontend::open(rt, alloc, port);
+        assert!(rt; frontend.is_ready_within(rt, SOON));
         frontend.send(rt, "kernel_info_request", "{}");
         let _reply = frontend.reply(rt);
     }
-    Frontend::open(rt, alloc, site.stdin).wait_until_ready(rt);
-    Frontend::subscribe(rt, alloc, site.iopub, "").wait_until_ready(rt);
+    assert!(rt; Frontend::open(rt, alloc, site.stdin).is_ready_within(rt, SOON));
+    assert!(rt; Frontend::subscribe(rt, alloc, site.iopub, "").is_ready_within(rt, SOON));
     check_beat(rt, alloc, site.heartbeat);
 }
 
