@@ -17,7 +17,7 @@ use std::sync::ledger::Ledger;
 use tests_rows::{cut, number, shown};
 
 /// How many steps a slice takes back.
-const PIECES: [u64; 4] = [1, 2, 7, u64::MAX];
+const PIECES: [usize; 4] = [1, 2, 7, usize::MAX];
 
 /// The calls behind which a cell is begun, what was seen before the begin, and the worlds that were met on the way out, by their counts.
 #[derive(Drop)]
@@ -193,7 +193,7 @@ fn sweep<L: Ledger>(
     kernel: &mut Kernel<L>,
     way: &Way<'_>,
     tally: &mut Tally,
-    piece: u64,
+    piece: usize,
     is_fault: bool,
 ) -> Result<(), AllocError> {
     for count in 0..way.met.len() {
@@ -220,7 +220,10 @@ fn look<L: Ledger>(
     count: usize,
 ) -> Result<(), AllocError> {
     let world = shown_world(alloc, kernel)?;
-    tally.judge(way.met.get(count).is_some_and(|met| *met == world));
+    match way.met.get(count) {
+        Some(met) => tally.judge(*met == world),
+        None => tally.judge(false),
+    }
     Ok(())
 }
 
@@ -230,7 +233,7 @@ fn meet_fault<L: Ledger>(
     kernel: &mut Kernel<L>,
     way: &Way<'_>,
     tally: &mut Tally,
-    piece: u64,
+    piece: usize,
 ) -> Result<(), AllocError> {
     let steps = way.met.len().saturating_sub(1);
     match kernel.slice(u64::MAX, false) {
@@ -250,14 +253,14 @@ fn go_back<L: Ledger>(
     way: &Way<'_>,
     tally: &mut Tally,
     from: usize,
-    piece: u64,
+    piece: usize,
     asked: bool,
 ) -> Result<(), AllocError> {
     let mut left = from;
     for _ in 0..=from {
-        let sliced = kernel.slice(piece, asked);
+        let sliced = kernel.slice(piece as u64, asked);
         tally.slices = tally.slices.saturating_add(1);
-        left = left.saturating_sub(piece as usize);
+        left = left.saturating_sub(piece);
         if let Sliced::Ended(outcome) = sliced {
             tally.judge(left == 0);
             return end(alloc, kernel, way, tally, &outcome, from);
