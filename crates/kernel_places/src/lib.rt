@@ -1,28 +1,21 @@
 //! The places at which a kernel serves its connections: 32 for each of the five sockets, each of which takes a connection, serves it to
 //! its end and takes the next; an usher for each socket, who accepts the connections; beside them the worker that runs the cells; and how
-//! all of
-//! them come to an end.
+//! all of them come to an end.
 //!
-//! A connection whose handshake takes ten seconds fails, and so does a message that takes ten seconds to be written. Where all places of a
-//! socket are taken and another connection comes, a stranger makes room: first one whose handshake is not over, a moment after it came.
-//! Where
-//! none is left of these it is on shell and control the connection that has been silent longest and on which no message with a valid
-//! signature
-//! came; on stdin, iopub and the heartbeat, where nothing is signed, the one that has been silent longest, and for a minute at least:
-//! nothing came on it, and
-//! it took nothing. Where all 32 show the key, or were just heard, the next one waits.
+//! A connection whose handshake takes ten seconds fails, and so does a message that takes ten seconds to be written. Where all places of
+//! a socket are taken and another connection comes, a stranger makes room: first one whose handshake is not over, a moment after it came.
+//! Where none is left of these it is on shell and control the connection that has been silent longest and on which no message with a
+//! valid signature came; on stdin, iopub and the heartbeat, where nothing is signed, the one that has been silent longest, and for a
+//! minute at least: nothing came on it, and it took nothing. Where all 32 show the key, or were just heard, the next one waits.
 //!
 //! [`Service`] is what all places share: the hall, the board, the connections that are served, and the latches that all threads look at.
-//! [`serve_all`] starts
-//! the threads, and no connection is accepted before all of them stand; it tells when it is ready, waits for a shutdown and joins every
-//! thread. A place of
-//! shell or control has a pass of the hall and a ringer's seat for as long as it lives.
+//! [`serve_all`] starts the threads, and no connection is accepted before all of them stand; it tells when it is ready, waits for a
+//! shutdown and joins every thread. A place of shell or control has a pass of the hall and a ringer's seat for as long as it lives.
 //!
 //! As a shutdown is answered no more connections are accepted, and those on which requests come are shut for reading. The worker comes to
-//! its end first: the cell
-//! that ran was rung for, and goes back in as many steps as it took. Each connection has a grace then in which it still gets the answer
-//! that it waits for; behind
-//! it the same is done to the subscribers, who so get the last broadcasts. Both graces together are less than a second.
+//! its end first: the cell that ran was rung for, and goes back in as many steps as it took. Each connection has a grace then in which it
+//! still gets the answer that it waits for; behind it the same is done to the subscribers, who so get the last broadcasts. Both graces
+//! together are less than a second.
 //!
 //! To the layer above this crate promises safety alone, and that each place's seat is one of the bell of the hall (the type of
 //! `HallDesk`): that a thread runs, a connection is served or an end comes, no contract can say.
