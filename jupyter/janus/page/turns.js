@@ -6,22 +6,22 @@ define(['jquery', 'base/js/namespace', 'base/js/events', './texts.js'], function
 
 const ENDS = 'kernel_restarting.Kernel kernel_killed.Kernel kernel_dead.Kernel kernel_disconnected.Kernel';
 
-// Whether the cell ran well; false where it failed or the kernel ended. A cell without text sends nothing.
+// What came of the cell: its reply's content, with another status than ok where it failed or the kernel ended. A cell without text sends nothing.
 function run(cell) {
     return new Promise(function (resolve) {
-        const finish = function (good) {
+        const finish = function (content) {
             events.off('shell_reply.Kernel', replied);
             events.off(ENDS, ended);
-            resolve(good);
+            resolve(content);
         };
         const replied = function (event, data) {
-            if (data.reply.parent_header.msg_id === cell.last_msg_id) finish(data.reply.content.status === 'ok');
+            if (data.reply.parent_header.msg_id === cell.last_msg_id) finish(data.reply.content);
         };
-        const ended = function () { finish(false); };
+        const ended = function () { finish({status: 'ended'}); };
         events.on('shell_reply.Kernel', replied);
         events.on(ENDS, ended);
         cell.execute();
-        if (cell.cell_type !== 'code' || cell.get_text().trim() === '' || !cell.last_msg_id) finish(true);
+        if (cell.cell_type !== 'code' || cell.get_text().trim() === '' || !cell.last_msg_id) finish({status: 'ok'});
     });
 }
 
@@ -50,7 +50,7 @@ class Turns {
     add(cells) {
         for (const cell of cells) {
             const is_code = cell.cell_type === 'code' && cell.get_text().trim() !== '';
-            this.waiting.push({cell: cell, prompt: is_code ? cell.input_prompt_number : undefined});
+            this.waiting.push({cell: cell, is_code: is_code, prompt: cell.input_prompt_number});
             if (is_code) cell.set_input_prompt('*');
         }
         if (!this.running) this.go_on();
@@ -61,17 +61,18 @@ class Turns {
         while (this.waiting.length) {
             const cell = this.waiting.shift().cell;
             if (Jupyter.notebook.find_cell_index(cell) === null) continue;           // it was deleted meanwhile
-            if (!await run(cell)) this.stop(cell);
+            const came = await run(cell);
+            if (came.status !== 'ok') this.stop(came);
         }
         this.running = false;
     }
 
-    stop(cell) {
-        const left = this.waiting.splice(0).filter(function (it) { return it.prompt !== undefined; });
-        left.forEach(function (it) { it.cell.set_input_prompt(typeof it.prompt === 'number' ? it.prompt : undefined); });
+    stop(came) {
+        const left = this.waiting.splice(0).filter(function (it) { return it.is_code; });
+        left.forEach(function (it) { it.cell.set_input_prompt(it.prompt === '*' ? undefined : it.prompt); });
         if (left.length === 0) return;
-        const prompt = typeof cell.input_prompt_number === 'number' ? ' In [' + cell.input_prompt_number + ']' : '';
-        this.tell('Stopped at the cell' + prompt + ', which failed: ' + texts.count(left.length, 'cell') + ' behind it did not run.', 'warn');
+        const why = came.status === 'ended' ? 'as the kernel ended' : 'at the cell In [' + came.execution_count + '], which failed';
+        this.tell('Stopped ' + why + ': ' + texts.count(left.length, 'cell') + ' behind it did not run.', 'warn');
     }
 }
 

@@ -2,6 +2,7 @@
 import time
 import uuid
 
+import zmq
 from jupyter_client import BlockingKernelClient
 
 
@@ -42,11 +43,11 @@ class Frontend:
         return self.heard(self.begin(code, **more), 'idle')
 
     def drain(self):
-        """Takes what came, so that the client's queue stays short."""
-        while self.client.iopub_channel.msg_ready():
-            self.client.get_iopub_msg(timeout=1)
-        while self.client.shell_channel.msg_ready():
-            self.client.get_shell_msg(timeout=1)
+        """Throws away what came, so that the client's queues stay short."""
+        for channel in (self.client.iopub_channel, self.client.shell_channel):
+            plain = zmq.Socket.shadow(channel.socket.underlying)
+            while plain.poll(0):
+                plain.recv_multipart()
 
     def comms(self):
         asked = self.send('comm_info_request', {'target_name': 'janus.undo'})

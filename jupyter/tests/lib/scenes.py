@@ -92,10 +92,10 @@ def clicks(stage):
     lane = page.js('return Jupyter.janus.panel.tree.layout.lane')
     check(lane[5] != lane[3] and lane[3] == lane[2], 'the branch is drawn in a lane of its own', lane)
     check(shown(page)['on'] == [0, 1, 2, 5], 'the path is 0, 1, 2, 5', shown(page)['on'])
-    comes('and the marks say so', lambda: (marks(page) == ['+1', '+2', '-3', '-4', '+5'], marks(page)))
+    comes('and the marks say so', lambda: (marks(page)[:5] == ['+1', '+2', '-3', '-4', '+5'], marks(page)))
     click_node(page, 4)
     stands(page, 4, 5, what='a click goes over to the other branch')
-    comes('marks follow', lambda: (marks(page) == ['+1', '+2', '+3', '+4', '-5'], marks(page)))
+    comes('marks follow', lambda: (marks(page)[:5] == ['+1', '+2', '+3', '+4', '-5'], marks(page)))
     click_node(page, 2)
     stands(page, 2, 5)
     redos = page.js('return [$("#janus-panel .node.redo").map(function () { return this.getAttribute("data-node"); }).get(), $("path.redos").attr("d") !== ""]')
@@ -236,7 +236,7 @@ def reload_page(stage):
     page.load()
     stands(page, 5, 5, what='the page loaded again stands at node 5', timeout=120)
     check(known(page)['parent'] == [-1, 0, 1, 2, 3, 2] and known(page)['unknown'] == 0, 'and knows the tree', known(page))
-    comes('and the marks of its cells', lambda: (marks(page) == ['+1', '+2', '-3', '-4', '+5'], marks(page)))
+    comes('and the marks of its cells', lambda: (marks(page)[:5] == ['+1', '+2', '-3', '-4', '+5'], marks(page)))
     second = stage.frontend()
     ours = [it for it in second.comms() if it.startswith('janus-panel-')]
     check(len(ours) == 1, 'two loads of the page hold one comm', ours)
@@ -284,7 +284,7 @@ def run_all_stops(stage):
     page.add('')
     last = page.add('n += 1')
     run_all(page)
-    comes('Run All stops at the cell that fails', lambda: 'Stopped at the cell In [3], which failed: 2 cells behind it did not run.' == message(page))
+    comes('Run All stops at the cell that fails', lambda: (message(page) == 'Stopped at the cell In [3], which failed: 2 cells behind it did not run.', message(page)))
     stands(page, 2, 2, WORLD)
     prompts = [it['prompt'] for it in page.cells() if it['type'] == 'code']
     check(prompts[:4] == [1, 2, 3, 4] and prompts[-1] is None, 'cells that did not run have their old prompts', prompts)
@@ -350,7 +350,7 @@ def keyboard(stage):
     page.select(1)
     page.keys(Keys.ENTER, 'u')
     time.sleep(.5)
-    check(known(page)['position'] == 3 and page.cells()[1]['text'].count('u') == 4, 'in edit mode u is a letter', page.cells()[1]['text'])
+    check(known(page)['position'] == 3 and page.cells()[1]['text'].startswith('uint'), 'in edit mode u is a letter', page.cells()[1]['text'])
 
 
 def screen_reader(stage):
@@ -366,10 +366,10 @@ def screen_reader(stage):
     check(names[4].startswith('node 4 of 4, under 3, not in effect') and names[2].startswith('node 2 of 4, under 1, in effect'), 'with what is in effect', names)
     levels = [[p['value']['value'] for p in it['properties'] if p['name'] == 'level'] for it in items]
     check(levels == [[1], [2], [3], [4], [5]], 'and their depth', levels)
-    roles = {it['name']['value']: it['role']['value'] for it in tree if it.get('name', {}).get('value') and not it.get('ignored')}
-    check(roles.get('Tree of histories') == 'tree' and roles.get('Step through time') == 'slider', 'the tree and the slider have names and roles')
-    check(roles.get('Janus history') == 'complementary', 'the panel is a landmark')
-    check(roles.get('What other frontends did') == 'log', 'the doings of others are a log')
+    roles = {(it['role']['value'], it.get('name', {}).get('value')) for it in tree if not it.get('ignored')}
+    wanted = {('tree', 'Tree of histories'), ('slider', 'Step through time'), ('complementary', 'Janus history'), ('log', 'What other frontends did'),
+              ('region', 'Values')}
+    check(wanted <= roles, 'panel, tree, slider, log and values have roles and names', wanted - roles)
     comes('what changed is said', lambda: page.js('return $(".janus-said").text()') == 'At node 3. Changed: x1 = 5, x2 = 8, n = 0')
     look = page.js('return [$(".janus-said").attr("aria-live"), $(".janus-message").attr("aria-live"), $("#janus-undo").attr("aria-label")]')
     check(look == ['polite', 'polite', 'Undo'], 'in live regions', look)
@@ -415,8 +415,9 @@ def slider_on_branch(stage):
     stands(page, 2, 5, WORLD)
     page.keys(Keys.ARROW_RIGHT)
     stands(page, 5, 5, ['x1 = 100', 'x2 = 0', 'n = 4'], 'and back down the same branch')
+    cell = page.add('x1 += 1')
     for _ in range(40):
-        page.run(page.cells().__len__() - 1)
+        page.run(cell)
     stands(page, 45, 45)
     page.js('$("#janus-slider").focus()')
     page.keys(Keys.HOME)
