@@ -274,7 +274,7 @@ class Conversation {
         if (job.other) this.page.other('another frontend ' + explain.way(answer));
         if (this.history.known) this.history.move(answer);               // what doesn't fit is found out by the state
         else this.early = null;
-        this.page.changed();
+        if (own) this.page.update(); else this.page.changed();
         this.ask_soon(own ? 0 : SOON);
     }
 

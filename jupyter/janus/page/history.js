@@ -289,12 +289,21 @@ class History {
 
     // The nodes that redos would go down, the next first; none where they aren't all known.
     redo_path() {
+        if (this.redos_of === this.version) return this.redos;
         const out = [];
         for (let n = this.position; out.length < this.redo && this.favourite[n] > 0;) {
             n = this.favourite[n];
             out.push(n);
         }
-        return out.length === this.redo ? out : [];
+        this.redos = out.length === this.redo ? out : [];
+        this.redos_of = this.version;
+        return this.redos;
+    }
+
+    is_on_redo_path(node) {
+        if (this.redo_set_of !== this.version) this.redo_set = new Set(this.redo_path());
+        this.redo_set_of = this.version;
+        return this.redo_set.has(node);
     }
 
     unknown() {

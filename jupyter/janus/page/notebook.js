@@ -137,6 +137,7 @@ class Page {
 
     update() {
         const begun = performance.now();
+        clearTimeout(this.timer);
         this.timer = null;
         this.marks.mark();
         this.panel.update();

@@ -14,6 +14,16 @@ const MARKUP = '<div class="janus-tree" role="tree" tabindex="0" aria-label="Tre
 
 function middle(row) { return row * ROW + ROW / 2 + TOP; }
 
+// The place of the first of rising numbers that is no less than the least.
+function first_from(numbers, least) {
+    let low = 0, high = numbers.length;
+    while (low < high) {
+        const half = (low + high) >> 1;
+        if (numbers[half] < least) low = half + 1; else high = half;
+    }
+    return low;
+}
+
 class Tree {
     // `go` is called with the number of a node that is to be gone to.
     constructor(history, parent, go) {
@@ -22,11 +32,14 @@ class Tree {
         this.layout = new Layout();
         this.cursor = 0;                // the keyboard's row
         this.followed = '';             // which position was last brought into sight
-        this.written = '';              // the rows as they were last written
-        this.stats = {draws: 0, last: 0, most: 0, elements: 0};
+        this.written = {};              // which rows stand there, and as what
+        this.stats = {draws: 0, last: 0, most: 0};
         parent.insertAdjacentHTML('beforeend', MARKUP);
         this.box = parent.querySelector('.janus-tree');
         this.svg = this.box.querySelector('svg');
+        this.rows = this.svg.querySelector('.rows');
+        this.lines = {};
+        for (const name of ['edges', 'gaps', 'redos', 'way']) this.lines[name] = this.svg.querySelector('.' + name);
         this.box.addEventListener('scroll', () => this.draw());
         this.svg.addEventListener('click', event => this.clicked(event));
         this.box.addEventListener('keydown', event => this.key(event));
@@ -101,13 +114,17 @@ class Tree {
             first: Math.max(0, Math.floor(top / ROW) - MARGIN), last: Math.min(history.nodes, Math.ceil((top + height) / ROW) + MARGIN),
             pitch: Math.max(1.2, Math.min(LANE, LANES_WIDE / this.layout.lines.length)),          // many lanes stand closer
         };
-        const edges = this.edges(view), redos = history.redo_path(), text = this.x(view, edges.widest) + 14;
-        const ways = this.ways(view, redos);
-        this.svg.setAttribute('width', Math.max(width - 2, text + 120));
-        for (const name of ['way', 'gaps', 'redos']) this.svg.querySelector('.' + name).setAttribute('d', ways[name]);
-        this.svg.querySelector('.edges').setAttribute('d', edges.path);
-        this.write_rows(view, text, new Set(redos));
+        const edges = this.edges(view), text = this.x(view, edges.widest) + 14, ways = this.ways(view);
+        this.set(this.svg, 'width', Math.max(width - 2, text + 120));
+        this.set(this.svg, 'style', '--janus-text: ' + text + 'px');
+        for (const name of ['way', 'gaps', 'redos']) this.set(this.lines[name], 'd', ways[name]);
+        this.set(this.lines.edges, 'd', edges.path);
+        this.write_rows(view);
         this.count(performance.now() - begun);
+    }
+
+    set(element, name, value) {
+        if (element.getAttribute(name) !== String(value)) element.setAttribute(name, value);
     }
 
     count(time) {
@@ -160,48 +177,61 @@ class Tree {
     }
 
     // The path to the position, its gaps, and the way that redos would take.
-    ways(view, redos) {
-        const history = this.history, on = history.path().on;
+    ways(view) {
+        const history = this.history, on = history.path().on, redos = history.redo_path();
         let way = '', gaps = '', back = '';
-        for (let i = 1; i < on.length; i++) {
+        for (let i = Math.max(1, first_from(on, view.first - 1)); i < on.length && on[i - 1] <= view.last + 1; i++) {
             const parent = on[i - 1], child = on[i];
             if (history.parent[child] === parent) way += this.route(view, parent, child);
-            else if (child >= view.first && parent <= view.last)
-                gaps += 'M' + (this.x(view, this.layout.lane[parent]) - 4) + ' ' + this.cut(view, parent) + 'V' + this.cut(view, child);
+            else gaps += 'M' + (this.x(view, this.layout.lane[parent]) - 4) + ' ' + this.cut(view, parent) + 'V' + this.cut(view, child);
         }
-        for (let i = 0, above = history.position; i < redos.length; above = redos[i++])
+        for (let i = first_from(redos, view.first - 1); i < redos.length; i++) {
+            const above = i > 0 ? redos[i - 1] : history.position;
+            if (above > view.last + 1) break;
             if (history.parent[redos[i]] === above) back += this.route(view, above, redos[i]);
+        }
         return {way: way, gaps: gaps, redos: back};
     }
 
-    write_rows(view, text, redos) {
-        const rows = [];
-        for (let n = view.first; n <= view.last; n++) rows.push(this.row(view, n, text, redos));
-        const all = rows.join('');
-        if (all === this.written) return;
-        this.written = all;
-        this.svg.querySelector('.rows').innerHTML = all;
-        this.box.setAttribute('aria-activedescendant', 'janus-node-' + this.cursor);
-        this.stats.elements = this.svg.getElementsByTagName('*').length;
+    // While the tree is the same, rows that stand there stay, and only those that come into sight are written.
+    write_rows(view) {
+        const as = this.history.version + ' ' + this.cursor + ' ' + view.pitch, old = this.written, rows = this.rows;
+        const stays = old.as === as && old.first <= view.last && view.first <= old.last;
+        if (stays) {
+            for (let n = old.first; n < view.first; n++) rows.firstChild.remove();
+            for (let n = old.last; n > view.last; n--) rows.lastChild.remove();
+            rows.insertAdjacentHTML('afterbegin', this.some_rows(view, view.first, old.first - 1));
+            rows.insertAdjacentHTML('beforeend', this.some_rows(view, old.last + 1, view.last));
+        } else {
+            rows.innerHTML = this.some_rows(view, view.first, view.last);
+            this.box.setAttribute('aria-activedescendant', 'janus-node-' + this.cursor);
+        }
+        this.written = {as: as, first: view.first, last: view.last};
     }
 
-    row(view, n, text, redos) {
+    some_rows(view, from, to) {
+        let out = '';
+        for (let n = from; n <= to; n++) out += this.row(view, n);
+        return out;
+    }
+
+    row(view, n) {
         const history = this.history, label = history.label[n], x = this.x(view, this.layout.lane[n]), y = middle(n);
         const loose = n > 0 && history.parent[n] < 0, here = n === history.position, said = texts.escape(this.words(n)), depth = history.depth_of(n);
         const code = n === 0 ? 'start' : label ? texts.first_line(label.code).slice(0, 60) : '';
-        return '<g class="' + this.classes(n, redos, loose) + '" id="janus-node-' + n + '" data-node="' + n + '" role="treeitem" aria-label="' + said + '"' +
+        return '<g class="' + this.classes(n, loose) + '" id="janus-node-' + n + '" data-node="' + n + '" role="treeitem" aria-label="' + said + '"' +
             (depth >= 0 ? ' aria-level="' + (depth + 1) + '"' : '') + ' aria-selected="' + here + '">' +
             '<title>' + said + (label ? '\n' + texts.escape(label.code.slice(0, 400)) : '') + '</title>' +
             '<rect class="hit" x="0" y="' + (y - ROW / 2) + '" width="100%" height="' + ROW + '"/>' +
             (loose ? '<text class="ask" x="' + (x - 3) + '" y="' + (y - 7) + '">?</text>' : '') +
             '<circle cx="' + x + '" cy="' + y + '" r="' + (here ? RADIUS + 1.5 : RADIUS) + '"/>' +
-            '<text x="' + text + '" y="' + (y + 4) + '"><tspan class="num">' + n + '</tspan><tspan class="count" dx="6">' +
+            '<text class="label" y="' + (y + 4) + '"><tspan class="num">' + n + '</tspan><tspan class="count" dx="6">' +
             (label && label.count ? '[' + label.count + ']' : '') + '</tspan><tspan class="code" dx="6">' + texts.escape(code) + '</tspan></text></g>';
     }
 
-    classes(n, redos, loose) {
+    classes(n, loose) {
         const is = this.history.in_effect(n);
-        return 'node ' + (is ? 'on' : is === undefined ? 'maybe' : 'off') + (n === this.history.position ? ' here' : '') + (redos.has(n) ? ' redo' : '') +
+        return 'node ' + (is ? 'on' : is === undefined ? 'maybe' : 'off') + (n === this.history.position ? ' here' : '') + (this.history.is_on_redo_path(n) ? ' redo' : '') +
             (loose ? ' loose' : '') + (n === this.cursor ? ' cursor' : '');
     }
 

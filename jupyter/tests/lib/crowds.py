@@ -67,16 +67,27 @@ def grow(frontend, nodes):
     return frontend.ask('state')
 
 
-def drawing(page):
-    return page.js('''var t = Jupyter.janus.panel.tree, out = [], most = t.box.scrollHeight;
-        for (var i = 0; i < 60; i++) { t.box.scrollTop = most * ((i * 37) % 60) / 60; t.draw(); out.push(t.stats.last); }
-        out.sort(function (a, b) { return a - b; }); return {median: out[30], most: out[59], elements: t.stats.elements, lanes: t.layout.lines.length}''')
+# Drawings while the tree is scrolled by what a wheel's notch is, and where it jumps elsewhere, by the page's own clock.
+DRAWN = '''var t = Jupyter.janus.panel.tree, most = t.box.scrollHeight - t.box.clientHeight;
+    function middle(it) { it.sort(function (a, b) { return a - b; }); return it[it.length >> 1]; }
+    function draw(place) { return function (i) { t.box.scrollTop = place(i); t.draw(); return t.stats.last; }; }
+    var many = Array.from(Array(80).keys()), scrolled = many.map(draw(function (i) { return most / 3 + i * 120; }));
+    var jumped = many.map(draw(function (i) { return most * ((i * 37) % 80) / 80; }));
+    return {scrolled: middle(scrolled), jumped: middle(jumped), most: Math.max.apply(null, scrolled.concat(jumped)),
+        elements: t.svg.getElementsByTagName("*").length, lanes: t.layout.lines.length}'''
+
+
+def drawing(page, what):
+    drawn = page.js(DRAWN)
+    figure(what, {it: round(drawn[it], 2) for it in drawn})
+    return drawn
 
 
 # From a click to the drawing of what it brought, by the page's own clock.
 CLICKED = '''var node = arguments[0], done = arguments[1], page = Jupyter.janus, tree = page.panel.tree, old = tree.draw, begun;
     tree.move_cursor(node);
-    tree.draw = function () { old.call(tree); if (begun !== undefined && page.history.position === node) { tree.draw = old; done(performance.now() - begun); } };
+    tree.draw = function () { old.call(tree); if (begun === undefined || page.history.position !== node) return;
+        tree.draw = old; done(performance.now() - begun); };
     setTimeout(function () { var row = document.querySelector('#janus-node-' + node + ' circle'); begun = performance.now();
         var at = row.getBoundingClientRect(); row.dispatchEvent(new MouseEvent('click', {bubbles: true, clientX: at.left + 3, clientY: at.top + 3})); }, 300)'''
 
@@ -90,9 +101,8 @@ def thousand(stage):
     comes('1,000 nodes are in the tree', lambda: (page.js(BRIEF)['nodes'] == 1000 and page.js(BRIEF)['unknown'] == 0, page.js(BRIEF)), 120)
     figure('seconds in which they were made', round(time.time() - begun, 1))
     stands(page, now['node'], 1000, now['world'])
-    drawn = drawing(page)
-    figure('drawing while scrolling, ms', {it: round(drawn[it], 2) for it in drawn})
-    check(drawn['median'] < DRAW, f'a drawing takes less than {DRAW} ms in the middle', drawn)
+    drawn = drawing(page, 'a drawing at 1,000 nodes, in the middle, ms')
+    check(drawn['scrolled'] < DRAW, f'a drawing while scrolling takes less than {DRAW} ms in the middle', drawn)
     check(drawn['elements'] < 800, 'few elements are drawn', drawn)
     times = sorted(page.js_later(CLICKED, node) for node in (17, 940, 333, 505, 61, 720, 999, 8, 450))
     figure('from a click to its drawing at 1,000 nodes, ms', [round(it, 1) for it in times])
@@ -145,18 +155,13 @@ def twenty_thousand(stage):
     page, frontend = stage.page, stage.frontend()
     page.run(1)
     stands(page, 1, 1)
-    for i in range(19999):
-        frontend.begin('n += 1')
-        if i % 200 == 199:
-            frontend.ask('state')
-            frontend.drain()
+    frontend.run_many('n += 1', 19999)
     now = frontend.ask('state')
     check(now['nodes'] == 20000, 'the kernel has 20,000 nodes', now['nodes'])
     stands(page, 20000, 20000, timeout=180)
     comes('all of them are known', lambda: (page.js(BRIEF)['unknown'] == 0, page.js(BRIEF)), 60)
-    drawn = drawing(page)
-    figure('drawing at 20,000 nodes while scrolling, ms', {it: round(drawn[it], 2) for it in drawn})
-    check(drawn['median'] < 25, 'a drawing takes less than 25 ms', drawn)
+    drawn = drawing(page, 'a drawing at 20,000 nodes, in the middle, ms')
+    check(drawn['scrolled'] < 25, 'a drawing takes less than 25 ms', drawn)
     times = [page.js_later(CLICKED, node) for node in (19990, 19000, 12345, 19999)]
     figure('from a click to its drawing at 20,000 nodes, ms', [round(it, 1) for it in times])
     stands(page, 19999, 20000)

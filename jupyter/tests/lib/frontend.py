@@ -42,6 +42,17 @@ class Frontend:
     def run(self, code, **more):
         return self.heard(self.begin(code, **more), 'idle')
 
+    def run_many(self, code, times, batch=200):
+        """Runs a cell many times, and throws away what comes of it."""
+        replies, shell = 0, zmq.Socket.shadow(self.client.shell_channel.socket.underlying)
+        for i in range(times):
+            self.begin(code)
+            if i % batch == batch - 1 or i == times - 1:
+                while replies <= i and shell.poll(60000):
+                    shell.recv_multipart()
+                    replies += 1
+                self.drain()
+
     def drain(self):
         """Throws away what came, so that the client's queues stay short."""
         for channel in (self.client.iopub_channel, self.client.shell_channel):

@@ -14,7 +14,8 @@ SHOWN = '''function numbers(css) { return $(css).map(function () { return Number
     slider: Number($('#janus-slider').val()), longest: Number($('#janus-slider').attr('max')), visible: $('#janus-panel').is(':visible')}'''
 MARKS = '''return Jupyter.notebook.get_cells().filter(function (it) { return it.cell_type === 'code'; }).map(function (it) {
     var e = it.element, n = (e.find('.janus-sign').text().match(/\\d+/) || ['?'])[0];
-    return e.hasClass('janus-undone') ? '-' + n : e.hasClass('janus-in') ? '+' + n : e.hasClass('janus-maybe') ? n + '?' : e.hasClass('janus-gone') ? 'gone' : ''; })'''
+    return e.hasClass('janus-undone') ? '-' + n : e.hasClass('janus-in') ? '+' + n : e.hasClass('janus-maybe') ? n + '?' :
+        e.hasClass('janus-gone') ? 'gone' : ''; })'''
 TOKENS = '''var cm = Jupyter.notebook.get_cell(arguments[0]).code_mirror, out = []; cm.eachLine(function (l) {
     cm.getLineTokens(cm.getLineNumber(l), true).forEach(function (t) { if (t.type) out.push(t.string + ':' + t.type); }); }); return out'''
 
