@@ -120,10 +120,10 @@ class Conversation {
         setTimeout(() => this.unanswered(asked), PATIENCE);
     }
 
-    // A state is answered at once, but behind a cell of this page. Where none runs, the answer was lost.
+    // A state is answered at once, but behind a cell or a move of this page. Where none is on its way, the answer was lost.
     unanswered(asked) {
         if (this.asked !== asked || this.kernel === null) return;
-        if (this.page.is_busy()) setTimeout(() => this.unanswered(asked), PATIENCE);
+        if (this.page.is_running() || this.mine.size > 0 && !this.missing) setTimeout(() => this.unanswered(asked), PATIENCE);
         else {
             this.missing = true;
             this.sync();

@@ -27,7 +27,8 @@ class Page {
 
     is_on() { return this.conversation.kernel !== null; }
 
-    is_busy() { return Jupyter.notebook.kernel_busy; }
+    // Whether a cell of this page runs or waits. The notebook's own word on it comes from broadcasts, of which some may be lost.
+    is_running() { return $('.code_cell.running').length > 0; }
 
     attach(kernel) {
         tools.bind(true);

@@ -55,16 +55,20 @@ def crowd(stage):
 
 
 def grow(frontend, nodes):
-    """So many cells in a tree of many branches, at a pace that the notebook's server lets through."""
+    """So many cells below node 1, in a tree of many branches, at a pace that the notebook's server lets through. Answers the parents."""
+    parent, position = [-1, 0], 1
     for i in range(nodes):
         frontend.begin(f'n += {i}')
+        parent.append(position)
+        position = i + 2
         if i % 10 == 9:
-            frontend.send('comm_msg', {'comm_id': frontend.comm, 'data': {'op': 'goto', 'n': max(1, (i * 7919) % (i + 1))}})
+            position = max(1, (i * 7919) % (i + 1))
+            frontend.send('comm_msg', {'comm_id': frontend.comm, 'data': {'op': 'goto', 'n': position}})
         if i % 50 == 49:
             frontend.ask('state')
             frontend.drain()
             time.sleep(.15)
-    return frontend.ask('state')
+    return parent
 
 
 # Drawings while the tree is scrolled by what a wheel's notch is, and where it jumps elsewhere, by the page's own clock.
@@ -97,10 +101,12 @@ def thousand(stage):
     page.run(1)
     stands(page, 1, 1)
     begun = time.time()
-    now = grow(frontend, 999)
+    parent = grow(frontend, 999)
+    now = frontend.ask('state')
     comes('1,000 nodes are in the tree', lambda: (page.js(BRIEF)['nodes'] == 1000 and page.js(BRIEF)['unknown'] == 0, page.js(BRIEF)), 120)
     figure('seconds in which they were made', round(time.time() - begun, 1))
     stands(page, now['node'], 1000, now['world'])
+    check(known(page)['parent'] == parent, 'each under the node under which it ran')
     drawn = drawing(page, 'a drawing at 1,000 nodes, in the middle, ms')
     check(drawn['scrolled'] < DRAW, f'a drawing while scrolling takes less than {DRAW} ms in the middle', drawn)
     check(drawn['elements'] < 800, 'few elements are drawn', drawn)

@@ -85,7 +85,8 @@ def clicks(stage):
     stands(page, 2, 4, WORLD, 'a click on node 2 goes there')
     comes('two cells are marked as undone', lambda: marks(page) == ['+1', '+2', '-3', '-4'])
     look = page.js('''var e = Jupyter.notebook.get_cell(4).element;
-        return [Number(e.find(".output").css("opacity")), Number(e.find(".input_prompt").css("opacity")), e.find(".output").css("text-decoration-line"), e.find(".janus-sign").text()]''')
+        return [Number(e.find(".output").css("opacity")), Number(e.find(".input_prompt").css("opacity")),
+            e.find(".output").css("text-decoration-line"), e.find(".janus-sign").text()]''')
     check(look == [.45, .55, 'line-through', 'undone · node 4'], 'output and prompt of an undone cell are struck through', look)
     branch(page)
     check(known(page)['parent'] == [-1, 0, 1, 2, 3, 2], 'node 5 stands under node 2: a branch', known(page))
