@@ -30,8 +30,9 @@ class Conversation {
         this.ask_again = false;
         this.misses = 0;
         this.early = [];                // cells that ended before the first state; null where something else ended too
-        this.silent = 0;                // silent cells, and other jobs, that ended since the last state that was taken
+        this.silent = 0;                // silent cells, other jobs, and moves among these that ended since the last state that was taken
         this.spoken = 0;
+        this.moves = 0;
         this.clock = 0;                 // counts the ends of jobs
         this.count = 0;                 // the highest execution count that was heard
         this.held = new Map();          // cells that were heard before one with a lower count
@@ -227,6 +228,7 @@ class Conversation {
             this.ask_soon(0);
         } else if (this.count && job.count > this.count + 1) {           // an earlier cell hasn't been told yet
             this.held.set(job.count, job);
+            if (this.moves) this.missing = true;                         // in which order these came isn't known
             clearTimeout(this.hold_timer);
             this.hold_timer = setTimeout(() => this.release_all(), HOLD);
         } else {
@@ -272,8 +274,9 @@ class Conversation {
         if (own) this.page.move_answered(own, answer);
         if (answer.status === 'refused') return;
         if (job.other) this.page.other('another frontend ' + explain.way(answer));
-        if (this.history.known) this.history.move(answer);               // what doesn't fit is found out by the state
-        else this.early = null;
+        this.moves++;
+        if (!this.history.known) this.early = null;
+        else if (!this.history.move(answer) || this.held.size > 0) this.missing = true;
         if (own) this.page.update(); else this.page.changed();
         this.ask_soon(own ? 0 : SOON);
     }
@@ -310,9 +313,11 @@ class Conversation {
         if (!history.check(state, this.missing)) this.page.forgot();
         if (first && quiet && history.early(labels))
             early.forEach((it, i) => this.page.early_ran(it.id, history.nodes - early.length + 1 + i));
+        if (this.missing) this.count = 0;                                // it isn't known, and what comes next is no gap
         this.early = [];
         this.silent = 0;
         this.spoken = 0;
+        this.moves = 0;
         this.missing = false;
         history.sure = history.nodes;
         history.journal = [];

@@ -18,7 +18,8 @@ class History {
     clear() {
         this.nodes = 0;
         this.position = 0;
-        this.redo = 0;                  // how many cells can be redone
+        this.redo = 0;                  // how many cells can be redone, as far as it is known
+        this.redo_sure = false;         // whether that is so for sure
         this.parent = [-1];
         this.depth = [0];               // -1 where it isn't known
         this.favourite = [-1];          // the child that a redo goes to, or -1
@@ -173,6 +174,7 @@ class History {
         this.journal.push(node);
         this.position = node;
         this.redo = 0;
+        this.redo_sure = true;
         return node;
     }
 
@@ -181,8 +183,9 @@ class History {
         if (answer.node > this.nodes) return false;
         const good = this.bend(this.position, answer.undone, answer.node, answer.redone);
         this.position = answer.node;
-        if (answer.op === 'undo') this.redo += answer.undone;
-        if (answer.op === 'redo') this.redo = Math.max(0, this.redo - answer.redone);
+        if (answer.redone === 0) this.redo += answer.undone;
+        else if (answer.op === 'redo') this.redo = Math.max(0, this.redo - answer.redone);
+        else this.redo_sure = false;                                    // it may have gone down another way
         this.favour(answer.node, answer.redone, good);
         this.version++;
         return good;
@@ -200,8 +203,8 @@ class History {
 
     // Whether a state is what is expected.
     expects(state) {
-        const depth = this.depth_of(this.position);
-        return this.known && state.node === this.position && state.nodes === this.nodes && (depth < 0 || depth === state.depth);
+        const depth = this.depth_of(this.position), redo = this.redo_sure ? this.redo : state.redo;
+        return this.known && state.node === this.position && state.nodes === this.nodes && redo === state.redo && (depth < 0 || depth === state.depth);
     }
 
     // Cells that ended before the first state was heard, and nothing else did: they are the newest nodes, one under the other.
@@ -219,6 +222,7 @@ class History {
         if (!good) this.begin_anew(state);
         this.known = true;
         this.redo = state.redo;
+        this.redo_sure = true;
         this.depth[this.position] = state.depth;
         if (!this.learn(state)) {
             this.forget();

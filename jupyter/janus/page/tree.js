@@ -231,8 +231,8 @@ class Tree {
 
     classes(n, loose) {
         const is = this.history.in_effect(n);
-        return 'node ' + (is ? 'on' : is === undefined ? 'maybe' : 'off') + (n === this.history.position ? ' here' : '') + (this.history.is_on_redo_path(n) ? ' redo' : '') +
-            (loose ? ' loose' : '') + (n === this.cursor ? ' cursor' : '');
+        return 'node ' + (is ? 'on' : is === undefined ? 'maybe' : 'off') + (n === this.history.position ? ' here' : '') +
+            (this.history.is_on_redo_path(n) ? ' redo' : '') + (loose ? ' loose' : '') + (n === this.cursor ? ' cursor' : '');
     }
 
     // What a row is, in words.

@@ -1,5 +1,6 @@
 """Scenes with many nodes and many messages, with the page's speed."""
 import random
+import signal
 import threading
 import time
 
@@ -54,20 +55,21 @@ def crowd(stage):
     comes('a walk through all nodes told it the rest', lambda: (known(page)['unknown'] == 0 and known(page)['parent'] == real, known(page)['unknown']))
 
 
-def grow(frontend, nodes):
-    """So many cells below node 1, in a tree of many branches, at a pace that the notebook's server lets through. Answers the parents."""
-    parent, position = [-1, 0], 1
+def grow(frontend, nodes, above=(-1, 0), position=1, pause=.15):
+    """So many cells more, in a tree of many branches, with a pause behind each 50, by which the notebook's server lets all through. Answers the
+    parents of all nodes."""
+    parent = list(above)
     for i in range(nodes):
         frontend.begin(f'n += {i}')
         parent.append(position)
-        position = i + 2
+        position = len(parent) - 1
         if i % 10 == 9:
             position = max(1, (i * 7919) % (i + 1))
             frontend.send('comm_msg', {'comm_id': frontend.comm, 'data': {'op': 'goto', 'n': position}})
         if i % 50 == 49:
             frontend.ask('state')
             frontend.drain()
-            time.sleep(.15)
+            time.sleep(pause)
     return parent
 
 
@@ -115,6 +117,33 @@ def thousand(stage):
     check(times[4] < CLICK, f'a click is answered and drawn within {CLICK} ms in the middle', times)
     stands(page, 450, 1000)
     stage.picture('thousand')
+
+
+def fell_behind(stage):
+    """The notebook's server stands still while another frontend works, so that the kernel hangs up on it or broadcasts are lost."""
+    page, frontend, server = stage.page, stage.frontend(), stage.theatre.server.process
+    page.run(1)
+    stands(page, 1, 1)
+    parent = grow(frontend, 100)
+    stands(page, frontend.ask('state')['node'], 101)
+    comes('the first 101 nodes are known', lambda: (known(page)['parent'] == parent, known(page)['parent']))
+    time.sleep(1)
+    server.send_signal(signal.SIGSTOP)
+    try:
+        parent = grow(frontend, 2900, parent, frontend.ask('state')['node'], 0)
+    finally:
+        server.send_signal(signal.SIGCONT)
+    now = frontend.ask('state')
+    stands(page, now['node'], 3001, now['world'], timeout=120)
+    said = known(page)['parent']
+    wrong = [(n, it, parent[n]) for n, it in enumerate(said) if it not in (-1, parent[n])]
+    check(not wrong, 'what the page says of the tree is so, whatever was lost', wrong[:10])
+    check(said[:102] == parent[:102], 'what it was sure of it still knows', said[:102])
+    figure('nodes, and those that are open behind it', (now['nodes'], said.count(-1) - 1))
+    more = grow(frontend, 60, parent, now['node'], 0)
+    now = frontend.ask('state')
+    stands(page, now['node'], 3061, now['world'])
+    comes('and what comes afterwards is known', lambda: (known(page)['parent'][3002:] == more[3002:], known(page)['parent'][3002:]))
 
 
 def paced(frontend, seconds, rate, out):
@@ -179,4 +208,4 @@ def twenty_thousand(stage):
     check(page.js(BRIEF)['unknown'] == 0, 'all of them', page.js(BRIEF))
 
 
-SCENES = [crowd, thousand, flood, twenty_thousand]
+SCENES = [crowd, thousand, fell_behind, flood, twenty_thousand]
