@@ -225,7 +225,7 @@ class Tree {
             '<rect class="hit" x="0" y="' + (y - ROW / 2) + '" width="100%" height="' + ROW + '"/>' +
             (loose ? '<text class="ask" x="' + (x - 3) + '" y="' + (y - 7) + '">?</text>' : '') +
             '<circle cx="' + x + '" cy="' + y + '" r="' + (here ? RADIUS + 1.5 : RADIUS) + '"/>' +
-            '<text class="label" y="' + (y + 4) + '"><tspan class="num">' + n + '</tspan><tspan class="count" dx="6">' +
+            '<text class="words" y="' + (y + 4) + '"><tspan class="num">' + n + '</tspan><tspan class="count" dx="6">' +
             (label && label.count ? '[' + label.count + ']' : '') + '</tspan><tspan class="code" dx="6">' + texts.escape(code) + '</tspan></text></g>';
     }
 
