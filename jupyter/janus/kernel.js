@@ -38,5 +38,5 @@ function onload() {
     if (kernel && kernel.is_connected() && kernel.info_reply.status) see(page, kernel);
 }
 
-return {onload: onload, load_ipython_extension: onload};
+return {onload: onload};
 });
