@@ -1,0 +1,330 @@
+// The conversation with the kernel: broadcasts that are heard, whoever asked for them, and the comm for `janus.undo` on which moves and
+// states are asked for. What is heard becomes what the history knows.
+define(['./explain.js', './texts.js'], function (explain, texts) {
+'use strict';
+
+const TARGET = 'janus.undo', OURS = 'janus-panel-';
+const HEARD = ['status', 'execute_input', 'error', 'stream', 'comm_msg', 'comm_close'];
+const MOVES = new Set(['undo', 'redo', 'goto']);
+const SOON = 40, AGAIN = 150, HOLD = 1500, PATIENCE = 3000, WAITS = 700;      // ms
+const MOST_MISSES = 5;                  // states that didn't fit, before one is believed all the same
+const LABEL = 2000;                     // so much of a cell's text is kept
+
+class Conversation {
+    // `page` is told what comes: see the calls `this.page.…` below.
+    constructor(history, page) {
+        this.history = history;
+        this.page = page;
+        this.kernel = null;
+        this.comm = null;
+        this.run = null;                // the session in the kernel's headers, which names its run
+        this.ask_timer = this.hold_timer = null;
+        this.turn = 0;                  // counts the searches for a comm
+        this.begin();
+    }
+
+    begin() {
+        this.jobs = new Map();          // requests of which the end wasn't heard yet
+        this.mine = new Map();          // moves that were asked for here, by the message's id
+        this.asked = null;              // the state that was asked for last
+        this.ask_again = false;
+        this.misses = 0;
+        this.early = [];                // cells that ended before the first state; null where something else ended too
+        this.silent = 0;                // silent cells, other jobs, and moves among these that ended since the last state that was taken
+        this.spoken = 0;
+        this.moves = 0;
+        this.clock = 0;                 // counts the ends of jobs
+        this.count = 0;                 // the highest execution count that was heard
+        this.held = new Map();          // cells that were heard before one with a lower count
+        this.missing = false;           // whether broadcasts are known to be lost
+    }
+
+    attach(kernel) {
+        this.kernel = kernel;
+        if (!kernel.janus_heard) {
+            kernel.janus_heard = true;
+            HEARD.forEach(type => this.listen(kernel, type));
+        } else this.missing = true;     // the connection was lost for a while
+        this.sync();
+    }
+
+    detach() {
+        this.kernel = null;
+        this.lose();
+    }
+
+    // The run of the kernel has ended.
+    lose() {
+        this.run = null;
+        this.comm = null;
+        this.turn++;
+        this.begin();
+    }
+
+    listen(kernel, type) {
+        const old = kernel.get_iopub_handler(type);
+        kernel.register_iopub_handler(type, message => {
+            let taken = false;
+            try {
+                taken = this.kernel === kernel && this.hear(message, type);
+            } catch (error) {
+                console.error('janus', error);
+            }
+            return !taken && old ? old(message) : undefined;
+        });
+    }
+
+    // The id of the message. `replied` is called with the reply, where there is one.
+    send(type, content, replied) { return this.kernel.send_shell_message(type, content, replied ? {shell: {reply: replied}} : undefined); }
+
+    // Finds the comm of an earlier page, or opens one. All pages of a run of the kernel share one, so none is left behind.
+    sync() {
+        const turn = ++this.turn;
+        this.asked = null;
+        this.ask_again = false;
+        this.jobs.clear();
+        this.mine.clear();
+        this.held.clear();
+        this.page.moves_lost();
+        this.kernel.comm_info(TARGET, reply => {
+            if (turn !== this.turn) return;
+            if (reply.header.session !== this.run) this.meet(reply.header.session);
+            this.take_comm(Object.keys(reply.content.comms || {}).sort());
+            this.ask();
+        });
+    }
+
+    meet(run) {
+        this.comm = null;
+        this.begin();
+        this.run = run;
+        this.page.met(run);
+    }
+
+    take_comm(ids) {
+        if (this.comm !== null && ids.indexOf(this.comm) >= 0) return;
+        const ours = ids.find(function (it) { return it.indexOf(OURS) === 0; });
+        this.comm = ours || OURS + Math.random().toString(16).slice(2) + Date.now().toString(16);
+        this.spare = ids[0] || null;
+        if (!ours) this.send('comm_open', {comm_id: this.comm, target_name: TARGET, data: {}});
+    }
+
+    // ---- asking
+    ask() {
+        if (this.comm === null) return;
+        if (this.asked !== null) {
+            this.ask_again = true;
+            return;
+        }
+        this.ask_again = false;
+        const asked = this.asked = {clock: this.clock, id: this.send('comm_msg', {comm_id: this.comm, data: {op: 'state'}})};
+        setTimeout(() => this.unanswered(asked), PATIENCE);
+    }
+
+    // A state is answered at once, but behind a cell or a move of this page. Where none is on its way, the answer was lost.
+    unanswered(asked) {
+        if (this.asked !== asked || this.kernel === null) return;
+        if (this.page.is_running() || this.mine.size > 0 && !this.missing) setTimeout(() => this.unanswered(asked), PATIENCE);
+        else {
+            this.missing = true;
+            this.sync();
+        }
+    }
+
+    ask_soon(delay) {
+        clearTimeout(this.ask_timer);
+        this.ask_timer = setTimeout(() => this.kernel !== null && this.ask(), delay === undefined ? SOON : delay);
+    }
+
+    // Asks for a move; false where there is no comm yet.
+    move(data) {
+        if (this.comm === null) {
+            this.page.tell('The kernel has not answered yet.', 'warn');
+            return false;
+        }
+        const id = this.send('comm_msg', {comm_id: this.comm, data: data});
+        this.mine.set(id, data);
+        setTimeout(() => {
+            if (this.mine.has(id)) this.page.message(explain.waits(data), 'wait');
+        }, WAITS);
+        return true;
+    }
+
+    // ---- hearing: true where nobody else needs to hear it
+    hear(message, type) {
+        if (this.is_of_another_run(message, type)) {
+            this.lose();
+            this.page.restarted();
+            this.sync();
+        }
+        const parent = message.parent_header || {}, content = message.content;
+        if (type === 'status') return this.hear_status(parent, content.execution_state);
+        if (type === 'execute_input') Object.assign(this.job(parent), {count: content.execution_count, code: content.code});
+        if (type === 'error') Object.assign(this.job(parent), {failed: true, line: content.evalue});
+        if (type === 'stream' && /^IOPub (message|data) rate exceeded/.test(content.text)) this.held_back();
+        if (type === 'comm_msg') return this.hear_comm(parent, content.data || {});
+        return type === 'comm_close' && content.comm_id === this.comm && this.comm_refused();
+    }
+
+    // Another page may have started the kernel anew: nothing else tells it.
+    is_of_another_run(message, type) {
+        if (this.run === null || message.header.session === this.run) return false;
+        return type === 'comm_msg' || type === 'status' && /^(busy|idle)$/.test(message.content.execution_state);
+    }
+
+    // The notebook's server keeps broadcasts from the page where there are too many.
+    held_back() {
+        this.missing = true;
+        this.jobs.clear();
+        this.held.clear();
+        this.page.tell('The notebook\'s server held broadcasts back, so some nodes will be marked with a question mark.', 'warn');
+    }
+
+    job(parent) {
+        let job = this.jobs.get(parent.msg_id);
+        if (!job) this.jobs.set(parent.msg_id, job = {id: parent.msg_id, other: parent.session !== this.kernel.session_id});
+        return job;
+    }
+
+    hear_status(parent, state) {
+        if (parent.msg_type !== 'execute_request' && parent.msg_type !== 'comm_msg') return false;
+        const job = this.job(parent);
+        if (state === 'idle') {
+            this.jobs.delete(parent.msg_id);
+            this.ended(job, parent.msg_type);
+        }
+        return false;
+    }
+
+    hear_comm(parent, data) {
+        if (data.op !== 'state' && !MOVES.has(data.op)) return false;
+        this.job(parent).answer = data;
+        return true;
+    }
+
+    // 1,024 comms are open: any of them serves.
+    comm_refused() {
+        this.comm = this.spare;
+        if (this.comm === null) this.page.tell('The kernel has no room for a comm: the history cannot be shown.', 'bad');
+        return true;
+    }
+
+    ended(job, type) {
+        if (type === 'execute_request') this.cell_ended(job);
+        else if (job.answer && job.answer.op === 'state') this.heard_state(job.id, job.answer);
+        else if (job.answer) this.heard_move(job, job.answer);
+        else if (this.asked && this.asked.id === job.id || this.mine.has(job.id)) {        // somebody closed the comm
+            this.comm = null;
+            this.sync();
+        }
+    }
+
+    // ---- cells
+    cell_ended(job) {
+        this.clock++;
+        if (job.count === undefined) {                                   // it was silent: the state tells what it came to
+            this.early = null;
+            this.silent++;
+            this.ask_soon(0);
+        } else if (this.count && job.count > this.count + 1) {           // an earlier cell hasn't been told yet
+            this.held.set(job.count, job);
+            if (this.moves) this.missing = true;                         // in which order these came isn't known
+            clearTimeout(this.hold_timer);
+            this.hold_timer = setTimeout(() => this.release_all(), HOLD);
+        } else {
+            this.cell(job);
+            this.release();
+        }
+    }
+
+    release() {
+        for (let next = this.held.get(this.count + 1); next; next = this.held.get(this.count + 1)) {
+            this.held.delete(this.count + 1);
+            this.cell(next);
+        }
+    }
+
+    // The cells between were lost.
+    release_all() {
+        const jobs = Array.from(this.held.values()).sort(function (a, b) { return a.count - b.count; });
+        if (jobs.length) this.missing = true;
+        this.held.clear();
+        jobs.forEach(job => this.cell(job));
+    }
+
+    cell(job) {
+        const label = {count: job.count, code: job.code.slice(0, LABEL)}, ran = !job.failed;
+        this.spoken++;
+        this.count = Math.max(this.count, job.count);
+        let node = null;
+        if (ran && this.history.known) node = this.history.cell(label);
+        else if (ran && this.early) this.early.push({label: label, id: job.id});
+        this.page.cell_ended(job, node);
+        if (job.other) this.page.other(explain.other_cell(job, node));
+        this.page.changed();
+        this.ask_soon();
+    }
+
+    // ---- moves
+    heard_move(job, answer) {
+        const own = this.mine.get(job.id);
+        this.mine.delete(job.id);
+        this.clock++;
+        this.spoken++;
+        if (own) this.page.move_answered(own, answer);
+        if (answer.status === 'refused') return;
+        if (job.other) this.page.other('another frontend ' + explain.way(answer));
+        this.moves++;
+        if (!this.history.known) this.early = null;
+        else if (!this.history.move(answer) || this.held.size > 0) this.missing = true;
+        if (own) this.page.update(); else this.page.changed();
+        this.ask_soon(own ? 0 : SOON);
+    }
+
+    // ---- states
+    // One counts where nothing ended between its question and its answer, and nothing is open. One that isn't what was expected is asked for
+    // once more, since the broadcasts of another connection may come later than the answer; then it is believed.
+    heard_state(id, state) {
+        if (!this.asked || this.asked.id !== id) return;
+        const history = this.history, quiet = this.is_quiet(state);
+        this.asked = null;
+        if (quiet) this.silent_cells(state);
+        let take = quiet || !history.known && (state.busy || this.misses > MOST_MISSES);
+        if (take && history.known && !history.expects(state) && this.misses < 1) take = false;
+        this.misses = take ? 0 : this.misses + 1;
+        if (take) this.take_state(state, quiet);
+        else if (!history.known || !state.busy) this.ask_soon(AGAIN);
+        if (!take && !state.busy && this.misses > MOST_MISSES) this.jobs.clear();          // their ends were lost
+        if (this.ask_again) this.ask_soon(this.misses ? AGAIN : SOON);
+    }
+
+    is_quiet(state) { return this.asked.clock === this.clock && !state.busy && this.held.size === 0 && this.jobs.size === 0; }
+
+    // Silent cells ended, and nothing else: they stand one under the other.
+    silent_cells(state) {
+        const history = this.history, more = state.nodes - history.nodes;
+        if (!history.known || this.spoken || this.missing || more <= 0 || more > this.silent || state.node !== state.nodes) return;
+        for (let i = 0; i < more; i++) history.cell(null);
+    }
+
+    take_state(state, quiet) {
+        const history = this.history, first = !history.known, early = this.early || [];
+        const labels = early.map(function (it) { return it.label; });
+        if (!history.check(state, this.missing)) this.page.forgot();
+        if (first && quiet && history.early(labels))
+            early.forEach((it, i) => this.page.early_ran(it.id, history.nodes - early.length + 1 + i));
+        if (this.missing) this.count = 0;                                // it isn't known, and what comes next is no gap
+        this.early = [];
+        this.silent = 0;
+        this.spoken = 0;
+        this.moves = 0;
+        this.missing = false;
+        history.sure = history.nodes;
+        history.journal = [];
+        this.page.values(state.world, state.node);
+        this.page.changed();
+    }
+}
+
+return Conversation;
+});

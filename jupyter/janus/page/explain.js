@@ -1,0 +1,71 @@
+// What the kernel's lines mean, in words, with what to do.
+define(['./refusals.js', './texts.js'], function (refusals, texts) {
+'use strict';
+
+const REFUSED = /^refused (\d+) (\w+)(?: at (\d+)\.\.(\d+))?$/;
+const FAULT = /^fault (\d+) (\w+) after (\d+)$/, INTERRUPTED = /^interrupted after (\d+)$/;
+
+function capital(text) { return text.slice(0, 1).toUpperCase() + text.slice(1); }
+
+function advice(number) { return refusals[number] ? refusals[number].advice : 'the guide has more on it'; }
+
+// The place of octets in a text, as an editor counts it and as people do. The kernel counts octets from the text's begin.
+function place(code, from_octet, to_octet) {
+    const octets = new TextEncoder().encode(code);
+    const before = function (octet) { return new TextDecoder().decode(octets.subarray(0, octet)); };
+    const lines = before(from_octet).split('\n'), to = before(to_octet).length;
+    let from = before(from_octet).length;
+    if (from === to && from > 0) from--;                                // at the text's end: its last character
+    return {from: from, to: to, line: lines.length, column: Array.from(lines[lines.length - 1]).length + 1};
+}
+
+// What an error of a cell says: {text, place}, where place is null where the line has none.
+function error(line, code) {
+    const refused = REFUSED.exec(line), fault = FAULT.exec(line), interrupted = INTERRUPTED.exec(line);
+    if (refused && refused[3] !== undefined) {
+        const at = place(code, Number(refused[3]), Number(refused[4]));
+        const where = 'Line ' + at.line + ', column ' + at.column + ': ';
+        return {text: where + advice(refused[1]) + ' (' + refused[1] + ' ' + refused[2] + '). Nothing has run.', place: at};
+    }
+    if (refused) return {text: capital(advice(refused[1])) + ' (' + refused[1] + ' ' + refused[2] + '). Nothing was done.', place: null};
+    if (fault) return {text: capital(advice(fault[1])) + ' (' + fault[1] + ' ' + fault[2] + '), ' + taken_back(fault[3]), place: null};
+    if (interrupted) return {text: 'Stopped ' + taken_back(interrupted[1]), place: null};
+    return {text: line, place: null};
+}
+
+function taken_back(steps) { return 'after ' + texts.count(Number(steps), 'step') + '. What ran was taken back: all is as before the cell.'; }
+
+function move(asked) { return asked.op === 'undo' ? 'The undo' : asked.op === 'redo' ? 'The redo' : 'The way to node ' + asked.n; }
+
+function waits(asked) { return move(asked) + ' waits for its turn behind a cell that runs. The stop button ends that cell.'; }
+
+function way(answer) {
+    const undone = texts.count(answer.undone, 'cell'), redone = texts.count(answer.redone, 'cell'), end = '; the kernel stands at node ' + answer.node;
+    if (answer.op === 'undo') return 'undid ' + undone + end;
+    if (answer.op === 'redo') return 'redid ' + redone + end;
+    return 'went to node ' + answer.node + ', ' + undone + ' up and ' + redone + ' down';
+}
+
+function refused_move(asked, answer) {
+    const tail = ' (refused ' + answer.number + ' ' + answer.name + '). Nothing was done.';
+    if (answer.number === 73) return 'There is no cell to ' + asked.op + tail;
+    if (answer.number === 71) return 'There is no node ' + asked.n + tail;
+    return move(asked) + ' was refused: ' + advice(answer.number) + tail;
+}
+
+// What came of a move that was asked for here: {text, kind}, an empty text where all of it was done.
+function moved(asked, answer) {
+    if (answer.status === 'refused') return {text: refused_move(asked, answer), kind: 'bad'};
+    if (answer.end === 'memory') return {text: move(asked) + ' ended early: there was no memory for the next cell.', kind: 'bad'};
+    if (answer.end === 'asked') return {text: move(asked) + ' was stopped between two cells: it ' + way(answer) + '.', kind: 'warn'};
+    return {text: '', kind: ''};
+}
+
+function other_cell(job, node) {
+    const what = 'another frontend ran [' + job.count + '] ' + texts.first_line(job.code).slice(0, 40);
+    if (job.failed) return what + ': ' + job.line;
+    return node === null ? what : what + ': node ' + node;
+}
+
+return {error: error, place: place, move: move, waits: waits, way: way, moved: moved, refused_move: refused_move, other_cell: other_cell};
+});

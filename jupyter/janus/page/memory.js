@@ -1,0 +1,51 @@
+// What this browser knows of a run of the kernel is kept for the next page of it.
+define([], function () {
+'use strict';
+
+const LABELS = 2000, TEXT = 200;        // so many of the newest labels are kept, with so much of their text
+const WEEK = 7 * 864e5;                 // ms
+const BEGIN = 'janus:';
+
+function short(label) { return label && {count: label.count, code: label.code.slice(0, TEXT)}; }
+
+function keep(run, history, count, pairs) {
+    if (!history.known || run === null || history.sure !== history.nodes) return;
+    const from = Math.max(1, history.nodes - LABELS);
+    try {
+        localStorage.setItem(BEGIN + run, JSON.stringify({
+            at: Date.now(), nodes: history.nodes, position: history.position, parent: history.parent, favourite: history.favourite,
+            links: history.links, from: from, label: history.label.slice(from).map(short), count: count,
+        }));
+        sessionStorage.setItem(BEGIN + run, JSON.stringify(pairs));
+        drop_old(run);
+    } catch (error) { /* full, or not allowed: the next page knows less */ }
+}
+
+function drop_old(run) {
+    for (const key of Object.keys(localStorage)) {
+        if (key.indexOf(BEGIN) !== 0 || key === BEGIN + run) continue;
+        if (!(JSON.parse(localStorage.getItem(key)).at > Date.now() - WEEK)) localStorage.removeItem(key);
+    }
+}
+
+// Makes the history as it was when it was kept, and answers the pairs of prompts and nodes; none where nothing was kept.
+function recall(run, history) {
+    try {
+        const kept = JSON.parse(localStorage.getItem(BEGIN + run) || 'null');
+        if (!kept) return [];
+        history.grow(kept.nodes);
+        for (const field of ['parent', 'favourite', 'links', 'position']) history[field] = kept[field];
+        kept.label.forEach(function (it, i) { history.label[kept.from + i] = it; });
+        history.sure = kept.nodes;
+        history.known = true;
+        history.reshaped = true;
+        history.version++;
+        return JSON.parse(sessionStorage.getItem(BEGIN + run) || '[]');
+    } catch (error) {
+        history.clear();
+        return [];
+    }
+}
+
+return {keep: keep, recall: recall};
+});

@@ -1,0 +1,252 @@
+// The drawing of the tree: SVG of the rows in sight, with a click or a key to go to a node.
+//
+// To a screen reader it is a tree of which the rows in sight are there, each with what it is in words. The keyboard's row is the active
+// descendant: arrows up and down go from row to row, left to the parent, right to the child that a redo takes, Enter goes there.
+define(['./layout.js', './texts.js'], function (Layout, texts) {
+'use strict';
+
+const ROW = 22, LANE = 15, LEFT = 14, RADIUS = 5.5, TOP = 4, LANES_WIDE = 200;
+const MARGIN = 4;                       // rows that are drawn above and below those in sight
+const MARKUP = '<div class="janus-tree" role="tree" tabindex="0" aria-label="Tree of histories" aria-describedby="janus-keys">' +
+    '<svg xmlns="http://www.w3.org/2000/svg" role="presentation"><path class="edges"/><path class="gaps"/><path class="redos"/><path class="way"/>' +
+    '<g class="rows" role="presentation"></g></svg></div>' +
+    '<div id="janus-keys" class="janus-hidden">Arrow up and down go from row to row, left to the parent, right to a child. Enter goes to the node.</div>';
+
+function middle(row) { return row * ROW + ROW / 2 + TOP; }
+
+// The place of the first of rising numbers that is no less than the least.
+function first_from(numbers, least) {
+    let low = 0, high = numbers.length;
+    while (low < high) {
+        const half = (low + high) >> 1;
+        if (numbers[half] < least) low = half + 1; else high = half;
+    }
+    return low;
+}
+
+class Tree {
+    // `go` is called with the number of a node that is to be gone to.
+    constructor(history, parent, go) {
+        this.history = history;
+        this.go = go;
+        this.layout = new Layout();
+        this.cursor = 0;                // the keyboard's row
+        this.followed = '';             // which position was last brought into sight
+        this.written = {};              // which rows stand there, and as what
+        this.stats = {draws: 0, last: 0, most: 0};
+        parent.insertAdjacentHTML('beforeend', MARKUP);
+        this.box = parent.querySelector('.janus-tree');
+        this.svg = this.box.querySelector('svg');
+        this.rows = this.svg.querySelector('.rows');
+        this.lines = {};
+        for (const name of ['edges', 'gaps', 'redos', 'way']) this.lines[name] = this.svg.querySelector('.' + name);
+        this.box.addEventListener('scroll', () => this.draw());
+        this.svg.addEventListener('click', event => this.clicked(event));
+        this.box.addEventListener('keydown', event => this.key(event));
+    }
+
+    // The row is found by its height, since what is drawn may be drawn anew while a button is held.
+    clicked(event) {
+        const node = Math.floor((event.clientY - this.svg.getBoundingClientRect().top - TOP) / ROW);
+        if (node < 0 || node > this.history.nodes) return;
+        this.cursor = node;
+        this.go(node);
+    }
+
+    key(event) {
+        if (event.ctrlKey || event.altKey || event.metaKey) return;
+        if (event.key === 'Enter' || event.key === ' ') this.go(this.cursor);
+        else {
+            const next = this.next(event.key);
+            if (next === null) return;
+            this.move_cursor(next);
+        }
+        event.preventDefault();
+        event.stopPropagation();
+    }
+
+    // The row to which a key leads, or null where it is no key of the tree.
+    next(key) {
+        const page = Math.max(1, Math.floor(this.box.clientHeight / ROW) - 1), last = this.history.nodes, at = this.cursor;
+        if (key === 'ArrowUp') return Math.max(0, at - 1);
+        if (key === 'ArrowDown') return Math.min(last, at + 1);
+        if (key === 'PageUp') return Math.max(0, at - page);
+        if (key === 'PageDown') return Math.min(last, at + page);
+        if (key === 'Home') return 0;
+        if (key === 'End') return last;
+        if (key === 'ArrowLeft') return at > 0 && this.history.parent[at] >= 0 ? this.history.parent[at] : at;
+        if (key === 'ArrowRight') return this.child(at);
+        return null;
+    }
+
+    child(node) {
+        if (this.history.favourite[node] > 0) return this.history.favourite[node];
+        const children = this.history.children(node);
+        return children.length ? children[0] : node;
+    }
+
+    move_cursor(node) {
+        this.cursor = node;
+        const y = node * ROW;
+        if (y < this.box.scrollTop) this.box.scrollTop = y;
+        if (y + 2 * ROW > this.box.scrollTop + this.box.clientHeight) this.box.scrollTop = y + 2 * ROW - this.box.clientHeight;
+        this.draw();
+    }
+
+    // Brings the position into sight as it moves, and the keyboard's row with it.
+    follow() {
+        const history = this.history, now = history.position + '/' + history.nodes;
+        if (this.followed === now) return;
+        this.followed = now;
+        this.cursor = history.position;
+        this.svg.setAttribute('height', (history.nodes + 1) * ROW + 2 * TOP);
+        const y = history.position * ROW, box = this.box;
+        if (y < box.scrollTop + ROW || y > box.scrollTop + box.clientHeight - 2 * ROW) box.scrollTop = Math.max(0, y - box.clientHeight / 2);
+    }
+
+    draw() {
+        if (this.box.offsetParent === null) return;
+        const begun = performance.now(), history = this.history;
+        this.layout.fit(history);
+        this.follow();
+        const box = this.box, top = box.scrollTop, height = box.clientHeight, width = box.clientWidth;
+        const view = {
+            first: Math.max(0, Math.floor(top / ROW) - MARGIN), last: Math.min(history.nodes, Math.ceil((top + height) / ROW) + MARGIN),
+            pitch: Math.max(1.2, Math.min(LANE, LANES_WIDE / this.layout.lines.length)),          // many lanes stand closer
+        };
+        const edges = this.edges(view), text = this.x(view, edges.widest) + 14, ways = this.ways(view);
+        this.set(this.svg, 'width', Math.max(width - 2, text + 120));
+        this.set(this.svg, 'style', '--janus-text: ' + text + 'px');
+        for (const name of ['way', 'gaps', 'redos']) this.set(this.lines[name], 'd', ways[name]);
+        this.set(this.lines.edges, 'd', edges.path);
+        this.write_rows(view);
+        this.count(performance.now() - begun);
+    }
+
+    set(element, name, value) {
+        if (element.getAttribute(name) !== String(value)) element.setAttribute(name, value);
+    }
+
+    count(time) {
+        this.stats.draws++;
+        this.stats.last = time;
+        this.stats.most = Math.max(this.stats.most, time);
+    }
+
+    x(view, lane) { return LEFT + lane * view.pitch; }
+
+    // A row that stands far out of sight is drawn as if it stood just out of it.
+    cut(view, row) { return middle(Math.min(Math.max(row, view.first - 1), view.last + 1)); }
+
+    // The lines of all lanes that cross the rows in sight, and the widest of these lanes.
+    edges(view) {
+        const layout = this.layout;
+        let path = '', widest = 0;
+        for (let lane = 0; lane < layout.lines.length; lane++) {
+            const found = this.lane_edges(view, lane);
+            if (found) widest = lane;
+            path += found;
+        }
+        for (let n = view.first; n <= view.last; n++) {
+            widest = Math.max(widest, layout.lane[n]);
+            const from = 'M' + this.x(view, layout.lane[n]) + ' ' + middle(n) + 'H';
+            for (const lane of layout.out[n] || []) path += from + this.x(view, lane);
+            if (layout.enter[n] >= 0 && layout.enter[n] !== layout.lane[n]) path += from + this.x(view, layout.enter[n]);
+        }
+        return {path: path, widest: widest};
+    }
+
+    lane_edges(view, lane) {
+        const lines = this.layout.lines[lane], x = this.x(view, lane);
+        let low = 0, high = lines.length, path = '';
+        while (low < high) {
+            const half = (low + high) >> 1;
+            if (lines[half][1] < view.first) low = half + 1; else high = half;
+        }
+        for (; low < lines.length && lines[low][0] <= view.last; low++)
+            path += 'M' + x + ' ' + this.cut(view, lines[low][0]) + 'V' + this.cut(view, lines[low][1]);
+        return path;
+    }
+
+    // From a node to its child.
+    route(view, parent, child) {
+        if (child < view.first - 1 || parent > view.last + 1) return '';
+        const layout = this.layout;
+        return 'M' + this.x(view, layout.lane[parent]) + ' ' + middle(parent) + 'H' + this.x(view, layout.enter[child]) +
+            'V' + middle(child) + 'H' + this.x(view, layout.lane[child]);
+    }
+
+    // The path to the position, its gaps, and the way that redos would take.
+    ways(view) {
+        const history = this.history, on = history.path().on, redos = history.redo_path();
+        let way = '', gaps = '', back = '';
+        for (let i = Math.max(1, first_from(on, view.first - 1)); i < on.length && on[i - 1] <= view.last + 1; i++) {
+            const parent = on[i - 1], child = on[i];
+            if (history.parent[child] === parent) way += this.route(view, parent, child);
+            else gaps += 'M' + (this.x(view, this.layout.lane[parent]) - 4) + ' ' + this.cut(view, parent) + 'V' + this.cut(view, child);
+        }
+        for (let i = first_from(redos, view.first - 1); i < redos.length; i++) {
+            const above = i > 0 ? redos[i - 1] : history.position;
+            if (above > view.last + 1) break;
+            if (history.parent[redos[i]] === above) back += this.route(view, above, redos[i]);
+        }
+        return {way: way, gaps: gaps, redos: back};
+    }
+
+    // While the tree is the same, rows that stand there stay, and only those that come into sight are written.
+    write_rows(view) {
+        const as = this.history.version + ' ' + this.cursor + ' ' + view.pitch, old = this.written, rows = this.rows;
+        const stays = old.as === as && old.first <= view.last && view.first <= old.last;
+        if (stays) {
+            for (let n = old.first; n < view.first; n++) rows.firstChild.remove();
+            for (let n = old.last; n > view.last; n--) rows.lastChild.remove();
+            rows.insertAdjacentHTML('afterbegin', this.some_rows(view, view.first, old.first - 1));
+            rows.insertAdjacentHTML('beforeend', this.some_rows(view, old.last + 1, view.last));
+        } else {
+            rows.innerHTML = this.some_rows(view, view.first, view.last);
+            this.box.setAttribute('aria-activedescendant', 'janus-node-' + this.cursor);
+        }
+        this.written = {as: as, first: view.first, last: view.last};
+    }
+
+    some_rows(view, from, to) {
+        let out = '';
+        for (let n = from; n <= to; n++) out += this.row(view, n);
+        return out;
+    }
+
+    row(view, n) {
+        const history = this.history, label = history.label[n], x = this.x(view, this.layout.lane[n]), y = middle(n);
+        const loose = n > 0 && history.parent[n] < 0, here = n === history.position, said = texts.escape(this.words(n)), depth = history.depth_of(n);
+        const code = n === 0 ? 'start' : label ? texts.first_line(label.code).slice(0, 60) : '';
+        return '<g class="' + this.classes(n, loose) + '" id="janus-node-' + n + '" data-node="' + n + '" role="treeitem" aria-label="' + said + '"' +
+            (depth >= 0 ? ' aria-level="' + (depth + 1) + '"' : '') + ' aria-selected="' + here + '">' +
+            '<title>' + said + (label ? '\n' + texts.escape(label.code.slice(0, 400)) : '') + '</title>' +
+            '<rect class="hit" x="0" y="' + (y - ROW / 2) + '" width="100%" height="' + ROW + '"/>' +
+            (loose ? '<text class="ask" x="' + (x - 3) + '" y="' + (y - 7) + '">?</text>' : '') +
+            '<circle cx="' + x + '" cy="' + y + '" r="' + (here ? RADIUS + 1.5 : RADIUS) + '"/>' +
+            '<text class="words" y="' + (y + 4) + '"><tspan class="num">' + n + '</tspan><tspan class="count" dx="6">' +
+            (label && label.count ? '[' + label.count + ']' : '') + '</tspan><tspan class="code" dx="6">' + texts.escape(code) + '</tspan></text></g>';
+    }
+
+    classes(n, loose) {
+        const is = this.history.in_effect(n);
+        return 'node ' + (is ? 'on' : is === undefined ? 'maybe' : 'off') + (n === this.history.position ? ' here' : '') +
+            (this.history.is_on_redo_path(n) ? ' redo' : '') + (loose ? ' loose' : '') + (n === this.cursor ? ' cursor' : '');
+    }
+
+    // What a row is, in words.
+    words(n) {
+        const history = this.history, label = history.label[n], is = history.in_effect(n), parts = ['node ' + n + ' of ' + history.nodes];
+        if (n === 0) parts.push('the start');
+        else parts.push(history.parent[n] >= 0 ? 'under ' + history.parent[n] : 'under an earlier node that is not known');
+        if (n === history.position) parts.push('the kernel stands here');
+        else parts.push(is ? 'in effect' : is === undefined ? 'not known whether it is in effect' : 'not in effect');
+        if (texts.prompt(label)) parts.push(texts.prompt(label));
+        if (label) parts.push(texts.first_line(label.code).slice(0, 60));
+        return parts.join(', ');
+    }
+}
+
+return Tree;
+});
