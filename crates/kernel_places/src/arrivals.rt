@@ -1,4 +1,6 @@
 //! What comes on a connection and what goes out on it, each in its time.
+ghost use Rattle.std.specs.Io.{ReadsAtMost, WritesAtMost};
+
 use kernel_sockets::{Input, Presence};
 use std::alloc::Global;
 use std::io;
@@ -59,7 +61,9 @@ impl<'a, R: Clock> Arrivals<'a, R> {
     }
 
     /// Reads within what is left of the time for the handshake, and looks whether it is over.
-    fn read_handshake(&mut self, buf: &mut [u8]) -> io::Result<usize> {
+    fn read_handshake(&mut self, buf: &mut [u8]) -> io::Result<usize>
+        ensures bound { ReadsAtMost result buf.new }
+    {
         let left = self.until.saturating_sub(clock_of(self.rt));
         if left.is_zero() {
             return Err(io::Error::from(ErrorKind::TimedOut));
@@ -150,7 +154,9 @@ impl<'a, R: Clock> Departures<'a, R> {
     }
 
     /// Writes some of these octets until a time.
-    fn write_until(&mut self, buf: &[u8], until: Duration) -> io::Result<usize> {
+    fn write_until(&mut self, buf: &[u8], until: Duration) -> io::Result<usize>
+        ensures bound { WritesAtMost result buf.now }
+    {
         let mut stream = self.stream;
         let count = stream.write(buf)?;
         if self.is_noted {
@@ -161,7 +167,9 @@ impl<'a, R: Clock> Departures<'a, R> {
     }
 
     /// Writes on in a message of which a piece went out, within what is left of its time.
-    fn write_on(&mut self, buf: &[u8], until: Duration) -> io::Result<usize> {
+    fn write_on(&mut self, buf: &[u8], until: Duration) -> io::Result<usize>
+        ensures bound { WritesAtMost result buf.now }
+    {
         let left = until.saturating_sub(clock_of(self.rt));
         if left.is_zero() {
             return Err(io::Error::from(ErrorKind::TimedOut));
