@@ -2,6 +2,11 @@
 import time
 
 done = failed = 0
+stops = False           # whether a scene ends at the first check that fails
+
+
+class Stopped(Exception):
+    pass
 
 
 def check(good, what, *more):
@@ -10,6 +15,8 @@ def check(good, what, *more):
     if not good:
         failed += 1
     print('ok  ' if good else 'FAIL', what, *([repr(it)[:700] for it in more] if not good else []), flush=True)
+    if stops and not good:
+        raise Stopped(what)
     return good
 
 
@@ -36,9 +43,9 @@ def comes(what, ask, timeout=20):
         return last[0][0] is True if isinstance(last[0], tuple) else last[0] is True
     try:
         wait(what, true, timeout)
-        return check(True, what)
     except AssertionError as error:
         return check(False, what, last[0], str(error)[:200])
+    return check(True, what)
 
 
 def figure(what, value):

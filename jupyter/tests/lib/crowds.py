@@ -9,9 +9,14 @@ from panel import BRIEF, click_node, known, shown, stands
 
 CLICK = 50              # ms, from a click to the drawing of what it brought, at 1,000 nodes
 DRAW = 4                # ms, the median of a drawing while the tree is scrolled
-STILL = 500             # ms, the longest that the page may not look at anything
-GAPS = '''window.gaps = []; var last = performance.now(); window.beat = setInterval(function () { var now = performance.now();
-    window.gaps.push(now - last); last = now; }, 10)'''
+WORK = 100              # ms, the longest that the page's own parts may take in one go
+STILL = 1000            # ms, the longest that the page may not look at anything, with whatever else runs on the machine
+# A beat of 10 ms, and a meter on what the page's own parts take.
+GAPS = '''window.gaps = []; window.work = {longest: 0, total: 0}; var last = performance.now();
+    window.beat = setInterval(function () { var now = performance.now(); window.gaps.push(now - last); last = now; }, 10);
+    function meter(owner, name) { var old = owner[name]; owner[name] = function () { var begun = performance.now(), out = old.apply(this, arguments);
+        var took = performance.now() - begun; window.work.total += took; window.work.longest = Math.max(window.work.longest, took); return out; }; }
+    meter(Jupyter.janus.conversation, 'hear'); meter(Jupyter.janus, 'update'); meter(Jupyter.janus, 'keep')'''
 
 
 def rush(frontend, seed):
@@ -176,6 +181,9 @@ def flood(stage):
     figure('cells sent, in seconds', (out[0][0], round(out[0][1], 1)))
     figure('the page\'s beats of 10 ms: median, longest, ms', (round(gaps[len(gaps) // 2], 1), round(gaps[-1], 1)))
     figure('the History button while it went on, median and longest, ms', (round(sorted(clicks)[len(clicks) // 2] * 1000), round(max(clicks) * 1000)))
+    work = page.js('return window.work')
+    figure('the page\'s own parts: longest in one go, in all, ms', (round(work['longest'], 1), round(work['total'])))
+    check(work['longest'] < WORK, f'the page\'s own parts never take {WORK} ms in one go', work)
     check(gaps[-1] < STILL, f'the page never stands still for {STILL} ms', gaps[-5:])
     if not shown(page)['visible']:
         page.click('#janus-history')

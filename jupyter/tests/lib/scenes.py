@@ -235,7 +235,7 @@ def reload_page(stage):
     page.js('Jupyter.notebook.save_notebook()')
     time.sleep(3)
     page.load()
-    stands(page, 5, 5, what='the page loaded again stands at node 5', timeout=120)
+    stands(page, 5, 5, ['x1 = 100', 'x2 = 0', 'n = 4'], 'the page loaded again stands at node 5, with its values', 120)
     check(known(page)['parent'] == [-1, 0, 1, 2, 3, 2] and known(page)['unknown'] == 0, 'and knows the tree', known(page))
     comes('and the marks of its cells', lambda: (marks(page)[:5] == ['+1', '+2', '-3', '-4', '+5'], marks(page)))
     second = stage.frontend()
