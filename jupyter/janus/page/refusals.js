@@ -28,7 +28,7 @@ return {
     },
     40: {
         name: "Declared",
-        advice: "the name is declared already, or a procedure is defined twice in the cell: take another, or undo to before it",
+        advice: "the name is declared already, a procedure is defined twice in the cell, or two of its parameters have one name: take another, or undo to before it",
     },
     41: {
         name: "Unknown",
@@ -36,11 +36,11 @@ return {
     },
     42: {
         name: "WrongKind",
-        advice: "a number, an array or a stack is wanted here",
+        advice: "a number, an array or a stack is wanted here: an array may want its index, and an argument is of the kind of its parameter",
     },
     43: {
         name: "SelfUse",
-        advice: "an assignment names its own variable on the right or in its index; it could not be undone. Take a second variable",
+        advice: "an assignment names its own variable on the right or in its index; it could not be undone. Or a local is named in its own two expressions. Take a second variable",
     },
     44: {
         name: "SameArgument",
@@ -108,7 +108,7 @@ return {
     },
     60: {
         name: "TooDeep",
-        advice: "more than 16,384 blocks, loops, locals and calls are open at once: the recursion doesn't end, or is too deep",
+        advice: "more than 16,384 frames are open at once, of which each call, and each statement inside another, opens some: the recursion doesn't end, or is too deep",
     },
     61: {
         name: "TooManyStacks",
