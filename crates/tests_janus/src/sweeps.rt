@@ -44,13 +44,19 @@ impl Tally {
         }
     }
 
+    /// Whether the first stop ended with this outcome.
+    fn ended_so(&self, outcome: &str) -> bool {
+        self.outcome.as_str() == outcome
+    }
+
     /// Counts a stop that ended with this outcome, which is right where it is that of the first stop.
     fn end(&mut self, outcome: String) {
         self.stops = self.stops.saturating_add(1);
         if self.stops == 1 {
             self.outcome = outcome;
         } else {
-            self.judge(outcome == self.outcome);
+            let is_right = self.ended_so(&outcome);
+            self.judge(is_right);
         }
     }
 }
