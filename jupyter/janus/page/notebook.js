@@ -4,7 +4,7 @@ define(['jquery', 'base/js/namespace', './history.js', './conversation.js', './p
 function ($, Jupyter, History, Conversation, Panel, Marks, places, Turns, memory, tools, explain, texts) {
 'use strict';
 
-const FRAME = 8, KEEP = 1000;           // ms
+const FRAME = 8, PAUSE = 100, KEEP = 1000;          // ms
 const INPUTS = 2000;                    // so many of the kernel's inputs are looked at as a page joins
 const NOTICE = 6000;                    // ms
 
@@ -16,7 +16,7 @@ class Page {
         this.conversation = new Conversation(this.history, this);
         this.turns = new Turns(() => this.is_on(), (text, kind) => this.tell(text, kind));
         this.timer = this.keep_timer = null;
-        this.spent = 0;                 // how long the last update took, in ms
+        this.updated = 0;               // when the last update was
         tools.make({
             undo: () => this.conversation.move({op: 'undo', n: 1}), redo: () => this.conversation.move({op: 'redo', n: 1}),
             backwards: () => this.backwards(Jupyter.notebook.get_selected_cell()), toggle: () => this.show(!$('body').hasClass('janus-open')),
@@ -130,19 +130,19 @@ class Page {
         if (kind === 'bad') widget.danger(text, NOTICE); else widget.warning(text, NOTICE);
     }
 
-    // ---- drawing: once for many changes, and never more than a quarter of the time
+    // ---- drawing: at once where nothing was drawn lately, and else once for many changes
     changed() {
-        if (this.timer === null) this.timer = setTimeout(() => this.update(), Math.max(FRAME, 3 * this.spent));
+        const delay = Math.max(FRAME, this.updated + PAUSE - performance.now());
+        if (this.timer === null) this.timer = setTimeout(() => this.update(), delay);
         if (this.keep_timer === null) this.keep_timer = setTimeout(() => this.keep(), KEEP);
     }
 
     update() {
-        const begun = performance.now();
         clearTimeout(this.timer);
         this.timer = null;
         this.marks.mark();
         this.panel.update();
-        this.spent = performance.now() - begun;
+        this.updated = performance.now();
     }
 
     keep() {

@@ -41,7 +41,7 @@ def crowd(stage):
     page.run(1)
     stands(page, 1, 1)
     frontends = [stage.frontend() for _ in range(3)]
-    threads = [threading.Thread(target=rush, args=(it, seed)) for seed, it in enumerate(frontends)]
+    threads = [threading.Thread(target=rush, args=(it, seed), daemon=True) for seed, it in enumerate(frontends)]
     for it in threads:
         it.start()
     for it in threads:
@@ -169,7 +169,7 @@ def flood(stage):
     stands(page, 1, 1)
     page.js(GAPS)
     out, clicks = [], []
-    thread = threading.Thread(target=paced, args=(frontend, 10, 1000, out))
+    thread = threading.Thread(target=paced, args=(frontend, 10, 1000, out), daemon=True)
     thread.start()
     while thread.is_alive():
         begun = time.time()

@@ -476,4 +476,5 @@ def no_errors(stage):
 
 
 SCENES = [highlighting, buttons, clicks, refused_moves, refusals, interrupt, waiting, second_frontend, late_join, reload_page, restart, earlier_run,
-          run_all_stops, run_all_interrupted, keyboard, screen_reader, slider, slider_on_branch, backwards, other_language, no_errors]
+          run_all_stops, run_all_interrupted, keyboard, screen_reader, slider, slider_on_branch, backwards, no_errors]
+LAST = [other_language]         # behind it a server may take a minute to end the kernel of Python
