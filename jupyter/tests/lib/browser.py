@@ -8,10 +8,12 @@ import subprocess
 import time
 
 from selenium import webdriver
-from selenium.common.exceptions import NoSuchElementException, StaleElementReferenceException
+from selenium.common.exceptions import NoSuchElementException, StaleElementReferenceException, WebDriverException
 from selenium.webdriver.chrome.options import Options
 from selenium.webdriver.chrome.service import Service
 from selenium.webdriver.common.by import By
+from selenium.webdriver.remote.remote_connection import RemoteConnection
+from urllib3.exceptions import HTTPError
 
 from checks import wait
 
@@ -80,7 +82,16 @@ def browser(profile, width=1500, height=1000):
     for it in (*SWITCHES, f'--window-size={width},{height}', '--user-data-dir=' + profile):
         options.add_argument(it)
     options.set_capability('goog:loggingPrefs', {'browser': 'ALL'})
-    driver = webdriver.Chrome(service=Service(shutil.which('chromedriver')), options=options)
+    RemoteConnection.set_timeout(180)
+    for last in (False, False, True):                           # now and then a browser doesn't come up on a machine that is very busy
+        service = Service(shutil.which('chromedriver'))
+        try:
+            driver = webdriver.Chrome(service=service, options=options)
+            break
+        except (WebDriverException, HTTPError):
+            service.stop()
+            if last:
+                raise
     driver.set_script_timeout(60)
     driver.set_page_load_timeout(180)
     return driver
