@@ -30,4 +30,5 @@ command_of line =
     if bytes_eq line (codes "%%") then Run
     else if bytes_eq line (codes "%show") then Show
     else if bytes_eq line (codes "%list") then command.List
-    else after_words (codes "%undo ") line (counted Undo) (after_words (codes "%redo ") line (counted Redo) (after_words (codes "%goto ") line (counted Goto) Unknown))
+    else after_words (codes "%undo ") line (counted Undo)
+    (after_words (codes "%redo ") line (counted Redo) (after_words (codes "%goto ") line (counted Goto) Unknown))

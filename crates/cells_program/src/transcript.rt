@@ -318,8 +318,10 @@ fn list<L: Ledger, W: Write>(
     writer: &mut W,
 ) -> Result<(), WriteFailed>
     requires idle { kernel.now.machine.state.job ≡ Idle }
-    ensures ok { OnOk result ((out : List ℕ) × IsListed (here kernel.now.machine.state.past) out × Appends (W.contents writer.old) (W.contents writer.new) out) }
-    ensures err { OnErr result ((out : List ℕ) × IsListed (here kernel.now.machine.state.past) out × SentSome (W.contents writer.old) (W.contents writer.new) out) }
+    ensures ok { OnOk result
+        ((out : List ℕ) × IsListed (here kernel.now.machine.state.past) out × Appends (W.contents writer.old) (W.contents writer.new) out) }
+    ensures err { OnErr result
+        ((out : List ℕ) × IsListed (here kernel.now.machine.state.past) out × SentSome (W.contents writer.old) (W.contents writer.new) out) }
 {
     match list_text(alloc, kernel) {
         Ok(text) => send(writer, text.as_bytes()),

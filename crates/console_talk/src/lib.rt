@@ -3,7 +3,8 @@
 //! A [`Command`] is what a console was asked to do. The functions of `request` make of it what is said ([`Draft`](kernel_message::Draft)s:
 //! the contents are those of the Jupyter messaging page, version 5.4, and for moves those of the comms with the target `janus.undo`),
 //! and [`message`] the message, under the console's session. Those of `printed` read an answer's content, as JSON, and give the lines that are printed
-//! ([`Printed`]), or say that it is no such answer; [`is_answer_to`] says whose answer a message is. [`ConsoleFault`] has the lines and statuses of what goes wrong beside the kernel.
+//! ([`Printed`]), or say that it is no such answer; [`is_answer_to`] says whose answer a message is. [`ConsoleFault`] has the lines and statuses of
+//! what goes wrong beside the kernel.
 //!
 //! To the layer above it promises that all of these are the functions of specs/ (`Requests`, `Headers`, `Lines`, `Faults`), exactly, want of memory
 //! aside; and, in `laws`, that the kernel's own reading of each request gives what was asked.

@@ -101,7 +101,8 @@ are_too_many hs = nat_lt procedure_limit (different hs)
 -- the faults of the name of a procedure, where the cell's own heads before it are `own`
 abbrev pub head_faults : Heads → Heads → Procedure → List CheckFault
 head_faults hs own (procedure_of (named f at) xs b) =
-    fault_if (is_some (head_at f own)) (Declared at) ++ fault_if (is_changed (kinds_of xs) (head_at f hs)) (ChangedParameters at) ++ fault_if (are_too_many (with_head own f (kinds_of xs) ++ hs)) (TooMany at)
+    fault_if (is_some (head_at f own)) (Declared at) ++ fault_if (is_changed (kinds_of xs) (head_at f hs)) (ChangedParameters at)
+    ++ fault_if (are_too_many (with_head own f (kinds_of xs) ++ hs)) (TooMany at)
 
 abbrev pub heads_faults : Heads → Heads → List Procedure → List CheckFault
 heads_faults hs own [] = []
@@ -238,7 +239,8 @@ abbrev mutual
   stm_faults hs g (Pop x y) = use_faults g tree.ANumber x ++ use_faults g tree.AStack y
   stm_faults hs g (If a s t b) = exp_faults g a ++ block_faults hs g s ++ block_faults hs g t ++ exp_faults g b
   stm_faults hs g (Loop a s t b) = exp_faults g a ++ block_faults hs g s ++ block_faults hs g t ++ exp_faults g b
-  stm_faults hs g (LocalInt x a s y b) = shadow_faults g x ++ end_faults g (text_of x) a ++ block_faults hs ((text_of x, tree.ANumber) ∷ g) s ++ end_faults g (text_of x) b
+  stm_faults hs g (LocalInt x a s y b) = shadow_faults g x ++ end_faults g (text_of x) a ++ block_faults hs ((text_of x, tree.ANumber) ∷ g) s
+      ++ end_faults g (text_of x) b
   stm_faults hs g (LocalStack x s y) = shadow_faults g x ++ block_faults hs ((text_of x, tree.AStack) ∷ g) s
   stm_faults hs g (Call f ys) = call_faults hs g f ys
   stm_faults hs g (Uncall f ys) = call_faults hs g f ys

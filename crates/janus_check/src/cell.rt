@@ -61,8 +61,10 @@ fn declare(
     declaration: &Declaration,
     first: Option<CheckFault>,
 ) -> Result<Option<CheckFault>, AllocError>
-    ensures fault { IfOk result (λ next. next ≡ first_from first (declaration_faults (over (shape_in env.now.names) own.old.names) (declaration_view declaration.now))) }
-    ensures names { OnOk result (over (shape_in env.now.names) own.new.names ≡ after_declaration (over (shape_in env.now.names) own.old.names) (declaration_view declaration.now)) }
+    ensures fault { IfOk result
+        (λ next. next ≡ first_from first (declaration_faults (over (shape_in env.now.names) own.old.names) (declaration_view declaration.now))) }
+    ensures names { OnOk result
+        (over (shape_in env.now.names) own.new.names ≡ after_declaration (over (shape_in env.now.names) own.old.names) (declaration_view declaration.now)) }
     ensures procedures { own.new.procedures ≡ own.old.procedures }
 {
     match declaration {
@@ -89,7 +91,8 @@ fn declare_name(
     first: Option<CheckFault>,
 ) -> Result<Option<CheckFault>, AllocError>
     ensures fault { IfOk result (λ next. next ≡ first_from first (name_faults (over (shape_in env.now.names) own.old.names) (name_of name.now) name.now.span)) }
-    ensures names { OnOk result (over (shape_in env.now.names) own.new.names ≡ extended (over (shape_in env.now.names) own.old.names) (name_of name.now) (meant_kind kind)) }
+    ensures names { OnOk result
+        (over (shape_in env.now.names) own.new.names ≡ extended (over (shape_in env.now.names) own.old.names) (name_of name.now) (meant_kind kind)) }
     ensures procedures { own.new.procedures ≡ own.old.procedures }
 {
     let known = kind_declared(env, own, name).is_some();
@@ -164,8 +167,10 @@ fn declare_all(
     declarations: &[Declaration],
     first: Option<CheckFault>,
 ) -> Result<Option<CheckFault>, AllocError>
-    ensures fault { IfOk result (λ next. next ≡ first_from first (declarations_faults (over (shape_in env.now.names) own.old.names) (declarations_view declarations.now))) }
-    ensures names { OnOk result (over (shape_in env.now.names) own.new.names ≡ after_declarations (over (shape_in env.now.names) own.old.names) (declarations_view declarations.now)) }
+    ensures fault { IfOk result
+        (λ next. next ≡ first_from first (declarations_faults (over (shape_in env.now.names) own.old.names) (declarations_view declarations.now))) }
+    ensures names { OnOk result
+        (over (shape_in env.now.names) own.new.names ≡ after_declarations (over (shape_in env.now.names) own.old.names) (declarations_view declarations.now)) }
     ensures procedures { own.new.procedures ≡ own.old.procedures }
 {
     let mut next = first;

@@ -84,7 +84,8 @@ impl Env {
 
     /// The kinds of a procedure's parameters, if it is there.
     pub fn head(&self, name: &str) -> Option<&[Kind]>
-        ensures { MatchOption result (head_at name.now (heads_in self.now.procedures) ≡ None) (λ kinds. head_at name.now (heads_in self.now.procedures) ≡ Some (meant_kinds kinds.now)) }
+        ensures { MatchOption result (head_at name.now (heads_in self.now.procedures) ≡ None)
+            (λ kinds. head_at name.now (heads_in self.now.procedures) ≡ Some (meant_kinds kinds.now)) }
     {
         match self.procedures.get(name) {
             Some(kinds) => Some(kinds),

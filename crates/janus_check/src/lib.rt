@@ -5,7 +5,8 @@
 //! twice, a name out of sight or of another kind, a call of what is no procedure, with another number of arguments or with a
 //! name twice among them, an assigned name in its own index or right side, a local's name in its own two expressions or in
 //! sight already, a procedure defined anew with other parameters, too many names, stacks, procedures or parameters, an array's
-//! length out of its range. Calls and bodies see all procedures of the cell, over the old ones. Of several faults the one that stands first in the text is told, and at one place the
+//! length out of its range. Calls and bodies see all procedures of the cell, over the old ones. Of several faults the one that stands first in the
+//! text is told, and at one place the
 //! one with the smaller number. What passes meets the well-formedness on which the laws of `janus_meaning` stand.
 //!
 //! The rules are those of Janus (Yokoyama and Glück 2007; Yokoyama, Axelsen and Glück 2008), with this kernel's

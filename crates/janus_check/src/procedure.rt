@@ -31,7 +31,8 @@ pub(crate) fn define_all(
     first: Option<CheckFault>,
 ) -> Result<Option<CheckFault>, AllocError>
     requires { own.old.procedures ≡ [] }
-    ensures fault { IfOk result (λ next. next ≡ first_from first (heads_faults (heads_in env.now.procedures) (heads_in own.old.procedures) (procedures_view procedures.now))) }
+    ensures fault { IfOk result
+        (λ next. next ≡ first_from first (heads_faults (heads_in env.now.procedures) (heads_in own.old.procedures) (procedures_view procedures.now))) }
     ensures heads { OnOk result (heads_in own.new.procedures ≡ after_heads (heads_in own.old.procedures) (procedures_view procedures.now)) }
     ensures names { own.new.names ≡ own.old.names }
 {
@@ -54,7 +55,8 @@ fn define(
     first: Option<CheckFault>,
 ) -> Result<Option<CheckFault>, AllocError>
     requires { count.old ≡ different (heads_over env.now own.old) }
-    ensures fault { IfOk result (λ next. next ≡ first_from first (head_faults (heads_in env.now.procedures) (heads_in own.old.procedures) (procedure_view procedure.now))) }
+    ensures fault { IfOk result
+        (λ next. next ≡ first_from first (head_faults (heads_in env.now.procedures) (heads_in own.old.procedures) (procedure_view procedure.now))) }
     ensures heads { OnOk result (heads_in own.new.procedures ≡ after_head (heads_in own.old.procedures) (procedure_view procedure.now)) }
     ensures counted { OnOk result (count.new ≡ different (heads_over env.now own.new)) }
     ensures names { own.new.names ≡ own.old.names }

@@ -53,7 +53,8 @@ fn kind_in_sight(sight: &Sight, name: &Name) -> Option<Kind>
 
 /// The kinds of a procedure's parameters, if it is one.
 fn head_defined<'a>(env: &'a Env, own: &'a Env, name: &Name) -> Option<&'a [Kind]>
-    ensures { MatchOption result (head_at (name_of name.now) (heads_over env.now own.now) ≡ None) (λ kinds. head_at (name_of name.now) (heads_over env.now own.now) ≡ Some (meant_kinds kinds.now)) }
+    ensures { MatchOption result (head_at (name_of name.now) (heads_over env.now own.now) ≡ None)
+        (λ kinds. head_at (name_of name.now) (heads_over env.now own.now) ≡ Some (meant_kinds kinds.now)) }
 {
     match own.head(&name.text) {
         Some(kinds) => Some(kinds),
@@ -63,7 +64,8 @@ fn head_defined<'a>(env: &'a Env, own: &'a Env, name: &Name) -> Option<&'a [Kind
 
 /// The kinds of the parameters of a procedure that calls see, if it is one.
 pub(crate) fn head_seen<'a>(sight: &Sight<'a>, name: &Name) -> Option<&'a [Kind]>
-    ensures { MatchOption result (head_at (name_of name.now) (heads_seen sight.now) ≡ None) (λ kinds. head_at (name_of name.now) (heads_seen sight.now) ≡ Some (meant_kinds kinds.now)) }
+    ensures { MatchOption result (head_at (name_of name.now) (heads_seen sight.now) ≡ None)
+        (λ kinds. head_at (name_of name.now) (heads_seen sight.now) ≡ Some (meant_kinds kinds.now)) }
 {
     match sight {
         Sight::Declared(env, own) | Sight::Body(env, own, _) => head_defined(env, own, name),

@@ -58,7 +58,9 @@ pub fn assign_element<L: Ledger>(
     requires at { HasItsNumber store.old.names name.now }
     requires index_placed { HasNumbers store.old.names index.now }
     requires numbered { HasNumbers store.old.names exp.now }
-    ensures done { IsDone (assign_at_of (string_bytes name.now.text) (exp_of index.now) (update_of update) (exp_of exp.now) store.old.sight) store.old.sight store.new.sight result }
+    ensures done { IsDone
+        (assign_at_of (string_bytes name.now.text) (exp_of index.now) (update_of update)
+        (exp_of exp.now) store.old.sight) store.old.sight store.new.sight result }
     ensures shape { IsLike store.old store.new }
     ensures counted { IsCounted result writes.old writes.new }
     ensures once { IsWrittenOnce result writes.old writes.new }

@@ -20,7 +20,8 @@ pub data IsExpression : ℕ → Exp → List Token → List Token → Type 0 whe
   number : {n : ℕ} {at : Span} {rest : List Token} → IsExpression 0 (Num n at) (Number n at ∷ rest) rest
   variable : {x : List ℕ} {at : Span} {rest : List Token} → IsExpression 0 (Var (named x at)) (Name x at ∷ rest) rest
   element : {x : List ℕ} {at opening closing : Span} {i : Exp} {from rest : List Token} →
-      IsExpression weakest i from (Sign_of sign.CloseIndex closing ∷ rest) → IsExpression 0 (Element (named x at) i) (Name x at ∷ Sign_of sign.OpenIndex opening ∷ from) rest
+      IsExpression weakest i from (Sign_of sign.CloseIndex closing ∷ rest) →
+      IsExpression 0 (Element (named x at) i) (Name x at ∷ Sign_of sign.OpenIndex opening ∷ from) rest
   emptiness : {at_empty opening at closing : Span} {s : List ℕ} {rest : List Token} →
       IsExpression 0 (EmptyOf (named s at)) (Word_of word.Empty at_empty ∷ Sign_of sign.Open opening ∷ Name s at ∷ Sign_of sign.Close closing ∷ rest) rest
   top : {at_top opening at closing : Span} {s : List ℕ} {rest : List Token} →
@@ -55,9 +56,12 @@ mutual
         IsExpression weakest i from (Sign_of sign.CloseIndex closing ∷ t ∷ behind) → IsExpression weakest e behind rest →
         IsStatement (AssignElement (named x at) i u e) (Name x at ∷ Sign_of sign.OpenIndex opening ∷ from) rest
     push : {at_push opening at comma place closing : Span} {x s : List ℕ} {rest : List Token} →
-        IsStatement (Push (named x at) (named s place)) (Word_of word.Push at_push ∷ Sign_of sign.Open opening ∷ Name x at ∷ Sign_of sign.Comma comma ∷ Name s place ∷ Sign_of sign.Close closing ∷ rest) rest
+        IsStatement (Push (named x at) (named s place))
+        (Word_of word.Push at_push ∷ Sign_of sign.Open opening ∷ Name x at ∷ Sign_of sign.Comma comma ∷ Name s place ∷ Sign_of sign.Close closing
+        ∷ rest) rest
     pop : {at_pop opening at comma place closing : Span} {x s : List ℕ} {rest : List Token} →
-        IsStatement (Pop (named x at) (named s place)) (Word_of word.Pop at_pop ∷ Sign_of sign.Open opening ∷ Name x at ∷ Sign_of sign.Comma comma ∷ Name s place ∷ Sign_of sign.Close closing ∷ rest) rest
+        IsStatement (Pop (named x at) (named s place))
+        (Word_of word.Pop at_pop ∷ Sign_of sign.Open opening ∷ Name x at ∷ Sign_of sign.Comma comma ∷ Name s place ∷ Sign_of sign.Close closing ∷ rest) rest
     branch : {at_if at_then at_fi : Span} {test assertion : Exp} {a b : Block} {from then others last rest : List Token} →
         IsExpression weakest test from (Word_of word.Then at_then ∷ then) → IsBody a then others →
         IsOptional word.Else b others (Word_of word.Fi at_fi ∷ last) → IsExpression weakest assertion last rest →
@@ -66,17 +70,26 @@ mutual
         IsExpression weakest assertion from first → IsOptional word.Do a first second →
         IsOptional word.Loop b second (Word_of word.Until at_until ∷ last) → IsExpression weakest test last rest →
         IsStatement (Loop assertion a b test) (Word_of word.From at_from ∷ from) rest
-    local_number : {at_local at_int at equals at_delocal at_kind place equals_again : Span} {x : List ℕ} {first test : Exp} {b : Block} {from behind last rest : List Token} →
+    local_number : {at_local at_int at equals at_delocal at_kind place equals_again : Span} {x : List ℕ} {first test : Exp} {b : Block}
+        {from behind last rest : List Token} →
         IsExpression weakest first from behind →
-        IsBody b behind (Word_of word.Delocal at_delocal ∷ Word_of word.Int at_kind ∷ Name x place ∷ Sign_of sign.Equals equals_again ∷ last) → IsExpression weakest test last rest →
-        IsStatement (LocalInt (named x at) first b (named x place) test) (Word_of word.Local at_local ∷ Word_of word.Int at_int ∷ Name x at ∷ Sign_of sign.Equals equals ∷ from) rest
-    local_stack : {at_local at_stack at equals at_nil at_delocal at_kind place equals_again nil_again : Span} {x : List ℕ} {b : Block} {from rest : List Token} →
-        IsBody b from (Word_of word.Delocal at_delocal ∷ Word_of word.Stack at_kind ∷ Name x place ∷ Sign_of sign.Equals equals_again ∷ Word_of word.Nil nil_again ∷ rest) →
-        IsStatement (LocalStack (named x at) b (named x place)) (Word_of word.Local at_local ∷ Word_of word.Stack at_stack ∷ Name x at ∷ Sign_of sign.Equals equals ∷ Word_of word.Nil at_nil ∷ from) rest
+        IsBody b behind (Word_of word.Delocal at_delocal ∷ Word_of word.Int at_kind ∷ Name x place ∷ Sign_of sign.Equals equals_again ∷ last) →
+        IsExpression weakest test last rest →
+        IsStatement (LocalInt (named x at) first b (named x place) test)
+        (Word_of word.Local at_local ∷ Word_of word.Int at_int ∷ Name x at ∷ Sign_of sign.Equals equals ∷ from) rest
+    local_stack : {at_local at_stack at equals at_nil at_delocal at_kind place equals_again nil_again : Span} {x : List ℕ} {b : Block}
+        {from rest : List Token} →
+        IsBody b from
+        (Word_of word.Delocal at_delocal ∷ Word_of word.Stack at_kind ∷ Name x place ∷ Sign_of sign.Equals equals_again ∷ Word_of word.Nil nil_again
+        ∷ rest) →
+        IsStatement (LocalStack (named x at) b (named x place))
+        (Word_of word.Local at_local ∷ Word_of word.Stack at_stack ∷ Name x at ∷ Sign_of sign.Equals equals ∷ Word_of word.Nil at_nil ∷ from) rest
     call : {at_call at opening closing : Span} {f : List ℕ} {xs : List Named} {from rest : List Token} →
-        AreNames xs from (Sign_of sign.Close closing ∷ rest) → IsStatement (Call (named f at) xs) (Word_of word.Call at_call ∷ Name f at ∷ Sign_of sign.Open opening ∷ from) rest
+        AreNames xs from (Sign_of sign.Close closing ∷ rest) →
+        IsStatement (Call (named f at) xs) (Word_of word.Call at_call ∷ Name f at ∷ Sign_of sign.Open opening ∷ from) rest
     inverse_call : {at_uncall at opening closing : Span} {f : List ℕ} {xs : List Named} {from rest : List Token} →
-        AreNames xs from (Sign_of sign.Close closing ∷ rest) → IsStatement (Uncall (named f at) xs) (Word_of word.Uncall at_uncall ∷ Name f at ∷ Sign_of sign.Open opening ∷ from) rest
+        AreNames xs from (Sign_of sign.Close closing ∷ rest) →
+        IsStatement (Uncall (named f at) xs) (Word_of word.Uncall at_uncall ∷ Name f at ∷ Sign_of sign.Open opening ∷ from) rest
 
   -- none or more
   pub data AreStatements : Block → List Token → List Token → Type 0 where
@@ -98,13 +111,15 @@ mutual
 pub data IsDeclaration : Declaration → List Token → List Token → Type 0 where
   number : {at_int at : Span} {x : List ℕ} {rest : List Token} → IsDeclaration (Int (named x at)) (Word_of word.Int at_int ∷ Name x at ∷ rest) rest
   array : {at_int at opening place closing : Span} {x : List ℕ} {n : ℕ} {rest : List Token} →
-      IsDeclaration (Array (named x at) n place) (Word_of word.Int at_int ∷ Name x at ∷ Sign_of sign.OpenIndex opening ∷ Number n place ∷ Sign_of sign.CloseIndex closing ∷ rest) rest
+      IsDeclaration (Array (named x at) n place)
+      (Word_of word.Int at_int ∷ Name x at ∷ Sign_of sign.OpenIndex opening ∷ Number n place ∷ Sign_of sign.CloseIndex closing ∷ rest) rest
   stack : {at_stack at : Span} {s : List ℕ} {rest : List Token} → IsDeclaration (StackOf (named s at)) (Word_of word.Stack at_stack ∷ Name s at ∷ rest) rest
 
 -- none or more
 pub data AreDeclarations : List Declaration → List Token → List Token → Type 0 where
   none : {rest : List Token} → AreDeclarations [] rest rest
-  more : {d : Declaration} {ds : List Declaration} {from behind rest : List Token} → IsDeclaration d from behind → AreDeclarations ds behind rest → AreDeclarations (d ∷ ds) from rest
+  more : {d : Declaration} {ds : List Declaration} {from behind rest : List Token} → IsDeclaration d from behind → AreDeclarations ds behind rest →
+      AreDeclarations (d ∷ ds) from rest
 
 -- ---- procedures
 
@@ -112,8 +127,10 @@ pub data AreDeclarations : List Declaration → List Token → List Token → Ty
 pub data IsParameter : Parameter → List Token → List Token → Type 0 where
   number : {at_int at : Span} {x : List ℕ} {rest : List Token} → IsParameter (IntParameter (named x at)) (Word_of word.Int at_int ∷ Name x at ∷ rest) rest
   array : {at_int at opening closing : Span} {x : List ℕ} {rest : List Token} →
-      IsParameter (ArrayParameter (named x at)) (Word_of word.Int at_int ∷ Name x at ∷ Sign_of sign.OpenIndex opening ∷ Sign_of sign.CloseIndex closing ∷ rest) rest
-  stack : {at_stack at : Span} {s : List ℕ} {rest : List Token} → IsParameter (StackParameter (named s at)) (Word_of word.Stack at_stack ∷ Name s at ∷ rest) rest
+      IsParameter (ArrayParameter (named x at))
+      (Word_of word.Int at_int ∷ Name x at ∷ Sign_of sign.OpenIndex opening ∷ Sign_of sign.CloseIndex closing ∷ rest) rest
+  stack : {at_stack at : Span} {s : List ℕ} {rest : List Token} →
+      IsParameter (StackParameter (named s at)) (Word_of word.Stack at_stack ∷ Name s at ∷ rest) rest
 
 -- behind a parameter: a comma and a parameter, none or more times
 pub data AreMoreParameters : List Parameter → List Token → List Token → Type 0 where
@@ -124,7 +141,8 @@ pub data AreMoreParameters : List Parameter → List Token → List Token → Ty
 -- parameters parted by commas, or none
 pub data AreParameters : List Parameter → List Token → List Token → Type 0 where
   no_parameters : {rest : List Token} → AreParameters [] rest rest
-  parameters : {x : Parameter} {xs : List Parameter} {from behind rest : List Token} → IsParameter x from behind → AreMoreParameters xs behind rest → AreParameters (x ∷ xs) from rest
+  parameters : {x : Parameter} {xs : List Parameter} {from behind rest : List Token} → IsParameter x from behind → AreMoreParameters xs behind rest →
+      AreParameters (x ∷ xs) from rest
 
 -- a procedure: its name, its parameters in parentheses, and its body
 pub data IsProcedure : Procedure → List Token → List Token → Type 0 where
@@ -135,7 +153,8 @@ pub data IsProcedure : Procedure → List Token → List Token → Type 0 where
 -- none or more
 pub data AreProcedures : List Procedure → List Token → List Token → Type 0 where
   none : {rest : List Token} → AreProcedures [] rest rest
-  more : {p : Procedure} {ps : List Procedure} {from behind rest : List Token} → IsProcedure p from behind → AreProcedures ps behind rest → AreProcedures (p ∷ ps) from rest
+  more : {p : Procedure} {ps : List Procedure} {from behind rest : List Token} → IsProcedure p from behind → AreProcedures ps behind rest →
+      AreProcedures (p ∷ ps) from rest
 
 -- ---- cells
 

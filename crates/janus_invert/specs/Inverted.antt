@@ -40,7 +40,8 @@ IsInverse members others (Call f xs) (Uncall g ys) = IsSame f g × AreSame xs.it
 IsInverse members others (Uncall f xs) (Call g ys) = IsSame f g × AreSame xs.items ys.items
 IsInverse members others _ _ = ⊥
 
-pub record AreInverse (members : List ℕ) (statements : List Statement) (body : Block) (others : List ℕ) (inverses : List Statement) (back : Block) : Type 0 where
+pub record AreInverse (members : List ℕ) (statements : List Statement) (body : Block) (others : List ℕ) (inverses : List Statement)
+    (back : Block) : Type 0 where
   pub as_many : length inverses ≡ length statements
   pub inverse : (n : ℕ) (s r : Statement) → slice_get statements n ≡ Some s → slice_get inverses n ≡ Some r → IsInverse members others s r
   pub whole : IsBackward members others body back

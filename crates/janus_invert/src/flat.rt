@@ -79,7 +79,9 @@ fn add_block(draft: &mut Draft, numbers: &[usize]) -> Result<Block, AllocError>
     requires { (i : ℕ) → i < length numbers.now → slice_index_or numbers.now i 0 < length draft.old.statements.items }
     ensures grows { IfOk result (λ b. Grows draft.old.members.items draft.old.statements.items draft.new.members.items draft.new.statements.items) }
     ensures below { IfOk result (λ b. IsBelow draft.new.members.items (length draft.new.statements.items) b) }
-    ensures block { IfOk result (λ b. block_at (tree_at draft.new.members.items draft.new.statements.items) draft.new.members.items b ≡ ahead (tree_at draft.old.members.items draft.old.statements.items) numbers.now 0 (length numbers.now)) }
+    ensures block { IfOk result
+        (λ b. block_at (tree_at draft.new.members.items draft.new.statements.items) draft.new.members.items b
+        ≡ ahead (tree_at draft.old.members.items draft.old.statements.items) numbers.now 0 (length numbers.now)) }
     ensures statements { draft.new.statements.items ≡ draft.old.statements.items }
 {
     let start = draft.members.len();
@@ -163,8 +165,11 @@ fn add(draft: &mut Draft, statement: Statement) -> Result<usize, AllocError>
     requires { BlocksAreBelow draft.old.members.items (length draft.old.statements.items) statement }
     ensures grows { IfOk result (λ n. Grows draft.old.members.items draft.old.statements.items draft.new.members.items draft.new.statements.items) }
     ensures below { IfOk result (λ n. n < length draft.new.statements.items) }
-    ensures tree { IfOk result (λ n. tree_at draft.new.members.items draft.new.statements.items n ≡ built (tree_at draft.old.members.items draft.old.statements.items) draft.old.members.items statement) }
-    ensures numbered { IfOk result (λ n. (xs : List Name) → HaveNumbers xs draft.old.statements.items → StatementHasNumbers xs statement → HaveNumbers xs draft.new.statements.items) }
+    ensures tree { IfOk result
+        (λ n. tree_at draft.new.members.items draft.new.statements.items n
+        ≡ built (tree_at draft.old.members.items draft.old.statements.items) draft.old.members.items statement) }
+    ensures numbered { IfOk result
+        (λ n. (xs : List Name) → HaveNumbers xs draft.old.statements.items → StatementHasNumbers xs statement → HaveNumbers xs draft.new.statements.items) }
 {
     let number = draft.statements.len();
     draft.statements.push(statement)?;

@@ -209,7 +209,8 @@ fn inverse_loop(
     loop_part: Vec<Stm>,
     exit: &Exp,
 ) -> Result<Stm, AllocError>
-    ensures { IfOk result (λ inverse. stm_view inverse ≡ Loop (exp_view exit.now) (block_view do_part.items) (block_view loop_part.items) (exp_view entry.now)) }
+    ensures { IfOk result
+        (λ inverse. stm_view inverse ≡ Loop (exp_view exit.now) (block_view do_part.items) (block_view loop_part.items) (exp_view entry.now)) }
 {
     let (entry, exit) = two_exps(alloc, entry, exit)?;
     Ok(Stm::Loop(exit, do_part, loop_part, entry))
@@ -224,7 +225,8 @@ fn inverse_int(
     end: &Name,
     last: &Exp,
 ) -> Result<Stm, AllocError>
-    ensures { IfOk result (λ inverse. stm_view inverse ≡ LocalInt (name_view name.now) (exp_view last.now) (block_view block.items) (name_view end.now) (exp_view first.now)) }
+    ensures { IfOk result
+        (λ inverse. stm_view inverse ≡ LocalInt (name_view name.now) (exp_view last.now) (block_view block.items) (name_view end.now) (exp_view first.now)) }
 {
     let (name, end) = two_names(name, end)?;
     let (first, last) = two_exps(alloc, first, last)?;

@@ -17,7 +17,8 @@ use std::alloc::{AllocError, Global};
 /// The code whose block is the inverse of this one's: its statements keep their numbers. Or want of memory.
 pub fn invert_code(alloc: Global, code: &Code) -> Result<Code, InvertFault>
     ensures block { IfOk result (λ inverse. code_block inverse ≡ inverse_block (code_block code.now)) }
-    ensures parts { IfOk result (λ inverse. AreInverse code.now.members.items code.now.statements.items code.now.body inverse.members.items inverse.statements.items inverse.body) }
+    ensures parts { IfOk result
+        (λ inverse. AreInverse code.now.members.items code.now.statements.items code.now.body inverse.members.items inverse.statements.items inverse.body) }
     // The names keep their numbers.
     ensures numbered { IfOk result (λ inverse. (xs : List Name) → HaveNumbers xs code.now.statements.items → HaveNumbers xs inverse.statements.items) }
 {
@@ -27,7 +28,8 @@ pub fn invert_code(alloc: Global, code: &Code) -> Result<Code, InvertFault>
 /// The inverse of each statement at its number, and that of the body.
 fn inverse_code(alloc: Global, code: &Code) -> Result<Code, AllocError>
     ensures block { IfOk result (λ inverse. code_block inverse ≡ inverse_block (code_block code.now)) }
-    ensures parts { IfOk result (λ inverse. AreInverse code.now.members.items code.now.statements.items code.now.body inverse.members.items inverse.statements.items inverse.body) }
+    ensures parts { IfOk result
+        (λ inverse. AreInverse code.now.members.items code.now.statements.items code.now.body inverse.members.items inverse.statements.items inverse.body) }
     ensures numbered { IfOk result (λ inverse. (xs : List Name) → HaveNumbers xs code.now.statements.items → HaveNumbers xs inverse.statements.items) }
 {
     let mut statements = Vec::new(alloc);

@@ -272,4 +272,5 @@ kind_code = code_by ℕ coded_ℕ kind_number kind_numbered kind_back
 
 abbrev pub proc_code : Coded Proc
 proc_code =
-    code_by (Name × (List (Name × Kind) × Blk)) (coded× name_code (coded× (coded_list (coded× name_code kind_code)) block_code)) (λ p. (p.name, (p.params, p.body))) (λ p. record { name = p.0; params = p.1.0; body = p.1.1 }) (λ _. refl)
+    code_by (Name × (List (Name × Kind) × Blk)) (coded× name_code (coded× (coded_list (coded× name_code kind_code)) block_code))
+    (λ p. (p.name, (p.params, p.body))) (λ p. record { name = p.0; params = p.1.0; body = p.1.1 }) (λ _. refl)

@@ -52,7 +52,8 @@ EnteredIsGood = (c : Cell) (w : World) → IsGoodWorld w → IsGoodWorld (entere
 -- A cell's run is taken back whole: its inverse, and then its declarations and definitions.
 abbrev pub CellIsTakenBack : Type 0
 CellIsTakenBack =
-    (c : Cell) (w : World) (n : ℕ) (v : World) → IsGoodWorld w → CellRun c w n v → WorldExec v (inverse_block c.block) n (entered c w) × (taken_back c (entered c w) ≡ Fine w)
+    (c : Cell) (w : World) (n : ℕ) (v : World) → IsGoodWorld w → CellRun c w n v →
+    WorldExec v (inverse_block c.block) n (entered c w) × (taken_back c (entered c w) ≡ Fine w)
 
 abbrev pub WorldsAreDetermined : Type 0
 WorldsAreDetermined = (w : World) (b : Blk) → WorldsAreFunctions w b

@@ -15,5 +15,6 @@ ExpReadsBack = (text : List ℕ) (e : Exp) → HasExp text e → (again : Exp) �
 
 -- the text that is printed of one procedure of a text's tree is a cell with that procedure alone
 abbrev pub ProcedureReadsBack : Type 0
-ProcedureReadsBack = (text : List ℕ) (ds : List Declaration) (b : Block) (ps : List Procedure) (p : Procedure) → HasTree text (cell_of ds b ps) → Contains ps p →
+ProcedureReadsBack = (text : List ℕ) (ds : List Declaration) (b : Block) (ps : List Procedure) (p : Procedure) → HasTree text (cell_of ds b ps) →
+    Contains ps p →
     (again : Procedure) × HasTree (printed_procedure p) (cell_of [] Empty (again ∷ [])) × (plain_procedure again ≡ plain_procedure p)

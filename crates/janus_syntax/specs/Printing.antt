@@ -149,13 +149,18 @@ abbrev mutual
   pub stm_pieces : Stm → List Piece
   stm_pieces Skip = A_word word.Skip ∷ []
   stm_pieces (Assign (named x place) u e) = A_name x ∷ A_sign (update_sign u) ∷ whole_pieces e
-  stm_pieces (AssignElement (named x place) i u e) = A_name x ∷ A_sign sign.OpenIndex ∷ (whole_pieces i ++ A_sign sign.CloseIndex ∷ A_sign (update_sign u) ∷ whole_pieces e)
+  stm_pieces (AssignElement (named x place) i u e) = A_name x ∷ A_sign sign.OpenIndex
+      ∷ (whole_pieces i ++ A_sign sign.CloseIndex ∷ A_sign (update_sign u) ∷ whole_pieces e)
   stm_pieces (Push (named x place) (named y at)) = transfer_pieces word.Push x y
   stm_pieces (Pop (named x place) (named y at)) = transfer_pieces word.Pop x y
-  stm_pieces (If e s t f) = A_word word.If ∷ (whole_pieces e ++ A_word word.Then ∷ (block_pieces s ++ A_word word.Else ∷ (block_pieces t ++ A_word word.Fi ∷ whole_pieces f)))
-  stm_pieces (Loop e s t f) = A_word word.From ∷ (whole_pieces e ++ A_word word.Do ∷ (block_pieces s ++ A_word word.Loop ∷ (block_pieces t ++ A_word word.Until ∷ whole_pieces f)))
-  stm_pieces (LocalInt (named x place) e s (named y at) f) = binding_pieces word.Local word.Int x ++ (whole_pieces e ++ (block_pieces s ++ (binding_pieces word.Delocal word.Int y ++ whole_pieces f)))
-  stm_pieces (LocalStack (named x place) s (named y at)) = binding_pieces word.Local word.Stack x ++ A_word word.Nil ∷ (block_pieces s ++ (binding_pieces word.Delocal word.Stack y ++ A_word word.Nil ∷ []))
+  stm_pieces (If e s t f) = A_word word.If
+      ∷ (whole_pieces e ++ A_word word.Then ∷ (block_pieces s ++ A_word word.Else ∷ (block_pieces t ++ A_word word.Fi ∷ whole_pieces f)))
+  stm_pieces (Loop e s t f) = A_word word.From
+      ∷ (whole_pieces e ++ A_word word.Do ∷ (block_pieces s ++ A_word word.Loop ∷ (block_pieces t ++ A_word word.Until ∷ whole_pieces f)))
+  stm_pieces (LocalInt (named x place) e s (named y at) f) = binding_pieces word.Local word.Int x
+      ++ (whole_pieces e ++ (block_pieces s ++ (binding_pieces word.Delocal word.Int y ++ whole_pieces f)))
+  stm_pieces (LocalStack (named x place) s (named y at)) = binding_pieces word.Local word.Stack x ++ A_word word.Nil
+      ∷ (block_pieces s ++ (binding_pieces word.Delocal word.Stack y ++ A_word word.Nil ∷ []))
   stm_pieces (Call (named f place) xs) = call_pieces word.Call f xs
   stm_pieces (Uncall (named f place) xs) = call_pieces word.Uncall f xs
 
@@ -187,7 +192,8 @@ parameters_pieces [] = []
 parameters_pieces (x ∷ xs) = parameter_pieces x ++ more_parameters_pieces xs
 
 abbrev pub procedure_pieces : Procedure → List Piece
-procedure_pieces (procedure_of (named f place) xs b) = A_word word.Procedure ∷ A_name f ∷ An_opening ∷ (parameters_pieces xs ++ A_sign sign.Close ∷ block_pieces b)
+procedure_pieces (procedure_of (named f place) xs b) = A_word word.Procedure ∷ A_name f ∷ An_opening
+    ∷ (parameters_pieces xs ++ A_sign sign.Close ∷ block_pieces b)
 
 abbrev pub procedures_pieces : List Procedure → List Piece
 procedures_pieces [] = []

@@ -50,7 +50,8 @@ abbrev pub FailsBracketed : Named → List Token → Refusal → Type 0
 FailsBracketed x from e = (p : Part) (k : Parameter → Form p) → Stops 0 (part Brackets (λ b. k (parameter x b))) from e
 
 -- In the midst of parameters: the machine stands at more of them.
-pub record AtParameters (xs : List Parameter) (goal : Part) (out : Outcome goal) (rest : List Token) (p : Part) (k : List Parameter → Form p) (S : Stack goal p) : Type 0 where
+pub record AtParameters (xs : List Parameter) (goal : Part) (out : Outcome goal) (rest : List Token) (p : Part) (k : List Parameter → Form p)
+    (S : Stack goal p) : Type 0 where
   pub other : Part
   pub form : List Parameter → Form other
   pub stack : Stack goal other
@@ -59,7 +60,8 @@ pub record AtParameters (xs : List Parameter) (goal : Part) (out : Outcome goal)
 
 -- parameters read so far
 pub record AreParameters (xs : List Parameter) (from rest : List Token) : Type 0 where
-  pub goes : (p : Part) (k : List Parameter → Form p) (goal : Part) (S : Stack goal p) (u : ℕ) → u ≤ operator_limit → AtParameters xs goal (run all from (at (part Parameters k) S (count 0 u))) rest p k S
+  pub goes : (p : Part) (k : List Parameter → Form p) (goal : Part) (S : Stack goal p) (u : ℕ) → u ≤ operator_limit →
+      AtParameters xs goal (run all from (at (part Parameters k) S (count 0 u))) rest p k S
   pub shorter : length rest ≤ length from
 
 -- ---- procedures
@@ -86,7 +88,8 @@ IsMain true from behind = BeginsWith word.Main from behind
 IsMain false from behind = ⊥
 
 -- The machine stands at more procedures of a cell, of which one may be `main` or not.
-pub record AtProcedures (main : Bool) (c : Cell) (goal : Part) (out : Outcome goal) (rest : List Token) (p : Part) (k : Cell → Form p) (S : Stack goal p) : Type 0 where
+pub record AtProcedures (main : Bool) (c : Cell) (goal : Part) (out : Outcome goal) (rest : List Token) (p : Part) (k : Cell → Form p)
+    (S : Stack goal p) : Type 0 where
   pub other : Part
   pub form : Cell → Form other
   pub stack : Stack goal other
@@ -95,10 +98,12 @@ pub record AtProcedures (main : Bool) (c : Cell) (goal : Part) (out : Outcome go
 
 -- one procedure more, or `main`, behind `procedure`: with it the cell is d, and `main` may follow or not
 pub record IsNext (main : Bool) (c : Cell) (more : Bool) (d : Cell) (from rest : List Token) : Type 0 where
-  pub goes : (p : Part) (k : Cell → Form p) (goal : Part) (S : Stack goal p) (u : ℕ) → u ≤ operator_limit → AtProcedures more d goal (run all from (at (part (A_procedure main c) k) S (count 0 u))) rest p k S
+  pub goes : (p : Part) (k : Cell → Form p) (goal : Part) (S : Stack goal p) (u : ℕ) → u ≤ operator_limit →
+      AtProcedures more d goal (run all from (at (part (A_procedure main c) k) S (count 0 u))) rest p k S
   pub shorter : length rest ≤ length from
 
 -- procedures read so far behind the cell c: with them it is d
 pub record AreProcedures (main : Bool) (c : Cell) (more : Bool) (d : Cell) (from rest : List Token) : Type 0 where
-  pub goes : (p : Part) (k : Cell → Form p) (goal : Part) (S : Stack goal p) (u : ℕ) → u ≤ operator_limit → AtProcedures more d goal (run all from (at (part (Procedures main c) k) S (count 0 u))) rest p k S
+  pub goes : (p : Part) (k : Cell → Form p) (goal : Part) (S : Stack goal p) (u : ℕ) → u ≤ operator_limit →
+      AtProcedures more d goal (run all from (at (part (Procedures main c) k) S (count 0 u))) rest p k S
   pub shorter : length rest ≤ length from

@@ -64,11 +64,13 @@ FailsStack from e = (goal p : Part) (k : Named → Form p) (S : Stack goal p) (m
 
 -- the names of a variable and a stack in parentheses at the front
 pub record IsVariableAndStack (x s : Named) (from rest : List Token) : Type 0 where
-  pub goes : (goal p : Part) (k : Named → Named → Form p) (S : Stack goal p) (m : Count) → run all from (at (variable_and_stack_then k) S m) ≡ run all rest (at (k x s) S m)
+  pub goes : (goal p : Part) (k : Named → Named → Form p) (S : Stack goal p) (m : Count) →
+      run all from (at (variable_and_stack_then k) S m) ≡ run all rest (at (k x s) S m)
   pub shorter : length rest < length from
 
 abbrev pub FailsVariableAndStack : List Token → Refusal → Type 0
-FailsVariableAndStack from e = (goal p : Part) (k : Named → Named → Form p) (S : Stack goal p) (m : Count) → run all from (at (variable_and_stack_then k) S m) ≡ outcome_of e
+FailsVariableAndStack from e = (goal p : Part) (k : Named → Named → Form p) (S : Stack goal p) (m : Count) →
+    run all from (at (variable_and_stack_then k) S m) ≡ outcome_of e
 
 -- this word at the front
 pub record BeginsWith (w : Word) (from behind : List Token) : Type 0 where
@@ -118,12 +120,14 @@ begin (t ∷ rest) k S m = begun what.Expression (operand t k) rest S m
 
 -- an expression of this level at the front
 pub record IsExp (level depth used : ℕ) (e : Exp) (total : ℕ) (from rest : List Token) : Type 0 where
-  pub goes : (goal p : Part) (k : Exp → Form p) (S : Stack goal p) → begin from (λ x. chains 0 level x k) S (count depth used) ≡ run all rest (at (k e) S (count depth total))
+  pub goes : (goal p : Part) (k : Exp → Form p) (S : Stack goal p) →
+      begin from (λ x. chains 0 level x k) S (count depth used) ≡ run all rest (at (k e) S (count depth total))
   pub within : total ≤ operator_limit
   pub shorter : length rest < length from
 
 abbrev pub FailsExp : ℕ → ℕ → ℕ → List Token → Refusal → Type 0
-FailsExp level depth used from e = (goal p : Part) (k : Exp → Form p) (S : Stack goal p) → begin from (λ x. chains 0 level x k) S (count depth used) ≡ outcome_of e
+FailsExp level depth used from e = (goal p : Part) (k : Exp → Form p) (S : Stack goal p) →
+    begin from (λ x. chains 0 level x k) S (count depth used) ≡ outcome_of e
 
 abbrev pub seen_operator : Option Token → Option Infix
 seen_operator None = None
@@ -138,23 +142,27 @@ pub record IsOperator (level : ℕ) (op : Infix) (from rest : List Token) : Type
 
 -- behind a name of an expression: its index, if there is one
 pub record IsIndexed (depth used : ℕ) (x : Named) (e : Exp) (total : ℕ) (from rest : List Token) : Type 0 where
-  pub goes : (goal p : Part) (k : Exp → Form p) (S : Stack goal p) → run all from (at (part Index (λ i. k (variable x i))) S (count depth used)) ≡ run all rest (at (k e) S (count depth total))
+  pub goes : (goal p : Part) (k : Exp → Form p) (S : Stack goal p) →
+      run all from (at (part Index (λ i. k (variable x i))) S (count depth used)) ≡ run all rest (at (k e) S (count depth total))
   pub within : total ≤ operator_limit
   pub shorter : length rest ≤ length from
 
 abbrev pub FailsIndexed : ℕ → ℕ → Named → List Token → Refusal → Type 0
-FailsIndexed depth used x from e = (goal p : Part) (k : Exp → Form p) (S : Stack goal p) → run all from (at (part Index (λ i. k (variable x i))) S (count depth used)) ≡ outcome_of e
+FailsIndexed depth used x from e = (goal p : Part) (k : Exp → Form p) (S : Stack goal p) →
+    run all from (at (part Index (λ i. k (variable x i))) S (count depth used)) ≡ outcome_of e
 
 -- Behind e, operators of the level behind `level` may stand: the expression so far, with n levels to come.
 pub record IsSoFar (level weakest depth used : ℕ) (e : Exp) (total : ℕ) (from rest : List Token) : Type 0 where
   pub to_come : ℕ
   pub levels : level + to_come ≡ weakest
-  pub goes : (goal p : Part) (k : Exp → Form p) (S : Stack goal p) → begin from (λ x. chains 0 weakest x k) S (count depth used) ≡ run all rest (at (chains level to_come e k) S (count depth total))
+  pub goes : (goal p : Part) (k : Exp → Form p) (S : Stack goal p) →
+      begin from (λ x. chains 0 weakest x k) S (count depth used) ≡ run all rest (at (chains level to_come e k) S (count depth total))
   pub within : total ≤ operator_limit
   pub shorter : length rest < length from
 
 -- the machine stands at the chain of a level; behind it, it goes on as k has it
-pub record AtChain (level to_come : ℕ) (e : Exp) (c : Count) (goal : Part) (out : Outcome goal) (rest : List Token) (p : Part) (k : Exp → Form p) (S : Stack goal p) : Type 0 where
+pub record AtChain (level to_come : ℕ) (e : Exp) (c : Count) (goal : Part) (out : Outcome goal) (rest : List Token) (p : Part) (k : Exp → Form p)
+    (S : Stack goal p) : Type 0 where
   pub other : Part
   pub form : Exp → Form other
   pub stack : Stack goal other
@@ -165,6 +173,7 @@ pub record AtChain (level to_come : ℕ) (e : Exp) (c : Count) (goal : Part) (ou
 pub record IsChain (level weakest depth used : ℕ) (e : Exp) (total : ℕ) (from rest : List Token) : Type 0 where
   pub to_come : ℕ
   pub levels : level + suc to_come ≡ weakest
-  pub goes : (goal p : Part) (k : Exp → Form p) (S : Stack goal p) → AtChain level to_come e (count depth total) goal (begin from (λ x. chains 0 weakest x k) S (count depth used)) rest p k S
+  pub goes : (goal p : Part) (k : Exp → Form p) (S : Stack goal p) →
+      AtChain level to_come e (count depth total) goal (begin from (λ x. chains 0 weakest x k) S (count depth used)) rest p k S
   pub within : total ≤ operator_limit
   pub shorter : length rest < length from

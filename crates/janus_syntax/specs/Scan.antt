@@ -21,7 +21,8 @@ goes_on _ c = goes_on_number c
 -- the longest sign at the front, or none
 abbrev pub IsLongestSign : List ℕ → Option Sign → Type 0
 IsLongestSign from None = (s : Sign) (rest : List ℕ) → from ≡ sign_text s ++ rest → ⊥
-IsLongestSign from (Some s) = ((rest : List ℕ) × (from ≡ sign_text s ++ rest)) × ((t : Sign) (rest : List ℕ) → from ≡ sign_text t ++ rest → length (sign_text t) ≤ length (sign_text s))
+IsLongestSign from (Some s) = ((rest : List ℕ) × (from ≡ sign_text s ++ rest))
+    × ((t : Sign) (rest : List ℕ) → from ≡ sign_text t ++ rest → length (sign_text t) ≤ length (sign_text s))
 
 -- what the octets at the front are
 abbrev pub IsFrontText : Front → List ℕ → Type 0

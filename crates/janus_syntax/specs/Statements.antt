@@ -112,7 +112,8 @@ abbrev pub FailNames : List Token → Refusal → Type 0
 FailNames from e = (depth : ℕ) → depth ≤ depth_limit → (p : Part) (k : List Named → Form p) → Stops depth (part Names k) from e
 
 -- In the midst of names: the machine stands at more of them.
-pub record AtNames (depth : ℕ) (xs : List Named) (goal : Part) (out : Outcome goal) (rest : List Token) (p : Part) (k : List Named → Form p) (S : Stack goal p) : Type 0 where
+pub record AtNames (depth : ℕ) (xs : List Named) (goal : Part) (out : Outcome goal) (rest : List Token) (p : Part) (k : List Named → Form p)
+    (S : Stack goal p) : Type 0 where
   pub other : Part
   pub form : List Named → Form other
   pub stack : Stack goal other
@@ -121,7 +122,8 @@ pub record AtNames (depth : ℕ) (xs : List Named) (goal : Part) (out : Outcome 
 
 -- names read so far
 pub record AreNamed (xs : List Named) (from rest : List Token) : Type 0 where
-  pub goes : (depth : ℕ) → depth ≤ depth_limit → (p : Part) (k : List Named → Form p) (goal : Part) (S : Stack goal p) (u : ℕ) → u ≤ operator_limit → AtNames depth xs goal (run all from (at (part Names k) S (count depth u))) rest p k S
+  pub goes : (depth : ℕ) → depth ≤ depth_limit → (p : Part) (k : List Named → Form p) (goal : Part) (S : Stack goal p) (u : ℕ) → u ≤ operator_limit →
+      AtNames depth xs goal (run all from (at (part Names k) S (count depth u))) rest p k S
   pub shorter : length rest ≤ length from
 
 -- a name, and behind it names in parentheses
@@ -180,7 +182,8 @@ followed_by Empty b = b
 followed_by (More s a) b = More s (followed_by a b)
 
 -- In the midst of statements: the machine stands at more of them.
-pub record AtStatements (depth : ℕ) (b : Block) (goal : Part) (out : Outcome goal) (rest : List Token) (p : Part) (k : Block → Form p) (S : Stack goal p) : Type 0 where
+pub record AtStatements (depth : ℕ) (b : Block) (goal : Part) (out : Outcome goal) (rest : List Token) (p : Part) (k : Block → Form p)
+    (S : Stack goal p) : Type 0 where
   pub other : Part
   pub form : Block → Form other
   pub stack : Stack goal other
@@ -191,7 +194,8 @@ pub record AtStatements (depth : ℕ) (b : Block) (goal : Part) (out : Outcome g
 pub record AreSoFar (depth : ℕ) (before now : Block) (from rest : List Token) : Type 0 where
   pub block : Block
   pub is : now ≡ followed_by before block
-  pub goes : (p : Part) (k : Block → Form p) (goal : Part) (S : Stack goal p) (u : ℕ) → u ≤ operator_limit → AtStatements depth block goal (run all from (at (part Statements k) S (count depth u))) rest p k S
+  pub goes : (p : Part) (k : Block → Form p) (goal : Part) (S : Stack goal p) (u : ℕ) → u ≤ operator_limit →
+      AtStatements depth block goal (run all from (at (part Statements k) S (count depth u))) rest p k S
   pub shorter : length rest ≤ length from
 
 -- all statements that stand here, behind others
@@ -258,7 +262,8 @@ abbrev pub FailsBound : Named → List Token → Refusal → Type 0
 FailsBound x from e = (p : Part) (k : Declaration → Form p) → Stops 0 (part Bound (λ n. k (declared x n))) from e
 
 -- In the midst of declarations: the machine stands at more of them.
-pub record AtDeclarations (ds : List Declaration) (goal : Part) (out : Outcome goal) (rest : List Token) (p : Part) (k : List Declaration → Form p) (S : Stack goal p) : Type 0 where
+pub record AtDeclarations (ds : List Declaration) (goal : Part) (out : Outcome goal) (rest : List Token) (p : Part) (k : List Declaration → Form p)
+    (S : Stack goal p) : Type 0 where
   pub other : Part
   pub form : List Declaration → Form other
   pub stack : Stack goal other
@@ -267,7 +272,8 @@ pub record AtDeclarations (ds : List Declaration) (goal : Part) (out : Outcome g
 
 -- declarations read so far
 pub record AreDeclared (ds : List Declaration) (from rest : List Token) : Type 0 where
-  pub goes : (p : Part) (k : List Declaration → Form p) (goal : Part) (S : Stack goal p) (u : ℕ) → u ≤ operator_limit → AtDeclarations ds goal (run all from (at (part Declarations k) S (count 0 u))) rest p k S
+  pub goes : (p : Part) (k : List Declaration → Form p) (goal : Part) (S : Stack goal p) (u : ℕ) → u ≤ operator_limit →
+      AtDeclarations ds goal (run all from (at (part Declarations k) S (count 0 u))) rest p k S
   pub shorter : length rest ≤ length from
 
 -- the declarations and the statements of the cell c, which has nothing else; `main` may follow where there are none

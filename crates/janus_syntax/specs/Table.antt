@@ -56,10 +56,12 @@ delocal_then j x k = word_then word.Delocal (take (Same_kind j) (λ i. take (Sam
 
 -- a local behind `local int`, and behind `local stack`
 abbrev pub local_int : {p : Part} → (Stm → Form p) → Form p
-local_int k = take A_name (λ x. sign_then sign.Equals (part Whole (λ e. part Body (λ s. delocal_then kind.Int x (λ y. part Whole (λ f. k (LocalInt x e s y f)))))))
+local_int k = take A_name
+    (λ x. sign_then sign.Equals (part Whole (λ e. part Body (λ s. delocal_then kind.Int x (λ y. part Whole (λ f. k (LocalInt x e s y f)))))))
 
 abbrev pub local_stack : {p : Part} → (Stm → Form p) → Form p
-local_stack k = take A_name (λ x. sign_then sign.Equals (word_then word.Nil (part Body (λ s. delocal_then kind.Stack x (λ y. word_then word.Nil (k (LocalStack x s y)))))))
+local_stack k = take A_name
+    (λ x. sign_then sign.Equals (word_then word.Nil (part Body (λ s. delocal_then kind.Stack x (λ y. word_then word.Nil (k (LocalStack x s y)))))))
 
 -- a name, and behind it names in parentheses
 abbrev pub call_then : {p : Part} → (Named → List Named → Form p) → Form p
@@ -126,8 +128,10 @@ chain_rule (Some op) n e = cond (nat_eq op.level n) (counts (part (Level (n - 1)
 -- A statement, by its first token.
 abbrev pub statement : {p : Part} → Token → (Stm → Form p) → Option (Rule p)
 statement (Name x at) k = begins (part Target_index (λ i. take An_update (λ u. part Whole (λ e. k (assignment (named x at) i u e)))))
-statement (Word_of word.If _) k = opens (part Whole (λ e. word_then word.Then (part Body (λ s. part Else_part (λ t. word_then word.Fi (part Whole (λ f. close (k (If e s t f)))))))))
-statement (Word_of word.From _) k = opens (part Whole (λ e. part Do_part (λ s. part Loop_part (λ t. word_then word.Until (part Whole (λ f. close (k (Loop e s t f))))))))
+statement (Word_of word.If _) k = opens
+    (part Whole (λ e. word_then word.Then (part Body (λ s. part Else_part (λ t. word_then word.Fi (part Whole (λ f. close (k (If e s t f)))))))))
+statement (Word_of word.From _) k = opens
+    (part Whole (λ e. part Do_part (λ s. part Loop_part (λ t. word_then word.Until (part Whole (λ f. close (k (Loop e s t f))))))))
 statement (Word_of word.Local _) k = opens (part Local (λ s. close (k s)))
 statement (Word_of word.Call _) k = begins (call_then (λ f xs. k (Call f xs)))
 statement (Word_of word.Uncall _) k = begins (call_then (λ f xs. k (Uncall f xs)))

@@ -37,7 +37,8 @@ fn declaration(tokens: &[Token]) -> Result<Option<(Declaration, &[Token])>, Prob
 
 /// The declaration of `name`, behind that name: an array, if a length stands here.
 fn bound(name: Name, tokens: &[Token]) -> Result<(Declaration, &[Token]), Problem>
-    ensures { Reads (λ x. IsBound (name_view name) (declaration_view x.0) (views tokens.now) (views x.1.now)) (FailsBound (name_view name) (views tokens.now)) result }
+    ensures { Reads (λ x. IsBound (name_view name) (declaration_view x.0) (views tokens.now) (views x.1.now))
+        (FailsBound (name_view name) (views tokens.now)) result }
 {
     let Some(rest) = sign_at(Sign::OpenIndex, tokens) else {
         return Ok((Declaration::Int(name), tokens));
@@ -52,7 +53,8 @@ pub(crate) fn declarations(
     alloc: Global,
     tokens: &[Token],
 ) -> Result<(Vec<Declaration>, &[Token]), Problem>
-    ensures { Reads (λ x. IsPart Declarations 0 (declarations_view x.0.items) (views tokens.now) (views x.1.now)) (FailsPart Declarations 0 (views tokens.now)) result }
+    ensures { Reads (λ x. IsPart Declarations 0 (declarations_view x.0.items) (views tokens.now) (views x.1.now))
+        (FailsPart Declarations 0 (views tokens.now)) result }
 {
     let mut declarations = Vec::new(alloc);
     let mut rest = tokens;

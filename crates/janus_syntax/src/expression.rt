@@ -116,7 +116,8 @@ fn index(
 ) -> Result<(Exp, usize, &[Token]), Problem>
     requires room { depth ≤ depth_limit }
     requires few { used ≤ operator_limit }
-    ensures { Reads (λ x. IsIndexed depth used (name_view name) (exp_view x.0) x.1 (views tokens.now) (views x.2.now)) (FailsIndexed depth used (name_view name) (views tokens.now)) result }
+    ensures { Reads (λ x. IsIndexed depth used (name_view name) (exp_view x.0) x.1 (views tokens.now) (views x.2.now))
+        (FailsIndexed depth used (name_view name) (views tokens.now)) result }
 {
     let Some(rest) = sign_at(Sign::OpenIndex, tokens) else {
         return Ok((Exp::Variable(name), used, tokens));
@@ -162,7 +163,8 @@ fn expression(
     requires room { depth ≤ depth_limit }
     requires few { used ≤ operator_limit }
     requires level { weakest ≤ 8 }
-    ensures { Reads (λ x. IsExp weakest depth used (exp_view x.0) x.1 (views tokens.now) (views x.2.now)) (FailsExp weakest depth used (views tokens.now)) result }
+    ensures { Reads (λ x. IsExp weakest depth used (exp_view x.0) x.1 (views tokens.now) (views x.2.now))
+        (FailsExp weakest depth used (views tokens.now)) result }
 {
     let (mut left, mut total, mut rest) = operand(alloc, tokens, depth, used)?;
     let mut stronger: u8 = 0;

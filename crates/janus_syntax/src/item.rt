@@ -100,7 +100,8 @@ pub(crate) fn stack(tokens: &[Token]) -> Result<(Name, &[Token]), Problem>
 
 /// The names of a variable and a stack in parentheses, and the tokens behind them.
 pub(crate) fn variable_and_stack(tokens: &[Token]) -> Result<(Name, Name, &[Token]), Problem>
-    ensures { Reads (λ x. IsVariableAndStack (name_view x.0) (name_view x.1) (views tokens.now) (views x.2.now)) (FailsVariableAndStack (views tokens.now)) result }
+    ensures { Reads (λ x. IsVariableAndStack (name_view x.0) (name_view x.1) (views tokens.now) (views x.2.now))
+        (FailsVariableAndStack (views tokens.now)) result }
 {
     let rest = behind_sign(Sign::Open, tokens)?;
     let (variable, rest) = name(rest)?;
@@ -171,7 +172,8 @@ fn same_kind(kind: Kind, tokens: &[Token]) -> Result<&[Token], Problem>
 
 /// This name where it stands at the front, and the tokens behind it; another one is refused as such.
 fn same_name<'a>(name: &Name, tokens: &'a [Token]) -> Result<(Name, &'a [Token]), Problem>
-    ensures { Reads (λ x. TokenGoes (Same_name (name_view name.now)) (name_view x.0) (views tokens.now) (views x.1.now)) (TokenFails (Same_name (name_view name.now)) (views tokens.now)) result }
+    ensures { Reads (λ x. TokenGoes (Same_name (name_view name.now)) (name_view x.0) (views tokens.now) (views x.1.now))
+        (TokenFails (Same_name (name_view name.now)) (views tokens.now)) result }
 {
     let Some((first, rest)) = tokens.split_first() else {
         return Err(Problem::Expected {
@@ -207,7 +209,8 @@ pub(crate) fn behind_delocal<'a>(
     name: &Name,
     tokens: &'a [Token],
 ) -> Result<(Name, &'a [Token]), Problem>
-    ensures { Reads (λ x. IsDelocal kind (name_view name.now) (name_view x.0) (views tokens.now) (views x.1.now)) (FailsDelocal kind (name_view name.now) (views tokens.now)) result }
+    ensures { Reads (λ x. IsDelocal kind (name_view name.now) (name_view x.0) (views tokens.now) (views x.1.now))
+        (FailsDelocal kind (name_view name.now) (views tokens.now)) result }
 {
     let rest = behind_word(Word::Delocal, tokens)?;
     let rest = same_kind(kind, rest)?;

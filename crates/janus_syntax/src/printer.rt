@@ -102,7 +102,8 @@ fn put_transfer(
     variable: &Name,
     stack: &Name,
 ) -> Result<(), AllocError>
-    ensures { IfOk result (λ u. line_view line.new ≡ with_pieces (line_view line.old) (transfer_pieces word (string_bytes variable.now.text) (string_bytes stack.now.text))) }
+    ensures { IfOk result
+        (λ u. line_view line.new ≡ with_pieces (line_view line.old) (transfer_pieces word (string_bytes variable.now.text) (string_bytes stack.now.text))) }
 {
     put_head(line, word)?;
     put_name(line, variable)?;
@@ -150,7 +151,8 @@ fn put_call(
     procedure: &Name,
     arguments: &[Name],
 ) -> Result<(), AllocError>
-    ensures { IfOk result (λ u. line_view line.new ≡ with_pieces (line_view line.old) (call_pieces word (string_bytes procedure.now.text) (names_view arguments.now))) }
+    ensures { IfOk result
+        (λ u. line_view line.new ≡ with_pieces (line_view line.old) (call_pieces word (string_bytes procedure.now.text) (names_view arguments.now))) }
 {
     put_word(line, word)?;
     put_name(line, procedure)?;

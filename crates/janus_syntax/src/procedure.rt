@@ -36,7 +36,8 @@ fn parameter(tokens: &[Token]) -> Result<Option<(Parameter, &[Token])>, Problem>
 
 /// The parameter of this name, behind that name: an array, if brackets stand here.
 fn brackets(name: Name, tokens: &[Token]) -> Result<(Parameter, &[Token]), Problem>
-    ensures { Reads (λ x. IsBracketed (name_view name) (parameter_view x.0) (views tokens.now) (views x.1.now)) (FailsBracketed (name_view name) (views tokens.now)) result }
+    ensures { Reads (λ x. IsBracketed (name_view name) (parameter_view x.0) (views tokens.now) (views x.1.now))
+        (FailsBracketed (name_view name) (views tokens.now)) result }
 {
     let Some(rest) = sign_at(Sign::OpenIndex, tokens) else {
         return Ok((Parameter::Int(name), tokens));
@@ -47,7 +48,8 @@ fn brackets(name: Name, tokens: &[Token]) -> Result<(Parameter, &[Token]), Probl
 
 /// The parameters that stand here, parted by commas, and the tokens behind them.
 fn parameters(alloc: Global, tokens: &[Token]) -> Result<(Vec<Parameter>, &[Token]), Problem>
-    ensures { Reads (λ x. IsPart Parameters 0 (parameters_view x.0.items) (views tokens.now) (views x.1.now)) (FailsPart Parameters 0 (views tokens.now)) result }
+    ensures { Reads (λ x. IsPart Parameters 0 (parameters_view x.0.items) (views tokens.now) (views x.1.now))
+        (FailsPart Parameters 0 (views tokens.now)) result }
 {
     let Some((first, after)) = parameter(tokens)? else {
         return Ok((Vec::new(alloc), tokens));
@@ -74,7 +76,8 @@ fn behind_name(
     name: Name,
     tokens: &[Token],
 ) -> Result<(Procedure, &[Token]), Problem>
-    ensures { Reads (λ x. IsBehindName (name_view name) (procedure_view x.0) (views tokens.now) (views x.1.now)) (FailsBehindName (name_view name) (views tokens.now)) result }
+    ensures { Reads (λ x. IsBehindName (name_view name) (procedure_view x.0) (views tokens.now) (views x.1.now))
+        (FailsBehindName (name_view name) (views tokens.now)) result }
 {
     let (parameters, body, rest) = parameters_and_body(alloc, tokens)?;
     Ok((
@@ -92,7 +95,9 @@ fn parameters_and_body(
     alloc: Global,
     tokens: &[Token],
 ) -> Result<(Vec<Parameter>, Vec<Stm>, &[Token]), Problem>
-    ensures { (name : Named) → Reads (λ x. IsBehindName name (procedure_of name (parameters_view x.0.items) (block_view x.1.items)) (views tokens.now) (views x.2.now)) (FailsBehindName name (views tokens.now)) result }
+    ensures { (name : Named) →
+        Reads (λ x. IsBehindName name (procedure_of name (parameters_view x.0.items) (block_view x.1.items)) (views tokens.now) (views x.2.now))
+        (FailsBehindName name (views tokens.now)) result }
 {
     let rest = behind_sign(Sign::Open, tokens)?;
     let (parameters, rest) = parameters(alloc, rest)?;
@@ -103,7 +108,9 @@ fn parameters_and_body(
 
 /// The procedure whose name stands here, where `main` does not, and the tokens behind it.
 fn named_procedure(alloc: Global, tokens: &[Token]) -> Result<(Procedure, &[Token]), Problem>
-    ensures { (main : Bool) (cell : Tree) → ((behind : List AToken) → IsMain main (views tokens.now) behind → ⊥) → Reads (λ x. IsNext main cell main (with_procedure cell (procedure_view x.0)) (views tokens.now) (views x.1.now)) (FailsPart (A_procedure main cell) 0 (views tokens.now)) result }
+    ensures { (main : Bool) (cell : Tree) → ((behind : List AToken) → IsMain main (views tokens.now) behind → ⊥) →
+        Reads (λ x. IsNext main cell main (with_procedure cell (procedure_view x.0)) (views tokens.now) (views x.1.now))
+        (FailsPart (A_procedure main cell) 0 (views tokens.now)) result }
 {
     let Some((name, rest)) = name_at(tokens)? else {
         return Err(Problem::Expected {
@@ -120,7 +127,8 @@ fn behind_main(
     alloc: Global,
     tokens: &[Token],
 ) -> Result<(Vec<Declaration>, Vec<Stm>, &[Token]), Problem>
-    ensures { Reads (λ x. IsBehindMain (declarations_view x.0.items) (block_view x.1.items) (views tokens.now) (views x.2.now)) (FailsBehindMain (views tokens.now)) result }
+    ensures { Reads (λ x. IsBehindMain (declarations_view x.0.items) (block_view x.1.items) (views tokens.now) (views x.2.now))
+        (FailsBehindMain (views tokens.now)) result }
 {
     let rest = behind_sign(Sign::Open, tokens)?;
     let rest = behind_sign(Sign::Close, rest)?;
@@ -149,7 +157,8 @@ fn next_procedure(
     main: bool,
     tokens: &[Token],
 ) -> Result<(Cell, bool, &[Token]), Problem>
-    ensures { Reads (λ x. IsNext main (cell_view cell) x.1 (cell_view x.0) (views tokens.now) (views x.2.now)) (FailsPart (A_procedure main (cell_view cell)) 0 (views tokens.now)) result }
+    ensures { Reads (λ x. IsNext main (cell_view cell) x.1 (cell_view x.0) (views tokens.now) (views x.2.now))
+        (FailsPart (A_procedure main (cell_view cell)) 0 (views tokens.now)) result }
 {
     if let Some(rest) = main_at(main, tokens) {
         let (declarations, statements, rest) = behind_main(alloc, rest)?;
@@ -173,7 +182,8 @@ pub(crate) fn procedures(
     main: bool,
     tokens: &[Token],
 ) -> Result<(Cell, &[Token]), Problem>
-    ensures { Reads (λ x. IsPart (Procedures main (cell_view cell)) 0 (cell_view x.0) (views tokens.now) (views x.1.now)) (FailsPart (Procedures main (cell_view cell)) 0 (views tokens.now)) result }
+    ensures { Reads (λ x. IsPart (Procedures main (cell_view cell)) 0 (cell_view x.0) (views tokens.now) (views x.1.now))
+        (FailsPart (Procedures main (cell_view cell)) 0 (views tokens.now)) result }
 {
     let mut whole = cell;
     let mut may = main;

@@ -77,7 +77,9 @@ fn construct(
 ) -> Result<(Stm, &[Token]), Problem>
     requires opens { opens_construct word ≡ true }
     requires room { depth < depth_limit }
-    ensures { (place : Span) → Reads (λ x. IsStm depth (stm_view x.0) (Word_of word place ∷ views tokens.now) (views x.1.now)) (FailsStm depth (Word_of word place ∷ views tokens.now)) result }
+    ensures { (place : Span) →
+        Reads (λ x. IsStm depth (stm_view x.0) (Word_of word place ∷ views tokens.now) (views x.1.now))
+        (FailsStm depth (Word_of word place ∷ views tokens.now)) result }
 {
     match word {
         Word::If => behind_if(alloc, tokens, depth + 1),
@@ -93,7 +95,8 @@ fn plain_statement(
     tokens: &[Token],
 ) -> Result<Option<(Stm, &[Token])>, Problem>
     requires { opens_construct word ≡ false }
-    ensures { (depth : ℕ) (place : Span) → depth ≤ depth_limit → Reads (IsStmOrOther depth (Word_of word place ∷ views tokens.now)) (FailsStm depth (Word_of word place ∷ views tokens.now)) result }
+    ensures { (depth : ℕ) (place : Span) → depth ≤ depth_limit →
+        Reads (IsStmOrOther depth (Word_of word place ∷ views tokens.now)) (FailsStm depth (Word_of word place ∷ views tokens.now)) result }
 {
     match word {
         Word::Skip => Ok(Some((Stm::Skip, tokens))),
@@ -125,7 +128,8 @@ fn assignment(
     depth: usize,
 ) -> Result<(Stm, &[Token]), Problem>
     requires { depth ≤ depth_limit }
-    ensures { Reads (λ x. IsAssignment depth (name_view name) (stm_view x.0) (views tokens.now) (views x.1.now)) (FailsAssignment depth (name_view name) (views tokens.now)) result }
+    ensures { Reads (λ x. IsAssignment depth (name_view name) (stm_view x.0) (views tokens.now) (views x.1.now))
+        (FailsAssignment depth (name_view name) (views tokens.now)) result }
 {
     let Some(rest) = sign_at(Sign::OpenIndex, tokens) else {
         let (update, rest) = update(tokens)?;
@@ -165,7 +169,8 @@ fn end_of_if(
     depth: usize,
 ) -> Result<(Stm, &[Token]), Problem>
     requires { depth ≤ depth_limit }
-    ensures { (from : List AToken) → IsIfBegun depth (exp_view test) (block_view then_part.items) (block_view else_part.items) from (views tokens.now) → Reads (λ x. IsIf depth (stm_view x.0) from (views x.1.now)) (FailsIf depth from) result }
+    ensures { (from : List AToken) → IsIfBegun depth (exp_view test) (block_view then_part.items) (block_view else_part.items) from (views tokens.now) →
+        Reads (λ x. IsIf depth (stm_view x.0) from (views x.1.now)) (FailsIf depth from) result }
 {
     let rest = behind_word(Word::Fi, tokens)?;
     let (assertion, rest) = whole_expression(alloc, rest, depth)?;
@@ -194,7 +199,9 @@ fn end_of_loop(
     depth: usize,
 ) -> Result<(Stm, &[Token]), Problem>
     requires { depth ≤ depth_limit }
-    ensures { (from : List AToken) → IsLoopBegun depth (exp_view assertion) (block_view do_part.items) (block_view loop_part.items) from (views tokens.now) → Reads (λ x. IsLoop depth (stm_view x.0) from (views x.1.now)) (FailsLoop depth from) result }
+    ensures { (from : List AToken) →
+        IsLoopBegun depth (exp_view assertion) (block_view do_part.items) (block_view loop_part.items) from (views tokens.now) →
+        Reads (λ x. IsLoop depth (stm_view x.0) from (views x.1.now)) (FailsLoop depth from) result }
 {
     let rest = behind_word(Word::Until, tokens)?;
     let (test, rest) = whole_expression(alloc, rest, depth)?;
@@ -257,7 +264,9 @@ fn end_of_int(
     depth: usize,
 ) -> Result<(Stm, &[Token]), Problem>
     requires { depth ≤ depth_limit }
-    ensures { (from start : List AToken) → IsIntHead depth (name_view name) (exp_view exp) from start → IsPart Body depth (block_view statements.items) start (views tokens.now) → Reads (λ x. IsLocalInt depth (stm_view x.0) from (views x.1.now)) (FailsLocalInt depth from) result }
+    ensures { (from start : List AToken) → IsIntHead depth (name_view name) (exp_view exp) from start →
+        IsPart Body depth (block_view statements.items) start (views tokens.now) →
+        Reads (λ x. IsLocalInt depth (stm_view x.0) from (views x.1.now)) (FailsLocalInt depth from) result }
 {
     let (again, rest) = behind_delocal(Kind::Int, &name, tokens)?;
     let (test, rest) = whole_expression(alloc, rest, depth)?;
@@ -291,7 +300,9 @@ fn end_of_stack(
     statements: Vec<Stm>,
     tokens: &[Token],
 ) -> Result<(Stm, &[Token]), Problem>
-    ensures { (depth : ℕ) (from start : List AToken) → IsStackHead (name_view name) from start → IsPart Body depth (block_view statements.items) start (views tokens.now) → Reads (λ x. IsLocalStack depth (stm_view x.0) from (views x.1.now)) (FailsLocalStack depth from) result }
+    ensures { (depth : ℕ) (from start : List AToken) → IsStackHead (name_view name) from start →
+        IsPart Body depth (block_view statements.items) start (views tokens.now) →
+        Reads (λ x. IsLocalStack depth (stm_view x.0) from (views x.1.now)) (FailsLocalStack depth from) result }
 {
     let (again, rest) = behind_delocal(Kind::Stack, &name, tokens)?;
     let rest = behind_word(Word::Nil, rest)?;
@@ -307,7 +318,8 @@ fn optional_body(
     depth: usize,
 ) -> Result<(Vec<Stm>, &[Token]), Problem>
     requires { depth ≤ depth_limit }
-    ensures { Reads (λ x. IsOptional word depth (block_view x.0.items) (views tokens.now) (views x.1.now)) (FailsOptional word depth (views tokens.now)) result }
+    ensures { Reads (λ x. IsOptional word depth (block_view x.0.items) (views tokens.now) (views x.1.now))
+        (FailsOptional word depth (views tokens.now)) result }
 {
     let Some(rest) = word_at(word, tokens) else {
         let mut left_out = Vec::new(alloc);
@@ -347,7 +359,8 @@ fn statements_behind(
     depth: usize,
 ) -> Result<(Vec<Stm>, &[Token]), Problem>
     requires { depth ≤ depth_limit }
-    ensures { Reads (λ x. AreStatements depth (block_view before.items) (block_view x.0.items) (views tokens.now) (views x.1.now)) (FailsPart Statements depth (views tokens.now)) result }
+    ensures { Reads (λ x. AreStatements depth (block_view before.items) (block_view x.0.items) (views tokens.now) (views x.1.now))
+        (FailsPart Statements depth (views tokens.now)) result }
 {
     let mut statements = before;
     let mut rest = tokens;

@@ -17,7 +17,8 @@ use Rattle.kernel_ask.specs.declared.answer.Answer.{Answer}
 -- the content answers the question; comms are seen as their ids
 abbrev pub IsContent : Machine → List (List ℕ) → Ask → Content → Type 0
 IsContent m comms (ask.Complete code cursor) (content.Completion c) = OfShown m (λ w. IsCompletion w (chars (string_bytes code)) cursor c)
-IsContent m comms (ask.Inspect code cursor) (content.Inspection text) = OfShown m (λ w. option_map string_bytes text ≡ inspection w (word_at cursor (chars (string_bytes code))))
+IsContent m comms (ask.Inspect code cursor) (content.Inspection text) = OfShown m
+    (λ w. option_map string_bytes text ≡ inspection w (word_at cursor (chars (string_bytes code))))
 IsContent m comms (ask.IsComplete code) (content.Completeness c) = IsJudged (string_bytes code) c
 IsContent m comms (ask.History range) (content.History all) = map input_of all.items ≡ told range (inputs m.minutes m.counter)
 IsContent m comms ask.Comms (content.Comms ids) = map string_bytes ids.items ≡ comms

@@ -139,7 +139,8 @@ pub(crate) fn matches_of<L: Ledger>(
     procedures: &[&Procedure],
     prefix: &str,
 ) -> Result<Vec<String>, AllocError>
-    ensures { IfOk result (λ v. AreMatches (record { store = shown_store store.now; procedures = in_a_row procedures.now }) prefix.now (map string_bytes v.items)) }
+    ensures { IfOk result
+        (λ v. AreMatches (record { store = shown_store store.now; procedures = in_a_row procedures.now }) prefix.now (map string_bytes v.items)) }
 {
     let mut names = BTreeSet::new(alloc);
     add_declared(alloc, &mut names, store, prefix)?;

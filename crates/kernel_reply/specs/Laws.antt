@@ -165,7 +165,8 @@ AnswersAreReplied = (r : RequestContent) (c : Content) → is_answer_for r c ≡
 -- what an open of a comm comes to over these open comms: it opens nothing, and its answer says this, however the comms after it are kept
 pub record OpensNothing (r : CommOpen) (ids : List (List ℕ)) (says : Says) : Type 0 where
   pub as_before : opened ids (string_bytes r.comm_id) ≡ ids
-  pub answer : (after : Vec (String Global) Global) → map string_bytes after.items ≡ opened ids (string_bytes r.comm_id) → ask_says (request.CommOpen r) (content.Comms after) ≡ says
+  pub answer : (after : Vec (String Global) Global) → map string_bytes after.items ≡ opened ids (string_bytes r.comm_id) →
+      ask_says (request.CommOpen r) (content.Comms after) ≡ says
 
 -- While as many comms are open as may be, an open of a further one opens nothing and is answered by a close of it.
 abbrev pub OpensPastTheLimitClose : Type 0

@@ -32,7 +32,8 @@ pub record Lone : Type 0 where
 abbrev pub lone_code : Coded Lone
 lone_code =
     code_by (Machine × (List (List ℕ) × (List Slice × (List Frames × Bool))))
-    (coded× machine_code (coded× (coded_list (coded_list coded_ℕ)) (coded× (coded_list slice_row.coded) (coded× (coded_list (coded_list (coded_list coded_ℕ))) coded_bool))))
+    (coded× machine_code
+    (coded× (coded_list (coded_list coded_ℕ)) (coded× (coded_list slice_row.coded) (coded× (coded_list (coded_list (coded_list coded_ℕ))) coded_bool))))
     (λ d. (d.machine, (d.comms, (d.slices, (d.kept, d.is_whole)))))
     (λ p. record { machine = p.0; comms = p.1.0; slices = p.1.1.0; kept = p.1.1.1.0; is_whole = p.1.1.1.1 }) (λ _. refl)
 

@@ -84,7 +84,8 @@ impl Decoder {
         ensures fed { OnOk result (SameButRoom (fed self.old piece.now) self.new) }
         ensures memory { IsOkUnless result WireFault.Memory }
         ensures nothing { OnErr result (SameButRoom (fed self.old []) self.new) }
-        ensures given { (octets : List ℕ) (given : List FrameSeen) → HasGiven self.old octets given → OnOk result (HasGiven self.new (octets ++ piece.now) given) }
+        ensures given { (octets : List ℕ) (given : List FrameSeen) → HasGiven self.old octets given →
+            OnOk result (HasGiven self.new (octets ++ piece.now) given) }
 
         // There is memory for what there was, or for four times what came and isn't given; a size that is told takes none.
         ensures room { OnOk result (self.new.room ≤ max self.old.room (4 * (length self.old.rest.octets + length piece.now))) }
