@@ -195,7 +195,8 @@ impl<L: Ledger> Store<L> {
         requires { (x : Name) × IsName self.now name x × IsStack (look x self.now.sight) }
         ensures { (x : Name) (l : List ℤ) → IsName self.now name x → look x self.now.sight ≡ Fine (Stk l) → result ≡ length l }
     {
-        self.stacks.length(stack(&self.newest, &self.variables, name))
+        self.stacks
+            .length(stack(&self.newest, &self.variables, name))
     }
 
     /// Whether the stack of a number has no value.
@@ -211,7 +212,8 @@ impl<L: Ledger> Store<L> {
         requires { (x : Name) × IsName self.now name x × IsStack (look x self.now.sight) }
         ensures { (x : Name) (l : List ℤ) → IsName self.now name x → look x self.now.sight ≡ Fine (Stk l) → IsTrue result ↔ (stack_limit ≤ length l) }
     {
-        self.stacks.is_full(stack(&self.newest, &self.variables, name))
+        self.stacks
+            .is_full(stack(&self.newest, &self.variables, name))
     }
 
     /// How many stacks more may live.

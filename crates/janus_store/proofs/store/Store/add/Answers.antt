@@ -153,7 +153,7 @@ returns-clause-ok g c =
     let over = put_over a.stacks.lists xs ns vs a.declared cs h y refl at ms ws newest vars now refl in
     let lists = c.first_value-value.ensures.lists in
     record {
-      sight = ap (λ ls. (held_in ls xs a.declared ws cs).sight) lists ∙ ap (λ (h : Held). h.sight) over ∙ ap (λ x. Slot x (val_in a.stacks.lists y.value) now.sight) (name_of_number xs k x y named refl) 
+      sight = ap (λ ls. (held_in ls xs a.declared ws cs).sight) lists ∙ ap (λ (h : Held). h.sight) over ∙ ap (λ x. Slot x (val_in a.stacks.lists y.value) now.sight) (name_of_number xs k x y named refl)
           ∙ ap (λ ls. Slot x (val_in ls y.value) now.sight) (sym lists) ∙ ap (λ v. Slot x v now.sight) c.first_value-value.ensures.value ∙ ap (Slot x (first_of c.args.declared)) sight;
       declared = omega (arith, declared);
       names = (on.0, names ∙ on.1);
