@@ -1,7 +1,7 @@
 -- A write to one stack of the pool: every other variable reads as before.
-use Rattle.std.proofs.Common.{◌≡◌, ◌≢◌, ℕ, ℤ, zero, suc, ◌+◌, ◌≤◌, List, [], ◌∷◌, ◌++◌, length, set, get_or, refl, ap, ◌∙◌, sym, subst, arith, get_or-set_other}
+use Rattle.std.proofs.Common.{◌≡◌, ◌≢◌, ℕ, ℤ, zero, suc, ◌≤◌, List, [], ◌∷◌, set, refl, ap, sym, arith, get_or-set_other}
 use Rattle.std.specs.Prelude.{slice_get, Some}
-use Rattle.cell_pool.specs.Chains.{times, one_if}
+use Rattle.cell_pool.specs.Chains.{times}
 use Rattle.cell_pool.proofs.Chains.{differ, once_here}
 use Rattle.janus_store.specs.Inside.{stacks_of, value_at}
 use Rattle.janus_store.specs.Plain as plain

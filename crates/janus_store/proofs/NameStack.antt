@@ -2,7 +2,6 @@
 use Rattle.std.proofs.Common.{◌≡◌, nat_eq, false, ⊎_elim, ℕ, ℤ, zero, suc, ◌+◌, ◌<◌, ◌≤◌, List, [], ◌∷◌, length, set, get_or, refl, ap, ◌∙◌, sym, subst, arith}
 use Rattle.std.specs.Prelude.{slice_get, Some}
 use Rattle.std.proofs.lemmas.Bool.{cases_lt, eqb-false}
-use Rattle.std.proofs.lemmas.Option.{slice_get_read}
 use Rattle.cell_pool.specs.Chains.{times}
 use Rattle.janus_meaning.specs.Fault.{Fine, TopEmpty}
 use Rattle.janus_meaning.specs.Limit.{live_stack_limit}

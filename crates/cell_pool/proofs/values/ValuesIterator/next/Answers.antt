@@ -1,4 +1,4 @@
-use Rattle.std.proofs.Common.{◌≡◌, ◌<◌, ◌-◌, ◌∷◌, ap, ◌∙◌, sym, arith, w32, to_z, of_z, get_or, length}
+use Rattle.std.proofs.Common.{◌≡◌, ◌-◌, ◌∷◌, ap, ◌∙◌, sym, arith, w32, to_z, of_z}
 use Rattle.std.proofs.lemmas.Int.{to_z-of_z}
 use Rattle.cell_pool.specs.Chains.{cell_at, next_of, values_from}
 use Rattle.cell_pool.specs.Lent.{values_of}

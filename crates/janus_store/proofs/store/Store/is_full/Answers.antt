@@ -1,4 +1,4 @@
-use Rattle.std.proofs.Common.{◌≡◌, ◌≤◌, length, sym, subst, arith}
+use Rattle.std.proofs.Common.{◌≤◌, length, sym, subst, arith}
 use Rattle.std.specs.Prelude.{IsTrue, ◌↔◌, reverse}
 use Rattle.janus_meaning.specs.Limit.{stack_limit}
 use Rattle.janus_store.proofs.NameStack.{lent_stack, has_stack, list_is, stack_low}

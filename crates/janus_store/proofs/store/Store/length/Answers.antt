@@ -1,4 +1,4 @@
-use Rattle.std.proofs.Common.{◌≡◌, length, ap, ◌∙◌, sym, arith}
+use Rattle.std.proofs.Common.{length, ap, ◌∙◌, sym, arith}
 use Rattle.std.specs.Prelude.{reverse}
 use Rattle.janus_store.proofs.NameStack.{lent_stack, has_stack, list_is, stack_low}
 use Rattle.janus_store.proofs.store.Store.length.Goals as goal

@@ -1,11 +1,11 @@
-use Rattle.std.proofs.Common.{◌≡◌, ◌≤◌, ◌∷◌, length, ap, ◌∙◌, sym, arith, w32, to_z, of_z}
+use Rattle.std.proofs.Common.{◌≤◌, ◌∷◌, length, ap, ◌∙◌, sym, arith, w32, to_z, of_z}
 use Rattle.std.specs.Prelude.{reverse}
 use Rattle.std.proofs.lemmas.Int.{to_z-of_z}
 use Rattle.cell_pool.specs.Chains.{times}
 use Rattle.janus_meaning.specs.Store.{Stk}
 use Rattle.janus_store.specs.Held.{live_stacks}
 use Rattle.janus_store.specs.Inside.{stacks_of}
-use Rattle.janus_store.specs.Stacks.{Pooled, list_of}
+use Rattle.janus_store.specs.Stacks.{Pooled}
 use Rattle.janus_store.specs.Stores.{write}
 use Rattle.janus_store.proofs.NameStack.{lent_stack, has_stack, list_is, stack_low, stack_there, stack_written, stack_held, stack_like, stack_live}
 use Rattle.janus_store.proofs.store.Store.push.Goals as goal

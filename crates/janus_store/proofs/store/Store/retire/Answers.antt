@@ -1,7 +1,6 @@
 use Rattle.std.proofs.Common.{◌≡◌, ◌-◌, suc, [], ◌∷◌, length, length-append, ap, ◌∙◌, sym, subst, arith}
 use Rattle.std.specs.Prelude.{reverse}
 use Rattle.janus_meaning.specs.Store.{Slot, cleared_val}
-use Rattle.janus_meaning.specs.Limit.{live_stack_limit}
 use Rattle.janus_meaning.specs.World.{size_of, stacks_in, stacks_with}
 use Rattle.janus_store.specs.Held.{Held, live_stacks, stacks_lent}
 use Rattle.cell_pool.specs.Chains.{times}

@@ -1,4 +1,4 @@
-use Rattle.std.proofs.Common.{◌≡◌, ap, ◌∙◌, sym, arith}
+use Rattle.std.proofs.Common.{ap, ◌∙◌, sym, arith}
 use Rattle.std.specs.Prelude.{slice_get, reverse}
 use Rattle.janus_meaning.specs.Fault.{TopEmpty}
 use Rattle.janus_store.specs.Values.{read_or}
