@@ -18,5 +18,8 @@ pub mod Calling
 pub mod Returning
 pub mod Binding
 pub mod Counts
-pub mod FromTop
 pub mod WritesAlone
+pub mod Pooled
+pub mod Owned
+pub mod Apart
+pub mod NameStack

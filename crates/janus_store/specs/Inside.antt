@@ -1,11 +1,13 @@
 -- How the fields of a store are read.
-use Rattle.std.specs.Prelude.{◌≡◌, ℕ, suc, pos, ◌+◌, ◌-◌, ◌<◌, ◌≤◌, List, [], ◌∷◌, length, reverse, take, drop, slice_get, slice_set, slice_index_or, Some, vec_capacity}
+use Rattle.std.specs.Prelude.{◌≡◌, ℕ, ℤ, suc, pos, ◌+◌, ◌-◌, ◌<◌, ◌≤◌, List, [], ◌∷◌, ◌++◌, length, reverse, take, drop, slice_get, slice_set, slice_index_or, Some, vec_capacity}
 use Rattle.janus_meaning.specs.Limit.{live_stack_limit, parameter_limit}
 use Rattle.janus_meaning.specs.Syntax.{Name}
+use Rattle.cell_pool.specs.Chains.{times}
 use Rattle.janus_names.specs.Numbers.{HaveOneNumber}
 use Rattle.janus_store.specs.Held.{Held, Caller, local_limit, call_limit, bound_limit, params_bound, live_stacks}
 use Rattle.janus_store.specs.Bounds.{Bound, Level, seen, all_of, callers_of, AreNested}
-use Rattle.janus_store.specs.declared.value.Value.{Value}
+use Rattle.janus_store.specs.Plain.{Plain}
+use Rattle.janus_store.specs.Values.{plain_of, number_in}
 use Rattle.janus_store.specs.declared.value.Value.TheVariants as values
 use Rattle.janus_store.specs.declared.store.Variable.{Variable}
 use Rattle.janus_store.specs.declared.store.Call.{Call}
@@ -27,8 +29,13 @@ abbrev pub no_variable : Variable
 no_variable = record { name = 0; hidden = 0; place = 0; value = values.Number (pos 0) }
 
 -- the value at a place
-abbrev pub value_at : List Variable → ℕ → Value
-value_at vs p = (slice_index_or vs p no_variable).value
+abbrev pub value_at : List (List ℤ) → List Variable → ℕ → Plain
+value_at pool vs p = plain_of pool (slice_index_or vs p no_variable).value
+
+-- the numbers of the stacks that variables have
+abbrev pub stacks_of : List Variable → List ℕ
+stacks_of [] = []
+stacks_of (v ∷ vs) = number_in v.value ++ stacks_of vs
 
 -- the innermost of the open calls, where n names are in a row, and the level outside of calls where there is none
 abbrev pub here : List Bound → ℕ → List Call → Level
@@ -45,16 +52,16 @@ abbrev pub outermost : ℕ → List Call → ℕ
 outermost n [] = n
 outermost n (c ∷ cs) = outermost c.start cs
 
-abbrev pub held_in : List Name → ℕ → List Variable → List Call → Held
-held_in xs d vs cs = record {
-  sight = seen (value_at vs) [] (all_of (here (bounds xs [] vs) (length vs) cs));
+abbrev pub held_in : List (List ℤ) → List Name → ℕ → List Variable → List Call → Held
+held_in pool xs d vs cs = record {
+  sight = seen (value_at pool vs) [] (all_of (here (bounds xs [] vs) (length vs) cs));
   declared = d;
   names = xs;
-  callers = callers_of (value_at vs) (here (bounds xs [] vs) (length vs) cs).params (around (bounds xs [] vs) (length vs) cs);
+  callers = callers_of (value_at pool vs) (here (bounds xs [] vs) (length vs) cs).params (around (bounds xs [] vs) (length vs) cs);
 }
 
 abbrev pub held_of : {L : Type 0} → Inside L → Held
-held_of a = held_in a.names a.declared a.variables.items (reverse a.calls.items)
+held_of a = held_in a.stacks.lists a.names a.declared a.variables.items (reverse a.calls.items)
 
 -- ---- the places of numbers
 
@@ -82,6 +89,10 @@ pub record AreRow (xs : List Name) (ns : List ℕ) (vs : List Variable) : Type 0
 abbrev pub IsPlaceOf : List ℕ → List Variable → ℕ → ℕ → Type 0
 IsPlaceOf ns vs k p = (i : ℕ) × (v : Variable) × (slice_get ns k ≡ Some (suc i)) × (slice_get vs i ≡ Some v) × (p ≡ v.place)
 
+-- number k is a stack's: that of this number in the pool
+abbrev pub IsStackOf : List ℕ → List Variable → ℕ → ℕ → Type 0
+IsStackOf ns vs k i = (p : ℕ) × (v : Variable) × IsPlaceOf ns vs k p × (slice_get vs p ≡ Some v) × (v.value ≡ values.Stack i)
+
 -- each of these numbers has a variable
 abbrev pub HavePlaces : List ℕ → List ℕ → Type 0
 HavePlaces ns [] = Unit {0}
@@ -107,18 +118,21 @@ AreShort (c ∷ cs) = (length c.args ≤ parameter_limit) × AreShort cs
 
 -- Each number has the place of its newest variable. The parameters of each call are bound to different names of its caller. The declared
 -- names are among those outside of calls, and no more locals are open and parameters bound than may be.
-pub record IsHeld (xs : List Name) (ns : List ℕ) (vs : List Variable) (d : ℕ) (cs : List Call) : Type 0 where
+pub record IsHeld (pool : List (List ℤ)) (xs : List Name) (ns : List ℕ) (vs : List Variable) (d : ℕ) (cs : List Call) : Type 0 where
   pub one_number : HaveOneNumber xs
   pub row : AreRow xs ns vs
   pub nested : AreNested (length vs) (here (bounds xs [] vs) (length vs) cs) (around (bounds xs [] vs) (length vs) cs)
   pub declared : d ≤ outermost (length vs) cs
-  pub few : length vs ≤ d + params_bound (held_in xs d vs cs).callers + local_limit
-  pub short : AreShort (held_in xs d vs cs).callers
+  pub few : length vs ≤ d + params_bound (held_in pool xs d vs cs).callers + local_limit
+  pub short : AreShort (held_in pool xs d vs cs).callers
   pub calls : length cs ≤ call_limit
 
--- Each stack that may live is a variable's or a spare one, and there is room for all locals, calls and parameters that may be.
+-- Each stack that may live is a variable's or a spare one, and no two of these are one. There is room for all locals, calls and
+-- parameters that may be.
 pub record IsKept {L : Type 0} (a : Inside L) : Type 0 where
-  pub held : IsHeld a.names a.newest.items a.variables.items a.declared (reverse a.calls.items)
-  pub stacks : a.spares + live_stacks (held_of a) ≡ live_stack_limit
+  pub held : IsHeld a.stacks.lists a.names a.newest.items a.variables.items a.declared (reverse a.calls.items)
+  pub stacks : length a.stacks.spare + live_stacks (held_of a) ≡ live_stack_limit
+  pub apart : (i : ℕ) → times i a.stacks.spare + times i (stacks_of a.variables.items) ≤ 1
+  pub known : (i : ℕ) → live_stack_limit ≤ i → times i a.stacks.spare + times i (stacks_of a.variables.items) ≡ 0
   pub room : a.declared + local_limit + bound_limit ≤ vec_capacity a.variables
   pub call_room : call_limit ≤ vec_capacity a.calls

@@ -1,28 +1,57 @@
--- How stacks lie in memory.
-use Rattle.std.specs.Prelude.{◌≡◌, ℤ, ◌≤◌, List, [], ◌∷◌, reverse, vec_len, vec_capacity}
+-- The stacks of the pool, and which of them are ready.
+use Rattle.std.specs.Prelude.{◌≡◌, ℕ, ℤ, ◌+◌, ◌*◌, ◌≤◌, List, [], ◌∷◌, length, slice_index_or, vec_len, vec_capacity, refl}
 use Rattle.std.specs.Global.{Vec}
+use Rattle.std.specs.Coded.{Coded, code_by, coded×, coded_ℕ, coded_ℤ, coded_list}
+use Rattle.cell_pool.specs.Chains.{times}
+use Rattle.cell_pool.specs.Lent.{values_of}
+use Rattle.cell_pool.specs.Stacks.{Stacks as Pool}
 use Rattle.janus_meaning.specs.Limit.{live_stack_limit, stack_limit}
 use Rattle.janus_store.specs.declared.stack_view.StackView.{StackView}
 
--- the values of a stack that lie with the bottom first
-abbrev pub top_first : List ℤ → List ℤ
-top_first l = reverse l
-
 -- the values that a lent stack has, the top first
 unfoldable pub held : StackView → List ℤ
-held s = top_first s.values.now
+held s = values_of s.values
 
--- a stack within its limit, with memory for as many values as that allows
-pub record HasItsRoom (v : Vec ℤ) : Type 0 where
-  pub few : vec_len v ≤ stack_limit
-  pub room : stack_limit ≤ vec_capacity v
+-- what contracts see: the values of each stack of the pool, and the numbers of those that no name has
+pub record Pooled : Type 0 where
+  pub lists : List (List ℤ)
+  pub spare : List ℕ
 
-abbrev pub AreEmpty : List (List ℤ) → Type 0
-AreEmpty [] = Unit {0}
-AreEmpty (l ∷ ls) = (l ≡ []) × AreEmpty ls
+abbrev pub pooled_code : Coded Pooled
+pooled_code =
+    code_by (List (List ℤ) × List ℕ) (coded× (coded_list (coded_list coded_ℤ)) (coded_list coded_ℕ))
+    (λ s. (s.lists, s.spare)) (λ p. record { lists = p.0; spare = p.1 }) (λ _. refl)
 
--- empty stacks, with places for as many as may live
-pub record AreSpare (v : Vec (List ℤ)) : Type 0 where
-  pub few : vec_len v ≤ live_stack_limit
-  pub room : live_stack_limit ≤ vec_capacity v
-  pub empty : AreEmpty v.items
+-- the values of a stack
+abbrev pub list_of : List (List ℤ) → ℕ → List ℤ
+list_of ls i = slice_index_or ls i []
+
+-- how many values they have
+abbrev pub total : List (List ℤ) → ℕ
+total [] = 0
+total (l ∷ ls) = length l + total ls
+
+-- each within its limit
+abbrev pub AreLow : List (List ℤ) → Type 0
+AreLow [] = Unit {0}
+AreLow (l ∷ ls) = (length l ≤ stack_limit) × AreLow ls
+
+-- these are stacks without a value
+abbrev pub AreEmpty : List (List ℤ) → List ℕ → Type 0
+AreEmpty ls [] = Unit {0}
+AreEmpty ls (i ∷ is) = (list_of ls i ≡ []) × AreEmpty ls is
+
+-- All stacks that may live are there, with cells for all that they may hold, and those that no name has are empty.
+pub record AreReady (pool : Pool) (spare : Vec ℕ) : Type 0 where
+  pub all : length pool.lists ≡ live_stack_limit
+  pub cells : pool.free + total pool.lists ≡ live_stack_limit * stack_limit
+  pub low : AreLow pool.lists
+  pub empty : AreEmpty pool.lists spare.items
+  pub few : vec_len spare ≤ live_stack_limit
+  pub room : live_stack_limit ≤ vec_capacity spare
+
+-- no name has a stack: each number is a spare one
+pub record AreFresh (s : Pooled) : Type 0 where
+  pub count : length s.spare ≡ live_stack_limit
+  pub once : (i : ℕ) → times i s.spare ≤ 1
+  pub known : (i : ℕ) → live_stack_limit ≤ i → times i s.spare ≡ 0

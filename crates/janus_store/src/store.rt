@@ -4,20 +4,19 @@ ghost use Rattle.std.specs.Prelude.{◌≡◌, ℤ, ℕ, suc, ◌+◌, ◌-◌, 
 ghost use Rattle.std.specs.Prelude.{◌^◌, take};
 ghost use Rattle.janus_meaning.specs.Syntax.{Name};
 ghost use Rattle.janus_meaning.specs.Fault.{Fine, Bad, Broken, IndexRange, TopEmpty, and_then};
-ghost use Rattle.janus_meaning.specs.Store.{Store as Values, Slot, Num, Arr, Stk, look, number, element, set_element, zeros};
+ghost use Rattle.janus_meaning.specs.Store.{Store as Values, Slot, Num, Arr, Stk, look, number, element, set_element, zeros, cleared_val};
 ghost use Rattle.janus_meaning.specs.Limit.{live_stack_limit, stack_limit};
 ghost use Rattle.janus_meaning.specs.Value.{first, is_none};
-ghost use Rattle.janus_meaning.specs.World.{size_of, listed, stacks_in};
+ghost use Rattle.janus_meaning.specs.World.{size_of, listed, stacks_in, stacks_with};
 ghost use Rattle.janus_names.specs.Numbers.{GoOn, IsMet, HaveOneNumber};
 ghost use Rattle.janus_store.specs.Held.{IsName, IsWhole, IsInSight, HasLocal, HasLocalRoom, shown_store, live_stacks, empty_held, Declares, KeepsSight, IsLike, AreKnown, opened, with_sight};
 ghost use Rattle.janus_store.specs.Calls.{AreNamed, CanLend, HasCallRoom, HasParametersAlone, IsEntered, IsLeft};
-ghost use Rattle.janus_store.specs.Values.{first_of, shown, found, read_or};
+ghost use Rattle.janus_store.specs.Values.{first_of, val_in, number_in, shown, found, read_or};
 ghost use Rattle.janus_store.specs.Stores.{IsFirstOnTop, IsNumber, IsArray, IsStack, IsOpenStack, IsHeldStack, HasElementAt, rest_of, write};
 ghost use Rattle.janus_store.specs.declared.store.Variable.{Variable};
-ghost use Rattle.janus_store.specs.Inside.{newest_from, none_of, AreHidden, AreRow, AreBelow, HavePlaces, IsPlaceOf, bounds, lent_to};
+ghost use Rattle.janus_store.specs.Inside.{newest_from, none_of, AreHidden, AreRow, AreBelow, HavePlaces, IsPlaceOf, IsStackOf, bounds, lent_to, stacks_of};
 
-use crate::spares::Spares;
-use crate::stack::{STACK_LIMIT, Stack};
+use crate::stacks::Stacks;
 use crate::value::{Declared, Value, View};
 use crate::writes::Writes;
 use janus_names::Names;
@@ -71,8 +70,8 @@ pub struct Store<L: Ledger> {
     newest: Vec<usize>,
     /// How many of the variables are declared.
     declared: usize,
-    /// The stacks that no variable has.
-    spares: Spares,
+    /// The stacks of the variables, and those that none has.
+    stacks: Stacks,
     ledger: PhantomData<L>,
 }
 
@@ -99,7 +98,7 @@ impl<L: Ledger> Store<L> {
     pub fn new(alloc: Global) -> Result<Store<L>, AllocError>
         ensures { IfOk result (λ s. s ≡ empty_held) }
     {
-        let spares = Spares::new(alloc)?;
+        let stacks = Stacks::new(alloc)?;
         let variables = Vec::with_capacity(alloc, NAME_LIMIT + LOCAL_LIMIT + BOUND_LIMIT)?;
         let calls = Vec::with_capacity(alloc, CALL_LIMIT)?;
         Ok(Store {
@@ -108,7 +107,7 @@ impl<L: Ledger> Store<L> {
             calls,
             newest: Vec::new(alloc),
             declared: 0,
-            spares,
+            stacks,
             ledger: PhantomData,
         })
     }
@@ -148,7 +147,7 @@ impl<L: Ledger> Store<L> {
         if behind == 0 {
             return None;
         }
-        Some(self.variables[behind - 1].value.view())
+        Some(self.variables[behind - 1].value.view(&self.stacks))
     }
 
     /// The i-th name in the order of declaration, the oldest being 0, with its value.
@@ -157,7 +156,10 @@ impl<L: Ledger> Store<L> {
         ensures { slice_get (listed (shown_store self.now)) i ≡ Some (result.0.now, shown result.1) }
     {
         let variable = &self.variables[i];
-        (self.names.name(variable.name), variable.value.view())
+        (
+            self.names.name(variable.name),
+            variable.value.view(&self.stacks),
+        )
     }
 
     /// The number of the name of a number; none where it is an array or a stack.
@@ -180,22 +182,12 @@ impl<L: Ledger> Store<L> {
             .element(index)
     }
 
-    /// The stack of a number.
-    fn stack(&self, name: usize) -> &Stack
-        requires { (x : Name) × IsName self.now name x × IsStack (look x self.now.sight) }
-        ensures { (x : Name) (l : List ℤ) → IsName self.now name x → look x self.now.sight ≡ Fine (Stk l) → result.now ≡ l }
-    {
-        self.variables[place(&self.newest, &self.variables, name)]
-            .value
-            .stack()
-    }
-
     /// The value on top of the stack of a number; none where the stack is empty.
     pub fn top(&self, name: usize) -> Option<i32>
         requires { (x : Name) × IsName self.now name x × IsStack (look x self.now.sight) }
         ensures { (x : Name) (l : List ℤ) → IsName self.now name x → look x self.now.sight ≡ Fine (Stk l) → read_or TopEmpty result ≡ first l }
     {
-        self.stack(name).top()
+        self.stacks.top(stack(&self.newest, &self.variables, name))
     }
 
     /// How many values the stack of a number has.
@@ -203,7 +195,8 @@ impl<L: Ledger> Store<L> {
         requires { (x : Name) × IsName self.now name x × IsStack (look x self.now.sight) }
         ensures { (x : Name) (l : List ℤ) → IsName self.now name x → look x self.now.sight ≡ Fine (Stk l) → result ≡ length l }
     {
-        self.stack(name).length()
+        self.stacks
+            .length(stack(&self.newest, &self.variables, name))
     }
 
     /// Whether the stack of a number has no value.
@@ -211,7 +204,7 @@ impl<L: Ledger> Store<L> {
         requires { (x : Name) × IsName self.now name x × IsStack (look x self.now.sight) }
         ensures { (x : Name) (l : List ℤ) → IsName self.now name x → look x self.now.sight ≡ Fine (Stk l) → result ≡ is_none l }
     {
-        self.stack(name).length() == 0
+        self.length(name) == 0
     }
 
     /// Whether the stack of a number takes no value more.
@@ -219,14 +212,15 @@ impl<L: Ledger> Store<L> {
         requires { (x : Name) × IsName self.now name x × IsStack (look x self.now.sight) }
         ensures { (x : Name) (l : List ℤ) → IsName self.now name x → look x self.now.sight ≡ Fine (Stk l) → IsTrue result ↔ (stack_limit ≤ length l) }
     {
-        self.stack(name).length() >= STACK_LIMIT
+        self.stacks
+            .is_full(stack(&self.newest, &self.variables, name))
     }
 
     /// How many stacks more may live.
     pub fn stacks_left(&self) -> usize
         ensures { result + live_stacks self.now ≡ live_stack_limit }
     {
-        self.spares.len()
+        self.stacks.len()
     }
 
     /// Gives a name a number, if it has none. An error for want of memory leaves the store.
@@ -305,7 +299,7 @@ impl<L: Ledger> Store<L> {
     {
         let name = self.number_of(name)?;
         self.variables.reserve(LOCAL_LIMIT + BOUND_LIMIT + 1)?;
-        let value = self.spares.first_value(declared);
+        let value = first_value(&mut self.stacks, declared);
         put_own(&mut self.newest, &mut self.variables, name, value);
         self.declared += 1;
         Ok(())
@@ -318,7 +312,7 @@ impl<L: Ledger> Store<L> {
         ensures { self.new ≡ record { sight = rest_of self.old.sight; declared = self.old.declared - 1; names = self.old.names; callers = [] } }
     {
         let Variable { value, .. } = remove(&mut self.newest, &mut self.variables);
-        self.spares.take_back(value);
+        take_back(&mut self.stacks, value);
         self.declared -= 1;
     }
 
@@ -354,7 +348,7 @@ impl<L: Ledger> Store<L> {
         requires few { live_stacks self.old < live_stack_limit }
         ensures { (x : Name) → IsName self.old name x → self.new ≡ opened x (Stk []) self.old }
     {
-        let value = self.spares.first_value(Declared::Stack);
+        let value = first_value(&mut self.stacks, Declared::Stack);
         put_own(&mut self.newest, &mut self.variables, name, value);
     }
 
@@ -365,7 +359,7 @@ impl<L: Ledger> Store<L> {
         ensures { (x : Name) (r : Values) → self.old.sight ≡ Slot x (Stk []) r → self.new ≡ with_sight r self.old }
     {
         let Variable { value, .. } = remove(&mut self.newest, &mut self.variables);
-        self.spares.take_back(value);
+        take_back(&mut self.stacks, value);
     }
 
     /// Opens a call: the parameters alone are in sight, each as another name for the value of its argument, which the caller's names
@@ -427,8 +421,8 @@ impl<L: Ledger> Store<L> {
         ensures counted { writes.new ≡ writes.old + 1 }
     {
         writes.add();
-        let at = place(&self.newest, &self.variables, name);
-        self.variables[at].value.push(number);
+        let stack = stack(&self.newest, &self.variables, name);
+        self.stacks.push(stack, number);
     }
 
     /// Takes the number from the top of the stack of a number, which isn't empty.
@@ -440,8 +434,33 @@ impl<L: Ledger> Store<L> {
         ensures counted { writes.new ≡ writes.old + 1 }
     {
         writes.add();
-        let at = place(&self.newest, &self.variables, name);
-        self.variables[at].value.pop()
+        let stack = stack(&self.newest, &self.variables, name);
+        self.stacks.pop(stack)
+    }
+}
+
+/// The value that a name is declared with; a stack is one that no name has.
+fn first_value(stacks: &mut Stacks, declared: Declared) -> Value
+    requires { stacks_with (first_of declared) 0 ≤ length stacks.old.spare }
+    ensures value { val_in stacks.new.lists result ≡ first_of declared }
+    ensures lists { stacks.new.lists ≡ stacks.old.lists }
+    ensures spare { stacks.old.spare ≡ stacks.new.spare ++ number_in result }
+{
+    match declared {
+        Declared::Number => Value::Number(0),
+        Declared::Array(items) => Value::Array(items),
+        Declared::Stack => Value::Stack(stacks.take()),
+    }
+}
+
+/// Takes a value back that is as it was declared; no name has its stack then.
+fn take_back(stacks: &mut Stacks, value: Value)
+    requires first { cleared_val (val_in stacks.old.lists value) ≡ val_in stacks.old.lists value }
+    requires room { length stacks.old.spare + length (number_in value) ≤ live_stack_limit }
+    ensures { stacks.new ≡ record { lists = stacks.old.lists; spare = stacks.old.spare ++ number_in value } }
+{
+    if let Value::Stack(stack) = value {
+        stacks.give(stack);
     }
 }
 
@@ -451,6 +470,14 @@ fn place(newest: &[usize], variables: &[Variable], name: usize) -> usize
     ensures { IsPlaceOf newest.now variables.now name result }
 {
     variables[newest[name] - 1].place
+}
+
+/// The number in the pool of the stack of a number, which has one.
+fn stack(newest: &[usize], variables: &[Variable], name: usize) -> usize
+    requires { (i : ℕ) × IsStackOf newest.now variables.now name i }
+    ensures { IsStackOf newest.now variables.now name result }
+{
+    variables[place(newest, variables, name)].value.stack()
 }
 
 /// The place behind the newest variable of a number among the oldest ones, or 0 where it has none there: newer ones that hide it are
@@ -521,6 +548,7 @@ fn bind_all(
     ensures newest { (xs : List Name) → AreRow xs newest.old.items variables.old.items → AreRow xs newest.new.items variables.new.items }
     ensures bound { (xs : List Name) → bounds xs [] variables.new.items ≡ lent_to xs newest.old.items variables.old.items params.now args.now ++ bounds xs [] variables.old.items }
     ensures behind { (more : List Variable) × (variables.new.items ≡ variables.old.items ++ more) }
+    ensures stacks { stacks_of variables.new.items ≡ stacks_of variables.old.items }
     ensures room { vec_capacity variables.new ≡ vec_capacity variables.old }
 {
     let oldest = variables.len();

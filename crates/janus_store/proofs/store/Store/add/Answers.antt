@@ -1,16 +1,19 @@
-use Rattle.std.proofs.Common.{◌≡◌, ◌+◌, ◌<◌, suc, List, [], ◌∷◌, ◌++◌, length, refl, ap, ◌∙◌, sym, arith}
+use Rattle.std.proofs.Common.{◌≡◌, ◌+◌, ◌<◌, suc, List, [], ◌∷◌, ◌++◌, length, length-append, refl, ap, ◌∙◌, sym, subst, arith}
 use Rattle.std.specs.Prelude.{slice_get, slice_set, slice_index_or, reverse}
 use Rattle.janus_meaning.specs.Store.{Slot}
 use Rattle.janus_meaning.specs.Limit.{live_stack_limit}
 use Rattle.janus_meaning.specs.World.{size_of, stacks_in}
+use Rattle.cell_pool.specs.Chains.{times}
 use Rattle.janus_names.specs.Numbers.{IsNumbered}
 use Rattle.janus_store.specs.Held.{Held, IsWhole, live_stacks, stacks_lent}
-use Rattle.janus_store.specs.Inside.{held_in}
-use Rattle.janus_store.specs.Values.{val_of, first_of}
+use Rattle.janus_store.specs.Inside.{held_in, stacks_of, IsHeld}
+use Rattle.janus_store.specs.Values.{val_in, number_in, first_of}
 use Rattle.janus_store.specs.declared.store.Variable.{Variable}
 use Rattle.janus_store.proofs.Rows.{read_at}
 use Rattle.janus_store.proofs.Numbers.{name_of_number, within_names}
-use Rattle.janus_store.proofs.Counted.{is_ready, declared_one}
+use Rattle.janus_store.proofs.Counted.{is_ready}
+use Rattle.janus_store.proofs.NameStack.{with_number}
+use Rattle.janus_store.proofs.Owned.{times_append, times_put}
 use Rattle.janus_store.proofs.Laid.{laid_of, as_many}
 use Rattle.janus_store.proofs.Opening.{put_over, put_declared, put_stacks, no_calls, all_declared}
 use Rattle.janus_store.proofs.store.Store.add.Goals as goal
@@ -23,17 +26,17 @@ first_value-value-requires g c =
     let vs = a.variables.items in
     let cs = reverse a.calls.items in
     let h = c.self.invariant.held in
-    let now = held_in xs a.declared vs cs in
+    let now = held_in a.stacks.lists xs a.declared vs cs in
     let sight : now.sight ≡ c.args.self.now.sight = ap (λ (h : Held). h.sight) c.self.view_is ∙ ap (λ (h : Held). h.sight) c.in_ok-name.ensures.same in
     let declared : a.declared ≡ c.args.self.now.declared = ap (λ (h : Held). h.declared) c.self.view_is ∙ ap (λ (h : Held). h.declared) c.in_ok-name.ensures.same in
     let callers : now.callers ≡ c.args.self.now.callers = ap (λ (h : Held). h.callers) c.self.view_is ∙ ap (λ (h : Held). h.callers) c.in_ok-name.ensures.same in
     let names = ap (λ (h : Held). h.names) c.self.view_is in
     let whole : IsWhole now = record { declared = declared ∙ c.requires.whole.declared ∙ sym (ap size_of sight); callers = callers ∙ c.requires.whole.callers } in
-    let all : a.declared ≡ length vs = all_declared xs ns vs a.declared cs h now refl whole in
+    let all : a.declared ≡ length vs = all_declared a.stacks.lists xs ns vs a.declared cs h now refl whole in
     let k = c.in_ok-name.name in
     let x = c.args.name.now in
     let named : IsNumbered xs k x = ap (λ l. slice_get l k) names ∙ c.in_ok-name.ensures.number in
-    is_ready c.args.declared a.spares (live_stacks now) c.self.invariant.stacks (λ e. let low : stacks_in c.args.self.now.sight < live_stack_limit = c.requires.room e in omega (arith, low, ap stacks_in sight, ap stacks_lent whole.callers))
+    is_ready c.args.declared (length a.stacks.spare) (live_stacks now) c.self.invariant.stacks (λ e. let low : stacks_in c.args.self.now.sight < live_stack_limit = c.requires.room e in omega (arith, low, ap stacks_in sight, ap stacks_lent whole.callers))
 
 pub put_own-requires-clause-room : goal.put_own-requires-clause-room
 put_own-requires-clause-room g c =
@@ -43,13 +46,13 @@ put_own-requires-clause-room g c =
     let vs = a.variables.items in
     let cs = reverse a.calls.items in
     let h = c.self.invariant.held in
-    let now = held_in xs a.declared vs cs in
+    let now = held_in a.stacks.lists xs a.declared vs cs in
     let sight : now.sight ≡ c.args.self.now.sight = ap (λ (h : Held). h.sight) c.self.view_is ∙ ap (λ (h : Held). h.sight) c.in_ok-name.ensures.same in
     let declared : a.declared ≡ c.args.self.now.declared = ap (λ (h : Held). h.declared) c.self.view_is ∙ ap (λ (h : Held). h.declared) c.in_ok-name.ensures.same in
     let callers : now.callers ≡ c.args.self.now.callers = ap (λ (h : Held). h.callers) c.self.view_is ∙ ap (λ (h : Held). h.callers) c.in_ok-name.ensures.same in
     let names = ap (λ (h : Held). h.names) c.self.view_is in
     let whole : IsWhole now = record { declared = declared ∙ c.requires.whole.declared ∙ sym (ap size_of sight); callers = callers ∙ c.requires.whole.callers } in
-    let all : a.declared ≡ length vs = all_declared xs ns vs a.declared cs h now refl whole in
+    let all : a.declared ≡ length vs = all_declared a.stacks.lists xs ns vs a.declared cs h now refl whole in
     let k = c.in_ok-name.name in
     let x = c.args.name.now in
     let named : IsNumbered xs k x = ap (λ l. slice_get l k) names ∙ c.in_ok-name.ensures.number in
@@ -63,17 +66,17 @@ put_own-requires-clause-met g c =
     let vs = a.variables.items in
     let cs = reverse a.calls.items in
     let h = c.self.invariant.held in
-    let now = held_in xs a.declared vs cs in
+    let now = held_in a.stacks.lists xs a.declared vs cs in
     let sight : now.sight ≡ c.args.self.now.sight = ap (λ (h : Held). h.sight) c.self.view_is ∙ ap (λ (h : Held). h.sight) c.in_ok-name.ensures.same in
     let declared : a.declared ≡ c.args.self.now.declared = ap (λ (h : Held). h.declared) c.self.view_is ∙ ap (λ (h : Held). h.declared) c.in_ok-name.ensures.same in
     let callers : now.callers ≡ c.args.self.now.callers = ap (λ (h : Held). h.callers) c.self.view_is ∙ ap (λ (h : Held). h.callers) c.in_ok-name.ensures.same in
     let names = ap (λ (h : Held). h.names) c.self.view_is in
     let whole : IsWhole now = record { declared = declared ∙ c.requires.whole.declared ∙ sym (ap size_of sight); callers = callers ∙ c.requires.whole.callers } in
-    let all : a.declared ≡ length vs = all_declared xs ns vs a.declared cs h now refl whole in
+    let all : a.declared ≡ length vs = all_declared a.stacks.lists xs ns vs a.declared cs h now refl whole in
     let k = c.in_ok-name.name in
     let x = c.args.name.now in
     let named : IsNumbered xs k x = ap (λ l. slice_get l k) names ∙ c.in_ok-name.ensures.number in
-    omega (arith, within_names xs k x named, as_many xs ns vs (laid_of xs ns vs a.declared cs h), a.newest.ok.0)
+    omega (arith, within_names xs k x named, as_many xs ns vs (laid_of a.stacks.lists xs ns vs a.declared cs h), a.newest.ok.0)
 
 pub invariant_of-self-2 : goal.invariant_of-self-2
 invariant_of-self-2 g c =
@@ -83,26 +86,40 @@ invariant_of-self-2 g c =
     let vs = a.variables.items in
     let cs = reverse a.calls.items in
     let h = c.self.invariant.held in
-    let now = held_in xs a.declared vs cs in
+    let now = held_in a.stacks.lists xs a.declared vs cs in
     let sight : now.sight ≡ c.args.self.now.sight = ap (λ (h : Held). h.sight) c.self.view_is ∙ ap (λ (h : Held). h.sight) c.in_ok-name.ensures.same in
     let declared : a.declared ≡ c.args.self.now.declared = ap (λ (h : Held). h.declared) c.self.view_is ∙ ap (λ (h : Held). h.declared) c.in_ok-name.ensures.same in
     let callers : now.callers ≡ c.args.self.now.callers = ap (λ (h : Held). h.callers) c.self.view_is ∙ ap (λ (h : Held). h.callers) c.in_ok-name.ensures.same in
     let names = ap (λ (h : Held). h.names) c.self.view_is in
     let whole : IsWhole now = record { declared = declared ∙ c.requires.whole.declared ∙ sym (ap size_of sight); callers = callers ∙ c.requires.whole.callers } in
-    let all : a.declared ≡ length vs = all_declared xs ns vs a.declared cs h now refl whole in
+    let all : a.declared ≡ length vs = all_declared a.stacks.lists xs ns vs a.declared cs h now refl whole in
     let k = c.in_ok-name.name in
     let x = c.args.name.now in
     let named : IsNumbered xs k x = ap (λ l. slice_get l k) names ∙ c.in_ok-name.ensures.number in
     let y : Variable = record { name = k; hidden = slice_index_or ns k 0; place = length vs; value = c.first_value-value.result } in
-    let at = read_at ns k (omega (arith, within_names xs k x named, as_many xs ns vs (laid_of xs ns vs a.declared cs h))) in
+    let at = read_at ns k (omega (arith, within_names xs k x named, as_many xs ns vs (laid_of a.stacks.lists xs ns vs a.declared cs h))) in
     let ms = c.put_own.new.newest.items in
     let ws = c.put_own.new.variables.items in
     let place : length c.reserve.new.self.items ≡ length vs = ap length c.reserve.ensures.items in
     let vars : ws ≡ vs ++ y ∷ [] = c.put_own.ensures.variables ∙ ap (λ (l : List Variable). l ++ record { name = k; hidden = slice_index_or ns k 0; place = length l; value = c.first_value-value.result } ∷ []) c.reserve.ensures.items in
     let newest = c.put_own.ensures.newest ∙ ap (λ (l : List Variable). slice_set ns k (suc (length l))) c.reserve.ensures.items in
+    let left = c.first_value-value.new.stacks.spare in
+    let lists = c.first_value-value.ensures.lists in
+    let spare = c.first_value-value.ensures.spare in
     record {
-      held = put_declared xs ns vs a.declared cs h y refl at ms ws newest vars (no_calls xs ns vs a.declared cs h now refl whole) all (a.declared + 1) (omega arith);
-      stacks = omega (arith, put_stacks xs ns vs a.declared cs h y refl at ms ws newest vars now refl, declared_one (val_of y.value) a.spares c.first_value-value.new.self (live_stacks now) live_stack_limit c.self.invariant.stacks c.first_value-value.ensures.left);
+      held = subst (λ ls. IsHeld ls xs ms ws (a.declared + 1) cs) (sym lists)
+          (put_declared a.stacks.lists xs ns vs a.declared cs h y refl at ms ws newest vars (no_calls a.stacks.lists xs ns vs a.declared cs h now refl whole) all (a.declared + 1) (omega arith));
+      stacks = omega (
+        arith,
+        ap (λ ls. live_stacks (held_in ls xs a.declared ws cs)) lists,
+        put_stacks a.stacks.lists xs ns vs a.declared cs h y refl at ms ws newest vars now refl,
+        with_number a.stacks.lists y.value (live_stacks now),
+        ap length spare,
+        length-append left (number_in y.value),
+        c.self.invariant.stacks,
+      );
+      apart = λ i. let z = times_put i vs y in let w = ap (λ (l : List Variable). times i (stacks_of l)) vars in let b = ap (times i) spare in let t = times_append i left (number_in y.value) in let o = c.self.invariant.apart i in omega (arith, z, w, b, t, o);
+      known = λ i le. let z = times_put i vs y in let w = ap (λ (l : List Variable). times i (stacks_of l)) vars in let b = ap (times i) spare in let t = times_append i left (number_in y.value) in let o = c.self.invariant.known i le in omega (arith, z, w, b, t, o);
       room = omega (arith, all, c.in_ok-reserve.ensures.ok, c.reserve.new.self.ok.0, place, c.put_own.ensures.room);
       call_room = c.self.invariant.call_room;
     }
@@ -115,28 +132,30 @@ returns-clause-ok g c =
     let vs = a.variables.items in
     let cs = reverse a.calls.items in
     let h = c.self.invariant.held in
-    let now = held_in xs a.declared vs cs in
+    let now = held_in a.stacks.lists xs a.declared vs cs in
     let sight : now.sight ≡ c.args.self.now.sight = ap (λ (h : Held). h.sight) c.self.view_is ∙ ap (λ (h : Held). h.sight) c.in_ok-name.ensures.same in
     let declared : a.declared ≡ c.args.self.now.declared = ap (λ (h : Held). h.declared) c.self.view_is ∙ ap (λ (h : Held). h.declared) c.in_ok-name.ensures.same in
     let callers : now.callers ≡ c.args.self.now.callers = ap (λ (h : Held). h.callers) c.self.view_is ∙ ap (λ (h : Held). h.callers) c.in_ok-name.ensures.same in
     let names = ap (λ (h : Held). h.names) c.self.view_is in
     let whole : IsWhole now = record { declared = declared ∙ c.requires.whole.declared ∙ sym (ap size_of sight); callers = callers ∙ c.requires.whole.callers } in
-    let all : a.declared ≡ length vs = all_declared xs ns vs a.declared cs h now refl whole in
+    let all : a.declared ≡ length vs = all_declared a.stacks.lists xs ns vs a.declared cs h now refl whole in
     let k = c.in_ok-name.name in
     let x = c.args.name.now in
     let named : IsNumbered xs k x = ap (λ l. slice_get l k) names ∙ c.in_ok-name.ensures.number in
     let y : Variable = record { name = k; hidden = slice_index_or ns k 0; place = length vs; value = c.first_value-value.result } in
-    let at = read_at ns k (omega (arith, within_names xs k x named, as_many xs ns vs (laid_of xs ns vs a.declared cs h))) in
+    let at = read_at ns k (omega (arith, within_names xs k x named, as_many xs ns vs (laid_of a.stacks.lists xs ns vs a.declared cs h))) in
     let ms = c.put_own.new.newest.items in
     let ws = c.put_own.new.variables.items in
     let place : length c.reserve.new.self.items ≡ length vs = ap length c.reserve.ensures.items in
     let vars : ws ≡ vs ++ y ∷ [] = c.put_own.ensures.variables ∙ ap (λ (l : List Variable). l ++ record { name = k; hidden = slice_index_or ns k 0; place = length l; value = c.first_value-value.result } ∷ []) c.reserve.ensures.items in
     let newest = c.put_own.ensures.newest ∙ ap (λ (l : List Variable). slice_set ns k (suc (length l))) c.reserve.ensures.items in
     let on = c.in_ok-name.ensures.goes_on in
-    let over = put_over xs ns vs a.declared cs h y refl at ms ws newest vars now refl in
+    let over = put_over a.stacks.lists xs ns vs a.declared cs h y refl at ms ws newest vars now refl in
+    let lists = c.first_value-value.ensures.lists in
     record {
-      sight = ap (λ (h : Held). h.sight) over ∙ ap (λ x. Slot x (val_of y.value) now.sight) (name_of_number xs k x y named refl) ∙ ap (λ v. Slot x v now.sight) c.first_value-value.ensures.value ∙ ap (Slot x (first_of c.args.declared)) sight;
+      sight = ap (λ ls. (held_in ls xs a.declared ws cs).sight) lists ∙ ap (λ (h : Held). h.sight) over ∙ ap (λ x. Slot x (val_in a.stacks.lists y.value) now.sight) (name_of_number xs k x y named refl)
+          ∙ ap (λ ls. Slot x (val_in ls y.value) now.sight) (sym lists) ∙ ap (λ v. Slot x v now.sight) c.first_value-value.ensures.value ∙ ap (Slot x (first_of c.args.declared)) sight;
       declared = omega (arith, declared);
       names = (on.0, names ∙ on.1);
-      callers = ap (λ (h : Held). h.callers) over ∙ callers;
+      callers = ap (λ ls. (held_in ls xs a.declared ws cs).callers) lists ∙ ap (λ (h : Held). h.callers) over ∙ callers;
     }

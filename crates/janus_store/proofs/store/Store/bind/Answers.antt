@@ -8,6 +8,7 @@ use Rattle.janus_store.specs.declared.store.Call.{Call}
 use Rattle.janus_store.proofs.Laid.{laid_of, as_many}
 use Rattle.janus_store.proofs.Standing.{calls_are_held}
 use Rattle.janus_store.proofs.Calling.{named_one, named_below, args_have_places, entered_is, entered_held, entered_live, bound_after}
+use Rattle.cell_pool.specs.Chains.{times}
 use Rattle.janus_store.proofs.store.Store.bind.Goals as goal
 
 pub bind_all-requires-clause-met : goal.bind_all-requires-clause-met
@@ -23,7 +24,7 @@ bind_all-requires-clause-met g c =
     let ks = c.args.args.now in
     let params = c.requires.named in
     let args = c.requires.found in
-    named_below H.names _ js params.0 (omega (arith, as_many xs ns vs (laid_of xs ns vs a.declared cs h), a.newest.ok.0, ap (λ (h : Held). length h.names) c.self.view_is)) params.1
+    named_below H.names _ js params.0 (omega (arith, as_many xs ns vs (laid_of a.stacks.lists xs ns vs a.declared cs h), a.newest.ok.0, ap (λ (h : Held). length h.names) c.self.view_is)) params.1
 
 pub bind_all-requires-clause-placed : goal.bind_all-requires-clause-placed
 bind_all-requires-clause-placed g c =
@@ -38,7 +39,7 @@ bind_all-requires-clause-placed g c =
     let ks = c.args.args.now in
     let params = c.requires.named in
     let args = c.requires.found in
-    args_have_places xs ns vs a.declared cs h H c.self.view_is js ks params.0 args.0 params.1 args.1 c.requires.count args.2.0 args.2.1
+    args_have_places a.stacks.lists xs ns vs a.declared cs h H c.self.view_is js ks params.0 args.0 params.1 args.1 c.requires.count args.2.0 args.2.1
 
 pub bind_all-requires-clause-room : goal.bind_all-requires-clause-room
 bind_all-requires-clause-room g c =
@@ -49,7 +50,7 @@ bind_all-requires-clause-room g c =
     let cs = reverse a.calls.items in
     let h = c.self.invariant.held in
     let H = c.args.self.now in
-    omega (arith, bound_after xs ns vs a.declared cs h H c.self.view_is (length c.args.args.now) c.requires.room, c.requires.count, h.few, c.self.invariant.room, a.variables.ok.0)
+    omega (arith, bound_after a.stacks.lists xs ns vs a.declared cs h H c.self.view_is (length c.args.args.now) c.requires.room, c.requires.count, h.few, c.self.invariant.room, a.variables.ok.0)
 
 pub push_reserved-requires : goal.push_reserved-requires
 push_reserved-requires g c =
@@ -60,7 +61,7 @@ push_reserved-requires g c =
     let cs = reverse a.calls.items in
     let h = c.self.invariant.held in
     let H = c.args.self.now in
-    omega (arith, c.requires.room.calls, calls_are_held xs ns vs a.declared cs h H c.self.view_is, length-reverse a.calls.items, c.self.invariant.call_room, a.calls.ok.0)
+    omega (arith, c.requires.room.calls, calls_are_held a.stacks.lists xs ns vs a.declared cs h H c.self.view_is, length-reverse a.calls.items, c.self.invariant.call_room, a.calls.ok.0)
 
 pub invariant_of-self : goal.invariant_of-self
 invariant_of-self g c =
@@ -84,15 +85,17 @@ invariant_of-self g c =
     let calls : reverse c.push_reserved.new.self.items ≡ call ∷ cs = ap reverse c.push_reserved.ensures.items ∙ reverse-append a.calls.items (call ∷ []) in
     let row = c.bind_all.ensures.newest xs h.row in
     record {
-      held = subst (λ cs. IsHeld xs ms ws d cs) (sym calls)
-          (entered_held xs ns vs d cs h H c.self.view_is js ks params.0 args.0 params.1 args.1 c.requires.count args.2.0 args.2.1 ms ws row (c.bind_all.ensures.bound xs) c.bind_all.ensures.behind call start end c.requires.room);
+      held = subst (λ cs. IsHeld a.stacks.lists xs ms ws d cs) (sym calls)
+          (entered_held a.stacks.lists xs ns vs d cs h H c.self.view_is js ks params.0 args.0 params.1 args.1 c.requires.count args.2.0 args.2.1 ms ws row (c.bind_all.ensures.bound xs) c.bind_all.ensures.behind call start end c.requires.room);
       stacks = omega (
         arith,
         c.self.invariant.stacks,
         ap live_stacks c.self.view_is,
-        ap (λ cs. live_stacks (held_in xs d ws cs)) calls,
-        entered_live xs ns vs d cs h H c.self.view_is js ks params.0 args.0 params.1 args.1 c.requires.count args.2.0 args.2.1 ms ws row (c.bind_all.ensures.bound xs) c.bind_all.ensures.behind call start end,
+        ap (λ cs. live_stacks (held_in a.stacks.lists xs d ws cs)) calls,
+        entered_live a.stacks.lists xs ns vs d cs h H c.self.view_is js ks params.0 args.0 params.1 args.1 c.requires.count args.2.0 args.2.1 ms ws row (c.bind_all.ensures.bound xs) c.bind_all.ensures.behind call start end,
       );
+      apart = λ i. let z = ap (times i) c.bind_all.ensures.stacks in let o = c.self.invariant.apart i in omega (arith, z, o);
+      known = λ i le. let z = ap (times i) c.bind_all.ensures.stacks in let o = c.self.invariant.known i le in omega (arith, z, o);
       room = omega (arith, c.self.invariant.room, c.bind_all.ensures.room);
       call_room = omega (arith, c.self.invariant.call_room, c.push_reserved.ensures.capacity);
     }
@@ -120,5 +123,5 @@ returns g c = λ ps zs p e.
     let row = c.bind_all.ensures.newest xs h.row in
     let same = named_one H.names ks args.0 zs args.1 e in
     let lends : CanLend zs H.sight = subst (λ zs. CanLend zs H.sight) same args.2 in
-    subst (λ cs. IsEntered ps zs H (held_in xs d ws cs)) (sym calls)
-    (entered_is xs ns vs d cs h H c.self.view_is js ks ps zs p e c.requires.count lends.0 lends.1 ms ws row (c.bind_all.ensures.bound xs) c.bind_all.ensures.behind call start end)
+    subst (λ cs. IsEntered ps zs H (held_in a.stacks.lists xs d ws cs)) (sym calls)
+    (entered_is a.stacks.lists xs ns vs d cs h H c.self.view_is js ks ps zs p e c.requires.count lends.0 lends.1 ms ws row (c.bind_all.ensures.bound xs) c.bind_all.ensures.behind call start end)

@@ -1,12 +1,14 @@
-use Rattle.std.proofs.Common.{◌≡◌, [], refl, ap, ◌∙◌, sym, subst, arith}
+use Rattle.std.proofs.Common.{◌≡◌, [], length, length-append, refl, ap, ◌∙◌, sym, subst, arith}
 use Rattle.std.specs.Prelude.{reverse}
 use Rattle.janus_meaning.specs.Store.{Stk, Slot, cleared_val}
-use Rattle.janus_meaning.specs.Limit.{live_stack_limit}
 use Rattle.janus_meaning.specs.World.{stacks_in, stacks_with}
 use Rattle.janus_store.specs.Held.{Held, live_stacks, stacks_lent}
-use Rattle.janus_store.specs.Inside.{held_in, name_among}
-use Rattle.janus_store.specs.Values.{val_of}
-use Rattle.janus_store.proofs.Counted.{has_place, retired_one}
+use Rattle.cell_pool.specs.Chains.{times}
+use Rattle.janus_store.specs.Inside.{held_in, name_among, IsHeld}
+use Rattle.janus_store.specs.Stacks.{Pooled}
+use Rattle.janus_store.specs.Values.{val_in, number_in}
+use Rattle.janus_store.proofs.NameStack.{with_number}
+use Rattle.janus_store.proofs.Owned.{times_append, times_left}
 use Rattle.janus_store.proofs.Laid.{laid_of, as_many, met, held_is}
 use Rattle.janus_store.proofs.Standing.{names_are_held}
 use Rattle.janus_store.proofs.Opening.{more_stacks, left_over, left_held, is_above, start_under, still_declared}
@@ -21,7 +23,7 @@ remove-value-requires-clause-met g c = λ i v e.
     let cs = reverse a.calls.items in
     let h = c.self.invariant.held in
     let H = c.args.self.now in
-    let l = laid_of xs ns vs a.declared cs h in
+    let l = laid_of a.stacks.lists xs ns vs a.declared cs h in
     omega (arith, met xs ns vs l i v e, as_many xs ns vs l, a.newest.ok.0)
 
 pub remove-value-requires-clause-some : goal.remove-value-requires-clause-some
@@ -33,7 +35,7 @@ remove-value-requires-clause-some g c =
     let cs = reverse a.calls.items in
     let h = c.self.invariant.held in
     let H = c.args.self.now in
-    omega (arith, names_are_held xs ns vs a.declared cs h H c.self.view_is, a.variables.ok.0, c.requires.local)
+    omega (arith, names_are_held a.stacks.lists xs ns vs a.declared cs h H c.self.view_is, a.variables.ok.0, c.requires.local)
 
 pub take_back-requires-clause-first : goal.take_back-requires-clause-first
 take_back-requires-clause-first g c =
@@ -49,14 +51,14 @@ take_back-requires-clause-first g c =
     let ws = c.remove-value.new.variables.items in
     let gone = c.remove-value.ensures.variables in
     let newest = c.remove-value.ensures.newest in
-    let above = is_above xs ns vs a.declared cs h y ms ws gone newest H c.self.view_is c.requires.local in
-    let over = start_under xs ns vs a.declared cs h y ms ws gone newest above in
-    let was = left_over xs ns vs a.declared cs h y ms ws gone newest above over H c.self.view_is in
-    let left = held_in xs a.declared ws cs in
-    let top : H.sight ≡ Slot (name_among xs y) (val_of y.value) left.sight = ap (λ (h : Held). h.sight) was in
+    let above = is_above a.stacks.lists xs ns vs a.declared cs h y ms ws gone newest H c.self.view_is c.requires.local in
+    let over = start_under a.stacks.lists xs ns vs a.declared cs h y ms ws gone newest above in
+    let was = left_over a.stacks.lists xs ns vs a.declared cs h y ms ws gone newest above over H c.self.view_is in
+    let left = held_in a.stacks.lists xs a.declared ws cs in
+    let top : H.sight ≡ Slot (name_among xs y) (val_in a.stacks.lists y.value) left.sight = ap (λ (h : Held). h.sight) was in
     let e = c.requires.empty in
-    let both : Slot (name_among xs y) (val_of y.value) left.sight ≡ Slot e.0 (Stk []) e.1 = sym top ∙ e.2 in
-    let same : val_of y.value ≡ Stk [] = cc in
+    let both : Slot (name_among xs y) (val_in a.stacks.lists y.value) left.sight ≡ Slot e.0 (Stk []) e.1 = sym top ∙ e.2 in
+    let same : val_in a.stacks.lists y.value ≡ Stk [] = cc in
     subst (λ v. cleared_val v ≡ v) (sym same) refl
 
 pub take_back-requires-clause-room : goal.take_back-requires-clause-room
@@ -73,13 +75,13 @@ take_back-requires-clause-room g c =
     let ws = c.remove-value.new.variables.items in
     let gone = c.remove-value.ensures.variables in
     let newest = c.remove-value.ensures.newest in
-    let above = is_above xs ns vs a.declared cs h y ms ws gone newest H c.self.view_is c.requires.local in
-    let over = start_under xs ns vs a.declared cs h y ms ws gone newest above in
-    let was = left_over xs ns vs a.declared cs h y ms ws gone newest above over H c.self.view_is in
-    let left = held_in xs a.declared ws cs in
-    let top : H.sight ≡ Slot (name_among xs y) (val_of y.value) left.sight = ap (λ (h : Held). h.sight) was in
-    let slots : live_stacks H ≡ stacks_with (val_of y.value) (live_stacks left) = ap live_stacks was ∙ more_stacks (val_of y.value) (stacks_in left.sight) (stacks_lent left.callers) in
-    has_place (val_of y.value) a.spares (live_stacks left) live_stack_limit (omega (arith, slots, c.self.invariant.stacks, ap live_stacks c.self.view_is))
+    let above = is_above a.stacks.lists xs ns vs a.declared cs h y ms ws gone newest H c.self.view_is c.requires.local in
+    let over = start_under a.stacks.lists xs ns vs a.declared cs h y ms ws gone newest above in
+    let was = left_over a.stacks.lists xs ns vs a.declared cs h y ms ws gone newest above over H c.self.view_is in
+    let left = held_in a.stacks.lists xs a.declared ws cs in
+    let top : H.sight ≡ Slot (name_among xs y) (val_in a.stacks.lists y.value) left.sight = ap (λ (h : Held). h.sight) was in
+    let slots : live_stacks H ≡ stacks_with (val_in a.stacks.lists y.value) (live_stacks left) = ap live_stacks was ∙ more_stacks (val_in a.stacks.lists y.value) (stacks_in left.sight) (stacks_lent left.callers) in
+    omega (arith, with_number a.stacks.lists y.value (live_stacks left), slots, c.self.invariant.stacks, ap live_stacks c.self.view_is)
 
 pub invariant_of-self : goal.invariant_of-self
 invariant_of-self g c =
@@ -95,15 +97,20 @@ invariant_of-self g c =
     let ws = c.remove-value.new.variables.items in
     let gone = c.remove-value.ensures.variables in
     let newest = c.remove-value.ensures.newest in
-    let above = is_above xs ns vs a.declared cs h y ms ws gone newest H c.self.view_is c.requires.local in
-    let over = start_under xs ns vs a.declared cs h y ms ws gone newest above in
-    let was = left_over xs ns vs a.declared cs h y ms ws gone newest above over H c.self.view_is in
-    let left = held_in xs a.declared ws cs in
-    let top : H.sight ≡ Slot (name_among xs y) (val_of y.value) left.sight = ap (λ (h : Held). h.sight) was in
-    let slots : live_stacks H ≡ stacks_with (val_of y.value) (live_stacks left) = ap live_stacks was ∙ more_stacks (val_of y.value) (stacks_in left.sight) (stacks_lent left.callers) in
+    let above = is_above a.stacks.lists xs ns vs a.declared cs h y ms ws gone newest H c.self.view_is c.requires.local in
+    let over = start_under a.stacks.lists xs ns vs a.declared cs h y ms ws gone newest above in
+    let was = left_over a.stacks.lists xs ns vs a.declared cs h y ms ws gone newest above over H c.self.view_is in
+    let left = held_in a.stacks.lists xs a.declared ws cs in
+    let top : H.sight ≡ Slot (name_among xs y) (val_in a.stacks.lists y.value) left.sight = ap (λ (h : Held). h.sight) was in
+    let slots : live_stacks H ≡ stacks_with (val_in a.stacks.lists y.value) (live_stacks left) = ap live_stacks was ∙ more_stacks (val_in a.stacks.lists y.value) (stacks_in left.sight) (stacks_lent left.callers) in
+    let lists = ap (λ (s : Pooled). s.lists) c.take_back.ensures in
+    let spare = ap (λ (s : Pooled). s.spare) c.take_back.ensures in
     record {
-      held = left_held xs ns vs a.declared cs h y ms ws gone newest above over a.declared (omega arith) (still_declared xs ns vs a.declared cs h y ms ws gone newest H c.self.view_is c.requires.local) (omega arith);
-      stacks = omega (arith, c.take_back.ensures, retired_one (val_of y.value) a.spares (live_stacks left) live_stack_limit (omega (arith, slots, c.self.invariant.stacks, ap live_stacks c.self.view_is)));
+      held = subst (λ ls. IsHeld ls xs ms ws a.declared cs) (sym lists)
+          (left_held a.stacks.lists xs ns vs a.declared cs h y ms ws gone newest above over a.declared (omega arith) (still_declared a.stacks.lists xs ns vs a.declared cs h y ms ws gone newest H c.self.view_is c.requires.local) (omega arith));
+      stacks = omega (arith, ap (λ ls. live_stacks (held_in ls xs a.declared ws cs)) lists, with_number a.stacks.lists y.value (live_stacks left), ap length spare, length-append a.stacks.spare (number_in y.value), slots, c.self.invariant.stacks, ap live_stacks c.self.view_is);
+      apart = λ i. let z = times_left vs ws y gone i in let w = ap (times i) spare in let t = times_append i a.stacks.spare (number_in y.value) in let o = c.self.invariant.apart i in omega (arith, z, w, t, o);
+      known = λ i le. let z = times_left vs ws y gone i in let w = ap (times i) spare in let t = times_append i a.stacks.spare (number_in y.value) in let o = c.self.invariant.known i le in omega (arith, z, w, t, o);
       room = omega (arith, c.self.invariant.room, c.remove-value.ensures.room);
       call_room = c.self.invariant.call_room;
     }
@@ -122,11 +129,12 @@ returns g c = λ x r e.
     let ws = c.remove-value.new.variables.items in
     let gone = c.remove-value.ensures.variables in
     let newest = c.remove-value.ensures.newest in
-    let above = is_above xs ns vs a.declared cs h y ms ws gone newest H c.self.view_is c.requires.local in
-    let over = start_under xs ns vs a.declared cs h y ms ws gone newest above in
-    let was = left_over xs ns vs a.declared cs h y ms ws gone newest above over H c.self.view_is in
-    let left = held_in xs a.declared ws cs in
-    let top : H.sight ≡ Slot (name_among xs y) (val_of y.value) left.sight = ap (λ (h : Held). h.sight) was in
-    let both : Slot (name_among xs y) (val_of y.value) left.sight ≡ Slot x (Stk []) r = sym top ∙ e in
+    let above = is_above a.stacks.lists xs ns vs a.declared cs h y ms ws gone newest H c.self.view_is c.requires.local in
+    let over = start_under a.stacks.lists xs ns vs a.declared cs h y ms ws gone newest above in
+    let was = left_over a.stacks.lists xs ns vs a.declared cs h y ms ws gone newest above over H c.self.view_is in
+    let left = held_in a.stacks.lists xs a.declared ws cs in
+    let top : H.sight ≡ Slot (name_among xs y) (val_in a.stacks.lists y.value) left.sight = ap (λ (h : Held). h.sight) was in
+    let both : Slot (name_among xs y) (val_in a.stacks.lists y.value) left.sight ≡ Slot x (Stk []) r = sym top ∙ e in
     let rest : left.sight ≡ r = cc in
-    held_is _ _ rest (ap (λ (h : Held). h.declared) c.self.view_is) (ap (λ (h : Held). h.names) c.self.view_is) (sym (ap (λ (h : Held). h.callers) was))
+    let lists = ap (λ (s : Pooled). s.lists) c.take_back.ensures in
+    ap (λ ls. held_in ls xs a.declared ws cs) lists ∙ held_is _ _ rest (ap (λ (h : Held). h.declared) c.self.view_is) (ap (λ (h : Held). h.names) c.self.view_is) (sym (ap (λ (h : Held). h.callers) was))

@@ -1,16 +1,17 @@
-use Rattle.std.proofs.Common.{◌≡◌, ◌∷◌, ap, ◌∙◌, sym, arith, w32}
-use Rattle.std.specs.Prelude.{slice_get, reverse}
+use Rattle.std.proofs.Common.{◌≡◌, ◌≤◌, ◌∷◌, length, ap, ◌∙◌, sym, arith, w32}
+use Rattle.std.specs.Prelude.{reverse}
 use Rattle.std.proofs.lemmas.Int.{to_z-of_z}
-use Rattle.janus_meaning.specs.Store.{Stk, cleared_val}
-use Rattle.janus_store.specs.Inside.{IsPlaceOf}
+use Rattle.cell_pool.specs.Chains.{times}
+use Rattle.janus_meaning.specs.Store.{Stk}
 use Rattle.janus_store.specs.Held.{live_stacks}
-use Rattle.janus_store.specs.Values.{val_of}
-use Rattle.janus_store.proofs.Standing.{has_place, place_fits, value_is, set_written, set_held, set_like, set_stacks}
+use Rattle.janus_store.specs.Inside.{stacks_of}
+use Rattle.janus_store.specs.Stacks.{Pooled, list_of}
 use Rattle.janus_store.specs.Stores.{write}
+use Rattle.janus_store.proofs.NameStack.{lent_stack, has_stack, list_is, stack_low, stack_there, stack_written, stack_held, stack_like, stack_live}
 use Rattle.janus_store.proofs.store.Store.pop.Goals as goal
 
-pub place-at-requires : goal.place-at-requires
-place-at-requires g c =
+pub stack-stack-requires : goal.stack-stack-requires
+stack-stack-requires g c =
     let a = c.self.inside in
     let xs = a.names in
     let ns = a.newest.items in
@@ -18,11 +19,11 @@ place-at-requires g c =
     let cs = reverse a.calls.items in
     let h = c.self.invariant.held in
     let H = c.args.self.now in
-    let p = has_place xs ns vs a.declared cs h H c.self.view_is c.args.name c.requires.0 (Stk (c.requires.2.0 ∷ c.requires.2.1)) c.requires.1 c.requires.2.2 in
-    (p.0, (p.1.0, p.1.1, ap (λ l. slice_get l c.args.name) c.deref.ensures.value ∙ p.1.2, ap (λ l. slice_get l p.1.0) c.deref-2.ensures.value ∙ p.1.3, p.1.4))
+    let s = has_stack a.stacks.lists xs ns vs a.declared cs h H c.self.view_is c.args.name c.requires.0 (c.requires.2.0 ∷ c.requires.2.1) c.requires.1 c.requires.2.2 in
+    (s.0, lent_stack ns c.deref.result.now vs c.deref-2.result.now c.args.name s.0 c.deref.ensures.value c.deref-2.ensures.value s.1)
 
-pub index_mut-requires : goal.index_mut-requires
-index_mut-requires g c =
+pub pop-requires-clause-known : goal.pop-requires-clause-known
+pop-requires-clause-known g c =
     let a = c.self.inside in
     let xs = a.names in
     let ns = a.newest.items in
@@ -30,12 +31,12 @@ index_mut-requires g c =
     let cs = reverse a.calls.items in
     let h = c.self.invariant.held in
     let H = c.args.self.now in
-    let e = c.place-at.ensures in
-    let q : IsPlaceOf ns vs c.args.name c.place-at.result = (e.0, e.1, ap (λ l. slice_get l c.args.name) (sym c.deref.ensures.value) ∙ e.2, ap (λ l. slice_get l e.0) (sym c.deref-2.ensures.value) ∙ e.3, e.4) in
-    omega (arith, place_fits xs ns vs a.declared cs h H c.self.view_is c.args.name c.requires.0 (Stk (c.requires.2.0 ∷ c.requires.2.1)) c.place-at.result c.requires.1 c.requires.2.2 q, a.variables.ok.0)
+    let i = c.stack-stack.result in
+    let s = lent_stack c.deref.result.now ns c.deref-2.result.now vs c.args.name i (sym c.deref.ensures.value) (sym c.deref-2.ensures.value) c.stack-stack.ensures in
+    stack_low a.stacks.lists xs ns vs a.declared cs h H c.self.view_is c.args.name c.requires.0 (c.requires.2.0 ∷ c.requires.2.1) c.requires.1 c.requires.2.2 i s (λ j le. let o = c.self.invariant.known j le in omega (arith, o))
 
-pub pop-requires : goal.pop-requires
-pop-requires g c =
+pub pop-requires-clause-some : goal.pop-requires-clause-some
+pop-requires-clause-some g c =
     let a = c.self.inside in
     let xs = a.names in
     let ns = a.newest.items in
@@ -43,13 +44,24 @@ pop-requires g c =
     let cs = reverse a.calls.items in
     let h = c.self.invariant.held in
     let H = c.args.self.now in
-    let e = c.place-at.ensures in
-    let p = c.place-at.result in
-    let q : IsPlaceOf ns vs c.args.name p = (e.0, e.1, ap (λ l. slice_get l c.args.name) (sym c.deref.ensures.value) ∙ e.2, ap (λ l. slice_get l e.0) (sym c.deref-2.ensures.value) ∙ e.3, e.4) in
-    let v = c.index_mut.result.now in
-    let read = c.index_mut.ensures.value in
-    let same = value_is xs ns vs a.declared cs h H c.self.view_is c.args.name c.requires.0 (Stk (c.requires.2.0 ∷ c.requires.2.1)) p v c.requires.1 c.requires.2.2 q read in
-    (c.requires.2.0, c.requires.2.1, same)
+    let i = c.stack-stack.result in
+    let s = lent_stack c.deref.result.now ns c.deref-2.result.now vs c.args.name i (sym c.deref.ensures.value) (sym c.deref-2.ensures.value) c.stack-stack.ensures in
+    omega (arith, ap length (list_is a.stacks.lists xs ns vs a.declared cs h H c.self.view_is c.args.name c.requires.0 (c.requires.2.0 ∷ c.requires.2.1) c.requires.1 c.requires.2.2 i s))
+
+pub pop-requires-clause-named : goal.pop-requires-clause-named
+pop-requires-clause-named g c =
+    let a = c.self.inside in
+    let xs = a.names in
+    let ns = a.newest.items in
+    let vs = a.variables.items in
+    let cs = reverse a.calls.items in
+    let h = c.self.invariant.held in
+    let H = c.args.self.now in
+    let i = c.stack-stack.result in
+    let s = lent_stack c.deref.result.now ns c.deref-2.result.now vs c.args.name i (sym c.deref.ensures.value) (sym c.deref-2.ensures.value) c.stack-stack.ensures in
+    let o = c.self.invariant.apart i in
+    let t = stack_there a.stacks.lists xs ns vs a.declared cs h H c.self.view_is c.args.name c.requires.0 (c.requires.2.0 ∷ c.requires.2.1) c.requires.1 c.requires.2.2 i s in
+    omega (arith, o, t)
 
 pub invariant_of-self : goal.invariant_of-self
 invariant_of-self g c =
@@ -60,20 +72,57 @@ invariant_of-self g c =
     let cs = reverse a.calls.items in
     let h = c.self.invariant.held in
     let H = c.args.self.now in
-    let e = c.place-at.ensures in
-    let p = c.place-at.result in
-    let q : IsPlaceOf ns vs c.args.name p = (e.0, e.1, ap (λ l. slice_get l c.args.name) (sym c.deref.ensures.value) ∙ e.2, ap (λ l. slice_get l e.0) (sym c.deref-2.ensures.value) ∙ e.3, e.4) in
-    let v = c.index_mut.result.now in
-    let read = c.index_mut.ensures.value in
-    let new = c.pop.new.self in
-    let same = value_is xs ns vs a.declared cs h H c.self.view_is c.args.name c.requires.0 (Stk (c.requires.2.0 ∷ c.requires.2.1)) p v c.requires.1 c.requires.2.2 q read in
-    let shape : cleared_val (val_of new) ≡ cleared_val (Stk (c.requires.2.0 ∷ c.requires.2.1)) = ap cleared_val (c.pop.ensures c.requires.2.0 c.requires.2.1 same).1 in
+    let i = c.stack-stack.result in
+    let s = lent_stack c.deref.result.now ns c.deref-2.result.now vs c.args.name i (sym c.deref.ensures.value) (sym c.deref-2.ensures.value) c.stack-stack.ensures in
+    let o = c.self.invariant.apart i in
+    let once : times i (stacks_of vs) ≤ 1 = omega (arith, o) in
+    let after = c.pop.new.self.lists in
+    let lists = ap (λ (s : Pooled). s.lists) c.pop.ensures.rest in
+    let spare = ap (λ (s : Pooled). s.spare) c.pop.ensures.rest in
     record {
-      held = set_held xs ns vs a.declared cs h H c.self.view_is c.args.name c.requires.0 (Stk (c.requires.2.0 ∷ c.requires.2.1)) p v c.requires.1 c.requires.2.2 q read new;
-      stacks = omega (arith, c.self.invariant.stacks, ap live_stacks c.self.view_is, set_stacks xs ns vs a.declared cs h H c.self.view_is c.args.name c.requires.0 (Stk (c.requires.2.0 ∷ c.requires.2.1)) p v c.requires.1 c.requires.2.2 q read new shape);
+      held = stack_held a.stacks.lists xs ns vs a.declared cs h H c.self.view_is c.args.name c.requires.0 (c.requires.2.0 ∷ c.requires.2.1) c.requires.1 c.requires.2.2 i s once after lists;
+      stacks = omega (arith, stack_live a.stacks.lists xs ns vs a.declared cs h H c.self.view_is c.args.name c.requires.0 (c.requires.2.0 ∷ c.requires.2.1) c.requires.1 c.requires.2.2 i s once after lists, ap length spare, c.self.invariant.stacks, ap live_stacks c.self.view_is);
+      apart = λ j. let z = ap (times j) spare in let o = c.self.invariant.apart j in omega (arith, z, o);
+      known = λ j le. let z = ap (times j) spare in let o = c.self.invariant.known j le in omega (arith, z, o);
       room = c.self.invariant.room;
       call_room = c.self.invariant.call_room;
     }
+
+pub returns-clause-top : goal.returns-clause-top
+returns-clause-top g c = λ x n l named f.
+    let a = c.self.inside in
+    let xs = a.names in
+    let ns = a.newest.items in
+    let vs = a.variables.items in
+    let cs = reverse a.calls.items in
+    let h = c.self.invariant.held in
+    let H = c.args.self.now in
+    let i = c.stack-stack.result in
+    let s = lent_stack c.deref.result.now ns c.deref-2.result.now vs c.args.name i (sym c.deref.ensures.value) (sym c.deref-2.ensures.value) c.stack-stack.ensures in
+    let at = list_is a.stacks.lists xs ns vs a.declared cs h H c.self.view_is c.args.name x (n ∷ l) named f i s in
+    let both : c.pop.result ∷ list_of c.pop.new.self.lists i ≡ n ∷ l = sym c.pop.ensures.top ∙ at in
+    let top : c.pop.result ≡ n = cc in
+    to_z-of_z w32 c.pop.result (record { sfits = c.pop.type_inv }) ∙ top
+
+pub returns-clause-written : goal.returns-clause-written
+returns-clause-written g c = λ x n l named f.
+    let a = c.self.inside in
+    let xs = a.names in
+    let ns = a.newest.items in
+    let vs = a.variables.items in
+    let cs = reverse a.calls.items in
+    let h = c.self.invariant.held in
+    let H = c.args.self.now in
+    let i = c.stack-stack.result in
+    let s = lent_stack c.deref.result.now ns c.deref-2.result.now vs c.args.name i (sym c.deref.ensures.value) (sym c.deref-2.ensures.value) c.stack-stack.ensures in
+    let o = c.self.invariant.apart i in
+    let once : times i (stacks_of vs) ≤ 1 = omega (arith, o) in
+    let after = c.pop.new.self.lists in
+    let lists = ap (λ (s : Pooled). s.lists) c.pop.ensures.rest in
+    let at = list_is a.stacks.lists xs ns vs a.declared cs h H c.self.view_is c.args.name x (n ∷ l) named f i s in
+    let both : c.pop.result ∷ list_of after i ≡ n ∷ l = sym c.pop.ensures.top ∙ at in
+    let rest : list_of after i ≡ l = cc in
+    ap (λ m. write x (Stk m) H.sight) (sym rest) ∙ stack_written a.stacks.lists xs ns vs a.declared cs h H c.self.view_is c.args.name x (n ∷ l) named f i s once after lists
 
 pub returns-clause-shape : goal.returns-clause-shape
 returns-clause-shape g c =
@@ -84,47 +133,10 @@ returns-clause-shape g c =
     let cs = reverse a.calls.items in
     let h = c.self.invariant.held in
     let H = c.args.self.now in
-    let e = c.place-at.ensures in
-    let p = c.place-at.result in
-    let q : IsPlaceOf ns vs c.args.name p = (e.0, e.1, ap (λ l. slice_get l c.args.name) (sym c.deref.ensures.value) ∙ e.2, ap (λ l. slice_get l e.0) (sym c.deref-2.ensures.value) ∙ e.3, e.4) in
-    let v = c.index_mut.result.now in
-    let read = c.index_mut.ensures.value in
-    let new = c.pop.new.self in
-    let same = value_is xs ns vs a.declared cs h H c.self.view_is c.args.name c.requires.0 (Stk (c.requires.2.0 ∷ c.requires.2.1)) p v c.requires.1 c.requires.2.2 q read in
-    let shape : cleared_val (val_of new) ≡ cleared_val (Stk (c.requires.2.0 ∷ c.requires.2.1)) = ap cleared_val (c.pop.ensures c.requires.2.0 c.requires.2.1 same).1 in
-    set_like xs ns vs a.declared cs h H c.self.view_is c.args.name c.requires.0 (Stk (c.requires.2.0 ∷ c.requires.2.1)) p v c.requires.1 c.requires.2.2 q read new shape
-
-pub returns-clause-written : goal.returns-clause-written
-returns-clause-written g c = λ x n l named k.
-    let a = c.self.inside in
-    let xs = a.names in
-    let ns = a.newest.items in
-    let vs = a.variables.items in
-    let cs = reverse a.calls.items in
-    let h = c.self.invariant.held in
-    let H = c.args.self.now in
-    let e = c.place-at.ensures in
-    let p = c.place-at.result in
-    let q : IsPlaceOf ns vs c.args.name p = (e.0, e.1, ap (λ l. slice_get l c.args.name) (sym c.deref.ensures.value) ∙ e.2, ap (λ l. slice_get l e.0) (sym c.deref-2.ensures.value) ∙ e.3, e.4) in
-    let v = c.index_mut.result.now in
-    let read = c.index_mut.ensures.value in
-    let new = c.pop.new.self in
-    let same = value_is xs ns vs a.declared cs h H c.self.view_is c.args.name x (Stk (n ∷ l)) p v named k q read in
-    ap (λ u. write x u H.sight) (sym (c.pop.ensures n l same).1) ∙ set_written xs ns vs a.declared cs h H c.self.view_is c.args.name x (Stk (n ∷ l)) p v named k q read new
-
-pub returns-clause-top : goal.returns-clause-top
-returns-clause-top g c = λ x n l named k.
-    let a = c.self.inside in
-    let xs = a.names in
-    let ns = a.newest.items in
-    let vs = a.variables.items in
-    let cs = reverse a.calls.items in
-    let h = c.self.invariant.held in
-    let H = c.args.self.now in
-    let e = c.place-at.ensures in
-    let p = c.place-at.result in
-    let q : IsPlaceOf ns vs c.args.name p = (e.0, e.1, ap (λ l. slice_get l c.args.name) (sym c.deref.ensures.value) ∙ e.2, ap (λ l. slice_get l e.0) (sym c.deref-2.ensures.value) ∙ e.3, e.4) in
-    let v = c.index_mut.result.now in
-    let read = c.index_mut.ensures.value in
-    let same = value_is xs ns vs a.declared cs h H c.self.view_is c.args.name x (Stk (n ∷ l)) p v named k q read in
-    to_z-of_z w32 c.pop.result (record { sfits = c.pop.type_inv }) ∙ (c.pop.ensures n l same).0
+    let i = c.stack-stack.result in
+    let s = lent_stack c.deref.result.now ns c.deref-2.result.now vs c.args.name i (sym c.deref.ensures.value) (sym c.deref-2.ensures.value) c.stack-stack.ensures in
+    let o = c.self.invariant.apart i in
+    let once : times i (stacks_of vs) ≤ 1 = omega (arith, o) in
+    let after = c.pop.new.self.lists in
+    let lists = ap (λ (s : Pooled). s.lists) c.pop.ensures.rest in
+    stack_like a.stacks.lists xs ns vs a.declared cs h H c.self.view_is c.args.name c.requires.0 (c.requires.2.0 ∷ c.requires.2.1) c.requires.1 c.requires.2.2 i s once after lists

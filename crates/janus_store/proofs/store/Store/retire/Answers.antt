@@ -1,12 +1,14 @@
 use Rattle.std.proofs.Common.{◌≡◌, ◌-◌, suc, [], ◌∷◌, length, length-append, ap, ◌∙◌, sym, subst, arith}
 use Rattle.std.specs.Prelude.{reverse}
 use Rattle.janus_meaning.specs.Store.{Slot, cleared_val}
-use Rattle.janus_meaning.specs.Limit.{live_stack_limit}
 use Rattle.janus_meaning.specs.World.{size_of, stacks_in, stacks_with}
 use Rattle.janus_store.specs.Held.{Held, live_stacks, stacks_lent}
-use Rattle.janus_store.specs.Inside.{held_in, name_among}
-use Rattle.janus_store.specs.Values.{val_of}
-use Rattle.janus_store.proofs.Counted.{has_place, retired_one}
+use Rattle.cell_pool.specs.Chains.{times}
+use Rattle.janus_store.specs.Inside.{held_in, name_among, IsHeld}
+use Rattle.janus_store.specs.Stacks.{Pooled}
+use Rattle.janus_store.specs.Values.{val_in, number_in}
+use Rattle.janus_store.proofs.NameStack.{with_number}
+use Rattle.janus_store.proofs.Owned.{times_append, times_left}
 use Rattle.janus_store.proofs.Laid.{laid_of, as_many, met, held_is}
 use Rattle.janus_store.proofs.Standing.{names_are_held}
 use Rattle.janus_store.proofs.Opening.{more_stacks, left_over, left_held}
@@ -23,7 +25,7 @@ remove-value-requires-clause-met g c = λ i v e.
     let cs = reverse a.calls.items in
     let h = c.self.invariant.held in
     let H = c.args.self.now in
-    let l = laid_of xs ns vs a.declared cs h in
+    let l = laid_of a.stacks.lists xs ns vs a.declared cs h in
     omega (arith, met xs ns vs l i v e, as_many xs ns vs l, a.newest.ok.0)
 
 pub remove-value-requires-clause-some : goal.remove-value-requires-clause-some
@@ -35,7 +37,7 @@ remove-value-requires-clause-some g c =
     let cs = reverse a.calls.items in
     let h = c.self.invariant.held in
     let H = c.args.self.now in
-    omega (arith, names_are_held xs ns vs a.declared cs h H c.self.view_is, a.variables.ok.0, ap size_of c.requires.first.3)
+    omega (arith, names_are_held a.stacks.lists xs ns vs a.declared cs h H c.self.view_is, a.variables.ok.0, ap size_of c.requires.first.3)
 
 pub take_back-requires-clause-first : goal.take_back-requires-clause-first
 take_back-requires-clause-first g c =
@@ -51,15 +53,15 @@ take_back-requires-clause-first g c =
     let ws = c.remove-value.new.variables.items in
     let gone = c.remove-value.ensures.variables in
     let newest = c.remove-value.ensures.newest in
-    let alone = no_calls xs ns vs a.declared cs h H c.self.view_is c.requires.whole in
+    let alone = no_calls a.stacks.lists xs ns vs a.declared cs h H c.self.view_is c.requires.whole in
     let above = base_alone xs ws cs alone in
     let over = start_alone xs ws cs alone in
-    let was = left_over xs ns vs a.declared cs h y ms ws gone newest above over H c.self.view_is in
-    let left = held_in xs a.declared ws cs in
-    let top : H.sight ≡ Slot (name_among xs y) (val_of y.value) left.sight = ap (λ (h : Held). h.sight) was in
+    let was = left_over a.stacks.lists xs ns vs a.declared cs h y ms ws gone newest above over H c.self.view_is in
+    let left = held_in a.stacks.lists xs a.declared ws cs in
+    let top : H.sight ≡ Slot (name_among xs y) (val_in a.stacks.lists y.value) left.sight = ap (λ (h : Held). h.sight) was in
     let e = c.requires.first in
-    let both : Slot (name_among xs y) (val_of y.value) left.sight ≡ Slot e.0 e.1 e.2 = sym top ∙ e.3 in
-    let same : val_of y.value ≡ e.1 = cc in
+    let both : Slot (name_among xs y) (val_in a.stacks.lists y.value) left.sight ≡ Slot e.0 e.1 e.2 = sym top ∙ e.3 in
+    let same : val_in a.stacks.lists y.value ≡ e.1 = cc in
     subst (λ v. cleared_val v ≡ v) (sym same) e.4
 
 pub take_back-requires-clause-room : goal.take_back-requires-clause-room
@@ -76,14 +78,14 @@ take_back-requires-clause-room g c =
     let ws = c.remove-value.new.variables.items in
     let gone = c.remove-value.ensures.variables in
     let newest = c.remove-value.ensures.newest in
-    let alone = no_calls xs ns vs a.declared cs h H c.self.view_is c.requires.whole in
+    let alone = no_calls a.stacks.lists xs ns vs a.declared cs h H c.self.view_is c.requires.whole in
     let above = base_alone xs ws cs alone in
     let over = start_alone xs ws cs alone in
-    let was = left_over xs ns vs a.declared cs h y ms ws gone newest above over H c.self.view_is in
-    let left = held_in xs a.declared ws cs in
-    let top : H.sight ≡ Slot (name_among xs y) (val_of y.value) left.sight = ap (λ (h : Held). h.sight) was in
-    let slots : live_stacks H ≡ stacks_with (val_of y.value) (live_stacks left) = ap live_stacks was ∙ more_stacks (val_of y.value) (stacks_in left.sight) (stacks_lent left.callers) in
-    has_place (val_of y.value) a.spares (live_stacks left) live_stack_limit (omega (arith, slots, c.self.invariant.stacks, ap live_stacks c.self.view_is))
+    let was = left_over a.stacks.lists xs ns vs a.declared cs h y ms ws gone newest above over H c.self.view_is in
+    let left = held_in a.stacks.lists xs a.declared ws cs in
+    let top : H.sight ≡ Slot (name_among xs y) (val_in a.stacks.lists y.value) left.sight = ap (λ (h : Held). h.sight) was in
+    let slots : live_stacks H ≡ stacks_with (val_in a.stacks.lists y.value) (live_stacks left) = ap live_stacks was ∙ more_stacks (val_in a.stacks.lists y.value) (stacks_in left.sight) (stacks_lent left.callers) in
+    omega (arith, with_number a.stacks.lists y.value (live_stacks left), slots, c.self.invariant.stacks, ap live_stacks c.self.view_is)
 
 pub invariant_of-self : goal.invariant_of-self
 invariant_of-self g c =
@@ -99,18 +101,23 @@ invariant_of-self g c =
     let ws = c.remove-value.new.variables.items in
     let gone = c.remove-value.ensures.variables in
     let newest = c.remove-value.ensures.newest in
-    let alone = no_calls xs ns vs a.declared cs h H c.self.view_is c.requires.whole in
+    let alone = no_calls a.stacks.lists xs ns vs a.declared cs h H c.self.view_is c.requires.whole in
     let above = base_alone xs ws cs alone in
     let over = start_alone xs ws cs alone in
-    let was = left_over xs ns vs a.declared cs h y ms ws gone newest above over H c.self.view_is in
-    let left = held_in xs a.declared ws cs in
-    let top : H.sight ≡ Slot (name_among xs y) (val_of y.value) left.sight = ap (λ (h : Held). h.sight) was in
-    let slots : live_stacks H ≡ stacks_with (val_of y.value) (live_stacks left) = ap live_stacks was ∙ more_stacks (val_of y.value) (stacks_in left.sight) (stacks_lent left.callers) in
-    let all : a.declared ≡ length vs = all_declared xs ns vs a.declared cs h H c.self.view_is c.requires.whole in
+    let was = left_over a.stacks.lists xs ns vs a.declared cs h y ms ws gone newest above over H c.self.view_is in
+    let left = held_in a.stacks.lists xs a.declared ws cs in
+    let top : H.sight ≡ Slot (name_among xs y) (val_in a.stacks.lists y.value) left.sight = ap (λ (h : Held). h.sight) was in
+    let slots : live_stacks H ≡ stacks_with (val_in a.stacks.lists y.value) (live_stacks left) = ap live_stacks was ∙ more_stacks (val_in a.stacks.lists y.value) (stacks_in left.sight) (stacks_lent left.callers) in
+    let all : a.declared ≡ length vs = all_declared a.stacks.lists xs ns vs a.declared cs h H c.self.view_is c.requires.whole in
     let long : length vs ≡ suc (length ws) = omega (arith, ap length gone, length-append ws (y ∷ [])) in
+    let lists = ap (λ (s : Pooled). s.lists) c.take_back.ensures in
+    let spare = ap (λ (s : Pooled). s.spare) c.take_back.ensures in
     record {
-      held = left_held xs ns vs a.declared cs h y ms ws gone newest above over (a.declared - 1) (omega arith) (omega (arith, all, long, outermost_alone (length ws) cs alone)) (omega (arith, all, long));
-      stacks = omega (arith, c.take_back.ensures, retired_one (val_of y.value) a.spares (live_stacks left) live_stack_limit (omega (arith, slots, c.self.invariant.stacks, ap live_stacks c.self.view_is)));
+      held = subst (λ ls. IsHeld ls xs ms ws (a.declared - 1) cs) (sym lists)
+          (left_held a.stacks.lists xs ns vs a.declared cs h y ms ws gone newest above over (a.declared - 1) (omega arith) (omega (arith, all, long, outermost_alone (length ws) cs alone)) (omega (arith, all, long)));
+      stacks = omega (arith, ap (λ ls. live_stacks (held_in ls xs a.declared ws cs)) lists, with_number a.stacks.lists y.value (live_stacks left), ap length spare, length-append a.stacks.spare (number_in y.value), slots, c.self.invariant.stacks, ap live_stacks c.self.view_is);
+      apart = λ i. let z = times_left vs ws y gone i in let w = ap (times i) spare in let t = times_append i a.stacks.spare (number_in y.value) in let o = c.self.invariant.apart i in omega (arith, z, w, t, o);
+      known = λ i le. let z = times_left vs ws y gone i in let w = ap (times i) spare in let t = times_append i a.stacks.spare (number_in y.value) in let o = c.self.invariant.known i le in omega (arith, z, w, t, o);
       room = omega (arith, c.self.invariant.room, c.remove-value.ensures.room);
       call_room = c.self.invariant.call_room;
     }
@@ -129,13 +136,14 @@ returns g c =
     let ws = c.remove-value.new.variables.items in
     let gone = c.remove-value.ensures.variables in
     let newest = c.remove-value.ensures.newest in
-    let alone = no_calls xs ns vs a.declared cs h H c.self.view_is c.requires.whole in
+    let alone = no_calls a.stacks.lists xs ns vs a.declared cs h H c.self.view_is c.requires.whole in
     let above = base_alone xs ws cs alone in
     let over = start_alone xs ws cs alone in
-    let was = left_over xs ns vs a.declared cs h y ms ws gone newest above over H c.self.view_is in
-    let left = held_in xs a.declared ws cs in
-    let top : H.sight ≡ Slot (name_among xs y) (val_of y.value) left.sight = ap (λ (h : Held). h.sight) was in
-    held_is _ _ (sym (ap rest_of top)) (ap (λ (h : Held). h.declared - 1) c.self.view_is) (ap (λ (h : Held). h.names) c.self.view_is) (sym (ap (λ (h : Held). h.callers) was) ∙ c.requires.whole.callers)
+    let was = left_over a.stacks.lists xs ns vs a.declared cs h y ms ws gone newest above over H c.self.view_is in
+    let left = held_in a.stacks.lists xs a.declared ws cs in
+    let top : H.sight ≡ Slot (name_among xs y) (val_in a.stacks.lists y.value) left.sight = ap (λ (h : Held). h.sight) was in
+    let lists = ap (λ (s : Pooled). s.lists) c.take_back.ensures in
+    ap (λ ls. held_in ls xs (a.declared - 1) ws cs) lists ∙ held_is _ _ (sym (ap rest_of top)) (ap (λ (h : Held). h.declared - 1) c.self.view_is) (ap (λ (h : Held). h.names) c.self.view_is) (sym (ap (λ (h : Held). h.callers) was) ∙ c.requires.whole.callers)
 
 pub overflow_sub-self : goal.overflow_sub-self
 overflow_sub-self g c =
@@ -151,11 +159,11 @@ overflow_sub-self g c =
     let ws = c.remove-value.new.variables.items in
     let gone = c.remove-value.ensures.variables in
     let newest = c.remove-value.ensures.newest in
-    let alone = no_calls xs ns vs a.declared cs h H c.self.view_is c.requires.whole in
+    let alone = no_calls a.stacks.lists xs ns vs a.declared cs h H c.self.view_is c.requires.whole in
     let above = base_alone xs ws cs alone in
     let over = start_alone xs ws cs alone in
-    let was = left_over xs ns vs a.declared cs h y ms ws gone newest above over H c.self.view_is in
-    let left = held_in xs a.declared ws cs in
-    let top : H.sight ≡ Slot (name_among xs y) (val_of y.value) left.sight = ap (λ (h : Held). h.sight) was in
-    let all : a.declared ≡ length vs = all_declared xs ns vs a.declared cs h H c.self.view_is c.requires.whole in
+    let was = left_over a.stacks.lists xs ns vs a.declared cs h y ms ws gone newest above over H c.self.view_is in
+    let left = held_in a.stacks.lists xs a.declared ws cs in
+    let top : H.sight ≡ Slot (name_among xs y) (val_in a.stacks.lists y.value) left.sight = ap (λ (h : Held). h.sight) was in
+    let all : a.declared ≡ length vs = all_declared a.stacks.lists xs ns vs a.declared cs h H c.self.view_is c.requires.whole in
     omega (arith, all, ap length gone, length-append ws (y ∷ []))
