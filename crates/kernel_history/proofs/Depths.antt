@@ -1,6 +1,7 @@
 -- The walks up to the root, and down to where no favourite is.
-use Rattle.std.proofs.Common.{◌≡◌, ℕ, ◌+◌, ◌-◌, ◌<◌, ◌≤◌, ◌==◌, suc, true, false, IsTrue, List, length, get_or, sym, ap, ◌∙◌, arith, inl, inr, if◌then◌else◌, ◌↔◌}
+use Rattle.std.proofs.Common.{◌≡◌, ◌≢◌, Bool, ℕ, ◌+◌, ◌-◌, ◌<◌, ◌≤◌, ◌==◌, suc, true, false, refl, IsTrue, List, length, get_or, sym, ap, ◌∙◌, arith, inl, inr, if◌then◌else◌, ◌↔◌}
 use Rattle.std.proofs.lemmas.Bool.{cases_lt, false≢true}
+use Rattle.std.proofs.lemmas.Bool.Decides.{nat_tests}
 use Rattle.kernel_machine.specs.State.{Past, Node, root, favourite_of}
 use Rattle.kernel_machine.specs.Legal.{can_undo, can_redo, IsRun, IsChild, IsLegal}
 use Rattle.kernel_machine.proofs.Trees.{not_zero_is}
@@ -100,3 +101,24 @@ favourite_behind s n g l some =
     let low = run.parent in
     let up = child.parent in
     omega (arith, low, up)
+
+-- behind as many steps down as there are nodes there is no favourite
+pub favourite_none : (s : Past) (n count : ℕ) → IsLegal s → n < length s.nodes → length s.nodes ≤ count + 1 → (0 < favourite_of s n → count < favourite_of s n) → favourite_of s n ≡ 0
+favourite_none s n count g l all few = elim (cases_lt 0 (favourite_of s n)) [
+  | inl some ↦ absurd (
+      let child : IsChild s.nodes s.favourites n = g.children n l some in
+      let known = child.known in
+      let behind = few some in
+      omega arith)
+  | inr none ↦ omega arith
+]
+
+-- all of so many can be gone exactly where as many are counted
+pub reaches_all : (can : Bool) (k r : ℕ) → r ≤ k → IsTrue can ↔ (k ≤ r) → (r == k) ≡ can
+reaches_all true k r l h =
+    let low : k ≤ r = h.0 refl in
+    let same : r ≡ k = omega (arith, l, low) in
+    grind (arith, nat_tests)
+reaches_all false k r l h =
+    let other : r ≢ k = λ same. false≢true (h.1 (omega (arith, same))) in
+    grind (arith, nat_tests)

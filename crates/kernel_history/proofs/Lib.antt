@@ -1,4 +1,4 @@
-pub mod Stacks
+pub mod BodiesAt
 pub mod Nodes
 pub mod Standing
 pub mod InTime

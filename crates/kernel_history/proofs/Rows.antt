@@ -12,7 +12,7 @@ use Rattle.janus_syntax.specs.declared.tree.Procedure.{Procedure}
 use Rattle.janus_machine.specs.Bodies.{AreBodies}
 use Rattle.janus_machine.specs.declared.procedure.Procedure as kept
 use Rattle.kernel_runner.specs.Defined.{in_a_row}
-use Rattle.kernel_runner.specs.Runner.{Shows, world_of}
+use Rattle.kernel_runner.specs.Runner.{ShownWorld, Shows, world_of}
 use Rattle.kernel_runner.specs.declared.runner.Runner.{Runner}
 use Rattle.kernel_machine.specs.State as state
 use Rattle.kernel_machine.specs.State.{Past, node_at, world_at, here, below, code_of}
@@ -78,5 +78,5 @@ none_kept xs bodies (i ∷ stack) (p ∷ ps) e h = absurd (let within = slice_ge
 -- ---- procedures that are lent
 
 -- with the procedures of the world that it shows a runner shows that world
-pub world_lent : {L : Type 0} (runner : Runner L) (stack : List ℕ) (w : World) (ps : List Proc) → Shows runner stack w → ps ≡ w.procedures → world_of ps runner ≡ w
-world_lent runner stack w ps h e = ap (λ (qs : List Proc). world_of qs runner) e ∙ ap (λ (s : Store). record { store = s; procedures = w.procedures }) h.store
+pub world_lent : {L : Type 0} (runner : Runner L) (shown : ShownWorld) (ps : List Proc) → Shows runner shown → ps ≡ shown.world.procedures → world_of ps runner ≡ shown.world
+world_lent runner shown ps h e = ap (λ (qs : List Proc). world_of qs runner) e ∙ ap (λ (s : Store). record { store = s; procedures = shown.world.procedures }) h.store

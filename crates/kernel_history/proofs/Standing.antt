@@ -28,8 +28,8 @@ use Rattle.janus_machine.specs.Bodies.{kept_in, AreBelow, AreDefined, Define}
 use Rattle.janus_machine.proofs.BodiesInEffect.{forgotten_still_defined}
 use Rattle.janus_machine.specs.declared.procedures.Procedures.{Procedures}
 use Rattle.kernel_runner.specs.Program.{cell_of_program, IsReady, with_bodies}
-use Rattle.kernel_runner.specs.Runner.{world_of, Becomes, Shows, Stands, IsInside, CanEnter, CanReturn, CanLeave}
-use Rattle.kernel_history.specs.Kept.{is_back, IsCellAt, IsBefore, IsBehindNodes, NodesAreReady, AreInOrder, stack_at, stack_in, IsProgramOf, StandsIn, StandsAt, IsWholeAt, Kept, IsKept, HasRoom, HasPath, HasPathFor}
+use Rattle.kernel_runner.specs.Runner.{ShownWorld, over, world_of, Becomes, Shows, Place, entry, inverse_entry, world_inside, Stands, IsInside, CanEnter, CanReturn, CanLeave}
+use Rattle.kernel_history.specs.Kept.{is_back, IsCellAt, IsBefore, IsBehindNodes, NodesAreReady, AreInOrder, bodies_at, bodies_in, shown_here, place_in, IsProgramOf, StandsIn, StandsAt, IsWholeAt, Kept, IsKept, HasRoom, HasPath, HasPathFor}
 use Rattle.kernel_runner.specs.declared.runner.Runner.{Runner}
 use Rattle.kernel_runner.specs.declared.program.Program.{Program}
 use Rattle.kernel_history.specs.declared.tree.Cell.{Cell}
@@ -46,7 +46,7 @@ use Rattle.kernel_machine.proofs.LanguageLaws.{part_none_forward, part_none_back
 use Rattle.kernel_runner.proofs.Growing.{ready_grows, defined_grow}
 use Rattle.kernel_runner.proofs.Borders.{all_shown}
 use Rattle.kernel_runner.proofs.Running.{stands_part}
-use Rattle.kernel_history.proofs.Stacks.{stack_same, stack_of_cell, stack_new, stack_below, cell_behind, ready_same, ready_less, ready_more}
+use Rattle.kernel_history.proofs.BodiesAt.{bodies_same, bodies_of_cell, bodies_new, bodies_below, cell_behind, ready_same, ready_less, ready_more}
 use Rattle.kernel_history.proofs.Nodes.{count_of_nodes, cell_there, one_cell, cell_kept, cell_added}
 use Rattle.kernel_machine.proofs.Trees.{worlds-more, legal_up, legal_down, legal_grown, undone_world, redone_world, run_here, parent_sound, IsNext, formed_below, next_below, up_possible, down_possible, way_up, way_down, new_legal, new_worlds}
 
@@ -54,11 +54,11 @@ use Rattle.kernel_machine.proofs.Trees.{worlds-more, legal_up, legal_down, legal
 pub shown_by : {L : Type 0} (tree : Tree) (job : Open) (runner : Runner L) → StandsAt tree job runner → ShownAt (past_of tree) (job_of job) (world_of (procedures_at (past_of tree) (job_of job)) runner)
 shown_by tree Idle runner h = ap (λ s. record { store = s; procedures = (here (past_of tree)).procedures }) h.store
 shown_by tree (Border travel) runner h = ap (λ s. record { store = s; procedures = (here (past_of tree)).procedures }) h.store
-shown_by tree (Inside e) runner h = stands_part _ _ _ _ _ _ _ h.stands
+shown_by tree (Inside e) runner h = stands_part _ _ _ _ h.stands
 
 -- a runner shows the world at which it stands
-pub stands_shows : {L : Type 0} (runner : Runner L) (program : Program) (stack : List ℕ) (code : Code) (w : World) (count : ℕ) (back : Bool) → Stands runner program stack code w count back → Shows runner stack (world_of (start_of code w).procedures runner)
-stands_shows runner program stack code w count back h = record { store = refl; one_number = h.one_number; defined = h.defined }
+pub stands_shows : {L : Type 0} (runner : Runner L) (program : Program) (at : Place) (is_turned : Bool) → Stands runner program at is_turned → Shows runner (over at.bodies (world_inside at runner))
+stands_shows runner program at is_turned h = record { store = refl; one_number = h.one_number; defined = h.defined }
 
 -- ---- the nodes stay ready
 
@@ -82,7 +82,7 @@ kept_inside tree work count c turn to runner at k more same p = record {
   behind = k.behind;
 }
 
-pub kept_idle : {L : Type 0} (tree : Tree) (job : Open) (runner at : Runner L) → Kept tree runner job → NodesAreReady tree at → IsWhole at.store → Shows at (stack_at tree tree.position) (here (past_of tree)) → Kept tree at Idle
+pub kept_idle : {L : Type 0} (tree : Tree) (job : Open) (runner at : Runner L) → Kept tree runner job → NodesAreReady tree at → IsWhole at.store → Shows at (shown_here tree) → Kept tree at Idle
 kept_idle tree job runner at k ready whole shows = record {
   legal = k.legal;
   possible = tt;
@@ -97,17 +97,17 @@ kept_idle tree job runner at k ready whole shows = record {
 }
 
 -- the same store shows the same world
-pub shows_still : {L : Type 0} (runner at : Runner L) (stack : List ℕ) (w : World) → IsWhole runner.store → Becomes runner.store at.store runner.store.sight → at.procedures ≡ runner.procedures → Shows runner stack w → Shows at stack w
-shows_still runner at stack w whole h same shows = record {
+pub shows_still : {L : Type 0} (runner at : Runner L) (shown : ShownWorld) → IsWhole runner.store → Becomes runner.store at.store runner.store.sight → at.procedures ≡ runner.procedures → Shows runner shown → Shows at shown
+shows_still runner at shown whole h same shows = record {
   store = all_shown at.store h.whole ∙ h.sight ∙ sym (all_shown runner.store whole) ∙ shows.store;
   one_number = h.one_number shows.one_number;
-  defined = subst (λ (t : Procedures). Define at.store.names t stack w.procedures) (sym same) (defined_grow runner.store.names at.store.names h.names runner.procedures stack w.procedures shows.defined);
+  defined = subst (λ (t : Procedures). Define at.store.names t shown.bodies shown.world.procedures) (sym same) (defined_grow runner.store.names at.store.names h.names runner.procedures shown.bodies shown.world.procedures shows.defined);
 }
 
 -- no cell could be entered
-pub kept_refused : {L : Type 0} (tree : Tree) (job : Open) (runner at : Runner L) → Kept tree runner job → IsWhole runner.store → Shows runner (stack_at tree tree.position) (here (past_of tree)) → Becomes runner.store at.store runner.store.sight → at.procedures ≡ runner.procedures → Kept tree at Idle
+pub kept_refused : {L : Type 0} (tree : Tree) (job : Open) (runner at : Runner L) → Kept tree runner job → IsWhole runner.store → Shows runner (shown_here tree) → Becomes runner.store at.store runner.store.sight → at.procedures ≡ runner.procedures → Kept tree at Idle
 kept_refused tree job runner at k whole shows h same =
-    kept_idle tree job runner at k (nodes_ready tree runner at h.names (ap kept_in same) k.ready) h.whole (shows_still runner at (stack_at tree tree.position) (here (past_of tree)) whole h same shows)
+    kept_idle tree job runner at k (nodes_ready tree runner at h.names (ap kept_in same) k.ready) h.whole (shows_still runner at (shown_here tree) whole h same shows)
 
 -- ---- what is kept of the nodes alone
 
@@ -171,7 +171,7 @@ pub kept_grown : {L : Type 0} (tree larger : Tree) (program : ACell) (n : ℕ) (
     larger.cells.favourites ≡ set tree.cells.favourites tree.position (length (nodes_of tree)) ++ 0 ∷ [] →
     larger.position ≡ length (nodes_of tree) →
     IsLegal (past_of tree) → IsFormed program (here (past_of tree)) →
-    CodeExec (Forward program) (here (past_of tree)) n v → Shows runner (stack_at larger larger.position) v → IsWhole runner.store → NodesAreReady larger runner → AreInOrder larger →
+    CodeExec (Forward program) (here (past_of tree)) n v → Shows runner (over (bodies_at larger larger.position) v) → IsWhole runner.store → NodesAreReady larger runner → AreInOrder larger →
     Kept larger runner Idle
 kept_grown tree larger program n runner v nodes favourites position legal formed ran shows whole ready order =
     let e = state_grown tree larger program n v nodes favourites position ran in
@@ -179,7 +179,7 @@ kept_grown tree larger program n runner v nodes favourites position legal formed
     get_or_at (worlds_from [] (nodes_of tree)) v [] empty_world (length (nodes_of tree)) legal.worlds in
     record {
       legal = subst (λ (s : Past). IsLegal s) (sym e) (legal_grown (past_of tree) program n v legal formed ran);
-      stands = subst (λ (w : World). Shows runner (stack_at larger larger.position) w) (sym last ∙ ap (λ (s : Past). here s) (sym e)) shows;
+      stands = subst (λ (w : World). Shows runner (over (bodies_at larger larger.position) w)) (sym last ∙ ap (λ (s : Past). here s) (sym e)) shows;
       whole = whole;
       possible = tt;
       counted = tt;
@@ -205,7 +205,7 @@ border_job (Border t) travel e = (t, refl, cc)
 border_job (Inside x) travel e = cc
 
 pub kept_arrived : {L : Type 0} (left : ℕ) (moved-to : Tree) (travel : Travel) (told : Sliced) (job : Open) (runner : Runner L) → left ≡ cells travel →
-    IsLegal (past_of moved-to) → Shows runner (stack_at moved-to moved-to.position) (here (past_of moved-to)) → IsWhole runner.store → CanGo travel.aim (nodes_of moved-to) moved-to.cells.favourites moved-to.position travel.up travel.down → IsCounted travel →
+    IsLegal (past_of moved-to) → Shows runner (shown_here moved-to) → IsWhole runner.store → CanGo travel.aim (nodes_of moved-to) moved-to.cells.favourites moved-to.position travel.up travel.down → IsCounted travel →
     HasPath travel.aim moved-to travel.down → NodesAreReady moved-to runner → AreInOrder moved-to → Arrives left (past_of moved-to) travel told (state_of moved-to job) → Kept moved-to runner job
 kept_arrived zero tree travel told job runner size legal shown whole can small path ready order a =
     let e : job ≡ Idle = idle_job job (ap (λ (s : State). s.job) a.1) in
@@ -239,7 +239,7 @@ path_of (Goto n) tree other down e f h = rw (e, f) h
 
 pub kept_up : {L : Type 0} (tree : Tree) (p : ℕ) (travel : Travel) (runner : Runner L) (told : Sliced) (job : Open) → next_way travel ≡ Up → IsLegal (past_of tree) →
     IsPossible (nodes_of tree) tree.cells.favourites tree.position travel → IsCounted travel → HasPath travel.aim tree travel.down → NodesAreReady tree runner → AreInOrder tree → IsWhole runner.store →
-    p ≡ (node_at (past_of tree) tree.position).parent → Shows runner (stack_at tree (node_at (past_of tree) tree.position).parent) (world_at (past_of tree) (node_at (past_of tree) tree.position).parent) →
+    p ≡ (node_at (past_of tree) tree.position).parent → Shows runner (over (bodies_at tree (node_at (past_of tree) tree.position).parent) (world_at (past_of tree) (node_at (past_of tree) tree.position).parent)) →
     Arrives (cells (stepped travel)) (past_of (record tree { position = p })) (stepped travel) told (state_of (record tree { position = p }) job) → Kept (record tree { position = p }) runner job
 kept_up tree p travel runner told job way legal possible small path ready order whole to shows a =
     let can = up_possible (past_of tree) travel way possible in
@@ -250,8 +250,8 @@ kept_up tree p travel runner told job way legal possible small path ready order 
     let on : Travel = record travel { up = travel.up - 1; went_up = travel.went_up + 1 } in
     let e : stepped travel ≡ on = rw (way, stepped) refl in
     kept_arrived (cells on) above on told job runner refl (rw to (legal_up (past_of tree) legal))
-    (subst (λ (stack : List ℕ). Shows runner stack (world_at (past_of tree) p)) (sym (stack_same tree above p refl))
-    (subst (λ (m : ℕ). Shows runner (stack_at tree m) (world_at (past_of tree) m)) (sym to) shows))
+    (subst (λ (stack : List ℕ). Shows runner (over stack (world_at (past_of tree) p))) (sym (bodies_same tree above p refl))
+    (subst (λ (m : ℕ). Shows runner (over (bodies_at tree m) (world_at (past_of tree) m))) (sym to) shows))
     whole (rw to can.1) (omega arith, small.1)
     (path_of travel.aim tree above travel.down refl refl path) (placed_nodes tree above runner refl ready) (ordered_nodes tree above refl order)
     (subst (λ (t : Travel). Arrives (cells t) (past_of above) t told (state_of above job)) e a)
@@ -259,7 +259,7 @@ kept_up tree p travel runner told job way legal possible small path ready order 
 pub kept_down : {L : Type 0} (tree moved-to : Tree) (c : ℕ) (travel : Travel) (runner : Runner L) (told : Sliced) (job : Open) → next_way travel ≡ Down → IsLegal (past_of tree) →
     IsPossible (nodes_of tree) tree.cells.favourites tree.position travel → IsCounted travel → HasPath travel.aim tree travel.down → NodesAreReady tree runner → AreInOrder tree → IsWhole runner.store →
     c ≡ below (past_of tree) travel → moved-to.cells.nodes ≡ tree.cells.nodes → moved-to.cells.favourites ≡ set tree.cells.favourites tree.position c → moved-to.position ≡ c → moved-to.cells.way ≡ tree.cells.way →
-    Shows runner (stack_at tree (below (past_of tree) travel)) (world_at (past_of tree) (below (past_of tree) travel)) →
+    Shows runner (over (bodies_at tree (below (past_of tree) travel)) (world_at (past_of tree) (below (past_of tree) travel))) →
     Arrives (cells (stepped travel)) (past_of moved-to) (stepped travel) told (state_of moved-to job) → Kept moved-to runner job
 kept_down tree moved-to c travel runner told job way legal possible small path ready order whole to nodes favourites position kept-path shows a =
     let next = next_below (past_of tree) travel legal way possible in
@@ -272,10 +272,10 @@ kept_down tree moved-to c travel runner told job way legal possible small path r
     let down : 0 < travel.down = omega arith in
     let past : past_of moved-to ≡ record (past_of tree) { favourites = set tree.cells.favourites tree.position (below (past_of tree) travel); position = below (past_of tree) travel } = rw (nodes, favourites, position, to) refl in
     let kept : HasPath travel.aim moved-to (travel.down - 1) = path_of travel.aim tree moved-to (travel.down - 1) nodes kept-path (path_shorter travel.aim tree travel.down path) in
-    let stack : stack_at moved-to moved-to.position ≡ stack_at tree (below (past_of tree) travel) = stack_same tree moved-to moved-to.position nodes ∙ ap (stack_at tree) (position ∙ to) in
+    let stack : bodies_at moved-to moved-to.position ≡ bodies_at tree (below (past_of tree) travel) = bodies_same tree moved-to moved-to.position nodes ∙ ap (bodies_at tree) (position ∙ to) in
     kept_arrived (cells on) moved-to on told job runner refl
     (subst (λ (s : Past). IsLegal s) (sym past) (legal_down (past_of tree) (below (past_of tree) travel) legal next))
-    (subst (λ (s : Past). Shows runner (stack_at moved-to moved-to.position) (here s)) (sym past) (subst (λ (l : List ℕ). Shows runner l (world_at (past_of tree) (below (past_of tree) travel))) (sym stack) shows)) whole
+    (subst (λ (s : Past). Shows runner (over (bodies_at moved-to moved-to.position) (here s))) (sym past) (subst (λ (l : List ℕ). Shows runner (over l (world_at (past_of tree) (below (past_of tree) travel)))) (sym stack) shows)) whole
     (subst (λ (s : Past). CanGo travel.aim s.nodes s.favourites s.position travel.up (travel.down - 1)) (sym past)
     (subst (λ (u : ℕ). CanGo travel.aim (nodes_of tree) (set tree.cells.favourites tree.position (below (past_of tree) travel)) (below (past_of tree) travel) u (travel.down - 1)) (sym none) can))
     (small.0, omega arith) kept (placed_nodes tree moved-to runner nodes ready) (ordered_nodes tree moved-to nodes order)
@@ -310,9 +310,9 @@ same_program tree (Move travel) p q a b = same_up tree travel (next_way travel) 
 
 -- where a runner stands, for the program that was found
 pub stands_with : {L : Type 0} (tree : Tree) (work : Work) (count : ℕ) (back : Bool) (runner : Runner L) (p : Program) → IsProgramOf tree work p → StandsIn tree work count back runner →
-    Stands runner p (stack_in tree work p) (code_of (past_of tree) (work_of work)) (here (past_of tree)) count back
+    Stands runner p (place_in tree work p count) back
 stands_with tree work count back runner p of h =
-    subst (λ (x : Program). Stands runner x (stack_in tree work x) (code_of (past_of tree) (work_of work)) (here (past_of tree)) count back) (same_program tree work h.program p h.of_work of) h.stands
+    subst (λ (x : Program). Stands runner x (place_in tree work x count) back) (same_program tree work h.program p h.of_work of) h.stands
 
 -- the position is a node
 pub position_known : (tree : Tree) → IsLegal (past_of tree) → tree.position ≤ length tree.cells.nodes
@@ -331,15 +331,15 @@ module _ {L : Type 0} (tree larger : Tree) (program : Program) (n : ℕ) (runner
   ordered_more = ordered_grown tree larger (record { parent = tree.position; content = record { program = program; steps = n } }) nodes k.order k.behind
 
   -- its own bodies are defined over those of the position
-  pub shown_more : larger.position ≡ length (nodes_of tree) → Shows runner (stack_at larger larger.position) (world_of (start_of (Forward (cell_of_program program)) (here (past_of tree))).procedures runner)
+  pub shown_more : larger.position ≡ length (nodes_of tree) → Shows runner (over (bodies_at larger larger.position) (world_of (start_of (Forward (cell_of_program program)) (here (past_of tree))).procedures runner))
   shown_more position =
       let size = count_of_nodes tree in
       let low = position_known tree k.legal in
       let last : larger.position ≡ suc (length tree.cells.nodes) = omega arith in
-      let stack : stack_at larger larger.position ≡ with_bodies program (stack_at tree tree.position) =
-      ap (stack_at larger) last ∙ stack_new tree larger (record { parent = tree.position; content = record { program = program; steps = n } }) k.legal nodes low in
-      subst (λ (l : List ℕ). Shows runner l (world_of (start_of (Forward (cell_of_program program)) (here (past_of tree))).procedures runner)) (sym stack)
-      (stands_shows runner program (with_bodies program (stack_at tree tree.position)) (Forward (cell_of_program program)) (here (past_of tree)) n false (stands_with tree (RunCell program) n false runner program refl k.stands))
+      let stack : bodies_at larger larger.position ≡ with_bodies program (bodies_at tree tree.position) =
+      ap (bodies_at larger) last ∙ bodies_new tree larger (record { parent = tree.position; content = record { program = program; steps = n } }) k.legal nodes low in
+      subst (λ (l : List ℕ). Shows runner (over l (world_of (start_of (Forward (cell_of_program program)) (here (past_of tree))).procedures runner))) (sym stack)
+      (stands_shows runner program (place_in tree (RunCell program) program n) false (stands_with tree (RunCell program) n false runner program refl k.stands))
 
 -- ---- begins
 
@@ -369,9 +369,9 @@ behind_nodes : (tree other : Tree) (program : Program) → other.cells.nodes ≡
 behind_nodes tree other program e h = subst (λ (nodes : List (Node Cell)). IsBehindNodes (record other { cells = record other.cells { nodes = nodes } }) (RunCell program)) (sym e) h
 
 pub kept_begun : {L : Type 0} (tree made : Tree) (runner at : Runner L) (program : Program) → Kept tree runner Idle → NodesAreReady tree at → IsBehindNodes tree (RunCell program) → past_of made ≡ past_of tree → made.cells.nodes ≡ tree.cells.nodes → made.position ≡ tree.position → HasRoom made → IsFormed (cell_of_program program) (here (past_of tree)) →
-    Stands at program (with_bodies program (stack_at tree tree.position)) (Forward (cell_of_program program)) (here (past_of tree)) 0 false → IsKept made at (Inside (record { work = RunCell program; count = 0; turn = GoesOn }))
+    Stands at program (entry program (shown_here tree)) false → IsKept made at (Inside (record { work = RunCell program; count = 0; turn = GoesOn }))
 kept_begun tree made runner at program k ready behind same nodes position room formed stands =
-    let stack : stack_at made made.position ≡ stack_at tree tree.position = stack_same tree made made.position nodes ∙ ap (stack_at tree) position in
+    let stack : bodies_at made made.position ≡ bodies_at tree tree.position = bodies_same tree made made.position nodes ∙ ap (bodies_at tree) position in
     record {
       kept = record {
         legal = subst (λ (s : Past). IsLegal s) (sym same) k.legal;
@@ -380,8 +380,8 @@ kept_begun tree made runner at program k ready behind same nodes position room f
         stands = record {
           program = program;
           of_work = refl;
-          stands = subst (λ (s : Past). Stands at program (with_bodies program (stack_at made made.position)) (Forward (cell_of_program program)) (here s) 0 false) (sym same)
-              (subst (λ (l : List ℕ). Stands at program (with_bodies program l) (Forward (cell_of_program program)) (here (past_of tree)) 0 false) (sym stack) stands);
+          stands = subst (λ (s : Past). Stands at program (entry program (over (bodies_at made made.position) (here s))) false) (sym same)
+              (subst (λ (l : List ℕ). Stands at program (entry program (over l (here (past_of tree)))) false) (sym stack) stands);
         };
         whole = tt;
         room = room;
@@ -396,12 +396,12 @@ kept_begun tree made runner at program k ready behind same nodes position room f
 -- a tree with room for a node more is the same tree
 pub kept_with_room : {L : Type 0} (tree made : Tree) (runner : Runner L) → Kept tree runner Idle → past_of made ≡ past_of tree → made.cells.nodes ≡ tree.cells.nodes → made.position ≡ tree.position → Kept made runner Idle
 kept_with_room tree made runner k same nodes position =
-    let stack : stack_at made made.position ≡ stack_at tree tree.position = stack_same tree made made.position nodes ∙ ap (stack_at tree) position in
+    let stack : bodies_at made made.position ≡ bodies_at tree tree.position = bodies_same tree made made.position nodes ∙ ap (bodies_at tree) position in
     record {
       legal = subst (λ (s : Past). IsLegal s) (sym same) k.legal;
       possible = tt;
       counted = tt;
-      stands = subst (λ (s : Past). Shows runner (stack_at made made.position) (here s)) (sym same) (subst (λ (l : List ℕ). Shows runner l (here (past_of tree))) (sym stack) k.stands);
+      stands = subst (λ (s : Past). Shows runner (over (bodies_at made made.position) (here s))) (sym same) (subst (λ (l : List ℕ). Shows runner (over l (here (past_of tree)))) (sym stack) k.stands);
       whole = k.whole;
       room = tt;
       path = tt;
@@ -478,12 +478,12 @@ up_names tree travel n v cell way legal possible ended at =
 pub new_past : (tree : Tree) → tree.cells ≡ root_alone tree.cells.room → tree.position ≡ 0 → past_of tree ≡ new_state.past
 new_past tree alone position = rw (alone, position, new_worlds) refl
 
-pub kept_new : {L : Type 0} (tree : Tree) (runner : Runner L) → past_of tree ≡ new_state.past → tree.position ≡ 0 → Shows runner [] empty_world → IsWhole runner.store → Kept tree runner Idle
+pub kept_new : {L : Type 0} (tree : Tree) (runner : Runner L) → past_of tree ≡ new_state.past → tree.position ≡ 0 → Shows runner (over [] empty_world) → IsWhole runner.store → Kept tree runner Idle
 kept_new tree runner e position shown whole = record {
   legal = subst (λ (s : Past). IsLegal s) (sym e) new_legal;
   possible = tt;
   counted = tt;
-  stands = subst (λ (s : Past). Shows runner (stack_at tree tree.position) (here s)) (sym e) (subst (λ (n : ℕ). Shows runner (stack_at tree n) empty_world) (sym position) shown);
+  stands = subst (λ (s : Past). Shows runner (over (bodies_at tree tree.position) (here s))) (sym e) (subst (λ (n : ℕ). Shows runner (over (bodies_at tree n) empty_world)) (sym position) shown);
   whole = whole;
   room = tt;
   path = tt;
@@ -517,13 +517,13 @@ program_down tree work travel cell e way at = rw e (down_is tree travel cell.pro
 
 -- the runner has gone on, or back, in the work's program
 pub kept_at : {L : Type 0} (tree : Tree) (work : Work) (count c : ℕ) (turn to : Turn) (runner at : Runner L) (p : Program) → Kept tree runner (Inside (record { work = work; count = count; turn = turn })) → GoOn runner.store.names at.store.names → kept_in at.procedures ≡ kept_in runner.procedures →
-    IsProgramOf tree work p → Stands at p (stack_in tree work p) (code_of (past_of tree) (work_of work)) (here (past_of tree)) c (is_back to) → Kept tree at (Inside (record { work = work; count = c; turn = to }))
+    IsProgramOf tree work p → Stands at p (place_in tree work p c) (is_back to) → Kept tree at (Inside (record { work = work; count = c; turn = to }))
 kept_at tree work count c turn to runner at p k more same of stands =
     kept_inside tree work count c turn to runner at k more same (record { program = p; of_work = of; stands = stands })
 
 -- in the form in which the calls of the runner ask for it
-pub inside_with : {L : Type 0} (tree : Tree) (work : Work) (count : ℕ) (turn : Turn) (runner : Runner L) (p : Program) → Kept tree runner (Inside (record { work = work; count = count; turn = turn })) → IsProgramOf tree work p → IsInside runner p count (is_back turn)
-inside_with tree work count turn runner p k of = (_, _, _, stands_with tree work count (is_back turn) runner p of k.stands)
+pub inside_with : {L : Type 0} (tree : Tree) (work : Work) (count : ℕ) (turn : Turn) (runner : Runner L) (p : Program) → Kept tree runner (Inside (record { work = work; count = count; turn = turn })) → IsProgramOf tree work p → IsInside runner p (is_back turn)
+inside_with tree work count turn runner p k of = (place_in tree work p count, stands_with tree work count (is_back turn) runner p of k.stands)
 
 -- a cell of a travel settles
 pub settled_up : (tree : Tree) (p : ℕ) (travel : Travel) (n : ℕ) (w : World) (told : Sliced) (new : State) → next_way travel ≡ Up → p ≡ (node_at (past_of tree) tree.position).parent →
@@ -564,7 +564,7 @@ before_below tree travel way legal possible =
     omega arith
 
 pub can_go_down_to : {L : Type 0} (tree : Tree) (travel : Travel) (cell : Cell) (runner : Runner L) → next_way travel ≡ Down → IsLegal (past_of tree) → IsPossible (nodes_of tree) tree.cells.favourites tree.position travel →
-    IsCellAt tree (below (past_of tree) travel) cell → Shows runner (stack_at tree tree.position) (here (past_of tree)) → IsWhole runner.store → NodesAreReady tree runner → AreInOrder tree → CanEnter runner cell.program (stack_at tree tree.position) (here (past_of tree))
+    IsCellAt tree (below (past_of tree) travel) cell → Shows runner (shown_here tree) → IsWhole runner.store → NodesAreReady tree runner → AreInOrder tree → CanEnter runner cell.program (shown_here tree)
 can_go_down_to tree travel cell runner way legal possible at shows whole ready order = record {
   shows = shows;
   sound = here_sound tree legal;
@@ -575,16 +575,16 @@ can_go_down_to tree travel cell runner way legal possible at shows whole ready o
 }
 
 pub stands_next_down : {L : Type 0} (tree : Tree) (travel : Travel) (cell : Cell) (at : Runner L) → next_way travel ≡ Down → IsCellAt tree (below (past_of tree) travel) cell →
-    Stands at cell.program (with_bodies cell.program (stack_at tree tree.position)) (Forward (cell_of_program cell.program)) (here (past_of tree)) 0 false → StandsIn tree (Move travel) 0 false at
+    Stands at cell.program (entry cell.program (shown_here tree)) false → StandsIn tree (Move travel) 0 false at
 stands_next_down tree travel cell at way is stands =
     let same = cell_there tree _ cell is in
     let code : Forward (cell_of_program cell.program) ≡ code_of (past_of tree) (state.Move travel) = rw (way, code_of) (ap (λ (c : ACell). Forward c) same) in
-    let stack : with_bodies cell.program (stack_at tree tree.position) ≡ stack_in tree (Move travel) cell.program = rw (way, stack_in) refl in
+    let stack : with_bodies cell.program (bodies_at tree tree.position) ≡ bodies_in tree (Move travel) cell.program = rw (way, bodies_in) refl in
     record {
       program = cell.program;
       of_work = down_is tree travel cell.program way (cell, is, refl);
-      stands = subst (λ (c : Code). Stands at cell.program (stack_in tree (Move travel) cell.program) c (here (past_of tree)) 0 false) code
-          (subst (λ (l : List ℕ). Stands at cell.program l (Forward (cell_of_program cell.program)) (here (past_of tree)) 0 false) stack stands);
+      stands = subst (λ (c : Code). Stands at cell.program (record { bodies = bodies_in tree (Move travel) cell.program; code = c; world = here (past_of tree); count = 0 }) false) code
+          (subst (λ (l : List ℕ). Stands at cell.program (record { bodies = l; code = Forward (cell_of_program cell.program); world = here (past_of tree); count = 0 }) false) stack stands);
     }
 
 pub next_up : (tree : Tree) (travel : Travel) (cell : Cell) → next_way travel ≡ Up → IsLegal (past_of tree) → IsPossible (nodes_of tree) tree.cells.favourites tree.position travel →
@@ -593,7 +593,7 @@ next_up tree travel cell way legal possible read =
     ((up_possible (past_of tree) travel way possible).0, read)
 
 pub can_go_up_from : {L : Type 0} (tree : Tree) (travel : Travel) (cell : Cell) (runner : Runner L) → next_way travel ≡ Up → IsLegal (past_of tree) → IsPossible (nodes_of tree) tree.cells.favourites tree.position travel →
-    IsCellAt tree tree.position cell → Shows runner (stack_at tree tree.position) (here (past_of tree)) → IsWhole runner.store → NodesAreReady tree runner → CanReturn runner cell.program (stack_at tree tree.position) (here (past_of tree))
+    IsCellAt tree tree.position cell → Shows runner (shown_here tree) → IsWhole runner.store → NodesAreReady tree runner → CanReturn runner cell.program (shown_here tree)
 can_go_up_from tree travel cell runner way legal possible at shows whole ready =
     let some = (up_possible (past_of tree) travel way possible).0 in
     let run = run_here (past_of tree) legal some in
@@ -609,16 +609,16 @@ can_go_up_from tree travel cell runner way legal possible at shows whole ready =
     }
 
 pub stands_next_up : {L : Type 0} (tree : Tree) (travel : Travel) (cell : Cell) (at : Runner L) → next_way travel ≡ Up → IsCellAt tree tree.position cell →
-    Stands at cell.program (stack_at tree tree.position) (Backward (cell_of_program cell.program)) (here (past_of tree)) 0 false → StandsIn tree (Move travel) 0 false at
+    Stands at cell.program (inverse_entry cell.program (shown_here tree)) false → StandsIn tree (Move travel) 0 false at
 stands_next_up tree travel cell at way is stands =
     let same = cell_there tree _ cell is in
     let code : Backward (cell_of_program cell.program) ≡ code_of (past_of tree) (state.Move travel) = rw (way, code_of) (ap (λ (c : ACell). Backward c) same) in
-    let stack : stack_at tree tree.position ≡ stack_in tree (Move travel) cell.program = rw (way, stack_in) refl in
+    let stack : bodies_at tree tree.position ≡ bodies_in tree (Move travel) cell.program = rw (way, bodies_in) refl in
     record {
       program = cell.program;
       of_work = up_is tree travel cell.program way (cell, is, refl);
-      stands = subst (λ (c : Code). Stands at cell.program (stack_in tree (Move travel) cell.program) c (here (past_of tree)) 0 false) code
-          (subst (λ (l : List ℕ). Stands at cell.program l (Backward (cell_of_program cell.program)) (here (past_of tree)) 0 false) stack stands);
+      stands = subst (λ (c : Code). Stands at cell.program (record { bodies = bodies_in tree (Move travel) cell.program; code = c; world = here (past_of tree); count = 0 }) false) code
+          (subst (λ (l : List ℕ). Stands at cell.program (inverse_entry cell.program (over l (here (past_of tree)))) false) stack stands);
     }
 
 not_ok : (A E : Type 0) (x : E) → IsOk {T = A} {E = E} (Err x) → ⊥
@@ -650,15 +650,15 @@ module _ {L : Type 0} (tree : Tree) (runner : Runner L) (cell : Cell) (n : ℕ) 
   -- the cell of the position is undone: what it declared and defined is left to be taken back
   pub can_leave_up : (travel : Travel) (back : Bool) → next_way travel ≡ Up → StandsIn tree (Move travel) n back runner → IsWhole runner.store → IsReady runner.store.names runner.procedures cell.program →
       world_of (start_of (code_of (past_of tree) (state.Move travel)) (here (past_of tree))).procedures runner ≡ entered (cell_of_program cell.program) (world_at (past_of tree) (node_at (past_of tree) tree.position).parent) →
-      CanLeave runner cell.program (stack_at tree (node_at (past_of tree) tree.position).parent) (world_at (past_of tree) (node_at (past_of tree) tree.position).parent)
+      CanLeave runner cell.program (over (bodies_at tree (node_at (past_of tree) tree.position).parent) (world_at (past_of tree) (node_at (past_of tree) tree.position).parent))
   can_leave_up travel back way stands whole ready world =
       let p : Program = cell.program in
       let s = stands_with tree (Move travel) n back runner p (up_is tree travel p way (cell, at, refl)) stands in
-      let shows = stands_shows runner p (stack_in tree (Move travel) p) (code_of (past_of tree) (state.Move travel)) (here (past_of tree)) n back s in
-      let stack : stack_in tree (Move travel) p ≡ with_bodies p (stack_at tree (node_at (past_of tree) tree.position).parent) = rw (way, stack_in) (stack_of_cell tree tree.position cell legal at) in
+      let shows = stands_shows runner p (place_in tree (Move travel) p n) back s in
+      let stack : bodies_in tree (Move travel) p ≡ with_bodies p (bodies_at tree (node_at (past_of tree) tree.position).parent) = rw (way, bodies_in) (bodies_of_cell tree tree.position cell legal at) in
       record {
-        shows = subst (λ (l : List ℕ). Shows runner l (entered (cell_of_program p) (world_at (past_of tree) (node_at (past_of tree) tree.position).parent))) stack
-            (subst (λ (w : World). Shows runner (stack_in tree (Move travel) p) w) world shows);
+        shows = subst (λ (l : List ℕ). Shows runner (over l (entered (cell_of_program p) (world_at (past_of tree) (node_at (past_of tree) tree.position).parent)))) stack
+            (subst (λ (w : World). Shows runner (over (bodies_in tree (Move travel) p) w)) world shows);
         whole = whole;
         ready = ready;
       }
@@ -666,17 +666,17 @@ module _ {L : Type 0} (tree : Tree) (runner : Runner L) (cell : Cell) (n : ℕ) 
 -- a redone cell has ended: its bodies are defined over those of the position, and are those of its node
 pub shows_down : {L : Type 0} (tree : Tree) (runner : Runner L) (travel : Travel) (n : ℕ) → Kept tree runner (Inside (record { work = Move travel; count = n; turn = GoesOn })) → next_way travel ≡ Down →
     HasEnded (past_of tree) (state.Move travel) n (world_of (start_of (code_of (past_of tree) (state.Move travel)) (here (past_of tree))).procedures runner) →
-    Shows runner (stack_at tree (below (past_of tree) travel)) (world_at (past_of tree) (below (past_of tree) travel))
+    Shows runner (over (bodies_at tree (below (past_of tree) travel)) (world_at (past_of tree) (below (past_of tree) travel)))
 shows_down tree runner travel n k way ended =
     let s : Past = past_of tree in
     let p : Program = k.stands.program in
     let of = rw (way, IsProgramOf) at k.stands.of_work in
     let next = next_below s travel k.legal way k.possible in
-    let stack : stack_in tree (Move travel) p ≡ stack_at tree (below s travel) =
-    rw (way, stack_in) (ap (λ (q : Program). with_bodies q (stack_at tree tree.position)) of.2 ∙ ap (λ (m : ℕ). with_bodies of.0.program (stack_at tree m)) (sym next.parent) ∙ sym (stack_of_cell tree (below s travel) of.0 k.legal of.1)) in
+    let stack : bodies_in tree (Move travel) p ≡ bodies_at tree (below s travel) =
+    rw (way, bodies_in) (ap (λ (q : Program). with_bodies q (bodies_at tree tree.position)) of.2 ∙ ap (λ (m : ℕ). with_bodies of.0.program (bodies_at tree m)) (sym next.parent) ∙ sym (bodies_of_cell tree (below s travel) of.0 k.legal of.1)) in
     let world = ended_down s travel n (world_of (start_of (code_of s (state.Move travel)) (here s)).procedures runner) way k.legal k.possible ended in
-    subst (λ (l : List ℕ). Shows runner l (world_at s (below s travel))) stack
-    (subst (λ (w : World). Shows runner (stack_in tree (Move travel) p) w) world (stands_shows runner p (stack_in tree (Move travel) p) (code_of s (state.Move travel)) (here s) n false k.stands.stands))
+    subst (λ (l : List ℕ). Shows runner (over l (world_at s (below s travel)))) stack
+    (subst (λ (w : World). Shows runner (over (bodies_in tree (Move travel) p) w)) world (stands_shows runner p (place_in tree (Move travel) p n) false k.stands.stands))
 
 -- a cell is posted: its bodies are kept behind those of all nodes
 pub posted_behind : {L : Type 0} (tree : Tree) (runner : Runner L) (program : Program) → NodesAreReady tree runner → program.first ≡ length (kept_in runner.procedures) → IsBehindNodes tree (RunCell program)
@@ -686,45 +686,45 @@ pub nodes_more : {L : Type 0} (tree : Tree) (runner at : Runner L) → GoOn runn
 nodes_more tree runner at more older h = λ n cell is.
     ready_more at.store.names runner.procedures at.procedures cell.program older (ready_grows runner.store.names at.store.names more runner.procedures cell.program (h n cell is))
 
-pub behind_stack : (tree : Tree) (program : Program) → IsLegal (past_of tree) → AreInOrder tree → IsBehindNodes tree (RunCell program) → AreBelow program.first (stack_at tree tree.position)
-behind_stack tree program legal order behind = stack_below tree legal order program.first tree.position (λ m cell low there. behind m cell there)
+pub behind_stack : (tree : Tree) (program : Program) → IsLegal (past_of tree) → AreInOrder tree → IsBehindNodes tree (RunCell program) → AreBelow program.first (bodies_at tree tree.position)
+behind_stack tree program legal order behind = bodies_below tree legal order program.first tree.position (λ m cell low there. behind m cell there)
 
 -- back at the count 0 what a cell declared and defined is left to be taken back
 module _ {L : Type 0} (tree : Tree) (runner : Runner L) (work : Work) (why : Why) (k : Kept tree runner (Inside (record { work = work; count = 0; turn = GoesBack why }))) where
   abbrev start : World
   start = start_of (code_of (past_of tree) (work_of work)) (here (past_of tree))
 
-  stands_back : (p : Program) → IsProgramOf tree work p → Stands runner p (stack_in tree work p) (code_of (past_of tree) (work_of work)) (here (past_of tree)) 0 true
+  stands_back : (p : Program) → IsProgramOf tree work p → Stands runner p (place_in tree work p 0) true
   stands_back p of = stands_with tree work 0 true runner p of k.stands
 
-  shows_back : (p : Program) (stack : List ℕ) (w : World) → IsProgramOf tree work p → stack_in tree work p ≡ stack → world_of start.procedures runner ≡ w → Shows runner stack w
+  shows_back : (p : Program) (stack : List ℕ) (w : World) → IsProgramOf tree work p → bodies_in tree work p ≡ stack → world_of start.procedures runner ≡ w → Shows runner (over stack w)
   shows_back p stack w of is world =
       let s = stands_back p of in
-      subst (λ (l : List ℕ). Shows runner l w) is (subst (λ (v : World). Shows runner (stack_in tree work p) v) world (stands_shows runner p (stack_in tree work p) (code_of (past_of tree) (work_of work)) (here (past_of tree)) 0 true s))
+      subst (λ (l : List ℕ). Shows runner (over l w)) is (subst (λ (v : World). Shows runner (over (bodies_in tree work p) v)) world (stands_shows runner p (place_in tree work p 0) true s))
 
   part_back : CodePart (code_of (past_of tree) (work_of work)) (here (past_of tree)) 0 (world_of start.procedures runner)
-  part_back = stands_part runner k.stands.program (stack_in tree work k.stands.program) (code_of (past_of tree) (work_of work)) (here (past_of tree)) 0 true k.stands.stands
+  part_back = stands_part runner k.stands.program (place_in tree work k.stands.program 0) true k.stands.stands
 
-  pub can_leave_cell : (program : Program) → work ≡ RunCell program → IsWhole runner.store → CanLeave runner program (stack_at tree tree.position) (here (past_of tree))
+  pub can_leave_cell : (program : Program) → work ≡ RunCell program → IsWhole runner.store → CanLeave runner program (shown_here tree)
   can_leave_cell program e whole =
       let of : IsProgramOf tree work program = rw e refl in
-      let is : stack_in tree work program ≡ with_bodies program (stack_at tree tree.position) = rw e refl in
+      let is : bodies_in tree work program ≡ with_bodies program (bodies_at tree tree.position) = rw e refl in
       record { shows = shows_back program _ _ of is (began_cell tree work program (world_of start.procedures runner) e part_back); whole = whole; ready = (stands_back program of).ready }
 
-  pub can_leave_down : (travel : Travel) (cell : Cell) → work ≡ Move travel → next_way travel ≡ Down → IsCellAt tree (below (past_of tree) travel) cell → IsWhole runner.store → CanLeave runner cell.program (stack_at tree tree.position) (here (past_of tree))
+  pub can_leave_down : (travel : Travel) (cell : Cell) → work ≡ Move travel → next_way travel ≡ Down → IsCellAt tree (below (past_of tree) travel) cell → IsWhole runner.store → CanLeave runner cell.program (shown_here tree)
   can_leave_down travel cell e way at whole =
       let of : IsProgramOf tree work cell.program = program_down tree work travel cell e way at in
-      let is : stack_in tree work cell.program ≡ with_bodies cell.program (stack_at tree tree.position) = rw (e, stack_in) (rw way refl) in
+      let is : bodies_in tree work cell.program ≡ with_bodies cell.program (bodies_at tree tree.position) = rw (e, bodies_in) (rw way refl) in
       record { shows = shows_back cell.program _ _ of is (began_down tree work travel (world_of start.procedures runner) cell e way at part_back); whole = whole; ready = (stands_back cell.program of).ready }
 
-  pub shows_up : (travel : Travel) → work ≡ Move travel → next_way travel ≡ Up → Shows runner (stack_at tree tree.position) (here (past_of tree))
+  pub shows_up : (travel : Travel) → work ≡ Move travel → next_way travel ≡ Up → Shows runner (shown_here tree)
   shows_up travel e way =
       let p : Program = k.stands.program in
-      let is : stack_in tree work p ≡ stack_at tree tree.position = rw (e, stack_in) (rw way refl) in
+      let is : bodies_in tree work p ≡ bodies_at tree tree.position = rw (e, bodies_in) (rw way refl) in
       shows_back p _ _ k.stands.of_work is (began_up tree work travel (world_of start.procedures runner) e way part_back)
 
   -- the bodies of a posted cell are behind all others, and can be dropped
-  pub below_posted : (program : Program) → work ≡ RunCell program → AreBelow program.first (stack_at tree tree.position)
+  pub below_posted : (program : Program) → work ≡ RunCell program → AreBelow program.first (bodies_at tree tree.position)
   below_posted program e =
       let behind : IsBehindNodes tree (RunCell program) = subst (λ (w : Work). IsBehindNodes tree w) e k.behind in
       behind_stack tree program k.legal k.order behind
@@ -735,11 +735,11 @@ module _ {L : Type 0} (tree : Tree) (runner : Runner L) (work : Work) (why : Why
       subst (λ (xs : List Name). IsReady xs new.procedures cell.program) (sym names) (ready_less old.store.names old.procedures new.procedures program.first cell.program (behind n cell is) kept (ready n cell is))
 
 -- what is shown stays where bodies that are not defined are dropped
-pub shows_forgotten : {L : Type 0} (old new : Runner L) (from : ℕ) (stack : List ℕ) (w : World) → new.store ≡ old.store → Shows old stack w → AreBelow from stack → kept_in new.procedures ≡ take from (kept_in old.procedures) → AreDefined new.procedures stack → Shows new stack w
-shows_forgotten old new from stack w same shows low kept defined = record {
+pub shows_forgotten : {L : Type 0} (old new : Runner L) (from : ℕ) (shown : ShownWorld) → new.store ≡ old.store → Shows old shown → AreBelow from shown.bodies → kept_in new.procedures ≡ take from (kept_in old.procedures) → AreDefined new.procedures shown.bodies → Shows new shown
+shows_forgotten old new from shown same shows low kept defined = record {
   store = ap (λ (h : Held). shown_store h) same ∙ shows.store;
   one_number = subst (λ (h : Held). HaveOneNumber h.names) (sym same) shows.one_number;
-  defined = subst (λ (h : Held). Define h.names new.procedures stack w.procedures) (sym same) (forgotten_still_defined old.store.names old.procedures new.procedures stack w.procedures from shows.defined low kept defined);
+  defined = subst (λ (h : Held). Define h.names new.procedures shown.bodies shown.world.procedures) (sym same) (forgotten_still_defined old.store.names old.procedures new.procedures shown.bodies shown.world.procedures from shows.defined low kept defined);
 }
 
 -- ---- a posted cell that could not be entered
@@ -751,17 +751,17 @@ pub record IsUnentered {L : Type 0} (tree : Tree) (old : Runner L) (made : Tree)
   pub position : made.position ≡ tree.position
   pub names : GoOn old.store.names at.store.names
   pub whole : IsWhole at.store
-  pub shows : Shows at (stack_at tree tree.position) (here (past_of tree))
+  pub shows : Shows at (shown_here tree)
   pub older : take (length (kept_in old.procedures)) (kept_in at.procedures) ≡ kept_in old.procedures
   pub idle : job ≡ Idle
 
 -- its bodies are dropped
-pub kept_dropped : {L : Type 0} (tree made : Tree) (old at new : Runner L) (job : Open) (first : ℕ) → Kept tree old Idle → IsUnentered tree old made at job → first ≡ length (kept_in old.procedures) → AreBelow first (stack_at tree tree.position) →
+pub kept_dropped : {L : Type 0} (tree made : Tree) (old at new : Runner L) (job : Open) (first : ℕ) → Kept tree old Idle → IsUnentered tree old made at job → first ≡ length (kept_in old.procedures) → AreBelow first (bodies_at tree tree.position) →
     new.store ≡ at.store → kept_in new.procedures ≡ take first (kept_in at.procedures) → ((stack : List ℕ) → AreDefined at.procedures stack → AreBelow first stack → AreDefined new.procedures stack) → IsKept made new job
 kept_dropped tree made old at new job first k un is low store kept defined =
     let same : kept_in new.procedures ≡ kept_in old.procedures = kept ∙ ap (λ (n : ℕ). take n (kept_in at.procedures)) is ∙ un.older in
     let names : GoOn old.store.names new.store.names = subst (λ (h : Held). GoOn old.store.names h.names) (sym store) un.names in
     let whole : IsWhole new.store = subst (λ (h : Held). IsWhole h) (sym store) un.whole in
-    let shows = shows_forgotten at new first (stack_at tree tree.position) (here (past_of tree)) store un.shows low kept (defined (stack_at tree tree.position) un.shows.defined.defined low) in
+    let shows = shows_forgotten at new first (shown_here tree) store un.shows low kept (defined (bodies_at tree tree.position) un.shows.defined.defined low) in
     let idle = kept_idle tree Idle old new k (nodes_ready tree old new names same k.ready) whole shows in
     subst (λ (j : Open). IsKept made new j) (sym un.idle) (idle_in_time made new (kept_with_room tree made new idle un.past un.nodes un.position))

@@ -1,12 +1,18 @@
 -- What a history keeps of its fields: the runner's store is the shown world.
-use Rattle.std.specs.Prelude.{◌≡◌, ℕ, zero, suc, ◌+◌, ◌-◌, ◌<◌, ◌≤◌, Bool, true, false, List, [], Option, None, Some, length, slice_get, slice_index}
+use Rattle.std.specs.Prelude.{◌≡◌, ℕ, zero, suc, ◌+◌, ◌-◌, ◌<◌, ◌≤◌, Bool, true, false, List, [], Option, None, Some}
+use Rattle.std.specs.Prelude.{length, map, slice_get, slice_index}
 use Rattle.cell_tree.specs.Tree.{contents_of}
 use Rattle.cell_tree.specs.declared.node.Node.{Node}
 use Rattle.janus_store.specs.Held.{IsWhole}
-use Rattle.janus_meaning.specs.World.{World}
+use Rattle.janus_meaning.specs.Syntax.{Proc}
+use Rattle.janus_meaning.specs.World.{World, define}
+use Rattle.janus_syntax.specs.Tree.{procedures_view}
+use Rattle.janus_syntax.specs.View.{plain_procedure}
+use Rattle.janus_syntax.specs.declared.tree.Procedure.{Procedure}
 use Rattle.kernel_machine.specs.Language.{start_of}
-use Rattle.kernel_machine.specs.Slices.{HasEnded}
-use Rattle.kernel_machine.specs.State.{here, ancestor, below, code_of}
+use Rattle.kernel_machine.specs.Slices.{HasEnded, Settles}
+use Rattle.kernel_machine.specs.declared.outcome.Sliced.{Sliced}
+use Rattle.kernel_machine.specs.State.{State, here, ancestor, below, code_of}
 use Rattle.kernel_machine.specs.declared.travel.Way.TheVariants.{Up, Down}
 use Rattle.kernel_machine.specs.declared.travel.Aim.{Aim}
 use Rattle.kernel_machine.specs.declared.travel.Aim.TheVariants.{Undo, Redo, Goto}
@@ -16,7 +22,7 @@ use Rattle.kernel_machine.specs.declared.turn.Turn.TheVariants.{GoesOn, GoesBack
 use Rattle.kernel_history.specs.Fields.{nodes_of, past_of, work_of, job_of}
 use Rattle.kernel_machine.specs.Legal.{IsLegal, IsPossibleAt, IsInTimeAt, IsCountedAt}
 use Rattle.kernel_runner.specs.Program.{procedures_of, IsReady, with_bodies}
-use Rattle.kernel_runner.specs.Runner.{Shows, Stands, world_of}
+use Rattle.kernel_runner.specs.Runner.{ShownWorld, over, Shows, Place, Stands, world_of}
 use Rattle.kernel_runner.specs.declared.program.Program.{Program}
 use Rattle.kernel_runner.specs.declared.runner.Runner.{Runner}
 use Rattle.kernel_history.specs.declared.tree.Tree.{Tree}
@@ -46,22 +52,30 @@ bodies_over None above = []
 bodies_over (Some node) above = with_bodies node.content.program (above node.parent)
 
 -- the bodies of the nodes on the path to a node, the newest first, where at most so many of them are told
-abbrev pub stack_up : ℕ → Tree → ℕ → List ℕ
-stack_up zero tree n = []
-stack_up (suc k) tree zero = []
-stack_up (suc k) tree (suc i) = bodies_over (slice_get tree.cells.nodes i) (stack_up k tree)
+abbrev pub bodies_up : ℕ → Tree → ℕ → List ℕ
+bodies_up zero tree n = []
+bodies_up (suc k) tree zero = []
+bodies_up (suc k) tree (suc i) = bodies_over (slice_get tree.cells.nodes i) (bodies_up k tree)
 
 -- the bodies that are defined at a node
-abbrev pub stack_at : Tree → ℕ → List ℕ
-stack_at tree n = stack_up n tree n
+abbrev pub bodies_at : Tree → ℕ → List ℕ
+bodies_at tree n = bodies_up n tree n
 
 -- inside a cell its own are defined, also while it is undone
-abbrev pub stack_in : Tree → Work → Program → List ℕ
-stack_in tree (RunCell p) program = with_bodies program (stack_at tree tree.position)
-stack_in tree (Move travel) program = elim (next_way travel) [
-  | Up ↦ stack_at tree tree.position
-  | Down ↦ with_bodies program (stack_at tree tree.position)
+abbrev pub bodies_in : Tree → Work → Program → List ℕ
+bodies_in tree (RunCell p) program = with_bodies program (bodies_at tree tree.position)
+bodies_in tree (Move travel) program = elim (next_way travel) [
+  | Up ↦ bodies_at tree tree.position
+  | Down ↦ with_bodies program (bodies_at tree tree.position)
 ]
+
+-- procedures over those of the position, the newest first
+abbrev pub over_here : List Procedure → Tree → List Proc
+over_here own tree = define (map plain_procedure (procedures_view own)) (here (past_of tree)).procedures
+
+-- those with which the steps of the work's code begin
+abbrev pub procedures_in : Tree → Work → List Proc
+procedures_in tree work = (start_of (code_of (past_of tree) (work_of work)) (here (past_of tree))).procedures
 
 -- each node's code has its numbers in the store, and its bodies are kept
 abbrev pub NodesAreReady : {L : Type 0} → Tree → Runner L → Type 0
@@ -87,20 +101,33 @@ IsBehindAt tree (Inside e) = IsBehindNodes tree e.work
 
 -- ---- where the runner stands
 
+-- between two cells it shows the world of the position, over the bodies that are defined there
+abbrev pub shown_here : Tree → ShownWorld
+shown_here tree = over (bodies_at tree tree.position) (here (past_of tree))
+
+-- inside a cell it has taken so many steps of the work's code, from the world of the position
+abbrev pub place_in : Tree → Work → Program → ℕ → Place
+place_in tree work program count = record {
+  bodies = bodies_in tree work program;
+  code = code_of (past_of tree) (work_of work);
+  world = here (past_of tree);
+  count = count;
+}
+
 abbrev pub is_back : Turn → Bool
 is_back GoesOn = false
 is_back (GoesBack why) = true
 
--- the runner stands in the work's program, so many steps from the world of the position
+-- the runner stands in the work's program
 pub record StandsIn {L : Type 0} (tree : Tree) (work : Work) (count : ℕ) (back : Bool) (runner : Runner L) : Type 0 where
   pub program : Program
   pub of_work : IsProgramOf tree work program
-  pub stands : Stands runner program (stack_in tree work program) (code_of (past_of tree) (work_of work)) (here (past_of tree)) count back
+  pub stands : Stands runner program (place_in tree work program count) back
 
 -- the runner stands where the open job says
 abbrev pub StandsAt : {L : Type 0} → Tree → Open → Runner L → Type 0
-StandsAt tree Idle runner = Shows runner (stack_at tree tree.position) (here (past_of tree))
-StandsAt tree (Border travel) runner = Shows runner (stack_at tree tree.position) (here (past_of tree))
+StandsAt tree Idle runner = Shows runner (shown_here tree)
+StandsAt tree (Border travel) runner = Shows runner (shown_here tree)
 StandsAt tree (Inside e) runner = StandsIn tree e.work e.count (is_back e.turn) runner
 
 -- between two cells no local is open
@@ -160,10 +187,14 @@ pub record IsKept {L : Type 0} (tree : Tree) (runner : Runner L) (job : Open) : 
 
 -- the world to which the work's code has led, as the runner shows it there
 abbrev pub reached : {L : Type 0} → Tree → Runner L → Work → World
-reached tree runner work = world_of (start_of (code_of (past_of tree) (work_of work)) (here (past_of tree))).procedures runner
+reached tree runner work = world_of (procedures_in tree work) runner
 
 -- the code of the work has come to its end, in n steps, and the runner stands there, with no local open
 pub record HasCome {L : Type 0} (tree : Tree) (runner : Runner L) (work : Work) (n : ℕ) : Type 0 where
   pub kept : Kept tree runner (Inside (record { work = work; count = n; turn = GoesOn }))
   pub ended : HasEnded (past_of tree) (work_of work) n (reached tree runner work)
   pub whole : IsWhole runner.store
+
+-- the cell settles well, in n steps and in the world to which its code has led: this is told, and the machine is here then
+abbrev pub SettlesFrom : {L : Type 0} → Tree → Runner L → Work → ℕ → Sliced → State → Type 0
+SettlesFrom tree runner work n told new = Settles (past_of tree) (work_of work) n (reached tree runner work) told new

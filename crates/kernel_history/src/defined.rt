@@ -1,16 +1,14 @@
 //! The procedures of a world, the newest first, as the cells on the path from its node to the root define them.
 ghost use Rattle.std.specs.Prelude.{◌≡◌, ℕ, ◌++◌, [], List, map, IfOk, OnOk};
-ghost use Rattle.janus_meaning.specs.Syntax.{Proc};
 ghost use Rattle.janus_meaning.specs.World.{define as defined_over};
 ghost use Rattle.janus_syntax.specs.Tree.{procedures_view};
 ghost use Rattle.janus_syntax.specs.View.{plain_procedure};
 ghost use Rattle.kernel_runner.specs.Defined.{in_a_row};
 ghost use Rattle.kernel_history.specs.Fields.{past_of, job_of, work_of};
-ghost use Rattle.kernel_history.specs.Kept.{HasPathAt, HasPathFor};
-ghost use Rattle.kernel_machine.specs.Language.{start_of};
-ghost use Rattle.kernel_runner.specs.Runner.{Shows};
+ghost use Rattle.kernel_history.specs.Kept.{HasPathAt, HasPathFor, over_here, procedures_in};
+ghost use Rattle.kernel_runner.specs.Runner.{over, Shows};
 ghost use Rattle.kernel_machine.specs.Legal.{IsLegal, IsPossibleAt, IsPossibleWork};
-ghost use Rattle.kernel_machine.specs.State.{here, code_of, procedures_at};
+ghost use Rattle.kernel_machine.specs.State.{here, procedures_at};
 
 use crate::job::{Open, Work};
 use crate::tree::{Tree, below};
@@ -25,7 +23,7 @@ pub fn own_procedures<'a>(tree: &'a Tree, job: &'a Open) -> &'a [Procedure]
     requires legal { IsLegal (past_of tree.now) }
     requires possible { IsPossibleAt (past_of tree.now) (job_of job.now) }
     requires path { HasPathAt tree.now job.now }
-    ensures { defined_over (map plain_procedure (procedures_view result.now)) (here (past_of tree.now)).procedures ≡ procedures_at (past_of tree.now) (job_of job.now) }
+    ensures { over_here result.now tree.now ≡ procedures_at (past_of tree.now) (job_of job.now) }
 {
     match job {
         Open::Idle | Open::Border(_) => &[],
@@ -38,7 +36,7 @@ fn procedures_of<'a>(tree: &'a Tree, work: &'a Work) -> &'a [Procedure]
     requires legal { IsLegal (past_of tree.now) }
     requires possible { IsPossibleWork (past_of tree.now) (work_of work.now) }
     requires path { HasPathFor tree.now work.now }
-    ensures { defined_over (map plain_procedure (procedures_view result.now)) (here (past_of tree.now)).procedures ≡ (start_of (code_of (past_of tree.now) (work_of work.now)) (here (past_of tree.now))).procedures }
+    ensures { over_here result.now tree.now ≡ procedures_in tree.now work.now }
 {
     match work {
         Work::Cell(program) => program.procedures(),
@@ -61,7 +59,7 @@ pub fn all_procedures<'a>(
     own: &'a [Procedure],
 ) -> Result<Vec<&'a Procedure>, AllocError>
     requires { IsLegal (past_of tree.now) }
-    ensures { IfOk result (λ all. in_a_row all.items ≡ defined_over (map plain_procedure (procedures_view own.now)) (here (past_of tree.now)).procedures) }
+    ensures { IfOk result (λ all. in_a_row all.items ≡ over_here own.now tree.now) }
 {
     let mut all = Vec::new(alloc);
     add_newest_first(&mut all, own)?;
@@ -81,7 +79,7 @@ pub fn procedures_here<'a, L: Ledger>(
     runner: &Runner<L>,
 ) -> Result<Vec<&'a Procedure>, AllocError>
     requires legal { IsLegal (past_of tree.now) }
-    requires shows { (stack : List ℕ) × Shows runner.now stack (here (past_of tree.now)) }
+    requires shows { (bodies : List ℕ) × Shows runner.now (over bodies (here (past_of tree.now))) }
     ensures { IfOk result (λ all. in_a_row all.items ≡ (here (past_of tree.now)).procedures) }
 {
     if runner.procedures.len() == 0 {

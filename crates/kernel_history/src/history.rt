@@ -1,6 +1,5 @@
 //! The history: the tree of cells, the one store, and the open job. It is what a kernel has besides its queue.
-ghost use Rattle.std.specs.Prelude.{◌≡◌, ◌≤◌, ℕ, List, IfOk, IfErr, OnOk, OnErr, length, nat_lt, take, vec_capacity};
-ghost use Rattle.janus_meaning.specs.World.{World};
+ghost use Rattle.std.specs.Prelude.{◌≡◌, ℕ, List, IfOk, IfErr, OnOk, OnErr, length, nat_lt};
 ghost use Rattle.kernel_machine.specs.State.{State, Idle, Border, here, is_full, Shown, new_state};
 ghost use Rattle.kernel_history.specs.Fields.{past_of, nodes_of, state_of, IsStageOf};
 ghost use Rattle.kernel_machine.specs.declared.travel.Aim.TheVariants.{Undo, Redo};
@@ -12,10 +11,10 @@ ghost use Rattle.janus_names.specs.Numbers.{GoOn};
 ghost use Rattle.janus_store.specs.Held.{IsWhole, KeepsSight};
 ghost use Rattle.janus_machine.specs.Bodies.{kept_in};
 ghost use Rattle.kernel_machine.specs.Text.{Accepts, Refuses};
-ghost use Rattle.kernel_runner.specs.Program.{cell_of_program, IsReady};
-ghost use Rattle.kernel_runner.specs.Runner.{Becomes, Shows};
+ghost use Rattle.kernel_runner.specs.Program.{cell_of_program, IsReady, KeepsOlder};
+ghost use Rattle.kernel_runner.specs.Runner.{ShownWorld, over, Becomes, Shows};
 ghost use Rattle.kernel_machine.specs.Extent.{IsExtent};
-ghost use Rattle.kernel_history.specs.Kept.{HasRoom, HasPath, NodesAreReady, AreInOrder, stack_at, Kept, IsKept, StandsAt};
+ghost use Rattle.kernel_history.specs.Kept.{HasPath, NodesAreReady, AreInOrder, shown_here, Kept, IsKept, StandsAt};
 
 use crate::defined::procedures_here;
 use crate::extent::extent_of;
@@ -66,7 +65,7 @@ fn enter_next<L: Ledger>(
     requires legal { IsLegal (past_of tree.now) }
     requires possible { IsPossible (nodes_of tree.now) tree.now.cells.favourites tree.now.position travel }
     requires path { HasPath travel.aim tree.now travel.down }
-    requires shows { Shows runner.old (stack_at tree.now tree.now.position) (here (past_of tree.now)) }
+    requires shows { Shows runner.old (shown_here tree.now) }
     requires whole { IsWhole runner.old.store }
     requires ready { NodesAreReady tree.now runner.old }
     requires order { AreInOrder tree.now }
@@ -126,16 +125,16 @@ fn prepare<L: Ledger>(
     runner: &mut Runner<L>,
 ) -> Result<Program, Refusal>
     requires legal { IsLegal (past_of tree.now) }
-    requires shows { (stack : List ℕ) × Shows runner.old stack (here (past_of tree.now)) }
+    requires shows { (bodies : List ℕ) × Shows runner.old (over bodies (here (past_of tree.now))) }
     requires whole { IsWhole runner.old.store }
     ensures accepts { IfOk result (λ program. Accepts (here (past_of tree.now)) text.now (cell_of_program program)) }
     ensures refuses { IfErr result (Refuses (here (past_of tree.now)) text.now) }
     ensures ready { IfOk result (λ program. IsReady runner.new.store.names runner.new.procedures program) }
     // Its bodies are behind those that were kept, and what is refused leaves those alone.
     ensures behind { IfOk result (λ program. program.first ≡ length (kept_in runner.old.procedures)) }
-    ensures older { take (length (kept_in runner.old.procedures)) (kept_in runner.new.procedures) ≡ kept_in runner.old.procedures }
+    ensures older { KeepsOlder runner.old.procedures runner.new.procedures }
     ensures kept { KeepsSight runner.old.store runner.new.store }
-    ensures shown { (stack : List ℕ) (w : World) → Shows runner.old stack w → Shows runner.new stack w }
+    ensures shown { (shown : ShownWorld) → Shows runner.old shown → Shows runner.new shown }
 {
     let Ok(procedures) = procedures_here(alloc, tree, runner) else {
         return Err(Refusal::Memory);

@@ -1,19 +1,17 @@
 //! The parts of a slice: steps onward and back, and what comes at the end of a cell. None of them takes memory.
 ghost use Rattle.std.specs.Prelude.{◌≡◌, ◌-◌};
-ghost use Rattle.kernel_machine.specs.Language.{CodePart};
-ghost use Rattle.kernel_machine.specs.State.{Past, here, code_of};
+ghost use Rattle.kernel_machine.specs.State.{Past};
 ghost use Rattle.kernel_machine.specs.declared.travel.Way.TheVariants.{Up, Down};
 ghost use Rattle.kernel_machine.specs.Travel.{next_way};
 ghost use Rattle.kernel_history.specs.Fields.{past_of, state_of, work_of, job_of};
 ghost use Rattle.kernel_machine.specs.Legal.{IsLegal, IsPossibleWork};
-ghost use Rattle.kernel_machine.specs.Slices.{finished as the_finished, turned as the_turned, Backs, cells, Arrives, Settles, Goes, HasEnded};
+ghost use Rattle.kernel_machine.specs.Slices.{finished as the_finished, turned as the_turned, Backs, cells, Arrives, Goes};
 ghost use Rattle.janus_machine.specs.Counts.{IsWritten};
 ghost use Rattle.kernel_machine.specs.StepsOfSlices.{steps_back, WritesOn};
 ghost use Rattle.janus_names.specs.Numbers.{GoOn};
 ghost use Rattle.janus_store.specs.Held.{IsWhole};
-ghost use Rattle.kernel_machine.specs.Language.{start_of};
-ghost use Rattle.kernel_runner.specs.Runner.{world_of, Shows};
-ghost use Rattle.kernel_history.specs.Kept.{Kept, HasCome, IsProgramOf, HasPathFor, NodesAreReady, reached, stack_at};
+ghost use Rattle.kernel_runner.specs.Runner.{Shows};
+ghost use Rattle.kernel_history.specs.Kept.{Kept, HasCome, IsProgramOf, HasPathFor, NodesAreReady, SettlesFrom, shown_here};
 
 use crate::job::{Entered, Open, Work};
 use crate::tree::{Cell, Tree, below};
@@ -66,7 +64,7 @@ fn turned(work: &Work, why: Why) -> Outcome
 fn settle_back<L: Ledger>(tree: &Tree, runner: &mut Runner<L>, work: &Work)
     requires kept { (why : Why) × Kept tree.now runner.old (Open.Inside (record { work = work.now; count = 0; turn = Turn.GoesBack why })) }
     requires whole { IsWhole runner.old.store }
-    ensures shows { Shows runner.new (stack_at tree.now tree.now.position) (here (past_of tree.now)) }
+    ensures shows { Shows runner.new (shown_here tree.now) }
     ensures ready { NodesAreReady tree.now runner.new }
     ensures whole { IsWhole runner.new.store }
     ensures names { GoOn runner.old.store.names runner.new.store.names }
@@ -155,7 +153,7 @@ fn settle_cell<L: Ledger>(
     n: u64,
 ) -> (Open, Sliced)
     requires { HasCome tree.old runner.now (Work.Cell program) n }
-    ensures step { Settles (past_of tree.old) (work_of (Work.Cell program)) n (reached tree.old runner.now (Work.Cell program)) result.1 (state_of tree.new result.0) }
+    ensures step { SettlesFrom tree.old runner.now (Work.Cell program) n result.1 (state_of tree.new result.0) }
     ensures kept { Kept tree.new runner.now result.0 }
 {
     let parent = tree.position;
@@ -175,7 +173,7 @@ fn settle_up<L: Ledger>(
 ) -> (Open, Sliced)
     requires way { next_way travel ≡ Up }
     requires come { HasCome tree.old runner.old (Work.Move travel) n }
-    ensures step { Settles (past_of tree.old) (work_of (Work.Move travel)) n (reached tree.old runner.old (Work.Move travel)) result.1 (state_of tree.new result.0) }
+    ensures step { SettlesFrom tree.old runner.old (Work.Move travel) n result.1 (state_of tree.new result.0) }
     ensures kept { Kept tree.new runner.new result.0 }
 {
     runner.leave(&tree.cells.content(tree.position).program);
@@ -192,7 +190,7 @@ fn settle_down<L: Ledger>(
 ) -> (Open, Sliced)
     requires way { next_way travel ≡ Down }
     requires come { HasCome tree.old runner.now (Work.Move travel) n }
-    ensures step { Settles (past_of tree.old) (work_of (Work.Move travel)) n (reached tree.old runner.now (Work.Move travel)) result.1 (state_of tree.new result.0) }
+    ensures step { SettlesFrom tree.old runner.now (Work.Move travel) n result.1 (state_of tree.new result.0) }
     ensures kept { Kept tree.new runner.now result.0 }
 {
     let child = below(tree, travel);
@@ -204,7 +202,7 @@ fn settle_down<L: Ledger>(
 /// A cell came to its end, in `n` steps.
 fn settle<L: Ledger>(tree: &mut Tree, runner: &mut Runner<L>, work: Work, n: u64) -> (Open, Sliced)
     requires { HasCome tree.old runner.old work n }
-    ensures step { Settles (past_of tree.old) (work_of work) n (reached tree.old runner.old work) result.1 (state_of tree.new result.0) }
+    ensures step { SettlesFrom tree.old runner.old work n result.1 (state_of tree.new result.0) }
     ensures kept { Kept tree.new runner.new result.0 }
 {
     match work {

@@ -1,5 +1,5 @@
 //! The tree of cells that ended well, and where the kernel stands in it.
-ghost use Rattle.std.specs.Prelude.{◌≡◌, ◌<◌, ◌≤◌, ◌↔◌, IsErr, IfOk, length};
+ghost use Rattle.std.specs.Prelude.{◌≡◌, ◌≤◌, ◌↔◌, ℕ, IsTrue, IsErr, IfOk, length};
 ghost use Rattle.kernel_machine.specs.State.{below, is_full};
 ghost use Rattle.kernel_machine.specs.declared.travel.Way.TheVariants.{Down};
 ghost use Rattle.kernel_machine.specs.declared.travel.Aim.TheVariants.{Goto};
@@ -34,19 +34,49 @@ pub fn is_full(tree: &Tree) -> bool
     tree.cells.nodes() >= NODE_LIMIT
 }
 
+/// How many nodes the position can go up, of so many at most.
+pub fn nodes_above(tree: &Tree, most: usize) -> usize
+    requires { IsLegal (past_of tree.now) }
+    ensures most { result ≤ most }
+    ensures within { (k : ℕ) → k ≤ most → IsTrue (can_undo (nodes_of tree.now) tree.now.position k) ↔ (k ≤ result) }
+    // Of as many as there are nodes, all are counted.
+    ensures all { length tree.now.cells.nodes ≤ most → (k : ℕ) → IsTrue (can_undo (nodes_of tree.now) tree.now.position k) ↔ (k ≤ result) }
+{
+    let mut at = tree.position;
+    for count in 0..most {
+        if at == 0 {
+            return count;
+        }
+        at = tree.cells.parent(at);
+    }
+    most
+}
+
+/// How many nodes the position can go down, along favourites, of so many at most.
+pub fn nodes_below(tree: &Tree, most: usize) -> usize
+    requires { IsLegal (past_of tree.now) }
+    ensures most { result ≤ most }
+    ensures within { (k : ℕ) → k ≤ most → IsTrue (can_redo tree.now.cells.favourites tree.now.position k) ↔ (k ≤ result) }
+    // Of as many as there are nodes, all are counted.
+    ensures all { length tree.now.cells.nodes ≤ most → (k : ℕ) → IsTrue (can_redo tree.now.cells.favourites tree.now.position k) ↔ (k ≤ result) }
+{
+    let mut at = tree.position;
+    for count in 0..most {
+        let Some(child) = tree.cells.favourite(at) else {
+            return count;
+        };
+        at = child;
+    }
+    most
+}
+
 /// Whether the position can go up `k` nodes.
 pub fn can_go_up(tree: &Tree, k: u32) -> bool
     requires { IsLegal (past_of tree.now) }
     ensures { result ≡ can_undo (nodes_of tree.now) tree.now.position k }
 {
-    let mut at = tree.position;
-    for _i in 0..k {
-        if at == 0 {
-            return false;
-        }
-        at = tree.cells.parent(at);
-    }
-    true
+    let most = k as usize;
+    nodes_above(tree, most) == most
 }
 
 /// Whether the position can go down `k` nodes, along favourites.
@@ -54,14 +84,8 @@ pub fn can_go_down(tree: &Tree, k: u32) -> bool
     requires { IsLegal (past_of tree.now) }
     ensures { result ≡ can_redo tree.now.cells.favourites tree.now.position k }
 {
-    let mut at = tree.position;
-    for _i in 0..k {
-        let Some(child) = tree.cells.favourite(at) else {
-            return false;
-        };
-        at = child;
-    }
-    true
+    let most = k as usize;
+    nodes_below(tree, most) == most
 }
 
 /// The node to which the travel goes down next.

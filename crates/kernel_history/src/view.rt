@@ -34,20 +34,16 @@ pub struct View<'a, L: Ledger> {
 impl<'a, L: Ledger> Model for View<'a, L> {
     ghost use Rattle.janus_meaning.specs.World.{World};
     ghost use Rattle.janus_meaning.specs.Codes.{world_code};
-    ghost use Rattle.std.specs.Prelude.{map};
-    ghost use Rattle.janus_meaning.specs.World.{define};
-    ghost use Rattle.janus_syntax.specs.Tree.{procedures_view};
-    ghost use Rattle.janus_syntax.specs.View.{plain_procedure};
     ghost use Rattle.janus_store.specs.Held.{shown_store};
     ghost use Rattle.kernel_history.specs.Fields.{past_of};
     ghost use Rattle.kernel_machine.specs.Legal.{IsLegal};
-    ghost use Rattle.kernel_machine.specs.State.{here};
+    ghost use Rattle.kernel_history.specs.Kept.{over_here};
 
     ghost Value = { World };
 
     ghost coded = { world_code };
 
-    ghost view = { λ v. record { store = shown_store v.store.now; procedures = define (map plain_procedure (procedures_view v.own.now)) (here (past_of v.tree.now)).procedures } };
+    ghost view = { λ v. record { store = shown_store v.store.now; procedures = over_here v.own.now v.tree.now } };
 
     ghost invariant = { λ v. IsLegal (past_of v.tree.now) };
 }

@@ -27,9 +27,9 @@ use Rattle.janus_machine.specs.declared.cursor.Cursor.{Cursor}
 use Rattle.janus_machine.specs.declared.procedures.Procedures.{Procedures}
 use Rattle.janus_machine.proofs.BodiesInEffect.{all_defined, all_retired, bodies_from_same}
 use Rattle.janus_machine.proofs.Courses.{blocks_are_safe, books_turn}
-use Rattle.kernel_machine.specs.Language.{Forward, Backward, CodeExec, IsFormed, IsSound}
+use Rattle.kernel_machine.specs.Language.{CodeExec, IsFormed, IsSound}
 use Rattle.kernel_runner.specs.Program.{cell_of_program, procedures_of, IsReady, with_bodies}
-use Rattle.kernel_runner.specs.Runner.{Becomes, Shows, Stands, CanEnter, CanReturn, CanLeave}
+use Rattle.kernel_runner.specs.Runner.{ShownWorld, Becomes, Shows, Stands, entry, inverse_entry, CanEnter, CanReturn, CanLeave}
 use Rattle.kernel_runner.specs.declared.program.Program.{Program}
 use Rattle.kernel_runner.specs.declared.runner.Runner.{Runner}
 use Rattle.kernel_runner.proofs.Growing.{defined_grow, ready_grows}
@@ -99,22 +99,22 @@ pub record IsBefore (cursor : Cursor) (book : Book) (blk : Blk) : Type 0 where
   pub place : (t : Procedures) (hs : List Caller) → place_of t book cursor hs ≡ BeforeBlock blk []
   pub counts : (cursor.count ≡ 0) × (cursor.turned ≡ false)
 
-pub entered_here : {L : Type 0} (old new : Runner L) (program : Program) (stack : List ℕ) (w : World) → CanEnter old program stack w →
-    Becomes old.store new.store (declare (cell_of_program program).declarations old.store.sight) → kept_in new.procedures ≡ kept_in old.procedures → AreDefined new.procedures (with_bodies program stack) →
-    IsBefore new.cursor program.book (cell_of_program program).block → Stands new program (with_bodies program stack) (Forward (cell_of_program program)) w 0 false
-entered_here old new program stack w can becomes kept defined before =
+pub entered_here : {L : Type 0} (old new : Runner L) (program : Program) (from : ShownWorld) → CanEnter old program from →
+    Becomes old.store new.store (declare (cell_of_program program).declarations old.store.sight) → kept_in new.procedures ≡ kept_in old.procedures → AreDefined new.procedures (with_bodies program from.bodies) →
+    IsBefore new.cursor program.book (cell_of_program program).block → Stands new program (entry program from) false
+entered_here old new program from can becomes kept defined before =
     let cell = cell_of_program program in
-    let start : World = entered cell w in
-    let shown : old.store.sight ≡ w.store = sym (all_shown old.store can.whole) ∙ can.shows.store in
+    let start : World = entered cell from.world in
+    let shown : old.store.sight ≡ from.world.store = sym (all_shown old.store can.whole) ∙ can.shows.store in
     let same : new.store.sight ≡ start.store = becomes.sight ∙ ap (declare cell.declarations) shown in
     let standing = before.stands new.procedures new.store becomes.whole.callers in
     let place = before.place new.procedures new.store.callers in
-    let grown : Define new.store.names old.procedures stack w.procedures = defined_grow old.store.names new.store.names becomes.names old.procedures stack w.procedures can.shows.defined in
+    let grown : Define new.store.names old.procedures from.bodies from.world.procedures = defined_grow old.store.names new.store.names becomes.names old.procedures from.bodies from.world.procedures can.shows.defined in
     let itself : Becomes old.store new.store new.store.sight = record { sight = refl; whole = becomes.whole; names = becomes.names; one_number = becomes.one_number } in
     let ready = ready_grows old.store.names new.store.names becomes.names old.procedures program can.ready in
     record {
       cell = refl;
-      good = entered_is_good cell w (sound_good w can.sound);
+      good = entered_is_good cell from.world (sound_good from.world can.sound);
       few = omega arith;
       counted = before.counts.0;
       turned = before.counts.1;
@@ -123,21 +123,21 @@ entered_here old new program stack w can becomes kept defined before =
       agrees = agrees_before (stacks_in start.store) new.procedures program.book new.cursor new.store cell.block becomes.whole (ap stacks_in same) standing place;
       ready = ready_still old new program itself kept can.ready;
       one_number = becomes.one_number can.shows.one_number;
-      defined = all_defined new.store.names old.procedures new.procedures program.first (procedures_of program) stack w.procedures kept grown ready.bodies defined;
-      faces = (ap (λ (r : Store). To (BeforeBlock cell.block []) r) (sym same) ∙ ap (λ (p : Place). To p new.store.sight) (sym place), never_broken cell w can.sound can.formed);
+      defined = all_defined new.store.names old.procedures new.procedures program.first (procedures_of program) from.bodies from.world.procedures kept grown ready.bodies defined;
+      faces = (ap (λ (r : Store). To (BeforeBlock cell.block []) r) (sym same) ∙ ap (λ (p : Place). To p new.store.sight) (sym place), never_broken cell from.world can.sound can.formed);
     }
 
 -- ---- and its inverse
 
-pub entered_inverse_here : {L : Type 0} (old new : Runner L) (program : Program) (stack : List ℕ) (w : World) → CanReturn old program stack w → new.store ≡ old.store → new.procedures ≡ old.procedures →
-    IsBefore new.cursor program.book (block_in program.book Inverse) → Stands new program stack (Backward (cell_of_program program)) w 0 false
+pub entered_inverse_here : {L : Type 0} (old new : Runner L) (program : Program) (from : ShownWorld) → CanReturn old program from → new.store ≡ old.store → new.procedures ≡ old.procedures →
+    IsBefore new.cursor program.book (block_in program.book Inverse) → Stands new program (inverse_entry program from) false
 unfolding CodeExec
-entered_inverse_here old new program stack w can store procedures before =
+entered_inverse_here old new program from can store procedures before =
     let cell = cell_of_program program in
-    let back = worlds_reverse (entered cell can.before) cell.block can.steps w (entered_is_good cell can.before (sound_good can.before can.sound)) can.ran in
-    let never : NeverBroken w.procedures (stacks_in w.store) (inverse_block cell.block) w.store = (blocks_are_safe w.procedures (stacks_in w.store) (inverse_block cell.block) w.store).ended can.steps _ back.back.ran in
+    let back = worlds_reverse (entered cell can.before) cell.block can.steps from.world (entered_is_good cell can.before (sound_good can.before can.sound)) can.ran in
+    let never : NeverBroken from.world.procedures (stacks_in from.world.store) (inverse_block cell.block) from.world.store = (blocks_are_safe from.world.procedures (stacks_in from.world.store) (inverse_block cell.block) from.world.store).ended can.steps _ back.back.ran in
     let now : IsWhole new.store = subst (λ (h : Held). IsWhole h) (sym store) can.whole in
-    let same : new.store.sight ≡ w.store = ap (λ (h : Held). h.sight) store ∙ sym (all_shown old.store can.whole) ∙ can.shows.store in
+    let same : new.store.sight ≡ from.world.store = ap (λ (h : Held). h.sight) store ∙ sym (all_shown old.store can.whole) ∙ can.shows.store in
     let standing = before.stands new.procedures new.store now.callers in
     let place : place_of new.procedures program.book new.cursor new.store.callers ≡ BeforeBlock (inverse_block cell.block) [] = before.place new.procedures new.store.callers ∙ ap (λ (b : Blk). BeforeBlock b []) (books_turn program.book) in
     record {
@@ -148,21 +148,21 @@ entered_inverse_here old new program stack w can store procedures before =
       turned = before.counts.1;
       standing = standing;
       declared = now.declared ∙ ap size_of same;
-      agrees = agrees_before (stacks_in w.store) new.procedures program.book new.cursor new.store (inverse_block cell.block) now (ap stacks_in same) standing place;
+      agrees = agrees_before (stacks_in from.world.store) new.procedures program.book new.cursor new.store (inverse_block cell.block) now (ap stacks_in same) standing place;
       ready = subst (λ (h : Held). IsReady h.names new.procedures program) (sym store) (subst (λ (t : Procedures). IsReady old.store.names t program) (sym procedures) can.ready);
       one_number = subst (λ (h : Held). HaveOneNumber h.names) (sym store) can.shows.one_number;
-      defined = subst (λ (h : Held). Define h.names new.procedures stack w.procedures) (sym store) (subst (λ (t : Procedures). Define old.store.names t stack w.procedures) (sym procedures) can.shows.defined);
+      defined = subst (λ (h : Held). Define h.names new.procedures from.bodies from.world.procedures) (sym store) (subst (λ (t : Procedures). Define old.store.names t from.bodies from.world.procedures) (sym procedures) can.shows.defined);
       faces = (ap (λ (r : Store). To (BeforeBlock (inverse_block cell.block) []) r) (sym same) ∙ ap (λ (p : Place). To p new.store.sight) (sym place), never);
     }
 
 -- ---- leaving a cell
 
-pub left_here : {L : Type 0} (old new : Runner L) (program : Program) (stack : List ℕ) (before : World) → CanLeave old program stack before → Becomes old.store new.store before.store →
-    kept_in new.procedures ≡ kept_in old.procedures → AreDefined new.procedures stack → Shows new stack before
-left_here old new program stack before can becomes kept defined = record {
+pub left_here : {L : Type 0} (old new : Runner L) (program : Program) (to : ShownWorld) → CanLeave old program to → Becomes old.store new.store to.world.store →
+    kept_in new.procedures ≡ kept_in old.procedures → AreDefined new.procedures to.bodies → Shows new to
+left_here old new program to can becomes kept defined = record {
   store = all_shown new.store becomes.whole ∙ becomes.sight;
   one_number = becomes.one_number can.shows.one_number;
   defined =
-      all_retired new.store.names old.procedures new.procedures program.first (procedures_of program) stack before.procedures kept
-      (defined_grow old.store.names new.store.names becomes.names old.procedures (with_bodies program stack) (entered (cell_of_program program) before).procedures can.shows.defined) defined;
+      all_retired new.store.names old.procedures new.procedures program.first (procedures_of program) to.bodies to.world.procedures kept
+      (defined_grow old.store.names new.store.names becomes.names old.procedures (with_bodies program to.bodies) (entered (cell_of_program program) to.world).procedures can.shows.defined) defined;
 }

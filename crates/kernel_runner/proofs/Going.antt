@@ -2,7 +2,7 @@
 use Rattle.std.proofs.Common.{◌≡◌, ℕ, List, ◌+◌, ◌-◌, ◌<◌, ◌≤◌, Bool, true, false, sym, ap, ◌∙◌, subst, arith, inl, inr}
 use Rattle.janus_meaning.specs.Syntax.{Name, Proc}
 use Rattle.janus_meaning.specs.Stepping.{Halt}
-use Rattle.janus_meaning.specs.World.{World, stacks_in}
+use Rattle.janus_meaning.specs.World.{stacks_in}
 use Rattle.janus_meaning.specs.Limit.{step_limit}
 use Rattle.janus_names.specs.Numbers.{HaveOneNumber}
 use Rattle.janus_store.specs.Held.{Held}
@@ -19,46 +19,42 @@ use Rattle.janus_machine.specs.declared.cursor.Cursor.{Cursor}
 use Rattle.janus_machine.specs.declared.fault.Fault as machine
 use Rattle.janus_machine.proofs.BodiesInEffect.{defined_in_effect}
 use Rattle.janus_machine.proofs.Courses.{runs_mean, backs_mean}
-use Rattle.kernel_machine.specs.Language.{Code, CodeStop, run_block, start_of}
+use Rattle.kernel_machine.specs.Language.{CodeStop, run_block}
 use Rattle.kernel_runner.specs.Program.{IsReady}
-use Rattle.kernel_runner.specs.Runner.{Stands}
+use Rattle.kernel_runner.specs.Runner.{Place, at_count, start_at, Stands}
 use Rattle.kernel_runner.specs.declared.program.Program.{Program}
 use Rattle.kernel_runner.specs.declared.runner.Runner.{Runner}
 
-module _ {L : Type 0} (runner : Runner L) (program : Program) (stack : List ℕ) (code : Code) (w : World) (count : ℕ) where
-  pub in_effect : (back : Bool) → Stands runner program stack code w count back → AreInEffect runner.store.names runner.procedures (start_of code w).procedures
-  in_effect back h = defined_in_effect runner.store.names runner.procedures stack (start_of code w).procedures h.one_number h.defined
+module _ {L : Type 0} (runner : Runner L) (program : Program) (at : Place) where
+  pub in_effect : (back : Bool) → Stands runner program at back → AreInEffect runner.store.names runner.procedures (start_at at).procedures
+  in_effect back h = defined_in_effect runner.store.names runner.procedures at.bodies (start_at at).procedures h.one_number h.defined
 
   -- the laws of the machine, at a runner
-  pub run_means : Stands runner program stack code w count false → RunMeans (start_of code w).procedures (stacks_in (start_of code w).store) (run_block code) (start_of code w).store count runner.procedures program.book runner.cursor runner.store
+  pub run_means : Stands runner program at false → RunMeans (start_at at).procedures (stacks_in (start_at at).store) (run_block at.code) (start_at at).store at.count runner.procedures program.book runner.cursor runner.store
   run_means h = runs_mean _ _ _ _ _ _ _ _ _ h.standing h.faces.0
 
-  pub back_means : Stands runner program stack code w count true → BackMeans (start_of code w).procedures (stacks_in (start_of code w).store) (run_block code) (start_of code w).store count runner.procedures program.book runner.cursor runner.store
+  pub back_means : Stands runner program at true → BackMeans (start_at at).procedures (stacks_in (start_at at).store) (run_block at.code) (start_at at).store at.count runner.procedures program.book runner.cursor runner.store
   back_means h = backs_mean _ _ _ _ _ _ _ _ _ h.good h.standing h.faces
 
-  pub safe_on : (m : ℕ) → Stands runner program stack code w count false → IsSafeAhead runner.procedures program.book m runner.cursor runner.store
+  pub safe_on : (m : ℕ) → Stands runner program at false → IsSafeAhead runner.procedures program.book m runner.cursor runner.store
   safe_on m h = (run_means h).safe m (in_effect false h) h.agrees h.faces.1
 
-  pub safe_back : (m : ℕ) → Stands runner program stack code w count true → IsSafeAhead runner.procedures program.book m runner.cursor runner.store
+  pub safe_back : (m : ℕ) → Stands runner program at true → IsSafeAhead runner.procedures program.book m runner.cursor runner.store
   safe_back m h = (back_means h).safe m (in_effect true h) h.agrees
 
-  pub stops_at : (f : machine.Fault) → Stands runner program stack code w count false → count < step_limit →
-      next_of (start_of code w).procedures (stacks_in (start_of code w).store) runner.procedures program.book runner.cursor runner.store ≡ Halt (fault_of f) → CodeStop code w count (fault_of f)
+  pub stops_at : (f : machine.Fault) → Stands runner program at false → at.count < step_limit →
+      next_of (start_at at).procedures (stacks_in (start_at at).store) runner.procedures program.book runner.cursor runner.store ≡ Halt (fault_of f) → CodeStop at.code at.world at.count (fault_of f)
   unfolding CodeStop
   stops_at f h early halts = inl (early, (run_means h).stop (fault_of f) halts)
 
-  pub at_start : Stands runner program stack code w count true → has_ended runner.cursor ≡ true → count ≡ 0
+  pub at_start : Stands runner program at true → has_ended runner.cursor ≡ true → at.count ≡ 0
   at_start h ended = (back_means h).begun.0 ended
 
-  pub no_fault_back : (f : machine.Fault) → Stands runner program stack code w count true →
-      next_of (start_of code w).procedures (stacks_in (start_of code w).store) runner.procedures program.book runner.cursor runner.store ≡ Halt (fault_of f) → ⊥
+  pub no_fault_back : (f : machine.Fault) → Stands runner program at true →
+      next_of (start_at at).procedures (stacks_in (start_at at).store) runner.procedures program.book runner.cursor runner.store ≡ Halt (fault_of f) → ⊥
   no_fault_back f h halts = (back_means h).fault (fault_of f) halts
 
-module _ {L : Type 0} (program : Program) (stack : List ℕ) (code : Code) (w : World) where
-  back_means_at : (at : Runner L) (n : ℕ) → Stands at program stack code w n true → BackMeans (start_of code w).procedures (stacks_in (start_of code w).store) (run_block code) (start_of code w).store n at.procedures program.book at.cursor at.store
-  back_means_at at n h = back_means at program stack code w n h
-
-module _ {L : Type 0} (runner : Runner L) (program : Program) (stack : List ℕ) (code : Code) (w : World) (count : ℕ) where
+module _ {L : Type 0} (runner : Runner L) (program : Program) (at : Place) where
   module _ (store : Held) (cursor : Cursor) (t : ℕ) where
     -- what a slice promises of its steps, and of what is open, where the store agrees with the cursor
     abbrev pub TakesSteps : Type 0
@@ -70,9 +66,9 @@ module _ {L : Type 0} (runner : Runner L) (program : Program) (stack : List ℕ)
     abbrev pub gone : Runner L
     gone = record { store = store; cursor = cursor; procedures = runner.procedures }
 
-    pub gone_on : Stands runner program stack code w count false → IsStanding runner.procedures program.book cursor store → KeepsMet runner.store store → KeepsAgreement → Counts t runner.cursor cursor → TakesSteps → Stands gone program stack code w (count + t) false
+    pub gone_on : Stands runner program at false → IsStanding runner.procedures program.book cursor store → KeepsMet runner.store store → KeepsAgreement → Counts t runner.cursor cursor → TakesSteps → Stands gone program (at_count (at.count + t) at) false
     gone_on h standing names agrees counts steps =
-        let now : cursor.count ≡ count + t = counts.count ∙ ap (λ (b : Bool). counted b runner.cursor.count t) h.turned ∙ ap (λ (n : ℕ). n + t) h.counted in
+        let now : cursor.count ≡ at.count + t = counts.count ∙ ap (λ (b : Bool). counted b runner.cursor.count t) h.turned ∙ ap (λ (n : ℕ). n + t) h.counted in
         let few = standing.few in
         record {
           cell = h.cell;
@@ -85,14 +81,14 @@ module _ {L : Type 0} (runner : Runner L) (program : Program) (stack : List ℕ)
           agrees = agrees _ h.agrees;
           ready = subst (λ (xs : List Name). IsReady xs runner.procedures program) (sym names.names) h.ready;
           one_number = subst (λ (xs : List Name). HaveOneNumber xs) (sym names.names) h.one_number;
-          defined = subst (λ (xs : List Name). Define xs runner.procedures stack (start_of code w).procedures) (sym names.names) h.defined;
-          faces = ((run_means runner program stack code w count h).more t cursor store (steps _ _ (in_effect runner program stack code w count false h) h.agrees), h.faces.1);
+          defined = subst (λ (xs : List Name). Define xs runner.procedures at.bodies (start_at at).procedures) (sym names.names) h.defined;
+          faces = ((run_means runner program at h).more t cursor store (steps _ _ (in_effect runner program at false h) h.agrees), h.faces.1);
         }
 
-    pub gone_back : Stands runner program stack code w count true → IsStanding runner.procedures program.book cursor store → KeepsMet runner.store store → KeepsAgreement → Counts t runner.cursor cursor → TakesSteps → Stands gone program stack code w (count - t) true × (t ≤ count)
+    pub gone_back : Stands runner program at true → IsStanding runner.procedures program.book cursor store → KeepsMet runner.store store → KeepsAgreement → Counts t runner.cursor cursor → TakesSteps → Stands gone program (at_count (at.count - t) at) true × (t ≤ at.count)
     gone_back h standing names agrees counts steps =
-        let means = back_means runner program stack code w count h in
-        let within : t ≤ count = means.no_further t cursor store (steps _ _ (in_effect runner program stack code w count true h) h.agrees) in
+        let means = back_means runner program at h in
+        let within : t ≤ at.count = means.no_further t cursor store (steps _ _ (in_effect runner program at true h) h.agrees) in
         let few = h.few in (
           record {
             cell = h.cell;
@@ -105,29 +101,29 @@ module _ {L : Type 0} (runner : Runner L) (program : Program) (stack : List ℕ)
             agrees = agrees _ h.agrees;
             ready = subst (λ (xs : List Name). IsReady xs runner.procedures program) (sym names.names) h.ready;
             one_number = subst (λ (xs : List Name). HaveOneNumber xs) (sym names.names) h.one_number;
-            defined = subst (λ (xs : List Name). Define xs runner.procedures stack (start_of code w).procedures) (sym names.names) h.defined;
-            faces = means.back t cursor store within (steps _ _ (in_effect runner program stack code w count true h) h.agrees);
+            defined = subst (λ (xs : List Name). Define xs runner.procedures at.bodies (start_at at).procedures) (sym names.names) h.defined;
+            faces = means.back t cursor store within (steps _ _ (in_effect runner program at true h) h.agrees);
           },
           within,
         )
 
     -- a slice back, by why it ends
-    pub back_cut : (m : ℕ) (e : ends.End) → Stands runner program stack code w count true → IsStanding runner.procedures program.book cursor store → KeepsMet runner.store store → KeepsAgreement → t ≤ m → Counts t runner.cursor cursor → TakesSteps →
-        ((ps : List Proc) (k : ℕ) → AreInEffect runner.store.names runner.procedures ps → Agrees k runner.procedures program.book runner.cursor runner.store → SliceEndsBy ps k m t runner.procedures program.book cursor store e) → Stands gone program stack code w (count - m) true
+    pub back_cut : (m : ℕ) (e : ends.End) → Stands runner program at true → IsStanding runner.procedures program.book cursor store → KeepsMet runner.store store → KeepsAgreement → t ≤ m → Counts t runner.cursor cursor → TakesSteps →
+        ((ps : List Proc) (k : ℕ) → AreInEffect runner.store.names runner.procedures ps → Agrees k runner.procedures program.book runner.cursor runner.store → SliceEndsBy ps k m t runner.procedures program.book cursor store e) → Stands gone program (at_count (at.count - m) at) true
     back_cut m end.Cut h standing names agrees low counts steps why =
         let s = gone_back h standing names agrees counts steps in
-        subst (λ (x : ℕ). Stands gone program stack code w (count - x) true) (why _ _ (in_effect runner program stack code w count true h) h.agrees).0 s.0
+        subst (λ (x : ℕ). Stands gone program (at_count (at.count - x) at) true) (why _ _ (in_effect runner program at true h) h.agrees).0 s.0
     back_cut m end.Ended h standing names agrees low counts steps why =
         let s = gone_back h standing names agrees counts steps in
-        let start : count - t ≡ 0 = (back_means_at program stack code w gone (count - t) s.0).begun.0 (why _ _ (in_effect runner program stack code w count true h) h.agrees) in
-        let e : count - t ≡ count - m = omega arith in
-        subst (λ (x : ℕ). Stands gone program stack code w x true) e s.0
+        let start : at.count - t ≡ 0 = (back_means gone program (at_count (at.count - t) at) s.0).begun.0 (why _ _ (in_effect runner program at true h) h.agrees) in
+        let e : at.count - t ≡ at.count - m = omega arith in
+        subst (λ (x : ℕ). Stands gone program (at_count x at) true) e s.0
     back_cut m (end.Fault f) h standing names agrees low counts steps why =
         let s = gone_back h standing names agrees counts steps in
         absurd (
-        elim (why _ _ (in_effect runner program stack code w count true h) h.agrees).2 [
+        elim (why _ _ (in_effect runner program at true h) h.agrees).2 [
           | inl at ↦ (let facing : true ≡ false = sym s.0.turned ∙ at.0.forward in cc)
-          | inr halted ↦ (back_means_at program stack code w gone (count - t) s.0).fault (fault_of f) halted.1
+          | inr halted ↦ (back_means gone program (at_count (at.count - t) at) s.0).fault (fault_of f) halted.1
         ]
         )
 

@@ -26,7 +26,7 @@ use Rattle.janus_machine.specs.declared.procedures.Procedures.{Procedures}
 use Rattle.kernel_runner.specs.Known.{FindTheSame}
 use Rattle.kernel_runner.specs.Met.{AreDeclaredMet, MeetOwn, AreProceduresMet}
 use Rattle.kernel_runner.specs.Program.{procedures_of, IsReady}
-use Rattle.kernel_runner.specs.Runner.{Shows}
+use Rattle.kernel_runner.specs.Runner.{ShownWorld, Shows, IsCheckedOver}
 use Rattle.kernel_runner.specs.declared.program.Program.{Program}
 use Rattle.kernel_runner.specs.declared.runner.Runner.{Runner}
 use Rattle.kernel_runner.proofs.Borders.{all_shown}
@@ -64,16 +64,16 @@ shown_kept old new k =
     ∙ ap (λ (cs : List Caller). oldest old.declared (given_back old.sight cs)) k.callers
 
 -- more names may be met, and more bodies kept behind the others
-pub shows_more : {L : Type 0} (old new : Runner L) (stack : List ℕ) (w : World) → KeepsSight old.store new.store → HaveOneNumber new.store.names → take (length (kept_in old.procedures)) (kept_in new.procedures) ≡ kept_in old.procedures →
-    (AreDefined old.procedures stack → AreDefined new.procedures stack) → Shows old stack w → Shows new stack w
-shows_more old new stack w sight one kept still h =
-    let grown : Define new.store.names old.procedures stack w.procedures = defined_grow old.store.names new.store.names sight.names old.procedures stack w.procedures h.defined in
+pub shows_more : {L : Type 0} (old new : Runner L) (shown : ShownWorld) → KeepsSight old.store new.store → HaveOneNumber new.store.names → take (length (kept_in old.procedures)) (kept_in new.procedures) ≡ kept_in old.procedures →
+    (AreDefined old.procedures shown.bodies → AreDefined new.procedures shown.bodies) → Shows old shown → Shows new shown
+shows_more old new shown sight one kept still h =
+    let grown : Define new.store.names old.procedures shown.bodies shown.world.procedures = defined_grow old.store.names new.store.names sight.names old.procedures shown.bodies shown.world.procedures h.defined in
     record {
       store = shown_kept old.store new.store sight ∙ h.store;
       one_number = one;
       defined = record {
         defined = still h.defined.defined;
-        bodies = bodies_of_more new.store.names (length (kept_in old.procedures)) (kept_in new.procedures) stack w.procedures (subst (λ (bs : List Procedure). AreBodies new.store.names bs stack w.procedures) (sym kept) grown.bodies);
+        bodies = bodies_of_more new.store.names (length (kept_in old.procedures)) (kept_in new.procedures) shown.bodies shown.world.procedures (subst (λ (bs : List Procedure). AreBodies new.store.names bs shown.bodies shown.world.procedures) (sym kept) grown.bodies);
       };
     }
 
@@ -91,19 +91,19 @@ pub kept_count : (t : Procedures) → length (kept_in t) ≡ length t.bodies.ite
 kept_count t = length-map t.bodies.items _
 
 -- where its names were met, all names of a cell were that is checked over the shown world
-pub cell_met : {L : Type 0} (runner : Runner L) (h : Held) (stack : List ℕ) (w : World) (t c : tree.Cell) (ds : List Declaration) → Shows runner stack w → IsWellFormed (shape_of w.store) (heads_of w.procedures) c → HaveValues w.store → IsWhole runner.store → KeepsSight runner.store h → AreKnown h → t ≡ c → ds ≡ (plain_cell t).declarations →
+pub cell_met : {L : Type 0} (runner : Runner L) (h : Held) (shown : ShownWorld) (t c : tree.Cell) (ds : List Declaration) → IsCheckedOver runner c shown → IsWhole runner.store → KeepsSight runner.store h → AreKnown h → t ≡ c → ds ≡ (plain_cell t).declarations →
     AreDeclaredMet h.names ds → MeetOwn h.names (plain_cell t).procedures → MeetsLocalsOf h.names (plain_cell t).block →
     MeetsBlk h.names (plain_cell c).block × AreProceduresMet h.names (plain_cell c).procedures
-cell_met runner h stack w t c ds shows formed values whole kept known is same declared own locals =
-    let sight : h.sight ≡ w.store = kept.sight ∙ sym (all_shown runner.store whole) ∙ shows.store in
-    let grown : Define h.names runner.procedures stack w.procedures = defined_grow runner.store.names h.names kept.names runner.procedures stack w.procedures shows.defined in
-    let met : AreMet (shape_of w.store) h.names = subst (λ (s : Store). AreMet (shape_of s) h.names) sight (sight_met h (subst HaveValues (sym sight) values) known) in
-    let called : AreCalledMet (heads_of w.procedures) h.names = defined_met h.names (kept_in runner.procedures) stack w.procedures grown.bodies in
+cell_met runner h shown t c ds checked whole kept known is same declared own locals =
+    let sight : h.sight ≡ shown.world.store = kept.sight ∙ sym (all_shown runner.store whole) ∙ checked.shows.store in
+    let grown : Define h.names runner.procedures shown.bodies shown.world.procedures = defined_grow runner.store.names h.names kept.names runner.procedures shown.bodies shown.world.procedures checked.shows.defined in
+    let met : AreMet (shape_of shown.world.store) h.names = subst (λ (s : Store). AreMet (shape_of s) h.names) sight (sight_met h (subst HaveValues (sym sight) checked.values) known) in
+    let called : AreCalledMet (heads_of shown.world.procedures) h.names = defined_met h.names (kept_in runner.procedures) shown.bodies shown.world.procedures grown.bodies in
     let declared_here = subst (λ (ds : List Declaration). AreDeclaredMet h.names ds) (same ∙ ap (λ (t : tree.Cell). (plain_cell t).declarations) is) declared in
     let own_here = subst (λ (t : tree.Cell). MeetOwn h.names (plain_cell t).procedures) is own in
     let locals_here = subst (λ (t : tree.Cell). MeetsLocalsOf h.names (plain_cell t).block) is locals in (
-      all_met (shape_of w.store) (heads_of w.procedures) h.names c formed met called declared_here own_here locals_here,
-      all_procedures_met (shape_of w.store) (heads_of w.procedures) h.names c formed called own_here,
+      all_met (shape_of shown.world.store) (heads_of shown.world.procedures) h.names c checked.formed met called declared_here own_here locals_here,
+      all_procedures_met (shape_of shown.world.store) (heads_of shown.world.procedures) h.names c checked.formed called own_here,
     )
 
 viewed_count : (ys : List Defined.Procedure) → length (map plain_procedure (procedures_view ys)) ≡ length ys

@@ -26,8 +26,8 @@ use Rattle.janus_machine.specs.declared.cursor.Call.{Call}
 use Rattle.janus_machine.specs.declared.cursor.Cursor.{Cursor}
 use Rattle.janus_machine.specs.declared.procedures.Procedures.{Procedures}
 use Rattle.janus_machine.proofs.Seen.{seen_is}
-use Rattle.kernel_machine.specs.Language.{Code, CodePart, CodeExec, CodeStop, run_block, start_of}
-use Rattle.kernel_runner.specs.Runner.{Stands, world_of}
+use Rattle.kernel_machine.specs.Language.{CodePart, CodeExec, CodeStop, run_block}
+use Rattle.kernel_runner.specs.Runner.{Place, at_count, start_at, world_inside, Stands}
 use Rattle.kernel_runner.specs.declared.program.Program.{Program}
 use Rattle.kernel_runner.specs.declared.runner.Runner.{Runner}
 use Rattle.kernel_runner.proofs.Borders.{all_shown}
@@ -48,145 +48,141 @@ no_callers xs t b d [] [] e h = refl
 no_callers xs t b d [] (x ∷ hs) e h = absurd h
 no_callers xs t b d (c ∷ cs) hs e h = cc
 
-module _ {L : Type 0} (runner : Runner L) (program : Program) (stack : List ℕ) (code : Code) (w : World) where
-  abbrev start : World
-  start = start_of code w
-
+module _ {L : Type 0} (runner : Runner L) (program : Program) (at : Place) where
   ended_callers : IsStanding runner.procedures program.book runner.cursor runner.store → has_ended runner.cursor ≡ true → runner.store.callers ≡ []
   ended_callers standing ended =
       no_callers runner.store.names runner.procedures program.book runner.cursor.direction (calls_of runner.cursor) runner.store.callers
       (none_called runner.cursor.calls.items (second _ (has_no_calls runner.cursor.calls.items) ended)) standing.calls
 
   -- the world shown is what is seen at the cursor of the declared names
-  world_seen : IsStanding runner.procedures program.book runner.cursor runner.store → runner.store.declared ≡ size_of start.store →
-      world_of start.procedures runner ≡ record start { store = oldest (size_of start.store) (seen_at start.procedures runner.procedures program.book runner.cursor runner.store) }
+  world_seen : IsStanding runner.procedures program.book runner.cursor runner.store → runner.store.declared ≡ size_of (start_at at).store →
+      world_inside at runner ≡ record (start_at at) { store = oldest (size_of (start_at at).store) (seen_at (start_at at).procedures runner.procedures program.book runner.cursor runner.store) }
   world_seen standing declared =
-      ap (λ (n : ℕ). record { store = oldest n (given_back runner.store.sight runner.store.callers); procedures = start.procedures }) declared
-      ∙ ap (λ (s : Store). record { store = oldest (size_of start.store) s; procedures = start.procedures }) (sym (seen_is start.procedures runner.procedures program.book runner.cursor runner.store standing))
+      ap (λ (n : ℕ). record { store = oldest n (given_back runner.store.sight runner.store.callers); procedures = (start_at at).procedures }) declared
+      ∙ ap (λ (s : Store). record { store = oldest (size_of (start_at at).store) s; procedures = (start_at at).procedures }) (sym (seen_is (start_at at).procedures runner.procedures program.book runner.cursor runner.store standing))
 
-  module _ (count : ℕ) where
-    -- the store is the world after the counted steps
-    pub stands_part : (back : Bool) → Stands runner program stack code w count back → CodePart code w count (world_of start.procedures runner)
-    unfolding CodePart
-    stands_part false h = record {
-      limit = h.few;
-      store = seen_at start.procedures runner.procedures program.book runner.cursor runner.store;
-      part = (run_means runner program stack code w count h).part;
-      shown = world_seen h.standing h.declared;
-    }
-    stands_part true h = record {
-      limit = h.few;
-      store = seen_at start.procedures runner.procedures program.book runner.cursor runner.store;
-      part = (back_means runner program stack code w count h).part;
-      shown = world_seen h.standing h.declared;
-    }
+  -- the store is the world after the counted steps
+  pub stands_part : (back : Bool) → Stands runner program at back → CodePart at.code at.world at.count (world_inside at runner)
+  unfolding CodePart
+  stands_part false h = record {
+    limit = h.few;
+    store = seen_at (start_at at).procedures runner.procedures program.book runner.cursor runner.store;
+    part = (run_means runner program at h).part;
+    shown = world_seen h.standing h.declared;
+  }
+  stands_part true h = record {
+    limit = h.few;
+    store = seen_at (start_at at).procedures runner.procedures program.book runner.cursor runner.store;
+    part = (back_means runner program at h).part;
+    shown = world_seen h.standing h.declared;
+  }
 
-    -- at the end of the code no local and no call is open
-    pub whole_at_end : Stands runner program stack code w count false → has_ended runner.cursor ≡ true → IsWhole runner.store
-    whole_at_end h ended =
-        let ran = (run_means runner program stack code w count h).ended ended in
-        record {
-          declared = h.declared ∙ sym (same_size runner.store.sight start.store (keeps_shape _ _ _ _ _ ran));
-          callers = ended_callers h.standing ended;
-        }
+  -- at the end of the code no local and no call is open
+  pub whole_at_end : Stands runner program at false → has_ended runner.cursor ≡ true → IsWhole runner.store
+  whole_at_end h ended =
+      let ran = (run_means runner program at h).ended ended in
+      record {
+        declared = h.declared ∙ sym (same_size runner.store.sight (start_at at).store (keeps_shape _ _ _ _ _ ran));
+        callers = ended_callers h.standing ended;
+      }
 
-    pub at_end : Stands runner program stack code w count false → has_ended runner.cursor ≡ true → CodeExec code w count (world_of start.procedures runner)
-    unfolding CodeExec
-    at_end h ended = record {
-      limit = h.few;
-      ran = subst (λ (s : Store). BlockExec (around start) (Block (run_block code)) start.store count s) (sym (all_shown runner.store (whole_at_end h ended)))
-          ((run_means runner program stack code w count h).ended ended);
-      procedures = refl;
-    }
+  pub at_end : Stands runner program at false → has_ended runner.cursor ≡ true → CodeExec at.code at.world at.count (world_inside at runner)
+  unfolding CodeExec
+  at_end h ended = record {
+    limit = h.few;
+    ran = subst (λ (s : Store). BlockExec (around (start_at at)) (Block (run_block at.code)) (start_at at).store at.count s) (sym (all_shown runner.store (whole_at_end h ended)))
+        ((run_means runner program at h).ended ended);
+    procedures = refl;
+  }
 
-    -- code that is under way has no end within the counted steps
-    pub not_ended : Stands runner program stack code w count false → has_ended runner.cursor ≡ false → (i : ℕ) (u : World) → CodeExec code w i u → count < i
-    unfolding CodeExec CodePart
-    not_ended h going i u e =
-        let means = run_means runner program stack code w count h in
-        let early : count ≤ i = (worlds_start_and_end start (run_block code)).in_time i count u (world_of start.procedures runner) e (stands_part false h) in
-        let other : i ≢ count = λ (same : i ≡ count). means.going going u.store (subst (λ (x : ℕ). BlockExec (around start) (Block (run_block code)) start.store x u.store) same e.ran) in
-        omega arith
+  -- code that is under way has no end within the counted steps
+  pub not_ended : Stands runner program at false → has_ended runner.cursor ≡ false → (i : ℕ) (u : World) → CodeExec at.code at.world i u → at.count < i
+  unfolding CodeExec CodePart
+  not_ended h going i u e =
+      let means = run_means runner program at h in
+      let early : at.count ≤ i = (worlds_start_and_end (start_at at) (run_block at.code)).in_time i at.count u (world_inside at runner) e (stands_part false h) in
+      let other : i ≢ at.count = λ (same : i ≡ at.count). means.going going u.store (subst (λ (x : ℕ). BlockExec (around (start_at at)) (Block (run_block at.code)) (start_at at).store x u.store) same e.ran) in
+      omega arith
 
-    limit_met : Stands runner program stack code w count false → count ≡ step_limit → has_ended runner.cursor ≡ false → CodeStop code w count StepLimit
-    unfolding CodeStop
-    limit_met h limit going =
-        let means = run_means runner program stack code w count h in
-        inr (
-          limit,
-          refl,
-          elim means.part [
-            | inl under_way ↦ (seen_at start.procedures runner.procedures program.book runner.cursor runner.store, under_way)
-            | inr done ↦ absurd (means.going going _ done)
-          ],
-        )
+  limit_met : Stands runner program at false → at.count ≡ step_limit → has_ended runner.cursor ≡ false → CodeStop at.code at.world at.count StepLimit
+  unfolding CodeStop
+  limit_met h limit going =
+      let means = run_means runner program at h in
+      inr (
+        limit,
+        refl,
+        elim means.part [
+          | inl under_way ↦ (seen_at (start_at at).procedures runner.procedures program.book runner.cursor runner.store, under_way)
+          | inr done ↦ absurd (means.going going _ done)
+        ],
+      )
 
-    -- why the next step is refused
-    pub refused_at : (f : machine.Fault) → Stands runner program stack code w count false → has_ended runner.cursor ≡ false →
-        Refuses start.procedures (stacks_in start.store) runner.procedures program.book runner.cursor runner.store f → CodeStop code w count (fault_of f)
-    refused_at f h going refuses =
-        elim refuses [
-          | inl at ↦ subst (λ (x : machine.Fault). CodeStop code w count (fault_of x)) (sym at.1) (limit_met h (sym h.counted ∙ at.0.all) going)
-          | inr halted ↦
-              let few = h.few in
-              let other : count ≢ step_limit = λ (e : count ≡ step_limit). halted.0 (record { forward = h.turned; all = h.counted ∙ e }) in
-              stops_at runner program stack code w count f h (omega arith) halted.1
-        ]
+  -- why the next step is refused
+  pub refused_at : (f : machine.Fault) → Stands runner program at false → has_ended runner.cursor ≡ false →
+      Refuses (start_at at).procedures (stacks_in (start_at at).store) runner.procedures program.book runner.cursor runner.store f → CodeStop at.code at.world at.count (fault_of f)
+  refused_at f h going refuses =
+      elim refuses [
+        | inl limited ↦ subst (λ (x : machine.Fault). CodeStop at.code at.world at.count (fault_of x)) (sym limited.1) (limit_met h (sym h.counted ∙ limited.0.all) going)
+        | inr halted ↦
+            let few = h.few in
+            let other : at.count ≢ step_limit = λ (e : at.count ≡ step_limit). halted.0 (record { forward = h.turned; all = h.counted ∙ e }) in
+            stops_at runner program at f h (omega arith) halted.1
+      ]
 
-    -- ---- turned round
+  -- ---- turned round
 
-    pub turned_round : (cursor : Cursor) → Stands runner program stack code w count false → IsStanding runner.procedures program.book cursor runner.store →
-        place_of runner.procedures program.book cursor runner.store.callers ≡ mirror (place_of runner.procedures program.book runner.cursor runner.store.callers) →
-        ((k : ℕ) → Agrees k runner.procedures program.book runner.cursor runner.store → Agrees k runner.procedures program.book cursor runner.store) →
-        (cursor.count ≡ runner.cursor.count) × (cursor.turned ≡ not runner.cursor.turned) →
-        Stands {L = L} (record { store = runner.store; cursor = cursor; procedures = runner.procedures }) program stack code w count true
-    turned_round cursor h standing place agrees counts = record {
-      cell = h.cell;
-      good = h.good;
-      few = h.few;
-      counted = counts.0 ∙ h.counted;
-      turned = counts.1 ∙ ap not h.turned;
-      standing = standing;
-      declared = h.declared;
-      agrees = agrees _ h.agrees;
-      ready = h.ready;
-      one_number = h.one_number;
-      defined = h.defined;
-      faces = (run_means runner program stack code w count h).turned cursor place;
-    }
+  pub turned_round : (cursor : Cursor) → Stands runner program at false → IsStanding runner.procedures program.book cursor runner.store →
+      place_of runner.procedures program.book cursor runner.store.callers ≡ mirror (place_of runner.procedures program.book runner.cursor runner.store.callers) →
+      ((k : ℕ) → Agrees k runner.procedures program.book runner.cursor runner.store → Agrees k runner.procedures program.book cursor runner.store) →
+      (cursor.count ≡ runner.cursor.count) × (cursor.turned ≡ not runner.cursor.turned) →
+      Stands {L = L} (record { store = runner.store; cursor = cursor; procedures = runner.procedures }) program at true
+  turned_round cursor h standing place agrees counts = record {
+    cell = h.cell;
+    good = h.good;
+    few = h.few;
+    counted = counts.0 ∙ h.counted;
+    turned = counts.1 ∙ ap not h.turned;
+    standing = standing;
+    declared = h.declared;
+    agrees = agrees _ h.agrees;
+    ready = h.ready;
+    one_number = h.one_number;
+    defined = h.defined;
+    faces = (run_means runner program at h).turned cursor place;
+  }
 
-  -- where it began no local and no call is open
-  pub whole_at_start : Stands runner program stack code w 0 true → IsWhole runner.store
-  whole_at_start h =
-      let means = back_means runner program stack code w 0 h in
-      record { declared = h.declared ∙ sym (ap size_of (means.at_start refl)); callers = ended_callers h.standing (means.begun.1 refl) }
+-- where it began no local and no call is open
+pub whole_at_start : {L : Type 0} (runner : Runner L) (program : Program) (at : Place) → at.count ≡ 0 → Stands runner program at true → IsWhole runner.store
+whole_at_start runner program at none h =
+    let means = back_means runner program at h in
+    record { declared = h.declared ∙ sym (ap size_of (means.at_start none)); callers = ended_callers runner program at h.standing (means.begun.1 none) }
 
-  -- ---- by why a slice ends, after t steps of m
+-- ---- by why a slice ends, after t steps of m
 
-  module _ (count t m : ℕ) (s : Stands runner program stack code w (count + t) false) where
-    -- a slice that left the block
-    pub run_ended : (n : ℕ) → t ≤ m → n ≡ runner.cursor.count → has_ended runner.cursor ≡ true → CodeExec code w n (world_of start.procedures runner) × (n ≤ count + m)
-    run_ended n low is ended =
-        let e : n ≡ count + t = is ∙ s.counted in
-        (subst (λ (x : ℕ). CodeExec code w x (world_of start.procedures runner)) (sym e) (at_end (count + t) s ended), omega arith)
+module _ {L : Type 0} (runner : Runner L) (program : Program) (at : Place) (t m : ℕ) (s : Stands runner program (at_count (at.count + t) at) false) where
+  -- a slice that left the block
+  pub run_ended : (n : ℕ) → t ≤ m → n ≡ runner.cursor.count → has_ended runner.cursor ≡ true → CodeExec at.code at.world n (world_inside at runner) × (n ≤ at.count + m)
+  run_ended n low is ended =
+      let e : n ≡ at.count + t = is ∙ s.counted in
+      (subst (λ (x : ℕ). CodeExec at.code at.world x (world_inside at runner)) (sym e) (at_end runner program (at_count (at.count + t) at) s ended), omega arith)
 
-    -- one whose next step is refused
-    pub run_stopped : (n : ℕ) (f : machine.Fault) → t < m → n ≡ runner.cursor.count → has_ended runner.cursor ≡ false →
-        Refuses start.procedures (stacks_in start.store) runner.procedures program.book runner.cursor runner.store f →
-        CodePart code w n (world_of start.procedures runner) × CodeStop code w n (fault_of f) × (n < count + m)
-    run_stopped n f low is going refuses =
-        let e : n ≡ count + t = is ∙ s.counted in (
-          subst (λ (x : ℕ). CodePart code w x (world_of start.procedures runner)) (sym e) (stands_part (count + t) false s),
-          subst (λ (x : ℕ). CodeStop code w x (fault_of f)) (sym e) (refused_at (count + t) f s going refuses),
-          omega arith,
-        )
+  -- one whose next step is refused
+  pub run_stopped : (n : ℕ) (f : machine.Fault) → t < m → n ≡ runner.cursor.count → has_ended runner.cursor ≡ false →
+      Refuses (start_at at).procedures (stacks_in (start_at at).store) runner.procedures program.book runner.cursor runner.store f →
+      CodePart at.code at.world n (world_inside at runner) × CodeStop at.code at.world n (fault_of f) × (n < at.count + m)
+  run_stopped n f low is going refuses =
+      let e : n ≡ at.count + t = is ∙ s.counted in (
+        subst (λ (x : ℕ). CodePart at.code at.world x (world_inside at runner)) (sym e) (stands_part runner program (at_count (at.count + t) at) false s),
+        subst (λ (x : ℕ). CodeStop at.code at.world x (fault_of f)) (sym e) (refused_at runner program (at_count (at.count + t) at) f s going refuses),
+        omega arith,
+      )
 
-    -- and one that took all its steps
-    pub run_went : t ≡ m → has_ended runner.cursor ≡ false → CodePart code w (count + m) (world_of start.procedures runner) × ((n : ℕ) (u : World) → CodeExec code w n u → count + m < n)
-    run_went all going =
-        subst (λ (x : ℕ). CodePart code w (count + x) (world_of start.procedures runner) × ((n : ℕ) (u : World) → CodeExec code w n u → count + x < n)) all
-        (stands_part (count + t) false s, λ n u e. not_ended (count + t) s going n u e)
+  -- and one that took all its steps
+  pub run_went : t ≡ m → has_ended runner.cursor ≡ false → CodePart at.code at.world (at.count + m) (world_inside at runner) × ((n : ℕ) (u : World) → CodeExec at.code at.world n u → at.count + m < n)
+  run_went all going =
+      subst (λ (x : ℕ). CodePart at.code at.world (at.count + x) (world_inside at runner) × ((n : ℕ) (u : World) → CodeExec at.code at.world n u → at.count + x < n)) all
+      (stands_part runner program (at_count (at.count + t) at) false s, λ n u e. not_ended runner program (at_count (at.count + t) at) s going n u e)
 
-  -- it stands at a count by another name
-  pub stands_at : (n k : ℕ) (back : Bool) → n ≡ k → Stands runner program stack code w n back → Stands runner program stack code w k back
-  stands_at n k back e h = subst (λ (x : ℕ). Stands runner program stack code w x back) e h
+-- it stands at a count by another name
+pub stands_at : {L : Type 0} (runner : Runner L) (program : Program) (at : Place) (n k : ℕ) (back : Bool) → n ≡ k → Stands runner program (at_count n at) back → Stands runner program (at_count k at) back
+stands_at runner program at n k back e h = subst (λ (x : ℕ). Stands runner program (at_count x at) back) e h

@@ -1,12 +1,14 @@
 -- The cell that a program is.
-use Rattle.std.specs.Prelude.{ℕ, ◌+◌, ◌≤◌, List, length, map, string_bytes}
+use Rattle.std.specs.Prelude.{◌≡◌, ℕ, ◌+◌, ◌≤◌, List, [], ◌∷◌, ◌++◌, length, map, take, string_bytes}
 use Rattle.janus_meaning.specs.Syntax.{Name, Proc}
 use Rattle.janus_meaning.specs.World.{Cell, Declaration, DeclareInt, DeclareArray, DeclareStack}
 use Rattle.janus_syntax.specs.View.{plain_cell}
 use Rattle.janus_check.specs.Checked.{cell_in}
 use Rattle.janus_machine.specs.Places.{block_in, BookHasNumbers}
-use Rattle.janus_machine.specs.Bodies.{kept_in, AreBodiesFrom, onto}
+use Rattle.janus_names.specs.Numbers.{IsNumbered}
+use Rattle.janus_machine.specs.Bodies.{kept_in, AreDefined, AreBodiesFrom, IsBody, onto}
 use Rattle.janus_machine.specs.declared.book.Direction.TheVariants.{Forward}
+use Rattle.janus_machine.specs.declared.procedure.Procedure.{Procedure}
 use Rattle.janus_machine.specs.declared.procedures.Procedures.{Procedures}
 use Rattle.kernel_runner.specs.declared.program.Declared.{Declared}
 use Rattle.kernel_runner.specs.declared.program.Declared.TheVariants.{Number, Array, Stack}
@@ -23,7 +25,11 @@ abbrev pub procedures_of : Program → List Proc
 procedures_of program = (plain_cell (cell_in program.checked)).procedures
 
 abbrev pub cell_of_program : Program → Cell
-cell_of_program program = record { declarations = map declaration_of program.declarations.items; procedures = procedures_of program; block = block_in program.book Forward }
+cell_of_program program = record {
+  declarations = map declaration_of program.declarations.items;
+  procedures = procedures_of program;
+  block = block_in program.book Forward;
+}
 
 -- What runs of it has its numbers among the names that were met: its code, and the bodies of its procedures, which are kept one behind
 -- another.
@@ -34,4 +40,25 @@ pub record IsReady (names : List Name) (t : Procedures) (program : Program) : Ty
 
 -- its bodies defined one after another over older ones
 abbrev pub with_bodies : Program → List ℕ → List ℕ
-with_bodies program stack = onto program.first (length (procedures_of program)) stack
+with_bodies program bodies = onto program.first (length (procedures_of program)) bodies
+
+-- ---- keeping the bodies of procedures
+
+-- the body of this procedure is kept behind the others
+pub record IsKeptBehind (names : List Name) (old new : Procedures) (p : Proc) : Type 0 where
+  pub body : Procedure
+  pub kept : kept_in new ≡ kept_in old ++ body ∷ []
+  pub name : IsNumbered names body.name p.name
+  pub of_procedure : IsBody names body p
+
+-- and the bodies of these, in order
+abbrev pub AreBodiesBehind : List Name → Procedures → Procedures → List Proc → Type 0
+AreBodiesBehind names old new ps = AreBodiesFrom names (kept_in new) (length (kept_in old)) ps
+
+-- what was kept is, at its index
+abbrev pub KeepsOlder : Procedures → Procedures → Type 0
+KeepsOlder old new = take (length (kept_in old)) (kept_in new) ≡ kept_in old
+
+-- what is defined stays defined
+abbrev pub KeepsDefined : Procedures → Procedures → Type 0
+KeepsDefined old new = (bodies : List ℕ) → AreDefined old bodies → AreDefined new bodies

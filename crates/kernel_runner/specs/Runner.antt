@@ -1,33 +1,54 @@
--- What a runner is: the shown world, the procedures that are in effect, and a place in the code of the open cell.
-use Rattle.std.specs.Prelude.{◌≡◌, ℕ, ◌≤◌, Bool, true, false, List}
+-- What a runner is. Between two cells it shows a world. Inside a cell it stands at a place in the code, and its next steps go on or back.
+use Rattle.std.specs.Prelude.{◌≡◌, ℕ, ◌≤◌, Bool, true, false, List, length}
 use Rattle.janus_meaning.specs.Syntax.{Blk, Proc}
 use Rattle.janus_meaning.specs.Store.{Store}
-use Rattle.janus_meaning.specs.World.{World, entered, stacks_in, size_of}
+use Rattle.janus_meaning.specs.Shape.{shape_of, heads_of}
+use Rattle.janus_meaning.specs.World.{World, Declaration, declare, entered, stacks_in, size_of}
 use Rattle.janus_meaning.specs.Cells.{IsGoodWorld}
+use Rattle.janus_meaning.specs.FormedWorld.{HaveValues}
 use Rattle.janus_meaning.specs.Limit.{step_limit}
+use Rattle.janus_syntax.specs.Tree.{Cell}
+use Rattle.janus_check.specs.WellFormed.{IsWellFormed}
 use Rattle.janus_names.specs.Numbers.{GoOn, HaveOneNumber}
 use Rattle.janus_store.specs.Held.{Held, IsWhole, shown_store}
 use Rattle.janus_machine.specs.Open.{Agrees}
 use Rattle.janus_machine.specs.Bodies.{AreBelow, Define}
 use Rattle.janus_machine.specs.Cursors.{IsStanding}
 use Rattle.janus_machine.specs.Law.{HasRun, FacesBack, NeverBroken}
-use Rattle.kernel_machine.specs.Language.{Code, Forward, CodeExec, IsFormed, IsSound, cell_of, run_block, start_of}
+use Rattle.kernel_machine.specs.Language.{Code, Forward, Backward, CodeExec, IsFormed, IsSound, cell_of, run_block, start_of}
 use Rattle.kernel_runner.specs.Program.{cell_of_program, IsReady, with_bodies}
 use Rattle.kernel_runner.specs.declared.program.Program.{Program}
 use Rattle.kernel_machine.specs.declared.progress.Progress.{Progress}
 use Rattle.kernel_machine.specs.declared.progress.Progress.TheVariants.{Went, Ended, Stopped}
 use Rattle.kernel_runner.specs.declared.runner.Runner.{Runner}
 
+-- ---- between two cells
+
+-- What a runner shows between two cells.
+pub record ShownWorld : Type 0 where
+  -- the indices of the bodies that are defined, the newest first
+  pub bodies : List ℕ
+  -- the declared names with their values, and the procedures that these bodies define
+  pub world : World
+
+abbrev pub over : List ℕ → World → ShownWorld
+over bodies w = record { bodies = bodies; world = w }
+
 -- the declared names of the store, without the locals that are open, and beside them these procedures
 abbrev pub world_of : {L : Type 0} → List Proc → Runner L → World
 world_of ps runner = record { store = shown_store runner.store; procedures = ps }
 
--- The runner shows this world: the declared names of its store are the world's, and the bodies at these indices, which are defined, the
--- newest first, are those of the world's procedures.
-pub record Shows {L : Type 0} (runner : Runner L) (stack : List ℕ) (w : World) : Type 0 where
-  pub store : shown_store runner.store ≡ w.store
+-- the runner shows this world, and its bodies are those of the world's procedures
+pub record Shows {L : Type 0} (runner : Runner L) (shown : ShownWorld) : Type 0 where
+  pub store : shown_store runner.store ≡ shown.world.store
   pub one_number : HaveOneNumber runner.store.names
-  pub defined : Define runner.store.names runner.procedures stack w.procedures
+  pub defined : Define runner.store.names runner.procedures shown.bodies shown.world.procedures
+
+-- the cell was checked over the world that is shown
+pub record IsCheckedOver {L : Type 0} (runner : Runner L) (cell : Cell) (shown : ShownWorld) : Type 0 where
+  pub shows : Shows runner shown
+  pub formed : IsWellFormed (shape_of shown.world.store) (heads_of shown.world.procedures) cell
+  pub values : HaveValues shown.world.store
 
 -- The store has become this one: no local is open, and each name that was met has kept its number, which is its only one.
 pub record Becomes (old new : Held) (s : Store) : Type 0 where
@@ -36,8 +57,50 @@ pub record Becomes (old new : Held) (s : Store) : Type 0 where
   pub names : GoOn old.names new.names
   pub one_number : HaveOneNumber old.names → HaveOneNumber new.names
 
--- From the world w, so many steps of the block have led to the cursor and the store; or the cursor has turned round, and come back to
--- there.
+-- so many names, with the values that they were declared with, stand above this store
+pub record IsDeclaredOver (h : Held) (count : ℕ) (before : Store) : Type 0 where
+  pub declarations : List Declaration
+  pub many : length declarations ≡ count
+  pub declared : h.sight ≡ declare declarations before
+
+-- ---- inside a cell
+
+-- A place in the code of a cell.
+pub record Place : Type 0 where
+  -- the indices of the bodies that are defined there, the newest first
+  pub bodies : List ℕ
+  -- the cell, run forward or backward
+  pub code : Code
+  -- the world in which it was entered
+  pub world : World
+  -- how many of its steps are taken, and not taken back
+  pub count : ℕ
+
+-- the place where so many steps are taken
+abbrev pub at_count : ℕ → Place → Place
+at_count count at = record { bodies = at.bodies; code = at.code; world = at.world; count = count }
+
+-- the place before the first step of a program, which is entered in this world
+abbrev pub entry : Program → ShownWorld → Place
+entry program from = record { bodies = with_bodies program from.bodies; code = Forward (cell_of_program program); world = from.world; count = 0 }
+
+-- the place before the first step of its inverse
+abbrev pub inverse_entry : Program → ShownWorld → Place
+inverse_entry program from = record { bodies = from.bodies; code = Backward (cell_of_program program); world = from.world; count = 0 }
+
+-- the world in which the steps of the cell begin: its names are declared, and its procedures defined
+abbrev pub start_at : Place → World
+start_at at = start_of at.code at.world
+
+-- the world that a runner shows there, with the procedures of the start
+abbrev pub world_inside : {L : Type 0} → Place → Runner L → World
+world_inside at runner = world_of (start_at at).procedures runner
+
+-- how many steps of the open cell the runner has taken, and not taken back
+abbrev pub count_of : {L : Type 0} → Runner L → ℕ
+count_of runner = runner.cursor.count
+
+-- So many steps of the block from the world w have led to the cursor and the store; or the cursor has turned round, and come back to there.
 abbrev pub Faces : {L : Type 0} → Bool → Runner L → Program → Blk → World → ℕ → Type 0
 Faces false runner program b w count =
     HasRun w.procedures (stacks_in w.store) b w.store count runner.procedures program.book runner.cursor runner.store
@@ -45,59 +108,58 @@ Faces false runner program b w count =
 Faces true runner program b w count =
     FacesBack w.procedures (stacks_in w.store) b w.store count runner.procedures program.book runner.cursor runner.store
 
--- In the program's code, the runner has taken the first steps from the world w, as many as the count says; or it has turned round, and
--- come back to there. The bodies at these indices are defined.
-pub record Stands {L : Type 0} (runner : Runner L) (program : Program) (stack : List ℕ) (code : Code) (w : World) (count : ℕ) (back : Bool) : Type 0 where
-  pub cell : cell_of code ≡ cell_of_program program
-  pub good : IsGoodWorld (start_of code w)
-  pub few : count ≤ step_limit
+-- The runner stands at this place in the program's code. Its next steps go on, or, once it is turned, back.
+pub record Stands {L : Type 0} (runner : Runner L) (program : Program) (at : Place) (is_turned : Bool) : Type 0 where
+  pub cell : cell_of at.code ≡ cell_of_program program
+  pub good : IsGoodWorld (start_at at)
+  pub few : at.count ≤ step_limit
   -- the cursor counts the steps itself
-  pub counted : runner.cursor.count ≡ count
-  pub turned : runner.cursor.turned ≡ back
+  pub counted : count_of runner ≡ at.count
+  pub turned : runner.cursor.turned ≡ is_turned
   pub standing : IsStanding runner.procedures program.book runner.cursor runner.store
   -- the store has the names of the world in which the steps began, and above them what is open at the cursor
-  pub declared : runner.store.declared ≡ size_of (start_of code w).store
-  pub agrees : Agrees (stacks_in (start_of code w).store) runner.procedures program.book runner.cursor runner.store
+  pub declared : runner.store.declared ≡ size_of (start_at at).store
+  pub agrees : Agrees (stacks_in (start_at at).store) runner.procedures program.book runner.cursor runner.store
   -- the code and its procedures' name each variable by its number
   pub ready : IsReady runner.store.names runner.procedures program
   pub one_number : HaveOneNumber runner.store.names
-  pub defined : Define runner.store.names runner.procedures stack (start_of code w).procedures
-  pub faces : Faces back runner program (run_block code) (start_of code w) count
+  pub defined : Define runner.store.names runner.procedures at.bodies (start_at at).procedures
+  pub faces : Faces is_turned runner program (run_block at.code) (start_at at) at.count
 
 -- it stands somewhere in the code of this program
-abbrev pub IsInside : {L : Type 0} → Runner L → Program → ℕ → Bool → Type 0
-IsInside runner program count back = (stack : List ℕ) × (code : Code) × (w : World) × Stands runner program stack code w count back
+abbrev pub IsInside : {L : Type 0} → Runner L → Program → Bool → Type 0
+IsInside runner program is_turned = (at : Place) × Stands runner program at is_turned
 
 -- it stands where it came with at most m steps to take in all; at the end of the code no local is open
-abbrev pub CameTo : {L : Type 0} → Runner L → Program → List ℕ → Code → World → ℕ → Progress → Type 0
-CameTo runner program stack code w m Went = Stands runner program stack code w m false
-CameTo runner program stack code w m (Ended n) = Stands runner program stack code w n false × IsWhole runner.store
-CameTo runner program stack code w m (Stopped j fault) = Stands runner program stack code w j false
+abbrev pub CameTo : {L : Type 0} → Runner L → Program → Place → ℕ → Progress → Type 0
+CameTo runner program at m Went = Stands runner program (at_count m at) false
+CameTo runner program at m (Ended n) = Stands runner program (at_count n at) false × IsWhole runner.store
+CameTo runner program at m (Stopped j fault) = Stands runner program (at_count j at) false
 
 -- ---- entering and leaving
 
--- the program can run in the world w: it is well formed there, and its bodies are kept behind all that are defined
-pub record CanEnter {L : Type 0} (runner : Runner L) (program : Program) (stack : List ℕ) (w : World) : Type 0 where
-  pub shows : Shows runner stack w
-  pub sound : IsSound w
-  pub formed : IsFormed (cell_of_program program) w
+-- the program can run from the world that is shown: it is well formed there, and its bodies are kept behind all that are defined
+pub record CanEnter {L : Type 0} (runner : Runner L) (program : Program) (from : ShownWorld) : Type 0 where
+  pub shows : Shows runner from
+  pub sound : IsSound from.world
+  pub formed : IsFormed (cell_of_program program) from.world
   pub whole : IsWhole runner.store
   pub ready : IsReady runner.store.names runner.procedures program
-  pub behind : AreBelow program.first stack
+  pub behind : AreBelow program.first from.bodies
 
--- the program has led to the world w, which is shown
-pub record CanReturn {L : Type 0} (runner : Runner L) (program : Program) (stack : List ℕ) (w : World) : Type 0 where
-  pub shows : Shows runner stack w
+-- the program has led to the world that is shown
+pub record CanReturn {L : Type 0} (runner : Runner L) (program : Program) (from : ShownWorld) : Type 0 where
+  pub shows : Shows runner from
   pub before : World
   pub steps : ℕ
-  pub ran : CodeExec (Forward (cell_of_program program)) before steps w
+  pub ran : CodeExec (Forward (cell_of_program program)) before steps from.world
   pub sound : IsSound before
   pub formed : IsFormed (cell_of_program program) before
   pub whole : IsWhole runner.store
   pub ready : IsReady runner.store.names runner.procedures program
 
--- the world is shown in which the program's statements begin, from the world before it
-pub record CanLeave {L : Type 0} (runner : Runner L) (program : Program) (stack : List ℕ) (before : World) : Type 0 where
-  pub shows : Shows runner (with_bodies program stack) (entered (cell_of_program program) before)
+-- the world is shown in which the program's statements begin, where it was entered in this one
+pub record CanLeave {L : Type 0} (runner : Runner L) (program : Program) (to : ShownWorld) : Type 0 where
+  pub shows : Shows runner (over (with_bodies program to.bodies) (entered (cell_of_program program) to.world))
   pub whole : IsWhole runner.store
   pub ready : IsReady runner.store.names runner.procedures program

@@ -1,6 +1,6 @@
 //! What a cell is checked over: the names that are declared, and the procedures that are defined.
-ghost use Rattle.std.specs.Prelude.{◌≡◌, List, ◌++◌, [], ◌∷◌, IfOk, OnOk, map};
-ghost use Rattle.janus_meaning.specs.Shape.{AreDistinct, Heads, shape_of, head_of, heads_of};
+ghost use Rattle.std.specs.Prelude.{◌≡◌, [], ◌∷◌, IfOk, OnOk};
+ghost use Rattle.janus_meaning.specs.Shape.{AreDistinct, shape_of, heads_of};
 ghost use Rattle.janus_meaning.specs.FormedWorld.{HaveValues};
 ghost use Rattle.janus_syntax.specs.Tree.{parameter_view, parameters_view, procedure_view};
 ghost use Rattle.janus_syntax.specs.View.{plain_procedure};
@@ -8,7 +8,7 @@ ghost use Rattle.janus_check.specs.Check.{kinds_of as the_kinds_of};
 ghost use Rattle.janus_check.specs.Names.{shape_in, heads_in, meant_kind, meant_kinds};
 ghost use Rattle.janus_store.specs.Held.{shown_store};
 ghost use Rattle.kernel_runner.specs.Defined.{in_a_row};
-ghost use Rattle.kernel_runner.specs.Known.{FindTheSame};
+ghost use Rattle.kernel_runner.specs.Known.{FindTheSame, IsFoundBehind};
 
 use crate::program::names_in_sight;
 use janus_check::{Env, Kind};
@@ -38,7 +38,7 @@ pub fn known_over<L: Ledger>(
 
 /// Adds a procedure where no newer one hides it. The only error is want of memory.
 fn define_behind(alloc: Global, env: &mut Env, procedure: &Procedure) -> Result<(), AllocError>
-    ensures heads { OnOk result ((newer : Heads) → FindTheSame (heads_in env.old.procedures) newer → FindTheSame (heads_in env.new.procedures) (newer ++ head_of (plain_procedure (procedure_view procedure.now)) ∷ [])) }
+    ensures heads { OnOk result (IsFoundBehind (heads_in env.old.procedures) (heads_in env.new.procedures) (plain_procedure (procedure_view procedure.now))) }
     ensures names { env.new.names ≡ env.old.names }
 {
     if env.head(procedure.name.text.as_str()).is_some() {

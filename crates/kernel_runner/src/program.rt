@@ -1,27 +1,23 @@
 //! A cell that can be run both ways: what a node of the history keeps, and no earlier store.
-ghost use Rattle.std.specs.Prelude.{◌≡◌, ◌+◌, ◌≤◌, ◌++◌, ◌∷◌, [], ℕ, List, IfOk, IfErr, OnOk, OnErr, length, map, take};
+ghost use Rattle.std.specs.Prelude.{◌≡◌, ◌+◌, ◌≤◌, [], ℕ, List, IfOk, IfErr, OnOk, OnErr, length, map};
 ghost use Rattle.janus_meaning.specs.Limit.{parameter_limit};
-ghost use Rattle.janus_meaning.specs.Shape.{AreDistinct, shape_of, heads_of};
-ghost use Rattle.janus_meaning.specs.World.{World};
+ghost use Rattle.janus_meaning.specs.Shape.{AreDistinct, shape_of};
 ghost use Rattle.janus_syntax.specs.Tree.{declaration_view, declarations_view, procedure_view, procedures_view};
 ghost use Rattle.janus_syntax.specs.View.{plain_declaration, plain_procedure, plain_cell};
-ghost use Rattle.janus_names.specs.Numbers.{IsNumbered};
 ghost use Rattle.janus_invert.specs.Met.{MeetsProc};
 ghost use Rattle.janus_store.specs.Held.{IsWhole, KeepsSight, shown_store};
 ghost use Rattle.janus_store.specs.Values.{shown};
-ghost use Rattle.janus_machine.specs.Bodies.{kept_in, AreDefined, AreBodiesFrom, IsBody};
-ghost use Rattle.janus_machine.specs.declared.procedure.Procedure as Kept;
+ghost use Rattle.janus_machine.specs.Bodies.{kept_in};
 ghost use Rattle.kernel_runner.specs.Kinds.{kind_in};
 ghost use Rattle.janus_check.specs.Names.{shape_in};
 ghost use Rattle.janus_check.specs.Checked.{cell_in};
-ghost use Rattle.janus_check.specs.WellFormed.{IsWellFormed};
 ghost use Rattle.janus_meaning.specs.FormedWorld.{HaveValues};
 ghost use Rattle.kernel_machine.specs.Language.{IsSound};
 ghost use Rattle.kernel_runner.specs.Met.{AreProceduresMet};
 ghost use Rattle.kernel_machine.specs.Text.{Accepts, Refuses, refused_by_syntax, refused_by_check};
-ghost use Rattle.kernel_runner.specs.Program.{cell_of_program, declaration_of, procedures_of, IsReady};
+ghost use Rattle.kernel_runner.specs.Program.{cell_of_program, declaration_of, procedures_of, IsReady, IsKeptBehind, AreBodiesBehind, KeepsOlder, KeepsDefined};
 ghost use Rattle.kernel_runner.specs.Defined.{in_a_row};
-ghost use Rattle.kernel_runner.specs.Runner.{Shows, world_of};
+ghost use Rattle.kernel_runner.specs.Runner.{ShownWorld, over, Shows, IsCheckedOver, world_of};
 
 use crate::known::known_over;
 use crate::meeting::meet_cell;
@@ -67,7 +63,7 @@ impl Program {
         procedures: &[&Procedure],
         runner: &mut Runner<L>,
     ) -> Result<Program, Refusal>
-        requires shows { (stack : List ℕ) × Shows runner.old stack (world_of (in_a_row procedures.now) runner.old) }
+        requires shows { (bodies : List ℕ) × Shows runner.old (over bodies (world_of (in_a_row procedures.now) runner.old)) }
         requires sound { IsSound (world_of (in_a_row procedures.now) runner.old) }
         requires whole { IsWhole runner.old.store }
         ensures accepts { IfOk result (λ program. Accepts (world_of (in_a_row procedures.now) runner.old) text.now (cell_of_program program)) }
@@ -75,10 +71,10 @@ impl Program {
         ensures ready { IfOk result (λ program. IsReady runner.new.store.names runner.new.procedures program) }
         // Its bodies are behind those that were kept, and what is refused leaves those alone.
         ensures behind { IfOk result (λ program. program.first ≡ length (kept_in runner.old.procedures)) }
-        ensures older { take (length (kept_in runner.old.procedures)) (kept_in runner.new.procedures) ≡ kept_in runner.old.procedures }
+        ensures older { KeepsOlder runner.old.procedures runner.new.procedures }
         ensures none { OnErr result (kept_in runner.new.procedures ≡ kept_in runner.old.procedures) }
         ensures kept { KeepsSight runner.old.store runner.new.store }
-        ensures shown { (stack : List ℕ) (w : World) → Shows runner.old stack w → Shows runner.new stack w }
+        ensures shown { (shown : ShownWorld) → Shows runner.old shown → Shows runner.new shown }
     {
         let cell = match parse_cell(alloc, text) {
             Ok(cell) => cell,
@@ -103,15 +99,15 @@ impl Program {
         checked: Checked,
         runner: &mut Runner<L>,
     ) -> Result<Program, AllocError>
-        requires shows { (stack : List ℕ) × (w : World) × Shows runner.old stack w × IsWellFormed (shape_of w.store) (heads_of w.procedures) (cell_in checked) × HaveValues w.store }
+        requires shows { (shown : ShownWorld) × IsCheckedOver runner.old (cell_in checked) shown }
         requires whole { IsWhole runner.old.store }
         ensures cell { IfOk result (λ program. cell_of_program program ≡ plain_cell (cell_in checked)) }
         ensures ready { IfOk result (λ program. IsReady runner.new.store.names runner.new.procedures program) }
         ensures behind { IfOk result (λ program. program.first ≡ length (kept_in runner.old.procedures)) }
-        ensures older { take (length (kept_in runner.old.procedures)) (kept_in runner.new.procedures) ≡ kept_in runner.old.procedures }
+        ensures older { KeepsOlder runner.old.procedures runner.new.procedures }
         ensures none { OnErr result (kept_in runner.new.procedures ≡ kept_in runner.old.procedures) }
         ensures kept { KeepsSight runner.old.store runner.new.store }
-        ensures shown { (stack : List ℕ) (w : World) → Shows runner.old stack w → Shows runner.new stack w }
+        ensures shown { (shown : ShownWorld) → Shows runner.old shown → Shows runner.new shown }
     {
         let cell = checked.cell();
         let declarations = all_declared(alloc, &cell.declarations)?;
@@ -152,10 +148,10 @@ fn keep_all(
     kept: &mut Procedures,
 ) -> Result<(), AllocError>
     requires { AreProceduresMet names.now (map plain_procedure (procedures_view procedures.now)) }
-    ensures bodies { OnOk result (AreBodiesFrom names.now (kept_in kept.new) (length (kept_in kept.old)) (map plain_procedure (procedures_view procedures.now))) }
+    ensures bodies { OnOk result (AreBodiesBehind names.now kept.old kept.new (map plain_procedure (procedures_view procedures.now))) }
     ensures count { OnOk result (length (kept_in kept.new) ≡ length (kept_in kept.old) + length procedures.now) }
-    ensures older { take (length (kept_in kept.old)) (kept_in kept.new) ≡ kept_in kept.old }
-    ensures defined { (stack : List ℕ) → AreDefined kept.old stack → AreDefined kept.new stack }
+    ensures older { KeepsOlder kept.old kept.new }
+    ensures defined { KeepsDefined kept.old kept.new }
 {
     for i in 0..procedures.len() {
         keep(alloc, &procedures[i], names, kept)?;
@@ -172,9 +168,9 @@ fn keep(
 ) -> Result<(), AllocError>
     requires met { MeetsProc names.now (plain_procedure (procedure_view procedure.now)) }
     requires few { length (plain_procedure (procedure_view procedure.now)).params ≤ parameter_limit }
-    ensures ok { OnOk result ((b : Kept.Procedure) × (kept_in kept.new ≡ kept_in kept.old ++ b ∷ []) × IsNumbered names.now b.name (plain_procedure (procedure_view procedure.now)).name × IsBody names.now b (plain_procedure (procedure_view procedure.now))) }
+    ensures ok { OnOk result (IsKeptBehind names.now kept.old kept.new (plain_procedure (procedure_view procedure.now))) }
     ensures err { OnErr result (kept_in kept.new ≡ kept_in kept.old) }
-    ensures defined { (stack : List ℕ) → AreDefined kept.old stack → AreDefined kept.new stack }
+    ensures defined { KeepsDefined kept.old kept.new }
 {
     let Ok(flat) = flatten_procedure(alloc, procedure, names) else {
         return Err(AllocError);

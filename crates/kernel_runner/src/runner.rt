@@ -1,21 +1,21 @@
 //! The one store, the procedures in effect, and the place in the code of the open cell.
 //!
 //! It alone runs the machine of Janus: what stands above runs cells by these contracts.
-ghost use Rattle.std.specs.Prelude.{◌≡◌, ℕ, ◌+◌, ◌-◌, ◌^◌, ◌<◌, [], List, length, map, IfOk, OnOk, OnErr, IsOk, true, false};
+ghost use Rattle.std.specs.Prelude.{◌≡◌, ◌+◌, ◌-◌, [], map, IfOk, OnOk, OnErr, IsOk, true, false};
 ghost use Rattle.janus_meaning.specs.Store.{Store as TheStore, look};
 ghost use Rattle.janus_meaning.specs.Shape.{shape_of};
 ghost use Rattle.janus_meaning.specs.FormedWorld.{AreNew, HaveValues};
-ghost use Rattle.janus_meaning.specs.World.{World, Declaration, empty_world, declare as declared_in, declare_one as declared_one_in, declared_name};
+ghost use Rattle.janus_meaning.specs.World.{empty_world, declare as declared_in, declare_one as declared_one_in, declared_name};
 ghost use Rattle.janus_meaning.specs.Fault.{Bad, Broken};
 ghost use Rattle.kernel_runner.specs.Declarable.{HasStackRoom};
-ghost use Rattle.kernel_machine.specs.Language.{Code, Forward, Backward, start_of};
-ghost use Rattle.kernel_runner.specs.Program.{cell_of_program, declaration_of, with_bodies};
+ghost use Rattle.kernel_runner.specs.Program.{cell_of_program, declaration_of};
 ghost use Rattle.kernel_machine.specs.Reached.{Reaches};
 ghost use Rattle.janus_names.specs.Numbers.{GoOn};
 ghost use Rattle.janus_store.specs.Held.{IsWhole};
 ghost use Rattle.janus_machine.specs.Bodies.{kept_in};
 ghost use Rattle.janus_machine.specs.Counts.{IsWritten};
-ghost use Rattle.kernel_runner.specs.Runner.{world_of, Becomes, Shows, Stands, IsInside, CameTo, CanEnter, CanReturn, CanLeave};
+ghost use Rattle.kernel_runner.specs.Runner.{ShownWorld, over, Shows, Becomes, IsDeclaredOver, Place, at_count, entry, inverse_entry, world_inside, count_of};
+ghost use Rattle.kernel_runner.specs.Runner.{Stands, IsInside, CameTo, CanEnter, CanReturn, CanLeave};
 ghost use Rattle.kernel_machine.specs.StepsOfSlices.{steps_on, steps_back};
 
 use crate::program::{Declared, Program};
@@ -35,7 +35,7 @@ pub struct Runner<L: Ledger> {
 impl<L: Ledger> Runner<L> {
     /// The empty world. It takes the memory that every run needs, that of all stacks, locals and calls; the only error is want of it.
     pub fn new(alloc: Global) -> Result<Runner<L>, AllocError>
-        ensures shows { IfOk result (λ runner. Shows runner [] empty_world) }
+        ensures shows { IfOk result (λ runner. Shows runner (over [] empty_world)) }
         ensures none { IfOk result (λ runner. kept_in runner.procedures ≡ []) }
         ensures whole { IfOk result (λ runner. IsWhole runner.store) }
     {
@@ -48,8 +48,8 @@ impl<L: Ledger> Runner<L> {
 
     /// Declares the names of a cell and defines its procedures, and stands before its first step.
     pub fn enter(&mut self, program: &Program) -> Result<(), AllocError>
-        requires { (stack : List ℕ) × (w : World) × CanEnter self.old program.now stack w }
-        ensures ok { OnOk result ((stack : List ℕ) (w : World) → CanEnter self.old program.now stack w → Stands self.new program.now (with_bodies program.now stack) (Forward (cell_of_program program.now)) w 0 false) }
+        requires { (from : ShownWorld) × CanEnter self.old program.now from }
+        ensures ok { OnOk result ((from : ShownWorld) → CanEnter self.old program.now from → Stands self.new program.now (entry program.now from) false) }
         ensures err { OnErr result (Becomes self.old.store self.new.store self.old.store.sight) }
         ensures same { OnErr result (self.new.procedures ≡ self.old.procedures) }
         ensures kept { kept_in self.new.procedures ≡ kept_in self.old.procedures }
@@ -66,8 +66,8 @@ impl<L: Ledger> Runner<L> {
 
     /// Stands before the first step of the cell's inverse. The cell has led to the shown world.
     pub fn enter_inverse(&mut self, program: &Program)
-        requires { (stack : List ℕ) × (w : World) × CanReturn self.old program.now stack w }
-        ensures stands { (stack : List ℕ) (w : World) → CanReturn self.old program.now stack w → Stands self.new program.now stack (Backward (cell_of_program program.now)) w 0 false }
+        requires { (from : ShownWorld) × CanReturn self.old program.now from }
+        ensures stands { (from : ShownWorld) → CanReturn self.old program.now from → Stands self.new program.now (inverse_entry program.now from) false }
         ensures store { self.new.store ≡ self.old.store }
         ensures procedures { self.new.procedures ≡ self.old.procedures }
     {
@@ -76,19 +76,19 @@ impl<L: Ledger> Runner<L> {
 
     /// How many steps of the open cell are taken, and not taken back.
     pub fn count(&self) -> u64
-        ensures { result ≡ self.now.cursor.count }
+        ensures { result ≡ count_of self.now }
     {
         self.cursor.count()
     }
 
     /// Takes up to `m` steps, or all that are left to the end or to a fault.
     pub fn run(&mut self, program: &Program, writes: &mut Writes<L>, m: u64) -> Progress
-        requires { (count : ℕ) × IsInside self.old program.now count false }
-        ensures reaches { (stack : List ℕ) (code : Code) (w : World) (count : ℕ) → Stands self.old program.now stack code w count false → Reaches code w (count + m) result (world_of (start_of code w).procedures self.new) }
-        ensures stands { (stack : List ℕ) (code : Code) (w : World) (count : ℕ) → Stands self.old program.now stack code w count false → CameTo self.new program.now stack code w (count + m) result }
+        requires { IsInside self.old program.now false }
+        ensures reaches { (at : Place) → Stands self.old program.now at false → Reaches at.code at.world (at.count + m) result (world_inside at self.new) }
+        ensures stands { (at : Place) → Stands self.old program.now at false → CameTo self.new program.now at (at.count + m) result }
         ensures names { self.new.store.names ≡ self.old.store.names }
         ensures procedures { self.new.procedures ≡ self.old.procedures }
-        ensures written { IsWritten (steps_on self.old.cursor.count m result) writes.old writes.new }
+        ensures written { IsWritten (steps_on (count_of self.old) m result) writes.old writes.new }
     {
         let sliced = slice(
             &self.procedures,
@@ -108,8 +108,8 @@ impl<L: Ledger> Runner<L> {
 
     /// Turns round where it stands: the next steps go back.
     pub fn turn(&mut self, program: &Program)
-        requires { (count : ℕ) × IsInside self.old program.now count false }
-        ensures stands { (stack : List ℕ) (code : Code) (w : World) (count : ℕ) → Stands self.old program.now stack code w count false → Stands self.new program.now stack code w count true }
+        requires { IsInside self.old program.now false }
+        ensures stands { (at : Place) → Stands self.old program.now at false → Stands self.new program.now at true }
         ensures store { self.new.store ≡ self.old.store }
         ensures procedures { self.new.procedures ≡ self.old.procedures }
     {
@@ -118,11 +118,11 @@ impl<L: Ledger> Runner<L> {
 
     /// Goes `m` steps back, or all.
     pub fn back(&mut self, program: &Program, writes: &mut Writes<L>, m: u64)
-        requires { (count : ℕ) × IsInside self.old program.now count true }
-        ensures stands { (stack : List ℕ) (code : Code) (w : World) (count : ℕ) → Stands self.old program.now stack code w count true → Stands self.new program.now stack code w (count - m) true }
+        requires { IsInside self.old program.now true }
+        ensures stands { (at : Place) → Stands self.old program.now at true → Stands self.new program.now (at_count (at.count - m) at) true }
         ensures names { self.new.store.names ≡ self.old.store.names }
         ensures procedures { self.new.procedures ≡ self.old.procedures }
-        ensures written { IsWritten (steps_back self.old.cursor.count m) writes.old writes.new }
+        ensures written { IsWritten (steps_back (count_of self.old) m) writes.old writes.new }
     {
         let _sliced = slice(
             &self.procedures,
@@ -136,8 +136,8 @@ impl<L: Ledger> Runner<L> {
 
     /// Takes back the declarations and the definitions of a cell, from the world in which its statements begin.
     pub fn leave(&mut self, program: &Program)
-        requires { (stack : List ℕ) × (before : World) × CanLeave self.old program.now stack before }
-        ensures shows { (stack : List ℕ) (before : World) → CanLeave self.old program.now stack before → Shows self.new stack before }
+        requires { (to : ShownWorld) × CanLeave self.old program.now to }
+        ensures shows { (to : ShownWorld) → CanLeave self.old program.now to → Shows self.new to }
         ensures whole { IsWhole self.new.store }
         ensures kept { kept_in self.new.procedures ≡ kept_in self.old.procedures }
         ensures names { GoOn self.old.store.names self.new.store.names }
@@ -150,9 +150,9 @@ impl<L: Ledger> Runner<L> {
 
 /// Takes the newest names away, which have the values that they were declared with.
 fn retire<L: Ledger>(store: &mut Store<L>, count: usize)
-    requires declared { (ds : List Declaration) × (before : TheStore) × (length ds ≡ count) × (store.old.sight ≡ declared_in ds before) }
+    requires declared { (before : TheStore) × IsDeclaredOver store.old count before }
     requires whole { IsWhole store.old }
-    ensures becomes { (ds : List Declaration) (before : TheStore) → length ds ≡ count → store.old.sight ≡ declared_in ds before → Becomes store.old store.new before }
+    ensures becomes { (before : TheStore) → IsDeclaredOver store.old count before → Becomes store.old store.new before }
     ensures names { store.new.names ≡ store.old.names }
 {
     for _i in 0..count {

@@ -1,4 +1,4 @@
-use Rattle.std.proofs.Common.{◌≡◌, List, [], length, map, ap, sym, ◌∙◌, rules}
+use Rattle.std.proofs.Common.{◌≡◌, [], length, ap, sym, ◌∙◌, rules}
 use Rattle.std.proofs.lemmas.List.{length-map}
 use Rattle.janus_machine.specs.Bodies.{kept_in}
 use Rattle.janus_machine.specs.declared.procedures.Body.{Body}

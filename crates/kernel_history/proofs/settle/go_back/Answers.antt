@@ -1,11 +1,9 @@
-use Rattle.std.proofs.Common.{◌≡◌, ℕ, ◌-◌, true, sym, ap, ◌∙◌, subst}
+use Rattle.std.proofs.Common.{◌≡◌, ℕ, ◌-◌, true, refl, sym, ap, ◌∙◌, subst}
 use Rattle.janus_machine.specs.Bodies.{kept_in}
 use Rattle.janus_machine.specs.Counts.{IsWritten}
 use Rattle.janus_machine.specs.declared.procedures.Procedures.{Procedures}
 use Rattle.kernel_machine.specs.StepsOfSlices.{steps_back}
-use Rattle.kernel_machine.specs.State.{here, code_of}
-use Rattle.kernel_history.specs.Fields.{past_of, work_of}
-use Rattle.kernel_history.specs.Kept.{stack_in, Kept}
+use Rattle.kernel_history.specs.Kept.{place_in, Kept}
 use Rattle.kernel_runner.specs.Runner.{Stands}
 use Rattle.kernel_machine.specs.declared.turn.Turn.TheVariants.{GoesBack}
 use Rattle.kernel_history.specs.declared.job.Open.TheVariants.{Inside}
@@ -15,12 +13,12 @@ use Rattle.kernel_history.proofs.Standing.{stands_with, inside_with, kept_at, ke
 use Rattle.kernel_history.proofs.settle.go_back.Goals as goal
 
 pub back-requires : goal.back-requires
-back-requires g c = (c.args.count, inside_with c.args.tree.now c.args.work c.args.count (GoesBack c.args.why) c.args.runner.now c.program_of.result.now c.requires c.program_of.ensures)
+back-requires g c = inside_with c.args.tree.now c.args.work c.args.count (GoesBack c.args.why) c.args.runner.now c.program_of.result.now c.requires c.program_of.ensures
 
 pub settle_back-requires-clause-kept : goal.settle_back-requires-clause-kept
 settle_back-requires-clause-kept g c =
     let e : c.args.count - c.args.m ≡ 0 = sym c.saturating_sub-left.ensures ∙ c.if-left-eq0.true in
-    let stands = c.back.ensures.stands _ _ _ _ (stands_with c.args.tree.now c.args.work c.args.count true c.args.runner.now c.program_of.result.now c.program_of.ensures c.requires.stands) in (
+    let stands = c.back.ensures.stands _ (stands_with c.args.tree.now c.args.work c.args.count true c.args.runner.now c.program_of.result.now c.program_of.ensures c.requires.stands) in (
       c.args.why,
       subst (λ (n : ℕ). Kept c.args.tree.now c.back.new.self (Inside (record { work = c.args.work; count = n; turn = GoesBack c.args.why }))) e
           (kept_at c.args.tree.now c.args.work c.args.count (c.args.count - c.args.m) (GoesBack c.args.why) (GoesBack c.args.why) c.args.runner.now c.back.new.self c.program_of.result.now c.requires (same_more c.args.runner.now.store.names c.back.new.self.store.names c.back.ensures.names)
@@ -33,9 +31,9 @@ settle_back-requires-clause-whole g c =
     let work = c.args.work in
     let tree = c.args.tree.now in
     let p = c.program_of.result.now in
-    let stands = c.back.ensures.stands _ _ _ _ (stands_with tree work c.args.count true c.args.runner.now p c.program_of.ensures c.requires.stands) in
-    whole_at_start c.back.new.self p (stack_in tree work p) (code_of (past_of tree) (work_of work)) (here (past_of tree))
-    (subst (λ (n : ℕ). Stands c.back.new.self p (stack_in tree work p) (code_of (past_of tree) (work_of work)) (here (past_of tree)) n true) e stands)
+    let stands = c.back.ensures.stands _ (stands_with tree work c.args.count true c.args.runner.now p c.program_of.ensures c.requires.stands) in
+    whole_at_start c.back.new.self p (place_in tree work p 0) refl
+    (subst (λ (n : ℕ). Stands c.back.new.self p (place_in tree work p n) true) e stands)
 
 pub returns-then-left-eq0-clause-kept : goal.returns-then-left-eq0-clause-kept
 returns-then-left-eq0-clause-kept g c = kept_idle c.args.tree.now _ c.args.runner.now c.settle_back.new.runner c.requires c.settle_back.ensures.ready c.settle_back.ensures.whole c.settle_back.ensures.shows
@@ -45,10 +43,10 @@ returns-else-left-eq0-clause-kept g c =
     let work = c.args.work in
     let tree = c.args.tree.now in
     let p = c.program_of.result.now in
-    let stands = c.back.ensures.stands _ _ _ _ (stands_with tree work c.args.count true c.args.runner.now p c.program_of.ensures c.requires.stands) in
+    let stands = c.back.ensures.stands _ (stands_with tree work c.args.count true c.args.runner.now p c.program_of.ensures c.requires.stands) in
     kept_at tree work c.args.count c.saturating_sub-left.result (GoesBack c.args.why) (GoesBack c.args.why) c.args.runner.now c.back.new.self p c.requires (same_more c.args.runner.now.store.names c.back.new.self.store.names c.back.ensures.names)
     (ap (λ (t : Procedures). kept_in t) c.back.ensures.procedures) c.program_of.ensures
-    (subst (λ (n : ℕ). Stands c.back.new.self p (stack_in tree work p) (code_of (past_of tree) (work_of work)) (here (past_of tree)) n true) (sym c.saturating_sub-left.ensures) stands)
+    (subst (λ (n : ℕ). Stands c.back.new.self p (place_in tree work p n) true) (sym c.saturating_sub-left.ensures) stands)
 
 pub returns-then-left-eq0-clause-written : goal.returns-then-left-eq0-clause-written
 returns-then-left-eq0-clause-written g c =

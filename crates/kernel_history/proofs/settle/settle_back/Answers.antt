@@ -1,7 +1,6 @@
 use Rattle.std.proofs.Common.{refl, sym, ap, ◌∙◌}
-use Rattle.kernel_machine.specs.State.{here}
 use Rattle.kernel_history.specs.Fields.{past_of, work_of}
-use Rattle.kernel_history.specs.Kept.{stack_at}
+use Rattle.kernel_history.specs.Kept.{shown_here, bodies_at}
 use Rattle.kernel_runner.proofs.Growing.{no_more}
 use Rattle.kernel_history.proofs.Standing.{work_possible, below_there, cell_of_down, can_leave_cell, can_leave_down, shows_up, below_posted, nodes_forgotten, nodes_ready, shows_forgotten}
 use Rattle.kernel_history.proofs.settle.settle_back.Goals as goal
@@ -9,16 +8,16 @@ use Rattle.kernel_history.proofs.settle.settle_back.Goals as goal
 pub leave-requires : goal.leave-requires
 leave-requires g c =
     let k = c.requires.kept in
-    (stack_at c.args.tree.now c.args.tree.now.position, here (past_of c.args.tree.now), can_leave_cell c.args.tree.now c.args.runner.now c.args.work.now k.0 k.1 c.in-Cell.program c.in-Cell.is c.requires.whole)
+    (shown_here c.args.tree.now, can_leave_cell c.args.tree.now c.args.runner.now c.args.work.now k.0 k.1 c.in-Cell.program c.in-Cell.is c.requires.whole)
 
 pub returns-in-Cell-clause-shows : goal.returns-in-Cell-clause-shows
 returns-in-Cell-clause-shows g c =
     let k = c.requires.kept in
     let tree = c.args.tree.now in
     let can = can_leave_cell tree c.args.runner.now c.args.work.now k.0 k.1 c.in-Cell.program c.in-Cell.is c.requires.whole in
-    let left = c.leave.ensures.shows (stack_at tree tree.position) (here (past_of tree)) can in
+    let left = c.leave.ensures.shows (shown_here tree) can in
     let low = below_posted tree c.args.runner.now c.args.work.now k.0 k.1 c.in-Cell.program c.in-Cell.is in
-    shows_forgotten c.leave.new.self _ c.in-Cell.program.first (stack_at tree tree.position) (here (past_of tree)) refl left low c.forget.ensures.kept (c.forget.ensures.defined (stack_at tree tree.position) left.defined.defined low)
+    shows_forgotten c.leave.new.self _ c.in-Cell.program.first (shown_here tree) refl left low c.forget.ensures.kept (c.forget.ensures.defined (bodies_at tree tree.position) left.defined.defined low)
 
 pub returns-in-Cell-clause-ready : goal.returns-in-Cell-clause-ready
 returns-in-Cell-clause-ready g c =
@@ -31,14 +30,14 @@ leave-requires-in-Down g c =
     let k = c.requires.kept in
     let way = sym c.way.ensures ∙ c.in-Down.is in
     let at = cell_of_down c.args.tree.now c.args.work.now c.in-Move.travel c.content.result.now c.below.result k.1.legal k.1.possible c.in-Move.is way c.below.ensures c.content.ensures in
-    (stack_at c.args.tree.now c.args.tree.now.position, here (past_of c.args.tree.now), can_leave_down c.args.tree.now c.args.runner.now c.args.work.now k.0 k.1 c.in-Move.travel c.content.result.now c.in-Move.is way at c.requires.whole)
+    (shown_here c.args.tree.now, can_leave_down c.args.tree.now c.args.runner.now c.args.work.now k.0 k.1 c.in-Move.travel c.content.result.now c.in-Move.is way at c.requires.whole)
 
 pub returns-in-Down-clause-shows : goal.returns-in-Down-clause-shows
 returns-in-Down-clause-shows g c =
     let k = c.requires.kept in
     let way = sym c.way.ensures ∙ c.in-Down.is in
     let at = cell_of_down c.args.tree.now c.args.work.now c.in-Move.travel c.content.result.now c.below.result k.1.legal k.1.possible c.in-Move.is way c.below.ensures c.content.ensures in
-    c.leave-in-Down.ensures.shows _ _ (can_leave_down c.args.tree.now c.args.runner.now c.args.work.now k.0 k.1 c.in-Move.travel c.content.result.now c.in-Move.is way at c.requires.whole)
+    c.leave-in-Down.ensures.shows _ (can_leave_down c.args.tree.now c.args.runner.now c.args.work.now k.0 k.1 c.in-Move.travel c.content.result.now c.in-Move.is way at c.requires.whole)
 
 pub returns-in-Down-clause-ready : goal.returns-in-Down-clause-ready
 returns-in-Down-clause-ready g c = nodes_ready c.args.tree.now c.args.runner.now c.leave-in-Down.new.self c.leave-in-Down.ensures.names c.leave-in-Down.ensures.kept c.requires.kept.1.ready

@@ -13,5 +13,5 @@ pub loop-i-preserved : goal.loop-i-preserved
 loop-i-preserved c =
     let ok = c.in_ok-keep.ensures.ok in
     let h = c.loop-i.invariant in
-    let more = kept_more c.args.names.now (kept_in c.args.kept.now) (kept_in c.loop-i.kept) (kept_in c.keep.new.kept) c.args.procedures.now c.loop-i.i c.index-procedures-i.result ok.0 c.loop-i-test.true (sym c.index-procedures-i.is) h.0 h.1 h.2 ok.1 ok.2 ok.3 in
+    let more = kept_more c.args.names.now (kept_in c.args.kept.now) (kept_in c.loop-i.kept) (kept_in c.keep.new.kept) c.args.procedures.now c.loop-i.i c.index-procedures-i.result ok.body c.loop-i-test.true (sym c.index-procedures-i.is) h.0 h.1 h.2 ok.kept ok.name ok.of_procedure in
     (more.0, more.1, more.2, λ stack d. c.keep.ensures.defined stack (h.3 stack d))

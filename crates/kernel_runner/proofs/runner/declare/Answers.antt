@@ -46,7 +46,7 @@ pub retire-requires-clause-declared : goal.retire-requires-clause-declared
 retire-requires-clause-declared g c =
     let ds : List Declaration = map declaration_of c.args.declarations.now in
     let low : c.loop-i.i ≤ length ds = let h : length ds ≡ length c.args.declarations.now = length-map _ _ in let g = c.loop-i-test.true in omega arith in
-    (take c.loop-i.i ds, c.args.store.now.sight, taken_count ds c.loop-i.i low, c.in-Err.ensures.err.sight ∙ c.loop-i.invariant.sight)
+    (c.args.store.now.sight, record { declarations = take c.loop-i.i ds; many = taken_count ds c.loop-i.i low; declared = c.in-Err.ensures.err.sight ∙ c.loop-i.invariant.sight })
 
 pub retire-requires-clause-whole : goal.retire-requires-clause-whole
 retire-requires-clause-whole g c = c.in-Err.ensures.err.whole
@@ -57,4 +57,4 @@ returns-in-Err-clause-err g c =
     let low : c.loop-i.i ≤ length ds = let h : length ds ≡ length c.args.declarations.now = length-map _ _ in let g = c.loop-i-test.true in omega arith in
     becomes_then _ _ _ _ _ c.loop-i.invariant
     (becomes_then _ _ _ _ _ c.in-Err.ensures.err
-    (c.retire.ensures.becomes (take c.loop-i.i ds) c.args.store.now.sight (taken_count ds c.loop-i.i low) (c.in-Err.ensures.err.sight ∙ c.loop-i.invariant.sight)))
+    (c.retire.ensures.becomes c.args.store.now.sight (record { declarations = take c.loop-i.i ds; many = taken_count ds c.loop-i.i low; declared = c.in-Err.ensures.err.sight ∙ c.loop-i.invariant.sight })))

@@ -9,8 +9,8 @@ use Rattle.kernel_runner.proofs.runner.retire.Goals as goal
 pub retire-requires-clause-first : goal.retire-requires-clause-first
 retire-requires-clause-first g c =
     let d = c.requires.declared in
-    let low : c.loop-i._i < length d.0 = rw d.2 c.loop-i-test.true in
-    subst (λ (s : Store). IsFirstOnTop s) (sym (c.loop-i.invariant.0.sight ∙ ap (dropped c.loop-i._i) d.3)) (first_on_top d.0 d.1 c.loop-i._i low)
+    let low : c.loop-i._i < length d.1.declarations = rw d.1.many c.loop-i-test.true in
+    subst (λ (s : Store). IsFirstOnTop s) (sym (c.loop-i.invariant.0.sight ∙ ap (dropped c.loop-i._i) d.1.declared)) (first_on_top d.1.declarations d.0 c.loop-i._i low)
 
 pub retire-requires-clause-whole : goal.retire-requires-clause-whole
 retire-requires-clause-whole g c = c.loop-i.invariant.0.whole
@@ -22,7 +22,7 @@ loop-i-preserved g c =
     (becomes_then _ _ _ _ _ c.loop-i.invariant.0 (becomes_same _ _ _ _ next (becomes_rest _ _ c.loop-i.invariant.0.whole c.retire.ensures)), ap (λ (h : Held). h.names) c.retire.ensures ∙ c.loop-i.invariant.1)
 
 pub returns-clause-becomes : goal.returns-clause-becomes
-returns-clause-becomes g c = λ ds before count old.
+returns-clause-becomes g c = λ before over.
     becomes_same _ _ _ _
-    (ap (dropped c.loop-i._i) old ∙ subst (λ (n : ℕ). dropped n (declare ds before) ≡ before) (count ∙ (omega arith)) (dropped_all ds before))
+    (ap (dropped c.loop-i._i) over.declared ∙ subst (λ (n : ℕ). dropped n (declare over.declarations before) ≡ before) (over.many ∙ (omega arith)) (dropped_all over.declarations before))
     c.loop-i.invariant.0

@@ -1,7 +1,7 @@
 use Rattle.std.proofs.Common.{◌≡◌, length, take, Bool, false, inl, refl, sym, ap, ◌∙◌, subst}
 use Rattle.janus_meaning.specs.World.{Cell}
 use Rattle.kernel_machine.specs.State as state
-use Rattle.kernel_machine.specs.State.{State, here}
+use Rattle.kernel_machine.specs.State.{State}
 use Rattle.cell_tree.specs.Tree as cells
 use Rattle.kernel_history.specs.Fields.{past_of}
 use Rattle.kernel_history.specs.declared.tree.Cell.{Cell as TreeCell}
@@ -11,7 +11,7 @@ use Rattle.kernel_machine.specs.declared.turn.Turn.TheVariants.{GoesOn}
 use Rattle.kernel_machine.specs.declared.outcome.Begun.TheVariants as begun
 use Rattle.kernel_runner.specs.Program.{cell_of_program}
 use Rattle.kernel_runner.specs.Runner.{CanEnter}
-use Rattle.kernel_history.specs.Kept.{Kept, IsKept, stack_at}
+use Rattle.kernel_history.specs.Kept.{Kept, IsKept, shown_here}
 use Rattle.kernel_history.specs.declared.job.Open.{Open}
 use Rattle.kernel_history.specs.declared.job.Open.TheVariants.{Idle}
 use Rattle.kernel_machine.proofs.Texts.{accepted_formed}
@@ -29,8 +29,7 @@ prepare-requires-clause-legal g c =
     let kept : Kept c.self.inside.tree c.self.inside.runner Idle = subst (λ (j : Open). Kept c.self.inside.tree c.self.inside.runner j) idle c.self.invariant.kept in
     let tree = c.self.inside.tree in
     let old = c.self.inside.runner in
-    let stack = stack_at tree tree.position in
-    let world = here (past_of tree) in
+    let shown = shown_here tree in
     kept.legal
 
 pub prepare-requires-clause-shows : goal.prepare-requires-clause-shows
@@ -39,9 +38,8 @@ prepare-requires-clause-shows g c =
     let kept : Kept c.self.inside.tree c.self.inside.runner Idle = subst (λ (j : Open). Kept c.self.inside.tree c.self.inside.runner j) idle c.self.invariant.kept in
     let tree = c.self.inside.tree in
     let old = c.self.inside.runner in
-    let stack = stack_at tree tree.position in
-    let world = here (past_of tree) in
-    (stack, kept.stands)
+    let shown = shown_here tree in
+    (shown.bodies, kept.stands)
 
 pub prepare-requires-clause-whole : goal.prepare-requires-clause-whole
 prepare-requires-clause-whole g c =
@@ -49,8 +47,7 @@ prepare-requires-clause-whole g c =
     let kept : Kept c.self.inside.tree c.self.inside.runner Idle = subst (λ (j : Open). Kept c.self.inside.tree c.self.inside.runner j) idle c.self.invariant.kept in
     let tree = c.self.inside.tree in
     let old = c.self.inside.runner in
-    let stack = stack_at tree tree.position in
-    let world = here (past_of tree) in
+    let shown = shown_here tree in
     kept.whole
 
 pub enter-requires : goal.enter-requires
@@ -59,15 +56,13 @@ enter-requires g c =
     let kept : Kept c.self.inside.tree c.self.inside.runner Idle = subst (λ (j : Open). Kept c.self.inside.tree c.self.inside.runner j) idle c.self.invariant.kept in
     let tree = c.self.inside.tree in
     let old = c.self.inside.runner in
-    let stack = stack_at tree tree.position in
-    let world = here (past_of tree) in
+    let shown = shown_here tree in
     let met = c.prepare.new.runner in
-    let shows = c.prepare.ensures.shown stack world kept.stands in
+    let shows = c.prepare.ensures.shown shown kept.stands in
     let becomes = becomes_kept old.store met.store kept.whole shows.one_number c.prepare.ensures.kept in
     let behind = posted_behind tree old c.in-Ok.program kept.ready c.in-Ok.ensures.behind in
     let low = behind_stack tree c.in-Ok.program kept.legal kept.order behind in (
-      stack,
-      world,
+      shown,
       record {
         shows = shows;
         sound = here_sound tree kept.legal;
@@ -84,10 +79,9 @@ invariant_of-self-2 g c =
     let kept : Kept c.self.inside.tree c.self.inside.runner Idle = subst (λ (j : Open). Kept c.self.inside.tree c.self.inside.runner j) idle c.self.invariant.kept in
     let tree = c.self.inside.tree in
     let old = c.self.inside.runner in
-    let stack = stack_at tree tree.position in
-    let world = here (past_of tree) in
+    let shown = shown_here tree in
     let met = c.prepare.new.runner in
-    let shows = c.prepare.ensures.shown stack world kept.stands in
+    let shows = c.prepare.ensures.shown shown kept.stands in
     let becomes = becomes_kept old.store met.store kept.whole shows.one_number c.prepare.ensures.kept in
     let behind = posted_behind tree old c.in-Ok.program kept.ready c.in-Ok.ensures.behind in
     let low = behind_stack tree c.in-Ok.program kept.legal kept.order behind in
@@ -96,10 +90,10 @@ invariant_of-self-2 g c =
     let nodes = ap (λ (t : cells.Tree TreeCell). t.nodes) c.room.ensures.same in
     let stands = ok_fact _ c.enter.result (sym c.is_err-else-is_err.ensures.value ∙ c.if-is_err-2.false) c.enter.ensures.ok in
     let formed = accepted_formed _ _ _ c.in-Ok.ensures.accepts in
-    let can : CanEnter met c.in-Ok.program stack world = record { shows = shows; sound = here_sound tree kept.legal; formed = formed; whole = becomes.whole; ready = c.in-Ok.ensures.ready; behind = low } in
+    let can : CanEnter met c.in-Ok.program shown = record { shows = shows; sound = here_sound tree kept.legal; formed = formed; whole = becomes.whole; ready = c.in-Ok.ensures.ready; behind = low } in
     let at_text = nodes_more tree old met c.prepare.ensures.kept.names c.prepare.ensures.older kept.ready in
     kept_begun tree (record { cells = c.room.new.self; position = tree.position }) old c.enter.new.self c.in-Ok.program kept
-    (nodes_ready tree met c.enter.new.self c.enter.ensures.names c.enter.ensures.kept at_text) behind same nodes refl room formed (stands stack world can)
+    (nodes_ready tree met c.enter.new.self c.enter.ensures.names c.enter.ensures.kept at_text) behind same nodes refl room formed (stands shown can)
 
 -- a refused text: names may have been met
 pub invariant_of-self : goal.invariant_of-self
@@ -108,10 +102,9 @@ invariant_of-self g c =
     let kept : Kept c.self.inside.tree c.self.inside.runner Idle = subst (λ (j : Open). Kept c.self.inside.tree c.self.inside.runner j) idle c.self.invariant.kept in
     let tree = c.self.inside.tree in
     let old = c.self.inside.runner in
-    let stack = stack_at tree tree.position in
-    let world = here (past_of tree) in
+    let shown = shown_here tree in
     let met = c.prepare.new.runner in
-    let shows = c.prepare.ensures.shown stack world kept.stands in
+    let shows = c.prepare.ensures.shown shown kept.stands in
     let becomes = becomes_kept old.store met.store kept.whole shows.one_number c.prepare.ensures.kept in
     subst (λ (j : Open). IsKept tree met j) (sym idle)
     (idle_in_time tree met (kept_idle tree Idle old met kept (nodes_more tree old met c.prepare.ensures.kept.names c.prepare.ensures.older kept.ready) becomes.whole shows))
@@ -123,10 +116,9 @@ invariant_of-self-then-is_err g c =
     let kept : Kept c.self.inside.tree c.self.inside.runner Idle = subst (λ (j : Open). Kept c.self.inside.tree c.self.inside.runner j) idle c.self.invariant.kept in
     let tree = c.self.inside.tree in
     let old = c.self.inside.runner in
-    let stack = stack_at tree tree.position in
-    let world = here (past_of tree) in
+    let shown = shown_here tree in
     let met = c.prepare.new.runner in
-    let shows = c.prepare.ensures.shown stack world kept.stands in
+    let shows = c.prepare.ensures.shown shown kept.stands in
     let becomes = becomes_kept old.store met.store kept.whole shows.one_number c.prepare.ensures.kept in
     let behind = posted_behind tree old c.in-Ok.program kept.ready c.in-Ok.ensures.behind in
     let low = behind_stack tree c.in-Ok.program kept.legal kept.order behind in
@@ -154,7 +146,7 @@ invariant_of-self-then-is_err g c =
             position = refl;
             names = more_yet old.store.names met.store.names w.enter.new.self.store.names c.prepare.ensures.kept.names entered.names;
             whole = entered.whole;
-            shows = shows_still met w.enter.new.self stack world becomes.whole entered same shows;
+            shows = shows_still met w.enter.new.self shown becomes.whole entered same shows;
             older = subst (λ (t : Procedures). take (length (kept_in old.procedures)) (kept_in t) ≡ kept_in old.procedures) (sym same) c.prepare.ensures.older;
             idle = idle;
           }))

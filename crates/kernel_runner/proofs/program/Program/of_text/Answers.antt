@@ -6,7 +6,7 @@ use Rattle.janus_syntax.specs.View.{plain_cell}
 use Rattle.janus_check.specs.Names as names
 use Rattle.janus_check.specs.Checked.{cell_in}
 use Rattle.kernel_runner.specs.Defined.{in_a_row}
-use Rattle.kernel_runner.specs.Runner.{world_of}
+use Rattle.kernel_runner.specs.Runner.{world_of, over}
 use Rattle.kernel_machine.specs.Text.{Refuses}
 use Rattle.kernel_machine.specs.declared.outcome.Refusal.{Refusal}
 use Rattle.kernel_runner.proofs.Made.{formed_here}
@@ -24,12 +24,13 @@ known_over-requires-clause-distinct g c =
 pub of_checked-requires-clause-shows : goal.of_checked-requires-clause-shows
 of_checked-requires-clause-shows g c =
     let w : World = world_of (in_a_row c.args.procedures.now) c.args.runner.now in (
-      c.requires.shows.0,
-      w,
-      c.requires.shows.1,
-      formed_here w (names.shape_in c.in-Ok-known_over.env.names) (names.heads_in c.in-Ok-known_over.env.procedures) (cell_view c.in-Ok.cell) (cell_in c.in-Ok-check.checked) c.in-Ok-check.ensures.well_formed
-          (c.in-Ok-known_over.ensures.names ∙ ap shape_of c.requires.shows.1.store) c.in-Ok-known_over.ensures.heads c.in-Ok-check.ensures.same,
-      c.requires.sound.formed.values,
+      over c.requires.shows.0 w,
+      record {
+        shows = c.requires.shows.1;
+        formed = formed_here w (names.shape_in c.in-Ok-known_over.env.names) (names.heads_in c.in-Ok-known_over.env.procedures) (cell_view c.in-Ok.cell) (cell_in c.in-Ok-check.checked) c.in-Ok-check.ensures.well_formed
+            (c.in-Ok-known_over.ensures.names ∙ ap shape_of c.requires.shows.1.store) c.in-Ok-known_over.ensures.heads c.in-Ok-check.ensures.same;
+        values = c.requires.sound.formed.values;
+      },
     )
 
 pub returns-in-Err-clause-refuses : goal.returns-in-Err-clause-refuses

@@ -11,11 +11,11 @@ use Rattle.kernel_runner.proofs.Declaring.{becomes_same}
 use Rattle.kernel_runner.proofs.runner.Runner.enter.Goals as goal
 
 pub returns-clause-ok : goal.returns-clause-ok
-returns-clause-ok g c = λ stack w can.
+returns-clause-ok g c = λ from can.
     let same : length (procedures_of c.args.program.now) ≡ length c.procedures.result.now =
     sym (ap (λ (ps : List Proc). length ps) c.procedures.ensures) ∙ length-map (procedures_view c.procedures.result.now) plain_procedure ∙ length-map c.procedures.result.now procedure_view in
-    entered_here c.args.self.now (record { store = c.declare.new.store; cursor = c.enter.new.self; procedures = c.define_all.new.self }) c.args.program.now stack w can
+    entered_here c.args.self.now (record { store = c.declare.new.store; cursor = c.enter.new.self; procedures = c.define_all.new.self }) c.args.program.now from can
     (becomes_same _ _ _ _ (ap (λ l. declare (map declaration_of l) c.args.self.now.store.sight) c.deref.ensures.value) c.in_ok-declare.ensures.ok)
     c.define_all.ensures.kept
-    (subst (λ (n : ℕ). AreDefined c.define_all.new.self (onto c.args.program.now.first n stack)) (sym same) (c.define_all.ensures.defined stack can.shows.defined.defined can.behind))
+    (subst (λ (n : ℕ). AreDefined c.define_all.new.self (onto c.args.program.now.first n from.bodies)) (sym same) (c.define_all.ensures.defined from.bodies can.shows.defined.defined can.behind))
     (record { stands = c.enter.ensures.stands; place = c.enter.ensures.place; counts = c.enter.ensures.counts })

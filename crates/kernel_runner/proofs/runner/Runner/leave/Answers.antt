@@ -7,16 +7,24 @@ use Rattle.janus_syntax.specs.Tree.{procedure_view, procedures_view}
 use Rattle.janus_syntax.specs.View.{plain_procedure}
 use Rattle.janus_machine.specs.Bodies.{AreDefined, onto}
 use Rattle.kernel_runner.specs.Program.{declaration_of, procedures_of}
+use Rattle.kernel_runner.specs.Runner.{ShownWorld, Becomes, CanLeave}
 use Rattle.kernel_runner.proofs.Borders.{all_shown, left_here}
+use Rattle.kernel_runner.proofs.runner.Runner.leave.Given as given
 use Rattle.kernel_runner.proofs.runner.Runner.leave.Goals as goal
 
-pub returns-clause-shows : goal.returns-clause-shows
-returns-clause-shows g c = λ stack before can.
+-- the names of the cell are taken back
+retired : (g : given.Over) (c : goal.After-retire_all g) (to : ShownWorld) → CanLeave c.args.self.now c.args.program.now to → Becomes c.args.self.now.store c.retire.new.store to.world.store
+retired g c to can =
     let ds : List Declaration = map declaration_of c.args.program.now.declarations.items in
-    let count : length ds ≡ c.len.result = length-map c.args.program.now.declarations.items declaration_of ∙ grind (arith, common_steps) in
+    let many : length ds ≡ c.len.result = length-map c.args.program.now.declarations.items declaration_of ∙ grind (arith, common_steps) in
+    c.retire.ensures.becomes to.world.store (record { declarations = ds; many = many; declared = sym (all_shown c.args.self.now.store can.whole) ∙ can.shows.store })
+
+pub returns-clause-whole : goal.returns-clause-whole
+returns-clause-whole g c = (retired g c c.requires.0 c.requires.1).whole
+
+pub returns-clause-shows : goal.returns-clause-shows
+returns-clause-shows g c = λ to can.
     let same : length (procedures_of c.args.program.now) ≡ length c.procedures.result.now =
     sym (ap (λ (ps : List Proc). length ps) c.procedures.ensures) ∙ length-map (procedures_view c.procedures.result.now) plain_procedure ∙ length-map c.procedures.result.now procedure_view in
-    left_here c.args.self.now _ c.args.program.now stack before can
-    (c.retire.ensures.becomes ds before.store count (sym (all_shown c.args.self.now.store can.whole) ∙ can.shows.store))
-    c.retire_all.ensures.kept
-    (c.retire_all.ensures.defined stack (subst (λ (n : ℕ). AreDefined c.args.self.now.procedures (onto c.args.program.now.first n stack)) same can.shows.defined.defined))
+    left_here c.args.self.now _ c.args.program.now to can (retired g c to can) c.retire_all.ensures.kept
+    (c.retire_all.ensures.defined to.bodies (subst (λ (n : ℕ). AreDefined c.args.self.now.procedures (onto c.args.program.now.first n to.bodies)) same can.shows.defined.defined))

@@ -1,80 +1,81 @@
 use Rattle.std.proofs.Common.{ℕ, ◌+◌, false, sym, ap, ◌∙◌, subst}
 use Rattle.janus_machine.specs.Counts.{IsWritten}
+use Rattle.kernel_runner.specs.Runner.{at_count}
 use Rattle.kernel_runner.proofs.Going.{in_effect, safe_on, gone_on, counted_on}
 use Rattle.kernel_runner.proofs.Running.{stands_at, whole_at_end, run_ended, run_stopped, run_went}
 use Rattle.kernel_runner.proofs.runner.Runner.run.Goals as goal
 
 pub slice-sliced-requires-clause-standing : goal.slice-sliced-requires-clause-standing
-slice-sliced-requires-clause-standing g c = c.requires.1.3.standing
+slice-sliced-requires-clause-standing g c = c.requires.1.standing
 
 pub slice-sliced-requires-clause-numbered : goal.slice-sliced-requires-clause-numbered
-slice-sliced-requires-clause-numbered g c = c.requires.1.3.ready.numbered
+slice-sliced-requires-clause-numbered g c = c.requires.1.ready.numbered
 
 pub slice-sliced-requires-clause-safe : goal.slice-sliced-requires-clause-safe
-slice-sliced-requires-clause-safe g c = safe_on c.args.self.now c.args.program.now c.requires.1.0 c.requires.1.1 c.requires.1.2 c.requires.0 c.args.m c.requires.1.3
+slice-sliced-requires-clause-safe g c = safe_on c.args.self.now c.args.program.now c.requires.0 c.args.m c.requires.1
 
 pub returns-in-Ended-clause-reaches : goal.returns-in-Ended-clause-reaches
-returns-in-Ended-clause-reaches g c = λ stack code w count h.
+returns-in-Ended-clause-reaches g c = λ at h.
     let r = c.args.self.now in
     let p = c.args.program.now in
     let sliced = c.slice-sliced.ensures in
-    let s = gone_on r p stack code w count c.slice-sliced.new.store c.slice-sliced.new.cursor c.slice-sliced.result.taken h sliced.stands sliced.names sliced.agrees sliced.counts sliced.steps in
-    run_ended _ p stack code w count c.slice-sliced.result.taken c.args.m s c.count-count.result sliced.taken c.count-count.ensures
-    (rw c.in-Ended.is at (sliced.end _ _ (in_effect r p stack code w count false h) h.agrees))
+    let s = gone_on r p at c.slice-sliced.new.store c.slice-sliced.new.cursor c.slice-sliced.result.taken h sliced.stands sliced.names sliced.agrees sliced.counts sliced.steps in
+    run_ended _ p at c.slice-sliced.result.taken c.args.m s c.count-count.result sliced.taken c.count-count.ensures
+    (rw c.in-Ended.is at (sliced.end _ _ (in_effect r p at false h) h.agrees))
 
 pub returns-in-Ended-clause-stands : goal.returns-in-Ended-clause-stands
-returns-in-Ended-clause-stands g c = λ stack code w count h.
+returns-in-Ended-clause-stands g c = λ at h.
     let r = c.args.self.now in
     let p = c.args.program.now in
     let sliced = c.slice-sliced.ensures in
-    let s = gone_on r p stack code w count c.slice-sliced.new.store c.slice-sliced.new.cursor c.slice-sliced.result.taken h sliced.stands sliced.names sliced.agrees sliced.counts sliced.steps in (
-      stands_at _ p stack code w _ _ false (sym (c.count-count.ensures ∙ s.counted)) s,
-      whole_at_end _ p stack code w (count + c.slice-sliced.result.taken) s (rw c.in-Ended.is at (sliced.end _ _ (in_effect r p stack code w count false h) h.agrees)),
+    let s = gone_on r p at c.slice-sliced.new.store c.slice-sliced.new.cursor c.slice-sliced.result.taken h sliced.stands sliced.names sliced.agrees sliced.counts sliced.steps in (
+      stands_at _ p at _ _ false (sym (c.count-count.ensures ∙ s.counted)) s,
+      whole_at_end _ p (at_count (at.count + c.slice-sliced.result.taken) at) s (rw c.in-Ended.is at (sliced.end _ _ (in_effect r p at false h) h.agrees)),
     )
 
 pub returns-in-Fault-clause-reaches : goal.returns-in-Fault-clause-reaches
-returns-in-Fault-clause-reaches g c = λ stack code w count h.
+returns-in-Fault-clause-reaches g c = λ at h.
     let r = c.args.self.now in
     let p = c.args.program.now in
     let sliced = c.slice-sliced.ensures in
-    let s = gone_on r p stack code w count c.slice-sliced.new.store c.slice-sliced.new.cursor c.slice-sliced.result.taken h sliced.stands sliced.names sliced.agrees sliced.counts sliced.steps in
-    let why = rw c.in-Fault.is at (sliced.end _ _ (in_effect r p stack code w count false h) h.agrees) in
-    run_stopped _ p stack code w count c.slice-sliced.result.taken c.args.m s c.count-count.result c.in-Fault.fault why.0 c.count-count.ensures why.1 why.2
+    let s = gone_on r p at c.slice-sliced.new.store c.slice-sliced.new.cursor c.slice-sliced.result.taken h sliced.stands sliced.names sliced.agrees sliced.counts sliced.steps in
+    let why = rw c.in-Fault.is at (sliced.end _ _ (in_effect r p at false h) h.agrees) in
+    run_stopped _ p at c.slice-sliced.result.taken c.args.m s c.count-count.result c.in-Fault.fault why.0 c.count-count.ensures why.1 why.2
 
 pub returns-in-Fault-clause-stands : goal.returns-in-Fault-clause-stands
-returns-in-Fault-clause-stands g c = λ stack code w count h.
+returns-in-Fault-clause-stands g c = λ at h.
     let r = c.args.self.now in
     let p = c.args.program.now in
     let sliced = c.slice-sliced.ensures in
-    let s = gone_on r p stack code w count c.slice-sliced.new.store c.slice-sliced.new.cursor c.slice-sliced.result.taken h sliced.stands sliced.names sliced.agrees sliced.counts sliced.steps in
-    stands_at _ p stack code w _ _ false (sym (c.count-count.ensures ∙ s.counted)) s
+    let s = gone_on r p at c.slice-sliced.new.store c.slice-sliced.new.cursor c.slice-sliced.result.taken h sliced.stands sliced.names sliced.agrees sliced.counts sliced.steps in
+    stands_at _ p at _ _ false (sym (c.count-count.ensures ∙ s.counted)) s
 
 pub returns-in-Cut-clause-reaches : goal.returns-in-Cut-clause-reaches
-returns-in-Cut-clause-reaches g c = λ stack code w count h.
+returns-in-Cut-clause-reaches g c = λ at h.
     let r = c.args.self.now in
     let p = c.args.program.now in
     let sliced = c.slice-sliced.ensures in
-    let s = gone_on r p stack code w count c.slice-sliced.new.store c.slice-sliced.new.cursor c.slice-sliced.result.taken h sliced.stands sliced.names sliced.agrees sliced.counts sliced.steps in
-    let why = rw c.in-Cut.is at (sliced.end _ _ (in_effect r p stack code w count false h) h.agrees) in
-    run_went _ p stack code w count c.slice-sliced.result.taken c.args.m s why.0 why.1
+    let s = gone_on r p at c.slice-sliced.new.store c.slice-sliced.new.cursor c.slice-sliced.result.taken h sliced.stands sliced.names sliced.agrees sliced.counts sliced.steps in
+    let why = rw c.in-Cut.is at (sliced.end _ _ (in_effect r p at false h) h.agrees) in
+    run_went _ p at c.slice-sliced.result.taken c.args.m s why.0 why.1
 
 pub returns-in-Cut-clause-stands : goal.returns-in-Cut-clause-stands
-returns-in-Cut-clause-stands g c = λ stack code w count h.
+returns-in-Cut-clause-stands g c = λ at h.
     let r = c.args.self.now in
     let p = c.args.program.now in
     let sliced = c.slice-sliced.ensures in
-    let s = gone_on r p stack code w count c.slice-sliced.new.store c.slice-sliced.new.cursor c.slice-sliced.result.taken h sliced.stands sliced.names sliced.agrees sliced.counts sliced.steps in
-    let why = rw c.in-Cut.is at (sliced.end _ _ (in_effect r p stack code w count false h) h.agrees) in
-    stands_at _ p stack code w _ _ false (ap (λ (x : ℕ). count + x) why.0) s
+    let s = gone_on r p at c.slice-sliced.new.store c.slice-sliced.new.cursor c.slice-sliced.result.taken h sliced.stands sliced.names sliced.agrees sliced.counts sliced.steps in
+    let why = rw c.in-Cut.is at (sliced.end _ _ (in_effect r p at false h) h.agrees) in
+    stands_at _ p at _ _ false (ap (λ (x : ℕ). at.count + x) why.0) s
 
 pub returns-in-Ended-clause-written : goal.returns-in-Ended-clause-written
-returns-in-Ended-clause-written g c = subst (λ (k : ℕ). IsWritten k c.args.writes.now c.slice-sliced.new.writes) (sym (counted_on c.args.self.now.cursor.turned c.args.self.now.cursor.count c.count-count.result c.slice-sliced.result.taken c.requires.1.3.turned (c.count-count.ensures ∙ c.slice-sliced.ensures.counts.count))) c.slice-sliced.ensures.written
+returns-in-Ended-clause-written g c = subst (λ (k : ℕ). IsWritten k c.args.writes.now c.slice-sliced.new.writes) (sym (counted_on c.args.self.now.cursor.turned c.args.self.now.cursor.count c.count-count.result c.slice-sliced.result.taken c.requires.1.turned (c.count-count.ensures ∙ c.slice-sliced.ensures.counts.count))) c.slice-sliced.ensures.written
 
 pub returns-in-Fault-clause-written : goal.returns-in-Fault-clause-written
-returns-in-Fault-clause-written g c = subst (λ (k : ℕ). IsWritten k c.args.writes.now c.slice-sliced.new.writes) (sym (counted_on c.args.self.now.cursor.turned c.args.self.now.cursor.count c.count-count.result c.slice-sliced.result.taken c.requires.1.3.turned (c.count-count.ensures ∙ c.slice-sliced.ensures.counts.count))) c.slice-sliced.ensures.written
+returns-in-Fault-clause-written g c = subst (λ (k : ℕ). IsWritten k c.args.writes.now c.slice-sliced.new.writes) (sym (counted_on c.args.self.now.cursor.turned c.args.self.now.cursor.count c.count-count.result c.slice-sliced.result.taken c.requires.1.turned (c.count-count.ensures ∙ c.slice-sliced.ensures.counts.count))) c.slice-sliced.ensures.written
 
 pub returns-in-Cut-clause-written : goal.returns-in-Cut-clause-written
 returns-in-Cut-clause-written g c =
-    let h = c.requires.1.3 in
+    let h = c.requires.1 in
     subst (λ (k : ℕ). IsWritten k c.args.writes.now c.slice-sliced.new.writes)
-    (rw c.in-Cut.is at (c.slice-sliced.ensures.end _ _ (in_effect c.args.self.now c.args.program.now c.requires.1.0 c.requires.1.1 c.requires.1.2 c.requires.0 false h) h.agrees)).0 c.slice-sliced.ensures.written
+    (rw c.in-Cut.is at (c.slice-sliced.ensures.end _ _ (in_effect c.args.self.now c.args.program.now c.requires.0 false h) h.agrees)).0 c.slice-sliced.ensures.written

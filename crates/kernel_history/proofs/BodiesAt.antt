@@ -13,7 +13,7 @@ use Rattle.janus_machine.proofs.Bodies.{onto_below}
 use Rattle.janus_machine.proofs.BodiesInEffect.{bodies_from_below, bodies_from_same}
 use Rattle.kernel_machine.specs.State.{root, node_at}
 use Rattle.kernel_history.specs.Fields.{node_of, past_of}
-use Rattle.kernel_history.specs.Kept.{IsCellAt, AreInOrder, bodies_over, stack_up, stack_at}
+use Rattle.kernel_history.specs.Kept.{IsCellAt, AreInOrder, bodies_over, bodies_up, bodies_at}
 use Rattle.kernel_machine.specs.Legal.{IsLegal}
 use Rattle.kernel_runner.specs.Program.{procedures_of, IsReady, with_bodies}
 use Rattle.kernel_runner.specs.declared.program.Program.{Program}
@@ -68,45 +68,45 @@ over_same : (x : Option (Node Cell)) (f g : ℕ → List ℕ) → ((node : Node 
 over_same None f g h = refl
 over_same (Some node) f g h = ap (with_bodies node.content.program) (h node refl)
 
-none_at_root : (k : ℕ) (tree : Tree) → stack_up k tree zero ≡ []
+none_at_root : (k : ℕ) (tree : Tree) → bodies_up k tree zero ≡ []
 none_at_root zero tree = refl
 none_at_root (suc k) tree = refl
 
-stack_more : (tree : Tree) → ParentsBefore tree.cells.nodes → (k j n : ℕ) → n ≤ k → n ≤ j → stack_up k tree n ≡ stack_up j tree n
-stack_more tree before k j zero l m = none_at_root k tree ∙ sym (none_at_root j tree)
-stack_more tree before zero j (suc i) l m = absurd (omega arith)
-stack_more tree before (suc k) zero (suc i) l m = absurd (omega arith)
-stack_more tree before (suc k) (suc j) (suc i) l m =
-    over_same (slice_get tree.cells.nodes i) (stack_up k tree) (stack_up j tree)
-    (λ node e. let p = before i node e in stack_more tree before k j node.parent (omega arith) (omega arith))
+bodies_more : (tree : Tree) → ParentsBefore tree.cells.nodes → (k j n : ℕ) → n ≤ k → n ≤ j → bodies_up k tree n ≡ bodies_up j tree n
+bodies_more tree before k j zero l m = none_at_root k tree ∙ sym (none_at_root j tree)
+bodies_more tree before zero j (suc i) l m = absurd (omega arith)
+bodies_more tree before (suc k) zero (suc i) l m = absurd (omega arith)
+bodies_more tree before (suc k) (suc j) (suc i) l m =
+    over_same (slice_get tree.cells.nodes i) (bodies_up k tree) (bodies_up j tree)
+    (λ node e. let p = before i node e in bodies_more tree before k j node.parent (omega arith) (omega arith))
 
-pub stack_of_node : (tree : Tree) (i : ℕ) (node : Node Cell) → IsLegal (past_of tree) → slice_get tree.cells.nodes i ≡ Some node → stack_at tree (suc i) ≡ with_bodies node.content.program (stack_at tree node.parent)
-stack_of_node tree i node legal e =
+pub bodies_of_node : (tree : Tree) (i : ℕ) (node : Node Cell) → IsLegal (past_of tree) → slice_get tree.cells.nodes i ≡ Some node → bodies_at tree (suc i) ≡ with_bodies node.content.program (bodies_at tree node.parent)
+bodies_of_node tree i node legal e =
     let before = parents_before tree legal in
-    ap (λ x. bodies_over x (stack_up i tree)) e
-    ∙ ap (with_bodies node.content.program) (stack_more tree before i node.parent node.parent (before i node e) (omega arith))
+    ap (λ x. bodies_over x (bodies_up i tree)) e
+    ∙ ap (with_bodies node.content.program) (bodies_more tree before i node.parent node.parent (before i node e) (omega arith))
 
 -- the bodies of a node over those of its parent
-pub stack_of_cell : (tree : Tree) (n : ℕ) (cell : Cell) → IsLegal (past_of tree) → IsCellAt tree n cell → stack_at tree n ≡ with_bodies cell.program (stack_at tree (node_at (past_of tree) n).parent)
-stack_of_cell tree zero cell legal at = absurd (let some = at.0 in omega arith)
-stack_of_cell tree (suc i) cell legal at =
+pub bodies_of_cell : (tree : Tree) (n : ℕ) (cell : Cell) → IsLegal (past_of tree) → IsCellAt tree n cell → bodies_at tree n ≡ with_bodies cell.program (bodies_at tree (node_at (past_of tree) n).parent)
+bodies_of_cell tree zero cell legal at = absurd (let some = at.0 in omega arith)
+bodies_of_cell tree (suc i) cell legal at =
     let same : suc i - 1 ≡ i = omega arith in
     let found = content_node tree.cells.nodes i cell (subst (λ (j : ℕ). slice_get (contents_of tree.cells) j ≡ Some cell) same at.1) in
-    stack_of_node tree i found.0 legal found.1
-    ∙ ap (λ (c : Cell). with_bodies c.program (stack_at tree found.0.parent)) found.2
-    ∙ ap (λ (p : ℕ). with_bodies cell.program (stack_at tree p)) (sym (ap (λ n. n.parent) (node_read tree i found.0 found.1)))
+    bodies_of_node tree i found.0 legal found.1
+    ∙ ap (λ (c : Cell). with_bodies c.program (bodies_at tree found.0.parent)) found.2
+    ∙ ap (λ (p : ℕ). with_bodies cell.program (bodies_at tree p)) (sym (ap (λ n. n.parent) (node_read tree i found.0 found.1)))
 
 -- ---- trees with the same nodes, and with one more
 
-up_same : (tree other : Tree) → other.cells.nodes ≡ tree.cells.nodes → (k n : ℕ) → stack_up k other n ≡ stack_up k tree n
+up_same : (tree other : Tree) → other.cells.nodes ≡ tree.cells.nodes → (k n : ℕ) → bodies_up k other n ≡ bodies_up k tree n
 up_same tree other e zero n = refl
 up_same tree other e (suc k) zero = refl
 up_same tree other e (suc k) (suc i) =
-    ap (λ (nodes : List (Node Cell)). bodies_over (slice_get nodes i) (stack_up k other)) e
-    ∙ over_same (slice_get tree.cells.nodes i) (stack_up k other) (stack_up k tree) (λ node h. up_same tree other e k node.parent)
+    ap (λ (nodes : List (Node Cell)). bodies_over (slice_get nodes i) (bodies_up k other)) e
+    ∙ over_same (slice_get tree.cells.nodes i) (bodies_up k other) (bodies_up k tree) (λ node h. up_same tree other e k node.parent)
 
-pub stack_same : (tree other : Tree) (n : ℕ) → other.cells.nodes ≡ tree.cells.nodes → stack_at other n ≡ stack_at tree n
-stack_same tree other n e = up_same tree other e n n
+pub bodies_same : (tree other : Tree) (n : ℕ) → other.cells.nodes ≡ tree.cells.nodes → bodies_at other n ≡ bodies_at tree n
+bodies_same tree other n e = up_same tree other e n n
 
 get_same : (xs : List (Node Cell)) (y : Node Cell) (i : ℕ) → i < length xs → slice_get (xs ++ y ∷ []) i ≡ slice_get xs i
 get_same [] y i l = absurd (omega arith)
@@ -118,24 +118,24 @@ get_last [] y = refl
 get_last (x ∷ xs) y = get_last xs y
 
 module _ (tree larger : Tree) (new : Node Cell) (legal : IsLegal (past_of tree)) (grown : larger.cells.nodes ≡ tree.cells.nodes ++ new ∷ []) where
-  up_grown : (k n : ℕ) → n ≤ length tree.cells.nodes → stack_up k larger n ≡ stack_up k tree n
+  up_grown : (k n : ℕ) → n ≤ length tree.cells.nodes → bodies_up k larger n ≡ bodies_up k tree n
   up_grown zero n l = refl
   up_grown (suc k) zero l = refl
   up_grown (suc k) (suc i) l =
-      ap (λ (nodes : List (Node Cell)). bodies_over (slice_get nodes i) (stack_up k larger)) grown
-      ∙ ap (λ x. bodies_over x (stack_up k larger)) (get_same tree.cells.nodes new i (omega arith))
-      ∙ over_same (slice_get tree.cells.nodes i) (stack_up k larger) (stack_up k tree)
+      ap (λ (nodes : List (Node Cell)). bodies_over (slice_get nodes i) (bodies_up k larger)) grown
+      ∙ ap (λ x. bodies_over x (bodies_up k larger)) (get_same tree.cells.nodes new i (omega arith))
+      ∙ over_same (slice_get tree.cells.nodes i) (bodies_up k larger) (bodies_up k tree)
       (λ node h. let p = parents_before tree legal i node h in up_grown k node.parent (omega arith))
 
-  pub stack_kept : (n : ℕ) → n ≤ length tree.cells.nodes → stack_at larger n ≡ stack_at tree n
-  stack_kept n l = up_grown n n l
+  pub bodies_kept : (n : ℕ) → n ≤ length tree.cells.nodes → bodies_at larger n ≡ bodies_at tree n
+  bodies_kept n l = up_grown n n l
 
-  pub stack_new : new.parent ≤ length tree.cells.nodes → stack_at larger (suc (length tree.cells.nodes)) ≡ with_bodies new.content.program (stack_at tree new.parent)
-  stack_new l =
+  pub bodies_new : new.parent ≤ length tree.cells.nodes → bodies_at larger (suc (length tree.cells.nodes)) ≡ with_bodies new.content.program (bodies_at tree new.parent)
+  bodies_new l =
       let m : ℕ = length tree.cells.nodes in
-      ap (λ (nodes : List (Node Cell)). bodies_over (slice_get nodes m) (stack_up m larger)) grown
-      ∙ ap (λ x. bodies_over x (stack_up m larger)) (get_last tree.cells.nodes new)
-      ∙ ap (with_bodies new.content.program) (up_grown m new.parent l ∙ stack_more tree (parents_before tree legal) m new.parent new.parent l (omega arith))
+      ap (λ (nodes : List (Node Cell)). bodies_over (slice_get nodes m) (bodies_up m larger)) grown
+      ∙ ap (λ x. bodies_over x (bodies_up m larger)) (get_last tree.cells.nodes new)
+      ∙ ap (with_bodies new.content.program) (up_grown m new.parent l ∙ bodies_more tree (parents_before tree legal) m new.parent new.parent l (omega arith))
 
 -- ---- bodies stand below those of later nodes
 
@@ -155,11 +155,11 @@ module _ (tree : Tree) (legal : IsLegal (past_of tree)) (order : AreInOrder tree
       let n : ℕ = length (procedures_of p) in
       below_more (p.first + n) from (with_bodies p (f node.parent)) (h node refl).1 (onto_below p.first n (f node.parent) (h node refl).0)
 
-  up_below : (from k n : ℕ) → n ≤ k → AllBefore from n → AreBelow from (stack_up k tree n)
+  up_below : (from k n : ℕ) → n ≤ k → AllBefore from n → AreBelow from (bodies_up k tree n)
   up_below from k zero l all = subst (λ (s : List ℕ). AreBelow from s) (sym (none_at_root k tree)) tt
   up_below from zero (suc i) l all = absurd (omega arith)
   up_below from (suc k) (suc i) l all =
-      over_below from (slice_get tree.cells.nodes i) (stack_up k tree)
+      over_below from (slice_get tree.cells.nodes i) (bodies_up k tree)
       (λ node e.
       let p = parents_before tree legal i node e in
       let at : IsCellAt tree (suc i) node.content = cell_of_node tree i node e in (
@@ -167,12 +167,12 @@ module _ (tree : Tree) (legal : IsLegal (past_of tree)) (order : AreInOrder tree
         all (suc i) node.content (omega arith) at,
       ))
 
-  pub stack_below : (from n : ℕ) → AllBefore from n → AreBelow from (stack_at tree n)
-  stack_below from n all = up_below from n n (omega arith) all
+  pub bodies_below : (from n : ℕ) → AllBefore from n → AreBelow from (bodies_at tree n)
+  bodies_below from n all = up_below from n n (omega arith) all
 
   -- the bodies of a node are behind those of the nodes above it
-  pub cell_behind : (n m : ℕ) (cell : Cell) → n < m → IsCellAt tree m cell → AreBelow cell.program.first (stack_at tree n)
-  cell_behind n m cell l at = stack_below cell.program.first n (λ i c low there. order i m c cell (omega arith) there at)
+  pub cell_behind : (n m : ℕ) (cell : Cell) → n < m → IsCellAt tree m cell → AreBelow cell.program.first (bodies_at tree n)
+  cell_behind n m cell l at = bodies_below cell.program.first n (λ i c low there. order i m c cell (omega arith) there at)
 
 -- ---- programs whose bodies stay
 
