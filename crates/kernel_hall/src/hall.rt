@@ -9,6 +9,7 @@ ghost use Rattle.kernel_audit.specs.Ends.{HasEnd};
 ghost use Rattle.kernel_audit.specs.Audit.{Audited, IsAuditFault};
 
 use crate::ends::Ends;
+use crate::entrance::Entrance;
 use crate::minutes::Minutes;
 use crate::spin::watch;
 use crate::state::State;
@@ -27,6 +28,8 @@ use std::sync::{Condvar, Mutex, Wait};
 #[derive(Drop)]
 pub struct Hall<W: Ledger, L: Ledger> {
     state: Mutex<State<W, L>>,
+    /// Where frontends come to the lock.
+    entrance: Entrance,
     /// Something was posted, or the kernel was shut.
     moved: Condvar,
     ended: Ends,
@@ -61,6 +64,7 @@ impl<W: Ledger, L: Ledger> Hall<W, L> {
         let state = State::new(alloc, kernel, comms, book, rest);
         Hall {
             state: Mutex::new(state),
+            entrance: Entrance::new(),
             moved: Condvar::new(),
             ended: Ends::new(),
             bell,
@@ -80,7 +84,7 @@ impl<W: Ledger, L: Ledger> Hall<W, L> {
         ensures lane { IfOk result (λ p. (1 ≤ p.lane) × (p.lane ≤ 65536)) }
         ensures refusal { IfErr result (λ f. f ≡ HallFault.NoPass) }
     {
-        match self.state.lock(rt).passes.next() {
+        match self.entrance.enter(rt, &self.state).passes.next() {
             Some(pass) => Ok(pass),
             None => Err(HallFault::NoPass),
         }
@@ -100,7 +104,10 @@ impl<W: Ledger, L: Ledger> Hall<W, L> {
         ensures refused { IfErr result (λ r. r.1 ≡ pass) }
         ensures refusal { IfErr result (λ r. (k : Machine) × IsLegalMachine k × IsRefusal k r.0) }
     {
-        let posted = self.state.lock(rt).post(&mut pass, job, wishes);
+        let posted = self
+            .entrance
+            .enter(rt, &self.state)
+            .post(&mut pass, job, wishes);
         match posted {
             Ok(ticket) => {
                 self.moved.notify_all();
@@ -140,11 +147,11 @@ impl<W: Ledger, L: Ledger> Hall<W, L> {
     {
         let number = ticket.number;
         let seen = self.ended.wakings(number);
-        if let Some(done) = self.state.lock(rt).done(number) {
+        if let Some(done) = self.entrance.enter(rt, &self.state).done(number) {
             return done;
         }
         self.ended.watch(number, seen);
-        let mut state = self.state.lock(rt);
+        let mut state = self.entrance.enter(rt, &self.state);
         for _ in rt.forever() {
             if let Some(done) = state.done(number) {
                 return done;
@@ -160,7 +167,7 @@ impl<W: Ledger, L: Ledger> Hall<W, L> {
         ensures answer { IfOk result (λ answer. (k : Machine) × (comms : List (List ℕ)) × IsLegalMachine k × (pass.now.posts ≤ length k.minutes) × IsAnswer k comms ask answer) }
         ensures refusal { IfErr result (λ f. f ≡ HallFault.Memory) }
     {
-        let mut state = self.state.lock(rt);
+        let mut state = self.entrance.enter(rt, &self.state);
         for _ in rt.forever() {
             if state.has_seen(pass.posts()) {
                 return state.ask(ask);
@@ -179,12 +186,12 @@ impl<W: Ledger, L: Ledger> Hall<W, L> {
     ) -> Result<bool, HallFault>
         ensures { IfErr result (λ f. f ≡ HallFault.Memory) }
     {
-        comm_on(&mut self.state.lock(rt).comms, change)
+        comm_on(&mut self.entrance.enter(rt, &self.state).comms, change)
     }
 
     /// From now on each post is refused, and each job that is taken. It interrupts nothing, and takes no memory.
     pub fn shut<R: Wait>(&self, rt: &R) {
-        self.state.lock(rt).shut();
+        self.entrance.enter(rt, &self.state).shut();
         self.moved.notify_all();
     }
 
@@ -207,6 +214,11 @@ impl<W: Ledger, L: Ledger> Hall<W, L> {
     /// Discards the hall, with its kernel and its minutes. An owner who calls this, on each of his ways out, has nothing of the kernel to let
     /// go himself, and so nothing to prove of that: it is proved once, here.
     pub fn discard(self) {}
+
+    /// What the worker does behind a slice, with the lock free: frontends that came to the lock while it ran get it first.
+    pub(crate) fn give_way(&self) {
+        self.entrance.give_way();
+    }
 
     /// Waits until there is something to do. False where the kernel is shut and nothing is left. Where posts come one upon another the next is
     /// there before a thread is asleep, so it watches for a while first.

@@ -7,6 +7,7 @@
 #![tactic(auto)]
 
 mod ends;
+mod entrance;
 mod hall;
 mod minutes;
 mod passes;

@@ -46,6 +46,7 @@ pub fn work<W: Ledger, L: Ledger, R: Wait, G: Gate>(
             Turn::Cut(sliced) => {
                 is_inside = sliced == Sliced::Going || sliced == Sliced::Backing;
                 gate.pass(Moment::AfterSlice);
+                hall.give_way();
             }
         }
     }
