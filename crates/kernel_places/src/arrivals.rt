@@ -1,11 +1,12 @@
 //! What comes on a connection and what goes out on it, each in its time.
 ghost use Rattle.std.specs.Io.{ReadsAtMost, WritesAtMost};
 
-use kernel_sockets::{Input, Presence};
+use kernel_sockets::{Input, OWN_OCTETS, Presence, Share, Strangers};
 use std::alloc::Global;
 use std::io;
 use std::io::{ErrorKind, Read, Write};
 use std::net::{Shutdown, TcpStream};
+use std::sync::Wait;
 use std::time::{Clock, Duration};
 use zmtp_peer::{Peer, PeerEvent, Role};
 
@@ -23,7 +24,18 @@ pub(crate) fn clock_of<R: Clock>(rt: &R) -> Duration {
     }
 }
 
-/// What comes on a connection, up to its end. A handshake that takes longer than ten seconds fails.
+/// What shows who is at the other end of a connection, and what becomes of what came.
+#[derive(Clone, Copy, PartialEq, Eq)]
+pub(crate) enum Custom {
+    /// A signed message shows who has the key: on shell and control.
+    Signed,
+    /// Nothing is signed, and what goes out answers all that came: on stdin and the heartbeat.
+    Answered,
+    /// Nothing is signed, and what comes is kept: on iopub.
+    Kept,
+}
+
+/// What comes on a connection, up to its end. A handshake that takes longer than ten seconds fails, and so does a stranger of whom nothing more can be held.
 #[derive(Drop)]
 pub(crate) struct Arrivals<'a, R: Clock> {
     rt: &'a R,
@@ -34,11 +46,13 @@ pub(crate) struct Arrivals<'a, R: Clock> {
     handshake: Option<Peer>,
     /// When the handshake has to be over.
     until: Duration,
-    /// Whether what comes is noted, as where no signed message shows who is there.
-    is_noted: bool,
+    custom: Custom,
+    strangers: &'a Strangers,
+    /// What it brought while it is a stranger.
+    share: Share,
 }
 
-impl<'a, R: Clock> Arrivals<'a, R> {
+impl<'a, R: Clock + Wait> Arrivals<'a, R> {
     /// What comes on a connection that was accepted just now, to a socket of this role.
     pub fn new(
         rt: &'a R,
@@ -47,7 +61,8 @@ impl<'a, R: Clock> Arrivals<'a, R> {
         input: Input<'a>,
         presence: &'a Presence,
         role: Role,
-        is_noted: bool,
+        custom: Custom,
+        strangers: &'a Strangers,
     ) -> Arrivals<'a, R> {
         Arrivals {
             rt,
@@ -56,8 +71,36 @@ impl<'a, R: Clock> Arrivals<'a, R> {
             presence,
             handshake: Some(Peer::new(alloc, role)),
             until: clock_of(rt).saturating_add(Duration::from_secs(HANDSHAKE_SECONDS)),
-            is_noted,
+            custom,
+            strangers,
+            share: Share::new(),
         }
+    }
+
+    /// Lets go of what it brought, as the connection has come to its end.
+    pub fn settle(&mut self) {
+        self.strangers.settle(self.rt, &mut self.share);
+    }
+
+    /// Counts octets that came before anything of them is kept. Nothing is counted of who showed the key, and what was answered no longer is.
+    ///
+    /// # Errors
+    ///
+    /// `OutOfMemory` where strangers would hold too much together by them.
+    fn count(&mut self, count: usize) -> io::Result<()> {
+        let is_known = self.presence.is_trusted();
+        if is_known || self.presence.was_answered() {
+            self.settle();
+        }
+        if is_known || self.strangers.bring(self.rt, &mut self.share, count as u64) {
+            return Ok(());
+        }
+        Err(io::Error::from(ErrorKind::OutOfMemory))
+    }
+
+    /// Whether a handshake takes more octets than a stranger has for itself.
+    fn is_handshake_too_long(&self) -> bool {
+        self.handshake.is_some() && self.share.brought > OWN_OCTETS
     }
 
     /// Reads within what is left of the time for the handshake, and looks whether it is over.
@@ -70,22 +113,27 @@ impl<'a, R: Clock> Arrivals<'a, R> {
         }
         self.stream.set_read_timeout(Some(left))?;
         let count = self.input.read(buf)?;
+        self.count(count)?;
         if is_over(&mut self.handshake, &buf[..count]) {
             self.handshake = None;
             self.presence.set_ready();
             self.stream.set_read_timeout(None)?;
         }
+        if self.is_handshake_too_long() {
+            return Err(io::Error::from(ErrorKind::InvalidData));
+        }
         Ok(count)
     }
 }
 
-impl<R: Clock> Read for Arrivals<'_, R> {
+impl<R: Clock + Wait> Read for Arrivals<'_, R> {
     fn read(&mut self, buf: &mut [u8]) -> io::Result<usize> {
         if self.handshake.is_some() {
             return self.read_handshake(buf);
         }
         let count = self.input.read(buf)?;
-        if self.is_noted {
+        self.count(count)?;
+        if self.custom != Custom::Signed {
             self.presence.hear(milliseconds(self.rt));
         }
         Ok(count)
@@ -127,8 +175,7 @@ pub(crate) struct Departures<'a, R: Clock> {
     presence: &'a Presence,
     /// When the message has to be out of which a piece is.
     until: Option<Duration>,
-    /// Whether what goes out is noted, as where no signed message shows who is there: who takes it is there.
-    is_noted: bool,
+    custom: Custom,
 }
 
 impl<'a, R: Clock> Departures<'a, R> {
@@ -137,14 +184,14 @@ impl<'a, R: Clock> Departures<'a, R> {
         rt: &'a R,
         stream: &'a TcpStream,
         presence: &'a Presence,
-        is_noted: bool,
+        custom: Custom,
     ) -> Departures<'a, R> {
         Departures {
             rt,
             stream,
             presence,
             until: None,
-            is_noted,
+            custom,
         }
     }
 
@@ -153,15 +200,25 @@ impl<'a, R: Clock> Departures<'a, R> {
         let _ = self.stream.shutdown(Shutdown::Both);
     }
 
+    /// Notes that something went out, where no signed message shows who is there: who takes it is there.
+    fn note(&self) {
+        match self.custom {
+            Custom::Signed => {}
+            Custom::Answered => {
+                self.presence.answer();
+                self.presence.hear(milliseconds(self.rt));
+            }
+            Custom::Kept => self.presence.hear(milliseconds(self.rt)),
+        }
+    }
+
     /// Writes some of these octets until a time.
     fn write_until(&mut self, buf: &[u8], until: Duration) -> io::Result<usize>
         ensures bound { WritesAtMost result buf.now }
     {
         let mut stream = self.stream;
         let count = stream.write(buf)?;
-        if self.is_noted {
-            self.presence.hear(milliseconds(self.rt));
-        }
+        self.note();
         self.until = if count < buf.len() { Some(until) } else { None };
         Ok(count)
     }
