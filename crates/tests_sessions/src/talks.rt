@@ -23,7 +23,7 @@ fn header(rt: &impl Abort, alloc: Global, msg_type: &str) -> Vec<u8> {
 }
 
 /// The octets of a dealer's opening, which is as long as a router's, and of a request of this type and content, unsigned.
-fn asking(rt: &impl Abort, alloc: Global, msg_type: &str, content: &str) -> Vec<u8> {
+pub(crate) fn asking(rt: &impl Abort, alloc: Global, msg_type: &str, content: &str) -> Vec<u8> {
     let frames = [
         frame(rt, alloc, "<IDS|MSG>"),
         Vec::new(alloc),
