@@ -16,6 +16,9 @@ const HANDSHAKE_SECONDS: u64 = 10;
 /// A message may take so long to be written, whatever the pieces.
 const MESSAGE_SECONDS: u64 = 10;
 
+/// So often a read or a write is begun anew that a signal interrupted.
+const INTERRUPTIONS: u32 = 1_000;
+
 /// The time on the clock; its start where it can't be read.
 pub(crate) fn clock_of<R: Clock>(rt: &R) -> Duration {
     match rt.monotonic() {
@@ -24,14 +27,19 @@ pub(crate) fn clock_of<R: Clock>(rt: &R) -> Duration {
     }
 }
 
+/// The time in so many seconds.
+fn time_in<R: Clock>(rt: &R, seconds: u64) -> Duration {
+    clock_of(rt).saturating_add(Duration::from_secs(seconds))
+}
+
 /// What shows who is at the other end of a connection, and what becomes of what came.
 #[derive(Clone, Copy, PartialEq, Eq)]
 pub(crate) enum Custom {
     /// A signed message shows who has the key: on shell and control.
     Signed,
-    /// Nothing is signed, and what goes out answers all that came: on stdin and the heartbeat.
+    /// Nothing is signed, and what goes out answers all that came: on the heartbeat.
     Answered,
-    /// Nothing is signed, and what comes is kept: on iopub.
+    /// Nothing is signed, and what came counts as long as the connection is there: on iopub, where prefixes are kept, and on stdin, where nothing is asked.
     Kept,
 }
 
@@ -70,7 +78,7 @@ impl<'a, R: Clock + Wait> Arrivals<'a, R> {
             input,
             presence,
             handshake: Some(Peer::new(alloc, role)),
-            until: clock_of(rt).saturating_add(Duration::from_secs(HANDSHAKE_SECONDS)),
+            until: time_in(rt, HANDSHAKE_SECONDS),
             custom,
             strangers,
             share: Share::new(),
@@ -82,17 +90,25 @@ impl<'a, R: Clock + Wait> Arrivals<'a, R> {
         self.strangers.settle(self.rt, &mut self.share);
     }
 
+    /// Whether it may bring so many octets more. An answered connection has its own share alone, since nobody needs more for a heartbeat.
+    fn may_bring(&mut self, count: u64) -> bool {
+        match self.custom {
+            Custom::Answered => self.share.bring_own(count),
+            Custom::Signed | Custom::Kept => self.strangers.bring(self.rt, &mut self.share, count),
+        }
+    }
+
     /// Counts octets that came before anything of them is kept. Nothing is counted of who showed the key, and what was answered no longer is.
     ///
     /// # Errors
     ///
-    /// `OutOfMemory` where strangers would hold too much together by them.
+    /// `OutOfMemory` where a stranger, or all strangers together, would hold too much by them.
     fn count(&mut self, count: usize) -> io::Result<()> {
         let is_known = self.presence.is_trusted();
         if is_known || self.presence.was_answered() {
             self.settle();
         }
-        if is_known || self.strangers.bring(self.rt, &mut self.share, count as u64) {
+        if is_known || self.may_bring(count as u64) {
             return Ok(());
         }
         Err(io::Error::from(ErrorKind::OutOfMemory))
@@ -101,6 +117,22 @@ impl<'a, R: Clock + Wait> Arrivals<'a, R> {
     /// Whether a handshake takes more octets than a stranger has for itself.
     fn is_handshake_too_long(&self) -> bool {
         self.handshake.is_some() && self.share.brought > OWN_OCTETS
+    }
+
+    /// Reads what comes. Where a signal interrupted that it reads anew, and the time for the handshake begins anew: a process that was stopped and goes on
+    /// loses no connection.
+    fn read_on(&mut self, buf: &mut [u8]) -> io::Result<usize>
+        ensures bound { ReadsAtMost result buf.new }
+    {
+        for _ in 0..INTERRUPTIONS {
+            match self.input.read(buf) {
+                Err(error) if error.kind() == ErrorKind::Interrupted => {
+                    self.until = time_in(self.rt, HANDSHAKE_SECONDS);
+                }
+                answer => return answer,
+            }
+        }
+        Err(io::Error::from(ErrorKind::Interrupted))
     }
 
     /// Reads within what is left of the time for the handshake, and looks whether it is over.
@@ -112,7 +144,7 @@ impl<'a, R: Clock + Wait> Arrivals<'a, R> {
             return Err(io::Error::from(ErrorKind::TimedOut));
         }
         self.stream.set_read_timeout(Some(left))?;
-        let count = self.input.read(buf)?;
+        let count = self.read_on(buf)?;
         self.count(count)?;
         if is_over(&mut self.handshake, &buf[..count]) {
             self.handshake = None;
@@ -131,7 +163,7 @@ impl<R: Clock + Wait> Read for Arrivals<'_, R> {
         if self.handshake.is_some() {
             return self.read_handshake(buf);
         }
-        let count = self.input.read(buf)?;
+        let count = self.read_on(buf)?;
         self.count(count)?;
         if self.custom != Custom::Signed {
             self.presence.hear(milliseconds(self.rt));
@@ -212,15 +244,26 @@ impl<'a, R: Clock> Departures<'a, R> {
         }
     }
 
-    /// Writes some of these octets until a time.
+    /// Writes some of these octets until a time. Where a signal interrupted that it writes anew, and the time begins anew.
     fn write_until(&mut self, buf: &[u8], until: Duration) -> io::Result<usize>
         ensures bound { WritesAtMost result buf.now }
     {
+        let mut until = until;
         let mut stream = self.stream;
-        let count = stream.write(buf)?;
-        self.note();
-        self.until = if count < buf.len() { Some(until) } else { None };
-        Ok(count)
+        for _ in 0..INTERRUPTIONS {
+            match stream.write(buf) {
+                Ok(count) => {
+                    self.note();
+                    self.until = if count < buf.len() { Some(until) } else { None };
+                    return Ok(count);
+                }
+                Err(error) if error.kind() == ErrorKind::Interrupted => {
+                    until = time_in(self.rt, MESSAGE_SECONDS);
+                }
+                Err(error) => return Err(error),
+            }
+        }
+        Err(io::Error::from(ErrorKind::Interrupted))
     }
 
     /// Writes on in a message of which a piece went out, within what is left of its time.
@@ -245,10 +288,7 @@ impl<R: Clock> Write for Departures<'_, R> {
     fn write(&mut self, buf: &[u8]) -> io::Result<usize> {
         match self.until {
             Some(until) => self.write_on(buf, until),
-            None => {
-                let until = clock_of(self.rt).saturating_add(Duration::from_secs(MESSAGE_SECONDS));
-                self.write_until(buf, until)
-            }
+            None => self.write_until(buf, time_in(self.rt, MESSAGE_SECONDS)),
         }
     }
 

@@ -30,8 +30,9 @@ fn role_of(socket: Socket) -> Role {
 /// What shows who is at the other end of a connection of a socket.
 fn custom_of(socket: Socket) -> Custom {
     match socket {
-        Socket::Stdin | Socket::Heartbeat => Custom::Answered,
-        _ => Custom::Signed,
+        Socket::Shell | Socket::Control => Custom::Signed,
+        Socket::Stdin | Socket::Iopub => Custom::Kept,
+        Socket::Heartbeat => Custom::Answered,
     }
 }
 

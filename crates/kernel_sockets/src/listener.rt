@@ -43,6 +43,14 @@ impl Listener {
         Ok(stream)
     }
 
+    /// Whether its address is one of the loopback, at which no other machine can come in.
+    pub fn is_local(&self) -> bool {
+        match self.listener.local_addr() {
+            Ok(address) => address.ip().is_loopback(),
+            Err(_) => false,
+        }
+    }
+
     /// Refuses all that wait for a connection, and all that come later. On Linux a blocked `accept` ends by the shutdown of its socket.
     pub fn close(&self) {
         let _ = self.closer.shutdown(Shutdown::Both);

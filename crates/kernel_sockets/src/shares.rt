@@ -6,13 +6,14 @@ ghost use Rattle.kernel_sockets.specs.Shares.{common_of};
 use std::sync::{Mutex, Wait};
 
 /// So many octets each stranger may bring, whatever others do: enough for a first message, which shows the key.
-pub const OWN_OCTETS: u64 = 16_384;
+pub const OWN_OCTETS: u64 = 8_192;
 
-/// So many octets all strangers together may bring beyond that: the greatest message with its frames and a handshake.
+/// So many octets all strangers together may bring beyond that.
 ///
-/// 160 places with a share of their own and this one have 19.5 MiB. A frame is gathered in room for twice its octets and is then copied, so they hold
-/// three times as much at most, 58.5 MiB, and with what prefixes of iopub take beyond their octets no more than 64 MiB.
-pub const COMMON_OCTETS: u64 = 17_825_792;
+/// What they hold by it stays below 64 MiB. A frame is gathered in room for twice its octets and is then copied, so these octets take three times as
+/// much, 36 MiB. At each of 128 places the own share takes no more than 74 KiB, as three times its octets, or as the list of 1,024 short frames: 9.25 MiB.
+/// At each of the 32 of iopub 4,096 short prefixes take 512 KiB at most: 16 MiB.
+pub const COMMON_OCTETS: u64 = 12_582_912;
 
 /// How much strangers hold together past their own shares. Its type keeps that it is no more than there is.
 #[derive(Drop)]
@@ -36,7 +37,7 @@ impl Share {
     }
 
     /// Brings so many octets more where that stays within its own share; whether it does. Nothing changes where it doesn't.
-    fn bring_own(&mut self, count: u64) -> bool
+    pub fn bring_own(&mut self, count: u64) -> bool
         ensures own { IsTrue result → (self.new.brought ≡ self.old.brought + count) × (self.new.brought ≤ OWN_OCTETS) }
         ensures same { result ≡ false → self.new.brought ≡ self.old.brought }
     {
