@@ -1,7 +1,9 @@
 //! What comes on a connection and what goes out on it, each in its time.
 ghost use Rattle.std.specs.Io.{ReadsAtMost, WritesAtMost};
 
-use kernel_sockets::{Input, OWN_OCTETS, Presence, Share, Strangers};
+use kernel_sockets::{
+    Input, MESSAGE_MILLISECONDS, OWN_OCTETS, Patience, Presence, Share, Strangers,
+};
 use std::alloc::Global;
 use std::io;
 use std::io::{ErrorKind, Read, Write};
@@ -12,9 +14,6 @@ use zmtp_peer::{Peer, PeerEvent, Role};
 
 /// A handshake may take so long from the time at which the connection was accepted.
 const HANDSHAKE_SECONDS: u64 = 10;
-
-/// A message may take so long to be written, whatever the pieces.
-const MESSAGE_SECONDS: u64 = 10;
 
 /// So often a read or a write is begun anew that a signal interrupted.
 const INTERRUPTIONS: u32 = 1_000;
@@ -27,9 +26,9 @@ pub(crate) fn clock_of<R: Clock>(rt: &R) -> Duration {
     }
 }
 
-/// The time in so many seconds.
-fn time_in<R: Clock>(rt: &R, seconds: u64) -> Duration {
-    clock_of(rt).saturating_add(Duration::from_secs(seconds))
+/// When a handshake has to be over that begins now.
+fn handshake_end<R: Clock>(rt: &R) -> Duration {
+    clock_of(rt).saturating_add(Duration::from_secs(HANDSHAKE_SECONDS))
 }
 
 /// What shows who is at the other end of a connection, and what becomes of what came.
@@ -78,7 +77,7 @@ impl<'a, R: Clock + Wait> Arrivals<'a, R> {
             input,
             presence,
             handshake: Some(Peer::new(alloc, role)),
-            until: time_in(rt, HANDSHAKE_SECONDS),
+            until: handshake_end(rt),
             custom,
             strangers,
             share: Share::new(),
@@ -127,7 +126,7 @@ impl<'a, R: Clock + Wait> Arrivals<'a, R> {
         for _ in 0..INTERRUPTIONS {
             match self.input.read(buf) {
                 Err(error) if error.kind() == ErrorKind::Interrupted => {
-                    self.until = time_in(self.rt, HANDSHAKE_SECONDS);
+                    self.until = handshake_end(self.rt);
                 }
                 answer => return answer,
             }
@@ -206,7 +205,7 @@ pub(crate) struct Departures<'a, R: Clock> {
     stream: &'a TcpStream,
     presence: &'a Presence,
     /// When the message has to be out of which a piece is.
-    until: Option<Duration>,
+    patience: Patience,
     custom: Custom,
 }
 
@@ -222,7 +221,7 @@ impl<'a, R: Clock> Departures<'a, R> {
             rt,
             stream,
             presence,
-            until: None,
+            patience: Patience::new(),
             custom,
         }
     }
@@ -244,52 +243,54 @@ impl<'a, R: Clock> Departures<'a, R> {
         }
     }
 
-    /// Writes some of these octets until a time. Where a signal interrupted that it writes anew, and the time begins anew.
-    fn write_until(&mut self, buf: &[u8], until: Duration) -> io::Result<usize>
-        ensures bound { WritesAtMost result buf.now }
-    {
-        let mut until = until;
-        let mut stream = self.stream;
-        for _ in 0..INTERRUPTIONS {
-            match stream.write(buf) {
-                Ok(count) => {
-                    self.note();
-                    self.until = if count < buf.len() { Some(until) } else { None };
-                    return Ok(count);
-                }
-                Err(error) if error.kind() == ErrorKind::Interrupted => {
-                    until = time_in(self.rt, MESSAGE_SECONDS);
-                }
-                Err(error) => return Err(error),
-            }
-        }
-        Err(io::Error::from(ErrorKind::Interrupted))
+    /// The next piece has the whole time of a message again.
+    fn begin_anew(&mut self) -> io::Result<()> {
+        self.patience.wrote(true);
+        let whole = Duration::from_millis(MESSAGE_MILLISECONDS);
+        self.stream.set_write_timeout(Some(whole))
     }
 
-    /// Writes on in a message of which a piece went out, within what is left of its time.
-    fn write_on(&mut self, buf: &[u8], until: Duration) -> io::Result<usize>
+    /// Has the next piece take no longer than what is left of the time of its message. The first one has what the socket has for each write.
+    fn bound_next(&mut self) -> io::Result<()> {
+        let is_first = self.patience.until.is_none();
+        match self.patience.left(milliseconds(self.rt)) {
+            None => Err(io::Error::from(ErrorKind::TimedOut)),
+            Some(_) if is_first => Ok(()),
+            Some(left) => {
+                self.stream
+                    .set_write_timeout(Some(Duration::from_millis(left)))
+            }
+        }
+    }
+
+    /// Writes some of these octets, in what is left of the time of their message.
+    fn write_piece(&mut self, buf: &[u8]) -> io::Result<usize>
         ensures bound { WritesAtMost result buf.now }
     {
-        let left = until.saturating_sub(clock_of(self.rt));
-        if left.is_zero() {
-            return Err(io::Error::from(ErrorKind::TimedOut));
-        }
-        self.stream.set_write_timeout(Some(left))?;
-        let count = self.write_until(buf, until)?;
-        if self.until.is_none() {
-            self.stream
-                .set_write_timeout(Some(Duration::from_secs(MESSAGE_SECONDS)))?;
+        let is_first = self.patience.until.is_none();
+        self.bound_next()?;
+        let mut stream = self.stream;
+        let count = stream.write(buf)?;
+        self.note();
+        if count == buf.len() && !is_first {
+            self.begin_anew()?;
+        } else {
+            self.patience.wrote(count == buf.len());
         }
         Ok(count)
     }
 }
 
 impl<R: Clock> Write for Departures<'_, R> {
+    /// Where a signal interrupted a write it writes anew, and the time of the message begins anew.
     fn write(&mut self, buf: &[u8]) -> io::Result<usize> {
-        match self.until {
-            Some(until) => self.write_on(buf, until),
-            None => self.write_until(buf, time_in(self.rt, MESSAGE_SECONDS)),
+        for _ in 0..INTERRUPTIONS {
+            match self.write_piece(buf) {
+                Err(error) if error.kind() == ErrorKind::Interrupted => self.begin_anew()?,
+                answer => return answer,
+            }
         }
+        Err(io::Error::from(ErrorKind::Interrupted))
     }
 
     fn flush(&mut self) -> io::Result<()> {

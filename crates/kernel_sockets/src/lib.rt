@@ -7,15 +7,16 @@
 //! whether it is ready, whether it is trusted and when it was heard, so that a stranger makes room where all places are taken. Who that is
 //! [`who_makes_room`] answers, by specs/Room.antt: of those who may have to, the one that was heard longest ago, and nobody who showed the
 //! key. What strangers hold is counted by [`Strangers`]: each has its own share, and past their shares they hold no more together than
-//! [`COMMON_OCTETS`], which the type of [`Common`] keeps.
+//! [`COMMON_OCTETS`], which the type of [`Common`] keeps. The time of a message that is written begins with its first piece ([`Patience`]).
 //!
-//! To the layer above this crate promises that rule, that count and safety: no clause can say what a socket does. The register under the
+//! To the layer above this crate promises that rule, that count, that time and safety: no clause can say what a socket does. The register under the
 //! lock is exact on what it is lent ([`Connections`] is that register under a lock). It stands on no other crate of the kernel.
 #![tactic(auto)]
 
 mod connections;
 mod input;
 mod listener;
+mod patience;
 mod presence;
 mod register;
 mod room;
@@ -24,6 +25,7 @@ mod shares;
 pub use connections::Connections;
 pub use input::Input;
 pub use listener::Listener;
+pub use patience::{MESSAGE_MILLISECONDS, Patience};
 pub use presence::{MOMENT, Presence};
 pub use register::{Register, Stream};
 pub use room::{Sight, who_makes_room};

@@ -1,11 +1,9 @@
 //! A listening socket.
+use crate::patience::MESSAGE_MILLISECONDS;
 use std::io;
 use std::net::{Net, Shutdown, TcpListener, TcpStream};
 use std::os::fd::OwnedFd;
 use std::time::Duration;
-
-/// A write that waits longer fails.
-const PATIENCE_SECONDS: u64 = 10;
 
 /// A listening socket that any thread can close while others wait at it.
 #[derive(Drop)]
@@ -39,7 +37,7 @@ impl Listener {
     pub fn accept(&self) -> io::Result<TcpStream> {
         let (stream, _) = self.listener.accept()?;
         stream.set_nodelay(true)?;
-        stream.set_write_timeout(Some(Duration::from_secs(PATIENCE_SECONDS)))?;
+        stream.set_write_timeout(Some(Duration::from_millis(MESSAGE_MILLISECONDS)))?;
         Ok(stream)
     }
 
