@@ -1,5 +1,5 @@
 //! What strangers hold: connections on which no message with a valid signature came.
-ghost use Rattle.std.specs.Prelude.{◌≡◌, ◌+◌, ◌-◌, ◌≤◌, ◌<◌, IsTrue, true, false};
+ghost use Rattle.std.specs.Prelude.{◌≡◌, ◌+◌, ◌-◌, ◌≤◌, ◌<◌, ◌↔◌, IsTrue, true, false};
 ghost use Rattle.kernel_sockets.specs.declared.shares.TheConstants.{COMMON_OCTETS, OWN_OCTETS};
 ghost use Rattle.kernel_sockets.specs.Shares.{common_of};
 
@@ -38,7 +38,8 @@ impl Share {
 
     /// Brings so many octets more where that stays within its own share; whether it does. Nothing changes where it doesn't.
     pub fn bring_own(&mut self, count: u64) -> bool
-        ensures own { IsTrue result → (self.new.brought ≡ self.old.brought + count) × (self.new.brought ≤ OWN_OCTETS) }
+        ensures own { IsTrue result ↔ self.old.brought + count ≤ OWN_OCTETS }
+        ensures brought { IsTrue result → self.new.brought ≡ self.old.brought + count }
         ensures same { result ≡ false → self.new.brought ≡ self.old.brought }
     {
         if self.brought > OWN_OCTETS || count > OWN_OCTETS - self.brought {
@@ -111,6 +112,7 @@ impl Strangers {
     /// A stranger brings so many octets more: what `Common::bring` answers of what strangers hold as it is under the lock. No lock is taken for what
     /// stays within its own share.
     pub fn bring<R: Wait>(&self, rt: &R, share: &mut Share, count: u64) -> bool
+        ensures own { share.old.brought + count ≤ OWN_OCTETS → IsTrue result }
         ensures brought { IsTrue result → share.new.brought ≡ share.old.brought + count }
         ensures same { result ≡ false → share.new.brought ≡ share.old.brought }
     {
