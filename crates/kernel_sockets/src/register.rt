@@ -1,5 +1,6 @@
 //! The register of the connections that are served.
-ghost use Rattle.std.specs.Prelude.{◌≡◌, ◌<◌, ◌≤◌, ◌↔◌, None, Some, true, false, All, IfOk, IsTrue, slice_get, slice_set, length, MatchOption, IsSome};
+ghost use Rattle.std.specs.Prelude.{◌≡◌, ◌<◌, ◌≤◌, ◌↔◌, None, Some, true, false};
+ghost use Rattle.std.specs.Prelude.{All, IfOk, IsTrue, slice_get, slice_set, length, MatchOption, IsSome};
 
 use std::alloc::{AllocError, Global};
 use std::net::{Shutdown, TcpStream};

@@ -56,7 +56,7 @@ pub(crate) fn begun_frame(rt: &impl Abort, alloc: Global, size: u64) -> Vec<u8> 
         .extend_from_slice(&size.to_be_bytes())
         .expect(rt, "a size");
     octets
-        .resize(size as usize + 8, 0)
+        .resize((size as usize).saturating_add(8), 0)
         .expect(rt, "a body without its last octet");
     octets
 }

@@ -1,16 +1,15 @@
 //! Streams that fail before a lone kernel, at each read and at each write of a connection with two jobs.
 ghost use Rattle.std.specs.Prelude.{◌≡◌, ◌<◌};
 
-use crate::rows::ROUTER;
+use crate::connections::stamp;
 use crate::streams::{Pieces, Sparing};
-use crate::talks::asking;
+use crate::talks::{opening, push_asking};
 use jupyter_msg::Key;
 use kernel_ask::Comms;
 use kernel_core::Kernel;
-use kernel_message::Stamp;
 use kernel_server::{LoneDesk, serve_lone};
 use kernel_session::{ServeFault, Socket};
-use std::alloc::{AllocError, Global};
+use std::alloc::Global;
 use std::marker::Brand;
 use std::process::Abort;
 use std::sync::ledger::{Blank, Ledger};
@@ -34,30 +33,11 @@ struct Seen {
     told: Vec<u8>,
 }
 
-/// The stamp of a connection.
-fn stamp(alloc: Global, connection: u64) -> Result<Stamp, AllocError> {
-    Ok(Stamp {
-        session: String::from_str(alloc, "k")?,
-        connection,
-        next: 0,
-        date: *b"2025-01-01T00:00:00Z",
-    })
-}
-
-/// The octets of a frontend that sends so many of the two cells.
-fn cells(rt: &impl Abort, alloc: Global, count: usize) -> Vec<u8> {
-    let first = asking(rt, alloc, "execute_request", FIRST);
-    let second = asking(rt, alloc, "execute_request", SECOND);
-    let opening = ROUTER.len();
-    let mut octets = if count == 0 {
-        first[..opening].to_vec(alloc).expect(rt, "an opening")
-    } else {
-        first
-    };
-    if count == 2 {
-        octets
-            .extend_from_slice(&second[opening..])
-            .expect(rt, "a second cell");
+/// The octets of a frontend that sends these cells.
+fn cells(rt: &impl Abort, alloc: Global, contents: &[&str]) -> Vec<u8> {
+    let mut octets = opening(rt, alloc);
+    for content in contents {
+        push_asking(rt, alloc, &mut octets, "execute_request", content);
     }
     octets
 }
@@ -71,7 +51,7 @@ fn serve<L: Ledger>(
     mut reader: Pieces<'_>,
     writer: &mut Sparing,
 ) -> Result<(), ServeFault> {
-    let mut stamp = stamp(alloc, connection).expect(rt, "a stamp");
+    let mut stamp = stamp(alloc, connection, 0).expect(rt, "a stamp");
     let key = Key::new(Vec::new(alloc));
     serve_lone(
         alloc,
@@ -105,7 +85,7 @@ fn willing(alloc: Global) -> Sparing {
 
 /// What a later connection over whole streams is told of the kernel.
 fn look<L: Ledger>(rt: &impl Abort, alloc: Global, desk: &mut LoneDesk<L>) -> Vec<u8> {
-    let asks = asking(rt, alloc, "execute_request", LOOK);
+    let asks = cells(rt, alloc, &[LOOK]);
     let mut writer = willing(alloc);
     let ended = serve(rt, alloc, desk, 2, whole(&asks), &mut writer);
     assert_eq!(rt; ended, Ok(()));
@@ -135,25 +115,28 @@ fn see<L: Ledger>(
     }
 }
 
+/// What is seen where these cells come over streams that don't fail.
+fn see_cells(rt: &impl Abort, alloc: Global, contents: &[&str]) -> Seen {
+    let octets = cells(rt, alloc, contents);
+    see::<Brand>(rt, alloc, Blank::new(1), whole(&octets), willing(alloc))
+}
+
 /// What is seen where none of the cells, one, or both come over streams that don't fail.
 fn see_whole(rt: &impl Abort, alloc: Global) -> [Seen; 3] {
-    let (none, one, both) = (
-        cells(rt, alloc, 0),
-        cells(rt, alloc, 1),
-        cells(rt, alloc, 2),
-    );
     [
-        see::<Brand>(rt, alloc, Blank::new(1), whole(&none), willing(alloc)),
-        see::<Brand>(rt, alloc, Blank::new(1), whole(&one), willing(alloc)),
-        see::<Brand>(rt, alloc, Blank::new(1), whole(&both), willing(alloc)),
+        see_cells(rt, alloc, &[]),
+        see_cells(rt, alloc, &[FIRST]),
+        see_cells(rt, alloc, &[FIRST, SECOND]),
     ]
 }
 
-/// Which of these lengths are reached, less the first.
-fn reached(lengths: [usize; 3], length: usize) -> usize {
-    if length >= lengths[2] {
+/// How many of these two lengths are reached.
+fn reached(first: usize, second: usize, length: usize) -> usize
+    ensures { result < 3 }
+{
+    if length >= second {
         2
-    } else if length >= lengths[1] {
+    } else if length >= first {
         1
     } else {
         0
@@ -162,7 +145,7 @@ fn reached(lengths: [usize; 3], length: usize) -> usize {
 
 /// A reader that gives so many octets at each read and fails at one of them: what was read whole has run and is answered, and nothing else went out.
 fn check_reader(rt: &impl Abort, alloc: Global, wanted: &[Seen; 3], size: usize, reads: u64) {
-    let octets = cells(rt, alloc, 2);
+    let octets = cells(rt, alloc, &[FIRST, SECOND]);
     let reader = Pieces {
         octets: &octets,
         size,
@@ -170,21 +153,29 @@ fn check_reader(rt: &impl Abort, alloc: Global, wanted: &[Seen; 3], size: usize,
     };
     let seen = see::<Brand>(rt, alloc, Blank::new(1), reader, willing(alloc));
     let given = size.saturating_mul(reads as usize);
-    let lengths = [0, cells(rt, alloc, 1).len(), octets.len()];
-    let want = &wanted[reached(lengths, given)];
-    let is_whole = given >= octets.len() + size;
-    assert_eq!(rt; seen.ended.is_ok(), is_whole);
-    assert!(rt; is_whole || seen.ended == Err(ServeFault::Read));
-    assert!(rt; seen.written == want.written);
-    assert!(rt; seen.told == want.told);
+    let first = cells(rt, alloc, &[FIRST]).len();
+    let want = &wanted[reached(first, octets.len(), given)];
+    let is_whole = given >= octets.len().saturating_add(size);
+    check_end(rt, &seen, is_whole, ServeFault::Read);
+    assert!(rt; seen.written.as_slice() == want.written.as_slice());
+    assert!(rt; seen.told.as_slice() == want.told.as_slice());
+}
+
+/// A connection that is whole ended well, and another one with this fault.
+fn check_end(rt: &impl Abort, seen: &Seen, is_whole: bool, fault: ServeFault) {
+    if is_whole {
+        assert_eq!(rt; seen.ended, Ok(()));
+    } else {
+        assert_eq!(rt; seen.ended, Err(fault));
+    }
 }
 
 #[test]
 fn a_reader_that_fails_leaves_what_was_answered(rt: HostRuntime) {
     let alloc = rt.alloc();
     let wanted = see_whole(&rt, alloc);
-    let length = cells(&rt, alloc, 2).len();
-    for reads in 0..length as u64 + 2 {
+    let length = cells(&rt, alloc, &[FIRST, SECOND]).len() as u64;
+    for reads in 0..length.saturating_add(2) {
         check_reader(&rt, alloc, &wanted, 1, reads);
     }
     for reads in 0..12u64 {
@@ -194,41 +185,45 @@ fn a_reader_that_fails_leaves_what_was_answered(rt: HostRuntime) {
 
 /// A writer that takes so many octets at each write, and at one of them nothing, or fails: a beginning went out, and the kernel is as after the job whose
 /// reply it was.
-fn check_writer(rt: &impl Abort, alloc: Global, wanted: &[Seen; 3], size: usize, writes: u64) {
-    let octets = cells(rt, alloc, 2);
-    for is_failing in [true, false] {
-        let writer = Sparing {
-            octets: Vec::new(alloc),
-            size,
-            writes_left: writes,
-            is_failing,
-        };
-        let seen = see::<Brand>(rt, alloc, Blank::new(1), whole(&octets), writer);
-        check_written(rt, wanted, &seen);
-    }
-}
-
-/// What went out is a beginning, and the jobs that ran are those whose replies were begun or could have been.
-fn check_written(rt: &impl Abort, wanted: &[Seen; 3], seen: &Seen) {
-    let lengths = [0, wanted[0].written.len(), wanted[1].written.len()];
-    let all = &wanted[2].written;
-    let is_whole = seen.written.len() == all.len();
-    let ran = reached(lengths, seen.written.len());
+fn check_writer(
+    rt: &impl Abort,
+    alloc: Global,
+    wanted: &[Seen; 3],
+    size: usize,
+    writes: u64,
+    is_failing: bool,
+) {
+    let octets = cells(rt, alloc, &[FIRST, SECOND]);
+    let writer = Sparing {
+        octets: Vec::new(alloc),
+        size,
+        writes_left: writes,
+        is_failing,
+    };
+    let seen = see::<Brand>(rt, alloc, Blank::new(1), whole(&octets), writer);
+    let (opening, first) = (wanted[0].written.len(), wanted[1].written.len());
+    let all = wanted[2].written.as_slice();
     assert!(rt; all.starts_with(&seen.written));
-    assert_eq!(rt; seen.ended.is_ok(), is_whole);
-    assert!(rt; is_whole || seen.ended == Err(ServeFault::Write));
-    assert!(rt; seen.told == wanted[ran].told);
+    let ran = reached(opening, first, seen.written.len());
+    check_end(
+        rt,
+        &seen,
+        seen.written.len() == all.len(),
+        ServeFault::Write,
+    );
+    assert!(rt; seen.told.as_slice() == wanted[ran].told.as_slice());
 }
 
 #[test]
 fn a_writer_that_fails_leaves_the_jobs_that_ran(rt: HostRuntime) {
     let alloc = rt.alloc();
     let wanted = see_whole(&rt, alloc);
-    let length = wanted[2].written.len();
-    for writes in 0..length as u64 + 1 {
-        check_writer(&rt, alloc, &wanted, 1, writes);
+    let length = wanted[2].written.len() as u64;
+    for writes in 0..length.saturating_add(1) {
+        check_writer(&rt, alloc, &wanted, 1, writes, true);
+        check_writer(&rt, alloc, &wanted, 1, writes, false);
     }
     for writes in 0..12u64 {
-        check_writer(&rt, alloc, &wanted, 200, writes);
+        check_writer(&rt, alloc, &wanted, 200, writes, true);
     }
 }
