@@ -12,6 +12,7 @@ use Rattle.kernel_hall.proofs.Crosses.{Hall-sync}
 use Rattle.kernel_iopub.specs.contracts.bulletin.Bulletin as Bulletin
 use Rattle.kernel_sockets.specs.contracts.connections.Connections as Connections
 use Rattle.kernel_sockets.specs.contracts.listener.Listener as Listener
+use Rattle.kernel_sockets.specs.contracts.shares.Strangers as Strangers
 use Rattle.kernel_places.specs.contracts.latch.Latch as Latch
 use Rattle.kernel_places.specs.contracts.door.Door as Door
 use Rattle.kernel_places.specs.contracts.service.Service as Service
@@ -28,6 +29,9 @@ Bulletin-sync = search (crosses, BroadcastLog-send, sendable) depth 60 fits 2000
 pub Connections-sync : IsSync (Connections.the_field).row
 Connections-sync = search (crosses, sendable) depth 60 fits 20000
 
+Strangers-sync : IsSync (Strangers.the_field).row
+Strangers-sync = search (crosses, sendable) depth 60 fits 20000
+
 pub Listener-sync : IsSync (Listener.the_field).row
 Listener-sync = search (crosses, sendable) depth 60 fits 20000
 
@@ -39,4 +43,4 @@ Door-sync = search (crosses, sendable) depth 60 fits 20000
 
 module _ (W L : RattleType) (w : Ledger.Ghosts W.Denot) (l : Ledger.Ghosts L.Denot) where
   pub Service-sync : IsSend W → IsSend L → IsSync (Service.the_field W L w l).row
-  Service-sync s t = let hall = Hall-sync W L w l s t in search (crosses, Bulletin-sync, Connections-sync, Latch-sync, Door-sync, sendable) depth 60 fits 20000
+  Service-sync s t = let hall = Hall-sync W L w l s t in search (crosses, Bulletin-sync, Connections-sync, Strangers-sync, Latch-sync, Door-sync, sendable) depth 60 fits 20000

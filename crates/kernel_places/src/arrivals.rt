@@ -1,19 +1,22 @@
 //! What comes on a connection and what goes out on it, each in its time.
 ghost use Rattle.std.specs.Io.{ReadsAtMost, WritesAtMost};
 
-use kernel_sockets::{Input, Presence};
+use kernel_sockets::{
+    Input, MESSAGE_MILLISECONDS, OWN_OCTETS, Patience, Presence, Share, Strangers,
+};
 use std::alloc::Global;
 use std::io;
 use std::io::{ErrorKind, Read, Write};
 use std::net::{Shutdown, TcpStream};
+use std::sync::Wait;
 use std::time::{Clock, Duration};
 use zmtp_peer::{Peer, PeerEvent, Role};
 
 /// A handshake may take so long from the time at which the connection was accepted.
 const HANDSHAKE_SECONDS: u64 = 10;
 
-/// A message may take so long to be written, whatever the pieces.
-const MESSAGE_SECONDS: u64 = 10;
+/// So often a read or a write is begun anew that a signal interrupted.
+const INTERRUPTIONS: u32 = 1_000;
 
 /// The time on the clock; its start where it can't be read.
 pub(crate) fn clock_of<R: Clock>(rt: &R) -> Duration {
@@ -23,7 +26,23 @@ pub(crate) fn clock_of<R: Clock>(rt: &R) -> Duration {
     }
 }
 
-/// What comes on a connection, up to its end. A handshake that takes longer than ten seconds fails.
+/// When a handshake has to be over that begins now.
+fn handshake_end<R: Clock>(rt: &R) -> Duration {
+    clock_of(rt).saturating_add(Duration::from_secs(HANDSHAKE_SECONDS))
+}
+
+/// What shows who is at the other end of a connection, and what becomes of what came.
+#[derive(Clone, Copy, PartialEq, Eq)]
+pub(crate) enum Custom {
+    /// A signed message shows who has the key: on shell and control.
+    Signed,
+    /// Nothing is signed, and what goes out answers all that came: on the heartbeat.
+    Answered,
+    /// Nothing is signed, and what came counts as long as the connection is there: on iopub, where prefixes are kept, and on stdin, where nothing is asked.
+    Kept,
+}
+
+/// What comes on a connection, up to its end. A handshake that takes longer than ten seconds fails, and so does a stranger of whom nothing more can be held.
 #[derive(Drop)]
 pub(crate) struct Arrivals<'a, R: Clock> {
     rt: &'a R,
@@ -34,11 +53,13 @@ pub(crate) struct Arrivals<'a, R: Clock> {
     handshake: Option<Peer>,
     /// When the handshake has to be over.
     until: Duration,
-    /// Whether what comes is noted, as where no signed message shows who is there.
-    is_noted: bool,
+    custom: Custom,
+    strangers: &'a Strangers,
+    /// What it brought while it is a stranger.
+    share: Share,
 }
 
-impl<'a, R: Clock> Arrivals<'a, R> {
+impl<'a, R: Clock + Wait> Arrivals<'a, R> {
     /// What comes on a connection that was accepted just now, to a socket of this role.
     pub fn new(
         rt: &'a R,
@@ -47,7 +68,8 @@ impl<'a, R: Clock> Arrivals<'a, R> {
         input: Input<'a>,
         presence: &'a Presence,
         role: Role,
-        is_noted: bool,
+        custom: Custom,
+        strangers: &'a Strangers,
     ) -> Arrivals<'a, R> {
         Arrivals {
             rt,
@@ -55,9 +77,61 @@ impl<'a, R: Clock> Arrivals<'a, R> {
             input,
             presence,
             handshake: Some(Peer::new(alloc, role)),
-            until: clock_of(rt).saturating_add(Duration::from_secs(HANDSHAKE_SECONDS)),
-            is_noted,
+            until: handshake_end(rt),
+            custom,
+            strangers,
+            share: Share::new(),
         }
+    }
+
+    /// Lets go of what it brought, as the connection has come to its end.
+    pub fn settle(&mut self) {
+        self.strangers.settle(self.rt, &mut self.share);
+    }
+
+    /// Whether it may bring so many octets more. An answered connection has its own share alone, since nobody needs more for a heartbeat.
+    fn may_bring(&mut self, count: u64) -> bool {
+        match self.custom {
+            Custom::Answered => self.share.bring_own(count),
+            Custom::Signed | Custom::Kept => self.strangers.bring(self.rt, &mut self.share, count),
+        }
+    }
+
+    /// Counts octets that came before anything of them is kept. Nothing is counted of who showed the key, and what was answered no longer is.
+    ///
+    /// # Errors
+    ///
+    /// `OutOfMemory` where a stranger, or all strangers together, would hold too much by them.
+    fn count(&mut self, count: usize) -> io::Result<()> {
+        let is_known = self.presence.is_trusted();
+        if is_known || self.presence.was_answered() {
+            self.settle();
+        }
+        if is_known || self.may_bring(count as u64) {
+            return Ok(());
+        }
+        Err(io::Error::from(ErrorKind::OutOfMemory))
+    }
+
+    /// Whether a handshake takes more octets than a stranger has for itself.
+    fn is_handshake_too_long(&self) -> bool {
+        self.handshake.is_some() && self.share.brought > OWN_OCTETS
+    }
+
+    /// Reads what comes. Where a signal interrupted that it reads anew, and the time for the handshake begins anew: a process that was stopped and goes on
+    /// loses no connection.
+    fn read_on(&mut self, buf: &mut [u8]) -> io::Result<usize>
+        ensures bound { ReadsAtMost result buf.new }
+    {
+        for _ in 0..INTERRUPTIONS {
+            match self.input.read(buf) {
+                Err(error) if error.kind() == ErrorKind::Interrupted => {
+                    self.until = handshake_end(self.rt);
+                }
+                answer => return answer,
+            }
+        }
+        Err(io::Error::from(ErrorKind::Interrupted))
     }
 
     /// Reads within what is left of the time for the handshake, and looks whether it is over.
@@ -69,23 +143,28 @@ impl<'a, R: Clock> Arrivals<'a, R> {
             return Err(io::Error::from(ErrorKind::TimedOut));
         }
         self.stream.set_read_timeout(Some(left))?;
-        let count = self.input.read(buf)?;
+        let count = self.read_on(buf)?;
+        self.count(count)?;
         if is_over(&mut self.handshake, &buf[..count]) {
             self.handshake = None;
             self.presence.set_ready();
             self.stream.set_read_timeout(None)?;
         }
+        if self.is_handshake_too_long() {
+            return Err(io::Error::from(ErrorKind::InvalidData));
+        }
         Ok(count)
     }
 }
 
-impl<R: Clock> Read for Arrivals<'_, R> {
+impl<R: Clock + Wait> Read for Arrivals<'_, R> {
     fn read(&mut self, buf: &mut [u8]) -> io::Result<usize> {
         if self.handshake.is_some() {
             return self.read_handshake(buf);
         }
-        let count = self.input.read(buf)?;
-        if self.is_noted {
+        let count = self.read_on(buf)?;
+        self.count(count)?;
+        if self.custom != Custom::Signed {
             self.presence.hear(milliseconds(self.rt));
         }
         Ok(count)
@@ -126,9 +205,8 @@ pub(crate) struct Departures<'a, R: Clock> {
     stream: &'a TcpStream,
     presence: &'a Presence,
     /// When the message has to be out of which a piece is.
-    until: Option<Duration>,
-    /// Whether what goes out is noted, as where no signed message shows who is there: who takes it is there.
-    is_noted: bool,
+    patience: Patience,
+    custom: Custom,
 }
 
 impl<'a, R: Clock> Departures<'a, R> {
@@ -137,14 +215,14 @@ impl<'a, R: Clock> Departures<'a, R> {
         rt: &'a R,
         stream: &'a TcpStream,
         presence: &'a Presence,
-        is_noted: bool,
+        custom: Custom,
     ) -> Departures<'a, R> {
         Departures {
             rt,
             stream,
             presence,
-            until: None,
-            is_noted,
+            patience: Patience::new(),
+            custom,
         }
     }
 
@@ -153,46 +231,66 @@ impl<'a, R: Clock> Departures<'a, R> {
         let _ = self.stream.shutdown(Shutdown::Both);
     }
 
-    /// Writes some of these octets until a time.
-    fn write_until(&mut self, buf: &[u8], until: Duration) -> io::Result<usize>
-        ensures bound { WritesAtMost result buf.now }
-    {
-        let mut stream = self.stream;
-        let count = stream.write(buf)?;
-        if self.is_noted {
-            self.presence.hear(milliseconds(self.rt));
+    /// Notes that something went out, where no signed message shows who is there: who takes it is there.
+    fn note(&self) {
+        match self.custom {
+            Custom::Signed => {}
+            Custom::Answered => {
+                self.presence.answer();
+                self.presence.hear(milliseconds(self.rt));
+            }
+            Custom::Kept => self.presence.hear(milliseconds(self.rt)),
         }
-        self.until = if count < buf.len() { Some(until) } else { None };
-        Ok(count)
     }
 
-    /// Writes on in a message of which a piece went out, within what is left of its time.
-    fn write_on(&mut self, buf: &[u8], until: Duration) -> io::Result<usize>
+    /// The next piece has the whole time of a message again.
+    fn begin_anew(&mut self) -> io::Result<()> {
+        self.patience.wrote(true);
+        let whole = Duration::from_millis(MESSAGE_MILLISECONDS);
+        self.stream.set_write_timeout(Some(whole))
+    }
+
+    /// Has the next piece take no longer than what is left of the time of its message. The first one has what the socket has for each write.
+    fn bound_next(&mut self) -> io::Result<()> {
+        let is_first = self.patience.until.is_none();
+        match self.patience.left(milliseconds(self.rt)) {
+            None => Err(io::Error::from(ErrorKind::TimedOut)),
+            Some(_) if is_first => Ok(()),
+            Some(left) => {
+                self.stream
+                    .set_write_timeout(Some(Duration::from_millis(left)))
+            }
+        }
+    }
+
+    /// Writes some of these octets, in what is left of the time of their message.
+    fn write_piece(&mut self, buf: &[u8]) -> io::Result<usize>
         ensures bound { WritesAtMost result buf.now }
     {
-        let left = until.saturating_sub(clock_of(self.rt));
-        if left.is_zero() {
-            return Err(io::Error::from(ErrorKind::TimedOut));
-        }
-        self.stream.set_write_timeout(Some(left))?;
-        let count = self.write_until(buf, until)?;
-        if self.until.is_none() {
-            self.stream
-                .set_write_timeout(Some(Duration::from_secs(MESSAGE_SECONDS)))?;
+        let is_first = self.patience.until.is_none();
+        self.bound_next()?;
+        let mut stream = self.stream;
+        let count = stream.write(buf)?;
+        self.note();
+        if count == buf.len() && !is_first {
+            self.begin_anew()?;
+        } else {
+            self.patience.wrote(count == buf.len());
         }
         Ok(count)
     }
 }
 
 impl<R: Clock> Write for Departures<'_, R> {
+    /// Where a signal interrupted a write it writes anew, and the time of the message begins anew.
     fn write(&mut self, buf: &[u8]) -> io::Result<usize> {
-        match self.until {
-            Some(until) => self.write_on(buf, until),
-            None => {
-                let until = clock_of(self.rt).saturating_add(Duration::from_secs(MESSAGE_SECONDS));
-                self.write_until(buf, until)
+        for _ in 0..INTERRUPTIONS {
+            match self.write_piece(buf) {
+                Err(error) if error.kind() == ErrorKind::Interrupted => self.begin_anew()?,
+                answer => return answer,
             }
         }
+        Err(io::Error::from(ErrorKind::Interrupted))
     }
 
     fn flush(&mut self) -> io::Result<()> {

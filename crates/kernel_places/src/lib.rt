@@ -8,6 +8,11 @@
 //! valid signature came; on stdin, iopub and the heartbeat, where nothing is signed, the one that has been silent longest, and for a
 //! minute at least: nothing came on it, and it took nothing. Where all 32 show the key, or were just heard, the next one waits.
 //!
+//! What strangers send is counted before it is kept (`kernel_sockets::Strangers`): until a signed message came on shell and control, until an
+//! answer went out on the heartbeat, and as long as the connection is there on iopub and stdin. One by which they would hold too much ends.
+//!
+//! A read or a write that a signal interrupted is begun anew, with its time, so a process that was stopped and goes on loses no connection.
+//!
 //! [`Service`] is what all places share: the hall, the board, the connections that are served, and the latches that all threads look at.
 //! [`serve_all`] starts the threads, and no connection is accepted before all of them stand; it tells when it is ready, waits for a
 //! shutdown and joins every thread. A place of shell or control has a pass of the hall and a ringer's seat for as long as it lives.

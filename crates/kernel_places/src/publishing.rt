@@ -1,5 +1,5 @@
 //! The places of the iopub socket.
-use crate::arrivals::{Arrivals, Departures, milliseconds};
+use crate::arrivals::{Arrivals, Custom, Departures, milliseconds};
 use crate::door::Door;
 use crate::places::share;
 use crate::service::Service;
@@ -29,8 +29,17 @@ fn supply<W: Ledger + Sync, L: Ledger + Sync, R: Threads + Wait + Clock + Sync>(
         return;
     };
     let input = Input::new(stream, &service.subscribers);
-    let mut arrivals = Arrivals::new(rt, service.alloc, stream, input, presence, Role::Pub, true);
-    let departures = Departures::new(rt, stream, presence, true);
+    let mut arrivals = Arrivals::new(
+        rt,
+        service.alloc,
+        stream,
+        input,
+        presence,
+        Role::Pub,
+        Custom::Kept,
+        &service.strangers,
+    );
+    let departures = Departures::new(rt, stream, presence, Custom::Kept);
     let _ = serve_subscriber(
         rt,
         service.alloc,
@@ -38,6 +47,7 @@ fn supply<W: Ledger + Sync, L: Ledger + Sync, R: Threads + Wait + Clock + Sync>(
         &mut arrivals,
         departures,
     );
+    arrivals.settle();
 }
 
 /// Takes a subscriber in, serves it and sees it out.

@@ -1,5 +1,5 @@
 //! The places of the sockets on which something comes: shell, control, stdin and heartbeat.
-use crate::arrivals::{Arrivals, Departures, milliseconds};
+use crate::arrivals::{Arrivals, Custom, Departures, milliseconds};
 use crate::door::Door;
 use crate::places::share;
 use crate::service::Service;
@@ -27,8 +27,17 @@ fn role_of(socket: Socket) -> Role {
     }
 }
 
+/// What shows who is at the other end of a connection of a socket.
+fn custom_of(socket: Socket) -> Custom {
+    match socket {
+        Socket::Shell | Socket::Control => Custom::Signed,
+        Socket::Stdin | Socket::Iopub => Custom::Kept,
+        Socket::Heartbeat => Custom::Answered,
+    }
+}
+
 /// Serves a connection that was let in, to its end.
-fn converse<W: Ledger, L: Ledger, D: Desk, R: Clock>(
+fn converse<W: Ledger, L: Ledger, D: Desk, R: Wait + Clock>(
     rt: &R,
     service: &Service<W, L>,
     desk: &mut D,
@@ -43,10 +52,19 @@ fn converse<W: Ledger, L: Ledger, D: Desk, R: Clock>(
         return;
     };
     let input = Input::new(stream, &service.callers);
-    let is_noted = matches!(place.socket, Socket::Stdin | Socket::Heartbeat);
     let role = role_of(place.socket);
-    let mut arrivals = Arrivals::new(rt, service.alloc, stream, input, presence, role, is_noted);
-    let mut departures = Departures::new(rt, stream, presence, is_noted);
+    let custom = custom_of(place.socket);
+    let mut arrivals = Arrivals::new(
+        rt,
+        service.alloc,
+        stream,
+        input,
+        presence,
+        role,
+        custom,
+        &service.strangers,
+    );
+    let mut departures = Departures::new(rt, stream, presence, custom);
     let _ = serve(
         service.alloc,
         place.socket,
@@ -56,6 +74,7 @@ fn converse<W: Ledger, L: Ledger, D: Desk, R: Clock>(
         desk,
         &mut stamp,
     );
+    arrivals.settle();
 }
 
 /// Takes a connection in, serves it and sees it out.

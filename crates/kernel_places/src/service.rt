@@ -8,7 +8,7 @@ use jupyter_msg::Key;
 use kernel_hall::Hall;
 use kernel_iopub::Bulletin;
 use kernel_message::Stamp;
-use kernel_sockets::Connections;
+use kernel_sockets::{Connections, Strangers};
 use std::alloc::{AllocError, Global};
 use std::sync::ledger::Ledger;
 use std::sync::{Mutex, Wait};
@@ -31,6 +31,8 @@ pub struct Service<W: Ledger, L: Ledger> {
     pub(crate) callers: Connections,
     /// Those of iopub.
     pub(crate) subscribers: Connections,
+    /// What all who did not show the key hold together.
+    pub(crate) strangers: Strangers,
     /// Where connections that were accepted wait for a place.
     pub(crate) doors: Doors,
     /// All threads stand, or all is to come to an end.
@@ -76,6 +78,7 @@ impl<W: Ledger, L: Ledger> Service<W, L> {
                 bulletin,
                 callers,
                 subscribers,
+                strangers: Strangers::new(),
                 doors: Doors::new(),
                 started: Latch::new(),
                 ending: Latch::new(),

@@ -104,12 +104,25 @@ where
     }
 }
 
+/// Tells that other machines can come in, where that is so: what goes over a socket is signed, but not hidden. A fault of the stream is passed over.
+fn tell_reach<E: Write>(listeners: &Listeners, ip: &str, err: &mut E) {
+    if listeners.shell.is_local() {
+        return;
+    }
+    let _ = writeln!(
+        err,
+        "janus-kernel: {ip} is no address of the loopback: other machines can connect, and read what goes over the network"
+    );
+    let _ = err.flush();
+}
+
 /// Serves the sockets that a connection file names until a shutdown.
-fn serve_file<R, O: Write>(
+fn serve_file<R, O: Write, E: Write>(
     rt: &R,
     alloc: Global,
     path: &str,
     out: &mut O,
+    err: &mut E,
 ) -> Result<(), ProgramFault>
 where
     R: Net<Listener = TcpListener, Stream = TcpStream>
@@ -122,6 +135,7 @@ where
 {
     let file = connection_of(rt, alloc, path)?;
     let listeners = listeners_of(rt, &file)?;
+    tell_reach(&listeners, &file.ip, err);
     let key = Key::new(file.key.into_bytes());
     serve_new_kernel::<Brand, Brand, R, O>(
         rt,
@@ -170,7 +184,7 @@ pub fn refuse_unread_words<E: Write>(kind: ErrorKind, err: &mut E) -> u8
 /// The program `janus-kernel`, over the words of its command line, of which the first is its name, and its two output streams: it serves
 /// the sockets of the connection file until a shutdown, and answers its status. 0 after a shutdown, and for help; 2 for wrong words or a
 /// wrong connection file, 3 where a socket can't be bound, 1 where there is no memory at the start, each with a line to the errors. A
-/// fault of the two streams is passed over.
+/// line there also tells that the sockets are not of the loopback. A fault of the two streams is passed over.
 pub fn kernel_main<R, S: AsStr, O: Write, E: Write>(
     rt: &R,
     alloc: Global,
@@ -191,7 +205,7 @@ where
         Ok(path) => path,
         Err(error) => return refuse_words(&error, out, err),
     };
-    match serve_file(rt, alloc, path, out) {
+    match serve_file(rt, alloc, path, out, err) {
         Ok(()) => DONE,
         Err(fault) => {
             fault.tell(err);

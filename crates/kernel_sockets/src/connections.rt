@@ -1,6 +1,7 @@
 //! The connections that are served.
-use crate::presence::{MOMENT, Presence};
+use crate::presence::Presence;
 use crate::register::{Register, Stream};
+use crate::room::{Sight, who_makes_room};
 use std::alloc::{AllocError, Global};
 use std::net::Shutdown;
 use std::sync::atomic::{AtomicBool, Ordering};
@@ -10,6 +11,7 @@ use std::time::{Clock, Duration};
 /// The connections that are served at some places.
 #[derive(Drop)]
 pub struct Connections {
+    alloc: Global,
     register: Mutex<Register>,
     left: Condvar,
     /// Whether the register is closed, for readers who don't wait for the lock.
@@ -23,11 +25,12 @@ impl Connections {
     ///
     /// # Errors
     ///
-    /// `AllocError` where there is no memory. No other call takes any.
+    /// `AllocError` where there is no memory. Of the other calls `make_room` alone takes any.
     pub fn new(alloc: Global, places: usize) -> Result<Connections, AllocError> {
         let register = Register::new(alloc, places)?;
         let presences = presences_of(alloc, places)?;
         Ok(Connections {
+            alloc,
             register: Mutex::new(register),
             left: Condvar::new(),
             is_closed: AtomicBool::new(false),
@@ -63,60 +66,32 @@ impl Connections {
         self.left.notify_all();
     }
 
-    /// Ends a stranger at one of so many places from the first on, if there is one: a connection on which no signed message came. While any is there
-    /// whose handshake is not over, it is of these the one that was heard longest ago, once it had its moment; else, of those that were not heard for so
-    /// many milliseconds, the one that was heard longest ago.
-    pub fn make_room<R: Wait>(&self, rt: &R, first: usize, count: usize, now: u64, silence: u64) {
-        let register = self.register.lock(rt);
-        let has_new = self.has_new(&register, first, count);
-        let patience = if has_new { MOMENT } else { silence };
-        let mut longest: Option<(usize, u64)> = None;
-        for place in first..first.saturating_add(count) {
-            let Some(heard) = self.stranger_at(&register, place, has_new, now, patience) else {
-                continue;
-            };
-            if is_longer(longest, heard) {
-                longest = Some((place, heard));
-            }
-        }
-        if let Some((place, _)) = longest {
-            register.end(place);
-        }
-    }
-
-    /// Whether a connection is at one of these places whose handshake is not over.
-    fn has_new(&self, register: &Register, first: usize, count: usize) -> bool {
-        for place in first..first.saturating_add(count) {
-            if self.is_new_at(register, place) {
-                return true;
-            }
-        }
-        false
-    }
-
-    /// Whether a connection is at a place whose handshake is not over.
-    fn is_new_at(&self, register: &Register, place: usize) -> bool {
-        match self.presences.get(place) {
-            Some(presence) => register.is_taken(place) && presence.is_new(),
-            None => false,
-        }
-    }
-
-    /// When the connection at a place was last heard, where it is a stranger that may have to make room: among those whose handshake is not over, or
-    /// among all.
-    fn stranger_at(
+    /// What is seen of so many places from the first on, as it is under the lock of the register.
+    fn sights_of(
         &self,
         register: &Register,
-        place: usize,
-        is_new: bool,
-        now: u64,
-        silence: u64,
-    ) -> Option<u64> {
-        if !register.is_taken(place) || is_new && !self.is_new_at(register, place) {
-            return None;
+        first: usize,
+        count: usize,
+    ) -> Result<Vec<Sight>, AllocError> {
+        let mut sights = Vec::with_capacity(self.alloc, count)?;
+        for place in first..first.saturating_add(count) {
+            if let Some(presence) = self.presences.get(place) {
+                sights.push(presence.sight(register.is_taken(place)))?;
+            }
         }
-        let presence = self.presences.get(place)?;
-        presence.silent_since(now, silence)
+        Ok(sights)
+    }
+
+    /// Ends a stranger at one of so many places from the first on, if there is one that has to make room: whom `who_makes_room` answers of what is seen
+    /// under the lock. Nobody is ended where there is no memory to look.
+    pub fn make_room<R: Wait>(&self, rt: &R, first: usize, count: usize, now: u64, silence: u64) {
+        let register = self.register.lock(rt);
+        let Ok(sights) = self.sights_of(&register, first, count) else {
+            return;
+        };
+        if let Some(place) = who_makes_room(&sights, now, silence) {
+            register.end(first.saturating_add(place));
+        }
     }
 
     /// Lets no more connections in, and shuts those that are there: for reading, so that each is still answered, or altogether.
@@ -143,12 +118,4 @@ fn presences_of(alloc: Global, places: usize) -> Result<Vec<Presence>, AllocErro
         presences.push(Presence::new())?;
     }
     Ok(presences)
-}
-
-/// Whether one that was last heard at this time has been there longer than the one found before.
-fn is_longer(found: Option<(usize, u64)>, heard: u64) -> bool {
-    match found {
-        Some((_, other)) => heard < other,
-        None => true,
-    }
 }

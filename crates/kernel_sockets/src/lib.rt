@@ -4,20 +4,29 @@
 //! A [`Listener`] hands out connections with no delay by Nagle's algorithm, on which a write waits ten seconds at most. [`Connections`] are
 //! those that are served at a number of places: who serves one enters it and leaves again, and who ends the kernel closes them all, so that
 //! no more come in, and reads from those that are there come to their end ([`Input`]). Of the connection at each place a [`Presence`] tells
-//! whether it is ready, whether it is trusted and when it was heard, so that a stranger makes room where all places are taken.
+//! whether it is ready, whether it is trusted and when it was heard, so that a stranger makes room where all places are taken. Who that is
+//! [`who_makes_room`] answers, by specs/Room.antt: of those who may have to, the one that was heard longest ago, and nobody who showed the
+//! key. What strangers hold is counted by [`Strangers`]: each has its own share, and past their shares they hold no more together than
+//! [`COMMON_OCTETS`], which the type of [`Common`] keeps. The time of a message that is written begins with its first piece ([`Patience`]).
 //!
-//! To the layer above this crate promises safety alone: no clause can say what a socket does. The register under the lock is exact on what
-//! it is lent ([`Connections`] is that register under a lock). It stands on no other crate of the kernel.
+//! To the layer above this crate promises that rule, that count, that time and safety: no clause can say what a socket does. The register under the
+//! lock is exact on what it is lent ([`Connections`] is that register under a lock). It stands on no other crate of the kernel.
 #![tactic(auto)]
 
 mod connections;
 mod input;
 mod listener;
+mod patience;
 mod presence;
 mod register;
+mod room;
+mod shares;
 
 pub use connections::Connections;
 pub use input::Input;
 pub use listener::Listener;
+pub use patience::{MESSAGE_MILLISECONDS, Patience};
 pub use presence::{MOMENT, Presence};
 pub use register::{Register, Stream};
+pub use room::{Sight, who_makes_room};
+pub use shares::{COMMON_OCTETS, Common, OWN_OCTETS, Share, Strangers};

@@ -1,11 +1,9 @@
 //! A listening socket.
+use crate::patience::MESSAGE_MILLISECONDS;
 use std::io;
 use std::net::{Net, Shutdown, TcpListener, TcpStream};
 use std::os::fd::OwnedFd;
 use std::time::Duration;
-
-/// A write that waits longer fails.
-const PATIENCE_SECONDS: u64 = 10;
 
 /// A listening socket that any thread can close while others wait at it.
 #[derive(Drop)]
@@ -39,8 +37,16 @@ impl Listener {
     pub fn accept(&self) -> io::Result<TcpStream> {
         let (stream, _) = self.listener.accept()?;
         stream.set_nodelay(true)?;
-        stream.set_write_timeout(Some(Duration::from_secs(PATIENCE_SECONDS)))?;
+        stream.set_write_timeout(Some(Duration::from_millis(MESSAGE_MILLISECONDS)))?;
         Ok(stream)
+    }
+
+    /// Whether its address is one of the loopback, at which no other machine can come in.
+    pub fn is_local(&self) -> bool {
+        match self.listener.local_addr() {
+            Ok(address) => address.ip().is_loopback(),
+            Err(_) => false,
+        }
     }
 
     /// Refuses all that wait for a connection, and all that come later. On Linux a blocked `accept` ends by the shutdown of its socket.

@@ -1,4 +1,7 @@
 //! What is known of the connection at a place.
+ghost use Rattle.std.specs.Prelude.{◌≡◌};
+
+use crate::room::Sight;
 use std::sync::atomic::{AtomicBool, AtomicU64, Ordering};
 
 /// So many milliseconds a connection has at least before it has to make room: who comes with the key shows it sooner.
@@ -11,6 +14,8 @@ pub struct Presence {
     is_ready: AtomicBool,
     /// A message with a valid signature came on it.
     is_trusted: AtomicBool,
+    /// Something went out on it that answers all that came before.
+    is_answered: AtomicBool,
     /// When it was let in, or when something came on it, in milliseconds of a clock.
     heard: AtomicU64,
 }
@@ -21,6 +26,7 @@ impl Presence {
         Presence {
             is_ready: AtomicBool::new(false),
             is_trusted: AtomicBool::new(false),
+            is_answered: AtomicBool::new(false),
             heard: AtomicU64::new(0),
         }
     }
@@ -29,6 +35,7 @@ impl Presence {
     pub(crate) fn begin(&self, now: u64) {
         self.is_ready.store(false, Ordering::SeqCst);
         self.is_trusted.store(false, Ordering::SeqCst);
+        self.is_answered.store(false, Ordering::SeqCst);
         self.heard.store(now, Ordering::SeqCst);
     }
 
@@ -47,20 +54,30 @@ impl Presence {
         &self.is_trusted
     }
 
-    /// Whether its handshake is not over yet.
-    pub(crate) fn is_new(&self) -> bool {
-        !self.is_ready.load(Ordering::SeqCst)
+    /// Whether a message with a valid signature came on it.
+    pub fn is_trusted(&self) -> bool {
+        self.is_trusted.load(Ordering::SeqCst)
     }
 
-    /// When it was last heard, where it may have to make room: no signed message came on it, and it was not heard for so many milliseconds.
-    pub(crate) fn silent_since(&self, now: u64, silence: u64) -> Option<u64> {
-        if self.is_trusted.load(Ordering::SeqCst) {
-            return None;
+    /// All that came on it is answered by something that went out.
+    pub fn answer(&self) {
+        self.is_answered.store(true, Ordering::SeqCst);
+    }
+
+    /// Whether all that came on it was answered since this was asked last.
+    pub fn was_answered(&self) -> bool {
+        self.is_answered.swap(false, Ordering::SeqCst)
+    }
+
+    /// What is seen of the place, where a connection is there or isn't.
+    pub(crate) fn sight(&self, is_taken: bool) -> Sight
+        ensures { result.is_taken ≡ is_taken }
+    {
+        Sight {
+            is_taken,
+            is_ready: self.is_ready.load(Ordering::SeqCst),
+            is_trusted: self.is_trusted.load(Ordering::SeqCst),
+            heard: self.heard.load(Ordering::SeqCst),
         }
-        let heard = self.heard.load(Ordering::SeqCst);
-        if heard.saturating_add(silence) > now {
-            return None;
-        }
-        Some(heard)
     }
 }

@@ -1,5 +1,6 @@
 //! The register of the connections that are served.
-ghost use Rattle.std.specs.Prelude.{◌≡◌, ◌<◌, ◌≤◌, ◌↔◌, None, Some, true, false, All, IfOk, IsTrue, slice_set, length};
+ghost use Rattle.std.specs.Prelude.{◌≡◌, ◌<◌, ◌≤◌, ◌↔◌, None, Some, true, false};
+ghost use Rattle.std.specs.Prelude.{All, IfOk, IsTrue, slice_get, slice_set, length, MatchOption, IsSome};
 
 use std::alloc::{AllocError, Global};
 use std::net::{Shutdown, TcpStream};
@@ -60,7 +61,7 @@ impl Register {
 
     /// Whether a connection is at a place.
     pub fn is_taken(&self, place: usize) -> bool
-        ensures { IsTrue result → place < length self.now.streams.items }
+        ensures { IsTrue result ↔ MatchOption (slice_get self.now.streams.items place) ⊥ (λ stream. IsSome stream) }
     {
         match self.streams.get(place) {
             Some(stream) => stream.is_some(),

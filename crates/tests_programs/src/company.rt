@@ -37,7 +37,7 @@ struct Company {
 }
 
 /// Asks what the kernel is until a subscriber hears of it.
-fn wait_until_heard(rt: &impl Abort, shell: &mut Frontend, subscriber: &mut Frontend) {
+pub(crate) fn wait_until_heard(rt: &impl Abort, shell: &mut Frontend, subscriber: &mut Frontend) {
     for _ in 0..ASKINGS {
         shell.send(rt, "kernel_info_request", "{}");
         let _reply = shell.reply(rt);
@@ -72,14 +72,14 @@ where
 }
 
 /// Compares the topic of the next broadcast that a subscriber hears.
-fn check_topic(rt: &impl Abort, subscriber: &mut Frontend, topic: &str) {
+pub(crate) fn check_topic(rt: &impl Abort, subscriber: &mut Frontend, topic: &str) {
     let frames = subscriber.frames(rt);
     assert!(rt; !frames.is_empty());
     assert_eq!(rt; frames[0].as_slice(), topic.as_bytes());
 }
 
 /// Passes broadcasts of the status over until another one comes, and compares its topic.
-fn skip_to(rt: &impl Abort, subscriber: &mut Frontend, topic: &str) {
+pub(crate) fn skip_to(rt: &impl Abort, subscriber: &mut Frontend, topic: &str) {
     for _ in 0..u64::MAX {
         let frames = subscriber.frames(rt);
         assert!(rt; !frames.is_empty());

@@ -1,7 +1,8 @@
 //! Connection files and words that no program takes, a port that another has, and ports where no kernel listens.
+use crate::frontend::{KEY, check_shut, shut_down};
 use crate::kernel::{
-    Ran, ask, check_ran, connection_text, free_ports, kernel, listen, make_site, port_of, remove,
-    run_console, run_kernel, write_file,
+    Ran, ask, check_ran, connection_text, connection_text_at, free_ports, kernel, listen,
+    make_site, port_of, remove, run_console, run_kernel, wait_until_ready, write_file,
 };
 use std::alloc::Global;
 use std::net::{Net, TcpListener, TcpStream};
@@ -9,6 +10,7 @@ use std::process::Abort;
 use std::random::RandomSource;
 use std::rt::Files;
 use std::sync::Wait;
+use std::thread;
 use std::thread::Threads;
 use std::time::Clock;
 
@@ -203,4 +205,34 @@ fn a_console_tells_its_help(rt: HostRuntime) {
     );
     assert!(rt; ran.err.is_empty());
     assert_eq!(rt; ran.status, 0);
+}
+
+/// What a kernel tells at whose address other machines can connect.
+const REACH: &str =
+    "janus-kernel: 0.0.0.0 is no address of the loopback: other machines can connect, and read what goes over the network\n";
+
+#[test]
+fn an_address_past_the_loopback_is_told(rt: HostRuntime) {
+    let alloc = rt.alloc();
+    let site = make_site(&rt, alloc);
+    let ports = [
+        site.shell,
+        site.iopub,
+        site.stdin,
+        site.control,
+        site.heartbeat,
+    ];
+    let text = connection_text_at(&rt, alloc, "0.0.0.0", ports, KEY);
+    write_file(&rt, &site.path, &text);
+    let (ran, told) = thread::join(
+        &rt,
+        || kernel(&rt, alloc, &site.path),
+        || {
+            wait_until_ready(&rt, alloc, &site);
+            shut_down(&rt, alloc, site.control)
+        },
+    );
+    check_shut(&rt, &told);
+    check_ran(&rt, ("an address", "0.0.0.0"), &ran, "ready\n", REACH, 0);
+    remove(&rt, &site.path);
 }

@@ -49,6 +49,18 @@ pub(crate) fn push_message(rt: &impl Abort, octets: &mut Vec<u8>, frames: &[Vec<
     write_message(octets, frames).expect(rt, "the octets of a message");
 }
 
+/// A frame of so many octets but for its last one.
+pub(crate) fn begun_frame(rt: &impl Abort, alloc: Global, size: u64) -> Vec<u8> {
+    let mut octets = vec![in alloc; 2u8].expect(rt, "a flag");
+    octets
+        .extend_from_slice(&size.to_be_bytes())
+        .expect(rt, "a size");
+    octets
+        .resize((size as usize).saturating_add(8), 0)
+        .expect(rt, "a body without its last octet");
+    octets
+}
+
 /// Writes these octets to a stream.
 pub(crate) fn write_to(rt: &impl Abort, stream: &TcpStream, octets: &[u8]) {
     let mut writer = stream;
@@ -184,6 +196,12 @@ impl Frontend {
         let mut octets = Vec::new(self.alloc);
         push_message(rt, &mut octets, &frames);
         write_to(rt, &self.stream, &octets);
+    }
+
+    /// Writes octets, as long as the kernel takes them.
+    pub(crate) fn press(&self, octets: &[u8]) {
+        let mut stream = &self.stream;
+        let _ = stream.write_all(octets);
     }
 
     /// Takes in an event of the connection.

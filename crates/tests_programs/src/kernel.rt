@@ -67,16 +67,27 @@ where
     ]
 }
 
-/// The text of a connection file with these ports.
+/// The text of a connection file with these ports, at the address of the loopback.
 pub(crate) fn connection_text(
     rt: &impl Abort,
     alloc: Global,
     ports: [u16; 5],
     key: &str,
 ) -> String {
+    connection_text_at(rt, alloc, "127.0.0.1", ports, key)
+}
+
+/// The text of a connection file with this address and these ports.
+pub(crate) fn connection_text_at(
+    rt: &impl Abort,
+    alloc: Global,
+    ip: &str,
+    ports: [u16; 5],
+    key: &str,
+) -> String {
     let [shell, iopub, stdin, control, heartbeat] = ports;
     let text = format!(in alloc;
-        "{{\"transport\":\"tcp\",\"ip\":\"127.0.0.1\",\"shell_port\":{shell},\"iopub_port\":{iopub},\"stdin_port\":{stdin},\"control_port\":{control},\"hb_port\":{heartbeat},\"key\":\"{key}\"}}"
+        "{{\"transport\":\"tcp\",\"ip\":\"{ip}\",\"shell_port\":{shell},\"iopub_port\":{iopub},\"stdin_port\":{stdin},\"control_port\":{control},\"hb_port\":{heartbeat},\"key\":\"{key}\"}}"
     );
     text.expect(rt, "a connection file")
 }

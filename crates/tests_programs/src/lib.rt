@@ -18,6 +18,8 @@ mod interrupts;
 #[cfg(test)]
 mod kernel;
 #[cfg(test)]
+mod leaving;
+#[cfg(test)]
 mod places;
 #[cfg(test)]
 mod publishing;

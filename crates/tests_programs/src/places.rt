@@ -1,5 +1,5 @@
 //! The places of the sockets.
-use crate::frontend::{Frontend, check_shut, connect, shut_down};
+use crate::frontend::{Frontend, begun_frame, check_shut, connect, shut_down};
 use crate::kernel::{Site, kernel, make_site, remove, wait_until_ready};
 use crate::sockets::check_beat;
 use std::alloc::Global;
@@ -150,6 +150,51 @@ fn strangers_at_all_places_keep_nobody_out(rt: HostRuntime) {
         &rt,
         || kernel(&rt, alloc, &site.path),
         || come_in_past_strangers(&rt, alloc, &site),
+    );
+    check_shut(&rt, &told);
+    assert_eq!(rt; ran.status, 0);
+    remove(&rt, &site.path);
+}
+
+/// More than half of what strangers may bring together.
+const GREAT: u64 = 8_388_608;
+
+/// A stranger that leaves a great frame before its end.
+fn press<R>(rt: &R, alloc: Global, port: u16) -> Frontend
+where
+    R: Net<Listener = TcpListener, Stream = TcpStream> + Abort,
+{
+    let mut stranger = Frontend::open(rt, alloc, port);
+    stranger.wait_until_ready(rt);
+    stranger.press(&begun_frame(rt, alloc, GREAT));
+    stranger
+}
+
+/// Of two strangers that would hold too much together one is ended, and who has the key is answered beside the other.
+fn hold_too_much<R>(rt: &R, alloc: Global, site: &Site) -> String
+where
+    R: Net<Listener = TcpListener, Stream = TcpStream> + Clock + Abort,
+{
+    wait_until_ready(rt, alloc, site);
+    let mut first = press(rt, alloc, site.shell);
+    let mut second = press(rt, alloc, site.control);
+    assert!(rt; second.is_closed(rt) || first.is_closed(rt));
+    for port in [site.shell, site.control] {
+        let mut frontend = Frontend::open(rt, alloc, port);
+        frontend.send(rt, "kernel_info_request", "{}");
+        let _reply = frontend.reply(rt);
+    }
+    shut_down(rt, alloc, site.control)
+}
+
+#[test]
+fn strangers_bring_12_mebibytes_together(rt: HostRuntime) {
+    let alloc = rt.alloc();
+    let site = make_site(&rt, alloc);
+    let (ran, told) = thread::join(
+        &rt,
+        || kernel(&rt, alloc, &site.path),
+        || hold_too_much(&rt, alloc, &site),
     );
     check_shut(&rt, &told);
     assert_eq!(rt; ran.status, 0);

@@ -18,11 +18,11 @@ use zmtp_wire::{WireFault, write_message};
 /// How a connection ended, and what went out.
 type Served = (Result<(), ServeFault>, Vec<u8>);
 
-/// The stamp of session `k` and connection 1, with this number next.
-fn stamp(alloc: Global, next: u64) -> Result<Stamp, AllocError> {
+/// The stamp of session `k` and this connection, with this number next.
+pub(crate) fn stamp(alloc: Global, connection: u64, next: u64) -> Result<Stamp, AllocError> {
     Ok(Stamp {
         session: String::from_str(alloc, "k")?,
-        connection: 1,
+        connection,
         next,
         date: *b"2025-01-01T00:00:00Z",
     })
@@ -38,7 +38,7 @@ fn served_over(
     next: u64,
 ) -> Served {
     let alloc = desk.alloc;
-    let mut stamp = stamp(alloc, next).expect(rt, "a stamp");
+    let mut stamp = stamp(alloc, 1, next).expect(rt, "a stamp");
     let mut writer = Taken {
         octets: Vec::new(alloc),
         writes_left,
@@ -82,7 +82,7 @@ pub(crate) fn served_under(
     size: usize,
 ) -> Served {
     let alloc = desk.alloc;
-    let mut stamp = stamp(alloc, 0).expect(rt, "a stamp");
+    let mut stamp = stamp(alloc, 1, 0).expect(rt, "a stamp");
     let mut reader = Pieces {
         octets,
         size,
@@ -347,7 +347,7 @@ fn a_desk_without_memory_ends_the_connection(rt: HostRuntime) {
 fn a_question_is_answered_before_the_next_read(rt: HostRuntime) {
     let alloc = rt.alloc();
     let mut desk = NoKernel::new(alloc);
-    let mut stamp = stamp(alloc, 0).expect(&rt, "a stamp");
+    let mut stamp = stamp(alloc, 1, 0).expect(&rt, "a stamp");
     let written = AtomicUsize::new(0);
     let mut reader = Watching {
         octets: QUESTION,

@@ -10,6 +10,8 @@ mod connections;
 #[cfg(test)]
 mod desk;
 #[cfg(test)]
+mod lone;
+#[cfg(test)]
 mod refused;
 #[cfg(test)]
 mod rows;

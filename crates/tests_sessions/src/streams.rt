@@ -46,6 +46,35 @@ impl Write for Taken {
     }
 }
 
+/// Takes so many octets at each write, and behind so many writes nothing, or fails.
+#[derive(Drop)]
+pub(crate) struct Sparing {
+    pub octets: Vec<u8>,
+    pub size: usize,
+    pub writes_left: u64,
+    pub is_failing: bool,
+}
+
+impl Write for Sparing {
+    fn write(&mut self, buf: &[u8]) -> io::Result<usize> {
+        if self.writes_left == 0 {
+            return if self.is_failing {
+                Err(ErrorKind::ConnectionReset.into())
+            } else {
+                Ok(0)
+            };
+        }
+        self.writes_left -= 1;
+        let count = self.size.min(buf.len());
+        self.octets.extend_from_slice(&buf[..count])?;
+        Ok(count)
+    }
+
+    fn flush(&mut self) -> io::Result<()> {
+        Ok(())
+    }
+}
+
 /// Gives its octets at once, and then notes at each read how many octets had been written.
 #[derive(Drop)]
 pub(crate) struct Watching<'a> {

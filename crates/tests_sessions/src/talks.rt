@@ -22,8 +22,20 @@ fn header(rt: &impl Abort, alloc: Global, msg_type: &str) -> Vec<u8> {
     header.expect(rt, "a header").into_bytes()
 }
 
-/// The octets of a dealer's opening, which is as long as a router's, and of a request of this type and content, unsigned.
-fn asking(rt: &impl Abort, alloc: Global, msg_type: &str, content: &str) -> Vec<u8> {
+/// The octets of a dealer's opening, which is as long as a router's.
+pub(crate) fn opening(rt: &impl Abort, alloc: Global) -> Vec<u8> {
+    let opening = &QUESTION[..ROUTER.len()];
+    opening.to_vec(alloc).expect(rt, "an opening")
+}
+
+/// Adds the octets of a request of this type and content, unsigned.
+pub(crate) fn push_asking(
+    rt: &impl Abort,
+    alloc: Global,
+    octets: &mut Vec<u8>,
+    msg_type: &str,
+    content: &str,
+) {
     let frames = [
         frame(rt, alloc, "<IDS|MSG>"),
         Vec::new(alloc),
@@ -32,9 +44,13 @@ fn asking(rt: &impl Abort, alloc: Global, msg_type: &str, content: &str) -> Vec<
         frame(rt, alloc, "{}"),
         frame(rt, alloc, content),
     ];
-    let opening = &QUESTION[..ROUTER.len()];
-    let mut octets = opening.to_vec(alloc).expect(rt, "an opening");
-    write_message(&mut octets, &frames).expect(rt, "a message");
+    write_message(octets, &frames).expect(rt, "a message");
+}
+
+/// The octets of a dealer's opening and of a request of this type and content, unsigned.
+fn asking(rt: &impl Abort, alloc: Global, msg_type: &str, content: &str) -> Vec<u8> {
+    let mut octets = opening(rt, alloc);
+    push_asking(rt, alloc, &mut octets, msg_type, content);
     octets
 }
 

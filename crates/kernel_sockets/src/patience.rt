@@ -1,0 +1,45 @@
+//! How long a message may take to be written.
+ghost use Rattle.std.specs.Prelude.{◌≡◌, ℕ, ◌+◌, ◌<◌, ◌≤◌, IsTrue, false, IfSome, Some, None};
+
+/// So many milliseconds a message may take to be written, whatever the pieces.
+pub const MESSAGE_MILLISECONDS: u64 = 10_000;
+
+/// By when the message has to be out of which a piece is written, in milliseconds of a clock.
+#[derive(Drop)]
+pub struct Patience {
+    pub until: Option<u64>,
+}
+
+impl Patience {
+    /// No message is on its way.
+    pub fn new() -> Patience
+        ensures { result.until ≡ None }
+    {
+        Patience { until: None }
+    }
+
+    /// How many milliseconds a piece may take that is written now: what is left of the time of its message, which begins with its first piece and not
+    /// anew with the others. None where nothing is left.
+    pub fn left(&mut self, now: u64) -> Option<u64>
+        ensures first { self.old.until ≡ None → IfSome self.new.until (λ until. until ≤ now + MESSAGE_MILLISECONDS) }
+        ensures others { (until : ℕ) → self.old.until ≡ Some until → self.new.until ≡ Some until }
+        ensures within { IfSome result (λ left. (0 < left) × IfSome self.new.until (λ until. now + left ≤ until)) }
+    {
+        let until = match self.until {
+            Some(until) => until,
+            None => now.saturating_add(MESSAGE_MILLISECONDS),
+        };
+        self.until = Some(until);
+        if until > now { Some(until - now) } else { None }
+    }
+
+    /// A piece went out: behind the last one of a message the next one has its own time.
+    pub fn wrote(&mut self, is_last: bool)
+        ensures last { IsTrue is_last → self.new.until ≡ None }
+        ensures others { is_last ≡ false → self.new.until ≡ self.old.until }
+    {
+        if is_last {
+            self.until = None;
+        }
+    }
+}
