@@ -1,13 +1,12 @@
 //! Which cells are well formed: the check between the parser and everything that runs.
 //!
-//! A cell is checked over the names that are declared already and the procedures that are defined. What passes is a `Checked`, and
-//! it is exactly the cells without a fault of the table: a name declared twice, a procedure defined twice or a parameter given
-//! twice, a name out of sight or of another kind, a call of what is no procedure, with another number of arguments or with a
-//! name twice among them, an assigned name in its own index or right side, a local's name in its own two expressions or in
-//! sight already, a procedure defined anew with other parameters, too many names, stacks, procedures or parameters, an array's
-//! length out of its range. Calls and bodies see all procedures of the cell, over the old ones. Of several faults the one that stands first in the
-//! text is told, and at one place the
-//! one with the smaller number. What passes meets the well-formedness on which the laws of `janus_meaning` stand.
+//! A cell is checked over the names that are declared already and the procedures that are defined. What passes is a `Checked`, and it is exactly the
+//! cells without a fault of the table: a name declared twice, a procedure defined twice or a parameter given twice, a name out of sight or of another
+//! kind, a call of what is no procedure, with another number of arguments or with a name twice among them, an assigned name in its own index or right
+//! side, a local's name in its own two expressions or in sight already, a procedure defined anew with other parameters, too many names, stacks,
+//! procedures or parameters, an array's length out of its range. Calls and bodies see all procedures of the cell, over the old ones. Of several
+//! faults the one that stands first in the text is told, and at one place the one with the smaller number. What passes meets the well-formedness on
+//! which the laws of `janus_meaning` stand.
 //!
 //! The rules are those of Janus (Yokoyama and Glück 2007; Yokoyama, Axelsen and Glück 2008), with this kernel's
 //! limits.

@@ -404,7 +404,8 @@ impl<L: Ledger> Store<L> {
     /// Another number for an element of the array of a number, at an index within its range.
     pub fn set_element(&mut self, name: usize, index: i32, number: i32, writes: &mut Writes<L>)
         requires { (x : Name) × IsName self.old name x × HasElementAt (look x self.old.sight) index }
-        ensures written { (x : Name) (l : List ℤ) → IsName self.old name x → look x self.old.sight ≡ Fine (Arr l) → write x (Arr (set_element l index number)) self.old.sight ≡ Fine self.new.sight }
+        ensures written { (x : Name) (l : List ℤ) → IsName self.old name x → look x self.old.sight ≡ Fine (Arr l) →
+            write x (Arr (set_element l index number)) self.old.sight ≡ Fine self.new.sight }
         ensures shape { IsLike self.old self.new }
         ensures counted { writes.new ≡ writes.old + 1 }
     {
@@ -416,7 +417,8 @@ impl<L: Ledger> Store<L> {
     /// One number more, on top of the stack of a number, which isn't full.
     pub fn push(&mut self, name: usize, number: i32, writes: &mut Writes<L>)
         requires { (x : Name) × IsName self.old name x × IsOpenStack (look x self.old.sight) }
-        ensures written { (x : Name) (l : List ℤ) → IsName self.old name x → look x self.old.sight ≡ Fine (Stk l) → write x (Stk (number ∷ l)) self.old.sight ≡ Fine self.new.sight }
+        ensures written { (x : Name) (l : List ℤ) → IsName self.old name x → look x self.old.sight ≡ Fine (Stk l) →
+            write x (Stk (number ∷ l)) self.old.sight ≡ Fine self.new.sight }
         ensures shape { IsLike self.old self.new }
         ensures counted { writes.new ≡ writes.old + 1 }
     {
@@ -429,7 +431,8 @@ impl<L: Ledger> Store<L> {
     pub fn pop(&mut self, name: usize, writes: &mut Writes<L>) -> i32
         requires { (x : Name) × IsName self.old name x × IsHeldStack (look x self.old.sight) }
         ensures top { (x : Name) (n : ℤ) (l : List ℤ) → IsName self.old name x → look x self.old.sight ≡ Fine (Stk (n ∷ l)) → result ≡ n }
-        ensures written { (x : Name) (n : ℤ) (l : List ℤ) → IsName self.old name x → look x self.old.sight ≡ Fine (Stk (n ∷ l)) → write x (Stk l) self.old.sight ≡ Fine self.new.sight }
+        ensures written { (x : Name) (n : ℤ) (l : List ℤ) → IsName self.old name x → look x self.old.sight ≡ Fine (Stk (n ∷ l)) →
+            write x (Stk l) self.old.sight ≡ Fine self.new.sight }
         ensures shape { IsLike self.old self.new }
         ensures counted { writes.new ≡ writes.old + 1 }
     {
@@ -487,7 +490,8 @@ fn place_below(newest: &[usize], variables: &[Variable], oldest: usize, name: us
     requires in_memory { length variables.now < 2 ^ 58 }
     requires newest { (xs : List Name) × (newest.now ≡ newest_from 0 (none_of xs) variables.now) × AreHidden 0 (none_of xs) variables.now }
     requires met { name < length newest.now }
-    ensures place { (xs : List Name) → newest.now ≡ newest_from 0 (none_of xs) variables.now → AreHidden 0 (none_of xs) variables.now → slice_get (newest_from 0 (none_of xs) (take oldest variables.now)) name ≡ Some result }
+    ensures place { (xs : List Name) → newest.now ≡ newest_from 0 (none_of xs) variables.now → AreHidden 0 (none_of xs) variables.now →
+        slice_get (newest_from 0 (none_of xs) (take oldest variables.now)) name ≡ Some result }
     ensures low { result ≤ oldest }
 {
     let mut behind = newest[name];
@@ -507,7 +511,8 @@ fn put(
 )
     requires met { name < vec_len newest.old }
     requires room { vec_len variables.old < vec_capacity variables.old }
-    ensures variables { variables.new.items ≡ variables.old.items ++ (record { name = name; hidden = slice_index newest.old.items name; place = place; value = value }) ∷ [] }
+    ensures variables { variables.new.items
+        ≡ variables.old.items ++ (record { name = name; hidden = slice_index newest.old.items name; place = place; value = value }) ∷ [] }
     ensures room { vec_capacity variables.new ≡ vec_capacity variables.old }
     ensures newest { newest.new.items ≡ slice_set newest.old.items name (suc (length variables.old.items)) }
 {
@@ -525,7 +530,8 @@ fn put(
 fn put_own(newest: &mut Vec<usize>, variables: &mut Vec<Variable>, name: usize, value: Value)
     requires met { name < vec_len newest.old }
     requires room { vec_len variables.old < vec_capacity variables.old }
-    ensures variables { variables.new.items ≡ variables.old.items ++ (record { name = name; hidden = slice_index newest.old.items name; place = length variables.old.items; value = value }) ∷ [] }
+    ensures variables { variables.new.items
+        ≡ variables.old.items ++ (record { name = name; hidden = slice_index newest.old.items name; place = length variables.old.items; value = value }) ∷ [] }
     ensures room { vec_capacity variables.new ≡ vec_capacity variables.old }
     ensures newest { newest.new.items ≡ slice_set newest.old.items name (suc (length variables.old.items)) }
 {
@@ -546,7 +552,8 @@ fn bind_all(
     requires placed { HavePlaces newest.old.items args.now }
     requires room { vec_len variables.old + length params.now ≤ vec_capacity variables.old }
     ensures newest { (xs : List Name) → AreRow xs newest.old.items variables.old.items → AreRow xs newest.new.items variables.new.items }
-    ensures bound { (xs : List Name) → bounds xs [] variables.new.items ≡ lent_to xs newest.old.items variables.old.items params.now args.now ++ bounds xs [] variables.old.items }
+    ensures bound { (xs : List Name) →
+        bounds xs [] variables.new.items ≡ lent_to xs newest.old.items variables.old.items params.now args.now ++ bounds xs [] variables.old.items }
     ensures behind { (more : List Variable) × (variables.new.items ≡ variables.old.items ++ more) }
     ensures stacks { stacks_of variables.new.items ≡ stacks_of variables.old.items }
     ensures room { vec_capacity variables.new ≡ vec_capacity variables.old }

@@ -35,8 +35,8 @@ held None = pass_of 0 0
 
 -- ---- broadcasts
 
--- Read one after another from a place on, these stand behind one another up to another place. Where what stands at the place is no longer kept, it goes on at the
--- oldest that is.
+-- Read one after another from a place on, these stand behind one another up to another place. Where what stands at the place is no longer kept, it
+-- goes on at the oldest that is.
 pub data AreRead (from : ℕ) : List Frames → ℕ → Type 0 where
   none : AreRead from [] from
   more : (front : List Frames) (at : ℕ) (k : Log) (got : List Frames) (next : ℕ)

@@ -1,9 +1,9 @@
 //! The desks behind the connections of a kernel that several frontends share.
 //!
-//! [`HallDesk`] is the desk of one connection at a time before a hall: it holds a pass of the hall and a ringer's seat of the hall's bell. To the layer above it
-//! promises, of each call, what can be said exactly of what it holds (the pass and how many posts it made, the seat, the place on the board, whether a shutdown
-//! came), and of the kernel under the hall's lock that some legal kernel gave the answer: that the end of a job stands in its minutes, that an answer is that kernel's.
-//! [`QuietDesk`] is the desk of connections at which nothing is asked.
+//! [`HallDesk`] is the desk of one connection at a time before a hall: it holds a pass of the hall and a ringer's seat of the hall's bell. To the
+//! layer above it promises, of each call, what can be said exactly of what it holds (the pass and how many posts it made, the seat, the place on the
+//! board, whether a shutdown came), and of the kernel under the hall's lock that some legal kernel gave the answer: that the end of a job stands in
+//! its minutes, that an answer is that kernel's. [`QuietDesk`] is the desk of connections at which nothing is asked.
 //!
 //! No contract says that a waiting thread wakes.
 #![tactic(auto)]

@@ -164,7 +164,8 @@ impl<W: Ledger, L: Ledger> Hall<W, L> {
     /// Answers a question: `ask_on` under the lock, of a kernel with at least as many minutes as the pass has posts, which each is that
     /// the pass's own hall has. The only refusal is `Memory`.
     pub fn ask<R: Wait>(&self, rt: &R, pass: &Pass<L>, ask: Ask) -> Result<Answer, HallFault>
-        ensures answer { IfOk result (λ answer. (k : Machine) × (comms : List (List ℕ)) × IsLegalMachine k × (pass.now.posts ≤ length k.minutes) × IsAnswer k comms ask answer) }
+        ensures answer { IfOk result
+            (λ answer. (k : Machine) × (comms : List (List ℕ)) × IsLegalMachine k × (pass.now.posts ≤ length k.minutes) × IsAnswer k comms ask answer) }
         ensures refusal { IfErr result (λ f. f ≡ HallFault.Memory) }
     {
         let mut state = self.entrance.enter(rt, &self.state);

@@ -77,7 +77,9 @@ impl<W: Ledger, L: Ledger> State<W, L> {
         ensures kernel { OnErr result (self.new.kernel.machine ≡ self.old.kernel.machine) }
         ensures pass { OnErr result (pass.new ≡ pass.old) }
         ensures comms { self.new.comms ≡ self.old.comms }
-        ensures pending_result { IfOk result (λ t. (e : PendingResult) × IsNewPending (length self.old.kernel.machine.minutes) wishes.items e × (self.new.pending_results.items ≡ self.old.pending_results.items ++ e ∷ [])) }
+        ensures pending_result { IfOk result
+            (λ t. (e : PendingResult) × IsNewPending (length self.old.kernel.machine.minutes) wishes.items e
+            × (self.new.pending_results.items ≡ self.old.pending_results.items ++ e ∷ [])) }
         ensures pending_results { OnErr result (self.new.pending_results.items ≡ self.old.pending_results.items) }
         ensures legal { IsLegalMachine self.old.kernel.machine }
     {

@@ -1,8 +1,8 @@
 //! Tests of whole connections over memory, octet for octet and in pieces of any size, and of streams that fail.
 //!
-//! Contracts say that what goes out is the session of what came in. These tests show that the session means what it is to mean, by octets
-//! that were worked out by hand, that a question carries what its request has, that refused messages bring nothing, that `Read` and `Write` come only where a stream failed, and that a request is answered before the next
-//! read, which no contract can say.
+//! Contracts say that what goes out is the session of what came in. These tests show that the session means what it is to mean, by octets that were
+//! worked out by hand, that a question carries what its request has, that refused messages bring nothing, that `Read` and `Write` come only where a
+//! stream failed, and that a request is answered before the next read, which no contract can say.
 #![tactic(auto)]
 
 #[cfg(test)]

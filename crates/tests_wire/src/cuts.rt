@@ -1,7 +1,6 @@
-//! Rows of octets that a peer is fed in any cut: the role, and all octets from the greeting on. The answer has the events that they
-//! tell the role, and behind a bar the number of the fault; where a stream that is left behind an octet tells more or else, the answer says so. A
-//! message has its bodies behind it, a subscription its
-//! prefix, and an ERROR its reason.
+//! Rows of octets that a peer is fed in any cut: the role, and all octets from the greeting on. The answer has the events that they tell the role,
+//! and behind a bar the number of the fault; where a stream that is left behind an octet tells more or else, the answer says so. A message has its
+//! bodies behind it, a subscription its prefix, and an ERROR its reason.
 use crate::octets::hex_of;
 use std::alloc::{AllocError, Global};
 use tests_rows::{cut, octets_of, push_answer};

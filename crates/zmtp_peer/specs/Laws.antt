@@ -25,7 +25,8 @@ OctetsHaveOneReading =
 -- a refusal is the same whatever follows
 abbrev pub RefusalsStay : Type 0
 RefusalsStay =
-    (role : Role) (octets more : List ℕ) (es : List Event) (fault : Fault) → PeerReads role octets es (Failing fault) → PeerReads role (octets ++ more) es (Failing fault)
+    (role : Role) (octets more : List ℕ) (es : List Event) (fault : Fault) → PeerReads role octets es (Failing fault) →
+    PeerReads role (octets ++ more) es (Failing fault)
 
 -- pieces are fed one after another, each with the events that it brings
 abbrev pub Run : Standing → List (List ℕ × List Event) → Standing → Type 0
