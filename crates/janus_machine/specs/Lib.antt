@@ -3,6 +3,7 @@ pub mod Statements
 pub mod Acts
 pub mod Places
 pub mod Mirrored
+pub mod Turns
 pub mod Bodies
 pub mod Nested
 pub mod Cursors

@@ -1,7 +1,7 @@
 //! A place in code.
 
-ghost use Rattle.std.specs.Prelude.{◌≡◌, ◌+◌, ◌-◌, ◌≤◌, ◌<◌, ◌^◌, ℕ, List, [], true, false, not, IfOk, vec_capacity};
-ghost use Rattle.janus_meaning.specs.Stepping.{mirror as mirror_of, BeforeBlock as Before};
+ghost use Rattle.std.specs.Prelude.{◌≡◌, ◌+◌, ◌-◌, ◌≤◌, ◌<◌, ◌^◌, ℕ, List, [], true, false, IfOk, vec_capacity};
+ghost use Rattle.janus_meaning.specs.Stepping.{BeforeBlock as Before};
 ghost use Rattle.janus_meaning.specs.Limit.{step_limit};
 ghost use Rattle.janus_invert.specs.CodeBlock.{code_block};
 ghost use Rattle.janus_linear.specs.Layout.{block_size};
@@ -61,8 +61,8 @@ impl Cursor {
     ghost use Rattle.janus_machine.specs.declared.book.Direction.TheVariants.{Forward, Inverse};
     ghost use Rattle.janus_machine.specs.Places.{block_in};
     ghost use Rattle.janus_machine.specs.Cursors.{place_of, has_ended, IsStanding};
-    ghost use Rattle.janus_machine.specs.Counts.{counted};
-    ghost use Rattle.janus_machine.specs.Open.{Agrees};
+    ghost use Rattle.janus_machine.specs.Counts.{counted, count_in, is_turned, IsAtEntry, TurnsRound};
+    ghost use Rattle.janus_machine.specs.Turns.{IsMirrored, AgreesMirrored};
 
     /// A cursor at no place of a book yet, with the memory of all calls that may be open; an error for want of it.
     pub fn new(alloc: Global) -> Result<Cursor, AllocError>
@@ -81,7 +81,7 @@ impl Cursor {
 
     /// How many steps from the entry of the block it stands. Once the cursor is turned, its steps take them back.
     pub fn count(&self) -> u64
-        ensures { result ≡ self.now.count }
+        ensures { result ≡ count_in self.now }
     {
         self.count
     }
@@ -90,7 +90,7 @@ impl Cursor {
     pub fn enter(&mut self, book: &Book)
         ensures stands { (t : declared.Procedures) (h : Held) → h.callers ≡ [] → IsStanding t book.now self.new h }
         ensures place { (t : declared.Procedures) (hs : List Caller) → place_of t book.now self.new hs ≡ Before (block_in book.now Forward) [] }
-        ensures counts { (self.new.count ≡ 0) × (self.new.turned ≡ false) }
+        ensures counts { IsAtEntry self.new }
     {
         self.calls.clear();
         self.used = 0;
@@ -104,7 +104,7 @@ impl Cursor {
     pub fn enter_inverse(&mut self, book: &Book)
         ensures stands { (t : declared.Procedures) (h : Held) → h.callers ≡ [] → IsStanding t book.now self.new h }
         ensures place { (t : declared.Procedures) (hs : List Caller) → place_of t book.now self.new hs ≡ Before (block_in book.now Inverse) [] }
-        ensures counts { (self.new.count ≡ 0) × (self.new.turned ≡ false) }
+        ensures counts { IsAtEntry self.new }
     {
         self.calls.clear();
         self.used = 0;
@@ -124,9 +124,9 @@ impl Cursor {
     /// Turns round where it stands: the steps from here go back by the way that the cursor came, through the open calls too.
     pub fn mirror(&mut self, procedures: &Procedures, book: &Book)
         ensures stands { (h : Held) → IsStanding procedures.now book.now self.old h → IsStanding procedures.now book.now self.new h }
-        ensures place { (h : Held) → IsStanding procedures.now book.now self.old h → place_of procedures.now book.now self.new h.callers ≡ mirror_of (place_of procedures.now book.now self.old h.callers) }
-        ensures agrees { (k : ℕ) (h : Held) → IsStanding procedures.now book.now self.old h → Agrees k procedures.now book.now self.old h → Agrees k procedures.now book.now self.new h }
-        ensures counts { (self.new.count ≡ self.old.count) × (self.new.turned ≡ not self.old.turned) }
+        ensures place { IsMirrored procedures.now book.now self.old self.new }
+        ensures agrees { AgreesMirrored procedures.now book.now self.old self.new }
+        ensures counts { TurnsRound self.old self.new }
     {
         let linear = running(procedures, book, &self.calls).linear(self.direction);
         self.to_go = last(linear).saturating_sub(self.to_go);
@@ -136,9 +136,9 @@ impl Cursor {
 
     /// How many steps may be taken before the limit: the way back has none.
     pub(crate) fn steps_left(&self) -> u64
-        requires few { self.now.count ≤ step_limit }
-        ensures forward { self.now.turned ≡ false → result ≡ step_limit - self.now.count }
-        ensures back { self.now.turned ≡ true → result ≡ 2 ^ 64 - 1 }
+        requires few { count_in self.now ≤ step_limit }
+        ensures forward { is_turned self.now ≡ false → result ≡ step_limit - count_in self.now }
+        ensures back { is_turned self.now ≡ true → result ≡ 2 ^ 64 - 1 }
     {
         if self.turned {
             u64::MAX

@@ -1,10 +1,8 @@
 //! A procedure as it runs.
 
-ghost use Rattle.std.specs.Prelude.{◌≡◌, List, [], length, map, IfOk, take};
-ghost use Rattle.janus_meaning.specs.Syntax.{Name};
+ghost use Rattle.std.specs.Prelude.{◌≡◌, IfOk};
 ghost use Rattle.janus_invert.specs.CodeBlock.{code_block};
-ghost use Rattle.janus_invert.specs.Numbered.{HaveNumbers};
-ghost use Rattle.janus_machine.specs.Bodies.{numbers_of};
+ghost use Rattle.janus_machine.specs.Bodies.{numbers_of, number_of, parameters_of, body_of};
 
 use crate::book::Book;
 use janus_invert::Parameter;
@@ -19,16 +17,16 @@ pub struct Procedure {
 }
 
 impl Procedure {
-    ghost use Rattle.janus_machine.specs.Places.{block_in, BookHasNumbers};
+    ghost use Rattle.janus_machine.specs.Places.{block_in, KeepsNumbers};
     ghost use Rattle.janus_machine.specs.declared.book.Direction.TheVariants.{Forward};
 
     /// The procedure of flat code; an error for want of memory.
     pub fn new(alloc: Global, flat: janus_invert::Procedure) -> Result<Procedure, AllocError>
-        ensures name { IfOk result (λ procedure. procedure.name ≡ flat.name.number) }
-        ensures parameters { IfOk result (λ procedure. procedure.parameters.items ≡ numbers_of flat.parameters.items) }
-        ensures body { IfOk result (λ procedure. block_in procedure.book Forward ≡ code_block flat.body) }
+        ensures name { IfOk result (λ procedure. number_of procedure ≡ flat.name.number) }
+        ensures parameters { IfOk result (λ procedure. parameters_of procedure ≡ numbers_of flat.parameters.items) }
+        ensures body { IfOk result (λ procedure. block_in (body_of procedure) Forward ≡ code_block flat.body) }
         // Both ways the names keep their numbers.
-        ensures numbered { IfOk result (λ procedure. (xs : List Name) → HaveNumbers xs flat.body.statements.items → BookHasNumbers xs procedure.book) }
+        ensures numbered { IfOk result (λ procedure. KeepsNumbers flat.body.statements.items (body_of procedure)) }
     {
         let name = flat.name.number;
         let parameters = numbers(alloc, &flat.parameters)?;

@@ -1,6 +1,7 @@
 //! The bodies of all procedures that cells define, and which of them are in effect.
 
-ghost use Rattle.std.specs.Prelude.{◌≡◌, ◌+◌, ◌<◌, ◌≤◌, ℕ, List, [], ◌∷◌, ◌++◌, length, get_or, slice_get, take, Some, None, IfOk, OnOk, OnErr};
+ghost use Rattle.std.specs.Prelude.{◌≡◌, ◌+◌, ◌<◌, ◌≤◌, ℕ, List, [], ◌∷◌, ◌++◌, length, get_or, slice_get, take};
+ghost use Rattle.std.specs.Prelude.{Some, None, IfOk, OnOk, OnErr};
 ghost use Rattle.janus_machine.specs.declared.procedures.Body.{Body};
 
 use crate::procedure::Procedure;
@@ -41,7 +42,7 @@ impl Procedures {
 
     /// How many bodies are kept.
     pub fn len(&self) -> usize
-        ensures { result ≡ length self.now.bodies.items }
+        ensures { result ≡ length (kept_in self.now) }
     {
         self.bodies.len()
     }

@@ -1,8 +1,10 @@
 -- Legal trees, and what a state of the machine keeps of its open job.
-use Rattle.std.specs.Prelude.{◌≡◌, ℕ, ◌+◌, ◌^◌, ◌<◌, ◌≤◌, ◌==◌, Bool, true, false, IsTrue, List, length, zero, suc, if◌then◌else◌, get_or}
+use Rattle.std.specs.Prelude.{◌≡◌, ℕ, ◌+◌, ◌^◌, ◌<◌, ◌≤◌, ◌==◌, Bool, true, false, IsTrue}
+use Rattle.std.specs.Prelude.{List, length, zero, suc, if◌then◌else◌, get_or}
 use Rattle.janus_meaning.specs.World.{World, empty_world}
 use Rattle.kernel_machine.specs.Language.{Forward, CodeExec, IsFormed, IsSound}
-use Rattle.kernel_machine.specs.State.{Past, Node, Work, Posted, Move, Job, Idle, Border, Inside, root, ancestor, node_at, world_at, here, favourite_of, code_of}
+use Rattle.kernel_machine.specs.State.{Past, Node, Work, Posted, Move, Job, Idle, Border, Inside}
+use Rattle.kernel_machine.specs.State.{root, ancestor, node_at, world_at, here, favourite_of, code_of}
 use Rattle.kernel_machine.specs.Travel.{Aim, Undo, Redo, Goto, Travel}
 use Rattle.kernel_machine.specs.Turn.{Turn, GoesOn, GoesBack}
 

@@ -1,5 +1,6 @@
 -- The kernel machine: a state with its queue and its minutes, its step for each event, and its runs.
-use Rattle.std.specs.Prelude.{◌≡◌, ℕ, Bool, true, false, ◌<◌, ◌≤◌, List, [], ◌∷◌, ◌++◌, length, suc, nat_lt, Result, Ok, Err, Option, Some, None}
+use Rattle.std.specs.Prelude.{◌≡◌, ℕ, Bool, true, false, ◌<◌, ◌≤◌, List, [], ◌∷◌, ◌++◌, length}
+use Rattle.std.specs.Prelude.{suc, nat_lt, Result, Ok, Err, Option, Some, None}
 use Rattle.kernel_machine.specs.State.{Past, State, Job as Open, Idle, Border, Inside, new_state, is_full}
 use Rattle.kernel_machine.specs.Legal.{can_undo, can_redo}
 use Rattle.kernel_machine.specs.Slices.{IsSlice}

@@ -1,5 +1,6 @@
 -- Where undo, redo and goto lead, when the cells on their way settle, and what worlds that gives: laws of the machine's runs.
-use Rattle.std.specs.Prelude.{◌≡◌, ℕ, false, ◌+◌, ◌-◌, ◌<◌, ◌≤◌, List, [], ◌∷◌, length, get_or, IsTrue, zero, suc, set, ◌⊎◌, ◌↔◌}
+use Rattle.std.specs.Prelude.{◌≡◌, ℕ, false, ◌+◌, ◌-◌, ◌<◌, ◌≤◌, List, [], ◌∷◌, length, get_or}
+use Rattle.std.specs.Prelude.{IsTrue, zero, suc, set, ◌⊎◌, ◌↔◌}
 use Rattle.janus_meaning.specs.World.{World, empty_world, Cell, entered}
 use Rattle.janus_meaning.specs.Cells.{IsGoodWorld}
 use Rattle.kernel_machine.specs.Travel.{next_way, Travel, Up, Down}
@@ -54,7 +55,8 @@ GotoGoesThere =
     (s : Past) (n up down j : ℕ) →
     (j ≤ up → gone s (travel_to (aim.Goto n) up down) j ≡ record s { position = ancestor s.nodes s.position j })
     × (0 < j → j ≤ down → (gone s (travel_to (aim.Goto n) up down) (up + j)).position ≡ ancestor s.nodes n (down - j))
-    × (j < down → (gone s (travel_to (aim.Goto n) up down) (up + j + 1)).favourites ≡ favoured (gone s (travel_to (aim.Goto n) up down) (up + j)) (ancestor s.nodes n (down - j - 1)))
+    × (j < down → (gone s (travel_to (aim.Goto n) up down) (up + j + 1)).favourites
+    ≡ favoured (gone s (travel_to (aim.Goto n) up down) (up + j)) (ancestor s.nodes n (down - j - 1)))
     × ((gone s (travel_to (aim.Goto n) up down) j).nodes ≡ s.nodes)
     × ((gone s (travel_to (aim.Goto n) up down) j).worlds ≡ s.worlds)
 

@@ -2,7 +2,8 @@
 //! The functions do nothing: their contracts are the laws.
 ghost use Rattle.kernel_machine.specs.Determined.{StepIsDetermined, RunIsDetermined, OneWorldIsShown};
 ghost use Rattle.kernel_machine.specs.Theorems.{NewIsLegal, StaysLegal, GoesBackForItsReason, JobsEnd, OnlyAskedSlicesStop, UndoesAll, ShutRefusesJobs};
-ghost use Rattle.kernel_machine.specs.Travels.{UndoGoesUp, RedoGoesDown, GotoGoesThere, RedoGivesBack, SettlesOnTime, NeverFaults, IsMirrored, PathGivesWorld, UndoGoesUpThePath, RedoGoesDownFavourites};
+ghost use Rattle.kernel_machine.specs.Travels.{UndoGoesUp, RedoGoesDown, GotoGoesThere, RedoGivesBack, SettlesOnTime, NeverFaults};
+ghost use Rattle.kernel_machine.specs.Travels.{IsMirrored, PathGivesWorld, UndoGoesUpThePath, RedoGoesDownFavourites};
 ghost use Rattle.kernel_machine.specs.StepsOfSlices.{TakesOneNumber, StepsAreCounted};
 ghost use Rattle.kernel_machine.specs.LegalMinutes.{KeepsLegalMinutes, OneAccount};
 ghost use Rattle.kernel_machine.specs.Counters.{EndTellsCounted, CounterNeverFalls, CountedIsNext, NoCounterTwice, CounterIsOfBegun, EndsWithinCounter};

@@ -2,7 +2,6 @@
 use Rattle.std.proofs.Common.{◌≡◌, ℕ, zero, suc, ◌+◌, false, List, [], ◌∷◌, length, map, take, Some, Result, Ok, Err, refl, sym, ap, ◌∙◌, subst, arith}
 use Rattle.std.specs.Prelude.{slice_get}
 use Rattle.std.specs.Result.{is_err, OnOk}
-use Rattle.std.proofs.lemmas.List.{length-map}
 use Rattle.std.proofs.lemmas.Option.{slice_get_within}
 use Rattle.janus_meaning.specs.Syntax.{Name, Proc}
 use Rattle.janus_meaning.specs.Store.{Store}
@@ -86,9 +85,6 @@ all_kept old new e = ap (take (length old)) e ∙ all_of old
     all_of (x ∷ xs) = ap (λ ys. x ∷ ys) (all_of xs)
 
 -- ---- keeping bodies, and forgetting them
-
-pub kept_count : (t : Procedures) → length (kept_in t) ≡ length t.bodies.items
-kept_count t = length-map t.bodies.items _
 
 -- where its names were met, all names of a cell were that is checked over the shown world
 pub cell_met : {L : Type 0} (runner : Runner L) (h : Held) (shown : ShownWorld) (t c : tree.Cell) (ds : List Declaration) → IsCheckedOver runner c shown → IsWhole runner.store → KeepsSight runner.store h → AreKnown h → t ≡ c → ds ≡ (plain_cell t).declarations →

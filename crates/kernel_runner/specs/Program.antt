@@ -6,7 +6,7 @@ use Rattle.janus_syntax.specs.View.{plain_cell}
 use Rattle.janus_check.specs.Checked.{cell_in}
 use Rattle.janus_machine.specs.Places.{block_in, BookHasNumbers}
 use Rattle.janus_names.specs.Numbers.{IsNumbered}
-use Rattle.janus_machine.specs.Bodies.{kept_in, AreDefined, AreBodiesFrom, IsBody, onto}
+use Rattle.janus_machine.specs.Bodies.{kept_in, AreDefined, AreBodiesFrom, IsBody, number_of, onto}
 use Rattle.janus_machine.specs.declared.book.Direction.TheVariants.{Forward}
 use Rattle.janus_machine.specs.declared.procedure.Procedure.{Procedure}
 use Rattle.janus_machine.specs.declared.procedures.Procedures.{Procedures}
@@ -48,7 +48,7 @@ with_bodies program bodies = onto program.first (length (procedures_of program))
 pub record IsKeptBehind (names : List Name) (old new : Procedures) (p : Proc) : Type 0 where
   pub body : Procedure
   pub kept : kept_in new ≡ kept_in old ++ body ∷ []
-  pub name : IsNumbered names body.name p.name
+  pub name : IsNumbered names (number_of body) p.name
   pub of_procedure : IsBody names body p
 
 -- and the bodies of these, in order

@@ -13,6 +13,7 @@ use Rattle.janus_names.specs.Numbers.{GoOn, HaveOneNumber}
 use Rattle.janus_store.specs.Held.{Held, IsWhole, shown_store}
 use Rattle.janus_machine.specs.Open.{Agrees}
 use Rattle.janus_machine.specs.Bodies.{AreBelow, Define}
+use Rattle.janus_machine.specs.Counts as cursors
 use Rattle.janus_machine.specs.Cursors.{IsStanding}
 use Rattle.janus_machine.specs.Law.{HasRun, FacesBack, NeverBroken}
 use Rattle.kernel_machine.specs.Language.{Code, Forward, Backward, CodeExec, IsFormed, IsSound, cell_of, run_block, start_of}
@@ -98,7 +99,7 @@ world_inside at runner = world_of (start_at at).procedures runner
 
 -- how many steps of the open cell the runner has taken, and not taken back
 abbrev pub count_of : {L : Type 0} → Runner L → ℕ
-count_of runner = runner.cursor.count
+count_of runner = cursors.count_in runner.cursor
 
 -- So many steps of the block from the world w have led to the cursor and the store; or the cursor has turned round, and come back to there.
 abbrev pub Faces : {L : Type 0} → Bool → Runner L → Program → Blk → World → ℕ → Type 0
@@ -115,7 +116,7 @@ pub record Stands {L : Type 0} (runner : Runner L) (program : Program) (at : Pla
   pub few : at.count ≤ step_limit
   -- the cursor counts the steps itself
   pub counted : count_of runner ≡ at.count
-  pub turned : runner.cursor.turned ≡ is_turned
+  pub turned : cursors.is_turned runner.cursor ≡ is_turned
   pub standing : IsStanding runner.procedures program.book runner.cursor runner.store
   -- the store has the names of the world in which the steps began, and above them what is open at the cursor
   pub declared : runner.store.declared ≡ size_of (start_at at).store

@@ -1,7 +1,5 @@
 use Rattle.std.proofs.Common.{◌≡◌, [], length, ap, sym, ◌∙◌, rules}
-use Rattle.std.proofs.lemmas.List.{length-map}
 use Rattle.janus_machine.specs.Bodies.{kept_in}
-use Rattle.janus_machine.specs.declared.procedures.Body.{Body}
 use Rattle.kernel_history.specs.Fields.{past_of}
 use Rattle.kernel_machine.specs.State.{here}
 use Rattle.kernel_runner.specs.Defined.{in_a_row}
@@ -11,7 +9,7 @@ use Rattle.kernel_history.proofs.defined.procedures_here.Goals as goal
 pub returns-then-len-eq0 : goal.returns-then-len-eq0
 returns-then-len-eq0 g c =
     let r = c.args.runner.now in
-    let count : length (kept_in r.procedures) ≡ 0 = length-map r.procedures.bodies.items (λ (b : Body). b.procedure) ∙ sym c.len.ensures ∙ c.if-len-eq0.true in
+    let count : length (kept_in r.procedures) ≡ 0 = sym c.len.ensures ∙ c.if-len-eq0.true in
     let none : (here (past_of c.args.tree.now)).procedures ≡ [] = none_kept r.store.names (kept_in r.procedures) c.requires.shows.0 (here (past_of c.args.tree.now)).procedures count c.requires.shows.1.defined.bodies in
     let empty : c.new.result.items ≡ [] = search rules in
     ap in_a_row empty ∙ sym none

@@ -8,7 +8,7 @@ use Rattle.janus_invert.specs.Met.{MeetsBlk}
 use Rattle.janus_machine.specs.Bodies.{kept_in, AreBelow}
 use Rattle.kernel_runner.specs.Met.{AreProceduresMet}
 use Rattle.kernel_runner.specs.Program.{declaration_of}
-use Rattle.kernel_runner.proofs.Made.{all_kept, shows_more, bodies_within, kept_count, cell_met, ready_made, ok_fact}
+use Rattle.kernel_runner.proofs.Made.{all_kept, shows_more, bodies_within, cell_met, ready_made, ok_fact}
 use Rattle.kernel_runner.proofs.program.Program.of_checked.Goals as goal
 
 pub returns-in_err-met-clause-shown : goal.returns-in_err-met-clause-shown
@@ -40,7 +40,7 @@ keep_all-requires g c =
 
 pub returns-then-is_err-clause-shown : goal.returns-then-is_err-clause-shown
 returns-then-is_err-clause-shown g c = λ shown h.
-    let first : c.len-first.result ≡ length (kept_in c.args.runner.now.procedures) = c.len-first.ensures ∙ sym (kept_count c.args.runner.now.procedures) in
+    let first : c.len-first.result ≡ length (kept_in c.args.runner.now.procedures) = c.len-first.ensures in
     let same : kept_in c.forget.new.self ≡ kept_in c.args.runner.now.procedures = c.forget.ensures.kept ∙ ap (λ (n : ℕ). take n (kept_in c.keep_all.new.kept)) first ∙ c.keep_all.ensures.older in
     let below : AreBelow c.len-first.result shown.bodies = subst (λ (n : ℕ). AreBelow n shown.bodies) (sym first) (bodies_within c.args.runner.now.store.names (kept_in c.args.runner.now.procedures) shown.bodies shown.world.procedures h.defined.bodies) in
     shows_more c.args.runner.now _ shown c.meet_cell-met.ensures.kept c.names-names.ensures.one_number (all_kept (kept_in c.args.runner.now.procedures) (kept_in c.forget.new.self) same)
@@ -50,7 +50,7 @@ pub returns-clause-ready : goal.returns-clause-ready
 returns-clause-ready g c =
     let some = sym c.is_err.ensures.value ∙ c.if-is_err.false in
     ready_made c.meet_cell-met.new.store.names c.names-names.result.now c.args.runner.now.procedures c.keep_all.new.kept _ c.deref-3.result.now c.names-names.ensures.names (c.in_ok-book.ensures.numbered _ c.in-Ok.ensures.numbered)
-    (c.len-first.ensures ∙ sym (kept_count c.args.runner.now.procedures))
+    c.len-first.ensures
     (ap (λ l. map plain_procedure (procedures_view l)) c.deref-3.ensures.value ∙ ap (λ (t : tree.Cell). (plain_cell t).procedures) c.cell-cell.ensures)
     (ok_fact _ c.keep_all.result some c.keep_all.ensures.bodies)
     (ok_fact _ c.keep_all.result some c.keep_all.ensures.count)
