@@ -1,0 +1,10 @@
+-- What the kernel's parts are counted in may go to the threads of the places.
+use denote.Param.Send.{sendable}
+use Rattle.std.proofs.Crossing.{crosses}
+use Rattle.kernel_places.proofs.start.fn.serve_callers.scope.Goals as goal
+
+pub start_all-is_started-requires-send-W : goal.start_all-is_started-requires-send-W
+start_all-is_started-requires-send-W g c κs within = search (crosses, sendable) depth 40 fits 20000
+
+pub start_all-is_started-requires-send-L : goal.start_all-is_started-requires-send-L
+start_all-is_started-requires-send-L g c κs within = search (crosses, sendable) depth 40 fits 20000
