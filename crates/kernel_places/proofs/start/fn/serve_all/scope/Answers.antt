@@ -8,3 +8,9 @@ serve_callers-is_started-requires-send-W g c κs within = search (crosses, senda
 
 pub serve_callers-is_started-requires-send-L : goal.serve_callers-is_started-requires-send-L
 serve_callers-is_started-requires-send-L g c κs within = search (crosses, sendable) depth 40 fits 20000
+
+pub start_publishing-requires-send-W : goal.start_publishing-requires-send-W
+start_publishing-requires-send-W g c κs within = search (crosses, sendable) depth 40 fits 20000
+
+pub start_publishing-requires-send-L : goal.start_publishing-requires-send-L
+start_publishing-requires-send-L g c κs within = search (crosses, sendable) depth 40 fits 20000
