@@ -163,8 +163,8 @@ fn push_numbers(octets: &mut Vec<u8>, numbers: &[i32]) -> Result<(), AllocError>
 /// Writes how many numbers a stack has, and the numbers.
 fn push_stack(octets: &mut Vec<u8>, values: &StackView<'_>) -> Result<(), AllocError> {
     octets.extend_from_slice(&values.len().to_le_bytes())?;
-    for i in 0..values.len() {
-        octets.extend_from_slice(&values.get(i).to_le_bytes())?;
+    for value in *values {
+        octets.extend_from_slice(&value.to_le_bytes())?;
     }
     Ok(())
 }

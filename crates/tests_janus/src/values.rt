@@ -12,17 +12,23 @@ pub(crate) fn value_shown(alloc: Global, value: View<'_>) -> Result<String, Allo
     }
 }
 
+/// The numbers of a stack, the top first.
+fn numbers_of(alloc: Global, values: &StackView<'_>) -> Result<Vec<i32>, AllocError> {
+    let mut numbers = Vec::with_capacity(alloc, values.len())?;
+    for value in *values {
+        numbers.push(value)?;
+    }
+    Ok(numbers)
+}
+
 /// The numbers of a stack, the bottom first.
 fn stack_shown(alloc: Global, values: &StackView<'_>) -> Result<String, AllocError> {
+    let numbers = numbers_of(alloc, values)?;
     let mut text = String::from_str(alloc, "stack[")?;
-    let count = values.len();
+    let count = numbers.len();
     for i in 0..count {
         let before = if i == 0 { "" } else { ", " };
-        push_both(
-            &mut text,
-            before,
-            &shown(alloc, &values.get(count - 1 - i))?,
-        )?;
+        push_both(&mut text, before, &shown(alloc, &numbers[count - 1 - i])?)?;
     }
     text.push(']')?;
     Ok(text)
