@@ -92,8 +92,8 @@ fn look<L: Ledger>(rt: &impl Abort, alloc: Global, desk: &mut LoneDesk<L>) -> Ve
     writer.octets
 }
 
-/// Serves a connection to a new kernel over these streams, and looks at the kernel then.
-fn see<L: Ledger>(
+/// Serves a connection to a new kernel over this ledger, and looks at the kernel then.
+fn see_in<L: Ledger>(
     rt: &impl Abort,
     alloc: Global,
     blank: Blank,
@@ -115,10 +115,15 @@ fn see<L: Ledger>(
     }
 }
 
+/// Serves a connection to a new kernel over these streams, and looks at the kernel then.
+fn see(rt: &impl Abort, alloc: Global, reader: Pieces<'_>, writer: Sparing) -> Seen {
+    see_in::<Brand>(rt, alloc, Blank::new(1), reader, writer)
+}
+
 /// What is seen where these cells come over streams that don't fail.
 fn see_cells(rt: &impl Abort, alloc: Global, contents: &[&str]) -> Seen {
     let octets = cells(rt, alloc, contents);
-    see::<Brand>(rt, alloc, Blank::new(1), whole(&octets), willing(alloc))
+    see(rt, alloc, whole(&octets), willing(alloc))
 }
 
 /// What is seen where none of the cells, one, or both come over streams that don't fail.
@@ -151,7 +156,7 @@ fn check_reader(rt: &impl Abort, alloc: Global, wanted: &[Seen; 3], size: usize,
         size,
         reads_left: reads,
     };
-    let seen = see::<Brand>(rt, alloc, Blank::new(1), reader, willing(alloc));
+    let seen = see(rt, alloc, reader, willing(alloc));
     let given = size.saturating_mul(reads as usize);
     let first = cells(rt, alloc, &[FIRST]).len();
     let want = &wanted[reached(first, octets.len(), given)];
@@ -200,7 +205,7 @@ fn check_writer(
         writes_left: writes,
         is_failing,
     };
-    let seen = see::<Brand>(rt, alloc, Blank::new(1), whole(&octets), writer);
+    let seen = see(rt, alloc, whole(&octets), writer);
     let (opening, first) = (wanted[0].written.len(), wanted[1].written.len());
     let all = wanted[2].written.as_slice();
     assert!(rt; all.starts_with(&seen.written));
