@@ -55,6 +55,7 @@ class Tree {
 
     key(event) {
         if (event.ctrlKey || event.altKey || event.metaKey) return;
+        this.follow();                  // what was not drawn yet would take the row back from under the key
         if (event.key === 'Enter' || event.key === ' ') this.go(this.cursor);
         else {
             const next = this.next(event.key);
