@@ -23,6 +23,7 @@ class Page {
             focus: () => this.focus_tree(),
         });
         this.show(stored('janus-open') !== '0');
+        window.addEventListener('pagehide', () => this.keep());         // what was learnt since it was kept last
     }
 
     is_on() { return this.conversation.kernel !== null; }
@@ -146,6 +147,7 @@ class Page {
     }
 
     keep() {
+        clearTimeout(this.keep_timer);
         this.keep_timer = null;
         memory.keep(this.conversation.run, this.history, this.conversation.count, this.marks.pairs());
     }

@@ -211,7 +211,8 @@ def twenty_thousand(stage):
     page.run(page.add('x1 += 1'))
     stands(page, 20001, 20001, what='a cell there is node 20001')
     check(known(page)['parent'][20001] == 19999, 'a branch')
-    page.load()
+    comes('a state has told that it is so', lambda: (page.js('return Jupyter.janus.history.sure') == 20001, page.js(BRIEF)))
+    page.load()                         # at once, before what it knows is kept by its clock
     stands(page, 20001, 20001, what='the page loaded again knows them', timeout=120)
     check(page.js(BRIEF)['unknown'] == 0, 'all of them', page.js(BRIEF))
 

@@ -241,6 +241,14 @@ def reload_page(stage):
     second = stage.frontend()
     ours = [it for it in second.comms() if it.startswith('janus-panel-')]
     check(len(ours) == 1, 'two loads of the page hold one comm', ours)
+    page.js('clearTimeout(Jupyter.janus.keep_timer); Jupyter.janus.keep_timer = 0')            # so nothing is kept by the page's clock
+    page.run(page.add('x1 += 1'))
+    comes('a state tells of node 6', lambda: (page.js('return Jupyter.janus.history.sure') == 6, known(page)))
+    page.load()
+    stands(page, 6, 6, what='the page loaded again at once stands at node 6', timeout=120)
+    check(known(page)['parent'] == [-1, 0, 1, 2, 3, 2, 5], 'and knows the node of the last cell', known(page))
+    page.click('#janus-undo')
+    stands(page, 5, 6)
     second.send('comm_close', {'comm_id': ours[0], 'data': {}})
     time.sleep(.5)
     page.click('#janus-undo')
@@ -248,7 +256,7 @@ def reload_page(stage):
     time.sleep(1)
     if known(page)['position'] == 5:
         page.click('#janus-undo')
-    stands(page, 2, 5, what='and Undo works')
+    stands(page, 2, 6, what='and Undo works')
 
 
 def restart(stage):
