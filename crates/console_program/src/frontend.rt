@@ -38,9 +38,7 @@ pub struct Frontend<R, W> {
 pub fn subscribe<R: Read + Drop, W: Write + Drop>(
     iopub: &mut Wire<R, W>,
 ) -> Result<(), ConsoleFault> {
-    let all = b"\x01".to_vec(iopub.alloc)?;
-    let frames = Vec::from_array(iopub.alloc, [all])?;
-    iopub.write(&frames)
+    iopub.subscribe(&[])
 }
 
 /// The message of these frames; none where it is refused.

@@ -9,7 +9,7 @@ use std::alloc::Global;
 use std::collections::VecDeque;
 use std::io::{ErrorKind, Read, Write};
 use zmtp_peer::{Peer, PeerEvent, PeerFault, Role};
-use zmtp_wire::{WireFault, write_message};
+use zmtp_wire::{SendFault, WireFault, send_pong, write_message};
 
 /// How many octets are read at once, at most.
 const ROOM: usize = 8192;
@@ -112,9 +112,32 @@ impl<R: Read + Drop, W: Write + Drop> Wire<R, W> {
         match event {
             PeerEvent::Ready => self.is_ready = true,
             PeerEvent::Message(frames) => self.messages.push_back(frames)?,
-            PeerEvent::Subscribe(_) | PeerEvent::Cancel(_) => {}
+            PeerEvent::Ping(context) => self.answer(&context)?,
+            PeerEvent::Subscribe(_prefix) | PeerEvent::Cancel(_prefix) => {}
         }
         Ok(())
+    }
+
+    /// Answers a ping.
+    fn answer(&mut self, context: &[u8]) -> Result<(), ConsoleFault> {
+        match send_pong(self.alloc, &mut self.writer, context) {
+            Ok(()) => Ok(()),
+            Err(SendFault::Memory) => Err(ConsoleFault::NoMemory),
+            Err(SendFault::TooLong | SendFault::Write) => Err(ConsoleFault::NoConnection),
+        }
+    }
+
+    /// Subscribes to all that begins with a prefix, in the form that the kernel's version takes.
+    pub fn subscribe(&mut self, prefix: &[u8]) -> Result<(), ConsoleFault> {
+        if !self.peer.is_ready() {
+            return Err(ConsoleFault::NoConnection);
+        }
+        match self.peer.subscription(prefix) {
+            Ok(octets) => send(&mut self.writer, &octets),
+            Err(WireFault::Memory) => Err(ConsoleFault::NoMemory),
+            // No kernel takes so long a prefix.
+            Err(_) => Err(ConsoleFault::NoConnection),
+        }
     }
 
     /// The next message; none where none came in the time that the reader waits.

@@ -1,1 +1,2 @@
+pub mod Pings
 pub mod Round

@@ -1,9 +1,10 @@
--- What goes out to a subscriber: messages of broadcasts that were read from the board.
-use Rattle.std.specs.Prelude.{◌≡◌, ℕ, ◌⊎◌, List, [], ◌∷◌, ◌++◌, Option, Some, None}
+-- What goes out to a subscriber: messages of broadcasts that were read from the board, and answers to its pings.
+use Rattle.std.specs.Prelude.{◌≡◌, ℕ, ◌⊎◌, List, [], ◌∷◌, ◌++◌, map, Option, Some, None}
 use Rattle.std.specs.List.{flat_map}
 use Rattle.std.specs.Io.KnownBytes.{Appends}
 use Rattle.exact_write.specs.Sent.{SentSome}
 use Rattle.zmtp_wire.specs.Message.{message_octets}
+use Rattle.zmtp_wire.specs.Pong.{pong_octets}
 use Rattle.zmtp_peer.specs.declared.role.Role.TheVariants.{Pub}
 use Rattle.zmtp_peer.specs.Events.{Event}
 use Rattle.zmtp_peer.specs.Reading.{Standing, Stands}
@@ -14,6 +15,7 @@ use Rattle.kernel_board.specs.Reads.{IsRead}
 use Rattle.kernel_board.specs.declared.log.Place.{Place}
 use Rattle.kernel_board.specs.declared.log.Read.{Read}
 use Rattle.kernel_board.specs.declared.log.Read.TheVariants.{Got, Lagged}
+use Rattle.kernel_iopub.specs.Pings.{WereAsked}
 
 -- those of the broadcasts to which a peer has subscribed by these events, in their order
 abbrev pub AreWanted : List Event → List Frames → List Frames → Type 0
@@ -57,24 +59,45 @@ abbrev pub IsSentInPart : Option (List ℕ) → Option (List ℕ) → ℕ → Ty
 IsSentInPart old new from =
     Appends old new [] ⊎ ((next : ℕ) × (kept : List Frames) × IsRound from next kept × SentSome old new (flat_map message_octets kept))
 
--- Rounds one after another, each from the place where the one before ended, and what is kept of all of them together.
-pub data AreRounds (from : ℕ) : ℕ → List Frames → Type 0 where
-  none : AreRounds from from []
-  more : (at next : ℕ) (front kept : List Frames) → AreRounds from at front → IsRound at next kept → AreRounds from next (front ++ kept)
+-- ---- all that goes out
 
--- what goes out of rounds: the messages of all that is kept, whole and in order
-abbrev pub AreSent : Option (List ℕ) → Option (List ℕ) → ℕ → Type 0
-AreSent old new to = (from : ℕ) × (sent : List Frames) × AreRounds from to sent × Appends old new (flat_map message_octets sent)
+-- one thing that goes out to a subscriber: a broadcast, or the answer to a ping
+pub data Outgoing : Type 0 where
+  Shown : Frames → Outgoing
+  Pong : List ℕ → Outgoing
 
--- the same of all rounds so far; nothing before the first
+abbrev pub outgoing_octets : Outgoing → List ℕ
+outgoing_octets (Shown frames) = message_octets frames
+outgoing_octets (Pong context) = pong_octets context
+
+-- Turns one after another: rounds, each from the place where the one before ended, and between them answers to pings that the peer sent. An
+-- answer goes out between two messages, never within one.
+pub data AreTurns : Option ℕ → List Outgoing → Type 0 where
+  none : AreTurns None []
+  begun : (from : ℕ) (out : List Outgoing) → AreTurns None out → AreTurns (Some from) out
+  round : (at next : ℕ) (out : List Outgoing) (kept : List Frames) → AreTurns (Some at) out → IsRound at next kept → AreTurns (Some next) (out ++ map Shown kept)
+  pongs : (at : Option ℕ) (out : List Outgoing) (contexts : List (List ℕ)) → AreTurns at out → WereAsked contexts → AreTurns at (out ++ map Pong contexts)
+
+-- the number of the place behind the last round
+abbrev pub number_at : Option Place → Option ℕ
+number_at None = None
+number_at (Some place) = Some place.number
+
+-- what goes out of all turns so far, whole and in order
 abbrev pub AreSentTo : Option (List ℕ) → Option (List ℕ) → Option Place → Type 0
-AreSentTo old new None = Appends old new []
-AreSentTo old new (Some place) = AreSent old new place.number
+AreSentTo old new at = (out : List Outgoing) × AreTurns (number_at at) out × Appends old new (flat_map outgoing_octets out)
 
--- What has gone out to a subscriber: nothing, or the messages of all that is kept of rounds.
+-- what goes out where answers to pings are written: all of them, or a beginning of their octets
+abbrev pub AreAnswered : Option (List ℕ) → Option (List ℕ) → Type 0
+AreAnswered old new = (contexts : List (List ℕ)) × WereAsked contexts × Appends old new (flat_map pong_octets contexts)
+
+abbrev pub AreAnsweredInPart : Option (List ℕ) → Option (List ℕ) → Type 0
+AreAnsweredInPart old new = (contexts : List (List ℕ)) × WereAsked contexts × SentSome old new (flat_map pong_octets contexts)
+
+-- WHAT HAS GONE OUT to a subscriber: the messages of all that is kept of rounds, and the answers to its pings between them.
 abbrev pub IsServed : Option (List ℕ) → Option (List ℕ) → Type 0
 IsServed old new = (at : Option Place) × AreSentTo old new at
 
--- what has gone out to one where the last round failed: a beginning of these octets
+-- what has gone out to one where the last turn failed: a beginning of these octets
 abbrev pub IsServedInPart : Option (List ℕ) → Option (List ℕ) → Type 0
-IsServedInPart old new = (from to : ℕ) × (sent : List Frames) × AreRounds from to sent × SentSome old new (flat_map message_octets sent)
+IsServedInPart old new = (at : Option ℕ) × (out : List Outgoing) × AreTurns at out × SentSome old new (flat_map outgoing_octets out)

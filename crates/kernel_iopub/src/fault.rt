@@ -14,7 +14,7 @@ pub enum SubscriberFault {
     /// The peer broke the protocol of the wire.
     #[error("Peer {0}")]
     Peer(PeerFault),
-    /// The peer subscribed to more than a connection may, or sent more than that takes.
+    /// The peer subscribed to more than a connection may, or sent more than that takes, or too many of its pings are unanswered.
     #[error("TooMuch")]
     TooMuch,
     /// The subscriber fell behind what the board keeps.

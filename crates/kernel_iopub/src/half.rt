@@ -2,14 +2,15 @@
 ghost use Rattle.std.specs.Prelude.{ℕ, List, Option, IfOk, OnOk, OnErr};
 ghost use Rattle.std.specs.List.{flat_map};
 ghost use Rattle.std.specs.Io.KnownBytes.{Appends};
-ghost use Rattle.zmtp_wire.specs.Message.{message_octets};
+ghost use Rattle.zmtp_wire.specs.Message.{bodies_of, message_octets};
+ghost use Rattle.zmtp_wire.specs.Pong.{pong_octets};
 ghost use Rattle.exact_write.specs.Sent.{SentSome};
-ghost use Rattle.kernel_iopub.specs.Round.{IsSent, IsSentInPart, AreSentTo, IsServed, IsServedInPart};
+ghost use Rattle.kernel_iopub.specs.Round.{IsSent, IsSentInPart, AreSentTo, IsServed, IsServedInPart, AreAnswered, AreAnsweredInPart};
 
 use crate::bulletin::Bulletin;
 use crate::fault::SubscriberFault;
-use crate::send::send_message;
-use crate::subscriber::{Subscriber, fall_silent, look, take, wanted};
+use crate::send::{send_message, send_pong};
+use crate::subscriber::{Subscriber, fall_silent, look, note_answered, take, take_pings, wanted};
 use kernel_board::{Broadcast, Place, Read as BoardRead};
 use std::alloc::Global;
 use std::io::{Read, Write};
@@ -18,7 +19,8 @@ use std::sync::{Mutex, Wait};
 /// How many octets are read at once, at most.
 const ROOM: usize = 512;
 
-/// So many octets a subscriber may send over its life: each prefix that it may subscribe to, once to subscribe and once to cancel.
+/// So many octets a subscriber may send over its life beside pings, of which nothing is kept once they are answered: each prefix that it may subscribe
+/// to, once to subscribe and once to cancel, by messages or by commands.
 const HEARD: usize = 2_359_296;
 
 /// Feeds the peer all that comes, up to the end of the input.
@@ -40,8 +42,10 @@ fn hear_all<R: Wait, I: Read>(
         if heard > HEARD {
             return Err(SubscriberFault::TooMuch);
         }
+        let news = take(rt, bulletin, shared, &room[..count])?;
+        heard = heard.saturating_sub(news.ping_octets);
         // What else it sends, as that it subscribes, is nothing to wake the writers of all connections for.
-        if take(rt, bulletin, shared, &room[..count])? {
+        if news.is_ready || news.pings > 0 {
             bulletin.event_count().raise(rt);
         }
     }
@@ -77,6 +81,40 @@ fn send_all<W: Write>(
         }
     }
     Ok(())
+}
+
+/// Writes answers to pings in turn: all of them, or some and a beginning of the next.
+fn send_pongs<R: Wait, W: Write>(
+    rt: &R,
+    alloc: Global,
+    shared: &Mutex<Subscriber>,
+    writer: &mut W,
+    contexts: &[Vec<u8>],
+) -> Result<(), SubscriberFault>
+    ensures ok { OnOk result (Appends (W.contents writer.old) (W.contents writer.new) (flat_map pong_octets (bodies_of contexts.now))) }
+    ensures err { OnErr result (SentSome (W.contents writer.old) (W.contents writer.new) (flat_map pong_octets (bodies_of contexts.now))) }
+{
+    for context in contexts {
+        match send_pong(alloc, writer, context) {
+            Ok(()) => note_answered(rt, shared),
+            Err(fault) => return Err(fault),
+        }
+    }
+    Ok(())
+}
+
+/// Answers the pings that wait.
+fn answer<R: Wait, W: Write>(
+    rt: &R,
+    alloc: Global,
+    shared: &Mutex<Subscriber>,
+    writer: &mut W,
+) -> Result<(), SubscriberFault>
+    ensures ok { OnOk result (AreAnswered (W.contents writer.old) (W.contents writer.new)) }
+    ensures err { OnErr result (AreAnsweredInPart (W.contents writer.old) (W.contents writer.new)) }
+{
+    let contexts = take_pings(rt, alloc, shared);
+    send_pongs(rt, alloc, shared, writer, &contexts)
 }
 
 /// Reads the board once from a place, and writes what the peer wants of that: all of it, or a beginning where it fails. The place behind it.
@@ -127,7 +165,8 @@ fn go_on<R: Wait, W: Write>(
     }
 }
 
-/// The writing half: it writes what the peer wants from where it joined on, until nothing more comes from the peer and all was written.
+/// The writing half: it writes what the peer wants from where it joined on, and between messages it answers pings, until nothing more comes from the
+/// peer and all was written.
 pub fn speak<R: Wait, W: Write>(
     rt: &R,
     alloc: Global,
@@ -142,6 +181,10 @@ pub fn speak<R: Wait, W: Write>(
     for _ in rt.forever() {
         let seen = bulletin.event_count().seen(rt);
         let sight = look(rt, shared);
+        match answer(rt, alloc, shared, writer) {
+            Ok(()) => {}
+            Err(fault) => return Err(fault),
+        }
         let before = at.or(sight.joined);
         at = match go_on(rt, alloc, bulletin, shared, writer, before) {
             Ok(after) => after,

@@ -1,8 +1,9 @@
-//! Messages that go out to a subscriber.
+//! Messages, and answers to pings, that go out to a subscriber.
 ghost use Rattle.std.specs.Prelude.{OnErr, OnOk};
 ghost use Rattle.std.specs.Io.KnownBytes.{Appends};
 ghost use Rattle.exact_write.specs.Sent.{SentSome};
 ghost use Rattle.zmtp_wire.specs.Message.{bodies_of, message_octets};
+ghost use Rattle.zmtp_wire.specs.Pong.{pong_octets};
 
 use crate::fault::SubscriberFault;
 use std::alloc::Global;
@@ -20,8 +21,30 @@ pub(crate) fn send_message<W: Write>(
 {
     match zmtp_wire::send_message(alloc, writer, frames) {
         Ok(()) => Ok(()),
-        Err(SendFault::Memory) => Err(SubscriberFault::Memory),
+        Err(fault) => Err(broken(fault)),
+    }
+}
+
+/// Writes the answer to a ping with this context: all its octets, or a beginning of them.
+pub(crate) fn send_pong<W: Write>(
+    alloc: Global,
+    writer: &mut W,
+    context: &[u8],
+) -> Result<(), SubscriberFault>
+    ensures ok { OnOk result (Appends (W.contents writer.old) (W.contents writer.new) (pong_octets context.now)) }
+    ensures err { OnErr result (SentSome (W.contents writer.old) (W.contents writer.new) (pong_octets context.now)) }
+{
+    match zmtp_wire::send_pong(alloc, writer, context) {
+        Ok(()) => Ok(()),
+        Err(fault) => Err(broken(fault)),
+    }
+}
+
+/// How a connection ends on which something did not go out whole.
+fn broken(fault: SendFault) -> SubscriberFault {
+    match fault {
+        SendFault::Memory => SubscriberFault::Memory,
         // No reader takes a message that is too long.
-        Err(SendFault::TooLong | SendFault::Write) => Err(SubscriberFault::Write),
+        SendFault::TooLong | SendFault::Write => SubscriberFault::Write,
     }
 }

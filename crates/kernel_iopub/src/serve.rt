@@ -36,7 +36,7 @@ fn speak_and_hang_up<R: Wait, W: Write + HangUp + Drop>(
 /// # Errors
 ///
 /// `Read` where the reader failed; `Write` where the opening could not be written; `Peer` where the peer broke the protocol of the wire;
-/// `TooMuch` where it subscribed to more than a connection may;
+/// `TooMuch` where it subscribed to more than a connection may, or too many of its pings are unanswered;
 /// `Memory` where there is none, also for a thread. What the writing half met is not told.
 pub fn serve_subscriber<R: Threads + Wait + Sync, I: Read, W: Write + HangUp + Send + Drop>(
     rt: &R,

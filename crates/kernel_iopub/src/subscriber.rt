@@ -3,14 +3,18 @@ ghost use Rattle.std.specs.Prelude.{◌≡◌, ℕ, List, IfOk};
 ghost use Rattle.zmtp_peer.specs.declared.role.Role.TheVariants.{Pub};
 ghost use Rattle.zmtp_peer.specs.Events.{Event};
 ghost use Rattle.zmtp_peer.specs.Reading.{Stands};
+ghost use Rattle.zmtp_wire.specs.Message.{bodies_of};
 ghost use Rattle.kernel_iopub.specs.Round.{AreWanted, WasFed, IsChosen};
+ghost use Rattle.kernel_iopub.specs.Pings.{HasAsked, WereAsked};
 
 use crate::bulletin::Bulletin;
 use crate::fault::SubscriberFault;
+use crate::news::{News, news_of};
 use kernel_board::{Broadcast, Place};
 use std::alloc::Global;
+use std::mem;
 use std::sync::{Mutex, Wait};
-use zmtp_peer::{Peer, PeerEvent, PeerFault, Role};
+use zmtp_peer::{Peer, PeerFault, Role};
 use zmtp_wire::WireFault;
 
 /// So many prefixes a connection may subscribe to over its life: each is kept, and whoever connects may have no key.
@@ -19,12 +23,21 @@ const PREFIXES: u32 = 4096;
 /// So many octets those prefixes may have together.
 const PREFIX_OCTETS: usize = 1_048_576;
 
+/// So many pings of a connection may not be unanswered at once: the one that makes them so many ends it.
+const UNANSWERED: u32 = 64;
+
 /// The peer, and how far it is. Its type keeps that the peer is a publisher's, and stands as some octets from the first of a connection on have it.
 #[derive(Drop)]
 pub struct Subscriber {
+    alloc: Global,
     peer: Peer,
     ghost publishes: { peer.role ≡ Pub },
     ghost fed: { WasFed peer },
+    /// The contexts of its pings that the writing half has not taken yet, in their order.
+    pings: Vec<Vec<u8>>,
+    ghost asked: { HasAsked peer (bodies_of pings.items) },
+    /// How many of its pings are not answered yet.
+    unanswered: u32,
     /// The place on the board at which it joined, once it was ready.
     joined: Option<Place>,
     /// Nothing more comes from it.
@@ -45,7 +58,10 @@ impl Subscriber {
     /// A subscriber from which nothing has come.
     pub fn new(alloc: Global) -> Subscriber {
         Subscriber {
+            alloc,
             peer: Peer::new(alloc, Role::Pub),
+            pings: Vec::new(alloc),
+            unanswered: 0,
             joined: None,
             is_silent: false,
             prefixes: 0,
@@ -61,48 +77,62 @@ impl Subscriber {
         }
     }
 
-    /// Counts a prefix that the peer subscribes to.
-    fn count(&mut self, octets: usize) -> Result<(), SubscriberFault>
-        ensures same { self.new.peer ≡ self.old.peer }
+    /// Counts what came.
+    fn count(&mut self, news: News) -> Result<(), SubscriberFault>
+        ensures same { (self.new.peer ≡ self.old.peer) × (self.new.pings ≡ self.old.pings) }
     {
-        self.prefixes = self.prefixes.saturating_add(1);
-        self.prefix_octets = self.prefix_octets.saturating_add(octets);
-        if self.prefixes > PREFIXES || self.prefix_octets > PREFIX_OCTETS {
+        self.prefixes = self.prefixes.saturating_add(news.prefixes);
+        self.prefix_octets = self.prefix_octets.saturating_add(news.prefix_octets);
+        self.unanswered = self.unanswered.saturating_add(news.pings);
+        if self.prefixes > PREFIXES
+            || self.prefix_octets > PREFIX_OCTETS
+            || self.unanswered >= UNANSWERED
+        {
             return Err(SubscriberFault::TooMuch);
         }
         Ok(())
     }
 
-    /// Feeds the peer what came. Whether it is ready by that.
-    fn feed(&mut self, piece: &[u8]) -> Result<bool, SubscriberFault> {
-        let events = match self.peer.feed(piece) {
-            Ok(events) => events,
-            Err(PeerFault::Wire(WireFault::Memory)) => return Err(SubscriberFault::Memory),
-            Err(fault) => return Err(SubscriberFault::Peer(fault)),
-        };
-        let mut is_ready = false;
-        for event in events {
-            match event {
-                PeerEvent::Ready => is_ready = true,
-                PeerEvent::Subscribe(prefix) => self.count(prefix.len())?,
-                PeerEvent::Cancel(_) | PeerEvent::Message(_) => {}
-            }
-        }
-        Ok(is_ready)
-    }
-
-    /// Feeds the peer what came. As it is ready it joins the board. Whether it is ready by that.
+    /// Feeds the peer what came. As it is ready it joins the board. What came.
     fn take<R: Wait>(
         &mut self,
         rt: &R,
         bulletin: &Bulletin,
         piece: &[u8],
-    ) -> Result<bool, SubscriberFault> {
-        let is_ready = self.feed(piece)?;
-        if is_ready {
+    ) -> Result<News, SubscriberFault> {
+        let news = feed(self.alloc, &mut self.peer, &mut self.pings, piece)?;
+        self.count(news)?;
+        if news.is_ready {
             self.joined = Some(bulletin.join(rt));
         }
-        Ok(is_ready)
+        Ok(news)
+    }
+}
+
+/// Feeds a peer what came, and adds the contexts of its pings to those that wait. What came.
+fn feed(
+    alloc: Global,
+    peer: &mut Peer,
+    pings: &mut Vec<Vec<u8>>,
+    piece: &[u8],
+) -> Result<News, SubscriberFault>
+    requires { HasAsked peer.old (bodies_of pings.old.items) }
+    ensures role { peer.new.role ≡ peer.old.role }
+    ensures asked { HasAsked peer.new (bodies_of pings.new.items) }
+{
+    let events = match peer.feed(piece) {
+        Ok(events) => events,
+        Err(PeerFault::Wire(WireFault::Memory)) => return Err(SubscriberFault::Memory),
+        Err(fault) => return Err(SubscriberFault::Peer(fault)),
+    };
+    let mut contexts = Vec::new(alloc);
+    let news = match news_of(events, &mut contexts) {
+        Ok(news) => news,
+        Err(fault) => return Err(fault),
+    };
+    match pings.append(&mut contexts) {
+        Ok(()) => Ok(news),
+        Err(_) => Err(SubscriberFault::Memory),
     }
 }
 
@@ -128,19 +158,34 @@ fn wanted_of(
     Ok(kept)
 }
 
-/// Feeds the peer what came, and tells its fault. Whether it is ready by that.
+/// Feeds the peer what came, and tells its fault. What came.
 pub(crate) fn take<R: Wait>(
     rt: &R,
     bulletin: &Bulletin,
     shared: &Mutex<Subscriber>,
     piece: &[u8],
-) -> Result<bool, SubscriberFault> {
+) -> Result<News, SubscriberFault> {
     let mut guard = shared.lock(rt);
     let subscriber = &mut *guard;
-    let is_ready = subscriber.take(rt, bulletin, piece)?;
+    let news = subscriber.take(rt, bulletin, piece)?;
     // A fault behind the events is told by a call of its own.
     subscriber.take(rt, bulletin, &[])?;
-    Ok(is_ready)
+    Ok(news)
+}
+
+/// Takes the pings that wait, in their order. Each counts as unanswered until it is told otherwise.
+pub(crate) fn take_pings<R: Wait>(rt: &R, alloc: Global, shared: &Mutex<Subscriber>) -> Vec<Vec<u8>>
+    ensures { WereAsked (bodies_of result.items) }
+{
+    let mut guard = shared.lock(rt);
+    let subscriber = &mut *guard;
+    mem::replace(&mut subscriber.pings, Vec::new(alloc))
+}
+
+/// One ping was answered.
+pub(crate) fn note_answered<R: Wait>(rt: &R, shared: &Mutex<Subscriber>) {
+    let mut guard = shared.lock(rt);
+    guard.unanswered = guard.unanswered.saturating_sub(1);
 }
 
 /// Nothing more comes from the peer.

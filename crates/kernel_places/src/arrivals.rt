@@ -186,7 +186,10 @@ fn is_over(handshake: &mut Option<Peer>, piece: &[u8]) -> bool {
 fn is_ready(event: &PeerEvent) -> bool {
     match event {
         PeerEvent::Ready => true,
-        PeerEvent::Message(_) | PeerEvent::Subscribe(_) | PeerEvent::Cancel(_) => false,
+        PeerEvent::Message(_)
+        | PeerEvent::Subscribe(_)
+        | PeerEvent::Cancel(_)
+        | PeerEvent::Ping(_) => false,
     }
 }
 

@@ -3,12 +3,10 @@ use Rattle.std.proofs.Common.{◌≡◌, ℕ, suc, ◌+◌, ◌<◌, List, [], �
 use Rattle.std.proofs.lemmas.List.{map-append}
 use Rattle.std.specs.Io.KnownBytes.{Appends}
 use Rattle.jupyter_msg.specs.declared.request.Request.{Request}
-use Rattle.zmtp_wire.specs.Message.{message_octets}
 use Rattle.zmtp_peer.specs.declared.event.PeerEvent.{PeerEvent}
-use Rattle.zmtp_peer.specs.Events.{Event, Message, event_of, events_of}
+use Rattle.zmtp_peer.specs.Events.{Event, event_of, events_of}
 use Rattle.kernel_message.specs.declared.stamp.Stamp.{Stamp}
 use Rattle.kernel_session.specs.declared.socket.Socket.{Socket}
-use Rattle.kernel_session.specs.declared.socket.Socket.TheVariants.{Heartbeat}
 use Rattle.kernel_session.specs.declared.flow.Flow.{Flow}
 use Rattle.kernel_session.specs.declared.flow.Flow.TheVariants.{Going}
 use Rattle.kernel_session.specs.Call.{Call}
@@ -62,29 +60,27 @@ module _ {W D : Type 0} (contents : W → Option (List ℕ)) (leads : D → Call
           | inr x ↦ breaks_none contents leads key w w' d d' stamp socket s on event e is x
         ]) p
 
+-- an event for which these octets go out, and nothing else is done
 module _ {W D : Type 0} (contents : W → Option (List ℕ)) (leads : D → Call → D → Type 0) (key : List ℕ) (w w' : W) (d : D)
-    (stamp : Stamp) (socket : Socket) (on : socket ≡ Heartbeat) (event e : PeerEvent) (is : event ≡ e) (frames : List (List ℕ))
-    (says : event_of e ≡ Message frames) where
-  pub echo_takes : {E : Type 0} (result : Result Flow E)
-      → IfOk result (λ flow. (flow ≡ Going) × Appends (contents w) (contents w') (message_octets frames))
+    (stamp : Stamp) (socket s : Socket) (on : socket ≡ s) (event e : PeerEvent) (is : event ≡ e) (out : List ℕ)
+    (step : IsStep s key stamp (event_of e) (sends out) (going stamp)) where
+  pub sent_takes : {E : Type 0} (result : Result Flow E)
+      → IfOk result (λ flow. (flow ≡ Going) × Appends (contents w) (contents w') out)
       → IfOk result (λ flow. Takes contents leads socket key w w' d d stamp (event_of event) (record { stamp = stamp; flow = flow }))
-  echo_takes result p =
-      if_ok result (λ (flow : Flow). (flow ≡ Going) × Appends (contents w) (contents w') (message_octets frames))
+  sent_takes result p =
+      if_ok result (λ (flow : Flow). (flow ≡ Going) × Appends (contents w) (contents w') out)
       (λ (flow : Flow). Takes contents leads socket key w w' d d stamp (event_of event) (record { stamp = stamp; flow = flow }))
       (λ flow q.
-      takes_event contents leads key w w' d d stamp socket Heartbeat on event e is (sends (message_octets frames)) _
-      (subst (λ (x : Event). IsStep Heartbeat key stamp x (sends (message_octets frames)) (record { stamp = stamp; flow = flow })) (sym says)
-      (refl, λ i. record { stamp = stamp; flow = q.0 i }))
-      (acts_sends contents leads w w' d (message_octets frames) q.1)) p
+      takes_event contents leads key w w' d d stamp socket s on event e is (sends out) (record { stamp = stamp; flow = flow })
+      (subst (λ (f : Flow). IsStep s key stamp (event_of e) (sends out) (record { stamp = stamp; flow = f })) (sym q.0) step)
+      (acts_sends contents leads w w' d out q.1)) p
 
-  pub echo_breaks : {E : Type 0} (result : Result Flow E) → OnErr result (SentSome (contents w) (contents w') (message_octets frames))
+  pub sent_breaks : {E : Type 0} (result : Result Flow E) → OnErr result (SentSome (contents w) (contents w') out)
       → OnErr result (Breaks contents leads socket key w w' d d stamp (event_of event))
-  echo_breaks result p =
-      on_err result (SentSome (contents w) (contents w') (message_octets frames)) (Breaks contents leads socket key w w' d d stamp (event_of event))
+  sent_breaks result p =
+      on_err result (SentSome (contents w) (contents w') out) (Breaks contents leads socket key w w' d d stamp (event_of event))
       (λ q.
-      breaks_event contents leads key w w' d d stamp socket Heartbeat on event e is (sends (message_octets frames)) (sends q.0)
-      (record { stamp = stamp; flow = Going })
-      (subst (λ (x : Event). IsStep Heartbeat key stamp x (sends (message_octets frames)) (record { stamp = stamp; flow = Going })) (sym says) (refl, refl))
+      breaks_event contents leads key w w' d d stamp socket s on event e is (sends out) (sends q.0) (going stamp) step
       (acts_sends contents leads w w' d q.0 q.3)
       (sends q.1, ap (λ (x : List ℕ). sends x) q.2 ∙ map-append Sent q.0 q.1)) p
 

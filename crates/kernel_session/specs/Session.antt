@@ -1,4 +1,4 @@
--- What goes on on one connection, event by event: which messages are requests, and what each of them brings (RFC 23; Jupyter messaging
+-- What goes on on one connection, event by event: which messages are requests, and what each of them brings (RFC 23; RFC 37; Jupyter messaging
 -- page, version 5.4, "The Wire Protocol" and "Kernel status").
 use Rattle.std.specs.Prelude.{◌≡◌, ℕ, ◌+◌, ◌-◌, ◌^◌, ◌≤◌, ◌<◌, ◌⊎◌, Bool, true, false, List, [], ◌∷◌, ◌++◌, map, string_bytes, Option, Some, None, Ok, Err}
 use Rattle.jupyter_msg.specs.Octets.{Octets, octets}
@@ -13,6 +13,7 @@ use Rattle.jupyter_msg.specs.declared.request.RequestContent.{RequestContent}
 use Rattle.jupyter_msg.specs.declared.request.RequestContent.TheVariants as request
 use Rattle.serde_json.specs.Data.{Data}
 use Rattle.zmtp_wire.specs.Message.{message_octets}
+use Rattle.zmtp_wire.specs.Pong.{pong_octets}
 use Rattle.zmtp_peer.specs.declared.role.Role.{Role}
 use Rattle.zmtp_peer.specs.declared.role.Role.TheVariants as role
 use Rattle.zmtp_peer.specs.Events as peer
@@ -207,12 +208,17 @@ IsMessageStep Heartbeat key stamp frames actions new = IsEcho stamp frames actio
 IsMessageStep Stdin key stamp frames actions new = IsQuiet stamp actions new
 IsMessageStep Iopub key stamp frames actions new = IsQuiet stamp actions new
 
+-- a ping is answered with its context, on each socket: before the next message goes out, and never within one
+abbrev pub IsPong : Stamp → List ℕ → List Action → State → Type 0
+IsPong stamp context actions new = (actions ≡ sends (pong_octets context)) × (new ≡ going stamp)
+
 -- READY and subscriptions bring nothing by themselves
 abbrev pub IsStep : Socket → List ℕ → Stamp → Event → List Action → State → Type 0
 IsStep socket key stamp (peer.Message frames) actions new = IsMessageStep socket key stamp frames actions new
 IsStep socket key stamp peer.Ready actions new = IsQuiet stamp actions new
 IsStep socket key stamp (peer.Subscribe prefix) actions new = IsQuiet stamp actions new
 IsStep socket key stamp (peer.Cancel prefix) actions new = IsQuiet stamp actions new
+IsStep socket key stamp (peer.Ping context) actions new = IsPong stamp context actions new
 
 -- THE SESSION: what goes on for these events, in their order, from one state to another. A session that is over takes no further event.
 abbrev pub IsSession : Socket → List ℕ → State → List Event → List Action → State → Type 0

@@ -50,7 +50,8 @@ fn stop(fault: PeerFault) -> ServeFault
         | PeerFault::WrongPair
         | PeerFault::BadMetadata
         | PeerFault::PeerError(_)
-        | PeerFault::NotReady => ServeFault::Peer(fault),
+        | PeerFault::NotReady
+        | PeerFault::BadPing => ServeFault::Peer(fault),
     }
 }
 

@@ -4,6 +4,7 @@ ghost use Rattle.jupyter_msg.specs.Octets.{octets};
 ghost use Rattle.zmtp_peer.specs.Events.{event_of, events_of};
 ghost use Rattle.std.specs.Io.KnownBytes.{Appends};
 ghost use Rattle.zmtp_wire.specs.Message.{message_octets};
+ghost use Rattle.zmtp_wire.specs.Pong.{pong_octets};
 ghost use Rattle.exact_write.specs.Sent.{SentSome};
 ghost use Rattle.kernel_session.specs.Action.{Action, Acts};
 ghost use Rattle.kernel_session.specs.Parts.{ActedPart};
@@ -14,7 +15,7 @@ use crate::desk::Desk;
 use crate::fault::ServeFault;
 use crate::flow::Flow;
 use crate::request::take_request;
-use crate::send::send_message;
+use crate::send::{send_message, send_pong};
 use crate::socket::Socket;
 use jupyter_msg::{Key, Message, MsgFault, Request, open};
 use kernel_message::Stamp;
@@ -108,6 +109,19 @@ fn echo<W: Write>(alloc: Global, writer: &mut W, frames: &[Vec<u8>]) -> Result<F
     }
 }
 
+/// Answers a ping.
+fn pong<W: Write>(alloc: Global, writer: &mut W, context: &[u8]) -> Result<Flow, ServeFault>
+    ensures ok { IfOk result (λ flow. (flow ≡ Flow.Going)
+        × Appends (W.contents writer.old) (W.contents writer.new) (pong_octets context.now)) }
+    ensures err { OnErr result (SentSome (W.contents writer.old) (W.contents writer.new) (pong_octets context.now)) }
+    ensures midway { IfErr result IsMidway }
+{
+    match send_pong(alloc, writer, context) {
+        Ok(()) => Ok(Flow::Going),
+        Err(fault) => Err(fault),
+    }
+}
+
 /// Takes an event.
 fn take_event<W: Write, D: Desk>(
     alloc: Global,
@@ -125,9 +139,10 @@ fn take_event<W: Write, D: Desk>(
 {
     let frames = match event {
         PeerEvent::Message(frames) => frames,
-        PeerEvent::Ready | PeerEvent::Subscribe(_) | PeerEvent::Cancel(_) => {
-            return Ok(Flow::Going);
-        }
+        PeerEvent::Ping(context) => return pong(alloc, writer, &context),
+        PeerEvent::Ready => return Ok(Flow::Going),
+        PeerEvent::Subscribe(_prefix) => return Ok(Flow::Going),
+        PeerEvent::Cancel(_prefix) => return Ok(Flow::Going),
     };
     match socket {
         Socket::Shell => take_turn(alloc, Socket::Shell, key, writer, desk, stamp, frames),

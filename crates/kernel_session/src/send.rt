@@ -1,8 +1,9 @@
-//! Messages that go out on a connection.
+//! Messages, and answers to pings, that go out on a connection.
 ghost use Rattle.std.specs.Prelude.{IfErr, OnErr, OnOk};
 ghost use Rattle.std.specs.Io.KnownBytes.{Appends};
 ghost use Rattle.exact_write.specs.Sent.{SentSome};
 ghost use Rattle.zmtp_wire.specs.Message.{bodies_of, message_octets};
+ghost use Rattle.zmtp_wire.specs.Pong.{pong_octets};
 ghost use Rattle.kernel_session.specs.Ends.{IsMidway};
 
 use crate::fault::ServeFault;
@@ -22,8 +23,33 @@ pub(crate) fn send_message<W: Write>(
 {
     match zmtp_wire::send_message(alloc, writer, frames) {
         Ok(()) => Ok(()),
-        Err(SendFault::Memory) => Err(ServeFault::Memory),
+        Err(fault) => Err(broken(fault)),
+    }
+}
+
+/// Writes the answer to a ping with this context: all its octets, or a beginning of them.
+pub(crate) fn send_pong<W: Write>(
+    alloc: Global,
+    writer: &mut W,
+    context: &[u8],
+) -> Result<(), ServeFault>
+    ensures ok { OnOk result (Appends (W.contents writer.old) (W.contents writer.new) (pong_octets context.now)) }
+    ensures err { OnErr result (SentSome (W.contents writer.old) (W.contents writer.new) (pong_octets context.now)) }
+    ensures midway { IfErr result IsMidway }
+{
+    match zmtp_wire::send_pong(alloc, writer, context) {
+        Ok(()) => Ok(()),
+        Err(fault) => Err(broken(fault)),
+    }
+}
+
+/// How a connection ends on which something did not go out whole.
+fn broken(fault: SendFault) -> ServeFault
+    ensures { IsMidway result }
+{
+    match fault {
+        SendFault::Memory => ServeFault::Memory,
         // No reader takes a message that is too long.
-        Err(SendFault::TooLong | SendFault::Write) => Err(ServeFault::Write),
+        SendFault::TooLong | SendFault::Write => ServeFault::Write,
     }
 }

@@ -213,7 +213,7 @@ impl Frontend {
                     .push_back(frames)
                     .expect(rt, "room for a message");
             }
-            PeerEvent::Subscribe(_) | PeerEvent::Cancel(_) => {}
+            PeerEvent::Subscribe(_) | PeerEvent::Cancel(_) | PeerEvent::Ping(_) => {}
         }
     }
 

@@ -12,6 +12,8 @@ mod desk;
 #[cfg(test)]
 mod lone;
 #[cfg(test)]
+mod pings;
+#[cfg(test)]
 mod refused;
 #[cfg(test)]
 mod rows;

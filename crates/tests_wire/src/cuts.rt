@@ -1,6 +1,6 @@
 //! Rows of octets that a peer is fed in any cut: the role, and all octets from the greeting on. The answer has the events that they tell the role,
 //! and behind a bar the number of the fault; where a stream that is left behind an octet tells more or else, the answer says so. A message has its
-//! bodies behind it, a subscription its prefix, and an ERROR its reason.
+//! bodies behind it, a subscription its prefix, a ping its context, and an ERROR its reason.
 use crate::octets::hex_of;
 use std::alloc::{AllocError, Global};
 use tests_rows::{cut, octets_of, push_answer};
@@ -132,6 +132,7 @@ fn push_event(alloc: Global, text: &mut String, event: &PeerEvent) -> Result<(),
         PeerEvent::Message(frames) => push_message(alloc, text, frames),
         PeerEvent::Subscribe(prefix) => push_octets(alloc, text, "Subscribe=", prefix),
         PeerEvent::Cancel(prefix) => push_octets(alloc, text, "Cancel=", prefix),
+        PeerEvent::Ping(context) => push_octets(alloc, text, "Ping=", context),
     }
 }
 

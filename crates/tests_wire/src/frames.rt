@@ -1,6 +1,7 @@
 //! Rows of greetings and frames. `reads` gives the frames that octets are read as, in any cut, and the fault behind them; `counts`
 //! their number. `writes` gives what stands before the body in a frame with a body of this length, and whether it is read back; `message` (so many
-//! bodies of this length) whether a message is written and read back; `bodies` the octets of one. `greeting` gives the octets of a greeting, and `greets`
+//! bodies of this length) whether a message is written and read back; `bodies` the octets of one. `pong` gives the octets of the
+//! answer to a ping with this context. `greeting` gives the octets of a greeting, and `greets`
 //! the greeting of octets.
 use crate::lists::{count_frames, frames_told};
 use crate::octets::{hex_of, octets_shown};
@@ -29,9 +30,16 @@ fn answer(alloc: Global, call: &str) -> Result<String, WireFault> {
         "writes" => writes(alloc, number(rest)),
         "message" => message(alloc, number(first), number(second)),
         "bodies" => bodies(alloc, rest),
+        "pong" => pong(alloc, &octets_of(alloc, rest)?),
         "greeting" => greeting(alloc, first, second == "server"),
         _ => greets(alloc, &octets_of(alloc, rest)?),
     }
+}
+
+/// The octets of the answer to a ping with this context.
+fn pong(alloc: Global, context: &[u8]) -> Result<String, WireFault> {
+    let pong = Frame::pong(alloc, context)?;
+    Ok(hex_of(alloc, &pong.write(alloc)?)?)
 }
 
 /// A body of so many octets.

@@ -7,8 +7,9 @@
 //! What may stand in the rows of a block is said by the module that tells its answers.
 //!
 //! What libzmq sends is from libzmq 4.3.4 (pyzmq 24.0.1, Debian's python3-zmq), recorded on 2026-11-22 from a plain TCP listener
-//! on 127.0.0.1. The messages of a client are the frames that `jupyter_client` 7.4.9 (Debian's python3-jupyter-client 7.4.9-2) wrote on
-//! 2026-11-22, by `Session(key, signature_scheme="hmac-sha256").serialize`.
+//! on 127.0.0.1, and on 2026-11-27 from one that greets with version 3.1, with `ZMQ_HEARTBEAT_IVL` of 100 ms, once with
+//! `ZMQ_HEARTBEAT_TTL`. The messages of a client are the frames that `jupyter_client` 7.4.9 (Debian's python3-jupyter-client 7.4.9-2)
+//! wrote on 2026-11-22, by `Session(key, signature_scheme="hmac-sha256").serialize`.
 #![tactic(auto)]
 
 mod connections;

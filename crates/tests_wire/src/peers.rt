@@ -1,5 +1,6 @@
 //! Rows of one peer: `role` begins a new one, and gives the octets that it sends first; `feed` gives what octets tell it, `wants` whether a message on
-//! a topic is subscribed to, and `partner` the version of the other end.
+//! a topic is subscribed to, `partner` the version of the other end and `minor` its minor version, and `subscribes` what asks the other end for a prefix,
+//! once READY came.
 use crate::cuts::{feed, role_of, told_text};
 use crate::octets::hex_of;
 use std::alloc::{AllocError, Global};
@@ -26,6 +27,8 @@ fn answer(alloc: Global, peer: &mut Peer, call: &str) -> Result<String, AllocErr
         }
         "feed" => fed(alloc, peer, &octets_of(alloc, rest)?),
         "wants" => shown(alloc, &peer.wants(rest.as_bytes())),
+        "minor" => shown(alloc, &peer.minor()),
+        "subscribes" => subscribes(alloc, peer, &octets_of(alloc, rest)?),
         _ => shown(alloc, &peer.partner()),
     }
 }
@@ -33,6 +36,17 @@ fn answer(alloc: Global, peer: &mut Peer, call: &str) -> Result<String, AllocErr
 /// What a peer sends first.
 fn opening(alloc: Global, peer: &Peer) -> Result<String, AllocError> {
     match peer.opening() {
+        Ok(octets) => hex_of(alloc, &octets),
+        Err(fault) => String::from_str(alloc, fault.name()),
+    }
+}
+
+/// What asks the other end for what begins with a prefix.
+fn subscribes(alloc: Global, peer: &Peer, prefix: &[u8]) -> Result<String, AllocError> {
+    if !peer.is_ready() {
+        return String::from_str(alloc, "not ready");
+    }
+    match peer.subscription(prefix) {
         Ok(octets) => hex_of(alloc, &octets),
         Err(fault) => String::from_str(alloc, fault.name()),
     }

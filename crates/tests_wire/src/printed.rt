@@ -17,12 +17,13 @@ const WIRE: [WireFault; 7] = [
     WireFault::Memory,
 ];
 
-const PEER: [PeerFault; 5] = [
+const PEER: [PeerFault; 6] = [
     PeerFault::MEMORY,
     PeerFault::NoSocketType,
     PeerFault::WrongPair,
     PeerFault::BadMetadata,
     PeerFault::NotReady,
+    PeerFault::BadPing,
 ];
 
 const MESSAGES: [MsgFault; 8] = [

@@ -9,6 +9,8 @@ use Rattle.zmtp_wire.specs.Stream.{Rest, whole, Leaves}
 use Rattle.zmtp_wire.proofs.Streams.{leaves_longer}
 use Rattle.zmtp_wire.proofs.Messages.{messages_are_read_back}
 use Rattle.zmtp_peer.specs.declared.role.Role.{Role}
+use Rattle.zmtp_peer.specs.declared.terms.Terms.{Terms}
+use Rattle.zmtp_peer.specs.Terms.{terms_of}
 use Rattle.zmtp_peer.specs.declared.role.Role.TheVariants.{Pub}
 use Rattle.zmtp_peer.specs.Events.{Event, Message, State, Opening, Open, Refused, after, told}
 use Rattle.zmtp_peer.specs.Subscriptions.{subscriptions}
@@ -38,41 +40,41 @@ fronts-compare (x ∷ xs) ys (z ∷ zs) ws same = longer (cc same) (fronts-compa
     longer head (inr (ks, front)) = inr (ks, ap (λ (l : List Frame). x ∷ l) front ∙ ap (λ (y : Frame). y ∷ (zs ++ ks)) head)
 
 -- frames at the front of a message are all of it, or tell nothing
-part-tells : (role : Role) (held message : List (List ℕ)) (gs hs : List Frame) → message_frames message ≡ gs ++ hs
-    → (hs ≡ []) ⊎ (told role (Open held) gs ≡ [])
-part-tells role held message [] hs same = inr refl
-part-tells role held [] (g ∷ gs) hs same = absurd (cc same)
-part-tells role held (body ∷ []) (g ∷ gs) hs same =
+part-tells : (terms : Terms) (held message : List (List ℕ)) (gs hs : List Frame) → message_frames message ≡ gs ++ hs
+    → (hs ≡ []) ⊎ (told terms (Open held) gs ≡ [])
+part-tells terms held message [] hs same = inr refl
+part-tells terms held [] (g ∷ gs) hs same = absurd (cc same)
+part-tells terms held (body ∷ []) (g ∷ gs) hs same =
     let tail : [] ≡ gs ++ hs = cc same in
     inl (nothing-back gs hs tail)
-part-tells role held (body ∷ other ∷ message) (g ∷ gs) hs same =
-    goes_on (cc same) (part-tells role (held ++ body ∷ []) (other ∷ message) gs hs (cc same))
+part-tells terms held (body ∷ other ∷ message) (g ∷ gs) hs same =
+    goes_on (cc same) (part-tells terms (held ++ body ∷ []) (other ∷ message) gs hs (cc same))
   where
     first : Frame
     first = record { more = true; command = false; body = body }
 
-    goes_on : first ≡ g → (hs ≡ []) ⊎ (told role (Open (held ++ body ∷ [])) gs ≡ []) → (hs ≡ []) ⊎ (told role (Open held) (g ∷ gs) ≡ [])
+    goes_on : first ≡ g → (hs ≡ []) ⊎ (told terms (Open (held ++ body ∷ [])) gs ≡ []) → (hs ≡ []) ⊎ (told terms (Open held) (g ∷ gs) ≡ [])
     goes_on head (inl none) = inl none
-    goes_on head (inr quiet) = inr (subst (λ (f : Frame). told role (Open held) (f ∷ gs) ≡ []) head quiet)
+    goes_on head (inr quiet) = inr (subst (λ (f : Frame). told terms (Open held) (f ∷ gs) ≡ []) head quiet)
 
 -- the same behind other frames
-part-behind : (role : Role) (before gs hs : List Frame) (message : List (List ℕ)) → after role Opening before ≡ Open []
-    → before ++ message_frames message ≡ gs ++ hs → (hs ≡ []) ⊎ (length (told role Opening gs) ≤ length (told role Opening before))
-part-behind role before gs hs message ready same = by_front (fronts-compare before (message_frames message) gs hs same)
+part-behind : (terms : Terms) (before gs hs : List Frame) (message : List (List ℕ)) → after terms Opening before ≡ Open []
+    → before ++ message_frames message ≡ gs ++ hs → (hs ≡ []) ⊎ (length (told terms Opening gs) ≤ length (told terms Opening before))
+part-behind terms before gs hs message ready same = by_front (fronts-compare before (message_frames message) gs hs same)
   where
     by_front : ((ks : List Frame) × (gs ≡ before ++ ks) × (message_frames message ≡ ks ++ hs)) ⊎ ((ks : List Frame) × (before ≡ gs ++ ks))
-        → (hs ≡ []) ⊎ (length (told role Opening gs) ≤ length (told role Opening before))
+        → (hs ≡ []) ⊎ (length (told terms Opening gs) ≤ length (told terms Opening before))
     by_front (inl (ks, front, back)) =
         ⊎_elim inl
         (λ quiet. inr (
-        let all : told role Opening gs ≡ told role Opening before ++ [] =
-        ap (told role Opening) front ∙ told-append role Opening before ks ∙ ap (λ (s : State). told role Opening before ++ told role s ks) ready
-        ∙ ap (λ (es : List Event). told role Opening before ++ es) quiet in
-        omega (arith, ap length all, length-append (told role Opening before) [])))
-        (part-tells role [] message ks hs back)
+        let all : told terms Opening gs ≡ told terms Opening before ++ [] =
+        ap (told terms Opening) front ∙ told-append terms Opening before ks ∙ ap (λ (s : State). told terms Opening before ++ told terms s ks) ready
+        ∙ ap (λ (es : List Event). told terms Opening before ++ es) quiet in
+        omega (arith, ap length all, length-append (told terms Opening before) [])))
+        (part-tells terms [] message ks hs back)
     by_front (inr (ks, front)) = inr (
-        let all = ap length (ap (told role Opening) front ∙ told-append role Opening gs ks) in
-        omega (arith, all, length-append (told role Opening gs) (told role (after role Opening gs) ks)))
+        let all = ap length (ap (told terms Opening) front ∙ told-append terms Opening gs ks) in
+        omega (arith, all, length-append (told terms Opening gs) (told terms (after terms Opening gs) ks)))
 
 -- frames that are all of others have the same rest behind them
 nothing-more : (all gs hs : List Frame) (rest b : Rest) → all ≡ gs ++ hs → Leaves b hs rest → hs ≡ []
@@ -84,28 +86,28 @@ nothing-more all gs hs rest b same left none = (
 )
 
 -- frames that end a reading, or tell more than what stood before the message, go on behind the message
-behind-ended : (role : Role) (all gs : List Frame) (from rest b : Rest) (e : Ending) → after role Opening all ≡ Open [] → Leaves from all rest → Leaves from gs b
-    → EndsIn (after role Opening gs) b e → (hs : List Frame) × (gs ≡ all ++ hs) × Leaves rest hs b
-behind-ended role all gs from rest b e ready first second ends = compared (leaves-compare all gs from rest b first second)
+behind-ended : (terms : Terms) (all gs : List Frame) (from rest b : Rest) (e : Ending) → after terms Opening all ≡ Open [] → Leaves from all rest → Leaves from gs b
+    → EndsIn (after terms Opening gs) b e → (hs : List Frame) × (gs ≡ all ++ hs) × Leaves rest hs b
+behind-ended terms all gs from rest b e ready first second ends = compared (leaves-compare all gs from rest b first second)
   where
-    by_state : (hs : List Frame) → all ≡ gs ++ hs → Leaves b hs rest → (s : State) → s ≡ after role Opening gs → EndsIn s b e
+    by_state : (hs : List Frame) → all ≡ gs ++ hs → Leaves b hs rest → (s : State) → s ≡ after terms Opening gs → EndsIn s b e
         → (ks : List Frame) × (gs ≡ all ++ ks) × Leaves rest ks b
     by_state hs same left Opening is at = nothing-more all gs hs rest b same left (nothing-behind b rest e hs at left).0
     by_state hs same left (Open held) is at = nothing-more all gs hs rest b same left (nothing-behind b rest e hs at left).0
     by_state hs same left (Refused fault) is at =
         let clash : Open [] ≡ Refused fault =
-        sym ready ∙ ap (after role Opening) same ∙ after-append role Opening gs hs ∙ ap (λ (s : State). after role s hs) (sym is) ∙ refused-after role fault hs in
+        sym ready ∙ ap (after terms Opening) same ∙ after-append terms Opening gs hs ∙ ap (λ (s : State). after terms s hs) (sym is) ∙ refused-after terms fault hs in
         absurd (cc clash)
 
     compared : ((hs : List Frame) × (gs ≡ all ++ hs) × Leaves rest hs b) ⊎ ((hs : List Frame) × (all ≡ gs ++ hs) × Leaves b hs rest)
         → (hs : List Frame) × (gs ≡ all ++ hs) × Leaves rest hs b
     compared (inl found) = found
-    compared (inr (hs, same, left)) = by_state hs same left (after role Opening gs) refl ends
+    compared (inr (hs, same, left)) = by_state hs same left (after terms Opening gs) refl ends
 
-behind-told : (role : Role) (before gs : List Frame) (message : List (List ℕ)) (from rest b : Rest) → after role Opening before ≡ Open []
-    → Leaves from (before ++ message_frames message) rest → Leaves from gs b → length (told role Opening before) < length (told role Opening gs)
+behind-told : (terms : Terms) (before gs : List Frame) (message : List (List ℕ)) (from rest b : Rest) → after terms Opening before ≡ Open []
+    → Leaves from (before ++ message_frames message) rest → Leaves from gs b → length (told terms Opening before) < length (told terms Opening gs)
     → (hs : List Frame) × (gs ≡ (before ++ message_frames message) ++ hs) × Leaves rest hs b
-behind-told role before gs message from rest b ready first second more =
+behind-told terms before gs message from rest b ready first second more =
     compared (leaves-compare (before ++ message_frames message) gs from rest b first second)
   where
     compared : ((hs : List Frame) × (gs ≡ (before ++ message_frames message) ++ hs) × Leaves rest hs b) ⊎ ((hs : List Frame) × (before ++ message_frames message ≡ gs ++ hs) × Leaves b hs rest)
@@ -113,7 +115,7 @@ behind-told role before gs message from rest b ready first second more =
     compared (inl found) = found
     compared (inr (hs, same, left)) =
         ⊎_elim (nothing-more (before ++ message_frames message) gs hs rest b same left) (λ few. absurd (omega (arith, few, more)))
-        (part-behind role before gs hs message ready same)
+        (part-behind terms before gs hs message ready same)
 
 -- ---- a peer that was fed a whole message
 
@@ -134,13 +136,16 @@ message-next role fed given events greeting kept state rest message more is read
     st : IsStreaming role fed given greeting (Open []) (whole [])
     st = is.streaming
 
+    terms : Terms
+    terms = terms_of role greeting
+
     new : List ℕ
     new = message_octets message ++ more
 
     all : List Frame
     all = st.frames ++ message_frames message
 
-    ready : after role Opening st.frames ≡ Open []
+    ready : after terms Opening st.frames ≡ Open []
     ready = sym st.reached
 
     came : (o : List ℕ) → fed ++ o ≡ greeting ++ (st.stream ++ o)
@@ -164,41 +169,41 @@ message-next role fed given events greeting kept state rest message more is read
         leaves-append st.frames (message_frames message) (whole (st.stream ++ new)) (whole new) (whole more) (before-left new)
         (messages_are_read_back message more is.some is.within)
 
-    all-ready : after role Opening all ≡ Open []
+    all-ready : after terms Opening all ≡ Open []
     all-ready =
-        after-append role Opening st.frames (message_frames message) ∙ ap (λ (s : State). after role s (message_frames message)) ready
-        ∙ after-message role [] message is.some
+        after-append terms Opening st.frames (message_frames message) ∙ ap (λ (s : State). after terms s (message_frames message)) ready
+        ∙ after-message terms [] message is.some
 
-    all-told : told role Opening all ≡ given ++ Message message ∷ []
+    all-told : told terms Opening all ≡ given ++ Message message ∷ []
     all-told =
-        told-append role Opening st.frames (message_frames message)
-        ∙ ap (λ (s : State). told role Opening st.frames ++ told role s (message_frames message)) ready
-        ∙ ap (λ (es : List Event). told role Opening st.frames ++ es) (told-message role [] message is.some ∙ message-told role message is.told_whole)
+        told-append terms Opening st.frames (message_frames message)
+        ∙ ap (λ (s : State). told terms Opening st.frames ++ told terms s (message_frames message)) ready
+        ∙ ap (λ (es : List Event). told terms Opening st.frames ++ es) (told-message terms [] message is.some ∙ message-told role message is.told_whole)
         ∙ ap (λ (es : List Event). es ++ Message message ∷ []) (sym st.tells)
 
     -- what frames behind the message tell
-    events-are : (gs hs : List Frame) → gs ≡ all ++ hs → given ++ events ≡ told role Opening gs → events ≡ Message message ∷ told role (Open []) hs
+    events-are : (gs hs : List Frame) → gs ≡ all ++ hs → given ++ events ≡ told terms Opening gs → events ≡ Message message ∷ told terms (Open []) hs
     events-are gs hs same tells =
-        append_cancel_left given events (Message message ∷ told role (Open []) hs)
-        (tells ∙ ap (told role Opening) same ∙ told-append role Opening all hs ∙ ap (λ (s : State). told role Opening all ++ told role s hs) all-ready
-        ∙ ap (λ (es : List Event). es ++ told role (Open []) hs) all-told ∙ append_assoc given (Message message ∷ []) (told role (Open []) hs))
+        append_cancel_left given events (Message message ∷ told terms (Open []) hs)
+        (tells ∙ ap (told terms Opening) same ∙ told-append terms Opening all hs ∙ ap (λ (s : State). told terms Opening all ++ told terms s hs) all-ready
+        ∙ ap (λ (es : List Event). es ++ told terms (Open []) hs) all-told ∙ append_assoc given (Message message ∷ []) (told terms (Open []) hs))
 
     -- the same without the message
-    told-without : (hs : List Frame) → given ++ told role (Open []) hs ≡ told role Opening (st.frames ++ hs)
+    told-without : (hs : List Frame) → given ++ told terms (Open []) hs ≡ told terms Opening (st.frames ++ hs)
     told-without hs =
-        ap (λ (es : List Event). es ++ told role (Open []) hs) st.tells ∙ ap (λ (s : State). told role Opening st.frames ++ told role s hs) (sym ready)
-        ∙ sym (told-append role Opening st.frames hs)
+        ap (λ (es : List Event). es ++ told terms (Open []) hs) st.tells ∙ ap (λ (s : State). told terms Opening st.frames ++ told terms s hs) (sym ready)
+        ∙ sym (told-append terms Opening st.frames hs)
 
-    after-without : (gs hs : List Frame) → gs ≡ all ++ hs → after role Opening gs ≡ after role Opening (st.frames ++ hs)
+    after-without : (gs hs : List Frame) → gs ≡ all ++ hs → after terms Opening gs ≡ after terms Opening (st.frames ++ hs)
     after-without gs hs same =
-        ap (after role Opening) same ∙ after-append role Opening all hs ∙ ap (λ (s : State). after role s hs) (all-ready ∙ sym ready)
-        ∙ sym (after-append role Opening st.frames hs)
+        ap (after terms Opening) same ∙ after-append terms Opening all hs ∙ ap (λ (s : State). after terms s hs) (all-ready ∙ sym ready)
+        ∙ sym (after-append terms Opening st.frames hs)
 
     left-without : (hs : List Frame) (b : Rest) → Leaves (whole more) hs b → Leaves (whole (st.stream ++ more)) (st.frames ++ hs) b
     left-without hs b left = leaves-append st.frames hs (whole (st.stream ++ more)) (whole more) b (before-left more) left
 
     reads-without : (g : IsGreeted role (fed ++ new) (given ++ events) (ending_of state)) (hs : List Frame) → g.frames ≡ all ++ hs → Leaves (whole more) hs g.behind
-        → PeerReads role (fed ++ more) (given ++ told role (Open []) hs) (ending_of state)
+        → PeerReads role (fed ++ more) (given ++ told terms (Open []) hs) (ending_of state)
     reads-without g hs same left = inr (inr (record {
       complete = long more;
       greeting = st.of;
@@ -206,8 +211,10 @@ message-next role fed given events greeting kept state rest message more is read
       frames = st.frames ++ hs;
       behind = g.behind;
       left = subst (λ (o : List ℕ). Leaves (whole o) (st.frames ++ hs) g.behind) (sym (back more)) (left-without hs g.behind left);
-      tells = told-without hs;
-      ends = subst (λ (s : State). EndsIn s g.behind (ending_of state)) (after-without g.frames hs same) g.ends;
+      tells = subst (λ (o : List ℕ). given ++ told terms (Open []) hs ≡ told (terms_of role o) Opening (st.frames ++ hs)) (sym (front more)) (told-without hs);
+      ends = subst (λ (o : List ℕ). EndsIn (after (terms_of role o) Opening (st.frames ++ hs)) g.behind (ending_of state)) (sym (front more))
+          (subst (λ (s : State). EndsIn s g.behind (ending_of state)) (after-without g.frames hs same)
+          (subst (λ (o : List ℕ). EndsIn (after (terms_of role o) Opening g.frames) g.behind (ending_of state)) (front new) g.ends));
     }))
 
     streams-without : (es : List Event) → events ≡ Message message ∷ es → IsStreaming role (fed ++ new) (given ++ events) kept state rest
@@ -216,12 +223,14 @@ message-next role fed given events greeting kept state rest message more is read
         let same_greeting : kept ≡ greeting = sym (take-front kept u.stream u.complete) ∙ ap (take 64) (sym u.came) ∙ front new in
         let same_stream : u.stream ≡ st.stream ++ new = sym (drop-front kept u.stream u.complete) ∙ ap (drop 64) (sym u.came) ∙ back new in
         let left : Leaves (whole (st.stream ++ new)) u.frames rest = subst (λ (o : List ℕ). Leaves (whole o) u.frames rest) same_stream u.left in
-        let longer : length (told role Opening st.frames) < length (told role Opening u.frames) =
-        omega (arith, ap length (sym st.tells), ap length (sym u.tells), length-append given events, ap length next) in
-        let found = behind-told role st.frames u.frames message (whole (st.stream ++ new)) (whole more) rest ready all-left left longer in
-        let again : events ≡ Message message ∷ told role (Open []) found.0 = events-are u.frames found.0 found.1 u.tells in
-        let both : Message message ∷ es ≡ Message message ∷ told role (Open []) found.0 = sym next ∙ again in
-        let same_events : es ≡ told role (Open []) found.0 = cc both in
+        let reached : state ≡ after terms Opening u.frames = subst (λ (o : List ℕ). state ≡ after (terms_of role o) Opening u.frames) same_greeting u.reached in
+        let tells : given ++ events ≡ told terms Opening u.frames = subst (λ (o : List ℕ). given ++ events ≡ told (terms_of role o) Opening u.frames) same_greeting u.tells in
+        let longer : length (told terms Opening st.frames) < length (told terms Opening u.frames) =
+        omega (arith, ap length (sym st.tells), ap length (sym tells), length-append given events, ap length next) in
+        let found = behind-told terms st.frames u.frames message (whole (st.stream ++ new)) (whole more) rest ready all-left left longer in
+        let again : events ≡ Message message ∷ told terms (Open []) found.0 = events-are u.frames found.0 found.1 tells in
+        let both : Message message ∷ es ≡ Message message ∷ told terms (Open []) found.0 = sym next ∙ again in
+        let same_events : es ≡ told terms (Open []) found.0 = cc both in
         record {
           stream = st.stream ++ more;
           came = came more ∙ ap (λ (o : List ℕ). o ++ (st.stream ++ more)) (sym same_greeting);
@@ -230,8 +239,9 @@ message-next role fed given events greeting kept state rest message more is read
           welcome = u.welcome;
           frames = st.frames ++ found.0;
           left = left-without found.0 rest found.2;
-          reached = u.reached ∙ after-without u.frames found.0 found.1;
-          tells = ap (λ (es : List Event). given ++ es) same_events ∙ told-without found.0;
+          reached = subst (λ (o : List ℕ). state ≡ after (terms_of role o) Opening (st.frames ++ found.0)) (sym same_greeting) (reached ∙ after-without u.frames found.0 found.1);
+          tells = subst (λ (o : List ℕ). given ++ es ≡ told (terms_of role o) Opening (st.frames ++ found.0)) (sym same_greeting)
+              (ap (λ (es : List Event). given ++ es) same_events ∙ told-without found.0);
         }
 
     stays : (es : List Event) → events ≡ Message message ∷ es → IsAt role (fed ++ more) (given ++ es) kept state rest
@@ -247,9 +257,12 @@ message-next role fed given events greeting kept state rest message more is read
         absurd (welcome_or_refused greeting st.of refused.fault st.welcome (subst (λ (o : List ℕ). IsGreetingFault o refused.fault) (front new) refused.refused))
     by_reads (inr (inr g)) =
         let left : Leaves (whole (st.stream ++ new)) g.frames g.behind = subst (λ (o : List ℕ). Leaves (whole o) g.frames g.behind) (back new) g.left in
-        let found = behind-ended role all g.frames (whole (st.stream ++ new)) (whole more) g.behind (ending_of state) all-ready all-left left g.ends in
-        let next : events ≡ Message message ∷ told role (Open []) found.0 = events-are g.frames found.0 found.1 g.tells in
-        (told role (Open []) found.0, next, reads-without g found.0 found.1 found.2, stays (told role (Open []) found.0) next)
+        let ends : EndsIn (after terms Opening g.frames) g.behind (ending_of state) =
+        subst (λ (o : List ℕ). EndsIn (after (terms_of role o) Opening g.frames) g.behind (ending_of state)) (front new) g.ends in
+        let tells : given ++ events ≡ told terms Opening g.frames = subst (λ (o : List ℕ). given ++ events ≡ told (terms_of role o) Opening g.frames) (front new) g.tells in
+        let found = behind-ended terms all g.frames (whole (st.stream ++ new)) (whole more) g.behind (ending_of state) all-ready all-left left ends in
+        let next : events ≡ Message message ∷ told terms (Open []) found.0 = events-are g.frames found.0 found.1 tells in
+        (told terms (Open []) found.0, next, reads-without g found.0 found.1 found.2, stays (told terms (Open []) found.0) next)
 
 -- how a peer stands that was fed a message and what follows, and how it would stand without the message
 stands-next : (s t : Standing) (fed : List ℕ) (given events : List Event) (message : List (List ℕ)) (more : List ℕ)

@@ -16,6 +16,8 @@ use Rattle.zmtp_wire.specs.Frame.{Frame}
 use Rattle.zmtp_wire.specs.Stream.{Rest, whole, Takes, Leaves, IsPartial, IsFaultAt}
 use Rattle.zmtp_wire.proofs.Streams.{one_frame, one_fault_at, partial_or_frame, fault_or_frame, fault_or_partial}
 use Rattle.zmtp_peer.specs.declared.role.Role.{Role}
+use Rattle.zmtp_peer.specs.declared.terms.Terms.{Terms}
+use Rattle.zmtp_peer.specs.Terms.{terms_of}
 use Rattle.zmtp_peer.specs.Faults.{Fault, Wire}
 use Rattle.zmtp_peer.specs.Events.{Event, State, Opening, Open, Refused, after, told}
 use Rattle.zmtp_peer.specs.Reading.{Ending, Awaiting, Failing, EndsAt, EndsIn, PeerReads, Standing, Stands}
@@ -57,13 +59,13 @@ leaves-compare (f ∷ fs) (g ∷ gs) rest a b h k =
     longer_by f g same (inl (hs, e, l)) = inl (hs, ap (λ (x : Frame). x ∷ gs) (sym same) ∙ ap (λ (xs : List Frame). f ∷ xs) e, l)
     longer_by f g same (inr (hs, e, l)) = inr (hs, ap (λ (x : Frame). x ∷ fs) same ∙ ap (λ (xs : List Frame). g ∷ xs) e, l)
 
-pub refused-after : (role : Role) (fault : Fault) (fs : List Frame) → after role (Refused fault) fs ≡ Refused fault
-refused-after role fault [] = refl
-refused-after role fault (f ∷ fs) = refused-after role fault fs
+pub refused-after : (terms : Terms) (fault : Fault) (fs : List Frame) → after terms (Refused fault) fs ≡ Refused fault
+refused-after terms fault [] = refl
+refused-after terms fault (f ∷ fs) = refused-after terms fault fs
 
-refused-told : (role : Role) (fault : Fault) (fs : List Frame) → told role (Refused fault) fs ≡ []
-refused-told role fault [] = refl
-refused-told role fault (f ∷ fs) = refused-told role fault fs
+refused-told : (terms : Terms) (fault : Fault) (fs : List Frame) → told terms (Refused fault) fs ≡ []
+refused-told terms fault [] = refl
+refused-told terms fault (f ∷ fs) = refused-told terms fault fs
 
 one-end-at : (rest : Rest) (e d : Ending) → EndsAt rest e → EndsAt rest d → e ≡ d
 one-end-at rest e d (inl (p, a)) (inl (q, b)) = a ∙ sym b
@@ -83,28 +85,28 @@ nothing-behind rest b e (h ∷ hs) (inl (p, a)) l = absurd (partial_or_frame res
 nothing-behind rest b e (h ∷ hs) (inr (fault, p, a)) l = absurd (fault_or_frame fault rest h l.0 p l.1)
 
 -- frames behind those that end a reading tell nothing more
-going : (role : Role) (hs : List Frame) (a b : Rest) (e d : Ending) (s : State) → Leaves a hs b → EndsAt a e → EndsIn s a e → EndsIn (after role s hs) b d
-    → (told role s hs ≡ []) × (e ≡ d)
-going role hs a b e d s l at h k =
+going : (terms : Terms) (hs : List Frame) (a b : Rest) (e d : Ending) (s : State) → Leaves a hs b → EndsAt a e → EndsIn s a e → EndsIn (after terms s hs) b d
+    → (told terms s hs ≡ []) × (e ≡ d)
+going terms hs a b e d s l at h k =
     let none = nothing-behind a b e hs at l in (
-      ap (told role s) none.0,
-      one-end-in s a e d h (subst (λ (r : Rest). EndsIn s r d) none.1 (subst (λ (xs : List Frame). EndsIn (after role s xs) b d) none.0 k)),
+      ap (told terms s) none.0,
+      one-end-in s a e d h (subst (λ (r : Rest). EndsIn s r d) none.1 (subst (λ (xs : List Frame). EndsIn (after terms s xs) b d) none.0 k)),
     )
 
-ends-first : (role : Role) (hs : List Frame) (a b : Rest) (e d : Ending) (s : State) → Leaves a hs b → EndsIn s a e → EndsIn (after role s hs) b d
-    → (told role s hs ≡ []) × (e ≡ d)
-ends-first role hs a b e d Opening l h k = going role hs a b e d Opening l h h k
-ends-first role hs a b e d (Open held) l h k = going role hs a b e d (Open held) l h h k
-ends-first role hs a b e d (Refused fault) l h k =
-    (refused-told role fault hs, h ∙ sym (subst (λ (s : State). EndsIn s b d) (refused-after role fault hs) k))
+ends-first : (terms : Terms) (hs : List Frame) (a b : Rest) (e d : Ending) (s : State) → Leaves a hs b → EndsIn s a e → EndsIn (after terms s hs) b d
+    → (told terms s hs ≡ []) × (e ≡ d)
+ends-first terms hs a b e d Opening l h k = going terms hs a b e d Opening l h h k
+ends-first terms hs a b e d (Open held) l h k = going terms hs a b e d (Open held) l h h k
+ends-first terms hs a b e d (Refused fault) l h k =
+    (refused-told terms fault hs, h ∙ sym (subst (λ (s : State). EndsIn s b d) (refused-after terms fault hs) k))
 
 -- two readings of one stream, where the frames of the second go on
-one-way : (role : Role) (fs gs hs : List Frame) (a b : Rest) (e d : Ending) → gs ≡ fs ++ hs → Leaves a hs b → EndsIn (after role Opening fs) a e → EndsIn (after role Opening gs) b d
-    → (told role Opening fs ≡ told role Opening gs) × (e ≡ d)
-one-way role fs gs hs a b e d same l h k =
-    let k2 : EndsIn (after role (after role Opening fs) hs) b d = subst (λ (s : State). EndsIn s b d) (ap (after role Opening) same ∙ after-append role Opening fs hs) k in
-    let first = ends-first role hs a b e d (after role Opening fs) l h k2 in
-    (sym (append-nil (told role Opening fs)) ∙ ap (λ (es : List Event). told role Opening fs ++ es) (sym first.0) ∙ sym (told-append role Opening fs hs) ∙ ap (told role Opening) (sym same), first.1)
+one-way : (terms : Terms) (fs gs hs : List Frame) (a b : Rest) (e d : Ending) → gs ≡ fs ++ hs → Leaves a hs b → EndsIn (after terms Opening fs) a e → EndsIn (after terms Opening gs) b d
+    → (told terms Opening fs ≡ told terms Opening gs) × (e ≡ d)
+one-way terms fs gs hs a b e d same l h k =
+    let k2 : EndsIn (after terms (after terms Opening fs) hs) b d = subst (λ (s : State). EndsIn s b d) (ap (after terms Opening) same ∙ after-append terms Opening fs hs) k in
+    let first = ends-first terms hs a b e d (after terms Opening fs) l h k2 in
+    (sym (append-nil (told terms Opening fs)) ∙ ap (λ (es : List Event). told terms Opening fs ++ es) (sym first.0) ∙ sym (told-append terms Opening fs hs) ∙ ap (told terms Opening) (sym same), first.1)
 
 one-fault-of-greeting : (octets : List ℕ) (f g : WireFault) → IsGreetingFault octets f → IsGreetingFault octets g → f ≡ g
 one-fault-of-greeting octets BadSignature BadSignature h k = refl
@@ -139,10 +141,10 @@ one_reading role octets es fs e d (inr (inr h)) (inr (inr k)) = compared (leaves
   where
     compared : ((hs : List Frame) × (k.frames ≡ h.frames ++ hs) × Leaves h.behind hs k.behind) ⊎ ((hs : List Frame) × (h.frames ≡ k.frames ++ hs) × Leaves k.behind hs h.behind) → (es ≡ fs) × (e ≡ d)
     compared (inl (hs, same, l)) =
-        let both = one-way role h.frames k.frames hs h.behind k.behind e d same l h.ends k.ends in
+        let both = one-way (terms_of role (take 64 octets)) h.frames k.frames hs h.behind k.behind e d same l h.ends k.ends in
         (h.tells ∙ both.0 ∙ sym k.tells, both.1)
     compared (inr (hs, same, l)) =
-        let both = one-way role k.frames h.frames hs k.behind h.behind d e same l k.ends h.ends in
+        let both = one-way (terms_of role (take 64 octets)) k.frames h.frames hs k.behind h.behind d e same l k.ends h.ends in
         (h.tells ∙ sym both.0 ∙ sym k.tells, sym both.1)
 
 -- a greeting is welcome or refused
@@ -185,8 +187,9 @@ octets_are_read role octets each = by_length (cases_lt (length octets) 64)
   where
     greeted : 64 ≤ length octets → (g : Greeting) → IsGreeting (take 64 octets) g → (fs : List Frame) (end : End) → stream.Reads (drop 64 octets) fs end → (es : List Event) × (e : Ending) × PeerReads role octets es e
     greeted long g welcome fs end reads =
-        let ending = ending-in (after role Opening fs) reads.0 end reads.2 in
-        (told role Opening fs, ending.0, inr (inr (record { complete = long; greeting = g; welcome = welcome; frames = fs; behind = reads.0; left = reads.1; tells = refl; ends = ending.1 })))
+        let terms = terms_of role (take 64 octets) in
+        let ending = ending-in (after terms Opening fs) reads.0 end reads.2 in
+        (told terms Opening fs, ending.0, inr (inr (record { complete = long; greeting = g; welcome = welcome; frames = fs; behind = reads.0; left = reads.1; tells = refl; ends = ending.1 })))
 
     by_greeting : 64 ≤ length octets → ((g : Greeting) × IsGreeting (take 64 octets) g) ⊎ ((fault : WireFault) × IsGreetingFault (take 64 octets) fault) → (es : List Event) × (e : Ending) × PeerReads role octets es e
     by_greeting long (inl (g, welcome)) =

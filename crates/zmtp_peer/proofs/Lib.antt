@@ -12,3 +12,4 @@ pub mod LengthLemmas
 pub mod OpeningLemmas
 pub mod MessageLemmas
 pub mod FedMessages
+pub mod SubscribingLemmas

@@ -10,6 +10,8 @@ use Rattle.zmtp_wire.specs.Stream.{Rest, whole, Leaves}
 use Rattle.zmtp_wire.proofs.Streams.{longer, leaves_longer, faults_stay}
 use Rattle.std.proofs.lemmas.List.{take-append-le, drop-append-le}
 use Rattle.zmtp_peer.specs.declared.role.Role.{Role}
+use Rattle.zmtp_peer.specs.declared.terms.Terms.{Terms}
+use Rattle.zmtp_peer.specs.Terms.{terms_of}
 use Rattle.zmtp_peer.specs.Faults.{Fault, Wire}
 use Rattle.zmtp_peer.specs.Events.{Event, State, Opening, Open, Refused, after, told}
 use Rattle.zmtp_peer.specs.Intake.{IsRefusal, EndsFrames}
@@ -66,18 +68,19 @@ at-parts role octets given greeting (Refused fault) rest going h = absurd (going
 
 -- one more piece of a stream, behind a greeting and frames
 reads-more : (role : Role) (octets greeting stream piece : List ℕ) (g : Greeting) (frames : List Frame) (rest behind : Rest) (state new : State) (events : List Event)
-    → octets ≡ greeting ++ (stream ++ piece) → length greeting ≡ 64 → IsGreeting greeting g → Leaves (whole stream) frames rest → state ≡ after role Opening frames
-    → ReadsPiece role (longer rest piece) state behind new events
-    → PeerReads role octets (told role Opening frames ++ events) (ending_of new) × IsAt role octets (told role Opening frames ++ events) greeting new behind
+    → octets ≡ greeting ++ (stream ++ piece) → length greeting ≡ 64 → IsGreeting greeting g → Leaves (whole stream) frames rest → state ≡ after (terms_of role greeting) Opening frames
+    → ReadsPiece (terms_of role greeting) (longer rest piece) state behind new events
+    → PeerReads role octets (told (terms_of role greeting) Opening frames ++ events) (ending_of new) × IsAt role octets (told (terms_of role greeting) Opening frames ++ events) greeting new behind
 reads-more role octets greeting stream piece g frames rest behind state new events came complete welcome left at r =
+    let terms = terms_of role greeting in
     let all : List Frame = frames ++ r.frames in
     let front : take 64 octets ≡ greeting = ap (take 64) came ∙ take-front greeting (stream ++ piece) complete in
     let back : drop 64 octets ≡ stream ++ piece = ap (drop 64) came ∙ drop-front greeting (stream ++ piece) complete in
     let long : 64 ≤ length octets = omega (arith, ap length came, length-append greeting (stream ++ piece)) in
     let leaves : Leaves (whole (stream ++ piece)) all behind = leaves-append frames r.frames (whole (stream ++ piece)) (longer rest piece) behind (leaves_longer frames (whole stream) rest piece left) r.left in
-    let states : after role Opening all ≡ after role state r.frames = after-append role Opening frames r.frames ∙ ap (λ s. after role s r.frames) (sym at) in
-    let tells : told role Opening frames ++ events ≡ told role Opening all =
-    ap (λ es. told role Opening frames ++ es) (r.told ∙ ap (λ s. told role s r.frames) at) ∙ sym (told-append role Opening frames r.frames) in (
+    let states : after terms Opening all ≡ after terms state r.frames = after-append terms Opening frames r.frames ∙ ap (λ s. after terms s r.frames) (sym at) in
+    let tells : told terms Opening frames ++ events ≡ told terms Opening all =
+    ap (λ es. told terms Opening frames ++ es) (r.told ∙ ap (λ s. told terms s r.frames) at) ∙ sym (told-append terms Opening frames r.frames) in (
       inr (inr (record {
         complete = long;
         greeting = g;
@@ -85,10 +88,11 @@ reads-more role octets greeting stream piece g frames rest behind state new even
         frames = all;
         behind = behind;
         left = subst (λ (o : List ℕ). Leaves (whole o) all behind) (sym back) leaves;
-        tells = tells;
-        ends = subst (λ (s : State). EndsIn s behind (ending_of new)) (sym states) (ends-in (after role state r.frames) new behind r.ends);
+        tells = subst (λ (o : List ℕ). told terms Opening frames ++ events ≡ told (terms_of role o) Opening all) (sym front) tells;
+        ends = subst (λ (o : List ℕ). EndsIn (after (terms_of role o) Opening all) behind (ending_of new)) (sym front)
+            (subst (λ (s : State). EndsIn s behind (ending_of new)) (sym states) (ends-in (after terms state r.frames) new behind r.ends));
       })),
-      at-make role octets (told role Opening frames ++ events) greeting new behind (λ going. inr (record {
+      at-make role octets (told terms Opening frames ++ events) greeting new behind (λ going. inr (record {
         stream = stream ++ piece;
         came = came;
         complete = complete;
@@ -96,7 +100,7 @@ reads-more role octets greeting stream piece g frames rest behind state new even
         welcome = welcome;
         frames = all;
         left = leaves;
-        reached = reached (after role state r.frames) new behind r.ends going ∙ sym states;
+        reached = reached (after terms state r.frames) new behind r.ends going ∙ sym states;
         tells = tells;
       })),
     )
@@ -118,27 +122,33 @@ failing-stays role octets more given fault (inr (inl refused)) = inr (inl (recor
   quiet = refused.quiet;
   fails = refused.fails;
 }))
-failing-stays role octets more given fault (inr (inr greeted)) = by_state (after role Opening greeted.frames) greeted.ends refl
+failing-stays role octets more given fault (inr (inr greeted)) = by_state (after terms Opening greeted.frames) greeted.ends refl
   where
-    made : (behind : Rest) → Leaves (whole (drop 64 octets ++ more)) greeted.frames behind → EndsIn (after role Opening greeted.frames) behind (Failing fault) → PeerReads role (octets ++ more) given (Failing fault)
+    terms : Terms
+    terms = terms_of role (take 64 octets)
+
+    front : take 64 octets ≡ take 64 (octets ++ more)
+    front = sym (take-append-le 64 octets more greeted.complete)
+
+    made : (behind : Rest) → Leaves (whole (drop 64 octets ++ more)) greeted.frames behind → EndsIn (after terms Opening greeted.frames) behind (Failing fault) → PeerReads role (octets ++ more) given (Failing fault)
     made behind left ends = inr (inr (record {
       complete = omega (arith, greeted.complete, length-append octets more);
       greeting = greeted.greeting;
-      welcome = subst (λ (o : List ℕ). IsGreeting o greeted.greeting) (sym (take-append-le 64 octets more greeted.complete)) greeted.welcome;
+      welcome = subst (λ (o : List ℕ). IsGreeting o greeted.greeting) front greeted.welcome;
       frames = greeted.frames;
       behind = behind;
       left = subst (λ (o : List ℕ). Leaves (whole o) greeted.frames behind) (sym (drop-append-le 64 octets more greeted.complete)) left;
-      tells = greeted.tells;
-      ends = ends;
+      tells = subst (λ (o : List ℕ). given ≡ told (terms_of role o) Opening greeted.frames) front greeted.tells;
+      ends = subst (λ (o : List ℕ). EndsIn (after (terms_of role o) Opening greeted.frames) behind (Failing fault)) front ends;
     }))
 
-    at_end : EndsAt greeted.behind (Failing fault) → ((behind : Rest) → EndsAt behind (Failing fault) → EndsIn (after role Opening greeted.frames) behind (Failing fault)) → PeerReads role (octets ++ more) given (Failing fault)
+    at_end : EndsAt greeted.behind (Failing fault) → ((behind : Rest) → EndsAt behind (Failing fault) → EndsIn (after terms Opening greeted.frames) behind (Failing fault)) → PeerReads role (octets ++ more) given (Failing fault)
     at_end (inl (partial, awaits)) here = absurd (clash fault awaits)
     at_end (inr (wrong, is, fails)) here =
         let stays = faults_stay (drop 64 octets) more greeted.frames wrong (greeted.behind, greeted.left, is) in
         made stays.0 stays.1 (here stays.0 (inr (wrong, stays.2, fails)))
 
-    by_state : (s : State) → EndsIn s greeted.behind (Failing fault) → s ≡ after role Opening greeted.frames → PeerReads role (octets ++ more) given (Failing fault)
+    by_state : (s : State) → EndsIn s greeted.behind (Failing fault) → s ≡ after terms Opening greeted.frames → PeerReads role (octets ++ more) given (Failing fault)
     by_state Opening ends same = at_end ends (λ behind h. subst (λ (s : State). EndsIn s behind (Failing fault)) same h)
     by_state (Open held) ends same = at_end ends (λ behind h. subst (λ (s : State). EndsIn s behind (Failing fault)) same h)
     by_state (Refused before) ends same = made (longer greeted.behind more) (leaves_longer greeted.frames (whole (drop 64 octets)) greeted.behind more greeted.left) (subst (λ (s : State). EndsIn s (longer greeted.behind more) (Failing fault)) same ends)
@@ -215,7 +225,7 @@ stands-unwelcome role greeting state rest table room front stream new fault is c
 -- a peer that read a piece
 pub stands-read : (role : Role) (greeting : List ℕ) (state : State) (rest : Rest) (table : List (List ℕ × ℕ)) (room : Room) (front stream new : List ℕ) (g : Greeting) (next : State) (behind : Rest) (after_table : List (List ℕ × ℕ)) (later : Room) (events : List Event)
     → new ≡ greeting ++ front → length new ≡ 64 → IsGreeting new g → ¬ (IsRefusal state)
-    → ReadsPiece role (longer rest stream) state behind next events
+    → ReadsPiece (terms_of role new) (longer rest stream) state behind next events
     → ((q : List ℕ) → count_in after_table q ≡ counted_all q (count_in table q) events)
     → Brings (standing role greeting state rest table room) (front ++ stream) events (standing role new next behind after_table later)
 stands-read role greeting state rest table room front stream new g next behind after_table later events is complete welcome going reads counts fed given h =
@@ -241,11 +251,13 @@ stands-read role greeting state rest table room front stream new g next behind a
         let kept : new ≡ greeting = is ∙ ap (λ (o : List ℕ). greeting ++ o) none ∙ append-nil greeting in
         let same : fed ++ (front ++ stream) ≡ new ++ (streaming.stream ++ stream) =
         ap (λ (o : List ℕ). fed ++ (o ++ stream)) none ∙ ap (λ (o : List ℕ). o ++ stream) streaming.came ∙ append_assoc greeting streaming.stream stream ∙ ap (λ (o : List ℕ). o ++ (streaming.stream ++ stream)) (sym kept) in
-        made (told role Opening streaming.frames) (sym streaming.tells) (reads-more role (fed ++ (front ++ stream)) new streaming.stream stream g streaming.frames rest behind state next events same complete welcome streaming.left streaming.reached reads)
+        made (told (terms_of role new) Opening streaming.frames) (ap (λ (o : List ℕ). told (terms_of role o) Opening streaming.frames) kept ∙ sym streaming.tells)
+        (reads-more role (fed ++ (front ++ stream)) new streaming.stream stream g streaming.frames rest behind state next events same complete welcome streaming.left
+        (subst (λ (o : List ℕ). state ≡ after (terms_of role o) Opening streaming.frames) (sym kept) streaming.reached) reads)
 
 -- a peer that read a piece behind its greeting
 pub stands-on : (role : Role) (greeting : List ℕ) (state : State) (rest : Rest) (table : List (List ℕ × ℕ)) (room : Room) (stream new : List ℕ) (next : State) (behind : Rest) (after_table : List (List ℕ × ℕ)) (later : Room) (events : List Event)
-    → new ≡ greeting → length greeting ≡ 64 → ¬ (IsRefusal state) → ReadsPiece role (longer rest stream) state behind next events
+    → new ≡ greeting → length greeting ≡ 64 → ¬ (IsRefusal state) → ReadsPiece (terms_of role new) (longer rest stream) state behind next events
     → ((q : List ℕ) → count_in after_table q ≡ counted_all q (count_in table q) events)
     → Brings (standing role greeting state rest table room) stream events (standing role new next behind after_table later)
 stands-on role greeting state rest table room stream new next behind after_table later events same complete going reads counts fed given h =

@@ -1,5 +1,5 @@
 -- Which faults refuse a peer, and that want of memory is none of them.
-use Rattle.std.proofs.Common.{◌≡◌, ℕ, ◌+◌, Bool, true, false, cond, List, [], ◌∷◌, ◌++◌, Option, Some, None, Result, Ok, Err, IfOk, IfErr, length, take, refl, sym, subst, ◌∙◌, arith, inl, inr}
+use Rattle.std.proofs.Common.{◌≡◌, ℕ, ◌+◌, Bool, true, false, ◌&&◌, cond, List, [], ◌∷◌, ◌++◌, Option, Some, None, Result, Ok, Err, IfOk, IfErr, length, take, refl, sym, subst, ◌∙◌, arith, inl, inr}
 use Rattle.std.proofs.lemmas.List.{take_all}
 use Rattle.std.specs.Str.{bytes_eq}
 use Rattle.std.proofs.Common.{codes}
@@ -9,14 +9,15 @@ use Rattle.zmtp_wire.specs.Greeting.{IsGreetingFault}
 use Rattle.zmtp_wire.specs.Frame.{Frame}
 use Rattle.zmtp_wire.specs.Stream.{Rest, IsFaultAt}
 use Rattle.zmtp_peer.specs.declared.role.Role.{Role}
+use Rattle.zmtp_peer.specs.declared.terms.Terms.{Terms}
 use Rattle.zmtp_peer.specs.declared.fault.PeerFault.{PeerFault}
 use Rattle.zmtp_peer.specs.declared.intake.Stage.{Stage}
 use Rattle.zmtp_peer.specs.declared.intake.Stage.TheVariants as stage
 use Rattle.zmtp_peer.specs.Roles.{is_partner}
-use Rattle.zmtp_peer.specs.Commands.{command_of, reason_of, announced}
-use Rattle.zmtp_peer.specs.Faults.{Fault, Wire, NoSocketType, WrongPair, BadMetadata, PeerError, NotReady, want_of_memory}
-use Rattle.zmtp_peer.specs.Handshake.{error_of, refusal_of, first_refusal, later_refusal}
-use Rattle.zmtp_peer.specs.Events.{Event, State, Opening, Open, Refused, unless, after_frame, after}
+use Rattle.zmtp_peer.specs.Commands.{command_of, reason_of, context_of, announced}
+use Rattle.zmtp_peer.specs.Faults.{Fault, Wire, NoSocketType, WrongPair, BadMetadata, PeerError, NotReady, BadPing, want_of_memory}
+use Rattle.zmtp_peer.specs.Handshake.{error_of, refusal_of, first_refusal}
+use Rattle.zmtp_peer.specs.Events.{Event, Subscribe, Cancel, Ping, State, Opening, Open, Refused, Later, Passed, Telling, Refusal, publishes, ping_told, newer_told, behind_ready, unless, after_later, after_frame, after}
 use Rattle.zmtp_peer.specs.Intake.{IsRefusal, EndsFrames, state_at}
 use Rattle.zmtp_peer.specs.Connection.{ReadsPiece}
 
@@ -28,6 +29,7 @@ IsOwnFault WrongPair = Unit {0}
 IsOwnFault BadMetadata = Unit {0}
 IsOwnFault (PeerError reason) = Unit {0}
 IsOwnFault NotReady = Unit {0}
+IsOwnFault BadPing = Unit {0}
 
 abbrev pub IsOwn : Option Fault → Type 0
 IsOwn None = Unit {0}
@@ -73,16 +75,48 @@ own-first role body = by_command (command_of body)
         (own-refusal role (announced command.1))
         (own-either (bytes_eq command.0 (codes "ERROR")) (Some (error_of command.1)) (Some NotReady) (own-error command.1) tt)
 
-own-later : (body : List ℕ) → IsOwn (later_refusal body)
-unfolding later_refusal
-own-later body = by_command (command_of body)
+-- a command behind READY ends the connection for a fault of its own
+abbrev IsOwnLater : Later → Type 0
+IsOwnLater Passed = Unit {0}
+IsOwnLater (Telling event) = Unit {0}
+IsOwnLater (Refusal fault) = IsOwnFault fault
+
+later-either : (b : Bool) (x y : Later) → IsOwnLater x → IsOwnLater y → IsOwnLater (cond b x y)
+later-either true x y h k = h
+later-either false x y h k = k
+
+own-ping : (octets : List ℕ) → IsOwnLater (ping_told octets)
+unfolding ping_told
+own-ping octets = by_context (context_of octets)
   where
-    by_command : (o : Option (List ℕ × List ℕ)) → IsOwn (elim o [
-      | None ↦ None
-      | Some command ↦ cond (bytes_eq command.0 (codes "ERROR")) (Some (error_of command.1)) None
+    by_context : (o : Option (List ℕ)) → IsOwnLater (elim o [ None ↦ Refusal BadPing | Some context ↦ Telling (Ping context) ])
+    by_context None = tt
+    by_context (Some context) = tt
+
+own-newer : (role : Role) (name octets : List ℕ) → IsOwnLater (newer_told role name octets)
+own-newer role name octets =
+    let last = later-either (publishes role && bytes_eq name (codes "CANCEL")) (Telling (Cancel octets)) Passed tt tt in
+    later-either (bytes_eq name (codes "PING")) (ping_told octets) _ (own-ping octets)
+    (later-either (publishes role && bytes_eq name (codes "SUBSCRIBE")) (Telling (Subscribe octets)) _ tt last)
+
+own-later : (terms : Terms) (body : List ℕ) → IsOwnLater (behind_ready terms body)
+unfolding behind_ready
+own-later terms body = by_command (command_of body)
+  where
+    by_command : (o : Option (List ℕ × List ℕ)) → IsOwnLater (elim o [
+      | None ↦ Passed
+      | Some command ↦ cond (bytes_eq command.0 (codes "ERROR")) (Refusal (error_of command.1)) (cond terms.newer (newer_told terms.role command.0 command.1) Passed)
     ])
     by_command None = tt
-    by_command (Some command) = own-either (bytes_eq command.0 (codes "ERROR")) (Some (error_of command.1)) None (own-error command.1) tt
+    by_command (Some command) =
+        later-either (bytes_eq command.0 (codes "ERROR")) (Refusal (error_of command.1)) (cond terms.newer (newer_told terms.role command.0 command.1) Passed)
+        (own-error command.1)
+        (later-either terms.newer (newer_told terms.role command.0 command.1) Passed (own-newer terms.role command.0 command.1) tt)
+
+own-after-later : (held : List (List ℕ)) (l : Later) → IsOwnLater l → IsOwnState (after_later held l)
+own-after-later held Passed h = tt
+own-after-later held (Telling event) h = tt
+own-after-later held (Refusal fault) h = h
 
 own-unless : (o : Option Fault) (s : State) → IsOwn o → IsOwnState s → IsOwnState (unless o s)
 own-unless None s h k = k
@@ -92,17 +126,19 @@ own-state-either : (b : Bool) (x y : State) → IsOwnState x → IsOwnState y �
 own-state-either true x y h k = h
 own-state-either false x y h k = k
 
-own-frame : (role : Role) (s : State) (f : Frame) → IsOwnState s → IsOwnState (after_frame role s f)
-own-frame role Opening f h = own-state-either f.command (unless (first_refusal role f.body) (Open [])) (Refused NotReady) (own-unless (first_refusal role f.body) (Open []) (own-first role f.body) tt) tt
-own-frame role (Open held) f h =
-    own-state-either f.command (unless (later_refusal f.body) (Open held)) (cond f.more (Open (held ++ f.body ∷ [])) (Open []))
-    (own-unless (later_refusal f.body) (Open held) (own-later f.body) tt)
+own-frame : (terms : Terms) (s : State) (f : Frame) → IsOwnState s → IsOwnState (after_frame terms s f)
+own-frame terms Opening f h =
+    own-state-either f.command (unless (first_refusal terms.role f.body) (Open [])) (Refused NotReady)
+    (own-unless (first_refusal terms.role f.body) (Open []) (own-first terms.role f.body) tt) tt
+own-frame terms (Open held) f h =
+    own-state-either f.command (after_later held (behind_ready terms f.body)) (cond f.more (Open (held ++ f.body ∷ [])) (Open []))
+    (own-after-later held (behind_ready terms f.body) (own-later terms f.body))
     (own-state-either f.more (Open (held ++ f.body ∷ [])) (Open []) tt tt)
-own-frame role (Refused fault) f h = h
+own-frame terms (Refused fault) f h = h
 
-pub own-after : (role : Role) (s : State) (fs : List Frame) → IsOwnState s → IsOwnState (after role s fs)
-own-after role s [] h = h
-own-after role s (f ∷ fs) h = own-after role (after_frame role s f) fs (own-frame role s f h)
+pub own-after : (terms : Terms) (s : State) (fs : List Frame) → IsOwnState s → IsOwnState (after terms s fs)
+own-after terms s [] h = h
+own-after terms s (f ∷ fs) h = own-after terms (after_frame terms s f) fs (own-frame terms s f h)
 
 own-going : (s : State) → ¬ (IsRefusal s) → IsOwnState s
 own-going Opening h = tt
@@ -115,13 +151,13 @@ wire-memory fault behind is h =
     subst (λ (f : WireFault). IsFaultAt behind f) same is
 
 -- want of memory refuses nobody
-pub never-memory : (role : Role) (rest behind : Rest) (old new : State) (events : List Event) → ReadsPiece role rest old behind new events → ¬ (IsRefusal old) → new ≡ Refused want_of_memory → ⊥
-never-memory role rest behind old new events r going same = by_end r.ends
+pub never-memory : (terms : Terms) (rest behind : Rest) (old new : State) (events : List Event) → ReadsPiece terms rest old behind new events → ¬ (IsRefusal old) → new ≡ Refused want_of_memory → ⊥
+never-memory terms rest behind old new events r going same = by_end r.ends
   where
-    own : IsOwnState (after role old r.frames)
-    own = own-after role old r.frames (own-going old going)
+    own : IsOwnState (after terms old r.frames)
+    own = own-after terms old r.frames (own-going old going)
 
-    by_end : EndsFrames (after role old r.frames) new behind → ⊥
+    by_end : EndsFrames (after terms old r.frames) new behind → ⊥
     by_end (inl (partial, is, not)) = not (subst IsRefusal (sym same) tt)
     by_end (inr (inl (is, refusal))) = subst IsOwnState (sym is ∙ same) own
     by_end (inr (inr (fault, is, not, refused))) = wire-memory fault behind is (sym refused ∙ same)

@@ -14,14 +14,14 @@ use Rattle.zmtp_peer.specs.Reading.{Room, ReservesFor, held_in}
 -- one more frame
 pub grows-more : (n m : ℕ) (a b c : Intake) → GrowsBy n a b → GrowsBy 1 b c → n + 1 ≤ m → GrowsBy m a c
 grows-more n m a b c g h less = record {
-  whole = omega (arith, g.whole, h.whole);
+  brought = omega (arith, g.brought, h.brought);
   held = omega (arith, g.held, h.held);
   room = omega (arith, g.held, g.room, h.room);
 }
 
 -- no more than more
 pub grows-within : (n m : ℕ) (a b : Intake) → GrowsBy n a b → n ≤ m → GrowsBy m a b
-grows-within n m a b g less = record { whole = omega (arith, g.whole); held = omega (arith, g.held); room = omega (arith, g.room) }
+grows-within n m a b g less = record { brought = omega (arith, g.brought); held = omega (arith, g.held); room = omega (arith, g.room) }
 
 -- more octets came, and fewer events
 pub reserves-within : (octets more frames : ℕ) (old new : Room) (events : ℕ) → ReservesFor octets frames old new events → octets ≤ more → ReservesFor more frames old new events

@@ -19,7 +19,9 @@ use Rattle.std.specs.declared.alloc.Global.{Global}
 use Rattle.std.specs.declared.vec.Vec.{Vec}
 use Rattle.std.proofs.lemmas.Map.Text.{is_eq-slice_cmp}
 use Rattle.std.proofs.lemmas.Slice.Eq.{bytes_eq-Decides}
-use Rattle.zmtp_peer.specs.Events.{Event, Ready, Message, Subscribe, Cancel, event_of, events_of, bodies, message_told}
+use Rattle.zmtp_peer.specs.Events.{Event, Ready, Message, Subscribe, Cancel, Ping, event_of, events_of}
+use Rattle.zmtp_peer.specs.declared.brought.Brought as code
+use Rattle.zmtp_peer.specs.Brought.{Brought, brought_of, brought_told}
 use Rattle.zmtp_peer.specs.Subscriptions.{place_of, count_in, counted, counted_all, IsRoomFor, HasRoom, HasWanted}
 use Rattle.zmtp_peer.specs.Table.{table_of, is_key}
 
@@ -190,6 +192,7 @@ room-less n m t u (Subscribe p) h places counts = (places p h.0, omega (arith, h
 room-less n m t u (Cancel p) h places counts = tt
 room-less n m t u Ready h places counts = tt
 room-less n m t u (Message frames) h places counts = tt
+room-less n m t u (Ping context) h places counts = tt
 
 pub rooms-less : (n m : ℕ) (t u : List (List ℕ × ℕ)) (es : List Event) → HasRoom n t es
     → ((q : List ℕ) → is_some (place_of t q) ≡ true → is_some (place_of u q) ≡ true) → ((q : List ℕ) → count_in u q + m ≤ count_in t q + n) → HasRoom m u es
@@ -210,6 +213,7 @@ counted-most q n (Cancel p) = by_test (bytes_eq q p)
     by_test false = omega arith
 counted-most q n Ready = omega arith
 counted-most q n (Message frames) = omega arith
+counted-most q n (Ping context) = omega arith
 
 -- one event further on in a list of them
 pub rooms-step : (es : List PeerEvent) (i : ℕ) (e : PeerEvent) (t u : List (List ℕ × ℕ)) → i < length es → e ≡ get_or es i e
@@ -273,20 +277,20 @@ added-here p t u h = ap is_some (h p) ∙ by_place (place_of t p) (bytes_eq p p)
     by_place None false h = cc
     by_place (Some n) b h = refl
 
--- one message further on in a list of them
-pub reserved-step : (role : Role) (ms : List (Vec (Vec ℕ Global) Global)) (i n : ℕ) (m : Vec (Vec ℕ Global) Global) (t u : List (List ℕ × ℕ)) → i < length ms → m ≡ get_or ms i m
-    → HasRoom n t (flat_map (message_told role) (map (λ message. bodies message.items) (take i ms)))
+-- one message or command further on in a list of them
+pub reserved-step : (role : Role) (ms : List code.Brought) (i n : ℕ) (m : code.Brought) (t u : List (List ℕ × ℕ)) → i < length ms → m ≡ get_or ms i m
+    → HasRoom n t (flat_map (brought_told role) (map brought_of (take i ms)))
     → ((q : List ℕ) → is_some (place_of t q) ≡ true → is_some (place_of u q) ≡ true) → ((q : List ℕ) → count_in u q ≡ count_in t q)
-    → HasRoom n u (message_told role (bodies m.items))
-    → HasRoom n u (flat_map (message_told role) (map (λ message. bodies message.items) (take (i + 1) ms)))
+    → HasRoom n u (brought_told role (brought_of m))
+    → HasRoom n u (flat_map (brought_told role) (map brought_of (take (i + 1) ms)))
 reserved-step role ms i n m t u h is room places counts now =
-    let told : List (Vec (Vec ℕ Global) Global) → List Event = λ xs. flat_map (message_told role) (map (λ message. bodies message.items) xs) in
+    let told : List code.Brought → List Event = λ xs. flat_map (brought_told role) (map brought_of xs) in
     let before : HasRoom n u (told (take i ms)) = rooms-less n n t u (told (take i ms)) room places (λ q. omega (arith, counts q)) in
-    let joined : told (take (i + 1) ms) ≡ told (take i ms) ++ message_told role (bodies m.items) =
-    ap told (take_more ms i m h ∙ ap (λ x. take i ms ++ x ∷ []) (sym is)) ∙ ap (flat_map (message_told role)) (map-append (λ (message : Vec (Vec ℕ Global) Global). bodies message.items) (take i ms) (m ∷ []))
-    ∙ flat_map-append (message_told role) (map (λ (message : Vec (Vec ℕ Global) Global). bodies message.items) (take i ms)) (bodies m.items ∷ [])
-    ∙ ap (λ es. told (take i ms) ++ es) (append-nil (message_told role (bodies m.items))) in
-    subst (HasRoom n u) (sym joined) (rooms-append n u (told (take i ms)) (message_told role (bodies m.items)) before now)
+    let joined : told (take (i + 1) ms) ≡ told (take i ms) ++ brought_told role (brought_of m) =
+    ap told (take_more ms i m h ∙ ap (λ x. take i ms ++ x ∷ []) (sym is)) ∙ ap (flat_map (brought_told role)) (map-append brought_of (take i ms) (m ∷ []))
+    ∙ flat_map-append (brought_told role) (map brought_of (take i ms)) (brought_of m ∷ [])
+    ∙ ap (λ es. told (take i ms) ++ es) (append-nil (brought_told role (brought_of m))) in
+    subst (HasRoom n u) (sym joined) (rooms-append n u (told (take i ms)) (brought_told role (brought_of m)) before now)
 
 -- READY needs no room
 pub told-room : (n m : ℕ) (t : List (List ℕ × ℕ)) (ready : Bool) (es : List Event) → HasRoom n t es → m ≤ n → HasRoom m t ((if ready then Ready ∷ [] else []) ++ es)

@@ -14,7 +14,9 @@ use Rattle.std.proofs.lemmas.List.Folds.{list_any-append, list_any_more}
 use mathlib.Core.Logic.{⊎_elim}
 use Rattle.zmtp_peer.specs.declared.event.PeerEvent.{PeerEvent}
 use Rattle.zmtp_peer.specs.declared.role.Role.{Role}
-use Rattle.zmtp_peer.specs.Events.{Event, Ready, Message, Subscribe, Cancel, event_of, events_of, bodies, message_told}
+use Rattle.zmtp_peer.specs.Events.{Event, Ready, Message, Subscribe, Cancel, Ping, event_of, events_of}
+use Rattle.zmtp_peer.specs.declared.brought.Brought as code
+use Rattle.zmtp_peer.specs.Brought.{Brought, brought_of, brought_told}
 use Rattle.zmtp_peer.specs.Subscriptions.{place_of, count_in, HasRoom, IsIdle, IsTidy, AddsIdle, DropsIdle, subscribes, names, is_named, is_asked}
 use Rattle.zmtp_peer.specs.Table.{table_of, is_key}
 use Rattle.zmtp_peer.proofs.TableLemmas.{keys_cmp, changed, Sets}
@@ -97,7 +99,7 @@ drops-all {X} among xs n t u whole drops q idle =
     let here = drops q idle in
     (here.0, ap (list_any (λ y. among y q)) (sym (take_all n xs whole)) ∙ here.1)
 
--- ---- from messages to the events that they tell
+-- ---- from messages and commands to the events that they tell
 
 any-map : {X Y : Type 0} (p : Y → Bool) (f : X → Y) (xs : List X) → list_any p (map f xs) ≡ list_any (λ x. p (f x)) xs
 any-map p f [] = refl
@@ -117,18 +119,19 @@ names-subscribed q (Subscribe p ∷ es) h = by_test (bytes_eq q p) h (λ more. n
 names-subscribed q (Cancel p ∷ es) h = or_other (bytes_eq q p) _ (names-subscribed q es h)
 names-subscribed q (Ready ∷ es) h = names-subscribed q es h
 names-subscribed q (Message frames ∷ es) h = names-subscribed q es h
+names-subscribed q (Ping context ∷ es) h = names-subscribed q es h
 
--- what a message subscribes to, one of the events names
-pub asked-named : (role : Role) (ready : Bool) (messages : List (Vec (Vec ℕ Global) Global)) (events : List PeerEvent) (q : List ℕ)
-    → events_of events ≡ (if ready then Ready ∷ [] else []) ++ flat_map (message_told role) (map (λ message. bodies message.items) messages)
-    → is_asked role messages q ≡ true → is_named events q ≡ true
-asked-named role ready messages events q told asked =
+-- what a message or a command subscribes to, one of the events names
+pub asked-named : (role : Role) (ready : Bool) (items : List code.Brought) (events : List PeerEvent) (q : List ℕ)
+    → events_of events ≡ (if ready then Ready ∷ [] else []) ++ flat_map (brought_told role) (map brought_of items)
+    → is_asked role items q ≡ true → is_named events q ≡ true
+asked-named role ready items events q told asked =
     let front : List Event = if ready then Ready ∷ [] else [] in
-    let seen : List (List (List ℕ)) = map (λ (message : Vec (Vec ℕ Global) Global). bodies message.items) messages in
-    let flat : List Event = flat_map (message_told role) seen in
+    let seen : List Brought = map brought_of items in
+    let flat : List Event = flat_map (brought_told role) seen in
     let among : list_any (subscribes q) flat ≡ true =
-    any-flat (subscribes q) (message_told role) seen
-    ∙ any-map (λ (m : List (List ℕ)). list_any (subscribes q) (message_told role m)) (λ (message : Vec (Vec ℕ Global) Global). bodies message.items) messages ∙ asked in
+    any-flat (subscribes q) (brought_told role) seen
+    ∙ any-map (λ (m : Brought). list_any (subscribes q) (brought_told role m)) brought_of items ∙ asked in
     sym (any-map (names q) event_of events) ∙ ap (list_any (names q)) told ∙ list_any-append (names q) front flat
     ∙ or_other (list_any (names q) front) (list_any (names q) flat) (names-subscribed q flat among)
 
@@ -139,8 +142,9 @@ none-asked q (Subscribe p ∷ es) room = absurd (false≢true room.0.0)
 none-asked q (Cancel p ∷ es) room = none-asked q es room.1
 none-asked q (Ready ∷ es) room = none-asked q es room.1
 none-asked q (Message frames ∷ es) room = none-asked q es room.1
+none-asked q (Ping context ∷ es) room = none-asked q es room.1
 
--- places that were made for messages, and were given up or counted, leave none idle
+-- places that were made for messages and commands, and were given up or counted, leave none idle
 pub tidy-again : (among : List ℕ → Bool) (t u v : List (List ℕ × ℕ)) → IsTidy t → AddsIdle among t u → DropsIdle among u v → IsTidy v
 tidy-again among t u v tidy adds drops q idle =
     let here = drops q idle in

@@ -1,7 +1,9 @@
--- Commands, the metadata of READY and the reason of ERROR (RFC 23, its grammar of `command`, `metadata` and `error`).
+-- Commands, the metadata of READY and the reason of ERROR (RFC 23, its grammar of `command`, `metadata` and `error`), and the context of
+-- PING (RFC 37, "Heartbeating").
 use Rattle.std.specs.Prelude.{ℕ, Option, Some, None, option_and_then, option_map, List, [], ◌∷◌, length, take, drop, codes, nat_lt, nat_le, if◌then◌else◌, zero, suc}
 use Rattle.std.specs.Int.{w32, from_be_bytes}
 use Rattle.std.specs.Str.{str_eq_ignore_ascii_case}
+use Rattle.zmtp_wire.specs.Pong.{context_limit}
 
 infixl 10 ◌>>=◌
 abbrev pub ◌>>=◌ : {A B : Type 0} → Option A → (A → Option B) → Option B
@@ -31,6 +33,12 @@ unfoldable pub reason_of : List ℕ → Option (List ℕ)
 reason_of octets = do
   reason ← sized octets
   if nat_lt 0 (length reason.1) then None else Some reason.0
+
+-- the data of PING is a time to live of two octets, which isn't used, and a context of at most 16: the context
+unfoldable pub context_of : List ℕ → Option (List ℕ)
+context_of octets = do
+  parts ← cut 2 octets
+  if nat_le (length parts.1) context_limit then Some parts.1 else None
 
 -- a property of a connection
 pub record Property : Type 0 where

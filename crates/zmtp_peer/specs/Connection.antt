@@ -2,7 +2,7 @@
 use Rattle.std.specs.Prelude.{◌≡◌, ℕ, List, [], vec_capacity}
 use Rattle.zmtp_wire.specs.Frame.{Frame}
 use Rattle.zmtp_wire.specs.Stream.{Rest, Leaves}
-use Rattle.zmtp_peer.specs.declared.role.Role.{Role}
+use Rattle.zmtp_peer.specs.declared.terms.Terms.{Terms}
 use Rattle.zmtp_peer.specs.declared.intake.Stage.{Stage}
 use Rattle.zmtp_peer.specs.declared.intake.Stage.TheVariants as stage
 use Rattle.zmtp_peer.specs.declared.connection.Connection.{Connection}
@@ -12,11 +12,11 @@ use Rattle.zmtp_peer.specs.Subscriptions.{IsTidy}
 use Rattle.zmtp_peer.specs.Reading.{Room, GivesBack}
 
 -- the frames at the front of the rest are taken, and these are the events that they tell
-pub record ReadsPiece (role : Role) (rest : Rest) (old : State) (behind : Rest) (new : State) (events : List Event) : Type 0 where
+pub record ReadsPiece (terms : Terms) (rest : Rest) (old : State) (behind : Rest) (new : State) (events : List Event) : Type 0 where
   pub frames : List Frame
   pub left : Leaves rest frames behind
-  pub told : events ≡ told role old frames
-  pub ends : EndsFrames (after role old frames) new behind
+  pub told : events ≡ told terms old frames
+  pub ends : EndsFrames (after terms old frames) new behind
 
 -- before READY no frames are held
 abbrev pub IsOpeningEmpty : Stage → List (List ℕ) → Type 0

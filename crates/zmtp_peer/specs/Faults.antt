@@ -15,6 +15,7 @@ pub data Fault : Type 0 where
   BadMetadata : Fault
   PeerError : List ℕ → Fault
   NotReady : Fault
+  BadPing : Fault
 
 -- the octets of a reason
 abbrev pub octets_of : Reason → List ℕ
@@ -27,6 +28,7 @@ fault_of code.WrongPair = WrongPair
 fault_of code.BadMetadata = BadMetadata
 fault_of (code.PeerError reason) = PeerError (octets_of reason)
 fault_of code.NotReady = NotReady
+fault_of code.BadPing = BadPing
 
 abbrev pub number_of : Fault → ℕ
 number_of (Wire fault) = wire.number_of fault
@@ -35,6 +37,7 @@ number_of WrongPair = 9
 number_of BadMetadata = 10
 number_of (PeerError reason) = 11
 number_of NotReady = 12
+number_of BadPing = 13
 
 abbrev pub name_of : Fault → List ℕ
 name_of (Wire fault) = wire.name_of fault
@@ -43,6 +46,7 @@ name_of WrongPair = codes "WrongPair"
 name_of BadMetadata = codes "BadMetadata"
 name_of (PeerError reason) = codes "PeerError"
 name_of NotReady = codes "NotReady"
+name_of BadPing = codes "BadPing"
 
 abbrev pub want_of_memory : Fault
 want_of_memory = Wire Memory

@@ -1,4 +1,4 @@
--- What the commands of a peer are answered with, before its READY and after it (RFC 23, "The NULL Security Mechanism").
+-- What the first command of a peer is answered with (RFC 23, "The NULL Security Mechanism").
 -- Of several faults the first of these counts: data that doesn't fit its lengths, no socket type, a wrong pair.
 use Rattle.std.specs.Prelude.{ℕ, Option, Some, None, List, codes, if◌then◌else◌}
 use Rattle.std.specs.Str.{bytes_eq}
@@ -25,11 +25,4 @@ first_refusal role body = elim (command_of body) [
       (if bytes_eq command.0 (codes "READY") then refusal_of role (announced command.1)
       else if bytes_eq command.0 (codes "ERROR") then Some (error_of command.1)
       else Some NotReady)
-]
-
--- why a command after READY ends the connection; none if it is passed over
-unfoldable pub later_refusal : List ℕ → Option Fault
-later_refusal body = elim (command_of body) [
-  | None ↦ None
-  | Some command ↦ (if bytes_eq command.0 (codes "ERROR") then Some (error_of command.1) else None)
 ]

@@ -5,11 +5,13 @@ use Rattle.zmtp_wire.specs.declared.fault.WireFault.{WireFault}
 use Rattle.zmtp_wire.specs.Frame.{Frame}
 use Rattle.zmtp_wire.specs.Stream.{Rest, Leaves, IsPartial, IsFaultAt}
 use Rattle.zmtp_peer.specs.declared.role.Role.{Role}
+use Rattle.zmtp_peer.specs.declared.terms.Terms.{Terms}
 use Rattle.zmtp_peer.specs.declared.intake.Stage.{Stage}
 use Rattle.zmtp_peer.specs.declared.intake.Stage.TheVariants as stage
 use Rattle.zmtp_peer.specs.declared.intake.Intake.{Intake}
 use Rattle.zmtp_peer.specs.Faults.{Wire, fault_of}
-use Rattle.zmtp_peer.specs.Events.{Event, Ready, State, Opening, Open, Refused, bodies, message_told, after, told}
+use Rattle.zmtp_peer.specs.Events.{Event, Ready, State, Opening, Open, Refused, bodies, after, told}
+use Rattle.zmtp_peer.specs.Brought.{Brought, brought_of, brought_told, first_of}
 
 -- the state at a stage, with these frames held
 abbrev pub state_at : Stage → List (List ℕ) → State
@@ -20,21 +22,16 @@ state_at (stage.Refused fault) held = Refused (fault_of fault)
 abbrev pub state_of : Intake → State
 state_of intake = state_at intake.stage (bodies intake.held.items)
 
--- the frames of each message that became whole
-abbrev pub messages_of : Intake → List (List (List ℕ))
-messages_of intake = map (λ message. bodies message.items) intake.whole.items
+-- the messages that became whole, and the events of commands, in their order
+abbrev pub brought_in : Intake → List Brought
+brought_in intake = map brought_of intake.brought.items
 
 -- what was brought is told as these events
 abbrev pub told_by : Role → Intake → List Event
-told_by role intake = (if intake.ready then Ready ∷ [] else []) ++ flat_map (message_told role) (messages_of intake)
-
--- the message that goes on with what was held before: the first that became whole, or else the one that isn't yet
-abbrev pub first_of : List (List (List ℕ)) → List (List ℕ) → List (List ℕ)
-first_of [] held = held
-first_of (message ∷ messages) held = message
+told_by role intake = (if intake.ready then Ready ∷ [] else []) ++ flat_map (brought_told role) (brought_in intake)
 
 abbrev pub front_of : Intake → List (List ℕ)
-front_of intake = first_of (messages_of intake) (bodies intake.held.items)
+front_of intake = first_of (brought_in intake) (bodies intake.held.items)
 
 -- a list still begins as another did
 abbrev pub Keeps : List (List ℕ) → List (List ℕ) → Type 0
@@ -42,17 +39,17 @@ Keeps old new = (n : ℕ) → n ≤ length old → (n ≤ length new) × (take n
 
 -- before READY nothing else was brought
 abbrev pub IsFreshAt : Stage → Intake → Type 0
-IsFreshAt stage.Opening intake = (bodies intake.held.items ≡ []) × (messages_of intake ≡ []) × (intake.ready ≡ false)
+IsFreshAt stage.Opening intake = (bodies intake.held.items ≡ []) × (brought_in intake ≡ []) × (intake.ready ≡ false)
 IsFreshAt stage.Open intake = Unit {0}
 IsFreshAt (stage.Refused fault) intake = Unit {0}
 
 abbrev pub IsFresh : Intake → Type 0
 IsFresh intake = IsFreshAt intake.stage intake
 
--- At most so many messages became whole, and at most so many frames are held on top; there is memory for what there was, or for
+-- At most so many messages and events were brought, and at most so many frames are held on top; there is memory for what there was, or for
 -- twice the frames.
 pub record GrowsBy (n : ℕ) (old new : Intake) : Type 0 where
-  pub whole : vec_len new.whole ≤ vec_len old.whole + n
+  pub brought : vec_len new.brought ≤ vec_len old.brought + n
   pub held : vec_len new.held ≤ vec_len old.held + n
   pub room : vec_capacity new.held ≤ max (vec_capacity old.held) (2 * (vec_len old.held + n))
 
@@ -70,8 +67,8 @@ EndsFrames behind state rest =
     ⊎ ((fault : WireFault) × IsFaultAt rest fault × (¬ (IsRefusal behind)) × (state ≡ Refused (Wire fault))))
 
 -- the frames at the front of the old rest are taken, up to the new rest, and what they bring is added
-pub record TakesFrames (role : Role) (rest : Rest) (old : Intake) (behind : Rest) (new : Intake) : Type 0 where
+pub record TakesFrames (terms : Terms) (rest : Rest) (old : Intake) (behind : Rest) (new : Intake) : Type 0 where
   pub frames : List Frame
   pub left : Leaves rest frames behind
-  pub events : told_by role new ≡ told_by role old ++ told role (state_of old) frames
-  pub ends : EndsFrames (after role (state_of old) frames) (state_of new) behind
+  pub events : told_by terms.role new ≡ told_by terms.role old ++ told terms (state_of old) frames
+  pub ends : EndsFrames (after terms (state_of old) frames) (state_of new) behind

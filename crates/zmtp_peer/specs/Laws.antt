@@ -5,6 +5,7 @@ use Rattle.zmtp_wire.specs.Frame.{Frame}
 use Rattle.zmtp_wire.specs.Message.{message_octets, IsWithinLimits}
 use Rattle.zmtp_wire.specs.Stream.{whole}
 use Rattle.zmtp_peer.specs.declared.role.Role.{Role}
+use Rattle.zmtp_peer.specs.declared.terms.Terms.{Terms}
 use Rattle.zmtp_peer.specs.declared.role.Role.TheVariants.{Pub}
 use Rattle.zmtp_peer.specs.Roles.{socket_type_of, is_partner}
 use Rattle.zmtp_peer.specs.Faults.{Fault}
@@ -42,8 +43,8 @@ NoCutMatters =
 -- what frames tell is told frame by frame, and so are subscriptions event by event
 abbrev pub FoldsGoOn : Type 0
 FoldsGoOn =
-    ((role : Role) (s : State) (fs gs : List Frame) → after role s (fs ++ gs) ≡ after role (after role s fs) gs)
-    × ((role : Role) (s : State) (fs gs : List Frame) → told role s (fs ++ gs) ≡ told role s fs ++ told role (after role s fs) gs)
+    ((terms : Terms) (s : State) (fs gs : List Frame) → after terms s (fs ++ gs) ≡ after terms (after terms s fs) gs)
+    × ((terms : Terms) (s : State) (fs gs : List Frame) → told terms s (fs ++ gs) ≡ told terms s fs ++ told terms (after terms s fs) gs)
     × ((prefix : List ℕ) (n : ℕ) (es fs : List Event) → counted_all prefix n (es ++ fs) ≡ counted_all prefix (counted_all prefix n es) fs)
 
 -- a role that is fed the opening of a partner is told that it is ready, and nothing else

@@ -1,12 +1,16 @@
 pub mod Roles
+pub mod Terms
 pub mod Commands
 pub mod Faults
 pub mod Handshake
 pub mod Events
 pub mod Subscriptions
 pub mod Table
+pub mod Later
+pub mod Brought
 pub mod Intake
 pub mod Connection
 pub mod Reading
 pub mod Opening
+pub mod Subscribing
 pub mod Laws

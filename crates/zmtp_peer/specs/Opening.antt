@@ -8,9 +8,9 @@ use Rattle.zmtp_peer.specs.declared.role.Role.{Role}
 use Rattle.zmtp_peer.specs.Roles.{socket_type_of}
 use Rattle.zmtp_peer.specs.Commands.{Property}
 
--- version 3.0, and not the server
+-- version 3.1, and not the server
 abbrev pub own_greeting : Greeting
-own_greeting = record { major = 3; minor = 0; as_server = false }
+own_greeting = record { major = 3; minor = 1; as_server = false }
 
 -- a property: its name with the length in one octet, and its value with the length in four
 abbrev pub property_octets : Property → List ℕ

@@ -6,6 +6,7 @@ use Rattle.zmtp_wire.specs.Greeting.{IsGreeting, IsGreetingFault}
 use Rattle.zmtp_wire.specs.Frame.{Frame}
 use Rattle.zmtp_wire.specs.Stream.{Rest, whole, Leaves, IsPartial, IsFaultAt}
 use Rattle.zmtp_peer.specs.declared.role.Role.{Role}
+use Rattle.zmtp_peer.specs.Terms.{terms_of}
 use Rattle.zmtp_peer.specs.Faults.{Fault, Wire}
 use Rattle.zmtp_peer.specs.Events.{Event, State, Opening, Open, Refused, after, told}
 use Rattle.zmtp_peer.specs.Subscriptions.{subscriptions, count_in}
@@ -40,7 +41,7 @@ EndsIn Opening behind ending = EndsAt behind ending
 EndsIn (Open held) behind ending = EndsAt behind ending
 EndsIn (Refused fault) behind ending = ending ≡ Failing fault
 
--- behind the greeting stand frames, and the events are those that they tell the role
+-- behind the greeting stand frames, and the events are those that they tell the role, from a partner of the greeting's version
 pub record IsGreeted (role : Role) (octets : List ℕ) (events : List Event) (ending : Ending) : Type 0 where
   pub complete : 64 ≤ length octets
   pub greeting : Greeting
@@ -48,8 +49,8 @@ pub record IsGreeted (role : Role) (octets : List ℕ) (events : List Event) (en
   pub frames : List Frame
   pub behind : Rest
   pub left : Leaves (whole (drop 64 octets)) frames behind
-  pub tells : events ≡ told role Opening frames
-  pub ends : EndsIn (after role Opening frames) behind ending
+  pub tells : events ≡ told (terms_of role (take 64 octets)) Opening frames
+  pub ends : EndsIn (after (terms_of role (take 64 octets)) Opening frames) behind ending
 
 -- all octets of a connection tell a role these events, and this is behind them
 abbrev pub PeerReads : Role → List ℕ → List Event → Ending → Type 0
@@ -114,8 +115,8 @@ pub record IsStreaming (role : Role) (octets : List ℕ) (given : List Event) (g
   pub welcome : IsGreeting greeting of
   pub frames : List Frame
   pub left : Leaves (whole stream) frames rest
-  pub reached : state ≡ after role Opening frames
-  pub tells : given ≡ told role Opening frames
+  pub reached : state ≡ after (terms_of role greeting) Opening frames
+  pub tells : given ≡ told (terms_of role greeting) Opening frames
 
 -- what the octets so far leave, where more are awaited
 abbrev pub IsAt : Role → List ℕ → List Event → List ℕ → State → Rest → Type 0

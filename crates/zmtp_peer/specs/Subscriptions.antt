@@ -3,11 +3,11 @@ use Rattle.std.specs.Prelude.{◌≡◌, ℕ, ◌+◌, ◌-◌, ◌<◌, ◌⊎�
 use Rattle.std.specs.List.{list_any}
 use Rattle.std.specs.Map.{lookup}
 use Rattle.std.specs.Str.{bytes_eq}
-use Rattle.std.specs.declared.alloc.Global.{Global}
-use Rattle.std.specs.declared.vec.Vec.{Vec}
 use Rattle.zmtp_peer.specs.declared.event.PeerEvent.{PeerEvent}
 use Rattle.zmtp_peer.specs.declared.role.Role.{Role}
-use Rattle.zmtp_peer.specs.Events.{Event, Ready, Message, Subscribe, Cancel, bodies, event_of, message_told}
+use Rattle.zmtp_peer.specs.declared.brought.Brought as code
+use Rattle.zmtp_peer.specs.Events.{Event, Ready, Message, Subscribe, Cancel, Ping, event_of}
+use Rattle.zmtp_peer.specs.Brought.{brought_of, brought_told}
 
 -- how often a prefix is subscribed to behind an event, where it was n times before
 abbrev pub counted : List ℕ → ℕ → Event → ℕ
@@ -15,6 +15,7 @@ counted prefix n (Subscribe p) = if bytes_eq prefix p then n + 1 else n
 counted prefix n (Cancel p) = if bytes_eq prefix p then n - 1 else n
 counted prefix n Ready = n
 counted prefix n (Message frames) = n
+counted prefix n (Ping context) = n
 
 -- the same behind events
 abbrev pub counted_all : List ℕ → ℕ → List Event → ℕ
@@ -47,6 +48,7 @@ IsRoomFor n table (Subscribe prefix) = (is_some (place_of table prefix) ≡ true
 IsRoomFor n table (Cancel prefix) = Unit {0}
 IsRoomFor n table Ready = Unit {0}
 IsRoomFor n table (Message frames) = Unit {0}
+IsRoomFor n table (Ping context) = Unit {0}
 
 -- each subscription among the events has one
 abbrev pub HasRoom : ℕ → List (List ℕ × ℕ) → List Event → Type 0
@@ -76,6 +78,7 @@ subscribes prefix (Subscribe p) = bytes_eq prefix p
 subscribes prefix (Cancel p) = false
 subscribes prefix Ready = false
 subscribes prefix (Message frames) = false
+subscribes prefix (Ping context) = false
 
 -- an event subscribes to a prefix, or takes that back
 abbrev pub names : List ℕ → Event → Bool
@@ -83,15 +86,16 @@ names prefix (Subscribe p) = bytes_eq prefix p
 names prefix (Cancel p) = bytes_eq prefix p
 names prefix Ready = false
 names prefix (Message frames) = false
+names prefix (Ping context) = false
 
 -- one of the events does
 abbrev pub is_named : List PeerEvent → List ℕ → Bool
 is_named events prefix = list_any (λ event. names prefix (event_of event)) events
 
--- a message subscribes to a prefix
-abbrev pub asks : Role → List (Vec ℕ Global) → List ℕ → Bool
-asks role message prefix = list_any (subscribes prefix) (message_told role (bodies message))
+-- a message or a command subscribes to a prefix
+abbrev pub asks : Role → code.Brought → List ℕ → Bool
+asks role item prefix = list_any (subscribes prefix) (brought_told role (brought_of item))
 
--- one of the messages does
-abbrev pub is_asked : Role → List (Vec (Vec ℕ Global) Global) → List ℕ → Bool
-is_asked role messages prefix = list_any (λ message. asks role message.items prefix) messages
+-- one of them does
+abbrev pub is_asked : Role → List code.Brought → List ℕ → Bool
+is_asked role items prefix = list_any (λ item. asks role item prefix) items

@@ -1,9 +1,10 @@
-//! What stands in the body of a command: its name and data, the properties of READY, the reason of ERROR (RFC 23).
+//! What stands in the body of a command: its name and data, the properties of READY, the reason of ERROR (RFC 23), the context of PING
+//! (RFC 37).
 ghost use Rattle.std.specs.Prelude.{◌≡◌, ◌<◌, ◌≤◌, Option, option_map, length, IfSome, codes, None, Some, if◌then◌else◌};
 ghost use Rattle.std.specs.Option.{option_or, option_copied};
 ghost use Rattle.std.specs.Result.{result_ok};
 ghost use Rattle.std.specs.Str.{str_eq_ignore_ascii_case};
-ghost use Rattle.zmtp_peer.specs.Commands.{command_of, reason_of, property_at, sized, sized_by_four, announced};
+ghost use Rattle.zmtp_peer.specs.Commands.{command_of, reason_of, context_of, property_at, sized, sized_by_four, announced};
 
 /// The data of a READY doesn't fit its lengths.
 #[derive(Drop)]
@@ -35,6 +36,25 @@ pub(crate) fn reason(octets: &[u8]) -> Option<&[u8]>
 {
     let (reason, rest) = sized(octets)?;
     if rest.is_empty() { Some(reason) } else { None }
+}
+
+/// How many octets the time to live of a PING has. It isn't used.
+const TIME_TO_LIVE: usize = 2;
+
+/// How many octets the context of a PING has at most.
+const CONTEXT_LIMIT: usize = 16;
+
+/// The context that the data of a PING gives; none if it is shorter or longer than it may be.
+#[tactic(auto, unfolding(crate::specs::Commands::context_of))]
+pub(crate) fn context(octets: &[u8]) -> Option<&[u8]>
+    ensures { option_copied result ≡ context_of octets.now }
+{
+    let (_, context) = octets.split_at_checked(TIME_TO_LIVE)?;
+    if context.len() <= CONTEXT_LIMIT {
+        Some(context)
+    } else {
+        None
+    }
 }
 
 /// Four octets with a length, so many octets, and those behind them.

@@ -2,7 +2,8 @@
 ghost use Rattle.std.specs.Prelude.{◌≡◌, ℕ, ◌+◌, ◌≤◌, List, [], OnOk, OnErr, IfOk, vec_len, vec_capacity, length, map, true};
 ghost use Rattle.std.specs.List.{flat_map};
 ghost use Rattle.zmtp_wire.specs.Decoding.{fed};
-ghost use Rattle.zmtp_peer.specs.Events.{bodies, events_of, message_told};
+ghost use Rattle.zmtp_peer.specs.Events.{bodies, events_of};
+ghost use Rattle.zmtp_peer.specs.Brought.{brought_of, brought_told};
 ghost use Rattle.zmtp_peer.specs.Subscriptions.{count_in, counted_all, HasRoom, AddsIdle, IsIdle, IsTidy, is_asked};
 ghost use Rattle.zmtp_peer.specs.Intake.{front_of, told_by, Keeps, IsFresh, GrowsBy, TakesFrames};
 ghost use Rattle.zmtp_peer.specs.Connection.{ReadsPiece, IsUnread, IsConnection, IsOpeningEmpty, state_in, room_in};
@@ -11,8 +12,8 @@ ghost use Rattle.zmtp_peer.specs.Reading.{GivesBack, ReservesFor};
 use crate::counts::Counts;
 use crate::event::PeerEvent;
 use crate::intake::{Intake, Stage, take_frames};
-use crate::role::Role;
 use crate::subscriptions::{count_events, drop_places, release, reserve};
+use crate::terms::Terms;
 use crate::told::tell;
 use std::alloc::{AllocError, Global};
 use std::mem;
@@ -34,29 +35,29 @@ pub(crate) struct Connection {
 /// Takes the frames that came, and all memory that is needed to tell them. The answer is room for the events.
 fn gather(
     alloc: Global,
-    role: Role,
+    terms: Terms,
     decoder: &mut Decoder,
     counts: &mut Counts,
     intake: &mut Intake,
 ) -> Result<Vec<PeerEvent>, AllocError>
     requires { IsFresh intake.old }
-    ensures taken { OnOk result (TakesFrames role decoder.old.rest intake.old decoder.new.rest intake.new) }
+    ensures taken { OnOk result (TakesFrames terms decoder.old.rest intake.old decoder.new.rest intake.new) }
     ensures empty { IfOk result (λ events. events.items ≡ []) }
-    ensures space { IfOk result (λ events. vec_capacity events ≡ vec_len intake.new.whole + 1) }
-    ensures room { OnOk result (HasRoom (vec_len intake.new.whole + 1) counts.new
-        (flat_map (message_told role) (map (λ message. bodies message.items) intake.new.whole.items))) }
+    ensures space { IfOk result (λ events. vec_capacity events ≡ vec_len intake.new.brought + 1) }
+    ensures room { OnOk result (HasRoom (vec_len intake.new.brought + 1) counts.new
+        (flat_map (brought_told terms.role) (map brought_of intake.new.brought.items))) }
     ensures same { (q : List ℕ) → count_in counts.new q
         ≡ count_in counts.old q }
-    ensures idle { AddsIdle (is_asked role intake.new.whole.items) counts.old counts.new }
+    ensures idle { AddsIdle (is_asked terms.role intake.new.brought.items) counts.old counts.new }
     ensures before { decoder.new.before ≡ decoder.old.before }
     ensures stream { decoder.new.room ≡ decoder.old.room }
     ensures kept { Keeps (front_of intake.old) (front_of intake.new) }
     ensures grows { OnOk result (GrowsBy (length decoder.old.rest.octets) intake.old intake.new) }
     ensures fresh { IsFresh intake.new }
 {
-    take_frames(alloc, role, decoder, intake)?;
-    let most = intake.whole.len() + 1;
-    reserve(alloc, counts, role, &intake.whole, most)?;
+    take_frames(alloc, terms, decoder, intake)?;
+    let most = intake.brought.len() + 1;
+    reserve(alloc, counts, terms.role, &intake.brought, most)?;
     Vec::with_capacity(alloc, most)
 }
 
@@ -77,11 +78,11 @@ impl Connection {
     pub(crate) fn read(
         &mut self,
         alloc: Global,
-        role: Role,
+        terms: Terms,
         piece: &[u8],
     ) -> Result<Vec<PeerEvent>, AllocError>
         requires { IsConnection self.old }
-        ensures read { IfOk result (λ events. ReadsPiece role (fed self.old.decoder piece.now).rest
+        ensures read { IfOk result (λ events. ReadsPiece terms (fed self.old.decoder piece.now).rest
             (state_in self.old) self.new.decoder.rest (state_in self.new) (events_of events.items)) }
         ensures counted { IfOk result (λ events. (q : List ℕ) → count_in self.new.counts q
             ≡ counted_all q (count_in self.old.counts q) (events_of events.items)) }
@@ -101,16 +102,16 @@ impl Connection {
         if self.decoder.is_partial() {
             return Ok(Vec::new(alloc));
         }
-        self.read_frames(alloc, role)
+        self.read_frames(alloc, terms)
     }
 
     /// Reads the frames that came with the last piece, and answers the events that they bring.
     ///
     /// # Errors
     /// Want of memory. Then the piece is taken back.
-    fn read_frames(&mut self, alloc: Global, role: Role) -> Result<Vec<PeerEvent>, AllocError>
+    fn read_frames(&mut self, alloc: Global, terms: Terms) -> Result<Vec<PeerEvent>, AllocError>
         requires { IsConnection self.old }
-        ensures read { IfOk result (λ events. ReadsPiece role self.old.decoder.rest (state_in self.old)
+        ensures read { IfOk result (λ events. ReadsPiece terms self.old.decoder.rest (state_in self.old)
             self.new.decoder.rest (state_in self.new) (events_of events.items)) }
         ensures counted { IfOk result (λ events. (q : List ℕ) → count_in self.new.counts q
             ≡ counted_all q (count_in self.old.counts q) (events_of events.items)) }
@@ -129,12 +130,12 @@ impl Connection {
         let mut intake = Intake {
             stage: self.stage,
             ready: false,
-            whole: Vec::new(alloc),
+            brought: Vec::new(alloc),
             held: mem::replace(&mut self.held, Vec::new(alloc)),
         };
         let gathered = gather(
             alloc,
-            role,
+            terms,
             &mut self.decoder,
             &mut self.counts,
             &mut intake,
@@ -142,31 +143,25 @@ impl Connection {
         match gathered {
             Err(_) => {
                 take_back(&mut self.decoder);
-                release(&mut self.counts, role, &intake.whole);
+                release(&mut self.counts, terms.role, &intake.brought);
                 self.held = intake.taken_back(kept);
                 Err(AllocError)
             }
             Ok(room) => {
                 self.decoder.settle();
-                Ok(self.keep(alloc, role, intake, room))
+                Ok(self.keep(terms, intake, room))
             }
         }
     }
 
     /// Keeps what was brought, and tells it.
-    fn keep(
-        &mut self,
-        alloc: Global,
-        role: Role,
-        intake: Intake,
-        room: Vec<PeerEvent>,
-    ) -> Vec<PeerEvent>
+    fn keep(&mut self, terms: Terms, intake: Intake, room: Vec<PeerEvent>) -> Vec<PeerEvent>
         requires empty { room.items ≡ [] }
-        requires space { vec_len intake.whole + 1 ≤ vec_capacity room }
-        requires room { HasRoom (vec_len intake.whole + 1) self.old.counts
-            (flat_map (message_told role) (map (λ message. bodies message.items) intake.whole.items)) }
-        requires idle { (q : List ℕ) → IsIdle self.old.counts q → is_asked role intake.whole.items q ≡ true }
-        ensures told { events_of result.items ≡ told_by role intake }
+        requires space { vec_len intake.brought + 1 ≤ vec_capacity room }
+        requires room { HasRoom (vec_len intake.brought + 1) self.old.counts
+            (flat_map (brought_told terms.role) (map brought_of intake.brought.items)) }
+        requires idle { (q : List ℕ) → IsIdle self.old.counts q → is_asked terms.role intake.brought.items q ≡ true }
+        ensures told { events_of result.items ≡ told_by terms.role intake }
         ensures state { self.new.stage ≡ intake.stage }
         ensures held { self.new.held ≡ intake.held }
         ensures capacity { vec_capacity result ≡ vec_capacity room }
@@ -178,10 +173,10 @@ impl Connection {
         let Intake {
             stage,
             ready,
-            whole,
+            brought,
             held,
         } = intake;
-        let events = tell(alloc, role, ready, whole, room);
+        let events = tell(terms.role, ready, brought, room);
         count_events(&mut self.counts, &events);
         drop_places(&mut self.counts, &events);
         self.stage = stage;

@@ -52,6 +52,8 @@ pub enum PeerFault {
     PeerError(Reason),
     /// A message, or a command other than READY, came before READY.
     NotReady,
+    /// The data of a PING is shorter than its time to live, or its context is longer than 16 octets.
+    BadPing,
 }
 
 impl PeerFault {
@@ -71,6 +73,7 @@ impl PeerFault {
             PeerFault::BadMetadata => 10,
             PeerFault::PeerError(_) => 11,
             PeerFault::NotReady => 12,
+            PeerFault::BadPing => 13,
         }
     }
 
@@ -85,6 +88,7 @@ impl PeerFault {
             PeerFault::BadMetadata => "BadMetadata",
             PeerFault::PeerError(_) => "PeerError",
             PeerFault::NotReady => "NotReady",
+            PeerFault::BadPing => "BadPing",
         }
     }
 }

@@ -1,8 +1,8 @@
-//! What the commands of a peer are answered with, before its READY and after it.
+//! What the first command of a peer is answered with.
 ghost use Rattle.std.specs.Prelude.{◌≡◌, option_map};
 ghost use Rattle.zmtp_peer.specs.Faults.{fault_of};
 ghost use Rattle.zmtp_peer.specs.Commands.{announced};
-ghost use Rattle.zmtp_peer.specs.Handshake.{error_of, refusal_of, first_refusal, later_refusal};
+ghost use Rattle.zmtp_peer.specs.Handshake.{error_of, refusal_of, first_refusal};
 
 use crate::command;
 use crate::command::Misfit;
@@ -11,7 +11,7 @@ use crate::role::Role;
 
 const READY: &[u8] = b"READY";
 
-const ERROR: &[u8] = b"ERROR";
+pub(crate) const ERROR: &[u8] = b"ERROR";
 
 /// Why a role refuses a command as the first frame; none if it is a READY that it takes.
 #[tactic(auto, unfolding(crate::specs::Handshake::first_refusal))]
@@ -27,23 +27,6 @@ pub(crate) fn first_refusal(role: Role, body: &[u8]) -> Option<PeerFault>
                 Some(told_error(content))
             } else {
                 Some(PeerFault::NotReady)
-            }
-        }
-    }
-}
-
-/// Why a command after READY ends the connection; none if it is passed over.
-#[tactic(auto, unfolding(crate::specs::Handshake::later_refusal))]
-pub(crate) fn later_refusal(body: &[u8]) -> Option<PeerFault>
-    ensures { option_map fault_of result ≡ later_refusal body.now }
-{
-    match command::command(body) {
-        None => None,
-        Some((name, content)) => {
-            if name == ERROR {
-                Some(told_error(content))
-            } else {
-                None
             }
         }
     }
@@ -68,7 +51,7 @@ fn ready_refusal(role: Role, content: &[u8]) -> Option<PeerFault>
 
 /// The fault that an ERROR with this content is told as.
 #[tactic(auto, unfolding(crate::specs::Handshake::error_of))]
-fn told_error(content: &[u8]) -> PeerFault
+pub(crate) fn told_error(content: &[u8]) -> PeerFault
     ensures { fault_of result ≡ error_of content.now }
 {
     match command::reason(content) {

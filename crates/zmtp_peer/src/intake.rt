@@ -1,13 +1,16 @@
 //! What the frames of one piece bring. The peer keeps none of it until all memory is there.
 ghost use Rattle.std.specs.Prelude.{◌≡◌, ◌++◌, ◌∷◌, [], ℕ, ◌+◌, ◌*◌, ◌≤◌, ◌≢◌, OnOk, OnErr, length, map, max, true, false, vec_len, vec_capacity};
-ghost use Rattle.zmtp_peer.specs.declared.role.Role.{Role};
 ghost use Rattle.zmtp_wire.specs.Frame.{frame_of};
-ghost use Rattle.zmtp_peer.specs.Events.{after_frame, frame_told, bodies};
-ghost use Rattle.zmtp_peer.specs.Intake.{state_of, told_by, front_of, messages_of, Keeps, IsFresh, GrowsBy, TakesFrames};
+ghost use Rattle.zmtp_peer.specs.Events.{after_frame, frame_told, after_later, behind_ready, later_told, bodies, event_of};
+ghost use Rattle.zmtp_peer.specs.Brought.{Whole, Told, brought_of, first_of};
+ghost use Rattle.zmtp_peer.specs.Intake.{state_of, told_by, front_of, brought_in, Keeps, IsFresh, GrowsBy, TakesFrames};
 
+use crate::brought::Brought;
+use crate::event::PeerEvent;
 use crate::fault::PeerFault;
-use crate::handshake::{first_refusal, later_refusal};
-use crate::role::Role;
+use crate::handshake::first_refusal;
+use crate::later::{Later, behind_ready};
+use crate::terms::Terms;
 use std::alloc::{AllocError, Global};
 use std::mem;
 use zmtp_wire::{Decoder, Frame, WireFault};
@@ -30,8 +33,8 @@ pub(crate) struct Intake {
     pub(crate) stage: Stage,
     /// Whether READY is among them.
     pub(crate) ready: bool,
-    /// The messages that became whole.
-    pub(crate) whole: Vec<Vec<Vec<u8>>>,
+    /// The messages that became whole, and the events of commands, in their order.
+    pub(crate) brought: Vec<Brought>,
     /// The frames of the message that isn't whole yet.
     pub(crate) held: Vec<Vec<u8>>,
 }
@@ -39,27 +42,26 @@ pub(crate) struct Intake {
 /// Takes the next frame.
 pub(crate) fn take_frame(
     alloc: Global,
-    role: Role,
+    terms: Terms,
     intake: &mut Intake,
     frame: Frame,
 ) -> Result<(), AllocError>
     requires { IsFresh intake.old }
-    ensures state { OnOk result (state_of intake.new ≡ after_frame role (state_of intake.old) (frame_of frame)) }
-    ensures told { OnOk result (told_by role intake.new
-        ≡ told_by role intake.old ++ frame_told role (state_of intake.old) (frame_of frame)) }
+    ensures state { OnOk result (state_of intake.new ≡ after_frame terms (state_of intake.old) (frame_of frame)) }
+    ensures told { OnOk result (told_by terms.role intake.new
+        ≡ told_by terms.role intake.old ++ frame_told terms (state_of intake.old) (frame_of frame)) }
     ensures kept { Keeps (front_of intake.old) (front_of intake.new) }
     ensures grows { OnOk result (GrowsBy 1 intake.old intake.new) }
     ensures fresh { IsFresh intake.new }
 {
     match intake.stage {
         Stage::Opening => {
-            take_first(role, intake, &frame);
+            take_first(terms, intake, &frame);
             Ok(())
         }
         Stage::Open => {
             if frame.command {
-                take_command(intake, &frame);
-                Ok(())
+                take_command(alloc, terms, intake, &frame.body)
             } else {
                 hold(alloc, intake, frame.more, frame.body)
             }
@@ -69,21 +71,21 @@ pub(crate) fn take_frame(
 }
 
 /// Takes the first frame, which has to be a READY that the role takes.
-fn take_first(role: Role, intake: &mut Intake, frame: &Frame)
+fn take_first(terms: Terms, intake: &mut Intake, frame: &Frame)
     requires fresh { IsFresh intake.old }
     requires opening { intake.old.stage ≡ Stage.Opening }
-    ensures state { state_of intake.new ≡ after_frame role (state_of intake.old) (frame_of frame.now) }
-    ensures told { told_by role intake.new
-        ≡ told_by role intake.old ++ frame_told role (state_of intake.old) (frame_of frame.now) }
+    ensures state { state_of intake.new ≡ after_frame terms (state_of intake.old) (frame_of frame.now) }
+    ensures told { told_by terms.role intake.new
+        ≡ told_by terms.role intake.old ++ frame_told terms (state_of intake.old) (frame_of frame.now) }
     ensures held { intake.new.held ≡ intake.old.held }
-    ensures whole { intake.new.whole ≡ intake.old.whole }
+    ensures brought { intake.new.brought ≡ intake.old.brought }
     ensures fresh { IsFresh intake.new }
 {
     if !frame.command {
         intake.stage = Stage::Refused(PeerFault::NotReady);
         return;
     }
-    match first_refusal(role, &frame.body) {
+    match first_refusal(terms.role, &frame.body) {
         None => {
             intake.stage = Stage::Open;
             intake.ready = true;
@@ -92,18 +94,40 @@ fn take_first(role: Role, intake: &mut Intake, frame: &Frame)
     }
 }
 
-/// Takes a command behind READY.
-fn take_command(intake: &mut Intake, frame: &Frame)
+/// Takes a command behind READY. The frames of a message that are held stay.
+fn take_command(
+    alloc: Global,
+    terms: Terms,
+    intake: &mut Intake,
+    body: &[u8],
+) -> Result<(), AllocError>
     requires open { intake.old.stage ≡ Stage.Open }
-    requires command { frame.now.command ≡ true }
-    ensures state { (role : Role) → state_of intake.new
-        ≡ after_frame role (state_of intake.old) (frame_of frame.now) }
-    ensures same { record intake.old { stage = intake.new.stage } ≡ intake.new }
+    ensures state { OnOk result (state_of intake.new
+        ≡ after_later (bodies intake.old.held.items) (behind_ready terms body.now)) }
+    ensures told { OnOk result (told_by terms.role intake.new
+        ≡ told_by terms.role intake.old ++ later_told (behind_ready terms body.now)) }
+    ensures kept { Keeps (front_of intake.old) (front_of intake.new) }
+    ensures grows { OnOk result (GrowsBy 1 intake.old intake.new) }
     ensures fresh { IsFresh intake.new }
 {
-    if let Some(fault) = later_refusal(&frame.body) {
-        intake.stage = Stage::Refused(fault);
+    match behind_ready(alloc, terms, body)? {
+        Later::Passed => Ok(()),
+        Later::Told(event) => add_event(&mut intake.brought, event),
+        Later::Refused(fault) => {
+            intake.stage = Stage::Refused(fault);
+            Ok(())
+        }
     }
+}
+
+/// Adds the event of a command.
+fn add_event(brought: &mut Vec<Brought>, event: PeerEvent) -> Result<(), AllocError>
+    ensures ok { OnOk result (map brought_of brought.new.items ≡ map brought_of brought.old.items ++ Told (event_of event) ∷ []) }
+    ensures err { OnErr result (brought.new.items ≡ brought.old.items) }
+    ensures length { OnOk result (vec_len brought.new ≡ vec_len brought.old + 1) }
+{
+    brought.push(Brought::Event(event))?;
+    Ok(())
 }
 
 /// Holds one more frame of a message, which is the last one unless more follow.
@@ -112,14 +136,14 @@ fn hold(alloc: Global, intake: &mut Intake, more: bool, body: Vec<u8>) -> Result
     ensures stage { intake.new.stage ≡ Stage.Open }
     ensures ready { intake.new.ready ≡ intake.old.ready }
     ensures kept { Keeps (front_of intake.old) (front_of intake.new) }
-    ensures more { OnOk result (more ≡ true → (intake.new.whole.items ≡ intake.old.whole.items)
+    ensures more { OnOk result (more ≡ true → (intake.new.brought.items ≡ intake.old.brought.items)
         × (intake.new.held.items ≡ intake.old.held.items ++ body ∷ [])) }
-    ensures last { OnOk result (more ≡ false → (messages_of intake.new ≡ messages_of intake.old ++
-        (bodies intake.old.held.items ++ body.items ∷ []) ∷ []) × (intake.new.held.items ≡ [])) }
+    ensures last { OnOk result (more ≡ false → (brought_in intake.new ≡ brought_in intake.old ++
+        Whole (bodies intake.old.held.items ++ body.items ∷ []) ∷ []) × (intake.new.held.items ≡ [])) }
     ensures grows { OnOk result (GrowsBy 1 intake.old intake.new) }
 {
     if !more && intake.held.is_empty() {
-        return add_alone(alloc, &mut intake.whole, body);
+        return add_alone(alloc, &mut intake.brought, body);
     }
     add_frame(&mut intake.held, body)?;
     if more {
@@ -129,15 +153,14 @@ fn hold(alloc: Global, intake: &mut Intake, more: bool, body: Vec<u8>) -> Result
 }
 
 /// Adds a whole message of one frame.
-fn add_alone(alloc: Global, whole: &mut Vec<Vec<Vec<u8>>>, body: Vec<u8>) -> Result<(), AllocError>
-    ensures ok { OnOk result (map (λ message. bodies message.items) whole.new.items
-        ≡ map (λ message. bodies message.items) whole.old.items ++ (body.items ∷ []) ∷ []) }
-    ensures err { OnErr result (whole.new.items ≡ whole.old.items) }
-    ensures length { OnOk result (vec_len whole.new ≡ vec_len whole.old + 1) }
+fn add_alone(alloc: Global, brought: &mut Vec<Brought>, body: Vec<u8>) -> Result<(), AllocError>
+    ensures ok { OnOk result (map brought_of brought.new.items ≡ map brought_of brought.old.items ++ Whole (body.items ∷ []) ∷ []) }
+    ensures err { OnErr result (brought.new.items ≡ brought.old.items) }
+    ensures length { OnOk result (vec_len brought.new ≡ vec_len brought.old + 1) }
 {
     let mut message = Vec::with_capacity(alloc, 1)?;
     message.push_reserved(body);
-    whole.push(message)?;
+    brought.push(Brought::Message(message))?;
     Ok(())
 }
 
@@ -146,19 +169,17 @@ fn complete(alloc: Global, intake: &mut Intake) -> Result<(), AllocError>
     ensures stage { intake.new.stage ≡ intake.old.stage }
     ensures ready { intake.new.ready ≡ intake.old.ready }
     ensures kept { Keeps (front_of intake.old) (front_of intake.new) }
-    ensures whole { OnOk result (messages_of intake.new ≡ messages_of intake.old ++ bodies intake.old.held.items ∷ []) }
+    ensures whole { OnOk result (brought_in intake.new ≡ brought_in intake.old ++ Whole (bodies intake.old.held.items) ∷ []) }
     ensures held { OnOk result (intake.new.held.items ≡ []) }
     ensures room { OnOk result (vec_capacity intake.new.held ≡ 0) }
-    ensures length { OnOk result (vec_len intake.new.whole ≡ vec_len intake.old.whole + 1) }
+    ensures length { OnOk result (vec_len intake.new.brought ≡ vec_len intake.old.brought + 1) }
 {
-    let message = mem::replace(&mut intake.held, Vec::new(alloc));
-    match intake.whole.push(message) {
-        Ok(()) => Ok(()),
-        Err(failed) => {
-            intake.held = failed.value;
-            Err(AllocError)
-        }
+    if intake.brought.reserve(1).is_err() {
+        return Err(AllocError);
     }
+    let message = mem::replace(&mut intake.held, Vec::new(alloc));
+    intake.brought.push_reserved(Brought::Message(message));
+    Ok(())
 }
 
 /// Adds a frame, with memory for what there was, or for twice the frames that there are then.
@@ -178,12 +199,12 @@ fn add_frame(held: &mut Vec<Vec<u8>>, body: Vec<u8>) -> Result<(), AllocError>
 /// Takes frames until no whole one is left or the peer is refused.
 pub(crate) fn take_frames(
     alloc: Global,
-    role: Role,
+    terms: Terms,
     decoder: &mut Decoder,
     intake: &mut Intake,
 ) -> Result<(), AllocError>
     requires { IsFresh intake.old }
-    ensures taken { OnOk result (TakesFrames role decoder.old.rest intake.old decoder.new.rest intake.new) }
+    ensures taken { OnOk result (TakesFrames terms decoder.old.rest intake.old decoder.new.rest intake.new) }
     ensures before { decoder.new.before ≡ decoder.old.before }
     ensures room { decoder.new.room ≡ decoder.old.room }
     ensures kept { Keeps (front_of intake.old) (front_of intake.new) }
@@ -195,7 +216,7 @@ pub(crate) fn take_frames(
             return Ok(());
         }
         match decoder.next() {
-            Ok(Some(frame)) => take_frame(alloc, role, intake, frame)?,
+            Ok(Some(frame)) => take_frame(alloc, terms, intake, frame)?,
             Ok(None) => return Ok(()),
             Err(fault) => return refuse(intake, fault),
         }
@@ -215,6 +236,19 @@ fn refuse(intake: &mut Intake, fault: WireFault) -> Result<(), AllocError>
     Ok(())
 }
 
+/// The first message among what was brought, or else the frames that are held.
+fn front(mut brought: Vec<Brought>, held: Vec<Vec<u8>>) -> Vec<Vec<u8>>
+    ensures { bodies result.items ≡ first_of (map brought_of brought.items) (bodies held.items) }
+{
+    for i in 0..brought.len() {
+        let item = mem::replace(&mut brought[i], Brought::Event(PeerEvent::Ready));
+        if let Brought::Message(frames) = item {
+            return frames;
+        }
+    }
+    held
+}
+
 impl Intake {
     ghost use Rattle.std.specs.Prelude.{take, length};
     ghost use Rattle.zmtp_peer.specs.Events.{bodies};
@@ -227,15 +261,11 @@ impl Intake {
         let Intake {
             stage: _,
             ready: _,
-            mut whole,
-            mut held,
+            brought,
+            held,
         } = self;
-        if whole.is_empty() {
-            held.truncate(kept);
-            return held;
-        }
-        let mut first = whole.swap_remove(0);
-        first.truncate(kept);
-        first
+        let mut frames = front(brought, held);
+        frames.truncate(kept);
+        frames
     }
 }

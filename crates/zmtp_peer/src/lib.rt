@@ -1,4 +1,4 @@
-//! One end of a ZMTP 3.0 connection in one of five roles: from the octets that come to events.
+//! One end of a ZMTP 3.1 connection, with partners that speak 3.0 or a later version, in one of five roles: from the octets that come to events.
 //!
 //! To the layer above this crate promises that the events which `Peer::feed` answers are those that all octets fed so
 //! far tell the role, as `specs/Reading.antt` defines them, however the octets were cut; that events which stand before
@@ -6,11 +6,12 @@
 //! was; and that `Peer::wants` knows the subscriptions behind the events.
 //!
 //! The definitions, in specs/, are those of RFC 23 (ZMTP 3.0): its grammar of commands and metadata, "The NULL Security
-//! Mechanism", and its rules for publishers and subscribers. Greetings, frames and their limits are those of `zmtp_wire`.
+//! Mechanism", and its rules for publishers and subscribers; and of RFC 37 (ZMTP 3.1): subscriptions by command, and PING. Greetings, frames and their limits are those of `zmtp_wire`.
 #![tactic(auto)]
 
 ghost use Rattle.zmtp_peer.specs.Laws.{OctetsAreRead, OctetsHaveOneReading, RefusalsStay, NoCutMatters, FoldsGoOn, PartnersAreReady, MessagesAreTold, FedMessagesAreTold};
 
+mod brought;
 mod command;
 mod connection;
 mod counts;
@@ -18,10 +19,13 @@ mod event;
 mod fault;
 mod handshake;
 mod intake;
+mod later;
 mod opening;
 mod peer;
 mod role;
+mod subscribing;
 mod subscriptions;
+mod terms;
 mod told;
 mod wanted;
 

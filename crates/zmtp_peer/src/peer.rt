@@ -1,13 +1,16 @@
 //! A peer: one end of a connection, in one role.
 ghost use Rattle.std.specs.Prelude.{◌≡◌, ◌≢◌, ℕ, List, ◌+◌, ◌<◌, ◌≤◌, ◌↔◌, ◌⊎◌, [], ◌++◌, IfOk, IfErr, IfSome, IfNone, IsErrAnd, IsTrue, take, length, vec_capacity};
 ghost use Rattle.zmtp_wire.specs.declared.fault.WireFault.{WireFault};
-ghost use Rattle.zmtp_wire.specs.Greeting.{IsGreeting, IsGreetingFault};
+ghost use Rattle.zmtp_wire.specs.Greeting.{IsGreeting, IsGreetingFault, minor_in};
+ghost use Rattle.zmtp_wire.specs.Frame.{written, IsWriteFault};
 ghost use Rattle.zmtp_peer.specs.Faults.{Fault, Wire, fault_of, want_of_memory};
 ghost use Rattle.zmtp_peer.specs.Events.{Event, Refused, events_of};
 ghost use Rattle.zmtp_peer.specs.Intake.{IsRefusal, state_at};
 ghost use Rattle.zmtp_peer.specs.Reading.{Stands, Brings, GivesBack, Reserves};
 ghost use Rattle.zmtp_peer.specs.Subscriptions.{IsWanted};
 ghost use Rattle.zmtp_peer.specs.Opening.{opening_of};
+ghost use Rattle.zmtp_peer.specs.Subscribing.{subscription_frame, IsReady};
+ghost use Rattle.zmtp_peer.specs.Terms.{terms_of};
 
 use crate::connection::Connection;
 use crate::counts::Counts;
@@ -16,12 +19,14 @@ use crate::fault::PeerFault;
 use crate::intake::Stage;
 use crate::opening::opening_octets;
 use crate::role::Role;
+use crate::subscribing::subscription_octets;
+use crate::terms::Terms;
 use crate::wanted::is_wanted;
 use std::alloc::Global;
 use std::marker::Model;
-use zmtp_wire::{Decoder, GREETING_LENGTH, Greeting};
+use zmtp_wire::{Decoder, GREETING_LENGTH, Greeting, WireFault};
 
-/// One end of a ZMTP 3.0 connection in one role. It is fed the octets that come, in any pieces, and answers the events
+/// One end of a ZMTP 3.1 connection in one role. It is fed the octets that come, in any pieces, and answers the events
 /// that they bring.
 #[derive(Drop)]
 pub struct Peer {
@@ -99,6 +104,43 @@ impl Peer {
         welcome(&self.greeting)
     }
 
+    /// The partner's minor version, once all of its greeting came; none where that is refused.
+    pub fn minor(&self) -> Option<u8>
+        ensures some { IfSome result (λ minor. minor_in self.now.greeting ≡ minor) }
+        ensures none { IfNone result ((length self.now.greeting < 64)
+            ⊎ ((fault : WireFault) × IsGreetingFault self.now.greeting fault)) }
+    {
+        match self.partner() {
+            Some(greeting) => Some(greeting.minor),
+            None => None,
+        }
+    }
+
+    /// Whether the peer's READY came, and the peer isn't refused.
+    pub fn is_ready(&self) -> bool
+        ensures { IsTrue result ↔ IsReady self.now.state }
+    {
+        match self.connection.stage {
+            Stage::Open => true,
+            Stage::Opening | Stage::Refused(_) => false,
+        }
+    }
+
+    /// What subscribes to all that begins with a prefix, as the partner takes it: a command where it speaks ZMTP 3.1 or later, else a
+    /// message. The peer is ready.
+    ///
+    /// # Errors
+    /// `TooLong` where the prefix is too long for a frame; `Memory` for other prefixes alone.
+    pub fn subscription(&self, prefix: &[u8]) -> Result<Vec<u8>, WireFault>
+        requires { IsReady self.now.state }
+        ensures octets { (fed : List ℕ) → (given : List Event) → Stands fed given self.now → IfOk result (λ octets.
+            octets.items ≡ written (subscription_frame (terms_of self.now.role self.now.greeting) prefix.now)) }
+        ensures fault { (fed : List ℕ) → (given : List Event) → Stands fed given self.now → IfErr result (λ fault.
+            fault ≢ WireFault.Memory → IsWriteFault (subscription_frame (terms_of self.now.role self.now.greeting) prefix.now) fault) }
+    {
+        subscription_octets(self.alloc, Terms::of(self.role, &self.greeting), prefix)
+    }
+
     /// Whether the peer has subscribed to a topic: a prefix to which it subscribes, and has not taken that back as often,
     /// stands at its front. It takes no memory, and a look-up for each length that a
     /// prefix has, up to the topic's.
@@ -137,7 +179,8 @@ impl Peer {
         }
         if self.greeted == GREETING_LENGTH {
             // The greeting was taken, or the peer would be refused.
-            let events = self.connection.read(self.alloc, self.role, piece)?;
+            let terms = Terms::of(self.role, &self.greeting);
+            let events = self.connection.read(self.alloc, terms, piece)?;
             return answer(events, &self.connection.stage);
         }
         let missing = GREETING_LENGTH - self.greeted;
@@ -153,7 +196,8 @@ impl Peer {
             self.connection.stage = Stage::Refused(PeerFault::Wire(fault));
             return Err(PeerFault::Wire(fault));
         }
-        let first = self.connection.read(self.alloc, self.role, stream)?;
+        let terms = Terms::of(self.role, &self.greeting);
+        let first = self.connection.read(self.alloc, terms, stream)?;
         self.greeted = GREETING_LENGTH;
         answer(first, &self.connection.stage)
     }

@@ -5,8 +5,10 @@ ghost use Rattle.std.specs.Option.{option_or};
 ghost use Rattle.std.specs.Map.{set_value};
 ghost use Rattle.std.specs.Str.{bytes_eq};
 ghost use Rattle.zmtp_peer.specs.Events.{Subscribe, event_of, events_of, bodies, message_told, told_to_publisher};
+ghost use Rattle.zmtp_peer.specs.Brought.{brought_of, brought_told};
 ghost use Rattle.zmtp_peer.specs.Subscriptions.{place_of, count_in, counted, counted_all, IsRoomFor, HasRoom, AddsIdle, DropsIdle, names, is_named, asks, is_asked};
 
+use crate::brought::Brought;
 use crate::counts::Counts;
 use crate::event::PeerEvent;
 use crate::role::Role;
@@ -35,6 +37,7 @@ fn count_event(counts: &mut Counts, event: &PeerEvent)
         }
         PeerEvent::Ready => {}
         PeerEvent::Message(_) => {}
+        PeerEvent::Ping(_) => {}
     }
 }
 
@@ -60,6 +63,7 @@ fn drop_named(counts: &mut Counts, event: &PeerEvent)
         PeerEvent::Cancel(prefix) => counts.drop_place(prefix.as_slice()),
         PeerEvent::Ready => {}
         PeerEvent::Message(_) => {}
+        PeerEvent::Ping(_) => {}
     }
 }
 
@@ -102,22 +106,49 @@ fn subscribed_by(message: &[Vec<u8>]) -> Option<&[u8]>
     if *first == 1 { Some(prefix) } else { None }
 }
 
-/// Makes a place for what a message subscribes to, if it does, so that it can be counted `more` times.
-fn reserve_message(
+/// The prefix of an event that subscribes.
+fn subscribed_as(event: &PeerEvent) -> Option<&[u8]>
+    ensures some { IfSome result (λ prefix. event_of event.now ≡ Subscribe prefix.now) }
+    ensures none { IfNone result ((n : ℕ) → (table : List (List ℕ × ℕ)) →
+        HasRoom n table (event_of event.now ∷ [])) }
+{
+    match event {
+        PeerEvent::Subscribe(prefix) => Some(prefix.as_slice()),
+        PeerEvent::Ready => None,
+        PeerEvent::Message(_) => None,
+        PeerEvent::Cancel(_) => None,
+        PeerEvent::Ping(_) => None,
+    }
+}
+
+/// The prefix to which a message or a command subscribes, if any.
+fn asked(role: Role, item: &Brought) -> Option<&[u8]>
+    ensures some { IfSome result (λ prefix. brought_told role (brought_of item.now) ≡ Subscribe prefix.now ∷ []) }
+    ensures none { IfNone result ((n : ℕ) → (table : List (List ℕ × ℕ)) →
+        HasRoom n table (brought_told role (brought_of item.now))) }
+{
+    match item {
+        Brought::Message(frames) => subscribed(role, frames),
+        Brought::Event(event) => subscribed_as(event),
+    }
+}
+
+/// Makes a place for what a message or a command subscribes to, if it does, so that it can be counted `more` times.
+fn reserve_item(
     alloc: Global,
     counts: &mut Counts,
     role: Role,
-    message: &[Vec<u8>],
+    item: &Brought,
     more: usize,
 ) -> Result<(), AllocError>
     ensures same { (q : List ℕ) → count_in counts.new q
         ≡ count_in counts.old q }
     ensures places { (q : List ℕ) → is_some (place_of counts.old q) ≡ true
         → is_some (place_of counts.new q) ≡ true }
-    ensures idle { AddsIdle (asks role message.now) counts.old counts.new }
-    ensures room { OnOk result (HasRoom more counts.new (message_told role (bodies message.now))) }
+    ensures idle { AddsIdle (asks role item.now) counts.old counts.new }
+    ensures room { OnOk result (HasRoom more counts.new (brought_told role (brought_of item.now))) }
 {
-    let Some(prefix) = subscribed(role, message) else {
+    let Some(prefix) = asked(role, item) else {
         return Ok(());
     };
     counts.add_place(alloc, prefix)?;
@@ -127,42 +158,42 @@ fn reserve_message(
     Ok(())
 }
 
-/// Makes places for all that messages subscribe to.
+/// Makes places for all that messages and commands subscribe to.
 pub(crate) fn reserve(
     alloc: Global,
     counts: &mut Counts,
     role: Role,
-    messages: &[Vec<Vec<u8>>],
+    items: &[Brought],
     more: usize,
 ) -> Result<(), AllocError>
     ensures same { (q : List ℕ) → count_in counts.new q
         ≡ count_in counts.old q }
-    ensures idle { AddsIdle (is_asked role messages.now) counts.old counts.new }
+    ensures idle { AddsIdle (is_asked role items.now) counts.old counts.new }
     ensures room { OnOk result (HasRoom more counts.new
-        (flat_map (message_told role) (map (λ message. bodies message.items) messages.now))) }
+        (flat_map (brought_told role) (map brought_of items.now))) }
 {
-    for message in messages {
-        reserve_message(alloc, counts, role, message, more)?;
+    for item in items {
+        reserve_item(alloc, counts, role, item, more)?;
     }
     Ok(())
 }
 
-/// Gives up the place that was made for a message, where nothing is counted there.
-fn release_message(counts: &mut Counts, role: Role, message: &[Vec<u8>])
+/// Gives up the place that was made for a message or a command, where nothing is counted there.
+fn release_item(counts: &mut Counts, role: Role, item: &Brought)
     ensures same { (q : List ℕ) → count_in counts.new q ≡ count_in counts.old q }
-    ensures idle { DropsIdle (asks role message.now) counts.old counts.new }
+    ensures idle { DropsIdle (asks role item.now) counts.old counts.new }
 {
-    if let Some(prefix) = subscribed(role, message) {
+    if let Some(prefix) = asked(role, item) {
         counts.drop_place(prefix);
     }
 }
 
-/// Gives up the places that were made for messages, where nothing is counted there.
-pub(crate) fn release(counts: &mut Counts, role: Role, messages: &[Vec<Vec<u8>>])
+/// Gives up the places that were made for messages and commands, where nothing is counted there.
+pub(crate) fn release(counts: &mut Counts, role: Role, items: &[Brought])
     ensures same { (q : List ℕ) → count_in counts.new q ≡ count_in counts.old q }
-    ensures idle { DropsIdle (is_asked role messages.now) counts.old counts.new }
+    ensures idle { DropsIdle (is_asked role items.now) counts.old counts.new }
 {
-    for message in messages {
-        release_message(counts, role, message);
+    for item in items {
+        release_item(counts, role, item);
     }
 }

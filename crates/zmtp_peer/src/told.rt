@@ -1,11 +1,12 @@
-//! What whole messages are told as, by role.
+//! What whole messages and commands are told as, by role.
 ghost use Rattle.std.specs.Prelude.{◌≡◌, ◌++◌, ◌∷◌, [], ◌+◌, ◌<◌, ◌≤◌, drop, map, option_map, option_to_list, length, vec_len, vec_capacity, if◌then◌else◌};
 ghost use Rattle.std.specs.List.{flat_map};
 ghost use Rattle.zmtp_peer.specs.Events.{Ready, event_of, events_of, bodies, message_told, subscription_told, told_to_publisher};
+ghost use Rattle.zmtp_peer.specs.Brought.{brought_of, brought_told};
 
+use crate::brought::Brought;
 use crate::event::PeerEvent;
 use crate::role::Role;
-use std::alloc::Global;
 use std::mem;
 
 /// What a whole message is told as, if at all.
@@ -53,41 +54,49 @@ fn behind_first(mut octets: Vec<u8>) -> Vec<u8>
     octets
 }
 
-/// Adds what a whole message is told as, if it is told at all. There is room for it.
-fn push_told(role: Role, message: Vec<Vec<u8>>, events: &mut Vec<PeerEvent>)
+/// What is told of a message or a command, if anything.
+fn event_by(role: Role, item: Brought) -> Option<PeerEvent>
+    ensures { option_to_list (option_map event_of result) ≡ brought_told role (brought_of item) }
+{
+    match item {
+        Brought::Message(frames) => told_as(role, frames),
+        Brought::Event(event) => Some(event),
+    }
+}
+
+/// Adds what is told of a message or a command, if anything. There is room for it.
+fn push_told(role: Role, item: Brought, events: &mut Vec<PeerEvent>)
     requires { vec_len events.old < vec_capacity events.old }
     ensures told { events_of events.new.items
-        ≡ events_of events.old.items ++ message_told role (bodies message.items) }
+        ≡ events_of events.old.items ++ brought_told role (brought_of item) }
     ensures few { vec_len events.new ≤ vec_len events.old + 1 }
     ensures capacity { vec_capacity events.new ≡ vec_capacity events.old }
 {
-    if let Some(event) = told_as(role, message) {
+    if let Some(event) = event_by(role, item) {
         events.push_reserved(event);
     }
 }
 
-/// The events of messages, behind READY where it came. They go into the room that was made for them.
+/// The events of messages and commands, behind READY where it came. They go into the room that was made for them.
 pub(crate) fn tell(
-    alloc: Global,
     role: Role,
     ready: bool,
-    mut messages: Vec<Vec<Vec<u8>>>,
+    mut brought: Vec<Brought>,
     mut events: Vec<PeerEvent>,
 ) -> Vec<PeerEvent>
     requires empty { events.items ≡ [] }
-    requires room { vec_len messages + 1 ≤ vec_capacity events }
+    requires room { vec_len brought + 1 ≤ vec_capacity events }
     ensures told { events_of result.items
-        ≡ (if ready then Ready ∷ [] else []) ++ flat_map (message_told role) (map (λ message. bodies
-        message.items) messages.items) }
-    ensures few { vec_len result ≤ vec_len messages + 1 }
+        ≡ (if ready then Ready ∷ [] else []) ++ flat_map (brought_told role) (map brought_of brought.items) }
+    ensures few { vec_len result ≤ vec_len brought + 1 }
     ensures capacity { vec_capacity result ≡ vec_capacity events }
 {
     if ready {
         events.push_reserved(PeerEvent::Ready);
     }
-    for i in 0..messages.len() {
-        let message = mem::replace(&mut messages[i], Vec::new(alloc));
-        push_told(role, message, &mut events);
+    for i in 0..brought.len() {
+        let item = mem::replace(&mut brought[i], Brought::Event(PeerEvent::Ready));
+        push_told(role, item, &mut events);
     }
     events
 }

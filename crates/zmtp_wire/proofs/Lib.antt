@@ -6,3 +6,4 @@ pub mod Taking
 pub mod Readings
 pub mod Decodings
 pub mod Messages
+pub mod Pongs

@@ -71,7 +71,7 @@ message_written (Ok x) old mid new body bodies others last i split so_far whole 
 
 -- ---- what is written is read
 
-size_fits : (n : ℕ) → n ≤ octet_limit → n < size_bound (nat_lt 255 n)
+pub size_fits : (n : ℕ) → n ≤ octet_limit → n < size_bound (nat_lt 255 n)
 size_fits n small = grind (arith, nat_tests)
 
 part_frame : (more : Bool) (body : List ℕ) → length body ≤ octet_limit → IsFrame (part more body) (record { more = more; command = false; body = body })

@@ -1,8 +1,9 @@
 -- Laws of the reading of streams.
-use Rattle.std.specs.Prelude.{◌≡◌, ℕ, ◌<◌, List, [], ◌∷◌, ◌++◌, length, All}
+use Rattle.std.specs.Prelude.{◌≡◌, ℕ, ◌<◌, ◌≤◌, List, [], ◌∷◌, ◌++◌, length, All}
 use Rattle.zmtp_wire.specs.declared.fault.WireFault.{WireFault}
 use Rattle.zmtp_wire.specs.Frame.{Frame, IsFrame, header_of}
 use Rattle.zmtp_wire.specs.Tally.{Fits, counted}
+use Rattle.zmtp_wire.specs.Pong.{pong, pong_octets, context_limit}
 use Rattle.zmtp_wire.specs.Message.{message_frames, message_octets, IsWithinLimits}
 use Rattle.zmtp_wire.specs.Stream.{Rest, whole, Takes, Leaves, End, Faulty, EndsIn, ReadsFrom, Reads}
 
@@ -38,6 +39,12 @@ abbrev pub MessagesAreReadBack : Type 0
 MessagesAreReadBack =
     (bodies : List (List ℕ)) (more : List ℕ) → 0 < length bodies → IsWithinLimits bodies
     → Leaves (whole (message_octets bodies ++ more)) (message_frames bodies) (whole more)
+
+-- a pong, as it is written, is read as that frame, between messages and within one, and what follows as if it stood alone
+abbrev pub PongsAreReadBack : Type 0
+PongsAreReadBack =
+    (rest : Rest) (context : List ℕ) → length context ≤ context_limit
+    → Leaves (record rest { octets = pong_octets context ++ rest.octets }) (pong context ∷ []) rest
 
 -- what happens to a stream that is read: a piece comes, or a frame is given
 pub data Event : Type 0 where

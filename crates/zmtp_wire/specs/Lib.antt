@@ -3,6 +3,7 @@ pub mod Greeting
 pub mod Header
 pub mod Tally
 pub mod Frame
+pub mod Pong
 pub mod Fronts
 pub mod Message
 pub mod Stream

@@ -21,6 +21,23 @@ pub struct Frame {
 impl Frame {
     ghost use Rattle.zmtp_wire.specs.Tally.{octet_limit};
     ghost use Rattle.zmtp_wire.specs.Frame.{frame_of, written, IsFrame, IsWriteFault};
+    ghost use Rattle.zmtp_wire.specs.Pong.{pong};
+
+    /// The command that answers a PING: PONG with the ping's context (RFC 37).
+    ///
+    /// # Errors
+    /// Want of memory.
+    pub fn pong(alloc: Global, context: &[u8]) -> Result<Frame, AllocError>
+        ensures { IfOk result (λ frame. frame_of frame ≡ pong context.now) }
+    {
+        let mut body = Vec::from_slice(alloc, b"\x04PONG")?;
+        body.extend_from_slice(context)?;
+        Ok(Frame {
+            more: false,
+            command: true,
+            body,
+        })
+    }
 
     /// The octets of the frame: its size in one octet up to 255, and in eight octets above.
     ///

@@ -10,7 +10,7 @@ pub const GREETING_LENGTH: usize = 64;
 pub const MAJOR: u8 = 3;
 
 /// The minor version that this crate writes.
-pub const MINOR: u8 = 0;
+pub const MINOR: u8 = 1;
 
 /// The mechanism NULL: its name, and zeros up to 20 octets.
 const MECHANISM: [u8; 20] = *b"NULL\0\0\0\0\0\0\0\0\0\0\0\0\0\0\0\0";

@@ -1,15 +1,15 @@
-//! The wire of ZMTP 3.0: the greeting, frames, and the reading of a stream that comes in any pieces.
+//! The wire of ZMTP 3.1: the greeting, frames, and the reading of a stream that comes in any pieces.
 //!
 //! To the layer above this crate promises that the frames which a `Decoder` gives are those of the whole list of octets
 //! fed to it, whatever the cut; that it tells the fault of that list where there is one, and for good; and that what
 //! `Greeting::write`, `Frame::write` and `write_message` give is read again, whatever follows. `send_message` writes a message to
-//! any writer, or a beginning of it.
+//! any writer, or a beginning of it, and `send_pong` the answer to a ping.
 //!
 //! The definitions, in specs/, are those of RFC 23 (ZMTP 3.0), "Formal Grammar" (greeting, command, message), with the
-//! mechanism NULL and with this project's limits on the size of a message.
+//! mechanism NULL and with this project's limits on the size of a message, and of RFC 37 (ZMTP 3.1): the minor version, and PONG.
 #![tactic(auto)]
 
-ghost use Rattle.zmtp_wire.specs.Laws.{EveryStreamIsRead, StreamsHaveOneReading, ReadingsGoOn, FaultsStay, FramesAreReadBack, MessagesAreReadBack, NoCutMatters, CutsAgree};
+ghost use Rattle.zmtp_wire.specs.Laws.{EveryStreamIsRead, StreamsHaveOneReading, ReadingsGoOn, FaultsStay, FramesAreReadBack, MessagesAreReadBack, PongsAreReadBack, NoCutMatters, CutsAgree};
 
 mod decoder;
 mod fault;
@@ -25,7 +25,7 @@ pub use fault::WireFault;
 pub use frame::Frame;
 pub use greeting::{GREETING_LENGTH, Greeting, MAJOR, MINOR};
 pub use message::{is_within_limits, write_message};
-pub use sending::{SendFault, send_message};
+pub use sending::{SendFault, send_message, send_pong};
 
 /// Law: each list of octets has a reading.
 pub fn every_stream_is_read_law()
@@ -56,6 +56,11 @@ pub fn frames_are_read_back_law()
 /// alone.
 pub fn messages_are_read_back_law()
     ensures { MessagesAreReadBack }
+{}
+
+/// Law: the octets of a pong are read as that frame, also within a message, and what follows as if it stood alone.
+pub fn pongs_are_read_back_law()
+    ensures { PongsAreReadBack }
 {}
 
 /// Law: for each list of pieces, and whenever frames are asked for in between, the frames are those of all octets joined.

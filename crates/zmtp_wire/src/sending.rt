@@ -1,17 +1,19 @@
-//! A message on its way to a writer.
+//! A message, or the answer to a ping, on its way to a writer.
 ghost use Rattle.std.specs.Prelude.{◌≡◌, IfErr, IfOk, OnErr, OnOk};
 ghost use Rattle.std.specs.Io.KnownBytes.{Appends};
 ghost use Rattle.exact_write.specs.Sent.{SentSome};
 ghost use Rattle.zmtp_wire.specs.Message.{bodies_of, message_octets, IsWithinLimits};
+ghost use Rattle.zmtp_wire.specs.Pong.{pong_octets};
 
 use crate::fault::WireFault;
+use crate::frame::Frame;
 use crate::message::write_message;
 use exact_write::send;
 use std::alloc::Global;
 use std::io::Write;
 use thiserror::Error;
 
-/// Why a message did not go out whole.
+/// Why a message, or the answer to a ping, did not go out whole.
 #[derive(Clone, Copy, Debug, PartialEq, Eq, Error)]
 pub enum SendFault {
     /// The message passes a limit, so no reader takes it. Nothing went out.
@@ -55,6 +57,36 @@ pub fn send_message<W: Write>(
     ensures too_long { IfErr result (λ fault. fault ≡ SendFault.TooLong → ¬ (IsWithinLimits (bodies_of bodies.now))) }
 {
     let octets = octets_of(alloc, bodies)?;
+    match send(writer, &octets) {
+        Ok(()) => Ok(()),
+        Err(_) => Err(SendFault::Write),
+    }
+}
+
+/// The octets of the answer to a ping with this context.
+fn pong_of(alloc: Global, context: &[u8]) -> Result<Vec<u8>, SendFault>
+    ensures { IfOk result (λ octets. octets.items ≡ pong_octets context.now) }
+{
+    let pong = match Frame::pong(alloc, context) {
+        Ok(pong) => pong,
+        Err(_) => return Err(SendFault::Memory),
+    };
+    match pong.write(alloc) {
+        Ok(octets) => Ok(octets),
+        Err(WireFault::TooLong) => Err(SendFault::TooLong),
+        Err(_) => Err(SendFault::Memory),
+    }
+}
+
+/// Writes the answer to a ping with this context, a command of its own: all its octets, or a beginning of them. It goes between two messages.
+///
+/// # Errors
+/// `TooLong` for a context that is longer than any command; `Memory` where there is none; `Write` where the writer failed.
+pub fn send_pong<W: Write>(alloc: Global, writer: &mut W, context: &[u8]) -> Result<(), SendFault>
+    ensures ok { OnOk result (Appends (W.contents writer.old) (W.contents writer.new) (pong_octets context.now)) }
+    ensures err { OnErr result (SentSome (W.contents writer.old) (W.contents writer.new) (pong_octets context.now)) }
+{
+    let octets = pong_of(alloc, context)?;
     match send(writer, &octets) {
         Ok(()) => Ok(()),
         Err(_) => Err(SendFault::Write),

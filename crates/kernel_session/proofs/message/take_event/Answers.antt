@@ -2,11 +2,12 @@ use Rattle.std.proofs.Common.{refl, subst, IfOk, OnErr, ◌≡◌}
 use Rattle.std.specs.Io.KnownBytes.{Appends}
 use Rattle.jupyter_msg.specs.Octets.{octets}
 use Rattle.zmtp_wire.specs.Message.{message_octets}
-use Rattle.zmtp_peer.specs.declared.event.PeerEvent.TheVariants.{Message}
-use Rattle.kernel_session.specs.declared.socket.Socket.TheVariants.{Shell, Control}
+use Rattle.zmtp_wire.specs.Pong.{pong_octets}
+use Rattle.zmtp_peer.specs.declared.event.PeerEvent.TheVariants.{Message, Ping}
+use Rattle.kernel_session.specs.declared.socket.Socket.TheVariants.{Shell, Control, Heartbeat}
 use Rattle.kernel_session.specs.declared.flow.Flow.TheVariants.{Going}
 use Rattle.exact_write.specs.Sent.{SentSome}
-use Rattle.kernel_session.proofs.EventLemmas.{turn_takes, turn_breaks, echo_takes, echo_breaks}
+use Rattle.kernel_session.proofs.EventLemmas.{turn_takes, turn_breaks, sent_takes, sent_breaks}
 use Rattle.kernel_session.proofs.message.take_event.Goals as goal
 
 pub returns-in-Shell-clause-ok : goal.returns-in-Shell-clause-ok
@@ -35,14 +36,30 @@ returns-in-Control-clause-err g c =
 
 pub returns-in-Heartbeat-clause-ok : goal.returns-in-Heartbeat-clause-ok
 returns-in-Heartbeat-clause-ok g c =
-    echo_takes g.W.Write.contents g.D.Desk.leads c.args.key.now c.args.writer.now c.echo.new.writer c.args.desk.now c.args.stamp.now c.args.socket
-    c.in-Heartbeat.is c.args.event (Message c.in-Message.frames) c.in-Message.is (octets c.in-Message.frames.items) refl c.echo.result
+    sent_takes g.W.Write.contents g.D.Desk.leads c.args.key.now c.args.writer.now c.echo.new.writer c.args.desk.now c.args.stamp.now c.args.socket
+    Heartbeat c.in-Heartbeat.is c.args.event (Message c.in-Message.frames) c.in-Message.is (message_octets (octets c.in-Message.frames.items)) (refl, refl)
+    c.echo.result
     (subst (λ x. IfOk c.echo.result (λ flow. (flow ≡ Going)
     × Appends (g.W.Write.contents c.args.writer.now) (g.W.Write.contents c.echo.new.writer) (message_octets (octets x)))) c.deref.ensures.value c.echo.ensures.ok)
 
 pub returns-in-Heartbeat-clause-err : goal.returns-in-Heartbeat-clause-err
 returns-in-Heartbeat-clause-err g c =
-    echo_breaks g.W.Write.contents g.D.Desk.leads c.args.key.now c.args.writer.now c.echo.new.writer c.args.desk.now c.args.stamp.now c.args.socket
-    c.in-Heartbeat.is c.args.event (Message c.in-Message.frames) c.in-Message.is (octets c.in-Message.frames.items) refl c.echo.result
+    sent_breaks g.W.Write.contents g.D.Desk.leads c.args.key.now c.args.writer.now c.echo.new.writer c.args.desk.now c.args.stamp.now c.args.socket
+    Heartbeat c.in-Heartbeat.is c.args.event (Message c.in-Message.frames) c.in-Message.is (message_octets (octets c.in-Message.frames.items)) (refl, refl)
+    c.echo.result
     (subst (λ x. OnErr c.echo.result (SentSome (g.W.Write.contents c.args.writer.now) (g.W.Write.contents c.echo.new.writer) (message_octets (octets x))))
     c.deref.ensures.value c.echo.ensures.err)
+
+pub returns-in-Ping-clause-ok : goal.returns-in-Ping-clause-ok
+returns-in-Ping-clause-ok g c =
+    sent_takes g.W.Write.contents g.D.Desk.leads c.args.key.now c.args.writer.now c.pong.new.writer c.args.desk.now c.args.stamp.now c.args.socket
+    c.args.socket refl c.args.event (Ping c.in-Ping.context) c.in-Ping.is (pong_octets c.in-Ping.context.items) (refl, refl) c.pong.result
+    (subst (λ x. IfOk c.pong.result (λ flow. (flow ≡ Going)
+    × Appends (g.W.Write.contents c.args.writer.now) (g.W.Write.contents c.pong.new.writer) (pong_octets x))) c.deref-in-Ping.ensures.value c.pong.ensures.ok)
+
+pub returns-in-Ping-clause-err : goal.returns-in-Ping-clause-err
+returns-in-Ping-clause-err g c =
+    sent_breaks g.W.Write.contents g.D.Desk.leads c.args.key.now c.args.writer.now c.pong.new.writer c.args.desk.now c.args.stamp.now c.args.socket
+    c.args.socket refl c.args.event (Ping c.in-Ping.context) c.in-Ping.is (pong_octets c.in-Ping.context.items) (refl, refl) c.pong.result
+    (subst (λ x. OnErr c.pong.result (SentSome (g.W.Write.contents c.args.writer.now) (g.W.Write.contents c.pong.new.writer) (pong_octets x)))
+    c.deref-in-Ping.ensures.value c.pong.ensures.err)

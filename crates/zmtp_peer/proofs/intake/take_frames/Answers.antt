@@ -16,7 +16,7 @@ loop-intake-preserved c =
     let now = length c.next.new.self.rest.octets in
     let shorter : now < before = takes-shorter c.loop-intake.decoder.rest (frame_of c.in-Ok-Some.frame) c.next.new.self.rest (rw c.in-Ok-Some.field-0-is at c.in-Ok-Some.ensures.frame) in
     record {
-      taken = taken-more c.args.role c.args.decoder.now.rest c.args.intake.now c.loop-intake.decoder.rest c.next.new.self.rest c.loop-intake.intake c.take_frame.new.intake (frame_of c.in-Ok-Some.frame) so_far.taken
+      taken = taken-more c.args.terms c.args.decoder.now.rest c.args.intake.now c.loop-intake.decoder.rest c.next.new.self.rest c.loop-intake.intake c.take_frame.new.intake (frame_of c.in-Ok-Some.frame) so_far.taken
           (rw c.in-Ok-Some.field-0-is at c.in-Ok-Some.ensures.frame) c.in_ok-take_frame-in-Ok-Some.ensures.state c.in_ok-take_frame-in-Ok-Some.ensures.told;
       before = c.next.ensures.before ∙ so_far.before;
       kept = keeps-then (front_of c.args.intake.now) (front_of c.loop-intake.intake) (front_of c.take_frame.new.intake) so_far.kept c.take_frame.ensures.kept;
@@ -34,7 +34,7 @@ returns-in-Refused c =
     let first = length c.args.decoder.now.rest.octets in
     let refused : IsRefusal (state_of intake) = subst (λ (at : Stage). IsRefusal (state_at at (bodies intake.held.items))) (sym c.in-Refused.is) tt in
     record {
-      taken = taken-refused c.args.role c.args.decoder.now.rest c.args.intake.now c.loop-intake.decoder.rest intake so_far.taken refused;
+      taken = taken-refused c.args.terms c.args.decoder.now.rest c.args.intake.now c.loop-intake.decoder.rest intake so_far.taken refused;
       before = so_far.before;
       room = so_far.room;
       kept = so_far.kept;
@@ -49,9 +49,9 @@ returns-in-Ok-None c =
     let first = length c.args.decoder.now.rest.octets in
     let same : c.next.new.self ≡ c.loop-intake.decoder = rw c.in-Ok-None.field-0-is at c.in-Ok-None.ensures.none in
     let going = going-on intake.stage (bodies intake.held.items) c.in_default.not-Refused in
-    let taken = taken-partial c.args.role c.args.decoder.now.rest c.args.intake.now c.loop-intake.decoder.rest intake so_far.taken (rw c.in-Ok-None.field-0-is at c.in-Ok-None.ensures.partial) going in
+    let taken = taken-partial c.args.terms c.args.decoder.now.rest c.args.intake.now c.loop-intake.decoder.rest intake so_far.taken (rw c.in-Ok-None.field-0-is at c.in-Ok-None.ensures.partial) going in
     record {
-      taken = subst (λ (d : Decoding). TakesFrames c.args.role c.args.decoder.now.rest c.args.intake.now d.rest intake) (sym same) taken;
+      taken = subst (λ (d : Decoding). TakesFrames c.args.terms c.args.decoder.now.rest c.args.intake.now d.rest intake) (sym same) taken;
       before = c.next.ensures.before ∙ so_far.before;
       room = c.next.ensures.room ∙ so_far.room;
       kept = so_far.kept;

@@ -6,7 +6,7 @@ use Rattle.zmtp_peer.proofs.intake.take_frames.Given as goal
 -- some frames are taken, and what they bring is added
 abbrev pub invariant-loop-intake : goal.invariant-loop-intake
 invariant-loop-intake l = record {
-  taken : Taken l.role l.fn.decoder.rest l.fn.intake l.decoder.rest l.intake;
+  taken : Taken l.terms l.fn.decoder.rest l.fn.intake l.decoder.rest l.intake;
   before : l.decoder.before ≡ l.fn.decoder.before;
   kept : Keeps (front_of l.fn.intake) (front_of l.intake);
   fresh : IsFresh l.intake;

@@ -73,7 +73,7 @@ returns c =
     ap (λ (r : Rest). length r.octets) rest ∙ length-append self.decoder.rest.octets piece in
     let room : c.feed.new.self.room ≤ max self.decoder.room (4 * (length self.decoder.rest.octets + length piece)) = at_ok _ c.feed.result fine c.feed.ensures.room in
     record {
-      read = subst (λ (r : Rest). IfOk frames.result (λ events. ReadsPiece c.args.role r (state_in self) new.decoder.rest (state_in new) (events_of events.items))) rest frames.ensures.read;
+      read = subst (λ (r : Rest). IfOk frames.result (λ events. ReadsPiece c.args.terms r (state_in self) new.decoder.rest (state_in new) (events_of events.items))) rest frames.ensures.read;
       counted = frames.ensures.counted;
       unread = unread frames.result self new c.feed.new.self.before (ap (λ (d : Decoding). d.before) same) frames.ensures.rest frames.ensures.stage frames.ensures.held;
       uncounted = frames.ensures.uncounted;

@@ -1,4 +1,4 @@
-use Rattle.std.proofs.Common.{◌≡◌, ℕ, ◌≤◌, vec_len, ◌+◌, List, [], ◌++◌, ap, sym, subst, ◌∙◌, take, length, length-append, arith, refl}
+use Rattle.std.proofs.Common.{◌≡◌, ℕ, ◌≤◌, vec_len, ◌+◌, List, [], ◌++◌, ap, sym, subst, ◌∙◌, take, take_all, length, length-append, arith, refl}
 use Rattle.std.specs.Vec.{vec_capacity}
 use Rattle.std.proofs.lemmas.List.{length-take-le}
 use Rattle.std.proofs.lemmas.Result.{err_from_is_err_and}
@@ -10,10 +10,12 @@ use Rattle.std.specs.declared.vec.Vec.{Vec}
 use Rattle.zmtp_peer.specs.declared.fault.PeerFault.{PeerFault}
 use Rattle.zmtp_peer.specs.declared.intake.Stage.TheVariants as stage
 use Rattle.zmtp_peer.specs.declared.intake.Stage.{Stage}
+use Rattle.zmtp_peer.specs.declared.terms.Terms.{Terms}
+use Rattle.zmtp_peer.specs.Terms.{terms_of}
 use Rattle.zmtp_peer.specs.Faults.{fault_of, Wire, want_of_memory}
 use Rattle.zmtp_peer.specs.Events.{Event, Refused, bodies, events_of}
 use Rattle.zmtp_peer.specs.Intake.{IsRefusal, state_at}
-use Rattle.zmtp_peer.specs.Connection.{state_in, room_in}
+use Rattle.zmtp_peer.specs.Connection.{ReadsPiece, state_in, room_in}
 use Rattle.zmtp_peer.specs.Reading.{Standing, Brings, ReservesFor, Reserves}
 use Rattle.zmtp_peer.proofs.ReadingLemmas.{standing, stands-refused, stands-short, stands-unwelcome, stands-read, stands-on, stands-same}
 use Rattle.zmtp_peer.proofs.RoomLemmas.{reserves-none, reserves-fewer, reserves-within, held-count}
@@ -64,7 +66,10 @@ returns-then-self-eq-GREETING_LENGTH c =
     let after : Standing = standing inside.role greeting (state_in new) new.decoder.rest new.counts (room_in new) in
     let complete : length greeting ≡ 64 = length-take-le inside.greeted inside.greeting (omega (arith, c.self.told, c.self.invariant.0)) ∙ c.if-self-eq-GREETING_LENGTH.true in
     let events = c.in_ok-events.events in
-    let brings = stands-on inside.role greeting (state_in kept) kept.decoder.rest table (room_in kept) piece greeting (state_in new) new.decoder.rest new.counts (room_in new) (events_of events.items) refl complete going c.in_ok-events.ensures.read c.in_ok-events.ensures.counted in
+    let whole : take inside.greeted inside.greeting ≡ inside.greeting = take_all inside.greeted inside.greeting (omega (arith, c.of-terms.ensures.size, c.if-self-eq-GREETING_LENGTH.true)) in
+    let read = subst (λ (terms : Terms). ReadsPiece terms (longer kept.decoder.rest piece) (state_in kept) new.decoder.rest (state_in new) (events_of events.items))
+    (c.of-terms.ensures.terms ∙ ap (terms_of inside.role) (sym whole)) c.in_ok-events.ensures.read in
+    let brings = stands-on inside.role greeting (state_in kept) kept.decoder.rest table (room_in kept) piece greeting (state_in new) new.decoder.rest new.counts (room_in new) (events_of events.items) refl complete going read c.in_ok-events.ensures.counted in
     let here : Brings now piece (events_of events.items) after = subst (λ (s : Standing). Brings s piece (events_of events.items) after) c.self.view_is brings in
     let reached : (fault : PeerFault) → new.stage ≡ stage.Refused fault → state_in new ≡ Refused (fault_of fault) = λ fault h. ap (λ (at : Stage). state_at at (bodies new.held.items)) h in
     let count = held-count kept.stage kept.held c.self.invariant.1.0 going in
@@ -80,7 +85,7 @@ returns-then-self-eq-GREETING_LENGTH c =
       fault = err-weaker c.answer.result (λ fault. (events.items ≡ []) × (new.stage ≡ stage.Refused fault)) (λ fault. ¬ (fault_of fault ≡ want_of_memory) → Brings now piece [] after × (state_in new ≡ Refused (fault_of fault)))
           (λ fault h _. (subst (λ (es : List Event). Brings now piece es after) (ap events_of h.0) here, reached fault h.1)) c.answer.ensures.fault;
       memory = err-weaker c.answer.result (λ fault. (events.items ≡ []) × (new.stage ≡ stage.Refused fault)) (λ fault. fault_of fault ≡ want_of_memory → Brings now [] [] after)
-          (λ fault h is. absurd (never-memory inside.role (longer kept.decoder.rest piece) new.decoder.rest (state_in kept) (state_in new) (events_of events.items) c.in_ok-events.ensures.read going (reached fault h.1 ∙ ap Refused is))) c.answer.ensures.fault;
+          (λ fault h is. absurd (never-memory c.of-terms.result (longer kept.decoder.rest piece) new.decoder.rest (state_in kept) (state_in new) (events_of events.items) c.in_ok-events.ensures.read going (reached fault h.1 ∙ ap Refused is))) c.answer.ensures.fault;
       stays = λ fault is. absurd (going (subst IsRefusal (sym is ∙ ap (λ (s : Standing). s.state) (sym c.self.view_is)) tt));
       given_back = c.read.ensures.given_back;
       room = ok-weaker c.answer.result (λ told. told ≡ events) (λ told. Reserves piece now after (vec_capacity told))
@@ -190,8 +195,10 @@ returns c =
     let all : take 64 filled ≡ filled = take-whole filled c.write_at-2.ensures.size in
     let size : length (take 64 filled) ≡ 64 = ap length all ∙ c.write_at-2.ensures.size in
     let written : take 64 filled ≡ greeting ++ front = whole-front filled inside.greeting front inside.greeted c.write_at-2.ensures.written (omega (arith, c.split_at.ensures.front_len, c.self.invariant.0)) in
+    let read = subst (λ (terms : Terms). ReadsPiece terms (longer kept.decoder.rest stream) (state_in kept) new.decoder.rest (state_in new) (events_of events.items))
+    (c.of-terms-2.ensures.terms ∙ ap (terms_of inside.role) (sym all)) c.in_ok-first.ensures.read in
     let brings = stands-read inside.role greeting (state_in kept) kept.decoder.rest table (room_in kept) front stream (take 64 filled) c.in_default-read.field-0 (state_in new) new.decoder.rest new.counts (room_in new) (events_of events.items)
-    written size (subst (λ (o : List ℕ). IsGreeting o c.in_default-read.field-0) (sym all) c.in_default-read.ensures.greeting) going c.in_ok-first.ensures.read c.in_ok-first.ensures.counted in
+    written size (subst (λ (o : List ℕ). IsGreeting o c.in_default-read.field-0) (sym all) c.in_default-read.ensures.greeting) going read c.in_ok-first.ensures.counted in
     let here : Brings now c.args.piece.now (events_of events.items) after =
     subst (λ (s : Standing). Brings s c.args.piece.now (events_of events.items) after) c.self.view_is
     (subst (λ (o : List ℕ). Brings (standing inside.role greeting (state_in kept) kept.decoder.rest table (room_in kept)) o (events_of events.items) after) (sym c.split_at.ensures.by_index.0) brings) in
@@ -212,7 +219,7 @@ returns c =
       fault = err-weaker c.answer-2.result (λ fault. (events.items ≡ []) × (new.stage ≡ stage.Refused fault)) (λ fault. ¬ (fault_of fault ≡ want_of_memory) → Brings now c.args.piece.now [] after × (state_in new ≡ Refused (fault_of fault)))
           (λ fault h _. (subst (λ (es : List Event). Brings now c.args.piece.now es after) (ap events_of h.0) here, reached fault h.1)) c.answer-2.ensures.fault;
       memory = err-weaker c.answer-2.result (λ fault. (events.items ≡ []) × (new.stage ≡ stage.Refused fault)) (λ fault. fault_of fault ≡ want_of_memory → Brings now [] [] after)
-          (λ fault h is. absurd (never-memory inside.role (longer kept.decoder.rest stream) new.decoder.rest (state_in kept) (state_in new) (events_of events.items) c.in_ok-first.ensures.read going (reached fault h.1 ∙ ap Refused is))) c.answer-2.ensures.fault;
+          (λ fault h is. absurd (never-memory c.of-terms-2.result (longer kept.decoder.rest stream) new.decoder.rest (state_in kept) (state_in new) (events_of events.items) c.in_ok-first.ensures.read going (reached fault h.1 ∙ ap Refused is))) c.answer-2.ensures.fault;
       stays = λ fault is. absurd (going (subst IsRefusal (sym is ∙ ap (λ (s : Standing). s.state) (sym c.self.view_is)) tt));
       given_back = c.read-3.ensures.given_back;
       room = ok-weaker c.answer-2.result (λ told. told ≡ events) (λ told. Reserves piece now after (vec_capacity told))
