@@ -9,6 +9,13 @@ use Rattle.exact_write.specs.Sent.{SentSome}
 use Rattle.kernel_text.specs.ValueTexts.{spaced_text, numbers_text}
 use Rattle.exact_write.proofs.SendLemmas.{appends_join, sent_then, sent_first}
 use Rattle.std.specs.Option.{unwrap_or}
+use Rattle.std.specs.Iterator.{YieldsFirst}
+use Rattle.std.specs.Iterator.Adapters.{take_source, take_count, take_steps}
+use Rattle.std.specs.declared.iter.Take.{Take}
+use Rattle.std.proofs.lemmas.Iterator.{YieldsList, YieldsList-from_take}
+use Rattle.std.proofs.lemmas.Iterator.Consumers.{YieldsList-from_first}
+use Rattle.janus_store.specs.Stacks.{held}
+use Rattle.janus_store.specs.declared.stack_view.StackView.{StackView}
 
 Some_inj : {A : Type 0} {x y : A} → Some x ≡ Some y → x ≡ y
 Some_inj {x = x} h = ap (λ o. unwrap_or o x) h
@@ -31,6 +38,11 @@ pub number_then : (a b c : Option (List ℕ)) (l : List ℤ) (i : ℕ) (n : ℤ)
 number_then a b c l i n h p q =
     subst (Appends a c) (sym (spaced_next l i n h) ∙ ap (λ k. spaced_text (take k l)) (sym (add-one i))) (appends_join a b c _ _ p q)
 
+-- one more number behind those that are written
+pub number_added : (a b c : Option (List ℕ)) (l : List ℤ) (n : ℤ) → Appends a b (spaced_text l) → Appends b c (one_text n) → Appends a c (spaced_text (l ++ n ∷ []))
+number_added a b c l n p q =
+    subst (Appends a c) (ap (λ t. spaced_text l ++ t) (sym (append-nil (one_text n))) ∙ sym (spaced_split l (n ∷ []))) (appends_join a b c _ _ p q)
+
 pub number_failed : (a b c : Option (List ℕ)) (l : List ℤ) (i : ℕ) (n : ℤ) → slice_get l i ≡ Some n → Appends a b (spaced_text (take i l)) → SentSome b c (one_text n) → SentSome a c (spaced_text l)
 number_failed a b c l i n h p q =
     let all : spaced_text l ≡ spaced_text (take (suc i) l) ++ spaced_text (drop (suc i) l) = ap spaced_text (sym (take-append-drop (suc i) l)) ∙ spaced_split (take (suc i) l) (drop (suc i) l) in
@@ -50,12 +62,12 @@ few_text l h = ap (λ b. if b then spaced_text l else spaced_text (take 32 l) ++
 
 -- ---- from the top of a stack down
 
--- what stands among the first ones
-pub taken_at : (l : List ℤ) (count i : ℕ) (n : ℤ) → i < count → slice_get l i ≡ Some n → slice_get (take count l) i ≡ Some n
-taken_at [] count i n h k = absurd (cc k)
-taken_at (x ∷ l) zero i n h k = absurd (omega arith)
-taken_at (x ∷ l) (suc count) zero n h k = k
-taken_at (x ∷ l) (suc count) (suc i) n h k = taken_at l count i n (omega arith) k
+-- which values come where the newest ones are gone over
+pub newest_come : (values : StackView) (count : ℕ) (begun taken : Take StackView) → begun ≡ taken → take_source taken ≡ values → take_count taken ≡ count
+    → YieldsList (take_steps (YieldsFirst held)) (λ n. n) begun (take count (held values))
+newest_come values count begun taken same source number =
+    let top = ap (λ s. held (take_source s)) same ∙ ap held source in
+    YieldsList-from_take {s = begun} count (YieldsList-from_first (λ n. n) held (held values) top) (ap take_count same ∙ number)
 
 pub all_tops : (l : List ℤ) → length l ≤ 32 → spaced_text (take (length l) l) ≡ numbers_text l
 all_tops l h = ap spaced_text (take_all (length l) l (omega arith)) ∙ sym (few_text l h)

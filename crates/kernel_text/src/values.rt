@@ -1,5 +1,5 @@
 //! Value texts: a name and its value, as `x = 5`, `a[3] = 1 2 3` and `s(2) = 7 3`.
-ghost use Rattle.std.specs.Prelude.{◌≡◌, ◌≤◌, ◌++◌, codes, length, take, string_bytes, IfOk, OnOk, OnErr};
+ghost use Rattle.std.specs.Prelude.{◌≡◌, ◌++◌, codes, length, take, string_bytes, IfOk, OnOk, OnErr};
 ghost use Rattle.std.specs.Fmt.{signed_decimal};
 ghost use Rattle.std.specs.Io.KnownBytes.{Appends};
 ghost use Rattle.janus_meaning.specs.Store.{Stk};
@@ -94,12 +94,11 @@ fn send_tops<W: Write>(
     values: &StackView<'_>,
     count: usize,
 ) -> Result<(), WriteFailed>
-    requires { count ≤ length (held values.now) }
     ensures ok { OnOk result (Appends (W.contents writer.old) (W.contents writer.new) (spaced_text (take count (held values.now)))) }
     ensures err { OnErr result (SentSome (W.contents writer.old) (W.contents writer.new) (spaced_text (take count (held values.now)))) }
 {
-    for i in 0..count {
-        send_spaced(writer, values.get(i))?;
+    for value in (*values).take(count) {
+        send_spaced(writer, value)?;
     }
     Ok(())
 }
