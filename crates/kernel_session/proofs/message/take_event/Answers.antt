@@ -40,7 +40,7 @@ returns-in-Heartbeat-clause-ok g c =
     Heartbeat c.in-Heartbeat.is c.args.event (Message c.in-Message.frames) c.in-Message.is (message_octets (octets c.in-Message.frames.items)) (refl, refl)
     c.echo.result
     (subst (λ x. IfOk c.echo.result (λ flow. (flow ≡ Going)
-    × Appends (g.W.Write.contents c.args.writer.now) (g.W.Write.contents c.echo.new.writer) (message_octets (octets x)))) c.deref.ensures.value c.echo.ensures.ok)
+    × Appends (g.W.Write.contents c.args.writer.now) (g.W.Write.contents c.echo.new.writer) (message_octets (octets x)))) c.deref-in-Heartbeat.ensures.value c.echo.ensures.ok)
 
 pub returns-in-Heartbeat-clause-err : goal.returns-in-Heartbeat-clause-err
 returns-in-Heartbeat-clause-err g c =
@@ -48,18 +48,18 @@ returns-in-Heartbeat-clause-err g c =
     Heartbeat c.in-Heartbeat.is c.args.event (Message c.in-Message.frames) c.in-Message.is (message_octets (octets c.in-Message.frames.items)) (refl, refl)
     c.echo.result
     (subst (λ x. OnErr c.echo.result (SentSome (g.W.Write.contents c.args.writer.now) (g.W.Write.contents c.echo.new.writer) (message_octets (octets x))))
-    c.deref.ensures.value c.echo.ensures.err)
+    c.deref-in-Heartbeat.ensures.value c.echo.ensures.err)
 
 pub returns-in-Ping-clause-ok : goal.returns-in-Ping-clause-ok
 returns-in-Ping-clause-ok g c =
     sent_takes g.W.Write.contents g.D.Desk.leads c.args.key.now c.args.writer.now c.pong.new.writer c.args.desk.now c.args.stamp.now c.args.socket
     c.args.socket refl c.args.event (Ping c.in-Ping.context) c.in-Ping.is (pong_octets c.in-Ping.context.items) (refl, refl) c.pong.result
     (subst (λ x. IfOk c.pong.result (λ flow. (flow ≡ Going)
-    × Appends (g.W.Write.contents c.args.writer.now) (g.W.Write.contents c.pong.new.writer) (pong_octets x))) c.deref-in-Ping.ensures.value c.pong.ensures.ok)
+    × Appends (g.W.Write.contents c.args.writer.now) (g.W.Write.contents c.pong.new.writer) (pong_octets x))) c.deref.ensures.value c.pong.ensures.ok)
 
 pub returns-in-Ping-clause-err : goal.returns-in-Ping-clause-err
 returns-in-Ping-clause-err g c =
     sent_breaks g.W.Write.contents g.D.Desk.leads c.args.key.now c.args.writer.now c.pong.new.writer c.args.desk.now c.args.stamp.now c.args.socket
     c.args.socket refl c.args.event (Ping c.in-Ping.context) c.in-Ping.is (pong_octets c.in-Ping.context.items) (refl, refl) c.pong.result
     (subst (λ x. OnErr c.pong.result (SentSome (g.W.Write.contents c.args.writer.now) (g.W.Write.contents c.pong.new.writer) (pong_octets x)))
-    c.deref-in-Ping.ensures.value c.pong.ensures.err)
+    c.deref.ensures.value c.pong.ensures.err)
