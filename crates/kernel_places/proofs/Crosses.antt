@@ -4,6 +4,8 @@ use denote.RattleType.{RattleType}
 use denote.Param.Send.{IsSend, IsSync, sendable}
 use Rattle.std.proofs.Crossing.{crosses, frees}
 use Rattle.std.specs.declared.sync.ledger.Ledger as Ledger
+use Rattle.std.proofs.sync.ledger.Book.TheSendSync.{the_send as book_send}
+use Rattle.std.proofs.sync.ledger.Share.TheSendSync.{the_send as share_send}
 use Rattle.circular_buffer.proofs.cells.Cells.TheSendSync.{the_send as cells_send}
 use Rattle.circular_buffer.proofs.cells.Deed.TheSendSync.{the_send as deed_send}
 use Rattle.kernel_board.specs.contracts.broadcast.Broadcast as Broadcast
@@ -12,6 +14,7 @@ use Rattle.kernel_hall.proofs.Crosses.{Hall-sync}
 use Rattle.kernel_iopub.specs.contracts.bulletin.Bulletin as Bulletin
 use Rattle.kernel_sockets.specs.contracts.connections.Connections as Connections
 use Rattle.kernel_sockets.specs.contracts.listener.Listener as Listener
+use Rattle.kernel_sockets.specs.contracts.shares.Common as Common
 use Rattle.kernel_sockets.specs.contracts.shares.Strangers as Strangers
 use Rattle.kernel_places.specs.contracts.latch.Latch as Latch
 use Rattle.kernel_places.specs.contracts.door.Door as Door
@@ -29,9 +32,6 @@ Bulletin-sync = search (crosses, BroadcastLog-send, sendable) depth 60 fits 2000
 pub Connections-sync : IsSync (Connections.the_field).row
 Connections-sync = search (crosses, sendable) depth 60 fits 20000
 
-Strangers-sync : IsSync (Strangers.the_field).row
-Strangers-sync = search (crosses, sendable) depth 60 fits 20000
-
 pub Listener-sync : IsSync (Listener.the_field).row
 Listener-sync = search (crosses, sendable) depth 60 fits 20000
 
@@ -41,6 +41,16 @@ Latch-sync = search (crosses, sendable) depth 60 fits 20000
 pub Door-sync : IsSync (Door.the_field).row
 Door-sync = search (crosses, sendable) depth 60 fits 20000
 
-module _ (W L : RattleType) (w : Ledger.Ghosts W.Denot) (l : Ledger.Ghosts L.Denot) where
-  pub Service-sync : IsSend W → IsSend L → IsSync (Service.the_field W L w l).row
-  Service-sync s t = let hall = Hall-sync W L w l s t in search (crosses, Bulletin-sync, Connections-sync, Strangers-sync, Latch-sync, Door-sync, sendable) depth 60 fits 20000
+module _ (S : RattleType) (s : Ledger.Ghosts S.Denot) where
+  Common-send : IsSend S → IsSend (Common.the_field S s).row
+  Common-send u = search (crosses, book_send, share_send, sendable) depth 60 fits 20000
+
+  Strangers-sync : IsSend S → IsSync (Strangers.the_field S s).row
+  Strangers-sync u = let common = Common-send u in search (crosses, sendable) depth 60 fits 20000
+
+module _ (W L S : RattleType) (w : Ledger.Ghosts W.Denot) (l : Ledger.Ghosts L.Denot) (s : Ledger.Ghosts S.Denot) where
+  pub Service-sync : IsSend W → IsSend L → IsSend S → IsSync (Service.the_field W L S w l s).row
+  Service-sync a b c =
+      let hall = Hall-sync W L w l a b in
+      let strangers = Strangers-sync S s c in
+      search (crosses, Bulletin-sync, Connections-sync, Latch-sync, Door-sync, sendable) depth 60 fits 20000

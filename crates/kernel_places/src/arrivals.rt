@@ -1,16 +1,21 @@
 //! What comes on a connection and what goes out on it, each in its time.
+ghost use Rattle.std.specs.Prelude.{◌≡◌, ◌+◌, IsTrue, false, min, if◌then◌else◌};
 ghost use Rattle.std.specs.Io.{ReadsAtMost, WritesAtMost};
+ghost use Rattle.kernel_sockets.specs.declared.shares.TheConstants.{READ_OCTETS};
 
+use kernel_session::Socket;
 use kernel_sockets::{
-    Input, MESSAGE_MILLISECONDS, OWN_OCTETS, Patience, Presence, Share, Strangers,
+    Allowance, Input, MESSAGE_MILLISECONDS, OWN_OCTETS, Patience, Presence, READ_OCTETS, Share,
+    Strangers,
 };
 use std::alloc::Global;
 use std::io;
 use std::io::{ErrorKind, Read, Write};
 use std::net::{Shutdown, TcpStream};
 use std::sync::Wait;
+use std::sync::ledger::Ledger;
 use std::time::{Clock, Duration};
-use zmtp_peer::{Peer, PeerEvent, Role};
+use zmtp_peer::{Peer, PeerEvent};
 
 /// A handshake may take so long from the time at which the connection was accepted.
 const HANDSHAKE_SECONDS: u64 = 10;
@@ -31,20 +36,37 @@ fn handshake_end<R: Clock>(rt: &R) -> Duration {
     clock_of(rt).saturating_add(Duration::from_secs(HANDSHAKE_SECONDS))
 }
 
-/// What shows who is at the other end of a connection, and what becomes of what came.
-#[derive(Clone, Copy, PartialEq, Eq)]
-pub(crate) enum Custom {
-    /// A signed message shows who has the key: on shell and control.
-    Signed,
-    /// Nothing is signed, and what goes out answers all that came: on the heartbeat.
-    Answered,
-    /// Nothing is signed, and what came counts as long as the connection is there: on iopub, where prefixes are kept, and on stdin, where nothing is asked.
-    Kept,
+/// Whether a signed message shows who has the key. On the other sockets nothing is signed, and who is heard or takes what goes out is there.
+fn is_signed(socket: Socket) -> bool {
+    match socket {
+        Socket::Shell | Socket::Control => true,
+        Socket::Iopub | Socket::Stdin | Socket::Heartbeat => false,
+    }
+}
+
+/// Whether what goes out answers all that came. On iopub prefixes are kept, and on stdin nothing is asked, so there what came counts as long as the
+/// connection is there.
+fn is_answered(socket: Socket) -> bool {
+    match socket {
+        Socket::Heartbeat => true,
+        Socket::Shell | Socket::Control | Socket::Iopub | Socket::Stdin => false,
+    }
+}
+
+/// How many octets are read at once, of so many for which there is room: of a stranger no more than its messages may take lists for.
+fn most_at_once(is_trusted: bool, room: usize) -> usize
+    ensures { result ≡ (if is_trusted then room else min room READ_OCTETS) }
+{
+    if is_trusted {
+        room
+    } else {
+        room.min(READ_OCTETS)
+    }
 }
 
 /// What comes on a connection, up to its end. A handshake that takes longer than ten seconds fails, and so does a stranger of whom nothing more can be held.
-#[derive(Drop)]
-pub(crate) struct Arrivals<'a, R: Clock> {
+/// It can't be let go of: [`Arrivals::end`] gives back what is counted of it.
+pub(crate) struct Arrivals<'a, R: Clock, S: Ledger> {
     rt: &'a R,
     stream: &'a TcpStream,
     input: Input<'a>,
@@ -53,61 +75,88 @@ pub(crate) struct Arrivals<'a, R: Clock> {
     handshake: Option<Peer>,
     /// When the handshake has to be over.
     until: Duration,
-    custom: Custom,
-    strangers: &'a Strangers,
+    socket: Socket,
+    strangers: &'a Strangers<S>,
     /// What it brought while it is a stranger.
-    share: Share,
+    share: Share<S>,
 }
 
-impl<'a, R: Clock + Wait> Arrivals<'a, R> {
-    /// What comes on a connection that was accepted just now, to a socket of this role.
+impl<'a, R: Clock + Wait, S: Ledger> Arrivals<'a, R, S> {
+    /// What comes on a connection of a socket that was accepted just now.
     pub fn new(
         rt: &'a R,
         alloc: Global,
         stream: &'a TcpStream,
         input: Input<'a>,
         presence: &'a Presence,
-        role: Role,
-        custom: Custom,
-        strangers: &'a Strangers,
-    ) -> Arrivals<'a, R> {
+        socket: Socket,
+        strangers: &'a Strangers<S>,
+        allowance: Allowance<S>,
+    ) -> Arrivals<'a, R, S> {
         Arrivals {
             rt,
             stream,
             input,
             presence,
-            handshake: Some(Peer::new(alloc, role)),
+            handshake: Some(Peer::new(alloc, socket.role())),
             until: handshake_end(rt),
-            custom,
+            socket,
             strangers,
-            share: Share::new(),
+            share: Share::new(allowance),
         }
     }
 
-    /// Lets go of what it brought, as the connection has come to its end.
-    pub fn settle(&mut self) {
-        self.strangers.settle(self.rt, &mut self.share);
+    /// The connection has come to its end: nothing of what it brought is counted any longer, and its place has its allowance again.
+    pub fn end(self) -> Allowance<S> {
+        let Arrivals {
+            rt,
+            stream: _,
+            input: _,
+            presence: _,
+            handshake: _,
+            until: _,
+            socket: _,
+            strangers,
+            share,
+        } = self;
+        strangers.end(rt, share)
     }
 
     /// Whether it may bring so many octets more. An answered connection has its own share alone, since nobody needs more for a heartbeat.
-    fn may_bring(&mut self, count: u64) -> bool {
-        match self.custom {
-            Custom::Answered => self.share.bring_own(count),
-            Custom::Signed | Custom::Kept => self.strangers.bring(self.rt, &mut self.share, count),
+    fn may_bring(&mut self, count: u64) -> bool
+        ensures brought { IsTrue result → self.new.share.brought ≡ self.old.share.brought + count }
+        ensures same { result ≡ false → self.new.share.brought ≡ self.old.share.brought }
+    {
+        if is_answered(self.socket) {
+            self.share.bring_own(count)
+        } else {
+            self.strangers.bring(self.rt, &mut self.share, count)
         }
     }
 
-    /// Counts octets that came before anything of them is kept. Nothing is counted of who showed the key, and what was answered no longer is.
+    /// Counts octets that came, and tells whether they may be kept. Nothing is counted of who showed the key, and what was answered no longer is.
+    fn count_of(&mut self, is_trusted: bool, was_answered: bool, count: u64) -> bool
+        ensures trusted { IsTrue is_trusted → IsTrue result × (self.new.share.brought ≡ 0) }
+        ensures brought { is_trusted ≡ false → IsTrue result
+            → self.new.share.brought ≡ (if was_answered then 0 else self.old.share.brought) + count }
+        ensures refused { is_trusted ≡ false → result ≡ false
+            → self.new.share.brought ≡ (if was_answered then 0 else self.old.share.brought) }
+    {
+        if is_trusted || was_answered {
+            self.strangers.settle(self.rt, &mut self.share);
+        }
+        is_trusted || self.may_bring(count)
+    }
+
+    /// Counts octets that came before anything of them is kept.
     ///
     /// # Errors
     ///
     /// `OutOfMemory` where a stranger, or all strangers together, would hold too much by them.
     fn count(&mut self, count: usize) -> io::Result<()> {
-        let is_known = self.presence.is_trusted();
-        if is_known || self.presence.was_answered() {
-            self.settle();
-        }
-        if is_known || self.may_bring(count as u64) {
+        let is_trusted = self.presence.is_trusted();
+        let was_answered = is_answered(self.socket) && self.presence.was_answered();
+        if self.count_of(is_trusted, was_answered, count as u64) {
             return Ok(());
         }
         Err(io::Error::from(ErrorKind::OutOfMemory))
@@ -155,19 +204,29 @@ impl<'a, R: Clock + Wait> Arrivals<'a, R> {
         }
         Ok(count)
     }
-}
 
-impl<R: Clock + Wait> Read for Arrivals<'_, R> {
-    fn read(&mut self, buf: &mut [u8]) -> io::Result<usize> {
-        if self.handshake.is_some() {
-            return self.read_handshake(buf);
-        }
+    /// Reads behind the handshake. Where nothing is signed who sends something is there.
+    fn read_open(&mut self, buf: &mut [u8]) -> io::Result<usize>
+        ensures bound { ReadsAtMost result buf.new }
+    {
         let count = self.read_on(buf)?;
         self.count(count)?;
-        if self.custom != Custom::Signed {
+        if !is_signed(self.socket) {
             self.presence.hear(milliseconds(self.rt));
         }
         Ok(count)
+    }
+}
+
+impl<R: Clock + Wait, S: Ledger> Read for Arrivals<'_, R, S> {
+    /// Of a stranger no more than 512 octets are read at once.
+    fn read(&mut self, buf: &mut [u8]) -> io::Result<usize> {
+        let most = most_at_once(self.presence.is_trusted(), buf.len());
+        if self.handshake.is_some() {
+            self.read_handshake(&mut buf[..most])
+        } else {
+            self.read_open(&mut buf[..most])
+        }
     }
 }
 
@@ -209,23 +268,23 @@ pub(crate) struct Departures<'a, R: Clock> {
     presence: &'a Presence,
     /// When the message has to be out of which a piece is.
     patience: Patience,
-    custom: Custom,
+    socket: Socket,
 }
 
 impl<'a, R: Clock> Departures<'a, R> {
-    /// What goes out on a connection.
+    /// What goes out on a connection of a socket.
     pub fn new(
         rt: &'a R,
         stream: &'a TcpStream,
         presence: &'a Presence,
-        custom: Custom,
+        socket: Socket,
     ) -> Departures<'a, R> {
         Departures {
             rt,
             stream,
             presence,
             patience: Patience::new(),
-            custom,
+            socket,
         }
     }
 
@@ -234,15 +293,11 @@ impl<'a, R: Clock> Departures<'a, R> {
         let _ = self.stream.shutdown(Shutdown::Both);
     }
 
-    /// Notes that something went out, where no signed message shows who is there: who takes it is there.
+    /// Notes that something went out, where no signed message shows who is there: who takes it is there, and what came may be answered by it.
     fn note(&self) {
-        match self.custom {
-            Custom::Signed => {}
-            Custom::Answered => {
-                self.presence.answer();
-                self.presence.hear(milliseconds(self.rt));
-            }
-            Custom::Kept => self.presence.hear(milliseconds(self.rt)),
+        if !is_signed(self.socket) {
+            self.presence.answer();
+            self.presence.hear(milliseconds(self.rt));
         }
     }
 

@@ -1,4 +1,6 @@
 //! The door of a socket: where a connection that was accepted waits for a place.
+ghost use Rattle.std.specs.Prelude.{◌≡◌, ◌<◌, ◌↔◌, IsTrue, false, true, None, Some};
+
 use std::net::TcpStream;
 use std::sync::{Condvar, Mutex, Wait};
 use std::time::{Clock, Duration};
@@ -11,6 +13,41 @@ struct Entrance {
     /// How many places wait for a connection.
     idle: usize,
     is_closed: bool,
+}
+
+impl Entrance {
+    /// The connection that waits for a place, if one does: it waits no longer.
+    fn take(&mut self) -> Option<(TcpStream, u64)>
+        ensures given { result ≡ self.old.next }
+        ensures gone { self.new.next ≡ None }
+        ensures idle { self.new.idle ≡ self.old.idle }
+        ensures closed { self.new.is_closed ≡ self.old.is_closed }
+    {
+        self.next.take()
+    }
+
+    /// Has a connection wait for a place, where none waits yet. Whether a place waits for one.
+    fn put(&mut self, stream: TcpStream, number: u64) -> bool
+        requires open { self.old.is_closed ≡ false }
+        requires free { self.old.next ≡ None }
+        ensures next { self.new.next ≡ Some (stream, number) }
+        ensures awaited { IsTrue result ↔ 0 < self.old.idle }
+        ensures idle { self.new.idle ≡ self.old.idle }
+        ensures closed { self.new.is_closed ≡ self.old.is_closed }
+    {
+        self.next = Some((stream, number));
+        self.idle > 0
+    }
+
+    /// No connection comes in any more, and the one that waits goes away.
+    fn close(&mut self)
+        ensures closed { self.new.is_closed ≡ true }
+        ensures gone { self.new.next ≡ None }
+        ensures idle { self.new.idle ≡ self.old.idle }
+    {
+        self.is_closed = true;
+        self.next = None;
+    }
 }
 
 /// The door of a socket: one connection at a time waits here until a place takes it.
@@ -45,7 +82,7 @@ impl Door {
             |entrance| entrance.next.is_none() && !entrance.is_closed,
         );
         entrance.idle = entrance.idle.saturating_sub(1);
-        let next = entrance.next.take();
+        let next = entrance.take();
         drop(entrance);
         self.taken.notify_all();
         next
@@ -60,8 +97,7 @@ impl Door {
         if entrance.is_closed {
             return true;
         }
-        entrance.next = Some((stream, number));
-        let is_awaited = entrance.idle > 0;
+        let is_awaited = entrance.put(stream, number);
         drop(entrance);
         self.offered.notify_one();
         is_awaited
@@ -79,8 +115,7 @@ impl Door {
     /// Lets no more connections in: the one that waits goes away, and each place is told.
     pub fn close<R: Wait>(&self, rt: &R) {
         let mut entrance = self.entrance.lock(rt);
-        entrance.is_closed = true;
-        entrance.next = None;
+        entrance.close();
         drop(entrance);
         self.offered.notify_all();
         self.taken.notify_all();

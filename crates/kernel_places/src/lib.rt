@@ -3,13 +3,15 @@
 //! all of them come to an end.
 //!
 //! A connection whose handshake takes ten seconds fails, and so does a message that takes ten seconds to be written. Where all places of
-//! a socket are taken and another connection comes, a stranger makes room: first one whose handshake is not over, a moment after it came.
-//! Where none is left of these it is on shell and control the connection that has been silent longest and on which no message with a
-//! valid signature came; on stdin, iopub and the heartbeat, where nothing is signed, the one that has been silent longest, and for a
-//! minute at least: nothing came on it, and it took nothing. Where all 32 show the key, or were just heard, the next one waits.
+//! a socket are taken and another connection comes, a stranger makes room (`kernel_sockets::who_makes_room`): one whose handshake is not
+//! over, 200 milliseconds after it was let in. Where there is none, on shell and control it is the one that was let in longest ago of those
+//! on which no signed request came that the kernel serves, if 200 milliseconds ago; on stdin, iopub and the heartbeat, where nothing is
+//! signed, the one that has been silent longest, and for a minute at least: nothing came on it, and it took nothing. Where none of the 32
+//! has to, the next one waits.
 //!
-//! What strangers send is counted before it is kept (`kernel_sockets::Strangers`): until a signed message came on shell and control, until an
-//! answer went out on the heartbeat, and as long as the connection is there on iopub and stdin. One by which they would hold too much ends.
+//! What strangers send is counted before it is kept (`kernel_sockets::Strangers`): until a signed request was served on shell and control,
+//! until something went out on the heartbeat, and as long as the connection is there on iopub and stdin. One by which they would hold too
+//! much ends. Each place has an allowance, and has it again behind each connection.
 //!
 //! A read or a write that a signal interrupted is begun anew, with its time, so a process that was stopped and goes on loses no connection.
 //!
@@ -22,8 +24,9 @@
 //! still gets the answer that it waits for; behind it the same is done to the subscribers, who so get the last broadcasts. Both graces
 //! together are less than a second.
 //!
-//! To the layer above this crate promises safety alone, and that each place's seat is one of the bell of the hall (the type of
-//! `HallDesk`): that a thread runs, a connection is served or an end comes, no contract can say.
+//! To the layer above this crate promises safety alone, that each place's seat is one of the bell of the hall (the type of `HallDesk`), and
+//! that nothing of a connection is counted behind its end (the type of `Allowance`): that a thread runs, a connection is served or an end
+//! comes, no contract can say.
 #![tactic(auto)]
 
 mod arrivals;
@@ -37,6 +40,6 @@ mod start;
 mod usher;
 mod worker;
 
-pub use places::{Listeners, PLACES};
+pub use places::{ALL_PLACES, Listeners, PLACES};
 pub use service::Service;
 pub use start::{Seats, serve_all};

@@ -7,6 +7,11 @@ use std::sync::Arc;
 /// So many connections are served at once on one socket.
 pub const PLACES: usize = 32;
 
+/// So many places the five sockets have together.
+pub const ALL_PLACES: u64 = 160;
+
+const _: () = prove!(ALL_PLACES == 5 * (PLACES as u64));
+
 /// The five listening sockets.
 #[derive(Drop)]
 pub struct Listeners {

@@ -1,16 +1,16 @@
 //! The places of the iopub socket.
-use crate::arrivals::{Arrivals, Custom, Departures, milliseconds};
+use crate::arrivals::{Arrivals, Departures, milliseconds};
 use crate::door::Door;
 use crate::places::share;
 use crate::service::Service;
 use kernel_iopub::{HangUp, serve_subscriber};
-use kernel_sockets::Input;
+use kernel_session::Socket;
+use kernel_sockets::{Allowance, Input};
 use std::net::TcpStream;
 use std::sync::Wait;
 use std::sync::ledger::Ledger;
 use std::thread::Threads;
 use std::time::Clock;
-use zmtp_peer::Role;
 
 impl<R: Clock> HangUp for Departures<'_, R> {
     fn hang_up(&mut self) {
@@ -18,15 +18,16 @@ impl<R: Clock> HangUp for Departures<'_, R> {
     }
 }
 
-/// Serves a subscriber that was let in, to its end.
-fn supply<W: Ledger + Sync, L: Ledger + Sync, R: Threads + Wait + Clock + Sync>(
+/// Serves a subscriber that was let in, to its end. The allowance of the place is given back.
+fn supply<W: Ledger + Sync, L: Ledger + Sync, S: Ledger + Sync, R: Threads + Wait + Clock + Sync>(
     rt: &R,
-    service: &Service<W, L>,
+    service: &Service<W, L, S>,
     index: usize,
     stream: &TcpStream,
-) {
+    allowance: Allowance<S>,
+) -> Allowance<S> {
     let Some(presence) = service.subscribers.presence(index) else {
-        return;
+        return allowance;
     };
     let input = Input::new(stream, &service.subscribers);
     let mut arrivals = Arrivals::new(
@@ -35,11 +36,11 @@ fn supply<W: Ledger + Sync, L: Ledger + Sync, R: Threads + Wait + Clock + Sync>(
         stream,
         input,
         presence,
-        Role::Pub,
-        Custom::Kept,
+        Socket::Iopub,
         &service.strangers,
+        allowance,
     );
-    let departures = Departures::new(rt, stream, presence, Custom::Kept);
+    let departures = Departures::new(rt, stream, presence, Socket::Iopub);
     let _ = serve_subscriber(
         rt,
         service.alloc,
@@ -47,38 +48,45 @@ fn supply<W: Ledger + Sync, L: Ledger + Sync, R: Threads + Wait + Clock + Sync>(
         &mut arrivals,
         departures,
     );
-    arrivals.settle();
+    arrivals.end()
 }
 
-/// Takes a subscriber in, serves it and sees it out.
-fn receive<W: Ledger + Sync, L: Ledger + Sync, R: Threads + Wait + Clock + Sync>(
+/// Takes a subscriber in, serves it and sees it out. The allowance of the place is given back.
+fn receive<W: Ledger + Sync, L: Ledger + Sync, S: Ledger + Sync, R: Threads + Wait + Clock + Sync>(
     rt: &R,
-    service: &Service<W, L>,
+    service: &Service<W, L, S>,
     index: usize,
     stream: TcpStream,
-) {
+    allowance: Allowance<S>,
+) -> Allowance<S> {
     let Some((stream, shared)) = share(service.alloc, stream) else {
-        return;
+        return allowance;
     };
-    if service
+    if !service
         .subscribers
         .enter(rt, index, shared, milliseconds(rt))
     {
-        supply(rt, service, index, &stream);
-        service.subscribers.leave(rt, index);
+        return allowance;
     }
+    let allowance = supply(rt, service, index, &stream, allowance);
+    service.subscribers.leave(rt, index);
+    allowance
 }
 
 /// A place of the iopub socket: it serves subscribers until all is to end.
 pub(crate) fn attend_subscribers<
     W: Ledger + Send + Sync,
     L: Ledger + Send + Sync,
+    S: Ledger + Send + Sync,
     R: Threads + Wait + Clock + Sync,
->(rt: &R, service: &Service<W, L>, door: &Door, index: usize) {
+>(rt: &R, service: &Service<W, L, S>, door: &Door, index: usize) {
+    let Some(mut allowance) = service.strangers.allowance(rt) else {
+        return;
+    };
     for _ in rt.forever() {
         let Some((stream, _)) = door.take(rt) else {
             break;
         };
-        receive(rt, service, index, stream);
+        allowance = receive(rt, service, index, stream, allowance);
     }
 }

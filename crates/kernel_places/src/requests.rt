@@ -1,16 +1,15 @@
 //! The places of the sockets on which something comes: shell, control, stdin and heartbeat.
-use crate::arrivals::{Arrivals, Custom, Departures, milliseconds};
+use crate::arrivals::{Arrivals, Departures, milliseconds};
 use crate::door::Door;
 use crate::places::share;
 use crate::service::Service;
 use kernel_desk::{HallDesk, QuietDesk};
 use kernel_session::{Desk, Socket, serve};
-use kernel_sockets::Input;
+use kernel_sockets::{Allowance, Input};
 use std::net::TcpStream;
 use std::sync::Wait;
 use std::sync::ledger::Ledger;
 use std::time::Clock;
-use zmtp_peer::Role;
 
 /// Which place it is: of which socket, and where among those of all four.
 #[derive(Clone, Copy, PartialEq, Eq)]
@@ -19,52 +18,34 @@ pub(crate) struct Place {
     pub index: usize,
 }
 
-/// The role of a socket on which requests come, or octets to send back.
-fn role_of(socket: Socket) -> Role {
-    match socket {
-        Socket::Heartbeat => Role::Rep,
-        _ => Role::Router,
-    }
-}
-
-/// What shows who is at the other end of a connection of a socket.
-fn custom_of(socket: Socket) -> Custom {
-    match socket {
-        Socket::Shell | Socket::Control => Custom::Signed,
-        Socket::Stdin | Socket::Iopub => Custom::Kept,
-        Socket::Heartbeat => Custom::Answered,
-    }
-}
-
-/// Serves a connection that was let in, to its end.
-fn converse<W: Ledger, L: Ledger, D: Desk, R: Wait + Clock>(
+/// Serves a connection that was let in, to its end. The allowance of the place is given back.
+fn converse<W: Ledger, L: Ledger, S: Ledger, D: Desk, R: Wait + Clock>(
     rt: &R,
-    service: &Service<W, L>,
+    service: &Service<W, L, S>,
     desk: &mut D,
     place: Place,
     stream: &TcpStream,
     number: u64,
-) {
+    allowance: Allowance<S>,
+) -> Allowance<S> {
     let Ok(mut stamp) = service.stamp(number) else {
-        return;
+        return allowance;
     };
     let Some(presence) = service.callers.presence(place.index) else {
-        return;
+        return allowance;
     };
     let input = Input::new(stream, &service.callers);
-    let role = role_of(place.socket);
-    let custom = custom_of(place.socket);
     let mut arrivals = Arrivals::new(
         rt,
         service.alloc,
         stream,
         input,
         presence,
-        role,
-        custom,
+        place.socket,
         &service.strangers,
+        allowance,
     );
-    let mut departures = Departures::new(rt, stream, presence, custom);
+    let mut departures = Departures::new(rt, stream, presence, place.socket);
     let _ = serve(
         service.alloc,
         place.socket,
@@ -74,43 +55,49 @@ fn converse<W: Ledger, L: Ledger, D: Desk, R: Wait + Clock>(
         desk,
         &mut stamp,
     );
-    arrivals.settle();
+    arrivals.end()
 }
 
-/// Takes a connection in, serves it and sees it out.
-fn receive<W: Ledger, L: Ledger, D: Desk, R: Wait + Clock>(
+/// Takes a connection in, serves it and sees it out. The allowance of the place is given back.
+fn receive<W: Ledger, L: Ledger, S: Ledger, D: Desk, R: Wait + Clock>(
     rt: &R,
-    service: &Service<W, L>,
+    service: &Service<W, L, S>,
     desk: &mut D,
     place: Place,
     stream: TcpStream,
     number: u64,
-) {
+    allowance: Allowance<S>,
+) -> Allowance<S> {
     let Some((stream, shared)) = share(service.alloc, stream) else {
-        return;
+        return allowance;
     };
-    if service
+    if !service
         .callers
         .enter(rt, place.index, shared, milliseconds(rt))
     {
-        converse(rt, service, desk, place, &stream, number);
-        service.callers.leave(rt, place.index);
+        return allowance;
     }
+    let allowance = converse(rt, service, desk, place, &stream, number, allowance);
+    service.callers.leave(rt, place.index);
+    allowance
 }
 
 /// A place of shell or control: it serves connections until all is to end, and says so itself once a shutdown came to it.
-pub(crate) fn attend<W: Ledger, L: Ledger, R: Wait + Clock>(
+pub(crate) fn attend<W: Ledger, L: Ledger, S: Ledger, R: Wait + Clock>(
     rt: &R,
-    service: &Service<W, L>,
+    service: &Service<W, L, S>,
     door: &Door,
     place: Place,
     mut desk: HallDesk<'_, W, L, R>,
 ) {
+    let Some(mut allowance) = service.strangers.allowance(rt) else {
+        return;
+    };
     for _ in rt.forever() {
         let Some((stream, number)) = door.take(rt) else {
             break;
         };
-        receive(rt, service, &mut desk, place, stream, number);
+        allowance = receive(rt, service, &mut desk, place, stream, number, allowance);
         if desk.was_shut() {
             service.ending.set(rt);
         }
@@ -118,17 +105,20 @@ pub(crate) fn attend<W: Ledger, L: Ledger, R: Wait + Clock>(
 }
 
 /// A place of stdin or heartbeat, on which nothing is asked of the kernel: it serves connections until all is to end.
-pub(crate) fn attend_silently<W: Ledger, L: Ledger, R: Wait + Clock>(
+pub(crate) fn attend_silently<W: Ledger, L: Ledger, S: Ledger, R: Wait + Clock>(
     rt: &R,
-    service: &Service<W, L>,
+    service: &Service<W, L, S>,
     door: &Door,
     place: Place,
 ) {
     let mut desk = QuietDesk;
+    let Some(mut allowance) = service.strangers.allowance(rt) else {
+        return;
+    };
     for _ in rt.forever() {
         let Some((stream, number)) = door.take(rt) else {
             break;
         };
-        receive(rt, service, &mut desk, place, stream, number);
+        allowance = receive(rt, service, &mut desk, place, stream, number, allowance);
     }
 }

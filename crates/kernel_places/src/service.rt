@@ -1,16 +1,17 @@
 //! What all places share.
 ghost use Rattle.std.specs.Prelude.{◌≡◌, ◌≤◌, ◌<◌, ◌^◌, IfOk, IfSome, string_bytes};
+ghost use Rattle.kernel_places.specs.declared.places.TheConstants.{ALL_PLACES};
 
 use crate::door::Doors;
 use crate::latch::Latch;
-use crate::places::PLACES;
+use crate::places::{ALL_PLACES, PLACES};
 use jupyter_msg::Key;
 use kernel_hall::Hall;
 use kernel_iopub::Bulletin;
 use kernel_message::Stamp;
 use kernel_sockets::{Connections, Strangers};
 use std::alloc::{AllocError, Global};
-use std::sync::ledger::Ledger;
+use std::sync::ledger::{Blank, Ledger};
 use std::sync::{Mutex, Wait};
 
 /// So many sockets take requests or octets to send back; the fifth is that of broadcasts.
@@ -21,7 +22,7 @@ const NO_DATE: [u8; 20] = *b"1970-01-01T00:00:00Z";
 
 /// What all places share.
 #[derive(Drop)]
-pub struct Service<W: Ledger, L: Ledger> {
+pub struct Service<W: Ledger, L: Ledger, S: Ledger> {
     pub(crate) alloc: Global,
     pub(crate) session: String,
     pub(crate) key: Key,
@@ -32,7 +33,7 @@ pub struct Service<W: Ledger, L: Ledger> {
     /// Those of iopub.
     pub(crate) subscribers: Connections,
     /// What all who did not show the key hold together.
-    pub(crate) strangers: Strangers,
+    pub(crate) strangers: Strangers<S>,
     /// Where connections that were accepted wait for a place.
     pub(crate) doors: Doors,
     /// All threads stand, or all is to come to an end.
@@ -53,9 +54,9 @@ fn shared(alloc: Global) -> Result<(Bulletin, Connections, Connections), AllocEr
     Ok((bulletin, callers, subscribers))
 }
 
-impl<W: Ledger, L: Ledger> Service<W, L> {
+impl<W: Ledger, L: Ledger, S: Ledger> Service<W, L, S> {
     /// What the places of a kernel share, before any of them is started: its session's name, the key under which messages are signed, and
-    /// its hall.
+    /// its hall; with the ledger of what strangers hold.
     ///
     /// # Errors
     ///
@@ -65,7 +66,10 @@ impl<W: Ledger, L: Ledger> Service<W, L> {
         session: String,
         key: Key,
         hall: Hall<W, L>,
-    ) -> Result<Service<W, L>, AllocError>
+        strangers: Blank,
+    ) -> Result<Service<W, L, S>, AllocError>
+        requires name { strangers.name ≡ S.name }
+        requires parts { (strangers.parts ≡ S.parts) × (strangers.parts ≡ ALL_PLACES) }
         ensures hall { IfOk result (λ s. s.hall ≡ hall) }
         ensures session { IfOk result (λ s. s.session ≡ session) }
     {
@@ -78,7 +82,7 @@ impl<W: Ledger, L: Ledger> Service<W, L> {
                 bulletin,
                 callers,
                 subscribers,
-                strangers: Strangers::new(),
+                strangers: Strangers::new(strangers, ALL_PLACES),
                 doors: Doors::new(),
                 started: Latch::new(),
                 ending: Latch::new(),

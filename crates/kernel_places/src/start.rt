@@ -37,9 +37,9 @@ const SILENCE_MILLISECONDS: u64 = 60_000;
 
 /// The desks of the places of shell and control, as many as there are seats, that of the last place first. Each notes at its place that a
 /// message with a valid signature came.
-fn desks_of<'a, W: Ledger, L: Ledger, R: Wait + Clock>(
+fn desks_of<'a, W: Ledger, L: Ledger, S: Ledger, R: Wait + Clock>(
     rt: &'a R,
-    service: &'a Service<W, L>,
+    service: &'a Service<W, L, S>,
     seats: Vec<RingerSeat>,
 ) -> Result<Vec<HallDesk<'a, W, L, R>>, AllocError>
     requires { All (λ seat. seat.bell ≡ service.now.hall) seats.items }
@@ -72,11 +72,12 @@ fn start_attending<
     E,
     W: Ledger + Send + Sync,
     L: Ledger + Send + Sync,
+    S: Ledger + Send + Sync,
     R: Threads + Wait + Clock + Sync,
 >(
     scope: &Scope<'s, E>,
     rt: &'s R,
-    service: &'s Service<W, L>,
+    service: &'s Service<W, L, S>,
     door: &'s Door,
     first: Place,
     desks: &mut Vec<HallDesk<'s, W, L, R>>,
@@ -105,11 +106,12 @@ fn start_attending_silently<
     E,
     W: Ledger + Send + Sync,
     L: Ledger + Send + Sync,
+    S: Ledger + Send + Sync,
     R: Threads + Wait + Clock + Sync,
 >(
     scope: &Scope<'s, E>,
     rt: &'s R,
-    service: &'s Service<W, L>,
+    service: &'s Service<W, L, S>,
     door: &'s Door,
     first: Place,
 ) -> bool {
@@ -134,8 +136,9 @@ fn start_publishing<
     E,
     W: Ledger + Send + Sync,
     L: Ledger + Send + Sync,
+    S: Ledger + Send + Sync,
     R: Threads + Wait + Clock + Sync,
->(scope: &Scope<'s, E>, rt: &'s R, service: &'s Service<W, L>) -> bool {
+>(scope: &Scope<'s, E>, rt: &'s R, service: &'s Service<W, L, S>) -> bool {
     let door = &service.doors.iopub;
     for index in 0..PLACES {
         if scope
@@ -160,10 +163,17 @@ fn first_place(socket: Socket) -> Place {
 }
 
 /// Starts the worker. False where its thread could not be made; then there is none that has to come to its end.
-fn start_worker<'s, E, W: Ledger + Send + Sync, L: Ledger + Send + Sync, R: Threads + Wait + Sync>(
+fn start_worker<
+    's,
+    E,
+    W: Ledger + Send + Sync,
+    L: Ledger + Send + Sync,
+    S: Ledger + Send + Sync,
+    R: Threads + Wait + Sync,
+>(
     scope: &Scope<'s, E>,
     rt: &'s R,
-    service: &'s Service<W, L>,
+    service: &'s Service<W, L, S>,
     worker: Worker<'s, W, L>,
 ) -> bool {
     if scope
@@ -182,11 +192,12 @@ fn start_usher<
     E,
     W: Ledger + Send + Sync,
     L: Ledger + Send + Sync,
+    S: Ledger + Send + Sync,
     R: Threads + Wait + Clock + Sync,
 >(
     scope: &Scope<'s, E>,
     rt: &'s R,
-    service: &'s Service<W, L>,
+    service: &'s Service<W, L, S>,
     listener: &'s Listener,
     connections: &'s Connections,
     door: &'s Door,
@@ -221,8 +232,14 @@ fn start_callers_ushers<
     E,
     W: Ledger + Send + Sync,
     L: Ledger + Send + Sync,
+    S: Ledger + Send + Sync,
     R: Threads + Wait + Clock + Sync,
->(scope: &Scope<'s, E>, rt: &'s R, service: &'s Service<W, L>, listeners: &'s Listeners) -> bool {
+>(
+    scope: &Scope<'s, E>,
+    rt: &'s R,
+    service: &'s Service<W, L, S>,
+    listeners: &'s Listeners,
+) -> bool {
     let (callers, doors) = (&service.callers, &service.doors);
     let shell = signed_row(Socket::Shell);
     let control = signed_row(Socket::Control);
@@ -251,8 +268,14 @@ fn start_quiet_ushers<
     E,
     W: Ledger + Send + Sync,
     L: Ledger + Send + Sync,
+    S: Ledger + Send + Sync,
     R: Threads + Wait + Clock + Sync,
->(scope: &Scope<'s, E>, rt: &'s R, service: &'s Service<W, L>, listeners: &'s Listeners) -> bool {
+>(
+    scope: &Scope<'s, E>,
+    rt: &'s R,
+    service: &'s Service<W, L, S>,
+    listeners: &'s Listeners,
+) -> bool {
     let (callers, doors) = (&service.callers, &service.doors);
     let iopub = quiet_row(Socket::Iopub);
     let stdin = quiet_row(Socket::Stdin);
@@ -290,11 +313,12 @@ fn start_all<
     E,
     W: Ledger + Send + Sync,
     L: Ledger + Send + Sync,
+    S: Ledger + Send + Sync,
     R: Threads + Wait + Clock + Sync,
 >(
     scope: &Scope<'s, E>,
     rt: &'s R,
-    service: &'s Service<W, L>,
+    service: &'s Service<W, L, S>,
     listeners: &'s Listeners,
     worker: Worker<'s, W, L>,
     desks: Vec<HallDesk<'s, W, L, R>>,
@@ -327,7 +351,11 @@ fn tell_ready<O: Write>(out: &mut O) {
 }
 
 /// Tells all places and the worker that all is to come to an end, and lets no more connections in. What comes on those that are served comes to its end.
-fn end_all<W: Ledger, L: Ledger, R: Wait>(rt: &R, service: &Service<W, L>, listeners: &Listeners) {
+fn end_all<W: Ledger, L: Ledger, S: Ledger, R: Wait>(
+    rt: &R,
+    service: &Service<W, L, S>,
+    listeners: &Listeners,
+) {
     service.ending.set(rt);
     service.started.set(rt);
     service.hall.shut(rt);
@@ -343,7 +371,10 @@ fn see_out<R: Wait + Clock>(rt: &R, connections: &Connections) {
 }
 
 /// Brings the subscribers to an end, behind what was published last.
-fn end_subscribers<W: Ledger, L: Ledger, R: Wait + Clock>(rt: &R, service: &Service<W, L>) {
+fn end_subscribers<W: Ledger, L: Ledger, S: Ledger, R: Wait + Clock>(
+    rt: &R,
+    service: &Service<W, L, S>,
+) {
     service.subscribers.close(rt, Shutdown::Read);
     service.bulletin.event_count().raise(rt);
     see_out(rt, &service.subscribers);
@@ -353,11 +384,12 @@ fn end_subscribers<W: Ledger, L: Ledger, R: Wait + Clock>(rt: &R, service: &Serv
 fn serve_callers<
     W: Ledger + Send + Sync,
     L: Ledger + Send + Sync,
+    S: Ledger + Send + Sync,
     R: Threads + Wait + Clock + Sync,
     O: Write,
 >(
     rt: &R,
-    service: &Service<W, L>,
+    service: &Service<W, L, S>,
     listeners: &Listeners,
     worker: Worker<'_, W, L>,
     desks: Vec<HallDesk<'_, W, L, R>>,
@@ -386,11 +418,12 @@ fn serve_callers<
 pub fn serve_all<
     W: Ledger + Send + Sync,
     L: Ledger + Send + Sync,
+    S: Ledger + Send + Sync,
     R: Threads + Wait + Clock + Sync,
     O: Write,
 >(
     rt: &R,
-    service: &Service<W, L>,
+    service: &Service<W, L, S>,
     listeners: &Listeners,
     seats: Seats,
     out: &mut O,

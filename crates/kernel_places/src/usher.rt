@@ -13,7 +13,7 @@ use std::time::{Clock, Duration};
 const REST_MILLISECONDS: u64 = 20;
 
 /// How long a connection waits for a place before a further stranger has to make room.
-const WAIT_MILLISECONDS: u64 = 50;
+const WAIT_MILLISECONDS: u64 = 10;
 
 /// One place after another of a socket, among those of its register.
 #[derive(Clone, Copy)]
@@ -26,9 +26,9 @@ pub(crate) struct Row {
 
 /// The next connection of a socket, with its number. `None` where none could be accepted, after a rest: no descriptor may be free for
 /// a while, and the usher is not to spin.
-fn accept<W: Ledger, L: Ledger, R: Wait + Clock>(
+fn accept<W: Ledger, L: Ledger, S: Ledger, R: Wait + Clock>(
     rt: &R,
-    service: &Service<W, L>,
+    service: &Service<W, L, S>,
     listener: &Listener,
 ) -> Option<(TcpStream, u64)> {
     let Ok(stream) = listener.accept() else {
@@ -53,9 +53,9 @@ fn see_in<R: Wait + Clock>(rt: &R, connections: &Connections, door: &Door, row: 
 }
 
 /// Accepts the connections of a socket until all is to end, and then closes its door. No connection is accepted before all threads stand.
-pub(crate) fn usher<W: Ledger, L: Ledger, R: Wait + Clock>(
+pub(crate) fn usher<W: Ledger, L: Ledger, S: Ledger, R: Wait + Clock>(
     rt: &R,
-    service: &Service<W, L>,
+    service: &Service<W, L, S>,
     listener: &Listener,
     connections: &Connections,
     door: &Door,

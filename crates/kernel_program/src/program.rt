@@ -13,7 +13,7 @@ use kernel_ask::Comms;
 use kernel_bell::{Bell, RINGERS};
 use kernel_core::Kernel;
 use kernel_hall::Hall;
-use kernel_places::{Listeners, PLACES, Seats, Service, serve_all};
+use kernel_places::{ALL_PLACES, Listeners, PLACES, Seats, Service, serve_all};
 use rand::make_rng;
 use rand::rngs::StdRng;
 use stamp_texts::session_name;
@@ -62,30 +62,39 @@ fn new_hall<W: Ledger, L: Ledger>(
 }
 
 /// Builds a new kernel and all that its places share.
-fn new_service<W: Ledger, L: Ledger, R: RandomSource>(
+fn new_service<W: Ledger, L: Ledger, S: Ledger, R: RandomSource>(
     rt: &R,
     alloc: Global,
     writes: Blank,
     posts: Blank,
+    strangers: Blank,
     key: Key,
-) -> Result<(Service<W, L>, Seats), ProgramFault>
+) -> Result<(Service<W, L, S>, Seats), ProgramFault>
     requires writes { (writes.name ≡ W.name) × (writes.parts ≡ W.parts) × (0 < W.parts) }
     requires posts { (posts.name ≡ L.name) × (posts.parts ≡ 65537) × (posts.parts ≡ L.parts) }
+    requires strangers { (strangers.name ≡ S.name) × (strangers.parts ≡ S.parts) × (strangers.parts ≡ 160) }
     ensures runner { IfOk result (λ made. made.1.runner.bell ≡ made.0.hall) }
     ensures ringers { IfOk result (λ made. All (λ seat. seat.bell ≡ made.0.hall) made.1.ringers.items) }
 {
     let session = new_session(rt, alloc)?;
     let (hall, seats) = new_hall::<W, L>(alloc, writes, posts)?;
-    let service = Service::new(alloc, session, key, hall)?;
+    let service = Service::new(alloc, session, key, hall, strangers)?;
     Ok((service, seats))
 }
 
 /// Builds a new kernel and all that its places share, and serves these sockets until a shutdown.
-fn serve_new_kernel<W: Ledger + Send + Sync, L: Ledger + Send + Sync, R, O: Write>(
+fn serve_new_kernel<
+    W: Ledger + Send + Sync,
+    L: Ledger + Send + Sync,
+    S: Ledger + Send + Sync,
+    R,
+    O: Write,
+>(
     rt: &R,
     alloc: Global,
     writes: Blank,
     posts: Blank,
+    strangers: Blank,
     listeners: &Listeners,
     key: Key,
     out: &mut O,
@@ -94,8 +103,9 @@ where
     R: RandomSource + Threads + Wait + Clock + Sync,
     requires writes { (writes.name ≡ W.name) × (writes.parts ≡ W.parts) × (0 < W.parts) }
     requires posts { (posts.name ≡ L.name) × (posts.parts ≡ 65537) × (posts.parts ≡ L.parts) }
+    requires strangers { (strangers.name ≡ S.name) × (strangers.parts ≡ S.parts) × (strangers.parts ≡ 160) }
 {
-    let (service, seats) = new_service::<W, L, R>(rt, alloc, writes, posts, key)?;
+    let (service, seats) = new_service::<W, L, S, R>(rt, alloc, writes, posts, strangers, key)?;
     let served = serve_all(rt, &service, listeners, seats, out);
     service.discard();
     match served {
@@ -137,11 +147,12 @@ where
     let listeners = listeners_of(rt, &file)?;
     tell_reach(&listeners, &file.ip, err);
     let key = Key::new(file.key.into_bytes());
-    serve_new_kernel::<Brand, Brand, R, O>(
+    serve_new_kernel::<Brand, Brand, Brand, R, O>(
         rt,
         alloc,
         Blank::new(1),
         Blank::new(65_537),
+        Blank::new(ALL_PLACES),
         &listeners,
         key,
         out,

@@ -1,2 +1,3 @@
 pub mod Room
+pub mod Seen
 pub mod Shares

@@ -1,37 +1,31 @@
 -- Who makes room where all places of a socket are taken and another connection waits.
-use Rattle.std.specs.Prelude.{◌≡◌, ℕ, ◌+◌, ◌<◌, ◌≤◌, ◌↔◌, Bool, true, false, IsTrue, List, length, slice_get, Option, Some, None}
+use Rattle.std.specs.Prelude.{◌≡◌, ℕ, ◌+◌, ◌<◌, ◌≤◌, false, IsTrue, List, length, slice_get, Option, Some, None, if◌then◌else◌}
 use Rattle.kernel_sockets.specs.declared.room.Sight.{Sight}
 use Rattle.kernel_sockets.specs.declared.presence.TheConstants.{MOMENT}
-
--- a connection whose handshake is not over
-abbrev pub IsNew : Sight → Type 0
-IsNew s = IsTrue s.is_taken × (s.is_ready ≡ false)
 
 -- a connection on which no message with a valid signature came
 abbrev pub IsStranger : Sight → Type 0
 IsStranger s = IsTrue s.is_taken × (s.is_trusted ≡ false)
 
--- one that was not heard for so many milliseconds
-abbrev pub IsSilent : ℕ → ℕ → Sight → Type 0
-IsSilent now silence s = s.heard + silence ≤ now
+-- so long it stays at least from when it was heard: a moment while its handshake is not over, and then as long as it may be silent
+abbrev pub time_of : ℕ → Sight → ℕ
+time_of silence s = if s.is_ready then silence else MOMENT
 
--- one of these connections is new
-abbrev pub HasNew : List Sight → Type 0
-HasNew sights = (k : ℕ) × (s : Sight) × (slice_get sights k ≡ Some s) × IsNew s
+-- who may have to make room: a stranger whose time is over
+abbrev pub MayLeave : ℕ → ℕ → Sight → Type 0
+MayLeave now silence s = IsStranger s × (s.heard + time_of silence s ≤ now)
 
--- Who may have to make room: a stranger that was silent for long enough. While one is new, only one that is new has to, once it had its moment.
-abbrev pub MayLeave : Bool → ℕ → ℕ → Sight → Type 0
-MayLeave true now silence s = IsStranger s × IsNew s × IsSilent now MOMENT s
-MayLeave false now silence s = IsStranger s × IsSilent now silence s
+-- The first leaves no later than the second: it is not ready or the second is too, and where they don't differ in that it was heard no later.
+abbrev pub LeavesFirst : Sight → Sight → Type 0
+LeavesFirst s t = (IsTrue s.is_ready → IsTrue t.is_ready) × (s.is_ready ≡ t.is_ready → s.heard ≤ t.heard)
 
--- Among the first places this one makes room: of those who may have to, the one that was heard longest ago. None makes room where none has to.
-abbrev pub IsOldest : Bool → ℕ → ℕ → List Sight → ℕ → Option ℕ → Type 0
-IsOldest has_new now silence sights first None = (k : ℕ) (s : Sight) → k < first → slice_get sights k ≡ Some s → ¬ MayLeave has_new now silence s
-IsOldest has_new now silence sights first (Some place) =
-    (oldest : Sight) × (slice_get sights place ≡ Some oldest) × MayLeave has_new now silence oldest
-    × ((k : ℕ) (s : Sight) → k < first → slice_get sights k ≡ Some s → MayLeave has_new now silence s → oldest.heard ≤ s.heard)
+-- Among the first places this one makes room: it may have to, and of those who may it leaves first. None makes room where none may have to.
+abbrev pub MakesRoomAmong : ℕ → ℕ → List Sight → ℕ → Option ℕ → Type 0
+MakesRoomAmong now silence sights first None = (k : ℕ) (s : Sight) → k < first → slice_get sights k ≡ Some s → ¬ MayLeave now silence s
+MakesRoomAmong now silence sights first (Some place) =
+    (one : Sight) × (slice_get sights place ≡ Some one) × MayLeave now silence one
+    × ((k : ℕ) (s : Sight) → k < first → slice_get sights k ≡ Some s → MayLeave now silence s → LeavesFirst one s)
 
 -- of all places this one makes room, or none
 abbrev pub MakesRoom : ℕ → ℕ → List Sight → Option ℕ → Type 0
-MakesRoom now silence sights answer =
-    (has_new : Bool) × (IsTrue has_new ↔ HasNew sights) × IsOldest has_new now silence sights (length sights) answer
+MakesRoom now silence sights answer = MakesRoomAmong now silence sights (length sights) answer

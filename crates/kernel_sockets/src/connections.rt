@@ -1,7 +1,6 @@
 //! The connections that are served.
 use crate::presence::Presence;
 use crate::register::{Register, Stream};
-use crate::room::{Sight, who_makes_room};
 use std::alloc::{AllocError, Global};
 use std::net::Shutdown;
 use std::sync::atomic::{AtomicBool, Ordering};
@@ -11,7 +10,6 @@ use std::time::{Clock, Duration};
 /// The connections that are served at some places.
 #[derive(Drop)]
 pub struct Connections {
-    alloc: Global,
     register: Mutex<Register>,
     left: Condvar,
     /// Whether the register is closed, for readers who don't wait for the lock.
@@ -25,12 +23,11 @@ impl Connections {
     ///
     /// # Errors
     ///
-    /// `AllocError` where there is no memory. Of the other calls `make_room` alone takes any.
+    /// `AllocError` where there is no memory. No other call takes any.
     pub fn new(alloc: Global, places: usize) -> Result<Connections, AllocError> {
         let register = Register::new(alloc, places)?;
         let presences = presences_of(alloc, places)?;
         Ok(Connections {
-            alloc,
             register: Mutex::new(register),
             left: Condvar::new(),
             is_closed: AtomicBool::new(false),
@@ -66,32 +63,11 @@ impl Connections {
         self.left.notify_all();
     }
 
-    /// What is seen of so many places from the first on, as it is under the lock of the register.
-    fn sights_of(
-        &self,
-        register: &Register,
-        first: usize,
-        count: usize,
-    ) -> Result<Vec<Sight>, AllocError> {
-        let mut sights = Vec::with_capacity(self.alloc, count)?;
-        for place in first..first.saturating_add(count) {
-            if let Some(presence) = self.presences.get(place) {
-                sights.push(presence.sight(register.is_taken(place)))?;
-            }
-        }
-        Ok(sights)
-    }
-
-    /// Ends a stranger at one of so many places from the first on, if there is one that has to make room: whom `who_makes_room` answers of what is seen
-    /// under the lock. Nobody is ended where there is no memory to look.
+    /// Ends a stranger at one of so many places from the first on, if there is one that has to make room, by what is seen of the places under the lock:
+    /// what `Register::make_room` does of the register there. It takes no memory.
     pub fn make_room<R: Wait>(&self, rt: &R, first: usize, count: usize, now: u64, silence: u64) {
-        let register = self.register.lock(rt);
-        let Ok(sights) = self.sights_of(&register, first, count) else {
-            return;
-        };
-        if let Some(place) = who_makes_room(&sights, now, silence) {
-            register.end(first.saturating_add(place));
-        }
+        let mut register = self.register.lock(rt);
+        let _ended = register.make_room(&self.presences, first, count, now, silence);
     }
 
     /// Lets no more connections in, and shuts those that are there: for reading, so that each is still answered, or altogether.

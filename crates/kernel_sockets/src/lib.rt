@@ -5,9 +5,11 @@
 //! those that are served at a number of places: who serves one enters it and leaves again, and who ends the kernel closes them all, so that
 //! no more come in, and reads from those that are there come to their end ([`Input`]). Of the connection at each place a [`Presence`] tells
 //! whether it is ready, whether it is trusted and when it was heard, so that a stranger makes room where all places are taken. Who that is
-//! [`who_makes_room`] answers, by specs/Room.antt: of those who may have to, the one that was heard longest ago, and nobody who showed the
-//! key. What strangers hold is counted by [`Strangers`]: each has its own share, and past their shares they hold no more together than
-//! [`COMMON_OCTETS`], which the type of [`Common`] keeps. The time of a message that is written begins with its first piece ([`Patience`]).
+//! [`who_makes_room`] answers, by specs/Room.antt: of the strangers whose time is over one that is not ready, and else the one that was heard longest
+//! ago; nobody who showed the key. What strangers bring is counted by [`Strangers`]: each has its own share, and past their shares they bring no more
+//! together than [`COMMON_OCTETS`]. A place has an [`Allowance`] for each connection that it serves, whose [`Share`] can't be let go of: it is given
+//! back, and the types keep that the count is the sum of what the shares have, so that one which is given back is counted no longer. The time of a
+//! message that is written begins with its first piece and stays with the others ([`Patience`]).
 //!
 //! To the layer above this crate promises that rule, that count, that time and safety: no clause can say what a socket does. The register under the
 //! lock is exact on what it is lent ([`Connections`] is that register under a lock). It stands on no other crate of the kernel.
@@ -29,4 +31,4 @@ pub use patience::{MESSAGE_MILLISECONDS, Patience};
 pub use presence::{MOMENT, Presence};
 pub use register::{Register, Stream};
 pub use room::{Sight, who_makes_room};
-pub use shares::{COMMON_OCTETS, Common, OWN_OCTETS, Share, Strangers};
+pub use shares::{Allowance, COMMON_OCTETS, Common, OWN_OCTETS, READ_OCTETS, Share, Strangers};

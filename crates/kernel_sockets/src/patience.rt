@@ -1,5 +1,5 @@
 //! How long a message may take to be written.
-ghost use Rattle.std.specs.Prelude.{◌≡◌, ℕ, ◌+◌, ◌<◌, ◌≤◌, IsTrue, false, IfSome, Some, None};
+ghost use Rattle.std.specs.Prelude.{◌≡◌, ℕ, ◌+◌, ◌-◌, ◌^◌, ◌<◌, ◌≤◌, min, IsTrue, false, IfSome, IfNone, Some, None};
 
 /// So many milliseconds a message may take to be written, whatever the pieces.
 pub const MESSAGE_MILLISECONDS: u64 = 10_000;
@@ -18,12 +18,13 @@ impl Patience {
         Patience { until: None }
     }
 
-    /// How many milliseconds a piece may take that is written now: what is left of the time of its message, which begins with its first piece and not
-    /// anew with the others. None where nothing is left.
+    /// How many milliseconds a piece may take that is written now: what is left of the time of its message. None where nothing is left. The time begins
+    /// with the first piece of a message, and at the end of what the clock can tell at the latest; it stays with the others.
     pub fn left(&mut self, now: u64) -> Option<u64>
-        ensures first { self.old.until ≡ None → IfSome self.new.until (λ until. until ≤ now + MESSAGE_MILLISECONDS) }
+        ensures first { self.old.until ≡ None → self.new.until ≡ Some (min (now + MESSAGE_MILLISECONDS) (2 ^ 64 - 1)) }
         ensures others { (until : ℕ) → self.old.until ≡ Some until → self.new.until ≡ Some until }
-        ensures within { IfSome result (λ left. (0 < left) × IfSome self.new.until (λ until. now + left ≤ until)) }
+        ensures some { IfSome result (λ left. (0 < left) × (self.new.until ≡ Some (now + left))) }
+        ensures none { IfNone result ((until : ℕ) → self.new.until ≡ Some until → until ≤ now) }
     {
         let until = match self.until {
             Some(until) => until,

@@ -1,7 +1,11 @@
 //! The register of the connections that are served.
-ghost use Rattle.std.specs.Prelude.{◌≡◌, ◌<◌, ◌≤◌, ◌↔◌, None, Some, true, false};
-ghost use Rattle.std.specs.Prelude.{All, IfOk, IsTrue, slice_get, slice_set, length, MatchOption, IsSome};
+ghost use Rattle.std.specs.Prelude.{◌≡◌, ◌+◌, ◌<◌, ◌≤◌, ◌↔◌, None, Some, true, false};
+ghost use Rattle.std.specs.Prelude.{All, IfOk, IfSome, IsTrue, slice_get, slice_set, slice_range, length, vec_len, is_some};
+ghost use Rattle.kernel_sockets.specs.Room.{MakesRoom};
+ghost use Rattle.kernel_sockets.specs.Seen.{is_taken as is_taken_of, AreSeen};
 
+use crate::presence::Presence;
+use crate::room::{Sight, who_makes_room};
 use std::alloc::{AllocError, Global};
 use std::net::{Shutdown, TcpStream};
 use std::sync::Arc;
@@ -14,6 +18,9 @@ pub type Stream = Arc<TcpStream, Global>;
 pub struct Register {
     pub streams: Vec<Option<Stream>>,
     pub is_closed: bool,
+    /// What was seen of each place when one was looked for that makes room. It is kept, so that looking takes no memory.
+    pub sights: Vec<Sight>,
+    ghost all_seen: { vec_len sights ≡ vec_len streams },
 }
 
 impl Register {
@@ -30,6 +37,7 @@ impl Register {
         Ok(Register {
             streams,
             is_closed: false,
+            sights: vec![in alloc; Sight::NOBODY; places]?,
         })
     }
 
@@ -61,7 +69,7 @@ impl Register {
 
     /// Whether a connection is at a place.
     pub fn is_taken(&self, place: usize) -> bool
-        ensures { IsTrue result ↔ MatchOption (slice_get self.now.streams.items place) ⊥ (λ stream. IsSome stream) }
+        ensures { result ≡ is_taken_of self.now.streams.items place }
     {
         match self.streams.get(place) {
             Some(stream) => stream.is_some(),
@@ -70,10 +78,60 @@ impl Register {
     }
 
     /// Shuts the connection at a place, where there is one: who serves it meets its end, and takes it away.
-    pub fn end(&self, place: usize) {
+    fn end(&self, place: usize) {
         if let Some(Some(stream)) = self.streams.get(place) {
             let _ = stream.shutdown(Shutdown::Both);
         }
+    }
+
+    /// What is seen of a place. Of one of which nothing is known it is seen alone whether a connection is there.
+    fn sight(&self, presences: &[Presence], place: usize) -> Sight
+        ensures { result.is_taken ≡ is_taken_of self.now.streams.items place }
+    {
+        let is_taken = self.is_taken(place);
+        match presences.get(place) {
+            Some(presence) => presence.sight(is_taken),
+            None => Sight {
+                is_taken,
+                ..Sight::NOBODY
+            },
+        }
+    }
+
+    /// Looks at all places.
+    fn look(&mut self, presences: &[Presence])
+        ensures streams { self.new.streams.items ≡ self.old.streams.items }
+        ensures closed { self.new.is_closed ≡ self.old.is_closed }
+        ensures seen { AreSeen self.new.streams.items self.new.sights.items }
+    {
+        for place in 0..self.streams.len() {
+            self.sights[place] = self.sight(presences, place);
+        }
+    }
+
+    /// Looks at all places, and shuts the connection that has to make room among so many of them from the first on: whom `who_makes_room` answers. The
+    /// answer is its place, counted from the first. None where no connection has to, or where there are not so many places. It takes no memory.
+    pub fn make_room(
+        &mut self,
+        presences: &[Presence],
+        first: usize,
+        count: usize,
+        now: u64,
+        silence: u64,
+    ) -> Option<usize>
+        ensures streams { self.new.streams.items ≡ self.old.streams.items }
+        ensures closed { self.new.is_closed ≡ self.old.is_closed }
+        ensures seen { AreSeen self.new.streams.items self.new.sights.items }
+        ensures rule { first + count ≤ length self.old.streams.items
+            → MakesRoom now silence (slice_range self.new.sights.items first (first + count)) result }
+        ensures none { length self.old.streams.items < first + count → result ≡ None }
+    {
+        self.look(presences);
+        let end = first.checked_add(count)?;
+        let row = self.sights.get(first..end)?;
+        let place = who_makes_room(row, now, silence)?;
+        self.end(first + place);
+        Some(place)
     }
 
     /// Lets no more connections in, and shuts those that are there.

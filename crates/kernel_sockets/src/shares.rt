@@ -1,39 +1,66 @@
 //! What strangers hold: connections on which no message with a valid signature came.
-ghost use Rattle.std.specs.Prelude.{◌≡◌, ◌+◌, ◌-◌, ◌≤◌, ◌<◌, ◌↔◌, IsTrue, true, false};
+ghost use Rattle.std.specs.Prelude.{◌≡◌, ◌+◌, ◌≤◌, ◌<◌, ◌↔◌, IsTrue, true, false, IfSome, IfNone};
 ghost use Rattle.kernel_sockets.specs.declared.shares.TheConstants.{COMMON_OCTETS, OWN_OCTETS};
 ghost use Rattle.kernel_sockets.specs.Shares.{common_of};
 
+use std::sync::ledger::{Blank, Book, Ledger, Share as Part};
 use std::sync::{Mutex, Wait};
 
 /// So many octets each stranger may bring, whatever others do: enough for a first message, which shows the key.
 pub const OWN_OCTETS: u64 = 8_192;
 
-/// So many octets all strangers together may bring beyond that.
+/// So many octets of a stranger are read at once. A whole message of one empty frame has two octets and takes 136 in the lists that it passes through
+/// until it is dropped, so those of one read take 34 KiB.
+pub const READ_OCTETS: usize = 512;
+
+/// So many octets all strangers together may bring beyond their own shares.
 ///
-/// What they hold by it stays below 64 MiB. A frame is gathered in room for twice its octets and is then copied, so these octets take three times as
-/// much, 36 MiB. At each of 128 places the own share takes no more than 74 KiB, as three times its octets, or as the list of 1,024 short frames: 9.25 MiB.
-/// At each of the 32 of iopub 4,096 short prefixes take 512 KiB at most: 16 MiB.
-pub const COMMON_OCTETS: u64 = 12_582_912;
+/// What they hold by it stays below 64 MiB. An octet takes four at most: a frame is gathered in room for twice its octets, its body is a copy, and so is a
+/// prefix that is kept. That is 16 MiB. An own share takes 128 KiB at most, as 1,024 frames of a message that isn't whole: 74 KiB for their list as it
+/// grows, 32 for each with a body of its own, and the room in which they are gathered; at 160 places that is 20 MiB. The messages of one read take 34 KiB,
+/// at 160 places 5.4 MiB. The 4,096 prefixes of a subscriber take 512 KiB at most beside their octets, and those of 32 subscribers 16 MiB. All that is
+/// 57.4 MiB. What goes out is not in it.
+pub const COMMON_OCTETS: u64 = 4_194_304;
 
-/// How much strangers hold together past their own shares. Its type keeps that it is no more than there is.
+/// How much strangers hold together past their own shares. Its type keeps that it is no more than there is, and that it is the sum of what each of
+/// them holds: the book has the total of all parts of its ledger.
 #[derive(Drop)]
-pub struct Common {
+pub struct Common<S: Ledger> {
     pub held: u64,
+    book: Book<S>,
+    /// The parts of the ledger that no place has, and how many they are.
+    rest: Part<S>,
+    pub left: u64,
     ghost within: { held ≤ COMMON_OCTETS },
+    ghost summed: { held ≡ book.total },
+    ghost parts: { rest.parts ≡ left },
+    ghost idle: { rest.amount ≡ 0 },
 }
 
-/// What a stranger brought.
+/// What a place has for a connection: a part of the ledger by which nothing is held.
 #[derive(Drop)]
-pub struct Share {
-    pub brought: u64,
+pub struct Allowance<S: Ledger> {
+    part: Part<S>,
+    ghost one: { part.parts ≡ 1 },
+    ghost empty: { part.amount ≡ 0 },
 }
 
-impl Share {
+/// What a stranger brought. Its type keeps that the ledger counts what of that lies past its own share. It can't be let go of: [`Strangers::end`] alone
+/// takes it, and gives the allowance back.
+pub struct Share<S: Ledger> {
+    pub brought: u64,
+    part: Part<S>,
+    ghost one: { part.parts ≡ 1 },
+    ghost counted: { part.amount ≡ common_of brought },
+}
+
+impl<S: Ledger> Share<S> {
     /// That of a connection on which nothing came.
-    pub fn new() -> Share
+    pub fn new(allowance: Allowance<S>) -> Share<S>
         ensures { result.brought ≡ 0 }
     {
-        Share { brought: 0 }
+        let Allowance { part } = allowance;
+        Share { brought: 0, part }
     }
 
     /// Brings so many octets more where that stays within its own share; whether it does. Nothing changes where it doesn't.
@@ -55,63 +82,122 @@ impl Share {
     {
         self.brought.saturating_sub(OWN_OCTETS)
     }
+
+    /// The allowance of a connection of which nothing is held.
+    fn into_allowance(self) -> Allowance<S>
+        requires { self.brought ≡ 0 }
+    {
+        let Share { brought: _, part } = self;
+        Allowance { part }
+    }
 }
 
-impl Common {
-    /// Nobody holds anything.
-    pub fn new() -> Common
-        ensures { result.held ≡ 0 }
+impl<S: Ledger> Common<S> {
+    /// Nobody holds anything, and so many places may have an allowance.
+    pub fn new(blank: Blank, places: u64) -> Common<S>
+        requires name { blank.name ≡ S.name }
+        requires parts { (blank.parts ≡ S.parts) × (blank.parts ≡ places) }
+        ensures held { result.held ≡ 0 }
+        ensures left { result.left ≡ places }
     {
-        Common { held: 0 }
+        let (book, rest) = blank.open::<S>();
+        Common {
+            held: 0,
+            book,
+            rest,
+            left: places,
+        }
+    }
+
+    /// An allowance for one place more; `None` where as many places have one as may.
+    pub fn allowance(&mut self) -> Option<Allowance<S>>
+        ensures some { IfSome result (λ _. self.old.left ≡ self.new.left + 1) }
+        ensures none { IfNone result ((self.old.left ≡ 0) × (self.new.left ≡ 0)) }
+        ensures held { self.new.held ≡ self.old.held }
+    {
+        if self.left == 0 {
+            return None;
+        }
+        let part = self.rest.split_off(1, 0);
+        self.left -= 1;
+        Some(Allowance { part })
     }
 
     /// A stranger brings so many octets more. False, and nothing changes, where strangers would hold too much together by that.
-    pub fn bring(&mut self, share: &mut Share, count: u64) -> bool
+    pub fn bring(&mut self, share: &mut Share<S>, count: u64) -> bool
         ensures brought { IsTrue result → share.new.brought ≡ share.old.brought + count }
-        ensures counted { IsTrue result → self.new.held ≡ (self.old.held - common_of share.old.brought) + common_of share.new.brought }
-        ensures same { result ≡ false → (share.new.brought ≡ share.old.brought) × (self.new.held ≡ self.old.held) }
-        ensures refused { result ≡ false → COMMON_OCTETS < (self.old.held - common_of share.old.brought) + common_of (share.old.brought + count) }
+        ensures counted { self.new.held + common_of share.old.brought ≡ self.old.held + common_of share.new.brought }
+        ensures same { result ≡ false → share.new.brought ≡ share.old.brought }
+        ensures refused { result ≡ false → COMMON_OCTETS + common_of share.old.brought < self.old.held + common_of (share.old.brought + count) }
     {
-        let Some(brought) = share.brought.checked_add(count) else {
+        let before = share.common();
+        let Share { brought, part } = share;
+        self.book.audit(part);
+        let Some(after) = brought.checked_add(count) else {
             return false;
         };
-        let others = self.held.saturating_sub(share.common());
-        let common = brought.saturating_sub(OWN_OCTETS);
-        if common > COMMON_OCTETS - others {
+        let more = after.saturating_sub(OWN_OCTETS) - before;
+        if more > COMMON_OCTETS - self.held {
             return false;
         }
-        self.held = others + common;
-        share.brought = brought;
+        self.hold(part, more);
+        *brought = after;
         true
     }
 
-    /// A stranger lets go of what it brought: it showed the key, or all of it was answered, or its connection ended.
-    pub fn settle(&mut self, share: &mut Share)
-        ensures gone { share.new.brought ≡ 0 }
-        ensures counted { self.new.held ≡ self.old.held - common_of share.old.brought }
+    /// Counts so much more that is held by a part of the ledger.
+    fn hold(&mut self, part: &mut Part<S>, more: u64)
+        requires room { self.old.held + more ≤ COMMON_OCTETS }
+        requires part { part.old.parts ≡ 1 }
+        ensures held { self.new.held ≡ self.old.held + more }
+        ensures amount { part.new.amount ≡ part.old.amount + more }
+        ensures parts { part.new.parts ≡ part.old.parts }
+        ensures left { self.new.left ≡ self.old.left }
     {
-        self.held = self.held.saturating_sub(share.common());
-        share.brought = 0;
+        self.book.add(part, more);
+        self.held += more;
+    }
+
+    /// A stranger lets go of what it brought: it showed the key, or all of it was answered, or its connection ended.
+    pub fn settle(&mut self, share: &mut Share<S>)
+        ensures gone { share.new.brought ≡ 0 }
+        ensures counted { self.new.held + common_of share.old.brought ≡ self.old.held }
+    {
+        let before = share.common();
+        let Share { brought, part } = share;
+        self.book.audit(part);
+        self.book.sub(part, before);
+        self.held -= before;
+        *brought = 0;
     }
 }
 
 /// What strangers hold together, for all threads: [`Common`] under a lock, which no one asks who stays within its own share.
 #[derive(Drop)]
-pub struct Strangers {
-    common: Mutex<Common>,
+pub struct Strangers<S: Ledger> {
+    common: Mutex<Common<S>>,
 }
 
-impl Strangers {
-    /// Nobody holds anything.
-    pub fn new() -> Strangers {
+impl<S: Ledger> Strangers<S> {
+    /// Nobody holds anything, and so many places may have an allowance.
+    pub fn new(blank: Blank, places: u64) -> Strangers<S>
+        requires name { blank.name ≡ S.name }
+        requires parts { (blank.parts ≡ S.parts) × (blank.parts ≡ places) }
+    {
         Strangers {
-            common: Mutex::new(Common::new()),
+            common: Mutex::new(Common::new(blank, places)),
         }
+    }
+
+    /// An allowance for one place more; `None` where as many places have one as may.
+    pub fn allowance<R: Wait>(&self, rt: &R) -> Option<Allowance<S>> {
+        let mut common = self.common.lock(rt);
+        common.allowance()
     }
 
     /// A stranger brings so many octets more: what `Common::bring` answers of what strangers hold as it is under the lock. No lock is taken for what
     /// stays within its own share.
-    pub fn bring<R: Wait>(&self, rt: &R, share: &mut Share, count: u64) -> bool
+    pub fn bring<R: Wait>(&self, rt: &R, share: &mut Share<S>, count: u64) -> bool
         ensures own { share.old.brought + count ≤ OWN_OCTETS → IsTrue result }
         ensures brought { IsTrue result → share.new.brought ≡ share.old.brought + count }
         ensures same { result ≡ false → share.new.brought ≡ share.old.brought }
@@ -124,7 +210,7 @@ impl Strangers {
     }
 
     /// A stranger lets go of what it brought, without a lock where that was within its own share.
-    pub fn settle<R: Wait>(&self, rt: &R, share: &mut Share)
+    pub fn settle<R: Wait>(&self, rt: &R, share: &mut Share<S>)
         ensures { share.new.brought ≡ 0 }
     {
         if share.brought <= OWN_OCTETS {
@@ -133,5 +219,12 @@ impl Strangers {
         }
         let mut common = self.common.lock(rt);
         common.settle(share);
+    }
+
+    /// A connection has come to its end. Its place has its allowance again, by whose type nothing is held any longer.
+    pub fn end<R: Wait>(&self, rt: &R, share: Share<S>) -> Allowance<S> {
+        let mut share = share;
+        self.settle(rt, &mut share);
+        share.into_allowance()
     }
 }

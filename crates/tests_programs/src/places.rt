@@ -157,7 +157,7 @@ fn strangers_at_all_places_keep_nobody_out(rt: HostRuntime) {
 }
 
 /// More than half of what strangers may bring together.
-const GREAT: u64 = 8_388_608;
+const GREAT: u64 = 3_145_728;
 
 /// A stranger that leaves a great frame before its end.
 fn press<R>(rt: &R, alloc: Global, port: u16) -> Frontend
@@ -188,7 +188,7 @@ where
 }
 
 #[test]
-fn strangers_bring_12_mebibytes_together(rt: HostRuntime) {
+fn strangers_bring_4_mebibytes_together(rt: HostRuntime) {
     let alloc = rt.alloc();
     let site = make_site(&rt, alloc);
     let (ran, told) = thread::join(

@@ -6,3 +6,6 @@ ghosts-serve_new_kernel-W-Ledger g a = record { name = a.writes.name; parts = a.
 
 abbrev pub ghosts-serve_new_kernel-L-Ledger : goal.ghosts-serve_new_kernel-L-Ledger
 ghosts-serve_new_kernel-L-Ledger g a = record { name = a.posts.name; parts = a.posts.parts }
+
+abbrev pub ghosts-serve_new_kernel-S-Ledger : goal.ghosts-serve_new_kernel-S-Ledger
+ghosts-serve_new_kernel-S-Ledger g a = record { name = a.strangers.name; parts = a.strangers.parts }
