@@ -23,6 +23,9 @@ const HANDSHAKE_SECONDS: u64 = 10;
 /// So often a read or a write is begun anew that a signal interrupted.
 const INTERRUPTIONS: u32 = 1_000;
 
+/// The flag of a frame that is a command; the first octet of the greeting has it too.
+const COMMAND: u8 = 4;
+
 /// The time on the clock; its start where it can't be read.
 pub(crate) fn clock_of<R: Clock>(rt: &R) -> Duration {
     match rt.monotonic() {
@@ -243,13 +246,7 @@ fn is_over(handshake: &mut Option<Peer>, piece: &[u8]) -> bool {
 
 /// Whether it is the end of a handshake.
 fn is_ready(event: &PeerEvent) -> bool {
-    match event {
-        PeerEvent::Ready => true,
-        PeerEvent::Message(_)
-        | PeerEvent::Subscribe(_)
-        | PeerEvent::Cancel(_)
-        | PeerEvent::Ping(_) => false,
-    }
+    matches!(event, PeerEvent::Ready)
 }
 
 /// Milliseconds of the clock.
@@ -258,6 +255,14 @@ pub(crate) fn milliseconds<R: Clock>(rt: &R) -> u64 {
     now.as_secs()
         .saturating_mul(1000)
         .saturating_add(now.subsec_millis() as u64)
+}
+
+/// Whether these octets begin a message, and not the greeting or a command, which answer none (RFC 23, "Framing": bit 2 of a frame's flags).
+fn begins_message(octets: &[u8]) -> bool {
+    match octets.first() {
+        Some(flags) => *flags & COMMAND == 0,
+        None => false,
+    }
 }
 
 /// What goes out on a connection. A message that takes longer than ten seconds fails, in whatever pieces it is taken.
@@ -293,10 +298,12 @@ impl<'a, R: Clock> Departures<'a, R> {
         let _ = self.stream.shutdown(Shutdown::Both);
     }
 
-    /// Notes that something went out, where no signed message shows who is there: who takes it is there, and what came may be answered by it.
-    fn note(&self) {
+    /// Notes that something went out, where no signed message shows who is there: who takes it is there, and a message that begins answers what came.
+    fn note(&self, begins_answer: bool) {
         if !is_signed(self.socket) {
-            self.presence.answer();
+            if begins_answer {
+                self.presence.answer();
+            }
             self.presence.hear(milliseconds(self.rt));
         }
     }
@@ -329,7 +336,7 @@ impl<'a, R: Clock> Departures<'a, R> {
         self.bound_next()?;
         let mut stream = self.stream;
         let count = stream.write(buf)?;
-        self.note();
+        self.note(is_first && begins_message(buf));
         if count == buf.len() && !is_first {
             self.begin_anew()?;
         } else {
