@@ -2,9 +2,11 @@
 //! back to where it was begun. Each has a number of steps, and calls with a semicolon between them behind which the cell is begun.
 //!
 //! `sweep` tries each count below that number: the cell goes so far in one slice, and is then asked to stop by slices of 1, of 2, of 7
-//! and of all steps. `fault` has a cell that meets a fault behind so many steps: from each count up to that number it goes on to the fault,
-//! and then goes back by such slices, without being asked. The world behind each slice is compared with the one that was met at that count on
-//! the way out, by single steps, and the one at the end with the one before the begin, with the extent of the tree and all procedures.
+//! and of all steps; of 2 and of 7 every other slice alone asks. `fault` has a cell that meets a fault behind so many steps: from each count up to that number it goes on to the fault,
+//! and then goes back by such slices, without being asked. Where a slash and a further number stand behind the number of steps, the counts that
+//! are tried stand so far apart, and the last one is tried too. The position and the world behind each slice, its values and the texts of its
+//! procedures, are compared with those that were met at that count on the way out, by single steps, and those at the end with those before the begin,
+//! with the extent of the tree.
 //!
 //! Told are how many stops there were, how many slices they took back, behind how many steps of the way out the world was another one, how many
 //! answers and worlds were wrong, and the outcome of each stop, in which `here` stands for the count of the stop.
@@ -19,12 +21,21 @@ use tests_rows::{cut, number, shown};
 /// How many steps a slice takes back.
 const PIECES: [usize; 4] = [1, 2, 7, usize::MAX];
 
-/// The calls behind which a cell is begun, what was seen before the begin, and the worlds that were met on the way out, by their counts.
+/// The calls behind which a cell is begun, what was seen before the begin, the worlds that were met on the way out, by their counts, and how far
+/// apart the counts stand that are tried.
 #[derive(Drop)]
 struct Way<'a> {
     calls: &'a str,
     before: String,
     met: Vec<Vec<u8>>,
+    apart: usize,
+}
+
+impl Way<'_> {
+    /// Whether a stop is tried at this count: at each that is so far from the one before, and at the last.
+    fn is_tried(&self, count: usize) -> bool {
+        count.checked_rem(self.apart) == Some(0) || count.saturating_add(1) == self.met.len()
+    }
 }
 
 /// What was counted, and the outcome of the first stop.
@@ -68,13 +79,14 @@ pub(crate) fn swept<L: Ledger>(
     row: &str,
     is_fault: bool,
 ) -> Result<String, AllocError> {
-    let (steps, calls) = cut(row);
+    let (counts, calls) = cut(row);
+    let (steps, apart) = counts.split_once('/').unwrap_or((counts, "1"));
     let steps = if is_fault {
         number(steps)
     } else {
         number(steps).saturating_sub(1)
     };
-    let way = way_out(alloc, kernel, calls, steps)?;
+    let way = way_out(alloc, kernel, calls, steps, number(apart))?;
     let mut tally = Tally {
         stops: 0,
         slices: 0,
@@ -104,13 +116,19 @@ fn way_out<'a, L: Ledger>(
     kernel: &mut Kernel<L>,
     calls: &'a str,
     steps: usize,
+    apart: usize,
 ) -> Result<Way<'a>, AllocError> {
     answers(alloc, kernel, calls)?;
     let before = seen(alloc, kernel)?;
     kernel.begin();
     let met = met_by_steps(alloc, kernel, steps)?;
     kernel.slice(u64::MAX, true);
-    Ok(Way { calls, before, met })
+    Ok(Way {
+        calls,
+        before,
+        met,
+        apart,
+    })
 }
 
 /// The world inside a cell as it stands, and behind each of so many single steps.
@@ -128,31 +146,42 @@ fn met_by_steps<L: Ledger>(
     Ok(met)
 }
 
-/// The shown world: the names with their values, and the number of procedures.
+/// The position and the shown world: the names with their values, and the texts of the procedures.
 fn shown_world<L: Ledger>(alloc: Global, kernel: &Kernel<L>) -> Result<Vec<u8>, AllocError> {
     let mut octets = Vec::new(alloc);
+    octets.extend_from_slice(&kernel.position().to_le_bytes())?;
     let world = kernel.world();
     for i in 0..world.len() {
         let (name, value) = world.entry(i);
         octets.extend_from_slice(name.as_bytes())?;
         push_value(&mut octets, value)?;
     }
-    let procedures = world.procedures(alloc)?.len();
-    octets.extend_from_slice(&procedures.to_le_bytes())?;
+    octets.extend_from_slice(procedures_shown(alloc, kernel)?.as_bytes())?;
     Ok(octets)
 }
 
-/// Writes how many numbers a value has, and the numbers.
+/// The texts of the procedures, the newest of each name.
+fn procedures_shown<L: Ledger>(alloc: Global, kernel: &Kernel<L>) -> Result<String, AllocError> {
+    let mut text = String::new(alloc);
+    let world = kernel.world();
+    for procedure in &world.procedures(alloc)? {
+        text.push_str(&procedure_text(alloc, procedure)?)?;
+    }
+    Ok(text)
+}
+
+/// Writes what kind a value is of, how many numbers it has, and the numbers.
 fn push_value(octets: &mut Vec<u8>, value: View<'_>) -> Result<(), AllocError> {
     match value {
-        View::Number(number) => push_numbers(octets, &[number]),
-        View::Array(numbers) => push_numbers(octets, numbers),
+        View::Number(number) => push_numbers(octets, b'=', &[number]),
+        View::Array(numbers) => push_numbers(octets, b'[', numbers),
         View::Stack(values) => push_stack(octets, &values),
     }
 }
 
-/// Writes how many numbers there are, and the numbers.
-fn push_numbers(octets: &mut Vec<u8>, numbers: &[i32]) -> Result<(), AllocError> {
+/// Writes a kind, how many numbers there are, and the numbers.
+fn push_numbers(octets: &mut Vec<u8>, kind: u8, numbers: &[i32]) -> Result<(), AllocError> {
+    octets.push(kind)?;
     octets.extend_from_slice(&numbers.len().to_le_bytes())?;
     for number in numbers {
         octets.extend_from_slice(&number.to_le_bytes())?;
@@ -160,8 +189,9 @@ fn push_numbers(octets: &mut Vec<u8>, numbers: &[i32]) -> Result<(), AllocError>
     Ok(())
 }
 
-/// Writes how many numbers a stack has, and the numbers.
+/// Writes that it is a stack, how many numbers it has, and the numbers.
 fn push_stack(octets: &mut Vec<u8>, values: &StackView<'_>) -> Result<(), AllocError> {
+    octets.push(b'(')?;
     octets.extend_from_slice(&values.len().to_le_bytes())?;
     for value in *values {
         octets.extend_from_slice(&value.to_le_bytes())?;
@@ -175,10 +205,7 @@ fn seen<L: Ledger>(alloc: Global, kernel: &Kernel<L>) -> Result<String, AllocErr
     let extent = kernel.extent();
     let (undo, redo, nodes) = (extent.undo, extent.redo, extent.nodes);
     text.push_str(&format!(in alloc; " {undo} {redo} {nodes}")?)?;
-    let world = kernel.world();
-    for procedure in &world.procedures(alloc)? {
-        text.push_str(&procedure_text(alloc, procedure)?)?;
-    }
+    text.push_str(&procedures_shown(alloc, kernel)?)?;
     Ok(text)
 }
 
@@ -193,7 +220,7 @@ fn changes(met: &[Vec<u8>]) -> usize {
     count
 }
 
-/// Stops the cell at each count that was met, and takes it back by slices of so many steps.
+/// Stops the cell at each count that is tried, and takes it back by slices of so many steps.
 fn sweep<L: Ledger>(
     alloc: Global,
     kernel: &mut Kernel<L>,
@@ -203,18 +230,33 @@ fn sweep<L: Ledger>(
     is_fault: bool,
 ) -> Result<(), AllocError> {
     for count in 0..way.met.len() {
-        answers(alloc, kernel, way.calls)?;
-        tally.judge(seen(alloc, kernel)? == way.before);
-        tally.judge(kernel.begin() == Begun::Going);
-        tally.judge(kernel.slice(count as u64, false) == Sliced::Going);
-        look(alloc, kernel, way, tally, count)?;
-        if is_fault {
-            meet_fault(alloc, kernel, way, tally, piece)?;
-        } else {
-            go_back(alloc, kernel, way, tally, count, piece, true)?;
+        if way.is_tried(count) {
+            stop_at(alloc, kernel, way, tally, count, piece, is_fault)?;
         }
     }
     Ok(())
+}
+
+/// Stops the cell at a count, and takes it back by slices of so many steps.
+fn stop_at<L: Ledger>(
+    alloc: Global,
+    kernel: &mut Kernel<L>,
+    way: &Way<'_>,
+    tally: &mut Tally,
+    count: usize,
+    piece: usize,
+    is_fault: bool,
+) -> Result<(), AllocError> {
+    answers(alloc, kernel, way.calls)?;
+    tally.judge(seen(alloc, kernel)? == way.before);
+    tally.judge(kernel.begin() == Begun::Going);
+    tally.judge(kernel.slice(count as u64, false) == Sliced::Going);
+    look(alloc, kernel, way, tally, count)?;
+    if is_fault {
+        meet_fault(alloc, kernel, way, tally, piece)
+    } else {
+        go_back(alloc, kernel, way, tally, count, piece, true)
+    }
 }
 
 /// Compares the shown world with the one that was met at this count.
@@ -252,7 +294,8 @@ fn meet_fault<L: Ledger>(
     }
 }
 
-/// Takes slices of so many steps until the job ends, from this count, and looks behind each.
+/// Takes slices of so many steps until the job ends, from this count, and looks behind each. Where it is to be asked, each slice of one step asks it
+/// again, and every other one of those of more steps.
 fn go_back<L: Ledger>(
     alloc: Global,
     kernel: &mut Kernel<L>,
@@ -263,8 +306,9 @@ fn go_back<L: Ledger>(
     asked: bool,
 ) -> Result<(), AllocError> {
     let mut left = from;
-    for _ in 0..=from {
-        let sliced = kernel.slice(piece as u64, asked);
+    for turn in 0..=from {
+        let again = piece == 1 || turn % 2 == 0;
+        let sliced = kernel.slice(piece as u64, asked && again);
         tally.slices = tally.slices.saturating_add(1);
         left = left.saturating_sub(piece);
         if let Sliced::Ended(outcome) = sliced {
