@@ -13,3 +13,4 @@ pub mod OpeningLemmas
 pub mod MessageLemmas
 pub mod FedMessages
 pub mod SubscribingLemmas
+pub mod AskedLemmas

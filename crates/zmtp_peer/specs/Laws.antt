@@ -1,7 +1,9 @@
 -- Laws of what octets tell a peer.
-use Rattle.std.specs.Prelude.{◌≡◌, ◌≢◌, ℕ, ◌<◌, true, All, List, [], ◌∷◌, ◌++◌, length}
+use Rattle.std.specs.Prelude.{◌≡◌, ◌≢◌, ℕ, ◌<◌, ◌≤◌, true, All, List, [], ◌∷◌, ◌++◌, length}
 use Rattle.std.specs.List.{flat_map}
-use Rattle.zmtp_wire.specs.Frame.{Frame}
+use Rattle.zmtp_wire.specs.Greeting.{major_in, minor_in}
+use Rattle.zmtp_wire.specs.Frame.{Frame, written}
+use Rattle.zmtp_wire.specs.Tally.{octet_limit}
 use Rattle.zmtp_wire.specs.Message.{message_octets, IsWithinLimits}
 use Rattle.zmtp_wire.specs.Stream.{whole}
 use Rattle.zmtp_peer.specs.declared.role.Role.{Role}
@@ -9,10 +11,12 @@ use Rattle.zmtp_peer.specs.declared.terms.Terms.{Terms}
 use Rattle.zmtp_peer.specs.declared.role.Role.TheVariants.{Pub}
 use Rattle.zmtp_peer.specs.Roles.{socket_type_of, is_partner}
 use Rattle.zmtp_peer.specs.Faults.{Fault}
-use Rattle.zmtp_peer.specs.Events.{Event, Ready, Message, State, Open, after, told}
+use Rattle.zmtp_peer.specs.Terms.{is_newer}
+use Rattle.zmtp_peer.specs.Events.{Event, Ready, Message, Subscribe, State, Open, after, told}
 use Rattle.zmtp_peer.specs.Subscriptions.{counted_all}
 use Rattle.zmtp_peer.specs.Reading.{Ending, Awaiting, Failing, PeerReads, Standing, ending_of, Stands, Brings}
 use Rattle.zmtp_peer.specs.Opening.{opening_of}
+use Rattle.zmtp_peer.specs.Subscribing.{subscription_frame}
 
 -- all octets tell a role something
 abbrev pub OctetsAreRead : Type 0
@@ -72,3 +76,12 @@ FedMessagesAreTold =
     → Stands fed given s → s.role ≢ Pub → t.role ≡ s.role → IsBetweenMessages s → 0 < length message → IsWithinLimits message
     → Run s ps t → flat_map (λ p. p.0) ps ≡ message_octets message ++ more
     → (es : List Event) × (flat_map (λ p. p.1) ps ≡ Message message ∷ es) × Brings s more es t
+
+-- A publisher that is ready and between two messages is told a subscription as it is written, and nothing else: the message by any partner, the
+-- command by one of version 3.1 or later.
+abbrev pub SubscriptionsAreTold : Type 0
+SubscriptionsAreTold =
+    (s : Standing) (fed : List ℕ) (given : List Event) (asks : Terms) (prefix : List ℕ)
+    → Stands fed given s → s.role ≡ Pub → IsBetweenMessages s → (asks.newer ≡ true → is_newer (major_in s.greeting) (minor_in s.greeting) ≡ true)
+    → length (subscription_frame asks prefix).body ≤ octet_limit
+    → PeerReads s.role (fed ++ written (subscription_frame asks prefix)) (given ++ Subscribe prefix ∷ []) Awaiting

@@ -9,7 +9,7 @@
 //! Mechanism", and its rules for publishers and subscribers; and of RFC 37 (ZMTP 3.1): subscriptions by command, and PING. Greetings, frames and their limits are those of `zmtp_wire`.
 #![tactic(auto)]
 
-ghost use Rattle.zmtp_peer.specs.Laws.{OctetsAreRead, OctetsHaveOneReading, RefusalsStay, NoCutMatters, FoldsGoOn, PartnersAreReady, MessagesAreTold, FedMessagesAreTold};
+ghost use Rattle.zmtp_peer.specs.Laws.{OctetsAreRead, OctetsHaveOneReading, RefusalsStay, NoCutMatters, FoldsGoOn, PartnersAreReady, MessagesAreTold, FedMessagesAreTold, SubscriptionsAreTold};
 
 mod brought;
 mod command;
@@ -75,4 +75,10 @@ pub fn messages_are_told_law()
 /// follows.
 pub fn fed_messages_are_told_law()
     ensures { FedMessagesAreTold }
+{}
+
+/// Law: a publisher that is ready and stands between two messages is told a subscription, as [`Peer::subscription`] writes it, and nothing
+/// else: the message by any partner, the command by one of version 3.1 or later.
+pub fn subscriptions_are_told_law()
+    ensures { SubscriptionsAreTold }
 {}

@@ -95,6 +95,7 @@ impl Peer {
     /// The partner's greeting, with its minor version, once all of it came; none where it is refused.
     pub fn partner(&self) -> Option<Greeting>
         ensures some { IfSome result (IsGreeting self.now.greeting) }
+        ensures whole { IfSome result (λ greeting. length self.now.greeting ≡ 64) }
         ensures none { IfNone result ((length self.now.greeting < 64)
             ⊎ ((fault : WireFault) × IsGreetingFault self.now.greeting fault)) }
     {
@@ -107,6 +108,9 @@ impl Peer {
     /// The partner's minor version, once all of its greeting came; none where that is refused.
     pub fn minor(&self) -> Option<u8>
         ensures some { IfSome result (λ minor. minor_in self.now.greeting ≡ minor) }
+        ensures whole { IfSome result (λ minor. length self.now.greeting ≡ 64) }
+        ensures greeting { IfSome result (λ minor. (greeting : Greeting)
+            × IsGreeting self.now.greeting greeting × (greeting.minor ≡ minor)) }
         ensures none { IfNone result ((length self.now.greeting < 64)
             ⊎ ((fault : WireFault) × IsGreetingFault self.now.greeting fault)) }
     {
@@ -130,7 +134,7 @@ impl Peer {
     /// message. The peer is ready.
     ///
     /// # Errors
-    /// `TooLong` where the prefix is too long for a frame; `Memory` for other prefixes alone.
+    /// `TooLong` for no prefix that fits a frame; `Memory` where there is none, also for a longer prefix.
     pub fn subscription(&self, prefix: &[u8]) -> Result<Vec<u8>, WireFault>
         requires { IsReady self.now.state }
         ensures octets { (fed : List ℕ) → (given : List Event) → Stands fed given self.now → IfOk result (λ octets.

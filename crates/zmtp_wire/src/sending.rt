@@ -1,9 +1,10 @@
 //! A message, or the answer to a ping, on its way to a writer.
-ghost use Rattle.std.specs.Prelude.{◌≡◌, IfErr, IfOk, OnErr, OnOk};
+ghost use Rattle.std.specs.Prelude.{◌≡◌, ◌+◌, ◌<◌, length, IfErr, IfOk, OnErr, OnOk};
 ghost use Rattle.std.specs.Io.KnownBytes.{Appends};
 ghost use Rattle.exact_write.specs.Sent.{SentSome};
 ghost use Rattle.zmtp_wire.specs.Message.{bodies_of, message_octets, IsWithinLimits};
 ghost use Rattle.zmtp_wire.specs.Pong.{pong_octets};
+ghost use Rattle.zmtp_wire.specs.Tally.{octet_limit};
 
 use crate::fault::WireFault;
 use crate::frame::Frame;
@@ -65,7 +66,8 @@ pub fn send_message<W: Write>(
 
 /// The octets of the answer to a ping with this context.
 fn pong_of(alloc: Global, context: &[u8]) -> Result<Vec<u8>, SendFault>
-    ensures { IfOk result (λ octets. octets.items ≡ pong_octets context.now) }
+    ensures ok { IfOk result (λ octets. octets.items ≡ pong_octets context.now) }
+    ensures too_long { IfErr result (λ fault. fault ≡ SendFault.TooLong → octet_limit < 5 + length context.now) }
 {
     let pong = match Frame::pong(alloc, context) {
         Ok(pong) => pong,
@@ -81,10 +83,13 @@ fn pong_of(alloc: Global, context: &[u8]) -> Result<Vec<u8>, SendFault>
 /// Writes the answer to a ping with this context, a command of its own: all its octets, or a beginning of them. It goes between two messages.
 ///
 /// # Errors
-/// `TooLong` for a context that is longer than any command; `Memory` where there is none; `Write` where the writer failed.
+/// `TooLong` for a context that doesn't fit the longest command with the five octets of its name, and for no other; `Memory` where there
+/// is none; `Write` where the writer failed.
 pub fn send_pong<W: Write>(alloc: Global, writer: &mut W, context: &[u8]) -> Result<(), SendFault>
     ensures ok { OnOk result (Appends (W.contents writer.old) (W.contents writer.new) (pong_octets context.now)) }
     ensures err { OnErr result (SentSome (W.contents writer.old) (W.contents writer.new) (pong_octets context.now)) }
+    // A context of a ping, of at most 16 octets, is never too long.
+    ensures too_long { IfErr result (λ fault. fault ≡ SendFault.TooLong → octet_limit < 5 + length context.now) }
 {
     let octets = pong_of(alloc, context)?;
     match send(writer, &octets) {

@@ -15,12 +15,17 @@ none_kept : (o : Option Greeting) (octets kept : List ℕ) → octets ≡ kept �
 none_kept None octets kept same h = inr (h.0, subst (λ (s : List ℕ). IsGreetingFault s h.0) same h.1)
 none_kept (Some g) octets kept same h = tt
 
+whole_kept : (o : Option Greeting) (octets kept : List ℕ) → octets ≡ kept → length octets ≡ 64 → IfSome o (λ greeting. length kept ≡ 64)
+whole_kept None octets kept same h = tt
+whole_kept (Some g) octets kept same h = subst (λ (s : List ℕ). length s ≡ 64) same h
+
 pub returns : goal.returns
 returns c =
     let inside = c.self.inside in
-    let whole : take inside.greeted inside.greeting ≡ inside.greeting = take_all inside.greeted inside.greeting (omega (arith, c.welcome.ensures.size, c.if-self-lt-GREETING_LENGTH.false)) in
-    let same : inside.greeting ≡ c.args.self.now.greeting = sym whole ∙ ap (λ (s : Standing). s.greeting) c.self.view_is in
+    let all : take inside.greeted inside.greeting ≡ inside.greeting = take_all inside.greeted inside.greeting (omega (arith, c.welcome.ensures.size, c.if-self-lt-GREETING_LENGTH.false)) in
+    let same : inside.greeting ≡ c.args.self.now.greeting = sym all ∙ ap (λ (s : Standing). s.greeting) c.self.view_is in
     record {
       some = some_kept c.welcome.result inside.greeting c.args.self.now.greeting same c.welcome.ensures.some;
+      whole = whole_kept c.welcome.result inside.greeting c.args.self.now.greeting same c.welcome.ensures.size;
       none = none_kept c.welcome.result inside.greeting c.args.self.now.greeting same c.welcome.ensures.none;
     }
