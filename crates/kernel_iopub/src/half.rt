@@ -113,7 +113,7 @@ fn answer<R: Wait, W: Write>(
     ensures ok { OnOk result (AreAnswered (W.contents writer.old) (W.contents writer.new)) }
     ensures err { OnErr result (AreAnsweredInPart (W.contents writer.old) (W.contents writer.new)) }
 {
-    let contexts = take_pings(rt, alloc, shared);
+    let contexts = take_pings(rt, shared);
     send_pongs(rt, alloc, shared, writer, &contexts)
 }
 

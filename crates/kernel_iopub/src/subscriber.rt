@@ -1,5 +1,5 @@
 //! What the two halves of a subscriber's connection share.
-ghost use Rattle.std.specs.Prelude.{◌≡◌, ℕ, List, IfOk};
+ghost use Rattle.std.specs.Prelude.{◌≡◌, ℕ, ◌+◌, ◌-◌, ◌<◌, ◌≤◌, ◌⊎◌, List, [], IfOk, OnOk, OnErr};
 ghost use Rattle.zmtp_peer.specs.declared.role.Role.TheVariants.{Pub};
 ghost use Rattle.zmtp_peer.specs.Events.{Event};
 ghost use Rattle.zmtp_peer.specs.Reading.{Stands};
@@ -78,8 +78,14 @@ impl Subscriber {
     }
 
     /// Counts what came.
+    ///
+    /// # Errors
+    /// `TooMuch` where a limit of the prefixes or of the pings without an answer is passed, and else none.
     fn count(&mut self, news: News) -> Result<(), SubscriberFault>
         ensures same { (self.new.peer ≡ self.old.peer) × (self.new.pings ≡ self.old.pings) }
+        ensures unanswered { OnOk result ((self.new.unanswered ≡ self.old.unanswered + news.pings) × (self.new.unanswered < 64)) }
+        ensures too_much { OnErr result ((64 ≤ self.old.unanswered + news.pings)
+            ⊎ ((4096 < self.old.prefixes + news.prefixes) ⊎ (1048576 < self.old.prefix_octets + news.prefix_octets))) }
     {
         self.prefixes = self.prefixes.saturating_add(news.prefixes);
         self.prefix_octets = self.prefix_octets.saturating_add(news.prefix_octets);
@@ -91,6 +97,24 @@ impl Subscriber {
             return Err(SubscriberFault::TooMuch);
         }
         Ok(())
+    }
+
+    /// The contexts of the pings that wait, in their order. None waits behind this, and each counts as unanswered as before.
+    fn give_pings(&mut self) -> Vec<Vec<u8>>
+        ensures all { result ≡ self.old.pings }
+        ensures none { self.new.pings.items ≡ [] }
+        ensures unanswered { self.new.unanswered ≡ self.old.unanswered }
+        ensures peer { self.new.peer ≡ self.old.peer }
+    {
+        mem::replace(&mut self.pings, Vec::new(self.alloc))
+    }
+
+    /// One ping more was answered.
+    fn answered(&mut self)
+        ensures fewer { self.new.unanswered ≡ self.old.unanswered - 1 }
+        ensures same { (self.new.peer ≡ self.old.peer) × (self.new.pings ≡ self.old.pings) }
+    {
+        self.unanswered = self.unanswered.saturating_sub(1);
     }
 
     /// Feeds the peer what came. As it is ready it joins the board. What came.
@@ -174,18 +198,19 @@ pub(crate) fn take<R: Wait>(
 }
 
 /// Takes the pings that wait, in their order. Each counts as unanswered until it is told otherwise.
-pub(crate) fn take_pings<R: Wait>(rt: &R, alloc: Global, shared: &Mutex<Subscriber>) -> Vec<Vec<u8>>
+pub(crate) fn take_pings<R: Wait>(rt: &R, shared: &Mutex<Subscriber>) -> Vec<Vec<u8>>
     ensures { WereAsked (bodies_of result.items) }
 {
     let mut guard = shared.lock(rt);
     let subscriber = &mut *guard;
-    mem::replace(&mut subscriber.pings, Vec::new(alloc))
+    subscriber.give_pings()
 }
 
 /// One ping was answered.
 pub(crate) fn note_answered<R: Wait>(rt: &R, shared: &Mutex<Subscriber>) {
     let mut guard = shared.lock(rt);
-    guard.unanswered = guard.unanswered.saturating_sub(1);
+    let subscriber = &mut *guard;
+    subscriber.answered();
 }
 
 /// Nothing more comes from the peer.
