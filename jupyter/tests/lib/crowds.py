@@ -60,9 +60,9 @@ def crowd(stage):
     comes('a walk through all nodes told it the rest', lambda: (known(page)['unknown'] == 0 and known(page)['parent'] == real, known(page)['unknown']))
 
 
-def grow(frontend, nodes, above=(-1, 0), position=1, pause=.15):
-    """So many cells more, in a tree of many branches, with a pause behind each 50, by which the notebook's server lets all through. Answers the
-    parents of all nodes."""
+def grow(frontend, nodes, above=(-1, 0), position=1, pause=.35):
+    """So many cells more, in a tree of many branches, with a pause behind each 50, whose some 220 broadcasts are so below the 1,000 a second that the
+    notebook's server lets through. Answers the parents of all nodes."""
     parent = list(above)
     for i in range(nodes):
         frontend.begin(f'n += {i}')
@@ -187,7 +187,7 @@ def flood(stage):
     check(gaps[-1] < STILL, f'the page never stands still for {STILL} ms', gaps[-5:])
     if not shown(page)['visible']:
         page.click('#janus-history')
-    now = stage.frontend().ask('state')
+    now = frontend.ask('state')         # behind all its cells
     stands(page, now['node'], now['nodes'], now['world'], 'behind the flood the panel stands where the kernel stands', 120)
     figure('nodes, and those that are open since the server held broadcasts back', (now['nodes'], page.js(BRIEF)['unknown']))
     click_node(page, now['node'] - 1)
