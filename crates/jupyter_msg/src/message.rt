@@ -257,3 +257,44 @@ pub fn seal(alloc: Global, message: &Message, key: &Key) -> Result<Vec<Vec<u8>>,
     push_copies(alloc, &mut frames, &message.buffers)?;
     Ok(frames)
 }
+
+impl Message {
+    /// The frames of the message, as [`seal`] has them. Its parts are moved into them, and none is copied.
+    ///
+    /// # Errors
+    ///
+    /// `Memory` where there is none for the signature, the delimiter and the list.
+    pub fn into_frames(self, alloc: Global, key: &Key) -> Result<Vec<Vec<u8>>, MsgFault>
+        ensures frames { IfOk result (λ frames. octets frames.items ≡ frames_of key.now (octets_of self)) }
+        ensures opens { IfOk result (λ frames. AreObjects (octets_of self)
+            → NoneIsDelimiter (octets self.identities.items)
+            → IsMessage key.now (octets frames.items) (octets_of self)) }
+        ensures memory { IfErr result (λ e. e ≡ MsgFault.Memory) }
+    {
+        let parts = Parts {
+            header: &self.header,
+            parent: &self.parent,
+            metadata: &self.metadata,
+            content: &self.content,
+        };
+        let signature = sign(alloc, key, &parts)?.into_bytes();
+        let Message {
+            identities,
+            header,
+            parent,
+            metadata,
+            content,
+            mut buffers,
+        } = self;
+        let mut frames = identities;
+        frames.reserve(6)?;
+        frames.push(DELIMITER.to_vec(alloc)?)?;
+        frames.push(signature)?;
+        frames.push(header)?;
+        frames.push(parent)?;
+        frames.push(metadata)?;
+        frames.push(content)?;
+        frames.append(&mut buffers)?;
+        Ok(frames)
+    }
+}

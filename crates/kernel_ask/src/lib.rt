@@ -31,7 +31,7 @@ mod wishes;
 
 pub use crate::answer::{Answer, Ask, Completion, Content, HallFault, KernelState};
 pub use crate::ask::{
-    ask_on, complete, evaluate, evaluate_all, history, inspect, shown as shown_text,
+    ask_on, complete, evaluate, evaluate_all, history, inspect, judge, shown as shown_text,
 };
 pub use crate::comm_change::{CommChange, comm_on};
 pub use crate::comms::{COMM_LIMIT, Comms};

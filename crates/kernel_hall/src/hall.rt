@@ -14,7 +14,7 @@ use crate::minutes::Minutes;
 use crate::spin::watch;
 use crate::state::State;
 use crate::turn::Turn;
-use kernel_ask::{Answer, Ask, CommChange, Comms, Done, HallFault, Wish, comm_on};
+use kernel_ask::{Answer, Ask, CommChange, Comms, Done, HallFault, Wish, comm_on, judge};
 use kernel_audit::{AuditFault, Pass, Ticket};
 use kernel_bell::{Bell, RunnerSeat};
 use kernel_core::{Job, Kernel, Phase, PostFault};
@@ -162,7 +162,7 @@ impl<W: Ledger, L: Ledger> Hall<W, L> {
     }
 
     /// Answers a question: `ask_on` under the lock, of a kernel with at least as many minutes as the pass has posts, which each is that
-    /// the pass's own hall has. The only refusal is `Memory`.
+    /// the pass's own hall has. Whether code can be executed as it stands is told with the lock free. The only refusal is `Memory`.
     pub fn ask<R: Wait>(&self, rt: &R, pass: &Pass<L>, ask: Ask) -> Result<Answer, HallFault>
         ensures answer { IfOk result
             (λ answer. (k : Machine) × (comms : List (List ℕ)) × IsLegalMachine k × (pass.now.posts ≤ length k.minutes) × IsAnswer k comms ask answer) }
@@ -171,7 +171,16 @@ impl<W: Ledger, L: Ledger> Hall<W, L> {
         let mut state = self.entrance.enter(rt, &self.state);
         for _ in rt.forever() {
             if state.has_seen(pass.posts()) {
-                return state.ask(ask);
+                return match ask {
+                    // The text alone tells, so others have the lock meanwhile.
+                    Ask::IsComplete { code } => {
+                        let alloc = state.alloc;
+                        let seen = state.seen();
+                        drop(state);
+                        Ok(judge(alloc, seen, code.as_str()))
+                    }
+                    ask => state.ask(ask),
+                };
             }
             state = self.moved.wait(rt, state);
         }

@@ -161,6 +161,15 @@ impl<W: Ledger, L: Ledger> State<W, L> {
         posts <= self.kernel.minutes().len() as u64
     }
 
+    /// How many minutes there are.
+    pub(crate) fn seen(&self) -> usize
+        ensures seen { result ≡ length self.now.kernel.machine.minutes }
+        ensures legal { IsLegalMachine self.now.kernel.machine }
+    {
+        is_legal(&self.kernel);
+        self.kernel.minutes().len()
+    }
+
     /// Whether nothing is to be done, and posts may still come.
     pub(crate) fn is_at_rest(&self) -> bool {
         self.kernel.phase() == Phase::Idle && !self.kernel.is_closing()

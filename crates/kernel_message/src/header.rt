@@ -1,15 +1,17 @@
 //! The headers of messages that go out (Jupyter messaging page, "General Message Format").
-ghost use Rattle.std.specs.Prelude.{◌≡◌, string_bytes, IfOk};
-ghost use Rattle.serde_json.specs.View.{view};
+ghost use Rattle.std.specs.Prelude.{◌≡◌, [], ◌∷◌, ◌++◌, string_bytes, IfOk, OnOk};
+ghost use Rattle.json.specs.Token.{key, string};
 ghost use Rattle.serde_json.specs.Written.{compact_text};
 ghost use Rattle.kernel_message.specs.Stamp.{header as header_of, msg_id as msg_id_of};
 
-use crate::members::put_text;
 use crate::stamp::Stamp;
 use itoa::Buffer;
-use serde_json::{Map, Value};
+use json::Writer;
 use std::alloc::{AllocError, Global};
 use std::str;
+
+/// The room that a header takes at first; one of a session's usual name takes no more.
+const ROOM: usize = 256;
 
 /// The name of the n-th message.
 fn msg_id(alloc: Global, stamp: &Stamp, n: u64) -> Result<String, AllocError>
@@ -34,24 +36,16 @@ fn date_text(stamp: &Stamp) -> &str
     }
 }
 
-/// The header of the n-th message.
-fn header(alloc: Global, stamp: &Stamp, n: u64, msg_type: &str) -> Result<Value, AllocError>
-    ensures { IfOk result (λ v. view v ≡ header_of stamp.now n msg_type.now) }
+/// Writes one member whose value is a text.
+fn write_text(writer: &mut Writer, name: &str, text: &str) -> Result<(), AllocError>
+    ensures tokens { OnOk result (writer.new.tokens ≡ writer.old.tokens ++ key name.now ∷ string text.now ∷ []) }
+    ensures before { writer.new.before ≡ writer.old.before }
 {
-    let id = msg_id(alloc, stamp, n)?;
-    let session = stamp.session.as_str();
-    let date = date_text(stamp);
-    let mut members = Map::new(alloc);
-    put_text(alloc, &mut members, "date", date)?;
-    put_text(alloc, &mut members, "msg_id", &id)?;
-    put_text(alloc, &mut members, "msg_type", msg_type)?;
-    put_text(alloc, &mut members, "session", session)?;
-    put_text(alloc, &mut members, "username", "kernel")?;
-    put_text(alloc, &mut members, "version", "5.4")?;
-    Ok(Value::Object(members))
+    writer.key(name)?;
+    writer.string(text)
 }
 
-/// The octets of the n-th message's header.
+/// The octets of the n-th message's header, written one member after another.
 pub(crate) fn header_octets(
     alloc: Global,
     stamp: &Stamp,
@@ -60,5 +54,15 @@ pub(crate) fn header_octets(
 ) -> Result<Vec<u8>, AllocError>
     ensures { IfOk result (λ v. v.items ≡ compact_text (header_of stamp.now n msg_type.now)) }
 {
-    header(alloc, stamp, n, msg_type)?.to_vec(alloc)
+    let id = msg_id(alloc, stamp, n)?;
+    let mut writer = Writer::new(Vec::with_capacity(alloc, ROOM)?);
+    writer.begin_object()?;
+    write_text(&mut writer, "date", date_text(stamp))?;
+    write_text(&mut writer, "msg_id", id.as_str())?;
+    write_text(&mut writer, "msg_type", msg_type)?;
+    write_text(&mut writer, "session", stamp.session.as_str())?;
+    write_text(&mut writer, "username", "kernel")?;
+    write_text(&mut writer, "version", "5.4")?;
+    writer.end_object()?;
+    Ok(writer.into_inner())
 }

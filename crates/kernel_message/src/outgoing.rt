@@ -1,5 +1,6 @@
 //! The messages in which an answer goes out, numbered and stamped.
-ghost use Rattle.std.specs.Prelude.{◌≡◌, ◌<◌, ◌+◌, ◌^◌, [], ◌∷◌, length, map, vec_len, IfOk, OnOk, OnErr};
+ghost use Rattle.std.specs.Prelude.{◌≡◌, ◌<◌, ◌+◌, ◌^◌, [], ◌∷◌, length, map, vec_len, IfOk, IfErr, OnOk, OnErr};
+ghost use Rattle.jupyter_msg.specs.Message.{frames_of};
 ghost use Rattle.jupyter_msg.specs.Octets.{octets, octets_of};
 ghost use Rattle.kernel_message.specs.Draft.{said_of};
 ghost use Rattle.kernel_message.specs.Drafts.{says_of};
@@ -9,7 +10,7 @@ ghost use Rattle.kernel_message.specs.Sent.{sent_of, sent, numbered, next_after}
 use crate::draft::Draft;
 use crate::message::message;
 use crate::stamp::Stamp;
-use jupyter_msg::{Message, Request};
+use jupyter_msg::{Key, Message, MsgFault, Request};
 use std::alloc::{AllocError, Global};
 use std::marker::Model;
 
@@ -34,6 +35,15 @@ impl Broadcast {
         ensures { octets_of result.now ≡ self.now }
     {
         &self.message
+    }
+
+    /// The frames of the message, signed under the key; its parts are moved into them. The only error is want of memory.
+    pub fn into_frames(self, alloc: Global, key: &Key) -> Result<Vec<Vec<u8>>, MsgFault>
+        ensures frames { IfOk result (λ frames. octets frames.items ≡ frames_of key.now self) }
+        ensures memory { IfErr result (λ e. e ≡ MsgFault.Memory) }
+    {
+        let Broadcast { message } = self;
+        message.into_frames(alloc, key)
     }
 }
 

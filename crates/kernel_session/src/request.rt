@@ -18,7 +18,7 @@ use crate::fault::ServeFault;
 use crate::flow::Flow;
 use crate::send::send_message;
 use crate::talk::{DeskReply, consult};
-use jupyter_msg::{Key, Message, Request, RequestContent, seal};
+use jupyter_msg::{Key, Message, Request, RequestContent};
 use kernel_board::Broadcast;
 use kernel_message::{Outgoing, Stamp};
 use kernel_reply::{answer, answer_ask, opening, refuse};
@@ -28,18 +28,18 @@ use std::io::Write;
 /// The greatest number that a request may begin with: its messages have numbers too.
 const LAST_NEXT: u64 = u64::MAX - 15;
 
-/// Seals a message and publishes it. An `Err` tells that there was no memory; then the desk was not called.
+/// Seals a broadcast and publishes it. An `Err` tells that there was no memory; then the desk was not called.
 fn publish<D: Desk>(
     alloc: Global,
     desk: &mut D,
     key: &Key,
-    message: &Message,
+    broadcast: kernel_message::Broadcast,
 ) -> Result<(), ServeFault>
-    ensures ok { OnOk result (Leads D.leads desk.old (Published (frames_of key.now (octets_of message.now)) ∷ []) desk.new) }
+    ensures ok { OnOk result (Leads D.leads desk.old (Published (frames_of key.now broadcast) ∷ []) desk.new) }
     ensures err { OnErr result (desk.new ≡ desk.old) }
     ensures midway { IfErr result IsMidway }
 {
-    let Ok(frames) = seal(alloc, message, key) else {
+    let Ok(frames) = broadcast.into_frames(alloc, key) else {
         return Err(ServeFault::Memory);
     };
     let Ok(broadcast) = Broadcast::new(alloc, frames) else {
@@ -54,14 +54,14 @@ fn publish_all<D: Desk>(
     alloc: Global,
     desk: &mut D,
     key: &Key,
-    broadcasts: &[kernel_message::Broadcast],
+    broadcasts: Vec<kernel_message::Broadcast>,
 ) -> Result<(), ServeFault>
-    ensures ok { OnOk result (Leads D.leads desk.old (map (λ b. Published (frames_of key.now b)) broadcasts.now) desk.new) }
-    ensures err { OnErr result (LedPart D.leads desk.old (map (λ b. Published (frames_of key.now b)) broadcasts.now) desk.new) }
+    ensures ok { OnOk result (Leads D.leads desk.old (map (λ b. Published (frames_of key.now b)) broadcasts.items) desk.new) }
+    ensures err { OnErr result (LedPart D.leads desk.old (map (λ b. Published (frames_of key.now b)) broadcasts.items) desk.new) }
     ensures midway { IfErr result IsMidway }
 {
     for broadcast in broadcasts {
-        publish(alloc, desk, key, broadcast.message())?;
+        publish(alloc, desk, key, broadcast)?;
     }
     Ok(())
 }
@@ -83,7 +83,7 @@ fn begin<D: Desk>(
     let Ok(busy) = opening(alloc, message, stamp) else {
         return Err(ServeFault::Memory);
     };
-    publish(alloc, desk, key, busy.message())
+    publish(alloc, desk, key, busy)
 }
 
 /// Sets the date, publishes the status busy and has the desk do what the request asks.
@@ -138,16 +138,16 @@ fn send_reply<W: Write>(
     alloc: Global,
     key: &Key,
     writer: &mut W,
-    reply: &Option<Message>,
+    reply: Option<Message>,
 ) -> Result<(), ServeFault>
-    ensures ok { OnOk result (Appends (W.contents writer.old) (W.contents writer.new) (reply_octets key.now (option_map octets_of reply.now))) }
-    ensures err { OnErr result (SentSome (W.contents writer.old) (W.contents writer.new) (reply_octets key.now (option_map octets_of reply.now))) }
+    ensures ok { OnOk result (Appends (W.contents writer.old) (W.contents writer.new) (reply_octets key.now (option_map octets_of reply))) }
+    ensures err { OnErr result (SentSome (W.contents writer.old) (W.contents writer.new) (reply_octets key.now (option_map octets_of reply))) }
     ensures midway { IfErr result IsMidway }
 {
     let Some(reply) = reply else {
         return Ok(());
     };
-    let Ok(frames) = seal(alloc, reply, key) else {
+    let Ok(frames) = reply.into_frames(alloc, key) else {
         return Err(ServeFault::Memory);
     };
     send_message(alloc, writer, &frames)
@@ -171,9 +171,9 @@ fn finish<W: Write, D: Desk>(
         (answered key.now request.now stamp.old (says_of request.now.content told.now))) }
     ensures midway { IfErr result IsMidway }
 {
-    let out = outgoing(alloc, stamp, request, told)?;
-    publish_all(alloc, desk, key, &out.broadcasts)?;
-    send_reply(alloc, key, writer, &out.reply)
+    let Outgoing { reply, broadcasts } = outgoing(alloc, stamp, request, told)?;
+    publish_all(alloc, desk, key, broadcasts)?;
+    send_reply(alloc, key, writer, reply)
 }
 
 /// How a session goes on once the request is answered.
