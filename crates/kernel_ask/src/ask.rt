@@ -1,5 +1,6 @@
 //! The answers over a lent kernel. None of them changes it.
 ghost use Rattle.std.specs.Prelude.{◌≡◌, ℕ, List, String, length, map, string_bytes, option_map, IfOk, IfErr};
+ghost use Rattle.std.specs.Global.{Global};
 ghost use Rattle.kernel_core.specs.Runs.{Machine};
 ghost use Rattle.kernel_ask.specs.declared.answer.Ask.TheVariants.{IsComplete};
 ghost use Rattle.std.specs.Str.{chars};
@@ -171,7 +172,7 @@ fn content_of<L: Ledger>(
 /// The answer to the question whether code can be executed as it stands, beside a kernel with so many minutes: the text alone tells, so no kernel
 /// is lent.
 pub fn judge(alloc: Global, seen: usize, code: &str) -> Answer
-    ensures { (m : Machine) → (comms : List (List ℕ)) → (asked : String) → seen ≡ length m.minutes → string_bytes asked ≡ code.now
+    ensures { (m : Machine) → (comms : List (List ℕ)) → (asked : String Global) → seen ≡ length m.minutes → string_bytes asked ≡ code.now
         → IsAnswer m comms (IsComplete asked) result }
 {
     let completeness = is_complete(alloc, code);
