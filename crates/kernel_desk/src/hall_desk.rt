@@ -172,6 +172,10 @@ impl<W: Ledger, L: Ledger, R: Wait + Clock> Desk for HallDesk<'_, W, L, R> {
         self.bulletin.publish(self.rt, broadcast);
     }
 
+    fn wake(&mut self) {
+        self.bulletin.wake(self.rt);
+    }
+
     /// What the board keeps from the desk's place on, which moves behind it.
     fn broadcasts(&mut self, alloc: Global) -> Result<Vec<Broadcast>, AllocError> {
         let (kept, place) = read_all(self.rt, self.bulletin, alloc, self.place)?;

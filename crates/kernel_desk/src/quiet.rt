@@ -33,6 +33,8 @@ impl Desk for QuietDesk {
 
     fn publish(&mut self, _broadcast: Broadcast) {}
 
+    fn wake(&mut self) {}
+
     fn broadcasts(&mut self, alloc: Global) -> Result<Vec<Broadcast>, AllocError> {
         Ok(Vec::new(alloc))
     }

@@ -21,7 +21,7 @@ use kernel_core::{Job, Kernel, Phase, PostFault};
 use std::alloc::Global;
 use std::marker::Model;
 use std::sync::ledger::{Blank, Ledger};
-use std::sync::{Condvar, Mutex, Wait};
+use std::sync::{Condvar, Mutex, MutexGuard, Wait};
 
 /// One kernel for many threads. Each lock is held for one event of the kernel. Contracts see which bell it has. The type parameters name
 /// the ledger of the kernel's writes and that of the posts: a program picks each once.
@@ -168,19 +168,27 @@ impl<W: Ledger, L: Ledger> Hall<W, L> {
             (λ answer. (k : Machine) × (comms : List (List ℕ)) × IsLegalMachine k × (pass.now.posts ≤ length k.minutes) × IsAnswer k comms ask answer) }
         ensures refusal { IfErr result (λ f. f ≡ HallFault.Memory) }
     {
+        let state = self.enter_behind(rt, pass);
+        match ask {
+            // The text alone tells, so others have the lock meanwhile.
+            Ask::IsComplete { code } => {
+                let alloc = state.alloc;
+                let seen = state.seen();
+                drop(state);
+                Ok(judge(alloc, seen, code.as_str()))
+            }
+            ask => state.ask(ask),
+        }
+    }
+
+    /// Takes the lock, once the kernel has at least as many minutes as the pass has posts.
+    fn enter_behind<R: Wait>(&self, rt: &R, pass: &Pass<L>) -> MutexGuard<'_, State<W, L>>
+        ensures { pass.now.posts ≤ length result.value.kernel.machine.minutes }
+    {
         let mut state = self.entrance.enter(rt, &self.state);
         for _ in rt.forever() {
             if state.has_seen(pass.posts()) {
-                return match ask {
-                    // The text alone tells, so others have the lock meanwhile.
-                    Ask::IsComplete { code } => {
-                        let alloc = state.alloc;
-                        let seen = state.seen();
-                        drop(state);
-                        Ok(judge(alloc, seen, code.as_str()))
-                    }
-                    ask => state.ask(ask),
-                };
+                return state;
             }
             state = self.moved.wait(rt, state);
         }

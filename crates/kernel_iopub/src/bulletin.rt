@@ -8,7 +8,7 @@ use kernel_board::{Board, BoardFault, Broadcast, Place, Read};
 use std::alloc::{AllocError, Global};
 use std::sync::Wait;
 
-/// The board, and the count that rises with each broadcast.
+/// The board, and the count that rises once broadcasts were published.
 #[derive(Drop)]
 pub struct Bulletin {
     board: Board,
@@ -29,13 +29,17 @@ impl Bulletin {
         })
     }
 
-    /// Appends a broadcast to the board, as `kernel_board::publish_on` does to the log under its lock, and then raises the count. It takes no memory. One
-    /// that no reader takes, as it passes a limit of the wire, is left out, since each subscriber to it would have to be disconnected.
+    /// Appends a broadcast to the board, as `kernel_board::publish_on` does to the log under its lock. It takes no memory, and wakes nobody. One that no
+    /// reader takes, as it passes a limit of the wire, is left out, since each subscriber to it would have to be disconnected.
     pub fn publish<R: Wait>(&self, rt: &R, broadcast: Broadcast) {
         if broadcast.octets().is_none() {
             return;
         }
         let _number = self.board.publish(rt, broadcast);
+    }
+
+    /// Wakes who waits for broadcasts: the count rises, so what was published before is found by each who looks then.
+    pub fn wake<R: Wait>(&self, rt: &R) {
         self.event_count.raise(rt);
     }
 
@@ -55,7 +59,7 @@ impl Bulletin {
         self.board.read_from(rt, place)
     }
 
-    /// The count that rises with each broadcast, and whenever else there is something to look at.
+    /// The count that rises once broadcasts were published, and whenever else there is something to look at.
     pub fn event_count(&self) -> &EventCount {
         &self.event_count
     }

@@ -115,6 +115,9 @@ impl<L: Ledger> Desk for LoneDesk<L> {
         }
     }
 
+    /// Nobody waits for broadcasts.
+    fn wake(&mut self) {}
+
     fn broadcasts(&mut self, alloc: Global) -> Result<Vec<Broadcast>, AllocError> {
         if !self.is_whole {
             return Err(AllocError);

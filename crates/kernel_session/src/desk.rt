@@ -39,9 +39,13 @@ pub trait Desk {
     fn shut(&mut self)
         ensures { leads self.old Shut self.new };
 
-    /// Hands a broadcast, sealed, to who keeps them.
+    /// Hands a broadcast, sealed, to who keeps them. Nobody is woken for it.
     fn publish(&mut self, broadcast: Broadcast)
         ensures { leads self.old (Published broadcast) self.new };
+
+    /// Wakes those who wait for broadcasts: what was published before is there for them. Nothing else changes.
+    fn wake(&mut self)
+        ensures { self.new ≡ self.old };
 
     /// The broadcasts that are kept. An `Err` tells that there was no memory, and changes nothing.
     fn broadcasts(&mut self, alloc: Global) -> Result<Vec<Broadcast>, AllocError>

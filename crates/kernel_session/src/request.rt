@@ -49,8 +49,24 @@ fn publish<D: Desk>(
     Ok(())
 }
 
+/// Publishes a broadcast, and wakes who waits for it.
+fn publish_awake<D: Desk>(
+    alloc: Global,
+    desk: &mut D,
+    key: &Key,
+    broadcast: kernel_message::Broadcast,
+) -> Result<(), ServeFault>
+    ensures ok { OnOk result (Leads D.leads desk.old (Published (frames_of key.now broadcast) ∷ []) desk.new) }
+    ensures err { OnErr result (desk.new ≡ desk.old) }
+    ensures midway { IfErr result IsMidway }
+{
+    let published = publish(alloc, desk, key, broadcast);
+    desk.wake();
+    published
+}
+
 /// Publishes each in turn.
-fn publish_all<D: Desk>(
+fn publish_each<D: Desk>(
     alloc: Global,
     desk: &mut D,
     key: &Key,
@@ -64,6 +80,22 @@ fn publish_all<D: Desk>(
         publish(alloc, desk, key, broadcast)?;
     }
     Ok(())
+}
+
+/// Publishes each in turn, and wakes who waits for them once.
+fn publish_all<D: Desk>(
+    alloc: Global,
+    desk: &mut D,
+    key: &Key,
+    broadcasts: Vec<kernel_message::Broadcast>,
+) -> Result<(), ServeFault>
+    ensures ok { OnOk result (Leads D.leads desk.old (map (λ b. Published (frames_of key.now b)) broadcasts.items) desk.new) }
+    ensures err { OnErr result (LedPart D.leads desk.old (map (λ b. Published (frames_of key.now b)) broadcasts.items) desk.new) }
+    ensures midway { IfErr result IsMidway }
+{
+    let published = publish_each(alloc, desk, key, broadcasts);
+    desk.wake();
+    published
 }
 
 /// Sets the date, and publishes the status busy.
@@ -83,7 +115,7 @@ fn begin<D: Desk>(
     let Ok(busy) = opening(alloc, message, stamp) else {
         return Err(ServeFault::Memory);
     };
-    publish(alloc, desk, key, busy)
+    publish_awake(alloc, desk, key, busy)
 }
 
 /// Sets the date, publishes the status busy and has the desk do what the request asks.

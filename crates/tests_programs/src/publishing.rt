@@ -30,6 +30,7 @@ fn publish<R: Wait + Abort>(
 ) {
     let frames = frames_of(rt, alloc, topic, octets);
     bulletin.publish(rt, Broadcast::new(alloc, frames).expect(rt, "a broadcast"));
+    bulletin.wake(rt);
 }
 
 /// The octets of broadcasts of these topics.

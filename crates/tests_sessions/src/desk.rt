@@ -83,6 +83,8 @@ impl Desk for NoKernel {
         let _ = self.kept.push(broadcast);
     }
 
+    fn wake(&mut self) {}
+
     fn broadcasts(&mut self, alloc: Global) -> Result<Vec<Broadcast>, AllocError> {
         let mut kept = Vec::new(alloc);
         for broadcast in &self.kept {

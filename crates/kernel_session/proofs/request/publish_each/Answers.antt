@@ -6,7 +6,7 @@ use Rattle.kernel_session.specs.Call.{Call, Leads, Published}
 use Rattle.kernel_session.specs.Parts.{LedPart}
 use Rattle.kernel_session.proofs.ActsLemmas.{leads_join}
 use Rattle.kernel_session.proofs.RequestLemmas.{on_fail}
-use Rattle.kernel_session.proofs.request.publish_all.Goals as goal
+use Rattle.kernel_session.proofs.request.publish_each.Goals as goal
 
 pub loop-broadcast-preserved : goal.loop-broadcast-preserved
 loop-broadcast-preserved g c =
