@@ -1,7 +1,14 @@
 //! One connection to a socket of the kernel, from a frontend's side.
-ghost use Rattle.std.specs.Prelude.{◌≡◌, ◌<◌, length, OnOk};
+ghost use Rattle.std.specs.Prelude.{◌≡◌, ◌<◌, ℕ, List, length, OnOk, OnErr};
 ghost use Rattle.std.specs.Io.KnownBytes.{Appends};
+ghost use Rattle.exact_write.specs.Sent.{SentSome};
+ghost use Rattle.zmtp_wire.specs.Frame.{written};
 ghost use Rattle.zmtp_wire.specs.Message.{bodies_of, message_octets};
+ghost use Rattle.zmtp_wire.specs.Pong.{pong_octets};
+ghost use Rattle.zmtp_peer.specs.Events.{Event};
+ghost use Rattle.zmtp_peer.specs.Reading.{Stands};
+ghost use Rattle.zmtp_peer.specs.Subscribing.{subscription_frame, IsReady};
+ghost use Rattle.zmtp_peer.specs.Terms.{terms_of};
 
 use crate::output::send;
 use console_talk::ConsoleFault;
@@ -118,8 +125,12 @@ impl<R: Read + Drop, W: Write + Drop> Wire<R, W> {
         Ok(())
     }
 
-    /// Answers a ping.
-    fn answer(&mut self, context: &[u8]) -> Result<(), ConsoleFault> {
+    /// Answers a ping: the pong with its context goes out, or a beginning of it.
+    fn answer(&mut self, context: &[u8]) -> Result<(), ConsoleFault>
+        ensures ok { OnOk result (Appends (W.contents self.old.writer) (W.contents self.new.writer) (pong_octets context.now)) }
+        ensures err { OnErr result (SentSome (W.contents self.old.writer) (W.contents self.new.writer) (pong_octets context.now)) }
+        ensures peer { self.new.peer ≡ self.old.peer }
+    {
         match send_pong(self.alloc, &mut self.writer, context) {
             Ok(()) => Ok(()),
             Err(SendFault::Memory) => Err(ConsoleFault::NoMemory),
@@ -127,8 +138,18 @@ impl<R: Read + Drop, W: Write + Drop> Wire<R, W> {
         }
     }
 
-    /// Subscribes to all that begins with a prefix, in the form that the kernel's version takes.
-    pub fn subscribe(&mut self, prefix: &[u8]) -> Result<(), ConsoleFault> {
+    /// Subscribes to all that begins with a prefix, in the form that the kernel's version takes: that goes out, or a beginning of it. `NoConnection`, and
+    /// nothing goes out, where the kernel isn't ready.
+    pub fn subscribe(&mut self, prefix: &[u8]) -> Result<(), ConsoleFault>
+        ensures ready { OnOk result (IsReady self.old.peer.state) }
+        ensures ok { (fed : List ℕ) → (given : List Event) → Stands fed given self.old.peer → OnOk result (Appends
+            (W.contents self.old.writer) (W.contents self.new.writer)
+            (written (subscription_frame (terms_of self.old.peer.role self.old.peer.greeting) prefix.now))) }
+        ensures err { (fed : List ℕ) → (given : List Event) → Stands fed given self.old.peer → OnErr result (SentSome
+            (W.contents self.old.writer) (W.contents self.new.writer)
+            (written (subscription_frame (terms_of self.old.peer.role self.old.peer.greeting) prefix.now))) }
+        ensures peer { self.new.peer ≡ self.old.peer }
+    {
         if !self.peer.is_ready() {
             return Err(ConsoleFault::NoConnection);
         }

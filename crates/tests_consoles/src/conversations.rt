@@ -20,6 +20,12 @@ const BUSY: &str = r#"{"execution_state":"busy"}"#;
 
 const IDLE: &str = r#"{"execution_state":"idle"}"#;
 
+/// The minor versions of ZMTP 3 that kernels speak.
+const MINORS: [u8; 2] = [0, 1];
+
+/// The octet of a greeting that has the minor version.
+const MINOR: usize = 11;
+
 /// So many broadcasts can't be opened: those that are looked at for 100 askings, and some more.
 const NOISES: u32 = 6_500;
 
@@ -119,9 +125,16 @@ fn push_said(
     write_message(octets, &frames).expect(rt, "the octets of a message");
 }
 
-/// A stream of the kernel in this role that has said nothing behind its opening, which comes at once.
-fn opened(rt: &impl Abort, alloc: Global, role: Role) -> Slow {
-    let octets = Peer::new(alloc, role).opening().expect(rt, "an opening");
+/// What an end in this role sends first.
+fn opening(rt: &impl Abort, alloc: Global, role: Role) -> Vec<u8> {
+    Peer::new(alloc, role).opening().expect(rt, "an opening")
+}
+
+/// A stream of the kernel in this role and of this minor version that has said nothing behind its opening, which comes at once.
+fn opened(rt: &impl Abort, alloc: Global, role: Role, minor: u8) -> Slow {
+    let mut octets = opening(rt, alloc, role);
+    assert!(rt; octets.len() > MINOR);
+    octets[MINOR] = minor;
     let at_once = octets.len();
     Slow {
         octets,
@@ -132,21 +145,26 @@ fn opened(rt: &impl Abort, alloc: Global, role: Role) -> Slow {
 }
 
 /// A stream of the kernel: its opening in this role, and what it says.
-fn stream(rt: &impl Abort, alloc: Global, role: Role, said: &[Said]) -> Slow {
+fn stream(rt: &impl Abort, alloc: Global, role: Role, minor: u8, said: &[Said]) -> Slow {
     let key = key(rt, alloc);
-    let mut stream = opened(rt, alloc, role);
+    let mut stream = opened(rt, alloc, role, minor);
     for said in said {
         push_said(rt, alloc, &mut stream.octets, &key, role, said);
     }
     stream
 }
 
-/// A stream of more broadcasts than a console looks at, each of them of one frame, which no console can open.
-fn noise(rt: &impl Abort, alloc: Global) -> Slow {
-    let mut stream = opened(rt, alloc, Role::Pub);
-    let frames = Vec::from_array(alloc, [octets_of(rt, alloc, "status")]).expect(rt, "a frame");
+/// Adds a message of one frame, which no console can open.
+fn push_noise(rt: &impl Abort, alloc: Global, octets: &mut Vec<u8>) {
+    let frames = [octets_of(rt, alloc, "status")];
+    write_message(octets, &frames).expect(rt, "the octets of a message");
+}
+
+/// A stream of more broadcasts than a console looks at, none of which it can open.
+fn noise(rt: &impl Abort, alloc: Global, minor: u8) -> Slow {
+    let mut stream = opened(rt, alloc, Role::Pub, minor);
     for _ in 0..NOISES {
-        write_message(&mut stream.octets, &frames).expect(rt, "the octets of a message");
+        push_noise(rt, alloc, &mut stream.octets);
     }
     stream
 }
@@ -206,17 +224,36 @@ fn obey(
     frontend.obey(command)
 }
 
-/// Has a conversation over this stream of broadcasts.
+/// What subscribes to all at a kernel of this minor version: at one of 3.0 a message, at one of 3.1 a command.
+fn subscription(minor: u8) -> &'static [u8] {
+    if minor == 0 {
+        b"\x00\x01\x01"
+    } else {
+        b"\x04\x0a\x09SUBSCRIBE"
+    }
+}
+
+/// Compares what a console in this role wrote behind its opening.
+fn check_behind_opening(rt: &impl Abort, alloc: Global, role: Role, octets: &[u8], want: &[u8]) {
+    let opening = opening(rt, alloc, role);
+    let behind = octets.strip_prefix(opening.as_slice());
+    assert_eq!(rt; behind.expect(rt, "an opening"), want);
+}
+
+/// Has a conversation over this stream of broadcasts, with a kernel of this minor version.
 fn converse_over(
     rt: &impl Abort,
     alloc: Global,
+    minor: u8,
     shell: &[Said],
     broadcasts: Slow,
     command: &Command,
 ) -> Conversation {
-    let replies = stream(rt, alloc, Role::Router, shell);
+    let replies = stream(rt, alloc, Role::Router, minor, shell);
     let mut frontend = frontend(rt, alloc, replies, broadcasts);
     let came = obey(&mut frontend, command);
+    let asked = subscription(minor);
+    check_behind_opening(rt, alloc, Role::Sub, &frontend.iopub.writer, asked);
     let text = written(rt, alloc, &frontend.shell.writer);
     (came, text)
 }
@@ -232,7 +269,24 @@ fn check_written(rt: &impl Abort, text: &str, want: &str) {
     assert_eq!(rt; text, want);
 }
 
-/// Has a conversation, and compares what is printed, the status, and what was written on shell.
+/// Has a conversation with a kernel of this minor version, and compares what is printed, the status, and what was written on shell.
+fn check_at(
+    rt: &impl Abort,
+    alloc: Global,
+    minor: u8,
+    shell: &[Said],
+    iopub: &[Said],
+    command: &Command,
+    want: (&str, u8, &str),
+) {
+    let (lines, status, asked) = want;
+    let broadcasts = stream(rt, alloc, Role::Pub, minor, iopub);
+    let (came, text) = converse_over(rt, alloc, minor, shell, broadcasts, command);
+    check_told(rt, &came.expect(rt, "what is printed"), lines, status);
+    check_written(rt, &text, asked);
+}
+
+/// Has a conversation with a kernel of each minor version.
 fn check(
     rt: &impl Abort,
     alloc: Global,
@@ -241,11 +295,9 @@ fn check(
     command: &Command,
     want: (&str, u8, &str),
 ) {
-    let (lines, status, asked) = want;
-    let broadcasts = stream(rt, alloc, Role::Pub, iopub);
-    let (came, text) = converse_over(rt, alloc, shell, broadcasts, command);
-    check_told(rt, &came.expect(rt, "what is printed"), lines, status);
-    check_written(rt, &text, asked);
+    for minor in MINORS {
+        check_at(rt, alloc, minor, shell, iopub, command, want);
+    }
 }
 
 #[test]
@@ -458,9 +510,15 @@ fn moves(rt: HostRuntime) {
     }
 }
 
-/// What is written on shell where the kernel is asked where it stands, over these broadcasts, and this fault ends the conversation.
-fn asked_until(rt: &impl Abort, alloc: Global, broadcasts: Slow, fault: ConsoleFault) -> String {
-    let (came, text) = converse_over(rt, alloc, &[], broadcasts, &Command::Show);
+/// What is written on shell where a kernel of this minor version is asked where it stands, over these broadcasts, and this fault ends the conversation.
+fn asked_until(
+    rt: &impl Abort,
+    alloc: Global,
+    minor: u8,
+    broadcasts: Slow,
+    fault: ConsoleFault,
+) -> String {
+    let (came, text) = converse_over(rt, alloc, minor, &[], broadcasts, &Command::Show);
     assert_eq!(rt; came, Err(fault));
     text
 }
@@ -470,37 +528,46 @@ fn check_askings(rt: &impl Abort, text: &str, count: usize) {
     assert_eq!(rt; text.lines().count(), count);
 }
 
-#[test]
-fn ends_where_its_comm_is_closed(rt: HostRuntime) {
-    let alloc = rt.alloc();
+/// The conversation ends where the comm is closed, and nothing is closed then.
+fn end_with_comm(rt: &impl Abort, alloc: Global, minor: u8) {
     let broadcasts = stream(
-        &rt,
+        rt,
         alloc,
         Role::Pub,
+        minor,
         &[
             ("status", 0, BUSY),
             ("comm_close", 1, r#"{"comm_id":"console-7","data":{}}"#),
             ("status", 1, IDLE),
         ],
     );
-    let text = asked_until(&rt, alloc, broadcasts, ConsoleFault::NoComm);
+    let text = asked_until(rt, alloc, minor, broadcasts, ConsoleFault::NoComm);
     assert!(rt; !text.contains("comm_close"));
+}
+
+#[test]
+fn ends_where_its_comm_is_closed(rt: HostRuntime) {
+    for minor in MINORS {
+        end_with_comm(&rt, rt.alloc(), minor);
+    }
 }
 
 #[test]
 fn ends_where_the_broadcasts_end(rt: HostRuntime) {
     let alloc = rt.alloc();
-    let broadcasts = stream(&rt, alloc, Role::Pub, &[("status", 0, BUSY)]);
-    let _text = asked_until(&rt, alloc, broadcasts, ConsoleFault::NoConnection);
+    for minor in MINORS {
+        let broadcasts = stream(&rt, alloc, Role::Pub, minor, &[("status", 0, BUSY)]);
+        let _text = asked_until(&rt, alloc, minor, broadcasts, ConsoleFault::NoConnection);
+    }
 }
 
-#[test]
-fn closes_its_comm_behind_an_answer_of_another_form(rt: HostRuntime) {
-    let alloc = rt.alloc();
+/// The comm is closed behind an answer that is not understood.
+fn close_behind(rt: &impl Abort, alloc: Global, minor: u8) {
     let broadcasts = stream(
-        &rt,
+        rt,
         alloc,
         Role::Pub,
+        minor,
         &[
             ("status", 0, BUSY),
             ("status", 1, IDLE),
@@ -513,24 +580,30 @@ fn closes_its_comm_behind_an_answer_of_another_form(rt: HostRuntime) {
             ("status", 3, IDLE),
         ],
     );
-    let text = asked_until(&rt, alloc, broadcasts, ConsoleFault::NoConnection);
+    let text = asked_until(rt, alloc, minor, broadcasts, ConsoleFault::NoConnection);
     assert!(rt; text.ends_with("\ncomm_close {\"comm_id\":\"console-7\",\"data\":{}}\n"));
 }
 
+#[test]
+fn closes_its_comm_behind_an_answer_of_another_form(rt: HostRuntime) {
+    for minor in MINORS {
+        close_behind(&rt, rt.alloc(), minor);
+    }
+}
+
 /// A stream of these broadcasts, before which none comes so often.
-fn late(rt: &impl Abort, alloc: Global, said: &[Said], waits: u64) -> Slow {
-    let mut stream = stream(rt, alloc, Role::Pub, said);
+fn late(rt: &impl Abort, alloc: Global, minor: u8, said: &[Said], waits: u64) -> Slow {
+    let mut stream = stream(rt, alloc, Role::Pub, minor, said);
     stream.waits = waits;
     stream
 }
 
-#[test]
-fn asks_until_a_status_comes(rt: HostRuntime) {
-    let alloc = rt.alloc();
-    // The first broadcasts come after three askings.
+/// The kernel is asked three times, until the first broadcasts come.
+fn ask_until_status(rt: &impl Abort, alloc: Global, minor: u8) {
     let broadcasts = late(
-        &rt,
+        rt,
         alloc,
+        minor,
         &[
             ("status", 2, BUSY),
             ("comm_close", 3, "{}"),
@@ -538,7 +611,7 @@ fn asks_until_a_status_comes(rt: HostRuntime) {
         ],
         2,
     );
-    let text = asked_until(&rt, alloc, broadcasts, ConsoleFault::NoComm);
+    let text = asked_until(rt, alloc, minor, broadcasts, ConsoleFault::NoComm);
     assert!(rt;
         text.starts_with(
             "kernel_info_request {}\nkernel_info_request {}\nkernel_info_request {}\ncomm_open "
@@ -547,17 +620,46 @@ fn asks_until_a_status_comes(rt: HostRuntime) {
 }
 
 #[test]
+fn asks_until_a_status_comes(rt: HostRuntime) {
+    for minor in MINORS {
+        ask_until_status(&rt, rt.alloc(), minor);
+    }
+}
+
+#[test]
 fn asks_no_longer_where_no_status_comes(rt: HostRuntime) {
     let alloc = rt.alloc();
-    let broadcasts = late(&rt, alloc, &[], 1000);
-    let text = asked_until(&rt, alloc, broadcasts, ConsoleFault::NoConnection);
-    check_askings(&rt, &text, 100);
+    for minor in MINORS {
+        let broadcasts = late(&rt, alloc, minor, &[], 1000);
+        let text = asked_until(&rt, alloc, minor, broadcasts, ConsoleFault::NoConnection);
+        check_askings(&rt, &text, 100);
+    }
 }
 
 #[test]
 fn gives_up_where_broadcasts_cannot_be_opened(rt: HostRuntime) {
     let alloc = rt.alloc();
-    let broadcasts = noise(&rt, alloc);
-    let text = asked_until(&rt, alloc, broadcasts, ConsoleFault::NoConnection);
-    check_askings(&rt, &text, 100);
+    for minor in MINORS {
+        let broadcasts = noise(&rt, alloc, minor);
+        let text = asked_until(&rt, alloc, minor, broadcasts, ConsoleFault::NoConnection);
+        check_askings(&rt, &text, 100);
+    }
+}
+
+/// A kernel of this minor version pings before it says something: this goes out behind the opening.
+fn check_pinged(rt: &impl Abort, alloc: Global, minor: u8, answer: &[u8]) {
+    let mut said = opened(rt, alloc, Role::Router, minor);
+    said.octets
+        .extend_from_slice(b"\x04\x09\x04PING\x00\x00ab")
+        .expect(rt, "a ping");
+    push_noise(rt, alloc, &mut said.octets);
+    let mut wire = Wire::open(alloc, said, Vec::new(alloc), Role::Dealer).expect(rt, "shell");
+    assert!(rt; wire.next().expect(rt, "a message").is_some());
+    check_behind_opening(rt, alloc, Role::Dealer, &wire.writer, answer);
+}
+
+#[test]
+fn answers_a_ping_of_a_kernel_of_3_1(rt: HostRuntime) {
+    check_pinged(&rt, rt.alloc(), 0, b"");
+    check_pinged(&rt, rt.alloc(), 1, b"\x04\x07\x04PONGab");
 }

@@ -15,7 +15,6 @@ use Rattle.zmtp_wire.proofs.Readings.{every_stream_is_read}
 use Rattle.zmtp_wire.specs.Frame.{Frame}
 use Rattle.zmtp_wire.specs.Stream.{Rest, whole, Takes, Leaves, IsPartial, IsFaultAt}
 use Rattle.zmtp_wire.proofs.Streams.{one_frame, one_fault_at, partial_or_frame, fault_or_frame, fault_or_partial}
-use Rattle.zmtp_peer.specs.declared.role.Role.{Role}
 use Rattle.zmtp_peer.specs.declared.terms.Terms.{Terms}
 use Rattle.zmtp_peer.specs.Terms.{terms_of}
 use Rattle.zmtp_peer.specs.Faults.{Fault, Wire}

@@ -14,3 +14,4 @@ pub mod MessageLemmas
 pub mod FedMessages
 pub mod SubscribingLemmas
 pub mod AskedLemmas
+pub mod PingLemmas

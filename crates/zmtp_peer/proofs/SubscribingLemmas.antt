@@ -1,9 +1,8 @@
 -- The terms on which a peer that is ready subscribes.
-use Rattle.std.proofs.Common.{◌≡◌, ℕ, ◌≤◌, List, ap, sym, subst, ◌∙◌, arith, take, take_all, length}
+use Rattle.std.proofs.Common.{◌≡◌, ℕ, List, ap, sym, ◌∙◌, arith, take, take_all, length}
 use Rattle.std.proofs.lemmas.List.{length-take}
 use Rattle.zmtp_wire.specs.Stream.{Rest}
 use Rattle.zmtp_peer.specs.declared.role.Role.{Role}
-use Rattle.zmtp_peer.specs.declared.terms.Terms.{Terms}
 use Rattle.zmtp_peer.specs.Terms.{terms_of}
 use Rattle.zmtp_peer.specs.Events.{Event, State, Opening, Open, Refused}
 use Rattle.zmtp_peer.specs.Reading.{Room, Standing, IsAt, Stands}

@@ -21,7 +21,7 @@ use Rattle.std.proofs.lemmas.Map.Text.{is_eq-slice_cmp}
 use Rattle.std.proofs.lemmas.Slice.Eq.{bytes_eq-Decides}
 use Rattle.zmtp_peer.specs.Events.{Event, Ready, Message, Subscribe, Cancel, Ping, event_of, events_of}
 use Rattle.zmtp_peer.specs.declared.brought.Brought as code
-use Rattle.zmtp_peer.specs.Brought.{Brought, brought_of, brought_told}
+use Rattle.zmtp_peer.specs.Brought.{brought_of, brought_told}
 use Rattle.zmtp_peer.specs.Subscriptions.{place_of, count_in, counted, counted_all, IsRoomFor, HasRoom, HasWanted}
 use Rattle.zmtp_peer.specs.Table.{table_of, is_key}
 

@@ -1,5 +1,5 @@
 -- What frames bring one behind another: messages that became whole, and events of commands that came between them or within one.
-use Rattle.std.specs.Prelude.{ℕ, List, [], ◌∷◌, map}
+use Rattle.std.specs.Prelude.{ℕ, List, [], ◌∷◌}
 use Rattle.zmtp_peer.specs.declared.role.Role.{Role}
 use Rattle.zmtp_peer.specs.declared.brought.Brought as code
 use Rattle.zmtp_peer.specs.declared.brought.Brought.TheVariants as variant

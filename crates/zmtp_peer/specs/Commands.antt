@@ -1,6 +1,7 @@
 -- Commands, the metadata of READY and the reason of ERROR (RFC 23, its grammar of `command`, `metadata` and `error`), and the context of
 -- PING (RFC 37, "Heartbeating").
-use Rattle.std.specs.Prelude.{ℕ, Option, Some, None, option_and_then, option_map, List, [], ◌∷◌, length, take, drop, codes, nat_lt, nat_le, if◌then◌else◌, zero, suc}
+use Rattle.std.specs.Prelude.{ℕ, Option, Some, None, option_and_then, option_map, List, [], ◌∷◌, zero, suc}
+use Rattle.std.specs.Prelude.{length, take, drop, codes, nat_lt, nat_le, if◌then◌else◌}
 use Rattle.std.specs.Int.{w32, from_be_bytes}
 use Rattle.std.specs.Str.{str_eq_ignore_ascii_case}
 use Rattle.zmtp_wire.specs.Pong.{context_limit}

@@ -1,22 +1,24 @@
 -- Laws of what octets tell a peer.
-use Rattle.std.specs.Prelude.{◌≡◌, ◌≢◌, ℕ, ◌<◌, ◌≤◌, true, All, List, [], ◌∷◌, ◌++◌, length}
+use Rattle.std.specs.Prelude.{◌≡◌, ◌≢◌, ℕ, ◌+◌, ◌<◌, ◌≤◌, ◌⊎◌, true, false, All, List, [], ◌∷◌, ◌++◌, length}
 use Rattle.std.specs.List.{flat_map}
 use Rattle.zmtp_wire.specs.Greeting.{major_in, minor_in}
-use Rattle.zmtp_wire.specs.Frame.{Frame, written}
+use Rattle.zmtp_wire.specs.Frame.{Frame, IsFrame, written}
 use Rattle.zmtp_wire.specs.Tally.{octet_limit}
+use Rattle.zmtp_wire.specs.Pong.{context_limit}
 use Rattle.zmtp_wire.specs.Message.{message_octets, IsWithinLimits}
 use Rattle.zmtp_wire.specs.Stream.{whole}
 use Rattle.zmtp_peer.specs.declared.role.Role.{Role}
 use Rattle.zmtp_peer.specs.declared.terms.Terms.{Terms}
 use Rattle.zmtp_peer.specs.declared.role.Role.TheVariants.{Pub}
 use Rattle.zmtp_peer.specs.Roles.{socket_type_of, is_partner}
-use Rattle.zmtp_peer.specs.Faults.{Fault}
+use Rattle.zmtp_peer.specs.Faults.{Fault, BadPing}
 use Rattle.zmtp_peer.specs.Terms.{is_newer}
-use Rattle.zmtp_peer.specs.Events.{Event, Ready, Message, Subscribe, State, Open, after, told}
+use Rattle.zmtp_peer.specs.Events.{Event, Ready, Message, Subscribe, Ping, State, Open, Refused, after, told}
 use Rattle.zmtp_peer.specs.Subscriptions.{counted_all}
 use Rattle.zmtp_peer.specs.Reading.{Ending, Awaiting, Failing, PeerReads, Standing, ending_of, Stands, Brings}
 use Rattle.zmtp_peer.specs.Opening.{opening_of}
 use Rattle.zmtp_peer.specs.Subscribing.{subscription_frame}
+use Rattle.zmtp_peer.specs.Pings.{ping}
 
 -- all octets tell a role something
 abbrev pub OctetsAreRead : Type 0
@@ -82,6 +84,37 @@ FedMessagesAreTold =
 abbrev pub SubscriptionsAreTold : Type 0
 SubscriptionsAreTold =
     (s : Standing) (fed : List ℕ) (given : List Event) (asks : Terms) (prefix : List ℕ)
-    → Stands fed given s → s.role ≡ Pub → IsBetweenMessages s → (asks.newer ≡ true → is_newer (major_in s.greeting) (minor_in s.greeting) ≡ true)
+    → Stands fed given s → s.role ≡ Pub → IsBetweenMessages s
+    → (asks.newer ≡ true → is_newer (major_in s.greeting) (minor_in s.greeting) ≡ true)
     → length (subscription_frame asks prefix).body ≤ octet_limit
     → PeerReads s.role (fed ++ written (subscription_frame asks prefix)) (given ++ Subscribe prefix ∷ []) Awaiting
+
+-- a peer that was told Ready, and stands between two frames: behind a message, or within one of which these frames are held
+pub record IsBetweenFrames (s : Standing) (held : List (List ℕ)) : Type 0 where
+  pub ready : s.state ≡ Open held
+  pub nothing : s.rest.octets ≡ []
+
+-- A ping of a partner of 3.1 or later, with two octets and a context of 16 at most, tells each role that ping with its context, and what follows brings
+-- what it brings without it. A frame may be written in either form.
+abbrev pub PingsAreTold : Type 0
+PingsAreTold =
+    (s t : Standing) (held : List (List ℕ)) (octets time context more : List ℕ) (es : List Event)
+    → IsBetweenFrames s held → is_newer (major_in s.greeting) (minor_in s.greeting) ≡ true
+    → length time ≡ 2 → length context ≤ context_limit → IsFrame octets (ping (time ++ context))
+    → Brings s more es t → Brings s (octets ++ more) (Ping context ∷ es) t
+
+-- one with shorter or longer data refuses its partner, and tells nothing
+abbrev pub BadPingsAreRefused : Type 0
+BadPingsAreRefused =
+    (s : Standing) (held : List (List ℕ)) (octets content : List ℕ)
+    → IsBetweenFrames s held → is_newer (major_in s.greeting) (minor_in s.greeting) ≡ true
+    → (length content < 2) ⊎ (2 + context_limit < length content) → length (ping content).body ≤ octet_limit → IsFrame octets (ping content)
+    → Brings s octets [] (record s { state = Refused BadPing })
+
+-- of a partner of an older version a ping with any data is passed over
+abbrev pub OldPingsArePassedOver : Type 0
+OldPingsArePassedOver =
+    (s t : Standing) (held : List (List ℕ)) (octets content more : List ℕ) (es : List Event)
+    → IsBetweenFrames s held → is_newer (major_in s.greeting) (minor_in s.greeting) ≡ false
+    → length (ping content).body ≤ octet_limit → IsFrame octets (ping content)
+    → Brings s more es t → Brings s (octets ++ more) es t

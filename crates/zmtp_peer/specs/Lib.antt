@@ -13,4 +13,5 @@ pub mod Connection
 pub mod Reading
 pub mod Opening
 pub mod Subscribing
+pub mod Pings
 pub mod Laws

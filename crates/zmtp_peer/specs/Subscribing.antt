@@ -1,8 +1,7 @@
 -- How a subscriber asks its partner for all that begins with a prefix: by the command SUBSCRIBE where the partner speaks ZMTP 3.1 (RFC 37), and
 -- by a message whose first octet is 1 where it speaks an older version (RFC 23).
-use Rattle.std.specs.Prelude.{◌≡◌, ℕ, Bool, true, false, List, [], ◌∷◌, ◌++◌, codes, if◌then◌else◌}
+use Rattle.std.specs.Prelude.{ℕ, true, false, List, ◌∷◌, ◌++◌, codes, if◌then◌else◌}
 use Rattle.zmtp_wire.specs.Frame.{Frame}
-use Rattle.zmtp_peer.specs.declared.role.Role.TheVariants.{Pub}
 use Rattle.zmtp_peer.specs.declared.terms.Terms.{Terms}
 use Rattle.zmtp_peer.specs.Events.{State, Open, Opening, Refused}
 

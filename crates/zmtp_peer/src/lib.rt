@@ -6,10 +6,12 @@
 //! was; and that `Peer::wants` knows the subscriptions behind the events.
 //!
 //! The definitions, in specs/, are those of RFC 23 (ZMTP 3.0): its grammar of commands and metadata, "The NULL Security
-//! Mechanism", and its rules for publishers and subscribers; and of RFC 37 (ZMTP 3.1): subscriptions by command, and PING. Greetings, frames and their limits are those of `zmtp_wire`.
+//! Mechanism", and its rules for publishers and subscribers; and of RFC 37 (ZMTP 3.1): subscriptions by command, and PING. Greetings, frames and
+//! their limits are those of `zmtp_wire`.
 #![tactic(auto)]
 
-ghost use Rattle.zmtp_peer.specs.Laws.{OctetsAreRead, OctetsHaveOneReading, RefusalsStay, NoCutMatters, FoldsGoOn, PartnersAreReady, MessagesAreTold, FedMessagesAreTold, SubscriptionsAreTold};
+ghost use Rattle.zmtp_peer.specs.Laws.{OctetsAreRead, OctetsHaveOneReading, RefusalsStay, NoCutMatters, FoldsGoOn, PartnersAreReady};
+ghost use Rattle.zmtp_peer.specs.Laws.{MessagesAreTold, FedMessagesAreTold, SubscriptionsAreTold, PingsAreTold, BadPingsAreRefused, OldPingsArePassedOver};
 
 mod brought;
 mod command;
@@ -81,4 +83,12 @@ pub fn fed_messages_are_told_law()
 /// else: the message by any partner, the command by one of version 3.1 or later.
 pub fn subscriptions_are_told_law()
     ensures { SubscriptionsAreTold }
+{}
+
+/// Law: a peer that is ready is told a ping between two frames, in each role: of a partner of 3.1 or later that ping with its context, which has 16
+/// octets at most, and nothing else; shorter or longer data of such a partner is refused; of an older partner each ping is passed over.
+pub fn pings_are_told_law()
+    ensures told { PingsAreTold }
+    ensures refused { BadPingsAreRefused }
+    ensures passed { OldPingsArePassedOver }
 {}

@@ -1,12 +1,14 @@
 //! The prefixes to which a peer has subscribed, and how often.
-ghost use Rattle.std.specs.Prelude.{◌≡◌, ℕ, ◌+◌, ◌-◌, ◌<◌, ◌≤◌, List, OnOk, OnErr, Option, None, Some, if◌then◌else◌, is_some, IsTrue, ◌↔◌, [], ◌∷◌, length, map, true, IfSome, IfNone};
+ghost use Rattle.std.specs.Prelude.{◌≡◌, ℕ, ◌+◌, ◌-◌, ◌<◌, ◌≤◌, List, Option, None, Some, if◌then◌else◌, is_some, IsTrue, ◌↔◌, [], ◌∷◌, length, map, true};
+ghost use Rattle.std.specs.Prelude.{OnOk, OnErr, IfSome, IfNone};
 ghost use Rattle.std.specs.List.{flat_map};
 ghost use Rattle.std.specs.Option.{option_or};
 ghost use Rattle.std.specs.Map.{set_value};
 ghost use Rattle.std.specs.Str.{bytes_eq};
 ghost use Rattle.zmtp_peer.specs.Events.{Subscribe, event_of, events_of, bodies, message_told, told_to_publisher};
 ghost use Rattle.zmtp_peer.specs.Brought.{brought_of, brought_told};
-ghost use Rattle.zmtp_peer.specs.Subscriptions.{place_of, count_in, counted, counted_all, IsRoomFor, HasRoom, AddsIdle, DropsIdle, names, is_named, asks, is_asked};
+ghost use Rattle.zmtp_peer.specs.Subscriptions.{place_of, count_in, counted, counted_all, names, is_named, asks, is_asked};
+ghost use Rattle.zmtp_peer.specs.Subscriptions.{IsRoomFor, HasRoom, AddsIdle, DropsIdle};
 
 use crate::brought::Brought;
 use crate::counts::Counts;
