@@ -1,5 +1,4 @@
 -- What is kept of a broadcast, and the frames that it stands for.
-use Rattle.std.specs.Prelude.{List}
 use Rattle.zmtp_wire.specs.Message.{bodies_of}
 use Rattle.kernel_board.specs.declared.content.Content.{Content}
 use Rattle.kernel_board.specs.declared.content.Content.TheVariants.{Written, TooLong}

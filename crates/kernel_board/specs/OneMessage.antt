@@ -1,5 +1,5 @@
 -- No two messages within the limits of the wire have the same octets: what a reader reads of them are the frames.
-use Rattle.std.proofs.Common.{◌≡◌, ℕ, ◌<◌, List, [], ◌∷◌, ◌++◌, length, map, refl, sym, ap, ◌∙◌, subst, arith, append-nil}
+use Rattle.std.proofs.Common.{◌≡◌, ℕ, ◌<◌, List, [], ◌∷◌, length, map, refl, sym, ap, ◌∙◌, subst, arith, append-nil}
 use Rattle.zmtp_wire.specs.Frame.{Frame}
 use Rattle.zmtp_wire.specs.Message.{message_frames, message_octets, IsWithinLimits}
 use Rattle.zmtp_wire.specs.Stream.{whole, Reads, Open}
@@ -17,7 +17,8 @@ bodies-frames (body ∷ []) = refl
 bodies-frames (body ∷ other ∷ bodies) = ap (λ (bs : Frames). body ∷ bs) (bodies-frames (other ∷ bodies))
 
 -- alone on the wire it is read as its frames
-read_alone : (body : List ℕ) (bodies : Frames) → IsWithinLimits (body ∷ bodies) → Reads (message_octets (body ∷ bodies)) (message_frames (body ∷ bodies)) (Open [])
+read_alone : (body : List ℕ) (bodies : Frames) → IsWithinLimits (body ∷ bodies)
+    → Reads (message_octets (body ∷ bodies)) (message_frames (body ∷ bodies)) (Open [])
 read_alone body bodies within =
     let leaves = messages_are_read_back (body ∷ bodies) [] (omega arith) within in
     subst (λ (octets : List ℕ). Reads octets (message_frames (body ∷ bodies)) (Open [])) (append-nil (message_octets (body ∷ bodies)))

@@ -124,7 +124,8 @@ impl Subscriber {
         bulletin: &Bulletin,
         piece: &[u8],
     ) -> Result<News, SubscriberFault>
-        ensures pings { IfOk result (λ news. BringsPings self.old.peer piece.now self.new.peer (bodies_of self.old.pings.items) (bodies_of self.new.pings.items) news.pings) }
+        ensures pings { IfOk result (λ news. BringsPings self.old.peer piece.now self.new.peer (bodies_of self.old.pings.items)
+            (bodies_of self.new.pings.items) news.pings) }
         ensures unanswered { IfOk result (λ news. self.new.unanswered ≡ self.old.unanswered + news.pings) }
     {
         let news = feed(self.alloc, &mut self.peer, &mut self.pings, piece)?;

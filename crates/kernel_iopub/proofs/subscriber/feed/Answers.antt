@@ -50,5 +50,5 @@ returns-in-Ok-append-clause-told c =
       brings = c.in-Ok.ensures.events;
       waiting = ap bodies_of c.in-Ok-append.ensures.items ∙ map-append (λ (b : Vec ℕ). b.items) pings contexts
           ∙ ap (λ (items : List (List ℕ)). bodies_of pings ++ items) same;
-      counted = omega (arith, c.len-told.ensures.len, length-map (λ (b : Vec ℕ). b.items) contexts, ap length same);
+      counted = omega (arith, c.len-told.ensures, c.news_of.new.contexts.ok, length-map contexts (λ (b : Vec ℕ). b.items), ap length same);
     }
