@@ -203,9 +203,9 @@ fn finish<W: Write, D: Desk>(
         (answered key.now request.now stamp.old (says_of request.now.content told.now))) }
     ensures midway { IfErr result IsMidway }
 {
-    let Outgoing { reply, broadcasts } = outgoing(alloc, stamp, request, told)?;
-    publish_all(alloc, desk, key, broadcasts)?;
-    send_reply(alloc, key, writer, reply)
+    let out = outgoing(alloc, stamp, request, told)?;
+    publish_all(alloc, desk, key, out.broadcasts)?;
+    send_reply(alloc, key, writer, out.reply)
 }
 
 /// How a session goes on once the request is answered.

@@ -28,7 +28,7 @@ returns-in_err-publish_all-clause-err g c =
     (ActedPart g.W.Write.contents g.D.Desk.leads c.args.writer.now c.args.writer.now c.args.desk.now c.publish_all.new.desk all)
     (out_led g.W.Write.contents g.D.Desk.leads c.args.key.now c.args.writer.now c.args.writer.now c.args.desk.now c.publish_all.new.desk
     (sent_of c.in_ok-out.out) (sent (asker_of c.args.request.now) c.args.stamp.now says) c.in_ok-out.ensures.sent
-    (subst (λ (x : List Octets). LedPart g.D.Desk.leads c.args.desk.now (map f x) c.publish_all.new.desk) c.deref.ensures.value c.in_err-publish_all.ensures.err))
+    (c.in_err-publish_all.ensures.err))
 
 pub returns-clause-ok : goal.returns-clause-ok
 returns-clause-ok g c =
@@ -40,7 +40,7 @@ returns-clause-ok g c =
     (Acts g.W.Write.contents g.D.Desk.leads c.args.writer.now c.send_reply.new.writer c.args.desk.now c.publish_all.new.desk all)
     (λ p. out_whole g.W.Write.contents g.D.Desk.leads c.args.key.now c.args.writer.now c.send_reply.new.writer c.args.desk.now c.publish_all.new.desk
     (sent_of c.in_ok-out.out) (sent (asker_of c.args.request.now) c.args.stamp.now says) c.in_ok-out.ensures.sent
-    (subst (λ (x : List Octets). Leads g.D.Desk.leads c.args.desk.now (map f x) c.publish_all.new.desk) c.deref.ensures.value c.in_ok-publish_all.ensures.ok) p)
+    c.in_ok-publish_all.ensures.ok p)
     c.send_reply.ensures.ok
 
 pub returns-clause-err : goal.returns-clause-err
@@ -53,5 +53,5 @@ returns-clause-err g c =
     (ActedPart g.W.Write.contents g.D.Desk.leads c.args.writer.now c.send_reply.new.writer c.args.desk.now c.publish_all.new.desk all)
     (λ p. out_cut g.W.Write.contents g.D.Desk.leads c.args.key.now c.args.writer.now c.send_reply.new.writer c.args.desk.now c.publish_all.new.desk
     (sent_of c.in_ok-out.out) (sent (asker_of c.args.request.now) c.args.stamp.now says) c.in_ok-out.ensures.sent
-    (subst (λ (x : List Octets). Leads g.D.Desk.leads c.args.desk.now (map f x) c.publish_all.new.desk) c.deref.ensures.value c.in_ok-publish_all.ensures.ok) p)
+    c.in_ok-publish_all.ensures.ok p)
     c.send_reply.ensures.err
