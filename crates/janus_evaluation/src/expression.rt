@@ -33,7 +33,27 @@ pub fn test<L: Ledger>(exp: &Exp, store: &Store<L>) -> Result<bool, ValueFault>
 
 /// The number of an expression, or the first fault from left to right. Its names are declared, each as what its use wants, and have their
 /// numbers.
+// Most operands are numbers and variables: they are read in place, with no call.
+#[inline(always)]
+#[cycle(value)]
 pub fn value<L: Ledger>(exp: &Exp, store: &Store<L>) -> Result<i32, ValueFault>
+    requires safe { value_of (exp_of exp.now) store.now.sight ≢ Bad Broken }
+    requires numbered { HasNumbers store.now.names exp.now }
+    ensures { result_of result ≡ value_of (exp_of exp.now) store.now.sight }
+{
+    match exp {
+        Exp::Number(number) => Ok(number.cast_signed()),
+        Exp::Variable(name) => match store.get(name.number) {
+            Some(number) => Ok(number),
+            None => unreachable!(),
+        },
+        _ => computed(exp, store),
+    }
+}
+
+/// The same, where it is worked out from parts.
+#[cycle(value)]
+fn computed<L: Ledger>(exp: &Exp, store: &Store<L>) -> Result<i32, ValueFault>
     requires safe { value_of (exp_of exp.now) store.now.sight ≢ Bad Broken }
     requires numbered { HasNumbers store.now.names exp.now }
     ensures { result_of result ≡ value_of (exp_of exp.now) store.now.sight }
