@@ -18,6 +18,7 @@ use janus_syntax::tree::Update;
 use std::sync::ledger::Ledger;
 
 /// An assignment to a variable, whose right side does not name it. Names have their numbers. A fault leaves the store.
+#[inline]
 pub fn assign<L: Ledger>(
     name: &Symbol,
     update: Update,

@@ -1,6 +1,6 @@
 //! The numbers of expressions.
 
-ghost use Rattle.std.specs.Prelude.{◌≡◌, ◌≢◌, true};
+ghost use Rattle.std.specs.Prelude.{◌≡◌, ◌≢◌, true, IfSome};
 ghost use Rattle.std.specs.Prelude.{List, ℤ};
 ghost use Rattle.janus_meaning.specs.Fault.{Fine, Bad, Broken};
 ghost use Rattle.janus_meaning.specs.Store.{Arr, Stk, look, element as element_of};
@@ -33,7 +33,56 @@ pub fn test<L: Ledger>(exp: &Exp, store: &Store<L>) -> Result<bool, ValueFault>
 
 /// The number of an expression, or the first fault from left to right. Its names are declared, each as what its use wants, and have their
 /// numbers.
+// An operator between numbers and variables is what most expressions are: it is worked out in place, with no call.
+#[inline]
 pub fn value<L: Ledger>(exp: &Exp, store: &Store<L>) -> Result<i32, ValueFault>
+    requires safe { value_of (exp_of exp.now) store.now.sight ≢ Bad Broken }
+    requires numbered { HasNumbers store.now.names exp.now }
+    ensures { result_of result ≡ value_of (exp_of exp.now) store.now.sight }
+{
+    match exp {
+        Exp::Binary(operator, left, right) => match leaf(left, store) {
+            Some(first) => match leaf(right, store) {
+                Some(second) => operate(*operator, first, second),
+                None => computed(exp, store),
+            },
+            None => computed(exp, store),
+        },
+        _ => operand(exp, store),
+    }
+}
+
+/// The number of a number or a variable; none of another expression.
+#[inline(always)]
+fn leaf<L: Ledger>(exp: &Exp, store: &Store<L>) -> Option<i32>
+    requires safe { value_of (exp_of exp.now) store.now.sight ≢ Bad Broken }
+    requires numbered { HasNumbers store.now.names exp.now }
+    ensures { IfSome result (λ n. value_of (exp_of exp.now) store.now.sight ≡ Fine n) }
+{
+    match exp {
+        Exp::Number(number) => Some(number.cast_signed()),
+        Exp::Variable(name) => store.get(name.number),
+        _ => None,
+    }
+}
+
+/// The number of a part of an expression. One that is a number or a variable is read in place.
+#[inline(always)]
+#[cycle(computed)]
+fn operand<L: Ledger>(exp: &Exp, store: &Store<L>) -> Result<i32, ValueFault>
+    requires safe { value_of (exp_of exp.now) store.now.sight ≢ Bad Broken }
+    requires numbered { HasNumbers store.now.names exp.now }
+    ensures { result_of result ≡ value_of (exp_of exp.now) store.now.sight }
+{
+    match leaf(exp, store) {
+        Some(number) => Ok(number),
+        None => computed(exp, store),
+    }
+}
+
+/// The number of an expression, as `value` has it.
+#[cycle(computed)]
+fn computed<L: Ledger>(exp: &Exp, store: &Store<L>) -> Result<i32, ValueFault>
     requires safe { value_of (exp_of exp.now) store.now.sight ≢ Bad Broken }
     requires numbered { HasNumbers store.now.names exp.now }
     ensures { result_of result ≡ value_of (exp_of exp.now) store.now.sight }
@@ -44,39 +93,39 @@ pub fn value<L: Ledger>(exp: &Exp, store: &Store<L>) -> Result<i32, ValueFault>
             Some(number) => Ok(number),
             None => unreachable!(),
         },
-        Exp::Element(name, index) => match value(index, store) {
+        Exp::Element(name, index) => match operand(index, store) {
             Ok(index) => element(name.number, index, store),
             Err(fault) => Err(fault),
         },
         Exp::Empty(name) => Ok(bit_of(store.is_empty(name.number))),
         Exp::Top(name) => top(name.number, store),
-        Exp::Negative(operand) => match value(operand, store) {
+        Exp::Negative(positive) => match operand(positive, store) {
             Ok(number) => Ok(negative(number)),
             Err(fault) => Err(fault),
         },
-        Exp::Binary(operator, left, right) => match value(left, store) {
-            Ok(left) => match value(right, store) {
+        Exp::Binary(operator, left, right) => match operand(left, store) {
+            Ok(left) => match operand(right, store) {
                 Ok(right) => operate(*operator, left, right),
                 Err(fault) => Err(fault),
             },
             Err(fault) => Err(fault),
         },
-        Exp::And(left, right) => match value(left, store) {
+        Exp::And(left, right) => match operand(left, store) {
             Ok(left) => {
                 if holds(left) {
-                    as_bit(value(right, store))
+                    as_bit(operand(right, store))
                 } else {
                     Ok(0)
                 }
             }
             Err(fault) => Err(fault),
         },
-        Exp::Or(left, right) => match value(left, store) {
+        Exp::Or(left, right) => match operand(left, store) {
             Ok(left) => {
                 if holds(left) {
                     Ok(1)
                 } else {
-                    as_bit(value(right, store))
+                    as_bit(operand(right, store))
                 }
             }
             Err(fault) => Err(fault),

@@ -7,6 +7,7 @@ pub mod Turns
 pub mod Bodies
 pub mod Nested
 pub mod Cursors
+pub mod Moved
 pub mod Counts
 pub mod Open
 pub mod Calls

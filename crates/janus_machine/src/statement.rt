@@ -16,6 +16,7 @@ use janus_store::{Store, Writes};
 use std::sync::ledger::Ledger;
 
 /// Runs a statement without blocks, whose names have their numbers, or leaves the store at a fault.
+#[inline(always)]
 pub(crate) fn run<L: Ledger>(
     statement: &Statement,
     store: &mut Store<L>,

@@ -12,25 +12,34 @@ use Rattle.janus_evaluation.specs.Results.{fault_of}
 use Rattle.janus_evaluation.proofs.Numbers.{wrap_number, bit_wraps}
 use Rattle.janus_evaluation.proofs.Sizes.{exp_size}
 use Rattle.janus_evaluation.proofs.Values.{variable_is, is_number, is_array, empty_is_stack, top_is_stack, empty_is, top_is, element_is, element_bad, negative_is, binary_is, binary_right, and_is, and_at, or_is, or_at}
-use Rattle.janus_evaluation.proofs.expression.+value.Goals as goal
+use Rattle.janus_evaluation.proofs.expression.+computed.Goals as goal
 
-pub unreachable-requires : goal.unreachable-requires
-unreachable-requires g t c =
+pub operand-computed-requires : goal.operand-computed-requires
+operand-computed-requires g t c = λ κs sub. (omega (arith, c.decreases), (sub, (c.requires.safe, c.requires.numbered)))
+
+pub operand-returns-in-Some : goal.operand-returns-in-Some
+operand-returns-in-Some g t c =
+    let n : ℤ = c.in-Some.number in
+    let z : to_z w32 (of_z w32 n) ≡ n = grind (arith, to_z-of_z) in
+    ap Fine z ∙ sym c.in-Some.ensures
+
+pub computed-unreachable-requires : goal.computed-unreachable-requires
+computed-unreachable-requires g t c =
     let s = c.args.store.now.sight in
     let x = string_bytes c.in-Variable.name.text in
     let at = subst (HasNumbers c.args.store.now.names) c.in-Variable.is c.requires.numbered in
     c.requires.safe (ap (λ e. value (exp_of e) s) c.in-Variable.is ∙ variable_is s x ∙ sym (c.in-None.ensures x at))
 
-pub get-requires : goal.get-requires
-get-requires g t c =
+pub computed-get-requires : goal.computed-get-requires
+computed-get-requires g t c =
     let s = c.args.store.now.sight in
     let x = string_bytes c.in-Variable.name.text in
     let at = subst (HasNumbers c.args.store.now.names) c.in-Variable.is c.requires.numbered in
     let n = is_number s x (λ q. c.requires.safe (ap (λ e. value (exp_of e) s) c.in-Variable.is ∙ q)) in
     (x, Num n.0, at, n.1)
 
-pub value-requires : goal.value-requires
-value-requires g t c =
+pub computed-operand-requires : goal.computed-operand-requires
+computed-operand-requires g t c =
     let s = c.args.store.now.sight in
     let a = string_bytes c.in-Element.name.text in
     let i = exp_of c.in-Element.index.value in
@@ -38,8 +47,8 @@ value-requires g t c =
     let arr = is_array s a i safe in
     λ κs sub. (omega (arith, c.decreases, ap exp_size c.in-Element.is, ap exp_size c.deref.ensures), (sub, (λ h. safe (element_bad s a i arr.0 Broken arr.1 (ap (λ e. value (exp_of e) s) (sym c.deref.ensures) ∙ h)), subst (HasNumbers c.args.store.now.names) (sym c.deref.ensures) (subst (HasNumbers c.args.store.now.names) c.in-Element.is c.requires.numbered).1)))
 
-pub element-requires : goal.element-requires
-element-requires g t c =
+pub computed-element-requires : goal.computed-element-requires
+computed-element-requires g t c =
     let s = c.args.store.now.sight in
     let a = string_bytes c.in-Element.name.text in
     let i = exp_of c.in-Element.index.value in
@@ -47,81 +56,81 @@ element-requires g t c =
     let numbered = subst (HasNumbers c.args.store.now.names) c.in-Element.is c.requires.numbered in
     (a, numbered.0, is_array s a i safe)
 
-pub value-requires-in-Negative : goal.value-requires-in-Negative
-value-requires-in-Negative g t c =
+pub computed-operand-requires-in-Negative : goal.computed-operand-requires-in-Negative
+computed-operand-requires-in-Negative g t c =
     let s = c.args.store.now.sight in
-    λ κs sub. (omega (arith, c.decreases, ap exp_size c.in-Negative.is, ap exp_size c.deref-in-Negative.ensures), (sub, (λ h. c.requires.safe (ap (λ e. value (exp_of e) s) c.in-Negative.is ∙ negative_is s (exp_of c.in-Negative.operand.value) (Bad Broken) (ap (λ e. value (exp_of e) s) (sym c.deref-in-Negative.ensures) ∙ h)), subst (HasNumbers c.args.store.now.names) (sym c.deref-in-Negative.ensures) (subst (HasNumbers c.args.store.now.names) c.in-Negative.is c.requires.numbered))))
+    λ κs sub. (omega (arith, c.decreases, ap exp_size c.in-Negative.is, ap exp_size c.deref-in-Negative.ensures), (sub, (λ h. c.requires.safe (ap (λ e. value (exp_of e) s) c.in-Negative.is ∙ negative_is s (exp_of c.in-Negative.positive.value) (Bad Broken) (ap (λ e. value (exp_of e) s) (sym c.deref-in-Negative.ensures) ∙ h)), subst (HasNumbers c.args.store.now.names) (sym c.deref-in-Negative.ensures) (subst (HasNumbers c.args.store.now.names) c.in-Negative.is c.requires.numbered))))
 
-pub value-requires-in-Binary : goal.value-requires-in-Binary
-value-requires-in-Binary g t c =
+pub computed-operand-requires-in-Binary : goal.computed-operand-requires-in-Binary
+computed-operand-requires-in-Binary g t c =
     let s = c.args.store.now.sight in
     let o = operator_of c.in-Binary.operator in
     let l = exp_of c.in-Binary.left.value in
     let r = exp_of c.in-Binary.right.value in
     λ κs sub. (omega (arith, c.decreases, ap exp_size c.in-Binary.is, ap exp_size c.deref-in-Binary.ensures), (sub, (λ h. c.requires.safe (ap (λ e. value (exp_of e) s) c.in-Binary.is ∙ binary_is s o l r (Bad Broken) (ap (λ e. value (exp_of e) s) (sym c.deref-in-Binary.ensures) ∙ h)), subst (HasNumbers c.args.store.now.names) (sym c.deref-in-Binary.ensures) (subst (HasNumbers c.args.store.now.names) c.in-Binary.is c.requires.numbered).0)))
 
-pub value-requires-in-Ok-value-2 : goal.value-requires-in-Ok-value-2
-value-requires-in-Ok-value-2 g t c =
+pub computed-operand-requires-in-Ok-operand-2 : goal.computed-operand-requires-in-Ok-operand-2
+computed-operand-requires-in-Ok-operand-2 g t c =
     let s = c.args.store.now.sight in
     let o = operator_of c.in-Binary.operator in
     let l = exp_of c.in-Binary.left.value in
     let r = exp_of c.in-Binary.right.value in
-    let left : value l s ≡ Fine c.in-Ok-value-2.left = sym (c.in-Ok-value-2.ensures ∙ ap (λ e. value (exp_of e) s) c.deref-in-Binary.ensures) in
-    λ κs sub. (omega (arith, c.decreases, ap exp_size c.in-Binary.is, ap exp_size c.deref-in-Ok-value-2.ensures), (sub, (λ h. c.requires.safe (ap (λ e. value (exp_of e) s) c.in-Binary.is ∙ binary_right s o l r c.in-Ok-value-2.left (Bad Broken) left (ap (λ e. value (exp_of e) s) (sym c.deref-in-Ok-value-2.ensures) ∙ h)), subst (HasNumbers c.args.store.now.names) (sym c.deref-in-Ok-value-2.ensures) (subst (HasNumbers c.args.store.now.names) c.in-Binary.is c.requires.numbered).1)))
+    let left : value l s ≡ Fine c.in-Ok-operand-2.left = sym (c.in-Ok-operand-2.ensures ∙ ap (λ e. value (exp_of e) s) c.deref-in-Binary.ensures) in
+    λ κs sub. (omega (arith, c.decreases, ap exp_size c.in-Binary.is, ap exp_size c.deref-in-Ok-operand-2.ensures), (sub, (λ h. c.requires.safe (ap (λ e. value (exp_of e) s) c.in-Binary.is ∙ binary_right s o l r c.in-Ok-operand-2.left (Bad Broken) left (ap (λ e. value (exp_of e) s) (sym c.deref-in-Ok-operand-2.ensures) ∙ h)), subst (HasNumbers c.args.store.now.names) (sym c.deref-in-Ok-operand-2.ensures) (subst (HasNumbers c.args.store.now.names) c.in-Binary.is c.requires.numbered).1)))
 
-pub value-requires-in-And : goal.value-requires-in-And
-value-requires-in-And g t c =
+pub computed-operand-requires-in-And : goal.computed-operand-requires-in-And
+computed-operand-requires-in-And g t c =
     let s = c.args.store.now.sight in
     let l = exp_of c.in-And.left.value in
     let r = exp_of c.in-And.right.value in
     λ κs sub. (omega (arith, c.decreases, ap exp_size c.in-And.is, ap exp_size c.deref-in-And.ensures), (sub, (λ h. c.requires.safe (ap (λ e. value (exp_of e) s) c.in-And.is ∙ and_is s l r (Bad Broken) (ap (λ e. value (exp_of e) s) (sym c.deref-in-And.ensures) ∙ h)), subst (HasNumbers c.args.store.now.names) (sym c.deref-in-And.ensures) (subst (HasNumbers c.args.store.now.names) c.in-And.is c.requires.numbered).0)))
 
-pub value-requires-then-holds : goal.value-requires-then-holds
-value-requires-then-holds g t c =
+pub computed-operand-requires-then-holds : goal.computed-operand-requires-then-holds
+computed-operand-requires-then-holds g t c =
     let s = c.args.store.now.sight in
     let l = exp_of c.in-And.left.value in
     let r = exp_of c.in-And.right.value in
-    let n : ℤ = c.in-Ok-value-4.left in
+    let n : ℤ = c.in-Ok-operand-4.left in
     let z : to_z w32 (of_z w32 n) ≡ n = grind (arith, to_z-of_z) in
-    let left : value l s ≡ Fine n = sym (c.in-Ok-value-4.ensures ∙ ap (λ e. value (exp_of e) s) c.deref-in-And.ensures) in
+    let left : value l s ≡ Fine n = sym (c.in-Ok-operand-4.ensures ∙ ap (λ e. value (exp_of e) s) c.deref-in-And.ensures) in
     let test : nonzero n ≡ true = ap nonzero (sym z) ∙ sym c.holds.ensures ∙ c.if-holds.true in
     λ κs sub. (omega (arith, c.decreases, ap exp_size c.in-And.is, ap exp_size c.deref-then-holds.ensures), (sub, (λ h. c.requires.safe (ap (λ e. value (exp_of e) s) c.in-And.is ∙ and_at s l r n true (Bad Broken) left test (ap (λ e. value (exp_of e) s) (sym c.deref-then-holds.ensures) ∙ h)), subst (HasNumbers c.args.store.now.names) (sym c.deref-then-holds.ensures) (subst (HasNumbers c.args.store.now.names) c.in-And.is c.requires.numbered).1)))
 
-pub value-requires-in-Or : goal.value-requires-in-Or
-value-requires-in-Or g t c =
+pub computed-operand-requires-in-Or : goal.computed-operand-requires-in-Or
+computed-operand-requires-in-Or g t c =
     let s = c.args.store.now.sight in
     let l = exp_of c.in-Or.left.value in
     let r = exp_of c.in-Or.right.value in
     λ κs sub. (omega (arith, c.decreases, ap exp_size c.in-Or.is, ap exp_size c.deref-in-Or.ensures), (sub, (λ h. c.requires.safe (ap (λ e. value (exp_of e) s) c.in-Or.is ∙ or_is s l r (Bad Broken) (ap (λ e. value (exp_of e) s) (sym c.deref-in-Or.ensures) ∙ h)), subst (HasNumbers c.args.store.now.names) (sym c.deref-in-Or.ensures) (subst (HasNumbers c.args.store.now.names) c.in-Or.is c.requires.numbered).0)))
 
-pub value-requires-else-holds-2 : goal.value-requires-else-holds-2
-value-requires-else-holds-2 g t c =
+pub computed-operand-requires-else-holds-2 : goal.computed-operand-requires-else-holds-2
+computed-operand-requires-else-holds-2 g t c =
     let s = c.args.store.now.sight in
     let l = exp_of c.in-Or.left.value in
     let r = exp_of c.in-Or.right.value in
-    let n : ℤ = c.in-Ok-value-5.left in
+    let n : ℤ = c.in-Ok-operand-5.left in
     let z : to_z w32 (of_z w32 n) ≡ n = grind (arith, to_z-of_z) in
-    let left : value l s ≡ Fine n = sym (c.in-Ok-value-5.ensures ∙ ap (λ e. value (exp_of e) s) c.deref-in-Or.ensures) in
-    let test : nonzero n ≡ false = ap nonzero (sym z) ∙ sym c.holds-in-Ok-value-5.ensures ∙ c.if-holds-2.false in
+    let left : value l s ≡ Fine n = sym (c.in-Ok-operand-5.ensures ∙ ap (λ e. value (exp_of e) s) c.deref-in-Or.ensures) in
+    let test : nonzero n ≡ false = ap nonzero (sym z) ∙ sym c.holds-in-Ok-operand-5.ensures ∙ c.if-holds-2.false in
     λ κs sub. (omega (arith, c.decreases, ap exp_size c.in-Or.is, ap exp_size c.deref-else-holds-2.ensures), (sub, (λ h. c.requires.safe (ap (λ e. value (exp_of e) s) c.in-Or.is ∙ or_at s l r n false (Bad Broken) left test (ap (λ e. value (exp_of e) s) (sym c.deref-else-holds-2.ensures) ∙ h)), subst (HasNumbers c.args.store.now.names) (sym c.deref-else-holds-2.ensures) (subst (HasNumbers c.args.store.now.names) c.in-Or.is c.requires.numbered).1)))
 
-pub returns-in-Number : goal.returns-in-Number
+pub computed-returns-in-Number : goal.computed-returns-in-Number
 unfolding value wrap
-returns-in-Number g t c =
+computed-returns-in-Number g t c =
     let n : ℤ = c.cast_signed.result in
     let z : to_z w32 (of_z w32 n) ≡ n = grind (arith, to_z-of_z) in
     ap Fine (z ∙ c.cast_signed.ensures ∙ wrap_number c.in-Number.number (omega arith)) ∙ ap (λ e. value (exp_of e) c.args.store.now.sight) (sym c.in-Number.is)
 
-pub returns-in-Some : goal.returns-in-Some
-returns-in-Some g t c =
+pub computed-returns-in-Some : goal.computed-returns-in-Some
+computed-returns-in-Some g t c =
     let s = c.args.store.now.sight in
     let n : ℤ = c.in-Some.number in
     let z : to_z w32 (of_z w32 n) ≡ n = grind (arith, to_z-of_z) in
     let at = subst (HasNumbers c.args.store.now.names) c.in-Variable.is c.requires.numbered in
     ap Fine z ∙ c.in-Some.ensures (string_bytes c.in-Variable.name.text) at ∙ sym (variable_is s (string_bytes c.in-Variable.name.text)) ∙ ap (λ e. value (exp_of e) s) (sym c.in-Variable.is)
 
-pub returns-in-Ok : goal.returns-in-Ok
-returns-in-Ok g t c =
+pub computed-returns-in-Ok : goal.computed-returns-in-Ok
+computed-returns-in-Ok g t c =
     let s = c.args.store.now.sight in
     let a = string_bytes c.in-Element.name.text in
     let i = exp_of c.in-Element.index.value in
@@ -134,8 +143,8 @@ returns-in-Ok g t c =
     c.element.ensures a arr.0 numbered.0 arr.1 ∙ ap (element arr.0) z
     ∙ sym (element_is s a i arr.0 k arr.1 index) ∙ ap (λ e. value (exp_of e) s) (sym c.in-Element.is)
 
-pub returns-in-Err : goal.returns-in-Err
-returns-in-Err g t c =
+pub computed-returns-in-Err : goal.computed-returns-in-Err
+computed-returns-in-Err g t c =
     let s = c.args.store.now.sight in
     let a = string_bytes c.in-Element.name.text in
     let i = exp_of c.in-Element.index.value in
@@ -143,121 +152,121 @@ returns-in-Err g t c =
     let arr = is_array s a i safe in
     sym (element_bad s a i arr.0 (fault_of c.in-Err.fault) arr.1 (sym (c.in-Err.ensures ∙ ap (λ e. value (exp_of e) s) c.deref.ensures))) ∙ ap (λ e. value (exp_of e) s) (sym c.in-Element.is)
 
-pub returns-in-Ok-value : goal.returns-in-Ok-value
-returns-in-Ok-value g t c =
+pub computed-returns-in-Ok-operand : goal.computed-returns-in-Ok-operand
+computed-returns-in-Ok-operand g t c =
     let s = c.args.store.now.sight in
-    let e = exp_of c.in-Negative.operand.value in
-    let n : ℤ = c.in-Ok-value.number in
+    let e = exp_of c.in-Negative.positive.value in
+    let n : ℤ = c.in-Ok-operand.number in
     let z : to_z w32 (of_z w32 n) ≡ n = grind (arith, to_z-of_z) in
     let m : ℤ = c.negative.result in
     let y : to_z w32 (of_z w32 m) ≡ m = grind (arith, to_z-of_z) in
     ap Fine (y ∙ c.negative.ensures ∙ ap (λ n. wrap (neg_ℤ n)) z)
-    ∙ sym (negative_is s e (Fine n) (sym (c.in-Ok-value.ensures ∙ ap (λ e. value (exp_of e) s) c.deref-in-Negative.ensures))) ∙ ap (λ e. value (exp_of e) s) (sym c.in-Negative.is)
+    ∙ sym (negative_is s e (Fine n) (sym (c.in-Ok-operand.ensures ∙ ap (λ e. value (exp_of e) s) c.deref-in-Negative.ensures))) ∙ ap (λ e. value (exp_of e) s) (sym c.in-Negative.is)
 
-pub returns-in-Err-value : goal.returns-in-Err-value
-returns-in-Err-value g t c =
+pub computed-returns-in-Err-operand : goal.computed-returns-in-Err-operand
+computed-returns-in-Err-operand g t c =
     let s = c.args.store.now.sight in
-    sym (negative_is s (exp_of c.in-Negative.operand.value) (Bad (fault_of c.in-Err-value.fault)) (sym (c.in-Err-value.ensures ∙ ap (λ e. value (exp_of e) s) c.deref-in-Negative.ensures))) ∙ ap (λ e. value (exp_of e) s) (sym c.in-Negative.is)
+    sym (negative_is s (exp_of c.in-Negative.positive.value) (Bad (fault_of c.in-Err-operand.fault)) (sym (c.in-Err-operand.ensures ∙ ap (λ e. value (exp_of e) s) c.deref-in-Negative.ensures))) ∙ ap (λ e. value (exp_of e) s) (sym c.in-Negative.is)
 
-pub returns-in-Ok-value-3 : goal.returns-in-Ok-value-3
-returns-in-Ok-value-3 g t c =
+pub computed-returns-in-Ok-operand-3 : goal.computed-returns-in-Ok-operand-3
+computed-returns-in-Ok-operand-3 g t c =
     let s = c.args.store.now.sight in
     let o = operator_of c.in-Binary.operator in
     let l = exp_of c.in-Binary.left.value in
     let r = exp_of c.in-Binary.right.value in
-    let left : value l s ≡ Fine c.in-Ok-value-2.left = sym (c.in-Ok-value-2.ensures ∙ ap (λ e. value (exp_of e) s) c.deref-in-Binary.ensures) in
-    let a : ℤ = c.in-Ok-value-2.left in
+    let left : value l s ≡ Fine c.in-Ok-operand-2.left = sym (c.in-Ok-operand-2.ensures ∙ ap (λ e. value (exp_of e) s) c.deref-in-Binary.ensures) in
+    let a : ℤ = c.in-Ok-operand-2.left in
     let x : to_z w32 (of_z w32 a) ≡ a = grind (arith, to_z-of_z) in
-    let b : ℤ = c.in-Ok-value-3.right in
+    let b : ℤ = c.in-Ok-operand-3.right in
     let y : to_z w32 (of_z w32 b) ≡ b = grind (arith, to_z-of_z) in
     c.operate.ensures ∙ ap (λ a. operate o a (to_z w32 (of_z w32 b))) x ∙ ap (operate o a) y
-    ∙ sym (binary_right s o l r a (Fine b) left (sym (c.in-Ok-value-3.ensures ∙ ap (λ e. value (exp_of e) s) c.deref-in-Ok-value-2.ensures))) ∙ ap (λ e. value (exp_of e) s) (sym c.in-Binary.is)
+    ∙ sym (binary_right s o l r a (Fine b) left (sym (c.in-Ok-operand-3.ensures ∙ ap (λ e. value (exp_of e) s) c.deref-in-Ok-operand-2.ensures))) ∙ ap (λ e. value (exp_of e) s) (sym c.in-Binary.is)
 
-pub returns-in-Err-value-3 : goal.returns-in-Err-value-3
-returns-in-Err-value-3 g t c =
+pub computed-returns-in-Err-operand-3 : goal.computed-returns-in-Err-operand-3
+computed-returns-in-Err-operand-3 g t c =
     let s = c.args.store.now.sight in
     let o = operator_of c.in-Binary.operator in
     let l = exp_of c.in-Binary.left.value in
     let r = exp_of c.in-Binary.right.value in
-    let left : value l s ≡ Fine c.in-Ok-value-2.left = sym (c.in-Ok-value-2.ensures ∙ ap (λ e. value (exp_of e) s) c.deref-in-Binary.ensures) in
-    sym (binary_right s o l r c.in-Ok-value-2.left (Bad (fault_of c.in-Err-value-3.fault)) left (sym (c.in-Err-value-3.ensures ∙ ap (λ e. value (exp_of e) s) c.deref-in-Ok-value-2.ensures))) ∙ ap (λ e. value (exp_of e) s) (sym c.in-Binary.is)
+    let left : value l s ≡ Fine c.in-Ok-operand-2.left = sym (c.in-Ok-operand-2.ensures ∙ ap (λ e. value (exp_of e) s) c.deref-in-Binary.ensures) in
+    sym (binary_right s o l r c.in-Ok-operand-2.left (Bad (fault_of c.in-Err-operand-3.fault)) left (sym (c.in-Err-operand-3.ensures ∙ ap (λ e. value (exp_of e) s) c.deref-in-Ok-operand-2.ensures))) ∙ ap (λ e. value (exp_of e) s) (sym c.in-Binary.is)
 
-pub returns-in-Err-value-2 : goal.returns-in-Err-value-2
-returns-in-Err-value-2 g t c =
+pub computed-returns-in-Err-operand-2 : goal.computed-returns-in-Err-operand-2
+computed-returns-in-Err-operand-2 g t c =
     let s = c.args.store.now.sight in
     let o = operator_of c.in-Binary.operator in
     let l = exp_of c.in-Binary.left.value in
     let r = exp_of c.in-Binary.right.value in
-    sym (binary_is s o l r (Bad (fault_of c.in-Err-value-2.fault)) (sym (c.in-Err-value-2.ensures ∙ ap (λ e. value (exp_of e) s) c.deref-in-Binary.ensures))) ∙ ap (λ e. value (exp_of e) s) (sym c.in-Binary.is)
+    sym (binary_is s o l r (Bad (fault_of c.in-Err-operand-2.fault)) (sym (c.in-Err-operand-2.ensures ∙ ap (λ e. value (exp_of e) s) c.deref-in-Binary.ensures))) ∙ ap (λ e. value (exp_of e) s) (sym c.in-Binary.is)
 
-pub returns-then-holds : goal.returns-then-holds
-returns-then-holds g t c =
+pub computed-returns-then-holds : goal.computed-returns-then-holds
+computed-returns-then-holds g t c =
     let s = c.args.store.now.sight in
     let l = exp_of c.in-And.left.value in
     let r = exp_of c.in-And.right.value in
-    let n : ℤ = c.in-Ok-value-4.left in
+    let n : ℤ = c.in-Ok-operand-4.left in
     let z : to_z w32 (of_z w32 n) ≡ n = grind (arith, to_z-of_z) in
-    let left : value l s ≡ Fine n = sym (c.in-Ok-value-4.ensures ∙ ap (λ e. value (exp_of e) s) c.deref-in-And.ensures) in
+    let left : value l s ≡ Fine n = sym (c.in-Ok-operand-4.ensures ∙ ap (λ e. value (exp_of e) s) c.deref-in-And.ensures) in
     let test : nonzero n ≡ true = ap nonzero (sym z) ∙ sym c.holds.ensures ∙ c.if-holds.true in
-    c.as_bit.ensures ∙ ap (both true) (c.value-then-holds.ensures ∙ ap (λ e. value (exp_of e) s) c.deref-then-holds.ensures)
+    c.as_bit.ensures ∙ ap (both true) (c.operand-then-holds.ensures ∙ ap (λ e. value (exp_of e) s) c.deref-then-holds.ensures)
     ∙ sym (and_at s l r n true (value r s) left test refl) ∙ ap (λ e. value (exp_of e) s) (sym c.in-And.is)
 
-pub returns-else-holds : goal.returns-else-holds
-returns-else-holds g t c =
+pub computed-returns-else-holds : goal.computed-returns-else-holds
+computed-returns-else-holds g t c =
     let s = c.args.store.now.sight in
     let l = exp_of c.in-And.left.value in
     let r = exp_of c.in-And.right.value in
-    let n : ℤ = c.in-Ok-value-4.left in
+    let n : ℤ = c.in-Ok-operand-4.left in
     let z : to_z w32 (of_z w32 n) ≡ n = grind (arith, to_z-of_z) in
-    let left : value l s ≡ Fine n = sym (c.in-Ok-value-4.ensures ∙ ap (λ e. value (exp_of e) s) c.deref-in-And.ensures) in
+    let left : value l s ≡ Fine n = sym (c.in-Ok-operand-4.ensures ∙ ap (λ e. value (exp_of e) s) c.deref-in-And.ensures) in
     let test : nonzero n ≡ false = ap nonzero (sym z) ∙ sym c.holds.ensures ∙ c.if-holds.false in
     ap Fine (bit_wraps false) ∙ sym (and_at s l r n false (value r s) left test refl) ∙ ap (λ e. value (exp_of e) s) (sym c.in-And.is)
 
-pub returns-in-Err-value-4 : goal.returns-in-Err-value-4
-returns-in-Err-value-4 g t c =
+pub computed-returns-in-Err-operand-4 : goal.computed-returns-in-Err-operand-4
+computed-returns-in-Err-operand-4 g t c =
     let s = c.args.store.now.sight in
     let l = exp_of c.in-And.left.value in
     let r = exp_of c.in-And.right.value in
-    sym (and_is s l r (Bad (fault_of c.in-Err-value-4.fault)) (sym (c.in-Err-value-4.ensures ∙ ap (λ e. value (exp_of e) s) c.deref-in-And.ensures))) ∙ ap (λ e. value (exp_of e) s) (sym c.in-And.is)
+    sym (and_is s l r (Bad (fault_of c.in-Err-operand-4.fault)) (sym (c.in-Err-operand-4.ensures ∙ ap (λ e. value (exp_of e) s) c.deref-in-And.ensures))) ∙ ap (λ e. value (exp_of e) s) (sym c.in-And.is)
 
-pub returns-then-holds-2 : goal.returns-then-holds-2
-returns-then-holds-2 g t c =
+pub computed-returns-then-holds-2 : goal.computed-returns-then-holds-2
+computed-returns-then-holds-2 g t c =
     let s = c.args.store.now.sight in
     let l = exp_of c.in-Or.left.value in
     let r = exp_of c.in-Or.right.value in
-    let n : ℤ = c.in-Ok-value-5.left in
+    let n : ℤ = c.in-Ok-operand-5.left in
     let z : to_z w32 (of_z w32 n) ≡ n = grind (arith, to_z-of_z) in
-    let left : value l s ≡ Fine n = sym (c.in-Ok-value-5.ensures ∙ ap (λ e. value (exp_of e) s) c.deref-in-Or.ensures) in
-    let test : nonzero n ≡ true = ap nonzero (sym z) ∙ sym c.holds-in-Ok-value-5.ensures ∙ c.if-holds-2.true in
+    let left : value l s ≡ Fine n = sym (c.in-Ok-operand-5.ensures ∙ ap (λ e. value (exp_of e) s) c.deref-in-Or.ensures) in
+    let test : nonzero n ≡ true = ap nonzero (sym z) ∙ sym c.holds-in-Ok-operand-5.ensures ∙ c.if-holds-2.true in
     ap Fine (bit_wraps true) ∙ sym (or_at s l r n true (value r s) left test refl) ∙ ap (λ e. value (exp_of e) s) (sym c.in-Or.is)
 
-pub returns-else-holds-2 : goal.returns-else-holds-2
-returns-else-holds-2 g t c =
+pub computed-returns-else-holds-2 : goal.computed-returns-else-holds-2
+computed-returns-else-holds-2 g t c =
     let s = c.args.store.now.sight in
     let l = exp_of c.in-Or.left.value in
     let r = exp_of c.in-Or.right.value in
-    let n : ℤ = c.in-Ok-value-5.left in
+    let n : ℤ = c.in-Ok-operand-5.left in
     let z : to_z w32 (of_z w32 n) ≡ n = grind (arith, to_z-of_z) in
-    let left : value l s ≡ Fine n = sym (c.in-Ok-value-5.ensures ∙ ap (λ e. value (exp_of e) s) c.deref-in-Or.ensures) in
-    let test : nonzero n ≡ false = ap nonzero (sym z) ∙ sym c.holds-in-Ok-value-5.ensures ∙ c.if-holds-2.false in
-    c.as_bit-else-holds-2.ensures ∙ ap (both true) (c.value-else-holds-2.ensures ∙ ap (λ e. value (exp_of e) s) c.deref-else-holds-2.ensures)
+    let left : value l s ≡ Fine n = sym (c.in-Ok-operand-5.ensures ∙ ap (λ e. value (exp_of e) s) c.deref-in-Or.ensures) in
+    let test : nonzero n ≡ false = ap nonzero (sym z) ∙ sym c.holds-in-Ok-operand-5.ensures ∙ c.if-holds-2.false in
+    c.as_bit-else-holds-2.ensures ∙ ap (both true) (c.operand-else-holds-2.ensures ∙ ap (λ e. value (exp_of e) s) c.deref-else-holds-2.ensures)
     ∙ sym (or_at s l r n false (value r s) left test refl) ∙ ap (λ e. value (exp_of e) s) (sym c.in-Or.is)
 
-pub returns-in-Err-value-5 : goal.returns-in-Err-value-5
-returns-in-Err-value-5 g t c =
+pub computed-returns-in-Err-operand-5 : goal.computed-returns-in-Err-operand-5
+computed-returns-in-Err-operand-5 g t c =
     let s = c.args.store.now.sight in
     let l = exp_of c.in-Or.left.value in
     let r = exp_of c.in-Or.right.value in
-    sym (or_is s l r (Bad (fault_of c.in-Err-value-5.fault)) (sym (c.in-Err-value-5.ensures ∙ ap (λ e. value (exp_of e) s) c.deref-in-Or.ensures))) ∙ ap (λ e. value (exp_of e) s) (sym c.in-Or.is)
+    sym (or_is s l r (Bad (fault_of c.in-Err-operand-5.fault)) (sym (c.in-Err-operand-5.ensures ∙ ap (λ e. value (exp_of e) s) c.deref-in-Or.ensures))) ∙ ap (λ e. value (exp_of e) s) (sym c.in-Or.is)
 
-pub is_empty-requires : goal.is_empty-requires
-is_empty-requires g t c =
+pub computed-is_empty-requires : goal.computed-is_empty-requires
+computed-is_empty-requires g t c =
     let s = c.args.store.now.sight in
     let x = string_bytes c.in-Empty.name.text in
     (x, subst (HasNumbers c.args.store.now.names) c.in-Empty.is c.requires.numbered, empty_is_stack s x (λ q. c.requires.safe (ap (λ e. value (exp_of e) s) c.in-Empty.is ∙ q)))
 
-pub returns-in-Empty : goal.returns-in-Empty
-returns-in-Empty g t c =
+pub computed-returns-in-Empty : goal.computed-returns-in-Empty
+computed-returns-in-Empty g t c =
     let s = c.args.store.now.sight in
     let x = string_bytes c.in-Empty.name.text in
     let l = empty_is_stack s x (λ q. c.requires.safe (ap (λ e. value (exp_of e) s) c.in-Empty.is ∙ q)) in
@@ -266,14 +275,14 @@ returns-in-Empty g t c =
     let z : to_z w32 (of_z w32 n) ≡ n = grind (arith, to_z-of_z) in
     ap Fine (z ∙ c.bit_of.ensures ∙ ap (λ b. wrap (bit b)) (c.is_empty.ensures x l.0 at l.1)) ∙ sym (empty_is s x l.0 l.1) ∙ ap (λ e. value (exp_of e) s) (sym c.in-Empty.is)
 
-pub top-requires : goal.top-requires
-top-requires g t c =
+pub computed-top-requires : goal.computed-top-requires
+computed-top-requires g t c =
     let s = c.args.store.now.sight in
     let x = string_bytes c.in-Top.name.text in
     (x, subst (HasNumbers c.args.store.now.names) c.in-Top.is c.requires.numbered, top_is_stack s x (λ q. c.requires.safe (ap (λ e. value (exp_of e) s) c.in-Top.is ∙ q)))
 
-pub returns-in-Top : goal.returns-in-Top
-returns-in-Top g t c =
+pub computed-returns-in-Top : goal.computed-returns-in-Top
+computed-returns-in-Top g t c =
     let s = c.args.store.now.sight in
     let x = string_bytes c.in-Top.name.text in
     let l = top_is_stack s x (λ q. c.requires.safe (ap (λ e. value (exp_of e) s) c.in-Top.is ∙ q)) in
