@@ -1,26 +1,29 @@
 //! What the board keeps.
-ghost use Rattle.std.specs.Prelude.{◌≡◌, IfOk, map};
+ghost use Rattle.std.specs.Prelude.{◌≡◌, IfOk, IfSome, IfNone, map};
+ghost use Rattle.zmtp_wire.specs.Message.{message_octets, IsWithinLimits};
 ghost use Rattle.kernel_board.specs.Frames.{topic_of};
 
+use crate::content::Content;
+use crate::packing::pack;
 use std::alloc::{AllocError, Global};
 use std::marker::Model;
 use std::sync::Arc;
 
-/// One message as a publish socket sends it: its frames, the first of which is the topic. Contracts see it as the octets of its frames. A
-/// clone is the same broadcast, and shares these octets.
+/// One message as a publish socket sends it: its frames, the first of which is the topic. Contracts see it as the octets of its frames. Its
+/// octets on the wire are made once, as it is made, and a clone is the same broadcast and shares them.
 #[derive(Drop)]
 pub struct Broadcast {
-    frames: Arc<Vec<Vec<u8>>>,
+    content: Arc<Content>,
 }
 
 impl Model for Broadcast {
-    ghost use Rattle.std.specs.Prelude.{map};
     ghost use Rattle.std.specs.Arc.{arc_value};
     ghost use Rattle.kernel_board.specs.Frames.{Frames};
+    ghost use Rattle.kernel_board.specs.Kept.{frames_kept};
 
     ghost Value = { Frames };
 
-    ghost view = { λ b. map (λ f. f.items) (arc_value b.frames).items };
+    ghost view = { λ b. frames_kept (arc_value b.content) };
 }
 
 impl Broadcast {
@@ -32,24 +35,33 @@ impl Broadcast {
     pub fn new(alloc: Global, frames: Vec<Vec<u8>>) -> Result<Broadcast, AllocError>
         ensures { IfOk result (λ b. b ≡ map (λ f. f.items) frames.items) }
     {
-        let frames = Arc::new(alloc, frames)?;
-        Ok(Broadcast { frames })
+        let content = pack(alloc, frames)?;
+        let content = Arc::new(alloc, content)?;
+        Ok(Broadcast { content })
     }
 
-    /// The octets of the frames, in the order in which they are sent.
-    pub fn frames(&self) -> &[Vec<u8>]
-        ensures { map (λ f. f.items) result.now ≡ self.now }
+    /// The octets of the message on the wire; none where it passes a limit, so that no reader takes it. They are not made anew.
+    pub fn octets(&self) -> Option<&[u8]>
+        ensures octets { IfSome result (λ octets. octets.now ≡ message_octets self.now) }
+        ensures within { IfSome result (λ octets. IsWithinLimits self.now) }
+        ensures past { IfNone result (¬ (IsWithinLimits self.now)) }
     {
-        self.frames.as_slice()
+        match &*self.content {
+            Content::Written(message) => Some(message.octets.as_slice()),
+            Content::TooLong(_) => None,
+        }
     }
 
     /// The first frame, which a subscription's prefix is compared with; no octets where there is no frame.
     pub fn topic(&self) -> &[u8]
         ensures { result.now ≡ topic_of self.now }
     {
-        match self.frames.first() {
-            Some(topic) => topic.as_slice(),
-            None => &[],
+        match &*self.content {
+            Content::Written(message) => message.topic.as_slice(),
+            Content::TooLong(message) => match message.frames.first() {
+                Some(topic) => topic.as_slice(),
+                None => &[],
+            },
         }
     }
 }
@@ -60,7 +72,7 @@ impl Clone for Broadcast {
     ghost is_clone = { λ x y. y ≡ x };
 
     fn clone(&self) -> Result<Broadcast, AllocError> {
-        let frames = Arc::try_clone(&self.frames)?;
-        Ok(Broadcast { frames })
+        let content = Arc::try_clone(&self.content)?;
+        Ok(Broadcast { content })
     }
 }

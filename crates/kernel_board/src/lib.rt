@@ -6,19 +6,23 @@
 //! a gap, as many as there are up to 64. `publish` and `read_from` are these under the lock. No clause can name what lies under a lock when
 //! a call takes it, so of `read_from` it is said that its answer is such a read of some log, and `publish` and `join` are tested.
 //!
-//! A `Broadcast` is the frames of one message as octets, and a clone shares them. The board knows nothing else of messages, so it stands on
-//! no other crate of the kernel: who publishes seals a message once, whatever the crates above make of it, and a read copies no octets.
+//! A `Broadcast` is the frames of one message. It is kept as their octets on the wire, which are made once, as the broadcast is made: a clone
+//! shares them, a read copies none, and who writes it to a subscriber writes them from where they lie. Of the crates of the kernel the board
+//! stands on `zmtp_wire` alone, which says what these octets are. It knows nothing else of messages, so who publishes seals one once, whatever
+//! the crates above make of it.
 //!
-//! The definitions are in specs/: `Frames`, `Log` (what is kept), `Reads` (what a read answers), `Laws` (both, over the whole list of
-//! broadcasts), `Fault`.
+//! The definitions are in specs/: `Frames`, `OneMessage` and `Octets` (octets tell their frames), `Kept` (what is kept of a broadcast), `Log`
+//! (which broadcasts are kept), `Reads` (what a read answers), `Laws` (both, over the whole list of broadcasts), `Fault`.
 #![tactic(auto)]
 
 ghost use Rattle.kernel_board.specs.Laws.{LogIsOfAll, LaggedIsExact, ReadersMissNothing};
 
 mod board;
 mod broadcast;
+mod content;
 mod fault;
 mod log;
+mod packing;
 
 pub use board::Board;
 pub use broadcast::Broadcast;

@@ -1,8 +1,8 @@
 -- The pings of a peer that wait for an answer.
-use Rattle.std.specs.Prelude.{◌≡◌, ℕ, ◌⊎◌, List, [], ◌∷◌}
+use Rattle.std.specs.Prelude.{◌≡◌, ℕ, ◌⊎◌, List, [], ◌∷◌, ◌++◌, length}
 use Rattle.std.specs.List.{flat_map}
 use Rattle.zmtp_peer.specs.Events.{Event, Ready, Message, Subscribe, Cancel, Ping}
-use Rattle.zmtp_peer.specs.Reading.{Standing, Stands}
+use Rattle.zmtp_peer.specs.Reading.{Standing, Stands, Brings}
 
 -- the context of an event that is a ping
 abbrev pub ping_in : Event → List (List ℕ)
@@ -29,3 +29,10 @@ HasAsked peer contexts = ∥ ((octets : List ℕ) × (events : List Event) × St
 -- some peer asked so
 abbrev pub WereAsked : List (List ℕ) → Type 0
 WereAsked contexts = (peer : Standing) × HasAsked peer contexts
+
+-- What a piece brings of pings: their contexts stand behind those that waited, in their order, none left out, and so many are told.
+pub record BringsPings (old : Standing) (piece : List ℕ) (new : Standing) (before after : List (List ℕ)) (told : ℕ) : Type 0 where
+  pub events : List Event
+  pub brings : Brings old piece events new
+  pub waiting : after ≡ before ++ pings_in events
+  pub counted : told ≡ length (pings_in events)

@@ -50,16 +50,7 @@ pub record IsRound (from next : ℕ) (kept : List Frames) : Type 0 where
   pub gives : IsGot read got next
   pub chosen : IsChosen got kept
 
--- what goes out of a round: the messages of all that is kept, whole and in order
-abbrev pub IsSent : Option (List ℕ) → Option (List ℕ) → ℕ → ℕ → Type 0
-IsSent old new from next = (kept : List Frames) × IsRound from next kept × Appends old new (flat_map message_octets kept)
-
--- what goes out of a round that fails: nothing, or a beginning of these octets
-abbrev pub IsSentInPart : Option (List ℕ) → Option (List ℕ) → ℕ → Type 0
-IsSentInPart old new from =
-    Appends old new [] ⊎ ((next : ℕ) × (kept : List Frames) × IsRound from next kept × SentSome old new (flat_map message_octets kept))
-
--- ---- all that goes out
+-- ---- what goes out of a round
 
 -- one thing that goes out to a subscriber: a broadcast, or the answer to a ping
 pub data Outgoing : Type 0 where
@@ -70,12 +61,37 @@ abbrev pub outgoing_octets : Outgoing → List ℕ
 outgoing_octets (Shown frames) = message_octets frames
 outgoing_octets (Pong context) = pong_octets context
 
--- Turns one after another: rounds, each from the place where the one before ended, and between them answers to pings that the peer sent. An
--- answer goes out between two messages, never within one.
+-- These broadcasts in turn, and before each of them the answers to the pings that waited then, in their order.
+abbrev pub AreTold : List Frames → List Outgoing → Type 0
+AreTold [] out = out ≡ []
+AreTold (b ∷ bs) out =
+    (contexts : List (List ℕ)) × (rest : List Outgoing) × WereAsked contexts × AreTold bs rest × (out ≡ map Pong contexts ++ Shown b ∷ rest)
+
+-- they went out so, each whole
+abbrev pub AreToldTo : Option (List ℕ) → Option (List ℕ) → List Frames → Type 0
+AreToldTo old new bs = (out : List Outgoing) × AreTold bs out × Appends old new (flat_map outgoing_octets out)
+
+-- a beginning of that went out
+abbrev pub AreToldInPart : Option (List ℕ) → Option (List ℕ) → List Frames → Type 0
+AreToldInPart old new bs = (out : List Outgoing) × AreTold bs out × SentSome old new (flat_map outgoing_octets out)
+
+-- what goes out of a round: all that is kept
+abbrev pub IsSent : Option (List ℕ) → Option (List ℕ) → ℕ → ℕ → Type 0
+IsSent old new from next = (kept : List Frames) × IsRound from next kept × AreToldTo old new kept
+
+-- what goes out of a round that fails: nothing, or a beginning of that
+abbrev pub IsSentInPart : Option (List ℕ) → Option (List ℕ) → ℕ → Type 0
+IsSentInPart old new from = Appends old new [] ⊎ ((next : ℕ) × (kept : List Frames) × IsRound from next kept × AreToldInPart old new kept)
+
+-- ---- all that goes out
+
+-- Turns one after another: rounds, each from the place where the one before ended, and behind them answers to the pings that waited then. So
+-- before each message those are answered that waited as it went out, and no answer goes out within one.
 pub data AreTurns : Option ℕ → List Outgoing → Type 0 where
   none : AreTurns None []
   begun : (from : ℕ) (out : List Outgoing) → AreTurns None out → AreTurns (Some from) out
-  round : (at next : ℕ) (out : List Outgoing) (kept : List Frames) → AreTurns (Some at) out → IsRound at next kept → AreTurns (Some next) (out ++ map Shown kept)
+  round : (at next : ℕ) (out : List Outgoing) (kept : List Frames) (told : List Outgoing)
+      → AreTurns (Some at) out → IsRound at next kept → AreTold kept told → AreTurns (Some next) (out ++ told)
   pongs : (at : Option ℕ) (out : List Outgoing) (contexts : List (List ℕ)) → AreTurns at out → WereAsked contexts → AreTurns at (out ++ map Pong contexts)
 
 -- the number of the place behind the last round
@@ -94,7 +110,7 @@ AreAnswered old new = (contexts : List (List ℕ)) × WereAsked contexts × Appe
 abbrev pub AreAnsweredInPart : Option (List ℕ) → Option (List ℕ) → Type 0
 AreAnsweredInPart old new = (contexts : List (List ℕ)) × WereAsked contexts × SentSome old new (flat_map pong_octets contexts)
 
--- WHAT HAS GONE OUT to a subscriber: the messages of all that is kept of rounds, and the answers to its pings between them.
+-- WHAT HAS GONE OUT to a subscriber: the messages of all that is kept of rounds, and between them the answers to its pings.
 abbrev pub IsServed : Option (List ℕ) → Option (List ℕ) → Type 0
 IsServed old new = (at : Option Place) × AreSentTo old new at
 

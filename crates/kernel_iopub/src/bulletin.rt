@@ -7,7 +7,6 @@ use crate::event_count::EventCount;
 use kernel_board::{Board, BoardFault, Broadcast, Place, Read};
 use std::alloc::{AllocError, Global};
 use std::sync::Wait;
-use zmtp_wire::is_within_limits;
 
 /// The board, and the count that rises with each broadcast.
 #[derive(Drop)]
@@ -33,7 +32,7 @@ impl Bulletin {
     /// Appends a broadcast to the board, as `kernel_board::publish_on` does to the log under its lock, and then raises the count. It takes no memory. One
     /// that no reader takes, as it passes a limit of the wire, is left out, since each subscriber to it would have to be disconnected.
     pub fn publish<R: Wait>(&self, rt: &R, broadcast: Broadcast) {
-        if !is_within_limits(broadcast.frames()) {
+        if broadcast.octets().is_none() {
             return;
         }
         let _number = self.board.publish(rt, broadcast);

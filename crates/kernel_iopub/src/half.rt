@@ -1,15 +1,15 @@
 //! The two halves of a subscriber's connection.
-ghost use Rattle.std.specs.Prelude.{ℕ, List, Option, IfOk, OnOk, OnErr};
+ghost use Rattle.std.specs.Prelude.{ℕ, List, [], ◌∷◌, Option, IfOk, OnOk, OnErr};
 ghost use Rattle.std.specs.List.{flat_map};
 ghost use Rattle.std.specs.Io.KnownBytes.{Appends};
-ghost use Rattle.zmtp_wire.specs.Message.{bodies_of, message_octets};
+ghost use Rattle.zmtp_wire.specs.Message.{bodies_of};
 ghost use Rattle.zmtp_wire.specs.Pong.{pong_octets};
 ghost use Rattle.exact_write.specs.Sent.{SentSome};
-ghost use Rattle.kernel_iopub.specs.Round.{IsSent, IsSentInPart, AreSentTo, IsServed, IsServedInPart, AreAnswered, AreAnsweredInPart};
+ghost use Rattle.kernel_iopub.specs.Round.{AreToldTo, AreToldInPart, IsSent, IsSentInPart, AreSentTo, IsServed, IsServedInPart, AreAnswered, AreAnsweredInPart};
 
 use crate::bulletin::Bulletin;
 use crate::fault::SubscriberFault;
-use crate::send::{send_message, send_pong};
+use crate::send::{send_broadcast, send_pong};
 use crate::subscriber::{Subscriber, fall_silent, look, note_answered, take, take_pings, wanted};
 use kernel_board::{Broadcast, Place, Read as BoardRead};
 use std::alloc::Global;
@@ -65,24 +65,6 @@ pub fn hear<R: Wait, I: Read>(
     heard
 }
 
-/// Writes broadcasts in turn: all of them, or some and a beginning of the next.
-fn send_all<W: Write>(
-    alloc: Global,
-    writer: &mut W,
-    broadcasts: &[Broadcast],
-) -> Result<(), SubscriberFault>
-    ensures ok { OnOk result (Appends (W.contents writer.old) (W.contents writer.new) (flat_map message_octets broadcasts.now)) }
-    ensures err { OnErr result (SentSome (W.contents writer.old) (W.contents writer.new) (flat_map message_octets broadcasts.now)) }
-{
-    for broadcast in broadcasts {
-        match send_message(alloc, writer, broadcast.frames()) {
-            Ok(()) => {}
-            Err(fault) => return Err(fault),
-        }
-    }
-    Ok(())
-}
-
 /// Writes answers to pings in turn: all of them, or some and a beginning of the next.
 fn send_pongs<R: Wait, W: Write>(
     rt: &R,
@@ -117,7 +99,49 @@ fn answer<R: Wait, W: Write>(
     send_pongs(rt, alloc, shared, writer, &contexts)
 }
 
-/// Reads the board once from a place, and writes what the peer wants of that: all of it, or a beginning where it fails. The place behind it.
+/// Answers the pings that wait, and then writes a broadcast.
+fn send_next<R: Wait, W: Write>(
+    rt: &R,
+    alloc: Global,
+    shared: &Mutex<Subscriber>,
+    writer: &mut W,
+    broadcast: &Broadcast,
+) -> Result<(), SubscriberFault>
+    ensures ok { OnOk result (AreToldTo (W.contents writer.old) (W.contents writer.new) (broadcast.now ∷ [])) }
+    ensures err { OnErr result (AreToldInPart (W.contents writer.old) (W.contents writer.new) (broadcast.now ∷ [])) }
+{
+    match answer(rt, alloc, shared, writer) {
+        Ok(()) => {}
+        Err(fault) => return Err(fault),
+    }
+    match send_broadcast(writer, broadcast) {
+        Ok(()) => Ok(()),
+        Err(fault) => Err(fault),
+    }
+}
+
+/// Writes broadcasts in turn, and before each answers the pings that wait then: all of it, or a beginning.
+fn send_all<R: Wait, W: Write>(
+    rt: &R,
+    alloc: Global,
+    shared: &Mutex<Subscriber>,
+    writer: &mut W,
+    broadcasts: &[Broadcast],
+) -> Result<(), SubscriberFault>
+    ensures ok { OnOk result (AreToldTo (W.contents writer.old) (W.contents writer.new) broadcasts.now) }
+    ensures err { OnErr result (AreToldInPart (W.contents writer.old) (W.contents writer.new) broadcasts.now) }
+{
+    for broadcast in broadcasts {
+        match send_next(rt, alloc, shared, writer, broadcast) {
+            Ok(()) => {}
+            Err(fault) => return Err(fault),
+        }
+    }
+    Ok(())
+}
+
+/// Reads the board once from a place, and writes what the peer wants of that, and before each message answers to pings: all of it, or a beginning where it
+/// fails. The place behind it.
 fn write_from<R: Wait, W: Write>(
     rt: &R,
     alloc: Global,
@@ -134,7 +158,7 @@ fn write_from<R: Wait, W: Write>(
         Ok(BoardRead::Lagged(_)) => Err(SubscriberFault::Lagged),
         Ok(BoardRead::Got(broadcasts, next)) => {
             let kept = wanted(rt, alloc, shared, &broadcasts)?;
-            match send_all(alloc, writer, &kept) {
+            match send_all(rt, alloc, shared, writer, &kept) {
                 Ok(()) => Ok(next),
                 Err(fault) => Err(fault),
             }

@@ -10,14 +10,16 @@
 //!
 //! Its promise is that of the writing half ([`speak`], by specs/Round.antt). It goes in rounds, each of them one read of the board, from the place
 //! where the round before ended. What goes out of a round are exactly the broadcasts of its read to which the peer had subscribed by all that it was
-//! fed until it was asked, in their order and each whole; between rounds go answers to pings that the peer sent; where one of both fails, a beginning of these octets goes out behind those of the rounds
-//! before, and nothing more. Board and peer lie under locks, and no clause can name what lies there as a call takes it: so each round speaks of some
-//! log that the board's type allows, and of some peer that its type allows, which is one that was fed some octets of a connection from the first on.
+//! fed until it was asked, in their order and each whole; before each of them, and behind a round, go the answers to the pings that waited then; where
+//! one of both fails, a beginning of these octets goes out behind those before, and nothing more. Board and peer lie under locks, and no clause can
+//! name what lies there as a call takes it: so each round speaks of some log that the board's type allows, and of some peer that its type allows,
+//! which is one that was fed some octets of a connection from the first on.
 //! That is also why [`Bulletin::publish`] and [`Bulletin::join`] have no clause, as the board's own calls have none: what they do is said of a lent
 //! log alone (`kernel_board::publish_on`, `BroadcastLog::end`).
 //!
-//! Pings are answered between the messages of two rounds, in their order: the reading half has those that came wait under the lock, and wakes the writing
-//! half, which takes them. A peer with 64 of them unanswered is disconnected.
+//! Pings are answered before the next whole message, in their order: the reading half has those that came wait under the lock, and wakes the writing
+//! half, which takes them. A peer with 64 of them unanswered is disconnected. The octets of a broadcast are written from where the board has them, so
+//! none are made here.
 //!
 //! No contract says that a round comes, that one who waits wakes, or that a subscriber is heard. The sources are RFC 23 for messages, RFC 29 for a
 //! publisher's subscriptions, and RFC 37 for pings.

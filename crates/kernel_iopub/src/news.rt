@@ -19,9 +19,10 @@ pub(crate) struct News {
     /// How many prefixes they subscribe to, and how many octets these have together.
     pub(crate) prefixes: u32,
     pub(crate) prefix_octets: usize,
-    /// How many pings are among them, and how many octets these took.
-    pub(crate) pings: u32,
+    /// How many octets the pings among them took.
     pub(crate) ping_octets: usize,
+    /// How many pings are told: as many as contexts, so who takes the contexts sets it.
+    pub(crate) pings: usize,
 }
 
 impl News {
@@ -30,8 +31,8 @@ impl News {
         is_ready: false,
         prefixes: 0,
         prefix_octets: 0,
-        pings: 0,
         ping_octets: 0,
+        pings: 0,
     };
 
     /// Counts a prefix of so many octets.
@@ -40,9 +41,8 @@ impl News {
         self.prefix_octets = self.prefix_octets.saturating_add(octets);
     }
 
-    /// Counts a ping with a context of so many octets.
+    /// Counts the octets of a ping with a context of so many.
     fn ping(&mut self, octets: usize) {
-        self.pings = self.pings.saturating_add(1);
         self.ping_octets = self
             .ping_octets
             .saturating_add(PING_OCTETS)

@@ -2,26 +2,30 @@
 ghost use Rattle.std.specs.Prelude.{OnErr, OnOk};
 ghost use Rattle.std.specs.Io.KnownBytes.{Appends};
 ghost use Rattle.exact_write.specs.Sent.{SentSome};
-ghost use Rattle.zmtp_wire.specs.Message.{bodies_of, message_octets};
+ghost use Rattle.zmtp_wire.specs.Message.{message_octets};
 ghost use Rattle.zmtp_wire.specs.Pong.{pong_octets};
 
 use crate::fault::SubscriberFault;
+use exact_write::send;
+use kernel_board::Broadcast;
 use std::alloc::Global;
 use std::io::Write;
 use zmtp_wire::SendFault;
 
-/// Writes a message of these frames: all its octets, or a beginning of them.
-pub(crate) fn send_message<W: Write>(
-    alloc: Global,
+/// Writes a broadcast from where its octets lie: all of them, or a beginning. One that passes a limit of the wire is not begun.
+pub(crate) fn send_broadcast<W: Write>(
     writer: &mut W,
-    frames: &[Vec<u8>],
+    broadcast: &Broadcast,
 ) -> Result<(), SubscriberFault>
-    ensures ok { OnOk result (Appends (W.contents writer.old) (W.contents writer.new) (message_octets (bodies_of frames.now))) }
-    ensures err { OnErr result (SentSome (W.contents writer.old) (W.contents writer.new) (message_octets (bodies_of frames.now))) }
+    ensures ok { OnOk result (Appends (W.contents writer.old) (W.contents writer.new) (message_octets broadcast.now)) }
+    ensures err { OnErr result (SentSome (W.contents writer.old) (W.contents writer.new) (message_octets broadcast.now)) }
 {
-    match zmtp_wire::send_message(alloc, writer, frames) {
+    let Some(octets) = broadcast.octets() else {
+        return Err(SubscriberFault::Write);
+    };
+    match send(writer, octets) {
         Ok(()) => Ok(()),
-        Err(fault) => Err(broken(fault)),
+        Err(_) => Err(SubscriberFault::Write),
     }
 }
 

@@ -5,7 +5,7 @@ ghost use Rattle.zmtp_peer.specs.Events.{Event};
 ghost use Rattle.zmtp_peer.specs.Reading.{Stands};
 ghost use Rattle.zmtp_wire.specs.Message.{bodies_of};
 ghost use Rattle.kernel_iopub.specs.Round.{AreWanted, WasFed, IsChosen};
-ghost use Rattle.kernel_iopub.specs.Pings.{HasAsked, WereAsked};
+ghost use Rattle.kernel_iopub.specs.Pings.{HasAsked, WereAsked, BringsPings};
 
 use crate::bulletin::Bulletin;
 use crate::fault::SubscriberFault;
@@ -24,7 +24,7 @@ const PREFIXES: u32 = 4096;
 const PREFIX_OCTETS: usize = 1_048_576;
 
 /// So many pings of a connection may not be unanswered at once: the one that makes them so many ends it.
-const UNANSWERED: u32 = 64;
+const UNANSWERED: usize = 64;
 
 /// The peer, and how far it is. Its type keeps that the peer is a publisher's, and stands as some octets from the first of a connection on have it.
 #[derive(Drop)]
@@ -37,7 +37,7 @@ pub struct Subscriber {
     pings: Vec<Vec<u8>>,
     ghost asked: { HasAsked peer (bodies_of pings.items) },
     /// How many of its pings are not answered yet.
-    unanswered: u32,
+    unanswered: usize,
     /// The place on the board at which it joined, once it was ready.
     joined: Option<Place>,
     /// Nothing more comes from it.
@@ -117,13 +117,17 @@ impl Subscriber {
         self.unanswered = self.unanswered.saturating_sub(1);
     }
 
-    /// Feeds the peer what came. As it is ready it joins the board. What came.
+    /// Feeds the peer what came. As it is ready it joins the board. What came: the pings in it wait behind the others, and each counts as unanswered.
     fn take<R: Wait>(
         &mut self,
         rt: &R,
         bulletin: &Bulletin,
         piece: &[u8],
-    ) -> Result<News, SubscriberFault> {
+    ) -> Result<News, SubscriberFault>
+        ensures pings { IfOk result (λ news. BringsPings self.old.peer piece.now self.new.peer (bodies_of self.old.pings.items)
+            (bodies_of self.new.pings.items) news.pings) }
+        ensures unanswered { IfOk result (λ news. self.new.unanswered ≡ self.old.unanswered + news.pings) }
+    {
         let news = feed(self.alloc, &mut self.peer, &mut self.pings, piece)?;
         self.count(news)?;
         if news.is_ready {
@@ -143,6 +147,7 @@ fn feed(
     requires { HasAsked peer.old (bodies_of pings.old.items) }
     ensures role { peer.new.role ≡ peer.old.role }
     ensures asked { HasAsked peer.new (bodies_of pings.new.items) }
+    ensures told { IfOk result (λ news. BringsPings peer.old piece.now peer.new (bodies_of pings.old.items) (bodies_of pings.new.items) news.pings) }
 {
     let events = match peer.feed(piece) {
         Ok(events) => events,
@@ -154,8 +159,12 @@ fn feed(
         Ok(news) => news,
         Err(fault) => return Err(fault),
     };
+    let told = contexts.len();
     match pings.append(&mut contexts) {
-        Ok(()) => Ok(news),
+        Ok(()) => Ok(News {
+            pings: told,
+            ..news
+        }),
         Err(_) => Err(SubscriberFault::Memory),
     }
 }

@@ -17,7 +17,7 @@ use crate::desk::Desk;
 use crate::fault::ServeFault;
 use crate::flow::Flow;
 use crate::message::take_all;
-use crate::send::send_message;
+use crate::send::send_broadcast;
 use crate::socket::Socket;
 use exact_write::send;
 use jupyter_msg::Key;
@@ -95,12 +95,7 @@ fn advance<W: Write, D: Desk>(
 }
 
 /// Writes a broadcast, where the peer has subscribed to it.
-fn show<W: Write>(
-    alloc: Global,
-    peer: &Peer,
-    writer: &mut W,
-    broadcast: &Broadcast,
-) -> Result<(), ServeFault>
+fn show<W: Write>(peer: &Peer, writer: &mut W, broadcast: &Broadcast) -> Result<(), ServeFault>
     ensures ok { OnOk result ((fed : List ℕ) → (given : List Event) → Stands fed given peer.now → (octets : List ℕ)
         × IsShown given broadcast.now octets × Appends (W.contents writer.old) (W.contents writer.new) octets) }
     ensures err { OnErr result ((fed : List ℕ) → (given : List Event) → Stands fed given peer.now → (octets : List ℕ)
@@ -108,14 +103,13 @@ fn show<W: Write>(
     ensures midway { IfErr result IsMidway }
 {
     if peer.wants(broadcast.topic()) {
-        return send_message(alloc, writer, broadcast.frames());
+        return send_broadcast(writer, broadcast);
     }
     Ok(())
 }
 
 /// Writes broadcasts in turn, as far as the peer has subscribed to them.
 fn show_all<W: Write>(
-    alloc: Global,
     peer: &Peer,
     writer: &mut W,
     broadcasts: &[Broadcast],
@@ -128,7 +122,7 @@ fn show_all<W: Write>(
     ensures midway { IfErr result IsMidway }
 {
     for broadcast in broadcasts {
-        match show(alloc, peer, writer, broadcast) {
+        match show(peer, writer, broadcast) {
             Ok(()) => {}
             Err(fault) => return Err(fault),
         }
@@ -153,7 +147,7 @@ fn show_kept<W: Write, D: Desk>(
         Ok(kept) => kept,
         Err(_) => return Err(ServeFault::Memory),
     };
-    show_all(alloc, peer, writer, &kept)
+    show_all(peer, writer, &kept)
 }
 
 /// Does what the end of the input brings.

@@ -7,6 +7,8 @@ ghost use Rattle.zmtp_wire.specs.Pong.{pong_octets};
 ghost use Rattle.kernel_session.specs.Ends.{IsMidway};
 
 use crate::fault::ServeFault;
+use exact_write::send;
+use kernel_board::Broadcast;
 use std::alloc::Global;
 use std::io::Write;
 use zmtp_wire::SendFault;
@@ -24,6 +26,24 @@ pub(crate) fn send_message<W: Write>(
     match zmtp_wire::send_message(alloc, writer, frames) {
         Ok(()) => Ok(()),
         Err(fault) => Err(broken(fault)),
+    }
+}
+
+/// Writes a broadcast from where its octets lie: all of them, or a beginning. One that passes a limit of the wire is not begun.
+pub(crate) fn send_broadcast<W: Write>(
+    writer: &mut W,
+    broadcast: &Broadcast,
+) -> Result<(), ServeFault>
+    ensures ok { OnOk result (Appends (W.contents writer.old) (W.contents writer.new) (message_octets broadcast.now)) }
+    ensures err { OnErr result (SentSome (W.contents writer.old) (W.contents writer.new) (message_octets broadcast.now)) }
+    ensures midway { IfErr result IsMidway }
+{
+    let Some(octets) = broadcast.octets() else {
+        return Err(ServeFault::Write);
+    };
+    match send(writer, octets) {
+        Ok(()) => Ok(()),
+        Err(_) => Err(ServeFault::Write),
     }
 }
 

@@ -6,14 +6,13 @@ use crate::rows::{
 };
 use crate::streams::{Counted, Pieces, Taken, Watching};
 use jupyter_msg::Key;
-use kernel_board::Broadcast;
 use kernel_message::Stamp;
 use kernel_session::{ServeFault, Socket, serve};
 use std::alloc::{AllocError, Global};
 use std::process::Abort;
 use std::sync::atomic::AtomicUsize;
 use zmtp_peer::PeerFault;
-use zmtp_wire::{WireFault, write_message};
+use zmtp_wire::WireFault;
 
 /// How a connection ended, and what went out.
 type Served = (Result<(), ServeFault>, Vec<u8>);
@@ -120,20 +119,12 @@ pub(crate) fn check(
     assert_eq!(rt; written.as_slice(), out);
 }
 
-/// The octets of a broadcast.
-fn octets_of(rt: &impl Abort, alloc: Global, broadcast: &Broadcast) -> Vec<u8> {
-    let mut octets = Vec::new(alloc);
-    if !broadcast.frames().is_empty() {
-        write_message(&mut octets, broadcast.frames()).expect(rt, "the octets of a broadcast");
-    }
-    octets
-}
-
 /// Compares what was published.
 pub(crate) fn check_published(rt: &impl Abort, desk: &NoKernel, want: &[&[u8]]) {
     assert_eq!(rt; desk.kept.len(), want.len());
     for (broadcast, octets) in desk.kept.iter().zip(want) {
-        assert_eq!(rt; octets_of(rt, desk.alloc, broadcast).as_slice(), *octets);
+        let published = broadcast.octets().expect(rt, "the octets of a broadcast");
+        assert_eq!(rt; published, *octets);
     }
 }
 

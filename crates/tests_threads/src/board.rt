@@ -24,16 +24,17 @@ fn numbered<R: Abort>(rt: &R, alloc: Global, number: u64) -> Broadcast {
     Broadcast::new(alloc, frames).expect(rt, "a broadcast")
 }
 
-/// Whether this is the broadcast of the number.
+/// Whether this is the broadcast of the number: the topic with MORE behind it, and the eight octets of the number.
 fn is_numbered(broadcast: &Broadcast, number: u64) -> bool {
     let bytes = number.to_be_bytes();
-    match broadcast.frames() {
-        [topic, body] => {
-            topic.as_slice() == broadcast.topic()
-                && topic.as_slice() == b"status".as_slice()
-                && body.as_slice() == bytes.as_slice()
+    match broadcast.octets() {
+        Some(octets) => {
+            broadcast.topic() == b"status".as_slice()
+                && octets.len() == 18
+                && octets.starts_with(b"\x01\x06status\x00\x08")
+                && octets.ends_with(&bytes)
         }
-        _ => false,
+        None => false,
     }
 }
 
@@ -178,7 +179,21 @@ fn a_clone_is_the_same_broadcast(rt: HostRuntime) {
     drop(first);
     assert!(rt; is_numbered(&second, 7));
     let empty = Broadcast::new(alloc, Vec::new(alloc)).expect(&rt, "a broadcast");
-    assert!(rt; empty.frames().is_empty() && empty.topic().is_empty());
+    assert!(rt; empty.octets().expect(&rt, "no octets").is_empty() && empty.topic().is_empty());
+}
+
+/// A broadcast that passes a limit of the wire has no octets there, and a topic all the same.
+#[test]
+fn a_long_broadcast_has_no_octets(rt: HostRuntime) {
+    let alloc = rt.alloc();
+    let mut frames = Vec::new(alloc);
+    for _ in 0..1025 {
+        let frame = Vec::from_array(alloc, *b"status").expect(&rt, "a frame");
+        frames.push(frame).expect(&rt, "frames");
+    }
+    let long = Broadcast::new(alloc, frames).expect(&rt, "a broadcast");
+    assert!(rt; long.octets().is_none());
+    assert_eq!(rt; long.topic(), b"status".as_slice());
 }
 
 /// Reads on up to the end, and counts itself as wrong where it went wrong.
