@@ -11,7 +11,7 @@ use Rattle.kernel_board.specs.declared.log.Place.{Place}
 use Rattle.exact_write.specs.Sent.{SentSome}
 use Rattle.exact_write.proofs.SendLemmas.{appends_none, appends_join}
 use Rattle.kernel_iopub.specs.Pings.{WereAsked}
-use Rattle.kernel_iopub.specs.Round.{Outgoing, Shown, Pong, outgoing_octets, AreTold, AreToldTo, AreToldInPart, AreTurns, none, begun, round, pongs, number_at, IsSent, IsSentInPart, AreSentTo, AreAnswered, AreAnsweredInPart, IsServedInPart}
+use Rattle.kernel_iopub.specs.Round.{Outgoing, Shown, Pong, outgoing_octets, AreTold, AreToldTo, AreToldInPart, none, begun, round, pongs, number_at, IsSent, IsSentInPart, AreSentTo, AreAnswered, AreAnsweredInPart, IsServedInPart}
 use Rattle.kernel_iopub.proofs.FedLemmas.{asked_none}
 
 -- ---- octets behind those that went out

@@ -1,4 +1,4 @@
-use Rattle.std.proofs.Common.{◌≡◌, ◌++◌, drop, length, vec_len}
+use Rattle.std.proofs.Common.{◌≡◌, ◌++◌, drop, vec_len}
 use Rattle.zmtp_wire.specs.Message.{bodies_of}
 use Rattle.zmtp_peer.specs.Events.{events_of}
 use Rattle.kernel_iopub.specs.Pings.{pings_in}

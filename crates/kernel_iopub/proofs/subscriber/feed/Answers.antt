@@ -1,9 +1,9 @@
-use Rattle.std.proofs.Common.{◌≡◌, ℕ, List, [], ◌++◌, length, ap, sym, subst, ◌∙◌, arith}
+use Rattle.std.proofs.Common.{◌≡◌, ℕ, List, ◌++◌, length, ap, sym, subst, ◌∙◌, arith}
 use Rattle.std.specs.Global.{Vec}
 use Rattle.std.proofs.lemmas.List.{map-append, length-map}
 use Rattle.zmtp_wire.specs.Message.{bodies_of}
 use Rattle.zmtp_peer.specs.Events.{events_of}
-use Rattle.kernel_iopub.specs.Pings.{pings_in, HasAsked, BringsPings}
+use Rattle.kernel_iopub.specs.Pings.{pings_in, HasAsked}
 use Rattle.kernel_iopub.proofs.FedLemmas.{asked_on, asked_more, still_asked}
 use Rattle.kernel_iopub.proofs.subscriber.feed.Goals as goal
 
