@@ -19,7 +19,12 @@ SHELL, IOPUB, STDIN, CONTROL, BEAT = range(5)
 KINDS = [b"DEALER", b"SUB", b"DEALER", b"DEALER", b"REQ"]
 COMM = "check"
 
-GREETING = b"\xff" + bytes(8) + b"\x7f\x03\x00" + b"NULL".ljust(20, b"\0") + bytes(32)
+# the minor versions of ZMTP 3 that frontends speak; libzmq 4.3, by which `Frontend` talks, speaks 3.1
+MINORS = [0, 1]
+
+
+def greeting(minor=1, major=3):
+    return b"\xff" + bytes(8) + bytes([0x7F, major, minor]) + b"NULL".ljust(20, b"\0") + bytes(32)
 
 
 def frame(body, flags=0):
@@ -29,9 +34,23 @@ def frame(body, flags=0):
     return bytes([flags, len(body)]) + body
 
 
-def opening(kind):
-    """What a peer of this kind sends first: a greeting and READY."""
-    return GREETING + frame(b"\x05READY\x0bSocket-Type" + struct.pack(">I", len(kind)) + kind, 4)
+def command(name, data=b""):
+    """A command of this name."""
+    return frame(bytes([len(name)]) + name + data, 4)
+
+
+def opening(kind, minor=1):
+    """What a peer of this kind and minor version sends first: a greeting and READY."""
+    return greeting(minor) + command(b"READY", b"\x0bSocket-Type" + struct.pack(">I", len(kind)) + kind)
+
+
+def subscription(prefix, minor=1):
+    """What subscribes to a prefix: of a peer of 3.0 a message, of one of 3.1 a command."""
+    return command(b"SUBSCRIBE", prefix) if minor else frame(b"\1" + prefix)
+
+
+def ping(context=b"ab", time_to_live=0):
+    return command(b"PING", struct.pack(">H", time_to_live) + context)
 
 
 def signed(msg_type, content, msg_id, key=KEY):

@@ -1,5 +1,5 @@
 //! What comes on a connection and what goes out on it, each in its time.
-ghost use Rattle.std.specs.Prelude.{◌≡◌, ◌+◌, IsTrue, false, min, if◌then◌else◌};
+ghost use Rattle.std.specs.Prelude.{◌≡◌, ◌+◌, ◌-◌, ◌≤◌, IsTrue, false, min, if◌then◌else◌};
 ghost use Rattle.std.specs.Io.{ReadsAtMost, WritesAtMost};
 ghost use Rattle.kernel_sockets.specs.declared.shares.TheConstants.{READ_OCTETS};
 
@@ -26,6 +26,15 @@ const INTERRUPTIONS: u32 = 1_000;
 /// The flag of a frame that is a command; the first octet of the greeting has it too.
 const COMMAND: u8 = 4;
 
+/// The name of a pong, with its length. It stands behind a command's flags and size, and before the context.
+const PONG: &[u8] = b"\x04PONG";
+
+/// A pong with the longest context has so many octets.
+const LONGEST_PONG: usize = 23;
+
+/// A ping in the short form of a frame has so many octets more than its pong, for its time to live.
+const TIME_TO_LIVE: u64 = 2;
+
 /// The time on the clock; its start where it can't be read.
 pub(crate) fn clock_of<R: Clock>(rt: &R) -> Duration {
     match rt.monotonic() {
@@ -48,7 +57,7 @@ fn is_signed(socket: Socket) -> bool {
 }
 
 /// Whether what goes out answers all that came. On iopub prefixes are kept, and on stdin nothing is asked, so there what came counts as long as the
-/// connection is there.
+/// connection is there, but for pings that were answered.
 fn is_answered(socket: Socket) -> bool {
     match socket {
         Socket::Heartbeat => true,
@@ -137,17 +146,27 @@ impl<'a, R: Clock + Wait, S: Ledger> Arrivals<'a, R, S> {
         }
     }
 
-    /// Counts octets that came, and tells whether they may be kept. Nothing is counted of who showed the key, and what was answered no longer is.
-    fn count_of(&mut self, is_trusted: bool, was_answered: bool, count: u64) -> bool
+    /// Counts no longer what was answered: all that came, or so many octets of it.
+    fn let_go(&mut self, is_all: bool, answered: u64)
+        ensures { self.new.share.brought ≡ (if is_all then 0 else self.old.share.brought - answered) }
+    {
+        if is_all {
+            self.strangers.settle(self.rt, &mut self.share);
+        } else if answered > 0 {
+            self.strangers.give_back(self.rt, &mut self.share, answered);
+        }
+    }
+
+    /// Counts octets that came, and tells whether they may be kept. Nothing is counted of who showed the key, and what was answered no longer is: all that
+    /// came before, or so many octets of it.
+    fn count_of(&mut self, is_trusted: bool, was_answered: bool, answered: u64, count: u64) -> bool
         ensures trusted { IsTrue is_trusted → IsTrue result × (self.new.share.brought ≡ 0) }
         ensures brought { is_trusted ≡ false → IsTrue result
-            → self.new.share.brought ≡ (if was_answered then 0 else self.old.share.brought) + count }
+            → self.new.share.brought ≡ (if was_answered then 0 else self.old.share.brought - answered) + count }
         ensures refused { is_trusted ≡ false → result ≡ false
-            → self.new.share.brought ≡ (if was_answered then 0 else self.old.share.brought) }
+            → self.new.share.brought ≡ (if was_answered then 0 else self.old.share.brought - answered) }
     {
-        if is_trusted || was_answered {
-            self.strangers.settle(self.rt, &mut self.share);
-        }
+        self.let_go(is_trusted || was_answered, answered);
         is_trusted || self.may_bring(count)
     }
 
@@ -159,7 +178,8 @@ impl<'a, R: Clock + Wait, S: Ledger> Arrivals<'a, R, S> {
     fn count(&mut self, count: usize) -> io::Result<()> {
         let is_trusted = self.presence.is_trusted();
         let was_answered = is_answered(self.socket) && self.presence.was_answered();
-        if self.count_of(is_trusted, was_answered, count as u64) {
+        let answered = self.presence.take_answered();
+        if self.count_of(is_trusted, was_answered, answered, count as u64) {
             return Ok(());
         }
         Err(io::Error::from(ErrorKind::OutOfMemory))
@@ -265,6 +285,27 @@ fn begins_message(octets: &[u8]) -> bool {
     }
 }
 
+/// Whether these octets are a pong, whole and in the short form of a frame.
+fn is_pong(octets: &[u8]) -> bool {
+    let Some((flags, behind)) = octets.split_first() else {
+        return false;
+    };
+    let Some((size, body)) = behind.split_first() else {
+        return false;
+    };
+    *flags == COMMAND && *size as usize == body.len() && body.starts_with(PONG)
+}
+
+/// How many octets the ping had, in the short form, to which these octets are the answer; none where they are no pong.
+fn ping_octets(octets: &[u8]) -> u64
+    ensures { result ≤ 25 }
+{
+    if octets.len() > LONGEST_PONG || !is_pong(octets) {
+        return 0;
+    }
+    octets.len() as u64 + TIME_TO_LIVE
+}
+
 /// What goes out on a connection. A message that takes longer than ten seconds fails, in whatever pieces it is taken.
 #[derive(Drop)]
 pub(crate) struct Departures<'a, R: Clock> {
@@ -274,6 +315,8 @@ pub(crate) struct Departures<'a, R: Clock> {
     /// When the message has to be out of which a piece is.
     patience: Patience,
     socket: Socket,
+    /// So many octets had the ping that is answered by what is on its way.
+    answers: u64,
 }
 
 impl<'a, R: Clock> Departures<'a, R> {
@@ -290,12 +333,21 @@ impl<'a, R: Clock> Departures<'a, R> {
             presence,
             patience: Patience::new(),
             socket,
+            answers: 0,
         }
     }
 
     /// Ends the connection both ways.
     pub fn end(&self) {
         let _ = self.stream.shutdown(Shutdown::Both);
+    }
+
+    /// The answer that was on its way is out: the ping is no longer counted.
+    fn end_answer(&mut self) {
+        if self.answers > 0 {
+            self.presence.answer_octets(self.answers);
+            self.answers = 0;
+        }
     }
 
     /// Notes that something went out, where no signed message shows who is there: who takes it is there, and a message that begins answers what came.
@@ -333,10 +385,16 @@ impl<'a, R: Clock> Departures<'a, R> {
         ensures bound { WritesAtMost result buf.now }
     {
         let is_first = self.patience.until.is_none();
+        if is_first {
+            self.answers = ping_octets(buf);
+        }
         self.bound_next()?;
         let mut stream = self.stream;
         let count = stream.write(buf)?;
         self.note(is_first && begins_message(buf));
+        if count == buf.len() {
+            self.end_answer();
+        }
         if count == buf.len() && !is_first {
             self.begin_anew()?;
         } else {

@@ -16,6 +16,8 @@ pub struct Presence {
     is_trusted: AtomicBool,
     /// Something went out on it that answers all that came before.
     is_answered: AtomicBool,
+    /// So many octets of what came were answered one by one since this was asked last.
+    answered: AtomicU64,
     /// When it was let in, or when something came on it, in milliseconds of a clock.
     heard: AtomicU64,
 }
@@ -27,6 +29,7 @@ impl Presence {
             is_ready: AtomicBool::new(false),
             is_trusted: AtomicBool::new(false),
             is_answered: AtomicBool::new(false),
+            answered: AtomicU64::new(0),
             heard: AtomicU64::new(0),
         }
     }
@@ -36,6 +39,7 @@ impl Presence {
         self.is_ready.store(false, Ordering::SeqCst);
         self.is_trusted.store(false, Ordering::SeqCst);
         self.is_answered.store(false, Ordering::SeqCst);
+        self.answered.store(0, Ordering::SeqCst);
         self.heard.store(now, Ordering::SeqCst);
     }
 
@@ -67,6 +71,16 @@ impl Presence {
     /// Whether all that came on it was answered since this was asked last.
     pub fn was_answered(&self) -> bool {
         self.is_answered.swap(false, Ordering::SeqCst)
+    }
+
+    /// So many octets that came on it are answered and no longer kept, as those of a ping.
+    pub fn answer_octets(&self, count: u64) {
+        let _before = self.answered.fetch_add(count, Ordering::SeqCst);
+    }
+
+    /// How many octets that came on it were answered so since this was asked last.
+    pub fn take_answered(&self) -> u64 {
+        self.answered.swap(0, Ordering::SeqCst)
     }
 
     /// What is seen of the place, where a connection is there or isn't.

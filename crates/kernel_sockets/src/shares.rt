@@ -1,5 +1,5 @@
 //! What strangers hold: connections on which no message with a valid signature came.
-ghost use Rattle.std.specs.Prelude.{◌≡◌, ◌+◌, ◌≤◌, ◌<◌, ◌↔◌, IsTrue, true, false, IfSome, IfNone};
+ghost use Rattle.std.specs.Prelude.{◌≡◌, ◌+◌, ◌-◌, ◌≤◌, ◌<◌, ◌↔◌, IsTrue, true, false, IfSome, IfNone};
 ghost use Rattle.kernel_sockets.specs.declared.shares.TheConstants.{COMMON_OCTETS, OWN_OCTETS};
 ghost use Rattle.kernel_sockets.specs.Shares.{common_of};
 
@@ -19,7 +19,7 @@ pub const READ_OCTETS: usize = 512;
 /// prefix that is kept. That is 16 MiB. An own share takes 128 KiB at most, as 1,024 frames of a message that isn't whole: 74 KiB for their list as it
 /// grows, 32 for each with a body of its own, and the room in which they are gathered; at 160 places that is 20 MiB. The messages of one read take 34 KiB,
 /// at 160 places 5.4 MiB. The 4,096 prefixes of a subscriber take 512 KiB at most beside their octets, and those of 32 subscribers 16 MiB. All that is
-/// 57.4 MiB. What goes out is not in it.
+/// 57.4 MiB. What goes out is not in it, and neither is a ping that was answered, of which nothing is kept.
 pub const COMMON_OCTETS: u64 = 4_194_304;
 
 /// How much strangers hold together past their own shares. Its type keeps that it is no more than there is, and that it is the sum of what each of
@@ -170,6 +170,21 @@ impl<S: Ledger> Common<S> {
         self.held -= before;
         *brought = 0;
     }
+
+    /// A stranger lets go of so many octets of what it brought, or of all where it brought fewer: these were answered, and are no longer kept.
+    pub fn give_back(&mut self, share: &mut Share<S>, count: u64)
+        ensures less { share.new.brought ≡ share.old.brought - count }
+        ensures counted { self.new.held + common_of share.old.brought ≡ self.old.held + common_of share.new.brought }
+    {
+        let before = share.common();
+        let Share { brought, part } = share;
+        self.book.audit(part);
+        let after = brought.saturating_sub(count);
+        let less = before - after.saturating_sub(OWN_OCTETS);
+        self.book.sub(part, less);
+        self.held -= less;
+        *brought = after;
+    }
 }
 
 /// What strangers hold together, for all threads: [`Common`] under a lock, which no one asks who stays within its own share.
@@ -219,6 +234,18 @@ impl<S: Ledger> Strangers<S> {
         }
         let mut common = self.common.lock(rt);
         common.settle(share);
+    }
+
+    /// A stranger lets go of so many octets of what it brought, without a lock where all that was within its own share.
+    pub fn give_back<R: Wait>(&self, rt: &R, share: &mut Share<S>, count: u64)
+        ensures { share.new.brought ≡ share.old.brought - count }
+    {
+        if share.brought > OWN_OCTETS {
+            let mut common = self.common.lock(rt);
+            common.give_back(share, count);
+        } else {
+            share.brought = share.brought.saturating_sub(count);
+        }
     }
 
     /// A connection has come to its end. Its place has its allowance again, by whose type nothing is held any longer.
