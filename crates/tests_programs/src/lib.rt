@@ -2,13 +2,11 @@
 //!
 //! No contract says what a socket delivers, nor that an end comes. These tests run the programs from their command lines: what the consoles print, which
 //! statuses come, that an endless cell is interrupted from another connection, what comes on each socket and under which key, and that a kernel ends once a
-//! shutdown was asked for, with all its threads. What a desk does under a hall's lock is tried beside them.
+//! shutdown was asked for, with all its threads.
 #![tactic(auto)]
 
 #[cfg(test)]
 mod company;
-#[cfg(test)]
-mod desk;
 #[cfg(test)]
 mod files;
 #[cfg(test)]
@@ -21,8 +19,6 @@ mod kernel;
 mod leaving;
 #[cfg(test)]
 mod places;
-#[cfg(test)]
-mod publishing;
 #[cfg(test)]
 mod rows;
 #[cfg(test)]

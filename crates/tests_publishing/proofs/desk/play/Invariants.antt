@@ -1,4 +1,4 @@
-use Rattle.tests_programs.proofs.desk.play.Given as goal
+use Rattle.tests_publishing.proofs.desk.play.Given as goal
 
 abbrev pub ghosts-try_desk-W-Ledger : goal.ghosts-try_desk-W-Ledger
 ghosts-try_desk-W-Ledger g a = record { name = a.writes.name; parts = a.writes.parts }
