@@ -1,10 +1,10 @@
 //! Frontends beside each other on one kernel, which comes to its end while they are connected.
-use crate::frontend::{Frontend, check_shut, shut_down};
-use crate::kernel::{Site, kernel, make_site, remove, wait_until_ready};
+use crate::frontend::{Frontend, shut_down};
+use crate::kernel::{Site, wait_until_ready};
+use crate::visits::{Visit, visit_by_each};
 use std::alloc::Global;
 use std::net::{Net, TcpListener, TcpStream};
 use std::process::Abort;
-use std::thread;
 use std::time::Clock;
 
 /// So often the kernel is asked what it is, until each subscriber hears of it.
@@ -140,16 +140,19 @@ where
     told
 }
 
+/// A company works with a kernel.
+struct Together;
+
+impl<R> Visit<R> for Together
+where
+    R: Net<Listener = TcpListener, Stream = TcpStream> + Clock + Abort,
+{
+    fn visit(&self, rt: &R, alloc: Global, site: &Site) -> String {
+        work_together(rt, alloc, site)
+    }
+}
+
 #[test]
 fn a_kernel_ends_while_frontends_are_connected(rt: HostRuntime) {
-    let alloc = rt.alloc();
-    let site = make_site(&rt, alloc);
-    let (ran, told) = thread::join(
-        &rt,
-        || kernel(&rt, alloc, &site.path),
-        || work_together(&rt, alloc, &site),
-    );
-    check_shut(&rt, &told);
-    assert_eq!(rt; ran.status, 0);
-    remove(&rt, &site.path);
+    visit_by_each(&rt, rt.alloc(), &Together);
 }

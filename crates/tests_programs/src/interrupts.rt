@@ -1,12 +1,12 @@
 //! An endless cell, which another connection interrupts.
 use crate::frontend::{Frontend, shut_down};
-use crate::kernel::{Site, ask, check_ran, kernel, make_site, remove, wait_until_ready};
+use crate::kernel::{Site, ask, check_ran, wait_until_ready};
+use crate::visits::{Visit, visit_by_each};
 use jupyter_msg::Opened;
 use std::alloc::Global;
 use std::net::{Net, TcpListener, TcpStream};
 use std::process::Abort;
 use std::rt::Files;
-use std::thread;
 use std::time::Clock;
 
 /// So many times an interrupt is asked for, at most.
@@ -46,7 +46,7 @@ fn check_reply(rt: &impl Abort, reply: &Opened) {
 }
 
 /// Runs an endless cell on a new kernel and interrupts it, compares the reply and what the next console is shown, and then shuts the kernel.
-fn interrupt_all<R>(rt: &R, alloc: Global, site: &Site)
+fn interrupt_all<R>(rt: &R, alloc: Global, site: &Site) -> String
 where
     R: Net<Listener = TcpListener, Stream = TcpStream> + Files + Clock + Abort,
 {
@@ -54,18 +54,22 @@ where
     check_reply(rt, &run_endlessly(rt, alloc, site));
     let shown = ask(rt, alloc, &site.path, "show", "");
     check_ran(rt, ("show", ""), &shown, "at node 0\n", "", 0);
-    let _told = shut_down(rt, alloc, site.control);
+    shut_down(rt, alloc, site.control)
+}
+
+/// An endless cell is interrupted.
+struct Interrupting;
+
+impl<R> Visit<R> for Interrupting
+where
+    R: Net<Listener = TcpListener, Stream = TcpStream> + Files + Clock + Abort,
+{
+    fn visit(&self, rt: &R, alloc: Global, site: &Site) -> String {
+        interrupt_all(rt, alloc, site)
+    }
 }
 
 #[test]
 fn an_endless_cell_is_interrupted(rt: HostRuntime) {
-    let alloc = rt.alloc();
-    let site = make_site(&rt, alloc);
-    let (ran, _) = thread::join(
-        &rt,
-        || kernel(&rt, alloc, &site.path),
-        || interrupt_all(&rt, alloc, &site),
-    );
-    assert_eq!(rt; ran.status, 0);
-    remove(&rt, &site.path);
+    visit_by_each(&rt, rt.alloc(), &Interrupting);
 }

@@ -1,11 +1,11 @@
 //! One console after the other at one kernel, which all of them share.
-use crate::frontend::{check_shut, shut_down};
-use crate::kernel::{Site, ask, check_ran, kernel, make_site, remove, wait_until_ready};
+use crate::frontend::shut_down;
+use crate::kernel::{Site, ask, check_ran, wait_until_ready};
+use crate::visits::{Visit, visit_by_each};
 use std::alloc::Global;
 use std::net::{Net, TcpListener, TcpStream};
 use std::process::Abort;
 use std::rt::Files;
-use std::thread;
 use std::time::Clock;
 
 /// A console's command and its word, what it prints, and its status.
@@ -36,16 +36,19 @@ where
     shut_down(rt, alloc, site.control)
 }
 
+/// Consoles come one after the other.
+struct Consoles;
+
+impl<R> Visit<R> for Consoles
+where
+    R: Net<Listener = TcpListener, Stream = TcpStream> + Files + Clock + Abort,
+{
+    fn visit(&self, rt: &R, alloc: Global, site: &Site) -> String {
+        run_consoles(rt, alloc, site)
+    }
+}
+
 #[test]
 fn consoles_share_a_kernel(rt: HostRuntime) {
-    let alloc = rt.alloc();
-    let site = make_site(&rt, alloc);
-    let (ran, told) = thread::join(
-        &rt,
-        || kernel(&rt, alloc, &site.path),
-        || run_consoles(&rt, alloc, &site),
-    );
-    check_shut(&rt, &told);
-    check_ran(&rt, ("the kernel", ""), &ran, "ready\n", "", 0);
-    remove(&rt, &site.path);
+    visit_by_each(&rt, rt.alloc(), &Consoles);
 }

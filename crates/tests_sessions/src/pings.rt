@@ -1,9 +1,9 @@
 //! Frontends of ZMTP 3.1 and of a later version: what they are answered as those of 3.0 are, and their pings.
-use crate::connections::check;
+use crate::connections::{check, served, served_under};
 use crate::desk::NoKernel;
 use crate::rows::{
-    ANSWERED, BEAT, BEAT_BACK, BROKEN, EXECUTION, PUBLISHER, QUESTION, ROUTER, SHUT_DOWN,
-    SHUT_DOWN_ANSWERED, SUBSCRIPTION,
+    ANSWERED, BEAT, BEAT_BACK, BROKEN, EXECUTION, PUBLISHER, QUESTION, REFUSED, ROUTER, SHUT_DOWN,
+    SHUT_DOWN_ANSWERED, SIGNED, SUBSCRIPTION,
 };
 use kernel_session::{ServeFault, Socket};
 use std::alloc::{AllocError, Global};
@@ -58,6 +58,53 @@ fn check_versions(
             let mut desk = NoKernel::new(alloc);
             check(rt, &mut desk, socket, &came, size, want, out);
         }
+    }
+}
+
+/// Octets of a frontend that are left off bring a beginning of what all of them bring.
+fn check_cut(rt: &impl Abort, alloc: Global, socket: Socket, octets: &[u8], out: &[u8]) {
+    let mut desk = NoKernel::new(alloc);
+    let (_, written) = served(rt, &mut desk, socket, octets, 10000, 10000, 10000);
+    assert!(rt; out.starts_with(&written));
+}
+
+/// Serves octets of a frontend of 3.1, left off behind each of them.
+fn check_cuts(rt: &impl Abort, alloc: Global, socket: Socket, octets: &[u8], out: &[u8]) {
+    let came = of_version(alloc, octets, 3, 1).expect(rt, "octets");
+    for end in 0..came.len() {
+        check_cut(rt, alloc, socket, &came[..end], out);
+    }
+}
+
+#[test]
+fn a_frontend_of_3_1_that_leaves_is_answered_so_far(rt: HostRuntime) {
+    let rows: [(Socket, &[u8], &[u8]); 7] = [
+        (Socket::Shell, QUESTION, ANSWERED),
+        (Socket::Shell, SHUT_DOWN, SHUT_DOWN_ANSWERED),
+        (Socket::Control, EXECUTION, ROUTER),
+        (Socket::Heartbeat, BEAT, BEAT_BACK),
+        (Socket::Stdin, QUESTION, ROUTER),
+        (Socket::Iopub, SUBSCRIPTION, PUBLISHER),
+        (Socket::Shell, BROKEN, ANSWERED),
+    ];
+    for (socket, octets, out) in rows {
+        check_cuts(&rt, rt.alloc(), socket, octets, out);
+    }
+}
+
+/// Serves the refused messages and the question, of a frontend of 3.1 in pieces of a size.
+fn check_refused(rt: &impl Abort, alloc: Global, size: usize) {
+    let came = of_version(alloc, REFUSED, 3, 1).expect(rt, "octets");
+    let mut desk = NoKernel::new(alloc);
+    let (ended, written) = served_under(rt, &mut desk, b"key", &came, size);
+    assert_eq!(rt; ended, Ok(()));
+    assert_eq!(rt; written.as_slice(), SIGNED);
+}
+
+#[test]
+fn refused_messages_of_a_frontend_of_3_1_bring_nothing(rt: HostRuntime) {
+    for size in [1, 10000] {
+        check_refused(&rt, rt.alloc(), size);
     }
 }
 
