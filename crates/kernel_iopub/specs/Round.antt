@@ -61,7 +61,7 @@ abbrev pub outgoing_octets : Outgoing → List ℕ
 outgoing_octets (Shown frames) = message_octets frames
 outgoing_octets (Pong context) = pong_octets context
 
--- These broadcasts in turn, and before each of them the answers to the pings that waited then, in their order.
+-- These broadcasts in turn, and before each of them answers to pings that some peer sent, those of one look in their order, or none.
 abbrev pub AreTold : List Frames → List Outgoing → Type 0
 AreTold [] out = out ≡ []
 AreTold (b ∷ bs) out =
@@ -85,8 +85,8 @@ IsSentInPart old new from = Appends old new [] ⊎ ((next : ℕ) × (kept : List
 
 -- ---- all that goes out
 
--- Turns one after another: rounds, each from the place where the one before ended, and behind them answers to the pings that waited then. So
--- before each message those are answered that waited as it went out, and no answer goes out within one.
+-- Turns one after another: rounds, each from the place where the one before ended, and behind them answers to pings that some peer sent, or
+-- none. So answers go out before messages and behind them, and no answer goes out within one.
 pub data AreTurns : Option ℕ → List Outgoing → Type 0 where
   none : AreTurns None []
   begun : (from : ℕ) (out : List Outgoing) → AreTurns None out → AreTurns (Some from) out

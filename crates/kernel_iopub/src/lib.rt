@@ -2,16 +2,16 @@
 //! other writes what it wants of the broadcasts on the board.
 //!
 //! The broadcasts of a kernel lie on the board of [`Bulletin`], beside a count that rises whenever there is something to look at: who
-//! publishes, who has nothing more to hear and who ends the kernel do so first and then raise it, and who waits takes the count, looks at
-//! everything, and waits until the count is another one. So no waking is lost, and nobody polls.
+//! published and then wakes, who has nothing more to hear and who ends the kernel do so first and then raise it, and who waits takes the count, looks
+//! at everything, and waits until the count is another one. So no waking is lost, and nobody polls.
 //!
 //! [`serve_subscriber`] is a connection, over any reader and writer. The peer joins the board as it is ready; one that falls behind what
 //! the board keeps is disconnected.
 //!
 //! Its promise is that of the writing half ([`speak`], by specs/Round.antt). It goes in rounds, each of them one read of the board, from the place
 //! where the round before ended. What goes out of a round are exactly the broadcasts of its read to which the peer had subscribed by all that it was
-//! fed until it was asked, in their order and each whole; before each of them, and behind a round, go the answers to the pings that waited then; where
-//! one of both fails, a beginning of these octets goes out behind those before, and nothing more. Board and peer lie under locks, and no clause can
+//! fed until it was asked, in their order and each whole; before each of them, and behind a round, go answers to pings that a peer sent, those of one look
+//! each once and in their order, or none; where one of both fails, a beginning of these octets goes out behind those before, and nothing more. Board and peer lie under locks, and no clause can
 //! name what lies there as a call takes it: so each round speaks of some log that the board's type allows, and of some peer that its type allows,
 //! which is one that was fed some octets of a connection from the first on.
 //! That is also why [`Bulletin::publish`] and [`Bulletin::join`] have no clause, as the board's own calls have none: what they do is said of a lent

@@ -91,7 +91,7 @@ pub(crate) fn skip_to(rt: &impl Abort, subscriber: &mut Frontend, topic: &str) {
 }
 
 /// Takes in what a subscriber to the status hears, until nothing more comes: it is the status alone.
-fn hear_out(rt: &impl Abort, subscriber: &mut Frontend) {
+pub(crate) fn hear_out(rt: &impl Abort, subscriber: &mut Frontend) {
     for _ in 0..u64::MAX {
         let Some(frames) = subscriber.next_frames(rt) else {
             return;

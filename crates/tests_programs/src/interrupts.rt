@@ -1,4 +1,5 @@
 //! An endless cell, which another connection interrupts.
+use crate::company::{check_topic, hear_out, wait_until_heard};
 use crate::frontend::{Frontend, shut_down};
 use crate::kernel::{Site, ask, check_ran, wait_until_ready};
 use crate::visits::{Visit, visit_by_each};
@@ -24,18 +25,22 @@ fn interrupted(rt: &impl Abort, shell: &mut Frontend, control: &mut Frontend) ->
     panic!(rt; "the cell goes on behind so many interrupts")
 }
 
-/// Runs an endless cell and interrupts it: the reply.
+/// Runs an endless cell, of which a subscriber hears the status while it runs, and interrupts it: the reply.
 fn run_endlessly<R>(rt: &R, alloc: Global, site: &Site) -> Opened
 where
     R: Net<Listener = TcpListener, Stream = TcpStream> + Abort,
 {
     let mut shell = Frontend::open(rt, alloc, site.shell);
     let mut control = Frontend::open(rt, alloc, site.control);
+    let mut listener = Frontend::subscribe(rt, alloc, site.iopub, "");
+    wait_until_heard(rt, &mut shell, &mut listener);
+    hear_out(rt, &mut listener);
     shell.send(
         rt,
         "execute_request",
         "{\"code\":\"int x from x = 0 loop x += 1 until 0\"}",
     );
+    check_topic(rt, &mut listener, "status");
     interrupted(rt, &mut shell, &mut control)
 }
 

@@ -1,5 +1,5 @@
 //! A frontend that leaves while its cell runs.
-use crate::company::{check_topic, skip_to, wait_until_heard};
+use crate::company::{check_topic, hear_out, skip_to, wait_until_heard};
 use crate::frontend::{Frontend, shut_down};
 use crate::kernel::{Site, wait_until_ready};
 use crate::visits::{Visit, visit_by_each};
@@ -9,19 +9,20 @@ use std::process::Abort;
 use std::time::Clock;
 
 /// A cell that takes a while.
-const CELL: &str = "{\"code\":\"int x from x = 0 loop x += 1 until x = 100000\"}";
+const CELL: &str = "{\"code\":\"int x from x = 0 loop x += 1 until x = 1000000\"}";
 
 /// A cell over what that one leaves, and its reply.
 const NEXT: &str = "{\"code\":\"x += 1\",\"user_expressions\":{\"a\":\"x\"}}";
 
 const ENDED: &str =
-    "{\"execution_count\":2,\"status\":\"ok\",\"user_expressions\":{\"a\":{\"data\":{\"text/plain\":\"100001\"},\"metadata\":{},\"status\":\"ok\"}}}";
+    "{\"execution_count\":2,\"status\":\"ok\",\"user_expressions\":{\"a\":{\"data\":{\"text/plain\":\"1000001\"},\"metadata\":{},\"status\":\"ok\"}}}";
 
-/// A frontend asks for a cell, and leaves as the kernel tells that it begins.
+/// A frontend asks for a cell, and leaves as the kernel tells that it is busy with it.
 fn ask_and_leave(rt: &impl Abort, mut shell: Frontend, listener: &mut Frontend) {
     wait_until_heard(rt, &mut shell, listener);
+    hear_out(rt, listener);
     shell.send(rt, "execute_request", CELL);
-    skip_to(rt, listener, "execute_input");
+    check_topic(rt, listener, "status");
 }
 
 /// The cell of a frontend that left goes on to its end, which others hear of, and its node is there for them.
@@ -32,6 +33,7 @@ where
     wait_until_ready(rt, alloc, site);
     let mut listener = Frontend::subscribe(rt, alloc, site.iopub, "");
     ask_and_leave(rt, Frontend::open(rt, alloc, site.shell), &mut listener);
+    skip_to(rt, &mut listener, "execute_input");
     check_topic(rt, &mut listener, "execute_result");
     check_topic(rt, &mut listener, "status");
     Frontend::open(rt, alloc, site.shell).check(rt, "execute_request", NEXT, ENDED);

@@ -156,12 +156,21 @@ fn a_subscriber_has_4096_prefixes_at_most(rt: HostRuntime) {
     }
 }
 
-/// What comes of a frontend of this minor version that pings so often, each time with another context.
-fn pings(rt: &impl Abort, alloc: Global, minor: u8, times: u8) -> Vec<u8> {
-    let mut octets = opening(rt, alloc, minor);
+/// So many pings, each with another context.
+fn more_pings(rt: &impl Abort, alloc: Global, times: u8) -> Vec<u8> {
+    let mut octets = Vec::new(alloc);
     for number in 0..times {
         octets.extend_from_slice(&ping(number)).expect(rt, "octets");
     }
+    octets
+}
+
+/// What comes of a frontend of this minor version that pings so often.
+fn pings(rt: &impl Abort, alloc: Global, minor: u8, times: u8) -> Vec<u8> {
+    let mut octets = opening(rt, alloc, minor);
+    octets
+        .extend_from_slice(&more_pings(rt, alloc, times))
+        .expect(rt, "octets");
     octets
 }
 
@@ -183,6 +192,18 @@ fn answer_pings<R: Wait + Abort>(rt: &R, alloc: Global, minor: u8, times: u8) {
     assert!(rt; spoken(rt, alloc, &bulletin, &shared) == pongs(rt, alloc, answered));
 }
 
+/// So many pings are answered, and as many more that come behind these answers: what was answered waits no longer.
+fn answer_again<R: Wait + Abort>(rt: &R, alloc: Global, times: u8) {
+    let bulletin = Bulletin::new(alloc).expect(rt, "a bulletin");
+    let (shared, ended) = heard(rt, alloc, &bulletin, &pings(rt, alloc, 1, times));
+    assert!(rt; ended.is_ok());
+    assert!(rt; spoken(rt, alloc, &bulletin, &shared) == pongs(rt, alloc, times));
+    let more = more_pings(rt, alloc, times);
+    let mut reader = more.as_slice();
+    assert!(rt; hear(rt, &bulletin, &shared, &mut reader).is_ok());
+    assert!(rt; spoken(rt, alloc, &bulletin, &shared) == pongs(rt, alloc, times));
+}
+
 /// How a connection ends of which so many pings wait.
 fn ping_often<R: Wait + Abort>(
     rt: &R,
@@ -200,6 +221,11 @@ fn pings_that_wait_are_answered(rt: HostRuntime) {
     for minor in MINORS {
         answer_pings(&rt, rt.alloc(), minor, 63);
     }
+}
+
+#[test]
+fn pings_behind_answers_are_answered(rt: HostRuntime) {
+    answer_again(&rt, rt.alloc(), 40);
 }
 
 #[test]

@@ -15,9 +15,11 @@ loop-broadcast-preserved g c =
     let done = c.loop-broadcast.yielded in
     let b = c.in-Some.broadcast in
     let f = λ (o : Octets). Published (frames_of c.args.key.now o) in
-    let rest : c.args.broadcasts.items ≡ (done ++ b ∷ []) ++ into_iter_items c.next.new.self = grind (arith, common_steps) in
-    (subst (λ (calls : List Call). Leads g.D.Desk.leads c.args.desk.now calls c.publish.new.desk) (sym (map-append f done (b ∷ [])))
-    (leads_join g.D.Desk.leads c.args.desk.now c.loop-broadcast.desk c.publish.new.desk (map f done) (f b ∷ []) c.loop-broadcast.invariant.0 c.in_ok-publish.ensures.ok), rest)
+    let rest : c.args.broadcasts.items ≡ (done ++ b ∷ []) ++ into_iter_items c.next.new.self = grind (arith, common_steps) in (
+      subst (λ (calls : List Call). Leads g.D.Desk.leads c.args.desk.now calls c.publish.new.desk) (sym (map-append f done (b ∷ [])))
+          (leads_join g.D.Desk.leads c.args.desk.now c.loop-broadcast.desk c.publish.new.desk (map f done) (f b ∷ []) c.loop-broadcast.invariant.0 c.in_ok-publish.ensures.ok),
+      rest,
+    )
 
 pub returns-in_err-publish-clause-err : goal.returns-in_err-publish-clause-err
 returns-in_err-publish-clause-err g c =

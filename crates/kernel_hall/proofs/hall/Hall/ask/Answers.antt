@@ -8,6 +8,10 @@ pub returns-in-IsComplete-clause-answer : goal.returns-in-IsComplete-clause-answ
 returns-in-IsComplete-clause-answer g c =
     let k = c.deref-in-IsComplete.result.now.kernel.machine in
     let posts : c.args.pass.now.posts ≤ length k.minutes = grind (arith, common_steps) in
-    let code : string_bytes c.in-IsComplete.code ≡ c.as_str.result.now = grind (arith, common_steps) in
-    (k, [], c.seen-seen.ensures.legal, posts,
-    subst (λ (a : Ask). IsAnswer k [] a c.judge.result) (sym c.in-IsComplete.is) (c.judge.ensures k [] c.in-IsComplete.code c.seen-seen.ensures.seen code))
+    let code : string_bytes c.in-IsComplete.code ≡ c.as_str.result.now = grind (arith, common_steps) in (
+      k,
+      [],
+      c.seen-seen.ensures.legal,
+      posts,
+      subst (λ (a : Ask). IsAnswer k [] a c.judge.result) (sym c.in-IsComplete.is) (c.judge.ensures k [] c.in-IsComplete.code c.seen-seen.ensures.seen code),
+    )
