@@ -9,13 +9,13 @@ use std::process::Abort;
 use std::time::Clock;
 
 /// A cell that takes a while.
-const CELL: &str = "{\"code\":\"int x from x = 0 loop x += 1 until x = 1000000\"}";
+const CELL: &str = "{\"code\":\"int x from x = 0 loop x += 1 until x = 100000\"}";
 
 /// A cell over what that one leaves, and its reply.
 const NEXT: &str = "{\"code\":\"x += 1\",\"user_expressions\":{\"a\":\"x\"}}";
 
 const ENDED: &str =
-    "{\"execution_count\":2,\"status\":\"ok\",\"user_expressions\":{\"a\":{\"data\":{\"text/plain\":\"1000001\"},\"metadata\":{},\"status\":\"ok\"}}}";
+    "{\"execution_count\":2,\"status\":\"ok\",\"user_expressions\":{\"a\":{\"data\":{\"text/plain\":\"100001\"},\"metadata\":{},\"status\":\"ok\"}}}";
 
 /// A frontend asks for a cell, and leaves as the kernel tells that it is busy with it.
 fn ask_and_leave(rt: &impl Abort, mut shell: Frontend, listener: &mut Frontend) {
