@@ -1,10 +1,11 @@
 //! Frontends beside each other on one kernel, which comes to its end while they are connected.
 use crate::frontend::{Frontend, shut_down};
-use crate::kernel::{Site, wait_until_ready};
-use crate::visits::{Visit, visit_by_each};
+use crate::kernel::{LOOPBACK, Site, kernel, make_site, wait_until_ready};
+use crate::visits::{MINORS, end_visit};
 use std::alloc::Global;
 use std::net::{Net, TcpListener, TcpStream};
 use std::process::Abort;
+use std::thread;
 use std::time::Clock;
 
 /// So often the kernel is asked what it is, until each subscriber hears of it.
@@ -140,19 +141,16 @@ where
     told
 }
 
-/// A company works with a kernel.
-struct Together;
-
-impl<R> Visit<R> for Together
-where
-    R: Net<Listener = TcpListener, Stream = TcpStream> + Clock + Abort,
-{
-    fn visit(&self, rt: &R, alloc: Global, site: &Site) -> String {
-        work_together(rt, alloc, site)
-    }
-}
-
 #[test]
 fn a_kernel_ends_while_frontends_are_connected(rt: HostRuntime) {
-    visit_by_each(&rt, rt.alloc(), &Together);
+    let alloc = rt.alloc();
+    for minor in MINORS {
+        let site = make_site(&rt, alloc, LOOPBACK, minor);
+        let (ran, told) = thread::join(
+            &rt,
+            || kernel(&rt, alloc, &site.path),
+            || work_together(&rt, alloc, &site),
+        );
+        end_visit(&rt, &site, &ran, &told, (LOOPBACK, ""));
+    }
 }

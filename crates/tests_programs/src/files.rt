@@ -4,13 +4,14 @@ use crate::kernel::{
     LOOPBACK, Ran, Site, ask, check_ran, connection_text, free_ports, kernel, listen, make_site,
     port_of, remove, run_console, run_kernel, wait_until_ready, write_file,
 };
-use crate::visits::{Visit, visit_at};
+use crate::visits::end_visit;
 use std::alloc::Global;
 use std::net::{Net, TcpListener, TcpStream};
 use std::process::Abort;
 use std::random::RandomSource;
 use std::rt::Files;
 use std::sync::Wait;
+use std::thread;
 use std::thread::Threads;
 use std::time::Clock;
 
@@ -213,20 +214,23 @@ fn a_console_tells_its_help(rt: HostRuntime) {
 const REACH: &str =
     "janus-kernel: 0.0.0.0 is no address of the loopback: other machines can connect, and read what goes over the network\n";
 
-/// A kernel is shut as soon as it listens.
-struct Shutting;
-
-impl<R> Visit<R> for Shutting
+/// A kernel is shut as soon as it listens: its reply.
+fn shut_at_once<R>(rt: &R, alloc: Global, site: &Site) -> String
 where
     R: Net<Listener = TcpListener, Stream = TcpStream> + Clock + Abort,
 {
-    fn visit(&self, rt: &R, alloc: Global, site: &Site) -> String {
-        wait_until_ready(rt, alloc, site);
-        shut_down(rt, alloc, site.control)
-    }
+    wait_until_ready(rt, alloc, site);
+    shut_down(rt, alloc, site.control)
 }
 
 #[test]
 fn an_address_past_the_loopback_is_told(rt: HostRuntime) {
-    visit_at(&rt, rt.alloc(), &Shutting, "0.0.0.0", REACH, 1);
+    let alloc = rt.alloc();
+    let site = make_site(&rt, alloc, "0.0.0.0", 1);
+    let (ran, told) = thread::join(
+        &rt,
+        || kernel(&rt, alloc, &site.path),
+        || shut_at_once(&rt, alloc, &site),
+    );
+    end_visit(&rt, &site, &ran, &told, ("0.0.0.0", REACH));
 }

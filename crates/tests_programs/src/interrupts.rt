@@ -1,13 +1,14 @@
 //! An endless cell, which another connection interrupts.
 use crate::company::{check_topic, hear_out, wait_until_heard};
 use crate::frontend::{Frontend, shut_down};
-use crate::kernel::{Site, ask, check_ran, wait_until_ready};
-use crate::visits::{Visit, visit_by_each};
+use crate::kernel::{LOOPBACK, Site, ask, check_ran, kernel, make_site, wait_until_ready};
+use crate::visits::{MINORS, end_visit};
 use jupyter_msg::Opened;
 use std::alloc::Global;
 use std::net::{Net, TcpListener, TcpStream};
 use std::process::Abort;
 use std::rt::Files;
+use std::thread;
 use std::time::Clock;
 
 /// So many times an interrupt is asked for, at most.
@@ -62,19 +63,16 @@ where
     shut_down(rt, alloc, site.control)
 }
 
-/// An endless cell is interrupted.
-struct Interrupting;
-
-impl<R> Visit<R> for Interrupting
-where
-    R: Net<Listener = TcpListener, Stream = TcpStream> + Files + Clock + Abort,
-{
-    fn visit(&self, rt: &R, alloc: Global, site: &Site) -> String {
-        interrupt_all(rt, alloc, site)
-    }
-}
-
 #[test]
 fn an_endless_cell_is_interrupted(rt: HostRuntime) {
-    visit_by_each(&rt, rt.alloc(), &Interrupting);
+    let alloc = rt.alloc();
+    for minor in MINORS {
+        let site = make_site(&rt, alloc, LOOPBACK, minor);
+        let (ran, told) = thread::join(
+            &rt,
+            || kernel(&rt, alloc, &site.path),
+            || interrupt_all(&rt, alloc, &site),
+        );
+        end_visit(&rt, &site, &ran, &told, (LOOPBACK, ""));
+    }
 }

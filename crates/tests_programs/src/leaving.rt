@@ -1,11 +1,12 @@
 //! A frontend that leaves while its cell runs.
 use crate::company::{check_topic, hear_out, skip_to, wait_until_heard};
 use crate::frontend::{Frontend, shut_down};
-use crate::kernel::{Site, wait_until_ready};
-use crate::visits::{Visit, visit_by_each};
+use crate::kernel::{LOOPBACK, Site, kernel, make_site, wait_until_ready};
+use crate::visits::{MINORS, end_visit};
 use std::alloc::Global;
 use std::net::{Net, TcpListener, TcpStream};
 use std::process::Abort;
+use std::thread;
 use std::time::Clock;
 
 /// A cell that takes a while.
@@ -40,19 +41,16 @@ where
     shut_down(rt, alloc, site.control)
 }
 
-/// A frontend leaves.
-struct Leaving;
-
-impl<R> Visit<R> for Leaving
-where
-    R: Net<Listener = TcpListener, Stream = TcpStream> + Clock + Abort,
-{
-    fn visit(&self, rt: &R, alloc: Global, site: &Site) -> String {
-        go_on_without(rt, alloc, site)
-    }
-}
-
 #[test]
 fn a_cell_goes_on_where_its_frontend_left(rt: HostRuntime) {
-    visit_by_each(&rt, rt.alloc(), &Leaving);
+    let alloc = rt.alloc();
+    for minor in MINORS {
+        let site = make_site(&rt, alloc, LOOPBACK, minor);
+        let (ran, told) = thread::join(
+            &rt,
+            || kernel(&rt, alloc, &site.path),
+            || go_on_without(&rt, alloc, &site),
+        );
+        end_visit(&rt, &site, &ran, &told, (LOOPBACK, ""));
+    }
 }

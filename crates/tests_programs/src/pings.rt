@@ -1,11 +1,12 @@
 //! Pings on each socket of a kernel: those of a frontend of 3.1 are answered, and those of 3.0 are passed over.
 use crate::frontend::{Frontend, Port, shut_down, subscription, write_to};
-use crate::kernel::{Site, wait_until_ready};
+use crate::kernel::{LOOPBACK, Site, kernel, make_site, wait_until_ready};
 use crate::streams::{check_back, check_echo, opened, read_to};
-use crate::visits::{Visit, visit_by_each};
+use crate::visits::{MINORS, end_visit};
 use std::alloc::Global;
 use std::net::{Net, TcpListener, TcpStream};
 use std::process::Abort;
+use std::thread;
 use std::time::Clock;
 use zmtp_peer::Role;
 
@@ -95,19 +96,16 @@ where
     shut_down(rt, alloc, site.control)
 }
 
-/// Each socket is pinged.
-struct Pinging;
-
-impl<R> Visit<R> for Pinging
-where
-    R: Net<Listener = TcpListener, Stream = TcpStream> + Clock + Abort,
-{
-    fn visit(&self, rt: &R, alloc: Global, site: &Site) -> String {
-        ping_all(rt, alloc, site)
-    }
-}
-
 #[test]
 fn pings_are_answered(rt: HostRuntime) {
-    visit_by_each(&rt, rt.alloc(), &Pinging);
+    let alloc = rt.alloc();
+    for minor in MINORS {
+        let site = make_site(&rt, alloc, LOOPBACK, minor);
+        let (ran, told) = thread::join(
+            &rt,
+            || kernel(&rt, alloc, &site.path),
+            || ping_all(&rt, alloc, &site),
+        );
+        end_visit(&rt, &site, &ran, &told, (LOOPBACK, ""));
+    }
 }

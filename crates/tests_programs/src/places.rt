@@ -1,11 +1,12 @@
 //! The places of the sockets.
 use crate::frontend::{Frontend, Port, begun_frame, connect, shut_down};
-use crate::kernel::{Site, wait_until_ready};
+use crate::kernel::{LOOPBACK, Site, kernel, make_site, wait_until_ready};
 use crate::streams::check_beat;
-use crate::visits::{Visit, visit_by_each};
+use crate::visits::{MINORS, end_visit};
 use std::alloc::Global;
 use std::net::{Net, TcpListener, TcpStream};
 use std::process::Abort;
+use std::thread;
 use std::time::Clock;
 use zmtp_peer::Role;
 
@@ -128,38 +129,32 @@ where
     shut_down(rt, alloc, site.control)
 }
 
-/// All places are taken.
-struct Filling;
-
-impl<R> Visit<R> for Filling
-where
-    R: Net<Listener = TcpListener, Stream = TcpStream> + Clock + Abort,
-{
-    fn visit(&self, rt: &R, alloc: Global, site: &Site) -> String {
-        fill_all(rt, alloc, site)
-    }
-}
-
 #[test]
 fn a_socket_serves_32_connections_at_once(rt: HostRuntime) {
-    visit_by_each(&rt, rt.alloc(), &Filling);
-}
-
-/// Strangers hold all places.
-struct PastStrangers;
-
-impl<R> Visit<R> for PastStrangers
-where
-    R: Net<Listener = TcpListener, Stream = TcpStream> + Clock + Abort,
-{
-    fn visit(&self, rt: &R, alloc: Global, site: &Site) -> String {
-        come_in_past_strangers(rt, alloc, site)
+    let alloc = rt.alloc();
+    for minor in MINORS {
+        let site = make_site(&rt, alloc, LOOPBACK, minor);
+        let (ran, told) = thread::join(
+            &rt,
+            || kernel(&rt, alloc, &site.path),
+            || fill_all(&rt, alloc, &site),
+        );
+        end_visit(&rt, &site, &ran, &told, (LOOPBACK, ""));
     }
 }
 
 #[test]
 fn strangers_at_all_places_keep_nobody_out(rt: HostRuntime) {
-    visit_by_each(&rt, rt.alloc(), &PastStrangers);
+    let alloc = rt.alloc();
+    for minor in MINORS {
+        let site = make_site(&rt, alloc, LOOPBACK, minor);
+        let (ran, told) = thread::join(
+            &rt,
+            || kernel(&rt, alloc, &site.path),
+            || come_in_past_strangers(&rt, alloc, &site),
+        );
+        end_visit(&rt, &site, &ran, &told, (LOOPBACK, ""));
+    }
 }
 
 /// More than half of what strangers may bring together.
@@ -193,19 +188,16 @@ where
     shut_down(rt, alloc, site.control)
 }
 
-/// Two strangers would hold too much together.
-struct TooMuch;
-
-impl<R> Visit<R> for TooMuch
-where
-    R: Net<Listener = TcpListener, Stream = TcpStream> + Clock + Abort,
-{
-    fn visit(&self, rt: &R, alloc: Global, site: &Site) -> String {
-        hold_too_much(rt, alloc, site)
-    }
-}
-
 #[test]
 fn strangers_bring_4_mebibytes_together(rt: HostRuntime) {
-    visit_by_each(&rt, rt.alloc(), &TooMuch);
+    let alloc = rt.alloc();
+    for minor in MINORS {
+        let site = make_site(&rt, alloc, LOOPBACK, minor);
+        let (ran, told) = thread::join(
+            &rt,
+            || kernel(&rt, alloc, &site.path),
+            || hold_too_much(&rt, alloc, &site),
+        );
+        end_visit(&rt, &site, &ran, &told, (LOOPBACK, ""));
+    }
 }

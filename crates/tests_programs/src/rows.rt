@@ -1,11 +1,12 @@
 //! One console after the other at one kernel, which all of them share.
 use crate::frontend::shut_down;
-use crate::kernel::{Site, ask, check_ran, wait_until_ready};
-use crate::visits::{Visit, visit_by_each};
+use crate::kernel::{LOOPBACK, Site, ask, check_ran, kernel, make_site, wait_until_ready};
+use crate::visits::{MINORS, end_visit};
 use std::alloc::Global;
 use std::net::{Net, TcpListener, TcpStream};
 use std::process::Abort;
 use std::rt::Files;
+use std::thread;
 use std::time::Clock;
 
 /// A console's command and its word, what it prints, and its status.
@@ -36,19 +37,16 @@ where
     shut_down(rt, alloc, site.control)
 }
 
-/// Consoles come one after the other.
-struct Consoles;
-
-impl<R> Visit<R> for Consoles
-where
-    R: Net<Listener = TcpListener, Stream = TcpStream> + Files + Clock + Abort,
-{
-    fn visit(&self, rt: &R, alloc: Global, site: &Site) -> String {
-        run_consoles(rt, alloc, site)
-    }
-}
-
 #[test]
 fn consoles_share_a_kernel(rt: HostRuntime) {
-    visit_by_each(&rt, rt.alloc(), &Consoles);
+    let alloc = rt.alloc();
+    for minor in MINORS {
+        let site = make_site(&rt, alloc, LOOPBACK, minor);
+        let (ran, told) = thread::join(
+            &rt,
+            || kernel(&rt, alloc, &site.path),
+            || run_consoles(&rt, alloc, &site),
+        );
+        end_visit(&rt, &site, &ran, &told, (LOOPBACK, ""));
+    }
 }

@@ -1,13 +1,14 @@
 //! What comes on each of the sockets, and how the messages of two connections are stamped.
 use crate::frontend::{Frontend, Port, shut_down};
-use crate::kernel::{Site, wait_until_ready};
+use crate::kernel::{LOOPBACK, Site, kernel, make_site, wait_until_ready};
 use crate::streams::check_beat;
-use crate::visits::{Visit, visit_by_each};
+use crate::visits::{MINORS, end_visit};
 use jupyter_msg::Opened;
 use serde_json::Value;
 use std::alloc::Global;
 use std::net::{Net, TcpListener, TcpStream};
 use std::process::Abort;
+use std::thread;
 use std::time::Clock;
 
 /// So many reads wait for what doesn't come.
@@ -102,19 +103,16 @@ where
     shut_down(rt, alloc, site.control)
 }
 
-/// Each socket is tried.
-struct EachSocket;
-
-impl<R> Visit<R> for EachSocket
-where
-    R: Net<Listener = TcpListener, Stream = TcpStream> + Clock + Abort,
-{
-    fn visit(&self, rt: &R, alloc: Global, site: &Site) -> String {
-        try_all(rt, alloc, site)
-    }
-}
-
 #[test]
 fn each_socket_is_served_as_it_should_be(rt: HostRuntime) {
-    visit_by_each(&rt, rt.alloc(), &EachSocket);
+    let alloc = rt.alloc();
+    for minor in MINORS {
+        let site = make_site(&rt, alloc, LOOPBACK, minor);
+        let (ran, told) = thread::join(
+            &rt,
+            || kernel(&rt, alloc, &site.path),
+            || try_all(&rt, alloc, &site),
+        );
+        end_visit(&rt, &site, &ran, &told, (LOOPBACK, ""));
+    }
 }
