@@ -1,6 +1,7 @@
 //! Frontends beside each other on one kernel, which comes to its end while they are connected.
-use crate::frontend::{Frontend, check_shut, shut_down};
-use crate::kernel::{Site, kernel, make_site, remove, wait_until_ready};
+use crate::frontend::{Frontend, shut_down};
+use crate::kernel::{LOOPBACK, Site, kernel, make_site, wait_until_ready};
+use crate::visits::{MINORS, end_visit};
 use std::alloc::Global;
 use std::net::{Net, TcpListener, TcpStream};
 use std::process::Abort;
@@ -91,7 +92,7 @@ pub(crate) fn skip_to(rt: &impl Abort, subscriber: &mut Frontend, topic: &str) {
 }
 
 /// Takes in what a subscriber to the status hears, until nothing more comes: it is the status alone.
-fn hear_out(rt: &impl Abort, subscriber: &mut Frontend) {
+pub(crate) fn hear_out(rt: &impl Abort, subscriber: &mut Frontend) {
     for _ in 0..u64::MAX {
         let Some(frames) = subscriber.next_frames(rt) else {
             return;
@@ -143,13 +144,13 @@ where
 #[test]
 fn a_kernel_ends_while_frontends_are_connected(rt: HostRuntime) {
     let alloc = rt.alloc();
-    let site = make_site(&rt, alloc);
-    let (ran, told) = thread::join(
-        &rt,
-        || kernel(&rt, alloc, &site.path),
-        || work_together(&rt, alloc, &site),
-    );
-    check_shut(&rt, &told);
-    assert_eq!(rt; ran.status, 0);
-    remove(&rt, &site.path);
+    for minor in MINORS {
+        let site = make_site(&rt, alloc, LOOPBACK, minor);
+        let (ran, told) = thread::join(
+            &rt,
+            || kernel(&rt, alloc, &site.path),
+            || work_together(&rt, alloc, &site),
+        );
+        end_visit(&rt, &site, &ran, &told, (LOOPBACK, ""));
+    }
 }

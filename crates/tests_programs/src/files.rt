@@ -1,9 +1,10 @@
 //! Connection files and words that no program takes, a port that another has, and ports where no kernel listens.
-use crate::frontend::{KEY, check_shut, shut_down};
+use crate::frontend::shut_down;
 use crate::kernel::{
-    Ran, ask, check_ran, connection_text, connection_text_at, free_ports, kernel, listen,
-    make_site, port_of, remove, run_console, run_kernel, wait_until_ready, write_file,
+    LOOPBACK, Ran, Site, ask, check_ran, connection_text, free_ports, kernel, listen, make_site,
+    port_of, remove, run_console, run_kernel, wait_until_ready, write_file,
 };
+use crate::visits::end_visit;
 use std::alloc::Global;
 use std::net::{Net, TcpListener, TcpStream};
 use std::process::Abort;
@@ -100,7 +101,7 @@ fn wrong_connection_files_are_told(rt: HostRuntime) {
 #[test]
 fn a_console_without_a_kernel_gives_up(rt: HostRuntime) {
     let alloc = rt.alloc();
-    let site = make_site(&rt, alloc);
+    let site = make_site(&rt, alloc, LOOPBACK, 1);
     let ran = ask(&rt, alloc, &site.path, "show", "");
     check(&rt, &ran, "janus-console: no connection\n", 3);
     remove(&rt, &site.path);
@@ -119,7 +120,8 @@ where
         + Sync,
 {
     let taken = TcpListener::bind(rt, ("127.0.0.1", port)).expect(rt, "a listener");
-    write_file(rt, "taken.json", &connection_text(rt, alloc, ports, ""));
+    let text = connection_text(rt, alloc, LOOPBACK, ports, "");
+    write_file(rt, "taken.json", &text);
     let ran = kernel(rt, alloc, "taken.json");
     drop(taken);
     let line = format!(in alloc; "janus-kernel: cannot bind {field}\n").expect(rt, "a line");
@@ -141,7 +143,8 @@ fn a_console_at_a_silent_listener_gives_up(rt: HostRuntime) {
     let alloc = rt.alloc();
     let silent = listen(&rt);
     let port = port_of(&rt, &silent);
-    let text = connection_text(&rt, alloc, [port, port, port, port, port], "");
+    let ports = [port, port, port, port, port];
+    let text = connection_text(&rt, alloc, LOOPBACK, ports, "");
     write_file(&rt, "silent.json", &text);
     let ran = ask(&rt, alloc, "silent.json", "show", "");
     check(&rt, &ran, "janus-console: no connection\n", 3);
@@ -211,28 +214,23 @@ fn a_console_tells_its_help(rt: HostRuntime) {
 const REACH: &str =
     "janus-kernel: 0.0.0.0 is no address of the loopback: other machines can connect, and read what goes over the network\n";
 
+/// A kernel is shut as soon as it listens: its reply.
+fn shut_at_once<R>(rt: &R, alloc: Global, site: &Site) -> String
+where
+    R: Net<Listener = TcpListener, Stream = TcpStream> + Clock + Abort,
+{
+    wait_until_ready(rt, alloc, site);
+    shut_down(rt, alloc, site.control)
+}
+
 #[test]
 fn an_address_past_the_loopback_is_told(rt: HostRuntime) {
     let alloc = rt.alloc();
-    let site = make_site(&rt, alloc);
-    let ports = [
-        site.shell,
-        site.iopub,
-        site.stdin,
-        site.control,
-        site.heartbeat,
-    ];
-    let text = connection_text_at(&rt, alloc, "0.0.0.0", ports, KEY);
-    write_file(&rt, &site.path, &text);
+    let site = make_site(&rt, alloc, "0.0.0.0", 1);
     let (ran, told) = thread::join(
         &rt,
         || kernel(&rt, alloc, &site.path),
-        || {
-            wait_until_ready(&rt, alloc, &site);
-            shut_down(&rt, alloc, site.control)
-        },
+        || shut_at_once(&rt, alloc, &site),
     );
-    check_shut(&rt, &told);
-    check_ran(&rt, ("an address", "0.0.0.0"), &ran, "ready\n", REACH, 0);
-    remove(&rt, &site.path);
+    end_visit(&rt, &site, &ran, &told, ("0.0.0.0", REACH));
 }

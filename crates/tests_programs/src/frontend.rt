@@ -1,4 +1,4 @@
-//! A connection to a socket of the kernel, for what a console has no words for.
+//! A connection to a socket of the kernel, for what a console has no words for, by a frontend of ZMTP 3.0 or 3.1.
 use jupyter_msg::{Key, Message, Opened, open, seal};
 use std::alloc::Global;
 use std::collections::VecDeque;
@@ -8,7 +8,7 @@ use std::process::Abort;
 use std::time::Duration;
 use std::{io, str};
 use zmtp_peer::{Peer, PeerEvent, Role};
-use zmtp_wire::write_message;
+use zmtp_wire::{Frame, write_message};
 
 /// The key under which the messages of a kernel and its frontends are signed.
 pub(crate) const KEY: &str = "the key of the tests";
@@ -18,6 +18,16 @@ const PATIENCE_MILLISECONDS: u64 = 5;
 
 /// So many reads wait for what has to come.
 const READS: u32 = 4_000;
+
+/// The octet of a greeting that has the minor version.
+const MINOR: usize = 11;
+
+/// A port of a kernel, and the minor version of ZMTP 3 that frontends speak there.
+#[derive(Clone, Copy)]
+pub(crate) struct Port {
+    pub number: u16,
+    pub minor: u8,
+}
 
 /// A connection to a socket of the kernel.
 #[derive(Drop)]
@@ -31,16 +41,24 @@ pub(crate) struct Frontend {
 }
 
 /// Connects to a port, at which a kernel may not listen yet.
-pub(crate) fn connect<R>(rt: &R, port: u16) -> io::Result<TcpStream>
+pub(crate) fn connect<R>(rt: &R, port: Port) -> io::Result<TcpStream>
 where
     R: Net<Listener = TcpListener, Stream = TcpStream>,
 {
-    TcpStream::connect(rt, ("127.0.0.1", port))
+    TcpStream::connect(rt, ("127.0.0.1", port.number))
 }
 
 /// What an end in this role sends first.
 pub(crate) fn opening_of(rt: &impl Abort, alloc: Global, role: Role) -> Vec<u8> {
     Peer::new(alloc, role).opening().expect(rt, "an opening")
+}
+
+/// What a frontend in this role and of this minor version sends first.
+pub(crate) fn opening_as(rt: &impl Abort, alloc: Global, role: Role, minor: u8) -> Vec<u8> {
+    let mut opening = opening_of(rt, alloc, role);
+    assert!(rt; opening.len() > MINOR);
+    opening[MINOR] = minor;
+    opening
 }
 
 /// Adds the octets of a message of these frames.
@@ -74,14 +92,22 @@ fn octets_of(rt: &impl Abort, alloc: Global, text: &str) -> Vec<u8> {
         .expect(rt, "the octets of a text")
 }
 
-/// The message by which a subscriber asks for what begins with this text.
-pub(crate) fn subscription(rt: &impl Abort, alloc: Global, prefix: &str) -> Vec<u8> {
-    let mut body = octets_of(rt, alloc, "\u{1}");
+/// What a subscriber of this minor version asks by for all that begins with this text: of 3.0 a message, of 3.1 a command.
+pub(crate) fn subscription(rt: &impl Abort, alloc: Global, minor: u8, prefix: &str) -> Vec<u8> {
+    let asks = if minor == 0 {
+        "\u{1}"
+    } else {
+        "\u{9}SUBSCRIBE"
+    };
+    let mut body = octets_of(rt, alloc, asks);
     body.extend_from_slice(prefix.as_bytes())
         .expect(rt, "a prefix");
-    let mut octets = Vec::new(alloc);
-    push_message(rt, &mut octets, &[body]);
-    octets
+    let frame = Frame {
+        more: false,
+        command: minor > 0,
+        body,
+    };
+    frame.write(alloc).expect(rt, "the octets of a frame")
 }
 
 /// The key whose octets are those of the text.
@@ -115,18 +141,19 @@ fn is_late(error: &Error) -> bool {
 }
 
 impl Frontend {
-    /// Opens a connection over this stream, as frontends of shell and control do.
-    pub(crate) fn over(rt: &impl Abort, alloc: Global, stream: TcpStream) -> Frontend {
-        Frontend::over_as(rt, alloc, stream, Role::Dealer)
-    }
-
-    /// Opens a connection over this stream in this role.
-    fn over_as(rt: &impl Abort, alloc: Global, stream: TcpStream, role: Role) -> Frontend {
+    /// Opens a connection over this stream in this role and of this minor version.
+    pub(crate) fn over(
+        rt: &impl Abort,
+        alloc: Global,
+        stream: TcpStream,
+        role: Role,
+        minor: u8,
+    ) -> Frontend {
         let patience = Duration::from_millis(PATIENCE_MILLISECONDS);
         stream
             .set_read_timeout(Some(patience))
             .expect(rt, "a time that a read waits");
-        write_to(rt, &stream, &opening_of(rt, alloc, role));
+        write_to(rt, &stream, &opening_as(rt, alloc, role, minor));
         Frontend {
             alloc,
             key: key_of(rt, alloc, KEY),
@@ -137,34 +164,31 @@ impl Frontend {
         }
     }
 
-    /// Connects to a port of a kernel that listens.
-    pub(crate) fn open<R>(rt: &R, alloc: Global, port: u16) -> Frontend
+    /// Connects to a port of a kernel that listens, as frontends of shell and control do.
+    pub(crate) fn open<R>(rt: &R, alloc: Global, port: Port) -> Frontend
     where
         R: Net<Listener = TcpListener, Stream = TcpStream> + Abort,
     {
-        Frontend::over(rt, alloc, connect(rt, port).expect(rt, "a connection"))
+        Frontend::open_as(rt, alloc, port, Role::Dealer)
     }
 
     /// Connects in this role to a port of a kernel that listens.
-    pub(crate) fn open_as<R>(rt: &R, alloc: Global, port: u16, role: Role) -> Frontend
+    pub(crate) fn open_as<R>(rt: &R, alloc: Global, port: Port, role: Role) -> Frontend
     where
         R: Net<Listener = TcpListener, Stream = TcpStream> + Abort,
     {
-        Frontend::over_as(
-            rt,
-            alloc,
-            connect(rt, port).expect(rt, "a connection"),
-            role,
-        )
+        let stream = connect(rt, port).expect(rt, "a connection");
+        Frontend::over(rt, alloc, stream, role, port.minor)
     }
 
     /// Connects to the publish port of a kernel that listens, and subscribes to what begins with this text.
-    pub(crate) fn subscribe<R>(rt: &R, alloc: Global, port: u16, prefix: &str) -> Frontend
+    pub(crate) fn subscribe<R>(rt: &R, alloc: Global, port: Port, prefix: &str) -> Frontend
     where
         R: Net<Listener = TcpListener, Stream = TcpStream> + Abort,
     {
         let subscriber = Frontend::open_as(rt, alloc, port, Role::Sub);
-        write_to(rt, &subscriber.stream, &subscription(rt, alloc, prefix));
+        let asks = subscription(rt, alloc, port.minor, prefix);
+        write_to(rt, &subscriber.stream, &asks);
         subscriber
     }
 
@@ -311,7 +335,7 @@ fn content_of(rt: &impl Abort, alloc: Global, message: &Message) -> String {
 
 /// Shuts the kernel that listens at this control port, and answers what it replied. A request under another key, which would be answered otherwise, goes
 /// first: no reply comes to it.
-pub(crate) fn shut_down<R>(rt: &R, alloc: Global, port: u16) -> String
+pub(crate) fn shut_down<R>(rt: &R, alloc: Global, port: Port) -> String
 where
     R: Net<Listener = TcpListener, Stream = TcpStream> + Abort,
 {

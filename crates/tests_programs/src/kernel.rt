@@ -1,5 +1,5 @@
 //! A kernel on ports of its own, and the consoles that talk to it.
-use crate::frontend::{Frontend, KEY, connect};
+use crate::frontend::{Frontend, KEY, Port, connect};
 use console_program::console;
 use kernel_program::kernel_main;
 use std::alloc::Global;
@@ -11,6 +11,10 @@ use std::sync::Wait;
 use std::thread::Threads;
 use std::time::{Clock, Duration};
 use std::{fs, thread};
+use zmtp_peer::Role;
+
+/// The address of the loopback.
+pub(crate) const LOOPBACK: &str = "127.0.0.1";
 
 /// A connection is tried so often, until the kernel listens.
 const TRIES: u32 = 500;
@@ -23,11 +27,11 @@ const PAUSE_MILLISECONDS: u64 = 10;
 pub(crate) struct Site {
     /// The connection file.
     pub path: String,
-    pub shell: u16,
-    pub iopub: u16,
-    pub stdin: u16,
-    pub control: u16,
-    pub heartbeat: u16,
+    pub shell: Port,
+    pub iopub: Port,
+    pub stdin: Port,
+    pub control: Port,
+    pub heartbeat: Port,
 }
 
 /// What a program wrote, and its status.
@@ -67,18 +71,8 @@ where
     ]
 }
 
-/// The text of a connection file with these ports, at the address of the loopback.
-pub(crate) fn connection_text(
-    rt: &impl Abort,
-    alloc: Global,
-    ports: [u16; 5],
-    key: &str,
-) -> String {
-    connection_text_at(rt, alloc, "127.0.0.1", ports, key)
-}
-
 /// The text of a connection file with this address and these ports.
-pub(crate) fn connection_text_at(
+pub(crate) fn connection_text(
     rt: &impl Abort,
     alloc: Global,
     ip: &str,
@@ -102,27 +96,53 @@ pub(crate) fn remove<R: Files + Abort>(rt: &R, path: &str) {
     fs::remove_file(rt, path).expect(rt, "a file that is removed");
 }
 
-/// Writes a connection file with free ports and the key.
-pub(crate) fn make_site<R>(rt: &R, alloc: Global) -> Site
+/// The path of the connection file of a kernel whose first port this is.
+fn path_of(rt: &impl Abort, alloc: Global, shell: u16) -> String {
+    format!(in alloc; "kernel-{shell}.json").expect(rt, "a path")
+}
+
+/// Where a kernel listens at these ports, to frontends of this minor version.
+fn site_of(path: String, ports: [u16; 5], minor: u8) -> Site {
+    let [shell, iopub, stdin, control, heartbeat] = ports;
+    Site {
+        path,
+        shell: Port {
+            number: shell,
+            minor,
+        },
+        iopub: Port {
+            number: iopub,
+            minor,
+        },
+        stdin: Port {
+            number: stdin,
+            minor,
+        },
+        control: Port {
+            number: control,
+            minor,
+        },
+        heartbeat: Port {
+            number: heartbeat,
+            minor,
+        },
+    }
+}
+
+/// Writes a connection file with free ports, this address and the key, for frontends of this minor version.
+pub(crate) fn make_site<R>(rt: &R, alloc: Global, ip: &str, minor: u8) -> Site
 where
     R: Net<Listener = TcpListener, Stream = TcpStream> + Files + Abort,
 {
     let ports = free_ports(rt);
-    let [shell, iopub, stdin, control, heartbeat] = ports;
-    let path = format!(in alloc; "kernel-{shell}.json").expect(rt, "a path");
-    write_file(rt, &path, &connection_text(rt, alloc, ports, KEY));
-    Site {
-        path,
-        shell,
-        iopub,
-        stdin,
-        control,
-        heartbeat,
-    }
+    let path = path_of(rt, alloc, ports[0]);
+    let text = connection_text(rt, alloc, ip, ports, KEY);
+    write_file(rt, &path, &text);
+    site_of(path, ports, minor)
 }
 
 /// Waits until something listens at a port, and connects to it.
-fn wait_until_heard<R>(rt: &R, port: u16) -> TcpStream
+fn wait_until_heard<R>(rt: &R, port: Port) -> TcpStream
 where
     R: Net<Listener = TcpListener, Stream = TcpStream> + Clock + Abort,
 {
@@ -132,7 +152,7 @@ where
         }
         thread::sleep(rt, Duration::from_millis(PAUSE_MILLISECONDS));
     }
-    panic!(rt; "nothing listens at {port}")
+    panic!(rt; "nothing listens")
 }
 
 /// Waits until the kernel serves its sockets. (The threads of all of them stand before it accepts a connection.)
@@ -141,7 +161,8 @@ where
     R: Net<Listener = TcpListener, Stream = TcpStream> + Clock + Abort,
 {
     let stream = wait_until_heard(rt, site.control);
-    Frontend::over(rt, alloc, stream).wait_until_ready(rt);
+    let mut frontend = Frontend::over(rt, alloc, stream, Role::Dealer, site.control.minor);
+    frontend.wait_until_ready(rt);
 }
 
 /// Runs a kernel over the words of its command line, to its end.

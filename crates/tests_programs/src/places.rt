@@ -1,7 +1,8 @@
 //! The places of the sockets.
-use crate::frontend::{Frontend, begun_frame, check_shut, connect, shut_down};
-use crate::kernel::{Site, kernel, make_site, remove, wait_until_ready};
-use crate::sockets::check_beat;
+use crate::frontend::{Frontend, Port, begun_frame, connect, shut_down};
+use crate::kernel::{LOOPBACK, Site, kernel, make_site, wait_until_ready};
+use crate::streams::check_beat;
+use crate::visits::{MINORS, end_visit};
 use std::alloc::Global;
 use std::net::{Net, TcpListener, TcpStream};
 use std::process::Abort;
@@ -19,7 +20,7 @@ const SILENT_READS: u32 = 100;
 const SOON: u32 = 400;
 
 /// Opens as many connections as a socket serves at once, each of which it is ready on.
-fn fill<R>(rt: &R, alloc: Global, port: u16, role: Role) -> Vec<Frontend>
+fn fill<R>(rt: &R, alloc: Global, port: Port, role: Role) -> Vec<Frontend>
 where
     R: Net<Listener = TcpListener, Stream = TcpStream> + Abort,
 {
@@ -42,7 +43,7 @@ fn ask_on_each(rt: &impl Abort, frontends: &mut [Frontend]) {
 
 /// One connection more than a socket serves at once is served as soon as another one has left, where those that are served have shown the key, or are
 /// of a socket on which none is shown and have only just been heard.
-fn check_places<R>(rt: &R, alloc: Global, port: u16, role: Role, is_signed: bool)
+fn check_places<R>(rt: &R, alloc: Global, port: Port, role: Role, is_signed: bool)
 where
     R: Net<Listener = TcpListener, Stream = TcpStream> + Abort,
 {
@@ -51,7 +52,7 @@ where
         ask_on_each(rt, &mut frontends);
     }
     let mut next = Frontend::open_as(rt, alloc, port, role);
-    assert!(rt; !next.is_ready_within(rt, SILENT_READS), "{port}");
+    assert!(rt; !next.is_ready_within(rt, SILENT_READS));
     drop(frontends.pop());
     next.wait_until_ready(rt);
 }
@@ -70,7 +71,7 @@ where
 }
 
 /// As many connections as a socket serves at once, on which nothing comes.
-fn hold<R>(rt: &R, streams: &mut Vec<TcpStream>, port: u16)
+fn hold<R>(rt: &R, streams: &mut Vec<TcpStream>, port: Port)
 where
     R: Net<Listener = TcpListener, Stream = TcpStream> + Abort,
 {
@@ -131,36 +132,36 @@ where
 #[test]
 fn a_socket_serves_32_connections_at_once(rt: HostRuntime) {
     let alloc = rt.alloc();
-    let site = make_site(&rt, alloc);
-    let (ran, told) = thread::join(
-        &rt,
-        || kernel(&rt, alloc, &site.path),
-        || fill_all(&rt, alloc, &site),
-    );
-    check_shut(&rt, &told);
-    assert_eq!(rt; ran.status, 0);
-    remove(&rt, &site.path);
+    for minor in MINORS {
+        let site = make_site(&rt, alloc, LOOPBACK, minor);
+        let (ran, told) = thread::join(
+            &rt,
+            || kernel(&rt, alloc, &site.path),
+            || fill_all(&rt, alloc, &site),
+        );
+        end_visit(&rt, &site, &ran, &told, (LOOPBACK, ""));
+    }
 }
 
 #[test]
 fn strangers_at_all_places_keep_nobody_out(rt: HostRuntime) {
     let alloc = rt.alloc();
-    let site = make_site(&rt, alloc);
-    let (ran, told) = thread::join(
-        &rt,
-        || kernel(&rt, alloc, &site.path),
-        || come_in_past_strangers(&rt, alloc, &site),
-    );
-    check_shut(&rt, &told);
-    assert_eq!(rt; ran.status, 0);
-    remove(&rt, &site.path);
+    for minor in MINORS {
+        let site = make_site(&rt, alloc, LOOPBACK, minor);
+        let (ran, told) = thread::join(
+            &rt,
+            || kernel(&rt, alloc, &site.path),
+            || come_in_past_strangers(&rt, alloc, &site),
+        );
+        end_visit(&rt, &site, &ran, &told, (LOOPBACK, ""));
+    }
 }
 
 /// More than half of what strangers may bring together.
 const GREAT: u64 = 3_145_728;
 
 /// A stranger that leaves a great frame before its end.
-fn press<R>(rt: &R, alloc: Global, port: u16) -> Frontend
+fn press<R>(rt: &R, alloc: Global, port: Port) -> Frontend
 where
     R: Net<Listener = TcpListener, Stream = TcpStream> + Abort,
 {
@@ -190,13 +191,13 @@ where
 #[test]
 fn strangers_bring_4_mebibytes_together(rt: HostRuntime) {
     let alloc = rt.alloc();
-    let site = make_site(&rt, alloc);
-    let (ran, told) = thread::join(
-        &rt,
-        || kernel(&rt, alloc, &site.path),
-        || hold_too_much(&rt, alloc, &site),
-    );
-    check_shut(&rt, &told);
-    assert_eq!(rt; ran.status, 0);
-    remove(&rt, &site.path);
+    for minor in MINORS {
+        let site = make_site(&rt, alloc, LOOPBACK, minor);
+        let (ran, told) = thread::join(
+            &rt,
+            || kernel(&rt, alloc, &site.path),
+            || hold_too_much(&rt, alloc, &site),
+        );
+        end_visit(&rt, &site, &ran, &told, (LOOPBACK, ""));
+    }
 }

@@ -1,6 +1,7 @@
 //! One console after the other at one kernel, which all of them share.
-use crate::frontend::{check_shut, shut_down};
-use crate::kernel::{Site, ask, check_ran, kernel, make_site, remove, wait_until_ready};
+use crate::frontend::shut_down;
+use crate::kernel::{LOOPBACK, Site, ask, check_ran, kernel, make_site, wait_until_ready};
+use crate::visits::{MINORS, end_visit};
 use std::alloc::Global;
 use std::net::{Net, TcpListener, TcpStream};
 use std::process::Abort;
@@ -39,13 +40,13 @@ where
 #[test]
 fn consoles_share_a_kernel(rt: HostRuntime) {
     let alloc = rt.alloc();
-    let site = make_site(&rt, alloc);
-    let (ran, told) = thread::join(
-        &rt,
-        || kernel(&rt, alloc, &site.path),
-        || run_consoles(&rt, alloc, &site),
-    );
-    check_shut(&rt, &told);
-    check_ran(&rt, ("the kernel", ""), &ran, "ready\n", "", 0);
-    remove(&rt, &site.path);
+    for minor in MINORS {
+        let site = make_site(&rt, alloc, LOOPBACK, minor);
+        let (ran, told) = thread::join(
+            &rt,
+            || kernel(&rt, alloc, &site.path),
+            || run_consoles(&rt, alloc, &site),
+        );
+        end_visit(&rt, &site, &ran, &told, (LOOPBACK, ""));
+    }
 }

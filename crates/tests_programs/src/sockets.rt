@@ -1,56 +1,18 @@
 //! What comes on each of the sockets, and how the messages of two connections are stamped.
-use crate::frontend::{
-    Frontend, check_shut, connect, opening_of, push_message, shut_down, write_to,
-};
-use crate::kernel::{Site, kernel, make_site, remove, wait_until_ready};
+use crate::frontend::{Frontend, Port, shut_down};
+use crate::kernel::{LOOPBACK, Site, kernel, make_site, wait_until_ready};
+use crate::streams::check_beat;
+use crate::visits::{MINORS, end_visit};
 use jupyter_msg::Opened;
 use serde_json::Value;
 use std::alloc::Global;
-use std::io::Read;
 use std::net::{Net, TcpListener, TcpStream};
 use std::process::Abort;
 use std::thread;
-use std::time::{Clock, Duration};
-use zmtp_peer::Role;
+use std::time::Clock;
 
 /// So many reads wait for what doesn't come.
 const SILENT_READS: u32 = 10;
-
-/// So long a read of the heartbeat waits.
-const PATIENCE_SECONDS: u64 = 5;
-
-/// What an end in this role sends: its opening, and a message of two frames, the first of them empty.
-fn beat_of(rt: &impl Abort, alloc: Global, role: Role) -> Vec<u8> {
-    let frames = [Vec::new(alloc), b"ping".to_vec(alloc).expect(rt, "a frame")];
-    let mut octets = opening_of(rt, alloc, role);
-    push_message(rt, &mut octets, &frames);
-    octets
-}
-
-/// The next octets of a stream, so many.
-fn read_from(rt: &impl Abort, alloc: Global, stream: &TcpStream, count: usize) -> Vec<u8> {
-    let mut reader = stream;
-    let mut octets = vec![in alloc; 0u8; count].expect(rt, "room for octets");
-    reader
-        .read_exact(&mut octets)
-        .expect(rt, "octets that come");
-    octets
-}
-
-/// A message that is sent to the heartbeat comes back, octet for octet, behind what that socket says first.
-pub(crate) fn check_beat<R>(rt: &R, alloc: Global, port: u16)
-where
-    R: Net<Listener = TcpListener, Stream = TcpStream> + Abort,
-{
-    let stream = connect(rt, port).expect(rt, "a connection");
-    let patience = Duration::from_secs(PATIENCE_SECONDS);
-    stream
-        .set_read_timeout(Some(patience))
-        .expect(rt, "a time that a read waits");
-    write_to(rt, &stream, &beat_of(rt, alloc, Role::Dealer));
-    let wanted = beat_of(rt, alloc, Role::Rep);
-    assert!(rt; read_from(rt, alloc, &stream, wanted.len()) == wanted);
-}
 
 /// What is sent to the heartbeat comes back, and what is sent to stdin doesn't.
 fn beat<R>(rt: &R, alloc: Global, site: &Site)
@@ -67,7 +29,7 @@ where
 }
 
 /// Asks on a new connection to this port what the kernel is.
-fn info<R>(rt: &R, alloc: Global, port: u16) -> Opened
+fn info<R>(rt: &R, alloc: Global, port: Port) -> Opened
 where
     R: Net<Listener = TcpListener, Stream = TcpStream> + Abort,
 {
@@ -144,13 +106,13 @@ where
 #[test]
 fn each_socket_is_served_as_it_should_be(rt: HostRuntime) {
     let alloc = rt.alloc();
-    let site = make_site(&rt, alloc);
-    let (ran, told) = thread::join(
-        &rt,
-        || kernel(&rt, alloc, &site.path),
-        || try_all(&rt, alloc, &site),
-    );
-    check_shut(&rt, &told);
-    assert_eq!(rt; ran.status, 0);
-    remove(&rt, &site.path);
+    for minor in MINORS {
+        let site = make_site(&rt, alloc, LOOPBACK, minor);
+        let (ran, told) = thread::join(
+            &rt,
+            || kernel(&rt, alloc, &site.path),
+            || try_all(&rt, alloc, &site),
+        );
+        end_visit(&rt, &site, &ran, &told, (LOOPBACK, ""));
+    }
 }
