@@ -19,7 +19,7 @@ use std::io::{Read, Write};
 /// So often the kernel is asked what it is, until a status with its parent came.
 const ASKS: u32 = 100;
 
-/// So many broadcasts are looked at for each asking, at most, be they refused or not: in all askings more than a kernel keeps.
+/// The most broadcasts that are looked at for each asking, be they refused or not: in all askings more than a kernel keeps.
 const LOOKS: u32 = 64;
 
 /// A conversation with a kernel: a connection to shell, one to iopub that is subscribed to all, and the session.

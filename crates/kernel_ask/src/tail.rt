@@ -63,7 +63,7 @@ fn counted(entries: &[Entry], counter: u64) -> u64
     count + counted_last(entries, open)
 }
 
-/// The begun inputs behind the first so many, the last first. So many counted cells were posted.
+/// The begun inputs behind the first `before`, the last first, where `posted` counted cells were posted.
 fn last_first(
     alloc: Global,
     entries: &[Entry],

@@ -9,10 +9,10 @@ use circular_buffer::HeapCircularBuffer;
 use std::alloc::{AllocError, Global};
 use std::marker::Model;
 
-/// So many broadcasts are kept.
+/// The most broadcasts that are kept.
 pub const KEPT: usize = 4096;
 
-/// So many are given in one read.
+/// The most that are given in one read.
 pub const MOST: usize = 64;
 
 /// The last 4,096 broadcasts, with consecutive numbers. Contracts see the number of the next broadcast, and those that are kept.

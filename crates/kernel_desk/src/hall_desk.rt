@@ -111,7 +111,7 @@ fn read_all<R: Wait>(
 {
     let mut kept: Vec<Broadcast> = Vec::new(alloc);
     let mut place = from;
-    // So many reads give all that is kept at once, behind one that tells of a gap.
+    // The reads that give all that is kept at once, behind one that tells of a gap.
     for _ in 0..KEPT / MOST + 1 {
         let (is_more, next) = read_more(rt, bulletin, &mut kept, place)?;
         place = next;

@@ -5,7 +5,7 @@ use crate::spin::watch;
 use std::sync::atomic::{AtomicBool, Ordering};
 use std::sync::{Condvar, MutexGuard, Wait};
 
-/// So many places there are.
+/// The number of places.
 const PLACES: u64 = 16;
 
 /// Places to wait at, by the numbers of jobs, so that an end wakes few that wait for another.

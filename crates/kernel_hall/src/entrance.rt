@@ -3,7 +3,7 @@ use std::hint::spin_loop;
 use std::sync::atomic::{AtomicU64, Ordering};
 use std::sync::{Mutex, MutexGuard, Wait};
 
-/// So many looks one takes: 50 microseconds on a machine that spins fast, half a millisecond on a slow one, where a slice takes some 50. A thread that
+/// The looks that one takes: 50 microseconds on a machine that spins fast, half a millisecond on a slow one, where a slice takes some 50. A thread that
 /// slept is awake again within that time.
 const LOOKS: u32 = 8192;
 

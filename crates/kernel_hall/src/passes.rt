@@ -6,7 +6,7 @@ use kernel_audit::Pass;
 use std::marker::Model;
 use std::sync::ledger::{Ledger, Share};
 
-/// So many passes a hall gives.
+/// The most passes that a hall gives.
 pub const PASSES: u32 = 65_536;
 
 /// How many passes were given, and the parts of the ledger that none of them has. Contracts see their number.

@@ -2,7 +2,7 @@
 use std::hint::spin_loop;
 use std::sync::Condvar;
 
-/// So many looks one takes before one sleeps: 50 microseconds on a machine that spins fast, half a millisecond on a slow one. To fall asleep and to be
+/// The looks that one takes before one sleeps: 50 microseconds on a machine that spins fast, half a millisecond on a slow one. To fall asleep and to be
 /// woken takes a thread longer than most cells run.
 const LOOKS: u32 = 8192;
 

@@ -8,7 +8,7 @@ use kernel_core::{Begun, Sliced};
 use std::sync::Wait;
 use std::sync::ledger::Ledger;
 
-/// So many steps a slice takes at most.
+/// The most steps that a slice takes.
 pub const SLICE: u64 = 4096;
 
 /// When a gate is passed.

@@ -19,7 +19,7 @@ use std::sync::{Mutex, Wait};
 /// How many octets are read at once, at most.
 const ROOM: usize = 512;
 
-/// So many octets a subscriber may send over its life beside pings, of which nothing is kept once they are answered: each prefix that it may subscribe
+/// The octets that a subscriber may send over its life beside pings, of which nothing is kept once they are answered: each prefix that it may subscribe
 /// to, once to subscribe and once to cancel, by messages or by commands.
 const HEARD: usize = 2_359_296;
 

@@ -17,13 +17,13 @@ use std::sync::{Mutex, Wait};
 use zmtp_peer::{Peer, PeerFault, Role};
 use zmtp_wire::WireFault;
 
-/// So many prefixes a connection may subscribe to over its life: each is kept, and whoever connects may have no key.
+/// The prefixes that a connection may subscribe to over its life: each is kept, and whoever connects may have no key.
 const PREFIXES: u32 = 4096;
 
-/// So many octets those prefixes may have together.
+/// The octets that those prefixes may have together.
 const PREFIX_OCTETS: usize = 1_048_576;
 
-/// So many pings of a connection may not be unanswered at once: the one that makes them so many ends it.
+/// The number of unanswered pings at which a connection ends: the one that makes them so many ends it.
 const UNANSWERED: usize = 64;
 
 /// The peer, and how far it is. Its type keeps that the peer is a publisher's, and stands as some octets from the first of a connection on have it.

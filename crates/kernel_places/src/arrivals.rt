@@ -315,7 +315,7 @@ pub(crate) struct Departures<'a, R: Clock> {
     /// When the message has to be out of which a piece is.
     patience: Patience,
     socket: Socket,
-    /// So many octets had the ping that is answered by what is on its way.
+    /// The octets of the ping that is answered by what is on its way.
     answers: u64,
 }
 

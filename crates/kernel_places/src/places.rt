@@ -4,10 +4,10 @@ use std::alloc::Global;
 use std::net::TcpStream;
 use std::sync::Arc;
 
-/// So many connections are served at once on one socket.
+/// The most connections that are served at once on one socket.
 pub const PLACES: usize = 32;
 
-/// So many places the five sockets have together.
+/// The places that the five sockets have together.
 pub const ALL_PLACES: u64 = 160;
 
 const _: () = prove!(ALL_PLACES == 5 * (PLACES as u64));

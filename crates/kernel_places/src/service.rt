@@ -14,7 +14,7 @@ use std::alloc::{AllocError, Global};
 use std::sync::ledger::{Blank, Ledger};
 use std::sync::{Mutex, Wait};
 
-/// So many sockets take requests or octets to send back; the fifth is that of broadcasts.
+/// The sockets that take requests or octets to send back; the fifth is that of broadcasts.
 const CALLED_SOCKETS: usize = 4;
 
 /// The date of a message before a desk has set one.

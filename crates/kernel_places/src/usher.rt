@@ -20,7 +20,7 @@ const WAIT_MILLISECONDS: u64 = 10;
 pub(crate) struct Row {
     pub first: usize,
     pub count: usize,
-    /// So many milliseconds a ready connection on which no signed message came may be silent before it has to make room.
+    /// The milliseconds for which a ready connection on which no signed message came may be silent before it has to make room.
     pub silence: u64,
 }
 

@@ -23,7 +23,7 @@ fn end_name(end: End) -> &'static str
     }
 }
 
-/// So many cells were undone, and so many redone.
+/// How many cells were undone, and how many redone.
 fn moved(
     alloc: Global,
     op: &str,

@@ -1,7 +1,7 @@
 //! How long a message may take to be written.
 ghost use Rattle.std.specs.Prelude.{◌≡◌, ℕ, ◌+◌, ◌-◌, ◌^◌, ◌<◌, ◌≤◌, min, IsTrue, false, IfSome, IfNone, Some, None};
 
-/// So many milliseconds a message may take to be written, whatever the pieces.
+/// The milliseconds that a message may take to be written, whatever the pieces.
 pub const MESSAGE_MILLISECONDS: u64 = 10_000;
 
 /// By when the message has to be out of which a piece is written, in milliseconds of a clock.

@@ -4,7 +4,7 @@ ghost use Rattle.std.specs.Prelude.{◌≡◌};
 use crate::room::Sight;
 use std::sync::atomic::{AtomicBool, AtomicU64, Ordering};
 
-/// So many milliseconds a connection has at least before it has to make room: who comes with the key shows it sooner.
+/// The milliseconds that a connection has at least before it has to make room: who comes with the key shows it sooner.
 pub const MOMENT: u64 = 200;
 
 /// What is known of the connection at a place, for all who look, without a lock.
@@ -16,7 +16,7 @@ pub struct Presence {
     is_trusted: AtomicBool,
     /// Something went out on it that answers all that came before.
     is_answered: AtomicBool,
-    /// So many octets of what came were answered one by one since this was asked last.
+    /// The octets of what came that were answered one by one since this was asked last.
     answered: AtomicU64,
     /// When it was let in, or when something came on it, in milliseconds of a clock.
     heard: AtomicU64,
@@ -73,7 +73,7 @@ impl Presence {
         self.is_answered.swap(false, Ordering::SeqCst)
     }
 
-    /// So many octets that came on it are answered and no longer kept, as those of a ping.
+    /// Notes octets that came on it, are answered and no longer kept, as those of a ping.
     pub fn answer_octets(&self, count: u64) {
         let _before = self.answered.fetch_add(count, Ordering::SeqCst);
     }

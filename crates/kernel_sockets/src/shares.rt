@@ -6,14 +6,14 @@ ghost use Rattle.kernel_sockets.specs.Shares.{common_of};
 use std::sync::ledger::{Blank, Book, Ledger, Share as Part};
 use std::sync::{Mutex, Wait};
 
-/// So many octets each stranger may bring, whatever others do: enough for a first message, which shows the key.
+/// The octets that each stranger may bring, whatever others do: enough for a first message, which shows the key.
 pub const OWN_OCTETS: u64 = 8_192;
 
-/// So many octets of a stranger are read at once. A whole message of one empty frame has two octets and takes 136 in the lists that it passes through
+/// The most octets of a stranger that are read at once. A whole message of one empty frame has two octets and takes 136 in the lists that it passes through
 /// until it is dropped, so those of one read take 34 KiB.
 pub const READ_OCTETS: usize = 512;
 
-/// So many octets all strangers together may bring beyond their own shares.
+/// The octets that all strangers together may bring beyond their own shares.
 ///
 /// What they hold by it stays below 64 MiB. An octet takes four at most: a frame is gathered in room for twice its octets, its body is a copy, and so is a
 /// prefix that is kept. That is 16 MiB. An own share takes 128 KiB at most, as 1,024 frames of a message that isn't whole: 74 KiB for their list as it

@@ -26,7 +26,7 @@ const MINORS: [u8; 2] = [0, 1];
 /// The octet of a greeting that has the minor version.
 const MINOR: usize = 11;
 
-/// So many broadcasts can't be opened: those that are looked at for 100 askings, and some more.
+/// The broadcasts that can't be opened: those that are looked at for 100 askings, and some more.
 const NOISES: u32 = 6_500;
 
 /// Gives its octets, in pieces of two sizes, and each time before that no octet comes in time.

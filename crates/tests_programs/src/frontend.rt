@@ -16,7 +16,7 @@ pub(crate) const KEY: &str = "the key of the tests";
 /// So long a read waits.
 const PATIENCE_MILLISECONDS: u64 = 5;
 
-/// So many reads wait for what has to come.
+/// The reads that wait for what has to come.
 const READS: u32 = 4_000;
 
 /// The octet of a greeting that has the minor version.

@@ -11,7 +11,7 @@ use std::rt::Files;
 use std::thread;
 use std::time::Clock;
 
-/// So many times an interrupt is asked for, at most.
+/// How often an interrupt is asked for at most.
 const ASKINGS: u32 = 1_000;
 
 /// Asks for interrupts, one after the reply to the other, until the cell on shell is answered.

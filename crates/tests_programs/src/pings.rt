@@ -24,7 +24,7 @@ const IDLE: &[u8] = b"\"idle\"}";
 
 const FEW: u32 = 2;
 
-/// So many pings have more octets together than a stranger may bring for itself. They end no connection, since each of them was answered.
+/// Pings that have more octets together than a stranger may bring for itself. They end no connection, since each of them was answered.
 const MANY: u32 = 1_000;
 
 /// What comes back for a ping.
@@ -66,7 +66,7 @@ where
     check_back(rt, alloc, &stream, LATER_PING, LATER_PONG);
 }
 
-/// So many pings on the heartbeat, which goes on behind them.
+/// The pings on the heartbeat, which goes on behind them.
 fn ping_often<R>(rt: &R, alloc: Global, port: Port, times: u32)
 where
     R: Net<Listener = TcpListener, Stream = TcpStream> + Abort,

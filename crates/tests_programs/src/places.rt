@@ -10,13 +10,13 @@ use std::thread;
 use std::time::Clock;
 use zmtp_peer::Role;
 
-/// So many connections a socket serves at once.
+/// The connections that a socket serves at once.
 const PLACES: usize = 32;
 
-/// So many reads wait for what doesn't come, longer than a stranger has before it makes room.
+/// The reads that wait for what doesn't come, longer than a stranger has before it makes room.
 const SILENT_READS: u32 = 100;
 
-/// So many reads wait for what comes soon, much shorter than a handshake may take.
+/// The reads that wait for what comes soon, much shorter than a handshake may take.
 const SOON: u32 = 400;
 
 /// Opens as many connections as a socket serves at once, each of which it is ready on.

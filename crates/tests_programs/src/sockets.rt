@@ -11,7 +11,7 @@ use std::process::Abort;
 use std::thread;
 use std::time::Clock;
 
-/// So many reads wait for what doesn't come.
+/// The reads that wait for what doesn't come.
 const SILENT_READS: u32 = 10;
 
 /// What is sent to the heartbeat comes back, and what is sent to stdin doesn't.

@@ -10,7 +10,7 @@ use zmtp_peer::Role;
 /// So long a read waits.
 const PATIENCE_SECONDS: u64 = 5;
 
-/// So many reads wait for what has to come.
+/// The reads that wait for what has to come.
 const READS: u32 = 1_000;
 
 /// The next octets of a stream, so many.

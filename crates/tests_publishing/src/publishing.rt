@@ -156,7 +156,7 @@ fn a_subscriber_has_4096_prefixes_at_most(rt: HostRuntime) {
     }
 }
 
-/// So many pings, each with another context.
+/// A number of pings, each with another context.
 fn more_pings(rt: &impl Abort, alloc: Global, times: u8) -> Vec<u8> {
     let mut octets = Vec::new(alloc);
     for number in 0..times {
@@ -183,7 +183,7 @@ fn pongs(rt: &impl Abort, alloc: Global, times: u8) -> Vec<u8> {
     octets
 }
 
-/// So many pings that wait are answered in their order, each once with its context; those of 3.0 are passed over.
+/// Pings that wait are answered in their order, each once with its context; those of 3.0 are passed over.
 fn answer_pings<R: Wait + Abort>(rt: &R, alloc: Global, minor: u8, times: u8) {
     let bulletin = Bulletin::new(alloc).expect(rt, "a bulletin");
     let (shared, ended) = heard(rt, alloc, &bulletin, &pings(rt, alloc, minor, times));
@@ -192,7 +192,7 @@ fn answer_pings<R: Wait + Abort>(rt: &R, alloc: Global, minor: u8, times: u8) {
     assert!(rt; spoken(rt, alloc, &bulletin, &shared) == pongs(rt, alloc, answered));
 }
 
-/// So many pings are answered, and as many more that come behind these answers: what was answered waits no longer.
+/// Pings are answered, and as many more that come behind these answers: what was answered waits no longer.
 fn answer_again<R: Wait + Abort>(rt: &R, alloc: Global, times: u8) {
     let bulletin = Bulletin::new(alloc).expect(rt, "a bulletin");
     let (shared, ended) = heard(rt, alloc, &bulletin, &pings(rt, alloc, 1, times));

@@ -8,7 +8,7 @@ use std::sync::atomic::{AtomicBool, AtomicU64, Ordering};
 use std::thread;
 use std::thread::Threads;
 
-/// So many jobs are begun while others ring.
+/// The jobs that are begun while others ring.
 const JOBS: u64 = 100;
 
 /// No thread takes more turns than these.

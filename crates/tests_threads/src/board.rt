@@ -7,10 +7,10 @@ use std::sync::atomic::{AtomicU64, Ordering};
 use std::thread;
 use std::thread::Threads;
 
-/// So many broadcasts are published while readers follow.
+/// The broadcasts that are published while readers follow.
 const PUBLISHED: u64 = 20_000;
 
-/// So many threads read.
+/// The threads that read.
 const READERS: usize = 3;
 
 /// No reader takes more turns than these.

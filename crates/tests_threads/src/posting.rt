@@ -13,10 +13,10 @@ use std::sync::{Mutex, Wait};
 use std::thread;
 use std::thread::Threads;
 
-/// So many threads post.
+/// The threads that post.
 const POSTERS: u32 = 32;
 
-/// So many jobs each of them posts.
+/// The jobs that each of them posts.
 const EACH: u32 = 20;
 
 /// A gate that holds nobody.

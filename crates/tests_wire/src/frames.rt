@@ -69,7 +69,7 @@ fn first_frame(alloc: Global, octets: &[u8]) -> Result<Option<Frame>, WireFault>
     decoder.next()
 }
 
-/// So many bodies of this length.
+/// A number of bodies of this length.
 fn same_bodies(alloc: Global, count: usize, length: usize) -> Result<Vec<Vec<u8>>, AllocError> {
     let mut bodies = Vec::new(alloc);
     for _ in 0..count {
