@@ -1,4 +1,5 @@
-//! The server of a kernel: the desks behind its connections, and the texts that stamp what it sends.
+//! The lone kernel: a kernel in which nobody else has a part, as the desk of one connection. What comes of it is determined, so recorded
+//! sessions are replayed on it.
 //!
 //! A connection is [`serve`], over any desk. [`LoneDesk`] is a kernel in which nobody else has a part, with the slices that its jobs are
 //! to be given. To the layer above it promises that each call answers what such a kernel answers (specs/Lone.antt): a job is posted and
