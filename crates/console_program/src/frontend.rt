@@ -120,7 +120,7 @@ impl<R: Read + Drop, W: Write + Drop> Frontend<R, W> {
     }
 
     /// Whether a broadcast, as it came, is a status that answers this session.
-    fn is_own_status(&self, frames: Vec<Vec<u8>>) -> Result<bool, ConsoleFault> {
+    fn tells_own_status(&self, frames: Vec<Vec<u8>>) -> Result<bool, ConsoleFault> {
         match opened(self.alloc, frames, &self.key)? {
             Some(broadcast) => self.has_own_status(&broadcast),
             None => Ok(false),
@@ -133,7 +133,7 @@ impl<R: Read + Drop, W: Write + Drop> Frontend<R, W> {
             let Some(frames) = self.iopub.next()? else {
                 return Ok(false);
             };
-            if self.is_own_status(frames)? {
+            if self.tells_own_status(frames)? {
                 return Ok(true);
             }
         }
@@ -141,7 +141,7 @@ impl<R: Read + Drop, W: Write + Drop> Frontend<R, W> {
     }
 
     /// Asks what the kernel is, and answers whether a status with its parent came.
-    fn is_greeted(&mut self) -> Result<bool, ConsoleFault> {
+    fn try_greeting(&mut self) -> Result<bool, ConsoleFault> {
         self.ask(kernel_info_draft(self.alloc))?;
         self.hears_status()
     }
@@ -149,7 +149,7 @@ impl<R: Read + Drop, W: Write + Drop> Frontend<R, W> {
     /// Asks what the kernel is, until a status with its parent came: then all later broadcasts come too.
     pub fn greet(&mut self) -> Result<(), ConsoleFault> {
         for _ in 0..ASKS {
-            if self.is_greeted()? {
+            if self.try_greeting()? {
                 return Ok(());
             }
         }
