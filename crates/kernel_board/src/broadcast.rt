@@ -1,13 +1,18 @@
 //! What the board keeps.
-ghost use Rattle.std.specs.Prelude.{◌≡◌, IfOk, IfSome, IfNone, map};
+ghost use Rattle.std.specs.Prelude.{◌≡◌, ◌≢◌, IfErr, IfOk, IfSome, IfNone, OnErr, OnOk, map};
+ghost use Rattle.std.specs.Io.KnownBytes.{Appends};
+ghost use Rattle.exact_write.specs.Sent.{SentSome};
 ghost use Rattle.zmtp_wire.specs.Message.{message_octets, IsWithinLimits};
 ghost use Rattle.kernel_board.specs.Frames.{topic_of};
 
 use crate::content::Content;
 use crate::packing::pack;
+use exact_write::send;
 use std::alloc::{AllocError, Global};
+use std::io::Write;
 use std::marker::Model;
 use std::sync::Arc;
+use zmtp_wire::SendFault;
 
 /// One message as a publish socket sends it: its frames, the first of which is the topic. Contracts see it as the octets of its frames. Its
 /// octets on the wire are made once, as it is made, and a clone is the same broadcast and shares them.
@@ -49,6 +54,26 @@ impl Broadcast {
         match &*self.content {
             Content::Written(message) => Some(message.octets.as_slice()),
             Content::TooLong(_) => None,
+        }
+    }
+
+    /// Writes the message from where its octets lie: all of them, or a beginning.
+    ///
+    /// # Errors
+    ///
+    /// `TooLong` where it passes a limit of the wire, and nothing goes out; `Write` where the writer failed, and a beginning went out. No memory is taken.
+    pub fn send<W: Write>(&self, writer: &mut W) -> Result<(), SendFault>
+        ensures ok { OnOk result (Appends (W.contents writer.old) (W.contents writer.new) (message_octets self.now)) }
+        ensures err { OnErr result (SentSome (W.contents writer.old) (W.contents writer.new) (message_octets self.now)) }
+        ensures too_long { IfErr result (λ fault. fault ≡ SendFault.TooLong → ¬ (IsWithinLimits self.now)) }
+        ensures no_memory { IfErr result (λ fault. fault ≢ SendFault.Memory) }
+    {
+        let Some(octets) = self.octets() else {
+            return Err(SendFault::TooLong);
+        };
+        match send(writer, octets) {
+            Ok(()) => Ok(()),
+            Err(_) => Err(SendFault::Write),
         }
     }
 

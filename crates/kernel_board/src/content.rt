@@ -1,8 +1,8 @@
 //! What is kept of a broadcast.
 ghost use Rattle.std.specs.Prelude.{◌≡◌};
-ghost use Rattle.zmtp_wire.specs.Message.{bodies_of, IsWithinLimits};
+ghost use Rattle.zmtp_wire.specs.Message.{bodies_of, IsMessage, IsWithinLimits};
+ghost use Rattle.zmtp_wire.proofs.OneMessage.{IsMessage-prop};
 ghost use Rattle.kernel_board.specs.Frames.{topic_of};
-ghost use Rattle.kernel_board.specs.Octets.{IsMessage, IsMessage-prop};
 
 /// A message as the wire has it. Its octets tell its frames, so these are kept as octets alone.
 #[derive(Drop)]

@@ -62,7 +62,7 @@ pub refused-after : (terms : Terms) (fault : Fault) (fs : List Frame) → after 
 refused-after terms fault [] = refl
 refused-after terms fault (f ∷ fs) = refused-after terms fault fs
 
-refused-told : (terms : Terms) (fault : Fault) (fs : List Frame) → told terms (Refused fault) fs ≡ []
+pub refused-told : (terms : Terms) (fault : Fault) (fs : List Frame) → told terms (Refused fault) fs ≡ []
 refused-told terms fault [] = refl
 refused-told terms fault (f ∷ fs) = refused-told terms fault fs
 

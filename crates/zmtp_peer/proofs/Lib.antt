@@ -15,3 +15,4 @@ pub mod FedMessages
 pub mod SubscribingLemmas
 pub mod AskedLemmas
 pub mod PingLemmas
+pub mod ReadyLemmas

@@ -57,6 +57,10 @@ FoldsGoOn =
 abbrev pub PartnersAreReady : Type 0
 PartnersAreReady = (role other : Role) → is_partner role (socket_type_of other) ≡ true → PeerReads role (opening_of other) (Ready ∷ []) Awaiting
 
+-- nothing is told before READY: the first event of a connection is Ready
+abbrev pub ReadyComesFirst : Type 0
+ReadyComesFirst = (s : Standing) (fed : List ℕ) (given : List Event) → Stands fed given s → (given ≡ []) ⊎ ((later : List Event) × (given ≡ Ready ∷ later))
+
 -- a peer that was told Ready, and stands between two messages
 pub record IsBetweenMessages (s : Standing) : Type 0 where
   pub ready : s.state ≡ Open []

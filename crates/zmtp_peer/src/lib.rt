@@ -10,7 +10,7 @@
 //! their limits are those of `zmtp_wire`.
 #![tactic(auto)]
 
-ghost use Rattle.zmtp_peer.specs.Laws.{OctetsAreRead, OctetsHaveOneReading, RefusalsStay, NoCutMatters, FoldsGoOn, PartnersAreReady};
+ghost use Rattle.zmtp_peer.specs.Laws.{OctetsAreRead, OctetsHaveOneReading, RefusalsStay, NoCutMatters, FoldsGoOn, PartnersAreReady, ReadyComesFirst};
 ghost use Rattle.zmtp_peer.specs.Laws.{MessagesAreTold, FedMessagesAreTold, SubscriptionsAreTold, PingsAreTold, BadPingsAreRefused, OldPingsArePassedOver};
 
 mod brought;
@@ -64,6 +64,11 @@ pub fn folds_go_on_law()
 /// Law: a role that is fed the opening of a partner is told that it is ready.
 pub fn partners_are_ready_law()
     ensures { PartnersAreReady }
+{}
+
+/// Law: nothing is told before READY, so no message, subscription or ping.
+pub fn ready_comes_first_law()
+    ensures { ReadyComesFirst }
 {}
 
 /// Law: a peer that is ready, stands between two messages and is no publisher is told each message that `zmtp_wire::write_message`

@@ -7,3 +7,4 @@ pub mod Readings
 pub mod Decodings
 pub mod Messages
 pub mod Pongs
+pub mod OneMessage

@@ -4,7 +4,7 @@ use Rattle.zmtp_wire.specs.declared.fault.WireFault.{WireFault}
 use Rattle.zmtp_wire.specs.Frame.{Frame, IsFrame, header_of}
 use Rattle.zmtp_wire.specs.Tally.{Fits, counted}
 use Rattle.zmtp_wire.specs.Pong.{pong, pong_octets, context_limit}
-use Rattle.zmtp_wire.specs.Message.{message_frames, message_octets, IsWithinLimits}
+use Rattle.zmtp_wire.specs.Message.{message_frames, message_octets, IsWithinLimits, Spells}
 use Rattle.zmtp_wire.specs.Stream.{Rest, whole, Takes, Leaves, End, Faulty, EndsIn, ReadsFrom, Reads}
 
 -- each list of octets has a reading
@@ -39,6 +39,10 @@ abbrev pub MessagesAreReadBack : Type 0
 MessagesAreReadBack =
     (bodies : List (List ℕ)) (more : List ℕ) → 0 < length bodies → IsWithinLimits bodies
     → Leaves (whole (message_octets bodies ++ more)) (message_frames bodies) (whole more)
+
+-- octets are those of one message alone: they tell its bodies
+abbrev pub OctetsTellOneMessage : Type 0
+OctetsTellOneMessage = (octets : List ℕ) (a b : List (List ℕ)) → Spells octets a → Spells octets b → a ≡ b
 
 -- a pong, as it is written, is read as that frame, between messages and within one, and what follows as if it stood alone
 abbrev pub PongsAreReadBack : Type 0

@@ -1,5 +1,5 @@
 -- Messages (RFC 23, "Formal Grammar": message): one frame or more, each but the last with MORE.
-use Rattle.std.specs.Prelude.{ℕ, ◌≤◌, true, false, List, [], ◌∷◌, length, map, sum_by}
+use Rattle.std.specs.Prelude.{◌≡◌, ℕ, ◌≤◌, true, false, List, [], ◌∷◌, length, map, sum_by}
 use Rattle.std.specs.List.{flat_map}
 use Rattle.std.specs.Global.{Vec}
 use Rattle.zmtp_wire.specs.declared.fault.WireFault.{WireFault}
@@ -25,6 +25,15 @@ message_octets bodies = flat_map written (message_frames bodies)
 pub record IsWithinLimits (bodies : List (List ℕ)) : Type 0 where
   pub octets : sum_by length bodies ≤ octet_limit
   pub frames : length bodies ≤ frame_limit
+
+-- these are the octets of the message with these bodies, which is within the limits
+pub record Spells (octets : List ℕ) (bodies : List (List ℕ)) : Type 0 where
+  pub within : IsWithinLimits bodies
+  pub spelled : octets ≡ message_octets bodies
+
+-- these are the octets of some message
+abbrev pub IsMessage : List ℕ → Type 0
+IsMessage octets = (bodies : List (List ℕ)) × Spells octets bodies
 
 -- Why a message isn't written: it passes a limit, or it passes none, and there was no memory.
 abbrev pub IsMessageFault : List (List ℕ) → WireFault → Type 0

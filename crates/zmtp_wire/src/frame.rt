@@ -4,6 +4,7 @@ ghost use Rattle.zmtp_wire.specs.Header.{header_octets};
 
 use crate::fault::WireFault;
 use crate::header::Header;
+use crate::pong::PONG;
 use crate::tally::OCTET_LIMIT;
 use std::alloc::{AllocError, Global};
 
@@ -30,7 +31,7 @@ impl Frame {
     pub fn pong(alloc: Global, context: &[u8]) -> Result<Frame, AllocError>
         ensures { IfOk result (λ frame. frame_of frame ≡ pong context.now) }
     {
-        let mut body = Vec::from_slice(alloc, b"\x04PONG")?;
+        let mut body = Vec::from_slice(alloc, PONG)?;
         body.extend_from_slice(context)?;
         Ok(Frame {
             more: false,

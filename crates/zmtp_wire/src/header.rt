@@ -13,7 +13,7 @@ const MORE: u8 = 1;
 const LONG: u8 = 2;
 
 /// The flag of a command.
-const COMMAND: u8 = 4;
+pub(crate) const COMMAND: u8 = 4;
 
 /// The largest size that the short form holds.
 const SHORT_SIZE: u64 = 255;

@@ -3,13 +3,13 @@
 //! To the layer above this crate promises that the frames which a `Decoder` gives are those of the whole list of octets
 //! fed to it, whatever the cut; that it tells the fault of that list where there is one, and for good; and that what
 //! `Greeting::write`, `Frame::write` and `write_message` give is read again, whatever follows. `send_message` writes a message to
-//! any writer, or a beginning of it, and `send_pong` the answer to a ping.
+//! any writer, or a beginning of it, and `send_pong` the answer to a ping; `pong_context` tells such an answer by its octets.
 //!
 //! The definitions, in specs/, are those of RFC 23 (ZMTP 3.0), "Formal Grammar" (greeting, command, message), with the
 //! mechanism NULL and with this project's limits on the size of a message, and of RFC 37 (ZMTP 3.1): the minor version, and PONG.
 #![tactic(auto)]
 
-ghost use Rattle.zmtp_wire.specs.Laws.{EveryStreamIsRead, StreamsHaveOneReading, ReadingsGoOn, FaultsStay, FramesAreReadBack, MessagesAreReadBack, PongsAreReadBack, NoCutMatters, CutsAgree};
+ghost use Rattle.zmtp_wire.specs.Laws.{EveryStreamIsRead, StreamsHaveOneReading, ReadingsGoOn, FaultsStay, FramesAreReadBack, MessagesAreReadBack, PongsAreReadBack, OctetsTellOneMessage, NoCutMatters, CutsAgree};
 
 mod decoder;
 mod fault;
@@ -17,6 +17,7 @@ mod frame;
 mod greeting;
 mod header;
 mod message;
+mod pong;
 mod sending;
 mod tally;
 
@@ -24,7 +25,8 @@ pub use decoder::Decoder;
 pub use fault::WireFault;
 pub use frame::Frame;
 pub use greeting::{GREETING_LENGTH, Greeting, MAJOR, MINOR};
-pub use message::{is_within_limits, write_message};
+pub use message::{octets_of_message, write_message};
+pub use pong::{PING_OCTETS, pong_context};
 pub use sending::{SendFault, send_message, send_pong};
 
 /// Law: each list of octets has a reading.
@@ -56,6 +58,11 @@ pub fn frames_are_read_back_law()
 /// alone.
 pub fn messages_are_read_back_law()
     ensures { MessagesAreReadBack }
+{}
+
+/// Law: the octets of a message that keeps the limits are those of no other one.
+pub fn octets_tell_one_message_law()
+    ensures { OctetsTellOneMessage }
 {}
 
 /// Law: the octets of a pong are read as that frame, also within a message, and what follows as if it stood alone.

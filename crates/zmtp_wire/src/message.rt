@@ -1,7 +1,6 @@
 //! Messages (RFC 23, "Formal Grammar": message).
-ghost use Rattle.std.specs.Prelude.{◌≡◌, ◌≤◌, ◌<◌, ◌++◌, length, sum_by, take, IfErr, IfNone, IfSome, OnErr, OnOk};
+ghost use Rattle.std.specs.Prelude.{◌≡◌, ◌≤◌, ◌<◌, ◌++◌, length, sum_by, take, IfErr, IfNone, IfOk, IfSome, OnErr, OnOk};
 ghost use Rattle.std.specs.Prelude.{false};
-ghost use Rattle.std.specs.Bool.{OnTrue, OnFalse};
 ghost use Rattle.zmtp_wire.specs.Frame.{written};
 ghost use Rattle.zmtp_wire.specs.Message.{bodies_of, message_octets, IsWithinLimits, IsMessageFault};
 
@@ -9,7 +8,7 @@ use crate::fault::WireFault;
 use crate::frame::push_frame;
 use crate::header::Header;
 use crate::tally::{FRAME_LIMIT, OCTET_LIMIT};
-use std::alloc::AllocError;
+use std::alloc::{AllocError, Global};
 
 /// The octets that a frame's header has at most.
 const HEADER_LENGTH: usize = 9;
@@ -40,13 +39,23 @@ pub fn write_message(octets: &mut Vec<u8>, bodies: &[Vec<u8>]) -> Result<(), Wir
     }
 }
 
-/// Whether a message with these bodies passes no limit: at most 1,024 bodies, and at most 16,777,216 octets in all of them. Such a
-/// message is taken by each reader, and no other.
-pub fn is_within_limits(bodies: &[Vec<u8>]) -> bool
-    ensures within { OnTrue result (IsWithinLimits (bodies_of bodies.now)) }
-    ensures past { OnFalse result (¬ (IsWithinLimits (bodies_of bodies.now))) }
+/// The octets of a message with these bodies; none where there is no body.
+///
+/// # Errors
+/// `TooLong` for a message that passes a limit, as [`write_message`] has it, and `Memory` for other messages alone.
+pub fn octets_of_message(alloc: Global, bodies: &[Vec<u8>]) -> Result<Vec<u8>, WireFault>
+    ensures octets { IfOk result (λ octets. octets.items ≡ message_octets (bodies_of bodies.now)) }
+    ensures within { OnOk result (IsWithinLimits (bodies_of bodies.now)) }
+    ensures fault { IfErr result (IsMessageFault (bodies_of bodies.now)) }
 {
-    size_within(bodies).is_some()
+    let mut octets = Vec::new(alloc);
+    if bodies.is_empty() {
+        return Ok(octets);
+    }
+    match write_message(&mut octets, bodies) {
+        Ok(()) => Ok(octets),
+        Err(fault) => Err(fault),
+    }
 }
 
 /// How many octets all bodies of a message have; none where it passes a limit.

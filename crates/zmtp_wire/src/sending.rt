@@ -8,7 +8,7 @@ ghost use Rattle.zmtp_wire.specs.Tally.{octet_limit};
 
 use crate::fault::WireFault;
 use crate::frame::Frame;
-use crate::message::write_message;
+use crate::message::octets_of_message;
 use exact_write::send;
 use std::alloc::Global;
 use std::io::Write;
@@ -28,19 +28,13 @@ pub enum SendFault {
     Write,
 }
 
-/// The octets of a message of these bodies; none where there is no body.
-fn octets_of(alloc: Global, bodies: &[Vec<u8>]) -> Result<Vec<u8>, SendFault>
-    ensures ok { IfOk result (λ octets. octets.items ≡ message_octets (bodies_of bodies.now)) }
-    ensures too_long { IfErr result (λ fault. fault ≡ SendFault.TooLong → ¬ (IsWithinLimits (bodies_of bodies.now))) }
+/// Why octets that could not be made don't go out.
+fn unmade(fault: WireFault) -> SendFault
+    ensures { result ≡ SendFault.TooLong → fault ≡ WireFault.TooLong }
 {
-    let mut octets = Vec::new(alloc);
-    if bodies.is_empty() {
-        return Ok(octets);
-    }
-    match write_message(&mut octets, bodies) {
-        Ok(()) => Ok(octets),
-        Err(WireFault::TooLong) => Err(SendFault::TooLong),
-        Err(_) => Err(SendFault::Memory),
+    match fault {
+        WireFault::TooLong => SendFault::TooLong,
+        _ => SendFault::Memory,
     }
 }
 
@@ -57,7 +51,10 @@ pub fn send_message<W: Write>(
     ensures err { OnErr result (SentSome (W.contents writer.old) (W.contents writer.new) (message_octets (bodies_of bodies.now))) }
     ensures too_long { IfErr result (λ fault. fault ≡ SendFault.TooLong → ¬ (IsWithinLimits (bodies_of bodies.now))) }
 {
-    let octets = octets_of(alloc, bodies)?;
+    let octets = match octets_of_message(alloc, bodies) {
+        Ok(octets) => octets,
+        Err(fault) => return Err(unmade(fault)),
+    };
     match send(writer, &octets) {
         Ok(()) => Ok(()),
         Err(_) => Err(SendFault::Write),
@@ -75,8 +72,7 @@ fn pong_of(alloc: Global, context: &[u8]) -> Result<Vec<u8>, SendFault>
     };
     match pong.write(alloc) {
         Ok(octets) => Ok(octets),
-        Err(WireFault::TooLong) => Err(SendFault::TooLong),
-        Err(_) => Err(SendFault::Memory),
+        Err(fault) => Err(unmade(fault)),
     }
 }
 

@@ -1,7 +1,7 @@
 use Rattle.std.proofs.Common.{◌≡◌, List, ℕ, ap, ◌∙◌, subst}
 use Rattle.std.specs.Global.{Vec}
-use Rattle.zmtp_wire.specs.Message.{bodies_of, message_octets, IsWithinLimits}
-use Rattle.kernel_board.specs.Octets.{Spells, IsMessage, IsMessage-prop}
+use Rattle.zmtp_wire.specs.Message.{bodies_of, message_octets, IsWithinLimits, Spells, IsMessage}
+use Rattle.zmtp_wire.proofs.OneMessage.{IsMessage-prop}
 use Rattle.kernel_board.proofs.packing.pack.Goals as goal
 
 spells_all : (octets : List ℕ) (frames slice : List (Vec ℕ)) → slice ≡ frames → octets ≡ message_octets (bodies_of slice) → IsWithinLimits (bodies_of slice)
