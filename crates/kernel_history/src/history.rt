@@ -1,5 +1,5 @@
 //! The history: the tree of cells, the one store, and the open job. It is what a kernel has besides its queue.
-ghost use Rattle.std.specs.Prelude.{◌≡◌, ℕ, List, IfOk, IfErr, OnOk, OnErr, length, nat_lt};
+ghost use Rattle.std.specs.Prelude.{◌≡◌, ℕ, List, IfOk, IfErr, IfSome, IfNone, OnOk, OnErr, length, nat_lt};
 ghost use Rattle.kernel_machine.specs.State.{State, Idle, Border, here, is_full, Shown, new_state};
 ghost use Rattle.kernel_history.specs.Fields.{past_of, nodes_of, state_of, IsStageOf};
 ghost use Rattle.kernel_machine.specs.declared.travel.Aim.TheVariants.{Undo, Redo};
@@ -14,6 +14,8 @@ ghost use Rattle.kernel_machine.specs.Text.{Accepts, Refuses};
 ghost use Rattle.kernel_runner.specs.Program.{cell_of_program, IsReady, KeepsOlder};
 ghost use Rattle.kernel_runner.specs.Runner.{ShownWorld, over, Becomes, Shows};
 ghost use Rattle.kernel_machine.specs.Extent.{IsExtent};
+ghost use Rattle.janus_syntax.specs.Tree.{cell_view};
+ghost use Rattle.kernel_history.specs.NodeTrees.{IsTreeAt, HasNoTree};
 ghost use Rattle.kernel_history.specs.Kept.{HasPath, NodesAreReady, AreInOrder, shown_here, Kept, IsKept, StandsAt};
 
 use crate::defined::procedures_here;
@@ -24,6 +26,7 @@ use crate::tree::{Tree, below, can_go_down, can_go_up, find_way, is_full};
 use crate::view::View;
 use cell_tree::Tree as Cells;
 use janus_machine::{Store, Writes};
+use janus_syntax::tree::Cell;
 use kernel_machine::{Aim, Begun, End, Extent, Outcome, Refusal, Sliced, Travel, Turn, Way, Why};
 use kernel_runner::{Program, Runner};
 use std::alloc::{AllocError, Global};
@@ -177,6 +180,17 @@ impl<L: Ledger> History<L> {
         ensures { result ≡ self.now.past.position }
     {
         self.tree.position
+    }
+
+    /// The cell of a node, as it was read from its text and checked; none of the root, or where there is no such node.
+    pub fn cell(&self, node: usize) -> Option<&Cell>
+        ensures some { IfSome result (λ cell. IsTreeAt self.now.past node (cell_view cell.now)) }
+        ensures none { IfNone result (HasNoTree self.now.past node) }
+    {
+        if node == 0 || !self.tree.cells.has(node) {
+            return None;
+        }
+        Some(self.tree.cells.content(node).program.cell())
     }
 
     /// How far an undo and a redo can go, and how many nodes there are.

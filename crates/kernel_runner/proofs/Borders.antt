@@ -88,6 +88,7 @@ ready_still : {L : Type 0} (old new : Runner L) (program : Program) → Becomes 
 ready_still old new program becomes kept h =
     let more = ready_grows old.store.names new.store.names becomes.names old.procedures program h in
     record {
+      meant = more.meant;
       numbered = more.numbered;
       within = subst (λ bodies. program.first + length (procedures_of program) ≤ length bodies) (sym kept) more.within;
       bodies = bodies_from_same new.store.names (kept_in old.procedures) (kept_in new.procedures) program.first (procedures_of program) kept more.bodies;

@@ -24,7 +24,7 @@ use Rattle.janus_machine.specs.declared.procedure.Procedure.{Procedure}
 use Rattle.janus_machine.specs.declared.procedures.Procedures.{Procedures}
 use Rattle.kernel_runner.specs.Known.{FindTheSame}
 use Rattle.kernel_runner.specs.Met.{AreDeclaredMet, MeetOwn, AreProceduresMet}
-use Rattle.kernel_runner.specs.Program.{procedures_of, IsReady}
+use Rattle.kernel_runner.specs.Program.{cell_of_program, tree_of, procedures_of, IsReady}
 use Rattle.kernel_runner.specs.Runner.{ShownWorld, Shows, IsCheckedOver}
 use Rattle.kernel_runner.specs.declared.program.Program.{Program}
 use Rattle.kernel_runner.specs.declared.runner.Runner.{Runner}
@@ -107,11 +107,12 @@ viewed_count [] = refl
 viewed_count (y ∷ ys) = ap suc (viewed_count ys)
 
 -- a program is ready whose code has its numbers, and whose bodies are kept behind the others
-pub ready_made : (xs ys : List Name) (old new : Procedures) (program : Program) (defs : List Defined.Procedure) → ys ≡ xs → BookHasNumbers ys program.book → program.first ≡ length (kept_in old) → map plain_procedure (procedures_view defs) ≡ procedures_of program →
+pub ready_made : (xs ys : List Name) (old new : Procedures) (program : Program) (defs : List Defined.Procedure) → cell_of_program program ≡ plain_cell (tree_of program) → ys ≡ xs → BookHasNumbers ys program.book → program.first ≡ length (kept_in old) → map plain_procedure (procedures_view defs) ≡ procedures_of program →
     AreBodiesFrom ys (kept_in new) (length (kept_in old)) (map plain_procedure (procedures_view defs)) → length (kept_in new) ≡ length (kept_in old) + length defs → IsReady xs new program
-ready_made xs ys old new program defs names numbered first same bodies count =
+ready_made xs ys old new program defs meant names numbered first same bodies count =
     let several : length (procedures_of program) ≡ length defs = ap (λ (ps : List Proc). length ps) (sym same) ∙ viewed_count defs in
     record {
+      meant = meant;
       numbered = subst (λ (xs : List Name). BookHasNumbers xs program.book) names numbered;
       within = omega (arith, several, first, count);
       bodies = subst (λ (xs : List Name). AreBodiesFrom xs (kept_in new) program.first (procedures_of program)) names

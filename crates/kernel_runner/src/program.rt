@@ -2,7 +2,7 @@
 ghost use Rattle.std.specs.Prelude.{◌≡◌, ◌+◌, ◌≤◌, [], ℕ, List, IfOk, IfErr, OnOk, OnErr, length, map};
 ghost use Rattle.janus_meaning.specs.Limit.{parameter_limit};
 ghost use Rattle.janus_meaning.specs.Shape.{AreDistinct, shape_of};
-ghost use Rattle.janus_syntax.specs.Tree.{declaration_view, declarations_view, procedure_view, procedures_view};
+ghost use Rattle.janus_syntax.specs.Tree.{cell_view, declaration_view, declarations_view, procedure_view, procedures_view};
 ghost use Rattle.janus_syntax.specs.View.{plain_declaration, plain_procedure, plain_cell};
 ghost use Rattle.janus_invert.specs.Met.{MeetsProc};
 ghost use Rattle.janus_store.specs.Held.{IsWhole, KeepsSight, shown_store};
@@ -15,7 +15,8 @@ ghost use Rattle.janus_meaning.specs.FormedWorld.{HaveValues};
 ghost use Rattle.kernel_machine.specs.Language.{IsSound};
 ghost use Rattle.kernel_runner.specs.Met.{AreProceduresMet};
 ghost use Rattle.kernel_machine.specs.Text.{Accepts, Refuses, refused_by_syntax, refused_by_check};
-ghost use Rattle.kernel_runner.specs.Program.{cell_of_program, declaration_of, procedures_of, IsReady, IsKeptBehind, AreBodiesBehind, KeepsOlder, KeepsDefined};
+ghost use Rattle.kernel_runner.specs.Program.{cell_of_program, declaration_of, tree_of, procedures_of, IsReady, IsKeptBehind, AreBodiesBehind};
+ghost use Rattle.kernel_runner.specs.Program.{KeepsOlder, KeepsDefined};
 ghost use Rattle.kernel_runner.specs.Defined.{in_a_row};
 ghost use Rattle.kernel_runner.specs.Runner.{ShownWorld, over, Shows, IsCheckedOver, world_of};
 
@@ -27,7 +28,7 @@ use janus_invert::{flatten, flatten_procedure};
 use janus_machine::{Book, Procedures, Store};
 use janus_names::Names;
 use janus_store::View;
-use janus_syntax::tree::{Declaration, Procedure};
+use janus_syntax::tree::{Cell, Declaration, Procedure};
 use janus_syntax::{SyntaxFault, parse_cell};
 use kernel_machine::Refusal;
 use std::alloc::{AllocError, Global};
@@ -129,6 +130,13 @@ impl Program {
             checked,
             first,
         })
+    }
+
+    /// The cell as it was checked.
+    pub fn cell(&self) -> &Cell
+        ensures { cell_view result.now ≡ tree_of self.now }
+    {
+        self.checked.cell()
     }
 
     /// The procedures that it defines.

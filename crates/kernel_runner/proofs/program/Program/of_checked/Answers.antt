@@ -7,7 +7,9 @@ use Rattle.janus_check.specs.Checked.{cell_in}
 use Rattle.janus_invert.specs.Met.{MeetsBlk}
 use Rattle.janus_machine.specs.Bodies.{kept_in, AreBelow}
 use Rattle.kernel_runner.specs.Met.{AreProceduresMet}
-use Rattle.kernel_runner.specs.Program.{declaration_of}
+use Rattle.kernel_runner.specs.Program.{cell_of_program, declaration_of, tree_of}
+use Rattle.kernel_runner.specs.declared.program.Program.{Program}
+use Rattle.kernel_runner.proofs.Entries.{same_cell}
 use Rattle.kernel_runner.proofs.Made.{all_kept, shows_more, bodies_within, cell_met, ready_made, ok_fact}
 use Rattle.kernel_runner.proofs.program.Program.of_checked.Goals as goal
 
@@ -49,7 +51,11 @@ returns-then-is_err-clause-shown g c = λ shown h.
 pub returns-clause-ready : goal.returns-clause-ready
 returns-clause-ready g c =
     let some = sym c.is_err.ensures.value ∙ c.if-is_err.false in
-    ready_made c.meet_cell-met.new.store.names c.names-names.result.now c.args.runner.now.procedures c.keep_all.new.kept _ c.deref-3.result.now c.names-names.ensures.names (c.in_ok-book.ensures.numbered _ c.in-Ok.ensures.numbered)
+    let program : Program = record { declarations = c.in_ok-declarations.declarations; book = c.in_ok-book.book; checked = c.args.checked; first = c.len-first.result } in
+    let meant : cell_of_program program ≡ plain_cell (tree_of program) =
+    same_cell program (cell_in c.args.checked) (c.in_ok-declarations.ensures ∙ ap (λ l. map plain_declaration (declarations_view l)) c.deref.ensures.value ∙ ap (λ (t : tree.Cell). (plain_cell t).declarations) c.cell-cell.ensures)
+    refl (c.in_ok-book.ensures.block ∙ c.in-Ok.ensures.block) in
+    ready_made c.meet_cell-met.new.store.names c.names-names.result.now c.args.runner.now.procedures c.keep_all.new.kept program c.deref-3.result.now meant c.names-names.ensures.names (c.in_ok-book.ensures.numbered _ c.in-Ok.ensures.numbered)
     c.len-first.ensures
     (ap (λ l. map plain_procedure (procedures_view l)) c.deref-3.ensures.value ∙ ap (λ (t : tree.Cell). (plain_cell t).procedures) c.cell-cell.ensures)
     (ok_fact _ c.keep_all.result some c.keep_all.ensures.bodies)
