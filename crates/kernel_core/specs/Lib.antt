@@ -35,8 +35,9 @@ pub use Rattle.kernel_machine.specs.declared.travel
 pub use Rattle.kernel_machine.specs.declared.turn
 pub use Rattle.kernel_machine.specs.contracts.outcome as contracts_of_outcome
 pub use Rattle.kernel_machine.specs.contracts.post as contracts_of_post
--- Procedures that are lent, and the view of the shown world.
+-- Procedures that are lent, and the view of the shown world; and the trees of nodes.
 pub use Rattle.kernel_runner.specs.Defined
+pub use Rattle.kernel_history.specs.NodeTrees
 -- The code's own words: the minutes as it writes them, and how its fields are the machine.
 pub mod Written
 pub mod MachineParts

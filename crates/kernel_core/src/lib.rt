@@ -6,6 +6,7 @@
 //!   tree with the worlds of all its nodes. `slice` and `shut` take no memory.
 //! - `Kernel::world`: the shown world. With no open job it is that of the position, inside a cell that after the counted steps.
 //!   The tree and the open job are legal.
+//! - `Kernel::cell`: the tree of a node's cell, lent.
 //! - `Kernel::minutes`: each post, and how each job ended. They are legal: a fold over them that knows nothing of slices gives the
 //!   tree, the position, the favourites and the counter, save what the open job has done.
 //! - `run_events`: the answers and the state after any list of events are a run of the machine from the state before.

@@ -5,6 +5,8 @@ ghost use Rattle.janus_store.specs.Held.{IsWhole};
 ghost use Rattle.kernel_machine.specs.Request.{request_of, raised as the_raised};
 ghost use Rattle.kernel_machine.specs.Minutes.{posted_in, ended_in};
 ghost use Rattle.kernel_machine.specs.LegalMinutes.{HasLegalMinutes};
+ghost use Rattle.janus_syntax.specs.Tree.{cell_view};
+ghost use Rattle.kernel_history.specs.NodeTrees.{IsTreeAt, HasNoTree};
 ghost use Rattle.kernel_core.specs.Written.{entry_of};
 ghost use Rattle.kernel_machine.specs.StepsOfSlices.{WritesOnSlice};
 ghost use Rattle.kernel_machine.specs.Extent.{IsExtent};
@@ -12,6 +14,7 @@ ghost use Rattle.kernel_machine.specs.Runs.{new_machine, IsReady, IsRefusal, IsP
 
 use crate::minutes::{Entry, MINUTES_LIMIT, Minutes};
 use janus_machine::{Store, Writes};
+use janus_syntax::tree::Cell;
 use kernel_history::{History, Stage, View};
 use kernel_machine::{Begun, Extent, Job, Outcome, Phase, PostFault, Refusal, Sliced};
 use std::alloc::{AllocError, Global};
@@ -215,6 +218,14 @@ impl<L: Ledger> Machine<L> {
         ensures { result ≡ self.now.state.past.position }
     {
         self.history.position()
+    }
+
+    /// The cell of a node, as it was read from its text and checked; none of the root, or where there is no such node.
+    pub fn cell(&self, node: usize) -> Option<&Cell>
+        ensures some { IfSome result (λ cell. IsTreeAt self.now.state.past node (cell_view cell.now)) }
+        ensures none { IfNone result (HasNoTree self.now.state.past node) }
+    {
+        self.history.cell(node)
     }
 
     /// How far an undo and a redo can go, and how many nodes there are.

@@ -204,6 +204,7 @@ ready_more xs old new program e h =
     let same = ap (λ (bs : List Procedure). length bs) e in
     let within = h.within in
     record {
+      meant = h.meant;
       numbered = h.numbered;
       within = omega (arith, long, same, within);
       bodies = bodies_of_more xs (length (kept_in old)) (kept_in new) program.first (procedures_of program) (subst (λ (bs : List Procedure). AreBodiesFrom xs bs program.first (procedures_of program)) (sym e) h.bodies);
@@ -212,6 +213,7 @@ ready_more xs old new program e h =
 -- those behind them were dropped
 pub ready_less : (xs : List Name) (old new : Procedures) (from : ℕ) (program : Program) → program.first + length (procedures_of program) ≤ from → kept_in new ≡ take from (kept_in old) → IsReady xs old program → IsReady xs new program
 ready_less xs old new from program low e h = record {
+  meant = h.meant;
   numbered = h.numbered;
   within = subst (λ (bs : List Procedure). program.first + length (procedures_of program) ≤ length bs) (sym e) (taken_short from (program.first + length (procedures_of program)) (kept_in old) low h.within);
   bodies = bodies_from_same xs (take from (kept_in old)) (kept_in new) program.first (procedures_of program) e (bodies_from_below xs (kept_in old) from program.first (procedures_of program) low h.bodies);
@@ -220,6 +222,7 @@ ready_less xs old new from program low e h = record {
 -- the same are kept
 pub ready_same : (xs : List Name) (old new : Procedures) (program : Program) → kept_in new ≡ kept_in old → IsReady xs old program → IsReady xs new program
 ready_same xs old new program e h = record {
+  meant = h.meant;
   numbered = h.numbered;
   within = subst (λ (bs : List Procedure). program.first + length (procedures_of program) ≤ length bs) (sym e) h.within;
   bodies = bodies_from_same xs (kept_in old) (kept_in new) program.first (procedures_of program) e h.bodies;

@@ -1,4 +1,5 @@
 -- The definitions of the history: its types read as those of the machine, and what its fields keep.
 
 pub mod Fields
+pub mod NodeTrees
 pub mod Kept

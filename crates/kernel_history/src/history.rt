@@ -1,5 +1,5 @@
 //! The history: the tree of cells, the one store, and the open job. It is what a kernel has besides its queue.
-ghost use Rattle.std.specs.Prelude.{◌≡◌, ℕ, List, IfOk, IfErr, OnOk, OnErr, length, nat_lt};
+ghost use Rattle.std.specs.Prelude.{◌≡◌, ℕ, List, IfOk, IfErr, IfSome, IfNone, OnOk, OnErr, length, nat_lt};
 ghost use Rattle.kernel_machine.specs.State.{State, Idle, Border, here, is_full, Shown, new_state};
 ghost use Rattle.kernel_history.specs.Fields.{past_of, nodes_of, state_of, IsStageOf};
 ghost use Rattle.kernel_machine.specs.declared.travel.Aim.TheVariants.{Undo, Redo};
@@ -12,8 +12,10 @@ ghost use Rattle.janus_store.specs.Held.{IsWhole, KeepsSight};
 ghost use Rattle.janus_machine.specs.Bodies.{kept_in};
 ghost use Rattle.kernel_machine.specs.Text.{Accepts, Refuses};
 ghost use Rattle.kernel_runner.specs.Program.{cell_of_program, IsReady, KeepsOlder};
-ghost use Rattle.kernel_runner.specs.Runner.{ShownWorld, over, Becomes, Shows};
+ghost use Rattle.kernel_runner.specs.Runner.{over, Becomes, Is, Between, KeepsShown};
 ghost use Rattle.kernel_machine.specs.Extent.{IsExtent};
+ghost use Rattle.janus_syntax.specs.Tree.{cell_view};
+ghost use Rattle.kernel_history.specs.NodeTrees.{IsTreeAt, HasNoTree};
 ghost use Rattle.kernel_history.specs.Kept.{HasPath, NodesAreReady, AreInOrder, shown_here, Kept, IsKept, StandsAt};
 
 use crate::defined::procedures_here;
@@ -24,6 +26,7 @@ use crate::tree::{Tree, below, can_go_down, can_go_up, find_way, is_full};
 use crate::view::View;
 use cell_tree::Tree as Cells;
 use janus_machine::{Store, Writes};
+use janus_syntax::tree::Cell;
 use kernel_machine::{Aim, Begun, End, Extent, Outcome, Refusal, Sliced, Travel, Turn, Way, Why};
 use kernel_runner::{Program, Runner};
 use std::alloc::{AllocError, Global};
@@ -65,8 +68,7 @@ fn enter_next<L: Ledger>(
     requires legal { IsLegal (past_of tree.now) }
     requires possible { IsPossible (nodes_of tree.now) tree.now.cells.favourites tree.now.position travel }
     requires path { HasPath travel.aim tree.now travel.down }
-    requires shows { Shows runner.old (shown_here tree.now) }
-    requires whole { IsWhole runner.old.store }
+    requires is { Is runner.old (Between (shown_here tree.now)) }
     requires ready { NodesAreReady tree.now runner.old }
     requires order { AreInOrder tree.now }
     ensures ok { OnOk result (StandsAt tree.now (Open.Inside (record { work = Work.Move travel; count = 0; turn = Turn.GoesOn })) runner.new) }
@@ -125,8 +127,7 @@ fn prepare<L: Ledger>(
     runner: &mut Runner<L>,
 ) -> Result<Program, Refusal>
     requires legal { IsLegal (past_of tree.now) }
-    requires shows { (bodies : List ℕ) × Shows runner.old (over bodies (here (past_of tree.now))) }
-    requires whole { IsWhole runner.old.store }
+    requires is { (bodies : List ℕ) × Is runner.old (Between (over bodies (here (past_of tree.now)))) }
     ensures accepts { IfOk result (λ program. Accepts (here (past_of tree.now)) text.now (cell_of_program program)) }
     ensures refuses { IfErr result (Refuses (here (past_of tree.now)) text.now) }
     ensures ready { IfOk result (λ program. IsReady runner.new.store.names runner.new.procedures program) }
@@ -134,7 +135,7 @@ fn prepare<L: Ledger>(
     ensures behind { IfOk result (λ program. program.first ≡ length (kept_in runner.old.procedures)) }
     ensures older { KeepsOlder runner.old.procedures runner.new.procedures }
     ensures kept { KeepsSight runner.old.store runner.new.store }
-    ensures shown { (shown : ShownWorld) → Shows runner.old shown → Shows runner.new shown }
+    ensures shown { KeepsShown runner.old runner.new }
 {
     let Ok(procedures) = procedures_here(alloc, tree, runner) else {
         return Err(Refusal::Memory);
@@ -177,6 +178,17 @@ impl<L: Ledger> History<L> {
         ensures { result ≡ self.now.past.position }
     {
         self.tree.position
+    }
+
+    /// The cell of a node, as it was read from its text and checked; none of the root, or where there is no such node.
+    pub fn cell(&self, node: usize) -> Option<&Cell>
+        ensures some { IfSome result (λ cell. IsTreeAt self.now.past node (cell_view cell.now)) }
+        ensures none { IfNone result (HasNoTree self.now.past node) }
+    {
+        if node == 0 || !self.tree.cells.has(node) {
+            return None;
+        }
+        Some(self.tree.cells.content(node).program.cell())
     }
 
     /// How far an undo and a redo can go, and how many nodes there are.

@@ -126,6 +126,7 @@ module _ (xs ys : List Name) (g : GoOn xs ys) where
 
   pub ready_grows : (t : Procedures) (program : Program) → IsReady xs t program → IsReady ys t program
   ready_grows t program h = record {
+    meant = h.meant;
     numbered = book_grows program.book h.numbered;
     within = h.within;
     bodies = bodies_from_still xs ys (λ n x e. same_number xs ys n x g e) book_grows (kept_in t) program.first (procedures_of program) h.bodies;

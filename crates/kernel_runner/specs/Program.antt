@@ -2,6 +2,7 @@
 use Rattle.std.specs.Prelude.{◌≡◌, ℕ, ◌+◌, ◌≤◌, List, [], ◌∷◌, ◌++◌, length, map, take, string_bytes}
 use Rattle.janus_meaning.specs.Syntax.{Name, Proc}
 use Rattle.janus_meaning.specs.World.{Cell, Declaration, DeclareInt, DeclareArray, DeclareStack}
+use Rattle.janus_syntax.specs.Tree as tree
 use Rattle.janus_syntax.specs.View.{plain_cell}
 use Rattle.janus_check.specs.Checked.{cell_in}
 use Rattle.janus_machine.specs.Places.{block_in, BookHasNumbers}
@@ -20,9 +21,13 @@ declaration_of (Number x) = DeclareInt (string_bytes x)
 declaration_of (Array x n) = DeclareArray (string_bytes x) n
 declaration_of (Stack x) = DeclareStack (string_bytes x)
 
+-- its tree, as it was checked
+abbrev pub tree_of : Program → tree.Cell
+tree_of program = cell_in program.checked
+
 -- what it defines
 abbrev pub procedures_of : Program → List Proc
-procedures_of program = (plain_cell (cell_in program.checked)).procedures
+procedures_of program = (plain_cell (tree_of program)).procedures
 
 abbrev pub cell_of_program : Program → Cell
 cell_of_program program = record {
@@ -31,9 +36,10 @@ cell_of_program program = record {
   block = block_in program.book Forward;
 }
 
--- What runs of it has its numbers among the names that were met: its code, and the bodies of its procedures, which are kept one behind
--- another.
+-- What runs of it is the cell that was checked, and has its numbers among the names that were met: its code, and the bodies of its
+-- procedures, which are kept one behind another.
 pub record IsReady (names : List Name) (t : Procedures) (program : Program) : Type 0 where
+  pub meant : cell_of_program program ≡ plain_cell (tree_of program)
   pub numbered : BookHasNumbers names program.book
   pub within : program.first + length (procedures_of program) ≤ length (kept_in t)
   pub bodies : AreBodiesFrom names (kept_in t) program.first (procedures_of program)
