@@ -162,6 +162,7 @@ fn content_of<L: Ledger>(
             let ids = comms.list()?;
             Ok(Content::Comms(ids))
         }
+        Ask::IsOpen { id } => Ok(Content::IsOpen(comms.is_open(id.as_str()))),
         Ask::State => {
             let state = state(alloc, kernel)?;
             Ok(Content::State(state))
