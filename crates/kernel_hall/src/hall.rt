@@ -11,6 +11,7 @@ ghost use Rattle.kernel_audit.specs.Audit.{Audited, IsAuditFault};
 use crate::ends::Ends;
 use crate::entrance::Entrance;
 use crate::minutes::Minutes;
+use crate::pending_result::cell_of_job;
 use crate::spin::watch;
 use crate::state::State;
 use crate::turn::Turn;
@@ -34,6 +35,8 @@ pub struct Hall<W: Ledger, L: Ledger> {
     moved: Condvar,
     ended: Ends,
     bell: Bell,
+    /// Where the cell of a text is read before the lock is taken.
+    alloc: Global,
 }
 
 impl<W: Ledger, L: Ledger> Model for Hall<W, L> {
@@ -68,6 +71,7 @@ impl<W: Ledger, L: Ledger> Hall<W, L> {
             moved: Condvar::new(),
             ended: Ends::new(),
             bell,
+            alloc,
         }
     }
 
@@ -104,10 +108,11 @@ impl<W: Ledger, L: Ledger> Hall<W, L> {
         ensures refused { IfErr result (λ r. r.1 ≡ pass) }
         ensures refusal { IfErr result (λ r. (k : Machine) × IsLegalMachine k × IsRefusal k r.0) }
     {
+        let cell = cell_of_job(self.alloc, &job);
         let posted = self
             .entrance
             .enter(rt, &self.state)
-            .post(&mut pass, job, wishes);
+            .post(&mut pass, job, wishes, cell);
         match posted {
             Ok(ticket) => {
                 self.moved.notify_all();
@@ -163,10 +168,11 @@ impl<W: Ledger, L: Ledger> Hall<W, L> {
         ensures refused { IfErr result (λ r. r.1 ≡ pass) }
         ensures refusal { IfErr result (λ r. (k : Machine) × IsLegalMachine k × IsRefusal k r.0) }
     {
+        let cell = cell_of_job(self.alloc, &job);
         let taken = self
             .entrance
             .enter(rt, &self.state)
-            .take(&mut pass, job, wishes);
+            .take(&mut pass, job, wishes, cell);
         match taken {
             Ok(number) => {
                 self.moved.notify_all();
