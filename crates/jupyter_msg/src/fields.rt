@@ -46,11 +46,8 @@ fn into_text(value: Value) -> Option<String>
 {
     match value {
         Value::String(text) => Some(text),
-        Value::Null
-        | Value::Bool(_)
-        | Value::Number(_)
-        | Value::Array(_)
-        | Value::Object(_) => None,
+        Value::Null | Value::Bool(_) | Value::Number(_) | Value::Array(_) | Value::Object(_) =>
+            None,
     }
 }
 
@@ -62,7 +59,10 @@ pub(crate) fn take_text(content: &mut Value, field: Field) -> Result<String, Msg
 {
     text_in(content, field)?;
     match content.get_mut(field.name()) {
-        Some(value) => into_text(value.take()).ok_or(MsgFault::BadField(field)),
+        Some(value) => match into_text(value.take()) {
+            Some(text) => Ok(text),
+            None => Err(MsgFault::BadField(field)),
+        },
         None => Err(MsgFault::BadField(field)),
     }
 }

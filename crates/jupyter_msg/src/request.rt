@@ -250,7 +250,9 @@ impl Request {
         let request_type = type_in(&header)?;
         let content = RequestContent::take(alloc, request_type, content)?;
         let Message {
-            identities, header, ..
+            identities,
+            header,
+            ..
         } = message;
         Ok(Request {
             identities,
