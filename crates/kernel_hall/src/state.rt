@@ -158,7 +158,8 @@ impl<W: Ledger, L: Ledger> State<W, L> {
             book,
             ..
         } = self;
-        let Ok(pending_result) = PendingResult::new(*alloc, kernel.minutes().len(), wishes, cell) else {
+        let Ok(pending_result) = PendingResult::new(*alloc, kernel.minutes().len(), wishes, cell)
+        else {
             return Err(PostFault::Memory);
         };
         if pending_results.reserve(1).is_err() {
