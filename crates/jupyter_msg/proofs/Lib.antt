@@ -4,3 +4,4 @@ pub mod OpenLemmas
 pub mod TextsLemmas
 pub mod AskedLemmas
 pub mod TypeLemmas
+pub mod FieldLemmas

@@ -7,7 +7,7 @@ ghost use Rattle.jupyter_msg.specs.Fields.{value_at, allowed, as_texts, first_wr
 ghost use Rattle.jupyter_msg.specs.Requests.{IsExecute, expressions_of, fields_of};
 
 use crate::fault::{Field, MsgFault};
-use crate::fields::{flag, text, value_at};
+use crate::fields::{flag, take_text, text, text_in, value_at};
 use crate::request_type::RequestType;
 use serde_json::{Map, Value};
 use std::alloc::Global;
@@ -112,6 +112,24 @@ impl ExecuteRequest {
         let silent = flag(content, Field::Silent)?.unwrap_or(false);
         let store_history = flag(content, Field::StoreHistory)?.unwrap_or(!silent);
         let user_expressions = expressions(alloc, content)?;
+        Ok(ExecuteRequest {
+            code,
+            silent,
+            store_history,
+            user_expressions,
+        })
+    }
+
+    /// As [`ExecuteRequest::read`], of a content that is handed over: the text of the cell is moved out of it.
+    pub(crate) fn take(alloc: Global, mut content: Value) -> Result<ExecuteRequest, MsgFault>
+        ensures { Reads (IsExecute (view content)) result
+            (first_wrong (fields_of RequestType.Execute) (view content)) }
+    {
+        text_in(&content, Field::Code)?;
+        let silent = flag(&content, Field::Silent)?.unwrap_or(false);
+        let store_history = flag(&content, Field::StoreHistory)?.unwrap_or(!silent);
+        let user_expressions = expressions(alloc, &content)?;
+        let code = take_text(&mut content, Field::Code)?;
         Ok(ExecuteRequest {
             code,
             silent,

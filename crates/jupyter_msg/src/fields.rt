@@ -40,6 +40,33 @@ pub(crate) fn text(alloc: Global, content: &Value, field: Field) -> Result<Strin
     Ok(String::from_str(alloc, text)?)
 }
 
+/// The text of a value, taken out of it.
+fn into_text(value: Value) -> Option<String>
+    ensures { option_map string_bytes result ≡ as_str (view value) }
+{
+    match value {
+        Value::String(text) => Some(text),
+        Value::Null | Value::Bool(_) | Value::Number(_) | Value::Array(_) | Value::Object(_) =>
+            None,
+    }
+}
+
+/// The text of a field, taken out of the content, of which nothing is said after it.
+pub(crate) fn take_text(content: &mut Value, field: Field) -> Result<String, MsgFault>
+    ensures value { IfOk result (λ t. text_at field (view content.old) ≡ Some (string_bytes t)) }
+    ensures refused { IfErr result (λ e. (e ≡ MsgFault.BadField field)
+        × (text_at field (view content.old) ≡ None)) }
+{
+    text_in(content, field)?;
+    match content.get_mut(field.name()) {
+        Some(value) => match into_text(value.take()) {
+            Some(text) => Ok(text),
+            None => Err(MsgFault::BadField(field)),
+        },
+        None => Err(MsgFault::BadField(field)),
+    }
+}
+
 /// A copy of the text of a field that may be missing.
 pub(crate) fn maybe_text(
     alloc: Global,

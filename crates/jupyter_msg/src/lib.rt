@@ -3,7 +3,7 @@
 //! To the layer above it promises that `open` answers a message exactly for frames that are one, octet for octet, with its
 //! header and its content as they were read, and else the first refusal; that what `seal` writes is opened again under its key,
 //! where its four parts are JSON objects and no identity is the delimiter; that `hmac` and `sign` are HMAC and the signature; and
-//! that `Request::read` and `Connection::read` give what an opened message asks, with its identities and its header, and what a
+//! that `Request::read`, `Request::take` and `Connection::read` give what an opened message asks, with its identities and its header, and what a
 //! connection file says, or the first refusal. Want of memory aside, all of it is exact.
 //!
 //! Frames, signature and requests are those of the Jupyter messaging page (version 5.4, with its wire protocol), the

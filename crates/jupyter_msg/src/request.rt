@@ -37,7 +37,7 @@ use crate::fault::{Field, MsgFault};
 use crate::fields::{flag, text_in};
 use crate::history::HistoryRequest;
 use crate::introspection::{CompleteRequest, InspectRequest, IsCompleteRequest};
-use crate::message::{Opened, push_copies};
+use crate::message::{Message, Opened, push_copies};
 use crate::request_type::RequestType;
 use serde_json::Value;
 use std::alloc::Global;
@@ -163,6 +163,33 @@ impl RequestContent {
             RequestType::CommClose => RequestContent::CommClose(CommClose::read(alloc, content)?),
         })
     }
+
+    /// As [`RequestContent::read`], of a content that is handed over: the text of a cell is moved out of it.
+    fn take(
+        alloc: Global,
+        request_type: RequestType,
+        content: Value,
+    ) -> Result<RequestContent, MsgFault>
+        ensures { Reads (λ r. (type_of r ≡ request_type) × IsRequest (view content) r) result
+            (first_wrong (fields_of request_type) (view content)) }
+    {
+        match request_type {
+            RequestType::Execute => Ok(RequestContent::Execute(ExecuteRequest::take(
+                alloc, content,
+            )?)),
+            RequestType::KernelInfo
+            | RequestType::Complete
+            | RequestType::Inspect
+            | RequestType::IsComplete
+            | RequestType::History
+            | RequestType::CommInfo
+            | RequestType::Interrupt
+            | RequestType::Shutdown
+            | RequestType::CommOpen
+            | RequestType::CommMessage
+            | RequestType::CommClose => RequestContent::read(alloc, request_type, &content),
+        }
+    }
 }
 
 impl Request {
@@ -194,6 +221,42 @@ impl Request {
         Ok(Request {
             identities,
             header: opened.message.header.to_vec(alloc)?,
+            content,
+        })
+    }
+
+    /// As [`Request::read`], of an opened message that is handed over: its identities, its header and the text of a cell are moved into the
+    /// request, and not copied. What a request does not have of it is dropped, and with an error all of it.
+    ///
+    /// # Errors
+    ///
+    /// Those of [`Request::read`].
+    pub fn take(alloc: Global, opened: Opened) -> Result<Request, MsgFault>
+        requires { IsRead opened }
+        ensures request { IfOk result (λ r. (content : Data)
+            × (asked (octets_of opened.message) ≡ Ok (type_of r.content, content)) × IsRequest content r.content) }
+        ensures refused { IfErr result (λ e. (e ≡ MsgFault.Memory)
+            ⊎ (asked (octets_of opened.message) ≡ Err e)) }
+
+        // Identities and header are the message's.
+        ensures identities { IfOk result (λ r. octets r.identities.items ≡ octets opened.message.identities.items) }
+        ensures header { IfOk result (λ r. r.header.items ≡ opened.message.header.items) }
+    {
+        let Opened {
+            message,
+            header,
+            content,
+        } = opened;
+        let request_type = type_in(&header)?;
+        let content = RequestContent::take(alloc, request_type, content)?;
+        let Message {
+            identities,
+            header,
+            ..
+        } = message;
+        Ok(Request {
+            identities,
+            header,
             content,
         })
     }

@@ -11,3 +11,4 @@ pub mod Sound
 pub mod Walk
 pub mod Numbers
 pub mod Rows
+mod AfterRun

@@ -2,6 +2,7 @@
 use Rattle.std.specs.Prelude.{◌≡◌, ℕ, List, length, map, option_map, string_bytes}
 use Rattle.std.specs.Str.{chars}
 use Rattle.kernel_core.specs.Runs.{Machine}
+use Rattle.kernel_ask.specs.Comms.{is_open}
 use Rattle.kernel_ask.specs.Cursor.{word_at}
 use Rattle.kernel_ask.specs.Completion.{IsCompletion}
 use Rattle.kernel_ask.specs.Inspection.{inspection}
@@ -22,6 +23,7 @@ IsContent m comms (ask.Inspect code cursor) (content.Inspection text) = OfShown 
 IsContent m comms (ask.IsComplete code) (content.Completeness c) = IsJudged (string_bytes code) c
 IsContent m comms (ask.History range) (content.History all) = map input_of all.items ≡ told range (inputs m.minutes m.counter)
 IsContent m comms ask.Comms (content.Comms ids) = map string_bytes ids.items ≡ comms
+IsContent m comms (ask.IsOpen id) (content.IsOpen is) = is ≡ is_open comms (string_bytes id)
 IsContent m comms ask.State (content.State s) = IsState m s
 IsContent m comms asked answered = ⊥
 

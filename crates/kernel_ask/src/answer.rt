@@ -16,6 +16,8 @@ pub enum Ask {
     History(HistoryAsk),
     /// The open comms.
     Comms,
+    /// Whether the comm of this id is open.
+    IsOpen { id: String },
     /// The state of the kernel.
     State,
 }
@@ -40,6 +42,8 @@ pub enum Content {
     History(Vec<Input>),
     /// The ids of the open comms, in the order of their octets.
     Comms(Vec<String>),
+    /// Whether the comm that was asked for is open.
+    IsOpen(bool),
     State(KernelState),
 }
 

@@ -65,7 +65,7 @@ fn parted(alloc: Global, first: &str, rest: &[String]) -> Result<String, AllocEr
 }
 
 /// The value texts of the declared names that the cell names, parted by LF, if it names one.
-fn shown_of<L: Ledger>(
+pub(crate) fn shown_of<L: Ledger>(
     alloc: Global,
     store: &Store<L>,
     cell: &Cell,
@@ -82,8 +82,8 @@ fn shown_of<L: Ledger>(
     }
 }
 
-/// The cell of a text, if it is one.
-fn cell_of(alloc: Global, code: &str) -> Result<Option<Cell>, AllocError>
+/// The cell of a text, if it is one: to be read ahead of [`shown_of_cell`](crate::shown_of_cell). The only error is want of memory.
+pub fn cell_of(alloc: Global, code: &str) -> Result<Option<Cell>, AllocError>
     ensures { IfOk result (IsCellOf code.now) }
 {
     match parse_cell(alloc, code) {

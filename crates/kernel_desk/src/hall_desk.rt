@@ -132,10 +132,10 @@ impl<W: Ledger, L: Ledger, R: Wait + Clock> Desk for HallDesk<'_, W, L, R> {
         let Some(pass) = self.pass.take() else {
             unreachable!()
         };
-        match self.hall.post(self.rt, pass, job, wishes) {
-            Ok((ticket, pass)) => {
+        match self.hall.run(self.rt, pass, job, wishes) {
+            Ok((done, pass)) => {
                 self.pass = Some(pass);
-                Ok(self.hall.wait(self.rt, &ticket))
+                Ok(done)
             }
             Err((fault, pass)) => {
                 self.pass = Some(pass);

@@ -11,6 +11,7 @@ ghost use Rattle.kernel_audit.specs.Audit.{Audited, IsAuditFault};
 use crate::ends::Ends;
 use crate::entrance::Entrance;
 use crate::minutes::Minutes;
+use crate::pending_result::cell_of_job;
 use crate::spin::watch;
 use crate::state::State;
 use crate::turn::Turn;
@@ -34,6 +35,8 @@ pub struct Hall<W: Ledger, L: Ledger> {
     moved: Condvar,
     ended: Ends,
     bell: Bell,
+    /// Where the cell of a text is read before the lock is taken.
+    alloc: Global,
 }
 
 impl<W: Ledger, L: Ledger> Model for Hall<W, L> {
@@ -68,6 +71,7 @@ impl<W: Ledger, L: Ledger> Hall<W, L> {
             moved: Condvar::new(),
             ended: Ends::new(),
             bell,
+            alloc,
         }
     }
 
@@ -104,10 +108,11 @@ impl<W: Ledger, L: Ledger> Hall<W, L> {
         ensures refused { IfErr result (λ r. r.1 ≡ pass) }
         ensures refusal { IfErr result (λ r. (k : Machine) × IsLegalMachine k × IsRefusal k r.0) }
     {
+        let cell = cell_of_job(self.alloc, &job);
         let posted = self
             .entrance
             .enter(rt, &self.state)
-            .post(&mut pass, job, wishes);
+            .post(&mut pass, job, wishes, cell);
         match posted {
             Ok(ticket) => {
                 self.moved.notify_all();
@@ -145,7 +150,43 @@ impl<W: Ledger, L: Ledger> Hall<W, L> {
         ensures number { result.number ≡ ticket.now.number }
         ensures end { (k : Machine) × IsLegalMachine k × HasEnd k.minutes result }
     {
-        let number = ticket.number;
+        self.end_of(rt, ticket.number)
+    }
+
+    /// Posts a job, waits until it has ended, and answers what came of it: `post` and `wait` in one, for who keeps no ticket. The job is moved to
+    /// the kernel, and not copied. The pass comes back, and has counted it. A refused post leaves the pass, and drops the job and the
+    /// wishes; the refusal is that of the kernel that was met.
+    pub fn run<R: Wait>(
+        &self,
+        rt: &R,
+        mut pass: Pass<L>,
+        job: Job,
+        wishes: Vec<Wish>,
+    ) -> Result<(Done, Pass<L>), (PostFault, Pass<L>)>
+        ensures end { IfOk result (λ r. (k : Machine) × IsLegalMachine k × HasEnd k.minutes r.0) }
+        ensures counted { IfOk result (λ r. r.1 ≡ pass_of pass.lane (pass.posts + 1)) }
+        ensures refused { IfErr result (λ r. r.1 ≡ pass) }
+        ensures refusal { IfErr result (λ r. (k : Machine) × IsLegalMachine k × IsRefusal k r.0) }
+    {
+        let cell = cell_of_job(self.alloc, &job);
+        let taken = self
+            .entrance
+            .enter(rt, &self.state)
+            .take(&mut pass, job, wishes, cell);
+        match taken {
+            Ok(number) => {
+                self.moved.notify_all();
+                Ok((self.end_of(rt, number), pass))
+            }
+            Err(fault) => Err((fault, pass)),
+        }
+    }
+
+    /// Waits until the job of this number has ended.
+    fn end_of<R: Wait>(&self, rt: &R, number: u64) -> Done
+        ensures number { result.number ≡ number }
+        ensures end { (k : Machine) × IsLegalMachine k × HasEnd k.minutes result }
+    {
         let seen = self.ended.wakings(number);
         if let Some(done) = self.entrance.enter(rt, &self.state).done(number) {
             return done;

@@ -4,7 +4,7 @@ ghost use Rattle.std.specs.Bool.{OnTrue, OnFalse};
 ghost use Rattle.kernel_core.specs.Request.{request_of};
 ghost use Rattle.kernel_core.specs.Minutes.{posted_in};
 ghost use Rattle.kernel_core.specs.LegalMinutes.{IsLegalMachine};
-ghost use Rattle.kernel_core.specs.Runs.{IsRefusal, posted, shut};
+ghost use Rattle.kernel_core.specs.Runs.{IsReady, IsRefusal, posted, shut};
 ghost use Rattle.kernel_ask.specs.Answer.{IsAnswer};
 ghost use Rattle.kernel_audit.specs.Passes.{pass_of, ticket_of};
 ghost use Rattle.kernel_hall.specs.Turns.{IsTurn};
@@ -18,6 +18,7 @@ use crate::minutes::Minutes;
 use crate::passes::Passes;
 use crate::pending_result::{PendingResult, fetch, last_number, settle_last};
 use crate::turn::{Turn, turn_on};
+use janus_syntax::tree::Cell;
 use kernel_ask::{Answer, Ask, Comms, Done, HallFault, Wish, ask_on};
 use kernel_audit::{AuditFault, Pass, Ticket, audit};
 use kernel_bell::{Bell, RunnerSeat};
@@ -63,12 +64,14 @@ impl<W: Ledger, L: Ledger> State<W, L> {
         }
     }
 
-    /// Posts a job for a pass, which counts it. The wishes stand beside it until it ends. A refused post drops the job and the wishes.
+    /// Posts a job for a pass, which counts it. The wishes, and the cell of its text where that was read, stand beside it until it ends. A refused
+    /// post drops all of them. The job is in the ticket too, so it is copied: [`State::take`] makes no ticket and no copy.
     pub fn post(
         &mut self,
         pass: &mut Pass<L>,
         job: Job,
         wishes: Vec<Wish>,
+        cell: Option<Cell>,
     ) -> Result<Ticket, PostFault>
         ensures ticket { IfOk result (λ t. t ≡ ticket_of pass.old (suc (posted_in self.old.kernel.machine.minutes)) job) }
         ensures posted { IfOk result (λ t. self.new.kernel.machine ≡ posted self.old.kernel.machine pass.old.lane (request_of job)) }
@@ -78,12 +81,76 @@ impl<W: Ledger, L: Ledger> State<W, L> {
         ensures pass { OnErr result (pass.new ≡ pass.old) }
         ensures comms { self.new.comms ≡ self.old.comms }
         ensures pending_result { IfOk result
-            (λ t. (e : PendingResult) × IsNewPending (length self.old.kernel.machine.minutes) wishes.items e
+            (λ t. (e : PendingResult) × IsNewPending (length self.old.kernel.machine.minutes) wishes.items cell e
             × (self.new.pending_results.items ≡ self.old.pending_results.items ++ e ∷ [])) }
         ensures pending_results { OnErr result (self.new.pending_results.items ≡ self.old.pending_results.items) }
         ensures legal { IsLegalMachine self.old.kernel.machine }
     {
         is_legal(&self.kernel);
+        if let Some(fault) = self.kernel.post_fault() {
+            return Err(fault);
+        }
+        let Ok(copy) = job.try_clone() else {
+            return Err(PostFault::Memory);
+        };
+        let number = self.queue(pass, copy, wishes, cell)?;
+        Ok(Ticket {
+            lane: pass.lane(),
+            nth: pass.posts(),
+            number,
+            job,
+        })
+    }
+
+    /// Posts a job for a pass as [`State::post`] does, and answers its number alone: the job is moved to the kernel, and not copied.
+    pub fn take(
+        &mut self,
+        pass: &mut Pass<L>,
+        job: Job,
+        wishes: Vec<Wish>,
+        cell: Option<Cell>,
+    ) -> Result<u64, PostFault>
+        ensures number { IfOk result (λ n. n ≡ suc (posted_in self.old.kernel.machine.minutes)) }
+        ensures posted { IfOk result (λ n. self.new.kernel.machine ≡ posted self.old.kernel.machine pass.old.lane (request_of job)) }
+        ensures counted { IfOk result (λ n. pass.new ≡ pass_of pass.old.lane (pass.old.posts + 1)) }
+        ensures refusal { IfErr result (IsRefusal self.old.kernel.machine) }
+        ensures kernel { OnErr result (self.new.kernel.machine ≡ self.old.kernel.machine) }
+        ensures pass { OnErr result (pass.new ≡ pass.old) }
+        ensures comms { self.new.comms ≡ self.old.comms }
+        ensures pending_result { IfOk result
+            (λ n. (e : PendingResult) × IsNewPending (length self.old.kernel.machine.minutes) wishes.items cell e
+            × (self.new.pending_results.items ≡ self.old.pending_results.items ++ e ∷ [])) }
+        ensures pending_results { OnErr result (self.new.pending_results.items ≡ self.old.pending_results.items) }
+        ensures legal { IsLegalMachine self.old.kernel.machine }
+    {
+        is_legal(&self.kernel);
+        if let Some(fault) = self.kernel.post_fault() {
+            return Err(fault);
+        }
+        self.queue(pass, job, wishes, cell)
+    }
+
+    /// Queues a job, which only want of memory refuses.
+    fn queue(
+        &mut self,
+        pass: &mut Pass<L>,
+        job: Job,
+        wishes: Vec<Wish>,
+        cell: Option<Cell>,
+    ) -> Result<u64, PostFault>
+        requires ready { IsReady self.old.kernel.machine }
+        ensures number { IfOk result (λ n. n ≡ suc (posted_in self.old.kernel.machine.minutes)) }
+        ensures posted { IfOk result (λ n. self.new.kernel.machine ≡ posted self.old.kernel.machine pass.old.lane (request_of job)) }
+        ensures counted { IfOk result (λ n. pass.new ≡ pass_of pass.old.lane (pass.old.posts + 1)) }
+        ensures refusal { IfErr result (IsRefusal self.old.kernel.machine) }
+        ensures kernel { OnErr result (self.new.kernel.machine ≡ self.old.kernel.machine) }
+        ensures pass { OnErr result (pass.new ≡ pass.old) }
+        ensures comms { self.new.comms ≡ self.old.comms }
+        ensures pending_result { IfOk result
+            (λ n. (e : PendingResult) × IsNewPending (length self.old.kernel.machine.minutes) wishes.items cell e
+            × (self.new.pending_results.items ≡ self.old.pending_results.items ++ e ∷ [])) }
+        ensures pending_results { OnErr result (self.new.pending_results.items ≡ self.old.pending_results.items) }
+    {
         let State {
             kernel,
             pending_results,
@@ -91,27 +158,17 @@ impl<W: Ledger, L: Ledger> State<W, L> {
             book,
             ..
         } = self;
-        if let Some(fault) = kernel.post_fault() {
-            return Err(fault);
-        }
-        let Ok(copy) = job.try_clone() else {
-            return Err(PostFault::Memory);
-        };
-        let Ok(pending_result) = PendingResult::new(*alloc, kernel.minutes().len(), wishes) else {
+        let Ok(pending_result) = PendingResult::new(*alloc, kernel.minutes().len(), wishes, cell)
+        else {
             return Err(PostFault::Memory);
         };
         if pending_results.reserve(1).is_err() {
             return Err(PostFault::Memory);
         }
-        let number = kernel.post(pass.lane(), copy)?;
+        let number = kernel.post(pass.lane(), job)?;
         pending_results.push_reserved(pending_result);
         pass.count(book);
-        Ok(Ticket {
-            lane: pass.lane(),
-            nth: pass.posts(),
-            number,
-            job,
-        })
+        Ok(number)
     }
 
     /// One turn of the runner. In a turn that ends a job its shown text and its values are made; what stands beside other jobs stays.

@@ -110,6 +110,7 @@ module _ (asker : Asker) (stamp : Stamp) where
   refusal_ends r f (content.Inspection known) = alone_ends
   refusal_ends r f (content.Completeness c) = alone_ends
   refusal_ends r f (content.History inputs) = alone_ends
+  refusal_ends r f (content.IsOpen is) = alone_ends
   refusal_ends r f (content.Comms ids) = alone_ends
 
   completion_ends : (c : Content) → Ends (completion_says c)
@@ -118,6 +119,7 @@ module _ (asker : Asker) (stamp : Stamp) where
   completion_ends (content.Inspection known) = alone_ends
   completion_ends (content.Completeness c) = alone_ends
   completion_ends (content.History inputs) = alone_ends
+  completion_ends (content.IsOpen is) = alone_ends
   completion_ends (content.Comms ids) = alone_ends
 
   inspection_ends : (c : Content) → Ends (inspection_says c)
@@ -126,6 +128,7 @@ module _ (asker : Asker) (stamp : Stamp) where
   inspection_ends (content.Completion c) = alone_ends
   inspection_ends (content.Completeness c) = alone_ends
   inspection_ends (content.History inputs) = alone_ends
+  inspection_ends (content.IsOpen is) = alone_ends
   inspection_ends (content.Comms ids) = alone_ends
 
   completeness_ends : (c : Content) → Ends (completeness_says c)
@@ -134,10 +137,12 @@ module _ (asker : Asker) (stamp : Stamp) where
   completeness_ends (content.Completion c) = alone_ends
   completeness_ends (content.Inspection known) = alone_ends
   completeness_ends (content.History inputs) = alone_ends
+  completeness_ends (content.IsOpen is) = alone_ends
   completeness_ends (content.Comms ids) = alone_ends
 
   inputs_end : (output : Bool) (c : Content) → Ends (inputs_say output c)
   inputs_end output (content.History inputs) = only_ends (history_reply output inputs.items)
+  inputs_end output (content.IsOpen is) = alone_ends
   inputs_end output (content.State s) = alone_ends
   inputs_end output (content.Completion c) = alone_ends
   inputs_end output (content.Inspection known) = alone_ends
@@ -156,6 +161,7 @@ module _ (asker : Asker) (stamp : Stamp) where
   comms_end name (content.Inspection known) = alone_ends
   comms_end name (content.Completeness c) = alone_ends
   comms_end name (content.History inputs) = alone_ends
+  comms_end name (content.IsOpen is) = alone_ends
 
   comm_open_ends : (r : CommOpen) (c : Content) → Ends (comm_open_says r c)
   comm_open_ends r (content.Comms ids) =
@@ -166,6 +172,9 @@ module _ (asker : Asker) (stamp : Stamp) where
   comm_open_ends r (content.Inspection known) = alone_ends
   comm_open_ends r (content.Completeness c) = alone_ends
   comm_open_ends r (content.History inputs) = alone_ends
+  comm_open_ends r (content.IsOpen is) =
+      either_ends (is_target (string_bytes r.target_name) && is) status_alone (tells (comm_close (string_bytes r.comm_id)))
+      alone_ends (tells_ends (comm_close (string_bytes r.comm_id)))
 
   state_ends : (id : List ℕ) (c : Content) → Ends (state_says id c)
   state_ends id (content.State s) = tells_ends (comm_msg id (state_shown s))
@@ -174,6 +183,7 @@ module _ (asker : Asker) (stamp : Stamp) where
   state_ends id (content.Inspection known) = alone_ends
   state_ends id (content.Completeness c) = alone_ends
   state_ends id (content.History inputs) = alone_ends
+  state_ends id (content.IsOpen is) = alone_ends
 
   comm_ends : (a : CommAsk) (id : List ℕ) (c : Content) → Ends (comm_says a id c)
   comm_ends ask.State id c = state_ends id c

@@ -10,10 +10,11 @@ use Rattle.std.proofs.lemmas.Bool.{le-ltb}
 use Rattle.std.proofs.lemmas.Map.Text.{is_eq-slice_cmp}
 use Rattle.std.proofs.Math.Bool.{and-false, and-true}
 use Rattle.jupyter_msg.specs.declared.comm.CommOpen.{CommOpen}
+use Rattle.kernel_ask.specs.declared.answer.Content.TheVariants as content
 use Rattle.kernel_ask.specs.Comms.{comm_limit, is_same, is_open, can_open, opened}
 use Rattle.kernel_message.specs.Said.{Says}
 use Rattle.kernel_reply.specs.Comms.{is_target, comm_close}
-use Rattle.kernel_reply.specs.Answers.{status_alone, tells}
+use Rattle.kernel_reply.specs.Answers.{status_alone, tells, opened_says}
 use Rattle.kernel_reply.specs.Laws.{OpensNothing, OpensPastTheLimitClose, OpensOfOpenComms, OpensForOtherTargetsClose}
 
 -- the test by octets is the one that comms have
@@ -32,6 +33,9 @@ opens_nothing : (r : CommOpen) (ids : List (List ℕ)) (b : Bool) → opened ids
     → OpensNothing r ids (if b then status_alone else tells (comm_close (string_bytes r.comm_id)))
 opens_nothing r ids b same is = record {
   as_before = same;
+  told =
+      ap (λ c. if c then status_alone else tells (comm_close (string_bytes r.comm_id)))
+      (ap (λ xs. is_target (string_bytes r.target_name) && is_open xs (string_bytes r.comm_id)) same ∙ is);
   answer = λ after e.
       ap (λ c. if c then status_alone else tells (comm_close (string_bytes r.comm_id)))
       (ap (λ xs. is_target (string_bytes r.target_name) && is_open xs (string_bytes r.comm_id)) (e ∙ same) ∙ is);
@@ -49,7 +53,10 @@ opens_of_open_comms r ids is =
     let ours = is_target (string_bytes r.target_name) in
     opens_nothing r ids ours (unopened ids id (ap (λ b. nat_lt (length ids) comm_limit && not b) is ∙ and-false (nat_lt (length ids) comm_limit))) (ap (λ b. ours && b) is ∙ and-true ours)
 
+not_ours : (r : CommOpen) (is : Bool) → is_target (string_bytes r.target_name) ≡ false → opened_says r is ≡ tells (comm_close (string_bytes r.comm_id))
+not_ours r is other = ap (λ b. if b && is then status_alone else tells (comm_close (string_bytes r.comm_id))) other
+
 pub opens_for_other_targets_close : OpensForOtherTargetsClose
-opens_for_other_targets_close r ids other =
-    let id = string_bytes r.comm_id in
-    ap (λ b. if b && is_open (map string_bytes ids.items) id then status_alone else tells (comm_close id)) other
+opens_for_other_targets_close r (content.IsOpen is) other e = not_ours r is other
+opens_for_other_targets_close r (content.Comms ids) other e = not_ours r (is_open (map string_bytes ids.items) (string_bytes r.comm_id)) other
+opens_for_other_targets_close r _ other e = absurd cc

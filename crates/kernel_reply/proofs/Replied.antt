@@ -130,6 +130,7 @@ open_untyped true id = refl
 open_untyped false id = refl
 
 comm_open_untyped : (r : CommOpen) (c : Content) → type_of (comm_open_says r c) ≡ None
+comm_open_untyped r (content.IsOpen is) = open_untyped (is_target (string_bytes r.target_name) && is) (string_bytes r.comm_id)
 comm_open_untyped r (content.Comms ids) =
     open_untyped (is_target (string_bytes r.target_name) && is_open (map string_bytes ids.items) (string_bytes r.comm_id)) (string_bytes r.comm_id)
 comm_open_untyped r _ = refl

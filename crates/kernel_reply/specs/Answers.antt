@@ -128,11 +128,14 @@ abbrev pub comms_say : Option (List ℕ) → Content → Says
 comms_say name (content.Comms ids) = only (comm_info_reply name (map string_bytes ids.items))
 comms_say name _ = status_alone
 
--- the comms are those after the open: it is answered by a close where it is for another target, and where its comm is not open then
+-- an open is answered by a close where it is for another target, and where its comm is not open after it
+abbrev pub opened_says : CommOpen → Bool → Says
+opened_says r is = if is_target (string_bytes r.target_name) && is then status_alone else tells (comm_close (string_bytes r.comm_id))
+
+-- what is told of the comms after the open: whether its comm is open, or all that are
 abbrev pub comm_open_says : CommOpen → Content → Says
-comm_open_says r (content.Comms ids) =
-    if is_target (string_bytes r.target_name) && is_open (map string_bytes ids.items) (string_bytes r.comm_id)
-    then status_alone else tells (comm_close (string_bytes r.comm_id))
+comm_open_says r (content.IsOpen is) = opened_says r is
+comm_open_says r (content.Comms ids) = opened_says r (is_open (map string_bytes ids.items) (string_bytes r.comm_id))
 comm_open_says r _ = status_alone
 
 abbrev pub state_says : List ℕ → Content → Says

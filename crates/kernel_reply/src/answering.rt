@@ -27,8 +27,28 @@ pub fn opening(alloc: Global, message: &Message, stamp: &mut Stamp) -> Result<Br
     ensures err { IfErr result (λ e. e ≡ MsgFault.Memory) }
     ensures unchanged { OnErr result (stamp.new ≡ stamp.old) }
 {
+    opening_by_header(alloc, &message.header, stamp)
+}
+
+/// The broadcast with which a request is taken, as [`opening`] has it, by the header of the request alone: so a request needs no message
+/// beside it.
+///
+/// # Errors
+///
+/// `Memory`; the stamp is then as before.
+pub fn opening_by_header(
+    alloc: Global,
+    header: &[u8],
+    stamp: &mut Stamp,
+) -> Result<Broadcast, MsgFault>
+    requires { stamp.old.next ≤ 2 ^ 64 - 16 }
+    ensures sent { IfOk result (λ b. b ≡ broadcast_message header.now stamp.old stamp.old.next busy_said) }
+    ensures next { OnOk result (stamp.new ≡ record stamp.old { next = stamp.old.next + 1 }) }
+    ensures err { IfErr result (λ e. e ≡ MsgFault.Memory) }
+    ensures unchanged { OnErr result (stamp.new ≡ stamp.old) }
+{
     let busy = busy(alloc)?;
-    let out = broadcast_of(alloc, &message.header, stamp, &busy)?;
+    let out = broadcast_of(alloc, header, stamp, &busy)?;
     stamp.next += 1;
     Ok(out)
 }

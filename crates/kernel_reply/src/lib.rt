@@ -1,8 +1,8 @@
 //! What a Jupyter kernel answers: replies and broadcasts, octet for octet.
 //!
-//! [`opening`] is the broadcast with which a request is taken. [`answer`] answers a request that became a job, [`refuse`] one whose job was
-//! refused as it was posted, and [`answer_ask`] every other. To the layer above they promise that what goes out is a function of the
-//! request, of what is handed in and of the stamp: the definitions give the messages as JSON values, in tables that read like the page
+//! [`opening`] and [`opening_by_header`] are the broadcast with which a request is taken. [`answer`] answers a request that became a job,
+//! [`refuse`] one whose job was refused as it was posted, and [`answer_ask`] every other. To the layer above they promise that what goes out
+//! is a function of the request, of what is handed in and of the stamp: the definitions give the messages as JSON values, in tables that read like the page
 //! (specs/: `Status`, `Problems`, `Replies`, `Execution`, `Comms`, `Moves`, and `Answers`, which says what answers which request). Messages,
 //! their headers and their numbers are those of `kernel_message`. `laws` says what holds of all answers: the status idle is last.
 //!
@@ -21,6 +21,6 @@ mod replies;
 mod status;
 mod tables;
 
-pub use crate::answering::{answer, answer_ask, opening, refuse};
+pub use crate::answering::{answer, answer_ask, opening, opening_by_header, refuse};
 pub use crate::comms::COMM_TARGET;
 pub use kernel_message::{Broadcast, Outgoing, Stamp};

@@ -266,6 +266,18 @@ fn comms_drafts(
 }
 
 /// An open is answered by a close where it is for another target, and where its comm is not open after it.
+fn opened_drafts(alloc: Global, request: &CommOpen, is_open: bool) -> Result<Drafts, AllocError>
+    ensures says { IfOk result (λ s. says_of s ≡ table.opened_says request.now is_open) }
+    ensures few { IfOk result (λ s. vec_len s.broadcasts ≤ 3) }
+{
+    if is_target(&request.target_name) && is_open {
+        status_alone(alloc)
+    } else {
+        tells(alloc, comm_close(alloc, &request.comm_id)?)
+    }
+}
+
+/// What is said of an open, by what is told of the comms after it.
 fn comm_open_drafts(
     alloc: Global,
     request: &CommOpen,
@@ -275,13 +287,8 @@ fn comm_open_drafts(
     ensures few { IfOk result (λ s. vec_len s.broadcasts ≤ 3) }
 {
     match content {
-        Content::Comms(ids) => {
-            if is_target(&request.target_name) && is_among(&request.comm_id, ids) {
-                status_alone(alloc)
-            } else {
-                tells(alloc, comm_close(alloc, &request.comm_id)?)
-            }
-        }
+        Content::IsOpen(is_open) => opened_drafts(alloc, request, *is_open),
+        Content::Comms(ids) => opened_drafts(alloc, request, is_among(&request.comm_id, ids)),
         _ => status_alone(alloc),
     }
 }

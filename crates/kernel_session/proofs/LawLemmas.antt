@@ -25,13 +25,13 @@ use Rattle.kernel_session.specs.declared.socket.Socket.{Socket}
 use Rattle.kernel_session.specs.declared.flow.Flow.TheVariants.{OutOfMemory}
 use Rattle.kernel_session.specs.declared.talk.DeskReply.{DeskReply}
 use Rattle.kernel_session.specs.declared.talk.DeskReply.TheVariants.{Ended, Unposted, Answered}
-use Rattle.kernel_session.specs.Question.{Open, Close, Comms, Wishes}
+use Rattle.kernel_session.specs.Question.{Open, Close, IsOpen, Wishes}
 use Rattle.kernel_session.specs.Call as call
 use Rattle.kernel_session.specs.Call.{Call}
 use Rattle.kernel_session.specs.Order as order
 use Rattle.kernel_session.specs.Order.{Order, AreOrders}
 use Rattle.kernel_session.specs.Action.{Action, asks}
-use Rattle.kernel_session.specs.Talk.{Heard, Talk, before, ask, post, history, change_then_list, close_comm, if_open, follow, is_listed, talk, says_of}
+use Rattle.kernel_session.specs.Talk.{Heard, Talk, before, ask, post, history, open_then_ask, close_comm, if_open, follow, says_open, talk, says_of}
 use Rattle.kernel_session.specs.Session.{State, IsDated, opened, served, state_behind, IsServed, IsSession}
 use Rattle.kernel_session.specs.Laws.{IsFramed, BusyFirstAndIdleLast, is_told_open, job_orders, history_orders, opening_orders, comm_orders, orders_wanted, OrdersWhatIsWanted, InTwo, SessionsGoOn}
 use Rattle.kernel_session.proofs.SessionLemmas.{session_join}
@@ -51,7 +51,7 @@ inputs_asked r Range a = refl
 inputs_asked r Tail a = refl
 inputs_asked r Search a = refl
 
-opened_once : (id : List ℕ) (b : Result Bool HallFault) (a : Result Answer HallFault) → Orders (change_then_list (Open id) b a) (opening_orders id b)
+opened_once : (id : List ℕ) (b : Result Bool HallFault) (a : Result Answer HallFault) → Orders (open_then_ask id b a) (opening_orders id b)
 opened_once id (Ok b) a = refl
 opened_once id (Err fault) a = refl
 
@@ -71,14 +71,14 @@ followed (comm.Goto n) h = posted (Goto n) [] h.job h.answer
 followed comm.State h = refl
 followed comm.Other h = refl
 
-listed : (b : Bool) (a : Answer) (t : Talk) (orders : List Order) → Orders t orders
-    → Orders (if b then before (call.Asked Comms (Ok a) ∷ []) t else ask Comms (Ok a)) (order.Ask Comms ∷ (if b then orders else []))
-listed true a t orders p = ap (λ (xs : List (Option Order)). Some (order.Ask Comms) ∷ xs) p
-listed false a t orders p = refl
+looked : (b : Bool) (id : List ℕ) (a : Answer) (t : Talk) (orders : List Order) → Orders t orders
+    → Orders (if b then before (call.Asked (IsOpen id) (Ok a) ∷ []) t else ask (IsOpen id) (Ok a)) (order.Ask (IsOpen id) ∷ (if b then orders else []))
+looked true id a t orders p = ap (λ (xs : List (Option Order)). Some (order.Ask (IsOpen id)) ∷ xs) p
+looked false id a t orders p = refl
 
 on_open : (id : List ℕ) (a : Result Answer HallFault) (t : Talk) (orders : List Order) → Orders t orders
-    → Orders (if_open id a t) (order.Ask Comms ∷ (if is_told_open id a then orders else []))
-on_open id (Ok a) t orders p = listed (is_listed id a.content) a t orders p
+    → Orders (if_open id a t) (order.Ask (IsOpen id) ∷ (if is_told_open a then orders else []))
+on_open id (Ok a) t orders p = looked (says_open a.content) id a t orders p
 on_open id (Err fault) t orders p = refl
 
 pub orders_what_is_wanted : OrdersWhatIsWanted
@@ -92,8 +92,8 @@ orders_what_is_wanted (request.CommInfo r) h = refl
 orders_what_is_wanted request.Interrupt h = refl
 orders_what_is_wanted (request.Shutdown r) h = refl
 orders_what_is_wanted (request.CommOpen r) h =
-    chosen (bytes_eq (string_bytes r.target_name) undo_target) _ _ _ (order.Ask Comms ∷ []) (opened_once (string_bytes r.comm_id) h.changed h.answer) refl
-orders_what_is_wanted (request.CommMessage r) h = on_open (string_bytes r.comm_id) h.comms (follow r.ask h) _ (followed r.ask h)
+    chosen (bytes_eq (string_bytes r.target_name) undo_target) _ _ _ (order.Ask (IsOpen (string_bytes r.comm_id)) ∷ []) (opened_once (string_bytes r.comm_id) h.changed h.answer) refl
+orders_what_is_wanted (request.CommMessage r) h = on_open (string_bytes r.comm_id) h.comm (follow r.ask h) _ (followed r.ask h)
 orders_what_is_wanted (request.CommClose r) h = closed_once (string_bytes r.comm_id) h.changed
 
 -- ---- the status of the kernel

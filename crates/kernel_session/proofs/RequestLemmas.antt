@@ -5,9 +5,7 @@ use Rattle.std.specs.Io.KnownBytes.{Appends}
 use Rattle.jupyter_msg.specs.Message.{frames_of}
 use Rattle.jupyter_msg.specs.declared.request.Request.{Request}
 use Rattle.kernel_message.specs.declared.stamp.Stamp.{Stamp}
-use Rattle.kernel_message.specs.Message.{broadcast_message}
 use Rattle.kernel_message.specs.Sent.{Sent}
-use Rattle.kernel_reply.specs.Status.{busy}
 use Rattle.kernel_session.specs.declared.talk.DeskReply.{DeskReply}
 use Rattle.kernel_session.specs.declared.flow.Flow.{Flow}
 use Rattle.kernel_session.specs.declared.flow.Flow.TheVariants.{OutOfMemory, Worn}
@@ -39,21 +37,18 @@ starts_with first done all p = (p.0, ap (λ t. first ++ t) p.1 ∙ sym (append_a
 pub asks_start : (done more : List Call) → IsStartOf (asks done) (asks (done ++ more))
 asks_start done more = (asks more, map-append Called done more)
 
-module _ {D : Type 0} (leads : D → Call → D → Type 0) (d d1 d2 : D) (key header : List ℕ) (r : Request) (stamp stamp1 : Stamp) where
-  abbrev opening : List ℕ → Stamp → List Call
-  opening h dated = Dated stamp.date dated.date ∷ Published (frames_of key (broadcast_message h dated dated.next busy)) ∷ []
+module _ {D : Type 0} (leads : D → Call → D → Type 0) (d d1 d2 : D) (key : List ℕ) (r : Request) (stamp stamp1 : Stamp) where
+  -- the calls with which a request is begun
+  abbrev opening : Stamp → List Call
+  opening dated = Dated stamp.date dated.date ∷ Published (busy_frames key r dated) ∷ []
 
-  -- the calls of a request that was begun
-  begun_for : (p : IsBegun leads d d1 key header stamp stamp1) → r.header.items ≡ header → Leads leads d (opening r.header.items p.dated) d1
-  begun_for p e = subst (λ (x : List ℕ). Leads leads d (opening x p.dated) d1) (sym e) p.called
-
-  pub taken_up : IsBegun leads d d1 key header stamp stamp1 → r.header.items ≡ header → (told : Option DeskReply) (h : Heard)
+  pub taken_up : IsBegun leads d d1 key r.header.items stamp stamp1 → (told : Option DeskReply) (h : Heard)
       → IsHeld leads d1 (talk r.content h) told d2 → IsTakenUp leads d d2 key r stamp stamp1 told
-  taken_up p e told h q = record {
+  taken_up p told h q = record {
     dated = p.dated;
     is_dated = p.is_dated;
     heard = h;
-    called = leads_join leads d d1 d2 (opening r.header.items p.dated) (talk r.content h).calls (begun_for p e) q.0;
+    called = leads_join leads d d1 d2 (opening p.dated) (talk r.content h).calls p.called q.0;
     tells = q.1;
     moved = p.moved;
   }
@@ -66,16 +61,16 @@ module _ {D : Type 0} (leads : D → Call → D → Type 0) (d d1 d2 : D) (key h
     called = (Dated stamp.date p.dated.date ∷ [], Published (busy_frames key r p.dated) ∷ (talk r.content nobody).calls, refl, p.called);
   }
 
-  pub begun_part : IsBegun leads d d1 key header stamp stamp1 → r.header.items ≡ header → d2 ≡ d1 → IsTakenUpPart leads d d2 key r stamp
-  begun_part p e same = record {
+  pub begun_part : IsBegun leads d d1 key r.header.items stamp stamp1 → d2 ≡ d1 → IsTakenUpPart leads d d2 key r stamp
+  begun_part p same = record {
     dated = p.dated;
     is_dated = p.is_dated;
     heard = nobody;
     called = (
-      opening r.header.items p.dated,
+      opening p.dated,
       (talk r.content nobody).calls,
       refl,
-      subst (λ (x : D). Leads leads d (opening r.header.items p.dated) x) (sym same) (begun_for p e),
+      subst (λ (x : D). Leads leads d (opening p.dated) x) (sym same) p.called,
     );
   }
 

@@ -10,9 +10,9 @@ use Rattle.kernel_ask.specs.declared.answer.HallFault.TheVariants as hall_fault
 use Rattle.kernel_session.specs.declared.talk.DeskReply.{DeskReply}
 use Rattle.kernel_session.specs.declared.talk.DeskReply.TheVariants.{Answered}
 use Rattle.kernel_reply.specs.Comms.{target as undo_target}
-use Rattle.kernel_session.specs.Question.{Comms, Open}
+use Rattle.kernel_session.specs.Question.{IsOpen}
 use Rattle.kernel_session.specs.Call.{Call, Asked}
-use Rattle.kernel_session.specs.Talk.{Heard, Talk, IsHeld, ask, before, is_listed, if_open, change_then_list, open_comm, follow, talk}
+use Rattle.kernel_session.specs.Talk.{Heard, Talk, IsHeld, ask, before, says_open, if_open, open_then_ask, open_comm, follow, talk}
 use Rattle.jupyter_msg.specs.declared.comm.CommAsk.{CommAsk}
 use Rattle.jupyter_msg.specs.declared.comm.CommAsk.TheVariants as comm
 use Rattle.jupyter_msg.specs.declared.request.RequestContent.{RequestContent}
@@ -28,53 +28,53 @@ pub unposted : Result Done PostFault
 unposted = Err post_fault.Memory
 
 abbrev pub nobody : Heard
-nobody = record { comms = unasked; changed = unchanged; job = unposted; answer = unasked }
+nobody = record { comm = unasked; changed = unchanged; job = unposted; answer = unasked }
 
 abbrev pub heard_answer : Result Answer HallFault → Heard
-heard_answer a = record { comms = unasked; changed = unchanged; job = unposted; answer = a }
+heard_answer a = record { comm = unasked; changed = unchanged; job = unposted; answer = a }
 
 abbrev pub heard_change : Result Bool HallFault → Result Answer HallFault → Heard
-heard_change b a = record { comms = unasked; changed = b; job = unposted; answer = a }
+heard_change b a = record { comm = unasked; changed = b; job = unposted; answer = a }
 
 abbrev pub heard_job : Result Done PostFault → Result Answer HallFault → Heard
-heard_job j a = record { comms = unasked; changed = unchanged; job = j; answer = a }
+heard_job j a = record { comm = unasked; changed = unchanged; job = j; answer = a }
 
--- the open comms were told too
-abbrev pub heard_comms : Result Answer HallFault → Heard → Heard
-heard_comms a h = record h { comms = a }
+-- whether the comm is open was told too
+abbrev pub heard_comm : Result Answer HallFault → Heard → Heard
+heard_comm a h = record h { comm = a }
 
 module _ {D : Type 0} (leads : D → Call → D → Type 0) (d d1 : D) where
-  pub open_held : (d2 : D) (id : List ℕ) (a : Answer) (t : Talk) (told : Option DeskReply) → is_listed id a.content ≡ true
-      → leads d (Asked Comms (Ok a)) d1 → IsHeld leads d1 t told d2 → IsHeld leads d (if_open id (Ok a) t) told d2
+  pub open_held : (d2 : D) (id : List ℕ) (a : Answer) (t : Talk) (told : Option DeskReply) → says_open a.content ≡ true
+      → leads d (Asked (IsOpen id) (Ok a)) d1 → IsHeld leads d1 t told d2 → IsHeld leads d (if_open id (Ok a) t) told d2
   open_held d2 id a t told e p q =
-      subst (λ (b : Bool). IsHeld leads d (if b then before (Asked Comms (Ok a) ∷ []) t else ask Comms (Ok a)) told d2) (sym e)
+      subst (λ (b : Bool). IsHeld leads d (if b then before (Asked (IsOpen id) (Ok a) ∷ []) t else ask (IsOpen id) (Ok a)) told d2) (sym e)
       ((d1, p, q.0), q.1)
 
-  pub closed_held : (id : List ℕ) (a : Answer) (t : Talk) → is_listed id a.content ≡ false
-      → leads d (Asked Comms (Ok a)) d1 → IsHeld leads d (if_open id (Ok a) t) (Some (Answered a)) d1
+  pub closed_held : (id : List ℕ) (a : Answer) (t : Talk) → says_open a.content ≡ false
+      → leads d (Asked (IsOpen id) (Ok a)) d1 → IsHeld leads d (if_open id (Ok a) t) (Some (Answered a)) d1
   closed_held id a t e p =
-      subst (λ (b : Bool). IsHeld leads d (if b then before (Asked Comms (Ok a) ∷ []) t else ask Comms (Ok a)) (Some (Answered a)) d1) (sym e)
+      subst (λ (b : Bool). IsHeld leads d (if b then before (Asked (IsOpen id) (Ok a) ∷ []) t else ask (IsOpen id) (Ok a)) (Some (Answered a)) d1) (sym e)
       ((d1, p, refl), refl)
 
   pub target_held : (target id : List ℕ) (b : Result Bool HallFault) (a : Result Answer HallFault) (told : Option DeskReply)
-      → bytes_eq target undo_target ≡ true → IsHeld leads d (change_then_list (Open id) b a) told d1
+      → bytes_eq target undo_target ≡ true → IsHeld leads d (open_then_ask id b a) told d1
       → IsHeld leads d (open_comm target id (heard_change b a)) told d1
   target_held target id b a told e p =
-      subst (λ (t : Bool). IsHeld leads d (if t then change_then_list (Open id) b a else ask Comms a) told d1) (sym e) p
+      subst (λ (t : Bool). IsHeld leads d (if t then open_then_ask id b a else ask (IsOpen id) a) told d1) (sym e) p
 
   pub other_held : (target id : List ℕ) (a : Result Answer HallFault) (told : Option DeskReply)
-      → bytes_eq target undo_target ≡ false → IsHeld leads d (ask Comms a) told d1
+      → bytes_eq target undo_target ≡ false → IsHeld leads d (ask (IsOpen id) a) told d1
       → IsHeld leads d (open_comm target id (heard_answer a)) told d1
   other_held target id a told e p =
-      subst (λ (t : Bool). IsHeld leads d (if t then change_then_list (Open id) unchanged a else ask Comms a) told d1) (sym e) p
+      subst (λ (t : Bool). IsHeld leads d (if t then open_then_ask id unchanged a else ask (IsOpen id) a) told d1) (sym e) p
 
--- what follows does not depend on the list of comms
-pub follow-comms : (asked : CommAsk) (a : Result Answer HallFault) (h : Heard) → follow asked (heard_comms a h) ≡ follow asked h
-follow-comms (comm.Undo k) a h = refl
-follow-comms (comm.Redo k) a h = refl
-follow-comms (comm.Goto n) a h = refl
-follow-comms comm.State a h = refl
-follow-comms comm.Other a h = refl
+-- what follows does not depend on what was told of the comm
+pub follow-comm : (asked : CommAsk) (a : Result Answer HallFault) (h : Heard) → follow asked (heard_comm a h) ≡ follow asked h
+follow-comm (comm.Undo k) a h = refl
+follow-comm (comm.Redo k) a h = refl
+follow-comm (comm.Goto n) a h = refl
+follow-comm comm.State a h = refl
+follow-comm comm.Other a h = refl
 
 module _ {D : Type 0} (leads : D → Call → D → Type 0) (d d' : D) where
   abbrev pub Held : RequestContent → Option DeskReply → Type 0

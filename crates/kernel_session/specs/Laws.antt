@@ -24,21 +24,21 @@ use Rattle.kernel_reply.specs.Comms.{target as undo_target}
 use Rattle.kernel_reply.specs.Laws.{EndsIdle}
 use Rattle.kernel_session.specs.declared.socket.Socket.{Socket}
 use Rattle.kernel_session.specs.declared.flow.Flow.TheVariants.{OutOfMemory}
-use Rattle.kernel_session.specs.Question.{Complete, Inspect, IsComplete, History, Comms, State as StateAsk, Open, Close, Wishes}
+use Rattle.kernel_session.specs.Question.{Complete, Inspect, IsComplete, History, Comms, IsOpen, State as StateAsk, Open, Close, Wishes}
 use Rattle.kernel_session.specs.Call as call
 use Rattle.kernel_session.specs.Call.{Call}
 use Rattle.kernel_session.specs.Order as order
 use Rattle.kernel_session.specs.Order.{Order, AreOrders}
 use Rattle.kernel_session.specs.Action.{Action, asks}
-use Rattle.kernel_session.specs.Talk.{Heard, is_listed, talk}
+use Rattle.kernel_session.specs.Talk.{Heard, says_open, talk}
 use Rattle.kernel_session.specs.Session.{State, IsDated, opened, answered, busy_frames, IsServed, IsSession}
 
 -- ---- orders
 
 -- the desk has told the comm as open
-abbrev pub is_told_open : List ℕ → Result Answer HallFault → Bool
-is_told_open id (Ok a) = is_listed id a.content
-is_told_open id (Err fault) = false
+abbrev pub is_told_open : Result Answer HallFault → Bool
+is_told_open (Ok a) = says_open a.content
+is_told_open (Err fault) = false
 
 -- a job is posted, and where the post is refused the state is asked for
 abbrev pub job_orders : Request → Wishes → Result Done PostFault → List Order
@@ -51,9 +51,9 @@ history_orders r Range = order.Ask (History (inputs.Range r.session r.start r.st
 history_orders r Tail = order.Ask (History (inputs.Tail r.n)) ∷ []
 history_orders r Search = []
 
--- a comm is opened, and then the open comms are asked for, unless there was no memory to open it
+-- a comm is opened, and then it is asked whether it is open, unless there was no memory to open it
 abbrev pub opening_orders : List ℕ → Result Bool HallFault → List Order
-opening_orders id (Ok b) = order.Alter (Open id) ∷ order.Ask Comms ∷ []
+opening_orders id (Ok b) = order.Alter (Open id) ∷ order.Ask (IsOpen id) ∷ []
 opening_orders id (Err fault) = order.Alter (Open id) ∷ []
 
 -- on an open comm a move is posted, with no user expressions, and the state is asked for; other data asks nothing
@@ -77,9 +77,10 @@ orders_wanted (request.CommInfo r) h = order.Ask Comms ∷ []
 orders_wanted request.Interrupt h = order.Ring ∷ []
 orders_wanted (request.Shutdown r) h = order.Shut ∷ order.Ring ∷ []
 orders_wanted (request.CommOpen r) h =
-    if bytes_eq (string_bytes r.target_name) undo_target then opening_orders (string_bytes r.comm_id) h.changed else order.Ask Comms ∷ []
+    if bytes_eq (string_bytes r.target_name) undo_target then opening_orders (string_bytes r.comm_id) h.changed
+    else order.Ask (IsOpen (string_bytes r.comm_id)) ∷ []
 orders_wanted (request.CommMessage r) h =
-    order.Ask Comms ∷ (if is_told_open (string_bytes r.comm_id) h.comms then comm_orders r.ask h.job else [])
+    order.Ask (IsOpen (string_bytes r.comm_id)) ∷ (if is_told_open h.comm then comm_orders r.ask h.job else [])
 orders_wanted (request.CommClose r) h = order.Alter (Close (string_bytes r.comm_id)) ∷ []
 
 -- Each request orders of the desk what it is to order, each once and in this order, and has it do nothing else.

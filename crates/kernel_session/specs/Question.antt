@@ -14,6 +14,7 @@ pub data Question : Type 0 where
   IsComplete : List ℕ → Question
   History : HistoryAsk → Question
   Comms : Question
+  IsOpen : List ℕ → Question
   State : Question
 
 abbrev pub question_of : Ask → Question
@@ -22,6 +23,7 @@ question_of (ask.Inspect code cursor) = Inspect (string_bytes code) cursor
 question_of (ask.IsComplete code) = IsComplete (string_bytes code)
 question_of (ask.History range) = History range
 question_of ask.Comms = Comms
+question_of (ask.IsOpen id) = IsOpen (string_bytes id)
 question_of ask.State = State
 
 -- a change of the open comms, by the id of one

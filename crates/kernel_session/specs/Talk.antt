@@ -1,6 +1,5 @@
 -- What a request has the desk do, by what the desk says (Jupyter messaging page, version 5.4; the comms of the target `janus.undo`).
 use Rattle.std.specs.Prelude.{◌≡◌, ℕ, Bool, false, List, [], ◌∷◌, ◌++◌, string_bytes, Option, Some, None, Result, Ok, Err, if◌then◌else◌}
-use Rattle.std.specs.List.{list_any}
 use Rattle.std.specs.Str.{bytes_eq}
 use Rattle.jupyter_msg.specs.declared.request.RequestContent.{RequestContent}
 use Rattle.jupyter_msg.specs.declared.request.RequestContent.TheVariants as request
@@ -23,12 +22,12 @@ use Rattle.kernel_reply.specs.Answers.{job_says, ask_says, refusal_says}
 use Rattle.kernel_reply.specs.Comms.{target as undo_target}
 use Rattle.kernel_session.specs.declared.talk.DeskReply.{DeskReply}
 use Rattle.kernel_session.specs.declared.talk.DeskReply.TheVariants.{Ended, Unposted, Answered}
-use Rattle.kernel_session.specs.Question.{Question, Complete, Inspect, IsComplete, History, Comms, State, Change, Open, Close, Wishes}
+use Rattle.kernel_session.specs.Question.{Question, Complete, Inspect, IsComplete, History, Comms, IsOpen, State, Change, Open, Close, Wishes}
 use Rattle.kernel_session.specs.Call.{Call, Posted, Asked, Changed, Rang, Shut, Leads}
 
 -- what the desk says to one request, as far as it is asked
 pub record Heard : Type 0 where
-  pub comms : Result Answer HallFault  -- the open comms
+  pub comm : Result Answer HallFault  -- whether the comm of a message is open
   pub changed : Result Bool HallFault
   pub job : Result Done PostFault
   pub answer : Result Answer HallFault
@@ -72,30 +71,30 @@ history r Range a = ask (History (asked.Range r.session r.start r.stop)) a
 history r Tail a = ask (History (asked.Tail r.n)) a
 history r Search a = only []
 
--- after a change of the comms their list is asked for
-abbrev pub change_then_list : Change → Result Bool HallFault → Result Answer HallFault → Talk
-change_then_list c (Ok b) a = before (Changed c (Ok b) ∷ []) (ask Comms a)
-change_then_list c (Err fault) a = record { calls = Changed c (Err fault) ∷ []; told = None }
+-- a comm is opened, and then it is asked whether it is open
+abbrev pub open_then_ask : List ℕ → Result Bool HallFault → Result Answer HallFault → Talk
+open_then_ask id (Ok b) a = before (Changed (Open id) (Ok b) ∷ []) (ask (IsOpen id) a)
+open_then_ask id (Err fault) a = record { calls = Changed (Open id) (Err fault) ∷ []; told = None }
 
 -- a comm is opened for the one target alone
 abbrev pub open_comm : List ℕ → List ℕ → Heard → Talk
 open_comm target id h =
-    if bytes_eq target undo_target then change_then_list (Open id) h.changed h.answer else ask Comms h.answer
+    if bytes_eq target undo_target then open_then_ask id h.changed h.answer else ask (IsOpen id) h.answer
 
 abbrev pub close_comm : List ℕ → Result Bool HallFault → Talk
 close_comm id (Ok b) = only (Changed (Close id) (Ok b) ∷ [])
 close_comm id (Err fault) = record { calls = Changed (Close id) (Err fault) ∷ []; told = None }
 
--- the comm is among those that the desk has told as open
-abbrev pub is_listed : List ℕ → Content → Bool
-is_listed id (content.Comms ids) = list_any (λ x. bytes_eq id (string_bytes x)) ids.items
-is_listed id _ = false
+-- the desk has told the comm as open
+abbrev pub says_open : Content → Bool
+says_open (content.IsOpen is) = is
+says_open _ = false
 
 -- on a comm that is open, the talk; on any other nothing more
 abbrev pub if_open : List ℕ → Result Answer HallFault → Talk → Talk
 if_open id (Ok a) talk =
-    if is_listed id a.content then before (Asked Comms (Ok a) ∷ []) talk else ask Comms (Ok a)
-if_open id (Err fault) talk = ask Comms (Err fault)
+    if says_open a.content then before (Asked (IsOpen id) (Ok a) ∷ []) talk else ask (IsOpen id) (Ok a)
+if_open id (Err fault) talk = ask (IsOpen id) (Err fault)
 
 -- a move is a job; other data asks nothing
 abbrev pub follow : CommAsk → Heard → Talk
@@ -118,7 +117,7 @@ talk (request.CommInfo r) h = ask Comms h.answer
 talk request.Interrupt h = only (Rang ∷ [])
 talk (request.Shutdown r) h = only (Shut ∷ Rang ∷ [])
 talk (request.CommOpen r) h = open_comm (string_bytes r.target_name) (string_bytes r.comm_id) h
-talk (request.CommMessage r) h = if_open (string_bytes r.comm_id) h.comms (follow r.ask h)
+talk (request.CommMessage r) h = if_open (string_bytes r.comm_id) h.comm (follow r.ask h)
 talk (request.CommClose r) h = close_comm (string_bytes r.comm_id) h.changed
 
 -- the desk was asked so, and this was told

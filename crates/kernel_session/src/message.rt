@@ -17,29 +17,21 @@ use crate::flow::Flow;
 use crate::request::take_request;
 use crate::send::{send_message, send_pong};
 use crate::socket::Socket;
-use jupyter_msg::{Key, Message, MsgFault, Request, open};
+use jupyter_msg::{Key, MsgFault, Request, open};
 use kernel_message::Stamp;
 use std::alloc::Global;
 use std::io::Write;
 use std::mem;
 use zmtp_peer::PeerEvent;
 
-/// A message, and what it asks.
-#[derive(Drop)]
-struct Asked {
-    message: Message,
-    request: Request,
-}
-
-/// What a message asks, with the message; nothing where it is refused, or where the socket doesn't serve it.
+/// What a message asks; nothing where it is refused, or where the socket doesn't serve it.
 fn read_request(
     alloc: Global,
     socket: Socket,
     key: &Key,
     frames: Vec<Vec<u8>>,
-) -> Result<Option<Asked>, ServeFault>
-    ensures asked { IfOk result (λ read. IfSome read (λ r. IsAsked socket key.now (octets frames.items) r.request)) }
-    ensures header { IfOk result (λ read. IfSome read (λ r. r.request.header.items ≡ r.message.header.items)) }
+) -> Result<Option<Request>, ServeFault>
+    ensures asked { IfOk result (λ read. IfSome read (IsAsked socket key.now (octets frames.items))) }
     ensures none { IfOk result (λ read. IfNone read (IsPassedOver socket key.now (octets frames.items))) }
     ensures midway { IfErr result IsMidway }
 {
@@ -48,16 +40,13 @@ fn read_request(
         Err(MsgFault::Memory) => return Err(ServeFault::Memory),
         Err(_) => return Ok(None),
     };
-    let request = match Request::read(alloc, &opened) {
+    let request = match Request::take(alloc, opened) {
         Ok(request) => request,
         Err(MsgFault::Memory) => return Err(ServeFault::Memory),
         Err(_) => return Ok(None),
     };
     if socket.serves(request.content.request_type()) {
-        Ok(Some(Asked {
-            message: opened.message,
-            request,
-        }))
+        Ok(Some(request))
     } else {
         Ok(None)
     }
@@ -81,19 +70,11 @@ fn take_turn<W: Write, D: Desk>(
     ensures midway { IfErr result IsMidway }
 {
     let read = read_request(alloc, socket, key, frames)?;
-    let asked = match read {
-        Some(asked) => asked,
+    let request = match read {
+        Some(request) => request,
         None => return Ok(Flow::Going),
     };
-    take_request(
-        alloc,
-        key,
-        writer,
-        desk,
-        stamp,
-        &asked.message,
-        &asked.request,
-    )
+    take_request(alloc, key, writer, desk, stamp, &request)
 }
 
 /// Sends a message back.

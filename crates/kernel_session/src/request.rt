@@ -21,7 +21,7 @@ use crate::talk::{DeskReply, consult};
 use jupyter_msg::{Key, Message, Request, RequestContent};
 use kernel_board::Broadcast;
 use kernel_message::{Outgoing, Stamp};
-use kernel_reply::{answer, answer_ask, opening, refuse};
+use kernel_reply::{answer, answer_ask, opening_by_header, refuse};
 use std::alloc::Global;
 use std::io::Write;
 
@@ -104,15 +104,15 @@ fn begin<D: Desk>(
     key: &Key,
     desk: &mut D,
     stamp: &mut Stamp,
-    message: &Message,
+    request: &Request,
 ) -> Result<(), ServeFault>
     requires { stamp.old.next ≤ 2 ^ 64 - 16 }
-    ensures ok { OnOk result (IsBegun D.leads desk.old desk.new key.now message.now.header.items stamp.old stamp.new) }
+    ensures ok { OnOk result (IsBegun D.leads desk.old desk.new key.now request.now.header.items stamp.old stamp.new) }
     ensures err { OnErr result (IsDatedAlone D.leads desk.old desk.new stamp.old) }
     ensures midway { IfErr result IsMidway }
 {
     desk.date(stamp);
-    let Ok(busy) = opening(alloc, message, stamp) else {
+    let Ok(busy) = opening_by_header(alloc, &request.header, stamp) else {
         return Err(ServeFault::Memory);
     };
     publish_awake(alloc, desk, key, busy)
@@ -124,16 +124,14 @@ fn take_up<D: Desk>(
     key: &Key,
     desk: &mut D,
     stamp: &mut Stamp,
-    message: &Message,
     request: &Request,
 ) -> Result<Option<DeskReply>, ServeFault>
-    requires numbered { stamp.old.next ≤ 2 ^ 64 - 16 }
-    requires header { request.now.header.items ≡ message.now.header.items }
+    requires { stamp.old.next ≤ 2 ^ 64 - 16 }
     ensures ok { IfOk result (λ told. IsTakenUp D.leads desk.old desk.new key.now request.now stamp.old stamp.new told) }
     ensures err { OnErr result (IsTakenUpPart D.leads desk.old desk.new key.now request.now stamp.old) }
     ensures midway { IfErr result IsMidway }
 {
-    begin(alloc, key, desk, stamp, message)?;
+    begin(alloc, key, desk, stamp, request)?;
     match consult(alloc, desk, &request.content) {
         Ok(told) => Ok(told),
         Err(_) => Err(ServeFault::Memory),
@@ -228,17 +226,15 @@ fn flow_after(content: &RequestContent) -> Flow
     }
 }
 
-/// Serves a request that was read of the message.
+/// Serves a request.
 pub(crate) fn take_request<W: Write, D: Desk>(
     alloc: Global,
     key: &Key,
     writer: &mut W,
     desk: &mut D,
     stamp: &mut Stamp,
-    message: &Message,
     request: &Request,
 ) -> Result<Flow, ServeFault>
-    requires header { request.now.header.items ≡ message.now.header.items }
     ensures ok { IfOk result (λ flow. (actions : List Action)
         × Acts W.contents D.leads writer.old writer.new desk.old desk.new actions
         × (IsServed key.now request.now stamp.old actions (record { stamp = stamp.new; flow = flow })
@@ -250,7 +246,7 @@ pub(crate) fn take_request<W: Write, D: Desk>(
     if stamp.next > LAST_NEXT {
         return Ok(Flow::Worn);
     }
-    let told = take_up(alloc, key, desk, stamp, message, request)?;
+    let told = take_up(alloc, key, desk, stamp, request)?;
     let told = match told {
         Some(told) => told,
         None => return Ok(Flow::OutOfMemory),

@@ -1,6 +1,5 @@
 //! What a request has the desk do.
 ghost use Rattle.std.specs.Prelude.{◌≡◌, ◌++◌, ◌∷◌, [], Bool, IfOk, OnOk, OnErr, Result, string_bytes};
-ghost use Rattle.std.specs.List.{list_any};
 ghost use Rattle.std.specs.Str.{bytes_eq};
 ghost use Rattle.jupyter_msg.specs.Requests.{expressions_of};
 ghost use Rattle.kernel_core.specs.Request.{request_of, RunCell};
@@ -8,10 +7,10 @@ ghost use Rattle.kernel_core.specs.post.PostFault.{PostFault};
 ghost use Rattle.kernel_ask.specs.declared.done.Done.{Done};
 ghost use Rattle.kernel_ask.specs.declared.answer.Answer.{Answer};
 ghost use Rattle.kernel_ask.specs.declared.answer.HallFault.{HallFault};
-ghost use Rattle.kernel_session.specs.Question.{question_of, change_of, wishes_of, Complete, Inspect, IsComplete};
+ghost use Rattle.kernel_session.specs.Question.{question_of, wishes_of, Complete, Inspect, IsComplete};
 ghost use Rattle.kernel_reply.specs.Comms.{target as undo_target};
 ghost use Rattle.kernel_session.specs.Call.{Rang, Shut};
-ghost use Rattle.kernel_session.specs.Talk.{Heard, IsHeld, ask as ask_talk, post as post_talk, answered as answered_by, is_listed as is_listed_in, history as history_talk, change_then_list as change_talk, open_comm as open_talk, close_comm as close_talk, follow as follow_talk, if_open, talk, only, no_answer as no_answer_is};
+ghost use Rattle.kernel_session.specs.Talk.{Heard, IsHeld, ask as ask_talk, post as post_talk, answered as answered_by, says_open as says_open_of, history as history_talk, open_then_ask as open_then_ask_talk, open_comm as open_talk, close_comm as close_talk, follow as follow_talk, if_open, talk, only, no_answer as no_answer_is};
 
 use crate::desk::Desk;
 use jupyter_msg::{
@@ -136,13 +135,14 @@ fn history<D: Desk>(desk: &mut D, request: &HistoryRequest) -> Option<DeskReply>
     }
 }
 
-/// Changes the comms, and asks for them after it.
-fn change_then_list<D: Desk>(desk: &mut D, change: CommChange) -> Option<DeskReply>
+/// Opens a comm, and asks whether it is open after it. Its id is given twice, for a call takes it.
+fn open_then_ask<D: Desk>(desk: &mut D, id: String, same: String) -> Option<DeskReply>
+    requires { string_bytes same ≡ string_bytes id }
     ensures { (b : Result Bool HallFault) × (a : Result Answer HallFault)
-        × IsHeld D.leads desk.old (change_talk (change_of change) b a) result desk.new }
+        × IsHeld D.leads desk.old (open_then_ask_talk (string_bytes id) b a) result desk.new }
 {
-    match desk.comm(change) {
-        Ok(_) => ask(desk, Ask::Comms),
+    match desk.comm(CommChange::Open(id)) {
+        Ok(_) => ask(desk, Ask::IsOpen { id: same }),
         Err(_) => None,
     }
 }
@@ -154,17 +154,18 @@ fn is_undo_target(name: &str) -> bool
     name == COMM_TARGET
 }
 
-/// Opens a comm, if it is for the one target, and asks for the comms after it.
+/// Opens a comm, if it is for the one target, and asks whether it is open after it.
 fn open_comm<D: Desk>(desk: &mut D, request: &CommOpen) -> Result<Option<DeskReply>, AllocError>
     ensures ok { IfOk result (λ told. (h : Heard)
         × IsHeld D.leads desk.old (open_talk (string_bytes request.now.target_name) (string_bytes request.now.comm_id) h) told desk.new) }
     ensures err { OnErr result (desk.new ≡ desk.old) }
 {
+    let id = request.comm_id.clone()?;
     if is_undo_target(request.target_name.as_str()) {
-        let id = request.comm_id.clone()?;
-        return Ok(change_then_list(desk, CommChange::Open(id)));
+        let same = request.comm_id.clone()?;
+        return Ok(open_then_ask(desk, id, same));
     }
-    Ok(ask(desk, Ask::Comms))
+    Ok(ask(desk, Ask::IsOpen { id }))
 }
 
 /// Closes a comm.
@@ -178,23 +179,17 @@ fn close_comm<D: Desk>(desk: &mut D, id: &String) -> Result<Option<DeskReply>, A
     }
 }
 
-/// Whether the id is among the ids.
-fn has_id(id: &str, ids: &[String]) -> bool
-    ensures { result ≡ list_any (λ x. bytes_eq id.now (string_bytes x)) ids.now }
-{
-    ids.iter().any(|x| id == x.as_str())
-}
-
-/// Whether the comm is among those that the desk has told as open.
-fn is_listed(id: &str, content: &Content) -> bool
-    ensures { result ≡ is_listed_in id.now content.now }
+/// Whether the desk has told the comm as open.
+fn says_open(content: &Content) -> bool
+    ensures { result ≡ says_open_of content.now }
 {
     match content {
-        Content::Comms(ids) => has_id(id, ids),
+        Content::IsOpen(is_open) => *is_open,
         Content::Completion(_)
         | Content::Inspection(_)
         | Content::Completeness(_)
         | Content::History(_)
+        | Content::Comms(_)
         | Content::State(_) => false,
     }
 }
@@ -212,19 +207,33 @@ fn follow<D: Desk>(alloc: Global, desk: &mut D, asked: CommAsk) -> Option<DeskRe
     }
 }
 
-/// Does what a message on a comm asks, if the comm is open.
-fn on_comm<D: Desk>(alloc: Global, desk: &mut D, request: &CommMessage) -> Option<DeskReply>
-    ensures { (h : Heard) × IsHeld D.leads desk.old (if_open (string_bytes request.now.comm_id) h.comms (follow_talk request.now.ask h)) result desk.new }
+/// Does what a message on a comm asks, if the comm of this id is open.
+fn on_comm<D: Desk>(alloc: Global, desk: &mut D, id: String, asked: CommAsk) -> Option<DeskReply>
+    ensures { (h : Heard) × IsHeld D.leads desk.old (if_open (string_bytes id) h.comm (follow_talk asked h)) result desk.new }
 {
-    let open = match desk.ask(Ask::Comms) {
+    let open = match desk.ask(Ask::IsOpen { id }) {
         Ok(answer) => answer,
         Err(_) => return None,
     };
-    if is_listed(request.comm_id.as_str(), &open.content) {
-        follow(alloc, desk, request.ask)
+    if says_open(&open.content) {
+        follow(alloc, desk, asked)
     } else {
         Some(DeskReply::Answered(open))
     }
+}
+
+/// Does what a message asks on its comm, if that is open.
+fn comm_message<D: Desk>(
+    alloc: Global,
+    desk: &mut D,
+    request: &CommMessage,
+) -> Result<Option<DeskReply>, AllocError>
+    ensures ok { IfOk result (λ told. (h : Heard)
+        × IsHeld D.leads desk.old (if_open (string_bytes request.now.comm_id) h.comm (follow_talk request.now.ask h)) told desk.new) }
+    ensures err { OnErr result (desk.new ≡ desk.old) }
+{
+    let id = request.comm_id.clone()?;
+    Ok(on_comm(alloc, desk, id, request.ask))
 }
 
 /// Interrupts the open job.
@@ -303,7 +312,7 @@ pub(crate) fn consult<D: Desk>(
         RequestContent::Interrupt => Ok(interrupt(desk)),
         RequestContent::Shutdown(_) => Ok(shut(desk)),
         RequestContent::CommOpen(request) => open_comm(desk, request),
-        RequestContent::CommMessage(request) => Ok(on_comm(alloc, desk, request)),
+        RequestContent::CommMessage(request) => comm_message(alloc, desk, request),
         RequestContent::CommClose(request) => close_comm(desk, &request.comm_id),
     }
 }

@@ -91,7 +91,9 @@ fn ask_of(comms: &mut Comms, content: &RequestContent) -> Result<Ask, AllocError
         RequestContent::CommInfo(_) | RequestContent::CommClose(_) => Ok(Ask::Comms),
         RequestContent::CommOpen(request) => {
             let _opened = comms.open(request.comm_id.clone()?)?;
-            Ok(Ask::Comms)
+            Ok(Ask::IsOpen {
+                id: request.comm_id.clone()?,
+            })
         }
         _ => Ok(Ask::State),
     }

@@ -42,6 +42,7 @@ fn content(alloc: Global, ask: &Ask) -> Result<Content, AllocError> {
     match ask {
         Ask::IsComplete { code } => Ok(Content::Completeness(is_complete(alloc, code.as_str()))),
         Ask::Comms => Ok(Content::Comms(open_comms(alloc)?)),
+        Ask::IsOpen { id } => Ok(Content::IsOpen(id.as_str() == "c")),
         _ => Ok(Content::Inspection(None)),
     }
 }

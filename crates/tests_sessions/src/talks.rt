@@ -74,6 +74,7 @@ fn check_jobs(rt: &impl Abort, posted: &[Job], wanted: &[Job]) {
 fn is_same_ask(one: &Ask, other: &Ask) -> bool {
     match (one, other) {
         (Ask::Comms, Ask::Comms) | (Ask::State, Ask::State) => true,
+        (Ask::IsOpen { id }, Ask::IsOpen { id: other }) => id.as_str() == other.as_str(),
         (
             Ask::Complete { code, cursor },
             Ask::Complete {
@@ -120,6 +121,12 @@ fn check(
     check_asks(rt, &desk.asks, asks);
 }
 
+/// The question whether the comm of this id is open.
+fn is_open(rt: &impl Abort, alloc: Global, id: &str) -> Ask {
+    let id = String::from_str(alloc, id).expect(rt, "an id");
+    Ask::IsOpen { id }
+}
+
 /// A move on the open comm is posted, and where it is refused the state is asked for.
 #[test]
 fn a_redo_on_a_comm_is_posted(rt: HostRuntime) {
@@ -130,7 +137,7 @@ fn a_redo_on_a_comm_is_posted(rt: HostRuntime) {
         "comm_msg",
         content,
         &[Job::Redo(2)],
-        &[Ask::Comms, Ask::State],
+        &[is_open(&rt, rt.alloc(), "c"), Ask::State],
     );
 }
 
@@ -143,7 +150,7 @@ fn a_goto_on_a_comm_is_posted(rt: HostRuntime) {
         "comm_msg",
         content,
         &[Job::Goto(3)],
-        &[Ask::Comms, Ask::State],
+        &[is_open(&rt, rt.alloc(), "c"), Ask::State],
     );
 }
 
@@ -151,7 +158,8 @@ fn a_goto_on_a_comm_is_posted(rt: HostRuntime) {
 #[test]
 fn an_undo_on_another_comm_is_passed_over(rt: HostRuntime) {
     let content = "{\"comm_id\":\"d\",\"data\":{\"n\":1,\"op\":\"undo\"}}";
-    check(&rt, rt.alloc(), "comm_msg", content, &[], &[Ask::Comms]);
+    let want = [is_open(&rt, rt.alloc(), "d")];
+    check(&rt, rt.alloc(), "comm_msg", content, &[], &want);
 }
 
 #[test]
@@ -163,7 +171,7 @@ fn the_state_is_asked_for_on_a_comm(rt: HostRuntime) {
         "comm_msg",
         content,
         &[],
-        &[Ask::Comms, Ask::State],
+        &[is_open(&rt, rt.alloc(), "c"), Ask::State],
     );
 }
 

@@ -70,9 +70,8 @@ returns-in-CommOpen-clause-ok g c =
 pub returns-in-CommMessage-clause-ok : goal.returns-in-CommMessage-clause-ok
 returns-in-CommMessage-clause-ok g c =
     let r = c.in-CommMessage.request in
-    let p = c.on_comm.ensures in
-    held_as g.D.Desk.leads c.args.desk.now c.on_comm.new.desk c.args.content.now (request.CommMessage r) c.in-CommMessage.is c.on_comm.result p.0
-    (if_open (string_bytes r.comm_id) p.0.comms (follow r.ask p.0)) refl p.1
+    held_heard g.D.Desk.leads c.args.desk.now c.comm_message.new.desk c.args.content.now (request.CommMessage r) c.in-CommMessage.is
+    (λ h. if_open (string_bytes r.comm_id) h.comm (follow r.ask h)) (λ h. refl) c.comm_message.result c.comm_message.ensures.ok
 
 pub returns-in-CommClose-clause-ok : goal.returns-in-CommClose-clause-ok
 returns-in-CommClose-clause-ok g c =
