@@ -1,4 +1,5 @@
 pub mod Added
+pub mod AtNode
 pub mod Counted
 pub mod Ends
 pub mod Found
@@ -11,4 +12,3 @@ pub mod Sound
 pub mod Walk
 pub mod Numbers
 pub mod Rows
-mod AfterRun

@@ -1,5 +1,5 @@
 -- What is shown of a cell that ran (Jupyter messaging page, "Execution results").
-use Rattle.std.specs.Prelude.{◌≡◌, ℕ, List, [], ◌∷◌, map, Option, Some, None}
+use Rattle.std.specs.Prelude.{◌≡◌, ◌⊎◌, ℕ, List, [], ◌∷◌, map, Option, Some, None}
 use Rattle.std.specs.List.{filter, join_with_byte}
 use Rattle.janus_meaning.specs.Store.{Store}
 use Rattle.janus_meaning.specs.World.{listed}
@@ -7,6 +7,7 @@ use Rattle.janus_syntax.specs.Tree.{Cell, cell_view}
 use Rattle.janus_syntax.specs.declared.tree.Cell as code
 use Rattle.janus_syntax.specs.Text.{HasTree}
 use Rattle.kernel_core.specs.State.{Past, world_at}
+use Rattle.kernel_core.specs.NodeTrees.{IsTreeAt, HasNoTree}
 use Rattle.kernel_core.specs.outcome.Outcome.{Outcome}
 use Rattle.kernel_core.specs.outcome.Outcome.TheVariants.{Ran, Failed, Interrupted, Undid, Redid, Went, Refused}
 use Rattle.kernel_ask.specs.Naming.{in_cell}
@@ -41,3 +42,14 @@ IsShownAfter (Undid cells end) s text shown = shown ≡ None
 IsShownAfter (Redid cells end) s text shown = shown ≡ None
 IsShownAfter (Went up down end) s text shown = shown ≡ None
 IsShownAfter (Refused refusal) s text shown = shown ≡ None
+
+-- the same, told of a tree that is read as the cell of its node; nothing where there is no such node
+abbrev pub IsShownOfNode : Outcome → Past → Option (List ℕ) → Type 0
+IsShownOfNode (Ran node steps) s shown =
+    ((tree : Cell) × IsTreeAt s node tree × (shown ≡ shown_text (world_at s node).store tree)) ⊎ (HasNoTree s node × (shown ≡ None))
+IsShownOfNode (Failed fault steps) s shown = shown ≡ None
+IsShownOfNode (Interrupted steps) s shown = shown ≡ None
+IsShownOfNode (Undid cells end) s shown = shown ≡ None
+IsShownOfNode (Redid cells end) s shown = shown ≡ None
+IsShownOfNode (Went up down end) s shown = shown ≡ None
+IsShownOfNode (Refused refusal) s shown = shown ≡ None

@@ -1,5 +1,5 @@
 //! The answers over a lent kernel. None of them changes it.
-ghost use Rattle.std.specs.Prelude.{◌≡◌, ℕ, List, String, Some, length, map, string_bytes, option_map, IfOk, IfErr};
+ghost use Rattle.std.specs.Prelude.{◌≡◌, ℕ, List, String, length, map, string_bytes, option_map, IfOk, IfErr};
 ghost use Rattle.std.specs.Global.{Global};
 ghost use Rattle.kernel_core.specs.Runs.{Machine};
 ghost use Rattle.kernel_ask.specs.declared.answer.Ask.TheVariants.{IsComplete};
@@ -10,7 +10,7 @@ ghost use Rattle.kernel_ask.specs.Completion.{IsCompletion};
 ghost use Rattle.kernel_ask.specs.Inspection.{inspection};
 ghost use Rattle.kernel_ask.specs.History.{inputs, told, input_of};
 ghost use Rattle.kernel_ask.specs.Evaluation.{IsEvaluated, AreValuesAfter};
-ghost use Rattle.kernel_ask.specs.Shown.{IsCellOf, IsShownAfter};
+ghost use Rattle.kernel_ask.specs.Shown.{IsShownAfter, IsShownOfNode};
 ghost use Rattle.kernel_ask.specs.EndedAt.{StandsAtEnd};
 ghost use Rattle.kernel_ask.specs.State.{OfShown};
 ghost use Rattle.kernel_ask.specs.Answer.{IsContent, IsAnswer};
@@ -27,7 +27,6 @@ use crate::judgement::is_complete;
 use crate::shown::{shown_by, shown_of};
 use crate::standing::state;
 use crate::wishes::values_of;
-use janus_syntax::tree::Cell;
 use kernel_core::{Kernel, Outcome};
 use std::alloc::{AllocError, Global};
 use std::sync::ledger::Ledger;
@@ -133,24 +132,25 @@ pub fn shown<L: Ledger>(
     }
 }
 
-/// What is shown of a job that is over, as [`shown`] has it, by the cell that was read of its text. It is the same for each text of which
-/// this is the cell, so the text isn't read again. No job is open, and the kernel stands at that node still. The only error is want of memory.
-pub fn shown_of_cell<L: Ledger>(
+/// What is shown of a job that is over, as [`shown`] has it, by the cell that its node keeps, so no text is read. No job is open, and the kernel
+/// stands at that node still. The only error is want of memory.
+pub fn shown_of_node<L: Ledger>(
     alloc: Global,
     kernel: &Kernel<L>,
     outcome: &Outcome,
-    cell: &Cell,
 ) -> Result<Option<String>, AllocError>
     requires idle { kernel.now.machine.state.job ≡ Idle }
     requires still { StandsAtEnd outcome.now kernel.now.machine.state.past }
-    ensures { IfOk result (λ text. (code : List ℕ) → IsCellOf code (Some cell.now)
-        → IsShownAfter outcome.now kernel.now.machine.state.past code (option_map string_bytes text)) }
+    ensures { IfOk result (λ text. IsShownOfNode outcome.now kernel.now.machine.state.past (option_map string_bytes text)) }
 {
     match *outcome {
-        Outcome::Ran(_, _) => {
-            let world = kernel.world();
-            shown_of(alloc, world.store(), cell)
-        }
+        Outcome::Ran(node, _) => match kernel.cell(node) {
+            Some(cell) => {
+                let world = kernel.world();
+                shown_of(alloc, world.store(), cell)
+            }
+            None => Ok(None),
+        },
         Outcome::Failed(_, _)
         | Outcome::Interrupted(_)
         | Outcome::Undid(_, _)

@@ -32,7 +32,7 @@ mod wishes;
 pub use crate::answer::{Answer, Ask, Completion, Content, HallFault, KernelState};
 pub use crate::ask::{
     ask_on, complete, evaluate, evaluate_all, history, inspect, judge, shown as shown_text,
-    shown_of_cell,
+    shown_of_node,
 };
 pub use crate::comm_change::{CommChange, comm_on};
 pub use crate::comms::{COMM_LIMIT, Comms};
@@ -40,6 +40,5 @@ pub use crate::done::{Done, ExpFault, NamedValue, Wish};
 pub use crate::inputs::{HistoryAsk, Input};
 pub use crate::judgement::{Completeness, is_complete};
 pub use crate::lines::exp_fault_line;
-pub use crate::shown::cell_of;
 pub use crate::standing::{is_settled, stands_at_end, state};
 pub use kernel_text::{SHOWN_VALUES, outcome_line, post_fault_line, value_text};

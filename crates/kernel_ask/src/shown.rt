@@ -82,8 +82,8 @@ pub(crate) fn shown_of<L: Ledger>(
     }
 }
 
-/// The cell of a text, if it is one: to be read ahead of [`shown_of_cell`](crate::shown_of_cell). The only error is want of memory.
-pub fn cell_of(alloc: Global, code: &str) -> Result<Option<Cell>, AllocError>
+/// The cell of a text, if it is one.
+fn cell_of(alloc: Global, code: &str) -> Result<Option<Cell>, AllocError>
     ensures { IfOk result (IsCellOf code.now) }
 {
     match parse_cell(alloc, code) {

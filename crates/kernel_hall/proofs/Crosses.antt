@@ -110,7 +110,7 @@ pub RingerSeat-send : IsSend (RingerSeat.the_field).row
 RingerSeat-send = search (crosses, seat_send, sendable) depth 60 fits 20000
 
 PendingResult-send : IsSend (PendingResult.the_field).row
-PendingResult-send = search (crosses, maps, NamedValue-send, TreeCell-send, sendable) depth 60 fits 20000
+PendingResult-send = search (crosses, maps, NamedValue-send, sendable) depth 60 fits 20000
 
 Bell-sync : IsSync (Bell.the_field).row
 Bell-sync = search (crosses, table_sync, lease_sync, sendable) depth 60 fits 20000

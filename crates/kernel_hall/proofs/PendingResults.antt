@@ -15,7 +15,6 @@ pub record IsLeft (kept left : PendingResult) : Type 0 where
   pub posted : left.posted ≡ kept.posted
   pub ended : left.ended ≡ kept.ended
   pub wishes : left.wishes ≡ kept.wishes
-  pub cell : left.cell ≡ kept.cell
 
 pub told : (es : List PendingResult) (i n : ℕ) (x left : PendingResult) (r : Option Done) → i < length es → i ≡ n - 1 → IsLeft (get_or es i x) left → IfSome r (λ d. d.shown ≡ (get_or es i x).shown) → IfSome r (λ d. d.values ≡ (get_or es i x).values) → IfSome r (λ d. left.shown ≡ None) → IfSome r (λ d. left.values.items ≡ []) → IfSome r (λ d. IsTold es n d (slice_set es i left))
 told es i n x left None low same rest shown values none empty = tt
@@ -30,7 +29,6 @@ told es i n x left (Some d) low same rest shown values none empty = record {
   posted = rest.posted;
   ended = rest.ended;
   wishes = rest.wishes;
-  cell = rest.cell;
   others = ap (λ (j : ℕ). slice_set es j left) same;
 }
 

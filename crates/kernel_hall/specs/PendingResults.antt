@@ -1,6 +1,5 @@
 -- What stands beside the posts: their wishes until they end, and what is made as a job ends, to be told once.
 use Rattle.std.specs.Prelude.{◌≡◌, ℕ, ◌-◌, ◌≤◌, Bool, true, false, List, [], Option, None, Some, length, slice_get, slice_set, zero, suc}
-use Rattle.janus_syntax.specs.declared.tree.Cell.{Cell}
 use Rattle.kernel_core.specs.Minutes.{Entry, Posted, Ended}
 use Rattle.kernel_core.specs.outcome.Begun.{Begun}
 use Rattle.kernel_core.specs.outcome.Begun.TheVariants as begun
@@ -12,12 +11,11 @@ use Rattle.kernel_hall.specs.declared.pending_result.PendingResult.{PendingResul
 use Rattle.kernel_hall.specs.declared.turn.Turn.{Turn}
 use Rattle.kernel_hall.specs.declared.turn.Turn.TheVariants.{Cut, Began, Worn}
 
--- of a post at this place of the minutes, with these wishes and this cell, which has not ended; nothing was made yet
-pub record IsNewPending (place : ℕ) (given : List Wish) (cell : Option Cell) (e : PendingResult) : Type 0 where
+-- of a post at this place of the minutes, with these wishes, which has not ended; nothing was made yet
+pub record IsNewPending (place : ℕ) (given : List Wish) (e : PendingResult) : Type 0 where
   pub posted : e.posted ≡ place
   pub ended : e.ended ≡ None
   pub wishes : e.wishes.items ≡ given
-  pub cell : e.cell ≡ cell
   pub shown : e.shown ≡ None
   pub values : e.values.items ≡ []
 
@@ -33,15 +31,13 @@ pub record IsTold (old : List PendingResult) (n : ℕ) (d : Done) (new : List Pe
   pub posted : left.posted ≡ kept.posted
   pub ended : left.ended ≡ kept.ended
   pub wishes : left.wishes ≡ kept.wishes
-  pub cell : left.cell ≡ kept.cell
   pub others : new ≡ slice_set old (n - 1) left
 
--- the job has ended at this place of the minutes, and its wishes and its cell are spent
+-- the job has ended at this place of the minutes, and its wishes are spent
 pub record IsSettled (old : PendingResult) (place : ℕ) (new : PendingResult) : Type 0 where
   pub posted : new.posted ≡ old.posted
   pub ended : new.ended ≡ Some place
   pub wishes : new.wishes.items ≡ []
-  pub cell : new.cell ≡ None
 
 -- the one at this index, if there is one, is settled at this place, and all others are as they were
 pub record Settles (old : List PendingResult) (index place : ℕ) (new : List PendingResult) : Type 0 where

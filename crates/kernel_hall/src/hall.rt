@@ -11,7 +11,6 @@ ghost use Rattle.kernel_audit.specs.Audit.{Audited, IsAuditFault};
 use crate::ends::Ends;
 use crate::entrance::Entrance;
 use crate::minutes::Minutes;
-use crate::pending_result::cell_of_job;
 use crate::spin::watch;
 use crate::state::State;
 use crate::turn::Turn;
@@ -35,8 +34,6 @@ pub struct Hall<W: Ledger, L: Ledger> {
     moved: Condvar,
     ended: Ends,
     bell: Bell,
-    /// Where the cell of a text is read before the lock is taken.
-    alloc: Global,
 }
 
 impl<W: Ledger, L: Ledger> Model for Hall<W, L> {
@@ -71,7 +68,6 @@ impl<W: Ledger, L: Ledger> Hall<W, L> {
             moved: Condvar::new(),
             ended: Ends::new(),
             bell,
-            alloc,
         }
     }
 
@@ -108,11 +104,10 @@ impl<W: Ledger, L: Ledger> Hall<W, L> {
         ensures refused { IfErr result (λ r. r.1 ≡ pass) }
         ensures refusal { IfErr result (λ r. (k : Machine) × IsLegalMachine k × IsRefusal k r.0) }
     {
-        let cell = cell_of_job(self.alloc, &job);
         let posted = self
             .entrance
             .enter(rt, &self.state)
-            .post(&mut pass, job, wishes, cell);
+            .post(&mut pass, job, wishes);
         match posted {
             Ok(ticket) => {
                 self.moved.notify_all();
@@ -168,11 +163,10 @@ impl<W: Ledger, L: Ledger> Hall<W, L> {
         ensures refused { IfErr result (λ r. r.1 ≡ pass) }
         ensures refusal { IfErr result (λ r. (k : Machine) × IsLegalMachine k × IsRefusal k r.0) }
     {
-        let cell = cell_of_job(self.alloc, &job);
         let taken = self
             .entrance
             .enter(rt, &self.state)
-            .take(&mut pass, job, wishes, cell);
+            .take(&mut pass, job, wishes);
         match taken {
             Ok(number) => {
                 self.moved.notify_all();

@@ -1,30 +1,24 @@
 //! What is made for a job that ends, to be fetched by the first wait for it.
 ghost use Rattle.std.specs.Prelude.{◌≡◌, ◌-◌, [], IfSome, IfNone, IfOk, None, map, suc};
 ghost use Rattle.kernel_core.specs.State.{Idle};
-ghost use Rattle.kernel_ask.specs.EndedAt.{StandsAtEnd};
 ghost use Rattle.kernel_core.specs.Written.{entry_of};
 ghost use Rattle.kernel_audit.specs.Ends.{HasEnd};
 ghost use Rattle.kernel_hall.specs.PendingResults.{IsNewPending, IsTold, IsSettled, SettlesLast};
 ghost use Rattle.kernel_hall.specs.LastEnds.{IsLastEnd, EndsNoNumber, last_of, number_in};
 
-use janus_syntax::tree::Cell;
-use kernel_ask::{
-    Done, NamedValue, Wish, cell_of, evaluate, is_settled, shown_of_cell, shown_text, stands_at_end,
-};
-use kernel_core::{Entry, Job, Kernel, Outcome};
+use kernel_ask::{Done, NamedValue, Wish, evaluate, is_settled, shown_of_node, stands_at_end};
+use kernel_core::{Entry, Kernel, Outcome};
 use std::alloc::{AllocError, Global};
 use std::mem;
 use std::sync::ledger::Ledger;
 
-/// What stands beside a post, with no fact kept of it: where the minutes have the post and its end, its wishes and the cell of its text until
-/// it ends, and what was made as it ended until the first wait.
+/// What stands beside a post, with no fact kept of it: where the minutes have the post and its end, its wishes until it ends, and what
+/// was made as it ended until the first wait.
 #[derive(Drop)]
 pub struct PendingResult {
     posted: usize,
     ended: Option<usize>,
     wishes: Vec<Wish>,
-    /// The cell of the post's text, which was read with the lock free; none where there is none, or where it found no memory.
-    cell: Option<Cell>,
     shown: Option<String>,
     values: Vec<NamedValue>,
 }
@@ -35,16 +29,14 @@ impl PendingResult {
         alloc: Global,
         posted: usize,
         wishes: Vec<Wish>,
-        cell: Option<Cell>,
     ) -> Result<PendingResult, AllocError>
-        ensures { IfOk result (IsNewPending posted wishes.items cell) }
+        ensures { IfOk result (IsNewPending posted wishes.items) }
     {
         let values = Vec::with_capacity(alloc, wishes.len())?;
         Ok(PendingResult {
             posted,
             ended: None,
             wishes,
-            cell,
             shown: None,
             values,
         })
@@ -63,14 +55,10 @@ impl PendingResult {
     {
         self.ended = Some(place);
         let wishes = mem::replace(&mut self.wishes, Vec::new(alloc));
-        let cell = self.cell.take();
         if !is_settled(kernel) || !stands_at_end(kernel, outcome) {
             return;
         }
-        self.shown = match cell {
-            Some(cell) => shown_of_cell(alloc, kernel, outcome, &cell).unwrap_or(None),
-            None => shown_of_post(alloc, kernel, self.posted, outcome),
-        };
+        self.shown = shown_of_node(alloc, kernel, outcome).unwrap_or(None);
         if let Outcome::Ran(_, _) = *outcome {
             add_values(alloc, kernel, wishes, &mut self.values);
         }
@@ -87,7 +75,6 @@ impl PendingResult {
         ensures posted { self.new.posted ≡ self.old.posted }
         ensures ended { self.new.ended ≡ self.old.ended }
         ensures wishes { self.new.wishes ≡ self.old.wishes }
-        ensures cell { self.new.cell ≡ self.old.cell }
         ensures none { IfNone result (self.new ≡ self.old) }
     {
         let place = self.ended?;
@@ -111,35 +98,6 @@ impl PendingResult {
             shown: self.shown.take(),
             values: mem::replace(&mut self.values, Vec::new(alloc)),
         })
-    }
-}
-
-/// The cell of a job's text; none where it has none, or where there was no memory. It takes no lock.
-pub(crate) fn cell_of_job(alloc: Global, job: &Job) -> Option<Cell> {
-    match job {
-        Job::Cell { code, .. } => cell_of(alloc, code).unwrap_or(None),
-        Job::Undo(_) | Job::Redo(_) | Job::Goto(_) => None,
-    }
-}
-
-/// What is shown of the job that is posted at a place of the minutes, whose text is read again: nothing where it finds no memory.
-fn shown_of_post<W: Ledger>(
-    alloc: Global,
-    kernel: &Kernel<W>,
-    posted: usize,
-    outcome: &Outcome,
-) -> Option<String>
-    requires idle { kernel.now.machine.state.job ≡ Idle }
-    requires still { StandsAtEnd outcome.now kernel.now.machine.state.past }
-{
-    match kernel.minutes().get(posted) {
-        Some(
-            Entry::Posted {
-                lane: _,
-                job: Job::Cell { code, .. },
-            },
-        ) => shown_text(alloc, kernel, outcome, code).unwrap_or(None),
-        _ => None,
     }
 }
 

@@ -18,7 +18,6 @@ use crate::minutes::Minutes;
 use crate::passes::Passes;
 use crate::pending_result::{PendingResult, fetch, last_number, settle_last};
 use crate::turn::{Turn, turn_on};
-use janus_syntax::tree::Cell;
 use kernel_ask::{Answer, Ask, Comms, Done, HallFault, Wish, ask_on};
 use kernel_audit::{AuditFault, Pass, Ticket, audit};
 use kernel_bell::{Bell, RunnerSeat};
@@ -64,14 +63,13 @@ impl<W: Ledger, L: Ledger> State<W, L> {
         }
     }
 
-    /// Posts a job for a pass, which counts it. The wishes, and the cell of its text where that was read, stand beside it until it ends. A refused
-    /// post drops all of them. The job is in the ticket too, so it is copied: [`State::take`] makes no ticket and no copy.
+    /// Posts a job for a pass, which counts it. The wishes stand beside it until it ends. A refused post drops the job and the wishes. The job
+    /// is in the ticket too, so it is copied: [`State::take`] makes no ticket and no copy.
     pub fn post(
         &mut self,
         pass: &mut Pass<L>,
         job: Job,
         wishes: Vec<Wish>,
-        cell: Option<Cell>,
     ) -> Result<Ticket, PostFault>
         ensures ticket { IfOk result (λ t. t ≡ ticket_of pass.old (suc (posted_in self.old.kernel.machine.minutes)) job) }
         ensures posted { IfOk result (λ t. self.new.kernel.machine ≡ posted self.old.kernel.machine pass.old.lane (request_of job)) }
@@ -81,7 +79,7 @@ impl<W: Ledger, L: Ledger> State<W, L> {
         ensures pass { OnErr result (pass.new ≡ pass.old) }
         ensures comms { self.new.comms ≡ self.old.comms }
         ensures pending_result { IfOk result
-            (λ t. (e : PendingResult) × IsNewPending (length self.old.kernel.machine.minutes) wishes.items cell e
+            (λ t. (e : PendingResult) × IsNewPending (length self.old.kernel.machine.minutes) wishes.items e
             × (self.new.pending_results.items ≡ self.old.pending_results.items ++ e ∷ [])) }
         ensures pending_results { OnErr result (self.new.pending_results.items ≡ self.old.pending_results.items) }
         ensures legal { IsLegalMachine self.old.kernel.machine }
@@ -93,7 +91,7 @@ impl<W: Ledger, L: Ledger> State<W, L> {
         let Ok(copy) = job.try_clone() else {
             return Err(PostFault::Memory);
         };
-        let number = self.queue(pass, copy, wishes, cell)?;
+        let number = self.queue(pass, copy, wishes)?;
         Ok(Ticket {
             lane: pass.lane(),
             nth: pass.posts(),
@@ -108,7 +106,6 @@ impl<W: Ledger, L: Ledger> State<W, L> {
         pass: &mut Pass<L>,
         job: Job,
         wishes: Vec<Wish>,
-        cell: Option<Cell>,
     ) -> Result<u64, PostFault>
         ensures number { IfOk result (λ n. n ≡ suc (posted_in self.old.kernel.machine.minutes)) }
         ensures posted { IfOk result (λ n. self.new.kernel.machine ≡ posted self.old.kernel.machine pass.old.lane (request_of job)) }
@@ -118,7 +115,7 @@ impl<W: Ledger, L: Ledger> State<W, L> {
         ensures pass { OnErr result (pass.new ≡ pass.old) }
         ensures comms { self.new.comms ≡ self.old.comms }
         ensures pending_result { IfOk result
-            (λ n. (e : PendingResult) × IsNewPending (length self.old.kernel.machine.minutes) wishes.items cell e
+            (λ n. (e : PendingResult) × IsNewPending (length self.old.kernel.machine.minutes) wishes.items e
             × (self.new.pending_results.items ≡ self.old.pending_results.items ++ e ∷ [])) }
         ensures pending_results { OnErr result (self.new.pending_results.items ≡ self.old.pending_results.items) }
         ensures legal { IsLegalMachine self.old.kernel.machine }
@@ -127,7 +124,7 @@ impl<W: Ledger, L: Ledger> State<W, L> {
         if let Some(fault) = self.kernel.post_fault() {
             return Err(fault);
         }
-        self.queue(pass, job, wishes, cell)
+        self.queue(pass, job, wishes)
     }
 
     /// Queues a job, which only want of memory refuses.
@@ -136,7 +133,6 @@ impl<W: Ledger, L: Ledger> State<W, L> {
         pass: &mut Pass<L>,
         job: Job,
         wishes: Vec<Wish>,
-        cell: Option<Cell>,
     ) -> Result<u64, PostFault>
         requires ready { IsReady self.old.kernel.machine }
         ensures number { IfOk result (λ n. n ≡ suc (posted_in self.old.kernel.machine.minutes)) }
@@ -147,7 +143,7 @@ impl<W: Ledger, L: Ledger> State<W, L> {
         ensures pass { OnErr result (pass.new ≡ pass.old) }
         ensures comms { self.new.comms ≡ self.old.comms }
         ensures pending_result { IfOk result
-            (λ n. (e : PendingResult) × IsNewPending (length self.old.kernel.machine.minutes) wishes.items cell e
+            (λ n. (e : PendingResult) × IsNewPending (length self.old.kernel.machine.minutes) wishes.items e
             × (self.new.pending_results.items ≡ self.old.pending_results.items ++ e ∷ [])) }
         ensures pending_results { OnErr result (self.new.pending_results.items ≡ self.old.pending_results.items) }
     {
@@ -158,8 +154,7 @@ impl<W: Ledger, L: Ledger> State<W, L> {
             book,
             ..
         } = self;
-        let Ok(pending_result) = PendingResult::new(*alloc, kernel.minutes().len(), wishes, cell)
-        else {
+        let Ok(pending_result) = PendingResult::new(*alloc, kernel.minutes().len(), wishes) else {
             return Err(PostFault::Memory);
         };
         if pending_results.reserve(1).is_err() {

@@ -101,11 +101,11 @@ pub enum Outcome {
     Failed(Fault, u64),
     /// The cell was asked to stop after so many steps, and was taken back.
     Interrupted(u64),
-    /// How many cells were undone.
+    /// So many cells were undone.
     Undid(usize, End),
-    /// How many cells were redone.
+    /// So many cells were redone.
     Redid(usize, End),
-    /// How many cells were undone, and then how many redone.
+    /// So many cells were undone, and then so many redone.
     Went(usize, usize, End),
     Refused(Refusal),
 }
