@@ -220,6 +220,7 @@ pub fn speak<L: Ledger, R: Wait, W: Write>(
     requires share { (share.old.parts ≡ L.parts) × (0 < share.old.parts) }
     ensures ok { OnOk result (IsServed share.old.amount (W.contents writer.old) (W.contents writer.new) share.new.amount) }
     ensures err { OnErr result (IsServedInPart share.old.amount (W.contents writer.old) (W.contents writer.new)) }
+    ensures parts { share.new.parts ≡ share.old.parts }
 {
     let mut at: Option<Place> = None;
     for _ in rt.forever() {
