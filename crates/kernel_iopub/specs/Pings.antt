@@ -1,5 +1,5 @@
 -- The pings of a peer that wait for an answer.
-use Rattle.std.specs.Prelude.{◌≡◌, ℕ, ◌⊎◌, List, [], ◌∷◌, ◌++◌, length}
+use Rattle.std.specs.Prelude.{◌≡◌, ℕ, List, [], ◌∷◌, ◌++◌, length}
 use Rattle.std.specs.List.{flat_map}
 use Rattle.zmtp_peer.specs.Events.{Event, Ready, Message, Subscribe, Cancel, Ping}
 use Rattle.zmtp_peer.specs.Reading.{Standing, Stands, Brings}
@@ -16,19 +16,19 @@ ping_in (Cancel prefix) = []
 abbrev pub pings_in : List Event → List (List ℕ)
 pings_in events = flat_map ping_in events
 
--- some of these, each once and in their order
-abbrev pub AreAmong : List (List ℕ) → List (List ℕ) → Type 0
-AreAmong [] all = Unit {0}
-AreAmong (x ∷ xs) [] = ⊥
-AreAmong (x ∷ xs) (y ∷ ys) = ((x ≡ y) × AreAmong xs ys) ⊎ AreAmong (x ∷ xs) ys
+-- of all pings so many were taken, the first ones, and these are all the others
+pub record AreLeft (taken : ℕ) (contexts all : List (List ℕ)) : Type 0 where
+  pub front : List (List ℕ)
+  pub count : length front ≡ taken
+  pub whole : all ≡ front ++ contexts
 
--- a peer was fed some octets from the first of its connection on, and these are contexts of pings that they told
-abbrev pub HasAsked : Standing → List (List ℕ) → Type 0
-HasAsked peer contexts = ∥ ((octets : List ℕ) × (events : List Event) × Stands octets events peer × AreAmong contexts (pings_in events)) ∥₁
+-- a peer was fed some octets from the first of its connection on; of the pings that they told so many were taken, and these are all the others
+abbrev pub HasAsked : Standing → ℕ → List (List ℕ) → Type 0
+HasAsked peer taken contexts = ∥ ((octets : List ℕ) × (events : List Event) × Stands octets events peer × AreLeft taken contexts (pings_in events)) ∥₁
 
 -- some peer asked so
-abbrev pub WereAsked : List (List ℕ) → Type 0
-WereAsked contexts = (peer : Standing) × HasAsked peer contexts
+abbrev pub WereAsked : ℕ → List (List ℕ) → Type 0
+WereAsked taken contexts = (peer : Standing) × HasAsked peer taken contexts
 
 -- What a piece brings of pings: their contexts stand behind those that waited, in their order, none left out, and so many are told.
 pub record BringsPings (old : Standing) (piece : List ℕ) (new : Standing) (before after : List (List ℕ)) (told : ℕ) : Type 0 where

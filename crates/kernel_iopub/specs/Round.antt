@@ -1,5 +1,5 @@
 -- What goes out to a subscriber: messages of broadcasts that were read from the board, and answers to its pings.
-use Rattle.std.specs.Prelude.{◌≡◌, ℕ, ◌⊎◌, List, [], ◌∷◌, ◌++◌, map, Option, Some, None}
+use Rattle.std.specs.Prelude.{◌≡◌, ℕ, ◌+◌, ◌⊎◌, List, [], ◌∷◌, ◌++◌, length, map, Option, Some, None}
 use Rattle.std.specs.List.{flat_map}
 use Rattle.std.specs.Io.KnownBytes.{Appends}
 use Rattle.exact_write.specs.Sent.{SentSome}
@@ -61,38 +61,54 @@ abbrev pub outgoing_octets : Outgoing → List ℕ
 outgoing_octets (Shown frames) = message_octets frames
 outgoing_octets (Pong context) = pong_octets context
 
--- These broadcasts in turn, and before each of them answers to pings that some peer sent, those of one look in their order, or none.
-abbrev pub AreTold : List Frames → List Outgoing → Type 0
-AreTold [] out = out ≡ []
-AreTold (b ∷ bs) out =
-    (contexts : List (List ℕ)) × (rest : List Outgoing) × WereAsked contexts × AreTold bs rest × (out ≡ map Pong contexts ++ Shown b ∷ rest)
+-- These broadcasts in turn. Before each of them go the answers to all pings that some peer had asked by behind and that were not taken before, in their
+-- order: so many were taken before the first one, and so many behind the last.
+abbrev pub AreTold : ℕ → List Frames → List Outgoing → ℕ → Type 0
+AreTold taken [] out behind = (out ≡ []) × (behind ≡ taken)
+AreTold taken (b ∷ bs) out behind =
+    (contexts : List (List ℕ)) × (rest : List Outgoing) × WereAsked taken contexts × AreTold (taken + length contexts) bs rest behind
+    × (out ≡ map Pong contexts ++ Shown b ∷ rest)
 
 -- they went out so, each whole
-abbrev pub AreToldTo : Option (List ℕ) → Option (List ℕ) → List Frames → Type 0
-AreToldTo old new bs = (out : List Outgoing) × AreTold bs out × Appends old new (flat_map outgoing_octets out)
+abbrev pub AreToldTo : ℕ → Option (List ℕ) → Option (List ℕ) → List Frames → ℕ → Type 0
+AreToldTo taken old new bs behind = (out : List Outgoing) × AreTold taken bs out behind × Appends old new (flat_map outgoing_octets out)
 
--- a beginning of that went out
-abbrev pub AreToldInPart : Option (List ℕ) → Option (List ℕ) → List Frames → Type 0
-AreToldInPart old new bs = (out : List Outgoing) × AreTold bs out × SentSome old new (flat_map outgoing_octets out)
+-- a beginning of the octets of that went out, for all of them or for the first ones
+abbrev pub AreToldInPart : ℕ → Option (List ℕ) → Option (List ℕ) → List Frames → Type 0
+AreToldInPart taken old new bs =
+    (front later : List Frames) × (bs ≡ front ++ later)
+    × (behind : ℕ) × (out : List Outgoing) × AreTold taken front out behind × SentSome old new (flat_map outgoing_octets out)
 
 -- what goes out of a round: all that is kept
-abbrev pub IsSent : Option (List ℕ) → Option (List ℕ) → ℕ → ℕ → Type 0
-IsSent old new from next = (kept : List Frames) × IsRound from next kept × AreToldTo old new kept
+abbrev pub IsSent : ℕ → Option (List ℕ) → Option (List ℕ) → ℕ → ℕ → ℕ → Type 0
+IsSent taken old new from next behind = (kept : List Frames) × IsRound from next kept × AreToldTo taken old new kept behind
 
 -- what goes out of a round that fails: nothing, or a beginning of that
-abbrev pub IsSentInPart : Option (List ℕ) → Option (List ℕ) → ℕ → Type 0
-IsSentInPart old new from = Appends old new [] ⊎ ((next : ℕ) × (kept : List Frames) × IsRound from next kept × AreToldInPart old new kept)
+abbrev pub IsSentInPart : ℕ → Option (List ℕ) → Option (List ℕ) → ℕ → Type 0
+IsSentInPart taken old new from = Appends old new [] ⊎ ((next : ℕ) × (kept : List Frames) × IsRound from next kept × AreToldInPart taken old new kept)
+
+-- what goes out where pings are answered: the answers to all that some peer had asked and that were not taken before
+abbrev pub AreAnswered : ℕ → Option (List ℕ) → Option (List ℕ) → ℕ → Type 0
+AreAnswered taken old new behind =
+    (contexts : List (List ℕ)) × WereAsked taken contexts × (behind ≡ taken + length contexts) × Appends old new (flat_map pong_octets contexts)
+
+-- where that fails: nothing, or a beginning of that
+abbrev pub AreAnsweredInPart : ℕ → Option (List ℕ) → Option (List ℕ) → Type 0
+AreAnsweredInPart taken old new =
+    Appends old new [] ⊎ ((contexts : List (List ℕ)) × WereAsked taken contexts × SentSome old new (flat_map pong_octets contexts))
 
 -- ---- all that goes out
 
--- Turns one after another: rounds, each from the place where the one before ended, and behind them answers to pings that some peer sent, or
--- none. So answers go out before messages and behind them, and no answer goes out within one.
-pub data AreTurns : Option ℕ → List Outgoing → Type 0 where
-  none : AreTurns None []
-  begun : (from : ℕ) (out : List Outgoing) → AreTurns None out → AreTurns (Some from) out
-  round : (at next : ℕ) (out : List Outgoing) (kept : List Frames) (told : List Outgoing)
-      → AreTurns (Some at) out → IsRound at next kept → AreTold kept told → AreTurns (Some next) (out ++ told)
-  pongs : (at : Option ℕ) (out : List Outgoing) (contexts : List (List ℕ)) → AreTurns at out → WereAsked contexts → AreTurns at (out ++ map Pong contexts)
+-- Turns one after another: rounds, each from the place where the one before ended, and behind them answers to pings. So many pings were taken before
+-- the first turn, and so many behind the last: each turn goes on where the one before ended, so none is answered twice and none is left out, and
+-- answers go out before messages and behind them, and none within one.
+pub data AreTurns : ℕ → Option ℕ → ℕ → List Outgoing → Type 0 where
+  none : (taken : ℕ) → AreTurns taken None taken []
+  begun : (taken from behind : ℕ) (out : List Outgoing) → AreTurns taken None behind out → AreTurns taken (Some from) behind out
+  round : (taken at next so_far behind : ℕ) (out : List Outgoing) (kept : List Frames) (told : List Outgoing)
+      → AreTurns taken (Some at) so_far out → IsRound at next kept → AreTold so_far kept told behind → AreTurns taken (Some next) behind (out ++ told)
+  pongs : (taken : ℕ) (at : Option ℕ) (so_far : ℕ) (out : List Outgoing) (contexts : List (List ℕ))
+      → AreTurns taken at so_far out → WereAsked so_far contexts → AreTurns taken at (so_far + length contexts) (out ++ map Pong contexts)
 
 -- the number of the place behind the last round
 abbrev pub number_at : Option Place → Option ℕ
@@ -100,20 +116,19 @@ number_at None = None
 number_at (Some place) = Some place.number
 
 -- what goes out of all turns so far, whole and in order
-abbrev pub AreSentTo : Option (List ℕ) → Option (List ℕ) → Option Place → Type 0
-AreSentTo old new at = (out : List Outgoing) × AreTurns (number_at at) out × Appends old new (flat_map outgoing_octets out)
-
--- what goes out where answers to pings are written: all of them, or a beginning of their octets
-abbrev pub AreAnswered : Option (List ℕ) → Option (List ℕ) → Type 0
-AreAnswered old new = (contexts : List (List ℕ)) × WereAsked contexts × Appends old new (flat_map pong_octets contexts)
-
-abbrev pub AreAnsweredInPart : Option (List ℕ) → Option (List ℕ) → Type 0
-AreAnsweredInPart old new = (contexts : List (List ℕ)) × WereAsked contexts × SentSome old new (flat_map pong_octets contexts)
+abbrev pub AreSentTo : ℕ → Option (List ℕ) → Option (List ℕ) → Option Place → ℕ → Type 0
+AreSentTo taken old new at behind = (out : List Outgoing) × AreTurns taken (number_at at) behind out × Appends old new (flat_map outgoing_octets out)
 
 -- WHAT HAS GONE OUT to a subscriber: the messages of all that is kept of rounds, and between them the answers to its pings.
-abbrev pub IsServed : Option (List ℕ) → Option (List ℕ) → Type 0
-IsServed old new = (at : Option Place) × AreSentTo old new at
+abbrev pub IsServed : ℕ → Option (List ℕ) → Option (List ℕ) → ℕ → Type 0
+IsServed taken old new behind = (at : Option Place) × AreSentTo taken old new at behind
 
--- what has gone out to one where the last turn failed: a beginning of these octets
-abbrev pub IsServedInPart : Option (List ℕ) → Option (List ℕ) → Type 0
-IsServedInPart old new = (at : Option ℕ) × (out : List Outgoing) × AreTurns at out × SentSome old new (flat_map outgoing_octets out)
+-- of the turn behind those nothing went out, or a beginning
+abbrev pub IsTurnInPart : ℕ → Option (List ℕ) → Option (List ℕ) → Option Place → Type 0
+IsTurnInPart taken old new at =
+    AreAnsweredInPart taken old new ⊎ ((from : Place) × (at ≡ Some from) × IsSentInPart taken old new from.number)
+
+-- what has gone out to one where the last turn failed: all turns before it, whole, and nothing of it or a beginning
+abbrev pub IsServedInPart : ℕ → Option (List ℕ) → Option (List ℕ) → Type 0
+IsServedInPart taken old new =
+    (mid : Option (List ℕ)) × (at : Option Place) × (behind : ℕ) × AreSentTo taken old mid at behind × IsTurnInPart behind mid new at

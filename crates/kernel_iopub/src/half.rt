@@ -1,5 +1,5 @@
 //! The two halves of a subscriber's connection.
-ghost use Rattle.std.specs.Prelude.{ℕ, List, [], ◌∷◌, Option, IfOk, OnOk, OnErr};
+ghost use Rattle.std.specs.Prelude.{◌≡◌, ◌<◌, ℕ, List, [], ◌∷◌, Option, IfOk, OnOk, OnErr};
 ghost use Rattle.std.specs.List.{flat_map};
 ghost use Rattle.std.specs.Io.KnownBytes.{Appends};
 ghost use Rattle.zmtp_wire.specs.Message.{bodies_of};
@@ -14,6 +14,7 @@ use crate::subscriber::{Subscriber, fall_silent, look, note_answered, take, take
 use kernel_board::{Broadcast, Place, Read as BoardRead};
 use std::alloc::Global;
 use std::io::{Read, Write};
+use std::sync::ledger::{Ledger, Share};
 use std::sync::{Mutex, Wait};
 
 /// How many octets are read at once, at most.
@@ -24,10 +25,10 @@ const ROOM: usize = 512;
 const HEARD: usize = 2_359_296;
 
 /// Feeds the peer all that comes, up to the end of the input.
-fn hear_all<R: Wait, I: Read>(
+fn hear_all<L: Ledger, R: Wait, I: Read>(
     rt: &R,
     bulletin: &Bulletin,
-    shared: &Mutex<Subscriber>,
+    shared: &Mutex<Subscriber<L>>,
     reader: &mut I,
 ) -> Result<(), SubscriberFault> {
     let mut room = [0u8; ROOM];
@@ -53,10 +54,10 @@ fn hear_all<R: Wait, I: Read>(
 }
 
 /// The reading half: it feeds the peer all that comes, and then tells the other half that nothing more does.
-pub fn hear<R: Wait, I: Read>(
+pub fn hear<L: Ledger, R: Wait, I: Read>(
     rt: &R,
     bulletin: &Bulletin,
-    shared: &Mutex<Subscriber>,
+    shared: &Mutex<Subscriber<L>>,
     reader: &mut I,
 ) -> Result<(), SubscriberFault> {
     let heard = hear_all(rt, bulletin, shared, reader);
@@ -66,10 +67,10 @@ pub fn hear<R: Wait, I: Read>(
 }
 
 /// Writes answers to pings in turn: all of them, or some and a beginning of the next.
-fn send_pongs<R: Wait, W: Write>(
+fn send_pongs<L: Ledger, R: Wait, W: Write>(
     rt: &R,
     alloc: Global,
-    shared: &Mutex<Subscriber>,
+    shared: &Mutex<Subscriber<L>>,
     writer: &mut W,
     contexts: &[Vec<u8>],
 ) -> Result<(), SubscriberFault>
@@ -85,32 +86,40 @@ fn send_pongs<R: Wait, W: Write>(
     Ok(())
 }
 
-/// Answers the pings that wait.
-fn answer<R: Wait, W: Write>(
+/// Answers the pings that wait, all of them.
+fn answer<L: Ledger, R: Wait, W: Write>(
     rt: &R,
     alloc: Global,
-    shared: &Mutex<Subscriber>,
+    shared: &Mutex<Subscriber<L>>,
+    share: &mut Share<L>,
     writer: &mut W,
 ) -> Result<(), SubscriberFault>
-    ensures ok { OnOk result (AreAnswered (W.contents writer.old) (W.contents writer.new)) }
-    ensures err { OnErr result (AreAnsweredInPart (W.contents writer.old) (W.contents writer.new)) }
+    requires share { (share.old.parts ≡ L.parts) × (0 < share.old.parts) }
+    ensures ok { OnOk result (AreAnswered share.old.amount (W.contents writer.old) (W.contents writer.new) share.new.amount) }
+    ensures err { OnErr result (AreAnsweredInPart share.old.amount (W.contents writer.old) (W.contents writer.new)) }
+    ensures parts { share.new.parts ≡ share.old.parts }
 {
-    let contexts = take_pings(rt, shared);
-    send_pongs(rt, alloc, shared, writer, &contexts)
+    match take_pings(rt, shared, share) {
+        Ok(contexts) => send_pongs(rt, alloc, shared, writer, &contexts),
+        Err(fault) => Err(fault),
+    }
 }
 
-/// Answers the pings that wait, and then writes a broadcast.
-fn send_next<R: Wait, W: Write>(
+/// Answers the pings that wait, all of them, and then writes a broadcast.
+fn send_next<L: Ledger, R: Wait, W: Write>(
     rt: &R,
     alloc: Global,
-    shared: &Mutex<Subscriber>,
+    shared: &Mutex<Subscriber<L>>,
+    share: &mut Share<L>,
     writer: &mut W,
     broadcast: &Broadcast,
 ) -> Result<(), SubscriberFault>
-    ensures ok { OnOk result (AreToldTo (W.contents writer.old) (W.contents writer.new) (broadcast.now ∷ [])) }
-    ensures err { OnErr result (AreToldInPart (W.contents writer.old) (W.contents writer.new) (broadcast.now ∷ [])) }
+    requires share { (share.old.parts ≡ L.parts) × (0 < share.old.parts) }
+    ensures ok { OnOk result (AreToldTo share.old.amount (W.contents writer.old) (W.contents writer.new) (broadcast.now ∷ []) share.new.amount) }
+    ensures err { OnErr result (AreToldInPart share.old.amount (W.contents writer.old) (W.contents writer.new) (broadcast.now ∷ [])) }
+    ensures parts { share.new.parts ≡ share.old.parts }
 {
-    match answer(rt, alloc, shared, writer) {
+    match answer(rt, alloc, shared, share, writer) {
         Ok(()) => {}
         Err(fault) => return Err(fault),
     }
@@ -121,18 +130,21 @@ fn send_next<R: Wait, W: Write>(
 }
 
 /// Writes broadcasts in turn, and before each answers the pings that wait then: all of it, or a beginning.
-fn send_all<R: Wait, W: Write>(
+fn send_all<L: Ledger, R: Wait, W: Write>(
     rt: &R,
     alloc: Global,
-    shared: &Mutex<Subscriber>,
+    shared: &Mutex<Subscriber<L>>,
+    share: &mut Share<L>,
     writer: &mut W,
     broadcasts: &[Broadcast],
 ) -> Result<(), SubscriberFault>
-    ensures ok { OnOk result (AreToldTo (W.contents writer.old) (W.contents writer.new) broadcasts.now) }
-    ensures err { OnErr result (AreToldInPart (W.contents writer.old) (W.contents writer.new) broadcasts.now) }
+    requires share { (share.old.parts ≡ L.parts) × (0 < share.old.parts) }
+    ensures ok { OnOk result (AreToldTo share.old.amount (W.contents writer.old) (W.contents writer.new) broadcasts.now share.new.amount) }
+    ensures err { OnErr result (AreToldInPart share.old.amount (W.contents writer.old) (W.contents writer.new) broadcasts.now) }
+    ensures parts { share.new.parts ≡ share.old.parts }
 {
     for broadcast in broadcasts {
-        match send_next(rt, alloc, shared, writer, broadcast) {
+        match send_next(rt, alloc, shared, share, writer, broadcast) {
             Ok(()) => {}
             Err(fault) => return Err(fault),
         }
@@ -142,23 +154,26 @@ fn send_all<R: Wait, W: Write>(
 
 /// Reads the board once from a place, and writes what the peer wants of that, and before each message answers to pings: all of it, or a beginning where it
 /// fails. The place behind it.
-fn write_from<R: Wait, W: Write>(
+fn write_from<L: Ledger, R: Wait, W: Write>(
     rt: &R,
     alloc: Global,
     bulletin: &Bulletin,
-    shared: &Mutex<Subscriber>,
+    shared: &Mutex<Subscriber<L>>,
+    share: &mut Share<L>,
     writer: &mut W,
     place: Place,
 ) -> Result<Place, SubscriberFault>
-    ensures ok { IfOk result (λ next. IsSent (W.contents writer.old) (W.contents writer.new) place.number next.number) }
-    ensures err { OnErr result (IsSentInPart (W.contents writer.old) (W.contents writer.new) place.number) }
+    requires share { (share.old.parts ≡ L.parts) × (0 < share.old.parts) }
+    ensures ok { IfOk result (λ next. IsSent share.old.amount (W.contents writer.old) (W.contents writer.new) place.number next.number share.new.amount) }
+    ensures err { OnErr result (IsSentInPart share.old.amount (W.contents writer.old) (W.contents writer.new) place.number) }
+    ensures parts { share.new.parts ≡ share.old.parts }
 {
     match bulletin.read_from(rt, place) {
         Err(_) => Err(SubscriberFault::Memory),
         Ok(BoardRead::Lagged(_)) => Err(SubscriberFault::Lagged),
         Ok(BoardRead::Got(broadcasts, next)) => {
             let kept = wanted(rt, alloc, shared, &broadcasts)?;
-            match send_all(rt, alloc, shared, writer, &kept) {
+            match send_all(rt, alloc, shared, share, writer, &kept) {
                 Ok(()) => Ok(next),
                 Err(fault) => Err(fault),
             }
@@ -167,23 +182,26 @@ fn write_from<R: Wait, W: Write>(
 }
 
 /// One round more, from where the last one ended, if there is a place to read from. The place behind it.
-fn go_on<R: Wait, W: Write>(
+fn go_on<L: Ledger, R: Wait, W: Write>(
     rt: &R,
     alloc: Global,
     bulletin: &Bulletin,
-    shared: &Mutex<Subscriber>,
+    shared: &Mutex<Subscriber<L>>,
+    share: &mut Share<L>,
     writer: &mut W,
     before: Option<Place>,
 ) -> Result<Option<Place>, SubscriberFault>
-    ensures ok { IfOk result (λ after. (first : Option (List ℕ)) → AreSentTo first (W.contents writer.old) before
-        → AreSentTo first (W.contents writer.new) after) }
-    ensures err { OnErr result ((first : Option (List ℕ)) → AreSentTo first (W.contents writer.old) before
-        → IsServedInPart first (W.contents writer.new)) }
+    requires share { (share.old.parts ≡ L.parts) × (0 < share.old.parts) }
+    ensures ok { IfOk result (λ after. (taken : ℕ) (first : Option (List ℕ)) → AreSentTo taken first (W.contents writer.old) before share.old.amount
+        → AreSentTo taken first (W.contents writer.new) after share.new.amount) }
+    ensures err { OnErr result ((taken : ℕ) (first : Option (List ℕ)) → AreSentTo taken first (W.contents writer.old) before share.old.amount
+        → IsServedInPart taken first (W.contents writer.new)) }
+    ensures parts { share.new.parts ≡ share.old.parts }
 {
     let Some(place) = before else {
         return Ok(None);
     };
-    match write_from(rt, alloc, bulletin, shared, writer, place) {
+    match write_from(rt, alloc, bulletin, shared, share, writer, place) {
         Ok(next) => Ok(Some(next)),
         Err(fault) => Err(fault),
     }
@@ -191,26 +209,29 @@ fn go_on<R: Wait, W: Write>(
 
 /// The writing half: it writes what the peer wants from where it joined on, and between messages it answers pings, until nothing more comes from the
 /// peer and all was written.
-pub fn speak<R: Wait, W: Write>(
+pub fn speak<L: Ledger, R: Wait, W: Write>(
     rt: &R,
     alloc: Global,
     bulletin: &Bulletin,
-    shared: &Mutex<Subscriber>,
+    shared: &Mutex<Subscriber<L>>,
+    share: &mut Share<L>,
     writer: &mut W,
 ) -> Result<(), SubscriberFault>
-    ensures ok { OnOk result (IsServed (W.contents writer.old) (W.contents writer.new)) }
-    ensures err { OnErr result (IsServedInPart (W.contents writer.old) (W.contents writer.new)) }
+    requires share { (share.old.parts ≡ L.parts) × (0 < share.old.parts) }
+    ensures ok { OnOk result (IsServed share.old.amount (W.contents writer.old) (W.contents writer.new) share.new.amount) }
+    ensures err { OnErr result (IsServedInPart share.old.amount (W.contents writer.old) (W.contents writer.new)) }
+    ensures parts { share.new.parts ≡ share.old.parts }
 {
     let mut at: Option<Place> = None;
     for _ in rt.forever() {
         let seen = bulletin.event_count().seen(rt);
         let sight = look(rt, shared);
-        match answer(rt, alloc, shared, writer) {
+        match answer(rt, alloc, shared, share, writer) {
             Ok(()) => {}
             Err(fault) => return Err(fault),
         }
         let before = at.or(sight.joined);
-        at = match go_on(rt, alloc, bulletin, shared, writer, before) {
+        at = match go_on(rt, alloc, bulletin, shared, share, writer, before) {
             Ok(after) => after,
             Err(fault) => return Err(fault),
         };

@@ -10,10 +10,11 @@
 //!
 //! Its promise is that of the writing half ([`speak`], by specs/Round.antt). It goes in rounds, each of them one read of the board, from the place
 //! where the round before ended. What goes out of a round are exactly the broadcasts of its read to which the peer had subscribed by all that it was
-//! fed until it was asked, in their order and each whole; before each of them, and behind a round, go answers to pings that a peer sent, those of one look
-//! each once and in their order, or none; where one of both fails, a beginning of these octets goes out behind those before, and nothing more. Board and peer lie under locks, and no clause can
-//! name what lies there as a call takes it: so each round speaks of some log that the board's type allows, and of some peer that its type allows,
-//! which is one that was fed some octets of a connection from the first on.
+//! fed until it was asked, in their order and each whole. Before each of them, and behind a round, go the answers to all pings that a peer sent and that
+//! were not taken before, each whole and in their order: a share of a ledger, which the writing half keeps, counts those that it took, so none is answered
+//! twice and none is left out. Where a turn fails all those before it are out whole, and of it nothing or a beginning. Board and peer lie under locks, and
+//! no clause can name what lies there as a call takes it: so each round speaks of some log that the board's type allows, and each look at the pings of some
+//! peer that its type allows, which is one that was fed some octets of a connection from the first on, and of whose pings as many were taken as the share has.
 //! That is also why [`Bulletin::publish`] and [`Bulletin::join`] have no clause, as the board's own calls have none: what they do is said of a lent
 //! log alone (`kernel_board::publish_on`, `BroadcastLog::end`).
 //!

@@ -1,5 +1,5 @@
 //! What the events of a subscriber come to.
-ghost use Rattle.std.specs.Prelude.{◌≡◌, ◌++◌, ◌∷◌, [], OnOk};
+ghost use Rattle.std.specs.Prelude.{◌≡◌, ◌++◌, ◌∷◌, [], IfErr, OnOk};
 ghost use Rattle.zmtp_wire.specs.Message.{bodies_of};
 ghost use Rattle.zmtp_peer.specs.Events.{event_of, events_of};
 ghost use Rattle.kernel_iopub.specs.Pings.{ping_in, pings_in};
@@ -7,9 +7,7 @@ ghost use Rattle.kernel_iopub.specs.Pings.{ping_in, pings_in};
 use crate::fault::SubscriberFault;
 use std::mem;
 use zmtp_peer::PeerEvent;
-
-/// How many octets a ping has beside its context: flags, size, its name with a length, and a time to live.
-const PING_OCTETS: usize = 9;
+use zmtp_wire::PING_OCTETS;
 
 /// What events come to.
 #[derive(Clone, Copy)]
@@ -52,7 +50,8 @@ impl News {
 
 /// Adds a context behind the others.
 fn keep(contexts: &mut Vec<Vec<u8>>, context: Vec<u8>) -> Result<(), SubscriberFault>
-    ensures { OnOk result (bodies_of contexts.new.items ≡ bodies_of contexts.old.items ++ context.items ∷ []) }
+    ensures ok { OnOk result (bodies_of contexts.new.items ≡ bodies_of contexts.old.items ++ context.items ∷ []) }
+    ensures err { IfErr result (λ fault. fault ≡ SubscriberFault.Memory) }
 {
     match contexts.push(context) {
         Ok(()) => Ok(()),
@@ -66,7 +65,8 @@ fn note(
     contexts: &mut Vec<Vec<u8>>,
     event: PeerEvent,
 ) -> Result<(), SubscriberFault>
-    ensures { OnOk result (bodies_of contexts.new.items ≡ bodies_of contexts.old.items ++ ping_in (event_of event)) }
+    ensures ok { OnOk result (bodies_of contexts.new.items ≡ bodies_of contexts.old.items ++ ping_in (event_of event)) }
+    ensures err { IfErr result (λ fault. fault ≡ SubscriberFault.Memory) }
 {
     match event {
         PeerEvent::Ready => {
@@ -91,7 +91,8 @@ pub(crate) fn news_of(
     mut events: Vec<PeerEvent>,
     contexts: &mut Vec<Vec<u8>>,
 ) -> Result<News, SubscriberFault>
-    ensures { OnOk result (bodies_of contexts.new.items ≡ bodies_of contexts.old.items ++ pings_in (events_of events.items)) }
+    ensures ok { OnOk result (bodies_of contexts.new.items ≡ bodies_of contexts.old.items ++ pings_in (events_of events.items)) }
+    ensures err { IfErr result (λ fault. fault ≡ SubscriberFault.Memory) }
 {
     let mut news = News::NONE;
     for i in 0..events.len() {

@@ -6,13 +6,12 @@ ghost use Rattle.zmtp_wire.specs.Message.{message_octets};
 ghost use Rattle.zmtp_wire.specs.Pong.{pong_octets};
 
 use crate::fault::SubscriberFault;
-use exact_write::send;
 use kernel_board::Broadcast;
 use std::alloc::Global;
 use std::io::Write;
 use zmtp_wire::SendFault;
 
-/// Writes a broadcast from where its octets lie: all of them, or a beginning. One that passes a limit of the wire is not begun.
+/// Writes a broadcast: all its octets, or a beginning of them.
 pub(crate) fn send_broadcast<W: Write>(
     writer: &mut W,
     broadcast: &Broadcast,
@@ -20,12 +19,9 @@ pub(crate) fn send_broadcast<W: Write>(
     ensures ok { OnOk result (Appends (W.contents writer.old) (W.contents writer.new) (message_octets broadcast.now)) }
     ensures err { OnErr result (SentSome (W.contents writer.old) (W.contents writer.new) (message_octets broadcast.now)) }
 {
-    let Some(octets) = broadcast.octets() else {
-        return Err(SubscriberFault::Write);
-    };
-    match send(writer, octets) {
+    match broadcast.send(writer) {
         Ok(()) => Ok(()),
-        Err(_) => Err(SubscriberFault::Write),
+        Err(fault) => Err(broken(fault)),
     }
 }
 

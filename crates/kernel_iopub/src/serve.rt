@@ -1,4 +1,6 @@
 //! A connection of the publish socket.
+ghost use Rattle.std.specs.Prelude.{◌≡◌, ◌<◌};
+
 use crate::bulletin::Bulletin;
 use crate::fault::SubscriberFault;
 use crate::half::{hear, speak};
@@ -6,10 +8,11 @@ use crate::subscriber::Subscriber;
 use exact_write::send;
 use std::alloc::Global;
 use std::io::{Read, Write};
-use std::marker::Send;
+use std::marker::{Brand, Send};
+use std::sync::ledger::{Blank, Ledger, Share};
 use std::sync::{Mutex, Wait};
 use std::thread;
-use std::thread::Threads;
+use std::thread::{Scope, Threads};
 
 /// The end of a connection at which the writer stands, so that the reader's end comes too.
 pub trait HangUp {
@@ -18,14 +21,17 @@ pub trait HangUp {
 }
 
 /// The writing half on its thread: it hangs up behind what it wrote, so that the reading half ends too.
-fn speak_and_hang_up<R: Wait, W: Write + HangUp + Drop>(
+fn speak_and_hang_up<L: Ledger, R: Wait, W: Write + HangUp + Drop>(
     rt: &R,
     alloc: Global,
     bulletin: &Bulletin,
-    shared: &Mutex<Subscriber>,
+    shared: &Mutex<Subscriber<L>>,
+    mut share: Share<L>,
     mut writer: W,
-) {
-    let _ = speak(rt, alloc, bulletin, shared, &mut writer);
+)
+    requires { (share.parts ≡ L.parts) × (0 < share.parts) }
+{
+    let _ = speak(rt, alloc, bulletin, shared, &mut share, &mut writer);
     writer.hang_up();
 }
 
@@ -43,22 +49,88 @@ pub fn serve_subscriber<R: Threads + Wait + Sync, I: Read, W: Write + HangUp + S
     alloc: Global,
     bulletin: &Bulletin,
     reader: &mut I,
-    mut writer: W,
+    writer: W,
 ) -> Result<(), SubscriberFault> {
-    let subscriber = Subscriber::new(alloc);
+    serve_counted::<Brand, R, I, W>(rt, alloc, bulletin, reader, writer, Blank::new(1))
+}
+
+/// Starts the writing half on a thread of its own. False where the thread could not be made.
+fn start_speaking<
+    's,
+    E,
+    L: Ledger + Send + Sync + 's,
+    R: Threads + Wait + Sync,
+    W: Write + HangUp + Send + Drop + 's,
+>(
+    scope: &Scope<'s, E>,
+    rt: &'s R,
+    alloc: Global,
+    bulletin: &'s Bulletin,
+    shared: &'s Mutex<Subscriber<L>>,
+    share: Share<L>,
+    writer: W,
+) -> bool
+    requires { (share.parts ≡ L.parts) × (0 < share.parts) }
+{
+    let half = move ||
+        requires { (share.parts ≡ L.parts) × (0 < share.parts) }
+    { speak_and_hang_up(rt, alloc, bulletin, shared, share, writer) };
+    scope.spawn(half).is_ok()
+}
+
+/// Runs the two halves of a connection, the one that writes on a thread of its own.
+fn run_halves<
+    L: Ledger + Send + Sync,
+    R: Threads + Wait + Sync,
+    I: Read,
+    W: Write + HangUp + Send + Drop,
+>(
+    rt: &R,
+    alloc: Global,
+    bulletin: &Bulletin,
+    shared: &Mutex<Subscriber<L>>,
+    share: Share<L>,
+    reader: &mut I,
+    writer: W,
+) -> Result<(), SubscriberFault>
+    requires { (share.parts ≡ L.parts) × (0 < share.parts) }
+{
+    thread::scope(
+        thread::scope_env(),
+        rt,
+        |scope|
+            requires { (share.parts ≡ L.parts) × (0 < share.parts) }
+        {
+            if !start_speaking(scope, rt, alloc, bulletin, shared, share, writer) {
+                return Err(SubscriberFault::Memory);
+            }
+            hear(rt, bulletin, shared, reader)
+        },
+    )
+}
+
+/// Serves one connection, over a ledger of its own in which the writing half counts the pings that it took.
+fn serve_counted<
+    L: Ledger + Send + Sync,
+    R: Threads + Wait + Sync,
+    I: Read,
+    W: Write + HangUp + Send + Drop,
+>(
+    rt: &R,
+    alloc: Global,
+    bulletin: &Bulletin,
+    reader: &mut I,
+    mut writer: W,
+    blank: Blank,
+) -> Result<(), SubscriberFault>
+    requires name { blank.name ≡ L.name }
+    requires parts { (blank.parts ≡ L.parts) × (blank.parts ≡ 1) }
+{
+    let (subscriber, share) = Subscriber::<L>::new(alloc, blank);
     let opening = subscriber.opening()?;
     if send(&mut writer, &opening).is_err() {
         return Err(SubscriberFault::Write);
     }
     let shared = Mutex::new(subscriber);
-    let shared_by = &shared;
-    thread::scope(thread::scope_env(), rt, |scope| {
-        let started = scope.spawn(move || speak_and_hang_up(
-            rt, alloc, bulletin, shared_by, writer,
-        ));
-        if started.is_err() {
-            return Err(SubscriberFault::Memory);
-        }
-        hear(rt, bulletin, shared_by, reader)
-    })
+    run_halves(rt, alloc, bulletin, &shared, share, reader, writer)
 }

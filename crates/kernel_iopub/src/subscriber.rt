@@ -1,5 +1,5 @@
 //! What the two halves of a subscriber's connection share.
-ghost use Rattle.std.specs.Prelude.{◌≡◌, ℕ, ◌+◌, ◌-◌, ◌<◌, ◌≤◌, ◌⊎◌, List, [], IfOk, OnOk, OnErr};
+ghost use Rattle.std.specs.Prelude.{◌≡◌, ◌≢◌, ℕ, ◌+◌, ◌-◌, ◌<◌, ◌≤◌, ◌⊎◌, List, [], IsTrue, IfErr, IfOk, OnOk, OnErr, vec_len};
 ghost use Rattle.zmtp_peer.specs.declared.role.Role.TheVariants.{Pub};
 ghost use Rattle.zmtp_peer.specs.Events.{Event};
 ghost use Rattle.zmtp_peer.specs.Reading.{Stands};
@@ -13,6 +13,7 @@ use crate::news::{News, news_of};
 use kernel_board::{Broadcast, Place};
 use std::alloc::Global;
 use std::mem;
+use std::sync::ledger::{Blank, Book, Ledger, Share};
 use std::sync::{Mutex, Wait};
 use zmtp_peer::{Peer, PeerFault, Role};
 use zmtp_wire::WireFault;
@@ -28,14 +29,18 @@ const UNANSWERED: usize = 64;
 
 /// The peer, and how far it is. Its type keeps that the peer is a publisher's, and stands as some octets from the first of a connection on have it.
 #[derive(Drop)]
-pub struct Subscriber {
+pub struct Subscriber<L: Ledger> {
     alloc: Global,
     peer: Peer,
     ghost publishes: { peer.role ≡ Pub },
     ghost fed: { WasFed peer },
     /// The contexts of its pings that the writing half has not taken yet, in their order.
     pings: Vec<Vec<u8>>,
-    ghost asked: { HasAsked peer (bodies_of pings.items) },
+    /// How many of its pings the writing half took: as many as the share of the ledger has that it keeps.
+    taken: Book<L>,
+    /// No ping is lost: none came for which there was no memory.
+    is_whole: bool,
+    ghost asked: { IsTrue is_whole → HasAsked peer taken.total (bodies_of pings.items) },
     /// How many of its pings are not answered yet.
     unanswered: usize,
     /// The place on the board at which it joined, once it was ready.
@@ -54,19 +59,28 @@ pub(crate) struct Sight {
     pub is_silent: bool,
 }
 
-impl Subscriber {
-    /// A subscriber from which nothing has come.
-    pub fn new(alloc: Global) -> Subscriber {
-        Subscriber {
+impl<L: Ledger> Subscriber<L> {
+    /// A subscriber from which nothing has come, and the share of the half that writes to it: it has every part of the ledger, and took no ping yet.
+    pub fn new(alloc: Global, blank: Blank) -> (Subscriber<L>, Share<L>)
+        requires name { blank.name ≡ L.name }
+        requires parts { blank.parts ≡ L.parts }
+        ensures whole { result.1.parts ≡ L.parts }
+        ensures none { result.1.amount ≡ 0 }
+    {
+        let (taken, share) = blank.open::<L>();
+        let subscriber = Subscriber {
             alloc,
             peer: Peer::new(alloc, Role::Pub),
             pings: Vec::new(alloc),
+            taken,
+            is_whole: true,
             unanswered: 0,
             joined: None,
             is_silent: false,
             prefixes: 0,
             prefix_octets: 0,
-        }
+        };
+        (subscriber, share)
     }
 
     /// What this end sends first.
@@ -99,13 +113,21 @@ impl Subscriber {
         Ok(())
     }
 
-    /// The contexts of the pings that wait, in their order. None waits behind this, and each counts as unanswered as before.
-    fn give_pings(&mut self) -> Vec<Vec<u8>>
+    /// The contexts of the pings that wait, in their order. None waits behind this, and each counts as unanswered as before. The share counts them: it has
+    /// all that were taken.
+    fn give_pings(&mut self, share: &mut Share<L>) -> Vec<Vec<u8>>
+        requires whole { IsTrue self.old.is_whole }
+        requires share { (share.old.parts ≡ L.parts) × (0 < share.old.parts) }
         ensures all { result ≡ self.old.pings }
+        ensures asked { WereAsked share.old.amount (bodies_of result.items) }
+        ensures taken { share.new.amount ≡ share.old.amount + vec_len result }
+        ensures parts { share.new.parts ≡ share.old.parts }
         ensures none { self.new.pings.items ≡ [] }
         ensures unanswered { self.new.unanswered ≡ self.old.unanswered }
         ensures peer { self.new.peer ≡ self.old.peer }
     {
+        self.taken.audit(share);
+        self.taken.add(share, self.pings.len() as u64);
         mem::replace(&mut self.pings, Vec::new(self.alloc))
     }
 
@@ -128,7 +150,14 @@ impl Subscriber {
             (bodies_of self.new.pings.items) news.pings) }
         ensures unanswered { IfOk result (λ news. self.new.unanswered ≡ self.old.unanswered + news.pings) }
     {
-        let news = feed(self.alloc, &mut self.peer, &mut self.pings, piece)?;
+        let news = match feed(self.alloc, &mut self.peer, &mut self.pings, piece) {
+            Ok(news) => news,
+            Err(SubscriberFault::Memory) => {
+                self.is_whole = false;
+                return Err(SubscriberFault::Memory);
+            }
+            Err(fault) => return Err(fault),
+        };
         self.count(news)?;
         if news.is_ready {
             self.joined = Some(bulletin.join(rt));
@@ -144,9 +173,12 @@ fn feed(
     pings: &mut Vec<Vec<u8>>,
     piece: &[u8],
 ) -> Result<News, SubscriberFault>
-    requires { HasAsked peer.old (bodies_of pings.old.items) }
     ensures role { peer.new.role ≡ peer.old.role }
-    ensures asked { HasAsked peer.new (bodies_of pings.new.items) }
+    ensures fed { WasFed peer.old → WasFed peer.new }
+    // None of those that wait is lost, but where memory is wanted.
+    ensures asked { OnOk result ((taken : ℕ) → HasAsked peer.old taken (bodies_of pings.old.items) → HasAsked peer.new taken (bodies_of pings.new.items)) }
+    ensures still { IfErr result (λ fault. fault ≢ SubscriberFault.Memory → (taken : ℕ)
+        → HasAsked peer.old taken (bodies_of pings.old.items) → HasAsked peer.new taken (bodies_of pings.new.items)) }
     ensures told { IfOk result (λ news. BringsPings peer.old piece.now peer.new (bodies_of pings.old.items) (bodies_of pings.new.items) news.pings) }
 {
     let events = match peer.feed(piece) {
@@ -192,10 +224,10 @@ fn wanted_of(
 }
 
 /// Feeds the peer what came, and tells its fault. What came.
-pub(crate) fn take<R: Wait>(
+pub(crate) fn take<L: Ledger, R: Wait>(
     rt: &R,
     bulletin: &Bulletin,
-    shared: &Mutex<Subscriber>,
+    shared: &Mutex<Subscriber<L>>,
     piece: &[u8],
 ) -> Result<News, SubscriberFault> {
     let mut guard = shared.lock(rt);
@@ -206,30 +238,44 @@ pub(crate) fn take<R: Wait>(
     Ok(news)
 }
 
-/// Takes the pings that wait, in their order. Each counts as unanswered until it is told otherwise.
-pub(crate) fn take_pings<R: Wait>(rt: &R, shared: &Mutex<Subscriber>) -> Vec<Vec<u8>>
-    ensures { WereAsked (bodies_of result.items) }
+/// Takes the pings that wait, in their order. Each counts as unanswered until it is told otherwise. The share counts them.
+///
+/// # Errors
+/// `Memory` where one is lost for want of it.
+pub(crate) fn take_pings<L: Ledger, R: Wait>(
+    rt: &R,
+    shared: &Mutex<Subscriber<L>>,
+    share: &mut Share<L>,
+) -> Result<Vec<Vec<u8>>, SubscriberFault>
+    requires share { (share.old.parts ≡ L.parts) × (0 < share.old.parts) }
+    ensures asked { IfOk result (λ contexts. WereAsked share.old.amount (bodies_of contexts.items)) }
+    ensures taken { IfOk result (λ contexts. share.new.amount ≡ share.old.amount + vec_len contexts) }
+    ensures parts { share.new.parts ≡ share.old.parts }
+    ensures err { IfErr result (λ fault. fault ≡ SubscriberFault.Memory) }
 {
     let mut guard = shared.lock(rt);
     let subscriber = &mut *guard;
-    subscriber.give_pings()
+    if !subscriber.is_whole {
+        return Err(SubscriberFault::Memory);
+    }
+    Ok(subscriber.give_pings(share))
 }
 
 /// One ping was answered.
-pub(crate) fn note_answered<R: Wait>(rt: &R, shared: &Mutex<Subscriber>) {
+pub(crate) fn note_answered<L: Ledger, R: Wait>(rt: &R, shared: &Mutex<Subscriber<L>>) {
     let mut guard = shared.lock(rt);
     let subscriber = &mut *guard;
     subscriber.answered();
 }
 
 /// Nothing more comes from the peer.
-pub(crate) fn fall_silent<R: Wait>(rt: &R, shared: &Mutex<Subscriber>) {
+pub(crate) fn fall_silent<L: Ledger, R: Wait>(rt: &R, shared: &Mutex<Subscriber<L>>) {
     let mut guard = shared.lock(rt);
     guard.is_silent = true;
 }
 
 /// What the writing half finds.
-pub(crate) fn look<R: Wait>(rt: &R, shared: &Mutex<Subscriber>) -> Sight {
+pub(crate) fn look<L: Ledger, R: Wait>(rt: &R, shared: &Mutex<Subscriber<L>>) -> Sight {
     let subscriber = shared.lock(rt);
     Sight {
         joined: subscriber.joined,
@@ -238,10 +284,10 @@ pub(crate) fn look<R: Wait>(rt: &R, shared: &Mutex<Subscriber>) -> Sight {
 }
 
 /// Those of the broadcasts that the peer wants, as it stands under the lock.
-pub(crate) fn wanted<R: Wait>(
+pub(crate) fn wanted<L: Ledger, R: Wait>(
     rt: &R,
     alloc: Global,
-    shared: &Mutex<Subscriber>,
+    shared: &Mutex<Subscriber<L>>,
     broadcasts: &[Broadcast],
 ) -> Result<Vec<Broadcast>, SubscriberFault>
     ensures { IfOk result (λ kept. IsChosen broadcasts.now kept.items) }

@@ -1,1 +1,2 @@
 mod Crosses
+pub mod Pongs

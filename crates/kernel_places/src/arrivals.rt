@@ -1,6 +1,9 @@
 //! What comes on a connection and what goes out on it, each in its time.
-ghost use Rattle.std.specs.Prelude.{◌≡◌, ◌+◌, ◌-◌, ◌≤◌, IsTrue, false, min, if◌then◌else◌};
+ghost use Rattle.std.specs.Prelude.{◌≡◌, ◌≢◌, ℕ, ◌+◌, ◌-◌, ◌≤◌, List, ◌++◌, length, IsTrue, false, min, if◌then◌else◌};
 ghost use Rattle.std.specs.Io.{ReadsAtMost, WritesAtMost};
+ghost use Rattle.zmtp_wire.specs.Frame.{IsFrame};
+ghost use Rattle.zmtp_wire.specs.Pong.{pong_octets, context_limit};
+ghost use Rattle.zmtp_peer.specs.Pings.{ping};
 ghost use Rattle.kernel_sockets.specs.declared.shares.TheConstants.{READ_OCTETS};
 
 use kernel_session::Socket;
@@ -16,6 +19,7 @@ use std::sync::Wait;
 use std::sync::ledger::Ledger;
 use std::time::{Clock, Duration};
 use zmtp_peer::{Peer, PeerEvent};
+use zmtp_wire::{PING_OCTETS, pong_context};
 
 /// A handshake may take so long from the time at which the connection was accepted.
 const HANDSHAKE_SECONDS: u64 = 10;
@@ -25,15 +29,6 @@ const INTERRUPTIONS: u32 = 1_000;
 
 /// The flag of a frame that is a command; the first octet of the greeting has it too.
 const COMMAND: u8 = 4;
-
-/// The name of a pong, with its length. It stands behind a command's flags and size, and before the context.
-const PONG: &[u8] = b"\x04PONG";
-
-/// A pong with the longest context has so many octets.
-const LONGEST_PONG: usize = 23;
-
-/// A ping in the short form of a frame has so many octets more than its pong, for its time to live.
-const TIME_TO_LIVE: u64 = 2;
 
 /// The time on the clock; its start where it can't be read.
 pub(crate) fn clock_of<R: Clock>(rt: &R) -> Duration {
@@ -285,25 +280,18 @@ fn begins_message(octets: &[u8]) -> bool {
     }
 }
 
-/// Whether these octets are a pong, whole and in the short form of a frame.
-fn is_pong(octets: &[u8]) -> bool {
-    let Some((flags, behind)) = octets.split_first() else {
-        return false;
-    };
-    let Some((size, body)) = behind.split_first() else {
-        return false;
-    };
-    *flags == COMMAND && *size as usize == body.len() && body.starts_with(PONG)
-}
-
-/// How many octets the ping had, in the short form, to which these octets are the answer; none where they are no pong.
+/// How many octets the ping had, in the short form of a frame, to which these octets are the answer; none where they are no pong. No ping to which they are
+/// the answer had fewer, in either form, so no more is let go of for it than was counted.
 fn ping_octets(octets: &[u8]) -> u64
-    ensures { result ≤ 25 }
+    ensures bound { result ≤ 25 }
+    ensures none { result ≡ 0 → (context : List ℕ) → length context ≤ context_limit → octets.now ≢ pong_octets context }
+    ensures counted { (frame time context : List ℕ) → length time ≡ 2 → length context ≤ context_limit
+        → octets.now ≡ pong_octets context → IsFrame frame (ping (time ++ context)) → result ≤ length frame }
 {
-    if octets.len() > LONGEST_PONG || !is_pong(octets) {
-        return 0;
+    match pong_context(octets) {
+        Some(context) => (PING_OCTETS + context.len()) as u64,
+        None => 0,
     }
-    octets.len() as u64 + TIME_TO_LIVE
 }
 
 /// What goes out on a connection. A message that takes longer than ten seconds fails, in whatever pieces it is taken.
@@ -315,8 +303,9 @@ pub(crate) struct Departures<'a, R: Clock> {
     /// When the message has to be out of which a piece is.
     patience: Patience,
     socket: Socket,
-    /// The octets of the ping that is answered by what is on its way.
+    /// The octets of the ping that is answered by what is on its way, in the short form.
     answers: u64,
+    ghost bounded: { answers ≤ 25 },
 }
 
 impl<'a, R: Clock> Departures<'a, R> {
@@ -342,8 +331,10 @@ impl<'a, R: Clock> Departures<'a, R> {
         let _ = self.stream.shutdown(Shutdown::Both);
     }
 
-    /// The answer that was on its way is out: the ping is no longer counted.
-    fn end_answer(&mut self) {
+    /// The answer that was on its way is out: so many octets as its ping had are no longer counted, once.
+    fn end_answer(&mut self)
+        ensures { self.new.answers ≡ 0 }
+    {
         if self.answers > 0 {
             self.presence.answer_octets(self.answers);
             self.answers = 0;

@@ -7,7 +7,6 @@ ghost use Rattle.zmtp_wire.specs.Pong.{pong_octets};
 ghost use Rattle.kernel_session.specs.Ends.{IsMidway};
 
 use crate::fault::ServeFault;
-use exact_write::send;
 use kernel_board::Broadcast;
 use std::alloc::Global;
 use std::io::Write;
@@ -29,7 +28,7 @@ pub(crate) fn send_message<W: Write>(
     }
 }
 
-/// Writes a broadcast from where its octets lie: all of them, or a beginning. One that passes a limit of the wire is not begun.
+/// Writes a broadcast: all its octets, or a beginning of them.
 pub(crate) fn send_broadcast<W: Write>(
     writer: &mut W,
     broadcast: &Broadcast,
@@ -38,12 +37,9 @@ pub(crate) fn send_broadcast<W: Write>(
     ensures err { OnErr result (SentSome (W.contents writer.old) (W.contents writer.new) (message_octets broadcast.now)) }
     ensures midway { IfErr result IsMidway }
 {
-    let Some(octets) = broadcast.octets() else {
-        return Err(ServeFault::Write);
-    };
-    match send(writer, octets) {
+    match broadcast.send(writer) {
         Ok(()) => Ok(()),
-        Err(_) => Err(ServeFault::Write),
+        Err(fault) => Err(broken(fault)),
     }
 }
 

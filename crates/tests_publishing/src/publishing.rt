@@ -1,9 +1,15 @@
 //! The two halves of a subscriber's connection, over memory.
+ghost use Rattle.std.specs.Prelude.{◌≡◌, ◌<◌};
+
 use crate::octets::{MINORS, message, opening, ping, pong, subscription};
 use kernel_board::Broadcast;
 use kernel_iopub::{Bulletin, Subscriber, SubscriberFault, hear, speak};
 use std::alloc::Global;
+use std::io;
+use std::io::{ErrorKind, Write};
+use std::marker::Brand;
 use std::process::Abort;
+use std::sync::ledger::{Blank, Ledger, Share};
 use std::sync::{Mutex, Wait};
 
 /// One more than the board keeps.
@@ -42,86 +48,121 @@ fn octets_of(rt: &impl Abort, alloc: Global, topics: &[&str]) -> Vec<u8> {
     octets
 }
 
-/// A subscriber of which these octets have come, and how hearing them ended.
-fn heard<R: Wait>(
+/// A subscriber under its lock, and the share by which what is written to it counts the pings that were taken.
+#[derive(Drop)]
+struct Connected<L: Ledger> {
+    shared: Mutex<Subscriber<L>>,
+    share: Share<L>,
+    /// How hearing it ended.
+    ended: Result<(), SubscriberFault>,
+}
+
+/// A subscriber of which these octets have come.
+fn heard<L: Ledger, R: Wait>(
     rt: &R,
     alloc: Global,
     bulletin: &Bulletin,
+    blank: Blank,
     octets: &[u8],
-) -> (Mutex<Subscriber>, Result<(), SubscriberFault>) {
-    let shared = Mutex::new(Subscriber::new(alloc));
+) -> Connected<L>
+    requires { (blank.name ≡ L.name) × (blank.parts ≡ L.parts) × (blank.parts ≡ 1) }
+    ensures { (result.share.parts ≡ L.parts) × (0 < result.share.parts) }
+{
+    let (subscriber, share) = Subscriber::<L>::new(alloc, blank);
+    let shared = Mutex::new(subscriber);
     let mut reader = octets;
     let ended = hear(rt, bulletin, &shared, &mut reader);
-    (shared, ended)
+    Connected {
+        shared,
+        share,
+        ended,
+    }
 }
 
 /// A subscriber of this minor version to the status, of which all has come.
-fn subscribed<R: Wait + Abort>(
+fn subscribed<L: Ledger, R: Wait + Abort>(
     rt: &R,
     alloc: Global,
     bulletin: &Bulletin,
+    blank: Blank,
     minor: u8,
-) -> Mutex<Subscriber> {
+) -> Connected<L>
+    requires { (blank.name ≡ L.name) × (blank.parts ≡ L.parts) × (blank.parts ≡ 1) }
+    ensures { (result.share.parts ≡ L.parts) × (0 < result.share.parts) }
+{
     let mut octets = opening(rt, alloc, minor);
     octets
         .extend_from_slice(&subscription(rt, alloc, minor, "status"))
         .expect(rt, "octets");
-    let (shared, ended) = heard(rt, alloc, bulletin, &octets);
-    assert!(rt; ended.is_ok());
-    shared
+    let connected = heard(rt, alloc, bulletin, blank, &octets);
+    assert!(rt; connected.ended.is_ok());
+    connected
 }
 
 /// What is written to a subscriber that falls silent.
-fn spoken<R: Wait + Abort>(
+fn spoken<L: Ledger, R: Wait + Abort>(
     rt: &R,
     alloc: Global,
     bulletin: &Bulletin,
-    shared: &Mutex<Subscriber>,
-) -> Vec<u8> {
+    shared: &Mutex<Subscriber<L>>,
+    share: &mut Share<L>,
+) -> Vec<u8>
+    requires { (share.old.parts ≡ L.parts) × (0 < share.old.parts) }
+    ensures { share.new.parts ≡ share.old.parts }
+{
     let mut written: Vec<u8> = Vec::new(alloc);
-    let ended = speak(rt, alloc, bulletin, shared, &mut written);
+    let ended = speak(rt, alloc, bulletin, shared, share, &mut written);
     assert!(rt; ended.is_ok());
     written
 }
 
 /// Of what is published once it is ready a subscriber is sent what it wants, in order, and nothing of what no reader takes.
-fn speak_of_the_status<R: Wait + Abort>(rt: &R, alloc: Global, minor: u8) {
+fn speak_of_the_status<L: Ledger, R: Wait + Abort>(
+    rt: &R,
+    alloc: Global,
+    blank: Blank,
+    minor: u8,
+) -> Result<(), SubscriberFault>
+    requires { (blank.name ≡ L.name) × (blank.parts ≡ L.parts) × (blank.parts ≡ 1) }
+{
     let bulletin = Bulletin::new(alloc).expect(rt, "a bulletin");
     publish(rt, alloc, &bulletin, "status", 2);
-    let shared = subscribed(rt, alloc, &bulletin, minor);
+    let Connected {
+        shared,
+        mut share,
+        ended,
+    } = subscribed::<L, R>(rt, alloc, &bulletin, blank, minor);
     publish(rt, alloc, &bulletin, "status", 1);
     publish(rt, alloc, &bulletin, "execute_input", 1);
     publish(rt, alloc, &bulletin, "status", TOO_LONG);
     publish(rt, alloc, &bulletin, "status_of_more", 1);
-    let written = spoken(rt, alloc, &bulletin, &shared);
+    let written = spoken(rt, alloc, &bulletin, &shared, &mut share);
     assert!(rt; written == octets_of(rt, alloc, &["status", "status_of_more"]));
-}
-
-#[test]
-fn a_subscriber_is_sent_what_it_wants(rt: HostRuntime) {
-    for minor in MINORS {
-        speak_of_the_status(&rt, rt.alloc(), minor);
-    }
+    ended
 }
 
 /// A subscriber that fell behind what the board keeps is sent nothing, and told so.
-fn lag<R: Wait + Abort>(rt: &R, alloc: Global, minor: u8) {
+fn lag<L: Ledger, R: Wait + Abort>(
+    rt: &R,
+    alloc: Global,
+    blank: Blank,
+    minor: u8,
+) -> Result<(), SubscriberFault>
+    requires { (blank.name ≡ L.name) × (blank.parts ≡ L.parts) × (blank.parts ≡ 1) }
+{
     let bulletin = Bulletin::new(alloc).expect(rt, "a bulletin");
-    let shared = subscribed(rt, alloc, &bulletin, minor);
+    let Connected {
+        shared,
+        mut share,
+        ended: _,
+    } = subscribed::<L, R>(rt, alloc, &bulletin, blank, minor);
     for _ in 0..TOO_MANY {
         publish(rt, alloc, &bulletin, "status", 1);
     }
     let mut written: Vec<u8> = Vec::new(alloc);
-    let spoken = speak(rt, alloc, &bulletin, &shared, &mut written);
-    assert!(rt; matches!(spoken, Err(SubscriberFault::Lagged)));
+    let spoken = speak(rt, alloc, &bulletin, &shared, &mut share, &mut written);
     assert!(rt; written.is_empty());
-}
-
-#[test]
-fn a_subscriber_that_lags_is_told_so(rt: HostRuntime) {
-    for minor in MINORS {
-        lag(&rt, rt.alloc(), minor);
-    }
+    spoken
 }
 
 /// What comes of a frontend of this minor version, with these octets so often behind its opening.
@@ -134,26 +175,19 @@ fn often(rt: &impl Abort, alloc: Global, minor: u8, octets: &[u8], times: u32) -
 }
 
 /// How a connection ends that subscribes to the empty prefix so often, by messages or by commands.
-fn subscribe_often<R: Wait + Abort>(
+fn subscribe_often<L: Ledger, R: Wait + Abort>(
     rt: &R,
     alloc: Global,
+    blank: Blank,
     minor: u8,
     times: u32,
-) -> Result<(), SubscriberFault> {
+) -> Result<(), SubscriberFault>
+    requires { (blank.name ≡ L.name) × (blank.parts ≡ L.parts) × (blank.parts ≡ 1) }
+{
     let bulletin = Bulletin::new(alloc).expect(rt, "a bulletin");
     let octets = often(rt, alloc, minor, &subscription(rt, alloc, minor, ""), times);
-    let (_, ended) = heard(rt, alloc, &bulletin, &octets);
-    ended
-}
-
-#[test]
-fn a_subscriber_has_4096_prefixes_at_most(rt: HostRuntime) {
-    let alloc = rt.alloc();
-    for minor in MINORS {
-        assert!(rt; subscribe_often(&rt, alloc, minor, 4_096).is_ok());
-        let past = subscribe_often(&rt, alloc, minor, 4_097);
-        assert!(rt; matches!(past, Err(SubscriberFault::TooMuch)));
-    }
+    let connected = heard::<L, R>(rt, alloc, &bulletin, blank, &octets);
+    connected.ended
 }
 
 /// A number of pings, each with another context.
@@ -184,53 +218,234 @@ fn pongs(rt: &impl Abort, alloc: Global, times: u8) -> Vec<u8> {
 }
 
 /// Pings that wait are answered in their order, each once with its context; those of 3.0 are passed over.
-fn answer_pings<R: Wait + Abort>(rt: &R, alloc: Global, minor: u8, times: u8) {
+fn answer_pings<L: Ledger, R: Wait + Abort>(
+    rt: &R,
+    alloc: Global,
+    blank: Blank,
+    minor: u8,
+    times: u8,
+) -> Result<(), SubscriberFault>
+    requires { (blank.name ≡ L.name) × (blank.parts ≡ L.parts) × (blank.parts ≡ 1) }
+{
     let bulletin = Bulletin::new(alloc).expect(rt, "a bulletin");
-    let (shared, ended) = heard(rt, alloc, &bulletin, &pings(rt, alloc, minor, times));
-    assert!(rt; ended.is_ok());
+    let octets = pings(rt, alloc, minor, times);
+    let Connected {
+        shared,
+        mut share,
+        ended,
+    } = heard::<L, R>(rt, alloc, &bulletin, blank, &octets);
     let answered = if minor == 0 { 0 } else { times };
-    assert!(rt; spoken(rt, alloc, &bulletin, &shared) == pongs(rt, alloc, answered));
+    assert!(rt; spoken(rt, alloc, &bulletin, &shared, &mut share) == pongs(rt, alloc, answered));
+    ended
 }
 
 /// Pings are answered, and as many more that come behind these answers: what was answered waits no longer.
-fn answer_again<R: Wait + Abort>(rt: &R, alloc: Global, times: u8) {
+fn answer_again<L: Ledger, R: Wait + Abort>(
+    rt: &R,
+    alloc: Global,
+    blank: Blank,
+    times: u8,
+) -> Result<(), SubscriberFault>
+    requires { (blank.name ≡ L.name) × (blank.parts ≡ L.parts) × (blank.parts ≡ 1) }
+{
     let bulletin = Bulletin::new(alloc).expect(rt, "a bulletin");
-    let (shared, ended) = heard(rt, alloc, &bulletin, &pings(rt, alloc, 1, times));
+    let octets = pings(rt, alloc, 1, times);
+    let Connected {
+        shared,
+        mut share,
+        ended,
+    } = heard::<L, R>(rt, alloc, &bulletin, blank, &octets);
     assert!(rt; ended.is_ok());
-    assert!(rt; spoken(rt, alloc, &bulletin, &shared) == pongs(rt, alloc, times));
+    assert!(rt; spoken(rt, alloc, &bulletin, &shared, &mut share) == pongs(rt, alloc, times));
     let more = more_pings(rt, alloc, times);
     let mut reader = more.as_slice();
-    assert!(rt; hear(rt, &bulletin, &shared, &mut reader).is_ok());
-    assert!(rt; spoken(rt, alloc, &bulletin, &shared) == pongs(rt, alloc, times));
+    let heard_more = hear(rt, &bulletin, &shared, &mut reader);
+    assert!(rt; spoken(rt, alloc, &bulletin, &shared, &mut share) == pongs(rt, alloc, times));
+    heard_more
 }
 
 /// How a connection ends of which so many pings wait.
-fn ping_often<R: Wait + Abort>(
+fn ping_often<L: Ledger, R: Wait + Abort>(
+    rt: &R,
+    alloc: Global,
+    blank: Blank,
+    minor: u8,
+    times: u8,
+) -> Result<(), SubscriberFault>
+    requires { (blank.name ≡ L.name) × (blank.parts ≡ L.parts) × (blank.parts ≡ 1) }
+{
+    let bulletin = Bulletin::new(alloc).expect(rt, "a bulletin");
+    let octets = pings(rt, alloc, minor, times);
+    let connected = heard::<L, R>(rt, alloc, &bulletin, blank, &octets);
+    connected.ended
+}
+
+/// A subscriber of 3.1 that takes an octet at each write, and pings once it has so many.
+#[derive(Drop)]
+struct Pinging<'a, L: Ledger, R> {
+    rt: &'a R,
+    bulletin: &'a Bulletin,
+    shared: &'a Mutex<Subscriber<L>>,
+    written: Vec<u8>,
+    at: usize,
+}
+
+impl<L: Ledger, R: Wait> Write for Pinging<'_, L, R> {
+    fn write(&mut self, buf: &[u8]) -> io::Result<usize> {
+        if self.written.len() == self.at {
+            let ping = ping(0);
+            let mut reader = ping.as_slice();
+            if hear(self.rt, self.bulletin, self.shared, &mut reader).is_err() {
+                return Err(ErrorKind::ConnectionReset.into());
+            }
+        }
+        let count = buf.len().min(1);
+        self.written.extend_from_slice(&buf[..count])?;
+        Ok(count)
+    }
+
+    fn flush(&mut self) -> io::Result<()> {
+        Ok(())
+    }
+}
+
+/// What is written of two broadcasts to a subscriber that pings once it has so many octets of the first.
+fn written_around<L: Ledger, R: Wait + Abort>(
+    rt: &R,
+    alloc: Global,
+    blank: Blank,
+    at: usize,
+) -> Vec<u8>
+    requires { (blank.name ≡ L.name) × (blank.parts ≡ L.parts) × (blank.parts ≡ 1) }
+{
+    let bulletin = Bulletin::new(alloc).expect(rt, "a bulletin");
+    let Connected {
+        shared,
+        mut share,
+        ended: _,
+    } = subscribed::<L, R>(rt, alloc, &bulletin, blank, 1);
+    publish(rt, alloc, &bulletin, "status", 1);
+    publish(rt, alloc, &bulletin, "status_of_more", 1);
+    let mut writer = Pinging {
+        rt,
+        bulletin: &bulletin,
+        shared: &shared,
+        written: Vec::new(alloc),
+        at,
+    };
+    assert!(rt; speak(rt, alloc, &bulletin, &shared, &mut share, &mut writer).is_ok());
+    writer.written
+}
+
+/// A ping that comes while a message goes out is answered behind the whole message and before the next one, wherever in the message it comes.
+fn ping_amid_a_message<L: Ledger, R: Wait + Abort>(
+    rt: &R,
+    alloc: Global,
+    blank: Blank,
+    at: usize,
+) -> Result<(), SubscriberFault>
+    requires { (blank.name ≡ L.name) × (blank.parts ≡ L.parts) × (blank.parts ≡ 1) }
+{
+    let mut wanted = octets_of(rt, alloc, &["status"]);
+    assert!(rt; at < wanted.len());
+    wanted.extend_from_slice(&pong(0)).expect(rt, "a pong");
+    let later = octets_of(rt, alloc, &["status_of_more"]);
+    wanted.extend_from_slice(&later).expect(rt, "octets");
+    assert!(rt; written_around::<L, R>(rt, alloc, blank, at) == wanted);
+    Ok(())
+}
+
+/// What is tried with a subscriber.
+#[derive(Clone, Copy)]
+enum Trial {
+    Status,
+    Lag,
+    Prefixes(u32),
+    Pings(u8),
+    PingsAgain(u8),
+    PingsThatWait(u8),
+    PingAmid(usize),
+}
+
+/// How a trial with a subscriber of this minor version ends.
+fn try_over<L: Ledger, R: Wait + Abort>(
+    rt: &R,
+    alloc: Global,
+    blank: Blank,
+    minor: u8,
+    trial: Trial,
+) -> Result<(), SubscriberFault>
+    requires { (blank.name ≡ L.name) × (blank.parts ≡ L.parts) × (blank.parts ≡ 1) }
+{
+    match trial {
+        Trial::Status => speak_of_the_status::<L, R>(rt, alloc, blank, minor),
+        Trial::Lag => lag::<L, R>(rt, alloc, blank, minor),
+        Trial::Prefixes(times) => subscribe_often::<L, R>(rt, alloc, blank, minor, times),
+        Trial::Pings(times) => answer_pings::<L, R>(rt, alloc, blank, minor, times),
+        Trial::PingsAgain(times) => answer_again::<L, R>(rt, alloc, blank, times),
+        Trial::PingsThatWait(times) => ping_often::<L, R>(rt, alloc, blank, minor, times),
+        Trial::PingAmid(at) => ping_amid_a_message::<L, R>(rt, alloc, blank, at),
+    }
+}
+
+/// How a trial ends, over a ledger of its own.
+fn tried<R: Wait + Abort>(
     rt: &R,
     alloc: Global,
     minor: u8,
-    times: u8,
+    trial: Trial,
 ) -> Result<(), SubscriberFault> {
-    let bulletin = Bulletin::new(alloc).expect(rt, "a bulletin");
-    let (_, ended) = heard(rt, alloc, &bulletin, &pings(rt, alloc, minor, times));
-    ended
+    try_over::<Brand, R>(rt, alloc, Blank::new(1), minor, trial)
+}
+
+#[test]
+fn a_subscriber_is_sent_what_it_wants(rt: HostRuntime) {
+    for minor in MINORS {
+        assert!(rt; tried(&rt, rt.alloc(), minor, Trial::Status).is_ok());
+    }
+}
+
+#[test]
+fn a_subscriber_that_lags_is_told_so(rt: HostRuntime) {
+    for minor in MINORS {
+        let ended = tried(&rt, rt.alloc(), minor, Trial::Lag);
+        assert!(rt; matches!(ended, Err(SubscriberFault::Lagged)));
+    }
+}
+
+#[test]
+fn a_subscriber_has_4096_prefixes_at_most(rt: HostRuntime) {
+    let alloc = rt.alloc();
+    for minor in MINORS {
+        assert!(rt; tried(&rt, alloc, minor, Trial::Prefixes(4_096)).is_ok());
+        let past = tried(&rt, alloc, minor, Trial::Prefixes(4_097));
+        assert!(rt; matches!(past, Err(SubscriberFault::TooMuch)));
+    }
 }
 
 #[test]
 fn pings_that_wait_are_answered(rt: HostRuntime) {
     for minor in MINORS {
-        answer_pings(&rt, rt.alloc(), minor, 63);
+        assert!(rt; tried(&rt, rt.alloc(), minor, Trial::Pings(63)).is_ok());
     }
 }
 
 #[test]
 fn pings_behind_answers_are_answered(rt: HostRuntime) {
-    answer_again(&rt, rt.alloc(), 40);
+    assert!(rt; tried(&rt, rt.alloc(), 1, Trial::PingsAgain(40)).is_ok());
+}
+
+#[test]
+fn a_ping_amid_a_message_is_answered_behind_it(rt: HostRuntime) {
+    let alloc = rt.alloc();
+    for at in 1..11 {
+        assert!(rt; tried(&rt, alloc, 1, Trial::PingAmid(at)).is_ok());
+    }
 }
 
 #[test]
 fn the_64th_ping_that_waits_ends_the_connection(rt: HostRuntime) {
-    let past = ping_often(&rt, rt.alloc(), 1, 64);
+    let past = tried(&rt, rt.alloc(), 1, Trial::PingsThatWait(64));
     assert!(rt; matches!(past, Err(SubscriberFault::TooMuch)));
-    assert!(rt; ping_often(&rt, rt.alloc(), 0, 64).is_ok());
+    assert!(rt; tried(&rt, rt.alloc(), 0, Trial::PingsThatWait(64)).is_ok());
 }

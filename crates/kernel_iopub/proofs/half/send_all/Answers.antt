@@ -1,4 +1,4 @@
-use Rattle.std.proofs.Common.{◌≡◌, ◌+◌, ◌++◌, ◌∷◌, [], List, take, drop, sym, ap, ◌∙◌, subst, append_assoc}
+use Rattle.std.proofs.Common.{◌≡◌, ◌+◌, ◌++◌, ◌∷◌, [], List, take, drop, sym, ap, refl, ◌∙◌, subst, append_assoc}
 use Rattle.std.proofs.lemmas.List.{take_more, take-append-drop}
 use Rattle.kernel_board.specs.Frames.{Frames}
 use Rattle.kernel_iopub.specs.Round.{AreToldTo, AreToldInPart}
@@ -6,7 +6,7 @@ use Rattle.kernel_iopub.proofs.ServedLemmas.{none_told, told_on, told_in_part}
 use Rattle.kernel_iopub.proofs.half.send_all.Goals as goal
 
 pub loop-broadcast-init : goal.loop-broadcast-init
-loop-broadcast-init g c = none_told (g.W.Write.contents c.args.writer.now)
+loop-broadcast-init g c = record { told = none_told c.args.share.now.amount (g.W.Write.contents c.args.writer.now); parts = refl }
 
 -- one broadcast more
 pub loop-broadcast-preserved : goal.loop-broadcast-preserved
@@ -18,8 +18,14 @@ loop-broadcast-preserved g c =
     take_more all i b c.loop-broadcast-test.true ∙ ap (λ (x : Frames). take i all ++ x ∷ []) (sym c.broadcast-item.is) in
     let old = g.W.Write.contents c.args.writer.now in
     let new = g.W.Write.contents c.send_next.new.writer in
-    subst (λ (bs : List Frames). AreToldTo old new bs) (sym one)
-    (told_on old (g.W.Write.contents c.loop-broadcast.writer) new (take i all) (b ∷ []) c.loop-broadcast.invariant c.in-Ok.ensures.ok)
+    let taken = c.args.share.now.amount in
+    let behind = c.send_next.new.share.amount in
+    record {
+      told = subst (λ (bs : List Frames). AreToldTo taken old new bs behind) (sym one)
+          (told_on taken c.loop-broadcast.share.amount behind old (g.W.Write.contents c.loop-broadcast.writer) new (take i all) (b ∷ [])
+          c.loop-broadcast.invariant.told c.in-Ok.ensures.ok);
+      parts = c.send_next.ensures.parts ∙ c.loop-broadcast.invariant.parts;
+    }
 
 -- a beginning of one behind those before it
 pub returns-in-Err-clause-err : goal.returns-in-Err-clause-err
@@ -34,5 +40,7 @@ returns-in-Err-clause-err g c =
     sym (append_assoc (take i all) (b ∷ []) later) ∙ ap (λ (bs : List Frames). bs ++ later) (sym one) ∙ take-append-drop (i + 1) all in
     let old = g.W.Write.contents c.args.writer.now in
     let new = g.W.Write.contents c.send_next.new.writer in
-    subst (λ (bs : List Frames). AreToldInPart old new bs) whole
-    (told_in_part old (g.W.Write.contents c.loop-broadcast.writer) new (take i all) b later c.loop-broadcast.invariant c.in-Err.ensures.err)
+    let taken = c.args.share.now.amount in
+    subst (λ (bs : List Frames). AreToldInPart taken old new bs) whole
+    (told_in_part taken c.loop-broadcast.share.amount old (g.W.Write.contents c.loop-broadcast.writer) new (take i all) b later c.loop-broadcast.invariant.told
+    c.in-Err.ensures.err)

@@ -1,5 +1,9 @@
+use Rattle.std.proofs.Common.{◌≡◌}
 use Rattle.kernel_iopub.specs.Round.{AreSentTo}
 use Rattle.kernel_iopub.proofs.half.speak.Given as goal
 
 abbrev pub invariant-loop : goal.invariant-loop
-invariant-loop g l = AreSentTo (g.W.Write.contents l.fn.writer) (g.W.Write.contents l.writer) l.at
+invariant-loop g l = record {
+  sent : AreSentTo l.fn.share.amount (g.W.Write.contents l.fn.writer) (g.W.Write.contents l.writer) l.at l.share.amount;
+  parts : l.share.parts ≡ l.fn.share.parts;
+}
