@@ -28,8 +28,8 @@ use Rattle.janus_machine.specs.Bodies.{kept_in, AreBelow, AreDefined, Define}
 use Rattle.janus_machine.proofs.BodiesInEffect.{forgotten_still_defined}
 use Rattle.janus_machine.specs.declared.procedures.Procedures.{Procedures}
 use Rattle.kernel_runner.specs.Program.{cell_of_program, IsReady, with_bodies}
-use Rattle.kernel_runner.specs.Runner.{ShownWorld, over, world_of, Becomes, Shows, Place, entry, inverse_entry, world_inside, Stands, IsInside, CanEnter, CanReturn, CanLeave}
-use Rattle.kernel_history.specs.Kept.{is_back, IsCellAt, IsBefore, IsBehindNodes, NodesAreReady, AreInOrder, bodies_at, bodies_in, shown_here, place_in, IsProgramOf, StandsIn, StandsAt, IsWholeAt, Kept, IsKept, HasRoom, HasPath, HasPathFor}
+use Rattle.kernel_runner.specs.Runner.{ShownWorld, over, world_of, Becomes, Shows, Place, entry, inverse_entry, world_inside, Stands, Is, Between, IsInside, CanEnter, CanReturn, CanLeave}
+use Rattle.kernel_history.specs.Kept.{is_back, IsCellAt, IsBefore, IsBehindNodes, NodesAreReady, AreInOrder, bodies_at, bodies_in, shown_here, place_in, IsProgramOf, StandsIn, StandsAt, Kept, IsKept, HasRoom, HasPath, HasPathFor}
 use Rattle.kernel_runner.specs.declared.runner.Runner.{Runner}
 use Rattle.kernel_runner.specs.declared.program.Program.{Program}
 use Rattle.kernel_history.specs.declared.tree.Cell.{Cell}
@@ -52,8 +52,8 @@ use Rattle.kernel_machine.proofs.Trees.{worlds-more, legal_up, legal_down, legal
 
 -- the shown world is the runner's
 pub shown_by : {L : Type 0} (tree : Tree) (job : Open) (runner : Runner L) → StandsAt tree job runner → ShownAt (past_of tree) (job_of job) (world_of (procedures_at (past_of tree) (job_of job)) runner)
-shown_by tree Idle runner h = ap (λ s. record { store = s; procedures = (here (past_of tree)).procedures }) h.store
-shown_by tree (Border travel) runner h = ap (λ s. record { store = s; procedures = (here (past_of tree)).procedures }) h.store
+shown_by tree Idle runner h = ap (λ s. record { store = s; procedures = (here (past_of tree)).procedures }) h.0.store
+shown_by tree (Border travel) runner h = ap (λ s. record { store = s; procedures = (here (past_of tree)).procedures }) h.0.store
 shown_by tree (Inside e) runner h = stands_part _ _ _ _ h.stands
 
 -- a runner shows the world at which it stands
@@ -74,7 +74,6 @@ kept_inside tree work count c turn to runner at k more same p = record {
   possible = k.possible;
   counted = k.counted;
   stands = p;
-  whole = tt;
   room = k.room;
   path = k.path;
   ready = nodes_ready tree runner at more same k.ready;
@@ -87,8 +86,7 @@ kept_idle tree job runner at k ready whole shows = record {
   legal = k.legal;
   possible = tt;
   counted = tt;
-  stands = shows;
-  whole = whole;
+  stands = (shows, whole);
   room = tt;
   path = tt;
   ready = ready;
@@ -179,8 +177,7 @@ kept_grown tree larger program n runner v nodes favourites position legal formed
     get_or_at (worlds_from [] (nodes_of tree)) v [] empty_world (length (nodes_of tree)) legal.worlds in
     record {
       legal = subst (λ (s : Past). IsLegal s) (sym e) (legal_grown (past_of tree) program n v legal formed ran);
-      stands = subst (λ (w : World). Shows runner (over (bodies_at larger larger.position) w)) (sym last ∙ ap (λ (s : Past). here s) (sym e)) shows;
-      whole = whole;
+      stands = (subst (λ (w : World). Shows runner (over (bodies_at larger larger.position) w)) (sym last ∙ ap (λ (s : Past). here s) (sym e)) shows, whole);
       possible = tt;
       counted = tt;
       room = tt;
@@ -209,7 +206,7 @@ pub kept_arrived : {L : Type 0} (left : ℕ) (moved-to : Tree) (travel : Travel)
     HasPath travel.aim moved-to travel.down → NodesAreReady moved-to runner → AreInOrder moved-to → Arrives left (past_of moved-to) travel told (state_of moved-to job) → Kept moved-to runner job
 kept_arrived zero tree travel told job runner size legal shown whole can small path ready order a =
     let e : job ≡ Idle = idle_job job (ap (λ (s : State). s.job) a.1) in
-    rw e (record { legal = legal; possible = tt; counted = tt; stands = shown; whole = whole; room = tt; path = tt; ready = ready; order = order; behind = tt })
+    rw e (record { legal = legal; possible = tt; counted = tt; stands = (shown, whole); room = tt; path = tt; ready = ready; order = order; behind = tt })
 kept_arrived (suc left) tree travel told job runner size legal shown whole can small path ready order a =
     let at = border_job job _ (ap (λ (s : State). s.job) a.1) in
     let possible : IsPossible (nodes_of tree) tree.cells.favourites tree.position travel = record { some = omega arith; way_there = can } in
@@ -217,8 +214,7 @@ kept_arrived (suc left) tree travel told job runner size legal shown whole can s
       legal = legal;
       possible = subst (λ (x : Travel). IsPossible (nodes_of tree) tree.cells.favourites tree.position x) (sym at.2) possible;
       counted = subst (λ (x : Travel). IsCounted x) (sym at.2) small;
-      stands = shown;
-      whole = whole;
+      stands = (shown, whole);
       room = tt;
       path = subst (λ (x : Travel). HasPath x.aim tree x.down) (sym at.2) path;
       ready = ready;
@@ -351,7 +347,6 @@ kept_entered tree runner at travel k more same stands = record {
     possible = k.possible;
     counted = k.counted;
     stands = stands;
-    whole = tt;
     room = tt;
     path = k.path;
     ready = nodes_ready tree runner at more same k.ready;
@@ -383,7 +378,6 @@ kept_begun tree made runner at program k ready behind same nodes position room f
           stands = subst (λ (s : Past). Stands at program (entry program (over (bodies_at made made.position) (here s))) false) (sym same)
               (subst (λ (l : List ℕ). Stands at program (entry program (over l (here (past_of tree)))) false) (sym stack) stands);
         };
-        whole = tt;
         room = room;
         path = tt;
         ready = placed_nodes tree made at nodes ready;
@@ -401,8 +395,7 @@ kept_with_room tree made runner k same nodes position =
       legal = subst (λ (s : Past). IsLegal s) (sym same) k.legal;
       possible = tt;
       counted = tt;
-      stands = subst (λ (s : Past). Shows runner (over (bodies_at made made.position) (here s))) (sym same) (subst (λ (l : List ℕ). Shows runner (over l (here (past_of tree)))) (sym stack) k.stands);
-      whole = k.whole;
+      stands = (subst (λ (s : Past). Shows runner (over (bodies_at made made.position) (here s))) (sym same) (subst (λ (l : List ℕ). Shows runner (over l (here (past_of tree)))) (sym stack) k.stands.0), k.stands.1);
       room = tt;
       path = tt;
       ready = placed_nodes tree made runner nodes k.ready;
@@ -478,13 +471,12 @@ up_names tree travel n v cell way legal possible ended at =
 pub new_past : (tree : Tree) → tree.cells ≡ root_alone tree.cells.room → tree.position ≡ 0 → past_of tree ≡ new_state.past
 new_past tree alone position = rw (alone, position, new_worlds) refl
 
-pub kept_new : {L : Type 0} (tree : Tree) (runner : Runner L) → past_of tree ≡ new_state.past → tree.position ≡ 0 → Shows runner (over [] empty_world) → IsWhole runner.store → Kept tree runner Idle
-kept_new tree runner e position shown whole = record {
+pub kept_new : {L : Type 0} (tree : Tree) (runner : Runner L) → past_of tree ≡ new_state.past → tree.position ≡ 0 → Is runner (Between (over [] empty_world)) → Kept tree runner Idle
+kept_new tree runner e position is = record {
   legal = subst (λ (s : Past). IsLegal s) (sym e) new_legal;
   possible = tt;
   counted = tt;
-  stands = subst (λ (s : Past). Shows runner (over (bodies_at tree tree.position) (here s))) (sym e) (subst (λ (n : ℕ). Shows runner (over (bodies_at tree n) empty_world)) (sym position) shown);
-  whole = whole;
+  stands = (subst (λ (s : Past). Shows runner (over (bodies_at tree tree.position) (here s))) (sym e) (subst (λ (n : ℕ). Shows runner (over (bodies_at tree n) empty_world)) (sym position) is.0), is.1);
   room = tt;
   path = tt;
   ready = placed_none tree runner e;
@@ -564,12 +556,11 @@ before_below tree travel way legal possible =
     omega arith
 
 pub can_go_down_to : {L : Type 0} (tree : Tree) (travel : Travel) (cell : Cell) (runner : Runner L) → next_way travel ≡ Down → IsLegal (past_of tree) → IsPossible (nodes_of tree) tree.cells.favourites tree.position travel →
-    IsCellAt tree (below (past_of tree) travel) cell → Shows runner (shown_here tree) → IsWhole runner.store → NodesAreReady tree runner → AreInOrder tree → CanEnter runner cell.program (shown_here tree)
-can_go_down_to tree travel cell runner way legal possible at shows whole ready order = record {
-  shows = shows;
+    IsCellAt tree (below (past_of tree) travel) cell → Is runner (Between (shown_here tree)) → NodesAreReady tree runner → AreInOrder tree → CanEnter runner cell.program (shown_here tree)
+can_go_down_to tree travel cell runner way legal possible at is ready order = record {
+  is = is;
   sound = here_sound tree legal;
   formed = formed_next tree travel cell way legal possible at;
-  whole = whole;
   ready = ready _ cell at;
   behind = cell_behind tree legal order tree.position (below (past_of tree) travel) cell (before_below tree travel way legal possible) at;
 }
@@ -593,18 +584,17 @@ next_up tree travel cell way legal possible read =
     ((up_possible (past_of tree) travel way possible).0, read)
 
 pub can_go_up_from : {L : Type 0} (tree : Tree) (travel : Travel) (cell : Cell) (runner : Runner L) → next_way travel ≡ Up → IsLegal (past_of tree) → IsPossible (nodes_of tree) tree.cells.favourites tree.position travel →
-    IsCellAt tree tree.position cell → Shows runner (shown_here tree) → IsWhole runner.store → NodesAreReady tree runner → CanReturn runner cell.program (shown_here tree)
-can_go_up_from tree travel cell runner way legal possible at shows whole ready =
+    IsCellAt tree tree.position cell → Is runner (Between (shown_here tree)) → NodesAreReady tree runner → CanReturn runner cell.program (shown_here tree)
+can_go_up_from tree travel cell runner way legal possible at is ready =
     let some = (up_possible (past_of tree) travel way possible).0 in
     let run = run_here (past_of tree) legal some in
     record {
-      shows = shows;
+      is = is;
       before = world_at (past_of tree) (node_at (past_of tree) tree.position).parent;
       steps = (node_at (past_of tree) tree.position).steps;
       ran = subst (λ (c : ACell). CodeExec (Forward c) (world_at (past_of tree) (node_at (past_of tree) tree.position).parent) (node_at (past_of tree) tree.position).steps (here (past_of tree))) (sym (cell_there tree tree.position cell at)) run.ran;
       sound = parent_sound (past_of tree) legal some;
       formed = subst (λ (c : ACell). IsFormed c (world_at (past_of tree) (node_at (past_of tree) tree.position).parent)) (sym (cell_there tree tree.position cell at)) run.formed;
-      whole = whole;
       ready = ready _ cell at;
     }
 
@@ -638,11 +628,11 @@ ok_map (Err x) f h = tt
 
 -- ---- between two jobs
 
-pub idle_store : {L : Type 0} (tree : Tree) (runner : Runner L) (job : Open) → StandsAt tree job runner → IsWholeAt job runner → job_of job ≡ state.Idle →
+pub idle_store : {L : Type 0} (tree : Tree) (runner : Runner L) (job : Open) → StandsAt tree job runner → job_of job ≡ state.Idle →
     (runner.store.sight ≡ (here (past_of tree)).store) × IsWhole runner.store
-idle_store tree runner Idle stands whole e = (sym (all_shown runner.store whole) ∙ stands.store, whole)
-idle_store tree runner (Border travel) stands whole e = absurd (cc e)
-idle_store tree runner (Inside i) stands whole e = absurd (cc e)
+idle_store tree runner Idle stands e = (sym (all_shown runner.store stands.1) ∙ stands.0.store, stands.1)
+idle_store tree runner (Border travel) stands e = absurd (cc e)
+idle_store tree runner (Inside i) stands e = absurd (cc e)
 
 -- ---- what a runner leaves, from where it stands
 
@@ -657,9 +647,11 @@ module _ {L : Type 0} (tree : Tree) (runner : Runner L) (cell : Cell) (n : ℕ) 
       let shows = stands_shows runner p (place_in tree (Move travel) p n) back s in
       let stack : bodies_in tree (Move travel) p ≡ with_bodies p (bodies_at tree (node_at (past_of tree) tree.position).parent) = rw (way, bodies_in) (bodies_of_cell tree tree.position cell legal at) in
       record {
-        shows = subst (λ (l : List ℕ). Shows runner (over l (entered (cell_of_program p) (world_at (past_of tree) (node_at (past_of tree) tree.position).parent)))) stack
-            (subst (λ (w : World). Shows runner (over (bodies_in tree (Move travel) p) w)) world shows);
-        whole = whole;
+        is = (
+          subst (λ (l : List ℕ). Shows runner (over l (entered (cell_of_program p) (world_at (past_of tree) (node_at (past_of tree) tree.position).parent)))) stack
+              (subst (λ (w : World). Shows runner (over (bodies_in tree (Move travel) p) w)) world shows),
+          whole,
+        );
         ready = ready;
       }
 
@@ -709,13 +701,13 @@ module _ {L : Type 0} (tree : Tree) (runner : Runner L) (work : Work) (why : Why
   can_leave_cell program e whole =
       let of : IsProgramOf tree work program = rw e refl in
       let is : bodies_in tree work program ≡ with_bodies program (bodies_at tree tree.position) = rw e refl in
-      record { shows = shows_back program _ _ of is (began_cell tree work program (world_of start.procedures runner) e part_back); whole = whole; ready = (stands_back program of).ready }
+      record { is = (shows_back program _ _ of is (began_cell tree work program (world_of start.procedures runner) e part_back), whole); ready = (stands_back program of).ready }
 
   pub can_leave_down : (travel : Travel) (cell : Cell) → work ≡ Move travel → next_way travel ≡ Down → IsCellAt tree (below (past_of tree) travel) cell → IsWhole runner.store → CanLeave runner cell.program (shown_here tree)
   can_leave_down travel cell e way at whole =
       let of : IsProgramOf tree work cell.program = program_down tree work travel cell e way at in
       let is : bodies_in tree work cell.program ≡ with_bodies cell.program (bodies_at tree tree.position) = rw (e, bodies_in) (rw way refl) in
-      record { shows = shows_back cell.program _ _ of is (began_down tree work travel (world_of start.procedures runner) cell e way at part_back); whole = whole; ready = (stands_back cell.program of).ready }
+      record { is = (shows_back cell.program _ _ of is (began_down tree work travel (world_of start.procedures runner) cell e way at part_back), whole); ready = (stands_back cell.program of).ready }
 
   pub shows_up : (travel : Travel) → work ≡ Move travel → next_way travel ≡ Up → Shows runner (shown_here tree)
   shows_up travel e way =

@@ -22,7 +22,8 @@ use Rattle.kernel_machine.specs.declared.turn.Turn.TheVariants.{GoesOn, GoesBack
 use Rattle.kernel_history.specs.Fields.{nodes_of, past_of, work_of, job_of}
 use Rattle.kernel_machine.specs.Legal.{IsLegal, IsPossibleAt, IsInTimeAt, IsCountedAt}
 use Rattle.kernel_runner.specs.Program.{procedures_of, IsReady, with_bodies}
-use Rattle.kernel_runner.specs.Runner.{ShownWorld, over, Shows, Place, Stands, world_of}
+use Rattle.kernel_runner.specs.Runner as model
+use Rattle.kernel_runner.specs.Runner.{ShownWorld, over, Place, Is, Between, world_of}
 use Rattle.kernel_runner.specs.declared.program.Program.{Program}
 use Rattle.kernel_runner.specs.declared.runner.Runner.{Runner}
 use Rattle.kernel_history.specs.declared.tree.Tree.{Tree}
@@ -122,19 +123,13 @@ is_back (GoesBack why) = true
 pub record StandsIn {L : Type 0} (tree : Tree) (work : Work) (count : ℕ) (back : Bool) (runner : Runner L) : Type 0 where
   pub program : Program
   pub of_work : IsProgramOf tree work program
-  pub stands : Stands runner program (place_in tree work program count) back
+  pub stands : Is runner (model.Inside program (place_in tree work program count) back)
 
--- the runner stands where the open job says
+-- the runner is where the open job says
 abbrev pub StandsAt : {L : Type 0} → Tree → Open → Runner L → Type 0
-StandsAt tree Idle runner = Shows runner (shown_here tree)
-StandsAt tree (Border travel) runner = Shows runner (shown_here tree)
+StandsAt tree Idle runner = Is runner (Between (shown_here tree))
+StandsAt tree (Border travel) runner = Is runner (Between (shown_here tree))
 StandsAt tree (Inside e) runner = StandsIn tree e.work e.count (is_back e.turn) runner
-
--- between two cells no local is open
-abbrev pub IsWholeAt : {L : Type 0} → Open → Runner L → Type 0
-IsWholeAt Idle runner = IsWhole runner.store
-IsWholeAt (Border travel) runner = IsWhole runner.store
-IsWholeAt (Inside e) runner = Unit {0}
 
 -- room for one more node, made when a cell is begun
 abbrev pub HasRoom : Tree → Type 0
@@ -171,7 +166,6 @@ pub record Kept {L : Type 0} (tree : Tree) (runner : Runner L) (job : Open) : Ty
   pub possible : IsPossibleAt (past_of tree) (job_of job)
   pub counted : IsCountedAt (job_of job)
   pub stands : StandsAt tree job runner
-  pub whole : IsWholeAt job runner
   pub room : HasRoomAt tree job
   pub path : HasPathAt tree job
   pub ready : NodesAreReady tree runner

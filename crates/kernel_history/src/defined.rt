@@ -6,7 +6,7 @@ ghost use Rattle.janus_syntax.specs.View.{plain_procedure};
 ghost use Rattle.kernel_runner.specs.Defined.{in_a_row};
 ghost use Rattle.kernel_history.specs.Fields.{past_of, job_of, work_of};
 ghost use Rattle.kernel_history.specs.Kept.{HasPathAt, HasPathFor, over_here, procedures_in};
-ghost use Rattle.kernel_runner.specs.Runner.{over, Shows};
+ghost use Rattle.kernel_runner.specs.Runner.{over, Is, Between};
 ghost use Rattle.kernel_machine.specs.Legal.{IsLegal, IsPossibleAt, IsPossibleWork};
 ghost use Rattle.kernel_machine.specs.State.{here, procedures_at};
 
@@ -79,7 +79,7 @@ pub fn procedures_here<'a, L: Ledger>(
     runner: &Runner<L>,
 ) -> Result<Vec<&'a Procedure>, AllocError>
     requires legal { IsLegal (past_of tree.now) }
-    requires shows { (bodies : List ℕ) × Shows runner.now (over bodies (here (past_of tree.now))) }
+    requires is { (bodies : List ℕ) × Is runner.now (Between (over bodies (here (past_of tree.now)))) }
     ensures { IfOk result (λ all. in_a_row all.items ≡ (here (past_of tree.now)).procedures) }
 {
     if runner.procedures.len() == 0 {

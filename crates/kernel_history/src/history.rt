@@ -12,7 +12,7 @@ ghost use Rattle.janus_store.specs.Held.{IsWhole, KeepsSight};
 ghost use Rattle.janus_machine.specs.Bodies.{kept_in};
 ghost use Rattle.kernel_machine.specs.Text.{Accepts, Refuses};
 ghost use Rattle.kernel_runner.specs.Program.{cell_of_program, IsReady, KeepsOlder};
-ghost use Rattle.kernel_runner.specs.Runner.{ShownWorld, over, Becomes, Shows};
+ghost use Rattle.kernel_runner.specs.Runner.{over, Becomes, Is, Between, KeepsShown};
 ghost use Rattle.kernel_machine.specs.Extent.{IsExtent};
 ghost use Rattle.janus_syntax.specs.Tree.{cell_view};
 ghost use Rattle.kernel_history.specs.NodeTrees.{IsTreeAt, HasNoTree};
@@ -68,8 +68,7 @@ fn enter_next<L: Ledger>(
     requires legal { IsLegal (past_of tree.now) }
     requires possible { IsPossible (nodes_of tree.now) tree.now.cells.favourites tree.now.position travel }
     requires path { HasPath travel.aim tree.now travel.down }
-    requires shows { Shows runner.old (shown_here tree.now) }
-    requires whole { IsWhole runner.old.store }
+    requires is { Is runner.old (Between (shown_here tree.now)) }
     requires ready { NodesAreReady tree.now runner.old }
     requires order { AreInOrder tree.now }
     ensures ok { OnOk result (StandsAt tree.now (Open.Inside (record { work = Work.Move travel; count = 0; turn = Turn.GoesOn })) runner.new) }
@@ -128,8 +127,7 @@ fn prepare<L: Ledger>(
     runner: &mut Runner<L>,
 ) -> Result<Program, Refusal>
     requires legal { IsLegal (past_of tree.now) }
-    requires shows { (bodies : List ℕ) × Shows runner.old (over bodies (here (past_of tree.now))) }
-    requires whole { IsWhole runner.old.store }
+    requires is { (bodies : List ℕ) × Is runner.old (Between (over bodies (here (past_of tree.now)))) }
     ensures accepts { IfOk result (λ program. Accepts (here (past_of tree.now)) text.now (cell_of_program program)) }
     ensures refuses { IfErr result (Refuses (here (past_of tree.now)) text.now) }
     ensures ready { IfOk result (λ program. IsReady runner.new.store.names runner.new.procedures program) }
@@ -137,7 +135,7 @@ fn prepare<L: Ledger>(
     ensures behind { IfOk result (λ program. program.first ≡ length (kept_in runner.old.procedures)) }
     ensures older { KeepsOlder runner.old.procedures runner.new.procedures }
     ensures kept { KeepsSight runner.old.store runner.new.store }
-    ensures shown { (shown : ShownWorld) → Shows runner.old shown → Shows runner.new shown }
+    ensures shown { KeepsShown runner.old runner.new }
 {
     let Ok(procedures) = procedures_here(alloc, tree, runner) else {
         return Err(Refusal::Memory);

@@ -10,7 +10,7 @@ ghost use Rattle.janus_machine.specs.Counts.{IsWritten};
 ghost use Rattle.kernel_machine.specs.StepsOfSlices.{steps_back, WritesOn};
 ghost use Rattle.janus_names.specs.Numbers.{GoOn};
 ghost use Rattle.janus_store.specs.Held.{IsWhole};
-ghost use Rattle.kernel_runner.specs.Runner.{Shows};
+ghost use Rattle.kernel_runner.specs.Runner.{Is, Between};
 ghost use Rattle.kernel_history.specs.Kept.{Kept, HasCome, IsProgramOf, HasPathFor, NodesAreReady, SettlesFrom, shown_here};
 
 use crate::job::{Entered, Open, Work};
@@ -64,9 +64,8 @@ fn turned(work: &Work, why: Why) -> Outcome
 fn settle_back<L: Ledger>(tree: &Tree, runner: &mut Runner<L>, work: &Work)
     requires kept { (why : Why) × Kept tree.now runner.old (Open.Inside (record { work = work.now; count = 0; turn = Turn.GoesBack why })) }
     requires whole { IsWhole runner.old.store }
-    ensures shows { Shows runner.new (shown_here tree.now) }
+    ensures is { Is runner.new (Between (shown_here tree.now)) }
     ensures ready { NodesAreReady tree.now runner.new }
-    ensures whole { IsWhole runner.new.store }
     ensures names { GoOn runner.old.store.names runner.new.store.names }
 {
     match work {

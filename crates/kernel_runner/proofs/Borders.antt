@@ -29,7 +29,7 @@ use Rattle.janus_machine.proofs.BodiesInEffect.{all_defined, all_retired, bodies
 use Rattle.janus_machine.proofs.Courses.{blocks_are_safe, books_turn}
 use Rattle.kernel_machine.specs.Language.{CodeExec, IsFormed, IsSound}
 use Rattle.kernel_runner.specs.Program.{cell_of_program, procedures_of, IsReady, with_bodies}
-use Rattle.kernel_runner.specs.Runner.{ShownWorld, Becomes, Shows, Stands, entry, inverse_entry, CanEnter, CanReturn, CanLeave}
+use Rattle.kernel_runner.specs.Runner.{ShownWorld, Becomes, Stands, entry, inverse_entry, Is, Between, CanEnter, CanReturn, CanLeave}
 use Rattle.kernel_runner.specs.declared.program.Program.{Program}
 use Rattle.kernel_runner.specs.declared.runner.Runner.{Runner}
 use Rattle.kernel_runner.proofs.Growing.{defined_grow, ready_grows}
@@ -106,11 +106,11 @@ pub entered_here : {L : Type 0} (old new : Runner L) (program : Program) (from :
 entered_here old new program from can becomes kept defined before =
     let cell = cell_of_program program in
     let start : World = entered cell from.world in
-    let shown : old.store.sight ≡ from.world.store = sym (all_shown old.store can.whole) ∙ can.shows.store in
+    let shown : old.store.sight ≡ from.world.store = sym (all_shown old.store can.is.1) ∙ can.is.0.store in
     let same : new.store.sight ≡ start.store = becomes.sight ∙ ap (declare cell.declarations) shown in
     let standing = before.stands new.procedures new.store becomes.whole.callers in
     let place = before.place new.procedures new.store.callers in
-    let grown : Define new.store.names old.procedures from.bodies from.world.procedures = defined_grow old.store.names new.store.names becomes.names old.procedures from.bodies from.world.procedures can.shows.defined in
+    let grown : Define new.store.names old.procedures from.bodies from.world.procedures = defined_grow old.store.names new.store.names becomes.names old.procedures from.bodies from.world.procedures can.is.0.defined in
     let itself : Becomes old.store new.store new.store.sight = record { sight = refl; whole = becomes.whole; names = becomes.names; one_number = becomes.one_number } in
     let ready = ready_grows old.store.names new.store.names becomes.names old.procedures program can.ready in
     record {
@@ -123,7 +123,7 @@ entered_here old new program from can becomes kept defined before =
       declared = becomes.whole.declared ∙ ap size_of same;
       agrees = agrees_before (stacks_in start.store) new.procedures program.book new.cursor new.store cell.block becomes.whole (ap stacks_in same) standing place;
       ready = ready_still old new program itself kept can.ready;
-      one_number = becomes.one_number can.shows.one_number;
+      one_number = becomes.one_number can.is.0.one_number;
       defined = all_defined new.store.names old.procedures new.procedures program.first (procedures_of program) from.bodies from.world.procedures kept grown ready.bodies defined;
       faces = (ap (λ (r : Store). To (BeforeBlock cell.block []) r) (sym same) ∙ ap (λ (p : Place). To p new.store.sight) (sym place), never_broken cell from.world can.sound can.formed);
     }
@@ -137,8 +137,8 @@ entered_inverse_here old new program from can store procedures before =
     let cell = cell_of_program program in
     let back = worlds_reverse (entered cell can.before) cell.block can.steps from.world (entered_is_good cell can.before (sound_good can.before can.sound)) can.ran in
     let never : NeverBroken from.world.procedures (stacks_in from.world.store) (inverse_block cell.block) from.world.store = (blocks_are_safe from.world.procedures (stacks_in from.world.store) (inverse_block cell.block) from.world.store).ended can.steps _ back.back.ran in
-    let now : IsWhole new.store = subst (λ (h : Held). IsWhole h) (sym store) can.whole in
-    let same : new.store.sight ≡ from.world.store = ap (λ (h : Held). h.sight) store ∙ sym (all_shown old.store can.whole) ∙ can.shows.store in
+    let now : IsWhole new.store = subst (λ (h : Held). IsWhole h) (sym store) can.is.1 in
+    let same : new.store.sight ≡ from.world.store = ap (λ (h : Held). h.sight) store ∙ sym (all_shown old.store can.is.1) ∙ can.is.0.store in
     let standing = before.stands new.procedures new.store now.callers in
     let place : place_of new.procedures program.book new.cursor new.store.callers ≡ BeforeBlock (inverse_block cell.block) [] = before.place new.procedures new.store.callers ∙ ap (λ (b : Blk). BeforeBlock b []) (books_turn program.book) in
     record {
@@ -151,19 +151,22 @@ entered_inverse_here old new program from can store procedures before =
       declared = now.declared ∙ ap size_of same;
       agrees = agrees_before (stacks_in from.world.store) new.procedures program.book new.cursor new.store (inverse_block cell.block) now (ap stacks_in same) standing place;
       ready = subst (λ (h : Held). IsReady h.names new.procedures program) (sym store) (subst (λ (t : Procedures). IsReady old.store.names t program) (sym procedures) can.ready);
-      one_number = subst (λ (h : Held). HaveOneNumber h.names) (sym store) can.shows.one_number;
-      defined = subst (λ (h : Held). Define h.names new.procedures from.bodies from.world.procedures) (sym store) (subst (λ (t : Procedures). Define old.store.names t from.bodies from.world.procedures) (sym procedures) can.shows.defined);
+      one_number = subst (λ (h : Held). HaveOneNumber h.names) (sym store) can.is.0.one_number;
+      defined = subst (λ (h : Held). Define h.names new.procedures from.bodies from.world.procedures) (sym store) (subst (λ (t : Procedures). Define old.store.names t from.bodies from.world.procedures) (sym procedures) can.is.0.defined);
       faces = (ap (λ (r : Store). To (BeforeBlock (inverse_block cell.block) []) r) (sym same) ∙ ap (λ (p : Place). To p new.store.sight) (sym place), never);
     }
 
 -- ---- leaving a cell
 
 pub left_here : {L : Type 0} (old new : Runner L) (program : Program) (to : ShownWorld) → CanLeave old program to → Becomes old.store new.store to.world.store →
-    kept_in new.procedures ≡ kept_in old.procedures → AreDefined new.procedures to.bodies → Shows new to
-left_here old new program to can becomes kept defined = record {
-  store = all_shown new.store becomes.whole ∙ becomes.sight;
-  one_number = becomes.one_number can.shows.one_number;
-  defined =
-      all_retired new.store.names old.procedures new.procedures program.first (procedures_of program) to.bodies to.world.procedures kept
-      (defined_grow old.store.names new.store.names becomes.names old.procedures (with_bodies program to.bodies) (entered (cell_of_program program) to.world).procedures can.shows.defined) defined;
-}
+    kept_in new.procedures ≡ kept_in old.procedures → AreDefined new.procedures to.bodies → Is new (Between to)
+left_here old new program to can becomes kept defined = (
+  record {
+    store = all_shown new.store becomes.whole ∙ becomes.sight;
+    one_number = becomes.one_number can.is.0.one_number;
+    defined =
+        all_retired new.store.names old.procedures new.procedures program.first (procedures_of program) to.bodies to.world.procedures kept
+        (defined_grow old.store.names new.store.names becomes.names old.procedures (with_bodies program to.bodies) (entered (cell_of_program program) to.world).procedures can.is.0.defined) defined;
+  },
+  becomes.whole,
+)

@@ -5,7 +5,7 @@ use Rattle.std.specs.Result.{is_err, OnOk}
 use Rattle.std.proofs.lemmas.Option.{slice_get_within}
 use Rattle.janus_meaning.specs.Syntax.{Name, Proc}
 use Rattle.janus_meaning.specs.Store.{Store}
-use Rattle.janus_meaning.specs.World.{World, Declaration, oldest}
+use Rattle.janus_meaning.specs.World.{World, Declaration, oldest, size_of}
 use Rattle.janus_names.specs.Numbers.{HaveOneNumber}
 use Rattle.janus_meaning.specs.Shape.{Shape, Heads, shape_of, heads_of}
 use Rattle.janus_meaning.specs.FormedWorld.{HaveValues}
@@ -17,7 +17,7 @@ use Rattle.janus_check.specs.WellFormed.{IsWellFormed}
 use Rattle.janus_check.proofs.SameHeads.{formed_same}
 use Rattle.janus_invert.specs.Met.{MeetsBlk, MeetsLocalsOf}
 use Rattle.janus_invert.proofs.Meeting.{AreMet, AreCalledMet}
-use Rattle.janus_store.specs.Held.{Held, Caller, AreKnown, IsWhole, KeepsSight, shown_store, given_back}
+use Rattle.janus_store.specs.Held.{Held, Caller, AreKnown, KeepsSight, shown_store, given_back}
 use Rattle.janus_machine.specs.Bodies.{kept_in, AreBelow, AreBodies, AreBodiesFrom, AreDefined, Define}
 use Rattle.janus_machine.specs.Places.{BookHasNumbers}
 use Rattle.janus_machine.specs.declared.procedure.Procedure.{Procedure}
@@ -25,7 +25,7 @@ use Rattle.janus_machine.specs.declared.procedures.Procedures.{Procedures}
 use Rattle.kernel_runner.specs.Known.{FindTheSame}
 use Rattle.kernel_runner.specs.Met.{AreDeclaredMet, MeetOwn, AreProceduresMet}
 use Rattle.kernel_runner.specs.Program.{cell_of_program, tree_of, procedures_of, IsReady}
-use Rattle.kernel_runner.specs.Runner.{ShownWorld, Shows, IsCheckedOver}
+use Rattle.kernel_runner.specs.Runner.{ShownWorld, Shows, Is, Between, IsCheckedOver}
 use Rattle.kernel_runner.specs.declared.program.Program.{Program}
 use Rattle.kernel_runner.specs.declared.runner.Runner.{Runner}
 use Rattle.kernel_runner.proofs.Borders.{all_shown}
@@ -64,17 +64,19 @@ shown_kept old new k =
 
 -- more names may be met, and more bodies kept behind the others
 pub shows_more : {L : Type 0} (old new : Runner L) (shown : ShownWorld) → KeepsSight old.store new.store → HaveOneNumber new.store.names → take (length (kept_in old.procedures)) (kept_in new.procedures) ≡ kept_in old.procedures →
-    (AreDefined old.procedures shown.bodies → AreDefined new.procedures shown.bodies) → Shows old shown → Shows new shown
-shows_more old new shown sight one kept still h =
+    (AreDefined old.procedures shown.bodies → AreDefined new.procedures shown.bodies) → Is old (Between shown) → Is new (Between shown)
+shows_more old new shown sight one kept still is =
+    let h = is.0 in
     let grown : Define new.store.names old.procedures shown.bodies shown.world.procedures = defined_grow old.store.names new.store.names sight.names old.procedures shown.bodies shown.world.procedures h.defined in
-    record {
+    let shows : Shows new shown = record {
       store = shown_kept old.store new.store sight ∙ h.store;
       one_number = one;
       defined = record {
         defined = still h.defined.defined;
         bodies = bodies_of_more new.store.names (length (kept_in old.procedures)) (kept_in new.procedures) shown.bodies shown.world.procedures (subst (λ (bs : List Procedure). AreBodies new.store.names bs shown.bodies shown.world.procedures) (sym kept) grown.bodies);
       };
-    }
+    } in
+    (shows, record { declared = sight.declared ∙ is.1.declared ∙ sym (ap size_of sight.sight); callers = sight.callers ∙ is.1.callers })
 
 -- the same bodies are all of them
 pub all_kept : (old new : List Procedure) → new ≡ old → take (length old) new ≡ old
@@ -87,12 +89,12 @@ all_kept old new e = ap (take (length old)) e ∙ all_of old
 -- ---- keeping bodies, and forgetting them
 
 -- where its names were met, all names of a cell were that is checked over the shown world
-pub cell_met : {L : Type 0} (runner : Runner L) (h : Held) (shown : ShownWorld) (t c : tree.Cell) (ds : List Declaration) → IsCheckedOver runner c shown → IsWhole runner.store → KeepsSight runner.store h → AreKnown h → t ≡ c → ds ≡ (plain_cell t).declarations →
+pub cell_met : {L : Type 0} (runner : Runner L) (h : Held) (shown : ShownWorld) (t c : tree.Cell) (ds : List Declaration) → IsCheckedOver runner c shown → KeepsSight runner.store h → AreKnown h → t ≡ c → ds ≡ (plain_cell t).declarations →
     AreDeclaredMet h.names ds → MeetOwn h.names (plain_cell t).procedures → MeetsLocalsOf h.names (plain_cell t).block →
     MeetsBlk h.names (plain_cell c).block × AreProceduresMet h.names (plain_cell c).procedures
-cell_met runner h shown t c ds checked whole kept known is same declared own locals =
-    let sight : h.sight ≡ shown.world.store = kept.sight ∙ sym (all_shown runner.store whole) ∙ checked.shows.store in
-    let grown : Define h.names runner.procedures shown.bodies shown.world.procedures = defined_grow runner.store.names h.names kept.names runner.procedures shown.bodies shown.world.procedures checked.shows.defined in
+cell_met runner h shown t c ds checked kept known is same declared own locals =
+    let sight : h.sight ≡ shown.world.store = kept.sight ∙ sym (all_shown runner.store checked.is.1) ∙ checked.is.0.store in
+    let grown : Define h.names runner.procedures shown.bodies shown.world.procedures = defined_grow runner.store.names h.names kept.names runner.procedures shown.bodies shown.world.procedures checked.is.0.defined in
     let met : AreMet (shape_of shown.world.store) h.names = subst (λ (s : Store). AreMet (shape_of s) h.names) sight (sight_met h (subst HaveValues (sym sight) checked.values) known) in
     let called : AreCalledMet (heads_of shown.world.procedures) h.names = defined_met h.names (kept_in runner.procedures) shown.bodies shown.world.procedures grown.bodies in
     let declared_here = subst (λ (ds : List Declaration). AreDeclaredMet h.names ds) (same ∙ ap (λ (t : tree.Cell). (plain_cell t).declarations) is) declared in

@@ -1,5 +1,6 @@
--- What a runner is. Between two cells it shows a world. Inside a cell it stands at a place in the code, and its next steps go on or back.
-use Rattle.std.specs.Prelude.{◌≡◌, ℕ, ◌≤◌, Bool, true, false, List, length}
+-- The model of a runner, and what its calls do to it. Between two cells it shows a world. Inside a cell it stands at a place in the code, and its
+-- next steps go on or back.
+use Rattle.std.specs.Prelude.{◌≡◌, ℕ, ◌+◌, ◌-◌, ◌≤◌, Bool, true, false, List, length}
 use Rattle.janus_meaning.specs.Syntax.{Blk, Proc}
 use Rattle.janus_meaning.specs.Store.{Store}
 use Rattle.janus_meaning.specs.Shape.{shape_of, heads_of}
@@ -19,6 +20,7 @@ use Rattle.janus_machine.specs.Law.{HasRun, FacesBack, NeverBroken}
 use Rattle.kernel_machine.specs.Language.{Code, Forward, Backward, CodeExec, IsFormed, IsSound, cell_of, run_block, start_of}
 use Rattle.kernel_runner.specs.Program.{cell_of_program, IsReady, with_bodies}
 use Rattle.kernel_runner.specs.declared.program.Program.{Program}
+use Rattle.kernel_machine.specs.Reached.{Reaches}
 use Rattle.kernel_machine.specs.declared.progress.Progress.{Progress}
 use Rattle.kernel_machine.specs.declared.progress.Progress.TheVariants.{Went, Ended, Stopped}
 use Rattle.kernel_runner.specs.declared.runner.Runner.{Runner}
@@ -44,12 +46,6 @@ pub record Shows {L : Type 0} (runner : Runner L) (shown : ShownWorld) : Type 0 
   pub store : shown_store runner.store ≡ shown.world.store
   pub one_number : HaveOneNumber runner.store.names
   pub defined : Define runner.store.names runner.procedures shown.bodies shown.world.procedures
-
--- the cell was checked over the world that is shown
-pub record IsCheckedOver {L : Type 0} (runner : Runner L) (cell : Cell) (shown : ShownWorld) : Type 0 where
-  pub shows : Shows runner shown
-  pub formed : IsWellFormed (shape_of shown.world.store) (heads_of shown.world.procedures) cell
-  pub values : HaveValues shown.world.store
 
 -- The store has become this one: no local is open, and each name that was met has kept its number, which is its only one.
 pub record Becomes (old new : Held) (s : Store) : Type 0 where
@@ -127,40 +123,101 @@ pub record Stands {L : Type 0} (runner : Runner L) (program : Program) (at : Pla
   pub defined : Define runner.store.names runner.procedures at.bodies (start_at at).procedures
   pub faces : Faces is_turned runner program (run_block at.code) (start_at at) at.count
 
--- it stands somewhere in the code of this program
+-- ---- the model
+
+-- What a runner is: it shows a world, and no local is open; or it stands at a place in a program's code, and its next steps go on or, once it is
+-- turned, back.
+pub data Configuration : Type 0 where
+  Between : (shown : ShownWorld) → Configuration
+  Inside : (program : Program) (at : Place) (is_turned : Bool) → Configuration
+
+-- The runner is this. No function of its fields tells it, since the world in which a cell was entered is kept nowhere.
+abbrev pub Is : {L : Type 0} → Runner L → Configuration → Type 0
+Is runner (Between shown) = Shows runner shown × IsWhole runner.store
+Is runner (Inside program at is_turned) = Stands runner program at is_turned
+
+-- it is somewhere in the code of this program
 abbrev pub IsInside : {L : Type 0} → Runner L → Program → Bool → Type 0
-IsInside runner program is_turned = (at : Place) × Stands runner program at is_turned
+IsInside runner program is_turned = (at : Place) × Is runner (Inside program at is_turned)
 
--- it stands where it came with at most m steps to take in all; at the end of the code no local is open
-abbrev pub CameTo : {L : Type 0} → Runner L → Program → Place → ℕ → Progress → Type 0
-CameTo runner program at m Went = Stands runner program (at_count m at) false
-CameTo runner program at m (Ended n) = Stands runner program (at_count n at) false × IsWhole runner.store
-CameTo runner program at m (Stopped j fault) = Stands runner program (at_count j at) false
+-- ---- what its calls ask for
 
--- ---- entering and leaving
+-- the cell was checked over the world that is shown
+pub record IsCheckedOver {L : Type 0} (runner : Runner L) (cell : Cell) (shown : ShownWorld) : Type 0 where
+  pub is : Is runner (Between shown)
+  pub formed : IsWellFormed (shape_of shown.world.store) (heads_of shown.world.procedures) cell
+  pub values : HaveValues shown.world.store
 
 -- the program can run from the world that is shown: it is well formed there, and its bodies are kept behind all that are defined
 pub record CanEnter {L : Type 0} (runner : Runner L) (program : Program) (from : ShownWorld) : Type 0 where
-  pub shows : Shows runner from
+  pub is : Is runner (Between from)
   pub sound : IsSound from.world
   pub formed : IsFormed (cell_of_program program) from.world
-  pub whole : IsWhole runner.store
   pub ready : IsReady runner.store.names runner.procedures program
   pub behind : AreBelow program.first from.bodies
 
 -- the program has led to the world that is shown
 pub record CanReturn {L : Type 0} (runner : Runner L) (program : Program) (from : ShownWorld) : Type 0 where
-  pub shows : Shows runner from
+  pub is : Is runner (Between from)
   pub before : World
   pub steps : ℕ
   pub ran : CodeExec (Forward (cell_of_program program)) before steps from.world
   pub sound : IsSound before
   pub formed : IsFormed (cell_of_program program) before
-  pub whole : IsWhole runner.store
   pub ready : IsReady runner.store.names runner.procedures program
 
--- the world is shown in which the program's statements begin, where it was entered in this one
+-- the world in which the program's statements begin, where it was entered in this one
+abbrev pub begun_in : Program → ShownWorld → ShownWorld
+begun_in program to = over (with_bodies program to.bodies) (entered (cell_of_program program) to.world)
+
+-- that world is shown
 pub record CanLeave {L : Type 0} (runner : Runner L) (program : Program) (to : ShownWorld) : Type 0 where
-  pub shows : Shows runner (over (with_bodies program to.bodies) (entered (cell_of_program program) to.world))
-  pub whole : IsWhole runner.store
+  pub is : Is runner (Between (begun_in program to))
   pub ready : IsReady runner.store.names runner.procedures program
+
+-- ---- what its calls do to the model: from whatever it was, to what it is
+
+-- it has entered the program, or its inverse, and stands before the first step
+abbrev pub Enters : {L : Type 0} → Program → Runner L → Runner L → Type 0
+Enters program old new = (from : ShownWorld) → CanEnter old program from → Is new (Inside program (entry program from) false)
+
+abbrev pub EntersInverse : {L : Type 0} → Program → Runner L → Runner L → Type 0
+EntersInverse program old new = (from : ShownWorld) → CanReturn old program from → Is new (Inside program (inverse_entry program from) false)
+
+-- how many steps are taken, of at most so many
+abbrev pub count_after : ℕ → Progress → ℕ
+count_after m Went = m
+count_after m (Ended n) = n
+count_after m (Stopped j fault) = j
+
+-- at the end of the code no local is open
+abbrev pub IsWholeAfter : {L : Type 0} → Progress → Runner L → Type 0
+IsWholeAfter Went runner = Unit {0}
+IsWholeAfter (Ended n) runner = IsWhole runner.store
+IsWholeAfter (Stopped j fault) runner = Unit {0}
+
+-- with at most m steps to take in all, the code comes thus far, to the world that the runner shows then, and there the runner stands
+pub record Comes {L : Type 0} (program : Program) (at : Place) (m : ℕ) (ran : Progress) (new : Runner L) : Type 0 where
+  pub reaches : Reaches at.code at.world m ran (world_inside at new)
+  pub is : Is new (Inside program (at_count (count_after m ran) at) false)
+  pub whole : IsWholeAfter ran new
+
+-- it has taken up to m steps, and come thus far
+abbrev pub Runs : {L : Type 0} → Program → ℕ → Progress → Runner L → Runner L → Type 0
+Runs program m ran old new = (at : Place) → Is old (Inside program at false) → Comes program at (at.count + m) ran new
+
+-- it has turned round where it stood
+abbrev pub Turns : {L : Type 0} → Program → Runner L → Runner L → Type 0
+Turns program old new = (at : Place) → Is old (Inside program at false) → Is new (Inside program at true)
+
+-- it has gone m steps back, or all
+abbrev pub GoesBack : {L : Type 0} → Program → ℕ → Runner L → Runner L → Type 0
+GoesBack program m old new = (at : Place) → Is old (Inside program at true) → Is new (Inside program (at_count (at.count - m) at) true)
+
+-- it has left the program, and shows the world in which that was entered
+abbrev pub Leaves : {L : Type 0} → Program → Runner L → Runner L → Type 0
+Leaves program old new = (to : ShownWorld) → CanLeave old program to → Is new (Between to)
+
+-- it shows what it showed: names may have been met, and bodies kept
+abbrev pub KeepsShown : {L : Type 0} → Runner L → Runner L → Type 0
+KeepsShown old new = (shown : ShownWorld) → Is old (Between shown) → Is new (Between shown)

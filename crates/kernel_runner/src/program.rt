@@ -5,7 +5,7 @@ ghost use Rattle.janus_meaning.specs.Shape.{AreDistinct, shape_of};
 ghost use Rattle.janus_syntax.specs.Tree.{cell_view, declaration_view, declarations_view, procedure_view, procedures_view};
 ghost use Rattle.janus_syntax.specs.View.{plain_declaration, plain_procedure, plain_cell};
 ghost use Rattle.janus_invert.specs.Met.{MeetsProc};
-ghost use Rattle.janus_store.specs.Held.{IsWhole, KeepsSight, shown_store};
+ghost use Rattle.janus_store.specs.Held.{KeepsSight, shown_store};
 ghost use Rattle.janus_store.specs.Values.{shown};
 ghost use Rattle.janus_machine.specs.Bodies.{kept_in};
 ghost use Rattle.kernel_runner.specs.Kinds.{kind_in};
@@ -18,7 +18,7 @@ ghost use Rattle.kernel_machine.specs.Text.{Accepts, Refuses, refused_by_syntax,
 ghost use Rattle.kernel_runner.specs.Program.{cell_of_program, declaration_of, tree_of, procedures_of, IsReady, IsKeptBehind, AreBodiesBehind};
 ghost use Rattle.kernel_runner.specs.Program.{KeepsOlder, KeepsDefined};
 ghost use Rattle.kernel_runner.specs.Defined.{in_a_row};
-ghost use Rattle.kernel_runner.specs.Runner.{ShownWorld, over, Shows, IsCheckedOver, world_of};
+ghost use Rattle.kernel_runner.specs.Runner.{ShownWorld, over, Is, Between, IsCheckedOver, KeepsShown, world_of};
 
 use crate::known::known_over;
 use crate::meeting::meet_cell;
@@ -64,9 +64,8 @@ impl Program {
         procedures: &[&Procedure],
         runner: &mut Runner<L>,
     ) -> Result<Program, Refusal>
-        requires shows { (bodies : List ℕ) × Shows runner.old (over bodies (world_of (in_a_row procedures.now) runner.old)) }
+        requires is { (bodies : List ℕ) × Is runner.old (Between (over bodies (world_of (in_a_row procedures.now) runner.old))) }
         requires sound { IsSound (world_of (in_a_row procedures.now) runner.old) }
-        requires whole { IsWhole runner.old.store }
         ensures accepts { IfOk result (λ program. Accepts (world_of (in_a_row procedures.now) runner.old) text.now (cell_of_program program)) }
         ensures refuses { IfErr result (Refuses (world_of (in_a_row procedures.now) runner.old) text.now) }
         ensures ready { IfOk result (λ program. IsReady runner.new.store.names runner.new.procedures program) }
@@ -75,7 +74,7 @@ impl Program {
         ensures older { KeepsOlder runner.old.procedures runner.new.procedures }
         ensures none { OnErr result (kept_in runner.new.procedures ≡ kept_in runner.old.procedures) }
         ensures kept { KeepsSight runner.old.store runner.new.store }
-        ensures shown { (shown : ShownWorld) → Shows runner.old shown → Shows runner.new shown }
+        ensures shown { KeepsShown runner.old runner.new }
     {
         let cell = match parse_cell(alloc, text) {
             Ok(cell) => cell,
@@ -100,15 +99,14 @@ impl Program {
         checked: Checked,
         runner: &mut Runner<L>,
     ) -> Result<Program, AllocError>
-        requires shows { (shown : ShownWorld) × IsCheckedOver runner.old (cell_in checked) shown }
-        requires whole { IsWhole runner.old.store }
+        requires { (shown : ShownWorld) × IsCheckedOver runner.old (cell_in checked) shown }
         ensures cell { IfOk result (λ program. cell_of_program program ≡ plain_cell (cell_in checked)) }
         ensures ready { IfOk result (λ program. IsReady runner.new.store.names runner.new.procedures program) }
         ensures behind { IfOk result (λ program. program.first ≡ length (kept_in runner.old.procedures)) }
         ensures older { KeepsOlder runner.old.procedures runner.new.procedures }
         ensures none { OnErr result (kept_in runner.new.procedures ≡ kept_in runner.old.procedures) }
         ensures kept { KeepsSight runner.old.store runner.new.store }
-        ensures shown { (shown : ShownWorld) → Shows runner.old shown → Shows runner.new shown }
+        ensures shown { KeepsShown runner.old runner.new }
     {
         let cell = checked.cell();
         let declarations = all_declared(alloc, &cell.declarations)?;

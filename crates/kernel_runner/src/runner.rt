@@ -1,7 +1,7 @@
 //! The one store, the procedures in effect, and the place in the code of the open cell.
 //!
 //! It alone runs the machine of Janus: what stands above runs cells by these contracts.
-ghost use Rattle.std.specs.Prelude.{◌≡◌, ◌+◌, ◌-◌, [], map, IfOk, OnOk, OnErr, IsOk, true, false};
+ghost use Rattle.std.specs.Prelude.{◌≡◌, [], map, IfOk, OnOk, OnErr, IsOk, true, false};
 ghost use Rattle.janus_meaning.specs.Store.{Store as TheStore, look};
 ghost use Rattle.janus_meaning.specs.Shape.{shape_of};
 ghost use Rattle.janus_meaning.specs.FormedWorld.{AreNew, HaveValues};
@@ -9,13 +9,12 @@ ghost use Rattle.janus_meaning.specs.World.{empty_world, declare as declared_in,
 ghost use Rattle.janus_meaning.specs.Fault.{Bad, Broken};
 ghost use Rattle.kernel_runner.specs.Declarable.{HasStackRoom};
 ghost use Rattle.kernel_runner.specs.Program.{cell_of_program, declaration_of};
-ghost use Rattle.kernel_machine.specs.Reached.{Reaches};
 ghost use Rattle.janus_names.specs.Numbers.{GoOn};
 ghost use Rattle.janus_store.specs.Held.{IsWhole};
 ghost use Rattle.janus_machine.specs.Bodies.{kept_in};
 ghost use Rattle.janus_machine.specs.Counts.{IsWritten};
-ghost use Rattle.kernel_runner.specs.Runner.{ShownWorld, over, Shows, Becomes, IsDeclaredOver, Place, at_count, entry, inverse_entry, world_inside, count_of};
-ghost use Rattle.kernel_runner.specs.Runner.{Stands, IsInside, CameTo, CanEnter, CanReturn, CanLeave};
+ghost use Rattle.kernel_runner.specs.Runner.{ShownWorld, over, Becomes, IsDeclaredOver, count_of, Is, Between, IsInside};
+ghost use Rattle.kernel_runner.specs.Runner.{CanEnter, CanReturn, CanLeave, Enters, EntersInverse, Runs, Turns, GoesBack, Leaves};
 ghost use Rattle.kernel_machine.specs.StepsOfSlices.{steps_on, steps_back};
 
 use crate::program::{Declared, Program};
@@ -35,9 +34,8 @@ pub struct Runner<L: Ledger> {
 impl<L: Ledger> Runner<L> {
     /// The empty world. It takes the memory that every run needs, that of all stacks, locals and calls; the only error is want of it.
     pub fn new(alloc: Global) -> Result<Runner<L>, AllocError>
-        ensures shows { IfOk result (λ runner. Shows runner (over [] empty_world)) }
+        ensures is { IfOk result (λ runner. Is runner (Between (over [] empty_world))) }
         ensures none { IfOk result (λ runner. kept_in runner.procedures ≡ []) }
-        ensures whole { IfOk result (λ runner. IsWhole runner.store) }
     {
         Ok(Runner {
             store: Store::new(alloc)?,
@@ -49,7 +47,7 @@ impl<L: Ledger> Runner<L> {
     /// Declares the names of a cell and defines its procedures, and stands before its first step.
     pub fn enter(&mut self, program: &Program) -> Result<(), AllocError>
         requires { (from : ShownWorld) × CanEnter self.old program.now from }
-        ensures ok { OnOk result ((from : ShownWorld) → CanEnter self.old program.now from → Stands self.new program.now (entry program.now from) false) }
+        ensures ok { OnOk result (Enters program.now self.old self.new) }
         ensures err { OnErr result (Becomes self.old.store self.new.store self.old.store.sight) }
         ensures same { OnErr result (self.new.procedures ≡ self.old.procedures) }
         ensures kept { kept_in self.new.procedures ≡ kept_in self.old.procedures }
@@ -67,7 +65,7 @@ impl<L: Ledger> Runner<L> {
     /// Stands before the first step of the cell's inverse. The cell has led to the shown world.
     pub fn enter_inverse(&mut self, program: &Program)
         requires { (from : ShownWorld) × CanReturn self.old program.now from }
-        ensures stands { (from : ShownWorld) → CanReturn self.old program.now from → Stands self.new program.now (inverse_entry program.now from) false }
+        ensures enters { EntersInverse program.now self.old self.new }
         ensures store { self.new.store ≡ self.old.store }
         ensures procedures { self.new.procedures ≡ self.old.procedures }
     {
@@ -84,8 +82,7 @@ impl<L: Ledger> Runner<L> {
     /// Takes up to `m` steps, or all that are left to the end or to a fault.
     pub fn run(&mut self, program: &Program, writes: &mut Writes<L>, m: u64) -> Progress
         requires { IsInside self.old program.now false }
-        ensures reaches { (at : Place) → Stands self.old program.now at false → Reaches at.code at.world (at.count + m) result (world_inside at self.new) }
-        ensures stands { (at : Place) → Stands self.old program.now at false → CameTo self.new program.now at (at.count + m) result }
+        ensures runs { Runs program.now m result self.old self.new }
         ensures names { self.new.store.names ≡ self.old.store.names }
         ensures procedures { self.new.procedures ≡ self.old.procedures }
         ensures written { IsWritten (steps_on (count_of self.old) m result) writes.old writes.new }
@@ -109,7 +106,7 @@ impl<L: Ledger> Runner<L> {
     /// Turns round where it stands: the next steps go back.
     pub fn turn(&mut self, program: &Program)
         requires { IsInside self.old program.now false }
-        ensures stands { (at : Place) → Stands self.old program.now at false → Stands self.new program.now at true }
+        ensures turns { Turns program.now self.old self.new }
         ensures store { self.new.store ≡ self.old.store }
         ensures procedures { self.new.procedures ≡ self.old.procedures }
     {
@@ -119,7 +116,7 @@ impl<L: Ledger> Runner<L> {
     /// Goes `m` steps back, or all.
     pub fn back(&mut self, program: &Program, writes: &mut Writes<L>, m: u64)
         requires { IsInside self.old program.now true }
-        ensures stands { (at : Place) → Stands self.old program.now at true → Stands self.new program.now (at_count (at.count - m) at) true }
+        ensures goes { GoesBack program.now m self.old self.new }
         ensures names { self.new.store.names ≡ self.old.store.names }
         ensures procedures { self.new.procedures ≡ self.old.procedures }
         ensures written { IsWritten (steps_back (count_of self.old) m) writes.old writes.new }
@@ -137,8 +134,7 @@ impl<L: Ledger> Runner<L> {
     /// Takes back the declarations and the definitions of a cell, from the world in which its statements begin.
     pub fn leave(&mut self, program: &Program)
         requires { (to : ShownWorld) × CanLeave self.old program.now to }
-        ensures shows { (to : ShownWorld) → CanLeave self.old program.now to → Shows self.new to }
-        ensures whole { IsWhole self.new.store }
+        ensures leaves { Leaves program.now self.old self.new }
         ensures kept { kept_in self.new.procedures ≡ kept_in self.old.procedures }
         ensures names { GoOn self.old.store.names self.new.store.names }
     {

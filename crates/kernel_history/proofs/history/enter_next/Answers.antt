@@ -11,13 +11,13 @@ pub enter-requires : goal.enter-requires
 enter-requires g c =
     let way = sym c.way.ensures ∙ c.in-Down.is in
     let at = next_down c.args.tree.now c.args.travel c.content-in-Down.result.now c.below.result way c.requires.legal c.requires.possible c.below.ensures c.content-in-Down.ensures in
-    (shown_here c.args.tree.now, can_go_down_to c.args.tree.now c.args.travel c.content-in-Down.result.now c.args.runner.now way c.requires.legal c.requires.possible at c.requires.shows c.requires.whole c.requires.ready c.requires.order)
+    (shown_here c.args.tree.now, can_go_down_to c.args.tree.now c.args.travel c.content-in-Down.result.now c.args.runner.now way c.requires.legal c.requires.possible at c.requires.is c.requires.ready c.requires.order)
 
 pub enter_inverse-requires : goal.enter_inverse-requires
 enter_inverse-requires g c =
     let way = sym c.way.ensures ∙ c.in-Up.is in
     let at = next_up c.args.tree.now c.args.travel c.content.result.now way c.requires.legal c.requires.possible c.content.ensures in
-    (shown_here c.args.tree.now, can_go_up_from c.args.tree.now c.args.travel c.content.result.now c.args.runner.now way c.requires.legal c.requires.possible at c.requires.shows c.requires.whole c.requires.ready)
+    (shown_here c.args.tree.now, can_go_up_from c.args.tree.now c.args.travel c.content.result.now c.args.runner.now way c.requires.legal c.requires.possible at c.requires.is c.requires.ready)
 
 pub returns-in-Up-clause-names : goal.returns-in-Up-clause-names
 returns-in-Up-clause-names g c = same_more c.args.runner.now.store.names c.enter_inverse.new.self.store.names (ap (λ (h : Held). h.names) c.enter_inverse.ensures.store)
@@ -30,7 +30,7 @@ returns-in-Up-clause-ok g c =
     let way = sym c.way.ensures ∙ c.in-Up.is in
     let at = next_up c.args.tree.now c.args.travel c.content.result.now way c.requires.legal c.requires.possible c.content.ensures in
     stands_next_up c.args.tree.now c.args.travel c.content.result.now c.enter_inverse.new.self way at
-    (c.enter_inverse.ensures.stands _ (can_go_up_from c.args.tree.now c.args.travel c.content.result.now c.args.runner.now way c.requires.legal c.requires.possible at c.requires.shows c.requires.whole c.requires.ready))
+    (c.enter_inverse.ensures.enters _ (can_go_up_from c.args.tree.now c.args.travel c.content.result.now c.args.runner.now way c.requires.legal c.requires.possible at c.requires.is c.requires.ready))
 
 pub returns-in-Down-clause-ok : goal.returns-in-Down-clause-ok
 returns-in-Down-clause-ok g c =
@@ -38,7 +38,7 @@ returns-in-Down-clause-ok g c =
     let at = next_down c.args.tree.now c.args.travel c.content-in-Down.result.now c.below.result way c.requires.legal c.requires.possible c.below.ensures c.content-in-Down.ensures in
     ok_map c.enter.result
     (λ stands. stands_next_down c.args.tree.now c.args.travel c.content-in-Down.result.now c.enter.new.self way at
-    (stands _ (can_go_down_to c.args.tree.now c.args.travel c.content-in-Down.result.now c.args.runner.now way c.requires.legal c.requires.possible at c.requires.shows c.requires.whole c.requires.ready c.requires.order)))
+    (stands _ (can_go_down_to c.args.tree.now c.args.travel c.content-in-Down.result.now c.args.runner.now way c.requires.legal c.requires.possible at c.requires.is c.requires.ready c.requires.order)))
     c.enter.ensures.ok
 
 pub returns-in-Down-clause-declares : goal.returns-in-Down-clause-declares

@@ -10,14 +10,14 @@ leave-requires g c =
     let k = c.requires.kept in
     (shown_here c.args.tree.now, can_leave_cell c.args.tree.now c.args.runner.now c.args.work.now k.0 k.1 c.in-Cell.program c.in-Cell.is c.requires.whole)
 
-pub returns-in-Cell-clause-shows : goal.returns-in-Cell-clause-shows
-returns-in-Cell-clause-shows g c =
+pub returns-in-Cell-clause-is : goal.returns-in-Cell-clause-is
+returns-in-Cell-clause-is g c =
     let k = c.requires.kept in
     let tree = c.args.tree.now in
     let can = can_leave_cell tree c.args.runner.now c.args.work.now k.0 k.1 c.in-Cell.program c.in-Cell.is c.requires.whole in
-    let left = c.leave.ensures.shows (shown_here tree) can in
+    let left = c.leave.ensures.leaves (shown_here tree) can in
     let low = below_posted tree c.args.runner.now c.args.work.now k.0 k.1 c.in-Cell.program c.in-Cell.is in
-    shows_forgotten c.leave.new.self _ c.in-Cell.program.first (shown_here tree) refl left low c.forget.ensures.kept (c.forget.ensures.defined (bodies_at tree tree.position) left.defined.defined low)
+    (shows_forgotten c.leave.new.self _ c.in-Cell.program.first (shown_here tree) refl left.0 low c.forget.ensures.kept (c.forget.ensures.defined (bodies_at tree tree.position) left.0.defined.defined low), left.1)
 
 pub returns-in-Cell-clause-ready : goal.returns-in-Cell-clause-ready
 returns-in-Cell-clause-ready g c =
@@ -32,20 +32,20 @@ leave-requires-in-Down g c =
     let at = cell_of_down c.args.tree.now c.args.work.now c.in-Move.travel c.content.result.now c.below.result k.1.legal k.1.possible c.in-Move.is way c.below.ensures c.content.ensures in
     (shown_here c.args.tree.now, can_leave_down c.args.tree.now c.args.runner.now c.args.work.now k.0 k.1 c.in-Move.travel c.content.result.now c.in-Move.is way at c.requires.whole)
 
-pub returns-in-Down-clause-shows : goal.returns-in-Down-clause-shows
-returns-in-Down-clause-shows g c =
+pub returns-in-Down-clause-is : goal.returns-in-Down-clause-is
+returns-in-Down-clause-is g c =
     let k = c.requires.kept in
     let way = sym c.way.ensures ∙ c.in-Down.is in
     let at = cell_of_down c.args.tree.now c.args.work.now c.in-Move.travel c.content.result.now c.below.result k.1.legal k.1.possible c.in-Move.is way c.below.ensures c.content.ensures in
-    c.leave-in-Down.ensures.shows _ (can_leave_down c.args.tree.now c.args.runner.now c.args.work.now k.0 k.1 c.in-Move.travel c.content.result.now c.in-Move.is way at c.requires.whole)
+    c.leave-in-Down.ensures.leaves _ (can_leave_down c.args.tree.now c.args.runner.now c.args.work.now k.0 k.1 c.in-Move.travel c.content.result.now c.in-Move.is way at c.requires.whole)
 
 pub returns-in-Down-clause-ready : goal.returns-in-Down-clause-ready
 returns-in-Down-clause-ready g c = nodes_ready c.args.tree.now c.args.runner.now c.leave-in-Down.new.self c.leave-in-Down.ensures.names c.leave-in-Down.ensures.kept c.requires.kept.1.ready
 
-pub returns-in-Up-clause-shows : goal.returns-in-Up-clause-shows
-returns-in-Up-clause-shows g c =
+pub returns-in-Up-clause-is : goal.returns-in-Up-clause-is
+returns-in-Up-clause-is g c =
     let k = c.requires.kept in
-    shows_up c.args.tree.now c.args.runner.now c.args.work.now k.0 k.1 c.in-Move.travel c.in-Move.is (sym c.way.ensures ∙ c.in-Up.is)
+    (shows_up c.args.tree.now c.args.runner.now c.args.work.now k.0 k.1 c.in-Move.travel c.in-Move.is (sym c.way.ensures ∙ c.in-Up.is), c.requires.whole)
 
 pub returns-in-Up-clause-ready : goal.returns-in-Up-clause-ready
 returns-in-Up-clause-ready g c = c.requires.kept.1.ready

@@ -15,7 +15,6 @@ use Rattle.kernel_history.specs.Kept.{Kept, IsKept, shown_here}
 use Rattle.kernel_history.specs.declared.job.Open.{Open}
 use Rattle.kernel_history.specs.declared.job.Open.TheVariants.{Idle}
 use Rattle.kernel_machine.proofs.Texts.{accepted_formed}
-use Rattle.kernel_runner.proofs.Declaring.{becomes_kept}
 use Rattle.kernel_runner.proofs.Growing.{more_yet}
 use Rattle.kernel_history.proofs.Standing.{ok_fact, err_fact, kept_begun, kept_idle, idle_in_time, here_sound, idle_job, nodes_more, nodes_ready, posted_behind, behind_stack, shows_still, IsUnentered, kept_dropped}
 use Rattle.kernel_history.proofs.history.History.begin_cell.Goals as goal
@@ -32,23 +31,14 @@ prepare-requires-clause-legal g c =
     let shown = shown_here tree in
     kept.legal
 
-pub prepare-requires-clause-shows : goal.prepare-requires-clause-shows
-prepare-requires-clause-shows g c =
+pub prepare-requires-clause-is : goal.prepare-requires-clause-is
+prepare-requires-clause-is g c =
     let idle : c.self.inside.job ≡ Idle = idle_job c.self.inside.job (subst (λ (s : State). s.job ≡ state.Idle) (sym c.self.view_is) c.requires) in
     let kept : Kept c.self.inside.tree c.self.inside.runner Idle = subst (λ (j : Open). Kept c.self.inside.tree c.self.inside.runner j) idle c.self.invariant.kept in
     let tree = c.self.inside.tree in
     let old = c.self.inside.runner in
     let shown = shown_here tree in
     (shown.bodies, kept.stands)
-
-pub prepare-requires-clause-whole : goal.prepare-requires-clause-whole
-prepare-requires-clause-whole g c =
-    let idle : c.self.inside.job ≡ Idle = idle_job c.self.inside.job (subst (λ (s : State). s.job ≡ state.Idle) (sym c.self.view_is) c.requires) in
-    let kept : Kept c.self.inside.tree c.self.inside.runner Idle = subst (λ (j : Open). Kept c.self.inside.tree c.self.inside.runner j) idle c.self.invariant.kept in
-    let tree = c.self.inside.tree in
-    let old = c.self.inside.runner in
-    let shown = shown_here tree in
-    kept.whole
 
 pub enter-requires : goal.enter-requires
 enter-requires g c =
@@ -58,16 +48,14 @@ enter-requires g c =
     let old = c.self.inside.runner in
     let shown = shown_here tree in
     let met = c.prepare.new.runner in
-    let shows = c.prepare.ensures.shown shown kept.stands in
-    let becomes = becomes_kept old.store met.store kept.whole shows.one_number c.prepare.ensures.kept in
+    let is = c.prepare.ensures.shown shown kept.stands in
     let behind = posted_behind tree old c.in-Ok.program kept.ready c.in-Ok.ensures.behind in
     let low = behind_stack tree c.in-Ok.program kept.legal kept.order behind in (
       shown,
       record {
-        shows = shows;
+        is = is;
         sound = here_sound tree kept.legal;
         formed = accepted_formed _ _ _ c.in-Ok.ensures.accepts;
-        whole = becomes.whole;
         ready = c.in-Ok.ensures.ready;
         behind = low;
       },
@@ -81,8 +69,7 @@ invariant_of-self-2 g c =
     let old = c.self.inside.runner in
     let shown = shown_here tree in
     let met = c.prepare.new.runner in
-    let shows = c.prepare.ensures.shown shown kept.stands in
-    let becomes = becomes_kept old.store met.store kept.whole shows.one_number c.prepare.ensures.kept in
+    let is = c.prepare.ensures.shown shown kept.stands in
     let behind = posted_behind tree old c.in-Ok.program kept.ready c.in-Ok.ensures.behind in
     let low = behind_stack tree c.in-Ok.program kept.legal kept.order behind in
     let room = ok_fact _ c.room.result (sym c.is_err.ensures.value ∙ c.if-is_err.false) c.room.ensures.ok in
@@ -90,7 +77,7 @@ invariant_of-self-2 g c =
     let nodes = ap (λ (t : cells.Tree TreeCell). t.nodes) c.room.ensures.same in
     let stands = ok_fact _ c.enter.result (sym c.is_err-else-is_err.ensures.value ∙ c.if-is_err-2.false) c.enter.ensures.ok in
     let formed = accepted_formed _ _ _ c.in-Ok.ensures.accepts in
-    let can : CanEnter met c.in-Ok.program shown = record { shows = shows; sound = here_sound tree kept.legal; formed = formed; whole = becomes.whole; ready = c.in-Ok.ensures.ready; behind = low } in
+    let can : CanEnter met c.in-Ok.program shown = record { is = is; sound = here_sound tree kept.legal; formed = formed; ready = c.in-Ok.ensures.ready; behind = low } in
     let at_text = nodes_more tree old met c.prepare.ensures.kept.names c.prepare.ensures.older kept.ready in
     kept_begun tree (record { cells = c.room.new.self; position = tree.position }) old c.enter.new.self c.in-Ok.program kept
     (nodes_ready tree met c.enter.new.self c.enter.ensures.names c.enter.ensures.kept at_text) behind same nodes refl room formed (stands shown can)
@@ -104,10 +91,9 @@ invariant_of-self g c =
     let old = c.self.inside.runner in
     let shown = shown_here tree in
     let met = c.prepare.new.runner in
-    let shows = c.prepare.ensures.shown shown kept.stands in
-    let becomes = becomes_kept old.store met.store kept.whole shows.one_number c.prepare.ensures.kept in
+    let is = c.prepare.ensures.shown shown kept.stands in
     subst (λ (j : Open). IsKept tree met j) (sym idle)
-    (idle_in_time tree met (kept_idle tree Idle old met kept (nodes_more tree old met c.prepare.ensures.kept.names c.prepare.ensures.older kept.ready) becomes.whole shows))
+    (idle_in_time tree met (kept_idle tree Idle old met kept (nodes_more tree old met c.prepare.ensures.kept.names c.prepare.ensures.older kept.ready) is.1 is.0))
 
 -- no memory for its node or its names: its bodies are dropped again
 pub invariant_of-self-then-is_err : goal.invariant_of-self-then-is_err
@@ -118,8 +104,7 @@ invariant_of-self-then-is_err g c =
     let old = c.self.inside.runner in
     let shown = shown_here tree in
     let met = c.prepare.new.runner in
-    let shows = c.prepare.ensures.shown shown kept.stands in
-    let becomes = becomes_kept old.store met.store kept.whole shows.one_number c.prepare.ensures.kept in
+    let is = c.prepare.ensures.shown shown kept.stands in
     let behind = posted_behind tree old c.in-Ok.program kept.ready c.in-Ok.ensures.behind in
     let low = behind_stack tree c.in-Ok.program kept.legal kept.order behind in
     let past = ap (λ (t : cells.Tree TreeCell). past_of (record { cells = t; position = tree.position })) c.room.ensures.same in
@@ -131,8 +116,8 @@ invariant_of-self-then-is_err g c =
         nodes = nodes;
         position = refl;
         names = c.prepare.ensures.kept.names;
-        whole = becomes.whole;
-        shows = shows;
+        whole = is.1;
+        shows = is.0;
         older = c.prepare.ensures.older;
         idle = idle;
       })
@@ -146,7 +131,7 @@ invariant_of-self-then-is_err g c =
             position = refl;
             names = more_yet old.store.names met.store.names w.enter.new.self.store.names c.prepare.ensures.kept.names entered.names;
             whole = entered.whole;
-            shows = shows_still met w.enter.new.self shown becomes.whole entered same shows;
+            shows = shows_still met w.enter.new.self shown is.1 entered same is.0;
             older = subst (λ (t : Procedures). take (length (kept_in old.procedures)) (kept_in t) ≡ kept_in old.procedures) (sym same) c.prepare.ensures.older;
             idle = idle;
           }))

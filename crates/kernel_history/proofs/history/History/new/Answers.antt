@@ -5,7 +5,7 @@ use Rattle.kernel_history.proofs.history.History.new.Goals as goal
 
 pub invariant_of-result : goal.invariant_of-result
 invariant_of-result g c =
-    idle_in_time _ _ (kept_new _ _ (new_past (record { cells = c.in_ok-cells.cells; position = 0 }) c.in_ok-cells.ensures refl) refl c.in_ok-runner.ensures.shows c.in_ok-runner.ensures.whole)
+    idle_in_time _ _ (kept_new _ _ (new_past (record { cells = c.in_ok-cells.cells; position = 0 }) c.in_ok-cells.ensures refl) refl c.in_ok-runner.ensures.is)
 
 pub returns : goal.returns
 returns g c = ap (λ (p : Past). record { past = p; job = Idle }) (new_past (record { cells = c.in_ok-cells.cells; position = 0 }) c.in_ok-cells.ensures refl)

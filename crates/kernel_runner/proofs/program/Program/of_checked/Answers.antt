@@ -28,7 +28,7 @@ returns-in_err-book-clause-shown g c = λ shown h.
 pub flatten-requires : goal.flatten-requires
 flatten-requires g c =
     subst (λ (xs : List Name). MeetsBlk xs (plain_cell (cell_in c.args.checked)).block) (sym c.names-names.ensures.names)
-    (cell_met c.args.runner.now c.meet_cell-met.new.store c.requires.shows.0 _ (cell_in c.args.checked) _ c.requires.shows.1 c.requires.whole c.meet_cell-met.ensures.kept c.names-names.ensures.known c.cell-cell.ensures
+    (cell_met c.args.runner.now c.meet_cell-met.new.store c.requires.0 _ (cell_in c.args.checked) _ c.requires.1 c.meet_cell-met.ensures.kept c.names-names.ensures.known c.cell-cell.ensures
     (ap (λ l. map declaration_of l) c.deref-2.ensures.value ∙ c.in_ok-declarations.ensures ∙ ap (λ l. map plain_declaration (declarations_view l)) c.deref.ensures.value) c.in_ok-met.ensures.declared c.in_ok-met.ensures.procedures c.in_ok-met.ensures.locals).0
 
 pub keep_all-requires : goal.keep_all-requires
@@ -37,14 +37,14 @@ keep_all-requires g c =
     ap (λ l. map plain_procedure (procedures_view l)) c.deref-3.ensures.value ∙ ap (λ (t : tree.Cell). (plain_cell t).procedures) c.cell-cell.ensures in
     subst (λ (xs : List Name). AreProceduresMet xs (map plain_procedure (procedures_view c.deref-3.result.now))) (sym c.names-names.ensures.names)
     (subst (λ (ps : List Proc). AreProceduresMet c.meet_cell-met.new.store.names ps) (sym same)
-    (cell_met c.args.runner.now c.meet_cell-met.new.store c.requires.shows.0 _ (cell_in c.args.checked) _ c.requires.shows.1 c.requires.whole c.meet_cell-met.ensures.kept c.names-names.ensures.known c.cell-cell.ensures
+    (cell_met c.args.runner.now c.meet_cell-met.new.store c.requires.0 _ (cell_in c.args.checked) _ c.requires.1 c.meet_cell-met.ensures.kept c.names-names.ensures.known c.cell-cell.ensures
     (ap (λ l. map declaration_of l) c.deref-2.ensures.value ∙ c.in_ok-declarations.ensures ∙ ap (λ l. map plain_declaration (declarations_view l)) c.deref.ensures.value) c.in_ok-met.ensures.declared c.in_ok-met.ensures.procedures c.in_ok-met.ensures.locals).1)
 
 pub returns-then-is_err-clause-shown : goal.returns-then-is_err-clause-shown
 returns-then-is_err-clause-shown g c = λ shown h.
     let first : c.len-first.result ≡ length (kept_in c.args.runner.now.procedures) = c.len-first.ensures in
     let same : kept_in c.forget.new.self ≡ kept_in c.args.runner.now.procedures = c.forget.ensures.kept ∙ ap (λ (n : ℕ). take n (kept_in c.keep_all.new.kept)) first ∙ c.keep_all.ensures.older in
-    let below : AreBelow c.len-first.result shown.bodies = subst (λ (n : ℕ). AreBelow n shown.bodies) (sym first) (bodies_within c.args.runner.now.store.names (kept_in c.args.runner.now.procedures) shown.bodies shown.world.procedures h.defined.bodies) in
+    let below : AreBelow c.len-first.result shown.bodies = subst (λ (n : ℕ). AreBelow n shown.bodies) (sym first) (bodies_within c.args.runner.now.store.names (kept_in c.args.runner.now.procedures) shown.bodies shown.world.procedures h.0.defined.bodies) in
     shows_more c.args.runner.now _ shown c.meet_cell-met.ensures.kept c.names-names.ensures.one_number (all_kept (kept_in c.args.runner.now.procedures) (kept_in c.forget.new.self) same)
     (λ d. c.forget.ensures.defined shown.bodies (c.keep_all.ensures.defined shown.bodies d) below) h
 

@@ -21,14 +21,14 @@ pub known_over-requires-clause-distinct : goal.known_over-requires-clause-distin
 known_over-requires-clause-distinct g c =
     c.requires.sound.formed.names
 
-pub of_checked-requires-clause-shows : goal.of_checked-requires-clause-shows
-of_checked-requires-clause-shows g c =
+pub of_checked-requires : goal.of_checked-requires
+of_checked-requires g c =
     let w : World = world_of (in_a_row c.args.procedures.now) c.args.runner.now in (
-      over c.requires.shows.0 w,
+      over c.requires.is.0 w,
       record {
-        shows = c.requires.shows.1;
+        is = c.requires.is.1;
         formed = formed_here w (names.shape_in c.in-Ok-known_over.env.names) (names.heads_in c.in-Ok-known_over.env.procedures) (cell_view c.in-Ok.cell) (cell_in c.in-Ok-check.checked) c.in-Ok-check.ensures.well_formed
-            (c.in-Ok-known_over.ensures.names ∙ ap shape_of c.requires.shows.1.store) c.in-Ok-known_over.ensures.heads c.in-Ok-check.ensures.same;
+            (c.in-Ok-known_over.ensures.names ∙ ap shape_of c.requires.is.1.0.store) c.in-Ok-known_over.ensures.heads c.in-Ok-check.ensures.same;
         values = c.requires.sound.formed.values;
       },
     )
@@ -43,7 +43,7 @@ returns-in-Err-check-clause-refuses g c =
     let w : World = world_of (in_a_row c.args.procedures.now) c.args.runner.now in
     subst (λ (r : Refusal). Refuses w c.args.text.now r) (sym c.refusal_of_check.ensures)
     (refuses_check w c.args.text.now c.in-Err-check.fault (cell_view c.in-Ok.cell) (names.shape_in c.in-Ok-known_over.env.names) (names.heads_in c.in-Ok-known_over.env.procedures) c.in-Ok.ensures.read
-    (c.in-Ok-known_over.ensures.names ∙ ap shape_of c.requires.shows.1.store) c.in-Ok-known_over.ensures.heads c.in-Err-check.ensures.first)
+    (c.in-Ok-known_over.ensures.names ∙ ap shape_of c.requires.is.1.0.store) c.in-Ok-known_over.ensures.heads c.in-Err-check.ensures.first)
 
 pub returns-in-Ok-of_checked-clause-accepts : goal.returns-in-Ok-of_checked-clause-accepts
 returns-in-Ok-of_checked-clause-accepts g c =
@@ -52,6 +52,6 @@ returns-in-Ok-of_checked-clause-accepts g c =
       tree = cell_view c.in-Ok.cell;
       is_tree = c.in-Ok.ensures.read;
       formed = formed_here w (names.shape_in c.in-Ok-known_over.env.names) (names.heads_in c.in-Ok-known_over.env.procedures) (cell_view c.in-Ok.cell) (cell_view c.in-Ok.cell) c.in-Ok-check.ensures.well_formed
-          (c.in-Ok-known_over.ensures.names ∙ ap shape_of c.requires.shows.1.store) c.in-Ok-known_over.ensures.heads refl;
+          (c.in-Ok-known_over.ensures.names ∙ ap shape_of c.requires.is.1.0.store) c.in-Ok-known_over.ensures.heads refl;
       meant = c.in-Ok-of_checked.ensures.cell ∙ ap plain_cell c.in-Ok-check.ensures.same;
     }

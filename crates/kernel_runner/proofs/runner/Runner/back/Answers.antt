@@ -11,8 +11,8 @@ slice-sliced-requires-clause-numbered g c = c.requires.1.ready.numbered
 pub slice-sliced-requires-clause-safe : goal.slice-sliced-requires-clause-safe
 slice-sliced-requires-clause-safe g c = safe_back c.args.self.now c.args.program.now c.requires.0 c.args.m c.requires.1
 
-pub returns-clause-stands : goal.returns-clause-stands
-returns-clause-stands g c = λ at h.
+pub returns-clause-goes : goal.returns-clause-goes
+returns-clause-goes g c = λ at h.
     back_cut c.args.self.now c.args.program.now at c.slice-sliced.new.store c.slice-sliced.new.cursor c.slice-sliced.result.taken c.args.m c.slice-sliced.result.end h
     c.slice-sliced.ensures.stands c.slice-sliced.ensures.names c.slice-sliced.ensures.agrees c.slice-sliced.ensures.taken c.slice-sliced.ensures.counts c.slice-sliced.ensures.steps c.slice-sliced.ensures.end
 

@@ -17,5 +17,5 @@ returns-clause-ok g c = λ from can.
     entered_here c.args.self.now (record { store = c.declare.new.store; cursor = c.enter.new.self; procedures = c.define_all.new.self }) c.args.program.now from can
     (becomes_same _ _ _ _ (ap (λ l. declare (map declaration_of l) c.args.self.now.store.sight) c.deref.ensures.value) c.in_ok-declare.ensures.ok)
     c.define_all.ensures.kept
-    (subst (λ (n : ℕ). AreDefined c.define_all.new.self (onto c.args.program.now.first n from.bodies)) (sym same) (c.define_all.ensures.defined from.bodies can.shows.defined.defined can.behind))
+    (subst (λ (n : ℕ). AreDefined c.define_all.new.self (onto c.args.program.now.first n from.bodies)) (sym same) (c.define_all.ensures.defined from.bodies can.is.0.defined.defined can.behind))
     (record { stands = c.enter.ensures.stands; place = c.enter.ensures.place; counts = c.enter.ensures.counts })

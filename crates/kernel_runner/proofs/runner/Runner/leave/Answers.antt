@@ -17,14 +17,11 @@ retired : (g : given.Over) (c : goal.After-retire_all g) (to : ShownWorld) → C
 retired g c to can =
     let ds : List Declaration = map declaration_of c.args.program.now.declarations.items in
     let many : length ds ≡ c.len.result = length-map c.args.program.now.declarations.items declaration_of ∙ grind (arith, common_steps) in
-    c.retire.ensures.becomes to.world.store (record { declarations = ds; many = many; declared = sym (all_shown c.args.self.now.store can.whole) ∙ can.shows.store })
+    c.retire.ensures.becomes to.world.store (record { declarations = ds; many = many; declared = sym (all_shown c.args.self.now.store can.is.1) ∙ can.is.0.store })
 
-pub returns-clause-whole : goal.returns-clause-whole
-returns-clause-whole g c = (retired g c c.requires.0 c.requires.1).whole
-
-pub returns-clause-shows : goal.returns-clause-shows
-returns-clause-shows g c = λ to can.
+pub returns-clause-leaves : goal.returns-clause-leaves
+returns-clause-leaves g c = λ to can.
     let same : length (procedures_of c.args.program.now) ≡ length c.procedures.result.now =
     sym (ap (λ (ps : List Proc). length ps) c.procedures.ensures) ∙ length-map (procedures_view c.procedures.result.now) plain_procedure ∙ length-map c.procedures.result.now procedure_view in
     left_here c.args.self.now _ c.args.program.now to can (retired g c to can) c.retire_all.ensures.kept
-    (c.retire_all.ensures.defined to.bodies (subst (λ (n : ℕ). AreDefined c.args.self.now.procedures (onto c.args.program.now.first n to.bodies)) same can.shows.defined.defined))
+    (c.retire_all.ensures.defined to.bodies (subst (λ (n : ℕ). AreDefined c.args.self.now.procedures (onto c.args.program.now.first n to.bodies)) same can.is.0.defined.defined))

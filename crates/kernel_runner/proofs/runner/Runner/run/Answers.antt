@@ -14,59 +14,44 @@ slice-sliced-requires-clause-numbered g c = c.requires.1.ready.numbered
 pub slice-sliced-requires-clause-safe : goal.slice-sliced-requires-clause-safe
 slice-sliced-requires-clause-safe g c = safe_on c.args.self.now c.args.program.now c.requires.0 c.args.m c.requires.1
 
-pub returns-in-Ended-clause-reaches : goal.returns-in-Ended-clause-reaches
-returns-in-Ended-clause-reaches g c = λ at h.
+pub returns-in-Ended-clause-runs : goal.returns-in-Ended-clause-runs
+returns-in-Ended-clause-runs g c = λ at h.
     let r = c.args.self.now in
     let p = c.args.program.now in
     let sliced = c.slice-sliced.ensures in
     let s = gone_on r p at c.slice-sliced.new.store c.slice-sliced.new.cursor c.slice-sliced.result.taken h sliced.stands sliced.names sliced.agrees sliced.counts sliced.steps in
-    run_ended _ p at c.slice-sliced.result.taken c.args.m s c.count-count.result sliced.taken c.count-count.ensures
-    (rw c.in-Ended.is at (sliced.end _ _ (in_effect r p at false h) h.agrees))
+    let why = rw c.in-Ended.is at (sliced.end _ _ (in_effect r p at false h) h.agrees) in
+    record {
+      reaches = run_ended _ p at c.slice-sliced.result.taken c.args.m s c.count-count.result sliced.taken c.count-count.ensures why;
+      is = stands_at _ p at _ _ false (sym (c.count-count.ensures ∙ s.counted)) s;
+      whole = whole_at_end _ p (at_count (at.count + c.slice-sliced.result.taken) at) s why;
+    }
 
-pub returns-in-Ended-clause-stands : goal.returns-in-Ended-clause-stands
-returns-in-Ended-clause-stands g c = λ at h.
-    let r = c.args.self.now in
-    let p = c.args.program.now in
-    let sliced = c.slice-sliced.ensures in
-    let s = gone_on r p at c.slice-sliced.new.store c.slice-sliced.new.cursor c.slice-sliced.result.taken h sliced.stands sliced.names sliced.agrees sliced.counts sliced.steps in (
-      stands_at _ p at _ _ false (sym (c.count-count.ensures ∙ s.counted)) s,
-      whole_at_end _ p (at_count (at.count + c.slice-sliced.result.taken) at) s (rw c.in-Ended.is at (sliced.end _ _ (in_effect r p at false h) h.agrees)),
-    )
-
-pub returns-in-Fault-clause-reaches : goal.returns-in-Fault-clause-reaches
-returns-in-Fault-clause-reaches g c = λ at h.
+pub returns-in-Fault-clause-runs : goal.returns-in-Fault-clause-runs
+returns-in-Fault-clause-runs g c = λ at h.
     let r = c.args.self.now in
     let p = c.args.program.now in
     let sliced = c.slice-sliced.ensures in
     let s = gone_on r p at c.slice-sliced.new.store c.slice-sliced.new.cursor c.slice-sliced.result.taken h sliced.stands sliced.names sliced.agrees sliced.counts sliced.steps in
     let why = rw c.in-Fault.is at (sliced.end _ _ (in_effect r p at false h) h.agrees) in
-    run_stopped _ p at c.slice-sliced.result.taken c.args.m s c.count-count.result c.in-Fault.fault why.0 c.count-count.ensures why.1 why.2
+    record {
+      reaches = run_stopped _ p at c.slice-sliced.result.taken c.args.m s c.count-count.result c.in-Fault.fault why.0 c.count-count.ensures why.1 why.2;
+      is = stands_at _ p at _ _ false (sym (c.count-count.ensures ∙ s.counted)) s;
+      whole = tt;
+    }
 
-pub returns-in-Fault-clause-stands : goal.returns-in-Fault-clause-stands
-returns-in-Fault-clause-stands g c = λ at h.
-    let r = c.args.self.now in
-    let p = c.args.program.now in
-    let sliced = c.slice-sliced.ensures in
-    let s = gone_on r p at c.slice-sliced.new.store c.slice-sliced.new.cursor c.slice-sliced.result.taken h sliced.stands sliced.names sliced.agrees sliced.counts sliced.steps in
-    stands_at _ p at _ _ false (sym (c.count-count.ensures ∙ s.counted)) s
-
-pub returns-in-Cut-clause-reaches : goal.returns-in-Cut-clause-reaches
-returns-in-Cut-clause-reaches g c = λ at h.
-    let r = c.args.self.now in
-    let p = c.args.program.now in
-    let sliced = c.slice-sliced.ensures in
-    let s = gone_on r p at c.slice-sliced.new.store c.slice-sliced.new.cursor c.slice-sliced.result.taken h sliced.stands sliced.names sliced.agrees sliced.counts sliced.steps in
-    let why = rw c.in-Cut.is at (sliced.end _ _ (in_effect r p at false h) h.agrees) in
-    run_went _ p at c.slice-sliced.result.taken c.args.m s why.0 why.1
-
-pub returns-in-Cut-clause-stands : goal.returns-in-Cut-clause-stands
-returns-in-Cut-clause-stands g c = λ at h.
+pub returns-in-Cut-clause-runs : goal.returns-in-Cut-clause-runs
+returns-in-Cut-clause-runs g c = λ at h.
     let r = c.args.self.now in
     let p = c.args.program.now in
     let sliced = c.slice-sliced.ensures in
     let s = gone_on r p at c.slice-sliced.new.store c.slice-sliced.new.cursor c.slice-sliced.result.taken h sliced.stands sliced.names sliced.agrees sliced.counts sliced.steps in
     let why = rw c.in-Cut.is at (sliced.end _ _ (in_effect r p at false h) h.agrees) in
-    stands_at _ p at _ _ false (ap (λ (x : ℕ). at.count + x) why.0) s
+    record {
+      reaches = run_went _ p at c.slice-sliced.result.taken c.args.m s why.0 why.1;
+      is = stands_at _ p at _ _ false (ap (λ (x : ℕ). at.count + x) why.0) s;
+      whole = tt;
+    }
 
 pub returns-in-Ended-clause-written : goal.returns-in-Ended-clause-written
 returns-in-Ended-clause-written g c = subst (λ (k : ℕ). IsWritten k c.args.writes.now c.slice-sliced.new.writes) (sym (counted_on c.args.self.now.cursor.turned c.args.self.now.cursor.count c.count-count.result c.slice-sliced.result.taken c.requires.1.turned (c.count-count.ensures ∙ c.slice-sliced.ensures.counts.count))) c.slice-sliced.ensures.written
