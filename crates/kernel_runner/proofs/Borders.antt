@@ -29,7 +29,7 @@ use Rattle.janus_machine.proofs.BodiesInEffect.{all_defined, all_retired, bodies
 use Rattle.janus_machine.proofs.Courses.{blocks_are_safe, books_turn}
 use Rattle.kernel_machine.specs.Language.{CodeExec, IsFormed, IsSound}
 use Rattle.kernel_runner.specs.Program.{cell_of_program, procedures_of, IsReady, with_bodies}
-use Rattle.kernel_runner.specs.Runner.{ShownWorld, Becomes, Shows, Stands, entry, inverse_entry, Is, Between, CanEnter, CanReturn, CanLeave}
+use Rattle.kernel_runner.specs.Runner.{ShownWorld, Becomes, Stands, entry, inverse_entry, Is, Between, CanEnter, CanReturn, CanLeave}
 use Rattle.kernel_runner.specs.declared.program.Program.{Program}
 use Rattle.kernel_runner.specs.declared.runner.Runner.{Runner}
 use Rattle.kernel_runner.proofs.Growing.{defined_grow, ready_grows}
