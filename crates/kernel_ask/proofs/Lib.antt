@@ -1,5 +1,4 @@
 pub mod Added
-pub mod AtNode
 pub mod Counted
 pub mod Ends
 pub mod Found
