@@ -6,12 +6,12 @@ use Rattle.kernel_session.proofs.message.read_request.Goals as goal
 
 pub returns-else-serves-clause-none : goal.returns-else-serves-clause-none
 returns-else-serves-clause-none c =
-    let p = c.in-Ok-read.ensures.request in
+    let p = c.in-Ok-take.ensures.request in
     inr record {
       message = octets_of c.in-Ok.opened.message;
       is_message = c.in-Ok.ensures.message;
       nothing = inr (
-        type_of c.in-Ok-read.request.content,
+        type_of c.in-Ok-take.request.content,
         p.0,
         p.1,
         ap (serves c.args.socket) (sym c.request_type.ensures) ∙ sym c.serves.ensures ∙ c.if-serves.false,

@@ -1,8 +1,6 @@
-use Rattle.std.proofs.Common.{List, ℕ, Bool, Result, sym, ap, ◌∙◌, subst, string_bytes}
+use Rattle.std.proofs.Common.{List, ℕ, sym, ap, ◌∙◌, subst, string_bytes}
 use Rattle.std.specs.Str.{bytes_eq}
 use Rattle.kernel_reply.specs.Comms.{target as undo_target}
-use Rattle.kernel_ask.specs.declared.answer.Answer.{Answer}
-use Rattle.kernel_ask.specs.declared.answer.HallFault.{HallFault}
 use Rattle.kernel_session.specs.Question.{IsOpen}
 use Rattle.kernel_session.specs.Talk.{IsHeld, ask, open_then_ask}
 use Rattle.kernel_session.proofs.TalkLemmas.{heard_answer, heard_change, target_held, other_held}
