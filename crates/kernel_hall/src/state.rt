@@ -128,12 +128,7 @@ impl<W: Ledger, L: Ledger> State<W, L> {
     }
 
     /// Queues a job, which only want of memory refuses.
-    fn queue(
-        &mut self,
-        pass: &mut Pass<L>,
-        job: Job,
-        wishes: Vec<Wish>,
-    ) -> Result<u64, PostFault>
+    fn queue(&mut self, pass: &mut Pass<L>, job: Job, wishes: Vec<Wish>) -> Result<u64, PostFault>
         requires ready { IsReady self.old.kernel.machine }
         ensures number { IfOk result (λ n. n ≡ suc (posted_in self.old.kernel.machine.minutes)) }
         ensures posted { IfOk result (λ n. self.new.kernel.machine ≡ posted self.old.kernel.machine pass.old.lane (request_of job)) }
