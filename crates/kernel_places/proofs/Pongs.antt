@@ -25,3 +25,11 @@ ping_counted octets frame time context told count is_told short counted timed sm
     let b : length octets ≡ 7 + length context = ap length is_pong ∙ length-pong context small in
     let least = frame-octets frame (ping (time ++ context)) is_ping in
     omega (arith, length-append time context)
+
+-- octets that are two pongs have two contexts of one length
+pub one_length : (octets one other : List ℕ) → length one ≤ context_limit → length other ≤ context_limit → octets ≡ pong_octets one → octets ≡ pong_octets other
+    → length one ≡ length other
+one_length octets one other short small is_one is_other =
+    let a : length octets ≡ 7 + length one = ap length is_one ∙ length-pong one short in
+    let b : length octets ≡ 7 + length other = ap length is_other ∙ length-pong other small in
+    omega arith

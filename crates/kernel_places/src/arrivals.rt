@@ -284,7 +284,8 @@ fn begins_message(octets: &[u8]) -> bool {
 /// the answer had fewer, in either form, so no more is let go of for it than was counted.
 fn ping_octets(octets: &[u8]) -> u64
     ensures bound { result ≤ 25 }
-    ensures none { result ≡ 0 → (context : List ℕ) → length context ≤ context_limit → octets.now ≢ pong_octets context }
+    ensures none { ((context : List ℕ) → length context ≤ context_limit → octets.now ≢ pong_octets context) → result ≡ 0 }
+    ensures pong { (context : List ℕ) → length context ≤ context_limit → octets.now ≡ pong_octets context → result ≡ 9 + length context }
     ensures counted { (frame time context : List ℕ) → length time ≡ 2 → length context ≤ context_limit
         → octets.now ≡ pong_octets context → IsFrame frame (ping (time ++ context)) → result ≤ length frame }
 {
