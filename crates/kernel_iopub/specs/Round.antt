@@ -100,8 +100,8 @@ AreAnsweredInPart taken old new =
 -- ---- all that goes out
 
 -- Turns one after another: rounds, each from the place where the one before ended, and behind them answers to pings. So many pings were taken before
--- the first turn, and so many behind the last: each turn goes on where the one before ended, so none is answered twice and none is left out, and
--- answers go out before messages and behind them, and none within one.
+-- the first turn, and so many behind the last: each turn goes on with the count where the one before ended. Answers go out before messages and behind
+-- them, and none within one.
 pub data AreTurns : ℕ → Option ℕ → ℕ → List Outgoing → Type 0 where
   none : (taken : ℕ) → AreTurns taken None taken []
   begun : (taken from behind : ℕ) (out : List Outgoing) → AreTurns taken None behind out → AreTurns taken (Some from) behind out
