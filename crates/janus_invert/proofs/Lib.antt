@@ -6,3 +6,4 @@ pub mod Reversed
 pub mod Meeting
 pub mod Placing
 pub mod Lists
+pub mod ClosedLemmas

@@ -23,7 +23,6 @@ mod judgement;
 pub mod laws;
 mod lines;
 mod matches;
-mod naming;
 mod shown;
 mod standing;
 mod tail;

@@ -1,5 +1,4 @@
 pub mod Numbers
 mod Utf8
 pub mod Newest
-pub mod ClosedLemmas
 pub mod OnePrint

@@ -12,7 +12,7 @@ use Rattle.janus_syntax.specs.Tree.{Name, named, Exp, Num, Var, Element, EmptyOf
 use Rattle.janus_syntax.specs.View.{text_of, operator_of, update_of, plain_exp, plain_stm, plain_block, plain_parameter, plain_procedure}
 use Rattle.janus_syntax.specs.Operators.{weakest}
 use Rattle.janus_syntax.specs.Printing.{Piece, A_name, A_sign, A_word, A_minus, An_opening, with_pieces, no_text, operator_sign, sign_level, if_needed, infix_pieces, binding_pieces, more_names_pieces, names_pieces, call_pieces, exp_pieces, update_sign, whole_pieces, stm_pieces, block_pieces, parameter_pieces, more_parameters_pieces, parameters_pieces, procedure_pieces}
-use Rattle.kernel_text.specs.Closed.{closed_stm, closed_block, closed_procedure}
+use Rattle.janus_invert.specs.Closed.{closed_stm, closed_block, closed_procedure}
 use Rattle.kernel_text.specs.Laws.{TextIsPrint, HasOnePrint}
 use Rattle.kernel_text.specs.ProcedureTexts.{name_tree, operator_tree, update_tree, exp_tree, stm_tree, block_tree, parameter_tree, procedure_tree, procedure_text}
 

@@ -2,6 +2,5 @@ pub mod Lines
 pub mod ValueTexts
 -- procedures
 pub mod Procedures
-pub mod Closed
 pub mod ProcedureTexts
 pub mod Laws

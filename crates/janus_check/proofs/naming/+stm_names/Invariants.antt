@@ -1,7 +1,7 @@
 use Rattle.std.proofs.Common.{◌≡◌, ◌||◌, drop}
 use Rattle.janus_syntax.specs.Tree.{block_view}
-use Rattle.kernel_ask.specs.Naming.{in_block}
-use Rattle.kernel_ask.proofs.naming.+stm_names.Given as goal
+use Rattle.janus_check.specs.Naming.{in_block}
+use Rattle.janus_check.proofs.naming.+stm_names.Given as goal
 
 -- what is found from here on is what is found from the beginning
 abbrev pub invariant-block_names-loop-i : goal.invariant-block_names-loop-i

@@ -3,10 +3,11 @@
 //! What is read from a text has them already. A procedure of a world is a tree in which a local has one name, so its print takes that
 //! name at both ends.
 ghost use Rattle.std.specs.Prelude.{◌≡◌, IfOk};
-ghost use Rattle.janus_syntax.specs.Tree.{block_view, names_view, parameter_view, parameters_view, procedure_view, stm_view};
-ghost use Rattle.kernel_text.specs.Closed.{closed_block, closed_procedure, closed_stm};
+ghost use Rattle.janus_syntax.specs.Tree.{block_view, procedure_view, stm_view};
+ghost use Rattle.janus_invert.specs.Closed.{closed_block, closed_procedure, closed_stm};
 
-use janus_syntax::tree::{Name, Parameter, Procedure, Stm};
+use crate::copies::{same_names, same_parameters};
+use janus_syntax::tree::{Procedure, Stm};
 use std::alloc::{AllocError, Global};
 
 /// The same procedure in memory of its own, with the name of its local behind each `delocal`; an error for want of memory.
@@ -21,39 +22,6 @@ pub fn closed(alloc: Global, procedure: &Procedure) -> Result<Procedure, AllocEr
         parameters,
         body,
     })
-}
-
-/// The same parameters in memory of their own.
-fn same_parameters(alloc: Global, parameters: &[Parameter]) -> Result<Vec<Parameter>, AllocError>
-    ensures { IfOk result (λ copies. parameters_view copies.items ≡ parameters_view parameters.now) }
-{
-    let mut copies = Vec::new(alloc);
-    for parameter in parameters {
-        copies.push(same_parameter(parameter)?)?;
-    }
-    Ok(copies)
-}
-
-/// The same parameter in memory of its own.
-fn same_parameter(parameter: &Parameter) -> Result<Parameter, AllocError>
-    ensures { IfOk result (λ copy. parameter_view copy ≡ parameter_view parameter.now) }
-{
-    match parameter {
-        Parameter::Int(name) => Ok(Parameter::Int(name.copy()?)),
-        Parameter::Array(name) => Ok(Parameter::Array(name.copy()?)),
-        Parameter::Stack(name) => Ok(Parameter::Stack(name.copy()?)),
-    }
-}
-
-/// The same names in memory of their own.
-fn same_names(alloc: Global, names: &[Name]) -> Result<Vec<Name>, AllocError>
-    ensures { IfOk result (λ copies. names_view copies.items ≡ names_view names.now) }
-{
-    let mut copies = Vec::new(alloc);
-    for name in names {
-        copies.push(name.copy()?)?;
-    }
-    Ok(copies)
 }
 
 /// The statements of a block, closed.

@@ -1,8 +1,8 @@
 use Rattle.std.proofs.Common.{ap, ◌∙◌}
 use Rattle.janus_syntax.specs.Tree.{procedure_of, name_view, parameters_view, block_view}
-use Rattle.kernel_text.specs.Closed.{closed_block}
-use Rattle.kernel_text.proofs.ClosedLemmas.{name_copied}
-use Rattle.kernel_text.proofs.closed.closed.Goals as goal
+use Rattle.janus_invert.specs.Closed.{closed_block}
+use Rattle.janus_invert.proofs.Cells.{name_copied}
+use Rattle.janus_invert.proofs.closed.closed.Goals as goal
 
 pub returns : goal.returns
 returns c =

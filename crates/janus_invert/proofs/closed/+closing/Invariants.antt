@@ -1,7 +1,7 @@
 use Rattle.std.proofs.Common.{◌≡◌, take}
 use Rattle.janus_syntax.specs.Tree.{block_view}
-use Rattle.kernel_text.specs.Closed.{closed_block}
-use Rattle.kernel_text.proofs.closed.+closing.Given as goal
+use Rattle.janus_invert.specs.Closed.{closed_block}
+use Rattle.janus_invert.proofs.closed.+closing.Given as goal
 
 -- the statements before are closed
 abbrev pub invariant-closed_statements-loop-i : goal.invariant-closed_statements-loop-i

@@ -1,7 +1,7 @@
 use Rattle.std.proofs.Common.{List, ℕ, ◌||◌, sym, ap, ◌∙◌, string_bytes, bytes_eq}
 use Rattle.janus_meaning.specs.Store.{same_name}
 use Rattle.janus_check.proofs.LookupLemmas.{same_as_bytes}
-use Rattle.kernel_ask.proofs.naming.is_name.Goals as goal
+use Rattle.janus_check.proofs.naming.is_name.Goals as goal
 
 pub returns-else-found : goal.returns-else-found
 returns-else-found c =

@@ -1,9 +1,9 @@
 use Rattle.std.proofs.Common.{not, ◌&&◌, ◌||◌, sym, ap, ◌∙◌}
 use Rattle.janus_syntax.specs.Tree.{name_view, exp_view, stm_view, block_view}
 use Rattle.janus_syntax.proofs.Views.{view_if, view_loop, view_local_int, view_local_stack}
-use Rattle.kernel_ask.specs.Naming.{is_it, in_exp, in_stm, in_block}
-use Rattle.kernel_ask.proofs.Found.{two_found}
-use Rattle.kernel_ask.proofs.naming.+stm_names.Goals as goal
+use Rattle.janus_check.specs.Naming.{is_it, in_exp, in_stm, in_block}
+use Rattle.janus_check.proofs.Found.{two_found}
+use Rattle.janus_check.proofs.naming.+stm_names.Goals as goal
 
 pub stm_names-returns-in-If : goal.stm_names-returns-in-If
 stm_names-returns-in-If t c =

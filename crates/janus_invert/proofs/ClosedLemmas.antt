@@ -4,24 +4,16 @@ use Rattle.std.proofs.lemmas.List.{take_more}
 use Rattle.janus_syntax.specs.declared.tree.Name as code_name
 use Rattle.janus_syntax.specs.declared.tree.Exp as code_exp
 use Rattle.janus_syntax.specs.declared.tree.Stm as code_stm
-use Rattle.janus_syntax.specs.Tree.{named, name_view, If, Loop, LocalInt, LocalStack, Stm, Block, Empty, More, exp_view, stm_view, block_view}
-use Rattle.janus_syntax.specs.View.{name_of}
+use Rattle.janus_syntax.specs.Tree.{name_view, If, Loop, LocalInt, LocalStack, Stm, Block, Empty, More, exp_view, stm_view, block_view}
 use Rattle.janus_syntax.proofs.Views.{view_if, view_loop, view_local_int, view_local_stack}
-use Rattle.kernel_text.specs.Closed.{closed_stm, closed_block}
+use Rattle.janus_invert.specs.Closed.{closed_stm, closed_block}
+use Rattle.janus_invert.proofs.Cells.{join, block_end}
 
 -- ---- one more statement
-
-abbrev join : Block → Stm → Block
-join Empty s = More s Empty
-join (More r b) s = More r (join b s)
 
 closed_end : (b : Block) (s : Stm) → closed_block (join b s) ≡ join (closed_block b) (closed_stm s)
 closed_end Empty s = refl
 closed_end (More r b) s = ap (More (closed_stm r)) (closed_end b s)
-
-block_end : (xs : List code_stm.Stm) (r : code_stm.Stm) → block_view (xs ++ r ∷ []) ≡ join (block_view xs) (stm_view r)
-block_end [] r = refl
-block_end (x ∷ xs) r = ap (More (stm_view x)) (block_end xs r)
 
 -- one more statement behind those that are closed
 pub one_more : (b xs ys : List code_stm.Stm) (i : ℕ) (r d : code_stm.Stm) → i < length b → block_view xs ≡ closed_block (block_view (take i b)) → stm_view r ≡ closed_stm (stm_view (get_or b i d)) → ys ≡ xs ++ r ∷ [] → block_view ys ≡ closed_block (block_view (take (i + 1) b))
@@ -69,7 +61,3 @@ local_stack_closed m n x y v w i j g =
     ∙ ap (λ z. LocalStack (name_view m) z (name_view y)) g
     ∙ ap (LocalStack (name_view m) (closed_block (block_view v.items))) j
     ∙ ap closed_stm (sym (view_local_stack m n v))
-
--- a copy of a name, at its place
-pub name_copied : (x y : code_name.Name) → name_of y ≡ name_of x → y.span ≡ x.span → name_view y ≡ name_view x
-name_copied x y e f = ap (λ t. named t y.span) e ∙ ap (named (name_of x)) f

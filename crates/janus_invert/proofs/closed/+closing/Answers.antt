@@ -1,8 +1,9 @@
 use Rattle.std.proofs.Common.{ap, ◌∙◌, sym}
 use Rattle.janus_syntax.specs.Tree.{stm_view, block_view}
-use Rattle.kernel_text.specs.Closed.{closed_stm, closed_block}
-use Rattle.kernel_text.proofs.ClosedLemmas.{one_more, if_closed, loop_closed, local_int_closed, local_stack_closed, name_copied}
-use Rattle.kernel_text.proofs.closed.+closing.Goals as goal
+use Rattle.janus_invert.specs.Closed.{closed_stm, closed_block}
+use Rattle.janus_invert.proofs.ClosedLemmas.{one_more, if_closed, loop_closed, local_int_closed, local_stack_closed}
+use Rattle.janus_invert.proofs.Cells.{name_copied}
+use Rattle.janus_invert.proofs.closed.+closing.Goals as goal
 
 pub closed_statement-returns-in_ok-copy-in-If : goal.closed_statement-returns-in_ok-copy-in-If
 closed_statement-returns-in_ok-copy-in-If t c =

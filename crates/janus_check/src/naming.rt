@@ -2,7 +2,7 @@
 ghost use Rattle.std.specs.Prelude.{◌≡◌, not, ◌&&◌, ◌||◌};
 ghost use Rattle.std.specs.List.{list_any};
 ghost use Rattle.janus_syntax.specs.Tree.{name_view, names_view, exp_view, stm_view, block_view, declaration_view, declarations_view, cell_view};
-ghost use Rattle.kernel_ask.specs.Naming.{is_it, in_exp, in_stm, in_block, in_declaration, in_cell};
+ghost use Rattle.janus_check.specs.Naming.{is_it, in_exp, in_stm, in_block, in_declaration, in_cell};
 
 use janus_syntax::tree::{Cell, Declaration, Exp, Name, Stm};
 
@@ -142,7 +142,7 @@ fn declarations_name(name: &str, declarations: &[Declaration]) -> bool
 }
 
 /// Whether a cell names it, in its declarations or its statements.
-pub(crate) fn cell_names(name: &str, cell: &Cell) -> bool
+pub fn cell_names(name: &str, cell: &Cell) -> bool
     ensures { result ≡ in_cell name.now (cell_view cell.now) }
 {
     let found = declarations_name(name, &cell.declarations);
