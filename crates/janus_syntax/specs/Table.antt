@@ -5,8 +5,8 @@ use Rattle.std.specs.Prelude.{ℕ, zero, suc, ◌-◌, List, [], ◌∷◌, ◌+
 use Rattle.janus_syntax.specs.declared.token.Span.{Span}
 use Rattle.janus_syntax.specs.declared.token.Sign.{Sign}
 use Rattle.janus_syntax.specs.declared.token.Sign.TheVariants as sign
-use Rattle.janus_syntax.specs.declared.token.Word.{Word}
-use Rattle.janus_syntax.specs.declared.token.Word.TheVariants as word
+use Rattle.janus_syntax.specs.declared.token.Keyword.{Keyword}
+use Rattle.janus_syntax.specs.declared.token.Keyword.TheVariants as word
 use Rattle.janus_syntax.specs.declared.operator.Infix.{Infix}
 use Rattle.janus_syntax.specs.declared.tree.Update.{Update}
 use Rattle.janus_syntax.specs.declared.tree.Kind.{Kind}
@@ -37,7 +37,7 @@ whole (Some r) = Some (record { opens = r.opens; counts = r.counts; is_whole = t
 whole None = None
 
 -- fixed tokens in a row
-abbrev pub word_then : {p : Part} → Word → Form p → Form p
+abbrev pub word_then : {p : Part} → Keyword → Form p → Form p
 word_then w f = take (The_word w) (λ v. f)
 
 abbrev pub sign_then : {p : Part} → Sign → Form p → Form p

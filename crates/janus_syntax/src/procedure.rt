@@ -14,7 +14,7 @@ use crate::fault::What;
 use crate::item::{behind_sign, name, sign_at, word_at};
 use crate::problem::Problem;
 use crate::statement::{body, statements};
-use crate::token::{Sign, Token, Word};
+use crate::token::{Keyword, Sign, Token};
 use crate::tree::{Cell, Declaration, Name, Parameter, Procedure, Stm};
 use std::alloc::Global;
 
@@ -22,12 +22,12 @@ use std::alloc::Global;
 fn parameter(tokens: &[Token]) -> Result<Option<(Parameter, &[Token])>, Problem>
     ensures { Reads (IsParameterOrOther (views tokens.now)) (FailsParameter (views tokens.now)) result }
 {
-    if let Some(rest) = word_at(Word::Int, tokens) {
+    if let Some(rest) = word_at(Keyword::Int, tokens) {
         let (name, rest) = name(rest)?;
         let (parameter, rest) = brackets(name, rest)?;
         return Ok(Some((parameter, rest)));
     }
-    let Some(rest) = word_at(Word::Stack, tokens) else {
+    let Some(rest) = word_at(Keyword::Stack, tokens) else {
         return Ok(None);
     };
     let (stack, rest) = name(rest)?;
@@ -143,7 +143,7 @@ fn main_at(main: bool, tokens: &[Token]) -> Option<&[Token]>
     ensures none { IfNone result ((behind : List AToken) → IsMain main (views tokens.now) behind → ⊥) }
 {
     if main {
-        word_at(Word::Main, tokens)
+        word_at(Keyword::Main, tokens)
     } else {
         None
     }
@@ -188,7 +188,7 @@ pub(crate) fn procedures(
     let mut whole = cell;
     let mut may = main;
     let mut rest = tokens;
-    'procedures: while let Some(behind) = word_at(Word::Procedure, rest) {
+    'procedures: while let Some(behind) = word_at(Keyword::Procedure, rest) {
         let (next, more, after) = next_procedure(alloc, whole, may, behind)?;
         whole = next;
         may = more;

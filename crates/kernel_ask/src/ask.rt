@@ -31,7 +31,7 @@ use kernel_core::{Kernel, Outcome};
 use std::alloc::{AllocError, Global};
 use std::sync::ledger::Ledger;
 
-/// The declared names, procedures and reserved words that go on with what stands in front of a cursor. Places count Unicode code points; no
+/// The declared names, procedures and keywords that go on with what stands in front of a cursor. Places count Unicode code points; no
 /// cursor is the end of the code, and so is one past it. The only error is want of memory.
 pub fn complete<L: Ledger>(
     alloc: Global,

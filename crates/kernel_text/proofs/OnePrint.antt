@@ -2,8 +2,8 @@
 use Rattle.std.proofs.Common.{◌≡◌, ℕ, ◌-◌, List, [], ◌∷◌, ◌++◌, map, nat_lt, refl, ap, ◌∙◌, sym}
 use Rattle.janus_syntax.specs.declared.token.Sign.{Sign}
 use Rattle.janus_syntax.specs.declared.token.Sign.TheVariants as sign
-use Rattle.janus_syntax.specs.declared.token.Word.{Word}
-use Rattle.janus_syntax.specs.declared.token.Word.TheVariants as word
+use Rattle.janus_syntax.specs.declared.token.Keyword.{Keyword}
+use Rattle.janus_syntax.specs.declared.token.Keyword.TheVariants as word
 use Rattle.janus_syntax.specs.declared.tree.Operator.{Operator}
 use Rattle.janus_syntax.specs.declared.tree.Operator.TheVariants as operator
 use Rattle.janus_syntax.specs.declared.tree.Update.{Update}
@@ -72,7 +72,7 @@ names_same : (xs : List Name) → names_pieces xs ≡ names_pieces (map name_tre
 names_same [] = refl
 names_same (named x at ∷ xs) = ap (λ (ps : List Piece). A_name x ∷ ps) (more_names_same xs)
 
-call_same : (w : Word) (f : List ℕ) (xs : List Name) → call_pieces w f xs ≡ call_pieces w f (map name_tree (map text_of xs))
+call_same : (w : Keyword) (f : List ℕ) (xs : List Name) → call_pieces w f xs ≡ call_pieces w f (map name_tree (map text_of xs))
 call_same w f xs = ap (λ (ps : List Piece). A_word w ∷ A_name f ∷ An_opening ∷ (ps ++ A_sign sign.Close ∷ [])) (names_same xs)
 
 -- ---- statements
@@ -85,10 +85,10 @@ abbrev told_block : Block → List Piece
 told_block b = block_pieces (block_tree (plain_block b))
 
 -- four parts, each behind a word
-abbrev four : Word → Word → Word → Word → List Piece → List Piece → List Piece → List Piece → List Piece
+abbrev four : Keyword → Keyword → Keyword → Keyword → List Piece → List Piece → List Piece → List Piece → List Piece
 four v w x y a b c d = A_word v ∷ (a ++ A_word w ∷ (b ++ A_word x ∷ (c ++ A_word y ∷ d)))
 
-four_same : (v w x y : Word) (a b c d e f g h : List Piece) → a ≡ e → b ≡ f → c ≡ g → d ≡ h → four v w x y a b c d ≡ four v w x y e f g h
+four_same : (v w x y : Keyword) (a b c d e f g h : List Piece) → a ≡ e → b ≡ f → c ≡ g → d ≡ h → four v w x y a b c d ≡ four v w x y e f g h
 four_same v w x y a b c d e f g h i j k l =
     ap (λ (ps : List Piece). four v w x y ps b c d) i ∙ ap (λ (ps : List Piece). four v w x y e ps c d) j
     ∙ ap (λ (ps : List Piece). four v w x y e f ps d) k ∙ ap (λ (ps : List Piece). four v w x y e f g ps) l
