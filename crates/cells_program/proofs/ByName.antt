@@ -20,7 +20,8 @@ use Rattle.janus_meaning.specs.Store.{find, pick, same_name}
 use Rattle.janus_syntax.specs.declared.tree.Procedure.{Procedure}
 use Rattle.kernel_core.specs.Defined.{in_a_row}
 use Rattle.cells_program.specs.ByName.{found, onto_found, with_name, with_names}
-use Rattle.cells_program.specs.Listing.{IsListing, procedure_names}
+use Rattle.kernel_text.specs.Procedures.{procedure_names}
+use Rattle.cells_program.specs.Listing.{IsListing}
 use Rattle.kernel_text.proofs.Newest.{plain}
 
 -- ---- what the code puts in

@@ -21,7 +21,7 @@ pub mod env;
 mod expression;
 pub mod fault;
 mod naming;
-mod parameter;
+pub mod parameter;
 mod procedure;
 mod sight;
 mod statement;

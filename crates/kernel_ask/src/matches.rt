@@ -5,7 +5,8 @@ ghost use Rattle.std.specs.List.Sorted.{IsStrictlySortedBy};
 ghost use Rattle.std.specs.String.{string_cmp};
 ghost use Rattle.janus_syntax.specs.Spelling.{word_text};
 ghost use Rattle.kernel_ask.specs.Added.{with_name, with_match, with_matches};
-ghost use Rattle.kernel_ask.specs.Matches.{names_of, procedure_names, AreMatches};
+ghost use Rattle.kernel_text.specs.Procedures.{procedure_names};
+ghost use Rattle.kernel_ask.specs.Matches.{names_of, AreMatches};
 ghost use Rattle.kernel_core.specs.Defined.{in_a_row};
 ghost use Rattle.janus_store.specs.Held.{shown_store};
 

@@ -9,7 +9,8 @@ use Rattle.janus_syntax.specs.Spelling.{word_text}
 use Rattle.janus_syntax.specs.declared.token.TheConstants.{KEYWORDS}
 use Rattle.janus_store.specs.Held.{shown_store}
 use Rattle.kernel_ask.specs.Added.{with_matches}
-use Rattle.kernel_ask.specs.Matches.{names_of, procedure_names, AreMatches}
+use Rattle.kernel_text.specs.Procedures.{procedure_names}
+use Rattle.kernel_ask.specs.Matches.{names_of, AreMatches}
 use Rattle.kernel_ask.proofs.Added.{ordered_octets}
 use Rattle.kernel_ask.proofs.Known.{are_matches, all_matches}
 use Rattle.kernel_ask.proofs.matches.matches_of.Goals as goal
