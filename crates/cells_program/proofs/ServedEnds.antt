@@ -16,7 +16,8 @@ use Rattle.kernel_core.specs.turn.Why.{Why}
 use Rattle.kernel_core.specs.turn.Why.TheVariants.{WasAsked, Faulted}
 use Rattle.kernel_core.specs.turn.Turn.{Turn}
 use Rattle.kernel_core.specs.turn.Turn.TheVariants.{GoesOn, GoesBack as TurnedBack}
-use Rattle.kernel_core.specs.Theorems.{EndsAs, EndsUnless, JobEnds, JobsEnd, CellEnds, TextEnds, WasStopped, HasAsked, OnlyAskedSlicesStop}
+use Rattle.kernel_core.specs.Theorems.{EndsAs, JobsEnd, WasStopped, HasAsked, OnlyAskedSlicesStop}
+use Rattle.kernel_core.specs.Ends.{EndsUnless, JobEnds, CellEnds, TextEnds}
 use Rattle.kernel_core.specs.events.Event.{Event}
 use Rattle.kernel_core.specs.events.Event.TheVariants as event
 use Rattle.kernel_core.specs.events.Told.{Told}

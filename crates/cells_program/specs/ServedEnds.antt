@@ -4,7 +4,8 @@ use Rattle.kernel_core.specs.LegalState.{IsLegalState}
 use Rattle.kernel_core.specs.Request.{Request}
 use Rattle.kernel_core.specs.Runs.{Machine, IsPost, Run}
 use Rattle.kernel_core.specs.State.{Idle}
-use Rattle.kernel_core.specs.Theorems.{EndsAs, JobEnds, WasStopped}
+use Rattle.kernel_core.specs.Theorems.{EndsAs, WasStopped}
+use Rattle.kernel_core.specs.Ends.{JobEnds}
 use Rattle.kernel_core.specs.events.Event.{Event}
 use Rattle.kernel_core.specs.events.Event.TheVariants as event
 use Rattle.kernel_core.specs.events.Told.{Told}

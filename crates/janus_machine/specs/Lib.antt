@@ -4,8 +4,11 @@ pub mod Acts
 pub mod Places
 pub mod Mirrored
 pub mod Turns
+pub mod Procedure
+pub mod Procedures
 pub mod Bodies
 pub mod Nested
+pub mod Cursor
 pub mod Cursors
 pub mod Moved
 pub mod Counts

@@ -12,10 +12,10 @@ use crate::running::running;
 use janus_linear::Linear;
 use std::alloc::{AllocError, Global};
 
-/// How many steps a cell may take.
+/// The most steps that a cell may take.
 pub const STEP_LIMIT: u64 = 1_000_000_000_000;
 
-/// How many calls may be open: each has two frames, its own and that of its body.
+/// The most calls that may be open: each has two frames, its own and that of its body.
 const CALL_LIMIT: usize = 8192;
 
 /// The last place of code.
@@ -61,7 +61,8 @@ impl Cursor {
     ghost use Rattle.janus_machine.specs.declared.book.Direction.TheVariants.{Forward, Inverse};
     ghost use Rattle.janus_machine.specs.Places.{block_in};
     ghost use Rattle.janus_machine.specs.Cursors.{place_of, has_ended, IsStanding};
-    ghost use Rattle.janus_machine.specs.Counts.{counted, count_in, is_turned, IsAtEntry, TurnsRound};
+    ghost use Rattle.janus_machine.specs.Counts.{counted, IsAtEntry, TurnsRound};
+    ghost use Rattle.janus_machine.specs.Cursor.{count_in, with_count, is_turned};
     ghost use Rattle.janus_machine.specs.Turns.{IsMirrored, AgreesMirrored};
 
     /// A cursor at no place of a book yet, with the memory of all calls that may be open; an error for want of it.
@@ -149,8 +150,8 @@ impl Cursor {
 
     /// So many steps were taken.
     pub(crate) fn add(&mut self, taken: u64)
-        requires few { self.old.turned ≡ false → self.old.count + taken ≤ step_limit }
-        ensures { (self.new ≡ record self.old { count = self.new.count }) × (self.new.count ≡ counted self.old.turned self.old.count taken) }
+        requires few { is_turned self.old ≡ false → count_in self.old + taken ≤ step_limit }
+        ensures { (self.new ≡ with_count self.old (count_in self.new)) × (count_in self.new ≡ counted (is_turned self.old) (count_in self.old) taken) }
     {
         if self.turned {
             self.count = self.count.saturating_sub(taken);

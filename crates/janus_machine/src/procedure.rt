@@ -2,7 +2,8 @@
 
 ghost use Rattle.std.specs.Prelude.{◌≡◌, IfOk};
 ghost use Rattle.janus_invert.specs.CodeBlock.{code_block};
-ghost use Rattle.janus_machine.specs.Bodies.{numbers_of, number_of, parameters_of, body_of};
+ghost use Rattle.janus_machine.specs.Bodies.{numbers_of};
+ghost use Rattle.janus_machine.specs.Procedure.{number_of, parameters_of, body_of};
 
 use crate::book::Book;
 use janus_invert::Parameter;

@@ -1,6 +1,6 @@
 //! The bodies of all procedures that cells define, and which of them are in effect.
 
-ghost use Rattle.std.specs.Prelude.{◌≡◌, ◌+◌, ◌<◌, ◌≤◌, ℕ, List, [], ◌∷◌, ◌++◌, length, get_or, slice_get, take};
+ghost use Rattle.std.specs.Prelude.{◌≡◌, ◌+◌, ◌<◌, ◌≤◌, ℕ, List, [], ◌∷◌, ◌++◌, length, slice_get, take};
 ghost use Rattle.std.specs.Prelude.{Some, None, IfOk, OnOk, OnErr};
 ghost use Rattle.janus_machine.specs.declared.procedures.Body.{Body};
 
@@ -26,7 +26,8 @@ pub struct Procedures {
 }
 
 impl Procedures {
-    ghost use Rattle.janus_machine.specs.Bodies.{body_at, in_effect, kept_in, AreDefined, IsOutside, AreBelow, IsPutIntoEffect, AreOthersKept, onto};
+    ghost use Rattle.janus_machine.specs.Bodies.{AreDefined, IsOutside, AreBelow, IsPutIntoEffect, AreOthersKept, onto};
+    ghost use Rattle.janus_machine.specs.Procedures.{bodies_of, kept_in, places_in, place_in_effect, body_at, in_effect};
 
     /// No bodies. It takes no memory.
     pub fn new(alloc: Global) -> Procedures
@@ -84,9 +85,9 @@ impl Procedures {
 
     /// Makes a place for the name of a number; an error for want of memory.
     fn reach(&mut self, name: usize) -> Result<(), AllocError>
-        ensures reached { OnOk result (name < length self.new.newest.items) }
-        ensures bodies { self.new.bodies.items ≡ self.old.bodies.items }
-        ensures newest { (n : ℕ) → get_or self.new.newest.items n 0 ≡ get_or self.old.newest.items n 0 }
+        ensures reached { OnOk result (name < places_in self.new) }
+        ensures bodies { bodies_of self.new ≡ bodies_of self.old }
+        ensures newest { (n : ℕ) → place_in_effect self.new n ≡ place_in_effect self.old n }
     {
         while self.newest.len() <= name {
             self.newest.push(0)?;

@@ -9,7 +9,7 @@ ghost use Rattle.janus_evaluation.specs.Locals.{KeepsNames};
 ghost use Rattle.janus_machine.specs.Faults.{IsDone};
 ghost use Rattle.janus_machine.specs.Statements.{run_of};
 
-use crate::fault::{Fault, told};
+use crate::fault::Fault;
 use janus_evaluation::{ValueFault, assign, assign_element, pop, push};
 use janus_invert::Statement;
 use janus_store::{Store, Writes};
@@ -47,6 +47,6 @@ pub(crate) fn done(assigned: Result<(), ValueFault>) -> Result<(), Fault>
 {
     match assigned {
         Ok(()) => Ok(()),
-        Err(fault) => Err(told(fault)),
+        Err(fault) => Err(Fault::from(fault)),
     }
 }

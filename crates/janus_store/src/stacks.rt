@@ -11,13 +11,13 @@ use cell_pool::{Pool, Values};
 use std::alloc::{AllocError, Global};
 use std::marker::Model;
 
-/// So many stacks may live.
+/// The most stacks that may live.
 pub(crate) const LIVE_STACK_LIMIT: usize = 64;
 
-/// So many values fit on a stack.
-pub(crate) const STACK_LIMIT: usize = 4096;
+/// The most values on one stack.
+pub(crate) const STACK_VALUE_LIMIT: usize = 4096;
 
-/// So many values fit on all of them.
+/// The most values on all stacks together.
 const CELL_LIMIT: u32 = 262_144;
 
 /// The stacks by their numbers in one pool of cells. Contracts see the values of each, and the numbers that no name has: those are empty.
@@ -103,7 +103,7 @@ impl Stacks {
         requires { stack < live_stack_limit }
         ensures { IsTrue result ↔ (stack_limit ≤ length (list_of self.now.lists stack)) }
     {
-        self.pool.length(stack) >= STACK_LIMIT
+        self.pool.length(stack) >= STACK_VALUE_LIMIT
     }
 
     /// The values of a stack, lent.

@@ -24,16 +24,16 @@ use std::alloc::{AllocError, Global};
 use std::marker::{Model, PhantomData};
 use std::sync::ledger::Ledger;
 
-/// So many names may be declared.
+/// The most names that may be declared.
 const NAME_LIMIT: usize = 256;
 
-/// So many locals may be open.
+/// The most locals that may be open.
 const LOCAL_LIMIT: usize = 16_384;
 
-/// So many calls may be open.
+/// The most calls that may be open.
 const CALL_LIMIT: usize = 16_384;
 
-/// So many parameters may be bound at once: 16 for each call.
+/// The most parameters that may be bound at once: 16 for each call.
 const BOUND_LIMIT: usize = 262_144;
 
 /// A name with its value.

@@ -1,7 +1,7 @@
 -- Lemmas of the machine that proofs above cite.
-pub use Rattle.kernel_machine.proofs.Counting
-pub use Rattle.kernel_machine.proofs.Determined
-pub use Rattle.kernel_machine.proofs.Jobs
+pub use Rattle.machine_laws.proofs.Counting
+pub use Rattle.machine_laws.proofs.Determined
+pub use Rattle.machine_laws.proofs.Jobs
 pub use Rattle.kernel_machine.proofs.Noted
 pub use Rattle.kernel_machine.proofs.Posts
 pub use Rattle.kernel_machine.proofs.Stays

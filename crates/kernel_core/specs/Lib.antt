@@ -18,15 +18,18 @@ pub use Rattle.kernel_machine.specs.Runs
 pub use Rattle.kernel_machine.specs.PostFault
 pub use Rattle.kernel_machine.specs.Midway
 pub use Rattle.kernel_machine.specs.LegalState
-pub use Rattle.kernel_machine.specs.Theorems
-pub use Rattle.kernel_machine.specs.Travels
 pub use Rattle.kernel_machine.specs.StepsOfSlices
+pub use Rattle.kernel_machine.specs.Ends
 pub use Rattle.kernel_machine.specs.LegalMinutes
-pub use Rattle.kernel_machine.specs.Counters
-pub use Rattle.kernel_machine.specs.Determined
 pub use Rattle.kernel_machine.specs.StateCode
 pub use Rattle.kernel_machine.specs.MachineCode
--- Its plain types.
+-- The laws of its runs.
+pub use Rattle.machine_laws.specs.Theorems
+pub use Rattle.machine_laws.specs.Travels
+pub use Rattle.machine_laws.specs.CountedSteps
+pub use Rattle.machine_laws.specs.Counters
+pub use Rattle.machine_laws.specs.Determined
+-- The machine's plain types.
 pub use Rattle.kernel_machine.specs.declared.events
 pub use Rattle.kernel_machine.specs.declared.outcome
 pub use Rattle.kernel_machine.specs.declared.post

@@ -10,10 +10,10 @@
 //! - `Kernel::minutes`: each post, and how each job ended. They are legal: a fold over them that knows nothing of slices gives the
 //!   tree, the position, the favourites and the counter, save what the open job has done.
 //! - `run_events`: the answers and the state after any list of events are a run of the machine from the state before.
-//! - `laws` of `kernel_machine`: what this says of undo and redo over any schedule, and that want of memory aside each answer is the only one.
+//! - `laws` of `machine_laws`: what this says of undo and redo over any schedule, and that want of memory aside each answer is the only one.
 //!
 //! It has the queue, the minutes and the counter; the tree, the store and the open job are `kernel_history`'s. The names of these crates and
-//! of `kernel_machine` are passed on, types and laws here and definitions in specs/, so that layers above cite this crate alone.
+//! of `kernel_machine` and `machine_laws` are passed on, types and laws here and definitions in specs/, so that layers above cite this crate alone.
 #![tactic(auto)]
 
 mod events;
@@ -31,6 +31,7 @@ pub use janus_syntax::SyntaxFault;
 pub use janus_syntax::token::Span;
 pub use kernel_history::View;
 pub use kernel_machine::{
-    Begun, End, Event, Extent, Job, Outcome, Phase, PostFault, Refusal, Sliced, Told, laws,
+    Begun, End, Event, Extent, Job, Outcome, Phase, PostFault, Refusal, Sliced, Told,
 };
 pub use kernel_runner::names_in_sight;
+pub use machine_laws::laws;

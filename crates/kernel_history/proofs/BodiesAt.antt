@@ -6,7 +6,8 @@ use Rattle.std.proofs.lemmas.Option.{slice_get_within, get_or_from_slice_get}
 use Rattle.cell_tree.specs.Tree.{contents_of}
 use Rattle.cell_tree.specs.declared.node.Node.{Node}
 use Rattle.janus_meaning.specs.Syntax.{Name, Proc}
-use Rattle.janus_machine.specs.Bodies.{kept_in, AreBelow, AreBodiesFrom}
+use Rattle.janus_machine.specs.Bodies.{AreBelow, AreBodiesFrom}
+use Rattle.janus_machine.specs.Procedures.{kept_in}
 use Rattle.janus_machine.specs.declared.procedure.Procedure.{Procedure}
 use Rattle.janus_machine.specs.declared.procedures.Procedures.{Procedures}
 use Rattle.janus_machine.proofs.Bodies.{onto_below}

@@ -24,7 +24,8 @@ use Rattle.kernel_machine.specs.Begins.{Declares}
 use Rattle.janus_meaning.specs.Syntax.{Name}
 use Rattle.janus_names.specs.Numbers.{GoOn, HaveOneNumber}
 use Rattle.janus_store.specs.Held.{Held, IsWhole, shown_store}
-use Rattle.janus_machine.specs.Bodies.{kept_in, AreBelow, AreDefined, Define}
+use Rattle.janus_machine.specs.Bodies.{AreBelow, AreDefined, Define}
+use Rattle.janus_machine.specs.Procedures.{kept_in}
 use Rattle.janus_machine.proofs.BodiesInEffect.{forgotten_still_defined}
 use Rattle.janus_machine.specs.declared.procedures.Procedures.{Procedures}
 use Rattle.kernel_runner.specs.Program.{cell_of_program, IsReady, with_bodies}

@@ -9,7 +9,7 @@ ghost use Rattle.kernel_machine.specs.StepsOfSlices.{WritesOnSlice};
 ghost use Rattle.kernel_machine.specs.Begins.{TakesCell, TakesMove, TakesGoto, Departs, Enters, Declares, travel_to};
 ghost use Rattle.janus_names.specs.Numbers.{GoOn};
 ghost use Rattle.janus_store.specs.Held.{IsWhole, KeepsSight};
-ghost use Rattle.janus_machine.specs.Bodies.{kept_in};
+ghost use Rattle.janus_machine.specs.Procedures.{kept_in};
 ghost use Rattle.kernel_machine.specs.Text.{Accepts, Refuses};
 ghost use Rattle.kernel_runner.specs.Program.{cell_of_program, IsReady, KeepsOlder};
 ghost use Rattle.kernel_runner.specs.Runner.{over, Becomes, Is, Between, KeepsShown};

@@ -3,16 +3,6 @@ pub mod Texts
 pub mod Trees
 pub mod Runs
 pub mod Jobs
-pub mod Again
-pub mod OnTime
-pub mod Paths
 pub mod Stays
-pub mod Stopping
-pub mod Reach
-pub mod Refusals
-pub mod Determined
-pub mod Steps
 pub mod Posts
 pub mod Noted
-pub mod Counting
-pub mod OneAccount

@@ -6,10 +6,10 @@ use Rattle.kernel_machine.specs.Slices as slices
 use Rattle.kernel_machine.specs.Begins.{Enters}
 use Rattle.kernel_machine.specs.Request.{Request, request_of, is_counted, raised}
 use Rattle.kernel_machine.specs.Minutes.{Entry, Posted, Ended, posted_in, ended_in}
-use Rattle.kernel_machine.specs.Theorems.{JobEnds}
-use Rattle.kernel_machine.specs.Runs.{Machine, new_machine, posted, shut, IsPost, end_of_begun, end_of_sliced, noted, TakesUnless, BeginsAt, IsBegin, IsSliceOf, Step, Run}
+use Rattle.kernel_machine.specs.Ends.{JobEnds}
+use Rattle.kernel_machine.specs.Runs.{Machine, new_machine, posted, shut, IsPost, end_of_begun, end_of_sliced, noted, TakesUnless, BeginsAt, IsBegin, IsSliceOf, Step}
 use Rattle.kernel_machine.specs.Midway.{Holds}
-use Rattle.kernel_machine.specs.LegalMinutes.{IsLegalMachine, Account, new_account, MayEnd, EndsFirst, Tells, Give, IsOpen, Agrees, HasLegalMinutes, KeepsLegalMinutes}
+use Rattle.kernel_machine.specs.LegalMinutes.{IsLegalMachine, Account, new_account, MayEnd, EndsFirst, Tells, Give, IsOpen, Agrees, HasLegalMinutes}
 use Rattle.kernel_machine.specs.Travel.{Travel}
 use Rattle.kernel_machine.specs.declared.outcome.Refusal.TheVariants.{Closing}
 use Rattle.kernel_machine.specs.declared.outcome.Outcome.{Outcome}
@@ -134,7 +134,7 @@ begun_unended old o mid k b =
 
 -- ---- a job that goes on
 
-known_at : (m new : Machine) → new ≡ m → HasLegalMinutes m → HasLegalMinutes new
+pub known_at : (m new : Machine) → new ≡ m → HasLegalMinutes m → HasLegalMinutes new
 known_at m new e k = subst (λ (x : Machine). HasLegalMinutes x) (sym e) k
 
 nothing_noted : (m : Machine) → HasLegalMinutes m → HasLegalMinutes (noted m None)
@@ -287,7 +287,7 @@ shut_known old k = record { account = k.account; given = k.given; agrees = same 
     same (Border t) h = still k.account.waiting h
     same (Inside e) h = still k.account.waiting h
 
-step_known : (old : Machine) (e : Event) (t : Told) (new : Machine) → HasLegalMinutes old → Step old e t new → HasLegalMinutes new
+pub step_known : (old : Machine) (e : Event) (t : Told) (new : Machine) → HasLegalMinutes old → Step old e t new → HasLegalMinutes new
 step_known old (event.Post lane job) (told.Post answer) new k s = post_known old lane (request_of job) answer new k s
 step_known old event.Begin (told.Begin answer) new k s = begin_known old answer new k s
 step_known old (event.Slice m asked) (told.Slice answer) new k s = slice_known old m asked answer new k s
@@ -296,15 +296,6 @@ step_known old e t new k s = absurd s
 
 pub new_known : HasLegalMinutes new_machine
 new_known = record { account = new_account; given = refl; agrees = (refl, refl, refl) }
-
-run_known : (old new : Machine) (events : List Event) (answers : List Told) → HasLegalMinutes old → Run old events answers new → HasLegalMinutes new
-run_known old new [] [] k r = known_at old new r k
-run_known old new [] (t ∷ answers) k r = absurd r
-run_known old new (e ∷ events) [] k r = absurd r
-run_known old new (e ∷ events) (t ∷ answers) k r = run_known r.0 new events answers (step_known old e t r.0 k r.1) r.2
-
-pub keeps_legal_minutes : KeepsLegalMinutes
-keeps_legal_minutes = (new_known, run_known)
 
 -- ---- what a kernel keeps
 

@@ -5,18 +5,12 @@ use Rattle.std.proofs.Common.{◌≡◌, ℕ, ◌+◌, ◌*◌, ◌<◌, ◌≤�
 use Rattle.kernel_machine.specs.State.{Job as Open, Idle, Border, Inside}
 use Rattle.kernel_machine.specs.Request.{Request}
 use Rattle.kernel_machine.specs.Minutes.{Entry, Posted, Ended, Post, posts_of, posted_in, ended_in, IsNumberOf, HavePlaces, minutes_limit}
-use Rattle.kernel_machine.specs.Runs.{Machine, queue_limit, IsRefusal, IsPost, BeginsAt, IsBegin, IsSliceOf, noted, shut, Run, end_of_begun, end_of_sliced}
-use Rattle.kernel_machine.specs.Theorems.{AllPostsRefused, ShutRefusesJobs}
+use Rattle.kernel_machine.specs.Runs.{Machine, queue_limit, IsRefusal, IsPost, BeginsAt, IsBegin, IsSliceOf, noted, shut, end_of_begun, end_of_sliced}
 use Rattle.kernel_machine.specs.declared.outcome.Outcome.{Outcome}
 use Rattle.kernel_machine.specs.declared.outcome.Begun.{Begun}
 use Rattle.kernel_machine.specs.declared.outcome.Sliced.{Sliced}
 use Rattle.kernel_machine.specs.declared.post.PostFault.{PostFault}
 use Rattle.kernel_machine.specs.declared.post.PostFault.TheVariants.{Closing, MinutesFull, QueueFull, Memory}
-use Rattle.kernel_machine.specs.declared.events.Event.{Event}
-use Rattle.kernel_machine.specs.declared.events.Event.TheVariants as event
-use Rattle.kernel_machine.specs.declared.events.Told.{Told}
-use Rattle.kernel_machine.specs.declared.events.Told.TheVariants as told
-use Rattle.kernel_machine.proofs.Determined.{refusal_same}
 
 -- ---- entries
 
@@ -94,33 +88,8 @@ slice_keeps_posts old m asked answer new s =
 pub shut_keeps_posts : (old new : Machine) → new ≡ shut old → posts_of new.minutes ≡ posts_of old.minutes
 shut_keeps_posts old new s = ap (λ (m : Machine). posts_of m.minutes) s
 
-begin_closing : (old : Machine) (answer : Begun) (new : Machine) → IsBegin old answer new → new.closing ≡ old.closing
+pub begin_closing : (old : Machine) (answer : Begun) (new : Machine) → IsBegin old answer new → new.closing ≡ old.closing
 begin_closing old answer new b = ap (λ (m : Machine). m.closing) b.2 ∙ (begins_minutes old old.state.job old.queue answer b.0 b.1).1
-
--- ---- after a shutdown
-
-closed_runs : (old new : Machine) (events : List Event) (answers : List Told) → old.closing ≡ true → Run old events answers new → (new.closing ≡ true) × AllPostsRefused answers × (posts_of new.minutes ≡ posts_of old.minutes)
-closed_runs old new [] [] c r = (ap (λ (m : Machine). m.closing) r ∙ c, tt, ap (λ (m : Machine). posts_of m.minutes) r)
-closed_runs old new [] (t ∷ answers) c r = absurd r
-closed_runs old new (e ∷ events) [] c r = absurd r
-closed_runs old new (event.Post lane job ∷ events) (told.Post (Ok number) ∷ answers) c r = absurd (let e = sym c ∙ r.1.0.serves in cc)
-closed_runs old new (event.Post lane job ∷ events) (told.Post (Err fault) ∷ answers) c r =
-    let rest = closed_runs r.0 new events answers (ap (λ (m : Machine). m.closing) r.1.1 ∙ c) r.2 in
-    let is : fault ≡ Closing = refusal_same old fault Closing r.1.0 c in
-    (rest.0, (ap (λ (f : PostFault). Err f) is, rest.1), rest.2 ∙ ap (λ (m : Machine). posts_of m.minutes) r.1.1)
-closed_runs old new (event.Begin ∷ events) (told.Begin answer ∷ answers) c r =
-    let rest = closed_runs r.0 new events answers (begin_closing old answer r.0 r.1 ∙ c) r.2 in
-    (rest.0, rest.1, rest.2 ∙ begin_keeps_posts old answer r.0 r.1)
-closed_runs old new (event.Slice m asked ∷ events) (told.Slice answer ∷ answers) c r =
-    let rest = closed_runs r.0 new events answers (ap (λ (x : Machine). x.closing) r.1.2 ∙ c) r.2 in
-    (rest.0, rest.1, rest.2 ∙ slice_keeps_posts old m asked answer r.0 r.1)
-closed_runs old new (event.Shut ∷ events) (told.Shut ∷ answers) c r =
-    let rest = closed_runs r.0 new events answers (ap (λ (x : Machine). x.closing) r.1) r.2 in
-    (rest.0, rest.1, rest.2 ∙ shut_keeps_posts old r.0 r.1)
-closed_runs old new (e ∷ events) (t ∷ answers) c r = absurd r.1
-
-pub shut_refuses_jobs : ShutRefusesJobs
-shut_refuses_jobs old new events answers r = closed_runs (shut old) new events answers refl r
 
 -- ---- a post is always refused for want of memory, if for nothing else
 

@@ -6,17 +6,17 @@ use Rattle.janus_meaning.specs.World.{World}
 use Rattle.janus_meaning.specs.Syntax.{Blk}
 use Rattle.janus_meaning.specs.Cells.{WorldPart}
 use Rattle.janus_meaning.proofs.Worlds.{worlds_are_determined, world_trichotomy, worlds_start_and_end}
-use Rattle.kernel_machine.specs.Language.{Code, Forward, start_of, run_block, CodePart, CodeExec}
+use Rattle.kernel_machine.specs.Language.{Code, start_of, run_block, CodePart, CodeExec}
 use Rattle.kernel_machine.specs.Reached.{Reaches, Progress, Went, Ended, Stopped}
 use Rattle.kernel_machine.specs.State.{Past, Work, Posted, Move, Job as Open, Idle, Border, Inside, State, ShownAt, here, code_of, is_full}
 use Rattle.kernel_machine.specs.Legal.{CanGo, IsLegal, IsPossible, IsPossibleWork, IsPossibleAt, IsInTime, IsInTimeAt}
-use Rattle.kernel_machine.specs.Midway.{count_of, IsReason, Holds}
+use Rattle.kernel_machine.specs.Midway.{Holds}
 use Rattle.kernel_machine.specs.LegalState.{IsLegalState, WasBegun, HasBegun}
 use Rattle.kernel_machine.specs.Slices.{cells, stepped, moved, Backs, Arrives, Settles, Comes, SlicesIn, SlicesAt}
 use Rattle.kernel_machine.specs.Begins.{travel_to, Enters, Departs, TakesMove, TakesGoto, TakesCell}
-use Rattle.kernel_machine.specs.Runs.{Machine, IsPost, IsBegin, IsSliceOf, Step, BeginsAt, Takes, TakesUnless}
+use Rattle.kernel_machine.specs.Runs.{Machine, new_machine, IsPost, IsBegin, IsSliceOf, Step, BeginsAt, Takes, TakesUnless}
 use Rattle.kernel_machine.specs.Request.{Request, RunCell, Undo, Redo, Goto, request_of}
-use Rattle.kernel_machine.specs.Theorems.{JobEnds, NewIsLegal, StaysLegal, GoesBackForItsReason}
+use Rattle.kernel_machine.specs.Ends.{JobEnds}
 use Rattle.kernel_machine.specs.Travel as aim
 use Rattle.kernel_machine.specs.Travel.{Travel}
 use Rattle.kernel_machine.specs.Turn.{Why, WasAsked, Faulted, Turn, GoesOn, GoesBack}
@@ -34,7 +34,7 @@ use Rattle.kernel_machine.proofs.Texts.{accepted_formed}
 use Rattle.kernel_machine.proofs.Trees.{legal_grown, moved_legal, meeting_way, new_legal}
 use Rattle.kernel_machine.proofs.Jobs.{post_keeps, part_none, ThenSliced, ThenBegun, slice_holds, enter_holds, take_holds, ended_idle}
 
-pub new_is_legal : NewIsLegal
+pub new_is_legal : IsLegalState new_machine.state × (new_machine.state.job ≡ Idle)
 new_is_legal = (record { legal = new_legal; begun = tt; possible = tt; in_time = tt; shown = (_, refl) }, refl)
 
 -- ---- the worlds that are shown
@@ -236,27 +236,3 @@ step_legal old event.Begin (told.Begin answer) new g s = begin_legal old answer 
 step_legal old (event.Slice m asked) (told.Slice answer) new g s = slice_legal old m asked answer new g s
 step_legal old event.Shut told.Shut new g s = legal_at old.state new.state (ap (λ (x : Machine). x.state) s) g
 step_legal old e t new g s = absurd s
-
-pub stays_legal : StaysLegal
-stays_legal old new [] [] g r = legal_at old.state new.state (ap (λ (m : Machine). m.state) r) g
-stays_legal old new [] (t ∷ answers) g r = absurd r
-stays_legal old new (e ∷ events) [] g r = absurd r
-stays_legal old new (e ∷ events) (t ∷ answers) g r = stays_legal r.0 new events answers (step_legal old e t r.0 g r.1) r.2
-
--- ---- jobs that go back
-
-reason_in : (p : Past) (r : Request) (s : Past) (work : Work) (c : ℕ) (why : Why) → Holds p r (record { past = s; job = Inside (record { work = work; count = c; turn = GoesBack why }) }) →
-    (c ≤ count_of why) × IsReason (code_of s work) (here s) why
-reason_in p (RunCell text silent store) s (Posted cell) c why h = subst (λ (x : Past). (c ≤ count_of why) × IsReason (Forward cell) (here x) why) (sym h.0.0.same) h.0.1
-reason_in p (RunCell text silent store) s (Move t) c why h = absurd h.0
-reason_in p (Undo k) s (Posted cell) c why h = absurd h.0
-reason_in p (Undo k) s (Move t) c why h = h.0.1
-reason_in p (Redo k) s (Posted cell) c why h = absurd h.0
-reason_in p (Redo k) s (Move t) c why h = h.0.1
-reason_in p (Goto n) s (Posted cell) c why h = absurd h.1.3
-reason_in p (Goto n) s (Move t) c why h = h.1.3.1
-
-pub goes_back_for_its_reason : GoesBackForItsReason
-goes_back_for_its_reason s work c why g e =
-    let begun : WasBegun (record { past = s.past; job = Inside (record { work = work; count = c; turn = GoesBack why }) }) = subst (λ (job : Open). HasBegun s.past job) e g.begun in
-    reason_in begun.before begun.job s.past work c why begun.holds

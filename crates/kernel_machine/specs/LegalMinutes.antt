@@ -3,12 +3,10 @@ use Rattle.std.specs.Prelude.{◌≡◌, ℕ, ◌⊎◌, List, [], ◌∷◌, �
 use Rattle.kernel_machine.specs.State.{Past, Job as Open, Idle, Border, Inside, new_state}
 use Rattle.kernel_machine.specs.Request.{Request, raised}
 use Rattle.kernel_machine.specs.Minutes.{Entry, Posted, Ended}
-use Rattle.kernel_machine.specs.Runs.{Machine, new_machine, Run}
+use Rattle.kernel_machine.specs.Runs.{Machine}
 use Rattle.kernel_machine.specs.Midway.{Holds}
 use Rattle.kernel_machine.specs.LegalState.{IsLegalState}
-use Rattle.kernel_machine.specs.Theorems.{IsRefused, JobEnds}
-use Rattle.kernel_machine.specs.declared.events.Event.{Event}
-use Rattle.kernel_machine.specs.declared.events.Told.{Told}
+use Rattle.kernel_machine.specs.Ends.{IsRefused, JobEnds}
 use Rattle.kernel_machine.specs.declared.outcome.Refusal.TheVariants.{Closing}
 use Rattle.kernel_machine.specs.declared.outcome.Outcome.{Outcome}
 
@@ -45,10 +43,6 @@ abbrev pub Give : Account → List Entry → Account → Type 0
 Give old [] new = new ≡ old
 Give old (e ∷ entries) new = (mid : Account) × Tells old e mid × Give mid entries new
 
--- Entries give one account only.
-abbrev pub OneAccount : Type 0
-OneAccount = (old : Account) (entries : List Entry) (a b : Account) → Give old entries a → Give old entries b → a ≡ b
-
 -- the open job is the earliest that has not ended: it has raised the counter with its begin, and stands where its slices have led it
 abbrev pub IsOpen : Account → List Request → Machine → Type 0
 IsOpen a [] m = ⊥
@@ -70,11 +64,3 @@ pub record HasLegalMinutes (m : Machine) : Type 0 where
 pub record IsLegalMachine (m : Machine) : Type 0 where
   pub state : IsLegalState m.state
   pub minutes : HasLegalMinutes m
-
--- ---- over runs
-
--- A new machine has legal minutes, and each run from a machine that has them leads to one.
-abbrev pub KeepsLegalMinutes : Type 0
-KeepsLegalMinutes =
-    HasLegalMinutes new_machine
-    × ((old new : Machine) (events : List Event) (answers : List Told) → HasLegalMinutes old → Run old events answers new → HasLegalMinutes new)

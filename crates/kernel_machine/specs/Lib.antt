@@ -5,8 +5,8 @@ pub mod Language
 pub mod Reached
 pub mod Text
 pub mod Refusal
--- The machine, in reading order: travels and turns, its states, which of them are legal, its slices and begins, its minutes and runs, and
--- the laws of its runs.
+-- The machine, in reading order: travels and turns, its states, which of them are legal, its slices and begins, its minutes and runs, how
+-- many steps a slice takes, how jobs may end, and what minutes tell.
 pub mod Travel
 pub mod Turn
 pub mod State
@@ -17,15 +17,12 @@ pub mod Extent
 pub mod Request
 pub mod Minutes
 pub mod Runs
+pub mod StepsOfSlices
 pub mod PostFault
 pub mod Midway
 pub mod LegalState
-pub mod Theorems
-pub mod Travels
-pub mod StepsOfSlices
+pub mod Ends
 pub mod LegalMinutes
-pub mod Counters
-pub mod Determined
 -- How states and machines are stored, so that contracts can have them as values.
 pub mod StateCode
 pub mod MachineCode

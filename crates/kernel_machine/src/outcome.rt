@@ -97,16 +97,17 @@ impl Refusal {
 pub enum Outcome {
     /// The cell is a new node: its number, and the steps that it took.
     Ran(usize, u64),
-    /// The cell met a fault after so many steps, and was taken back.
+    /// The cell met this fault and was taken back: the fault, and how many steps it had taken.
     Failed(Fault, u64),
-    /// The cell was asked to stop after so many steps, and was taken back.
+    /// The cell was asked to stop and was taken back: how many steps it had taken.
     Interrupted(u64),
-    /// So many cells were undone.
+    /// An undo: how many cells were undone, and why it ended there.
     Undid(usize, End),
-    /// So many cells were redone.
+    /// A redo: how many cells were redone, and why it ended there.
     Redid(usize, End),
-    /// So many cells were undone, and then so many redone.
+    /// A goto: how many cells were undone, how many were redone then, and why it ended there.
     Went(usize, usize, End),
+    /// The job was not begun, for this reason.
     Refused(Refusal),
 }
 

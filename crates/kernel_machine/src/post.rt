@@ -14,11 +14,11 @@ pub enum Job {
         silent: bool,
         store: bool,
     },
-    /// The cells of so many nodes, from the position up.
+    /// An undo: how many cells, from the position up.
     Undo(u32),
-    /// The cells of so many nodes, from the position down along favourites.
+    /// A redo: how many cells, from the position down along favourites.
     Redo(u32),
-    /// The cells from the position up to where the paths meet, and from there down to the node of this number.
+    /// A goto: the node of this number, to which the cells lead up to where the paths meet, and then down.
     Goto(u32),
 }
 

@@ -13,8 +13,10 @@ use Rattle.janus_names.specs.Numbers.{HaveOneNumber}
 use Rattle.janus_store.specs.Held.{Held, Caller, IsWhole, shown_store, live_stacks, stacks_lent, own_names}
 use Rattle.janus_linear.specs.Open.{locals_in}
 use Rattle.janus_linear.specs.Within.{within}
-use Rattle.janus_machine.specs.Bodies.{kept_in, AreDefined, Define}
-use Rattle.janus_machine.specs.Cursors.{calls_of, outside_of, place_in, place_of, IsStanding}
+use Rattle.janus_machine.specs.Bodies.{AreDefined, Define}
+use Rattle.janus_machine.specs.Procedures.{kept_in}
+use Rattle.janus_machine.specs.Cursors.{outside_of, place_in, place_of, IsStanding}
+use Rattle.janus_machine.specs.Cursor.{calls_of}
 use Rattle.janus_machine.specs.Law.{NeverBroken}
 use Rattle.janus_machine.specs.Nested.{AreOpenCalls}
 use Rattle.janus_machine.specs.Open.{HaveLocals, Agrees}

@@ -17,7 +17,8 @@ use Rattle.janus_machine.specs.Places.{BookHasNumbers}
 use Rattle.janus_machine.specs.declared.book.Book.{Book}
 use Rattle.janus_meaning.specs.Syntax.{Proc, names_of}
 use Rattle.janus_invert.specs.Met.{AreAllMet}
-use Rattle.janus_machine.specs.Bodies.{kept_in, Define}
+use Rattle.janus_machine.specs.Bodies.{Define}
+use Rattle.janus_machine.specs.Procedures.{kept_in}
 use Rattle.janus_machine.specs.declared.procedures.Procedures.{Procedures}
 use Rattle.janus_machine.proofs.BodiesInEffect.{define_still, bodies_from_still}
 use Rattle.kernel_runner.specs.Met.{AreDeclaredMet, MeetOwn}

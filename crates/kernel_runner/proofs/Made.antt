@@ -18,7 +18,8 @@ use Rattle.janus_check.proofs.SameHeads.{formed_same}
 use Rattle.janus_invert.specs.Met.{MeetsBlk, MeetsLocalsOf}
 use Rattle.janus_invert.proofs.Meeting.{AreMet, AreCalledMet}
 use Rattle.janus_store.specs.Held.{Held, Caller, AreKnown, KeepsSight, shown_store, given_back}
-use Rattle.janus_machine.specs.Bodies.{kept_in, AreBelow, AreBodies, AreBodiesFrom, AreDefined, Define}
+use Rattle.janus_machine.specs.Bodies.{AreBelow, AreBodies, AreBodiesFrom, AreDefined, Define}
+use Rattle.janus_machine.specs.Procedures.{kept_in}
 use Rattle.janus_machine.specs.Places.{BookHasNumbers}
 use Rattle.janus_machine.specs.declared.procedure.Procedure.{Procedure}
 use Rattle.janus_machine.specs.declared.procedures.Procedures.{Procedures}

@@ -15,7 +15,8 @@ use Rattle.janus_meaning.proofs.Shapes.{keeps_shape}
 use Rattle.janus_store.specs.Held.{Caller, IsWhole, given_back}
 use Rattle.janus_machine.specs.Open.{Agrees}
 use Rattle.janus_machine.specs.Nested.{AreOpenCalls}
-use Rattle.janus_machine.specs.Cursors.{calls_of, place_of, has_no_calls, has_ended, IsStanding}
+use Rattle.janus_machine.specs.Cursors.{place_of, has_ended, IsStanding}
+use Rattle.janus_machine.specs.Cursor.{calls_of, has_no_calls}
 use Rattle.janus_machine.specs.Steps.{Refuses}
 use Rattle.janus_machine.specs.Law.{seen_at}
 use Rattle.janus_machine.specs.Faults.{fault_of}

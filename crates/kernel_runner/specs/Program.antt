@@ -7,7 +7,9 @@ use Rattle.janus_syntax.specs.View.{plain_cell}
 use Rattle.janus_check.specs.Checked.{cell_in}
 use Rattle.janus_machine.specs.Places.{block_in, BookHasNumbers}
 use Rattle.janus_names.specs.Numbers.{IsNumbered}
-use Rattle.janus_machine.specs.Bodies.{kept_in, AreDefined, AreBodiesFrom, IsBody, number_of, onto}
+use Rattle.janus_machine.specs.Bodies.{AreDefined, AreBodiesFrom, IsBody, onto}
+use Rattle.janus_machine.specs.Procedures.{kept_in}
+use Rattle.janus_machine.specs.Procedure.{number_of}
 use Rattle.janus_machine.specs.declared.book.Direction.TheVariants.{Forward}
 use Rattle.janus_machine.specs.declared.procedure.Procedure.{Procedure}
 use Rattle.janus_machine.specs.declared.procedures.Procedures.{Procedures}

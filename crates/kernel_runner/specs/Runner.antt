@@ -14,7 +14,7 @@ use Rattle.janus_names.specs.Numbers.{GoOn, HaveOneNumber}
 use Rattle.janus_store.specs.Held.{Held, IsWhole, shown_store}
 use Rattle.janus_machine.specs.Open.{Agrees}
 use Rattle.janus_machine.specs.Bodies.{AreBelow, Define}
-use Rattle.janus_machine.specs.Counts as cursors
+use Rattle.janus_machine.specs.Cursor as cursors
 use Rattle.janus_machine.specs.Cursors.{IsStanding}
 use Rattle.janus_machine.specs.Law.{HasRun, FacesBack, NeverBroken}
 use Rattle.kernel_machine.specs.Language.{Code, Forward, Backward, CodeExec, IsFormed, IsSound, cell_of, run_block, start_of}

@@ -7,7 +7,7 @@ ghost use Rattle.janus_syntax.specs.View.{plain_declaration, plain_procedure, pl
 ghost use Rattle.janus_invert.specs.Met.{MeetsProc};
 ghost use Rattle.janus_store.specs.Held.{KeepsSight, shown_store};
 ghost use Rattle.janus_store.specs.Values.{shown};
-ghost use Rattle.janus_machine.specs.Bodies.{kept_in};
+ghost use Rattle.janus_machine.specs.Procedures.{kept_in};
 ghost use Rattle.kernel_runner.specs.Kinds.{kind_in};
 ghost use Rattle.janus_check.specs.Names.{shape_in};
 ghost use Rattle.janus_check.specs.Checked.{cell_in};

@@ -5,7 +5,8 @@ use Rattle.kernel_core.specs.LegalState.{IsLegalState}
 use Rattle.kernel_core.specs.Request.{Request}
 use Rattle.kernel_core.specs.Runs.{Machine, Step, Run, IsBegin, BeginsAt, IsSliceOf}
 use Rattle.kernel_core.specs.Slices.{SlicesAt}
-use Rattle.kernel_core.specs.Theorems.{EndsAs, EndsUnless}
+use Rattle.kernel_core.specs.Theorems.{EndsAs}
+use Rattle.kernel_core.specs.Ends.{EndsUnless}
 use Rattle.kernel_core.specs.Determined.{AreAmple, TellsWant}
 use Rattle.kernel_core.proofs.Determined.{step_is_determined}
 use Rattle.kernel_core.proofs.Stays.{step_legal}

@@ -9,7 +9,8 @@ use Rattle.kernel_core.specs.Midway.{after}
 use Rattle.kernel_core.specs.travel.Aim.TheVariants as aim
 use Rattle.kernel_core.specs.travel.Travel.{Travel}
 use Rattle.kernel_core.specs.travel.Aim.{Aim}
-use Rattle.kernel_core.specs.Theorems.{JobsEnd, EndsUnless, JobEnds, CellEnds, TextEnds, MoveEnds, GotoEnds, TravelEnds, IsNoNode}
+use Rattle.kernel_core.specs.Theorems.{JobsEnd}
+use Rattle.kernel_core.specs.Ends.{EndsUnless, JobEnds, CellEnds, TextEnds, MoveEnds, GotoEnds, TravelEnds, IsNoNode}
 use Rattle.kernel_core.specs.events.Event.TheVariants as event
 use Rattle.kernel_core.specs.events.Told.TheVariants as told
 use Rattle.kernel_core.specs.outcome.End.{End}

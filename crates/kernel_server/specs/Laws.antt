@@ -4,7 +4,7 @@ use Rattle.kernel_core.specs.State.{Idle}
 use Rattle.kernel_core.specs.LegalState.{IsLegalState}
 use Rattle.kernel_core.specs.Request.{Request}
 use Rattle.kernel_core.specs.Runs.{Machine}
-use Rattle.kernel_core.specs.Theorems.{EndsUnless}
+use Rattle.kernel_core.specs.Ends.{EndsUnless}
 use Rattle.kernel_core.specs.Determined.{AreAmple}
 use Rattle.kernel_ask.specs.declared.done.Done.{Done}
 use Rattle.kernel_board.specs.Frames.{Frames}

@@ -8,7 +8,7 @@ use Rattle.janus_linear.specs.Layout.{block_size}
 use Rattle.janus_store.specs.Calls.{AreNamed}
 use Rattle.janus_machine.specs.declared.book.Book.{Book}
 use Rattle.janus_machine.specs.Places.{linear_in, block_in}
-use Rattle.janus_machine.specs.Bodies.{body_at, in_effect}
+use Rattle.janus_machine.specs.Procedures.{body_at, in_effect}
 use Rattle.janus_machine.specs.Nested.{book_in}
 use Rattle.janus_machine.specs.Cursors.{book_of}
 use Rattle.janus_machine.specs.Calls.{call_tree}

@@ -7,7 +7,7 @@ use Rattle.janus_linear.specs.Layout.{block_size}
 use Rattle.janus_machine.specs.declared.book.Book.{Book}
 use Rattle.janus_machine.specs.Places.{linear_in, block_in}
 use Rattle.janus_machine.specs.Nested.{book_in, caller_way, call_at, AreOpenCalls}
-use Rattle.janus_machine.specs.Cursors.{calls_of}
+use Rattle.janus_machine.specs.Cursor.{calls_of}
 use Rattle.janus_machine.proofs.Leaving.{some_caller, parameters_alone, known_body, is_left, stands_left, leads_left, agrees_left}
 use Rattle.janus_machine.proofs.call.leave_call.Goals as goal
 

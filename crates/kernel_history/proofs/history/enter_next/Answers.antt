@@ -1,7 +1,7 @@
 use Rattle.std.proofs.Common.{sym, ◌∙◌, ap}
 use Rattle.kernel_history.specs.Kept.{shown_here}
 use Rattle.janus_store.specs.Held.{Held}
-use Rattle.janus_machine.specs.Bodies.{kept_in}
+use Rattle.janus_machine.specs.Procedures.{kept_in}
 use Rattle.janus_machine.specs.declared.procedures.Procedures.{Procedures}
 use Rattle.kernel_runner.proofs.Growing.{same_more}
 use Rattle.kernel_history.proofs.Standing.{below_there, next_down, can_go_down_to, stands_next_down, next_up, can_go_up_from, stands_next_up, declares_next, ok_map}

@@ -1,5 +1,5 @@
 use Rattle.std.proofs.Common.{◌≡◌, ℕ, ◌-◌, true, refl, sym, ap, ◌∙◌, subst}
-use Rattle.janus_machine.specs.Bodies.{kept_in}
+use Rattle.janus_machine.specs.Procedures.{kept_in}
 use Rattle.janus_machine.specs.Counts.{IsWritten}
 use Rattle.janus_machine.specs.declared.procedures.Procedures.{Procedures}
 use Rattle.kernel_machine.specs.StepsOfSlices.{steps_back}

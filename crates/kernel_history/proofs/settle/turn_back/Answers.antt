@@ -1,6 +1,6 @@
 use Rattle.std.proofs.Common.{false, ap}
 use Rattle.janus_store.specs.Held.{Held}
-use Rattle.janus_machine.specs.Bodies.{kept_in}
+use Rattle.janus_machine.specs.Procedures.{kept_in}
 use Rattle.janus_machine.specs.declared.procedures.Procedures.{Procedures}
 use Rattle.kernel_machine.specs.declared.turn.Turn.TheVariants.{GoesOn, GoesBack}
 use Rattle.kernel_runner.proofs.Growing.{same_more}

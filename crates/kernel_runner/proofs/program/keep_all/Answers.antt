@@ -1,6 +1,6 @@
 use Rattle.kernel_runner.proofs.Kept.{met_at, kept_more}
 use Rattle.std.proofs.Common.{sym}
-use Rattle.janus_machine.specs.Bodies.{kept_in}
+use Rattle.janus_machine.specs.Procedures.{kept_in}
 use Rattle.kernel_runner.proofs.program.keep_all.Goals as goal
 
 pub keep-requires-clause-met : goal.keep-requires-clause-met

@@ -1,7 +1,8 @@
 use Rattle.std.proofs.Common.{◌≡◌, ◌+◌, ℕ, List, length, map, take}
 use Rattle.janus_syntax.specs.Tree.{procedures_view}
 use Rattle.janus_syntax.specs.View.{plain_procedure}
-use Rattle.janus_machine.specs.Bodies.{kept_in, AreDefined, AreBodiesFrom}
+use Rattle.janus_machine.specs.Bodies.{AreDefined, AreBodiesFrom}
+use Rattle.janus_machine.specs.Procedures.{kept_in}
 use Rattle.kernel_runner.proofs.program.keep_all.Given as goal
 
 abbrev pub invariant-loop-i : goal.invariant-loop-i

@@ -7,7 +7,7 @@ use Rattle.janus_linear.specs.Within.{within, frames_in}
 use Rattle.janus_machine.specs.declared.book.Book.{Book}
 use Rattle.janus_machine.specs.declared.book.Direction.{Direction}
 use Rattle.janus_machine.specs.Places.{linear_in, block_in}
-use Rattle.janus_machine.specs.Cursors.{calls_of}
+use Rattle.janus_machine.specs.Cursor.{calls_of}
 use Rattle.janus_machine.specs.Nested.{row_place, book_in, frames_outside, AreOpenCalls}
 use Rattle.janus_machine.proofs.Turning.{outside_turned, open_turned, frames_turned}
 use Rattle.janus_machine.proofs.Turned.{turned_place}

@@ -1,5 +1,6 @@
 use Rattle.std.proofs.Common.{◌≡◌, ℕ, List}
-use Rattle.janus_machine.specs.Bodies.{kept_in, AreDefined, AreBelow, onto}
+use Rattle.janus_machine.specs.Bodies.{AreDefined, AreBelow, onto}
+use Rattle.janus_machine.specs.Procedures.{kept_in}
 use Rattle.janus_machine.proofs.procedures.Procedures.define_all.Given as goal
 
 abbrev pub invariant-loop-i : goal.invariant-loop-i

@@ -1,5 +1,6 @@
 use Rattle.std.proofs.Common.{◌≡◌, ◌≤◌, ℕ, List}
-use Rattle.janus_machine.specs.Bodies.{kept_in, AreDefined, onto}
+use Rattle.janus_machine.specs.Bodies.{AreDefined, onto}
+use Rattle.janus_machine.specs.Procedures.{kept_in}
 use Rattle.janus_machine.proofs.procedures.Procedures.retire_all.Given as goal
 
 abbrev pub invariant-loop-left : goal.invariant-loop-left

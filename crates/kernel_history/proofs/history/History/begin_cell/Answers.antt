@@ -19,7 +19,7 @@ use Rattle.kernel_runner.proofs.Growing.{more_yet}
 use Rattle.kernel_history.proofs.Standing.{ok_fact, err_fact, kept_begun, kept_idle, idle_in_time, here_sound, idle_job, nodes_more, nodes_ready, posted_behind, behind_stack, shows_still, IsUnentered, kept_dropped}
 use Rattle.kernel_history.proofs.history.History.begin_cell.Goals as goal
 use Rattle.kernel_history.proofs.history.History.begin_cell.Goals.{then-is_err-via-then-is_err, then-is_err-via-else-is_err+then-is_err-2}
-use Rattle.janus_machine.specs.Bodies.{kept_in}
+use Rattle.janus_machine.specs.Procedures.{kept_in}
 use Rattle.janus_machine.specs.declared.procedures.Procedures.{Procedures}
 
 pub prepare-requires-clause-legal : goal.prepare-requires-clause-legal

@@ -5,7 +5,8 @@ use Rattle.janus_syntax.specs.Tree.{declarations_view, procedures_view}
 use Rattle.janus_syntax.specs.View.{plain_declaration, plain_procedure, plain_cell}
 use Rattle.janus_check.specs.Checked.{cell_in}
 use Rattle.janus_invert.specs.Met.{MeetsBlk}
-use Rattle.janus_machine.specs.Bodies.{kept_in, AreBelow}
+use Rattle.janus_machine.specs.Bodies.{AreBelow}
+use Rattle.janus_machine.specs.Procedures.{kept_in}
 use Rattle.kernel_runner.specs.Met.{AreProceduresMet}
 use Rattle.kernel_runner.specs.Program.{cell_of_program, declaration_of, tree_of}
 use Rattle.kernel_runner.specs.declared.program.Program.{Program}

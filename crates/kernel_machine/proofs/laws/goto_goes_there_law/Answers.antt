@@ -1,5 +1,0 @@
-use Rattle.kernel_machine.proofs.Again.{goto_goes_there}
-use Rattle.kernel_machine.proofs.laws.goto_goes_there_law.Goals as goal
-
-pub returns : goal.returns
-returns c = goto_goes_there

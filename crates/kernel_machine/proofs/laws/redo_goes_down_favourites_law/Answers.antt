@@ -1,5 +1,0 @@
-use Rattle.kernel_machine.proofs.Reach.{redo_goes_down}
-use Rattle.kernel_machine.proofs.laws.redo_goes_down_favourites_law.Goals as goal
-
-pub returns : goal.returns
-returns c = redo_goes_down

@@ -1,5 +1,0 @@
-use Rattle.kernel_machine.proofs.Reach.{undo_goes_up}
-use Rattle.kernel_machine.proofs.laws.undo_goes_up_the_path_law.Goals as goal
-
-pub returns : goal.returns
-returns c = undo_goes_up

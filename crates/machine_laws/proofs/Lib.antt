@@ -1,0 +1,14 @@
+pub mod Jobs
+pub mod Again
+pub mod OnTime
+pub mod Paths
+pub mod Stays
+pub mod Stopping
+pub mod Reach
+pub mod Refusals
+pub mod Determined
+pub mod Steps
+pub mod Closing
+pub mod KeptMinutes
+pub mod Counting
+pub mod OneAccount
