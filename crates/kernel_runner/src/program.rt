@@ -23,13 +23,13 @@ ghost use Rattle.kernel_runner.specs.Runner.{ShownWorld, over, Is, Between, IsCh
 use crate::known::known_over;
 use crate::meeting::meet_cell;
 use crate::runner::Runner;
-use janus_check::{CheckFault, Checked, Env, Kind, check};
+use janus_check::{Checked, Env, Kind, check};
 use janus_invert::{flatten, flatten_procedure};
 use janus_machine::{Book, Procedures, Store};
 use janus_names::Names;
 use janus_store::View;
 use janus_syntax::tree::{Cell, Declaration, Procedure};
-use janus_syntax::{SyntaxFault, parse_cell};
+use janus_syntax::parse_cell;
 use kernel_machine::Refusal;
 use std::alloc::{AllocError, Global};
 use std::sync::ledger::Ledger;
