@@ -74,7 +74,7 @@ pub returns-in-Err-check_exp : goal.returns-in-Err-check_exp
 returns-in-Err-check_exp g c =
     let e = exp_view c.in-Ok.exp in
     let first = subst (λ (g : Shape). IsFirst c.in-Err-check_exp.fault (exp_faults g e)) (c.in-Ok-names_in_sight.ensures.names ∙ declared c.args.store.now c.requires.whole) c.in-Err-check_exp.ensures.first in
-    told c.args.store.now.sight c.args.text.now e c.in-Err-check_exp.fault c.refusal_of_check.result c.in-Ok.ensures.read first c.refusal_of_check.ensures
+    told c.args.store.now.sight c.args.text.now e c.in-Err-check_exp.fault c.of_check.result c.in-Ok.ensures.read first c.of_check.ensures
 
 pub returns-in-Ok-value : goal.returns-in-Ok-value
 returns-in-Ok-value g c =

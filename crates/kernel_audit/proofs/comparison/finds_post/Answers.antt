@@ -1,6 +1,6 @@
 use Rattle.kernel_core.specs.Request.{request_of}
 use Rattle.kernel_audit.proofs.Numbered.{posted_iff, posted_none}
-use Rattle.kernel_audit.proofs.comparison.is_posted.Goals as goal
+use Rattle.kernel_audit.proofs.comparison.finds_post.Goals as goal
 
 pub returns-in-Some-clause-posted : goal.returns-in-Some-clause-posted
 returns-in-Some-clause-posted c =

@@ -1,5 +1,5 @@
 use Rattle.kernel_audit.proofs.Numbered.{ended_iff, ended_none}
-use Rattle.kernel_audit.proofs.comparison.is_ended.Goals as goal
+use Rattle.kernel_audit.proofs.comparison.finds_end.Goals as goal
 
 pub returns-in-Some-clause-ended : goal.returns-in-Some-clause-ended
 returns-in-Some-clause-ended c =
