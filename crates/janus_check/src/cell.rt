@@ -4,7 +4,8 @@ ghost use Rattle.janus_syntax.specs.Tree.{cell_view, declaration_view, declarati
 ghost use Rattle.janus_syntax.specs.View.{name_of};
 ghost use Rattle.janus_check.specs.Names.{shape_in, over, meant_kind};
 ghost use Rattle.janus_check.specs.Fault.{IsFirst, first_from};
-ghost use Rattle.janus_check.specs.Check.{is_full, has_all_stacks, fault_if, name_faults, extended, faults_over, declaration_faults, declarations_faults, after_declaration, after_declarations, is_array_length};
+ghost use Rattle.janus_check.specs.Check.{is_full, has_all_stacks, fault_if, name_faults, extended, faults_over, declaration_faults, declarations_faults};
+ghost use Rattle.janus_check.specs.Check.{after_declaration, after_declarations, is_array_length};
 ghost use Rattle.janus_check.specs.WellFormed.{IsWellFormedOver};
 ghost use Rattle.janus_check.specs.Checked.{cell_in};
 ghost use Rattle.janus_check.specs.declared.fault.CheckFault.TheVariants.{Declared, TooMany, ArrayLength, Memory as NoMemory};

@@ -7,7 +7,9 @@ use Rattle.janus_syntax.specs.declared.token.Keyword.TheVariants as word
 use Rattle.janus_syntax.specs.declared.operator.Infix.{Infix}
 use Rattle.janus_syntax.specs.declared.tree.Update.{Update}
 use Rattle.janus_syntax.specs.Tokens.{Token, Name, Number, Sign_of, Word_of}
-use Rattle.janus_syntax.specs.Tree.{Name as Named, named, Exp, Num, Var, Element, EmptyOf, TopOf, Neg, Stm, Skip, Assign, AssignElement, Push, Pop, If, Loop, LocalInt, LocalStack, Call, Uncall, Block, Empty, More, Declaration, Int, Array, StackOf, Parameter, IntParameter, ArrayParameter, StackParameter, Procedure, procedure_of, Cell, cell_of}
+use Rattle.janus_syntax.specs.Tree.{Name as Named, named, Exp, Num, Var, Element, EmptyOf, TopOf, Neg, Stm, Skip, Assign, AssignElement, Push, Pop, If}
+use Rattle.janus_syntax.specs.Tree.{Loop, LocalInt, LocalStack, Call, Uncall, Block, Empty, More, Declaration, Int, Array, StackOf, Parameter, IntParameter}
+use Rattle.janus_syntax.specs.Tree.{ArrayParameter, StackParameter, Procedure, procedure_of, Cell, cell_of}
 use Rattle.janus_syntax.specs.Operators.{weakest, joined, operator_at, update_at}
 use Rattle.janus_syntax.specs.Table.{skip_block}
 

@@ -12,8 +12,10 @@ use Rattle.janus_syntax.specs.declared.tree.Stm as code_stm
 use Rattle.janus_syntax.specs.declared.tree.Declaration as code_declaration
 use Rattle.janus_syntax.specs.Tokens.{Token, Name, Word_of, views}
 use Rattle.janus_syntax.specs.Tree.{Name as Named, Exp, Stm, If, Loop, Block, Empty, More, Declaration, Cell, cell_of, stm_view, declaration_view}
-use Rattle.janus_syntax.specs.Forms.{Part, Body, Statements, Names, More_names, Declarations, Bound, Whole, Else_part, Do_part, Loop_part, Target_index, A_name, The_word, The_sign, An_update, Form, take, part, close}
-use Rattle.janus_syntax.specs.Table.{word_then, call_then, delocal_then, local_int, local_stack, statement, declaration, declared, assignment, skip_block, is_bare}
+use Rattle.janus_syntax.specs.Forms.{Part, Body, Statements, Names, More_names, Declarations, Bound, Whole, Else_part, Do_part, Loop_part, Target_index}
+use Rattle.janus_syntax.specs.Forms.{A_name, The_word, The_sign, An_update, Form, take, part, close}
+use Rattle.janus_syntax.specs.Table.{word_then, call_then, delocal_then, local_int, local_stack, statement, declaration, declared, assignment, skip_block}
+use Rattle.janus_syntax.specs.Table.{is_bare}
 use Rattle.janus_syntax.specs.Grammar.{Count, all, depth_limit, operator_limit, Refusal, Expected}
 use Rattle.janus_syntax.specs.Reader.{Stack, at, run, start, Outcome, Ended, outcome_of, next}
 use Rattle.janus_syntax.specs.Reading.{begun, count, BeginsWith, TokenGoes, Stands, Moves, Stops, IsPart, FailsPart}

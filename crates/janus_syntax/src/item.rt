@@ -5,7 +5,8 @@ ghost use Rattle.janus_syntax.specs.Tree.{name_view};
 ghost use Rattle.janus_syntax.specs.Tokens.{Token as AToken, views};
 ghost use Rattle.janus_syntax.specs.Forms.{The_word, The_sign, A_name, A_number, An_update, Same_kind, Same_name, word_kind};
 ghost use Rattle.janus_syntax.specs.Statements.{IsDelocal, FailsDelocal};
-ghost use Rattle.janus_syntax.specs.Reading.{Reads, TokenGoes, TokenFails, IsStack, FailsStack, IsVariableAndStack, FailsVariableAndStack, BeginsWith, BeginsWithSign};
+ghost use Rattle.janus_syntax.specs.Reading.{Reads, TokenGoes, TokenFails, IsStack, FailsStack, IsVariableAndStack, FailsVariableAndStack, BeginsWith};
+ghost use Rattle.janus_syntax.specs.Reading.{BeginsWithSign};
 
 use crate::fault::What;
 use crate::operator;

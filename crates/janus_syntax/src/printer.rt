@@ -1,9 +1,14 @@
 //! From a tree to its text.
 
 ghost use Rattle.std.specs.Prelude.{◌≡◌, IfOk, string_bytes, [], ◌∷◌};
-ghost use Rattle.janus_syntax.specs.Tree.{names_view, exp_view, stm_view, block_view, declaration_view, declarations_view, parameter_view, parameters_view, procedure_view, procedures_view, cell_view};
+ghost use Rattle.janus_syntax.specs.Tree.{names_view, exp_view, stm_view, block_view, declaration_view, declarations_view, parameter_view, parameters_view};
+ghost use Rattle.janus_syntax.specs.Tree.{procedure_view, procedures_view, cell_view};
 ghost use Rattle.janus_syntax.specs.Printed.{line_view};
-ghost use Rattle.janus_syntax.specs.Printing.{A_name, A_number, A_sign, A_word, An_opening, read_pieces, transfer_pieces, binding_pieces, more_names_pieces, names_pieces, call_pieces, with_text, with_piece, with_pieces, if_needed, operator_sign, sign_level, exp_pieces, update_sign, whole_pieces, stm_pieces, block_pieces, declaration_pieces, declarations_pieces, parameter_pieces, more_parameters_pieces, parameters_pieces, procedure_pieces, procedures_pieces, printed, printed_procedure, printed_exp};
+ghost use Rattle.janus_syntax.specs.Printing.{A_name, A_number, A_sign, A_word, An_opening, read_pieces, transfer_pieces, binding_pieces};
+ghost use Rattle.janus_syntax.specs.Printing.{more_names_pieces, names_pieces, call_pieces, with_text, with_piece, with_pieces, if_needed, operator_sign};
+ghost use Rattle.janus_syntax.specs.Printing.{sign_level, exp_pieces, update_sign, whole_pieces, stm_pieces, block_pieces, declaration_pieces};
+ghost use Rattle.janus_syntax.specs.Printing.{declarations_pieces, parameter_pieces, more_parameters_pieces, parameters_pieces, procedure_pieces};
+ghost use Rattle.janus_syntax.specs.Printing.{procedures_pieces, printed, printed_procedure, printed_exp};
 
 use crate::operator::infix_of;
 use crate::token::{Keyword, Sign};

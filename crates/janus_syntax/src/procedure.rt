@@ -2,11 +2,13 @@
 
 ghost use Rattle.std.specs.Prelude.{◌≡◌, List, Bool, IfSome, IfNone};
 ghost use Rattle.janus_syntax.specs.Table.{with_procedure};
-ghost use Rattle.janus_syntax.specs.Tree.{Name as Named, Cell as Tree, procedure_of, name_view, parameter_view, parameters_view, procedure_view, declarations_view, block_view, cell_view};
+ghost use Rattle.janus_syntax.specs.Tree.{Name as Named, Cell as Tree, procedure_of, name_view, parameter_view, parameters_view, procedure_view};
+ghost use Rattle.janus_syntax.specs.Tree.{declarations_view, block_view, cell_view};
 ghost use Rattle.janus_syntax.specs.Tokens.{Token as AToken, views};
 ghost use Rattle.janus_syntax.specs.Forms.{Parameters, Procedures, A_procedure};
 ghost use Rattle.janus_syntax.specs.Reading.{Reads, IsPart, FailsPart};
-ghost use Rattle.janus_syntax.specs.Procedures.{IsParameterOrOther, FailsParameter, IsBracketed, FailsBracketed, IsBehindName, FailsBehindName, IsBehindMain, FailsBehindMain, IsMain, IsNext};
+ghost use Rattle.janus_syntax.specs.Procedures.{IsParameterOrOther, FailsParameter, IsBracketed, FailsBracketed, IsBehindName, FailsBehindName};
+ghost use Rattle.janus_syntax.specs.Procedures.{IsBehindMain, FailsBehindMain, IsMain, IsNext};
 
 use crate::call::name_at;
 use crate::cell::declarations;

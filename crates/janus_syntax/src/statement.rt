@@ -7,7 +7,9 @@ ghost use Rattle.janus_syntax.specs.Tokens.{Token as AToken, Word_of, views};
 ghost use Rattle.janus_syntax.specs.Forms.{Body, Local, Statements};
 ghost use Rattle.janus_syntax.specs.Grammar.{depth_limit};
 ghost use Rattle.janus_syntax.specs.Reading.{Reads, IsPart, FailsPart};
-ghost use Rattle.janus_syntax.specs.Statements.{IsStmOrOther, FailsStm, IsAssignment, FailsAssignment, IsIf, FailsIf, IsLoop, FailsLoop, IsLocalInt, FailsLocalInt, IsLocalStack, FailsLocalStack, opens_construct, IsStm, IsIfBegun, IsLoopBegun, IsIntHead, IsStackHead, AreStatements, IsOptional, FailsOptional};
+ghost use Rattle.janus_syntax.specs.Statements.{IsStmOrOther, FailsStm, IsAssignment, FailsAssignment, IsIf, FailsIf, IsLoop, FailsLoop, IsLocalInt};
+ghost use Rattle.janus_syntax.specs.Statements.{FailsLocalInt, IsLocalStack, FailsLocalStack, opens_construct, IsStm, IsIfBegun, IsLoopBegun, IsIntHead};
+ghost use Rattle.janus_syntax.specs.Statements.{IsStackHead, AreStatements, IsOptional, FailsOptional};
 
 use crate::call::call;
 use crate::expression::{DEPTH_LIMIT, whole_expression};

@@ -7,7 +7,7 @@ ghost use Rattle.janus_syntax.specs.Tree.{cell_view};
 ghost use Rattle.janus_check.specs.Naming.{in_cell};
 ghost use Rattle.kernel_text.specs.ValueTexts.{value_text as value_text_of};
 ghost use Rattle.kernel_ask.specs.Shown.{shown_text, IsCellOf, IsShown};
-ghost use Rattle.janus_store.specs.Held.{shown_store};
+ghost use Rattle.janus_store.specs.StoreState.{shown_store};
 
 use janus_check::cell_names;
 use janus_store::{Store, View};

@@ -7,7 +7,9 @@ use Rattle.janus_syntax.specs.declared.tree.Operator.{Operator}
 use Rattle.janus_syntax.specs.declared.tree.Operator.TheVariants as operator
 use Rattle.janus_syntax.specs.declared.tree.Update.{Update}
 use Rattle.janus_syntax.specs.declared.tree.Update.TheVariants as update
-use Rattle.janus_syntax.specs.Tree.{Name, named, Exp, Num, Var, Element, EmptyOf, TopOf, Neg, Bin, And, Or, Stm, Skip, Assign, AssignElement, Push, Pop, If, Loop, LocalInt, LocalStack, Call, Uncall, Block, Empty, More, Parameter, IntParameter, ArrayParameter, StackParameter, Procedure, procedure_of}
+use Rattle.janus_syntax.specs.Tree.{Name, named, Exp, Num, Var, Element, EmptyOf, TopOf, Neg, Bin, And, Or, Stm, Skip, Assign, AssignElement, Push, Pop, If}
+use Rattle.janus_syntax.specs.Tree.{Loop, LocalInt, LocalStack, Call, Uncall, Block, Empty, More, Parameter, IntParameter, ArrayParameter, StackParameter}
+use Rattle.janus_syntax.specs.Tree.{Procedure, procedure_of}
 use Rattle.janus_syntax.specs.Printing.{printed_procedure}
 
 -- the place of each part

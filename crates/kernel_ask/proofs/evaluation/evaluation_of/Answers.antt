@@ -18,7 +18,7 @@ use Rattle.janus_check.specs.declared.fault.CheckFault.TheVariants as fault
 use Rattle.janus_invert.specs.Numbered.{HasNumbers}
 use Rattle.janus_invert.specs.Met.{MeetsExp}
 use Rattle.janus_invert.proofs.Meeting.{exp_met}
-use Rattle.janus_store.specs.Held.{Held, IsWhole, shown_store}
+use Rattle.janus_store.specs.StoreState.{StoreState, IsWhole, shown_store}
 use Rattle.kernel_core.proofs.Borders.{all_shown}
 use Rattle.kernel_core.proofs.NamesMet.{sight_met}
 use Rattle.kernel_core.specs.Text.{refused_by_check}
@@ -29,7 +29,7 @@ use Rattle.kernel_ask.proofs.Sound.{not_broken}
 use Rattle.kernel_ask.proofs.evaluation.evaluation_of.Goals as goal
 
 -- no local is open: the names in sight are those declared
-declared : (h : Held) → IsWhole h → shape_of (shown_store h) ≡ shape_of h.sight
+declared : (h : StoreState) → IsWhole h → shape_of (shown_store h) ≡ shape_of h.sight
 declared h whole = ap shape_of (all_shown h whole)
 
 pub names_in_sight-requires-clause-values : goal.names_in_sight-requires-clause-values
