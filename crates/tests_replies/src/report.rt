@@ -12,7 +12,7 @@ use tests_rows::cut;
 
 /// What is handed in to be told.
 #[derive(Drop)]
-pub(crate) enum Told {
+pub(crate) enum Report {
     /// What came of the job.
     Ended(Done),
     /// The answer to a question.
@@ -28,15 +28,15 @@ pub(crate) fn tell<L: Ledger>(
     comms: &mut Comms,
     content: &RequestContent,
     how: &str,
-) -> Result<Told, MsgFault> {
+) -> Result<Report, MsgFault> {
     let (word, rest) = cut(how);
     match word {
         "asked" => asked(alloc, kernel, comms, content, SLICES),
         "stopped" => asked(alloc, kernel, comms, content, 1),
         "unposted" => unposted(alloc, kernel, comms, rest),
-        "outcome" => Ok(Told::Ended(done(alloc, kernel, outcome_of(rest)))),
-        "values" => Ok(Told::Ended(with_values(alloc, kernel)?)),
-        "judged" => Ok(Told::Answered(Content::Completeness(judgement_of(rest)))),
+        "outcome" => Ok(Report::Ended(done(alloc, kernel, outcome_of(rest)))),
+        "values" => Ok(Report::Ended(with_values(alloc, kernel)?)),
+        "judged" => Ok(Report::Answered(Content::Completeness(judgement_of(rest)))),
         _ => answered(alloc, kernel, comms, ask_of(word)),
     }
 }
@@ -47,9 +47,9 @@ pub(crate) fn answered<L: Ledger>(
     kernel: &Kernel<L>,
     comms: &Comms,
     ask: Ask,
-) -> Result<Told, MsgFault> {
+) -> Result<Report, MsgFault> {
     match ask_on(alloc, kernel, comms, ask) {
-        Ok(answer) => Ok(Told::Answered(answer.content)),
+        Ok(answer) => Ok(Report::Answered(answer.content)),
         Err(_) => Err(MsgFault::Memory),
     }
 }
@@ -60,7 +60,7 @@ fn unposted<L: Ledger>(
     kernel: &Kernel<L>,
     comms: &Comms,
     row: &str,
-) -> Result<Told, MsgFault> {
+) -> Result<Report, MsgFault> {
     let (fault, question) = cut(row);
     let fault = if fault == "Closing" {
         PostFault::Closing
@@ -68,7 +68,7 @@ fn unposted<L: Ledger>(
         PostFault::QueueFull
     };
     match ask_on(alloc, kernel, comms, ask_of(question)) {
-        Ok(answer) => Ok(Told::Unposted(fault, answer.content)),
+        Ok(answer) => Ok(Report::Unposted(fault, answer.content)),
         Err(_) => Err(MsgFault::Memory),
     }
 }
