@@ -11,7 +11,7 @@ use Rattle.janus_meaning.specs.Syntax.{Name, Proc}
 use Rattle.janus_meaning.specs.World.{World}
 use Rattle.kernel_text.specs.Procedures.{procedure_names}
 use Rattle.cells_program.specs.Listing.{IsListing, IsListText, listing_text}
-use Rattle.cells_program.proofs.ByName.{contains_cases, contains_first, contains_later, contains_none}
+use Rattle.kernel_text.proofs.NameSets.{contains_cases, contains_first, contains_later, contains_none}
 
 -- ---- two lists in the same order with the same members
 

@@ -12,7 +12,8 @@ use Rattle.janus_syntax.proofs.Scanning.{listed_word}
 use Rattle.kernel_ask.specs.Added.{with_matches}
 use Rattle.kernel_text.specs.Procedures.{procedure_names}
 use Rattle.kernel_ask.specs.Matches.{names_of, IsReserved, IsKnown, AreMatches}
-use Rattle.kernel_ask.proofs.Added.{contains_first, contains_later, contains_none, contains_cases, matches_kept, matches_from, matches_there}
+use Rattle.kernel_text.proofs.NameSets.{contains_first, contains_later, contains_none, contains_cases}
+use Rattle.kernel_ask.proofs.Added.{matches_kept, matches_from, matches_there}
 
 word_there : (ws : List Keyword) (w : Keyword) → Contains ws w → Contains (map word_text ws) (word_text w)
 word_there [] w h = absurd (contains_none w h)

@@ -11,7 +11,7 @@ use Rattle.janus_store.specs.StoreState.{shown_store}
 use Rattle.kernel_ask.specs.Added.{with_matches}
 use Rattle.kernel_text.specs.Procedures.{procedure_names}
 use Rattle.kernel_ask.specs.Matches.{names_of, AreMatches}
-use Rattle.kernel_ask.proofs.Added.{ordered_octets}
+use Rattle.kernel_text.proofs.NameSets.{ordered_octets}
 use Rattle.kernel_ask.proofs.Known.{are_matches, all_matches}
 use Rattle.kernel_ask.proofs.matches.matches_of.Goals as goal
 
