@@ -7,3 +7,4 @@ pub mod Meeting
 pub mod Placing
 pub mod Lists
 pub mod ClosedLemmas
+pub mod OnePrint

@@ -10,3 +10,4 @@ pub mod Longer
 pub mod Inverted
 pub mod Fault
 pub mod Closed
+pub mod ProcedureTrees

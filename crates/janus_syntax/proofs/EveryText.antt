@@ -66,7 +66,7 @@ one_word_more text k few none not_here j w h e =
       | inl before ↦ none j w before e
       | inr behind ↦
           let same : j ≡ k = omega (arith, h, behind) in
-          let listed : get_or KEYWORDS j w ≡ get_or KEYWORDS k word.Nil = ap (λ i. get_or KEYWORDS i w) same ∙ get_or_default words k w word.Nil few in
+          let listed : get_or KEYWORDS j w ≡ get_or KEYWORDS k word.Nil = ap (λ i. get_or KEYWORDS i w) same ∙ get_or_default KEYWORDS k w word.Nil few in
           let found = (bytes_eq-Decides text (word_text (get_or KEYWORDS k word.Nil))).1 (e ∙ ap word_text listed) in
           let bad : true ≡ false = sym found ∙ not_here in absurd cc
     ]
