@@ -12,8 +12,6 @@ use Rattle.janus_check.specs.declared.env.Kind.{Kind}
 use Rattle.janus_check.specs.declared.env.Kind.TheVariants.{Number, Array, Stack}
 use Rattle.janus_syntax.specs.Tree as tree
 use Rattle.janus_syntax.specs.View.{plain_cell, plain_parameter}
-use Rattle.janus_syntax.specs.Tree.{parameter_view, parameters_view}
-use Rattle.janus_syntax.specs.declared.tree.Parameter as Given
 use Rattle.janus_check.specs.Checked.{cell_in}
 use Rattle.janus_machine.specs.Places.{block_in}
 use Rattle.janus_machine.specs.declared.book.Direction.TheVariants.{Forward}
