@@ -1,4 +1,4 @@
-use Rattle.std.proofs.Common.{◌≡◌, ℕ, ◌<◌, ◌≤◌, length, arith}
+use Rattle.std.proofs.Common.{arith}
 use Rattle.cell_tree.specs.Tree.{parents_of}
 use Rattle.cell_tree.proofs.Trees.{count_of_parents}
 use Rattle.cell_tree.proofs.Paths.{depth_few}

@@ -1,4 +1,4 @@
-use Rattle.std.proofs.Common.{◌≡◌, ℕ, ◌<◌, ◌≤◌, length, arith}
+use Rattle.std.proofs.Common.{arith}
 use Rattle.cell_tree.proofs.Ways.{downward_few}
 use Rattle.kernel_history.specs.Fields.{past_of}
 use Rattle.kernel_history.proofs.Depths.{redoes, redo_few}
