@@ -1,5 +1,6 @@
 //! The tree: how nodes are added, and what is read of them.
-ghost use Rattle.std.specs.Prelude.{◌≡◌, ◌≢◌, ◌+◌, ◌-◌, ◌<◌, ◌≤◌, ◌↔◌, ◌⊎◌, IsTrue, IsErr, IsErrOf, OnOk, OnErr, IfOk, IfErr, IfSome, MatchOption, length, slice_get, slice_set, slice_index, Some};
+ghost use Rattle.std.specs.Prelude.{◌≡◌, ◌≢◌, ◌+◌, ◌-◌, ◌<◌, ◌≤◌, ◌↔◌, ◌⊎◌, IsTrue, IsErr, IsErrOf, OnOk, OnErr, IfOk, IfErr, IfSome, MatchOption, length};
+ghost use Rattle.std.specs.Prelude.{slice_get, slice_set, slice_index, Some};
 ghost use Rattle.cell_tree.specs.Tree.{node_limit, parent_in, parents_of, contents_of, IsNode, IsChild, IsTree, favourite_of, root_alone, grown};
 ghost use Rattle.cell_tree.specs.Paths.{path_of, meeting_of, upward, IsWay};
 

@@ -22,6 +22,7 @@ use Rattle.kernel_core.specs.outcome.Sliced.{Sliced}
 use Rattle.kernel_core.specs.outcome.Sliced.TheVariants as sliced
 use Rattle.kernel_core.specs.outcome.Begun.{Begun}
 use Rattle.kernel_core.specs.outcome.Begun.TheVariants as begun
+use Rattle.kernel_core.proofs.Taken.{IsInside, IsBorder}
 
 -- ---- how much is left of a job
 
@@ -38,12 +39,6 @@ abbrev pub left : Job → ℕ
 left Idle = 0
 left (Border travel) = cells travel * (step_limit + 4) + (step_limit + 3)
 left (Inside e) = cells_left e.work * (step_limit + 4) + turn_left e.turn e.count
-
-abbrev pub IsInside : Job → Type 0
-IsInside job = (e : Entered) × (job ≡ Inside e)
-
-abbrev pub IsBorder : Job → Type 0
-IsBorder job = (t : Travel) × (job ≡ Border t)
 
 -- what the answer of a slice inside a cell tells
 abbrev pub Nearer : Job → Sliced → Job → Type 0

@@ -9,8 +9,9 @@ use Rattle.std.specs.List.Sorted.{IsStrictlySortedBy}
 use Rattle.std.proofs.lemmas.Cmp.{nat_list_cmp_total}
 use Rattle.janus_meaning.specs.Syntax.{Name, Proc}
 use Rattle.janus_meaning.specs.World.{World}
-use Rattle.cells_program.specs.Listing.{IsListing, IsListText, listing_text, procedure_names}
-use Rattle.cells_program.proofs.ByName.{contains_cases, contains_first, contains_later, contains_none}
+use Rattle.kernel_text.specs.Procedures.{procedure_names}
+use Rattle.cells_program.specs.Listing.{IsListing, IsListText, listing_text}
+use Rattle.kernel_text.proofs.NameSets.{contains_cases, contains_first, contains_later, contains_none}
 
 -- ---- two lists in the same order with the same members
 

@@ -1,16 +1,11 @@
 -- How procedures are put in order: words for the contracts of private functions.
 use Rattle.std.specs.Prelude.{List, [], ◌∷◌}
-use Rattle.std.specs.Ordering.{nat_cmp}
-use Rattle.std.specs.Cmp.Lexicographic.{slice_cmp}
-use Rattle.std.specs.BTreeSet.{insert_key}
 use Rattle.janus_meaning.specs.Fault.{Res, Fine, Bad}
 use Rattle.janus_meaning.specs.Syntax.{Name, Proc}
 use Rattle.janus_meaning.specs.Store.{find}
+use Rattle.kernel_text.specs.NameSets.{with_name}
 
 -- names that are put into a set, one after another
-abbrev pub with_name : List Name → Name → List Name
-with_name known name = insert_key (slice_cmp nat_cmp) known name
-
 abbrev pub with_names : List Name → List Name → List Name
 with_names known [] = known
 with_names known (name ∷ names) = with_names (with_name known name) names

@@ -1,7 +1,5 @@
 -- How the program ends: its exit status, and the line of a fault.
 use Rattle.std.specs.Prelude.{◌≡◌, ℕ, List, [], ◌∷◌, ◌++◌, codes, Result, Ok, Err}
-use Rattle.clap.specs.declared.error.kind.ErrorKind.{ErrorKind}
-use Rattle.clap.specs.declared.error.kind.ErrorKind.TheVariants.{DisplayHelp, DisplayVersion, OutOfMemory}
 use Rattle.cells_program.specs.Lines.{ended_line}
 use Rattle.cells_program.specs.RunFault.{text_of}
 use Rattle.cells_program.specs.declared.fault.RunFault.{RunFault}
@@ -18,11 +16,3 @@ run_status (Err fault) = 1
 -- the words of a command line that asks for help: the name of the program, and `--help`
 abbrev pub AsksForHelp : List (List ℕ) → Type 0
 AsksForHelp words = (name : List ℕ) × (words ≡ name ∷ codes "--help" ∷ [])
-
--- the exit status of words that run nothing: 0 where they ask for help or the version, 1 where there was no memory for
--- them, 2 where they are wrong
-abbrev pub words_status : ErrorKind → ℕ
-words_status DisplayHelp = 0
-words_status DisplayVersion = 0
-words_status OutOfMemory = 1
-words_status wrong = 2

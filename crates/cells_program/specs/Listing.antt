@@ -1,21 +1,18 @@
 -- What is written of the procedures of a world.
-use Rattle.std.specs.Prelude.{◌≡◌, ◌↔◌, ◌⊎◌, ℕ, List, map, Contains}
+use Rattle.std.specs.Prelude.{◌≡◌, ◌↔◌, ◌⊎◌, ℕ, List, Contains}
 use Rattle.std.specs.List.{flat_map}
 use Rattle.std.specs.Ordering.{nat_cmp}
 use Rattle.std.specs.Cmp.Lexicographic.{slice_cmp}
 use Rattle.std.specs.List.Sorted.{IsStrictlySortedBy}
 use Rattle.janus_meaning.specs.Fault.{Fine}
-use Rattle.janus_meaning.specs.Syntax.{Name, Proc}
+use Rattle.janus_meaning.specs.Syntax.{Proc}
 use Rattle.janus_meaning.specs.Store.{find}
 use Rattle.janus_meaning.specs.World.{World}
 use Rattle.kernel_core.specs.post.PostFault.TheVariants.{Memory}
 use Rattle.kernel_text.specs.Lines.{post_fault_line}
+use Rattle.kernel_text.specs.Procedures.{procedure_names}
 use Rattle.kernel_text.specs.ProcedureTexts.{procedure_text}
 use Rattle.cells_program.specs.Lines.{ended_line}
-
--- the names of procedures
-abbrev pub procedure_names : List Proc → List Name
-procedure_names ps = map (λ p. p.name) ps
 
 -- Of procedures those that a name calls, each once, in the order of the names' octets.
 pub record IsListing (all listing : List Proc) : Type 0 where

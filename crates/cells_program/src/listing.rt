@@ -5,7 +5,8 @@ ghost use Rattle.std.specs.String.{string_cmp};
 ghost use Rattle.kernel_core.specs.Defined.{in_a_row};
 ghost use Rattle.kernel_core.specs.State.{Idle, here};
 ghost use Rattle.cells_program.specs.ByName.{found, with_names};
-ghost use Rattle.cells_program.specs.Listing.{IsListText, IsListing, listing_text, procedure_names};
+ghost use Rattle.kernel_text.specs.Procedures.{procedure_names};
+ghost use Rattle.cells_program.specs.Listing.{IsListText, IsListing, listing_text};
 
 use janus_syntax::tree::Procedure;
 use kernel_core::Kernel;

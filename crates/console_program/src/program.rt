@@ -11,6 +11,7 @@ use crate::wire::Wire;
 use console_talk::{Command, ConsoleFault, Printed, session_name};
 use console_words::{Arguments, Kind, Refused, arguments_of};
 use jupyter_msg::{Connection, Key, Setting};
+use program_words::{send_unread_words, unread_words_status};
 use std::alloc::Global;
 use std::convert::AsStr;
 use std::io::{ErrorKind, Write};
@@ -28,9 +29,6 @@ const GREETING_MILLISECONDS: u64 = 20;
 
 /// The status of a program that had no memory for its words.
 const NO_MEMORY: u8 = 3;
-
-/// The status of a program whose words are wrong.
-const WRONG_WORDS: u8 = 2;
 
 /// The octets of the connection file.
 fn octets_of_file<'a, R: Files>(
@@ -246,14 +244,10 @@ pub fn refuse_unread_words<E: Write>(kind: ErrorKind, err: &mut E) -> u8
 {
     if kind == ErrorKind::OutOfMemory {
         tell(ConsoleFault::NoMemory, err);
-        NO_MEMORY
     } else {
-        print(
-            err,
-            "error: invalid UTF-8 was detected in one or more arguments\n",
-        );
-        WRONG_WORDS
+        let _ = send_unread_words(err);
     }
+    unread_words_status(kind, NO_MEMORY)
 }
 
 /// Runs the program over the words of its command line (see [`arguments_of`]), and answers its status: 0 where all went well; 1 where the kernel answered an

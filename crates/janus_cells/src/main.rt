@@ -2,14 +2,16 @@
 //! line and the three streams.
 #![tactic(auto)]
 
-use cells_program::{
-    RunFault, program, send_run_fault, status, unread_words_status, without_output, words_status,
-};
+use cells_program::{RunFault, program, send_run_fault, status, without_output};
 use clap::error::ErrorKind;
 use kernel_text::WriteFailed;
+use program_words::{send_unread_words, unread_words_status, words_status};
 use std::env;
 use std::io::{self, BufWriter};
 use std::process::ExitCode;
+
+/// The exit status where there is no memory for the words.
+const NO_MEMORY: u8 = 1;
 
 fn main(rt: HostRuntime) -> anyhow::Result<ExitCode> {
     let alloc = rt.alloc();
@@ -48,9 +50,9 @@ fn refuse_unread_words(rt: &HostRuntime, kind: io::ErrorKind) -> anyhow::Result<
     if kind == io::ErrorKind::OutOfMemory {
         tell(rt, RunFault::Memory)?;
     } else {
-        eprintln!(rt; "error: invalid UTF-8 was detected in one or more arguments")?;
+        send_unread_words(&mut rt.stderr())?;
     }
-    Ok(ExitCode::from(unread_words_status(kind)))
+    Ok(ExitCode::from(unread_words_status(kind, NO_MEMORY)))
 }
 
 /// Tells why the words of the command line run nothing, and answers the program's status. A help text that can't be written
@@ -63,7 +65,7 @@ fn refuse_words(rt: &HostRuntime, error: &clap::Error) -> anyhow::Result<ExitCod
         tell(rt, RunFault::Write)?;
         return Ok(ExitCode::from(status(Err(RunFault::Write))));
     }
-    Ok(ExitCode::from(words_status(kind)))
+    Ok(ExitCode::from(words_status(kind, NO_MEMORY)))
 }
 
 /// Tells a fault on standard error.

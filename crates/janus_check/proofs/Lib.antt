@@ -11,3 +11,4 @@ pub mod FormedLemmas
 pub mod Orders
 pub mod DropLemmas
 pub mod SameHeads
+pub mod Found

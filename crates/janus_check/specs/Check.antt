@@ -1,15 +1,19 @@
 -- Which cells are well formed over the names in sight and the heads of procedures, by the faults that a cell has.
-use Rattle.std.specs.Prelude.{ℕ, Bool, true, false, not, ◌==◌, ◌&&◌, ◌||◌, nat_le, nat_lt, is_some, List, [], ◌∷◌, ◌++◌, length, map, take, Option, Some, None, if◌then◌else◌}
+use Rattle.std.specs.Prelude.{ℕ, Bool, true, false, not, ◌==◌, ◌&&◌, ◌||◌, nat_le, nat_lt, is_some, List, [], ◌∷◌, ◌++◌, length, map, take, Option, Some}
+use Rattle.std.specs.Prelude.{None, if◌then◌else◌}
 use Rattle.janus_meaning.specs.Limit.{name_limit, live_stack_limit, procedure_limit, parameter_limit, array_limit}
 use Rattle.janus_meaning.specs.Syntax as tree
 use Rattle.janus_meaning.specs.Store.{same_name}
 use Rattle.janus_meaning.specs.Shape.{Shape, kind_at, stack_count, Heads, head_at, different, kinds_in}
 use Rattle.janus_syntax.specs.declared.token.Span.{Span}
-use Rattle.janus_syntax.specs.Tree.{Name, named, Exp, Num, Var, Element, EmptyOf, TopOf, Neg, Bin, And, Or, Stm, Skip, Assign, AssignElement, Push, Pop, If, Loop, LocalInt, LocalStack, Call, Uncall, Block, Empty, More, Declaration, Int, Array, StackOf, Parameter, IntParameter, ArrayParameter, StackParameter, Procedure, procedure_of, Cell, cell_of}
+use Rattle.janus_syntax.specs.Tree.{Name, named, Exp, Num, Var, Element, EmptyOf, TopOf, Neg, Bin, And, Or, Stm, Skip, Assign, AssignElement, Push, Pop, If}
+use Rattle.janus_syntax.specs.Tree.{Loop, LocalInt, LocalStack, Call, Uncall, Block, Empty, More, Declaration, Int, Array, StackOf, Parameter, IntParameter}
+use Rattle.janus_syntax.specs.Tree.{ArrayParameter, StackParameter, Procedure, procedure_of, Cell, cell_of}
 use Rattle.janus_syntax.specs.View.{text_of, plain_parameter}
 use Rattle.janus_check.specs.Names.{is_in, shape_in, heads_in, Known}
 use Rattle.janus_check.specs.declared.fault.CheckFault.{CheckFault}
-use Rattle.janus_check.specs.declared.fault.CheckFault.TheVariants.{Declared, Unknown, WrongKind, SelfUse, SameArgument, Arity, Shadow, ChangedParameters, TooMany, ArrayLength}
+use Rattle.janus_check.specs.declared.fault.CheckFault.TheVariants.{Declared, Unknown, WrongKind, SelfUse, SameArgument, Arity, Shadow, ChangedParameters}
+use Rattle.janus_check.specs.declared.fault.CheckFault.TheVariants.{TooMany, ArrayLength}
 
 -- a fault, where there is one
 abbrev pub fault_if : Bool → CheckFault → List CheckFault

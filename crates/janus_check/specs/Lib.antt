@@ -4,3 +4,4 @@ pub mod Check
 pub mod Sight
 pub mod WellFormed
 pub mod Checked
+pub mod Naming

@@ -1,7 +1,8 @@
 -- The names in sight and the heads of procedures, as lists of names with what they stand for, the newest first.
-use Rattle.std.specs.Prelude.{◌≡◌, ℕ, Bool, is_some, List, [], ◌∷◌, map, Option, Some, None}
+use Rattle.std.specs.Prelude.{◌≡◌, ℕ, Bool, is_some, List, [], ◌∷◌, map, Option, Some, None, Vec, String, string_bytes}
+use Rattle.std.specs.declared.alloc.Global.{Global}
 use Rattle.janus_meaning.specs.Syntax as tree
-use Rattle.janus_meaning.specs.Shape.{Shape, Heads, at_name, kind_at}
+use Rattle.janus_meaning.specs.Shape.{Shape, Heads, at_name, kind_at, stack_count}
 use Rattle.janus_check.specs.declared.env.Kind.{Kind}
 use Rattle.janus_check.specs.declared.env.Kind.TheVariants.{Number, Array, Stack}
 
@@ -52,3 +53,17 @@ heads_in es = above meant_kinds [] es
 pub record Known : Type 0 where
   pub names : List (List ℕ × Kind)
   pub procedures : List (List ℕ × List Kind)
+
+-- ---- how an `Env` keeps them
+
+abbrev pub names_kept : List (String Global × Kind) → List (List ℕ × Kind)
+names_kept es = map (λ e. (string_bytes e.0, e.1)) es
+
+abbrev pub procedures_kept : List (String Global × Vec Kind Global) → List (List ℕ × List Kind)
+procedures_kept es = map (λ e. (string_bytes e.0, e.1.items)) es
+
+-- no name and no procedure stands there twice, and the count is that of the stacks
+abbrev pub AreKept : List (String Global × Kind) → ℕ → List (String Global × Vec Kind Global) → Type 0
+AreKept names stacks procedures =
+    AreNewNames [] (names_kept names) × (stacks ≡ stack_count (shape_in (names_kept names)))
+    × AreAdded meant_kinds [] (procedures_kept procedures)

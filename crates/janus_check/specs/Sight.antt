@@ -6,8 +6,8 @@ use Rattle.janus_syntax.specs.Tree.{Name, parameters_view}
 use Rattle.janus_syntax.specs.View.{name_of}
 use Rattle.janus_check.specs.declared.fault.CheckFault.{CheckFault}
 use Rattle.janus_check.specs.declared.sight.Sight.{Sight, Declared, Body, Local'}
-use Rattle.janus_check.specs.declared.expression.Standing.{Standing}
-use Rattle.janus_check.specs.declared.expression.Standing.TheVariants as standing
+use Rattle.janus_check.specs.declared.expression.Context.{Context}
+use Rattle.janus_check.specs.declared.expression.Context.TheVariants as context
 use Rattle.janus_check.specs.Names.{meant_kind, shape_in, heads_in, over, Known}
 use Rattle.janus_check.specs.Check.{use_faults, side_use_faults, end_use_faults, body_sight}
 
@@ -28,7 +28,7 @@ heads_seen (Body env own xs) = heads_over env.now own.now
 heads_seen (Local' x k at outer) = heads_seen outer
 
 -- the faults of a use of a name in an expression that stands there
-abbrev pub faults_at : Standing → tree.Kind → Name → List CheckFault
-faults_at (standing.Free sight) = use_faults (in_sight sight.now)
-faults_at (standing.Assigning sight x) = side_use_faults (in_sight sight.now) (name_of x.now)
-faults_at (standing.EndOfLocal sight x) = end_use_faults (in_sight sight.now) (name_of x.now)
+abbrev pub faults_at : Context → tree.Kind → Name → List CheckFault
+faults_at (context.Free sight) = use_faults (in_sight sight.now)
+faults_at (context.Assigning sight x) = side_use_faults (in_sight sight.now) (name_of x.now)
+faults_at (context.EndOfLocal sight x) = end_use_faults (in_sight sight.now) (name_of x.now)

@@ -4,7 +4,8 @@ ghost use Rattle.janus_syntax.specs.Tree.{cell_view, declaration_view, declarati
 ghost use Rattle.janus_syntax.specs.View.{name_of};
 ghost use Rattle.janus_check.specs.Names.{shape_in, over, meant_kind};
 ghost use Rattle.janus_check.specs.Fault.{IsFirst, first_from};
-ghost use Rattle.janus_check.specs.Check.{is_full, has_all_stacks, fault_if, name_faults, extended, faults_over, declaration_faults, declarations_faults, after_declaration, after_declarations, is_array_length};
+ghost use Rattle.janus_check.specs.Check.{is_full, has_all_stacks, fault_if, name_faults, extended, faults_over, declaration_faults, declarations_faults};
+ghost use Rattle.janus_check.specs.Check.{after_declaration, after_declarations, is_array_length};
 ghost use Rattle.janus_check.specs.WellFormed.{IsWellFormedOver};
 ghost use Rattle.janus_check.specs.Checked.{cell_in};
 ghost use Rattle.janus_check.specs.declared.fault.CheckFault.TheVariants.{Declared, TooMany, ArrayLength, Memory as NoMemory};
@@ -15,17 +16,12 @@ use crate::fault::{CheckFault, sooner};
 use crate::procedure::{bodies_fault, define_all};
 use crate::sight::{Sight, kind_declared};
 use crate::statement::block_fault;
+use janus_meaning::limit::{LIVE_STACK_LIMIT, NAME_LIMIT};
 use janus_syntax::token::Span;
 use janus_syntax::tree::{Cell, Declaration, Name};
 use std::alloc::{AllocError, Global};
 
-/// How many names may be declared.
-const NAME_LIMIT: usize = 256;
-
-/// How many stacks may be declared.
-const STACK_LIMIT: usize = 64;
-
-/// How long an array may be.
+/// The largest length of an array.
 const ARRAY_LIMIT: u32 = 65_536;
 
 /// Checks a cell over the names that are declared already and the procedures that are defined. What passes is well formed; else the answer is the fault
@@ -150,7 +146,7 @@ fn stack_fault(full: bool, at: Span, first: Option<CheckFault>) -> Option<CheckF
 fn has_all_stacks(env: &Env, own: &Env) -> bool
     ensures { result ≡ has_all_stacks (over (shape_in env.now.names) own.now.names) }
 {
-    env.stacks() + own.stacks() >= STACK_LIMIT
+    env.stacks() + own.stacks() >= LIVE_STACK_LIMIT
 }
 
 /// Whether no more names may be declared.

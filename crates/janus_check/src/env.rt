@@ -20,21 +20,19 @@ pub enum Kind {
 #[derive(Drop)]
 pub struct Env {
     names: IndexMap<String, Kind>,
-    /// How many of them are stacks.
+    /// The number of stacks among them.
     stacks: usize,
     procedures: IndexMap<String, Vec<Kind>>,
 }
 
 impl Model for Env {
-    ghost use Rattle.std.specs.Prelude.{[], ◌≡◌, map, string_bytes};
-    ghost use Rattle.janus_meaning.specs.Shape.{stack_count};
-    ghost use Rattle.janus_check.specs.Names.{AreNewNames, AreAdded, Known, meant_kinds, shape_in};
+    ghost use Rattle.janus_check.specs.Names.{AreKept, Known, names_kept, procedures_kept};
 
     ghost Value = { Known };
 
-    ghost view = { λ e. record { names = map (λ entry. (string_bytes entry.0, entry.1)) e.names.entries; procedures = map (λ entry. (string_bytes entry.0, entry.1.items)) e.procedures.entries } };
+    ghost view = { λ e. record { names = names_kept e.names.entries; procedures = procedures_kept e.procedures.entries } };
 
-    ghost invariant = { λ e. AreNewNames [] (map (λ entry. (string_bytes entry.0, entry.1)) e.names.entries) × (e.stacks ≡ stack_count (shape_in (map (λ entry. (string_bytes entry.0, entry.1)) e.names.entries))) × AreAdded meant_kinds [] (map (λ entry. (string_bytes entry.0, entry.1.items)) e.procedures.entries) };
+    ghost invariant = { λ e. AreKept e.names.entries e.stacks e.procedures.entries };
 }
 
 impl Env {
@@ -93,7 +91,7 @@ impl Env {
         }
     }
 
-    /// How many names there are.
+    /// The number of names.
     pub fn len(&self) -> usize
         ensures count { result ≡ length self.now.names }
         ensures small { result < 2 ^ 63 }
@@ -101,7 +99,7 @@ impl Env {
         self.names.len()
     }
 
-    /// How many of the names are stacks.
+    /// The number of stacks among the names.
     pub fn stacks(&self) -> usize
         ensures count { result ≡ stack_count (shape_in self.now.names) }
         ensures small { result < 2 ^ 63 }
@@ -110,7 +108,7 @@ impl Env {
         self.stacks
     }
 
-    /// How many procedures there are.
+    /// The number of procedures.
     pub fn procedures(&self) -> usize
         ensures count { result ≡ length self.now.procedures }
         ensures distinct { result ≡ different (heads_in self.now.procedures) }
@@ -119,7 +117,7 @@ impl Env {
         self.procedures.len()
     }
 
-    /// How many of the names are stacks, with one name more of this kind.
+    /// The number of stacks among the names, with one name more of this kind.
     fn stacks_with(&self, kind: Kind) -> usize
         ensures { result ≡ count_stack (meant_kind kind) (stack_count (shape_in self.now.names)) }
     {

@@ -14,14 +14,14 @@ use crate::sight::{Sight, use_fault};
 use janus_syntax::tree::{Exp, Name};
 use std::alloc::Global;
 
-/// Where an expression stands.
+/// Which names an expression may use where it stands.
 #[derive(Drop)]
-pub(crate) enum Standing<'a> {
-    /// Where it may use each name in sight.
+pub(crate) enum Context<'a> {
+    /// Each name in sight.
     Free(&'a Sight<'a>),
-    /// In an index or a right side, where this name is assigned.
+    /// In an index or a right side: each but this one, which is assigned.
     Assigning(&'a Sight<'a>, &'a Name),
-    /// At an end of a local of this name.
+    /// At an end of a local: each but this one, which is the local's.
     EndOfLocal(&'a Sight<'a>, &'a Name),
 }
 
@@ -34,7 +34,7 @@ pub fn check_exp(alloc: Global, env: &Env, exp: &Exp) -> Result<(), CheckFault>
 {
     let none = Env::new(alloc);
     let sight = Sight::Declared(&none, &*env);
-    match exp_fault(exp, &Standing::Free(&sight), None) {
+    match exp_fault(exp, &Context::Free(&sight), None) {
         None => Ok(()),
         Some(fault) => Err(fault),
     }
@@ -43,51 +43,51 @@ pub fn check_exp(alloc: Global, env: &Env, exp: &Exp) -> Result<(), CheckFault>
 /// The first fault after an expression.
 pub(crate) fn exp_fault(
     exp: &Exp,
-    standing: &Standing,
+    context: &Context,
     first: Option<CheckFault>,
 ) -> Option<CheckFault>
-    ensures { result ≡ first_from first (faults_of (faults_at standing.now) (exp_view exp.now)) }
+    ensures { result ≡ first_from first (faults_of (faults_at context.now) (exp_view exp.now)) }
 {
     match exp {
         Exp::Number(_, _) => first,
-        Exp::Variable(name) => fault_at(standing, Kind::Number, name, first),
+        Exp::Variable(name) => fault_at(context, Kind::Number, name, first),
         Exp::Element(name, index) => {
-            let next = fault_at(standing, Kind::Array, name, first);
-            exp_fault(index, standing, next)
+            let next = fault_at(context, Kind::Array, name, first);
+            exp_fault(index, context, next)
         }
-        Exp::Empty(name) | Exp::Top(name) => fault_at(standing, Kind::Stack, name, first),
-        Exp::Negative(operand) => exp_fault(operand, standing, first),
+        Exp::Empty(name) | Exp::Top(name) => fault_at(context, Kind::Stack, name, first),
+        Exp::Negative(operand) => exp_fault(operand, context, first),
         Exp::Binary(_, left, right) => {
-            let next = exp_fault(left, standing, first);
-            exp_fault(right, standing, next)
+            let next = exp_fault(left, context, first);
+            exp_fault(right, context, next)
         }
         Exp::And(left, right) => {
-            let next = exp_fault(left, standing, first);
-            exp_fault(right, standing, next)
+            let next = exp_fault(left, context, first);
+            exp_fault(right, context, next)
         }
         Exp::Or(left, right) => {
-            let next = exp_fault(left, standing, first);
-            exp_fault(right, standing, next)
+            let next = exp_fault(left, context, first);
+            exp_fault(right, context, next)
         }
     }
 }
 
 /// The first fault after a use of a name, as one of this kind, in an expression that stands there.
 fn fault_at(
-    standing: &Standing,
+    context: &Context,
     kind: Kind,
     name: &Name,
     first: Option<CheckFault>,
 ) -> Option<CheckFault>
-    ensures { result ≡ first_from first (faults_at standing.now (meant_kind kind) (name_view name.now)) }
+    ensures { result ≡ first_from first (faults_at context.now (meant_kind kind) (name_view name.now)) }
 {
-    match standing {
-        Standing::Free(sight) => use_fault(sight, kind, name, first),
-        Standing::Assigning(sight, target) => {
+    match context {
+        Context::Free(sight) => use_fault(sight, kind, name, first),
+        Context::Assigning(sight, target) => {
             let next = use_fault(sight, kind, name, first);
             self_use(target, name, next)
         }
-        Standing::EndOfLocal(sight, local) => {
+        Context::EndOfLocal(sight, local) => {
             if name.text == local.text {
                 sooner(first, CheckFault::SelfUse(name.span))
             } else {

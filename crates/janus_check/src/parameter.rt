@@ -1,4 +1,4 @@
-//! The check of parameters.
+//! Parameters: their names and kinds, and their check.
 ghost use Rattle.std.specs.Prelude.{◌≡◌, [], map, IfOk};
 ghost use Rattle.janus_meaning.specs.Shape.{kind_at};
 ghost use Rattle.janus_syntax.specs.Tree.{name_view, parameter_view, parameters_view};
@@ -12,11 +12,11 @@ use crate::fault::{CheckFault, sooner};
 use janus_syntax::tree::{Name, Parameter};
 use std::alloc::{AllocError, Global};
 
-/// How many parameters a procedure may have.
+/// The most parameters that a procedure may have.
 const PARAMETER_LIMIT: usize = 16;
 
 /// The name of a parameter.
-fn name_of_parameter(parameter: &Parameter) -> &Name
+pub fn name_of_parameter(parameter: &Parameter) -> &Name
     ensures name { name_view result.now ≡ parameter_name (parameter_view parameter.now) }
     ensures text { name_of result.now ≡ (plain_parameter (parameter_view parameter.now)).0 }
 {
@@ -25,8 +25,8 @@ fn name_of_parameter(parameter: &Parameter) -> &Name
     }
 }
 
-/// What a parameter stands for.
-fn kind_of(parameter: &Parameter) -> Kind
+/// The kind of a parameter.
+pub fn kind_of(parameter: &Parameter) -> Kind
     ensures { meant_kind result ≡ (plain_parameter (parameter_view parameter.now)).1 }
 {
     match parameter {
@@ -37,7 +37,7 @@ fn kind_of(parameter: &Parameter) -> Kind
 }
 
 /// The kinds of parameters, in their order. The only error is want of memory.
-pub(crate) fn kinds_of(alloc: Global, parameters: &[Parameter]) -> Result<Vec<Kind>, AllocError>
+pub fn kinds_of(alloc: Global, parameters: &[Parameter]) -> Result<Vec<Kind>, AllocError>
     ensures { IfOk result (λ kinds. meant_kinds kinds.items ≡ kinds_of (parameters_view parameters.now)) }
 {
     let mut kinds = Vec::new(alloc);

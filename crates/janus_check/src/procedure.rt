@@ -18,7 +18,7 @@ use janus_syntax::token::Span;
 use janus_syntax::tree::{Name, Procedure};
 use std::alloc::{AllocError, Global};
 
-/// How many procedures may be defined.
+/// The most procedures that may be defined.
 const PROCEDURE_LIMIT: usize = 256;
 
 /// The first fault after the names of procedures, which are then the cell's own. Of a name given twice the first counts. The

@@ -7,7 +7,7 @@ ghost use Rattle.janus_check.specs.Sight.{in_sight, heads_seen};
 
 use crate::call::call_fault;
 use crate::env::Kind;
-use crate::expression::{Standing, exp_fault};
+use crate::expression::{Context, exp_fault};
 use crate::fault::CheckFault;
 use crate::sight::{Sight, shadow_fault, use_fault};
 use janus_syntax::tree::Stm;
@@ -21,10 +21,10 @@ fn stm_fault(stm: &Stm, sight: &Sight, first: Option<CheckFault>) -> Option<Chec
         Stm::Skip => first,
         Stm::Assign(name, _, exp) => {
             let next = use_fault(sight, Kind::Number, name, first);
-            exp_fault(exp, &Standing::Assigning(&*sight, &*name), next)
+            exp_fault(exp, &Context::Assigning(&*sight, &*name), next)
         }
         Stm::AssignElement(name, index, _, exp) => {
-            let side = Standing::Assigning(&*sight, &*name);
+            let side = Context::Assigning(&*sight, &*name);
             let next = use_fault(sight, Kind::Array, name, first);
             let next = exp_fault(index, &side, next);
             exp_fault(exp, &side, next)
@@ -34,22 +34,22 @@ fn stm_fault(stm: &Stm, sight: &Sight, first: Option<CheckFault>) -> Option<Chec
             use_fault(sight, Kind::Stack, stack, next)
         }
         Stm::If(test, then_part, else_part, last) => {
-            let next = exp_fault(test, &Standing::Free(&*sight), first);
+            let next = exp_fault(test, &Context::Free(&*sight), first);
             let next = block_fault(then_part, sight, next);
             let next = block_fault(else_part, sight, next);
-            exp_fault(last, &Standing::Free(&*sight), next)
+            exp_fault(last, &Context::Free(&*sight), next)
         }
         Stm::Loop(entry, do_part, loop_part, exit) => {
-            let next = exp_fault(entry, &Standing::Free(&*sight), first);
+            let next = exp_fault(entry, &Context::Free(&*sight), first);
             let next = block_fault(do_part, sight, next);
             let next = block_fault(loop_part, sight, next);
-            exp_fault(exit, &Standing::Free(&*sight), next)
+            exp_fault(exit, &Context::Free(&*sight), next)
         }
         Stm::LocalInt(name, begin, body, _, end) => {
             let next = shadow_fault(sight, name, first);
-            let next = exp_fault(begin, &Standing::EndOfLocal(&*sight, &*name), next);
+            let next = exp_fault(begin, &Context::EndOfLocal(&*sight, &*name), next);
             let next = block_fault(body, &Sight::Local(&*name, Kind::Number, &*sight), next);
-            exp_fault(end, &Standing::EndOfLocal(&*sight, &*name), next)
+            exp_fault(end, &Context::EndOfLocal(&*sight, &*name), next)
         }
         Stm::LocalStack(name, body, _) => {
             let next = shadow_fault(sight, name, first);

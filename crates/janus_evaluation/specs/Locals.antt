@@ -5,7 +5,7 @@ use Rattle.janus_meaning.specs.Syntax.{Name, Exp}
 use Rattle.janus_meaning.specs.Store.{Store, Slot, Num, Stk}
 use Rattle.janus_meaning.specs.Value.{value}
 use Rattle.janus_meaning.specs.Moves.{stack_room}
-use Rattle.janus_store.specs.Held.{Held}
+use Rattle.janus_store.specs.StoreState.{StoreState}
 
 -- a local number begins with the value of its expression
 abbrev pub number_opened : Name → Exp → Store → Res Store
@@ -16,7 +16,7 @@ abbrev pub stack_opened : ℕ → Name → Store → Res Store
 stack_opened n x s = and_then (stack_room n) (λ ok. Fine (Slot x (Stk []) s))
 
 -- the declared names stay, each name its number, and the open calls with all that they left behind
-pub record KeepsNames (old new : Held) : Type 0 where
+pub record KeepsNames (old new : StoreState) : Type 0 where
   pub declared : new.declared ≡ old.declared
   pub names : new.names ≡ old.names
   pub callers : new.callers ≡ old.callers

@@ -6,7 +6,7 @@ ghost use Rattle.janus_meaning.specs.Fault.{Fine, Bad, Broken};
 ghost use Rattle.janus_meaning.specs.Store.{Arr, Stk, look, element as element_of};
 ghost use Rattle.janus_meaning.specs.Syntax.{Name};
 ghost use Rattle.janus_store.specs.Stores.{IsArray, IsStack};
-ghost use Rattle.janus_store.specs.Held.{IsName};
+ghost use Rattle.janus_store.specs.StoreState.{IsName};
 ghost use Rattle.janus_meaning.specs.Value.{value as value_of, test as test_of, both, first as first_of};
 ghost use Rattle.janus_invert.specs.Expressions.{exp_of};
 ghost use Rattle.janus_invert.specs.Numbered.{HasNumbers};

@@ -4,7 +4,7 @@ ghost use Rattle.std.specs.Prelude.{◌≡◌, ◌≢◌, ◌<◌, string_bytes}
 ghost use Rattle.janus_meaning.specs.Fault.{Bad, Broken};
 ghost use Rattle.janus_meaning.specs.Moves.{drop_int, drop_stack};
 ghost use Rattle.janus_meaning.specs.Value.{value as value_of};
-ghost use Rattle.janus_store.specs.Held.{HasLocal, HasLocalRoom, live_stacks};
+ghost use Rattle.janus_store.specs.StoreState.{HasLocal, HasLocalRoom, live_stacks};
 ghost use Rattle.janus_invert.specs.Expressions.{exp_of};
 ghost use Rattle.janus_invert.specs.Numbered.{HasItsNumber, HasNumbers};
 ghost use Rattle.janus_evaluation.specs.Locals.{number_opened, stack_opened, KeepsNames};

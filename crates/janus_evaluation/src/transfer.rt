@@ -3,7 +3,7 @@
 ghost use Rattle.std.specs.Prelude.{◌≡◌, ◌≢◌, string_bytes};
 ghost use Rattle.janus_meaning.specs.Fault.{Bad, Broken};
 ghost use Rattle.janus_meaning.specs.Moves.{push as push_of, pop as pop_of};
-ghost use Rattle.janus_store.specs.Held.{IsLike};
+ghost use Rattle.janus_store.specs.StoreState.{IsLike};
 ghost use Rattle.janus_invert.specs.Numbered.{HasItsNumber};
 ghost use Rattle.janus_evaluation.specs.Results.{IsDone, IsCounted};
 

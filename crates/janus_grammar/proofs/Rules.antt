@@ -5,8 +5,8 @@ use Rattle.std.proofs.lemmas.Bool.{eq-eqb, ltb-true}
 use Rattle.janus_syntax.specs.declared.token.Span.{Span}
 use Rattle.janus_syntax.specs.declared.token.Sign.{Sign}
 use Rattle.janus_syntax.specs.declared.token.Sign.TheVariants as sign
-use Rattle.janus_syntax.specs.declared.token.Word.{Word}
-use Rattle.janus_syntax.specs.declared.token.Word.TheVariants as word
+use Rattle.janus_syntax.specs.declared.token.Keyword.{Keyword}
+use Rattle.janus_syntax.specs.declared.token.Keyword.TheVariants as word
 use Rattle.janus_syntax.specs.declared.operator.Infix.{Infix}
 use Rattle.janus_syntax.specs.declared.tree.Kind.{Kind}
 use Rattle.janus_syntax.specs.declared.tree.Kind.TheVariants as kind
@@ -88,7 +88,7 @@ whole_is {e} {from} {rest} h =
 pub sign_behind : {p : Part} (s : Sign) (at : Span) (f : Form p) (v : Tree p) (from rest : List Token) → seen (The_sign s) (Sign_of s at) ≡ Some tt → Spelled p f v from rest → Spelled p (sign_then s f) v (Sign_of s at ∷ from) rest
 sign_behind s at f v from rest is h = taken (λ x. f) tt v (Sign_of s at) from rest is h
 
-pub word_behind : {p : Part} (w : Word) (at : Span) (f : Form p) (v : Tree p) (from rest : List Token) → seen (The_word w) (Word_of w at) ≡ Some tt → Spelled p f v from rest → Spelled p (word_then w f) v (Word_of w at ∷ from) rest
+pub word_behind : {p : Part} (w : Keyword) (at : Span) (f : Form p) (v : Tree p) (from rest : List Token) → seen (The_word w) (Word_of w at) ≡ Some tt → Spelled p f v from rest → Spelled p (word_then w f) v (Word_of w at ∷ from) rest
 word_behind w at f v from rest is h = taken (λ x. f) tt v (Word_of w at) from rest is h
 
 -- names in parentheses
@@ -226,7 +226,7 @@ Begins s from middle = (p : Part) (k : Stm → Form p) (v : Tree p) (last : List
     (t : Token) × (behind : List Token) × (r : Rule p) × (from ≡ t ∷ behind) × (statement t k ≡ Some r) × Spelled p r.form v behind last
 
 -- which part a body behind this word is
-abbrev Behind_word : Word → Block → List Token → List Token → Type 0
+abbrev Behind_word : Keyword → Block → List Token → List Token → Type 0
 Behind_word word.Else b from rest = IsPart Else_part b from rest
 Behind_word word.Do b from rest = IsPart Do_part b from rest
 Behind_word word.Loop b from rest = IsPart Loop_part b from rest
@@ -355,7 +355,7 @@ mutual
       let y = begins d Body (λ s. part Statements (λ b. done (More s b))) (More s b) rest (statements_are ds Body (λ b. done (More s b)) (More s b) rest (nothing_more Body (More s b) rest)) in
       subst (λ ts. IsPart Body (More s b) ts rest) (sym y.3) (begun Body y.0 y.2 (More s b) y.1 rest y.4 y.5)
 
-  optional_is : (w : Word) {b : Block} {from rest : List Token} → IsOptional w b from rest → Behind_word w b from rest
+  optional_is : (w : Keyword) {b : Block} {from rest : List Token} → IsOptional w b from rest → Behind_word w b from rest
   optional_is word.Else (IsOptional.there {at = at} {b = b} {from = from} {rest = rest} d) = begun Else_part (Word_of word.Else at) (record { opens = 0; counts = 0; is_whole = false; form = part Body done }) b from rest refl (body_is d Else_part done b rest (nothing_more Else_part b rest))
   optional_is word.Else (IsOptional.left_out {rest = rest}) = absent Else_part skip_block rest refl
   optional_is word.Do (IsOptional.there {at = at} {b = b} {from = from} {rest = rest} d) = begun Do_part (Word_of word.Do at) (record { opens = 0; counts = 0; is_whole = false; form = part Body done }) b from rest refl (body_is d Do_part done b rest (nothing_more Do_part b rest))

@@ -5,8 +5,8 @@ use Rattle.janus_syntax.proofs.Agreed.{agreed, one_of, kind_word}
 use Rattle.janus_syntax.specs.declared.token.Span.{Span}
 use Rattle.janus_syntax.specs.declared.token.Sign.{Sign}
 use Rattle.janus_syntax.specs.declared.token.Sign.TheVariants as sign
-use Rattle.janus_syntax.specs.declared.token.Word.{Word}
-use Rattle.janus_syntax.specs.declared.token.Word.TheVariants as word
+use Rattle.janus_syntax.specs.declared.token.Keyword.{Keyword}
+use Rattle.janus_syntax.specs.declared.token.Keyword.TheVariants as word
 use Rattle.janus_syntax.specs.declared.tree.Kind.{Kind}
 use Rattle.janus_syntax.specs.declared.tree.Kind.TheVariants as kind
 use Rattle.janus_syntax.specs.Tree.{Name as Named, named}
@@ -14,7 +14,7 @@ use Rattle.janus_syntax.specs.Tokens.{Token, Name, Number, Sign_of, Word_of}
 use Rattle.janus_syntax.specs.Forms.{seen, same_named, The_word, The_sign, Same_kind, Same_name}
 
 -- the tokens begin with this word
-abbrev pub BeginsWithWord : Word → List Token → List Token → Type 0
+abbrev pub BeginsWithWord : Keyword → List Token → List Token → Type 0
 BeginsWithWord w ts behind = (at : Span) × (ts ≡ Word_of w at ∷ behind)
 
 abbrev pub BeginsWithSign : Sign → List Token → List Token → Type 0

@@ -2,12 +2,14 @@
 use Rattle.std.specs.Prelude.{◌≡◌, ℕ, suc, ◌-◌, List, [], ◌∷◌, ◌++◌, Some}
 use Rattle.janus_syntax.specs.declared.token.Span.{Span}
 use Rattle.janus_syntax.specs.declared.token.Sign.TheVariants as sign
-use Rattle.janus_syntax.specs.declared.token.Word.{Word}
-use Rattle.janus_syntax.specs.declared.token.Word.TheVariants as word
+use Rattle.janus_syntax.specs.declared.token.Keyword.{Keyword}
+use Rattle.janus_syntax.specs.declared.token.Keyword.TheVariants as word
 use Rattle.janus_syntax.specs.declared.operator.Infix.{Infix}
 use Rattle.janus_syntax.specs.declared.tree.Update.{Update}
 use Rattle.janus_syntax.specs.Tokens.{Token, Name, Number, Sign_of, Word_of}
-use Rattle.janus_syntax.specs.Tree.{Name as Named, named, Exp, Num, Var, Element, EmptyOf, TopOf, Neg, Stm, Skip, Assign, AssignElement, Push, Pop, If, Loop, LocalInt, LocalStack, Call, Uncall, Block, Empty, More, Declaration, Int, Array, StackOf, Parameter, IntParameter, ArrayParameter, StackParameter, Procedure, procedure_of, Cell, cell_of}
+use Rattle.janus_syntax.specs.Tree.{Name as Named, named, Exp, Num, Var, Element, EmptyOf, TopOf, Neg, Stm, Skip, Assign, AssignElement, Push, Pop, If}
+use Rattle.janus_syntax.specs.Tree.{Loop, LocalInt, LocalStack, Call, Uncall, Block, Empty, More, Declaration, Int, Array, StackOf, Parameter, IntParameter}
+use Rattle.janus_syntax.specs.Tree.{ArrayParameter, StackParameter, Procedure, procedure_of, Cell, cell_of}
 use Rattle.janus_syntax.specs.Operators.{weakest, joined, operator_at, update_at}
 use Rattle.janus_syntax.specs.Table.{skip_block}
 
@@ -101,9 +103,9 @@ mutual
     body : {s : Stm} {b : Block} {from behind rest : List Token} → IsStatement s from behind → AreStatements b behind rest → IsBody (More s b) from rest
 
   -- a word and its body; where it is left out, the body is one `skip`
-  pub data IsOptional : Word → Block → List Token → List Token → Type 0 where
-    there : {w : Word} {at : Span} {b : Block} {from rest : List Token} → IsBody b from rest → IsOptional w b (Word_of w at ∷ from) rest
-    left_out : {w : Word} {rest : List Token} → IsOptional w skip_block rest rest
+  pub data IsOptional : Keyword → Block → List Token → List Token → Type 0 where
+    there : {w : Keyword} {at : Span} {b : Block} {from rest : List Token} → IsBody b from rest → IsOptional w b (Word_of w at ∷ from) rest
+    left_out : {w : Keyword} {rest : List Token} → IsOptional w skip_block rest rest
 
 -- ---- declarations
 

@@ -42,7 +42,7 @@ inverse_cell_twice (cell_of declarations b procedures) = ap (λ b. cell_of decla
 
 -- ---- one more statement, from the last to the first
 
-abbrev join : Block → Stm → Block
+abbrev pub join : Block → Stm → Block
 join Empty s = More s Empty
 join (More r b) s = More r (join b s)
 
@@ -50,7 +50,7 @@ turned_end : (b acc : Block) (s : Stm) → turned b (join acc s) ≡ join (turne
 turned_end Empty acc s = refl
 turned_end (More r b) acc s = turned_end b (More (inverse_stm r) acc) s
 
-block_end : (xs : List code_stm.Stm) (r : code_stm.Stm) → block_view (xs ++ r ∷ []) ≡ join (block_view xs) (stm_view r)
+pub block_end : (xs : List code_stm.Stm) (r : code_stm.Stm) → block_view (xs ++ r ∷ []) ≡ join (block_view xs) (stm_view r)
 block_end [] r = refl
 block_end (x ∷ xs) r = ap (More (stm_view x)) (block_end xs r)
 

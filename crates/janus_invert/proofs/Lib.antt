@@ -6,3 +6,5 @@ pub mod Reversed
 pub mod Meeting
 pub mod Placing
 pub mod Lists
+pub mod ClosedLemmas
+pub mod OnePrint

@@ -9,3 +9,5 @@ pub mod Grown
 pub mod Longer
 pub mod Inverted
 pub mod Fault
+pub mod Closed
+pub mod ProcedureTrees

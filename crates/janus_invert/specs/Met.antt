@@ -1,7 +1,8 @@
 -- Trees each of whose names was met, and so has a number, those of locals too.
 use Rattle.janus_names.specs.Numbers.{IsMet}
 use Rattle.std.specs.Prelude.{List, [], ◌∷◌}
-use Rattle.janus_meaning.specs.Syntax.{Name, Exp, Number, Var, At, Empty, Top, Negate, Binary, And, Or, Stm, Blk, Skip, Set, SetAt, Push, Pop, If, From, LocalInt, LocalStack, Call, Uncall, Nil, Cons, Proc, names_of}
+use Rattle.janus_meaning.specs.Syntax.{Name, Exp, Number, Var, At, Empty, Top, Negate, Binary, And, Or, Stm, Blk, Skip, Set, SetAt, Push, Pop, If, From}
+use Rattle.janus_meaning.specs.Syntax.{LocalInt, LocalStack, Call, Uncall, Nil, Cons, Proc, names_of}
 
 -- each of several names
 abbrev pub AreAllMet : List Name → List Name → Type 0

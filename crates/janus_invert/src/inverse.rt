@@ -3,12 +3,13 @@
 ghost use Rattle.std.specs.Prelude.{◌≡◌, IfOk};
 ghost use Rattle.janus_meaning.specs.Syntax.{inverse_block};
 ghost use Rattle.janus_syntax.specs.View.{block_of};
-ghost use Rattle.janus_syntax.specs.Tree.{name_view, exp_view, If, Loop, LocalInt, stm_view, cell_view, declaration_view, declarations_view, names_view, parameter_view, parameters_view, procedure_view, procedures_view, block_view, Empty};
+ghost use Rattle.janus_syntax.specs.Tree.{name_view, exp_view, If, Loop, LocalInt, stm_view, cell_view, procedure_view, procedures_view, block_view, Empty};
 ghost use Rattle.janus_invert.specs.Inverted.{IsOpposite};
 ghost use Rattle.janus_invert.specs.Cells.{opposite_of, inverse_stm, inverse_cell, turned};
 
+use crate::copies::{same_call, same_declarations, same_parameters, two_exps, two_names};
 use crate::fault::InvertFault;
-use janus_syntax::tree::{Cell, Declaration, Exp, Name, Parameter, Procedure, Stm, Update};
+use janus_syntax::tree::{Cell, Exp, Name, Procedure, Stm, Update};
 use std::alloc::{AllocError, Global};
 
 /// The operator that takes an assignment back.
@@ -28,7 +29,7 @@ pub fn invert(alloc: Global, cell: &Cell) -> Result<Cell, InvertFault>
     ensures block { IfOk result (λ inverse. block_of inverse.statements.items ≡ inverse_block (block_of cell.now.statements.items)) }
     ensures places { IfOk result (λ inverse. cell_view inverse ≡ inverse_cell (cell_view cell.now)) }
 {
-    let declarations = copies(alloc, &cell.declarations)?;
+    let declarations = same_declarations(alloc, &cell.declarations)?;
     let statements = inverse_statements(alloc, &cell.statements)?;
     let procedures = same_procedures(alloc, &cell.procedures)?;
     Ok(Cell {
@@ -62,63 +63,6 @@ fn same_procedure(alloc: Global, procedure: &Procedure) -> Result<Procedure, All
         parameters,
         body,
     })
-}
-
-/// The same parameters in memory of their own.
-fn same_parameters(alloc: Global, parameters: &[Parameter]) -> Result<Vec<Parameter>, AllocError>
-    ensures { IfOk result (λ copies. parameters_view copies.items ≡ parameters_view parameters.now) }
-{
-    let mut copies = Vec::new(alloc);
-    for parameter in parameters {
-        copies.push(same_parameter(parameter)?)?;
-    }
-    Ok(copies)
-}
-
-/// The same parameter in memory of its own.
-fn same_parameter(parameter: &Parameter) -> Result<Parameter, AllocError>
-    ensures { IfOk result (λ copy. parameter_view copy ≡ parameter_view parameter.now) }
-{
-    match parameter {
-        Parameter::Int(name) => Ok(Parameter::Int(name.copy()?)),
-        Parameter::Array(name) => Ok(Parameter::Array(name.copy()?)),
-        Parameter::Stack(name) => Ok(Parameter::Stack(name.copy()?)),
-    }
-}
-
-/// The same names in memory of their own.
-fn same_names(alloc: Global, names: &[Name]) -> Result<Vec<Name>, AllocError>
-    ensures { IfOk result (λ copies. names_view copies.items ≡ names_view names.now) }
-{
-    let mut copies = Vec::new(alloc);
-    for name in names {
-        copies.push(name.copy()?)?;
-    }
-    Ok(copies)
-}
-
-/// The same declarations in memory of their own.
-fn copies(alloc: Global, declarations: &[Declaration]) -> Result<Vec<Declaration>, AllocError>
-    ensures { IfOk result (λ copies. declarations_view copies.items ≡ declarations_view declarations.now) }
-{
-    let mut copies = Vec::new(alloc);
-    for declaration in declarations {
-        copies.push(copy(declaration)?)?;
-    }
-    Ok(copies)
-}
-
-/// The same declaration in memory of its own.
-fn copy(declaration: &Declaration) -> Result<Declaration, AllocError>
-    ensures { IfOk result (λ copy. declaration_view copy ≡ declaration_view declaration.now) }
-{
-    match declaration {
-        Declaration::Int(name) => Ok(Declaration::Int(name.copy()?)),
-        Declaration::Array(name, length, span) => {
-            Ok(Declaration::Array(name.copy()?, *length, *span))
-        }
-        Declaration::Stack(name) => Ok(Declaration::Stack(name.copy()?)),
-    }
 }
 
 /// The inverses of a block's statements, the last one first.
@@ -231,32 +175,4 @@ fn inverse_int(
     let (name, end) = two_names(name, end)?;
     let (first, last) = two_exps(alloc, first, last)?;
     Ok(Stm::LocalInt(name, last, block, end, first))
-}
-
-/// The same two names in memory of their own.
-fn two_names(first: &Name, second: &Name) -> Result<(Name, Name), AllocError>
-    ensures { IfOk result (λ x. (name_view x.0 ≡ name_view first.now) × (name_view x.1 ≡ name_view second.now)) }
-{
-    let first = first.copy()?;
-    Ok((first, second.copy()?))
-}
-
-/// The same two expressions in memory of their own.
-fn two_exps(alloc: Global, first: &Exp, second: &Exp) -> Result<(Exp, Exp), AllocError>
-    ensures { IfOk result (λ x. (exp_view x.0 ≡ exp_view first.now) × (exp_view x.1 ≡ exp_view second.now)) }
-{
-    let first = first.copy(alloc)?;
-    Ok((first, second.copy(alloc)?))
-}
-
-/// The procedure's name and the arguments of a call in memory of their own.
-fn same_call(
-    alloc: Global,
-    called: &Name,
-    arguments: &[Name],
-) -> Result<(Name, Vec<Name>), AllocError>
-    ensures { IfOk result (λ x. (name_view x.0 ≡ name_view called.now) × (names_view x.1.items ≡ names_view arguments.now)) }
-{
-    let arguments = same_names(alloc, arguments)?;
-    Ok((called.copy()?, arguments))
 }

@@ -1,9 +1,9 @@
 //! Inverse cells, and the flat code that the machine runs.
 //!
-//! To the layer above it promises that `invert` gives the inverse of a cell's statements, that flat code stands for one
-//! block, that `flatten` gives code that stands for the cell's block, `flatten_procedure` a procedure whose code stands for its
-//! body, and that `invert_code` gives code that stands for the inverse of a code's block. In flat code each name, of a variable or
-//! a procedure, stands with the number under which it was met, so that what runs compares no text.
+//! To the layer above it promises that `invert` gives the inverse of a cell's statements, that `closed` gives a procedure with its local's
+//! name behind each `delocal`, that flat code stands for one block, that `flatten` gives code that stands for the cell's block,
+//! `flatten_procedure` a procedure whose code stands for its body, and that `invert_code` gives code that stands for the inverse of a code's
+//! block. In flat code each name, of a variable or a procedure, stands with the number under which it was met, so that what runs compares no text.
 //! The inverse of a statement is that of Yokoyama and Glück (2007), "A reversible programming language and its invertible
 //! self-interpreter": `+=` and `-=` exchange, `^=` stays; an `if` exchanges its test and its assertion, a loop its entry and its
 //! exit, and their blocks stay where they are, each inverted; `skip` stays; `push` and `pop`, `call` and `uncall` exchange, a local
@@ -12,7 +12,9 @@
 
 ghost use Rattle.janus_invert.specs.Cells.{InverseCellTwice};
 
+pub mod closed;
 pub mod code;
+mod copies;
 mod expression;
 mod fault;
 mod flat;

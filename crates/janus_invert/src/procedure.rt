@@ -13,7 +13,7 @@ use crate::code::{Parameter, Procedure};
 use crate::expression::symbol;
 use crate::fault::InvertFault;
 use crate::flat::flat_code;
-use janus_check::Kind;
+use janus_check::parameter::{kind_of, name_of_parameter};
 use janus_names::Names;
 use janus_syntax::tree;
 use std::alloc::{AllocError, Global};
@@ -62,13 +62,8 @@ fn flat_parameter(parameter: &tree::Parameter, names: &Names) -> Result<Paramete
     ensures parameter { IfOk result (λ flat. param_of flat ≡ plain_parameter (parameter_view parameter.now)) }
     ensures numbered { IfOk result (λ flat. HasItsNumber names.now flat.name) }
 {
-    let (name, kind) = match parameter {
-        tree::Parameter::Int(name) => (name, Kind::Number),
-        tree::Parameter::Array(name) => (name, Kind::Array),
-        tree::Parameter::Stack(name) => (name, Kind::Stack),
-    };
     Ok(Parameter {
-        name: symbol(names, name)?,
-        kind,
+        name: symbol(names, name_of_parameter(parameter))?,
+        kind: kind_of(parameter),
     })
 }

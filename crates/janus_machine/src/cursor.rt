@@ -56,7 +56,7 @@ pub struct Cursor {
 }
 
 impl Cursor {
-    ghost use Rattle.janus_store.specs.Held.{Held, Caller};
+    ghost use Rattle.janus_store.specs.StoreState.{StoreState, Caller};
     ghost use Rattle.janus_machine.specs.declared.procedures.Procedures as declared;
     ghost use Rattle.janus_machine.specs.declared.book.Direction.TheVariants.{Forward, Inverse};
     ghost use Rattle.janus_machine.specs.Places.{block_in};
@@ -89,7 +89,7 @@ impl Cursor {
 
     /// Goes before the block of a book's code. No call is open then.
     pub fn enter(&mut self, book: &Book)
-        ensures stands { (t : declared.Procedures) (h : Held) → h.callers ≡ [] → IsStanding t book.now self.new h }
+        ensures stands { (t : declared.Procedures) (h : StoreState) → h.callers ≡ [] → IsStanding t book.now self.new h }
         ensures place { (t : declared.Procedures) (hs : List Caller) → place_of t book.now self.new hs ≡ Before (block_in book.now Forward) [] }
         ensures counts { IsAtEntry self.new }
     {
@@ -103,7 +103,7 @@ impl Cursor {
 
     /// Goes before the block of a book's inverse code. No call is open then.
     pub fn enter_inverse(&mut self, book: &Book)
-        ensures stands { (t : declared.Procedures) (h : Held) → h.callers ≡ [] → IsStanding t book.now self.new h }
+        ensures stands { (t : declared.Procedures) (h : StoreState) → h.callers ≡ [] → IsStanding t book.now self.new h }
         ensures place { (t : declared.Procedures) (hs : List Caller) → place_of t book.now self.new hs ≡ Before (block_in book.now Inverse) [] }
         ensures counts { IsAtEntry self.new }
     {
@@ -124,7 +124,7 @@ impl Cursor {
 
     /// Turns round where it stands: the steps from here go back by the way that the cursor came, through the open calls too.
     pub fn mirror(&mut self, procedures: &Procedures, book: &Book)
-        ensures stands { (h : Held) → IsStanding procedures.now book.now self.old h → IsStanding procedures.now book.now self.new h }
+        ensures stands { (h : StoreState) → IsStanding procedures.now book.now self.old h → IsStanding procedures.now book.now self.new h }
         ensures place { IsMirrored procedures.now book.now self.old self.new }
         ensures agrees { AgreesMirrored procedures.now book.now self.old self.new }
         ensures counts { TurnsRound self.old self.new }

@@ -4,7 +4,7 @@ ghost use Rattle.std.specs.Prelude.{◌≡◌, ◌≢◌};
 ghost use Rattle.janus_meaning.specs.Fault.{Bad, Broken};
 ghost use Rattle.janus_evaluation.specs.Locals.{KeepsNames};
 ghost use Rattle.janus_invert.specs.Numbered.{StatementHasNumbers};
-ghost use Rattle.janus_store.specs.Held.{HasLocal, HasLocalRoom, live_stacks};
+ghost use Rattle.janus_store.specs.StoreState.{HasLocal, HasLocalRoom, live_stacks};
 ghost use Rattle.janus_machine.specs.Faults.{IsDone};
 ghost use Rattle.janus_machine.specs.Statements.{opened_of, closed_of};
 

@@ -1,5 +1,6 @@
 -- The limits of the language.
 use Rattle.std.specs.Prelude.{ℕ}
+use Rattle.janus_meaning.specs.declared.limit.TheConstants.{NAME_LIMIT, LIVE_STACK_LIMIT}
 
 -- ---- limits that belong to the meaning of a cell
 
@@ -9,7 +10,7 @@ frame_limit = 16384
 
 -- how many stacks may live, declared and local
 abbrev pub live_stack_limit : ℕ
-live_stack_limit = 64
+live_stack_limit = LIVE_STACK_LIMIT
 
 -- how many values one stack may hold
 abbrev pub stack_limit : ℕ
@@ -23,7 +24,7 @@ step_limit = 1_000_000_000_000
 
 -- how many names a world may have
 abbrev pub name_limit : ℕ
-name_limit = 256
+name_limit = NAME_LIMIT
 
 -- how many procedures a world may have
 abbrev pub procedure_limit : ℕ

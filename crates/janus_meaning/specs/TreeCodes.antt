@@ -2,8 +2,10 @@
 use Rattle.std.specs.Prelude.{◌≡◌, ℕ, ℤ, pos, negsuc, List, [], ◌∷◌, ◌++◌, get_or, refl}
 use Rattle.std.specs.Coded.{Coded, code_by, coded×, coded_ℕ, coded_ℤ, coded_list}
 use Rattle.std.proofs.Common.{ap, ◌∙◌}
-use Rattle.janus_meaning.specs.Word.{Update, Operator, Plus, Minus, Flip, Add', Sub', Mul', Div', Rem', And', Or', Xor', Less', More', AtMost', AtLeast', Same', Differ'}
-use Rattle.janus_meaning.specs.Syntax.{Name, Exp, Number, Var, At, Empty, Top, Negate, Binary, And, Or, Stm, Blk, Skip, Set, SetAt, Push, Pop, If, From, LocalInt, LocalStack, Call, Uncall, Nil, Cons, Proc, Kind, ANumber, AnArray, AStack}
+use Rattle.janus_meaning.specs.Word.{Update, Operator, Plus, Minus, Flip, Add', Sub', Mul', Div', Rem', And', Or', Xor', Less', More', AtMost', AtLeast'}
+use Rattle.janus_meaning.specs.Word.{Same', Differ'}
+use Rattle.janus_meaning.specs.Syntax.{Name, Exp, Number, Var, At, Empty, Top, Negate, Binary, And, Or, Stm, Blk, Skip, Set, SetAt, Push, Pop, If, From}
+use Rattle.janus_meaning.specs.Syntax.{LocalInt, LocalStack, Call, Uncall, Nil, Cons, Proc, Kind, ANumber, AnArray, AStack}
 
 abbrev kind_number : Kind → ℕ
 kind_number ANumber = 0

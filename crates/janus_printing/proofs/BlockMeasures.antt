@@ -1,7 +1,7 @@
 -- The statements of a text's tree fit: each of their constructs was entered within the limits.
 use Rattle.std.proofs.Common.{◌≡◌, ℕ, ◌+◌, ◌<◌, ◌≤◌, List, length, Some, false, ap, sym, subst, inl, inr, arith}
-use Rattle.janus_syntax.specs.declared.token.Word.{Word}
-use Rattle.janus_syntax.specs.declared.token.Word.TheVariants as word
+use Rattle.janus_syntax.specs.declared.token.Keyword.{Keyword}
+use Rattle.janus_syntax.specs.declared.token.Keyword.TheVariants as word
 use Rattle.janus_syntax.specs.Tokens.{Token, Name, Number, Sign_of, Word_of}
 use Rattle.janus_syntax.specs.Tree.{Stm, Block, Empty}
 use Rattle.janus_syntax.specs.Forms.{Part, Body, Statements, Else_part, Do_part, Loop_part, Tree, Form, done, part, Rule}
@@ -58,7 +58,7 @@ pub record BlocksMeasured (n : ℕ) : Type 0 where
   pub body : (d used : ℕ) (t : Token) (r : Rule Body) (b : Block) (from : List Token) (m' : Count) (rest : List Token) → length from < n → IsGood t → AreGood from → rule Body t ≡ Some r → Runs r (count d used) b from m' rest → IsMeasured d b from m' rest
   pub statements : (d used : ℕ) (t : Token) (r : Rule Statements) (b : Block) (from : List Token) (m' : Count) (rest : List Token) → length from < n → IsGood t → AreGood from → rule Statements t ≡ Some r → Runs r (count d used) b from m' rest → IsMeasured d b from m' rest
 
-pub word_behind : {p : Part} (w : Word) (f : Form p) (v : Tree p) (c : Count) (from : List Token) (m' : Count) (rest : List Token) → AreGood from → Spells all p (word_then w f) v c from m' rest →
+pub word_behind : {p : Part} (w : Keyword) (f : Form p) (v : Tree p) (c : Count) (from : List Token) (m' : Count) (rest : List Token) → AreGood from → Spells all p (word_then w f) v c from m' rest →
     (middle : List Token) × (length middle ≤ length from) × AreGood middle × Spells all p f v c middle m' rest
 word_behind w f v c from m' rest g s =
     let t = inside s in

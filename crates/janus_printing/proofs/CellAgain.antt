@@ -1,7 +1,7 @@
 -- The tokens that spell the print of a cell spell that cell, places aside.
 use Rattle.std.proofs.Common.{◌≡◌, ℕ, List, [], ◌∷◌, ◌++◌, Some, None, true, map, refl, ap, sym, subst, ◌∙◌, arith}
 use Rattle.janus_syntax.specs.declared.token.Sign.TheVariants as sign
-use Rattle.janus_syntax.specs.declared.token.Word.TheVariants as word
+use Rattle.janus_syntax.specs.declared.token.Keyword.TheVariants as word
 use Rattle.janus_syntax.specs.Tokens.{Token, Name, Number, Sign_of, Word_of}
 use Rattle.janus_syntax.specs.Tree.{named, Exp, Declaration, Int, Array, StackOf, Empty, Procedure, Cell, cell_of}
 use Rattle.janus_syntax.specs.Forms.{Part, A_cell, Declarations, Bound, Procedures, Statements, Whole, Tree, A_name, A_number, The_sign, Form, done, take, part}

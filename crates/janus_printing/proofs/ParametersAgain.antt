@@ -1,7 +1,7 @@
 -- The tokens that spell the print of parameters are read as those parameters, places aside.
 use Rattle.std.proofs.Common.{◌≡◌, ℕ, List, [], ◌∷◌, true, false, map, refl, sym, subst, ◌∙◌, ap, arith}
 use Rattle.janus_syntax.specs.declared.token.Sign.TheVariants as sign
-use Rattle.janus_syntax.specs.declared.token.Word.TheVariants as word
+use Rattle.janus_syntax.specs.declared.token.Keyword.TheVariants as word
 use Rattle.janus_syntax.specs.Tokens.{Token, Name, Sign_of, Word_of}
 use Rattle.janus_syntax.specs.Tree.{named, Parameter, IntParameter, ArrayParameter, StackParameter}
 use Rattle.janus_syntax.specs.Forms.{Part, Parameters, More_parameters, A_parameter, Brackets, Tree, A_name, The_sign, Form, done, take, part}

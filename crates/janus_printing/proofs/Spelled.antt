@@ -4,7 +4,7 @@ use Rattle.std.proofs.str.Laws.{order}
 use Rattle.janus_syntax.specs.declared.token.Span.{Span}
 use Rattle.janus_syntax.specs.declared.token.Sign.{Sign}
 use Rattle.janus_syntax.specs.declared.token.Sign.TheVariants as sign
-use Rattle.janus_syntax.specs.declared.token.Word.{Word}
+use Rattle.janus_syntax.specs.declared.token.Keyword.{Keyword}
 use Rattle.janus_syntax.specs.Tokens.{Token, Name, Number, Sign_of, Word_of}
 use Rattle.janus_syntax.specs.Tree.{Name as Named, named, Exp}
 use Rattle.janus_syntax.specs.Forms.{Part, Tree, The_word, The_sign, A_name as Name_class, seen, Form, take, part, Rule}
@@ -46,7 +46,7 @@ pub record Starts {p : Part} (rules : Token → Option (Rule p)) (v : Tree p) (c
 pub part_there : {p q : Part} (k : Tree q → Form p) (u : Tree q) (v : Tree p) (c between m' : Count) (from middle rest : List Token) → Starts (rule q) u c from between middle → Spells all p (k u) v between middle m' rest → Spells all p (part q k) v c from m' rest
 part_there {p} {q} k u v c between m' from middle rest s onward = subst (λ ts. Spells all p (part q k) v c ts m' rest) (sym s.whole) (Grammar.a_part s.is s.runs.0 s.runs.1 onward)
 
-pub word_there : {p : Part} (w : Word) (f : Form p) (v : Tree p) (c m' : Count) (at : Span) (from more rest : List Token) → from ≡ Word_of w at ∷ more → seen (The_word w) (Word_of w at) ≡ Some tt → Spells all p f v c more m' rest → Spells all p (word_then w f) v c from m' rest
+pub word_there : {p : Part} (w : Keyword) (f : Form p) (v : Tree p) (c m' : Count) (at : Span) (from more rest : List Token) → from ≡ Word_of w at ∷ more → seen (The_word w) (Word_of w at) ≡ Some tt → Spells all p f v c more m' rest → Spells all p (word_then w f) v c from m' rest
 word_there {p} w f v c m' at from more rest e is s = subst (λ ts. Spells all p (word_then w f) v c ts m' rest) (sym e) (Grammar.token is refl s)
 
 pub sign_there : {p : Part} (r : Sign) (f : Form p) (v : Tree p) (c m' : Count) (at : Span) (from more rest : List Token) → from ≡ Sign_of r at ∷ more → seen (The_sign r) (Sign_of r at) ≡ Some tt → Spells all p f v c more m' rest → Spells all p (sign_then r f) v c from m' rest

@@ -3,8 +3,8 @@ use Rattle.std.proofs.Common.{◌≡◌, ℕ, suc, ◌≤◌, List, [], ◌∷�
 use Rattle.janus_meaning.specs.Syntax as plain
 use Rattle.janus_syntax.specs.declared.token.Span.{Span}
 use Rattle.janus_syntax.specs.declared.token.Sign.TheVariants as sign
-use Rattle.janus_syntax.specs.declared.token.Word.{Word}
-use Rattle.janus_syntax.specs.declared.token.Word.TheVariants as word
+use Rattle.janus_syntax.specs.declared.token.Keyword.{Keyword}
+use Rattle.janus_syntax.specs.declared.token.Keyword.TheVariants as word
 use Rattle.janus_syntax.specs.declared.tree.Kind.TheVariants as kind
 use Rattle.janus_syntax.specs.declared.tree.Update.{Update}
 use Rattle.janus_syntax.specs.declared.tree.Update.TheVariants as update
@@ -77,7 +77,7 @@ assign_element_again x place i u e d ts rest h few fits_i fits_e (at, t1, e1, (o
 -- ---- the parts of `if` and loops
 
 -- a body behind a word
-optional_to : {p q : Part} (w : Word) (at : Span) (from_block : Block → Tree q) (k : Tree q → Form p) (b : Block) (d d' : ℕ) (v : Tree p) (ts t1 rest end : List Token) → d ≤ depth_limit → ts ≡ Word_of w at ∷ t1 →
+optional_to : {p q : Part} (w : Keyword) (at : Span) (from_block : Block → Tree q) (k : Tree q → Form p) (b : Block) (d d' : ℕ) (v : Tree p) (ts t1 rest end : List Token) → d ≤ depth_limit → ts ≡ Word_of w at ∷ t1 →
     rule q (Word_of w at) ≡ Some (record { opens = 0; counts = 0; is_whole = false; form = part Body (λ c. done (from_block c)) }) → IsBody b → (r : BlockAgain b d t1 rest) → SpellsTo (k (from_block r.again)) v d rest d' end → SpellsTo (part q k) v d ts d' end
 optional_to {p} {q} w at from_block k b d d' v ts t1 rest end h e is body r onward =
     part_to k (from_block r.again) v d d d' ts rest end

@@ -10,7 +10,7 @@ use Rattle.janus_meaning.specs.Store.{Stk, look, cleared_val}
 use Rattle.janus_meaning.specs.Value.{first}
 use Rattle.janus_meaning.specs.World.{stacks_with}
 use Rattle.janus_names.specs.Numbers.{IsNumbered}
-use Rattle.janus_store.specs.Held.{Held, IsLike, live_stacks}
+use Rattle.janus_store.specs.StoreState.{StoreState, IsLike, live_stacks}
 use Rattle.janus_store.specs.Inside.{stacks_of, value_at, held_in, IsPlaceOf, IsStackOf, IsHeld}
 use Rattle.janus_store.specs.Stacks.{list_of}
 use Rattle.janus_store.specs.Stores.{write}
@@ -86,7 +86,7 @@ first_is (x ∷ l) = refl
 
 -- ---- the stack of a name
 
-module _ (pool : List (List ℤ)) (xs : List Name) (ns : List ℕ) (vs : List Variable) (d : ℕ) (cs : List Call) (h : IsHeld pool xs ns vs d cs) (H : Held) (view : held_in pool xs d vs cs ≡ H) (k : ℕ) (x : Name) (l : List ℤ) (e : IsNumbered H.names k x) (f : look x H.sight ≡ Fine (Stk l)) where
+module _ (pool : List (List ℤ)) (xs : List Name) (ns : List ℕ) (vs : List Variable) (d : ℕ) (cs : List Call) (h : IsHeld pool xs ns vs d cs) (H : StoreState) (view : held_in pool xs d vs cs ≡ H) (k : ℕ) (x : Name) (l : List ℤ) (e : IsNumbered H.names k x) (f : look x H.sight ≡ Fine (Stk l)) where
   pub has_stack : (i : ℕ) × IsStackOf ns vs k i
   has_stack =
       let p = has_place pool xs ns vs d cs h H view k x (Stk l) e f in

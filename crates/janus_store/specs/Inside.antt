@@ -1,10 +1,11 @@
 -- How the fields of a store are read.
-use Rattle.std.specs.Prelude.{◌≡◌, ℕ, ℤ, suc, pos, ◌+◌, ◌-◌, ◌<◌, ◌≤◌, List, [], ◌∷◌, ◌++◌, length, reverse, take, drop, slice_get, slice_set, slice_index_or, Some, vec_capacity}
+use Rattle.std.specs.Prelude.{◌≡◌, ℕ, ℤ, suc, pos, ◌+◌, ◌-◌, ◌<◌, ◌≤◌, List, [], ◌∷◌, ◌++◌, length, reverse, take, drop, slice_get, slice_set}
+use Rattle.std.specs.Prelude.{slice_index_or, Some, vec_capacity}
 use Rattle.janus_meaning.specs.Limit.{live_stack_limit, parameter_limit}
 use Rattle.janus_meaning.specs.Syntax.{Name}
 use Rattle.cell_pool.specs.Chains.{times}
 use Rattle.janus_names.specs.Numbers.{HaveOneNumber}
-use Rattle.janus_store.specs.Held.{Held, Caller, local_limit, call_limit, bound_limit, params_bound, live_stacks}
+use Rattle.janus_store.specs.StoreState.{StoreState, Caller, local_limit, call_limit, bound_limit, params_bound, live_stacks}
 use Rattle.janus_store.specs.Bounds.{Bound, Level, seen, all_of, callers_of, AreNested}
 use Rattle.janus_store.specs.Plain.{Plain}
 use Rattle.janus_store.specs.Values.{plain_of, number_in}
@@ -52,7 +53,7 @@ abbrev pub outermost : ℕ → List Call → ℕ
 outermost n [] = n
 outermost n (c ∷ cs) = outermost c.start cs
 
-abbrev pub held_in : List (List ℤ) → List Name → ℕ → List Variable → List Call → Held
+abbrev pub held_in : List (List ℤ) → List Name → ℕ → List Variable → List Call → StoreState
 held_in pool xs d vs cs = record {
   sight = seen (value_at pool vs) [] (all_of (here (bounds xs [] vs) (length vs) cs));
   declared = d;
@@ -60,7 +61,7 @@ held_in pool xs d vs cs = record {
   callers = callers_of (value_at pool vs) (here (bounds xs [] vs) (length vs) cs).params (around (bounds xs [] vs) (length vs) cs);
 }
 
-abbrev pub held_of : {L : Type 0} → Inside L → Held
+abbrev pub held_of : {L : Type 0} → Inside L → StoreState
 held_of a = held_in a.stacks.lists a.names a.declared a.variables.items (reverse a.calls.items)
 
 -- ---- the places of numbers

@@ -1,6 +1,7 @@
 //! The declared names with their values, in the order of declaration, the locals above them, and the numbers of names.
 
-ghost use Rattle.std.specs.Prelude.{◌≡◌, ℤ, ℕ, suc, ◌+◌, ◌-◌, List, [], ◌∷◌, ◌++◌, pos, ◌<◌, ◌≤◌, length, vec_len, vec_capacity, slice_set, slice_index, IsTrue, ◌↔◌, IfOk, OnOk, OnErr, slice_get, Some};
+ghost use Rattle.std.specs.Prelude.{◌≡◌, ℤ, ℕ, suc, ◌+◌, ◌-◌, List, [], ◌∷◌, ◌++◌, pos, ◌<◌, ◌≤◌, length, vec_len, vec_capacity, slice_set, slice_index};
+ghost use Rattle.std.specs.Prelude.{IsTrue, ◌↔◌, IfOk, OnOk, OnErr, slice_get, Some};
 ghost use Rattle.std.specs.Prelude.{◌^◌, take};
 ghost use Rattle.janus_meaning.specs.Syntax.{Name};
 ghost use Rattle.janus_meaning.specs.Fault.{Fine, Bad, Broken, IndexRange, TopEmpty, and_then};
@@ -9,7 +10,8 @@ ghost use Rattle.janus_meaning.specs.Limit.{live_stack_limit, stack_limit};
 ghost use Rattle.janus_meaning.specs.Value.{first, is_none};
 ghost use Rattle.janus_meaning.specs.World.{size_of, listed, stacks_in, stacks_with};
 ghost use Rattle.janus_names.specs.Numbers.{GoOn, IsMet, HaveOneNumber};
-ghost use Rattle.janus_store.specs.Held.{IsName, IsWhole, IsInSight, HasLocal, HasLocalRoom, shown_store, live_stacks, empty_held, Declares, KeepsSight, IsLike, AreKnown, opened, with_sight};
+ghost use Rattle.janus_store.specs.StoreState.{IsName, IsWhole, IsInSight, HasLocal, HasLocalRoom, shown_store, live_stacks, empty_state, Declares};
+ghost use Rattle.janus_store.specs.StoreState.{KeepsSight, IsLike, AreKnown, opened, with_sight};
 ghost use Rattle.janus_store.specs.Calls.{AreNamed, CanLend, HasCallRoom, HasParametersAlone, IsEntered, IsLeft};
 ghost use Rattle.janus_store.specs.Values.{first_of, val_in, number_in, shown, found, read_or};
 ghost use Rattle.janus_store.specs.Stores.{IsFirstOnTop, IsNumber, IsArray, IsStack, IsOpenStack, IsHeldStack, HasElementAt, rest_of, write};
@@ -76,9 +78,9 @@ pub struct Store<L: Ledger> {
 }
 
 impl<L: Ledger> Model for Store<L> {
-    ghost use Rattle.janus_store.specs.Held.{Held, held_code};
+    ghost use Rattle.janus_store.specs.StoreState.{StoreState, held_code};
 
-    ghost Value = { Held };
+    ghost Value = { StoreState };
 
     ghost coded = { held_code };
 
@@ -96,7 +98,7 @@ impl<L: Ledger> Store<L> {
     ///
     /// `AllocError` where there is no memory.
     pub fn new(alloc: Global) -> Result<Store<L>, AllocError>
-        ensures { IfOk result (λ s. s ≡ empty_held) }
+        ensures { IfOk result (λ s. s ≡ empty_state) }
     {
         let stacks = Stacks::new(alloc)?;
         let variables = Vec::with_capacity(alloc, NAME_LIMIT + LOCAL_LIMIT + BOUND_LIMIT)?;

@@ -1,8 +1,8 @@
 -- Tokens of a class that are the ones that they have to be.
 use Rattle.std.proofs.Common.{◌≡◌, Option, Some, None, Bool, true, false, cond, refl, ap, subst, ◌∙◌}
 use Rattle.janus_syntax.specs.declared.token.Span.{Span}
-use Rattle.janus_syntax.specs.declared.token.Word.{Word}
-use Rattle.janus_syntax.specs.declared.token.Word.TheVariants as word
+use Rattle.janus_syntax.specs.declared.token.Keyword.{Keyword}
+use Rattle.janus_syntax.specs.declared.token.Keyword.TheVariants as word
 use Rattle.janus_syntax.specs.declared.tree.Kind.{Kind}
 use Rattle.janus_syntax.specs.declared.tree.Kind.TheVariants as kind
 use Rattle.janus_syntax.specs.Tokens.{Token, Word_of}
@@ -48,7 +48,7 @@ is_agreed (Same_kind j) t s is fit = is_the_one (Same_kind j) (seen (Same_kind j
 is_agreed (Same_name x) t s is fit = is_the_one (Same_name x) (seen (Same_name x) t) s is fit
 
 -- the word of a kind
-abbrev pub kind_word : Kind → Word
+abbrev pub kind_word : Kind → Keyword
 kind_word kind.Int = word.Int
 kind_word kind.Stack = word.Stack
 

@@ -2,7 +2,7 @@
 use Rattle.std.proofs.Common.{◌≡◌, ℕ, suc, List, [], ◌∷◌, ◌++◌, length, Option, Some, None, true, false, Result, Ok, Err, refl, ap, sym, subst, ◌∙◌, arith}
 use Rattle.janus_syntax.specs.declared.fault.What.{What}
 use Rattle.janus_syntax.specs.declared.fault.What.TheVariants as what
-use Rattle.janus_syntax.specs.declared.token.Word.TheVariants as word
+use Rattle.janus_syntax.specs.declared.token.Keyword.TheVariants as word
 use Rattle.janus_syntax.specs.declared.tree.Stm as code_stm
 use Rattle.janus_syntax.specs.Tokens.{Token, Name, Number, Sign_of, Word_of}
 use Rattle.janus_syntax.specs.Tree.{Stm, Block, Empty, More, stm_view, block_view}
@@ -11,7 +11,7 @@ use Rattle.janus_syntax.specs.Table.{rule, statement}
 use Rattle.janus_syntax.specs.Grammar.{all, entered, fits, Refusal, Expected}
 use Rattle.janus_syntax.specs.Reader.{Stack, waits, at, Step, Stuck, enter, skip, at_form, hand, follow, run, next}
 use Rattle.janus_syntax.specs.declared.problem.Problem.{Problem}
-use Rattle.janus_syntax.specs.declared.token.Word.{Word}
+use Rattle.janus_syntax.specs.declared.token.Keyword.{Keyword}
 use Rattle.janus_syntax.specs.Reading.{Reads, BeginsWith, begun, count, IsPart, FailsPart}
 use Rattle.janus_syntax.specs.Statements.{is_statement, begin_statement, IsStm, FailsStm, followed_by, AtStatements, AreSoFar, AreStatements, IsOptional, there, FailsOptional}
 use Rattle.janus_syntax.proofs.Agrees.{run_hands, left_behind}
@@ -182,7 +182,7 @@ body_is_wanted d (t ∷ rest) n p k goal S u h = ap (λ o. follow (λ s. run all
 
 -- ---- results of calls
 
-pub optional_result : {X : Type 0} (w : Word) (d : ℕ) (from behind : List Token) (block : X → Block) (rest : X → List Token) (r : Result X Problem) → BeginsWith w from behind →
+pub optional_result : {X : Type 0} (w : Keyword) (d : ℕ) (from behind : List Token) (block : X → Block) (rest : X → List Token) (r : Result X Problem) → BeginsWith w from behind →
     Reads (λ x. IsPart Body d (block x) behind (rest x)) (FailsPart Body d behind) r → Reads (λ x. IsOptional w d (block x) from (rest x)) (FailsOptional w d from) r
 optional_result w d from behind block rest (Ok x) b h = there b h
 optional_result w d from behind block rest (Err e) b h = passes_on (FailsPart Body d behind) (FailsOptional w d from) e h (λ out f. (behind, b, f))

@@ -1,8 +1,8 @@
 -- The parser's constructs, from the word that begins each.
 use Rattle.std.proofs.Common.{◌≡◌, ℕ, ◌+◌, ◌<◌, List, ◌∷◌, true, Result, Ok, Err, refl}
 use Rattle.janus_syntax.specs.declared.token.Span.{Span}
-use Rattle.janus_syntax.specs.declared.token.Word.{Word}
-use Rattle.janus_syntax.specs.declared.token.Word.TheVariants as word
+use Rattle.janus_syntax.specs.declared.token.Keyword.{Keyword}
+use Rattle.janus_syntax.specs.declared.token.Keyword.TheVariants as word
 use Rattle.janus_syntax.specs.declared.problem.Problem.{Problem}
 use Rattle.janus_syntax.specs.Tokens.{Token, Word_of}
 use Rattle.janus_syntax.specs.Tree.{Stm}
@@ -28,7 +28,7 @@ module _ {X : Type 0} (place : Span) (d : ℕ) (room : d < depth_limit) (from : 
   local_result (Err e) h = passes_on (FailsPart Local (d + 1) from) (FailsStm d (Word_of word.Local place ∷ from)) e h (λ out f. local_stops place d from out room f)
 
 -- a word that begins a construct, and is neither of these
-pub is_local : (w : Word) → opens_construct w ≡ true → (w ≡ word.If → ⊥) → (w ≡ word.From → ⊥) → w ≡ word.Local
+pub is_local : (w : Keyword) → opens_construct w ≡ true → (w ≡ word.If → ⊥) → (w ≡ word.From → ⊥) → w ≡ word.Local
 is_local word.If o f g = absurd (f refl)
 is_local word.From o f g = absurd (g refl)
 is_local word.Local o f g = refl

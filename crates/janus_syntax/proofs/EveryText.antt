@@ -11,8 +11,8 @@ use Rattle.std.proofs.lemmas.Slice.Eq.{starts_is, bytes_eq-Decides}
 use Rattle.janus_syntax.specs.declared.token.Span.{Span}
 use Rattle.janus_syntax.specs.declared.token.Sign.{Sign}
 use Rattle.janus_syntax.specs.declared.token.Sign.TheVariants as sign
-use Rattle.janus_syntax.specs.declared.token.Word.{Word}
-use Rattle.janus_syntax.specs.declared.token.Word.TheVariants as word
+use Rattle.janus_syntax.specs.declared.token.Keyword.{Keyword}
+use Rattle.janus_syntax.specs.declared.token.Keyword.TheVariants as word
 use Rattle.janus_syntax.specs.declared.lexer.Class.{Class}
 use Rattle.janus_syntax.specs.declared.lexer.Class.TheVariants as class
 use Rattle.janus_syntax.specs.declared.lexer.Front.{Front}
@@ -25,7 +25,8 @@ use Rattle.janus_syntax.specs.Forms.{Part}
 use Rattle.janus_syntax.specs.Lexical.{class_of, of_name, of_number, in_line, decimal, NotReserved, Item, Gap, A_name, A_number, A_sign, A_word, IsSpelled, IsToken, NoItem, AreTokens, largest_number}
 use Rattle.janus_syntax.specs.Scan.{IsLongestSign, IsFrontText, IsFrontOf, IsFirstChar}
 use Rattle.janus_syntax.specs.Text.{IsRefusalOf}
-use Rattle.janus_syntax.proofs.Scanning.{signs, words, first_is_longest, no_sign, begins_with, not_reserved}
+use Rattle.janus_syntax.specs.declared.token.TheConstants.{KEYWORDS}
+use Rattle.janus_syntax.proofs.Scanning.{signs, first_is_longest, no_sign, begins_with, not_reserved}
 use Rattle.janus_syntax.proofs.Fronts.{letters_front, digits_front, space_front, comment_front, sign_front, underscore_none, other_none, letters_cut, digits_cut, space_cut, line_cut, sign_cut, slashes, no_slashes}
 use Rattle.janus_syntax.proofs.Lexing.{IsLexedTo, lexed_start, lexed_gap, lexed_one, bad_token, too_large, place}
 
@@ -55,27 +56,27 @@ longest_sign text (suc left) k e none =
       | false ↦ λ h. longest_sign text left (suc k) (omega (arith, e)) (one_sign_more text k (omega (arith, e)) none h)
     ] refl
 
--- the text is none of the first k words
+-- the text is none of the first k keywords
 abbrev NoWordOf : List ℕ → ℕ → Type 0
-NoWordOf text k = (j : ℕ) (w : Word) → j < k → text ≡ word_text (get_or words j w) → ⊥
+NoWordOf text k = (j : ℕ) (w : Keyword) → j < k → text ≡ word_text (get_or KEYWORDS j w) → ⊥
 
-one_word_more : (text : List ℕ) (k : ℕ) → k < 22 → NoWordOf text k → bytes_eq text (word_text (get_or words k word.Nil)) ≡ false → NoWordOf text (suc k)
+one_word_more : (text : List ℕ) (k : ℕ) → k < 22 → NoWordOf text k → bytes_eq text (word_text (get_or KEYWORDS k word.Nil)) ≡ false → NoWordOf text (suc k)
 one_word_more text k few none not_here j w h e =
     elim (order j k) [
       | inl before ↦ none j w before e
       | inr behind ↦
           let same : j ≡ k = omega (arith, h, behind) in
-          let listed : get_or words j w ≡ get_or words k word.Nil = ap (λ i. get_or words i w) same ∙ get_or_default words k w word.Nil few in
-          let found = (bytes_eq-Decides text (word_text (get_or words k word.Nil))).1 (e ∙ ap word_text listed) in
+          let listed : get_or KEYWORDS j w ≡ get_or KEYWORDS k word.Nil = ap (λ i. get_or KEYWORDS i w) same ∙ get_or_default KEYWORDS k w word.Nil few in
+          let found = (bytes_eq-Decides text (word_text (get_or KEYWORDS k word.Nil))).1 (e ∙ ap word_text listed) in
           let bad : true ≡ false = sym found ∙ not_here in absurd cc
     ]
 
-word_or_name : (text : List ℕ) (left k : ℕ) → left + k ≡ 22 → NoWordOf text k → ((w : Word) × (text ≡ word_text w)) ⊎ NotReserved text
+word_or_name : (text : List ℕ) (left k : ℕ) → left + k ≡ 22 → NoWordOf text k → ((w : Keyword) × (text ≡ word_text w)) ⊎ NotReserved text
 word_or_name text zero k e none = inr (not_reserved text k (omega (arith, e)) none)
 word_or_name text (suc left) k e none =
-    let here = word_text (get_or words k word.Nil) in
-    elim (bytes_eq text here) as (λ b. bytes_eq text here ≡ b → ((w : Word) × (text ≡ word_text w)) ⊎ NotReserved text) [
-      | true ↦ λ h. inl (get_or words k word.Nil, (bytes_eq-Decides text here).0 h)
+    let here = word_text (get_or KEYWORDS k word.Nil) in
+    elim (bytes_eq text here) as (λ b. bytes_eq text here ≡ b → ((w : Keyword) × (text ≡ word_text w)) ⊎ NotReserved text) [
+      | true ↦ λ h. inl (get_or KEYWORDS k word.Nil, (bytes_eq-Decides text here).0 h)
       | false ↦ λ h. word_or_name text left (suc k) (omega (arith, e)) (one_word_more text k (omega (arith, e)) none h)
     ] refl
 

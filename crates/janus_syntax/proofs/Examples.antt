@@ -3,8 +3,8 @@ use Rattle.std.proofs.Common.{◌≡◌, ℕ, zero, suc, List, [], ◌∷◌, �
 use Rattle.janus_syntax.specs.declared.token.Span.{Span}
 use Rattle.janus_syntax.specs.declared.token.Sign.{Sign}
 use Rattle.janus_syntax.specs.declared.token.Sign.TheVariants as sign
-use Rattle.janus_syntax.specs.declared.token.Word.{Word}
-use Rattle.janus_syntax.specs.declared.token.Word.TheVariants as word
+use Rattle.janus_syntax.specs.declared.token.Keyword.{Keyword}
+use Rattle.janus_syntax.specs.declared.token.Keyword.TheVariants as word
 use Rattle.janus_syntax.specs.declared.tree.Operator.TheVariants as operator
 use Rattle.janus_syntax.specs.declared.tree.Update.TheVariants as update
 use Rattle.janus_syntax.specs.declared.fault.What.TheVariants as what
@@ -32,7 +32,7 @@ Y = named (121 ∷ []) at
 abbrev n : ℕ → Token
 n k = Number k at
 
-abbrev w : Word → Token
+abbrev w : Keyword → Token
 w v = Word_of v at
 
 abbrev s : Sign → Token
@@ -46,13 +46,13 @@ times zero ts = []
 times (suc k) ts = ts ++ times k ts
 
 -- `if x` wants `then`, `if x then skip` wants `fi`, `from x` wants `until`
-if_x : answer (w word.If ∷ x ∷ []) ≡ Ended None (what.Word word.Then)
+if_x : answer (w word.If ∷ x ∷ []) ≡ Ended None (what.Keyword word.Then)
 if_x = refl
 
-if_x_skip : answer (w word.If ∷ x ∷ w word.Then ∷ w word.Skip ∷ []) ≡ Ended None (what.Word word.Fi)
+if_x_skip : answer (w word.If ∷ x ∷ w word.Then ∷ w word.Skip ∷ []) ≡ Ended None (what.Keyword word.Fi)
 if_x_skip = refl
 
-from_x : answer (w word.From ∷ x ∷ s sign.Plus ∷ n 1 ∷ []) ≡ Ended None (what.Word word.Until)
+from_x : answer (w word.From ∷ x ∷ s sign.Plus ∷ n 1 ∷ []) ≡ Ended None (what.Keyword word.Until)
 from_x = refl
 
 -- `x` wants an operator, `x[1` wants `]`, `x[1]` an operator, `x += (1` wants `)`, `x += 1` the end
@@ -151,7 +151,7 @@ local_wants_name = refl
 local_wants_equals : answer (w word.Local ∷ w word.Int ∷ x ∷ s sign.PlusEquals ∷ []) ≡ Failed (what.Sign sign.Equals) 1
 local_wants_equals = refl
 
-local_wants_nil : answer (w word.Local ∷ w word.Stack ∷ x ∷ s sign.Equals ∷ n 1 ∷ []) ≡ Failed (what.Word word.Nil) 1
+local_wants_nil : answer (w word.Local ∷ w word.Stack ∷ x ∷ s sign.Equals ∷ n 1 ∷ []) ≡ Failed (what.Keyword word.Nil) 1
 local_wants_nil = refl
 
 local_wants_statement : answer (w word.Local ∷ w word.Int ∷ x ∷ s sign.Equals ∷ n 1 ∷ w word.Delocal ∷ []) ≡ Failed what.Statement 1
@@ -189,7 +189,7 @@ local_stack = refl
 abbrev locals : ℕ → List Token
 locals k = times k (w word.Local ∷ w word.Int ∷ x ∷ s sign.Equals ∷ n 1 ∷ [])
 
-deep_locals : answer (locals 64 ++ w word.Skip ∷ []) ≡ Ended None (what.Word word.Delocal)
+deep_locals : answer (locals 64 ++ w word.Skip ∷ []) ≡ Ended None (what.Keyword word.Delocal)
 deep_locals = refl
 
 too_deep_locals : answer (locals 65) ≡ Nested 5

@@ -4,8 +4,8 @@ use Rattle.std.proofs.Common.{◌≡◌, ℕ, Option, Some, None, Bool, true, fa
 use Rattle.std.specs.Prelude.{nat_lt, nat_eq, ◌||◌, ◌&&◌}
 use Rattle.janus_syntax.specs.declared.token.Sign.{Sign}
 use Rattle.janus_syntax.specs.declared.token.Sign.TheVariants as sign
-use Rattle.janus_syntax.specs.declared.token.Word.{Word}
-use Rattle.janus_syntax.specs.declared.token.Word.TheVariants as word
+use Rattle.janus_syntax.specs.declared.token.Keyword.{Keyword}
+use Rattle.janus_syntax.specs.declared.token.Keyword.TheVariants as word
 use Rattle.janus_syntax.specs.declared.operator.Infix.{Infix}
 use Rattle.janus_syntax.specs.Tokens.{Token, Name, Sign_of, Word_of}
 use Rattle.janus_syntax.specs.Operators.{weakest, operator_at}
@@ -14,7 +14,7 @@ use Rattle.janus_syntax.specs.Table.{rule, left_out}
 
 -- Tests of tokens.
 
-abbrev pub is_word : Word → Token → Bool
+abbrev pub is_word : Keyword → Token → Bool
 is_word w (Word_of v _) = nat_eq (word_number w) (word_number v)
 is_word w _ = false
 
@@ -40,7 +40,7 @@ after_statement (Name x at) = true
 after_statement (Word_of w at) = true
 after_statement _ = false
 
-abbrev pub ends_body : Word → Bool
+abbrev pub ends_body : Keyword → Bool
 ends_body word.Else = true
 ends_body word.Fi = true
 ends_body word.Loop = true

@@ -14,8 +14,8 @@ use Rattle.std.proofs.lemmas.List.Sums.{prefix_len_passes, prefix_len_stops, pre
 use Rattle.std.proofs.lemmas.Str.{IsCharBoundary-after_ascii, IsCharBoundary-before_ascii, IsCharBoundary-end}
 use Rattle.janus_syntax.specs.declared.token.Sign.{Sign}
 use Rattle.janus_syntax.specs.declared.token.Sign.TheVariants as sign
-use Rattle.janus_syntax.specs.declared.token.Word.{Word}
-use Rattle.janus_syntax.specs.declared.token.Word.TheVariants as word
+use Rattle.janus_syntax.specs.declared.token.Keyword.{Keyword}
+use Rattle.janus_syntax.specs.declared.token.Keyword.TheVariants as word
 use Rattle.janus_syntax.specs.declared.lexer.Class.{Class}
 use Rattle.janus_syntax.specs.declared.lexer.Class.TheVariants as class
 use Rattle.janus_syntax.specs.declared.lexer.Front.TheVariants as front
@@ -34,7 +34,7 @@ second (c ∷ cs) = head cs
 
 -- words are names, but for being reserved
 
-pub word_head : (w : Word) → class_of (head (word_text w)) ≡ class.Letter
+pub word_head : (w : Keyword) → class_of (head (word_text w)) ≡ class.Letter
 word_head word.Call = refl
 word_head word.Delocal = refl
 word_head word.Do = refl
@@ -58,7 +58,7 @@ word_head word.Top = refl
 word_head word.Uncall = refl
 word_head word.Until = refl
 
-pub word_passes : (w : Word) → AllPass of_name (word_text w)
+pub word_passes : (w : Keyword) → AllPass of_name (word_text w)
 word_passes word.Call = (refl, (refl, (refl, (refl, tt))))
 word_passes word.Delocal = (refl, (refl, (refl, (refl, (refl, (refl, (refl, tt)))))))
 word_passes word.Do = (refl, (refl, tt))
@@ -204,7 +204,7 @@ digit_class class.Underscore e = absurd cc
 digit_class class.Space e = absurd cc
 digit_class class.Other e = absurd cc
 
-word_spelled : (w : Word) (c : ℕ) (cs : List ℕ) → c ∷ cs ≡ word_text w → class_of c ≡ class.Letter
+word_spelled : (w : Keyword) (c : ℕ) (cs : List ℕ) → c ∷ cs ≡ word_text w → class_of c ≡ class.Letter
 word_spelled w c cs e = ap (λ l. class_of (head l)) e ∙ word_head w
 
 sign_is_head : (s : Sign) (c : ℕ) (cs : List ℕ) → c ∷ cs ≡ sign_text s → class_of c ≡ class.Other
@@ -219,7 +219,7 @@ head_is (A_sign s) c cs e = sign_is_head s c cs e
 head_is (A_word w) c cs e = word_spelled w c cs e
 
 -- an item has octets
-empty_word : (w : Word) → [] ≡ word_text w → ⊥
+empty_word : (w : Keyword) → [] ≡ word_text w → ⊥
 empty_word w e = let h = ap (λ l. class_of (head l)) e ∙ word_head w in absurd cc
 
 empty_sign : (s : Sign) → [] ≡ sign_text s → ⊥

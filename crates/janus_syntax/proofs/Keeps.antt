@@ -4,7 +4,7 @@ use Rattle.std.specs.Prelude.{nat_lt, nat_eq}
 use Rattle.std.proofs.lemmas.Bool.{lt-ltb, ltb-true, eqb-true, and_parts, and_from}
 use Rattle.janus_syntax.specs.declared.token.Sign.{Sign}
 use Rattle.janus_syntax.specs.declared.token.Sign.TheVariants as sign
-use Rattle.janus_syntax.specs.declared.token.Word.{Word}
+use Rattle.janus_syntax.specs.declared.token.Keyword.{Keyword}
 use Rattle.janus_syntax.specs.declared.operator.Infix.{Infix}
 use Rattle.janus_syntax.specs.Tokens.{Token, Name, Number, Sign_of, Word_of}
 use Rattle.janus_syntax.specs.Tree.{Exp}
@@ -19,7 +19,7 @@ pub cond_some : {A : Type 0} (b : Bool) (u s : A) → cond b (Some u) None ≡ S
 cond_some true u s e = refl
 cond_some false u s e = absurd cc
 
-pub seen_word : (w : Word) (t : Token) (s : Unit {0}) → seen (The_word w) t ≡ Some s → is_word w t ≡ true
+pub seen_word : (w : Keyword) (t : Token) (s : Unit {0}) → seen (The_word w) t ≡ Some s → is_word w t ≡ true
 seen_word w (Word_of v at) s e = cond_some (nat_eq (word_number w) (word_number v)) tt s e
 seen_word w (Name x at) s e = absurd cc
 seen_word w (Number n at) s e = absurd cc
@@ -39,7 +39,7 @@ ends_statement (Word_of w at) e = refl
 ends_statement (Number n at) e = absurd cc
 ends_statement (Sign_of s at) e = absurd cc
 
-pub word_after : (w : Word) (t : Token) → is_word w t ≡ true → after_statement t ≡ true
+pub word_after : (w : Keyword) (t : Token) → is_word w t ≡ true → after_statement t ≡ true
 word_after w (Word_of v at) e = refl
 word_after w (Name x at) e = absurd cc
 word_after w (Number n at) e = absurd cc

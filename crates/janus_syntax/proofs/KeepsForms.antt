@@ -1,7 +1,7 @@
 -- Each line of the grammar's table keeps to the table of what may follow: one line here for each line there.
 use Rattle.std.proofs.Common.{◌≡◌, true, inl, inr}
 use Rattle.janus_syntax.specs.declared.token.Sign.TheVariants as sign
-use Rattle.janus_syntax.specs.declared.token.Word.TheVariants as word
+use Rattle.janus_syntax.specs.declared.token.Keyword.TheVariants as word
 use Rattle.janus_syntax.specs.Tokens.{Token, Name, Number, Sign_of, Word_of}
 use Rattle.janus_syntax.specs.Tree.{Name as Named, Exp, Stm, Declaration, Parameter, Procedure}
 use Rattle.janus_syntax.specs.Forms.{Part, Form}

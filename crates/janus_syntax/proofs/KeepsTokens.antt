@@ -3,8 +3,8 @@ use Rattle.std.proofs.Common.{◌≡◌, ℕ, Some, Bool, true, false, refl, ◌
 use Rattle.std.specs.Prelude.{◌||◌}
 use Rattle.std.proofs.lemmas.Bool.{and_parts}
 use Rattle.janus_syntax.specs.declared.token.Sign.TheVariants as sign
-use Rattle.janus_syntax.specs.declared.token.Word.{Word}
-use Rattle.janus_syntax.specs.declared.token.Word.TheVariants as word
+use Rattle.janus_syntax.specs.declared.token.Keyword.{Keyword}
+use Rattle.janus_syntax.specs.declared.token.Keyword.TheVariants as word
 use Rattle.janus_syntax.specs.declared.tree.Update.{Update}
 use Rattle.janus_syntax.specs.Tokens.{Token, Name, Number, Sign_of, Word_of}
 use Rattle.janus_syntax.specs.Tree.{Stm, Declaration, Cell}
@@ -17,7 +17,7 @@ use Rattle.janus_syntax.proofs.Keeps.{seen_word, ends_statement, word_after}
 -- Tokens that follow.
 
 -- behind a whole expression, a word
-pub ends_word : (w : Word) (t : Token) → (s : Unit {0}) × (seen (The_word w) t ≡ Some s) → ends_at weakest t ≡ true
+pub ends_word : (w : Keyword) (t : Token) → (s : Unit {0}) × (seen (The_word w) t ≡ Some s) → ends_at weakest t ≡ true
 ends_word w t (s, e) = ends_statement t (word_after w t (seen_word w t s e))
 
 -- what a statement begins with

@@ -4,8 +4,8 @@ use Rattle.janus_meaning.specs.Store.{same_name}
 use Rattle.janus_syntax.specs.declared.fault.What.TheVariants as what
 use Rattle.janus_syntax.specs.declared.token.Span.{Span}
 use Rattle.janus_syntax.specs.declared.token.Sign.TheVariants as sign
-use Rattle.janus_syntax.specs.declared.token.Word.{Word}
-use Rattle.janus_syntax.specs.declared.token.Word.TheVariants as word
+use Rattle.janus_syntax.specs.declared.token.Keyword.{Keyword}
+use Rattle.janus_syntax.specs.declared.token.Keyword.TheVariants as word
 use Rattle.janus_syntax.specs.declared.tree.Kind.{Kind}
 use Rattle.janus_syntax.specs.declared.tree.Kind.TheVariants as kind
 use Rattle.janus_syntax.specs.Tokens.{Token, Name, Number, Sign_of, Word_of}
@@ -29,14 +29,14 @@ token_differs c v t rest is other g p k S m =
     ap (λ o. follow (λ n. run all rest n) (what_of c) (suc (length rest)) (taken c all o k S m)) is
     ∙ ap (λ b. follow (λ n. run all rest n) (what_of c) (suc (length rest)) (go_if b (at (k v) S m) Differs)) other
 
-pub kind_goes : (j : Kind) (w : Word) (place : Span) (rest : List Token) → word_kind w ≡ Some j → TokenGoes (Same_kind j) j (Word_of w place ∷ rest) rest
+pub kind_goes : (j : Kind) (w : Keyword) (place : Span) (rest : List Token) → word_kind w ≡ Some j → TokenGoes (Same_kind j) j (Word_of w place ∷ rest) rest
 kind_goes j w place rest e = token_goes (Same_kind j) j (Word_of w place) rest e (same_itself j)
   where
     same_itself : (j : Kind) → same_kind j j ≡ true
     same_itself kind.Int = refl
     same_itself kind.Stack = refl
 
-pub kind_differs : (j i : Kind) (w : Word) (place : Span) (rest : List Token) → word_kind w ≡ Some i → (i ≡ j → ⊥) → TokenFails (Same_kind j) (Word_of w place ∷ rest) (DelocalName (suc (length rest)))
+pub kind_differs : (j i : Kind) (w : Keyword) (place : Span) (rest : List Token) → word_kind w ≡ Some i → (i ≡ j → ⊥) → TokenFails (Same_kind j) (Word_of w place ∷ rest) (DelocalName (suc (length rest)))
 kind_differs j i w place rest e n = token_differs (Same_kind j) i (Word_of w place) rest e (other j i n)
   where
     other : (j i : Kind) → (i ≡ j → ⊥) → same_kind j i ≡ false
@@ -45,7 +45,7 @@ kind_differs j i w place rest e n = token_differs (Same_kind j) i (Word_of w pla
     other kind.Stack kind.Int n = refl
     other kind.Stack kind.Stack n = absurd (n refl)
 
-pub no_kind : (j : Kind) (w : Word) (place : Span) (rest : List Token) → word_kind w ≡ None → TokenFails (Same_kind j) (Word_of w place ∷ rest) (Expected what.Kind (suc (length rest)))
+pub no_kind : (j : Kind) (w : Keyword) (place : Span) (rest : List Token) → word_kind w ≡ None → TokenFails (Same_kind j) (Word_of w place ∷ rest) (Expected what.Kind (suc (length rest)))
 no_kind j w place rest e = token_fails (Same_kind j) (Word_of w place) rest e
 
 pub name_goes : (x y : List ℕ) (there place : Span) (rest : List Token) → same_name x y ≡ true → TokenGoes (Same_name (named x there)) (named y place) (Name y place ∷ rest) rest

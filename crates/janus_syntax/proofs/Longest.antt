@@ -2,7 +2,7 @@
 use Rattle.std.proofs.Common.{◌≡◌, ℕ, ◌==◌, ◌||◌, ◌⊎◌, inl, inr, List, [], ◌∷◌, Bool, true, false, refl, ap, subst}
 use Rattle.janus_syntax.specs.declared.token.Sign.{Sign}
 use Rattle.janus_syntax.specs.declared.token.Sign.TheVariants as sign
-use Rattle.janus_syntax.specs.declared.token.Word.{Word}
+use Rattle.janus_syntax.specs.declared.token.Keyword.{Keyword}
 use Rattle.janus_syntax.specs.declared.lexer.Class.TheVariants as class
 use Rattle.janus_syntax.specs.Spelling.{sign_text, word_text}
 use Rattle.janus_syntax.specs.Lexical.{class_of, goes_on_number, of_name, of_number, IsNameText, IsNumberText, Item, Gap, A_name, A_number, A_sign, A_word, IsSpelled, NoLonger}
@@ -16,7 +16,7 @@ letters_of_word : (text rest : List ℕ) → class_of (head text) ≡ class.Lett
 letters_of_word [] rest k stops = absurd cc
 letters_of_word (c ∷ cs) rest k stops = letters_longest c cs rest k stops
 
-pub word_longest : (w : Word) (rest : List ℕ) → StopsAt of_name rest → NoLonger (word_text w) rest
+pub word_longest : (w : Keyword) (rest : List ℕ) → StopsAt of_name rest → NoLonger (word_text w) rest
 word_longest w rest stops = letters_of_word (word_text w) rest (word_head w) stops
 
 digit_of : (k : _) → goes_on_number k ≡ true → k ≡ class.Digit

@@ -7,14 +7,14 @@ use Rattle.std.specs.Str.{bytes_eq}
 use Rattle.janus_syntax.specs.declared.token.Span.{Span}
 use Rattle.janus_syntax.specs.declared.token.Sign.{Sign}
 use Rattle.janus_syntax.specs.declared.token.Sign.TheVariants as sign
-use Rattle.janus_syntax.specs.declared.token.Word.{Word}
-use Rattle.janus_syntax.specs.declared.token.Word.TheVariants as word
+use Rattle.janus_syntax.specs.declared.token.Keyword.{Keyword}
+use Rattle.janus_syntax.specs.declared.token.Keyword.TheVariants as word
 use Rattle.janus_syntax.specs.Spelling.{sign_text, word_text}
 use Rattle.janus_syntax.specs.Tokens.{Token}
 use Rattle.janus_syntax.specs.Lexical.{class_of, Item, Gap, A_name, A_number, A_sign, A_word, IsSpelled, IsFront, IsToken, between, Lexes, none, gap, token, AreTokens, NoItem, IsBadToken, IsTooLarge, largest_number}
 use Rattle.janus_syntax.proofs.Fronts.{head, second, head_is, some_octets, no_comment}
 
-abbrev word_from : List ℕ → Word
+abbrev word_from : List ℕ → Keyword
 word_from l =
     cond (bytes_eq l (word_text word.Call)) word.Call (
     cond (bytes_eq l (word_text word.Delocal)) word.Delocal (
@@ -39,7 +39,7 @@ word_from l =
     cond (bytes_eq l (word_text word.Uncall)) word.Uncall (
     word.Until)))))))))))))))))))))
 
-word_decodes : (w : Word) → word_from (word_text w) ≡ w
+word_decodes : (w : Keyword) → word_from (word_text w) ≡ w
 word_decodes word.Call = refl
 word_decodes word.Delocal = refl
 word_decodes word.Do = refl
@@ -63,7 +63,7 @@ word_decodes word.Top = refl
 word_decodes word.Uncall = refl
 word_decodes word.Until = refl
 
-same_word : (w v : Word) → word_text w ≡ word_text v → w ≡ v
+same_word : (w v : Keyword) → word_text w ≡ word_text v → w ≡ v
 same_word w v e = sym (word_decodes w) ∙ ap word_from e ∙ word_decodes v
 
 abbrev sign_from : List ℕ → Sign

@@ -12,7 +12,7 @@ span_of_kind : (k : TokenKind) (at : Span) → span_of (token_of k at) ≡ at
 span_of_kind (kinds.Name s) at = refl
 span_of_kind (kinds.Number n) at = refl
 span_of_kind (kinds.Sign s) at = refl
-span_of_kind (kinds.Word w) at = refl
+span_of_kind (kinds.Keyword w) at = refl
 
 pub place_at : (tokens : List code_token.Token) (i end : ℕ) (t : code_token.Token) → i < length tokens → t ≡ get_or tokens i t → t.span ≡ place_before end (drop i (views tokens))
 place_at tokens i end t h e =

@@ -3,7 +3,7 @@ use Rattle.std.proofs.Common.{◌≡◌, ℕ, ◌≤◌, List, [], ◌∷◌, �
 use Rattle.std.proofs.lemmas.List.{map-append}
 use Rattle.janus_syntax.specs.declared.token.Span.{Span}
 use Rattle.janus_syntax.specs.declared.token.Sign.TheVariants as sign
-use Rattle.janus_syntax.specs.declared.token.Word.TheVariants as word
+use Rattle.janus_syntax.specs.declared.token.Keyword.TheVariants as word
 use Rattle.janus_syntax.specs.declared.fault.What.TheVariants as what
 use Rattle.janus_syntax.specs.declared.tree.Procedure as code_procedure
 use Rattle.janus_syntax.specs.Tokens.{Token, Name, Number, Sign_of, Word_of}

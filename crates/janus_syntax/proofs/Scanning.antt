@@ -3,14 +3,15 @@ use Rattle.std.proofs.Common.{◌≡◌, ℕ, ◌+◌, ◌*◌, ◌-◌, ◌<◌
 use Rattle.std.specs.Prelude.{nat_lt, nat_eq}
 use Rattle.std.proofs.lemmas.Bool.{ltb-true, eqb-true, agree_below_at}
 use Rattle.std.proofs.str.Laws.{order}
-use Rattle.std.specs.List.{starts_with}
+use Rattle.std.specs.List.{starts_with, Contains}
 use Rattle.std.proofs.lemmas.Slice.Eq.{starts_is}
 use Rattle.std.proofs.lemmas.Bool.Decides.{Decides-eqb}
 use Rattle.std.proofs.lemmas.List.{get_or_default}
 use Rattle.janus_syntax.specs.declared.token.Sign.{Sign}
 use Rattle.janus_syntax.specs.declared.token.Sign.TheVariants as sign
-use Rattle.janus_syntax.specs.declared.token.Word.{Word}
-use Rattle.janus_syntax.specs.declared.token.Word.TheVariants as word
+use Rattle.janus_syntax.specs.declared.token.TheConstants.{KEYWORDS}
+use Rattle.janus_syntax.specs.declared.token.Keyword.{Keyword}
+use Rattle.janus_syntax.specs.declared.token.Keyword.TheVariants as word
 use Rattle.janus_syntax.specs.Spelling.{sign_text, word_text}
 use Rattle.janus_syntax.specs.Lexical.{decimal, decimal_behind, NotReserved}
 
@@ -18,10 +19,7 @@ pub decimal_grows : (n : ℕ) (cs : List ℕ) → n ≤ decimal_behind n cs
 decimal_grows n [] = omega arith
 decimal_grows n (c ∷ cs) = omega (arith, decimal_grows (n * 10 + (c - 48)) cs)
 
-abbrev pub words : List Word
-words = word.Call ∷ word.Delocal ∷ word.Do ∷ word.Else ∷ word.Empty ∷ word.Fi ∷ word.From ∷ word.If ∷ word.Int ∷ word.Local ∷ word.Loop ∷ word.Main ∷ word.Nil ∷ word.Pop ∷ word.Procedure ∷ word.Push ∷ word.Skip ∷ word.Stack ∷ word.Then ∷ word.Top ∷ word.Uncall ∷ word.Until ∷ []
-
-abbrev word_index : Word → ℕ
+abbrev word_index : Keyword → ℕ
 word_index word.Call = 0
 word_index word.Delocal = 1
 word_index word.Do = 2
@@ -45,7 +43,7 @@ word_index word.Top = 19
 word_index word.Uncall = 20
 word_index word.Until = 21
 
-word_listed : (w : Word) → get_or words (word_index w) w ≡ w
+word_listed : (w : Keyword) → get_or KEYWORDS (word_index w) w ≡ w
 word_listed word.Call = refl
 word_listed word.Delocal = refl
 word_listed word.Do = refl
@@ -69,7 +67,7 @@ word_listed word.Top = refl
 word_listed word.Uncall = refl
 word_listed word.Until = refl
 
-word_in_range : (w : Word) → nat_lt (word_index w) 22 ≡ true
+word_in_range : (w : Keyword) → nat_lt (word_index w) 22 ≡ true
 word_in_range word.Call = refl
 word_in_range word.Delocal = refl
 word_in_range word.Do = refl
@@ -93,8 +91,14 @@ word_in_range word.Top = refl
 word_in_range word.Uncall = refl
 word_in_range word.Until = refl
 
--- a text that is none of the listed words is not reserved
-pub not_reserved : (text : List ℕ) (n : ℕ) → 22 ≤ n → ((k : ℕ) (w : Word) → k < n → text ≡ word_text (get_or words k w) → ⊥) → NotReserved text
+-- each keyword is listed
+pub listed_word : (w : Keyword) → Contains KEYWORDS w
+listed_word w =
+    let few : word_index w < 22 = ltb-true (word_index w) 22 (word_in_range w) in
+    (word_index w, few, word_listed w)
+
+-- a text that is none of the listed keywords is not reserved
+pub not_reserved : (text : List ℕ) (n : ℕ) → 22 ≤ n → ((k : ℕ) (w : Keyword) → k < n → text ≡ word_text (get_or KEYWORDS k w) → ⊥) → NotReserved text
 not_reserved text n h none w e =
     let b = ltb-true (word_index w) 22 (word_in_range w) in
     none (word_index w) w (omega (arith, b, h)) (e ∙ ap word_text (sym (word_listed w)))

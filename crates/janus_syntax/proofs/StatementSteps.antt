@@ -1,8 +1,8 @@
 -- The parser's statements, over plain lists.
 use Rattle.std.proofs.Common.{◌≡◌, ℕ, ◌≤◌, List, [], ◌∷◌, Some, None, refl, sym, subst, ◌∙◌, arith}
 use Rattle.janus_syntax.specs.declared.token.Span.{Span}
-use Rattle.janus_syntax.specs.declared.token.Word.{Word}
-use Rattle.janus_syntax.specs.declared.token.Word.TheVariants as word
+use Rattle.janus_syntax.specs.declared.token.Keyword.{Keyword}
+use Rattle.janus_syntax.specs.declared.token.Keyword.TheVariants as word
 use Rattle.janus_syntax.specs.Tokens.{Token, Name, Number, Sign_of, Word_of}
 use Rattle.janus_syntax.specs.Tree.{Exp, Stm, If, Loop, Block}
 use Rattle.janus_syntax.specs.Forms.{Part, Body, Else_part, Do_part, Loop_part, Whole, Tree, The_word, Form, done, part, close}
@@ -16,7 +16,7 @@ use Rattle.janus_syntax.proofs.Parts.{moves_on, moves_stop, token_moves, token_s
 
 -- ---- parts that begin with a word and may be left out
 
-other_than : (w : Word) (q : Part) → ((t : Token) (rest : List Token) → ((behind : List Token) → BeginsWith w (t ∷ rest) behind → ⊥) → rule q t ≡ None) →
+other_than : (w : Keyword) (q : Part) → ((t : Token) (rest : List Token) → ((behind : List Token) → BeginsWith w (t ∷ rest) behind → ⊥) → rule q t ≡ None) →
     (from : List Token) → ((behind : List Token) → BeginsWith w from behind → ⊥) → (t : Token) → next from ≡ Some t → rule q t ≡ None
 other_than w q f [] h t e = absurd cc
 other_than w q f (u ∷ rest) h t e = let same : u ≡ t = cc in subst (λ x. rule q x ≡ None) same (f u rest h)
@@ -43,7 +43,7 @@ no_loop (Number n place) rest h = refl
 no_loop (Sign_of s place) rest h = refl
 
 -- one of them, and its tree
-module _ (w : Word) (q : Part) (v : Block → Tree q) (is : (place : Span) → rule q (Word_of w place) ≡ begins (part Body (λ b. done (v b)))) where
+module _ (w : Keyword) (q : Part) (v : Block → Tree q) (is : (place : Span) → rule q (Word_of w place) ≡ begins (part Body (λ b. done (v b)))) where
   word_and_body : (d : ℕ) (b : Block) (from behind rest : List Token) → d ≤ depth_limit → BeginsWith w from behind → IsPart Body d b behind rest → IsPart q d (v b) from rest
   word_and_body d b from behind rest room begins i =
       subst (λ ts. IsPart q d (v b) ts rest) (sym begins.is)

@@ -15,7 +15,7 @@ what_text what.Number = codes "number"
 what_text what.Kind = codes "kind"
 what_text what.Operator = codes "operator"
 what_text what.End = codes "end"
-what_text (what.Word w) = word_text w
+what_text (what.Keyword w) = word_text w
 what_text (what.Sign s) = sign_text s
 
 abbrev pub fault_number : SyntaxFault → ℕ

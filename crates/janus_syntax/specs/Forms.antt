@@ -5,8 +5,8 @@ use Rattle.janus_meaning.specs.Store.{same_name}
 use Rattle.janus_syntax.specs.declared.token.Span.{Span}
 use Rattle.janus_syntax.specs.declared.token.Sign.{Sign}
 use Rattle.janus_syntax.specs.declared.token.Sign.TheVariants as sign
-use Rattle.janus_syntax.specs.declared.token.Word.{Word}
-use Rattle.janus_syntax.specs.declared.token.Word.TheVariants as word
+use Rattle.janus_syntax.specs.declared.token.Keyword.{Keyword}
+use Rattle.janus_syntax.specs.declared.token.Keyword.TheVariants as word
 use Rattle.janus_syntax.specs.declared.tree.Update.{Update}
 use Rattle.janus_syntax.specs.declared.tree.Kind.{Kind}
 use Rattle.janus_syntax.specs.declared.tree.Kind.TheVariants as kind
@@ -68,7 +68,7 @@ Tree Index = Option Exp
 
 -- the classes of tokens
 pub data Class : Type 0 where
-  The_word : Word → Class
+  The_word : Keyword → Class
   The_sign : Sign → Class
   A_name : Class
   A_number : Class
@@ -86,7 +86,7 @@ Seen An_update = Update
 Seen (Same_kind k) = Kind
 Seen (Same_name x) = Named
 
-abbrev pub word_number : Word → ℕ
+abbrev pub word_number : Keyword → ℕ
 word_number word.Call = 0
 word_number word.Delocal = 1
 word_number word.Do = 2
@@ -147,7 +147,7 @@ same_kind kind.Stack kind.Int = false
 same_kind kind.Stack kind.Stack = true
 
 -- the kind of a word
-abbrev pub word_kind : Word → Option Kind
+abbrev pub word_kind : Keyword → Option Kind
 word_kind word.Int = Some kind.Int
 word_kind word.Stack = Some kind.Stack
 word_kind _ = None
@@ -176,7 +176,7 @@ agrees _ v = true
 
 -- how a class is told
 abbrev pub what_of : Class → What
-what_of (The_word w) = what.Word w
+what_of (The_word w) = what.Keyword w
 what_of (The_sign s) = what.Sign s
 what_of A_name = what.Name
 what_of A_number = what.Number

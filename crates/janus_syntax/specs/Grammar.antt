@@ -5,10 +5,11 @@ use Rattle.janus_syntax.specs.declared.fault.What.{What}
 use Rattle.janus_syntax.specs.declared.fault.What.TheVariants as what
 use Rattle.janus_syntax.specs.Tokens.{Token}
 use Rattle.janus_syntax.specs.Tree.{cell_of}
-use Rattle.janus_syntax.specs.Forms.{Part, A_cell, Declarations, Statements, Procedures, Tree, Class, Seen, seen, agrees, what_of, Form, done, take, part, close, Rule}
+use Rattle.janus_syntax.specs.Forms.{Part, A_cell, Declarations, Statements, Procedures, Tree, Class, Seen, seen, agrees, what_of, Form, done, take, part}
+use Rattle.janus_syntax.specs.Forms.{close, Rule}
 use Rattle.janus_syntax.specs.Table.{rule, left_out, label, is_bare}
 
--- How many constructs are open, and how many operators the whole expression has so far.
+-- The number of open constructs, and that of the operators that the whole expression has so far.
 pub record Count : Type 0 where
   pub depth : ℕ
   pub used : ℕ

@@ -1,10 +1,10 @@
--- The tokens of a text. At each place stands the longest item that fits: a name, a reserved word, a number, a
+-- The tokens of a text. At each place stands the longest item that fits: a name, a keyword, a number, a
 -- sign, or a gap, which is a separator or a comment.
 use Rattle.std.specs.Prelude.{◌≡◌, ℕ, ◌+◌, ◌-◌, ◌*◌, ◌<◌, ◌≤◌, ◌==◌, ◌||◌, ◌⊎◌, List, [], ◌∷◌, ◌++◌, length, Bool, true, false, if◌then◌else◌, encode_utf8}
 use Rattle.std.specs.Char.{is_ascii_alphabetic, is_ascii_digit}
 use Rattle.janus_syntax.specs.declared.token.Span.{Span}
 use Rattle.janus_syntax.specs.declared.token.Sign.{Sign}
-use Rattle.janus_syntax.specs.declared.token.Word.{Word}
+use Rattle.janus_syntax.specs.declared.token.Keyword.{Keyword}
 use Rattle.janus_syntax.specs.declared.lexer.Class.{Class}
 use Rattle.janus_syntax.specs.declared.lexer.Class.TheVariants as class
 use Rattle.janus_syntax.specs.Spelling.{sign_text, word_text}
@@ -75,10 +75,10 @@ pub data Item : Type 0 where
   A_name : List ℕ → Item
   A_number : ℕ → Item
   A_sign : Sign → Item
-  A_word : Word → Item
+  A_word : Keyword → Item
 
 abbrev pub NotReserved : List ℕ → Type 0
-NotReserved text = (w : Word) → text ≡ word_text w → ⊥
+NotReserved text = (w : Keyword) → text ≡ word_text w → ⊥
 
 -- the octets spell the item
 abbrev pub IsSpelled : Item → List ℕ → Type 0

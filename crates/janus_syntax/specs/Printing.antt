@@ -6,12 +6,14 @@ use Rattle.janus_syntax.specs.declared.token.Sign.TheVariants as sign
 use Rattle.janus_syntax.specs.declared.operator.Infix.{Infix}
 use Rattle.janus_syntax.specs.declared.tree.Operator.{Operator}
 use Rattle.janus_syntax.specs.declared.tree.Operator.TheVariants as operator
-use Rattle.janus_syntax.specs.declared.token.Word.{Word}
-use Rattle.janus_syntax.specs.declared.token.Word.TheVariants as word
+use Rattle.janus_syntax.specs.declared.token.Keyword.{Keyword}
+use Rattle.janus_syntax.specs.declared.token.Keyword.TheVariants as word
 use Rattle.janus_syntax.specs.declared.tree.Update.{Update}
 use Rattle.janus_syntax.specs.declared.tree.Update.TheVariants as update
 use Rattle.janus_syntax.specs.Spelling.{sign_text, word_text}
-use Rattle.janus_syntax.specs.Tree.{Name, named, Exp, Num, Var, Element, EmptyOf, TopOf, Neg, Bin, And, Or, Stm, Skip, Assign, AssignElement, Push, Pop, If, Loop, LocalInt, LocalStack, Call, Uncall, Block, Empty, More, Declaration, Int, Array, StackOf, Parameter, IntParameter, ArrayParameter, StackParameter, Procedure, procedure_of, Cell, cell_of}
+use Rattle.janus_syntax.specs.Tree.{Name, named, Exp, Num, Var, Element, EmptyOf, TopOf, Neg, Bin, And, Or, Stm, Skip, Assign, AssignElement, Push, Pop, If}
+use Rattle.janus_syntax.specs.Tree.{Loop, LocalInt, LocalStack, Call, Uncall, Block, Empty, More, Declaration, Int, Array, StackOf, Parameter, IntParameter}
+use Rattle.janus_syntax.specs.Tree.{ArrayParameter, StackParameter, Procedure, procedure_of, Cell, cell_of}
 use Rattle.janus_syntax.specs.Operators.{sign_infix, weakest}
 
 -- a token as it is printed, with no place
@@ -19,7 +21,7 @@ pub data Piece : Type 0 where
   A_name : List ℕ → Piece
   A_number : ℕ → Piece
   A_sign : Sign → Piece
-  A_word : Word → Piece
+  A_word : Keyword → Piece
   A_minus : Piece  -- prefix minus
   An_opening : Piece  -- the `(` behind a word or a name, before names
 
@@ -99,14 +101,14 @@ infix_pieces level s left right =
     if_needed weaker sign.Open ++ (left (sign_level s) ++ A_sign s ∷ (right (sign_level s - 1) ++ if_needed weaker sign.Close))
 
 -- a word, and behind it the names of a stack, or of a variable and a stack, in parentheses
-abbrev pub read_pieces : Word → List ℕ → List Piece
+abbrev pub read_pieces : Keyword → List ℕ → List Piece
 read_pieces w s = A_word w ∷ An_opening ∷ A_name s ∷ A_sign sign.Close ∷ []
 
-abbrev pub transfer_pieces : Word → List ℕ → List ℕ → List Piece
+abbrev pub transfer_pieces : Keyword → List ℕ → List ℕ → List Piece
 transfer_pieces w x s = A_word w ∷ An_opening ∷ A_name x ∷ A_sign sign.Comma ∷ A_name s ∷ A_sign sign.Close ∷ []
 
 -- `local` or `delocal`, a kind, a name and `=`
-abbrev pub binding_pieces : Word → Word → List ℕ → List Piece
+abbrev pub binding_pieces : Keyword → Keyword → List ℕ → List Piece
 binding_pieces v w x = A_word v ∷ A_word w ∷ A_name x ∷ A_sign sign.Equals ∷ []
 
 -- names parted by commas
@@ -119,7 +121,7 @@ names_pieces [] = []
 names_pieces (named x at ∷ xs) = A_name x ∷ more_names_pieces xs
 
 -- `call` or `uncall`, a name, and names in parentheses
-abbrev pub call_pieces : Word → List ℕ → List Name → List Piece
+abbrev pub call_pieces : Keyword → List ℕ → List Name → List Piece
 call_pieces w f xs = A_word w ∷ A_name f ∷ An_opening ∷ (names_pieces xs ++ A_sign sign.Close ∷ [])
 
 -- an expression in a place for operators of at most that level

@@ -6,7 +6,8 @@ use Rattle.janus_syntax.specs.declared.fault.What.TheVariants as what
 use Rattle.janus_syntax.specs.Tokens.{Token}
 use Rattle.janus_syntax.specs.Forms.{Part, Tree, Class, Seen, seen, agrees, Form, done, take, part, close, Rule}
 use Rattle.janus_syntax.specs.Table.{rule, left_out}
-use Rattle.janus_syntax.specs.Grammar.{Count, zero_count, entered, closed, fits, Demands, met, text_form, Next, Wanted, Complete, required, Refusal, Expected, TooNested, DelocalName}
+use Rattle.janus_syntax.specs.Grammar.{Count, zero_count, entered, closed, fits, Demands, met, text_form, Next, Wanted, Complete, required, Refusal}
+use Rattle.janus_syntax.specs.Grammar.{Expected, TooNested, DelocalName}
 
 -- what waits for a part's tree, where the whole is to be the part `goal`
 pub data Stack (goal : Part) : Part → Type 0 where

@@ -6,7 +6,7 @@ use Rattle.janus_syntax.specs.declared.fault.What.TheVariants as what
 use Rattle.janus_syntax.specs.declared.fault.SyntaxFault.{SyntaxFault}
 use Rattle.janus_syntax.specs.declared.fault.SyntaxFault.TheVariants as fault
 use Rattle.janus_syntax.specs.declared.token.Span.{Span}
-use Rattle.janus_syntax.specs.declared.token.Word.{Word}
+use Rattle.janus_syntax.specs.declared.token.Keyword.{Keyword}
 use Rattle.janus_syntax.specs.declared.token.Sign.{Sign}
 use Rattle.janus_syntax.specs.declared.operator.Infix.{Infix}
 use Rattle.janus_syntax.specs.declared.problem.Problem.{Problem}
@@ -73,7 +73,7 @@ FailsVariableAndStack from e = (goal p : Part) (k : Named → Named → Form p) 
     run all from (at (variable_and_stack_then k) S m) ≡ outcome_of e
 
 -- this word at the front
-pub record BeginsWith (w : Word) (from behind : List Token) : Type 0 where
+pub record BeginsWith (w : Keyword) (from behind : List Token) : Type 0 where
   pub at : Span
   pub is : from ≡ Word_of w at ∷ behind
 

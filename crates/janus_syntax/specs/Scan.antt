@@ -11,7 +11,8 @@ use Rattle.janus_syntax.specs.declared.fault.SyntaxFault.{SyntaxFault}
 use Rattle.janus_syntax.specs.declared.fault.SyntaxFault.TheVariants as fault
 use Rattle.janus_syntax.specs.Tokens.{token_of}
 use Rattle.janus_syntax.specs.Spelling.{sign_text}
-use Rattle.janus_syntax.specs.Lexical.{goes_on_name, goes_on_number, IsNameText, IsNumberText, Item, IsSpelled, Gap, A_number, IsToken, NoLonger, largest_number}
+use Rattle.janus_syntax.specs.Lexical.{goes_on_name, goes_on_number, IsNameText, IsNumberText, Item, IsSpelled, Gap, A_number, IsToken, NoLonger}
+use Rattle.janus_syntax.specs.Lexical.{largest_number}
 
 -- how a run goes on that begins with an octet of the first class
 abbrev pub goes_on : Class → Class → Bool

@@ -1,9 +1,9 @@
--- How signs and reserved words are written.
+-- How signs and keywords are written.
 use Rattle.std.specs.Prelude.{ℕ, List, codes}
 use Rattle.janus_syntax.specs.declared.token.Sign.{Sign}
 use Rattle.janus_syntax.specs.declared.token.Sign.TheVariants as sign
-use Rattle.janus_syntax.specs.declared.token.Word.{Word}
-use Rattle.janus_syntax.specs.declared.token.Word.TheVariants as word
+use Rattle.janus_syntax.specs.declared.token.Keyword.{Keyword}
+use Rattle.janus_syntax.specs.declared.token.Keyword.TheVariants as word
 
 abbrev pub sign_text : Sign → List ℕ
 sign_text sign.PlusEquals = codes "+="
@@ -31,7 +31,7 @@ sign_text sign.OpenIndex = codes "["
 sign_text sign.CloseIndex = codes "]"
 sign_text sign.Comma = codes ","
 
-abbrev pub word_text : Word → List ℕ
+abbrev pub word_text : Keyword → List ℕ
 word_text word.Call = codes "call"
 word_text word.Delocal = codes "delocal"
 word_text word.Do = codes "do"

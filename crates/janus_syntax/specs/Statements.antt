@@ -2,8 +2,8 @@
 use Rattle.std.specs.Prelude.{◌≡◌, ℕ, ◌<◌, ◌≤◌, List, [], ◌∷◌, ◌++◌, length, Option, Some, None, Bool, true, false, string_bytes}
 use Rattle.std.specs.Borrow.{Bor}
 use Rattle.janus_syntax.specs.declared.fault.What.TheVariants as what
-use Rattle.janus_syntax.specs.declared.token.Word.{Word}
-use Rattle.janus_syntax.specs.declared.token.Word.TheVariants as word
+use Rattle.janus_syntax.specs.declared.token.Keyword.{Keyword}
+use Rattle.janus_syntax.specs.declared.token.Keyword.TheVariants as word
 use Rattle.janus_syntax.specs.declared.token.Sign.TheVariants as sign
 use Rattle.janus_syntax.specs.declared.token.Token as code_token
 use Rattle.janus_syntax.specs.declared.tree.Name as code_name
@@ -12,8 +12,10 @@ use Rattle.janus_syntax.specs.declared.tree.Stm as code_stm
 use Rattle.janus_syntax.specs.declared.tree.Declaration as code_declaration
 use Rattle.janus_syntax.specs.Tokens.{Token, Name, Word_of, views}
 use Rattle.janus_syntax.specs.Tree.{Name as Named, Exp, Stm, If, Loop, Block, Empty, More, Declaration, Cell, cell_of, stm_view, declaration_view}
-use Rattle.janus_syntax.specs.Forms.{Part, Body, Statements, Names, More_names, Declarations, Bound, Whole, Else_part, Do_part, Loop_part, Target_index, A_name, The_word, The_sign, An_update, Form, take, part, close}
-use Rattle.janus_syntax.specs.Table.{word_then, call_then, delocal_then, local_int, local_stack, statement, declaration, declared, assignment, skip_block, is_bare}
+use Rattle.janus_syntax.specs.Forms.{Part, Body, Statements, Names, More_names, Declarations, Bound, Whole, Else_part, Do_part, Loop_part, Target_index}
+use Rattle.janus_syntax.specs.Forms.{A_name, The_word, The_sign, An_update, Form, take, part, close}
+use Rattle.janus_syntax.specs.Table.{word_then, call_then, delocal_then, local_int, local_stack, statement, declaration, declared, assignment, skip_block}
+use Rattle.janus_syntax.specs.Table.{is_bare}
 use Rattle.janus_syntax.specs.Grammar.{Count, all, depth_limit, operator_limit, Refusal, Expected}
 use Rattle.janus_syntax.specs.Reader.{Stack, at, run, start, Outcome, Ended, outcome_of, next}
 use Rattle.janus_syntax.specs.Reading.{begun, count, BeginsWith, TokenGoes, Stands, Moves, Stops, IsPart, FailsPart}
@@ -54,7 +56,7 @@ IsStmOrOther depth from None = is_statement (next from) ≡ false
 IsStmOrOther depth from (Some x) = IsStm depth (stm_view x.0) from (views x.1.now)
 
 -- whether a word begins a construct
-abbrev pub opens_construct : Word → Bool
+abbrev pub opens_construct : Keyword → Bool
 opens_construct word.If = true
 opens_construct word.From = true
 opens_construct word.Local = true
@@ -205,11 +207,11 @@ pub record AreStatements (depth : ℕ) (before now : Block) (from rest : List To
   pub part : IsPart Statements depth block from rest
 
 -- a word and a body, or another word and nothing
-pub data IsOptional (w : Word) (depth : ℕ) : Block → List Token → List Token → Type 0 where
+pub data IsOptional (w : Keyword) (depth : ℕ) : Block → List Token → List Token → Type 0 where
   there : {b : Block} {from behind rest : List Token} → BeginsWith w from behind → IsPart Body depth b behind rest → IsOptional w depth b from rest
   left : {from : List Token} → ((behind : List Token) → BeginsWith w from behind → ⊥) → IsOptional w depth skip_block from from
 
-abbrev pub FailsOptional : Word → ℕ → List Token → Refusal → Type 0
+abbrev pub FailsOptional : Keyword → ℕ → List Token → Refusal → Type 0
 FailsOptional w depth from e = (behind : List Token) × BeginsWith w from behind × FailsPart Body depth behind e
 
 -- an `if` up to `fi`, and a loop up to `until`

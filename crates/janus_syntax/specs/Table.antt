@@ -5,8 +5,8 @@ use Rattle.std.specs.Prelude.{ℕ, zero, suc, ◌-◌, List, [], ◌∷◌, ◌+
 use Rattle.janus_syntax.specs.declared.token.Span.{Span}
 use Rattle.janus_syntax.specs.declared.token.Sign.{Sign}
 use Rattle.janus_syntax.specs.declared.token.Sign.TheVariants as sign
-use Rattle.janus_syntax.specs.declared.token.Word.{Word}
-use Rattle.janus_syntax.specs.declared.token.Word.TheVariants as word
+use Rattle.janus_syntax.specs.declared.token.Keyword.{Keyword}
+use Rattle.janus_syntax.specs.declared.token.Keyword.TheVariants as word
 use Rattle.janus_syntax.specs.declared.operator.Infix.{Infix}
 use Rattle.janus_syntax.specs.declared.tree.Update.{Update}
 use Rattle.janus_syntax.specs.declared.tree.Kind.{Kind}
@@ -14,9 +14,13 @@ use Rattle.janus_syntax.specs.declared.tree.Kind.TheVariants as kind
 use Rattle.janus_syntax.specs.declared.fault.What.{What}
 use Rattle.janus_syntax.specs.declared.fault.What.TheVariants as what
 use Rattle.janus_syntax.specs.Tokens.{Token, Name, Number, Sign_of, Word_of}
-use Rattle.janus_syntax.specs.Tree.{Name as Named, named, Exp, Num, Var, Element, EmptyOf, TopOf, Neg, Stm, Skip, Assign, AssignElement, Push, Pop, If, Loop, LocalInt, LocalStack, Call, Uncall, Block, Empty, More, Declaration, Int, Array, StackOf, Parameter, IntParameter, ArrayParameter, StackParameter, Procedure, procedure_of, Cell, cell_of}
+use Rattle.janus_syntax.specs.Tree.{Name as Named, named, Exp, Num, Var, Element, EmptyOf, TopOf, Neg, Stm, Skip, Assign, AssignElement, Push, Pop, If}
+use Rattle.janus_syntax.specs.Tree.{Loop, LocalInt, LocalStack, Call, Uncall, Block, Empty, More, Declaration, Int, Array, StackOf, Parameter, IntParameter}
+use Rattle.janus_syntax.specs.Tree.{ArrayParameter, StackParameter, Procedure, procedure_of, Cell, cell_of}
 use Rattle.janus_syntax.specs.Operators.{weakest, joined, operator_at}
-use Rattle.janus_syntax.specs.Forms.{Part, A_cell, Declarations, Bound, Procedures, A_procedure, Parameters, More_parameters, A_parameter, Brackets, Body, Statements, Else_part, Do_part, Loop_part, Local, Names, More_names, Target_index, Whole, Level, Chain, Index, Tree, The_word, The_sign, A_name, A_number, An_update, Same_kind, Same_name, Form, done, take, part, close, Rule}
+use Rattle.janus_syntax.specs.Forms.{Part, A_cell, Declarations, Bound, Procedures, A_procedure, Parameters, More_parameters, A_parameter, Brackets, Body}
+use Rattle.janus_syntax.specs.Forms.{Statements, Else_part, Do_part, Loop_part, Local, Names, More_names, Target_index, Whole, Level, Chain, Index, Tree}
+use Rattle.janus_syntax.specs.Forms.{The_word, The_sign, A_name, A_number, An_update, Same_kind, Same_name, Form, done, take, part, close, Rule}
 
 -- rules with and without marks
 abbrev pub marked : {p : Part} → ℕ → ℕ → Form p → Option (Rule p)
@@ -37,7 +41,7 @@ whole (Some r) = Some (record { opens = r.opens; counts = r.counts; is_whole = t
 whole None = None
 
 -- fixed tokens in a row
-abbrev pub word_then : {p : Part} → Word → Form p → Form p
+abbrev pub word_then : {p : Part} → Keyword → Form p → Form p
 word_then w f = take (The_word w) (λ v. f)
 
 abbrev pub sign_then : {p : Part} → Sign → Form p → Form p

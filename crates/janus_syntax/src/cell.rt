@@ -15,7 +15,7 @@ use crate::item::{behind_sign, name, number, sign_at, word_at};
 use crate::problem::Problem;
 use crate::procedure::procedures;
 use crate::statement::statements;
-use crate::token::{Sign, Token, Word};
+use crate::token::{Keyword, Sign, Token};
 use crate::tree::{Cell, Declaration, Exp, Name, Stm};
 use std::alloc::Global;
 
@@ -23,12 +23,12 @@ use std::alloc::Global;
 fn declaration(tokens: &[Token]) -> Result<Option<(Declaration, &[Token])>, Problem>
     ensures { Reads (IsDeclarationOrOther (views tokens.now)) (FailsDeclaration (views tokens.now)) result }
 {
-    if let Some(rest) = word_at(Word::Int, tokens) {
+    if let Some(rest) = word_at(Keyword::Int, tokens) {
         let (name, rest) = name(rest)?;
         let (declaration, rest) = bound(name, rest)?;
         return Ok(Some((declaration, rest)));
     }
-    let Some(rest) = word_at(Word::Stack, tokens) else {
+    let Some(rest) = word_at(Keyword::Stack, tokens) else {
         return Ok(None);
     };
     let (stack, rest) = name(rest)?;

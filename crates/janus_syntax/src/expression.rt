@@ -14,17 +14,17 @@ use crate::fault::What;
 use crate::item::{behind_sign, sign_at, stack};
 use crate::operator::{Infix, Joint, infix_of};
 use crate::problem::Problem;
-use crate::token::{Sign, Token, TokenKind, Word};
+use crate::token::{Keyword, Sign, Token, TokenKind};
 use crate::tree::{Exp, Name};
 use std::alloc::{AllocError, Global};
 
 /// The level of the operators that bind weakest.
 const WEAKEST: u8 = 8;
 
-/// How many operators one whole expression has at most.
+/// The most operators that one whole expression may have.
 const OPERATOR_LIMIT: usize = 256;
 
-/// How many constructs are open at once, at most.
+/// The most constructs that may be open at once.
 pub(crate) const DEPTH_LIMIT: usize = 64;
 
 /// Two expressions with an operator between them.
@@ -88,12 +88,12 @@ fn operand(
                 left: tokens.len(),
             }),
         },
-        TokenKind::Word(word) => match word {
-            Word::Empty => {
+        TokenKind::Keyword(word) => match word {
+            Keyword::Empty => {
                 let (stack, rest) = stack(rest)?;
                 Ok((Exp::Empty(stack), used, rest))
             }
-            Word::Top => {
+            Keyword::Top => {
                 let (stack, rest) = stack(rest)?;
                 Ok((Exp::Top(stack), used, rest))
             }

@@ -4,7 +4,7 @@ ghost use Rattle.std.specs.Prelude.{◌≡◌};
 ghost use Rattle.janus_syntax.specs.declared.fault.SyntaxFault.TheVariants.{Memory};
 ghost use Rattle.janus_syntax.specs.Fault.{what_text, fault_number, fault_name, fault_span};
 
-use crate::token::{Sign, Span, Word};
+use crate::token::{Keyword, Sign, Span};
 use std::alloc::{AllocError, AllocFailed};
 use thiserror::Error;
 
@@ -19,7 +19,7 @@ pub enum What {
     Kind,
     Operator,
     End,
-    Word(Word),
+    Keyword(Keyword),
     Sign(Sign),
 }
 
@@ -36,7 +36,7 @@ impl What {
             What::Kind => "kind",
             What::Operator => "operator",
             What::End => "end",
-            What::Word(word) => word.text(),
+            What::Keyword(word) => word.text(),
             What::Sign(sign) => sign.text(),
         }
     }

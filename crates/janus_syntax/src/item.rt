@@ -5,12 +5,13 @@ ghost use Rattle.janus_syntax.specs.Tree.{name_view};
 ghost use Rattle.janus_syntax.specs.Tokens.{Token as AToken, views};
 ghost use Rattle.janus_syntax.specs.Forms.{The_word, The_sign, A_name, A_number, An_update, Same_kind, Same_name, word_kind};
 ghost use Rattle.janus_syntax.specs.Statements.{IsDelocal, FailsDelocal};
-ghost use Rattle.janus_syntax.specs.Reading.{Reads, TokenGoes, TokenFails, IsStack, FailsStack, IsVariableAndStack, FailsVariableAndStack, BeginsWith, BeginsWithSign};
+ghost use Rattle.janus_syntax.specs.Reading.{Reads, TokenGoes, TokenFails, IsStack, FailsStack, IsVariableAndStack, FailsVariableAndStack, BeginsWith};
+ghost use Rattle.janus_syntax.specs.Reading.{BeginsWithSign};
 
 use crate::fault::What;
 use crate::operator;
 use crate::problem::Problem;
-use crate::token::{Sign, Span, Token, TokenKind, Word};
+use crate::token::{Keyword, Sign, Span, Token, TokenKind};
 use crate::tree::{Kind, Name, Update};
 
 /// The tokens behind this sign, if it stands at the front.
@@ -39,25 +40,25 @@ pub(crate) fn behind_sign(sign: Sign, tokens: &[Token]) -> Result<&[Token], Prob
 }
 
 /// The tokens behind this word, if it stands at the front.
-pub(crate) fn word_at(word: Word, tokens: &[Token]) -> Option<&[Token]>
+pub(crate) fn word_at(word: Keyword, tokens: &[Token]) -> Option<&[Token]>
     ensures found { IfSome result (λ rest. BeginsWith word (views tokens.now) (views rest.now)) }
     ensures none { IfNone result ((behind : List AToken) → BeginsWith word (views tokens.now) behind → ⊥) }
 {
     let (first, rest) = tokens.split_first()?;
     match &first.kind {
-        TokenKind::Word(found) => { if *found == word { Some(rest) } else { None } }
+        TokenKind::Keyword(found) => { if *found == word { Some(rest) } else { None } }
         _ => None,
     }
 }
 
 /// Behind this word.
-pub(crate) fn behind_word(word: Word, tokens: &[Token]) -> Result<&[Token], Problem>
+pub(crate) fn behind_word(word: Keyword, tokens: &[Token]) -> Result<&[Token], Problem>
     ensures { Reads (λ rest. TokenGoes (The_word word) tt (views tokens.now) (views rest.now)) (TokenFails (The_word word) (views tokens.now)) result }
 {
     match word_at(word, tokens) {
         Some(rest) => Ok(rest),
         None => Err(Problem::Expected {
-            what: What::Word(word),
+            what: What::Keyword(word),
             left: tokens.len(),
         }),
     }
@@ -130,13 +131,13 @@ pub(crate) fn number(tokens: &[Token]) -> Result<(u32, Span, &[Token]), Problem>
     }
 }
 
-/// The kind that a word is.
-fn kind_of(word: Word) -> Option<Kind>
+/// The kind that a keyword is.
+fn kind_of(word: Keyword) -> Option<Kind>
     ensures { result ≡ word_kind word }
 {
     match word {
-        Word::Int => Some(Kind::Int),
-        Word::Stack => Some(Kind::Stack),
+        Keyword::Int => Some(Kind::Int),
+        Keyword::Stack => Some(Kind::Stack),
         _ => None,
     }
 }
@@ -152,7 +153,7 @@ fn same_kind(kind: Kind, tokens: &[Token]) -> Result<&[Token], Problem>
         });
     };
     let found = match &first.kind {
-        TokenKind::Word(word) => kind_of(*word),
+        TokenKind::Keyword(word) => kind_of(*word),
         _ => None,
     };
     match found {
@@ -212,7 +213,7 @@ pub(crate) fn behind_delocal<'a>(
     ensures { Reads (λ x. IsDelocal kind (name_view name.now) (name_view x.0) (views tokens.now) (views x.1.now))
         (FailsDelocal kind (name_view name.now) (views tokens.now)) result }
 {
-    let rest = behind_word(Word::Delocal, tokens)?;
+    let rest = behind_word(Keyword::Delocal, tokens)?;
     let rest = same_kind(kind, rest)?;
     let (again, rest) = same_name(name, rest)?;
     let rest = behind_sign(Sign::Equals, rest)?;

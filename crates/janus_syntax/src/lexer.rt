@@ -10,7 +10,7 @@ ghost use Rattle.janus_syntax.specs.Text.{IsLexed, IsOnly};
 ghost use Rattle.janus_syntax.specs.Tokens.{Token as AToken};
 
 use crate::fault::SyntaxFault;
-use crate::token::{Sign, Span, Token, TokenKind, Word};
+use crate::token::{KEYWORDS, Keyword, Sign, Span, Token, TokenKind};
 use std::alloc::Global;
 
 /// The kinds of octets.
@@ -31,32 +31,6 @@ enum Front {
     Digits,
     Sign(Sign),
 }
-
-/// All reserved words.
-const WORDS: [Word; 22] = [
-    Word::Call,
-    Word::Delocal,
-    Word::Do,
-    Word::Else,
-    Word::Empty,
-    Word::Fi,
-    Word::From,
-    Word::If,
-    Word::Int,
-    Word::Local,
-    Word::Loop,
-    Word::Main,
-    Word::Nil,
-    Word::Pop,
-    Word::Procedure,
-    Word::Push,
-    Word::Skip,
-    Word::Stack,
-    Word::Then,
-    Word::Top,
-    Word::Uncall,
-    Word::Until,
-];
 
 /// All signs, those of two octets first.
 const SIGNS: [Sign; 24] = [
@@ -134,11 +108,11 @@ fn line_len(octets: &[u8]) -> usize
     n
 }
 
-/// The reserved word that the text is.
-fn word_at(text: &str) -> Option<Word>
+/// The keyword that the text is.
+fn word_at(text: &str) -> Option<Keyword>
     ensures { MatchOption result (NotReserved text.now) (λ w. text.now ≡ word_text w) }
 {
-    for word in WORDS {
+    for word in KEYWORDS {
         if word.text() == text {
             return Some(word);
         }
@@ -222,7 +196,7 @@ fn token_kind(
     match front {
         Front::Gap => Ok(None),
         Front::Letters => match word_at(text) {
-            Some(word) => Ok(Some(TokenKind::Word(word))),
+            Some(word) => Ok(Some(TokenKind::Keyword(word))),
             None => Ok(Some(TokenKind::Name(String::from_str(alloc, text)?))),
         },
         Front::Digits => match number(text.as_bytes()) {

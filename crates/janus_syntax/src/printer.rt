@@ -1,12 +1,17 @@
 //! From a tree to its text.
 
 ghost use Rattle.std.specs.Prelude.{◌≡◌, IfOk, string_bytes, [], ◌∷◌};
-ghost use Rattle.janus_syntax.specs.Tree.{names_view, exp_view, stm_view, block_view, declaration_view, declarations_view, parameter_view, parameters_view, procedure_view, procedures_view, cell_view};
+ghost use Rattle.janus_syntax.specs.Tree.{names_view, exp_view, stm_view, block_view, declaration_view, declarations_view, parameter_view, parameters_view};
+ghost use Rattle.janus_syntax.specs.Tree.{procedure_view, procedures_view, cell_view};
 ghost use Rattle.janus_syntax.specs.Printed.{line_view};
-ghost use Rattle.janus_syntax.specs.Printing.{A_name, A_number, A_sign, A_word, An_opening, read_pieces, transfer_pieces, binding_pieces, more_names_pieces, names_pieces, call_pieces, with_text, with_piece, with_pieces, if_needed, operator_sign, sign_level, exp_pieces, update_sign, whole_pieces, stm_pieces, block_pieces, declaration_pieces, declarations_pieces, parameter_pieces, more_parameters_pieces, parameters_pieces, procedure_pieces, procedures_pieces, printed, printed_procedure, printed_exp};
+ghost use Rattle.janus_syntax.specs.Printing.{A_name, A_number, A_sign, A_word, An_opening, read_pieces, transfer_pieces, binding_pieces};
+ghost use Rattle.janus_syntax.specs.Printing.{more_names_pieces, names_pieces, call_pieces, with_text, with_piece, with_pieces, if_needed, operator_sign};
+ghost use Rattle.janus_syntax.specs.Printing.{sign_level, exp_pieces, update_sign, whole_pieces, stm_pieces, block_pieces, declaration_pieces};
+ghost use Rattle.janus_syntax.specs.Printing.{declarations_pieces, parameter_pieces, more_parameters_pieces, parameters_pieces, procedure_pieces};
+ghost use Rattle.janus_syntax.specs.Printing.{procedures_pieces, printed, printed_procedure, printed_exp};
 
 use crate::operator::infix_of;
-use crate::token::{Sign, Word};
+use crate::token::{Keyword, Sign};
 use crate::tree::{Cell, Declaration, Exp, Name, Operator, Parameter, Procedure, Stm, Update};
 use std::alloc::{AllocError, Global};
 
@@ -50,7 +55,7 @@ fn put_if(line: &mut Line, needed: bool, sign: Sign) -> Result<(), AllocError>
 }
 
 /// One word more.
-fn put_word(line: &mut Line, word: Word) -> Result<(), AllocError>
+fn put_word(line: &mut Line, word: Keyword) -> Result<(), AllocError>
     ensures { IfOk result (λ u. line_view line.new ≡ with_piece (line_view line.old) (A_word word)) }
 {
     put(line, false, word.text(), false)
@@ -71,7 +76,7 @@ fn put_number(alloc: Global, line: &mut Line, number: u32) -> Result<(), AllocEr
     put(line, false, &digits, false)
 }
 
-/// The `(` behind a word or a name, before names.
+/// The `(` behind a keyword or a name, before names.
 fn put_opening(line: &mut Line) -> Result<(), AllocError>
     ensures { IfOk result (λ u. line_view line.new ≡ with_piece (line_view line.old) An_opening) }
 {
@@ -79,15 +84,15 @@ fn put_opening(line: &mut Line) -> Result<(), AllocError>
 }
 
 /// A word, and behind it `(`.
-fn put_head(line: &mut Line, word: Word) -> Result<(), AllocError>
+fn put_head(line: &mut Line, word: Keyword) -> Result<(), AllocError>
     ensures { IfOk result (λ u. line_view line.new ≡ with_pieces (line_view line.old) (A_word word ∷ An_opening ∷ [])) }
 {
     put_word(line, word)?;
     put_opening(line)
 }
 
-/// What is read of a stack: a word, and behind it the stack's name in parentheses.
-fn put_read(line: &mut Line, word: Word, stack: &Name) -> Result<(), AllocError>
+/// What is read of a stack: a keyword, and behind it the stack's name in parentheses.
+fn put_read(line: &mut Line, word: Keyword, stack: &Name) -> Result<(), AllocError>
     ensures { IfOk result (λ u. line_view line.new ≡ with_pieces (line_view line.old) (read_pieces word (string_bytes stack.now.text))) }
 {
     put_head(line, word)?;
@@ -95,10 +100,10 @@ fn put_read(line: &mut Line, word: Word, stack: &Name) -> Result<(), AllocError>
     put_sign(line, Sign::Close)
 }
 
-/// What goes between a variable and a stack: a word, and behind it both names in parentheses.
+/// What goes between a variable and a stack: a keyword, and behind it both names in parentheses.
 fn put_transfer(
     line: &mut Line,
-    word: Word,
+    word: Keyword,
     variable: &Name,
     stack: &Name,
 ) -> Result<(), AllocError>
@@ -113,7 +118,7 @@ fn put_transfer(
 }
 
 /// `local` or `delocal`, a kind, a name and `=`.
-fn put_binding(line: &mut Line, word: Word, kind: Word, name: &Name) -> Result<(), AllocError>
+fn put_binding(line: &mut Line, word: Keyword, kind: Keyword, name: &Name) -> Result<(), AllocError>
     ensures { IfOk result (λ u. line_view line.new ≡ with_pieces (line_view line.old) (binding_pieces word kind (string_bytes name.now.text))) }
 {
     put_word(line, word)?;
@@ -147,7 +152,7 @@ fn put_names(line: &mut Line, names: &[Name]) -> Result<(), AllocError>
 /// `call` or `uncall`, a name, and names in parentheses.
 fn put_call(
     line: &mut Line,
-    word: Word,
+    word: Keyword,
     procedure: &Name,
     arguments: &[Name],
 ) -> Result<(), AllocError>
@@ -208,8 +213,8 @@ fn put_exp(alloc: Global, line: &mut Line, exp: &Exp, level: u8) -> Result<(), A
             put_sign(line, Sign::CloseIndex)?;
             Ok(())
         }
-        Exp::Empty(name) => put_read(line, Word::Empty, name),
-        Exp::Top(name) => put_read(line, Word::Top, name),
+        Exp::Empty(name) => put_read(line, Keyword::Empty, name),
+        Exp::Top(name) => put_read(line, Keyword::Top, name),
         Exp::Negative(operand) => {
             put(line, false, "-", true)?;
             put_exp(alloc, line, operand, 0)
@@ -267,7 +272,7 @@ fn put_stm(alloc: Global, line: &mut Line, statement: &Stm) -> Result<(), AllocE
     ensures { IfOk result (λ u. line_view line.new ≡ with_pieces (line_view line.old) (stm_pieces (stm_view statement.now))) }
 {
     match statement {
-        Stm::Skip => put_word(line, Word::Skip),
+        Stm::Skip => put_word(line, Keyword::Skip),
         Stm::Assign(name, update, exp) => {
             put_name(line, name)?;
             put_sign(line, sign_of_update(*update))?;
@@ -282,48 +287,48 @@ fn put_stm(alloc: Global, line: &mut Line, statement: &Stm) -> Result<(), AllocE
             put_whole(alloc, line, exp)?;
             Ok(())
         }
-        Stm::Push(variable, stack) => put_transfer(line, Word::Push, variable, stack),
-        Stm::Pop(variable, stack) => put_transfer(line, Word::Pop, variable, stack),
+        Stm::Push(variable, stack) => put_transfer(line, Keyword::Push, variable, stack),
+        Stm::Pop(variable, stack) => put_transfer(line, Keyword::Pop, variable, stack),
         Stm::If(test, then_part, else_part, assertion) => {
-            put_word(line, Word::If)?;
+            put_word(line, Keyword::If)?;
             put_whole(alloc, line, test)?;
-            put_word(line, Word::Then)?;
+            put_word(line, Keyword::Then)?;
             put_block(alloc, line, then_part)?;
-            put_word(line, Word::Else)?;
+            put_word(line, Keyword::Else)?;
             put_block(alloc, line, else_part)?;
-            put_word(line, Word::Fi)?;
+            put_word(line, Keyword::Fi)?;
             put_whole(alloc, line, assertion)?;
             Ok(())
         }
         Stm::Loop(assertion, do_part, loop_part, test) => {
-            put_word(line, Word::From)?;
+            put_word(line, Keyword::From)?;
             put_whole(alloc, line, assertion)?;
-            put_word(line, Word::Do)?;
+            put_word(line, Keyword::Do)?;
             put_block(alloc, line, do_part)?;
-            put_word(line, Word::Loop)?;
+            put_word(line, Keyword::Loop)?;
             put_block(alloc, line, loop_part)?;
-            put_word(line, Word::Until)?;
+            put_word(line, Keyword::Until)?;
             put_whole(alloc, line, test)?;
             Ok(())
         }
         Stm::LocalInt(name, exp, body, again, test) => {
-            put_binding(line, Word::Local, Word::Int, name)?;
+            put_binding(line, Keyword::Local, Keyword::Int, name)?;
             put_whole(alloc, line, exp)?;
             put_block(alloc, line, body)?;
-            put_binding(line, Word::Delocal, Word::Int, again)?;
+            put_binding(line, Keyword::Delocal, Keyword::Int, again)?;
             put_whole(alloc, line, test)?;
             Ok(())
         }
         Stm::LocalStack(name, body, again) => {
-            put_binding(line, Word::Local, Word::Stack, name)?;
-            put_word(line, Word::Nil)?;
+            put_binding(line, Keyword::Local, Keyword::Stack, name)?;
+            put_word(line, Keyword::Nil)?;
             put_block(alloc, line, body)?;
-            put_binding(line, Word::Delocal, Word::Stack, again)?;
-            put_word(line, Word::Nil)?;
+            put_binding(line, Keyword::Delocal, Keyword::Stack, again)?;
+            put_word(line, Keyword::Nil)?;
             Ok(())
         }
-        Stm::Call(procedure, arguments) => put_call(line, Word::Call, procedure, arguments),
-        Stm::Uncall(procedure, arguments) => put_call(line, Word::Uncall, procedure, arguments),
+        Stm::Call(procedure, arguments) => put_call(line, Keyword::Call, procedure, arguments),
+        Stm::Uncall(procedure, arguments) => put_call(line, Keyword::Uncall, procedure, arguments),
     }
 }
 
@@ -350,18 +355,18 @@ fn put_declaration(
 {
     match declaration {
         Declaration::Int(name) => {
-            put_word(line, Word::Int)?;
+            put_word(line, Keyword::Int)?;
             put_name(line, name)
         }
         Declaration::Array(name, length, _) => {
-            put_word(line, Word::Int)?;
+            put_word(line, Keyword::Int)?;
             put_name(line, name)?;
             put_sign(line, Sign::OpenIndex)?;
             put_number(alloc, line, *length)?;
             put_sign(line, Sign::CloseIndex)
         }
         Declaration::Stack(name) => {
-            put_word(line, Word::Stack)?;
+            put_word(line, Keyword::Stack)?;
             put_name(line, name)
         }
     }
@@ -389,17 +394,17 @@ fn put_parameter(line: &mut Line, parameter: &Parameter) -> Result<(), AllocErro
 {
     match parameter {
         Parameter::Int(name) => {
-            put_word(line, Word::Int)?;
+            put_word(line, Keyword::Int)?;
             put_name(line, name)
         }
         Parameter::Array(name) => {
-            put_word(line, Word::Int)?;
+            put_word(line, Keyword::Int)?;
             put_name(line, name)?;
             put_sign(line, Sign::OpenIndex)?;
             put_sign(line, Sign::CloseIndex)
         }
         Parameter::Stack(name) => {
-            put_word(line, Word::Stack)?;
+            put_word(line, Keyword::Stack)?;
             put_name(line, name)
         }
     }
@@ -432,7 +437,7 @@ fn put_parameters(line: &mut Line, parameters: &[Parameter]) -> Result<(), Alloc
 fn put_procedure(alloc: Global, line: &mut Line, procedure: &Procedure) -> Result<(), AllocError>
     ensures { IfOk result (λ u. line_view line.new ≡ with_pieces (line_view line.old) (procedure_pieces (procedure_view procedure.now))) }
 {
-    put_word(line, Word::Procedure)?;
+    put_word(line, Keyword::Procedure)?;
     put_name(line, &procedure.name)?;
     put_opening(line)?;
     put_parameters(line, &procedure.parameters)?;

@@ -2,11 +2,13 @@
 
 ghost use Rattle.std.specs.Prelude.{◌≡◌, List, Bool, IfSome, IfNone};
 ghost use Rattle.janus_syntax.specs.Table.{with_procedure};
-ghost use Rattle.janus_syntax.specs.Tree.{Name as Named, Cell as Tree, procedure_of, name_view, parameter_view, parameters_view, procedure_view, declarations_view, block_view, cell_view};
+ghost use Rattle.janus_syntax.specs.Tree.{Name as Named, Cell as Tree, procedure_of, name_view, parameter_view, parameters_view, procedure_view};
+ghost use Rattle.janus_syntax.specs.Tree.{declarations_view, block_view, cell_view};
 ghost use Rattle.janus_syntax.specs.Tokens.{Token as AToken, views};
 ghost use Rattle.janus_syntax.specs.Forms.{Parameters, Procedures, A_procedure};
 ghost use Rattle.janus_syntax.specs.Reading.{Reads, IsPart, FailsPart};
-ghost use Rattle.janus_syntax.specs.Procedures.{IsParameterOrOther, FailsParameter, IsBracketed, FailsBracketed, IsBehindName, FailsBehindName, IsBehindMain, FailsBehindMain, IsMain, IsNext};
+ghost use Rattle.janus_syntax.specs.Procedures.{IsParameterOrOther, FailsParameter, IsBracketed, FailsBracketed, IsBehindName, FailsBehindName};
+ghost use Rattle.janus_syntax.specs.Procedures.{IsBehindMain, FailsBehindMain, IsMain, IsNext};
 
 use crate::call::name_at;
 use crate::cell::declarations;
@@ -14,7 +16,7 @@ use crate::fault::What;
 use crate::item::{behind_sign, name, sign_at, word_at};
 use crate::problem::Problem;
 use crate::statement::{body, statements};
-use crate::token::{Sign, Token, Word};
+use crate::token::{Keyword, Sign, Token};
 use crate::tree::{Cell, Declaration, Name, Parameter, Procedure, Stm};
 use std::alloc::Global;
 
@@ -22,12 +24,12 @@ use std::alloc::Global;
 fn parameter(tokens: &[Token]) -> Result<Option<(Parameter, &[Token])>, Problem>
     ensures { Reads (IsParameterOrOther (views tokens.now)) (FailsParameter (views tokens.now)) result }
 {
-    if let Some(rest) = word_at(Word::Int, tokens) {
+    if let Some(rest) = word_at(Keyword::Int, tokens) {
         let (name, rest) = name(rest)?;
         let (parameter, rest) = brackets(name, rest)?;
         return Ok(Some((parameter, rest)));
     }
-    let Some(rest) = word_at(Word::Stack, tokens) else {
+    let Some(rest) = word_at(Keyword::Stack, tokens) else {
         return Ok(None);
     };
     let (stack, rest) = name(rest)?;
@@ -143,7 +145,7 @@ fn main_at(main: bool, tokens: &[Token]) -> Option<&[Token]>
     ensures none { IfNone result ((behind : List AToken) → IsMain main (views tokens.now) behind → ⊥) }
 {
     if main {
-        word_at(Word::Main, tokens)
+        word_at(Keyword::Main, tokens)
     } else {
         None
     }
@@ -188,7 +190,7 @@ pub(crate) fn procedures(
     let mut whole = cell;
     let mut may = main;
     let mut rest = tokens;
-    'procedures: while let Some(behind) = word_at(Word::Procedure, rest) {
+    'procedures: while let Some(behind) = word_at(Keyword::Procedure, rest) {
         let (next, more, after) = next_procedure(alloc, whole, may, behind)?;
         whole = next;
         may = more;

@@ -7,7 +7,9 @@ ghost use Rattle.janus_syntax.specs.Tokens.{Token as AToken, Word_of, views};
 ghost use Rattle.janus_syntax.specs.Forms.{Body, Local, Statements};
 ghost use Rattle.janus_syntax.specs.Grammar.{depth_limit};
 ghost use Rattle.janus_syntax.specs.Reading.{Reads, IsPart, FailsPart};
-ghost use Rattle.janus_syntax.specs.Statements.{IsStmOrOther, FailsStm, IsAssignment, FailsAssignment, IsIf, FailsIf, IsLoop, FailsLoop, IsLocalInt, FailsLocalInt, IsLocalStack, FailsLocalStack, opens_construct, IsStm, IsIfBegun, IsLoopBegun, IsIntHead, IsStackHead, AreStatements, IsOptional, FailsOptional};
+ghost use Rattle.janus_syntax.specs.Statements.{IsStmOrOther, FailsStm, IsAssignment, FailsAssignment, IsIf, FailsIf, IsLoop, FailsLoop, IsLocalInt};
+ghost use Rattle.janus_syntax.specs.Statements.{FailsLocalInt, IsLocalStack, FailsLocalStack, opens_construct, IsStm, IsIfBegun, IsLoopBegun, IsIntHead};
+ghost use Rattle.janus_syntax.specs.Statements.{IsStackHead, AreStatements, IsOptional, FailsOptional};
 
 use crate::call::call;
 use crate::expression::{DEPTH_LIMIT, whole_expression};
@@ -16,7 +18,7 @@ use crate::item::{
     behind_delocal, behind_sign, behind_word, name, sign_at, update, variable_and_stack, word_at,
 };
 use crate::problem::Problem;
-use crate::token::{Sign, Token, TokenKind, Word};
+use crate::token::{Keyword, Sign, Token, TokenKind};
 use crate::tree::{Exp, Kind, Name, Stm};
 use std::alloc::Global;
 
@@ -42,7 +44,7 @@ fn statement(
             let (stm, rest) = assignment(alloc, name, rest, depth)?;
             Ok(Some((stm, rest)))
         }
-        TokenKind::Word(word) => {
+        TokenKind::Keyword(word) => {
             if opens_construct(*word) {
                 if depth == DEPTH_LIMIT {
                     return Err(Problem::TooNested { left: tokens.len() });
@@ -57,12 +59,12 @@ fn statement(
     }
 }
 
-/// Whether a word begins a construct.
-fn opens_construct(word: Word) -> bool
+/// Whether a keyword begins a construct.
+fn opens_construct(word: Keyword) -> bool
     ensures { result ≡ opens_construct word }
 {
     match word {
-        Word::If | Word::From | Word::Local => true,
+        Keyword::If | Keyword::From | Keyword::Local => true,
         _ => false,
     }
 }
@@ -71,7 +73,7 @@ fn opens_construct(word: Word) -> bool
 #[cycle(statement)]
 fn construct(
     alloc: Global,
-    word: Word,
+    word: Keyword,
     tokens: &[Token],
     depth: usize,
 ) -> Result<(Stm, &[Token]), Problem>
@@ -82,8 +84,8 @@ fn construct(
         (FailsStm depth (Word_of word place ∷ views tokens.now)) result }
 {
     match word {
-        Word::If => behind_if(alloc, tokens, depth + 1),
-        Word::From => behind_from(alloc, tokens, depth + 1),
+        Keyword::If => behind_if(alloc, tokens, depth + 1),
+        Keyword::From => behind_from(alloc, tokens, depth + 1),
         _ => behind_local(alloc, tokens, depth + 1),
     }
 }
@@ -91,7 +93,7 @@ fn construct(
 /// The statement that this word begins, behind that word, and the tokens behind it, where it is no construct; or none begins.
 fn plain_statement(
     alloc: Global,
-    word: Word,
+    word: Keyword,
     tokens: &[Token],
 ) -> Result<Option<(Stm, &[Token])>, Problem>
     requires { opens_construct word ≡ false }
@@ -99,20 +101,20 @@ fn plain_statement(
         Reads (IsStmOrOther depth (Word_of word place ∷ views tokens.now)) (FailsStm depth (Word_of word place ∷ views tokens.now)) result }
 {
     match word {
-        Word::Skip => Ok(Some((Stm::Skip, tokens))),
-        Word::Push => {
+        Keyword::Skip => Ok(Some((Stm::Skip, tokens))),
+        Keyword::Push => {
             let (variable, stack, rest) = variable_and_stack(tokens)?;
             Ok(Some((Stm::Push(variable, stack), rest)))
         }
-        Word::Pop => {
+        Keyword::Pop => {
             let (variable, stack, rest) = variable_and_stack(tokens)?;
             Ok(Some((Stm::Pop(variable, stack), rest)))
         }
-        Word::Call => {
+        Keyword::Call => {
             let (procedure, arguments, rest) = call(alloc, tokens)?;
             Ok(Some((Stm::Call(procedure, arguments), rest)))
         }
-        Word::Uncall => {
+        Keyword::Uncall => {
             let (procedure, arguments, rest) = call(alloc, tokens)?;
             Ok(Some((Stm::Uncall(procedure, arguments), rest)))
         }
@@ -153,9 +155,9 @@ fn behind_if(alloc: Global, tokens: &[Token], depth: usize) -> Result<(Stm, &[To
     ensures { Reads (λ x. IsIf depth (stm_view x.0) (views tokens.now) (views x.1.now)) (FailsIf depth (views tokens.now)) result }
 {
     let (test, rest) = whole_expression(alloc, tokens, depth)?;
-    let rest = behind_word(Word::Then, rest)?;
+    let rest = behind_word(Keyword::Then, rest)?;
     let (then_part, rest) = body(alloc, rest, depth)?;
-    let (else_part, rest) = optional_body(alloc, Word::Else, rest, depth)?;
+    let (else_part, rest) = optional_body(alloc, Keyword::Else, rest, depth)?;
     end_of_if(alloc, test, then_part, else_part, rest, depth)
 }
 
@@ -172,7 +174,7 @@ fn end_of_if(
     ensures { (from : List AToken) → IsIfBegun depth (exp_view test) (block_view then_part.items) (block_view else_part.items) from (views tokens.now) →
         Reads (λ x. IsIf depth (stm_view x.0) from (views x.1.now)) (FailsIf depth from) result }
 {
-    let rest = behind_word(Word::Fi, tokens)?;
+    let rest = behind_word(Keyword::Fi, tokens)?;
     let (assertion, rest) = whole_expression(alloc, rest, depth)?;
     Ok((Stm::If(test, then_part, else_part, assertion), rest))
 }
@@ -184,8 +186,8 @@ fn behind_from(alloc: Global, tokens: &[Token], depth: usize) -> Result<(Stm, &[
     ensures { Reads (λ x. IsLoop depth (stm_view x.0) (views tokens.now) (views x.1.now)) (FailsLoop depth (views tokens.now)) result }
 {
     let (assertion, rest) = whole_expression(alloc, tokens, depth)?;
-    let (do_part, rest) = optional_body(alloc, Word::Do, rest, depth)?;
-    let (loop_part, rest) = optional_body(alloc, Word::Loop, rest, depth)?;
+    let (do_part, rest) = optional_body(alloc, Keyword::Do, rest, depth)?;
+    let (loop_part, rest) = optional_body(alloc, Keyword::Loop, rest, depth)?;
     end_of_loop(alloc, assertion, do_part, loop_part, rest, depth)
 }
 
@@ -203,7 +205,7 @@ fn end_of_loop(
         IsLoopBegun depth (exp_view assertion) (block_view do_part.items) (block_view loop_part.items) from (views tokens.now) →
         Reads (λ x. IsLoop depth (stm_view x.0) from (views x.1.now)) (FailsLoop depth from) result }
 {
-    let rest = behind_word(Word::Until, tokens)?;
+    let rest = behind_word(Keyword::Until, tokens)?;
     let (test, rest) = whole_expression(alloc, rest, depth)?;
     Ok((Stm::Loop(assertion, do_part, loop_part, test), rest))
 }
@@ -214,11 +216,11 @@ fn behind_local(alloc: Global, tokens: &[Token], depth: usize) -> Result<(Stm, &
     requires { depth ≤ depth_limit }
     ensures { Reads (λ x. IsPart Local depth (stm_view x.0) (views tokens.now) (views x.1.now)) (FailsPart Local depth (views tokens.now)) result }
 {
-    if let Some(rest) = word_at(Word::Int, tokens) {
+    if let Some(rest) = word_at(Keyword::Int, tokens) {
         let (stm, rest) = local_int(alloc, rest, depth)?;
         return Ok((stm, rest));
     }
-    let Some(rest) = word_at(Word::Stack, tokens) else {
+    let Some(rest) = word_at(Keyword::Stack, tokens) else {
         return Err(Problem::Expected {
             what: What::Kind,
             left: tokens.len(),
@@ -290,7 +292,7 @@ fn head_of_stack(tokens: &[Token]) -> Result<(Name, &[Token]), Problem>
 {
     let (name, rest) = name(tokens)?;
     let rest = behind_sign(Sign::Equals, rest)?;
-    let rest = behind_word(Word::Nil, rest)?;
+    let rest = behind_word(Keyword::Nil, rest)?;
     Ok((name, rest))
 }
 
@@ -305,7 +307,7 @@ fn end_of_stack(
         Reads (λ x. IsLocalStack depth (stm_view x.0) from (views x.1.now)) (FailsLocalStack depth from) result }
 {
     let (again, rest) = behind_delocal(Kind::Stack, &name, tokens)?;
-    let rest = behind_word(Word::Nil, rest)?;
+    let rest = behind_word(Keyword::Nil, rest)?;
     Ok((Stm::LocalStack(name, statements, again), rest))
 }
 
@@ -313,7 +315,7 @@ fn end_of_stack(
 #[cycle(statement)]
 fn optional_body(
     alloc: Global,
-    word: Word,
+    word: Keyword,
     tokens: &[Token],
     depth: usize,
 ) -> Result<(Vec<Stm>, &[Token]), Problem>

@@ -73,9 +73,9 @@ impl Sign {
     }
 }
 
-/// The reserved words of the language.
+/// The keywords of the language: words that are no names.
 #[derive(Clone, Copy, PartialEq, Eq, Debug)]
-pub enum Word {
+pub enum Keyword {
     Call,
     Delocal,
     Do,
@@ -100,37 +100,63 @@ pub enum Word {
     Until,
 }
 
-impl Word {
-    /// The word as it is written.
+impl Keyword {
+    /// The keyword as it is written.
     pub fn text(self) -> &'static str
         ensures { result.now ≡ word_text self }
     {
         match self {
-            Word::Call => "call",
-            Word::Delocal => "delocal",
-            Word::Do => "do",
-            Word::Else => "else",
-            Word::Empty => "empty",
-            Word::Fi => "fi",
-            Word::From => "from",
-            Word::If => "if",
-            Word::Int => "int",
-            Word::Local => "local",
-            Word::Loop => "loop",
-            Word::Main => "main",
-            Word::Nil => "nil",
-            Word::Pop => "pop",
-            Word::Procedure => "procedure",
-            Word::Push => "push",
-            Word::Skip => "skip",
-            Word::Stack => "stack",
-            Word::Then => "then",
-            Word::Top => "top",
-            Word::Uncall => "uncall",
-            Word::Until => "until",
+            Keyword::Call => "call",
+            Keyword::Delocal => "delocal",
+            Keyword::Do => "do",
+            Keyword::Else => "else",
+            Keyword::Empty => "empty",
+            Keyword::Fi => "fi",
+            Keyword::From => "from",
+            Keyword::If => "if",
+            Keyword::Int => "int",
+            Keyword::Local => "local",
+            Keyword::Loop => "loop",
+            Keyword::Main => "main",
+            Keyword::Nil => "nil",
+            Keyword::Pop => "pop",
+            Keyword::Procedure => "procedure",
+            Keyword::Push => "push",
+            Keyword::Skip => "skip",
+            Keyword::Stack => "stack",
+            Keyword::Then => "then",
+            Keyword::Top => "top",
+            Keyword::Uncall => "uncall",
+            Keyword::Until => "until",
         }
     }
 }
+
+/// All keywords, in the order of their letters.
+pub const KEYWORDS: [Keyword; 22] = [
+    Keyword::Call,
+    Keyword::Delocal,
+    Keyword::Do,
+    Keyword::Else,
+    Keyword::Empty,
+    Keyword::Fi,
+    Keyword::From,
+    Keyword::If,
+    Keyword::Int,
+    Keyword::Local,
+    Keyword::Loop,
+    Keyword::Main,
+    Keyword::Nil,
+    Keyword::Pop,
+    Keyword::Procedure,
+    Keyword::Push,
+    Keyword::Skip,
+    Keyword::Stack,
+    Keyword::Then,
+    Keyword::Top,
+    Keyword::Uncall,
+    Keyword::Until,
+];
 
 /// What a token is. A number is at most 2147483647.
 #[derive(Drop)]
@@ -138,7 +164,7 @@ pub enum TokenKind {
     Name(String),
     Number(u32),
     Sign(Sign),
-    Word(Word),
+    Keyword(Keyword),
 }
 
 /// A token, and the octets of the text where it stands.

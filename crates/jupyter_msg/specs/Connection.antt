@@ -1,5 +1,6 @@
 -- The connection file of a kernel (Jupyter's page on kernels, "Connection files").
-use Rattle.std.specs.Prelude.{◌≡◌, ℕ, ◌&&◌, Bool, true, false, List, [], ◌∷◌, codes, Option, Some, None, is_some, option_map, option_and_then, unwrap_or, nat_lt, if◌then◌else◌, string_bytes}
+use Rattle.std.specs.Prelude.{◌≡◌, ℕ, ◌&&◌, Bool, true, false, List, [], ◌∷◌, codes, Option, Some, None, is_some, option_map, option_and_then, unwrap_or}
+use Rattle.std.specs.Prelude.{nat_lt, if◌then◌else◌, string_bytes}
 use Rattle.std.specs.Str.{bytes_eq}
 use Rattle.serde_json.specs.Data.{Data}
 use Rattle.serde_json.specs.Find.{get, as_str, as_number, as_u64}
@@ -10,7 +11,8 @@ use Rattle.jupyter_msg.specs.declared.connection.Ports.{Ports}
 use Rattle.jupyter_msg.specs.declared.fault.MsgFault.{MsgFault}
 use Rattle.jupyter_msg.specs.declared.fault.MsgFault.TheVariants.{BadConnection}
 use Rattle.jupyter_msg.specs.declared.fault.Setting.{Setting}
-use Rattle.jupyter_msg.specs.declared.fault.Setting.TheVariants.{File, Transport, Ip, ShellPort, IopubPort, StdinPort, ControlPort, HbPort, Key, SignatureScheme}
+use Rattle.jupyter_msg.specs.declared.fault.Setting.TheVariants.{File, Transport, Ip, ShellPort, IopubPort, StdinPort, ControlPort, HbPort, Key}
+use Rattle.jupyter_msg.specs.declared.fault.Setting.TheVariants.{SignatureScheme}
 
 -- the value of a field, if the file has it
 unfoldable pub setting : Setting → Data → Option Data

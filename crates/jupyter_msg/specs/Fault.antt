@@ -1,7 +1,8 @@
 -- The numbers and the words under which refusals are told, and the names of parts and fields.
 use Rattle.std.specs.Prelude.{◌≡◌, ◌⊎◌, ℕ, List, codes, Option, Some, None, Result, Ok, Err}
 use Rattle.jupyter_msg.specs.declared.fault.MsgFault.{MsgFault}
-use Rattle.jupyter_msg.specs.declared.fault.MsgFault.TheVariants.{NoDelimiter, ShortMessage, BadSignature, NotJson, BadField, UnknownType, Memory, BadConnection}
+use Rattle.jupyter_msg.specs.declared.fault.MsgFault.TheVariants.{NoDelimiter, ShortMessage, BadSignature, NotJson, BadField, UnknownType, Memory}
+use Rattle.jupyter_msg.specs.declared.fault.MsgFault.TheVariants.{BadConnection}
 use Rattle.jupyter_msg.specs.declared.fault.Part.{Part}
 use Rattle.jupyter_msg.specs.declared.fault.Part.TheVariants as part
 use Rattle.jupyter_msg.specs.declared.fault.Field.{Field}

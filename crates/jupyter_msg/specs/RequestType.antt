@@ -3,7 +3,8 @@ use Rattle.std.specs.Prelude.{ℕ, List, [], ◌∷◌, codes, Option}
 use Rattle.std.specs.List.{find}
 use Rattle.std.specs.Str.{bytes_eq}
 use Rattle.jupyter_msg.specs.declared.request_type.RequestType.{RequestType}
-use Rattle.jupyter_msg.specs.declared.request_type.RequestType.TheVariants.{KernelInfo, Execute, Complete, Inspect, IsComplete, History, CommInfo, Interrupt, Shutdown, CommOpen, CommMessage, CommClose}
+use Rattle.jupyter_msg.specs.declared.request_type.RequestType.TheVariants.{KernelInfo, Execute, Complete, Inspect, IsComplete, History, CommInfo}
+use Rattle.jupyter_msg.specs.declared.request_type.RequestType.TheVariants.{Interrupt, Shutdown, CommOpen, CommMessage, CommClose}
 
 -- the type as it stands in a header
 abbrev pub type_name : RequestType → List ℕ

@@ -1,6 +1,7 @@
 -- What each request has from its content (Jupyter messaging page: "Messages on the shell (ROUTER/DEALER) channel",
 -- "Messages on the Control (ROUTER/DEALER) channel" and, of comms, "Custom Messages").
-use Rattle.std.specs.Prelude.{◌≡◌, ◌^◌, ℕ, pos, Bool, false, not, List, [], ◌∷◌, map, codes, Option, Some, None, option_map, option_and_then, unwrap_or, string_bytes, nat_lt, if◌then◌else◌}
+use Rattle.std.specs.Prelude.{◌≡◌, ◌^◌, ℕ, pos, Bool, false, not, List, [], ◌∷◌, map, codes, Option, Some, None, option_map, option_and_then, unwrap_or}
+use Rattle.std.specs.Prelude.{string_bytes, nat_lt, if◌then◌else◌}
 use Rattle.std.specs.List.{find}
 use Rattle.std.specs.Str.{bytes_eq}
 use Rattle.serde_json.specs.Data.{Data}

@@ -1,11 +1,13 @@
 //! Messages, and the frames in which they travel (Jupyter messaging page, "The Wire Protocol").
-ghost use Rattle.std.specs.Prelude.{◌≡◌, ℕ, List, [], ◌∷◌, ◌+◌, ◌++◌, ◌≤◌, ◌⊎◌, Some, Err, IsTrue, IfOk, IfErr, OnOk, MatchResult, vec_len, drop, take, position, string_bytes};
+ghost use Rattle.std.specs.Prelude.{◌≡◌, ℕ, List, [], ◌∷◌, ◌+◌, ◌++◌, ◌≤◌, ◌⊎◌, Some, Err, IsTrue, IfOk, IfErr, OnOk, MatchResult, vec_len, drop, take};
+ghost use Rattle.std.specs.Prelude.{position, string_bytes};
 ghost use Rattle.std.specs.Str.{bytes_eq};
 ghost use Rattle.jupyter_msg.specs.Asked.{Gives, header_text};
 ghost use Rattle.jupyter_msg.specs.Fault.{Refuses};
 ghost use Rattle.jupyter_msg.specs.Octets.{Octets, octets, octets_of};
 ghost use Rattle.jupyter_msg.specs.Opened.{IsRead, AreReadFrom, AreReadAfter};
-ghost use Rattle.jupyter_msg.specs.Message.{AreObjects, IsMessage, IsRefused, refusal_after, after_delimiter, no_object, comes_before_parts, NoneIsDelimiter, delimiter, frames_of};
+ghost use Rattle.jupyter_msg.specs.Message.{AreObjects, IsMessage, IsRefused, refusal_after, after_delimiter, no_object, comes_before_parts};
+ghost use Rattle.jupyter_msg.specs.Message.{NoneIsDelimiter, delimiter, frames_of};
 
 use crate::fault::{Field, MsgFault, Part};
 use crate::fields::text;

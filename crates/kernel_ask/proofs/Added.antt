@@ -12,41 +12,15 @@ use Rattle.std.specs.BTreeSet.{insert_key}
 use Rattle.std.proofs.lemmas.Bool.{false≢true}
 use Rattle.std.proofs.lemmas.Slice.Eq.{bytes_eq-Decides}
 use Rattle.std.proofs.lemmas.Map.Text.{is_eq-slice_cmp}
-use Rattle.kernel_ask.specs.Added.{with_name, with_match, with_matches}
+use Rattle.kernel_text.specs.NameSets.{with_name}
+use Rattle.kernel_text.proofs.NameSets.{contains_first, contains_later, contains_none, contains_cases, named_from, named_kept, named_there}
+use Rattle.kernel_ask.specs.Added.{with_match, with_matches}
 
 -- ---- what the code puts in
-
-numbered : (o : Ordering) (xs ys zs : List (String Global)) (zs' : List (List ℕ)) → map string_bytes zs ≡ zs' → map string_bytes (match_ordering o xs ys zs) ≡ match_ordering o (map string_bytes xs) (map string_bytes ys) zs'
-numbered ordering.Less xs ys zs zs' e = refl
-numbered ordering.Equal xs ys zs zs' e = refl
-numbered ordering.Greater xs ys zs zs' e = e
-
-pub names_inserted : (ks : List (String Global)) (k : String Global) → map string_bytes (insert_key string_cmp ks k) ≡ with_name (map string_bytes ks) (string_bytes k)
-names_inserted [] k = refl
-names_inserted (x ∷ xs) k =
-    numbered (string_cmp k x) (k ∷ x ∷ xs) (x ∷ xs) (x ∷ insert_key string_cmp xs k) (string_bytes x ∷ with_name (map string_bytes xs) (string_bytes k)) (ap (λ ns. string_bytes x ∷ ns) (names_inserted xs k))
 
 pub with_matches_more : (prefix : List ℕ) (known names : List (List ℕ)) (name : List ℕ) → with_matches prefix known (names ++ name ∷ []) ≡ with_match prefix (with_matches prefix known names) name
 with_matches_more prefix known [] name = refl
 with_matches_more prefix known (n ∷ ns) name = with_matches_more prefix (with_match prefix known n) ns name
-
--- ---- elements
-
-pub contains_first : {A : Type 0} (ys : List A) (y x : A) → y ≡ x → Contains (y ∷ ys) x
-contains_first ys y x e = (0, omega arith, e)
-
-pub contains_later : {A : Type 0} (ys : List A) (y x : A) → Contains ys x → Contains (y ∷ ys) x
-contains_later ys y x h = (suc h.0, omega (arith, h.1), h.2)
-
-pub contains_none : {A : Type 0} (x : A) → Contains [] x → ⊥
-contains_none x h = omega (arith, h.1)
-
-split_place : {A : Type 0} (ys : List A) (y x : A) (k : ℕ) → k < length (y ∷ ys) → get_or (y ∷ ys) k x ≡ x → (y ≡ x) ⊎ Contains ys x
-split_place ys y x zero l e = inl e
-split_place ys y x (suc k) l e = inr (k, omega (arith, l), e)
-
-pub contains_cases : {A : Type 0} (ys : List A) (y x : A) → Contains (y ∷ ys) x → (y ≡ x) ⊎ Contains ys x
-contains_cases ys y x h = split_place ys y x h.0 h.1 h.2
 
 -- ---- one name more
 
@@ -126,14 +100,3 @@ matches_there prefix known (n ∷ ns) x h fits =
           (match_there (starts_with nat_eq n prefix) known n (subst (λ (y : List ℕ). IsTrue (starts_with nat_eq y prefix)) (sym e) fits)))
       | inr later ↦ matches_there prefix (with_match prefix known n) ns x later fits
     ]
-
--- ---- order
-
-below_all : (k : String Global) (ks : List (String Global)) → AllByRecursion (λ q. string_cmp k q ≡ ordering.Less) ks → AllByRecursion (λ q. slice_cmp nat_cmp (string_bytes k) q ≡ ordering.Less) (map string_bytes ks)
-below_all k [] h = h
-below_all k (x ∷ ks) h = (h.0, below_all k ks h.1)
-
-pub ordered_octets : (ks : List (String Global)) → IsStrictlySortedBy string_cmp ks → IsStrictlySortedBy (slice_cmp nat_cmp) (map string_bytes ks)
-unfolding IsStrictlySortedBy
-ordered_octets [] h = h
-ordered_octets (k ∷ ks) h = (below_all k ks h.0, ordered_octets ks h.1)

@@ -1,7 +1,6 @@
 pub mod Added
 pub mod Counted
 pub mod Ends
-pub mod Found
 pub mod Ids
 pub mod Joined
 pub mod Known

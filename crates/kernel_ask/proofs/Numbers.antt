@@ -10,7 +10,7 @@ use Rattle.kernel_core.specs.LegalMinutes.{HasLegalMinutes}
 use Rattle.kernel_core.specs.Counters.{counted_to}
 use Rattle.kernel_core.proofs.Counting.{counted_is_next, counted_rises, counter_is_of_begun, ends_within_counter}
 use Rattle.kernel_ask.specs.History.{texts_of, texts_in, numbered, inputs, CountedEndsAreInputs, IsBegunCell, InputsAreBegunCells}
-use Rattle.kernel_ask.proofs.Added.{contains_first, contains_later, contains_none, contains_cases}
+use Rattle.kernel_text.proofs.NameSets.{contains_first, contains_later, contains_none, contains_cases}
 use Rattle.kernel_ask.proofs.Walk.{text_counted}
 
 -- an input stands under its number

@@ -1,13 +1,7 @@
 -- The code's own words: names that are put into a set, one after another.
 use Rattle.std.specs.Prelude.{ℕ, nat_eq, List, [], ◌∷◌, if◌then◌else◌}
-use Rattle.std.specs.Ordering.{nat_cmp}
-use Rattle.std.specs.Cmp.Lexicographic.{slice_cmp}
 use Rattle.std.specs.List.{starts_with}
-use Rattle.std.specs.BTreeSet.{insert_key}
-
--- the names, with one more at its place, unless it is there
-abbrev pub with_name : List (List ℕ) → List ℕ → List (List ℕ)
-with_name names name = insert_key (slice_cmp nat_cmp) names name
+use Rattle.kernel_text.specs.NameSets.{with_name}
 
 -- with the name, if it begins with the prefix
 abbrev pub with_match : List ℕ → List (List ℕ) → List ℕ → List (List ℕ)

@@ -15,5 +15,4 @@ pub mod HallFault
 pub mod CommChanges
 pub mod State
 pub mod Answer
-pub mod Naming
 pub mod Shown

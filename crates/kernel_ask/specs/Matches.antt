@@ -4,24 +4,21 @@ use Rattle.std.specs.Ordering.{nat_cmp}
 use Rattle.std.specs.Cmp.Lexicographic.{slice_cmp}
 use Rattle.std.specs.List.{starts_with}
 use Rattle.std.specs.List.Sorted.{IsStrictlySortedBy}
-use Rattle.janus_meaning.specs.Syntax.{Name, Proc}
+use Rattle.janus_meaning.specs.Syntax.{Name}
 use Rattle.janus_meaning.specs.Store.{Store}
 use Rattle.janus_meaning.specs.World.{World, listed}
 use Rattle.janus_syntax.specs.Spelling.{word_text}
-use Rattle.janus_syntax.specs.declared.token.Word.{Word}
+use Rattle.janus_syntax.specs.declared.token.Keyword.{Keyword}
+use Rattle.kernel_text.specs.Procedures.{procedure_names}
 
 -- the declared names, in the order of declaration
 abbrev pub names_of : Store → List Name
 names_of s = map (λ e. e.0) (listed s)
 
 abbrev pub IsReserved : List ℕ → Type 0
-IsReserved x = (word : Word) × (word_text word ≡ x)
+IsReserved x = (word : Keyword) × (word_text word ≡ x)
 
--- the names of procedures
-abbrev pub procedure_names : List Proc → List Name
-procedure_names ps = map (λ p. p.name) ps
-
--- a declared name, a procedure, or a reserved word
+-- a declared name, a procedure, or a keyword
 abbrev pub IsKnown : World → List ℕ → Type 0
 IsKnown w x = Contains (names_of w.store) x ⊎ Contains (procedure_names w.procedures) x ⊎ IsReserved x
 

@@ -10,7 +10,7 @@ use Rattle.kernel_core.specs.State.{Past, world_at}
 use Rattle.kernel_core.specs.NodeTrees.{IsTreeAt, HasNoTree}
 use Rattle.kernel_core.specs.outcome.Outcome.{Outcome}
 use Rattle.kernel_core.specs.outcome.Outcome.TheVariants.{Ran, Failed, Interrupted, Undid, Redid, Went, Refused}
-use Rattle.kernel_ask.specs.Naming.{in_cell}
+use Rattle.janus_check.specs.Naming.{in_cell}
 use Rattle.kernel_text.specs.ValueTexts.{value_text}
 
 -- the texts parted by LF, if there are any

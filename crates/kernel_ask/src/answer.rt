@@ -25,7 +25,7 @@ pub enum Ask {
 /// The names that begin with the longest name in front of a cursor, and where that stands, in Unicode code points.
 #[derive(Debug, Drop)]
 pub struct Completion {
-    /// Declared names, names of procedures and reserved words, each once, in the order of their octets.
+    /// Declared names, names of procedures and keywords, each once, in the order of their octets.
     pub matches: Vec<String>,
     pub start: usize,
     pub end: usize,

@@ -9,7 +9,7 @@ ghost use Rattle.kernel_ask.specs.Cursor.{word_at};
 ghost use Rattle.kernel_ask.specs.Completion.{IsCompletion};
 ghost use Rattle.kernel_ask.specs.Inspection.{inspection};
 ghost use Rattle.kernel_ask.specs.History.{inputs, told, input_of};
-ghost use Rattle.kernel_ask.specs.Evaluation.{IsEvaluated, AreValuesAfter};
+ghost use Rattle.kernel_ask.specs.Evaluation.{IsEvaluated};
 ghost use Rattle.kernel_ask.specs.Shown.{IsShownAfter, IsShownOfNode};
 ghost use Rattle.kernel_ask.specs.EndedAt.{StandsAtEnd};
 ghost use Rattle.kernel_ask.specs.State.{OfShown};
@@ -18,7 +18,7 @@ ghost use Rattle.kernel_ask.specs.Answer.{IsContent, IsAnswer};
 use crate::answer::{Answer, Ask, Completion, Content, HallFault};
 use crate::comms::Comms;
 use crate::completion::completion_of;
-use crate::done::{ExpFault, NamedValue, Wish};
+use crate::done::ExpFault;
 use crate::evaluation::evaluation_of;
 use crate::input_history::history_of;
 use crate::inputs::{HistoryAsk, Input};
@@ -26,12 +26,11 @@ use crate::inspection::inspection_of;
 use crate::judgement::is_complete;
 use crate::shown::{shown_by, shown_of};
 use crate::standing::state;
-use crate::wishes::values_of;
 use kernel_core::{Kernel, Outcome};
 use std::alloc::{AllocError, Global};
 use std::sync::ledger::Ledger;
 
-/// The declared names, procedures and reserved words that go on with what stands in front of a cursor. Places count Unicode code points; no
+/// The declared names, procedures and keywords that go on with what stands in front of a cursor. Places count Unicode code points; no
 /// cursor is the end of the code, and so is one past it. The only error is want of memory.
 pub fn complete<L: Ledger>(
     alloc: Global,
@@ -79,30 +78,6 @@ pub fn evaluate<L: Ledger>(alloc: Global, kernel: &Kernel<L>, text: &str) -> Res
     ensures { IsEvaluated (here kernel.now.machine.state.past).store text.now result }
 {
     evaluation_of(alloc, kernel.store(), text)
-}
-
-/// The values of user expressions after a job, in their order: in the world of its node where the job is a cell that ran, else
-/// none. No job is open, and the kernel stands at that node still. The only error is want of memory for the list; where one
-/// expression finds none, this is told as its value.
-pub fn evaluate_all<L: Ledger>(
-    alloc: Global,
-    kernel: &Kernel<L>,
-    outcome: &Outcome,
-    wishes: &[Wish],
-) -> Result<Vec<NamedValue>, AllocError>
-    requires idle { kernel.now.machine.state.job ≡ Idle }
-    requires still { StandsAtEnd outcome.now kernel.now.machine.state.past }
-    ensures { IfOk result (λ v. AreValuesAfter outcome.now kernel.now.machine.state.past wishes.now v.items) }
-{
-    match outcome {
-        Outcome::Ran(_, _) => values_of(alloc, kernel.store(), wishes),
-        Outcome::Failed(_, _)
-        | Outcome::Interrupted(_)
-        | Outcome::Undid(_, _)
-        | Outcome::Redid(_, _)
-        | Outcome::Went(_, _, _)
-        | Outcome::Refused(_) => Ok(Vec::new(alloc)),
-    }
 }
 
 /// What is shown of a job that is over, with the text of its cell: the value texts of the declared names that the cell names, in

@@ -2,7 +2,8 @@
 ghost use Rattle.std.specs.Prelude.{◌≡◌, ◌++◌, ◌+◌, ◌≤◌, length, take, drop, string_bytes, IfOk, OnOk};
 ghost use Rattle.std.specs.List.{list_all};
 ghost use Rattle.std.specs.Str.{chars};
-ghost use Rattle.kernel_ask.specs.Cursor.{is_letter as is_letter_of, goes_on as goes_on_of, is_name, longest_end, first_run, before, behind, word_at as word_at_of};
+ghost use Rattle.kernel_ask.specs.Cursor.{is_letter as is_letter_of, goes_on as goes_on_of, is_name, longest_end, first_run, before, behind};
+ghost use Rattle.kernel_ask.specs.Cursor.{word_at as word_at_of};
 ghost use Rattle.kernel_ask.specs.Grown.{grown_name, grown_run};
 
 use std::alloc::{AllocError, Global};

@@ -23,16 +23,13 @@ mod judgement;
 pub mod laws;
 mod lines;
 mod matches;
-mod naming;
 mod shown;
 mod standing;
 mod tail;
-mod wishes;
 
 pub use crate::answer::{Answer, Ask, Completion, Content, HallFault, KernelState};
 pub use crate::ask::{
-    ask_on, complete, evaluate, evaluate_all, history, inspect, judge, shown as shown_text,
-    shown_of_node,
+    ask_on, complete, evaluate, history, inspect, judge, shown as shown_text, shown_of_node,
 };
 pub use crate::comm_change::{CommChange, comm_on};
 pub use crate::comms::{COMM_LIMIT, Comms};

@@ -4,43 +4,19 @@ ghost use Rattle.std.specs.List.{starts_with};
 ghost use Rattle.std.specs.List.Sorted.{IsStrictlySortedBy};
 ghost use Rattle.std.specs.String.{string_cmp};
 ghost use Rattle.janus_syntax.specs.Spelling.{word_text};
-ghost use Rattle.kernel_ask.specs.Added.{with_name, with_match, with_matches};
-ghost use Rattle.kernel_ask.specs.Matches.{names_of, procedure_names, AreMatches};
+ghost use Rattle.kernel_text.specs.NameSets.{with_name};
+ghost use Rattle.kernel_ask.specs.Added.{with_match, with_matches};
+ghost use Rattle.kernel_text.specs.Procedures.{procedure_names};
+ghost use Rattle.kernel_ask.specs.Matches.{names_of, AreMatches};
 ghost use Rattle.kernel_core.specs.Defined.{in_a_row};
-ghost use Rattle.janus_store.specs.Held.{shown_store};
+ghost use Rattle.janus_store.specs.StoreState.{shown_store};
 
 use janus_store::Store;
-use janus_syntax::token::Word;
+use janus_syntax::token::{KEYWORDS, Keyword};
 use janus_syntax::tree::Procedure;
 use std::alloc::{AllocError, Global};
 use std::collections::BTreeSet;
 use std::sync::ledger::Ledger;
-
-/// The reserved words.
-const WORDS: [Word; 22] = [
-    Word::Call,
-    Word::Delocal,
-    Word::Do,
-    Word::Else,
-    Word::Empty,
-    Word::Fi,
-    Word::From,
-    Word::If,
-    Word::Int,
-    Word::Local,
-    Word::Loop,
-    Word::Main,
-    Word::Nil,
-    Word::Pop,
-    Word::Procedure,
-    Word::Push,
-    Word::Skip,
-    Word::Stack,
-    Word::Then,
-    Word::Top,
-    Word::Uncall,
-    Word::Until,
-];
 
 /// Adds a name, unless it is there.
 fn add(names: &mut BTreeSet<String>, name: String) -> Result<(), AllocError>
@@ -108,11 +84,11 @@ fn add_procedures(
     Ok(())
 }
 
-/// Adds those of the words that begin with the prefix.
+/// Adds those of the keywords that begin with the prefix.
 fn add_words(
     alloc: Global,
     names: &mut BTreeSet<String>,
-    words: &[Word],
+    words: &[Keyword],
     prefix: &str,
 ) -> Result<(), AllocError>
     ensures { OnOk result (map string_bytes names.new.keys
@@ -132,7 +108,7 @@ fn in_order(alloc: Global, names: BTreeSet<String>) -> Result<Vec<String>, Alloc
     names.into_iter().collect(alloc)
 }
 
-/// The declared names, the procedures and the reserved words that begin with the prefix, each once, in the order of their octets.
+/// The declared names, the procedures and the keywords that begin with the prefix, each once, in the order of their octets.
 pub(crate) fn matches_of<L: Ledger>(
     alloc: Global,
     store: &Store<L>,
@@ -145,6 +121,6 @@ pub(crate) fn matches_of<L: Ledger>(
     let mut names = BTreeSet::new(alloc);
     add_declared(alloc, &mut names, store, prefix)?;
     add_procedures(alloc, &mut names, procedures, prefix)?;
-    add_words(alloc, &mut names, &WORDS, prefix)?;
+    add_words(alloc, &mut names, &KEYWORDS, prefix)?;
     in_order(alloc, names)
 }

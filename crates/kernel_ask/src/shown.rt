@@ -4,12 +4,12 @@ ghost use Rattle.std.specs.List.{filter, join_with_byte};
 ghost use Rattle.janus_meaning.specs.World.{listed};
 ghost use Rattle.janus_store.specs.Values.{shown};
 ghost use Rattle.janus_syntax.specs.Tree.{cell_view};
-ghost use Rattle.kernel_ask.specs.Naming.{in_cell};
+ghost use Rattle.janus_check.specs.Naming.{in_cell};
 ghost use Rattle.kernel_text.specs.ValueTexts.{value_text as value_text_of};
 ghost use Rattle.kernel_ask.specs.Shown.{shown_text, IsCellOf, IsShown};
-ghost use Rattle.janus_store.specs.Held.{shown_store};
+ghost use Rattle.janus_store.specs.StoreState.{shown_store};
 
-use crate::naming::cell_names;
+use janus_check::cell_names;
 use janus_store::{Store, View};
 use janus_syntax::tree::Cell;
 use janus_syntax::{SyntaxFault, parse_cell};

@@ -94,15 +94,15 @@ fn unknown_ticket(minutes: &[Entry], tickets: &[Ticket]) -> Option<u64>
         passed: 0,
     };
     for ticket in tickets {
-        if !is_posted(minutes, &mut mark, ticket) {
+        if !finds_post(minutes, &mut mark, ticket) {
             return Some(ticket.number);
         }
     }
     None
 }
 
-/// Whether a ticket's lane and job stand at its number. The mark moves there.
-fn is_posted(minutes: &[Entry], mark: &mut Mark, ticket: &Ticket) -> bool
+/// Moves the mark to a ticket's number, and tells whether its lane and job stand there.
+fn finds_post(minutes: &[Entry], mark: &mut Mark, ticket: &Ticket) -> bool
     requires { IsMark Kind.Post minutes.now mark.old }
     ensures mark { IsMark Kind.Post minutes.now mark.new }
     ensures posted { IsTrue result ↔ IsPosted (map entry_of minutes.now) ticket.now }
@@ -168,15 +168,15 @@ fn unknown_done(minutes: &[Entry], dones: &[Done]) -> Option<u64>
         passed: 0,
     };
     for done in dones {
-        if !is_ended(minutes, &mut mark, done) {
+        if !finds_end(minutes, &mut mark, done) {
             return Some(done.number);
         }
     }
     None
 }
 
-/// Whether an end stands in the minutes as it was told. The mark moves there.
-fn is_ended(minutes: &[Entry], mark: &mut Mark, done: &Done) -> bool
+/// Moves the mark to the number of an end, and tells whether it stands there as it was told.
+fn finds_end(minutes: &[Entry], mark: &mut Mark, done: &Done) -> bool
     requires mark { IsMark Kind.End minutes.now mark.old }
     requires ends { EndsInOrder (map entry_of minutes.now) }
     ensures mark { IsMark Kind.End minutes.now mark.new }

@@ -2,7 +2,7 @@
 ghost use Rattle.std.specs.Prelude.{◌≡◌, ◌↔◌, IsTrue};
 
 use janus_syntax::fault::What;
-use janus_syntax::token::{Sign, Word};
+use janus_syntax::token::{Keyword, Sign};
 use kernel_core::{CheckFault, Fault, Outcome, Refusal, SyntaxFault};
 
 /// Whether two outcomes are the same.
@@ -59,7 +59,7 @@ fn same_what(a: What, b: What) -> bool
     ensures { IsTrue result ↔ (a ≡ b) }
 {
     match (a, b) {
-        (What::Word(a), What::Word(b)) => same_word(a, b),
+        (What::Keyword(a), What::Keyword(b)) => same_word(a, b),
         (What::Sign(a), What::Sign(b)) => same_sign(a, b),
         (What::Statement, What::Statement)
         | (What::Expression, What::Expression)
@@ -72,7 +72,7 @@ fn same_what(a: What, b: What) -> bool
     }
 }
 
-fn same_word(a: Word, b: Word) -> bool
+fn same_word(a: Keyword, b: Keyword) -> bool
     ensures { IsTrue result ↔ (a ≡ b) }
 {
     a == b

@@ -7,9 +7,9 @@
 //! a call takes it, so of `read_from` it is said that its answer is such a read of some log, and `publish` and `join` are tested.
 //!
 //! A `Broadcast` is the frames of one message. It is kept as their octets on the wire, which are made once, as the broadcast is made: a clone
-//! shares them, a read copies none, and who writes it to a subscriber writes them from where they lie (`Broadcast::send`). Of the crates of the kernel the board
-//! stands on `zmtp_wire` alone, which says what these octets are, and that they tell the frames, and on `exact_write`. It knows nothing else of messages, so who publishes seals one once, whatever
-//! the crates above make of it.
+//! shares them, a read copies none, and who writes it to a subscriber writes them from where they lie (`Broadcast::send`). Of the crates of
+//! the kernel the board stands on `zmtp_wire` alone, which says what these octets are, and that they tell the frames, and on `exact_write`.
+//! It knows nothing else of messages, so who publishes seals one once, whatever the crates above make of it.
 //!
 //! The definitions are in specs/: `Frames`, `Kept` (what is kept of a broadcast), `Log`
 //! (which broadcasts are kept), `Reads` (what a read answers), `Laws` (both, over the whole list of broadcasts), `Fault`.

@@ -9,3 +9,4 @@ pub use Rattle.kernel_machine.proofs.Trees
 pub use Rattle.kernel_runner.proofs.Borders
 pub use Rattle.kernel_runner.proofs.NamesMet
 pub mod Writing
+pub mod Taken

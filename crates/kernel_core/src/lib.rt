@@ -18,12 +18,10 @@
 
 mod events;
 mod kernel;
-mod machine;
 mod minutes;
 
 pub use crate::events::run_events;
-pub use crate::kernel::Kernel;
-pub use crate::machine::QUEUE_LIMIT;
+pub use crate::kernel::{Kernel, QUEUE_LIMIT};
 pub use crate::minutes::{Entry, MINUTES_LIMIT};
 pub use janus_check::CheckFault;
 pub use janus_machine::{Fault, STEP_LIMIT};

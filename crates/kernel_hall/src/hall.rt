@@ -275,7 +275,7 @@ impl<W: Ledger, L: Ledger> Hall<W, L> {
 
     /// Waits until there is something to do. False where the kernel is shut and nothing is left. Where posts come one upon another the next is
     /// there before a thread is asleep, so it watches for a while first.
-    pub(crate) fn has_work<R: Wait>(&self, rt: &R) -> bool {
+    pub(crate) fn wait_for_work<R: Wait>(&self, rt: &R) -> bool {
         let seen = self.moved.notifications();
         if self.state.lock(rt).is_at_rest() {
             watch(&self.moved, seen);

@@ -84,7 +84,7 @@ impl<W: Ledger, L: Ledger> State<W, L> {
         ensures pending_results { OnErr result (self.new.pending_results.items ≡ self.old.pending_results.items) }
         ensures legal { IsLegalMachine self.old.kernel.machine }
     {
-        is_legal(&self.kernel);
+        show_legal(&self.kernel);
         if let Some(fault) = self.kernel.post_fault() {
             return Err(fault);
         }
@@ -120,7 +120,7 @@ impl<W: Ledger, L: Ledger> State<W, L> {
         ensures pending_results { OnErr result (self.new.pending_results.items ≡ self.old.pending_results.items) }
         ensures legal { IsLegalMachine self.old.kernel.machine }
     {
-        is_legal(&self.kernel);
+        show_legal(&self.kernel);
         if let Some(fault) = self.kernel.post_fault() {
             return Err(fault);
         }
@@ -171,7 +171,7 @@ impl<W: Ledger, L: Ledger> State<W, L> {
         ensures settled { OnTrue (ends_job result) (SettlesLast self.new.kernel.machine.minutes self.old.pending_results.items self.new.pending_results.items) }
         ensures pending_results { OnFalse (ends_job result) (self.new.pending_results.items ≡ self.old.pending_results.items) }
     {
-        is_legal(&self.kernel);
+        show_legal(&self.kernel);
         let State { kernel, .. } = self;
         let turn = turn_on(kernel, bell, runner, m);
         if turn.is_end() {
@@ -190,7 +190,7 @@ impl<W: Ledger, L: Ledger> State<W, L> {
         ensures kernel { self.new.kernel ≡ self.old.kernel }
         ensures comms { self.new.comms ≡ self.old.comms }
     {
-        is_legal(&self.kernel);
+        show_legal(&self.kernel);
         fetch(self.alloc, &self.kernel, &mut self.pending_results, number)
     }
 
@@ -213,7 +213,7 @@ impl<W: Ledger, L: Ledger> State<W, L> {
         ensures seen { result ≡ length self.now.kernel.machine.minutes }
         ensures legal { IsLegalMachine self.now.kernel.machine }
     {
-        is_legal(&self.kernel);
+        show_legal(&self.kernel);
         self.kernel.minutes().len()
     }
 
@@ -228,7 +228,7 @@ impl<W: Ledger, L: Ledger> State<W, L> {
         ensures legal { IsLegalMachine self.now.kernel.machine }
         ensures refusal { IfErr result (λ f. f ≡ HallFault.Memory) }
     {
-        is_legal(&self.kernel);
+        show_legal(&self.kernel);
         ask_on(self.alloc, &self.kernel, &self.comms, ask)
     }
 
@@ -257,7 +257,7 @@ impl<W: Ledger, L: Ledger> State<W, L> {
         ensures fault { IfErr result (IsAuditFault self.kernel.machine.minutes passes.items tickets.items dones.items) }
         ensures legal { IsLegalMachine self.kernel.machine }
     {
-        is_legal(&self.kernel);
+        show_legal(&self.kernel);
         let State { kernel, .. } = self;
         match audit(kernel.minutes(), &passes, &mut tickets, &mut dones) {
             Ok(()) => Ok(Minutes { kernel }),
@@ -266,8 +266,8 @@ impl<W: Ledger, L: Ledger> State<W, L> {
     }
 }
 
-/// A kernel's state and minutes are legal.
-fn is_legal<W: Ledger>(kernel: &Kernel<W>)
+/// Does nothing: its contract says that a kernel's state and minutes are legal.
+fn show_legal<W: Ledger>(kernel: &Kernel<W>)
     ensures { IsLegalMachine kernel.now.machine }
 {
     let _ = kernel.world();

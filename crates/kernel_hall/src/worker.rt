@@ -35,7 +35,7 @@ pub fn work<W: Ledger, L: Ledger, R: Wait, G: Gate>(
     let mut is_inside = false;
     for _ in rt.forever() {
         if !is_inside {
-            if !hall.has_work(rt) {
+            if !hall.wait_for_work(rt) {
                 break;
             }
             gate.pass(Moment::BeforeBegin);

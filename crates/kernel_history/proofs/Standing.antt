@@ -23,7 +23,7 @@ use Rattle.kernel_machine.specs.Slices.{cells, stepped, moved, grown, Arrives, S
 use Rattle.kernel_machine.specs.Begins.{Declares}
 use Rattle.janus_meaning.specs.Syntax.{Name}
 use Rattle.janus_names.specs.Numbers.{GoOn, HaveOneNumber}
-use Rattle.janus_store.specs.Held.{Held, IsWhole, shown_store}
+use Rattle.janus_store.specs.StoreState.{StoreState, IsWhole, shown_store}
 use Rattle.janus_machine.specs.Bodies.{AreBelow, AreDefined, Define}
 use Rattle.janus_machine.specs.Procedures.{kept_in}
 use Rattle.janus_machine.proofs.BodiesInEffect.{forgotten_still_defined}
@@ -730,9 +730,9 @@ module _ {L : Type 0} (tree : Tree) (runner : Runner L) (work : Work) (why : Why
 -- what is shown stays where bodies that are not defined are dropped
 pub shows_forgotten : {L : Type 0} (old new : Runner L) (from : ℕ) (shown : ShownWorld) → new.store ≡ old.store → Shows old shown → AreBelow from shown.bodies → kept_in new.procedures ≡ take from (kept_in old.procedures) → AreDefined new.procedures shown.bodies → Shows new shown
 shows_forgotten old new from shown same shows low kept defined = record {
-  store = ap (λ (h : Held). shown_store h) same ∙ shows.store;
-  one_number = subst (λ (h : Held). HaveOneNumber h.names) (sym same) shows.one_number;
-  defined = subst (λ (h : Held). Define h.names new.procedures shown.bodies shown.world.procedures) (sym same) (forgotten_still_defined old.store.names old.procedures new.procedures shown.bodies shown.world.procedures from shows.defined low kept defined);
+  store = ap (λ (h : StoreState). shown_store h) same ∙ shows.store;
+  one_number = subst (λ (h : StoreState). HaveOneNumber h.names) (sym same) shows.one_number;
+  defined = subst (λ (h : StoreState). Define h.names new.procedures shown.bodies shown.world.procedures) (sym same) (forgotten_still_defined old.store.names old.procedures new.procedures shown.bodies shown.world.procedures from shows.defined low kept defined);
 }
 
 -- ---- a posted cell that could not be entered
@@ -753,8 +753,8 @@ pub kept_dropped : {L : Type 0} (tree made : Tree) (old at new : Runner L) (job 
     new.store ≡ at.store → kept_in new.procedures ≡ take first (kept_in at.procedures) → ((stack : List ℕ) → AreDefined at.procedures stack → AreBelow first stack → AreDefined new.procedures stack) → IsKept made new job
 kept_dropped tree made old at new job first k un is low store kept defined =
     let same : kept_in new.procedures ≡ kept_in old.procedures = kept ∙ ap (λ (n : ℕ). take n (kept_in at.procedures)) is ∙ un.older in
-    let names : GoOn old.store.names new.store.names = subst (λ (h : Held). GoOn old.store.names h.names) (sym store) un.names in
-    let whole : IsWhole new.store = subst (λ (h : Held). IsWhole h) (sym store) un.whole in
+    let names : GoOn old.store.names new.store.names = subst (λ (h : StoreState). GoOn old.store.names h.names) (sym store) un.names in
+    let whole : IsWhole new.store = subst (λ (h : StoreState). IsWhole h) (sym store) un.whole in
     let shows = shows_forgotten at new first (shown_here tree) store un.shows low kept (defined (bodies_at tree tree.position) un.shows.defined.defined low) in
     let idle = kept_idle tree Idle old new k (nodes_ready tree old new names same k.ready) whole shows in
     subst (λ (j : Open). IsKept made new j) (sym un.idle) (idle_in_time made new (kept_with_room tree made new idle un.past un.nodes un.position))

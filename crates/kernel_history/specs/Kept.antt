@@ -3,7 +3,7 @@ use Rattle.std.specs.Prelude.{◌≡◌, ℕ, zero, suc, ◌+◌, ◌-◌, ◌<�
 use Rattle.std.specs.Prelude.{length, map, slice_get, slice_index}
 use Rattle.cell_tree.specs.Tree.{contents_of}
 use Rattle.cell_tree.specs.declared.node.Node.{Node}
-use Rattle.janus_store.specs.Held.{IsWhole}
+use Rattle.janus_store.specs.StoreState.{IsWhole}
 use Rattle.janus_meaning.specs.Syntax.{Proc}
 use Rattle.janus_meaning.specs.World.{World, define}
 use Rattle.janus_syntax.specs.Tree.{procedures_view}

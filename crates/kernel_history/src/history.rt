@@ -8,7 +8,7 @@ ghost use Rattle.kernel_machine.specs.Slices.{IsSlice, cells};
 ghost use Rattle.kernel_machine.specs.StepsOfSlices.{WritesOnSlice};
 ghost use Rattle.kernel_machine.specs.Begins.{TakesCell, TakesMove, TakesGoto, Departs, Enters, Declares, travel_to};
 ghost use Rattle.janus_names.specs.Numbers.{GoOn};
-ghost use Rattle.janus_store.specs.Held.{IsWhole, KeepsSight};
+ghost use Rattle.janus_store.specs.StoreState.{IsWhole, KeepsSight};
 ghost use Rattle.janus_machine.specs.Procedures.{kept_in};
 ghost use Rattle.kernel_machine.specs.Text.{Accepts, Refuses};
 ghost use Rattle.kernel_runner.specs.Program.{cell_of_program, IsReady, KeepsOlder};

@@ -9,7 +9,7 @@ ghost use Rattle.kernel_machine.specs.Slices.{finished as the_finished, turned a
 ghost use Rattle.janus_machine.specs.Counts.{IsWritten};
 ghost use Rattle.kernel_machine.specs.StepsOfSlices.{steps_back, WritesOn};
 ghost use Rattle.janus_names.specs.Numbers.{GoOn};
-ghost use Rattle.janus_store.specs.Held.{IsWhole};
+ghost use Rattle.janus_store.specs.StoreState.{IsWhole};
 ghost use Rattle.kernel_runner.specs.Runner.{Is, Between};
 ghost use Rattle.kernel_history.specs.Kept.{Kept, HasCome, IsProgramOf, HasPathFor, NodesAreReady, SettlesFrom, shown_here};
 

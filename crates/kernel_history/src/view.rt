@@ -2,7 +2,7 @@
 ghost use Rattle.std.specs.Prelude.{◌≡◌, ◌<◌, ◌↔◌, IsTrue, IfOk, Some, slice_get};
 ghost use Rattle.janus_meaning.specs.Store.{look};
 ghost use Rattle.janus_meaning.specs.World.{size_of, listed};
-ghost use Rattle.janus_store.specs.Held.{shown_store};
+ghost use Rattle.janus_store.specs.StoreState.{shown_store};
 ghost use Rattle.janus_store.specs.Values.{found, shown};
 ghost use Rattle.kernel_runner.specs.Defined.{in_a_row};
 ghost use Rattle.kernel_machine.specs.State.{procedures_at};
@@ -34,7 +34,7 @@ pub struct View<'a, L: Ledger> {
 impl<'a, L: Ledger> Model for View<'a, L> {
     ghost use Rattle.janus_meaning.specs.World.{World};
     ghost use Rattle.janus_meaning.specs.Codes.{world_code};
-    ghost use Rattle.janus_store.specs.Held.{shown_store};
+    ghost use Rattle.janus_store.specs.StoreState.{shown_store};
     ghost use Rattle.kernel_history.specs.Fields.{past_of};
     ghost use Rattle.kernel_machine.specs.Legal.{IsLegal};
     ghost use Rattle.kernel_history.specs.Kept.{over_here};

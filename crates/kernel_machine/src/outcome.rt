@@ -1,6 +1,7 @@
 //! What the calls of a kernel answer.
 ghost use Rattle.std.specs.Prelude.{◌≡◌};
 ghost use Rattle.kernel_machine.specs.Refusal.{number_of, name_of, span_of};
+ghost use Rattle.kernel_machine.specs.Text.{refused_by_syntax, refused_by_check};
 
 use janus_check::CheckFault;
 use janus_machine::Fault;
@@ -46,6 +47,26 @@ pub enum Refusal {
 }
 
 impl Refusal {
+    /// How a text is refused for a fault of its own, or for want of memory.
+    pub fn of_syntax(fault: SyntaxFault) -> Refusal
+        ensures { result ≡ refused_by_syntax fault }
+    {
+        match fault {
+            SyntaxFault::Memory => Refusal::Memory,
+            fault => Refusal::Syntax(fault),
+        }
+    }
+
+    /// How what was read is refused for a fault of the check, or for want of memory.
+    pub fn of_check(fault: CheckFault) -> Refusal
+        ensures { result ≡ refused_by_check fault }
+    {
+        match fault {
+            CheckFault::Memory => Refusal::Memory,
+            fault => Refusal::Check(fault),
+        }
+    }
+
     /// The number under which the refusal is told.
     pub fn number(self) -> u8
         ensures { result ≡ number_of self }

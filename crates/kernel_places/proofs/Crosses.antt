@@ -17,6 +17,7 @@ use Rattle.kernel_sockets.specs.contracts.listener.Listener as Listener
 use Rattle.kernel_sockets.specs.contracts.shares.Common as Common
 use Rattle.kernel_sockets.specs.contracts.shares.Strangers as Strangers
 use Rattle.kernel_places.specs.contracts.latch.Latch as Latch
+use Rattle.kernel_places.specs.contracts.places.Listeners as Listeners
 use Rattle.kernel_places.specs.contracts.door.Door as Door
 use Rattle.kernel_places.specs.contracts.service.Service as Service
 
@@ -29,16 +30,19 @@ BroadcastLog-send = search (crosses, cells_send, deed_send, frees, Broadcast-sen
 pub Bulletin-sync : IsSync (Bulletin.the_field).row
 Bulletin-sync = search (crosses, BroadcastLog-send, sendable) depth 60 fits 20000
 
-pub Connections-sync : IsSync (Connections.the_field).row
+Connections-sync : IsSync (Connections.the_field).row
 Connections-sync = search (crosses, sendable) depth 60 fits 20000
 
-pub Listener-sync : IsSync (Listener.the_field).row
+Listener-sync : IsSync (Listener.the_field).row
 Listener-sync = search (crosses, sendable) depth 60 fits 20000
+
+pub Listeners-sync : IsSync (Listeners.the_field).row
+Listeners-sync = search (crosses, Listener-sync, sendable) depth 60 fits 20000
 
 Latch-sync : IsSync (Latch.the_field).row
 Latch-sync = search (crosses, sendable) depth 60 fits 20000
 
-pub Door-sync : IsSync (Door.the_field).row
+Door-sync : IsSync (Door.the_field).row
 Door-sync = search (crosses, sendable) depth 60 fits 20000
 
 module _ (S : RattleType) (s : Ledger.Ghosts S.Denot) where

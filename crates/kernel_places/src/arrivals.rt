@@ -129,8 +129,9 @@ impl<'a, R: Clock + Wait, S: Ledger> Arrivals<'a, R, S> {
         strangers.end(rt, share)
     }
 
-    /// Whether it may bring so many octets more. An answered connection has its own share alone, since nobody needs more for a heartbeat.
-    fn may_bring(&mut self, count: u64) -> bool
+    /// Counts so many octets more, if it may bring them; false if it may not. An answered connection has its own share alone, since nobody
+    /// needs more for a heartbeat.
+    fn bring(&mut self, count: u64) -> bool
         ensures brought { IsTrue result → self.new.share.brought ≡ self.old.share.brought + count }
         ensures same { result ≡ false → self.new.share.brought ≡ self.old.share.brought }
     {
@@ -154,15 +155,21 @@ impl<'a, R: Clock + Wait, S: Ledger> Arrivals<'a, R, S> {
 
     /// Counts octets that came, and tells whether they may be kept. Nothing is counted of who showed the key, and what was answered no longer is: all that
     /// came before, or so many octets of it.
-    fn count_of(&mut self, is_trusted: bool, was_answered: bool, answered: u64, count: u64) -> bool
+    fn count_of(
+        &mut self,
+        is_trusted: bool,
+        take_all_answered: bool,
+        answered: u64,
+        count: u64,
+    ) -> bool
         ensures trusted { IsTrue is_trusted → IsTrue result × (self.new.share.brought ≡ 0) }
         ensures brought { is_trusted ≡ false → IsTrue result
-            → self.new.share.brought ≡ (if was_answered then 0 else self.old.share.brought - answered) + count }
+            → self.new.share.brought ≡ (if take_all_answered then 0 else self.old.share.brought - answered) + count }
         ensures refused { is_trusted ≡ false → result ≡ false
-            → self.new.share.brought ≡ (if was_answered then 0 else self.old.share.brought - answered) }
+            → self.new.share.brought ≡ (if take_all_answered then 0 else self.old.share.brought - answered) }
     {
-        self.let_go(is_trusted || was_answered, answered);
-        is_trusted || self.may_bring(count)
+        self.let_go(is_trusted || take_all_answered, answered);
+        is_trusted || self.bring(count)
     }
 
     /// Counts octets that came before anything of them is kept.
@@ -172,9 +179,9 @@ impl<'a, R: Clock + Wait, S: Ledger> Arrivals<'a, R, S> {
     /// `OutOfMemory` where a stranger, or all strangers together, would hold too much by them.
     fn count(&mut self, count: usize) -> io::Result<()> {
         let is_trusted = self.presence.is_trusted();
-        let was_answered = is_answered(self.socket) && self.presence.was_answered();
+        let take_all_answered = is_answered(self.socket) && self.presence.take_all_answered();
         let answered = self.presence.take_answered();
-        if self.count_of(is_trusted, was_answered, answered, count as u64) {
+        if self.count_of(is_trusted, take_all_answered, answered, count as u64) {
             return Ok(());
         }
         Err(io::Error::from(ErrorKind::OutOfMemory))
@@ -212,7 +219,7 @@ impl<'a, R: Clock + Wait, S: Ledger> Arrivals<'a, R, S> {
         self.stream.set_read_timeout(Some(left))?;
         let count = self.read_on(buf)?;
         self.count(count)?;
-        if is_over(&mut self.handshake, &buf[..count]) {
+        if ends_handshake(&mut self.handshake, &buf[..count]) {
             self.handshake = None;
             self.presence.set_ready();
             self.stream.set_read_timeout(None)?;
@@ -248,8 +255,8 @@ impl<R: Clock + Wait, S: Ledger> Read for Arrivals<'_, R, S> {
     }
 }
 
-/// Whether the handshake is over with this piece. Who serves the connection meets a fault of the peer itself.
-fn is_over(handshake: &mut Option<Peer>, piece: &[u8]) -> bool {
+/// Feeds the handshake this piece, and tells whether it is over. Who serves the connection meets a fault of the peer itself.
+fn ends_handshake(handshake: &mut Option<Peer>, piece: &[u8]) -> bool {
     let Some(peer) = handshake else {
         return true;
     };

@@ -1,6 +1,7 @@
 //! The door of a socket: where a connection that was accepted waits for a place.
 ghost use Rattle.std.specs.Prelude.{◌≡◌, ◌<◌, ◌↔◌, IsTrue, false, true, None, Some};
 
+use kernel_session::Socket;
 use std::net::TcpStream;
 use std::sync::{Condvar, Mutex, Wait};
 use std::time::{Clock, Duration};
@@ -103,8 +104,8 @@ impl Door {
         is_awaited
     }
 
-    /// Waits until no connection waits for a place, or for so long. Whether none does.
-    pub fn is_free_within<R: Wait + Clock>(&self, rt: &R, most: Duration) -> bool {
+    /// Waits until no connection waits for a place, or for so long, and tells whether none does.
+    pub fn wait_until_free<R: Wait + Clock>(&self, rt: &R, most: Duration) -> bool {
         let entrance = self.entrance.lock(rt);
         let (entrance, _) = self
             .taken
@@ -141,6 +142,17 @@ impl Doors {
             stdin: Door::new(),
             control: Door::new(),
             heartbeat: Door::new(),
+        }
+    }
+
+    /// That of a socket.
+    pub fn of(&self, socket: Socket) -> &Door {
+        match socket {
+            Socket::Shell => &self.shell,
+            Socket::Iopub => &self.iopub,
+            Socket::Stdin => &self.stdin,
+            Socket::Control => &self.control,
+            Socket::Heartbeat => &self.heartbeat,
         }
     }
 

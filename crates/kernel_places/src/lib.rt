@@ -37,6 +37,7 @@ mod publishing;
 mod requests;
 mod service;
 mod start;
+mod task;
 mod usher;
 mod worker;
 

@@ -1,4 +1,5 @@
 //! The places of a socket.
+use kernel_session::Socket;
 use kernel_sockets::{Listener, Stream};
 use std::alloc::Global;
 use std::net::TcpStream;
@@ -12,6 +13,35 @@ pub const ALL_PLACES: u64 = 160;
 
 const _: () = prove!(ALL_PLACES == 5 * (PLACES as u64));
 
+/// Which place it is: of which socket, and where in the register of its connections. Iopub has a register of its own; the other four share
+/// one.
+#[derive(Clone, Copy, PartialEq, Eq)]
+pub(crate) struct Place {
+    pub socket: Socket,
+    pub index: usize,
+}
+
+impl Place {
+    /// The first place of a socket.
+    pub fn first(socket: Socket) -> Place {
+        let index = match socket {
+            Socket::Shell | Socket::Iopub => 0,
+            Socket::Control => PLACES,
+            Socket::Stdin => 2 * PLACES,
+            Socket::Heartbeat => 3 * PLACES,
+        };
+        Place { socket, index }
+    }
+
+    /// The place that is so many behind this one.
+    pub fn behind(self, count: usize) -> Place {
+        Place {
+            socket: self.socket,
+            index: self.index.saturating_add(count),
+        }
+    }
+}
+
 /// The five listening sockets.
 #[derive(Drop)]
 pub struct Listeners {
@@ -23,6 +53,17 @@ pub struct Listeners {
 }
 
 impl Listeners {
+    /// That of a socket.
+    pub(crate) fn of(&self, socket: Socket) -> &Listener {
+        match socket {
+            Socket::Shell => &self.shell,
+            Socket::Iopub => &self.iopub,
+            Socket::Stdin => &self.stdin,
+            Socket::Control => &self.control,
+            Socket::Heartbeat => &self.heartbeat,
+        }
+    }
+
     /// Refuses all that wait for a connection, and all that come later.
     pub(crate) fn close(&self) {
         self.shell.close();

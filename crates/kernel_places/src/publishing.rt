@@ -1,6 +1,5 @@
 //! The places of the iopub socket.
 use crate::arrivals::{Arrivals, Departures, milliseconds};
-use crate::door::Door;
 use crate::places::share;
 use crate::service::Service;
 use kernel_iopub::{HangUp, serve_subscriber};
@@ -79,7 +78,8 @@ pub(crate) fn attend_subscribers<
     L: Ledger + Send + Sync,
     S: Ledger + Send + Sync,
     R: Threads + Wait + Clock + Sync,
->(rt: &R, service: &Service<W, L, S>, door: &Door, index: usize) {
+>(rt: &R, service: &Service<W, L, S>, index: usize) {
+    let door = service.doors.of(Socket::Iopub);
     let Some(mut allowance) = service.strangers.allowance(rt) else {
         return;
     };

@@ -1,7 +1,6 @@
 //! The places of the sockets on which something comes: shell, control, stdin and heartbeat.
 use crate::arrivals::{Arrivals, Departures, milliseconds};
-use crate::door::Door;
-use crate::places::share;
+use crate::places::{Place, share};
 use crate::service::Service;
 use kernel_desk::{HallDesk, QuietDesk};
 use kernel_session::{Desk, Socket, serve};
@@ -10,13 +9,6 @@ use std::net::TcpStream;
 use std::sync::Wait;
 use std::sync::ledger::Ledger;
 use std::time::Clock;
-
-/// Which place it is: of which socket, and where among those of all four.
-#[derive(Clone, Copy, PartialEq, Eq)]
-pub(crate) struct Place {
-    pub socket: Socket,
-    pub index: usize,
-}
 
 /// Serves a connection that was let in, to its end. The allowance of the place is given back.
 fn converse<W: Ledger, L: Ledger, S: Ledger, D: Desk, R: Wait + Clock>(
@@ -86,10 +78,10 @@ fn receive<W: Ledger, L: Ledger, S: Ledger, D: Desk, R: Wait + Clock>(
 pub(crate) fn attend<W: Ledger, L: Ledger, S: Ledger, R: Wait + Clock>(
     rt: &R,
     service: &Service<W, L, S>,
-    door: &Door,
     place: Place,
     mut desk: HallDesk<'_, W, L, R>,
 ) {
+    let door = service.doors.of(place.socket);
     let Some(mut allowance) = service.strangers.allowance(rt) else {
         return;
     };
@@ -108,10 +100,10 @@ pub(crate) fn attend<W: Ledger, L: Ledger, S: Ledger, R: Wait + Clock>(
 pub(crate) fn attend_silently<W: Ledger, L: Ledger, S: Ledger, R: Wait + Clock>(
     rt: &R,
     service: &Service<W, L, S>,
-    door: &Door,
     place: Place,
 ) {
     let mut desk = QuietDesk;
+    let door = service.doors.of(place.socket);
     let Some(mut allowance) = service.strangers.allowance(rt) else {
         return;
     };

@@ -9,6 +9,7 @@ use jupyter_msg::Key;
 use kernel_hall::Hall;
 use kernel_iopub::Bulletin;
 use kernel_message::Stamp;
+use kernel_session::Socket;
 use kernel_sockets::{Connections, Strangers};
 use std::alloc::{AllocError, Global};
 use std::sync::ledger::{Blank, Ledger};
@@ -100,6 +101,14 @@ impl<W: Ledger, L: Ledger, S: Ledger> Service<W, L, S> {
     pub fn discard(self) {
         let Service { hall, .. } = self;
         hall.discard();
+    }
+
+    /// The connections among which those of a socket are.
+    pub(crate) fn connections(&self, socket: Socket) -> &Connections {
+        match socket {
+            Socket::Iopub => &self.subscribers,
+            Socket::Shell | Socket::Control | Socket::Stdin | Socket::Heartbeat => &self.callers,
+        }
     }
 
     /// The number of the next connection: from 1 on, and none after the last.

@@ -1,17 +1,14 @@
 //! How the threads are started, and how they come to an end.
 ghost use Rattle.std.specs.Prelude.{◌≡◌, All};
 
-use crate::door::Door;
-use crate::places::{Listeners, PLACES};
-use crate::publishing::attend_subscribers;
-use crate::requests::{Place, attend, attend_silently};
+use crate::places::{Listeners, PLACES, Place};
 use crate::service::Service;
-use crate::usher::{Row, usher};
+use crate::task::Task;
 use crate::worker::Worker;
 use kernel_bell::{RingerSeat, RunnerSeat};
 use kernel_desk::HallDesk;
 use kernel_session::Socket;
-use kernel_sockets::{Connections, Listener, MOMENT};
+use kernel_sockets::Connections;
 use std::alloc::AllocError;
 use std::io::Write;
 use std::net::Shutdown;
@@ -31,9 +28,6 @@ pub struct Seats {
     pub runner: RunnerSeat,
     pub ringers: Vec<RingerSeat>,
 }
-
-/// How long a ready connection of iopub, stdin or heartbeat may be silent before it has to make room for another one.
-const SILENCE_MILLISECONDS: u64 = 60_000;
 
 /// The desks of the places of shell and control, as many as there are seats, that of the last place first. Each notes at its place that a
 /// message with a valid signature came.
@@ -66,6 +60,26 @@ fn desks_of<'a, W: Ledger, L: Ledger, S: Ledger, R: Wait + Clock>(
     Ok(desks)
 }
 
+/// Starts a thread that does this task. False where it could not be made.
+fn start<
+    's,
+    E,
+    W: Ledger + Send + Sync,
+    L: Ledger + Send + Sync,
+    S: Ledger + Send + Sync,
+    R: Threads + Wait + Clock + Sync,
+>(
+    scope: &Scope<'s, E>,
+    rt: &'s R,
+    service: &'s Service<W, L, S>,
+    listeners: &'s Listeners,
+    task: Task<'s, W, L, R>,
+) -> bool {
+    scope
+        .spawn(move || task.run(rt, service, listeners))
+        .is_ok()
+}
+
 /// Starts the places of shell or control, with desks of these. False where a thread could not be made.
 fn start_attending<
     's,
@@ -78,30 +92,24 @@ fn start_attending<
     scope: &Scope<'s, E>,
     rt: &'s R,
     service: &'s Service<W, L, S>,
-    door: &'s Door,
-    first: Place,
+    listeners: &'s Listeners,
+    socket: Socket,
     desks: &mut Vec<HallDesk<'s, W, L, R>>,
 ) -> bool {
     for at in 0..PLACES {
-        let place = Place {
-            socket: first.socket,
-            index: first.index.saturating_add(at),
-        };
         let Some(desk) = desks.pop() else {
             return false;
         };
-        if scope
-            .spawn(move || attend(rt, service, door, place, desk))
-            .is_err()
-        {
+        let task = Task::Attend(Place::first(socket).behind(at), desk);
+        if !start(scope, rt, service, listeners, task) {
             return false;
         }
     }
     true
 }
 
-/// Starts the places of stdin or heartbeat. False where a thread could not be made.
-fn start_attending_silently<
+/// Starts the places of stdin, heartbeat or iopub. False where a thread could not be made.
+fn start_without_desks<
     's,
     E,
     W: Ledger + Send + Sync,
@@ -112,54 +120,20 @@ fn start_attending_silently<
     scope: &Scope<'s, E>,
     rt: &'s R,
     service: &'s Service<W, L, S>,
-    door: &'s Door,
-    first: Place,
+    listeners: &'s Listeners,
+    socket: Socket,
 ) -> bool {
     for at in 0..PLACES {
-        let place = Place {
-            socket: first.socket,
-            index: first.index.saturating_add(at),
+        let place = Place::first(socket).behind(at);
+        let task = match socket {
+            Socket::Iopub => Task::AttendSubscribers(place),
+            _ => Task::AttendSilently(place),
         };
-        if scope
-            .spawn(move || attend_silently(rt, service, door, place))
-            .is_err()
-        {
+        if !start(scope, rt, service, listeners, task) {
             return false;
         }
     }
     true
-}
-
-/// Starts the places of iopub. False where a thread could not be made.
-fn start_publishing<
-    's,
-    E,
-    W: Ledger + Send + Sync,
-    L: Ledger + Send + Sync,
-    S: Ledger + Send + Sync,
-    R: Threads + Wait + Clock + Sync,
->(scope: &Scope<'s, E>, rt: &'s R, service: &'s Service<W, L, S>) -> bool {
-    let door = &service.doors.iopub;
-    for index in 0..PLACES {
-        if scope
-            .spawn(move || attend_subscribers(rt, service, door, index))
-            .is_err()
-        {
-            return false;
-        }
-    }
-    true
-}
-
-/// The first place of a socket.
-fn first_place(socket: Socket) -> Place {
-    let index = match socket {
-        Socket::Shell | Socket::Iopub => 0,
-        Socket::Control => PLACES,
-        Socket::Stdin => 2 * PLACES,
-        Socket::Heartbeat => 3 * PLACES,
-    };
-    Place { socket, index }
 }
 
 /// Starts the worker. False where its thread could not be made; then there is none that has to come to its end.
@@ -186,48 +160,8 @@ fn start_worker<
     true
 }
 
-/// Starts the usher of a socket. False where its thread could not be made.
-fn start_usher<
-    's,
-    E,
-    W: Ledger + Send + Sync,
-    L: Ledger + Send + Sync,
-    S: Ledger + Send + Sync,
-    R: Threads + Wait + Clock + Sync,
->(
-    scope: &Scope<'s, E>,
-    rt: &'s R,
-    service: &'s Service<W, L, S>,
-    listener: &'s Listener,
-    connections: &'s Connections,
-    door: &'s Door,
-    row: Row,
-) -> bool {
-    scope
-        .spawn(move || usher(rt, service, listener, connections, door, row))
-        .is_ok()
-}
-
-/// The places of a socket in the register of those that call, where a signed message shows who has the key.
-fn signed_row(socket: Socket) -> Row {
-    Row {
-        first: first_place(socket).index,
-        count: PLACES,
-        silence: MOMENT,
-    }
-}
-
-/// The places of a socket on which no signed message comes.
-fn quiet_row(socket: Socket) -> Row {
-    Row {
-        first: first_place(socket).index,
-        count: PLACES,
-        silence: SILENCE_MILLISECONDS,
-    }
-}
-
-/// Starts the ushers of shell and control. False where a thread could not be made.
-fn start_callers_ushers<
+/// Starts the ushers of all sockets. False where a thread could not be made.
+fn start_ushers<
     's,
     E,
     W: Ledger + Send + Sync,
@@ -240,71 +174,19 @@ fn start_callers_ushers<
     service: &'s Service<W, L, S>,
     listeners: &'s Listeners,
 ) -> bool {
-    let (callers, doors) = (&service.callers, &service.doors);
-    let shell = signed_row(Socket::Shell);
-    let control = signed_row(Socket::Control);
-    start_usher(
-        scope,
-        rt,
-        service,
-        &listeners.shell,
-        callers,
-        &doors.shell,
-        shell,
-    ) && start_usher(
-        scope,
-        rt,
-        service,
-        &listeners.control,
-        callers,
-        &doors.control,
-        control,
-    )
-}
-
-/// Starts the ushers of iopub, stdin and heartbeat. False where a thread could not be made.
-fn start_quiet_ushers<
-    's,
-    E,
-    W: Ledger + Send + Sync,
-    L: Ledger + Send + Sync,
-    S: Ledger + Send + Sync,
-    R: Threads + Wait + Clock + Sync,
->(
-    scope: &Scope<'s, E>,
-    rt: &'s R,
-    service: &'s Service<W, L, S>,
-    listeners: &'s Listeners,
-) -> bool {
-    let (callers, doors) = (&service.callers, &service.doors);
-    let iopub = quiet_row(Socket::Iopub);
-    let stdin = quiet_row(Socket::Stdin);
-    let beat = quiet_row(Socket::Heartbeat);
-    start_usher(
-        scope,
-        rt,
-        service,
-        &listeners.iopub,
-        &service.subscribers,
-        &doors.iopub,
-        iopub,
-    ) && start_usher(
-        scope,
-        rt,
-        service,
-        &listeners.stdin,
-        callers,
-        &doors.stdin,
-        stdin,
-    ) && start_usher(
-        scope,
-        rt,
-        service,
-        &listeners.heartbeat,
-        callers,
-        &doors.heartbeat,
-        beat,
-    )
+    let sockets = [
+        Socket::Shell,
+        Socket::Control,
+        Socket::Iopub,
+        Socket::Stdin,
+        Socket::Heartbeat,
+    ];
+    for socket in sockets.iter() {
+        if !start(scope, rt, service, listeners, Task::LetIn(*socket)) {
+            return false;
+        }
+    }
+    true
 }
 
 /// Starts the worker and all places on which something comes. False where a thread could not be made.
@@ -324,24 +206,12 @@ fn start_all<
     desks: Vec<HallDesk<'s, W, L, R>>,
 ) -> bool {
     let mut desks = desks;
-    let shell = first_place(Socket::Shell);
-    let control = first_place(Socket::Control);
-    let stdin = first_place(Socket::Stdin);
-    let heartbeat = first_place(Socket::Heartbeat);
     start_worker(scope, rt, service, worker)
-        && start_attending(scope, rt, service, &service.doors.shell, shell, &mut desks)
-        && start_attending(
-            scope,
-            rt,
-            service,
-            &service.doors.control,
-            control,
-            &mut desks,
-        )
-        && start_attending_silently(scope, rt, service, &service.doors.stdin, stdin)
-        && start_attending_silently(scope, rt, service, &service.doors.heartbeat, heartbeat)
-        && start_callers_ushers(scope, rt, service, listeners)
-        && start_quiet_ushers(scope, rt, service, listeners)
+        && start_attending(scope, rt, service, listeners, Socket::Shell, &mut desks)
+        && start_attending(scope, rt, service, listeners, Socket::Control, &mut desks)
+        && start_without_desks(scope, rt, service, listeners, Socket::Stdin)
+        && start_without_desks(scope, rt, service, listeners, Socket::Heartbeat)
+        && start_ushers(scope, rt, service, listeners)
 }
 
 /// Tells that all is ready. A fault of the stream is passed over.
@@ -435,7 +305,7 @@ pub fn serve_all<
     let desks = desks_of(rt, service, ringers)?;
     let worker = Worker::new(&service.hall, runner);
     let is_started = thread::scope(thread::scope_env(), rt, |scope| {
-        let is_started = if start_publishing(scope, rt, service) {
+        let is_started = if start_without_desks(scope, rt, service, listeners, Socket::Iopub) {
             serve_callers(rt, service, listeners, worker, desks, out)
         } else {
             end_all(rt, service, listeners);

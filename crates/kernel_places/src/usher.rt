@@ -1,8 +1,10 @@
 //! The usher of a socket: it accepts connections, and has a stranger make room where all places are taken.
 use crate::arrivals::milliseconds;
 use crate::door::Door;
+use crate::places::{Listeners, PLACES, Place};
 use crate::service::Service;
-use kernel_sockets::{Connections, Listener};
+use kernel_session::Socket;
+use kernel_sockets::{Connections, Listener, MOMENT};
 use std::net::TcpStream;
 use std::sync::Wait;
 use std::sync::ledger::Ledger;
@@ -15,13 +17,16 @@ const REST_MILLISECONDS: u64 = 20;
 /// How long a connection waits for a place before a further stranger has to make room.
 const WAIT_MILLISECONDS: u64 = 10;
 
-/// One place after another of a socket, among those of its register.
-#[derive(Clone, Copy)]
-pub(crate) struct Row {
-    pub first: usize,
-    pub count: usize,
-    /// The milliseconds for which a ready connection on which no signed message came may be silent before it has to make room.
-    pub silence: u64,
+/// How long a ready connection of iopub, stdin or heartbeat may be silent before it has to make room for another one.
+const SILENCE_MILLISECONDS: u64 = 60_000;
+
+/// The milliseconds for which a ready connection of a socket on which no signed message came may be silent before it has to make room. On
+/// shell and control a signed message shows who has the key.
+fn silence(socket: Socket) -> u64 {
+    match socket {
+        Socket::Shell | Socket::Control => MOMENT,
+        Socket::Iopub | Socket::Stdin | Socket::Heartbeat => SILENCE_MILLISECONDS,
+    }
 }
 
 /// The next connection of a socket, with its number. `None` where none could be accepted, after a rest: no descriptor may be free for
@@ -41,12 +46,13 @@ fn accept<W: Ledger, L: Ledger, S: Ledger, R: Wait + Clock>(
     Some((stream, number))
 }
 
-/// Has strangers make room, one after another, until a place has taken the connection that waits at the door.
-fn see_in<R: Wait + Clock>(rt: &R, connections: &Connections, door: &Door, row: Row) {
+/// Has strangers make room, one after another, until a place of the socket has taken the connection that waits at the door.
+fn see_in<R: Wait + Clock>(rt: &R, connections: &Connections, door: &Door, socket: Socket) {
+    let first = Place::first(socket).index;
     for _ in rt.forever() {
         let now = milliseconds(rt);
-        connections.make_room(rt, row.first, row.count, now, row.silence);
-        if door.is_free_within(rt, Duration::from_millis(WAIT_MILLISECONDS)) {
+        connections.make_room(rt, first, PLACES, now, silence(socket));
+        if door.wait_until_free(rt, Duration::from_millis(WAIT_MILLISECONDS)) {
             return;
         }
     }
@@ -56,19 +62,18 @@ fn see_in<R: Wait + Clock>(rt: &R, connections: &Connections, door: &Door, row: 
 pub(crate) fn usher<W: Ledger, L: Ledger, S: Ledger, R: Wait + Clock>(
     rt: &R,
     service: &Service<W, L, S>,
-    listener: &Listener,
-    connections: &Connections,
-    door: &Door,
-    row: Row,
+    listeners: &Listeners,
+    socket: Socket,
 ) {
+    let door = service.doors.of(socket);
     service.started.wait(rt);
     for _ in rt.forever() {
         if service.ending.is_set() {
             break;
         }
-        if let Some((stream, number)) = accept(rt, service, listener) {
+        if let Some((stream, number)) = accept(rt, service, listeners.of(socket)) {
             if !door.offer(rt, stream, number) {
-                see_in(rt, connections, door, row);
+                see_in(rt, service.connections(socket), door, socket);
             }
         }
     }

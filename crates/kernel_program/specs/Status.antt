@@ -1,7 +1,5 @@
 -- With which status the program ends, where it does not run.
 use Rattle.std.specs.Prelude.{ℕ}
-use Rattle.clap.specs.declared.error.kind.ErrorKind.{ErrorKind}
-use Rattle.clap.specs.declared.error.kind.ErrorKind.TheVariants.{DisplayHelp, DisplayVersion, OutOfMemory}
 use Rattle.kernel_program.specs.declared.fault.ProgramFault.{ProgramFault}
 use Rattle.kernel_program.specs.declared.fault.ProgramFault.TheVariants.{Memory, File, Bind}
 
@@ -10,10 +8,3 @@ abbrev pub status_of : ProgramFault → ℕ
 status_of Memory = 1
 status_of (File setting) = 2
 status_of (Bind setting) = 3
-
--- words that run nothing: help is no failure
-abbrev pub words_status : ErrorKind → ℕ
-words_status DisplayHelp = 0
-words_status DisplayVersion = 0
-words_status OutOfMemory = 1
-words_status wrong = 2

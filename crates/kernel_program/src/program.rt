@@ -1,11 +1,11 @@
 //! The program over the words of its command line.
 ghost use Rattle.std.specs.Prelude.{◌≡◌, ◌≢◌, ◌<◌, IfOk, All};
 ghost use Rattle.clap.specs.Values.{kind_of};
-ghost use Rattle.kernel_program.specs.Status.{words_status as words_status_of};
+ghost use Rattle.program_words.specs.Status.{status_of};
 
 use crate::fault::ProgramFault;
 use crate::opening::{connection_of, listeners_of};
-use crate::words::{file_of, unread_words_status, words_status};
+use crate::words::file_of;
 use clap::Error;
 use clap::error::ErrorKind as ClapErrorKind;
 use jupyter_msg::Key;
@@ -14,6 +14,7 @@ use kernel_bell::{Bell, RINGERS};
 use kernel_core::Kernel;
 use kernel_hall::Hall;
 use kernel_places::{ALL_PLACES, Listeners, PLACES, Seats, Service, serve_all};
+use program_words::{send_unread_words, unread_words_status, words_status};
 use rand::make_rng;
 use rand::rngs::StdRng;
 use stamp_texts::session_name;
@@ -161,7 +162,7 @@ where
 
 /// Tells why words run nothing: the help to the output, all else to the errors. A fault of the streams is passed over.
 fn refuse_words<O: Write, E: Write>(error: &Error, out: &mut O, err: &mut E) -> u8
-    ensures { result ≡ words_status_of (kind_of error.now) }
+    ensures { result ≡ status_of 1 (kind_of error.now) }
 {
     let kind = error.kind();
     if kind == ClapErrorKind::OutOfMemory {
@@ -173,7 +174,7 @@ fn refuse_words<O: Write, E: Write>(error: &Error, out: &mut O, err: &mut E) -> 
         let _ = write!(out, "{error}");
         let _ = out.flush();
     }
-    words_status(kind)
+    words_status(kind, ProgramFault::Memory.status())
 }
 
 /// Tells why the words of the command line could not be had, and answers the program's status: 1 where there was no memory for them, else 2.
@@ -184,12 +185,9 @@ pub fn refuse_unread_words<E: Write>(kind: ErrorKind, err: &mut E) -> u8
     if kind == ErrorKind::OutOfMemory {
         ProgramFault::Memory.tell(err);
     } else {
-        let _ = writeln!(
-            err,
-            "error: invalid UTF-8 was detected in one or more arguments"
-        );
+        let _ = send_unread_words(err);
     }
-    unread_words_status(kind)
+    unread_words_status(kind, ProgramFault::Memory.status())
 }
 
 /// The program `janus-kernel`, over the words of its command line, of which the first is its name, and its two output streams: it serves

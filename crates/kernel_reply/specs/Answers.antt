@@ -21,7 +21,8 @@ use Rattle.kernel_ask.specs.Comms.{is_open}
 use Rattle.kernel_message.specs.Said.{Said, Says}
 use Rattle.kernel_reply.specs.Status.{idle}
 use Rattle.kernel_reply.specs.Problems.{cell_problem, post_problem}
-use Rattle.kernel_reply.specs.Replies.{kernel_info_reply, complete_reply, inspect_reply, is_complete_reply, history_reply, no_search_reply, interrupt_reply, shutdown_reply}
+use Rattle.kernel_reply.specs.Replies.{kernel_info_reply, complete_reply, inspect_reply, is_complete_reply, history_reply, no_search_reply, interrupt_reply}
+use Rattle.kernel_reply.specs.Replies.{shutdown_reply}
 use Rattle.kernel_reply.specs.Execution.{execute_reply, error_reply, execute_broadcasts}
 use Rattle.kernel_reply.specs.Comms.{is_target, comm_info_reply, comm_msg, comm_close, state_shown}
 use Rattle.kernel_reply.specs.Moves.{move_shown, unposted_shown}

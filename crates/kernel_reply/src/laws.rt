@@ -1,6 +1,8 @@
 //! What holds of all answers. The functions do nothing: their contracts are the laws. That the messages are numbered without a gap in
 //! their order, and that their parent header is the header of the request, are laws of `kernel_message`.
-ghost use Rattle.kernel_reply.specs.Laws.{JobsEndIdle, AsksEndIdle, RefusalsEndIdle, EndsAreReplied, RefusalsAreReplied, AnswersAreReplied, OpensPastTheLimitClose, OpensOfOpenComms, OpensForOtherTargetsClose, ListsEachCommOnce, ListsEachWithItsTarget, TellsEachNameOnce, TellsValuesByName};
+ghost use Rattle.kernel_reply.specs.Laws.{JobsEndIdle, AsksEndIdle, RefusalsEndIdle, EndsAreReplied, RefusalsAreReplied, AnswersAreReplied};
+ghost use Rattle.kernel_reply.specs.Laws.{OpensPastTheLimitClose, OpensOfOpenComms, OpensForOtherTargetsClose, ListsEachCommOnce, ListsEachWithItsTarget};
+ghost use Rattle.kernel_reply.specs.Laws.{TellsEachNameOnce, TellsValuesByName};
 
 /// The last message of an answer to a job is the status idle.
 pub fn jobs_end_idle_law()

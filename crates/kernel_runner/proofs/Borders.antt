@@ -10,7 +10,7 @@ use Rattle.janus_meaning.specs.World.{World, Cell, entered, declare, define, sta
 use Rattle.janus_meaning.proofs.Worlds.{oldest_whole, worlds_reverse, entered_is_good}
 use Rattle.janus_meaning.proofs.FormedWorlds.{shape_declared, entered_formed}
 use Rattle.janus_names.specs.Numbers.{HaveOneNumber}
-use Rattle.janus_store.specs.Held.{Held, Caller, IsWhole, shown_store, live_stacks, stacks_lent, own_names}
+use Rattle.janus_store.specs.StoreState.{StoreState, Caller, IsWhole, shown_store, live_stacks, stacks_lent, own_names}
 use Rattle.janus_linear.specs.Open.{locals_in}
 use Rattle.janus_linear.specs.Within.{within}
 use Rattle.janus_machine.specs.Bodies.{AreDefined, Define}
@@ -38,7 +38,7 @@ use Rattle.kernel_runner.proofs.Growing.{defined_grow, ready_grows}
 use Rattle.kernel_machine.proofs.LanguageLaws.{sound_good}
 
 -- a store in which no local and no call is open shows all that it has
-pub all_shown : (h : Held) → IsWhole h → shown_store h ≡ h.sight
+pub all_shown : (h : StoreState) → IsWhole h → shown_store h ≡ h.sight
 all_shown h whole =
     subst (λ (hs : List Caller). shown_store (record h { callers = hs }) ≡ h.sight) (sym whole.callers) (oldest_whole h.declared h.sight (sym whole.declared))
 
@@ -59,7 +59,7 @@ none_in_front : (fs us : List Frame) → fs ++ us ≡ [] → fs ≡ []
 none_in_front [] us e = refl
 none_in_front (f ∷ fs) us e = cc
 
-pub agrees_before : (k : ℕ) (t : Procedures) (b : Book) (c : Cursor) (h : Held) (blk : Blk) → IsWhole h → stacks_in h.sight ≡ k → IsStanding t b c h → place_of t b c h.callers ≡ BeforeBlock blk [] → Agrees k t b c h
+pub agrees_before : (k : ℕ) (t : Procedures) (b : Book) (c : Cursor) (h : StoreState) (blk : Blk) → IsWhole h → stacks_in h.sight ≡ k → IsStanding t b c h → place_of t b c h.callers ≡ BeforeBlock blk [] → Agrees k t b c h
 agrees_before k t b c h blk whole stacks standing place =
     let frames : frames_of (place_in t b c) ++ outside_of t b c h.callers ≡ [] = sym (frames_within (outside_of t b c h.callers) (place_in t b c)) ∙ ap frames_of place in
     let none : frames_of (place_in t b c) ≡ [] = none_in_front (frames_of (place_in t b c)) (outside_of t b c h.callers) frames in
@@ -98,7 +98,7 @@ ready_still old new program becomes kept h =
 
 -- what a cursor promises before a block
 pub record IsBefore (cursor : Cursor) (book : Book) (blk : Blk) : Type 0 where
-  pub stands : (t : Procedures) (h : Held) → h.callers ≡ [] → IsStanding t book cursor h
+  pub stands : (t : Procedures) (h : StoreState) → h.callers ≡ [] → IsStanding t book cursor h
   pub place : (t : Procedures) (hs : List Caller) → place_of t book cursor hs ≡ BeforeBlock blk []
   pub counts : (cursor.count ≡ 0) × (cursor.turned ≡ false)
 
@@ -139,8 +139,8 @@ entered_inverse_here old new program from can store procedures before =
     let cell = cell_of_program program in
     let back = worlds_reverse (entered cell can.before) cell.block can.steps from.world (entered_is_good cell can.before (sound_good can.before can.sound)) can.ran in
     let never : NeverBroken from.world.procedures (stacks_in from.world.store) (inverse_block cell.block) from.world.store = (blocks_are_safe from.world.procedures (stacks_in from.world.store) (inverse_block cell.block) from.world.store).ended can.steps _ back.back.ran in
-    let now : IsWhole new.store = subst (λ (h : Held). IsWhole h) (sym store) can.is.1 in
-    let same : new.store.sight ≡ from.world.store = ap (λ (h : Held). h.sight) store ∙ sym (all_shown old.store can.is.1) ∙ can.is.0.store in
+    let now : IsWhole new.store = subst (λ (h : StoreState). IsWhole h) (sym store) can.is.1 in
+    let same : new.store.sight ≡ from.world.store = ap (λ (h : StoreState). h.sight) store ∙ sym (all_shown old.store can.is.1) ∙ can.is.0.store in
     let standing = before.stands new.procedures new.store now.callers in
     let place : place_of new.procedures program.book new.cursor new.store.callers ≡ BeforeBlock (inverse_block cell.block) [] = before.place new.procedures new.store.callers ∙ ap (λ (b : Blk). BeforeBlock b []) (books_turn program.book) in
     record {
@@ -152,9 +152,9 @@ entered_inverse_here old new program from can store procedures before =
       standing = standing;
       declared = now.declared ∙ ap size_of same;
       agrees = agrees_before (stacks_in from.world.store) new.procedures program.book new.cursor new.store (inverse_block cell.block) now (ap stacks_in same) standing place;
-      ready = subst (λ (h : Held). IsReady h.names new.procedures program) (sym store) (subst (λ (t : Procedures). IsReady old.store.names t program) (sym procedures) can.ready);
-      one_number = subst (λ (h : Held). HaveOneNumber h.names) (sym store) can.is.0.one_number;
-      defined = subst (λ (h : Held). Define h.names new.procedures from.bodies from.world.procedures) (sym store) (subst (λ (t : Procedures). Define old.store.names t from.bodies from.world.procedures) (sym procedures) can.is.0.defined);
+      ready = subst (λ (h : StoreState). IsReady h.names new.procedures program) (sym store) (subst (λ (t : Procedures). IsReady old.store.names t program) (sym procedures) can.ready);
+      one_number = subst (λ (h : StoreState). HaveOneNumber h.names) (sym store) can.is.0.one_number;
+      defined = subst (λ (h : StoreState). Define h.names new.procedures from.bodies from.world.procedures) (sym store) (subst (λ (t : Procedures). Define old.store.names t from.bodies from.world.procedures) (sym procedures) can.is.0.defined);
       faces = (ap (λ (r : Store). To (BeforeBlock (inverse_block cell.block) []) r) (sym same) ∙ ap (λ (p : Place). To p new.store.sight) (sym place), never);
     }
 

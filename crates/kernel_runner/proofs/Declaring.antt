@@ -10,7 +10,7 @@ use Rattle.janus_meaning.proofs.Scopes.{without_other}
 use Rattle.janus_meaning.specs.World.{Declaration, DeclareInt, DeclareArray, DeclareStack, declare, declare_one, declared_name, dropped, stacks_in, size_of}
 use Rattle.janus_meaning.specs.Limit.{live_stack_limit}
 use Rattle.janus_names.specs.Numbers.{HaveOneNumber}
-use Rattle.janus_store.specs.Held.{Held, IsWhole, Declares, KeepsSight}
+use Rattle.janus_store.specs.StoreState.{StoreState, IsWhole, Declares, KeepsSight}
 use Rattle.janus_store.specs.Stores.{IsFirstOnTop, rest_of}
 use Rattle.kernel_runner.specs.Declarable.{HasStackRoom}
 use Rattle.kernel_runner.specs.Runner.{Becomes}
@@ -149,18 +149,18 @@ room_at (e ∷ ds) s (suc i) d h new l = room_at ds (declare_one e s) i d (decla
 -- ---- what a store becomes
 
 -- nothing yet
-pub becomes_itself : (h : Held) → IsWhole h → Becomes h h h.sight
+pub becomes_itself : (h : StoreState) → IsWhole h → Becomes h h h.sight
 becomes_itself h whole = record { sight = refl; whole = whole; names = no_more h.names; one_number = λ one. one }
 
-pub becomes_then : (a b c : Held) (s t : Store) → Becomes a b s → Becomes b c t → Becomes a c t
+pub becomes_then : (a b c : StoreState) (s t : Store) → Becomes a b s → Becomes b c t → Becomes a c t
 becomes_then a b c s t h k = record { sight = k.sight; whole = k.whole; names = more_yet a.names b.names c.names h.names k.names; one_number = λ one. k.one_number (h.one_number one) }
 
 -- one name more is declared
-pub becomes_declared : (old new : Held) (x : Name) (v : Val) → IsWhole old → HaveOneNumber new.names → Declares old new x v → Becomes old new (Slot x v old.sight)
+pub becomes_declared : (old new : StoreState) (x : Name) (v : Val) → IsWhole old → HaveOneNumber new.names → Declares old new x v → Becomes old new (Slot x v old.sight)
 becomes_declared old new x v whole one h = record { sight = h.sight; whole = record { declared = h.declared ∙ ap suc whole.declared ∙ sym (ap size_of h.sight); callers = h.callers ∙ whole.callers }; names = h.names; one_number = λ old_one. one }
 
 -- what is declared stays
-pub becomes_kept : (old new : Held) → IsWhole old → HaveOneNumber new.names → KeepsSight old new → Becomes old new old.sight
+pub becomes_kept : (old new : StoreState) → IsWhole old → HaveOneNumber new.names → KeepsSight old new → Becomes old new old.sight
 becomes_kept old new whole one h = record { sight = h.sight; whole = record { declared = h.declared ∙ whole.declared ∙ sym (ap size_of h.sight); callers = h.callers ∙ whole.callers }; names = h.names; one_number = λ old_one. one }
 
 rest_size : (s : Store) → size_of (rest_of s) ≡ size_of s - 1
@@ -168,8 +168,8 @@ rest_size Bare = refl
 rest_size (Slot x v s) = omega arith
 
 -- the newest name is taken away
-pub becomes_rest : (old new : Held) → IsWhole old → new ≡ record { sight = rest_of old.sight; declared = old.declared - 1; names = old.names; callers = [] } → Becomes old new (rest_of old.sight)
-becomes_rest old new whole e = subst (λ (h : Held). Becomes old h (rest_of old.sight)) (sym e) (record {
+pub becomes_rest : (old new : StoreState) → IsWhole old → new ≡ record { sight = rest_of old.sight; declared = old.declared - 1; names = old.names; callers = [] } → Becomes old new (rest_of old.sight)
+becomes_rest old new whole e = subst (λ (h : StoreState). Becomes old h (rest_of old.sight)) (sym e) (record {
   sight = refl;
   whole = record { declared = ap (λ (n : ℕ). n - 1) whole.declared ∙ sym (rest_size old.sight); callers = refl };
   names = no_more old.names;
@@ -177,5 +177,5 @@ becomes_rest old new whole e = subst (λ (h : Held). Becomes old h (rest_of old.
 })
 
 -- for a store that is the same
-pub becomes_same : (a b : Held) (s t : Store) → s ≡ t → Becomes a b s → Becomes a b t
+pub becomes_same : (a b : StoreState) (s t : Store) → s ≡ t → Becomes a b s → Becomes a b t
 becomes_same a b s t e h = subst (Becomes a b) e h

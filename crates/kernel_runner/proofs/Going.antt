@@ -5,7 +5,7 @@ use Rattle.janus_meaning.specs.Stepping.{Halt}
 use Rattle.janus_meaning.specs.World.{stacks_in}
 use Rattle.janus_meaning.specs.Limit.{step_limit}
 use Rattle.janus_names.specs.Numbers.{HaveOneNumber}
-use Rattle.janus_store.specs.Held.{Held}
+use Rattle.janus_store.specs.StoreState.{StoreState}
 use Rattle.janus_machine.specs.Bodies.{AreInEffect, Define}
 use Rattle.janus_machine.specs.Counts.{counted, Counts, IsWritten}
 use Rattle.janus_machine.specs.Cursors.{IsStanding, has_ended}
@@ -55,7 +55,7 @@ module _ {L : Type 0} (runner : Runner L) (program : Program) (at : Place) where
   no_fault_back f h halts = (back_means h).fault (fault_of f) halts
 
 module _ {L : Type 0} (runner : Runner L) (program : Program) (at : Place) where
-  module _ (store : Held) (cursor : Cursor) (t : ℕ) where
+  module _ (store : StoreState) (cursor : Cursor) (t : ℕ) where
     -- what a slice promises of its steps, and of what is open, where the store agrees with the cursor
     abbrev pub TakesSteps : Type 0
     TakesSteps = (ps : List Proc) (k : ℕ) → AreInEffect runner.store.names runner.procedures ps → Agrees k runner.procedures program.book runner.cursor runner.store → AreSteps ps k t runner.procedures program.book runner.cursor runner.store cursor store

@@ -17,7 +17,7 @@ use Rattle.janus_check.specs.WellFormed.{IsWellFormed}
 use Rattle.janus_check.proofs.SameHeads.{formed_same}
 use Rattle.janus_invert.specs.Met.{MeetsBlk, MeetsLocalsOf}
 use Rattle.janus_invert.proofs.Meeting.{AreMet, AreCalledMet}
-use Rattle.janus_store.specs.Held.{Held, Caller, AreKnown, KeepsSight, shown_store, given_back}
+use Rattle.janus_store.specs.StoreState.{StoreState, Caller, AreKnown, KeepsSight, shown_store, given_back}
 use Rattle.janus_machine.specs.Bodies.{AreBelow, AreBodies, AreBodiesFrom, AreDefined, Define}
 use Rattle.janus_machine.specs.Procedures.{kept_in}
 use Rattle.janus_machine.specs.Places.{BookHasNumbers}
@@ -57,7 +57,7 @@ bodies_of_more xs n bodies (i ∷ stack) (p ∷ ps) h = ((h.0.0, get_taken n bod
 
 -- ---- what is shown
 
-pub shown_kept : (old new : Held) → KeepsSight old new → shown_store new ≡ shown_store old
+pub shown_kept : (old new : StoreState) → KeepsSight old new → shown_store new ≡ shown_store old
 shown_kept old new k =
     ap (λ (n : ℕ). oldest n (given_back new.sight new.callers)) k.declared
     ∙ ap (λ (s : Store). oldest old.declared (given_back s new.callers)) k.sight
@@ -90,7 +90,7 @@ all_kept old new e = ap (take (length old)) e ∙ all_of old
 -- ---- keeping bodies, and forgetting them
 
 -- where its names were met, all names of a cell were that is checked over the shown world
-pub cell_met : {L : Type 0} (runner : Runner L) (h : Held) (shown : ShownWorld) (t c : tree.Cell) (ds : List Declaration) → IsCheckedOver runner c shown → KeepsSight runner.store h → AreKnown h → t ≡ c → ds ≡ (plain_cell t).declarations →
+pub cell_met : {L : Type 0} (runner : Runner L) (h : StoreState) (shown : ShownWorld) (t c : tree.Cell) (ds : List Declaration) → IsCheckedOver runner c shown → KeepsSight runner.store h → AreKnown h → t ≡ c → ds ≡ (plain_cell t).declarations →
     AreDeclaredMet h.names ds → MeetOwn h.names (plain_cell t).procedures → MeetsLocalsOf h.names (plain_cell t).block →
     MeetsBlk h.names (plain_cell c).block × AreProceduresMet h.names (plain_cell c).procedures
 cell_met runner h shown t c ds checked kept known is same declared own locals =

@@ -24,7 +24,7 @@ use Rattle.janus_syntax.proofs.Views.{view_if, view_loop, view_local_int, view_l
 use Rattle.janus_check.specs.WellFormed.{IsWellFormed}
 use Rattle.janus_invert.specs.Met.{AreAllMet, MeetsBlk, MeetsLocals, MeetsLocalsOf}
 use Rattle.janus_invert.proofs.Meeting.{AreMet, AreCalledMet, with_local, block_met, proc_met, stm_weight, block_weight}
-use Rattle.janus_store.specs.Held.{Held, AreKnown, KeepsSight}
+use Rattle.janus_store.specs.StoreState.{StoreState, AreKnown, KeepsSight}
 use Rattle.kernel_runner.specs.Met.{AreDeclaredMet, MeetsOwn, MeetOwn, AreProceduresMet}
 use Rattle.kernel_runner.proofs.Growing.{no_more, more_yet}
 
@@ -47,7 +47,7 @@ seen_value x (Slot y (Arr l) s) k h e = slot_seen x y (Arr l) AnArray k s refl e
 seen_value x (Slot y (Stk l) s) k h e = slot_seen x y (Stk l) AStack k s refl e (seen_value x s k h.1)
 seen_value x (Slot y Lent s) k h e = absurd h.0
 
-pub sight_met : (h : Held) → HaveValues h.sight → AreKnown h → AreMet (shape_of h.sight) h.names
+pub sight_met : (h : StoreState) → HaveValues h.sight → AreKnown h → AreMet (shape_of h.sight) h.names
 sight_met h values known = λ x k e. let v = seen_value x h.sight k values e in known x v.0 v.1
 
 -- ---- and what is declared
@@ -90,14 +90,14 @@ all_procedures_met g hs xs c formed q own =
 
 -- ---- step by step
 
-pub keeps_same : (h : Held) → KeepsSight h h
+pub keeps_same : (h : StoreState) → KeepsSight h h
 keeps_same h = record { sight = refl; declared = refl; names = no_more h.names; callers = refl }
 
-pub keeps_more : (a b c : Held) → KeepsSight a b → KeepsSight b c → KeepsSight a c
+pub keeps_more : (a b c : StoreState) → KeepsSight a b → KeepsSight b c → KeepsSight a c
 keeps_more a b c h k = record { sight = k.sight ∙ h.sight; declared = k.declared ∙ h.declared; names = more_yet a.names b.names c.names h.names k.names; callers = k.callers ∙ h.callers }
 
-pub keeps_met : (old new : Held) → new ≡ record old { names = new.names } → GoOn old.names new.names → KeepsSight old new
-keeps_met old new same more = record { sight = ap (λ (h : Held). h.sight) same; declared = ap (λ (h : Held). h.declared) same; names = more; callers = ap (λ (h : Held). h.callers) same }
+pub keeps_met : (old new : StoreState) → new ≡ record old { names = new.names } → GoOn old.names new.names → KeepsSight old new
+keeps_met old new same more = record { sight = ap (λ (h : StoreState). h.sight) same; declared = ap (λ (h : StoreState). h.declared) same; names = more; callers = ap (λ (h : StoreState). h.callers) same }
 
 -- one declaration more
 pub declared_one_more : (xs : List Name) (ds : List Declaration) (i : ℕ) (d : Declaration) → i < length ds → AreDeclaredMet xs (take i ds) → IsMet xs (declared_name (get_or ds i d)) → AreDeclaredMet xs (take (suc i) ds)

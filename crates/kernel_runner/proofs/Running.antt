@@ -12,7 +12,7 @@ use Rattle.janus_meaning.specs.Limit.{step_limit}
 use Rattle.janus_meaning.proofs.Worlds.{worlds_start_and_end}
 use Rattle.janus_meaning.proofs.Cleared.{same_size}
 use Rattle.janus_meaning.proofs.Shapes.{keeps_shape}
-use Rattle.janus_store.specs.Held.{Caller, IsWhole, given_back}
+use Rattle.janus_store.specs.StoreState.{Caller, IsWhole, given_back}
 use Rattle.janus_machine.specs.Open.{Agrees}
 use Rattle.janus_machine.specs.Nested.{AreOpenCalls}
 use Rattle.janus_machine.specs.Cursors.{place_of, has_ended, IsStanding}

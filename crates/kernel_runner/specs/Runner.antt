@@ -11,7 +11,7 @@ use Rattle.janus_meaning.specs.Limit.{step_limit}
 use Rattle.janus_syntax.specs.Tree.{Cell}
 use Rattle.janus_check.specs.WellFormed.{IsWellFormed}
 use Rattle.janus_names.specs.Numbers.{GoOn, HaveOneNumber}
-use Rattle.janus_store.specs.Held.{Held, IsWhole, shown_store}
+use Rattle.janus_store.specs.StoreState.{StoreState, IsWhole, shown_store}
 use Rattle.janus_machine.specs.Open.{Agrees}
 use Rattle.janus_machine.specs.Bodies.{AreBelow, Define}
 use Rattle.janus_machine.specs.Cursor as cursors
@@ -48,14 +48,14 @@ pub record Shows {L : Type 0} (runner : Runner L) (shown : ShownWorld) : Type 0 
   pub defined : Define runner.store.names runner.procedures shown.bodies shown.world.procedures
 
 -- The store has become this one: no local is open, and each name that was met has kept its number, which is its only one.
-pub record Becomes (old new : Held) (s : Store) : Type 0 where
+pub record Becomes (old new : StoreState) (s : Store) : Type 0 where
   pub sight : new.sight ≡ s
   pub whole : IsWhole new
   pub names : GoOn old.names new.names
   pub one_number : HaveOneNumber old.names → HaveOneNumber new.names
 
 -- so many names, with the values that they were declared with, stand above this store
-pub record IsDeclaredOver (h : Held) (count : ℕ) (before : Store) : Type 0 where
+pub record IsDeclaredOver (h : StoreState) (count : ℕ) (before : Store) : Type 0 where
   pub declarations : List Declaration
   pub many : length declarations ≡ count
   pub declared : h.sight ≡ declare declarations before

@@ -6,7 +6,7 @@ ghost use Rattle.janus_syntax.specs.Tree.{parameter_view, parameters_view, proce
 ghost use Rattle.janus_syntax.specs.View.{plain_procedure};
 ghost use Rattle.janus_check.specs.Check.{kinds_of as the_kinds_of};
 ghost use Rattle.janus_check.specs.Names.{shape_in, heads_in, meant_kind, meant_kinds};
-ghost use Rattle.janus_store.specs.Held.{shown_store};
+ghost use Rattle.janus_store.specs.StoreState.{shown_store};
 ghost use Rattle.kernel_runner.specs.Defined.{in_a_row};
 ghost use Rattle.kernel_runner.specs.Known.{FindTheSame, IsFoundBehind};
 

@@ -5,7 +5,7 @@ ghost use Rattle.janus_syntax.specs.Tree.{cell_view, parameter_view, parameters_
 ghost use Rattle.janus_syntax.specs.View.{plain_cell, plain_parameter, plain_procedure};
 ghost use Rattle.janus_meaning.specs.Syntax.{names_of};
 ghost use Rattle.janus_invert.specs.Met.{AreAllMet, MeetsLocals, MeetsLocalsOf};
-ghost use Rattle.janus_store.specs.Held.{KeepsSight};
+ghost use Rattle.janus_store.specs.StoreState.{KeepsSight};
 ghost use Rattle.kernel_runner.specs.Met.{AreDeclaredMet, IsDeclaredMet, MeetsOwn, MeetOwn};
 ghost use Rattle.kernel_runner.specs.Program.{declaration_of};
 

@@ -5,7 +5,7 @@ ghost use Rattle.janus_meaning.specs.Shape.{AreDistinct, shape_of};
 ghost use Rattle.janus_syntax.specs.Tree.{cell_view, declaration_view, declarations_view, procedure_view, procedures_view};
 ghost use Rattle.janus_syntax.specs.View.{plain_declaration, plain_procedure, plain_cell};
 ghost use Rattle.janus_invert.specs.Met.{MeetsProc};
-ghost use Rattle.janus_store.specs.Held.{KeepsSight, shown_store};
+ghost use Rattle.janus_store.specs.StoreState.{KeepsSight, shown_store};
 ghost use Rattle.janus_store.specs.Values.{shown};
 ghost use Rattle.janus_machine.specs.Procedures.{kept_in};
 ghost use Rattle.kernel_runner.specs.Kinds.{kind_in};
@@ -14,7 +14,7 @@ ghost use Rattle.janus_check.specs.Checked.{cell_in};
 ghost use Rattle.janus_meaning.specs.FormedWorld.{HaveValues};
 ghost use Rattle.kernel_machine.specs.Language.{IsSound};
 ghost use Rattle.kernel_runner.specs.Met.{AreProceduresMet};
-ghost use Rattle.kernel_machine.specs.Text.{Accepts, Refuses, refused_by_syntax, refused_by_check};
+ghost use Rattle.kernel_machine.specs.Text.{Accepts, Refuses};
 ghost use Rattle.kernel_runner.specs.Program.{cell_of_program, declaration_of, tree_of, procedures_of, IsReady, IsKeptBehind, AreBodiesBehind};
 ghost use Rattle.kernel_runner.specs.Program.{KeepsOlder, KeepsDefined};
 ghost use Rattle.kernel_runner.specs.Defined.{in_a_row};
@@ -23,13 +23,13 @@ ghost use Rattle.kernel_runner.specs.Runner.{ShownWorld, over, Is, Between, IsCh
 use crate::known::known_over;
 use crate::meeting::meet_cell;
 use crate::runner::Runner;
-use janus_check::{CheckFault, Checked, Env, Kind, check};
+use janus_check::{Checked, Env, Kind, check};
 use janus_invert::{flatten, flatten_procedure};
 use janus_machine::{Book, Procedures, Store};
 use janus_names::Names;
 use janus_store::View;
+use janus_syntax::parse_cell;
 use janus_syntax::tree::{Cell, Declaration, Procedure};
-use janus_syntax::{SyntaxFault, parse_cell};
 use kernel_machine::Refusal;
 use std::alloc::{AllocError, Global};
 use std::sync::ledger::Ledger;
@@ -78,14 +78,14 @@ impl Program {
     {
         let cell = match parse_cell(alloc, text) {
             Ok(cell) => cell,
-            Err(fault) => return Err(refusal_of_syntax(fault)),
+            Err(fault) => return Err(Refusal::of_syntax(fault)),
         };
         let Ok(env) = known_over(alloc, &runner.store, procedures) else {
             return Err(Refusal::Memory);
         };
         let checked = match check(alloc, &env, cell) {
             Ok(checked) => checked,
-            Err(fault) => return Err(refusal_of_check(fault)),
+            Err(fault) => return Err(Refusal::of_check(fault)),
         };
         match Program::of_checked(alloc, checked, runner) {
             Ok(program) => Ok(program),
@@ -184,26 +184,6 @@ fn keep(
     let body = janus_machine::Procedure::new(alloc, flat)?;
     let _index = kept.add(body)?;
     Ok(())
-}
-
-/// How a text is refused for a fault of its own, or for want of memory.
-fn refusal_of_syntax(fault: SyntaxFault) -> Refusal
-    ensures { result ≡ refused_by_syntax fault }
-{
-    match fault {
-        SyntaxFault::Memory => Refusal::Memory,
-        fault => Refusal::Syntax(fault),
-    }
-}
-
-/// How a cell is refused for a fault of the check, or for want of memory.
-fn refusal_of_check(fault: CheckFault) -> Refusal
-    ensures { result ≡ refused_by_check fault }
-{
-    match fault {
-        CheckFault::Memory => Refusal::Memory,
-        fault => Refusal::Check(fault),
-    }
 }
 
 /// The declared names of a store, as the check of a cell sees them. The only error is want of memory.

@@ -10,7 +10,7 @@ ghost use Rattle.janus_meaning.specs.Fault.{Bad, Broken};
 ghost use Rattle.kernel_runner.specs.Declarable.{HasStackRoom};
 ghost use Rattle.kernel_runner.specs.Program.{cell_of_program, declaration_of};
 ghost use Rattle.janus_names.specs.Numbers.{GoOn};
-ghost use Rattle.janus_store.specs.Held.{IsWhole};
+ghost use Rattle.janus_store.specs.StoreState.{IsWhole};
 ghost use Rattle.janus_machine.specs.Procedures.{kept_in};
 ghost use Rattle.janus_machine.specs.Counts.{IsWritten};
 ghost use Rattle.kernel_runner.specs.Runner.{ShownWorld, over, Becomes, IsDeclaredOver, count_of, Is, Between, IsInside};

@@ -23,6 +23,7 @@ use Rattle.kernel_core.specs.outcome.Sliced.{Sliced}
 use Rattle.kernel_core.specs.outcome.Sliced.TheVariants as sliced
 use Rattle.kernel_core.specs.outcome.Begun.{Begun}
 use Rattle.kernel_core.specs.outcome.Begun.TheVariants as begun
+use Rattle.kernel_core.proofs.Taken.{IsInside, IsBorder}
 
 -- ---- how much is left of a job, where a cell has so many steps at most
 
@@ -46,12 +47,6 @@ abbrev pub left : Job → ℕ
 left Idle = 0
 left (Border travel) = in_all (cells travel) (step_limit + step_limit + 3)
 left (Inside e) = in_all (cells_left e.work) (turn_left e.turn e.count)
-
-abbrev pub IsInside : Job → Type 0
-IsInside job = (e : Entered) × (job ≡ Inside e)
-
-abbrev pub IsBorder : Job → Type 0
-IsBorder job = (t : Travel) × (job ≡ Border t)
 
 -- no more is left, and less where there were steps
 abbrev pub IsNearer : ℕ → ℕ → ℕ → Type 0

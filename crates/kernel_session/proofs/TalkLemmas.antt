@@ -77,35 +77,35 @@ follow-comm comm.State a h = refl
 follow-comm comm.Other a h = refl
 
 module _ {D : Type 0} (leads : D → Call → D → Type 0) (d d' : D) where
-  abbrev pub Held : RequestContent → Option DeskReply → Type 0
-  Held content told = (h : Heard) × IsHeld leads d (talk content h) told d'
+  abbrev pub StoreState : RequestContent → Option DeskReply → Type 0
+  StoreState content told = (h : Heard) × IsHeld leads d (talk content h) told d'
 
   -- the talk of a request, told by its kind
   pub held_as : (content x : RequestContent) → content ≡ x → (told : Option DeskReply) (h : Heard) (t : Talk) → talk x h ≡ t → IsHeld leads d t told d'
-      → Held content told
+      → StoreState content told
   held_as content x e told h t same p =
       (h, subst (λ (y : RequestContent). IsHeld leads d (talk y h) told d') (sym e) (subst (λ (y : Talk). IsHeld leads d y told d') (sym same) p))
 
   pub held_heard : {E : Type 0} (content x : RequestContent) → content ≡ x → (t : Heard → Talk) → ((h : Heard) → talk x h ≡ t h)
-      → (r : Result (Option DeskReply) E) → IfOk r (λ told. (h : Heard) × IsHeld leads d (t h) told d') → IfOk r (Held content)
+      → (r : Result (Option DeskReply) E) → IfOk r (λ told. (h : Heard) × IsHeld leads d (t h) told d') → IfOk r (StoreState content)
   held_heard content x e t same (Ok told) p = held_as content x e told p.0 (t p.0) (same p.0) p.1
   held_heard content x e t same (Err f) p = tt
 
   pub held_answer : {E : Type 0} (content x : RequestContent) → content ≡ x → (t : Result Answer HallFault → Talk)
       → ((a : Result Answer HallFault) → talk x (heard_answer a) ≡ t a)
-      → (r : Result (Option DeskReply) E) → IfOk r (λ told. (a : Result Answer HallFault) × IsHeld leads d (t a) told d') → IfOk r (Held content)
+      → (r : Result (Option DeskReply) E) → IfOk r (λ told. (a : Result Answer HallFault) × IsHeld leads d (t a) told d') → IfOk r (StoreState content)
   held_answer content x e t same (Ok told) p = held_as content x e told (heard_answer p.0) (t p.0) (same p.0) p.1
   held_answer content x e t same (Err f) p = tt
 
   pub held_change : {E : Type 0} (content x : RequestContent) → content ≡ x → (t : Result Bool HallFault → Talk)
       → ((b : Result Bool HallFault) → talk x (heard_change b unasked) ≡ t b)
-      → (r : Result (Option DeskReply) E) → IfOk r (λ told. (b : Result Bool HallFault) × IsHeld leads d (t b) told d') → IfOk r (Held content)
+      → (r : Result (Option DeskReply) E) → IfOk r (λ told. (b : Result Bool HallFault) × IsHeld leads d (t b) told d') → IfOk r (StoreState content)
   held_change content x e t same (Ok told) p = held_as content x e told (heard_change p.0 unasked) (t p.0) (same p.0) p.1
   held_change content x e t same (Err f) p = tt
 
   pub held_job : {E : Type 0} (content x : RequestContent) → content ≡ x → (t : Result Done PostFault → Result Answer HallFault → Talk)
       → ((j : Result Done PostFault) (a : Result Answer HallFault) → talk x (heard_job j a) ≡ t j a)
       → (r : Result (Option DeskReply) E) → IfOk r (λ told. (j : Result Done PostFault) × (a : Result Answer HallFault) × IsHeld leads d (t j a) told d')
-      → IfOk r (Held content)
+      → IfOk r (StoreState content)
   held_job content x e t same (Ok told) p = held_as content x e told (heard_job p.0 p.1) (t p.0 p.1) (same p.0 p.1) p.2
   held_job content x e t same (Err f) p = tt

@@ -62,7 +62,8 @@ fn take_turn<W: Write, D: Desk>(
     stamp: &mut Stamp,
     frames: Vec<Vec<u8>>,
 ) -> Result<Flow, ServeFault>
-    ensures ok { IfOk result (λ flow. (actions : List Action) × IsTurn socket key.now stamp.old (octets frames.items) actions (record { stamp = stamp.new; flow = flow })
+    ensures ok { IfOk result (λ flow. (actions : List Action)
+        × IsTurn socket key.now stamp.old (octets frames.items) actions (record { stamp = stamp.new; flow = flow })
         × Acts W.contents D.leads writer.old writer.new desk.old desk.new actions) }
     ensures err { OnErr result (((actions : List Action) × (new : State) × IsTurn socket key.now stamp.old (octets frames.items) actions new
         × ActedPart W.contents D.leads writer.old writer.new desk.old desk.new actions)

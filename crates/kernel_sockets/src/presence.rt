@@ -68,8 +68,8 @@ impl Presence {
         self.is_answered.store(true, Ordering::SeqCst);
     }
 
-    /// Whether all that came on it was answered since this was asked last.
-    pub fn was_answered(&self) -> bool {
+    /// Takes the note that all that came on it was answered: whether it was since this was taken last.
+    pub fn take_all_answered(&self) -> bool {
         self.is_answered.swap(false, Ordering::SeqCst)
     }
 
@@ -78,7 +78,7 @@ impl Presence {
         let _before = self.answered.fetch_add(count, Ordering::SeqCst);
     }
 
-    /// How many octets that came on it were answered so since this was asked last.
+    /// How many octets that came on it were answered so since this was taken last.
     pub fn take_answered(&self) -> u64 {
         self.answered.swap(0, Ordering::SeqCst)
     }

@@ -1,5 +1,5 @@
 pub mod Numbers
 mod Utf8
 pub mod Newest
-pub mod ClosedLemmas
 pub mod OnePrint
+pub mod NameSets

@@ -1,7 +1,7 @@
 pub mod Lines
 pub mod ValueTexts
--- procedures
+-- procedures, and sets of names
 pub mod Procedures
-pub mod Closed
 pub mod ProcedureTexts
+pub mod NameSets
 pub mod Laws

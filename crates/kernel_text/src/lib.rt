@@ -8,7 +8,6 @@
 //! `ValueTexts`, `ProcedureTexts`). [`laws`] says that a procedure has one text, however its tree is placed.
 #![tactic(auto)]
 
-mod closed;
 pub mod laws;
 mod lines;
 mod procedures;

@@ -2,7 +2,8 @@
 ghost use Rattle.std.specs.Prelude.{◌≡◌, ◌++◌, codes, string_bytes, IfOk, OnOk, OnErr};
 ghost use Rattle.std.specs.Io.KnownBytes.{Appends};
 ghost use Rattle.exact_write.specs.Sent.{SentSome};
-ghost use Rattle.kernel_text.specs.Lines.{counted_text, end_text, failed_text, fault_text, outcome_line as outcome_line_of, place_text, post_fault_line as post_fault_line_of, refusal_text, way_text};
+ghost use Rattle.kernel_text.specs.Lines.{counted_text, end_text, failed_text, fault_text, outcome_line as outcome_line_of, place_text};
+ghost use Rattle.kernel_text.specs.Lines.{post_fault_line as post_fault_line_of, refusal_text, way_text};
 
 use crate::text::as_text;
 use crate::writing::{send_counted, send_numbered, send_pair};

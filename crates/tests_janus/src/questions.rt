@@ -1,9 +1,7 @@
 //! Rows of questions to a kernel. `complete` and `inspect` have a cursor (or `-`) and code, `judge` has code, `tail` a number, `range` a
-//! session, a start and a stop (or `-`); `comms` and `state` have nothing. `evaluate` has an expression. `wish` (an expression)
-//! and `shown` (a cell) are told behind a cell that ran, `unwish` and `unshown` behind one that was interrupted.
-use kernel_ask::{
-    Ask, Comms, HistoryAsk, Wish, ask_on, evaluate, evaluate_all, is_settled, shown_text,
-};
+//! session, a start and a stop (or `-`); `comms` and `state` have nothing. `evaluate` has an expression. `shown` (a cell)
+//! is told behind a cell that ran, `unshown` behind one that was interrupted.
+use kernel_ask::{Ask, Comms, HistoryAsk, ask_on, evaluate, is_settled, shown_text};
 use kernel_core::{Kernel, Outcome};
 use std::alloc::{AllocError, Global};
 use std::sync::ledger::Ledger;
@@ -18,7 +16,6 @@ pub(crate) fn question<L: Ledger>(
 ) -> Result<String, AllocError> {
     match word {
         "evaluate" => value(alloc, kernel, rest),
-        "wish" | "unwish" => wished(alloc, kernel, word == "wish", rest),
         "shown" | "unshown" => shown_of(alloc, kernel, word == "shown", rest),
         _ => {
             let ask = ask_of(alloc, word, rest)?;
@@ -71,30 +68,6 @@ fn value<L: Ledger>(alloc: Global, kernel: &Kernel<L>, text: &str) -> Result<Str
         return String::from_str(alloc, "a job is open");
     }
     shown(alloc, &evaluate(alloc, kernel, text))
-}
-
-/// What comes of a user expression behind a cell with this outcome.
-fn wished<L: Ledger>(
-    alloc: Global,
-    kernel: &Kernel<L>,
-    ran: bool,
-    text: &str,
-) -> Result<String, AllocError> {
-    let wish = Wish {
-        name: String::from_str(alloc, "a")?,
-        exp: String::from_str(alloc, text)?,
-    };
-    let wishes = vec![in alloc; wish]?;
-    if !is_settled(kernel) {
-        return String::from_str(alloc, "a job is open");
-    }
-    let node = kernel.position();
-    let outcome = if ran {
-        Outcome::Ran(node, 1)
-    } else {
-        Outcome::Interrupted(1)
-    };
-    shown(alloc, &evaluate_all(alloc, kernel, &outcome, &wishes)?)
 }
 
 /// What is shown of a cell with this text, whether it ran or was interrupted.

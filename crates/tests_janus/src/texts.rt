@@ -73,7 +73,7 @@ fn push_token(alloc: Global, out: &mut String, token: &Token) -> Result<(), Allo
         TokenKind::Name(name) => push_both(out, name, " "),
         TokenKind::Number(number) => push_both(out, &shown(alloc, number)?, " "),
         TokenKind::Sign(sign) => push_both(out, sign.text(), " "),
-        TokenKind::Word(word) => {
+        TokenKind::Keyword(word) => {
             out.push('\'')?;
             push_both(out, word.text(), " ")
         }

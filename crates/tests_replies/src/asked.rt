@@ -1,6 +1,6 @@
 //! What a kernel tells of a request as it asks.
 use crate::kernels::ended;
-use crate::told::{Told, answered};
+use crate::report::{Report, answered};
 use jupyter_msg::{
     CommAsk, ExecuteRequest, HistoryAccess, HistoryRequest, MsgFault, RequestContent,
 };
@@ -16,7 +16,7 @@ pub(crate) fn asked<L: Ledger>(
     comms: &mut Comms,
     content: &RequestContent,
     calm: usize,
-) -> Result<Told, MsgFault> {
+) -> Result<Report, MsgFault> {
     match content {
         RequestContent::Execute(request) => Ok(executed(alloc, kernel, request, calm)?),
         RequestContent::CommMessage(message) => on_comm(alloc, kernel, comms, message.ask, calm),
@@ -33,7 +33,7 @@ fn executed<L: Ledger>(
     kernel: &mut Kernel<L>,
     request: &ExecuteRequest,
     calm: usize,
-) -> Result<Told, AllocError> {
+) -> Result<Report, AllocError> {
     let wishes = wishes_of(alloc, request)?;
     let job = Job::Cell {
         code: request.code.clone()?,
@@ -41,7 +41,7 @@ fn executed<L: Ledger>(
         store: request.store_history,
     };
     let code = request.code.as_str();
-    Ok(Told::Ended(ended(alloc, kernel, job, code, &wishes, calm)?))
+    Ok(Report::Ended(ended(alloc, kernel, job, code, &wishes, calm)?))
 }
 
 /// The user expressions of a request.
@@ -63,14 +63,14 @@ fn on_comm<L: Ledger>(
     comms: &Comms,
     ask: CommAsk,
     calm: usize,
-) -> Result<Told, MsgFault> {
+) -> Result<Report, MsgFault> {
     let job = match ask {
         CommAsk::Undo(count) => Job::Undo(count),
         CommAsk::Redo(count) => Job::Redo(count),
         CommAsk::Goto(node) => Job::Goto(node),
         CommAsk::State | CommAsk::Other => return answered(alloc, kernel, comms, Ask::State),
     };
-    Ok(Told::Ended(ended(alloc, kernel, job, "", &[], calm)?))
+    Ok(Report::Ended(ended(alloc, kernel, job, "", &[], calm)?))
 }
 
 /// What is asked of the kernel, once a comm that is to be opened is open.

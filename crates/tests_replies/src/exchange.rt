@@ -1,7 +1,7 @@
 //! A request and what goes out in answer to it.
 ghost use Rattle.jupyter_msg.specs.Opened.{IsRead};
 
-use crate::told::{Told, tell};
+use crate::report::{Report, tell};
 use jupyter_msg::{Key, Message, MsgFault, Opened, Request, open, seal};
 use kernel_ask::{Answer, Comms};
 use kernel_core::Kernel;
@@ -15,7 +15,7 @@ use tests_rows::{frames_shown, push_both};
 const MESSAGES: u64 = 1000;
 
 /// Takes the frames of a request, and gives all messages that go out: the status busy, the reply and the broadcasts. How it is told what
-/// came of it is said by `told`.
+/// came of it is said by `report`.
 pub(crate) fn exchange<L: Ledger>(
     alloc: Global,
     kernel: &mut Kernel<L>,
@@ -69,16 +69,21 @@ fn sent_to<L: Ledger>(
 fn sent(
     alloc: Global,
     request: &Request,
-    told: Told,
+    report: Report,
     stamp: &mut Stamp,
 ) -> Result<Outgoing, MsgFault> {
     if stamp.next > MESSAGES {
         return Err(MsgFault::Memory);
     }
-    match told {
-        Told::Ended(done) => answer(alloc, request, &done, stamp),
-        Told::Answered(content) => answer_ask(alloc, request, &Answer { seen: 0, content }, stamp),
-        Told::Unposted(fault, content) => {
+    match report {
+        Report::Ended(done) => answer(alloc, request, &done, stamp),
+        Report::Answered(content) => answer_ask(
+            alloc,
+            request,
+            &Answer { seen: 0, content },
+            stamp,
+        ),
+        Report::Unposted(fault, content) => {
             refuse(alloc, request, &fault, &Answer { seen: 0, content }, stamp)
         }
     }

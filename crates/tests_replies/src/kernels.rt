@@ -1,5 +1,5 @@
 //! Jobs of a kernel, run to their ends.
-use kernel_ask::{Done, NamedValue, Wish, evaluate_all, is_settled, shown_text, stands_at_end};
+use kernel_ask::{Done, NamedValue, Wish, evaluate, is_settled, shown_text, stands_at_end};
 use kernel_core::{Begun, Job, Kernel, Outcome, Sliced};
 use std::alloc::{AllocError, Global};
 use std::sync::ledger::Ledger;
@@ -80,10 +80,17 @@ fn values_after<L: Ledger>(
     outcome: &Outcome,
     wishes: &[Wish],
 ) -> Result<Vec<NamedValue>, AllocError> {
-    if is_settled(kernel) && stands_at_end(kernel, outcome) {
-        return evaluate_all(alloc, kernel, outcome, wishes);
+    let mut values = Vec::new(alloc);
+    let ran = matches!(outcome, Outcome::Ran(_, _));
+    if !ran || !is_settled(kernel) || !stands_at_end(kernel, outcome) {
+        return Ok(values);
     }
-    Ok(Vec::new(alloc))
+    for wish in wishes {
+        let name = wish.name.clone()?;
+        let value = evaluate(alloc, kernel, wish.exp.as_str());
+        values.push(NamedValue { name, value })?;
+    }
+    Ok(values)
 }
 
 /// What is shown of a cell.

@@ -9,16 +9,16 @@
 //! A row of `messages` has, with bars between them: lines before the request, what is told, the type of the request, and its content.
 //! It stands on a new kernel. A row of a `connection` has a key and the frames of a request, each on the kernel as the row before
 //! left it. Under each row stand the messages that go out, in order, each with its frames, and before them the number of the next
-//! message. `lines` says what may stand as lines, and `told` what may be told.
+//! message. `lines` says what may stand as lines, and `report` what may be told.
 #![tactic(auto)]
 
 mod asked;
 mod exchange;
 mod kernels;
 mod lines;
+mod report;
 mod rows;
 mod stamps;
-mod told;
 
 use crate::rows::{answered_connection, answered_row};
 use jupyter_msg::MsgFault;

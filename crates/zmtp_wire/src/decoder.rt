@@ -1,5 +1,6 @@
 //! The reading of a stream of frames that comes in pieces.
-ghost use Rattle.std.specs.Prelude.{◌≡◌, ◌≢◌, ◌+◌, ◌*◌, ◌≤◌, ◌↔◌, ◌++◌, [], List, ℕ, drop, length, max, IfErr, IfNone, IfOk, IfSome, IsErrOf, IsOkUnless, IsTrue, OnErr, OnOk, vec_capacity, vec_len};
+ghost use Rattle.std.specs.Prelude.{◌≡◌, ◌≢◌, ◌+◌, ◌*◌, ◌≤◌, ◌↔◌, ◌++◌, [], List, ℕ, drop, length, max, IfErr, IfNone, IfOk, IfSome, IsErrOf, IsOkUnless};
+ghost use Rattle.std.specs.Prelude.{IsTrue, OnErr, OnOk, vec_capacity, vec_len};
 ghost use Rattle.zmtp_wire.specs.Frame.{Frame as FrameSeen, frame_of};
 ghost use Rattle.zmtp_wire.specs.Stream.{Takes, HasFrame, IsPartial, IsFaultAt};
 ghost use Rattle.zmtp_wire.specs.Decoding.{new_decoding, fed, unfed, SameButRoom, IsMostlyLeft, HasGiven, Tells};
@@ -239,7 +240,9 @@ impl Front<'_> {
     fn read(octets: &[u8], tally: Tally) -> Result<Option<Front<'_>>, WireFault>
         ensures within { IfOk result (λ found. IfSome found (λ front. front.length ≤ length octets.now)) }
         ensures frame { IfOk result (λ found. IfSome found (λ front.
-            Takes (record { octets = octets.now; tally = tally }) (record { more = front.more; command = front.command; body = front.body.now }) (record { octets = drop front.length octets.now; tally = front.tally }))) }
+            Takes (record { octets = octets.now; tally = tally })
+            (record { more = front.more; command = front.command; body = front.body.now })
+            (record { octets = drop front.length octets.now; tally = front.tally }))) }
         ensures partial { IfOk result (λ found. IfNone found (IsPartial (record { octets = octets.now; tally = tally }))) }
         ensures fault { IfErr result (λ fault. IsFaultAt (record { octets = octets.now; tally = tally }) fault) }
     {

@@ -9,7 +9,8 @@
 //! mechanism NULL and with this project's limits on the size of a message, and of RFC 37 (ZMTP 3.1): the minor version, and PONG.
 #![tactic(auto)]
 
-ghost use Rattle.zmtp_wire.specs.Laws.{EveryStreamIsRead, StreamsHaveOneReading, ReadingsGoOn, FaultsStay, FramesAreReadBack, MessagesAreReadBack, PongsAreReadBack, OctetsTellOneMessage, NoCutMatters, CutsAgree};
+ghost use Rattle.zmtp_wire.specs.Laws.{EveryStreamIsRead, StreamsHaveOneReading, ReadingsGoOn, FaultsStay, FramesAreReadBack, MessagesAreReadBack};
+ghost use Rattle.zmtp_wire.specs.Laws.{PongsAreReadBack, OctetsTellOneMessage, NoCutMatters, CutsAgree};
 
 mod decoder;
 mod fault;

@@ -1,9 +1,11 @@
 use Rattle.std.proofs.Common.{ℕ, [], List, take, map, sym, ap, ◌∙◌, add-one, string_bytes}
 use Rattle.janus_meaning.specs.Syntax.{Name}
 use Rattle.kernel_core.specs.Defined.{in_a_row}
-use Rattle.cells_program.specs.ByName.{with_name, with_names}
-use Rattle.cells_program.specs.Listing.{procedure_names}
-use Rattle.cells_program.proofs.ByName.{names_inserted, names_more, with_names_more}
+use Rattle.kernel_text.specs.NameSets.{with_name}
+use Rattle.cells_program.specs.ByName.{with_names}
+use Rattle.kernel_text.specs.Procedures.{procedure_names}
+use Rattle.kernel_text.proofs.NameSets.{names_inserted}
+use Rattle.cells_program.proofs.ByName.{names_more, with_names_more}
 use Rattle.cells_program.proofs.listing.names_of.Goals as goal
 
 pub loop-i-preserved : goal.loop-i-preserved

@@ -4,7 +4,8 @@ use Rattle.kernel_core.specs.outcome.Sliced.{Sliced}
 use Rattle.kernel_core.specs.outcome.Begun.{Begun}
 use Rattle.janus_meaning.specs.Limit.{step_limit}
 use Rattle.cells_program.specs.Served.{ended, going, backing, next_cell, no_next_cell}
-use Rattle.cells_program.proofs.Finishing.{IsInside, IsBorder, Nearer, Begins, slice_nearer, begin_nearer}
+use Rattle.kernel_core.proofs.Taken.{IsInside, IsBorder}
+use Rattle.cells_program.proofs.Finishing.{Nearer, Begins, slice_nearer, begin_nearer}
 use Rattle.cells_program.proofs.Serving.{slice_queue, border_queue}
 use Rattle.cells_program.proofs.serve.finish.Goals as goal
 

@@ -2,7 +2,8 @@ use Rattle.std.proofs.Common.{◌≡◌}
 use Rattle.kernel_core.specs.Runs.{Machine}
 use Rattle.kernel_core.specs.outcome.Outcome.{Outcome}
 use Rattle.cells_program.specs.Served.{Finishes}
-use Rattle.cells_program.proofs.Finishing.{left, IsInside}
+use Rattle.kernel_core.proofs.Taken.{IsInside}
+use Rattle.cells_program.proofs.Finishing.{left}
 use Rattle.cells_program.proofs.serve.finish.Given as goal
 
 -- the job stands inside a cell, and what it comes to from here it comes to from the beginning

@@ -4,7 +4,8 @@ use Rattle.kernel_core.specs.Request.{Request, request_of}
 use Rattle.kernel_core.specs.State.{Idle}
 use Rattle.kernel_core.specs.outcome.Begun.{Begun}
 use Rattle.cells_program.specs.Served.{lane, not_posted, at_once, later}
-use Rattle.cells_program.proofs.Serving.{IsAlone, posted_alone, begun_alone, begun_cell, cell_as, move_as, Took}
+use Rattle.kernel_core.proofs.Taken.{Took}
+use Rattle.cells_program.proofs.Serving.{IsAlone, posted_alone, begun_alone, begun_cell, cell_as, move_as}
 use Rattle.std.proofs.lemmas.Result.{err_from_is_err_and}
 use Rattle.cells_program.proofs.serve.serve.Goals as goal
 

@@ -8,7 +8,7 @@ use Rattle.janus_check.proofs.expression.+exp_fault.Goals as goal
 
 pub returns-in-Binary : goal.returns-in-Binary
 returns-in-Binary t c =
-    let faults : Exp → _ = faults_of (faults_at c.args.standing.now) in
+    let faults : Exp → _ = faults_of (faults_at c.args.context.now) in
     two_parts c.args.first c.exp_fault-next.result c.exp_fault-in-Binary.result (faults (exp_view c.in-Binary.left.value)) (faults (exp_view c.in-Binary.right.value))
     (c.exp_fault-next.ensures ∙ ap (λ e. first_from c.args.first (faults (exp_view e))) c.deref-in-Binary.ensures)
     (c.exp_fault-in-Binary.ensures ∙ ap (λ e. first_from c.exp_fault-next.result (faults (exp_view e))) c.deref-in-Binary-2.ensures)
@@ -16,7 +16,7 @@ returns-in-Binary t c =
 
 pub returns-in-And : goal.returns-in-And
 returns-in-And t c =
-    let faults : Exp → _ = faults_of (faults_at c.args.standing.now) in
+    let faults : Exp → _ = faults_of (faults_at c.args.context.now) in
     two_parts c.args.first c.exp_fault-next-in-And.result c.exp_fault-in-And.result (faults (exp_view c.in-And.left.value)) (faults (exp_view c.in-And.right.value))
     (c.exp_fault-next-in-And.ensures ∙ ap (λ e. first_from c.args.first (faults (exp_view e))) c.deref-in-And.ensures)
     (c.exp_fault-in-And.ensures ∙ ap (λ e. first_from c.exp_fault-next-in-And.result (faults (exp_view e))) c.deref-in-And-2.ensures)
@@ -24,7 +24,7 @@ returns-in-And t c =
 
 pub returns-in-Or : goal.returns-in-Or
 returns-in-Or t c =
-    let faults : Exp → _ = faults_of (faults_at c.args.standing.now) in
+    let faults : Exp → _ = faults_of (faults_at c.args.context.now) in
     two_parts c.args.first c.exp_fault-next-in-Or.result c.exp_fault-in-Or.result (faults (exp_view c.in-Or.left.value)) (faults (exp_view c.in-Or.right.value))
     (c.exp_fault-next-in-Or.ensures ∙ ap (λ e. first_from c.args.first (faults (exp_view e))) c.deref-in-Or.ensures)
     (c.exp_fault-in-Or.ensures ∙ ap (λ e. first_from c.exp_fault-next-in-Or.result (faults (exp_view e))) c.deref-in-Or-2.ensures)

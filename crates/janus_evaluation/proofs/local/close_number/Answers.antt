@@ -7,7 +7,7 @@ use Rattle.janus_meaning.specs.Fault.{Fine, Bad, DelocalMismatch, and_then, guar
 use Rattle.janus_meaning.specs.Store.{Store, Slot, Num}
 use Rattle.janus_meaning.specs.Value.{value}
 use Rattle.janus_meaning.proofs.Changes.{int_eq_true}
-use Rattle.janus_store.specs.Held.{Held}
+use Rattle.janus_store.specs.StoreState.{StoreState}
 use Rattle.janus_invert.specs.Expressions.{exp_of}
 use Rattle.janus_evaluation.specs.Results.{fault_of}
 use Rattle.janus_evaluation.proofs.Ends.{number_on_top}
@@ -29,12 +29,12 @@ returns-clause-done g c =
     let t = number_on_top x b s c.requires.safe in
     let left = c.leave_local-number.ensures.left x t.number t.rest t.top in
     let after = c.leave_local-number.new.self in
-    let rest : after.sight ≡ t.rest = ap (λ (h : Held). h.sight) left.1 in
-    let names : after.names ≡ c.args.store.now.names = ap (λ (h : Held). h.names) left.1 in
+    let rest : after.sight ≡ t.rest = ap (λ (h : StoreState). h.sight) left.1 in
+    let names : after.names ≡ c.args.store.now.names = ap (λ (h : StoreState). h.names) left.1 in
     let again = c.enter_local.ensures x (ap (λ (l : _). slice_get l c.args.name.now.number) names ∙ c.requires.at) in
     let number : c.leave_local-number.result ≡ t.number = left.0 in
     let zm : to_z w32 (of_z w32 c.leave_local-number.result) ≡ c.leave_local-number.result = grind (arith, to_z-of_z) in
-    let back : c.enter_local.new.self.sight ≡ s = ap (λ (h : Held). h.sight) again ∙ ap (λ n. Slot x (Num n) after.sight) (zm ∙ number) ∙ ap (Slot x (Num t.number)) rest ∙ sym t.top in
+    let back : c.enter_local.new.self.sight ≡ s = ap (λ (h : StoreState). h.sight) again ∙ ap (λ n. Slot x (Num n) after.sight) (zm ∙ number) ∙ ap (Slot x (Num t.number)) rest ∙ sym t.top in
     elim c.match-value.branch [
       | in-Ok+else-wanted-number w ↦
           let wanted : value b t.rest ≡ Fine w.in-Ok.wanted = sym (w.in-Ok.ensures ∙ ap (value b) rest) in

@@ -2,7 +2,7 @@ use Rattle.std.proofs.Common.{ap, ◌∙◌, sym, string_bytes, refl}
 use Rattle.janus_meaning.specs.Fault.{Fine}
 use Rattle.janus_meaning.specs.Store.{Slot, Stk}
 use Rattle.janus_meaning.specs.Moves.{drop_stack_slot}
-use Rattle.janus_store.specs.Held.{Held}
+use Rattle.janus_store.specs.StoreState.{StoreState}
 use Rattle.janus_evaluation.proofs.Ends.{stack_on_top}
 use Rattle.janus_evaluation.proofs.Transfers.{some_values, no_values}
 use Rattle.janus_evaluation.proofs.local.close_stack.Goals as goal
@@ -33,7 +33,7 @@ returns-clause-done g c =
     let t = stack_on_top x c.args.store.now.sight c.requires.safe in
     let none = no_values t.values (sym (c.is_empty.ensures x t.values c.requires.at t.there) ∙ c.if-not-is_empty.false) in
     let left = c.leave_local_stack.ensures x t.rest (t.top ∙ ap (λ l. Slot x (Stk l) t.rest) none) in
-    t.is ∙ ap (λ l. drop_stack_slot (Stk l) t.rest) none ∙ ap Fine (sym (ap (λ (h : Held). h.sight) left))
+    t.is ∙ ap (λ l. drop_stack_slot (Stk l) t.rest) none ∙ ap Fine (sym (ap (λ (h : StoreState). h.sight) left))
 
 pub returns-clause-names : goal.returns-clause-names
 returns-clause-names g c =
@@ -41,4 +41,4 @@ returns-clause-names g c =
     let t = stack_on_top x c.args.store.now.sight c.requires.safe in
     let none = no_values t.values (sym (c.is_empty.ensures x t.values c.requires.at t.there) ∙ c.if-not-is_empty.false) in
     let left = c.leave_local_stack.ensures x t.rest (t.top ∙ ap (λ l. Slot x (Stk l) t.rest) none) in
-    record { declared = ap (λ (h : Held). h.declared) left; names = ap (λ (h : Held). h.names) left; callers = ap (λ (h : Held). h.callers) left }
+    record { declared = ap (λ (h : StoreState). h.declared) left; names = ap (λ (h : StoreState). h.names) left; callers = ap (λ (h : StoreState). h.callers) left }

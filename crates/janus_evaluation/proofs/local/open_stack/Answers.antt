@@ -5,7 +5,7 @@ use Rattle.janus_meaning.specs.Fault.{Fine, and_then, guard, TooManyStacks}
 use Rattle.janus_meaning.specs.Limit.{live_stack_limit}
 use Rattle.janus_meaning.specs.Store.{Slot, Stk}
 use Rattle.janus_meaning.specs.Moves.{stack_room}
-use Rattle.janus_store.specs.Held.{Held, live_stacks}
+use Rattle.janus_store.specs.StoreState.{StoreState, live_stacks}
 use Rattle.janus_evaluation.proofs.local.open_stack.Goals as goal
 
 no_room : (k : ℕ) → live_stack_limit ≤ k → nat_lt k live_stack_limit ≡ false
@@ -29,4 +29,4 @@ returns-clause-done g c =
     let s = c.args.store.now.sight in
     let room = some_room (live_stacks c.args.store.now) (omega (arith, c.stacks_left.ensures, c.if-stacks_left-eq0.false)) in
     ap (λ t. and_then (guard t TooManyStacks) (λ ok. Fine (Slot x (Stk []) s))) room
-    ∙ ap Fine (sym (ap (λ (h : Held). h.sight) (c.enter_local_stack.ensures x c.requires.at)))
+    ∙ ap Fine (sym (ap (λ (h : StoreState). h.sight) (c.enter_local_stack.ensures x c.requires.at)))

@@ -11,8 +11,7 @@ use Rattle.janus_machine.specs.Places.{linear_in, block_in}
 use Rattle.janus_machine.specs.Procedures.{body_at, in_effect}
 use Rattle.janus_machine.specs.Nested.{book_in}
 use Rattle.janus_machine.specs.Cursors.{book_of}
-use Rattle.janus_machine.specs.Calls.{call_tree}
-use Rattle.janus_machine.proofs.Entering.{call_stands, room_small, deep_here, is_known, found, entered, lends, counted, few, call_room, stands_new, leads_new, agrees_new, wild_is_broken, behind_inside}
+use Rattle.janus_machine.proofs.Entering.{call_stands, room_small, deep_here, is_known, found, entered, lends, counted, few, call_room, stands_new, leads_new, agrees_new, wild_is_broken, behind_inside, call_tree}
 use Rattle.janus_machine.proofs.Turning.{there_and_back}
 use Rattle.janus_machine.proofs.call.enter_call.Goals as goal
 

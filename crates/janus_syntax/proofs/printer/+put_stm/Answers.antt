@@ -1,6 +1,6 @@
 use Rattle.std.proofs.Common.{◌≡◌, [], ◌∷◌, arith, sym, subst, string_bytes}
 use Rattle.janus_syntax.specs.declared.token.Sign.TheVariants as sign
-use Rattle.janus_syntax.specs.declared.token.Word.TheVariants as word
+use Rattle.janus_syntax.specs.declared.token.Keyword.TheVariants as word
 use Rattle.janus_syntax.specs.Tree.{exp_view, block_view}
 use Rattle.janus_syntax.specs.Printed.{line_view}
 use Rattle.janus_syntax.specs.Printing.{A_name, A_sign, A_word, with_pieces, binding_pieces, update_sign, whole_pieces, block_pieces, stm_pieces}

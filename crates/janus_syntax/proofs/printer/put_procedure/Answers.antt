@@ -1,6 +1,6 @@
 use Rattle.std.proofs.Common.{string_bytes}
 use Rattle.janus_syntax.specs.declared.token.Sign.TheVariants as sign
-use Rattle.janus_syntax.specs.declared.token.Word.TheVariants as word
+use Rattle.janus_syntax.specs.declared.token.Keyword.TheVariants as word
 use Rattle.janus_syntax.specs.Tree.{parameters_view, block_view}
 use Rattle.janus_syntax.specs.Printing.{A_name, A_sign, A_word, An_opening, parameters_pieces, block_pieces}
 use Rattle.janus_syntax.proofs.Pieces.{procedure_row}

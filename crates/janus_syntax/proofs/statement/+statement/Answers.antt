@@ -130,20 +130,20 @@ statement-returns-in_ok-stm-in-Name t c =
     let e = first_token c.args.tokens.now c.in-Some.rest.now c.in-Some.first.now (kinds.Name c.in-Name.text) c.in-Some.ensures.cases c.in-Name.is in
     rw e (name_begins _ _ c.requires (subst (λ y. IsAssignment c.args.depth (named y c.in-Some.first.now.span) (stm_view c.in_ok-stm-in-Name.stm) (views c.in-Some.rest.now) (views c.in_ok-stm-in-Name.rest.now)) c.in_ok-clone-in-Name.ensures.cases c.in_ok-stm-in-Name.ensures))
 
-pub statement-returns-in_err-stm-in-Word : goal.statement-returns-in_err-stm-in-Word
-statement-returns-in_err-stm-in-Word t c =
-    let p = err_from_is_err_and c.from_residual-in_err-stm-in-Word.result c.from_residual-in_err-stm-in-Word.ensures.1 in
-    let e = first_token c.args.tokens.now c.in-Some.rest.now c.in-Some.first.now (kinds.Word c.in-Word.word) c.in-Some.ensures.cases c.in-Word.is in
-    rw (p.1, p.2, e) (c.in_err-stm-in-Word.ensures c.in-Some.first.now.span)
+pub statement-returns-in_err-stm-in-Keyword : goal.statement-returns-in_err-stm-in-Keyword
+statement-returns-in_err-stm-in-Keyword t c =
+    let p = err_from_is_err_and c.from_residual-in_err-stm-in-Keyword.result c.from_residual-in_err-stm-in-Keyword.ensures.1 in
+    let e = first_token c.args.tokens.now c.in-Some.rest.now c.in-Some.first.now (kinds.Keyword c.in-Keyword.word) c.in-Some.ensures.cases c.in-Keyword.is in
+    rw (p.1, p.2, e) (c.in_err-stm-in-Keyword.ensures c.in-Some.first.now.span)
 
-pub statement-returns-in_ok-stm-in-Word : goal.statement-returns-in_ok-stm-in-Word
-statement-returns-in_ok-stm-in-Word t c =
-    let e = first_token c.args.tokens.now c.in-Some.rest.now c.in-Some.first.now (kinds.Word c.in-Word.word) c.in-Some.ensures.cases c.in-Word.is in
-    rw e (c.in_ok-stm-in-Word.ensures c.in-Some.first.now.span)
+pub statement-returns-in_ok-stm-in-Keyword : goal.statement-returns-in_ok-stm-in-Keyword
+statement-returns-in_ok-stm-in-Keyword t c =
+    let e = first_token c.args.tokens.now c.in-Some.rest.now c.in-Some.first.now (kinds.Keyword c.in-Keyword.word) c.in-Some.ensures.cases c.in-Keyword.is in
+    rw e (c.in_ok-stm-in-Keyword.ensures c.in-Some.first.now.span)
 
 pub statement-returns-else-opens_construct : goal.statement-returns-else-opens_construct
 statement-returns-else-opens_construct t c =
-    let e = first_token c.args.tokens.now c.in-Some.rest.now c.in-Some.first.now (kinds.Word c.in-Word.word) c.in-Some.ensures.cases c.in-Word.is in
+    let e = first_token c.args.tokens.now c.in-Some.rest.now c.in-Some.first.now (kinds.Keyword c.in-Keyword.word) c.in-Some.ensures.cases c.in-Keyword.is in
     rw e (c.plain_statement.ensures c.args.depth c.in-Some.first.now.span c.requires)
 
 pub statements_behind-statements-init : goal.statements_behind-statements-init

@@ -18,7 +18,7 @@ use Rattle.janus_check.specs.declared.fault.CheckFault.TheVariants as fault
 use Rattle.janus_invert.specs.Numbered.{HasNumbers}
 use Rattle.janus_invert.specs.Met.{MeetsExp}
 use Rattle.janus_invert.proofs.Meeting.{exp_met}
-use Rattle.janus_store.specs.Held.{Held, IsWhole, shown_store}
+use Rattle.janus_store.specs.StoreState.{StoreState, IsWhole, shown_store}
 use Rattle.kernel_core.proofs.Borders.{all_shown}
 use Rattle.kernel_core.proofs.NamesMet.{sight_met}
 use Rattle.kernel_core.specs.Text.{refused_by_check}
@@ -29,7 +29,7 @@ use Rattle.kernel_ask.proofs.Sound.{not_broken}
 use Rattle.kernel_ask.proofs.evaluation.evaluation_of.Goals as goal
 
 -- no local is open: the names in sight are those declared
-declared : (h : Held) → IsWhole h → shape_of (shown_store h) ≡ shape_of h.sight
+declared : (h : StoreState) → IsWhole h → shape_of (shown_store h) ≡ shape_of h.sight
 declared h whole = ap shape_of (all_shown h whole)
 
 pub names_in_sight-requires-clause-values : goal.names_in_sight-requires-clause-values
@@ -74,7 +74,7 @@ pub returns-in-Err-check_exp : goal.returns-in-Err-check_exp
 returns-in-Err-check_exp g c =
     let e = exp_view c.in-Ok.exp in
     let first = subst (λ (g : Shape). IsFirst c.in-Err-check_exp.fault (exp_faults g e)) (c.in-Ok-names_in_sight.ensures.names ∙ declared c.args.store.now c.requires.whole) c.in-Err-check_exp.ensures.first in
-    told c.args.store.now.sight c.args.text.now e c.in-Err-check_exp.fault c.refusal_of_check.result c.in-Ok.ensures.read first c.refusal_of_check.ensures
+    told c.args.store.now.sight c.args.text.now e c.in-Err-check_exp.fault c.of_check.result c.in-Ok.ensures.read first c.of_check.ensures
 
 pub returns-in-Ok-value : goal.returns-in-Ok-value
 returns-in-Ok-value g c =

@@ -1,5 +1,5 @@
 use Rattle.std.proofs.Common.{ap, ◌∙◌, map, string_bytes}
-use Rattle.kernel_ask.proofs.Added.{names_inserted}
+use Rattle.kernel_text.proofs.NameSets.{names_inserted}
 use Rattle.kernel_ask.proofs.matches.add.Goals as goal
 
 pub returns : goal.returns

@@ -1,7 +1,7 @@
 use Rattle.std.proofs.Common.{ℕ, [], ◌∷◌, ◌++◌, List, take, map, sym, ap, ◌∙◌, add-one, string_bytes}
 use Rattle.kernel_core.specs.Defined.{in_a_row}
 use Rattle.kernel_ask.specs.Added.{with_match, with_matches}
-use Rattle.kernel_ask.specs.Matches.{procedure_names}
+use Rattle.kernel_text.specs.Procedures.{procedure_names}
 use Rattle.kernel_ask.proofs.Added.{with_matches_more}
 use Rattle.kernel_ask.proofs.Rows.{names_more}
 use Rattle.kernel_ask.proofs.matches.add_procedures.Goals as goal

@@ -1,7 +1,7 @@
 use Rattle.std.proofs.Common.{[], ◌∷◌, ◌++◌, take, map, sym, ap, ◌∙◌, string_bytes}
 use Rattle.std.proofs.lemmas.List.{map_more}
 use Rattle.janus_syntax.specs.Spelling.{word_text}
-use Rattle.janus_syntax.specs.declared.token.Word.TheVariants as word
+use Rattle.janus_syntax.specs.declared.token.Keyword.TheVariants as word
 use Rattle.kernel_ask.specs.Added.{with_match, with_matches}
 use Rattle.kernel_ask.proofs.Added.{with_matches_more}
 use Rattle.kernel_ask.proofs.matches.add_words.Goals as goal

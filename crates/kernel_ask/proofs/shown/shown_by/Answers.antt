@@ -1,6 +1,6 @@
 use Rattle.std.proofs.Common.{refl, ap, ◌∙◌, subst}
 use Rattle.std.proofs.lemmas.Result.{IfOk-weaker}
-use Rattle.janus_store.specs.Held.{shown_store}
+use Rattle.janus_store.specs.StoreState.{shown_store}
 use Rattle.kernel_ask.specs.Shown.{shown_text, IsCellOf}
 use Rattle.kernel_ask.proofs.shown.shown_by.Goals as goal
 

@@ -7,16 +7,16 @@ use Rattle.kernel_audit.specs.Ends.{HasEnd}
 use Rattle.kernel_audit.proofs.Numbered.{not_so}
 use Rattle.kernel_audit.proofs.comparison.unknown_done.Goals as goal
 
-pub returns-then-not-is_ended-clause-some : goal.returns-then-not-is_ended-clause-some
-returns-then-not-is_ended-clause-some c =
-    (c.done-item.result, (c.loop-done.done-index, c.loop-done-test.true, sym c.done-item.is), refl, not_so _ c.if-not-is_ended.true c.is_ended.ensures.ended)
+pub returns-then-not-finds_end-clause-some : goal.returns-then-not-finds_end-clause-some
+returns-then-not-finds_end-clause-some c =
+    (c.done-item.result, (c.loop-done.done-index, c.loop-done-test.true, sym c.done-item.is), refl, not_so _ c.if-not-finds_end.true c.finds_end.ensures.ended)
 
 pub loop-done-preserved : goal.loop-done-preserved
 loop-done-preserved c =
     let P : Done → Type 0 = HasEnd (map entry_of c.args.minutes.now) in
     record {
-      mark = c.is_ended.ensures.mark;
-      ended = All-more P c.args.dones.now c.loop-done.done-index c.done-item.result c.loop-done-test.true c.loop-done.invariant.ended (subst P c.done-item.is (c.is_ended.ensures.ended.0 c.if-not-is_ended.false));
+      mark = c.finds_end.ensures.mark;
+      ended = All-more P c.args.dones.now c.loop-done.done-index c.done-item.result c.loop-done-test.true c.loop-done.invariant.ended (subst P c.done-item.is (c.finds_end.ensures.ended.0 c.if-not-finds_end.false));
     }
 
 pub returns-clause-none : goal.returns-clause-none

@@ -1,6 +1,6 @@
 use Rattle.std.proofs.Common.{rules, sym, ◌∙◌}
 use denote.Enum.Bare.{same_true, true_same}
-use Rattle.janus_syntax.specs.contracts.token.Word.{the_type}
+use Rattle.janus_syntax.specs.contracts.token.Keyword.{the_type}
 use Rattle.kernel_audit.proofs.same.same_word.Goals as goal
 
 pub returns : goal.returns

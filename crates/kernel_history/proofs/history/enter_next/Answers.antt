@@ -1,6 +1,6 @@
 use Rattle.std.proofs.Common.{sym, ◌∙◌, ap}
 use Rattle.kernel_history.specs.Kept.{shown_here}
-use Rattle.janus_store.specs.Held.{Held}
+use Rattle.janus_store.specs.StoreState.{StoreState}
 use Rattle.janus_machine.specs.Procedures.{kept_in}
 use Rattle.janus_machine.specs.declared.procedures.Procedures.{Procedures}
 use Rattle.kernel_runner.proofs.Growing.{same_more}
@@ -20,7 +20,7 @@ enter_inverse-requires g c =
     (shown_here c.args.tree.now, can_go_up_from c.args.tree.now c.args.travel c.content.result.now c.args.runner.now way c.requires.legal c.requires.possible at c.requires.is c.requires.ready)
 
 pub returns-in-Up-clause-names : goal.returns-in-Up-clause-names
-returns-in-Up-clause-names g c = same_more c.args.runner.now.store.names c.enter_inverse.new.self.store.names (ap (λ (h : Held). h.names) c.enter_inverse.ensures.store)
+returns-in-Up-clause-names g c = same_more c.args.runner.now.store.names c.enter_inverse.new.self.store.names (ap (λ (h : StoreState). h.names) c.enter_inverse.ensures.store)
 
 pub returns-in-Up-clause-bodies : goal.returns-in-Up-clause-bodies
 returns-in-Up-clause-bodies g c = ap (λ (t : Procedures). kept_in t) c.enter_inverse.ensures.procedures

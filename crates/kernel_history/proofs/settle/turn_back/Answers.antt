@@ -1,5 +1,5 @@
 use Rattle.std.proofs.Common.{false, ap}
-use Rattle.janus_store.specs.Held.{Held}
+use Rattle.janus_store.specs.StoreState.{StoreState}
 use Rattle.janus_machine.specs.Procedures.{kept_in}
 use Rattle.janus_machine.specs.declared.procedures.Procedures.{Procedures}
 use Rattle.kernel_machine.specs.declared.turn.Turn.TheVariants.{GoesOn, GoesBack}
@@ -12,5 +12,5 @@ turn-requires g c = inside_with c.args.tree.now c.args.work c.args.count GoesOn 
 
 pub go_back-requires : goal.go_back-requires
 go_back-requires g c =
-    kept_at c.args.tree.now c.args.work c.args.count c.args.count GoesOn (GoesBack c.args.why) c.args.runner.now c.turn.new.self c.program_of.result.now c.requires (same_more c.args.runner.now.store.names c.turn.new.self.store.names (ap (λ (h : Held). h.names) c.turn.ensures.store)) (ap (λ (t : Procedures). kept_in t) c.turn.ensures.procedures) c.program_of.ensures
+    kept_at c.args.tree.now c.args.work c.args.count c.args.count GoesOn (GoesBack c.args.why) c.args.runner.now c.turn.new.self c.program_of.result.now c.requires (same_more c.args.runner.now.store.names c.turn.new.self.store.names (ap (λ (h : StoreState). h.names) c.turn.ensures.store)) (ap (λ (t : Procedures). kept_in t) c.turn.ensures.procedures) c.program_of.ensures
     (c.turn.ensures.turns _ (stands_with c.args.tree.now c.args.work c.args.count false c.args.runner.now c.program_of.result.now c.program_of.ensures c.requires.stands))

@@ -1,7 +1,7 @@
 use Rattle.std.proofs.Common.{◌≡◌, take}
 use Rattle.janus_meaning.specs.Shape.{shape_of, heads_of}
 use Rattle.janus_check.specs.Names.{shape_in, heads_in}
-use Rattle.janus_store.specs.Held.{shown_store}
+use Rattle.janus_store.specs.StoreState.{shown_store}
 use Rattle.kernel_runner.specs.Defined.{in_a_row}
 use Rattle.kernel_runner.specs.Known.{FindTheSame}
 use Rattle.kernel_runner.proofs.known.known_over.Given as goal

@@ -1,5 +1,5 @@
 use Rattle.std.proofs.Common.{map, take}
-use Rattle.janus_store.specs.Held.{KeepsSight}
+use Rattle.janus_store.specs.StoreState.{KeepsSight}
 use Rattle.kernel_runner.specs.Met.{AreDeclaredMet}
 use Rattle.kernel_runner.specs.Program.{declaration_of}
 use Rattle.kernel_runner.proofs.meeting.meet_declared.Given as goal

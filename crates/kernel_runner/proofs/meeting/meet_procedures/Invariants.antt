@@ -1,7 +1,7 @@
 use Rattle.std.proofs.Common.{map, take}
 use Rattle.janus_syntax.specs.Tree.{procedures_view}
 use Rattle.janus_syntax.specs.View.{plain_procedure}
-use Rattle.janus_store.specs.Held.{KeepsSight}
+use Rattle.janus_store.specs.StoreState.{KeepsSight}
 use Rattle.kernel_runner.specs.Met.{MeetOwn}
 use Rattle.kernel_runner.proofs.meeting.meet_procedures.Given as goal
 

@@ -1,5 +1,5 @@
 use Rattle.std.proofs.Common.{◌≡◌, [], take}
-use Rattle.janus_store.specs.Held.{shown_store}
+use Rattle.janus_store.specs.StoreState.{shown_store}
 use Rattle.kernel_runner.proofs.Entries.{entries}
 use Rattle.kernel_runner.proofs.program.names_in_sight.Given as goal
 

@@ -5,7 +5,8 @@ use Rattle.kernel_core.specs.outcome.Begun.{Begun}
 use Rattle.kernel_server.specs.declared.slice.Slice.{Slice}
 use Rattle.kernel_server.specs.Pace.{next_slice, behind}
 use Rattle.kernel_server.specs.Jobs.{Finishes}
-use Rattle.kernel_server.proofs.Nearing.{IsInside, IsBorder, IsNearer, Nearer, Begins, slice_nearer, begin_nearer, left}
+use Rattle.kernel_core.proofs.Taken.{IsInside, IsBorder}
+use Rattle.kernel_server.proofs.Nearing.{IsNearer, Nearer, Begins, slice_nearer, begin_nearer, left}
 use Rattle.kernel_server.proofs.Turns.{slice_queue, border_queue}
 use Rattle.kernel_server.proofs.Ending.{ends_by_slice, ends_at_border, goes_on, goes_back, next_cell}
 use Rattle.kernel_server.proofs.finish.finish.Goals as goal

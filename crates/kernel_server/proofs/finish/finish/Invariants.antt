@@ -3,7 +3,8 @@ use Rattle.kernel_core.specs.Runs.{Machine}
 use Rattle.kernel_core.specs.outcome.Outcome.{Outcome}
 use Rattle.kernel_server.specs.declared.slice.Slice.{Slice}
 use Rattle.kernel_server.specs.Jobs.{Finishes}
-use Rattle.kernel_server.proofs.Nearing.{left, IsInside}
+use Rattle.kernel_core.proofs.Taken.{IsInside}
+use Rattle.kernel_server.proofs.Nearing.{left}
 use Rattle.kernel_server.proofs.finish.finish.Given as goal
 
 -- the job stands inside a cell, and what it comes to from here it comes to from the beginning

@@ -3,7 +3,8 @@ use Rattle.kernel_core.specs.Request.{Request, request_of}
 use Rattle.kernel_core.specs.Runs.{Machine, IsPost, IsBegin}
 use Rattle.kernel_core.specs.State.{Idle}
 use Rattle.kernel_core.specs.outcome.Begun.{Begun}
-use Rattle.kernel_server.proofs.Turns.{IsAlone, Took, posted_alone, begun_alone}
+use Rattle.kernel_core.proofs.Taken.{Took}
+use Rattle.kernel_server.proofs.Turns.{IsAlone, posted_alone, begun_alone}
 use Rattle.kernel_server.proofs.Ending.{begun_at_once, begun_later}
 use Rattle.kernel_server.proofs.finish.run_out.Goals as goal
 

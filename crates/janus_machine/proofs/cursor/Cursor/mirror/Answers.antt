@@ -14,7 +14,7 @@ use Rattle.janus_machine.proofs.Turned.{turned_place}
 use Rattle.janus_machine.proofs.Mirrors.{place_mirrored}
 use Rattle.janus_machine.proofs.Agreed.{stacks_turned, locals_turned, callers_turned}
 use Rattle.janus_machine.specs.Open.{HaveLocals}
-use Rattle.janus_store.specs.Held.{own_names}
+use Rattle.janus_store.specs.StoreState.{own_names}
 use Rattle.janus_machine.proofs.cursor.Cursor.mirror.Goals as goal
 
 pub returns-clause-place : goal.returns-clause-place

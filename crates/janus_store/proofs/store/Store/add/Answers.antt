@@ -5,7 +5,7 @@ use Rattle.janus_meaning.specs.Limit.{live_stack_limit}
 use Rattle.janus_meaning.specs.World.{size_of, stacks_in}
 use Rattle.cell_pool.specs.Chains.{times}
 use Rattle.janus_names.specs.Numbers.{IsNumbered}
-use Rattle.janus_store.specs.Held.{Held, IsWhole, live_stacks, stacks_lent}
+use Rattle.janus_store.specs.StoreState.{StoreState, IsWhole, live_stacks, stacks_lent}
 use Rattle.janus_store.specs.Inside.{held_in, stacks_of, IsHeld}
 use Rattle.janus_store.specs.Values.{val_in, number_in, first_of}
 use Rattle.janus_store.specs.declared.store.Variable.{Variable}
@@ -27,10 +27,10 @@ first_value-value-requires g c =
     let cs = reverse a.calls.items in
     let h = c.self.invariant.held in
     let now = held_in a.stacks.lists xs a.declared vs cs in
-    let sight : now.sight ≡ c.args.self.now.sight = ap (λ (h : Held). h.sight) c.self.view_is ∙ ap (λ (h : Held). h.sight) c.in_ok-name.ensures.same in
-    let declared : a.declared ≡ c.args.self.now.declared = ap (λ (h : Held). h.declared) c.self.view_is ∙ ap (λ (h : Held). h.declared) c.in_ok-name.ensures.same in
-    let callers : now.callers ≡ c.args.self.now.callers = ap (λ (h : Held). h.callers) c.self.view_is ∙ ap (λ (h : Held). h.callers) c.in_ok-name.ensures.same in
-    let names = ap (λ (h : Held). h.names) c.self.view_is in
+    let sight : now.sight ≡ c.args.self.now.sight = ap (λ (h : StoreState). h.sight) c.self.view_is ∙ ap (λ (h : StoreState). h.sight) c.in_ok-name.ensures.same in
+    let declared : a.declared ≡ c.args.self.now.declared = ap (λ (h : StoreState). h.declared) c.self.view_is ∙ ap (λ (h : StoreState). h.declared) c.in_ok-name.ensures.same in
+    let callers : now.callers ≡ c.args.self.now.callers = ap (λ (h : StoreState). h.callers) c.self.view_is ∙ ap (λ (h : StoreState). h.callers) c.in_ok-name.ensures.same in
+    let names = ap (λ (h : StoreState). h.names) c.self.view_is in
     let whole : IsWhole now = record { declared = declared ∙ c.requires.whole.declared ∙ sym (ap size_of sight); callers = callers ∙ c.requires.whole.callers } in
     let all : a.declared ≡ length vs = all_declared a.stacks.lists xs ns vs a.declared cs h now refl whole in
     let k = c.in_ok-name.name in
@@ -47,10 +47,10 @@ put_own-requires-clause-room g c =
     let cs = reverse a.calls.items in
     let h = c.self.invariant.held in
     let now = held_in a.stacks.lists xs a.declared vs cs in
-    let sight : now.sight ≡ c.args.self.now.sight = ap (λ (h : Held). h.sight) c.self.view_is ∙ ap (λ (h : Held). h.sight) c.in_ok-name.ensures.same in
-    let declared : a.declared ≡ c.args.self.now.declared = ap (λ (h : Held). h.declared) c.self.view_is ∙ ap (λ (h : Held). h.declared) c.in_ok-name.ensures.same in
-    let callers : now.callers ≡ c.args.self.now.callers = ap (λ (h : Held). h.callers) c.self.view_is ∙ ap (λ (h : Held). h.callers) c.in_ok-name.ensures.same in
-    let names = ap (λ (h : Held). h.names) c.self.view_is in
+    let sight : now.sight ≡ c.args.self.now.sight = ap (λ (h : StoreState). h.sight) c.self.view_is ∙ ap (λ (h : StoreState). h.sight) c.in_ok-name.ensures.same in
+    let declared : a.declared ≡ c.args.self.now.declared = ap (λ (h : StoreState). h.declared) c.self.view_is ∙ ap (λ (h : StoreState). h.declared) c.in_ok-name.ensures.same in
+    let callers : now.callers ≡ c.args.self.now.callers = ap (λ (h : StoreState). h.callers) c.self.view_is ∙ ap (λ (h : StoreState). h.callers) c.in_ok-name.ensures.same in
+    let names = ap (λ (h : StoreState). h.names) c.self.view_is in
     let whole : IsWhole now = record { declared = declared ∙ c.requires.whole.declared ∙ sym (ap size_of sight); callers = callers ∙ c.requires.whole.callers } in
     let all : a.declared ≡ length vs = all_declared a.stacks.lists xs ns vs a.declared cs h now refl whole in
     let k = c.in_ok-name.name in
@@ -67,10 +67,10 @@ put_own-requires-clause-met g c =
     let cs = reverse a.calls.items in
     let h = c.self.invariant.held in
     let now = held_in a.stacks.lists xs a.declared vs cs in
-    let sight : now.sight ≡ c.args.self.now.sight = ap (λ (h : Held). h.sight) c.self.view_is ∙ ap (λ (h : Held). h.sight) c.in_ok-name.ensures.same in
-    let declared : a.declared ≡ c.args.self.now.declared = ap (λ (h : Held). h.declared) c.self.view_is ∙ ap (λ (h : Held). h.declared) c.in_ok-name.ensures.same in
-    let callers : now.callers ≡ c.args.self.now.callers = ap (λ (h : Held). h.callers) c.self.view_is ∙ ap (λ (h : Held). h.callers) c.in_ok-name.ensures.same in
-    let names = ap (λ (h : Held). h.names) c.self.view_is in
+    let sight : now.sight ≡ c.args.self.now.sight = ap (λ (h : StoreState). h.sight) c.self.view_is ∙ ap (λ (h : StoreState). h.sight) c.in_ok-name.ensures.same in
+    let declared : a.declared ≡ c.args.self.now.declared = ap (λ (h : StoreState). h.declared) c.self.view_is ∙ ap (λ (h : StoreState). h.declared) c.in_ok-name.ensures.same in
+    let callers : now.callers ≡ c.args.self.now.callers = ap (λ (h : StoreState). h.callers) c.self.view_is ∙ ap (λ (h : StoreState). h.callers) c.in_ok-name.ensures.same in
+    let names = ap (λ (h : StoreState). h.names) c.self.view_is in
     let whole : IsWhole now = record { declared = declared ∙ c.requires.whole.declared ∙ sym (ap size_of sight); callers = callers ∙ c.requires.whole.callers } in
     let all : a.declared ≡ length vs = all_declared a.stacks.lists xs ns vs a.declared cs h now refl whole in
     let k = c.in_ok-name.name in
@@ -87,10 +87,10 @@ invariant_of-self-2 g c =
     let cs = reverse a.calls.items in
     let h = c.self.invariant.held in
     let now = held_in a.stacks.lists xs a.declared vs cs in
-    let sight : now.sight ≡ c.args.self.now.sight = ap (λ (h : Held). h.sight) c.self.view_is ∙ ap (λ (h : Held). h.sight) c.in_ok-name.ensures.same in
-    let declared : a.declared ≡ c.args.self.now.declared = ap (λ (h : Held). h.declared) c.self.view_is ∙ ap (λ (h : Held). h.declared) c.in_ok-name.ensures.same in
-    let callers : now.callers ≡ c.args.self.now.callers = ap (λ (h : Held). h.callers) c.self.view_is ∙ ap (λ (h : Held). h.callers) c.in_ok-name.ensures.same in
-    let names = ap (λ (h : Held). h.names) c.self.view_is in
+    let sight : now.sight ≡ c.args.self.now.sight = ap (λ (h : StoreState). h.sight) c.self.view_is ∙ ap (λ (h : StoreState). h.sight) c.in_ok-name.ensures.same in
+    let declared : a.declared ≡ c.args.self.now.declared = ap (λ (h : StoreState). h.declared) c.self.view_is ∙ ap (λ (h : StoreState). h.declared) c.in_ok-name.ensures.same in
+    let callers : now.callers ≡ c.args.self.now.callers = ap (λ (h : StoreState). h.callers) c.self.view_is ∙ ap (λ (h : StoreState). h.callers) c.in_ok-name.ensures.same in
+    let names = ap (λ (h : StoreState). h.names) c.self.view_is in
     let whole : IsWhole now = record { declared = declared ∙ c.requires.whole.declared ∙ sym (ap size_of sight); callers = callers ∙ c.requires.whole.callers } in
     let all : a.declared ≡ length vs = all_declared a.stacks.lists xs ns vs a.declared cs h now refl whole in
     let k = c.in_ok-name.name in
@@ -133,10 +133,10 @@ returns-clause-ok g c =
     let cs = reverse a.calls.items in
     let h = c.self.invariant.held in
     let now = held_in a.stacks.lists xs a.declared vs cs in
-    let sight : now.sight ≡ c.args.self.now.sight = ap (λ (h : Held). h.sight) c.self.view_is ∙ ap (λ (h : Held). h.sight) c.in_ok-name.ensures.same in
-    let declared : a.declared ≡ c.args.self.now.declared = ap (λ (h : Held). h.declared) c.self.view_is ∙ ap (λ (h : Held). h.declared) c.in_ok-name.ensures.same in
-    let callers : now.callers ≡ c.args.self.now.callers = ap (λ (h : Held). h.callers) c.self.view_is ∙ ap (λ (h : Held). h.callers) c.in_ok-name.ensures.same in
-    let names = ap (λ (h : Held). h.names) c.self.view_is in
+    let sight : now.sight ≡ c.args.self.now.sight = ap (λ (h : StoreState). h.sight) c.self.view_is ∙ ap (λ (h : StoreState). h.sight) c.in_ok-name.ensures.same in
+    let declared : a.declared ≡ c.args.self.now.declared = ap (λ (h : StoreState). h.declared) c.self.view_is ∙ ap (λ (h : StoreState). h.declared) c.in_ok-name.ensures.same in
+    let callers : now.callers ≡ c.args.self.now.callers = ap (λ (h : StoreState). h.callers) c.self.view_is ∙ ap (λ (h : StoreState). h.callers) c.in_ok-name.ensures.same in
+    let names = ap (λ (h : StoreState). h.names) c.self.view_is in
     let whole : IsWhole now = record { declared = declared ∙ c.requires.whole.declared ∙ sym (ap size_of sight); callers = callers ∙ c.requires.whole.callers } in
     let all : a.declared ≡ length vs = all_declared a.stacks.lists xs ns vs a.declared cs h now refl whole in
     let k = c.in_ok-name.name in
@@ -153,9 +153,9 @@ returns-clause-ok g c =
     let over = put_over a.stacks.lists xs ns vs a.declared cs h y refl at ms ws newest vars now refl in
     let lists = c.first_value-value.ensures.lists in
     record {
-      sight = ap (λ ls. (held_in ls xs a.declared ws cs).sight) lists ∙ ap (λ (h : Held). h.sight) over ∙ ap (λ x. Slot x (val_in a.stacks.lists y.value) now.sight) (name_of_number xs k x y named refl)
+      sight = ap (λ ls. (held_in ls xs a.declared ws cs).sight) lists ∙ ap (λ (h : StoreState). h.sight) over ∙ ap (λ x. Slot x (val_in a.stacks.lists y.value) now.sight) (name_of_number xs k x y named refl)
           ∙ ap (λ ls. Slot x (val_in ls y.value) now.sight) (sym lists) ∙ ap (λ v. Slot x v now.sight) c.first_value-value.ensures.value ∙ ap (Slot x (first_of c.args.declared)) sight;
       declared = omega (arith, declared);
       names = (on.0, names ∙ on.1);
-      callers = ap (λ ls. (held_in ls xs a.declared ws cs).callers) lists ∙ ap (λ (h : Held). h.callers) over ∙ callers;
+      callers = ap (λ ls. (held_in ls xs a.declared ws cs).callers) lists ∙ ap (λ (h : StoreState). h.callers) over ∙ callers;
     }

@@ -2,7 +2,7 @@ use Rattle.std.proofs.Common.{◌≡◌, [], ◌∷◌, length, ap, ◌∙◌, s
 use Rattle.std.specs.Prelude.{reverse}
 use Rattle.std.proofs.lemmas.List.{reverse-append, length-reverse}
 use Rattle.janus_store.specs.Calls.{CanLend, IsEntered}
-use Rattle.janus_store.specs.Held.{Held, live_stacks}
+use Rattle.janus_store.specs.StoreState.{StoreState, live_stacks}
 use Rattle.janus_store.specs.Inside.{held_in, IsHeld}
 use Rattle.janus_store.specs.declared.store.Call.{Call}
 use Rattle.janus_store.proofs.Laid.{laid_of, as_many}
@@ -24,7 +24,7 @@ bind_all-requires-clause-met g c =
     let ks = c.args.args.now in
     let params = c.requires.named in
     let args = c.requires.found in
-    named_below H.names _ js params.0 (omega (arith, as_many xs ns vs (laid_of a.stacks.lists xs ns vs a.declared cs h), a.newest.ok.0, ap (λ (h : Held). length h.names) c.self.view_is)) params.1
+    named_below H.names _ js params.0 (omega (arith, as_many xs ns vs (laid_of a.stacks.lists xs ns vs a.declared cs h), a.newest.ok.0, ap (λ (h : StoreState). length h.names) c.self.view_is)) params.1
 
 pub bind_all-requires-clause-placed : goal.bind_all-requires-clause-placed
 bind_all-requires-clause-placed g c =

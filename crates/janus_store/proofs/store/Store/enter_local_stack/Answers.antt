@@ -3,7 +3,7 @@ use Rattle.std.specs.Prelude.{slice_get, slice_index_or, reverse}
 use Rattle.cell_pool.specs.Chains.{times}
 use Rattle.janus_names.specs.Numbers.{IsNumbered}
 use Rattle.janus_store.specs.Inside.{held_in, stacks_of, IsHeld}
-use Rattle.janus_store.specs.Held.{Held, live_stacks, opened}
+use Rattle.janus_store.specs.StoreState.{StoreState, live_stacks, opened}
 use Rattle.janus_store.specs.Values.{val_in, number_in}
 use Rattle.janus_store.specs.declared.store.Variable.{Variable}
 use Rattle.janus_store.proofs.Rows.{read_at}
@@ -25,7 +25,7 @@ put_own-requires-clause-met g c =
     let h = c.self.invariant.held in
     let H = c.args.self.now in
     let x = c.requires.named.0 in
-    let named : IsNumbered xs c.args.name x = ap (λ (h : Held). slice_get h.names c.args.name) c.self.view_is ∙ c.requires.named.1 in
+    let named : IsNumbered xs c.args.name x = ap (λ (h : StoreState). slice_get h.names c.args.name) c.self.view_is ∙ c.requires.named.1 in
     omega (arith, within_names xs c.args.name x named, as_many xs ns vs (laid_of a.stacks.lists xs ns vs a.declared cs h), a.newest.ok.0)
 
 pub put_own-requires-clause-room : goal.put_own-requires-clause-room
@@ -37,7 +37,7 @@ put_own-requires-clause-room g c =
     let cs = reverse a.calls.items in
     let h = c.self.invariant.held in
     let H = c.args.self.now in
-    omega (arith, c.requires.room, names_are_held a.stacks.lists xs ns vs a.declared cs h H c.self.view_is, params_are_held a.stacks.lists xs ns vs a.declared cs h H c.self.view_is, bound_low a.stacks.lists xs ns vs a.declared cs h, ap (λ (h : Held). h.declared) c.self.view_is, c.self.invariant.room, a.variables.ok.0)
+    omega (arith, c.requires.room, names_are_held a.stacks.lists xs ns vs a.declared cs h H c.self.view_is, params_are_held a.stacks.lists xs ns vs a.declared cs h H c.self.view_is, bound_low a.stacks.lists xs ns vs a.declared cs h, ap (λ (h : StoreState). h.declared) c.self.view_is, c.self.invariant.room, a.variables.ok.0)
 
 pub invariant_of-self : goal.invariant_of-self
 invariant_of-self g c =
@@ -49,7 +49,7 @@ invariant_of-self g c =
     let h = c.self.invariant.held in
     let H = c.args.self.now in
     let x = c.requires.named.0 in
-    let named : IsNumbered xs c.args.name x = ap (λ (h : Held). slice_get h.names c.args.name) c.self.view_is ∙ c.requires.named.1 in
+    let named : IsNumbered xs c.args.name x = ap (λ (h : StoreState). slice_get h.names c.args.name) c.self.view_is ∙ c.requires.named.1 in
     let y : Variable = record { name = c.args.name; hidden = slice_index_or ns c.args.name 0; place = length vs; value = c.first_value-value.result } in
     let at = read_at ns c.args.name (omega (arith, within_names xs c.args.name x named, as_many xs ns vs (laid_of a.stacks.lists xs ns vs a.declared cs h))) in
     let ms = c.put_own.new.newest.items in
@@ -85,7 +85,7 @@ returns g c = λ x known.
     let cs = reverse a.calls.items in
     let h = c.self.invariant.held in
     let H = c.args.self.now in
-    let named : IsNumbered xs c.args.name x = ap (λ (h : Held). slice_get h.names c.args.name) c.self.view_is ∙ known in
+    let named : IsNumbered xs c.args.name x = ap (λ (h : StoreState). slice_get h.names c.args.name) c.self.view_is ∙ known in
     let y : Variable = record { name = c.args.name; hidden = slice_index_or ns c.args.name 0; place = length vs; value = c.first_value-value.result } in
     let at = read_at ns c.args.name (omega (arith, within_names xs c.args.name x named, as_many xs ns vs (laid_of a.stacks.lists xs ns vs a.declared cs h))) in
     let ms = c.put_own.new.newest.items in

@@ -2,7 +2,7 @@ use Rattle.std.proofs.Common.{◌≡◌, refl, ap, ◌∙◌, sym, arith, length
 use Rattle.std.specs.Prelude.{slice_get, Some, reverse}
 use Rattle.std.proofs.lemmas.Option.{slice_get_read}
 use Rattle.janus_meaning.specs.World.{listed, size_of}
-use Rattle.janus_store.specs.Held.{Held, shown_store}
+use Rattle.janus_store.specs.StoreState.{StoreState, shown_store}
 use Rattle.janus_store.specs.Values.{val_in}
 use Rattle.janus_store.proofs.Numbers.{name_of_number}
 use Rattle.janus_store.proofs.Laid.{laid_of, met}
@@ -19,7 +19,7 @@ index-variable-requires g c =
     let cs = reverse a.calls.items in
     let h = c.self.invariant.held in
     let H = c.args.self.now in
-    let size = ap (λ (h : Held). size_of (shown_store h)) (sym c.self.view_is) ∙ declared_size a.stacks.lists xs ns a.declared vs cs h in
+    let size = ap (λ (h : StoreState). size_of (shown_store h)) (sym c.self.view_is) ∙ declared_size a.stacks.lists xs ns a.declared vs cs h in
     omega (arith, c.requires, size, enough a.stacks.lists xs ns a.declared vs cs h, a.variables.ok.0)
 
 pub returns : goal.returns
@@ -31,10 +31,10 @@ returns g c =
     let cs = reverse a.calls.items in
     let h = c.self.invariant.held in
     let H = c.args.self.now in
-    let size = ap (λ (h : Held). size_of (shown_store h)) (sym c.self.view_is) ∙ declared_size a.stacks.lists xs ns a.declared vs cs h in
+    let size = ap (λ (h : StoreState). size_of (shown_store h)) (sym c.self.view_is) ∙ declared_size a.stacks.lists xs ns a.declared vs cs h in
     let v = c.index-variable.result.now in
     let at = listed_at a.stacks.lists xs ns a.declared vs cs h c.args.i v (omega (arith, c.requires, size)) c.index-variable.ensures in
-    ap (λ (h : Held). slice_get (listed (shown_store h)) c.args.i) (sym c.self.view_is) ∙ at
+    ap (λ (h : StoreState). slice_get (listed (shown_store h)) c.args.i) (sym c.self.view_is) ∙ at
     ∙ ap (λ x. Some (x, val_in a.stacks.lists v.value)) (name_of_number xs v.name c.name.result.now v c.name.ensures refl) ∙ ap (λ u. Some (c.name.result.now, u)) (sym c.view.ensures)
 
 pub name-requires : goal.name-requires
@@ -46,7 +46,7 @@ name-requires g c =
     let cs = reverse a.calls.items in
     let h = c.self.invariant.held in
     let H = c.args.self.now in
-    let size = ap (λ (h : Held). size_of (shown_store h)) (sym c.self.view_is) ∙ declared_size a.stacks.lists xs ns a.declared vs cs h in
+    let size = ap (λ (h : StoreState). size_of (shown_store h)) (sym c.self.view_is) ∙ declared_size a.stacks.lists xs ns a.declared vs cs h in
     let v = c.index-variable.result.now in
     let at : slice_get vs c.args.i ≡ Some v = slice_get_read vs (length vs) c.args.i v refl (omega (arith, c.requires, size, enough a.stacks.lists xs ns a.declared vs cs h)) c.index-variable.ensures in
     met xs ns vs (laid_of a.stacks.lists xs ns vs a.declared cs h) c.args.i v at
@@ -59,7 +59,7 @@ view-requires g c =
     let vs = a.variables.items in
     let cs = reverse a.calls.items in
     let h = c.self.invariant.held in
-    let size = ap (λ (h : Held). size_of (shown_store h)) (sym c.self.view_is) ∙ declared_size a.stacks.lists xs ns a.declared vs cs h in
+    let size = ap (λ (h : StoreState). size_of (shown_store h)) (sym c.self.view_is) ∙ declared_size a.stacks.lists xs ns a.declared vs cs h in
     let v = c.index-variable.result.now in
     let at : slice_get vs c.args.i ≡ Some v = slice_get_read vs (length vs) c.args.i v refl (omega (arith, c.requires, size, enough a.stacks.lists xs ns a.declared vs cs h)) c.index-variable.ensures in
     is_known vs (λ i le. let o = c.self.invariant.known i le in omega (arith, o)) c.args.i v at

@@ -2,7 +2,7 @@ use Rattle.std.proofs.Common.{◌≡◌, [], length, length-append, refl, ap, �
 use Rattle.std.specs.Prelude.{reverse}
 use Rattle.janus_meaning.specs.Store.{Stk, Slot, cleared_val}
 use Rattle.janus_meaning.specs.World.{stacks_in, stacks_with}
-use Rattle.janus_store.specs.Held.{Held, live_stacks, stacks_lent}
+use Rattle.janus_store.specs.StoreState.{StoreState, live_stacks, stacks_lent}
 use Rattle.cell_pool.specs.Chains.{times}
 use Rattle.janus_store.specs.Inside.{held_in, name_among, IsHeld}
 use Rattle.janus_store.specs.Stacks.{Pooled}
@@ -55,7 +55,7 @@ take_back-requires-clause-first g c =
     let over = start_under a.stacks.lists xs ns vs a.declared cs h y ms ws gone newest above in
     let was = left_over a.stacks.lists xs ns vs a.declared cs h y ms ws gone newest above over H c.self.view_is in
     let left = held_in a.stacks.lists xs a.declared ws cs in
-    let top : H.sight ≡ Slot (name_among xs y) (val_in a.stacks.lists y.value) left.sight = ap (λ (h : Held). h.sight) was in
+    let top : H.sight ≡ Slot (name_among xs y) (val_in a.stacks.lists y.value) left.sight = ap (λ (h : StoreState). h.sight) was in
     let e = c.requires.empty in
     let both : Slot (name_among xs y) (val_in a.stacks.lists y.value) left.sight ≡ Slot e.0 (Stk []) e.1 = sym top ∙ e.2 in
     let same : val_in a.stacks.lists y.value ≡ Stk [] = cc in
@@ -79,7 +79,7 @@ take_back-requires-clause-room g c =
     let over = start_under a.stacks.lists xs ns vs a.declared cs h y ms ws gone newest above in
     let was = left_over a.stacks.lists xs ns vs a.declared cs h y ms ws gone newest above over H c.self.view_is in
     let left = held_in a.stacks.lists xs a.declared ws cs in
-    let top : H.sight ≡ Slot (name_among xs y) (val_in a.stacks.lists y.value) left.sight = ap (λ (h : Held). h.sight) was in
+    let top : H.sight ≡ Slot (name_among xs y) (val_in a.stacks.lists y.value) left.sight = ap (λ (h : StoreState). h.sight) was in
     let slots : live_stacks H ≡ stacks_with (val_in a.stacks.lists y.value) (live_stacks left) = ap live_stacks was ∙ more_stacks (val_in a.stacks.lists y.value) (stacks_in left.sight) (stacks_lent left.callers) in
     omega (arith, with_number a.stacks.lists y.value (live_stacks left), slots, c.self.invariant.stacks, ap live_stacks c.self.view_is)
 
@@ -101,7 +101,7 @@ invariant_of-self g c =
     let over = start_under a.stacks.lists xs ns vs a.declared cs h y ms ws gone newest above in
     let was = left_over a.stacks.lists xs ns vs a.declared cs h y ms ws gone newest above over H c.self.view_is in
     let left = held_in a.stacks.lists xs a.declared ws cs in
-    let top : H.sight ≡ Slot (name_among xs y) (val_in a.stacks.lists y.value) left.sight = ap (λ (h : Held). h.sight) was in
+    let top : H.sight ≡ Slot (name_among xs y) (val_in a.stacks.lists y.value) left.sight = ap (λ (h : StoreState). h.sight) was in
     let slots : live_stacks H ≡ stacks_with (val_in a.stacks.lists y.value) (live_stacks left) = ap live_stacks was ∙ more_stacks (val_in a.stacks.lists y.value) (stacks_in left.sight) (stacks_lent left.callers) in
     let lists = ap (λ (s : Pooled). s.lists) c.take_back.ensures in
     let spare = ap (λ (s : Pooled). s.spare) c.take_back.ensures in
@@ -133,8 +133,8 @@ returns g c = λ x r e.
     let over = start_under a.stacks.lists xs ns vs a.declared cs h y ms ws gone newest above in
     let was = left_over a.stacks.lists xs ns vs a.declared cs h y ms ws gone newest above over H c.self.view_is in
     let left = held_in a.stacks.lists xs a.declared ws cs in
-    let top : H.sight ≡ Slot (name_among xs y) (val_in a.stacks.lists y.value) left.sight = ap (λ (h : Held). h.sight) was in
+    let top : H.sight ≡ Slot (name_among xs y) (val_in a.stacks.lists y.value) left.sight = ap (λ (h : StoreState). h.sight) was in
     let both : Slot (name_among xs y) (val_in a.stacks.lists y.value) left.sight ≡ Slot x (Stk []) r = sym top ∙ e in
     let rest : left.sight ≡ r = cc in
     let lists = ap (λ (s : Pooled). s.lists) c.take_back.ensures in
-    ap (λ ls. held_in ls xs a.declared ws cs) lists ∙ held_is _ _ rest (ap (λ (h : Held). h.declared) c.self.view_is) (ap (λ (h : Held). h.names) c.self.view_is) (sym (ap (λ (h : Held). h.callers) was))
+    ap (λ ls. held_in ls xs a.declared ws cs) lists ∙ held_is _ _ rest (ap (λ (h : StoreState). h.declared) c.self.view_is) (ap (λ (h : StoreState). h.names) c.self.view_is) (sym (ap (λ (h : StoreState). h.callers) was))

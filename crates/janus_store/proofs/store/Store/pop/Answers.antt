@@ -3,7 +3,7 @@ use Rattle.std.specs.Prelude.{reverse}
 use Rattle.std.proofs.lemmas.Int.{to_z-of_z}
 use Rattle.cell_pool.specs.Chains.{times}
 use Rattle.janus_meaning.specs.Store.{Stk}
-use Rattle.janus_store.specs.Held.{live_stacks}
+use Rattle.janus_store.specs.StoreState.{live_stacks}
 use Rattle.janus_store.specs.Inside.{stacks_of}
 use Rattle.janus_store.specs.Stacks.{Pooled, list_of}
 use Rattle.janus_store.specs.Stores.{write}

@@ -2,7 +2,7 @@ use Rattle.std.proofs.Common.{◌≡◌, ◌-◌, suc, [], ◌∷◌, length, le
 use Rattle.std.specs.Prelude.{reverse}
 use Rattle.janus_meaning.specs.Store.{Slot, cleared_val}
 use Rattle.janus_meaning.specs.World.{size_of, stacks_in, stacks_with}
-use Rattle.janus_store.specs.Held.{Held, live_stacks, stacks_lent}
+use Rattle.janus_store.specs.StoreState.{StoreState, live_stacks, stacks_lent}
 use Rattle.cell_pool.specs.Chains.{times}
 use Rattle.janus_store.specs.Inside.{held_in, name_among, IsHeld}
 use Rattle.janus_store.specs.Stacks.{Pooled}
@@ -58,7 +58,7 @@ take_back-requires-clause-first g c =
     let over = start_alone xs ws cs alone in
     let was = left_over a.stacks.lists xs ns vs a.declared cs h y ms ws gone newest above over H c.self.view_is in
     let left = held_in a.stacks.lists xs a.declared ws cs in
-    let top : H.sight ≡ Slot (name_among xs y) (val_in a.stacks.lists y.value) left.sight = ap (λ (h : Held). h.sight) was in
+    let top : H.sight ≡ Slot (name_among xs y) (val_in a.stacks.lists y.value) left.sight = ap (λ (h : StoreState). h.sight) was in
     let e = c.requires.first in
     let both : Slot (name_among xs y) (val_in a.stacks.lists y.value) left.sight ≡ Slot e.0 e.1 e.2 = sym top ∙ e.3 in
     let same : val_in a.stacks.lists y.value ≡ e.1 = cc in
@@ -83,7 +83,7 @@ take_back-requires-clause-room g c =
     let over = start_alone xs ws cs alone in
     let was = left_over a.stacks.lists xs ns vs a.declared cs h y ms ws gone newest above over H c.self.view_is in
     let left = held_in a.stacks.lists xs a.declared ws cs in
-    let top : H.sight ≡ Slot (name_among xs y) (val_in a.stacks.lists y.value) left.sight = ap (λ (h : Held). h.sight) was in
+    let top : H.sight ≡ Slot (name_among xs y) (val_in a.stacks.lists y.value) left.sight = ap (λ (h : StoreState). h.sight) was in
     let slots : live_stacks H ≡ stacks_with (val_in a.stacks.lists y.value) (live_stacks left) = ap live_stacks was ∙ more_stacks (val_in a.stacks.lists y.value) (stacks_in left.sight) (stacks_lent left.callers) in
     omega (arith, with_number a.stacks.lists y.value (live_stacks left), slots, c.self.invariant.stacks, ap live_stacks c.self.view_is)
 
@@ -106,7 +106,7 @@ invariant_of-self g c =
     let over = start_alone xs ws cs alone in
     let was = left_over a.stacks.lists xs ns vs a.declared cs h y ms ws gone newest above over H c.self.view_is in
     let left = held_in a.stacks.lists xs a.declared ws cs in
-    let top : H.sight ≡ Slot (name_among xs y) (val_in a.stacks.lists y.value) left.sight = ap (λ (h : Held). h.sight) was in
+    let top : H.sight ≡ Slot (name_among xs y) (val_in a.stacks.lists y.value) left.sight = ap (λ (h : StoreState). h.sight) was in
     let slots : live_stacks H ≡ stacks_with (val_in a.stacks.lists y.value) (live_stacks left) = ap live_stacks was ∙ more_stacks (val_in a.stacks.lists y.value) (stacks_in left.sight) (stacks_lent left.callers) in
     let all : a.declared ≡ length vs = all_declared a.stacks.lists xs ns vs a.declared cs h H c.self.view_is c.requires.whole in
     let long : length vs ≡ suc (length ws) = omega (arith, ap length gone, length-append ws (y ∷ [])) in
@@ -141,9 +141,9 @@ returns g c =
     let over = start_alone xs ws cs alone in
     let was = left_over a.stacks.lists xs ns vs a.declared cs h y ms ws gone newest above over H c.self.view_is in
     let left = held_in a.stacks.lists xs a.declared ws cs in
-    let top : H.sight ≡ Slot (name_among xs y) (val_in a.stacks.lists y.value) left.sight = ap (λ (h : Held). h.sight) was in
+    let top : H.sight ≡ Slot (name_among xs y) (val_in a.stacks.lists y.value) left.sight = ap (λ (h : StoreState). h.sight) was in
     let lists = ap (λ (s : Pooled). s.lists) c.take_back.ensures in
-    ap (λ ls. held_in ls xs (a.declared - 1) ws cs) lists ∙ held_is _ _ (sym (ap rest_of top)) (ap (λ (h : Held). h.declared - 1) c.self.view_is) (ap (λ (h : Held). h.names) c.self.view_is) (sym (ap (λ (h : Held). h.callers) was) ∙ c.requires.whole.callers)
+    ap (λ ls. held_in ls xs (a.declared - 1) ws cs) lists ∙ held_is _ _ (sym (ap rest_of top)) (ap (λ (h : StoreState). h.declared - 1) c.self.view_is) (ap (λ (h : StoreState). h.names) c.self.view_is) (sym (ap (λ (h : StoreState). h.callers) was) ∙ c.requires.whole.callers)
 
 pub overflow_sub-self : goal.overflow_sub-self
 overflow_sub-self g c =
@@ -164,6 +164,6 @@ overflow_sub-self g c =
     let over = start_alone xs ws cs alone in
     let was = left_over a.stacks.lists xs ns vs a.declared cs h y ms ws gone newest above over H c.self.view_is in
     let left = held_in a.stacks.lists xs a.declared ws cs in
-    let top : H.sight ≡ Slot (name_among xs y) (val_in a.stacks.lists y.value) left.sight = ap (λ (h : Held). h.sight) was in
+    let top : H.sight ≡ Slot (name_among xs y) (val_in a.stacks.lists y.value) left.sight = ap (λ (h : StoreState). h.sight) was in
     let all : a.declared ≡ length vs = all_declared a.stacks.lists xs ns vs a.declared cs h H c.self.view_is c.requires.whole in
     omega (arith, all, ap length gone, length-append ws (y ∷ []))

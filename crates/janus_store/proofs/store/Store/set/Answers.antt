@@ -3,7 +3,7 @@ use Rattle.std.specs.Prelude.{slice_get, Some, reverse}
 use Rattle.std.proofs.lemmas.Int.{to_z-of_z}
 use Rattle.janus_meaning.specs.Store.{look, Num, cleared_val}
 use Rattle.janus_store.specs.Inside.{IsPlaceOf}
-use Rattle.janus_store.specs.Held.{live_stacks}
+use Rattle.janus_store.specs.StoreState.{live_stacks}
 use Rattle.janus_store.specs.Values.{val_in}
 use Rattle.std.proofs.lemmas.Option.{slice_get_read}
 use Rattle.cell_pool.specs.Chains.{times}

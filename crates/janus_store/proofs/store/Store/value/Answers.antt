@@ -3,7 +3,7 @@ use Rattle.std.specs.Prelude.{slice_get, Some, reverse}
 use Rattle.std.proofs.lemmas.Option.{slice_get_read}
 use Rattle.janus_meaning.specs.Fault.{Fine}
 use Rattle.janus_meaning.specs.Store.{look}
-use Rattle.janus_store.specs.Held.{Held, shown_store}
+use Rattle.janus_store.specs.StoreState.{StoreState, shown_store}
 use Rattle.janus_store.specs.Inside.{newest_from, AreHidden, none_of}
 use Rattle.janus_store.proofs.Numbers.{within_names}
 use Rattle.janus_store.proofs.Laid.{laid_of, as_many}
@@ -20,7 +20,7 @@ returns-in_default g c =
     let cs = reverse a.calls.items in
     let h = c.self.invariant.held in
     let H = c.args.self.now in
-    sym (unmet_gone a.stacks.lists xs ns a.declared vs cs h c.args.name.now (c.in_default.ensures.unmet refl)) ∙ ap (λ (h : Held). look c.args.name.now (shown_store h)) c.self.view_is
+    sym (unmet_gone a.stacks.lists xs ns a.declared vs cs h c.args.name.now (c.in_default.ensures.unmet refl)) ∙ ap (λ (h : StoreState). look c.args.name.now (shown_store h)) c.self.view_is
 
 pub place_below-behind-requires : goal.place_below-behind-requires
 place_below-behind-requires g c =
@@ -63,7 +63,7 @@ returns-then-behind-eq0 g c =
     let hidden = subst (AreHidden 0 (none_of xs)) (sym variables) h.row.hidden in
     let behind = c.place_below-behind.ensures.place xs row hidden in
     let place : slice_get (newest_from 0 (none_of xs) (take a.declared vs)) k ≡ Some c.place_below-behind.result = ap (λ l. slice_get (newest_from 0 (none_of xs) (take a.declared l)) k) (sym variables) ∙ behind in
-    sym (none_gone a.stacks.lists xs ns a.declared vs cs h x k named (place ∙ ap Some c.if-behind-eq0.true)) ∙ ap (λ (h : Held). look x (shown_store h)) c.self.view_is
+    sym (none_gone a.stacks.lists xs ns a.declared vs cs h x k named (place ∙ ap Some c.if-behind-eq0.true)) ∙ ap (λ (h : StoreState). look x (shown_store h)) c.self.view_is
 
 pub index-requires : goal.index-requires
 index-requires g c =
@@ -103,7 +103,7 @@ returns g c =
     let place : slice_get (newest_from 0 (none_of xs) (take a.declared vs)) k ≡ Some c.place_below-behind.result = ap (λ l. slice_get (newest_from 0 (none_of xs) (take a.declared l)) k) (sym variables) ∙ behind in
     let i = c.place_below-behind.result - 1 in
     let on : c.place_below-behind.result ≡ suc i = omega (arith, c.if-behind-eq0.false) in
-    ap Fine c.view.ensures ∙ sym (shown_at a.stacks.lists xs ns a.declared vs cs h x k i c.index.result.now named (place ∙ ap Some on) c.index.ensures) ∙ ap (λ (h : Held). look x (shown_store h)) c.self.view_is
+    ap Fine c.view.ensures ∙ sym (shown_at a.stacks.lists xs ns a.declared vs cs h x k i c.index.result.now named (place ∙ ap Some on) c.index.ensures) ∙ ap (λ (h : StoreState). look x (shown_store h)) c.self.view_is
 
 pub view-requires : goal.view-requires
 view-requires g c =

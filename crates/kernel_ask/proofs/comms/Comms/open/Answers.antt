@@ -1,7 +1,7 @@
 use Rattle.std.proofs.Common.{◌≡◌, Bool, true, ap, ◌∙◌, sym, map, string_bytes, if◌then◌else◌}
-use Rattle.kernel_ask.specs.Added.{with_name}
+use Rattle.kernel_text.specs.NameSets.{with_name}
 use Rattle.kernel_ask.specs.Comms.{can_open}
-use Rattle.kernel_ask.proofs.Added.{names_inserted}
+use Rattle.kernel_text.proofs.NameSets.{names_inserted}
 use Rattle.kernel_ask.proofs.comms.Comms.open.Goals as goal
 
 pub returns-clause-ok : goal.returns-clause-ok

@@ -36,12 +36,12 @@ of_checked-requires g c =
 pub returns-in-Err-clause-refuses : goal.returns-in-Err-clause-refuses
 returns-in-Err-clause-refuses g c =
     let w : World = world_of (in_a_row c.args.procedures.now) c.args.runner.now in
-    subst (λ (r : Refusal). Refuses w c.args.text.now r) (sym c.refusal_of_syntax.ensures) (refuses_syntax w c.args.text.now c.in-Err.fault c.in-Err.ensures.read)
+    subst (λ (r : Refusal). Refuses w c.args.text.now r) (sym c.of_syntax.ensures) (refuses_syntax w c.args.text.now c.in-Err.fault c.in-Err.ensures.read)
 
 pub returns-in-Err-check-clause-refuses : goal.returns-in-Err-check-clause-refuses
 returns-in-Err-check-clause-refuses g c =
     let w : World = world_of (in_a_row c.args.procedures.now) c.args.runner.now in
-    subst (λ (r : Refusal). Refuses w c.args.text.now r) (sym c.refusal_of_check.ensures)
+    subst (λ (r : Refusal). Refuses w c.args.text.now r) (sym c.of_check.ensures)
     (refuses_check w c.args.text.now c.in-Err-check.fault (cell_view c.in-Ok.cell) (names.shape_in c.in-Ok-known_over.env.names) (names.heads_in c.in-Ok-known_over.env.procedures) c.in-Ok.ensures.read
     (c.in-Ok-known_over.ensures.names ∙ ap shape_of c.requires.is.1.0.store) c.in-Ok-known_over.ensures.heads c.in-Err-check.ensures.first)
 

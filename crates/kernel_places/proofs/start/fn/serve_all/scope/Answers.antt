@@ -9,14 +9,14 @@ serve_callers-is_started-requires-send-W g c κs within = search (c.requires.1.1
 pub serve_callers-is_started-requires-send-L : goal.serve_callers-is_started-requires-send-L
 serve_callers-is_started-requires-send-L g c κs within = search (c.requires.1.1.1.1.1.1, crosses, sendable) depth 40 fits 20000
 
-pub start_publishing-requires-send-W : goal.start_publishing-requires-send-W
-start_publishing-requires-send-W g c κs within = search (c.requires.1.1.1.1.1.0, crosses, sendable) depth 40 fits 20000
+pub start_without_desks-requires-send-W : goal.start_without_desks-requires-send-W
+start_without_desks-requires-send-W g c κs within = search (c.requires.1.1.1.1.1.0, crosses, sendable) depth 40 fits 20000
 
-pub start_publishing-requires-send-L : goal.start_publishing-requires-send-L
-start_publishing-requires-send-L g c κs within = search (c.requires.1.1.1.1.1.1, crosses, sendable) depth 40 fits 20000
+pub start_without_desks-requires-send-L : goal.start_without_desks-requires-send-L
+start_without_desks-requires-send-L g c κs within = search (c.requires.1.1.1.1.1.1, crosses, sendable) depth 40 fits 20000
 
 pub serve_callers-is_started-requires-send-S : goal.serve_callers-is_started-requires-send-S
 serve_callers-is_started-requires-send-S g c κs within = search (c.requires.1.1.1.1.1.2, crosses, sendable) depth 40 fits 20000
 
-pub start_publishing-requires-send-S : goal.start_publishing-requires-send-S
-start_publishing-requires-send-S g c κs within = search (c.requires.1.1.1.1.1.2, crosses, sendable) depth 40 fits 20000
+pub start_without_desks-requires-send-S : goal.start_without_desks-requires-send-S
+start_without_desks-requires-send-S g c κs within = search (c.requires.1.1.1.1.1.2, crosses, sendable) depth 40 fits 20000
