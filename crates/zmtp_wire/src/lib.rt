@@ -26,8 +26,9 @@ pub use decoder::Decoder;
 pub use fault::WireFault;
 pub use frame::Frame;
 pub use greeting::{GREETING_LENGTH, Greeting, MAJOR, MINOR};
+pub use header::COMMAND;
 pub use message::{octets_of_message, write_message};
-pub use pong::{PING_OCTETS, pong_context};
+pub use pong::{CONTEXT_LIMIT, PING_OCTETS, pong_context};
 pub use sending::{SendFault, send_message, send_pong};
 
 /// Law: each list of octets has a reading.
