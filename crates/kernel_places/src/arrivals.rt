@@ -19,16 +19,13 @@ use std::sync::Wait;
 use std::sync::ledger::Ledger;
 use std::time::{Clock, Duration};
 use zmtp_peer::{Peer, PeerEvent};
-use zmtp_wire::{PING_OCTETS, pong_context};
+use zmtp_wire::{COMMAND, PING_OCTETS, pong_context};
 
 /// A handshake may take so long from the time at which the connection was accepted.
 const HANDSHAKE_SECONDS: u64 = 10;
 
 /// So often a read or a write is begun anew that a signal interrupted.
 const INTERRUPTIONS: u32 = 1_000;
-
-/// The flag of a frame that is a command; the first octet of the greeting has it too.
-const COMMAND: u8 = 4;
 
 /// The time on the clock; its start where it can't be read.
 pub(crate) fn clock_of<R: Clock>(rt: &R) -> Duration {
@@ -279,7 +276,7 @@ pub(crate) fn milliseconds<R: Clock>(rt: &R) -> u64 {
         .saturating_add(now.subsec_millis() as u64)
 }
 
-/// Whether these octets begin a message, and not the greeting or a command, which answer none (RFC 23, "Framing": bit 2 of a frame's flags).
+/// Whether these octets begin a message, and not a command or the greeting, whose first octet has the flag of a command too: these answer no message.
 fn begins_message(octets: &[u8]) -> bool {
     match octets.first() {
         Some(flags) => *flags & COMMAND == 0,

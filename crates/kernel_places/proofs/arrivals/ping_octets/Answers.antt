@@ -1,5 +1,6 @@
 use Rattle.std.proofs.Common.{arith}
-use Rattle.kernel_places.proofs.Pongs.{ping_counted, one_length}
+use Rattle.zmtp_wire.proofs.Pongs.{one_length}
+use Rattle.kernel_places.proofs.Pongs.{ping_counted}
 use Rattle.kernel_places.proofs.arrivals.ping_octets.Goals as goal
 
 pub returns-in-Some-clause-none : goal.returns-in-Some-clause-none
