@@ -8,11 +8,9 @@ ghost use Rattle.janus_meaning.specs.Store.{cleared_val};
 ghost use Rattle.janus_store.specs.Stacks.{list_of, AreFresh};
 
 use cell_pool::{Pool, Values};
+use janus_meaning::limit::LIVE_STACK_LIMIT;
 use std::alloc::{AllocError, Global};
 use std::marker::Model;
-
-/// The most stacks that may live.
-pub(crate) const LIVE_STACK_LIMIT: usize = 64;
 
 /// The most values on one stack.
 pub(crate) const STACK_VALUE_LIMIT: usize = 4096;

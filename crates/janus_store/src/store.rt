@@ -21,13 +21,11 @@ ghost use Rattle.janus_store.specs.Inside.{newest_from, none_of, AreHidden, AreR
 use crate::stacks::Stacks;
 use crate::value::{Declared, Value, View};
 use crate::writes::Writes;
+use janus_meaning::limit::NAME_LIMIT;
 use janus_names::Names;
 use std::alloc::{AllocError, Global};
 use std::marker::{Model, PhantomData};
 use std::sync::ledger::Ledger;
-
-/// The most names that may be declared.
-const NAME_LIMIT: usize = 256;
 
 /// The most locals that may be open.
 const LOCAL_LIMIT: usize = 16_384;

@@ -30,14 +30,17 @@
 #![tactic(auto)]
 
 mod arrivals;
+mod departures;
 mod door;
 mod latch;
 mod places;
 mod publishing;
 mod requests;
 mod service;
+mod sockets;
 mod start;
 mod task;
+mod time;
 mod usher;
 mod worker;
 

@@ -12,9 +12,6 @@ use Rattle.janus_check.specs.declared.env.Kind.{Kind}
 use Rattle.janus_check.specs.declared.env.Kind.TheVariants.{Number, Array, Stack}
 use Rattle.janus_syntax.specs.Tree as tree
 use Rattle.janus_syntax.specs.View.{plain_cell, plain_parameter}
-use Rattle.janus_syntax.specs.Tree.{parameter_view, parameters_view}
-use Rattle.janus_syntax.specs.declared.tree.Parameter as Given
-use Rattle.janus_check.specs.Check.{kinds_of}
 use Rattle.janus_check.specs.Checked.{cell_in}
 use Rattle.janus_machine.specs.Places.{block_in}
 use Rattle.janus_machine.specs.declared.book.Direction.TheVariants.{Forward}
@@ -136,8 +133,3 @@ same_cell p (tree.cell_of ds b ps) e t f =
     ∙ ap (λ (k : Blk). record { declarations = (plain_cell (tree.cell_of ds b ps)).declarations; procedures = (plain_cell (tree.cell_of ds b ps)).procedures; block = k }) f
 
 -- ---- kinds of parameters
-
-pub kinds_more : (ys : List Given.Parameter) (i : ℕ) (y : Given.Parameter) → i < length ys → get_or ys i y ≡ y → kinds_of (parameters_view (take (suc i) ys)) ≡ kinds_of (parameters_view (take i ys)) ++ kinds_of (parameter_view y ∷ [])
-kinds_more [] i y l e = absurd (omega arith)
-kinds_more (z ∷ ys) zero y l e = ap (λ (z : Given.Parameter). kinds_of (parameter_view z ∷ [])) e
-kinds_more (z ∷ ys) (suc i) y l e = ap (λ ks. (plain_parameter (parameter_view z)).1 ∷ ks) (kinds_more ys i y (omega arith) e)

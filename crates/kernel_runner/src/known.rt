@@ -1,19 +1,19 @@
 //! What a cell is checked over: the names that are declared, and the procedures that are defined.
-ghost use Rattle.std.specs.Prelude.{◌≡◌, [], ◌∷◌, IfOk, OnOk};
+ghost use Rattle.std.specs.Prelude.{◌≡◌, IfOk, OnOk};
 ghost use Rattle.janus_meaning.specs.Shape.{AreDistinct, shape_of, heads_of};
 ghost use Rattle.janus_meaning.specs.FormedWorld.{HaveValues};
-ghost use Rattle.janus_syntax.specs.Tree.{parameter_view, parameters_view, procedure_view};
+ghost use Rattle.janus_syntax.specs.Tree.{procedure_view};
 ghost use Rattle.janus_syntax.specs.View.{plain_procedure};
-ghost use Rattle.janus_check.specs.Check.{kinds_of as the_kinds_of};
-ghost use Rattle.janus_check.specs.Names.{shape_in, heads_in, meant_kind, meant_kinds};
+ghost use Rattle.janus_check.specs.Names.{shape_in, heads_in};
 ghost use Rattle.janus_store.specs.StoreState.{shown_store};
 ghost use Rattle.kernel_runner.specs.Defined.{in_a_row};
 ghost use Rattle.kernel_runner.specs.Known.{FindTheSame, IsFoundBehind};
 
 use crate::program::names_in_sight;
-use janus_check::{Env, Kind};
+use janus_check::Env;
+use janus_check::parameter::kinds_of;
 use janus_machine::Store;
-use janus_syntax::tree::{Parameter, Procedure};
+use janus_syntax::tree::Procedure;
 use std::alloc::{AllocError, Global};
 use std::sync::ledger::Ledger;
 
@@ -47,26 +47,4 @@ fn define_behind(alloc: Global, env: &mut Env, procedure: &Procedure) -> Result<
     let kinds = kinds_of(alloc, &procedure.parameters)?;
     env.define(procedure.name.text.clone()?, kinds)?;
     Ok(())
-}
-
-/// The kinds of parameters. The only error is want of memory.
-fn kinds_of(alloc: Global, parameters: &[Parameter]) -> Result<Vec<Kind>, AllocError>
-    ensures { IfOk result (λ kinds. meant_kinds kinds.items ≡ the_kinds_of (parameters_view parameters.now)) }
-{
-    let mut kinds = Vec::new(alloc);
-    for i in 0..parameters.len() {
-        kinds.push(kind_of(&parameters[i]))?;
-    }
-    Ok(kinds)
-}
-
-/// The kind of a parameter.
-fn kind_of(parameter: &Parameter) -> Kind
-    ensures { the_kinds_of (parameter_view parameter.now ∷ []) ≡ meant_kind result ∷ [] }
-{
-    match parameter {
-        Parameter::Int(_) => Kind::Number,
-        Parameter::Array(_) => Kind::Array,
-        Parameter::Stack(_) => Kind::Stack,
-    }
 }

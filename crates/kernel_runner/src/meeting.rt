@@ -1,7 +1,7 @@
 //! The names of a cell, met in the store, so that each has its number there.
-ghost use Rattle.std.specs.Prelude.{◌≡◌, OnOk, map, string_bytes};
+ghost use Rattle.std.specs.Prelude.{◌≡◌, OnOk, map};
 ghost use Rattle.janus_syntax.specs.View.{stm_of, block_of};
-ghost use Rattle.janus_syntax.specs.Tree.{cell_view, parameter_view, parameters_view, procedure_view, procedures_view};
+ghost use Rattle.janus_syntax.specs.Tree.{cell_view, parameters_view, procedure_view, procedures_view};
 ghost use Rattle.janus_syntax.specs.View.{plain_cell, plain_parameter, plain_procedure};
 ghost use Rattle.janus_meaning.specs.Syntax.{names_of};
 ghost use Rattle.janus_invert.specs.Met.{AreAllMet, MeetsLocals, MeetsLocalsOf};
@@ -10,8 +10,9 @@ ghost use Rattle.kernel_runner.specs.Met.{AreDeclaredMet, IsDeclaredMet, MeetsOw
 ghost use Rattle.kernel_runner.specs.Program.{declaration_of};
 
 use crate::program::Declared;
+use janus_check::parameter::name_of_parameter;
 use janus_machine::Store;
-use janus_syntax::tree::{Cell, Name, Parameter, Procedure, Stm};
+use janus_syntax::tree::{Cell, Parameter, Procedure, Stm};
 use std::alloc::AllocError;
 use std::sync::ledger::Ledger;
 
@@ -95,17 +96,6 @@ fn meet_parameters<L: Ledger>(
         store.meet(name.text.as_str())?;
     }
     Ok(())
-}
-
-/// The name of a parameter.
-fn name_of_parameter(parameter: &Parameter) -> &Name
-    ensures { string_bytes result.now.text ≡ (plain_parameter (parameter_view parameter.now)).0 }
-{
-    match parameter {
-        Parameter::Int(name) => name,
-        Parameter::Array(name) => name,
-        Parameter::Stack(name) => name,
-    }
 }
 
 /// Meets the locals of statements. The only error is want of memory.
