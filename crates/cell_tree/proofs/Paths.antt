@@ -5,7 +5,7 @@ use Rattle.std.proofs.lemmas.List.{get_or_append_left, get_or_at}
 use Rattle.std.proofs.lemmas.List.Elements.{Contains-append_left, Contains-push, Contains-push_cases}
 use Rattle.std.proofs.lemmas.Bool.{cases_eq, cases_lt, cases_order, ne_eqb}
 use Rattle.cell_tree.specs.Tree.{parent_in, IsOrdered}
-use Rattle.cell_tree.specs.Paths.{path_within, path_of, last_common, meeting_of}
+use Rattle.cell_tree.specs.Paths.{path_within, path_of, depth, last_common, meeting_of}
 use Rattle.cell_tree.specs.Laws.{Descends, IsNearest, PathGoesOn, PathDescends, MeetingIsNearest}
 
 -- a parent is no larger than its child
@@ -81,6 +81,30 @@ descends parents (suc s) (suc n) few g l =
 
 pub path_descends : PathDescends
 path_descends parents n g l = descends parents n n (omega arith) g l
+
+-- ---- how deep a node stands
+
+-- one deeper than its parent
+pub depth_more : (parents : List ℕ) (n : ℕ) → IsOrdered parents → 0 < n → n < length parents → depth parents n ≡ depth parents (parent_in parents n) + 1
+depth_more parents n g above l =
+    let low = g.before n above l in
+    let size : length (path_of parents n) ≡ length (path_of parents (parent_in parents n)) + 1 =
+    ap length (goes_on parents n g above l) ∙ length-append (path_of parents (parent_in parents n)) (n ∷ []) in
+    let some = (path_descends parents (parent_in parents n) g (omega arith)).some in
+    omega arith
+
+-- no deeper than its number says
+depth_within : (parents : List ℕ) (s n : ℕ) → n ≤ s → IsOrdered parents → n < length parents → depth parents n ≤ n
+depth_within parents s zero few g l = omega arith
+depth_within parents zero (suc n) few g l = absurd (omega arith)
+depth_within parents (suc s) (suc n) few g l =
+    let low = g.before (suc n) (omega arith) l in
+    let step = depth_more parents (suc n) g (omega arith) l in
+    let rest = depth_within parents s (parent_in parents (suc n)) (omega arith) g (omega arith) in
+    omega arith
+
+pub depth_few : (parents : List ℕ) (n : ℕ) → IsOrdered parents → n < length parents → depth parents n ≤ n
+depth_few parents n g l = depth_within parents n n (omega arith) g l
 
 -- ---- the numbers on a path
 

@@ -1,8 +1,8 @@
 -- The walk to where two paths meet: from the larger of two numbers to its parent, until they are the same.
-use Rattle.std.proofs.Common.{◌≡◌, ℕ, ◌+◌, ◌-◌, ◌<◌, ◌≤◌, List, [], ◌∷◌, ◌++◌, length, zero, suc, refl, sym, ap, ◌∙◌, subst, arith, inl, inr, length-append}
-use Rattle.std.proofs.lemmas.Bool.{cases_eq}
+use Rattle.std.proofs.Common.{◌≡◌, ℕ, ◌+◌, ◌-◌, ◌<◌, ◌≤◌, List, [], ◌∷◌, ◌++◌, length, get_or, if◌then◌else◌, Bool, zero, suc, refl, sym, ap, ◌∙◌, subst, arith, inl, inr, length-append}
+use Rattle.std.proofs.lemmas.Bool.{cases_eq, ne_eqb}
 use Rattle.cell_tree.specs.Tree.{parent_in, IsOrdered}
-use Rattle.cell_tree.specs.Paths.{meeting_of, ancestor, upward, IsWay}
+use Rattle.cell_tree.specs.Paths.{meeting_of, ancestor, upward, downward, IsWay}
 use Rattle.cell_tree.specs.Laws.{UpwardAreAncestors, WayLeadsDown}
 use Rattle.cell_tree.proofs.Paths.{parent_falls, meeting_up, meeting_up_second, meeting_same}
 
@@ -49,6 +49,23 @@ upward_more parents n (suc count) =
 pub length-upward : (parents : List ℕ) (n count : ℕ) → length (upward parents n count) ≡ count
 length-upward parents n zero = refl
 length-upward parents n (suc count) = ap suc (length-upward parents (parent_in parents n) count)
+
+-- ---- down along favourites
+
+-- where there is a favourite, it is below, and then those below it
+pub downward_more : (favourites : List ℕ) (n most : ℕ) → (get_or favourites n 0 ≡ 0 → ⊥) → length (downward favourites n (suc most)) ≡ suc (length (downward favourites (get_or favourites n 0) most))
+downward_more favourites n most some =
+    ap (λ (none : Bool). length (if none then [] else get_or favourites n 0 ∷ downward favourites (get_or favourites n 0) most)) (ne_eqb (get_or favourites n 0) 0 some)
+
+pub downward_few : (favourites : List ℕ) (n most : ℕ) → length (downward favourites n most) ≤ most
+downward_few favourites n zero = omega arith
+downward_few favourites n (suc most) = elim (cases_eq (get_or favourites n 0) 0) [
+  | inl none ↦ (let e : length (downward favourites n (suc most)) ≡ 0 = rw none refl in omega arith)
+  | inr some ↦
+      (let e = downward_more favourites n most some in
+      let rest = downward_few favourites (get_or favourites n 0) most in
+      omega arith)
+]
 
 -- ---- the walk
 

@@ -1,5 +1,6 @@
--- The path to a node, where two paths meet, and the way from one node to another. They speak of the list of the parents of all nodes.
-use Rattle.std.specs.Prelude.{◌≡◌, ℕ, ◌≤◌, ◌==◌, List, [], ◌∷◌, ◌++◌, zero, suc, if◌then◌else◌}
+-- The path to a node, where two paths meet, and the way from one node to another. They speak of the list of the parents of all nodes,
+-- `downward` of that of their favourites.
+use Rattle.std.specs.Prelude.{◌≡◌, ℕ, ◌-◌, ◌≤◌, ◌==◌, List, [], ◌∷◌, ◌++◌, zero, suc, length, slice_index, if◌then◌else◌}
 use Rattle.cell_tree.specs.Tree.{parent_in}
 
 -- The path to a node that is at most so many steps below the root: the root's is the root alone, another node's is that of its parent and
@@ -12,6 +13,10 @@ path_within parents (suc steps) (suc n) = path_within parents steps (parent_in p
 -- the nodes from the root to n: since parents stand before their children, there are at most n steps
 abbrev pub path_of : List ℕ → ℕ → List ℕ
 path_of parents n = path_within parents n n
+
+-- how many nodes stand above n
+abbrev pub depth : List ℕ → ℕ → ℕ
+depth parents n = length (path_of parents n) - 1
 
 -- the last node up to which two paths are the same, behind a node that both have
 abbrev pub last_common : ℕ → List ℕ → List ℕ → ℕ
@@ -32,6 +37,12 @@ ancestor parents n (suc steps) = parent_in parents (ancestor parents n steps)
 abbrev pub upward : List ℕ → ℕ → ℕ → List ℕ
 upward parents n zero = []
 upward parents n (suc count) = n ∷ upward parents (parent_in parents n) count
+
+-- the nodes below n to which favourites lead, one after another, so many at most
+abbrev pub downward : List ℕ → ℕ → ℕ → List ℕ
+downward favourites n zero = []
+downward favourites n (suc most) =
+    if slice_index favourites n == 0 then [] else slice_index favourites n ∷ downward favourites (slice_index favourites n) most
 
 -- so many steps up, and then so many down, lead from one node to another by the node where their paths meet, and there is no shorter way
 pub record IsWay (parents : List ℕ) (from to up down : ℕ) : Type 0 where

@@ -3,14 +3,14 @@
 //!
 //! To that layer this crate promises that parents stand before their children and that a favourite is a child of its node; that a node is
 //! added in room that was made before, so without taking memory; that `path` answers the nodes from the root to a node, `meet` the last node
-//! that is on both of two paths, and `find_way` the way over that node; and that the nodes which this way goes down to are kept, so that each
-//! step down costs one read.
+//! that is on both of two paths, and `find_way` the way over that node; that the nodes which this way goes down to are kept, so that each
+//! step down costs one read; and that `above` counts the nodes above a node, and `below` those to which favourites lead down from it.
 //!
 //! A number that is no node's is refused where the caller can't know (`path`, `meet`, the end of `find_way`); elsewhere it is a condition, and
 //! `has` is its test.
 //!
 //! The definitions are in specs/: `Tree` (what contracts see, and what holds of it), `Paths` (paths, meeting nodes and ways, over the list of
-//! the parents of all nodes), `Laws` (what these come to), `Kept` (the tree as the code keeps it), `Fault`.
+//! the parents of all nodes, and what favourites lead down to), `Laws` (what these come to), `Kept` (the tree as the code keeps it), `Fault`.
 #![tactic(auto)]
 
 mod fault;

@@ -1,12 +1,12 @@
 //! The tree: how nodes are added, and what is read of them.
-ghost use Rattle.std.specs.Prelude.{◌≡◌, ◌≢◌, ◌+◌, ◌-◌, ◌<◌, ◌≤◌, ◌↔◌, ◌⊎◌, IsTrue, IsErr, IsErrOf, OnOk, OnErr, IfOk, IfErr, IfSome, MatchOption, length};
+ghost use Rattle.std.specs.Prelude.{◌≡◌, ◌≢◌, ◌+◌, ◌-◌, ◌<◌, ◌≤◌, ◌↔◌, ◌⊎◌, IsTrue, IsErr, IsErrOf, OnOk, OnErr, IfOk, IfErr, IfSome, MatchOption, length, min};
 ghost use Rattle.std.specs.Prelude.{slice_get, slice_set, slice_index, Some};
 ghost use Rattle.cell_tree.specs.Tree.{node_limit, parent_in, parents_of, contents_of, IsNode, IsChild, IsTree, favourite_of, root_alone, grown};
-ghost use Rattle.cell_tree.specs.Paths.{path_of, meeting_of, upward, IsWay};
+ghost use Rattle.cell_tree.specs.Paths.{path_of, depth, meeting_of, upward, downward, IsWay};
 
 use crate::fault::TreeFault;
 use crate::node::Node;
-use crate::walks::{find_way, meeting, parent_of, path_to};
+use crate::walks::{above, below, find_way, meeting, parent_of, path_to};
 use crate::way::Way;
 use std::alloc::{AllocError, Global};
 use std::marker::Model;
@@ -126,6 +126,14 @@ impl<C: Drop> Tree<C> {
         parent_of(&self.nodes, node)
     }
 
+    /// How many nodes stand above a node, the root among them, of so many at most.
+    pub fn above(&self, node: usize, most: usize) -> usize
+        requires { IsNode self.now node }
+        ensures { result ≡ min most (depth (parents_of self.now.nodes) node) }
+    {
+        above(&self.nodes, node, most)
+    }
+
     /// What a node beside the root holds.
     pub fn content(&self, node: usize) -> &C
         requires below_root { 0 < node }
@@ -143,6 +151,14 @@ impl<C: Drop> Tree<C> {
     {
         let child = self.favourites[node];
         if child == 0 { None } else { Some(child) }
+    }
+
+    /// How many nodes favourites lead down to from a node, of so many at most.
+    pub fn below(&self, node: usize, most: usize) -> usize
+        requires { IsNode self.now node }
+        ensures { result ≡ length (downward self.now.favourites node most) }
+    {
+        below(&self.favourites, node, most)
     }
 
     /// Makes a child the favourite of its parent.

@@ -1,7 +1,7 @@
-//! Ways along a list of nodes: from a node up to the root, and from one node to another.
-ghost use Rattle.std.specs.Prelude.{◌≡◌, ◌<◌, ◌≤◌, IfOk, IfErr, length, vec_capacity};
+//! Ways along a list of nodes: from a node up to the root or down along favourites, and from one node to another.
+ghost use Rattle.std.specs.Prelude.{◌≡◌, ◌<◌, ◌≤◌, ℕ, IfOk, IfErr, length, min, slice_index, vec_capacity};
 ghost use Rattle.cell_tree.specs.Tree.{parent_in, parents_of, IsOrdered};
-ghost use Rattle.cell_tree.specs.Paths.{path_of, meeting_of, upward, IsWay};
+ghost use Rattle.cell_tree.specs.Paths.{path_of, depth, meeting_of, upward, downward, IsWay};
 
 use crate::fault::TreeFault;
 use crate::node::Node;
@@ -37,6 +37,38 @@ pub fn path_to<C>(alloc: Global, nodes: &[Node<C>], node: usize) -> Result<Vec<u
     path.push(0)?;
     path.reverse();
     Ok(path)
+}
+
+/// How many nodes stand above a node, of so many at most.
+pub fn above<C>(nodes: &[Node<C>], node: usize, most: usize) -> usize
+    requires ordered { IsOrdered (parents_of nodes.now) }
+    requires known { node ≤ length nodes.now }
+    ensures { result ≡ min most (depth (parents_of nodes.now) node) }
+{
+    let mut at = node;
+    for count in 0..most {
+        if at == 0 {
+            return count;
+        }
+        at = parent_of(nodes, at);
+    }
+    most
+}
+
+/// How many nodes favourites lead down to from a node, of so many at most. In place of a favourite 0 stands for none.
+pub fn below(favourites: &[usize], node: usize, most: usize) -> usize
+    requires known { node < length favourites.now }
+    requires nodes { (n : ℕ) → n < length favourites.now → slice_index favourites.now n < length favourites.now }
+    ensures { result ≡ length (downward favourites.now node most) }
+{
+    let mut at = node;
+    for count in 0..most {
+        at = favourites[at];
+        if at == 0 {
+            return count;
+        }
+    }
+    most
 }
 
 /// The last node on the paths to both.

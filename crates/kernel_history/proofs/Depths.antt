@@ -1,96 +1,73 @@
--- The walks up to the root, and down to where no favourite is.
-use Rattle.std.proofs.Common.{◌≡◌, ◌≢◌, Bool, ℕ, ◌+◌, ◌-◌, ◌<◌, ◌≤◌, ◌==◌, suc, true, false, refl, IsTrue, List, length, get_or, sym, ap, ◌∙◌, arith, inl, inr, if◌then◌else◌, ◌↔◌}
-use Rattle.std.proofs.lemmas.Bool.{cases_lt, false≢true}
+-- How deep the position stands, and how far favourites lead down from it: so far an undo and a redo can go.
+use Rattle.std.proofs.Common.{◌≡◌, ◌≢◌, Bool, ℕ, ◌+◌, ◌<◌, ◌≤◌, ◌==◌, zero, suc, true, false, refl, IsTrue, List, length, get_or, sym, ap, ◌∙◌, arith, inl, inr, ◌↔◌}
+use Rattle.std.proofs.lemmas.Bool.{cases_eq, false≢true}
 use Rattle.std.proofs.lemmas.Bool.Decides.{nat_tests}
-use Rattle.kernel_machine.specs.State.{Past, Node, root, favourite_of}
+use Rattle.cell_tree.specs.Tree.{parent_in, parents_of, IsOrdered}
+use Rattle.cell_tree.specs.Paths.{depth, downward}
+use Rattle.cell_tree.proofs.Trees.{count_of_parents}
+use Rattle.cell_tree.proofs.Paths.{depth_more}
+use Rattle.cell_tree.proofs.Ways.{downward_more}
+use Rattle.kernel_machine.specs.State.{Past, favourite_of}
 use Rattle.kernel_machine.specs.Legal.{can_undo, can_redo, IsRun, IsChild, IsLegal}
 use Rattle.kernel_machine.proofs.Trees.{not_zero_is}
+use Rattle.kernel_history.specs.Fields.{nodes_of, past_of}
+use Rattle.kernel_history.specs.declared.tree.Tree.{Tree}
+use Rattle.kernel_history.proofs.Nodes.{count_of_nodes, parent_there}
 
 -- ---- up
 
--- so many nodes up from the start stands this one
-pub record Climbs (nodes : List Node) (start at count : ℕ) : Type 0 where
-  pub few : count + at ≤ start
-  pub behind : (k : ℕ) → k ≤ count → can_undo nodes start k ≡ true
-  pub ahead : (k : ℕ) → can_undo nodes start (count + k) ≡ can_undo nodes at k
-
-pub climbs_start : (nodes : List Node) (start : ℕ) → Climbs nodes start start 0
-climbs_start nodes start = record {
-  few = omega arith;
-  behind = λ k h. (let e : k ≡ 0 = omega (arith, h) in ap (can_undo nodes start) e);
-  ahead = λ k. (let e : 0 + k ≡ k = omega arith in ap (can_undo nodes start) e);
+pub ordered_there : (tree : Tree) → IsLegal (past_of tree) → IsOrdered (parents_of tree.cells.nodes)
+ordered_there tree legal = record {
+  root = refl;
+  before = λ n some known. (
+      let size = count_of_nodes tree in
+      let count = count_of_parents tree.cells.nodes in
+      let run : IsRun (nodes_of tree) (past_of tree).worlds n = legal.ran n some (omega arith) in
+      let low = run.parent in
+      let same = parent_there tree n in
+      omega arith);
 }
 
-up_one : (nodes : List Node) (n k : ℕ) → (n ≡ 0 → ⊥) → can_undo nodes n (suc k) ≡ can_undo nodes (get_or nodes n root).parent k
-up_one nodes n k above = not_zero_is n _ above
-
-pub climbs_more : (nodes : List Node) (start at count : ℕ) → Climbs nodes start at count → (at ≡ 0 → ⊥) → (get_or nodes at root).parent < at → Climbs nodes start (get_or nodes at root).parent (count + 1)
-climbs_more nodes start at count c above low =
-    let on : (k : ℕ) → can_undo nodes start (count + 1 + k) ≡ can_undo nodes (get_or nodes at root).parent k = λ k. (
-    let e : count + 1 + k ≡ count + suc k = omega arith in
-    ap (can_undo nodes start) e ∙ c.ahead (suc k) ∙ up_one nodes at k above) in
-    record {
-      few = (let few = c.few in omega (arith, few, low));
-      behind = λ k h. elim (cases_lt k (count + 1)) [
-        | inl below ↦ c.behind k (omega (arith, below))
-        | inr last ↦ (let e : k ≡ count + 1 + 0 = omega (arith, last, h) in ap (can_undo nodes start) e ∙ on 0)
-      ];
-      ahead = on;
-    }
-
--- at the root the walk is over
-pub climbs_end : (nodes : List Node) (start at count : ℕ) → Climbs nodes start at count → at ≡ 0 → (k : ℕ) → IsTrue (can_undo nodes start k) ↔ (k ≤ count)
-climbs_end nodes start at count c e k = (
-  λ h. elim (cases_lt count k) [
-    | inl past ↦ absurd (
-        let d : ℕ = k - (count + 1) in
-        let there : k ≡ count + suc d = omega (arith, past) in
-        let stop : can_undo nodes start k ≡ false = ap (can_undo nodes start) there ∙ c.ahead (suc d) ∙ ap (λ (n : ℕ). can_undo nodes n (suc d)) e in
-        false≢true (sym stop ∙ h))
-    | inr within ↦ omega (arith, within)
-  ],
-  λ l. c.behind k l,
-)
+-- so many nodes can be gone up exactly where as many stand above
+pub undoes : (tree : Tree) (n k : ℕ) → IsOrdered (parents_of tree.cells.nodes) → n ≤ length tree.cells.nodes →
+    IsTrue (can_undo (nodes_of tree) n k) ↔ (k ≤ depth (parents_of tree.cells.nodes) n)
+undoes tree n zero g l = (λ h. omega arith, λ h. refl)
+undoes tree n (suc k) g l = elim (cases_eq n 0) [
+  | inl root ↦
+      (let top : depth (parents_of tree.cells.nodes) n ≡ 0 = rw root refl in
+      let stop : can_undo (nodes_of tree) n (suc k) ≡ false = rw root refl in
+      (λ h. absurd (false≢true (sym stop ∙ h)), λ less. absurd (omega arith)))
+  | inr some ↦
+      (let parents = parents_of tree.cells.nodes in
+      let parent = parent_in parents n in
+      let count = count_of_parents tree.cells.nodes in
+      let above : 0 < n = omega (arith, some) in
+      let known : n < length parents = omega arith in
+      let low = g.before n above known in
+      let on : can_undo (nodes_of tree) n (suc k) ≡ can_undo (nodes_of tree) parent k =
+      not_zero_is n _ some ∙ ap (λ (p : ℕ). can_undo (nodes_of tree) p k) (parent_there tree n) in
+      let deeper = depth_more parents n g above known in
+      let rest = undoes tree parent k g (omega arith) in
+      (λ h. (let most = rest.0 (sym on ∙ h) in omega arith), λ less. on ∙ rest.1 (omega arith)))
+]
 
 -- ---- down
 
--- so many nodes down from the start stands one whose favourite is the next
-pub record Descends (favourites : List ℕ) (start next count : ℕ) : Type 0 where
-  pub few : 0 < next → count < next
-  pub behind : (k : ℕ) → k ≤ count → can_redo favourites start k ≡ true
-  pub ahead : (k : ℕ) → can_redo favourites start (count + suc k) ≡ (if next == 0 then false else can_redo favourites next k)
-
-pub descends_start : (favourites : List ℕ) (start : ℕ) → Descends favourites start (get_or favourites start 0) 0
-descends_start favourites start = record {
-  few = λ h. h;
-  behind = λ k h. (let e : k ≡ 0 = omega (arith, h) in ap (can_redo favourites start) e);
-  ahead = λ k. (let e : 0 + suc k ≡ suc k = omega arith in ap (can_redo favourites start) e);
-}
-
-pub descends_more : (favourites : List ℕ) (start next count : ℕ) → Descends favourites start next count → (next ≡ 0 → ⊥) → (0 < get_or favourites next 0 → next < get_or favourites next 0) → Descends favourites start (get_or favourites next 0) (count + 1)
-descends_more favourites start next count d some more = record {
-  few = λ h. (let low = d.few (omega (arith, some)) in let high = more h in omega (arith, low, high));
-  behind = λ k h. elim (cases_lt k (count + 1)) [
-    | inl below ↦ d.behind k (omega (arith, below))
-    | inr last ↦ (let e : k ≡ count + suc 0 = omega (arith, last, h) in ap (can_redo favourites start) e ∙ d.ahead 0 ∙ not_zero_is next _ some)
-  ];
-  ahead = λ k. (
-      let e : count + 1 + suc k ≡ count + suc (suc k) = omega arith in
-      ap (can_redo favourites start) e ∙ d.ahead (suc k) ∙ not_zero_is next _ some);
-}
-
-pub descends_end : (favourites : List ℕ) (start next count : ℕ) → Descends favourites start next count → next ≡ 0 → (k : ℕ) → IsTrue (can_redo favourites start k) ↔ (k ≤ count)
-descends_end favourites start next count d e k = (
-  λ h. elim (cases_lt count k) [
-    | inl past ↦ absurd (
-        let j : ℕ = k - (count + 1) in
-        let there : k ≡ count + suc j = omega (arith, past) in
-        let stop : can_redo favourites start k ≡ false = ap (can_redo favourites start) there ∙ d.ahead j ∙ ap (λ (n : ℕ). if n == 0 then false else can_redo favourites n j) e in
-        false≢true (sym stop ∙ h))
-    | inr within ↦ omega (arith, within)
-  ],
-  λ l. d.behind k l,
-)
+-- of so many at most, so many can be gone down exactly where favourites lead to as many
+pub redoes : (favourites : List ℕ) (n most k : ℕ) → k ≤ most → IsTrue (can_redo favourites n k) ↔ (k ≤ length (downward favourites n most))
+redoes favourites n most zero l = (λ h. omega arith, λ h. refl)
+redoes favourites n zero (suc k) l = absurd (omega arith)
+redoes favourites n (suc most) (suc k) l = elim (cases_eq (get_or favourites n 0) 0) [
+  | inl none ↦
+      (let end : length (downward favourites n (suc most)) ≡ 0 = rw none refl in
+      let stop : can_redo favourites n (suc k) ≡ false = rw none refl in
+      (λ h. absurd (false≢true (sym stop ∙ h)), λ less. absurd (omega arith)))
+  | inr some ↦
+      (let on : can_redo favourites n (suc k) ≡ can_redo favourites (get_or favourites n 0) k = not_zero_is (get_or favourites n 0) _ some in
+      let longer = downward_more favourites n most some in
+      let rest = redoes favourites (get_or favourites n 0) most k (omega arith) in
+      (λ h. (let few = rest.0 (sym on ∙ h) in omega arith), λ less. on ∙ rest.1 (omega arith)))
+]
 
 -- a favourite stands behind its parent
 pub favourite_behind : (s : Past) (n : ℕ) → IsLegal s → n < length s.nodes → 0 < favourite_of s n → n < favourite_of s n
@@ -102,15 +79,19 @@ favourite_behind s n g l some =
     let up = child.parent in
     omega (arith, low, up)
 
--- behind as many steps down as there are nodes there is no favourite
-pub favourite_none : (s : Past) (n count : ℕ) → IsLegal s → n < length s.nodes → length s.nodes ≤ count + 1 → (0 < favourite_of s n → count < favourite_of s n) → favourite_of s n ≡ 0
-favourite_none s n count g l all few = elim (cases_lt 0 (favourite_of s n)) [
-  | inl some ↦ absurd (
-      let child : IsChild s.nodes s.favourites n = g.children n l some in
+-- so no more can be gone down than there are nodes behind
+pub redo_few : (s : Past) (n k : ℕ) → IsLegal s → n < length s.nodes → IsTrue (can_redo s.favourites n k) → n + k < length s.nodes
+redo_few s n zero g l h = omega arith
+redo_few s n (suc k) g l h = elim (cases_eq (get_or s.favourites n 0) 0) [
+  | inl none ↦ absurd (
+      let stop : can_redo s.favourites n (suc k) ≡ false = rw none refl in
+      false≢true (sym stop ∙ h))
+  | inr some ↦
+      (let child : IsChild s.nodes s.favourites n = g.children n l (omega (arith, some)) in
       let known = child.known in
-      let behind = few some in
+      let behind = favourite_behind s n g l (omega (arith, some)) in
+      let rest = redo_few s (get_or s.favourites n 0) k g known (sym (not_zero_is (get_or s.favourites n 0) _ some) ∙ h) in
       omega arith)
-  | inr none ↦ omega arith
 ]
 
 -- all of so many can be gone exactly where as many are counted

@@ -7,7 +7,7 @@
 //! kept. `begin_cell`, `begin_undo`, `begin_redo`, `begin_goto` and `enter` are the machine's begins, `slice` is its slice, and takes no memory.
 //! `world` lends the world that is shown, `cell` the tree of a node's cell.
 //!
-//! `settle` has the parts of a slice, `tree` the walks over the nodes that `cell_tree` keeps, and `kernel_runner` runs a cell. The definitions
+//! `settle` has the parts of a slice, `tree` what is asked of the nodes that `cell_tree` keeps, and `kernel_runner` runs a cell. The definitions
 //! are in specs/: `Fields` (the types of the code read as the machine's), `NodeTrees` (the tree of a node's cell) and `Kept` (what a history keeps of
 //! its fields).
 #![tactic(auto)]

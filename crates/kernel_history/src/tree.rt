@@ -42,14 +42,7 @@ pub fn nodes_above(tree: &Tree, most: usize) -> usize
     // Of as many as there are nodes, all are counted.
     ensures all { length tree.now.cells.nodes ≤ most → (k : ℕ) → IsTrue (can_undo (nodes_of tree.now) tree.now.position k) ↔ (k ≤ result) }
 {
-    let mut at = tree.position;
-    for count in 0..most {
-        if at == 0 {
-            return count;
-        }
-        at = tree.cells.parent(at);
-    }
-    most
+    tree.cells.above(tree.position, most)
 }
 
 /// How many nodes the position can go down, along favourites, of so many at most.
@@ -60,14 +53,7 @@ pub fn nodes_below(tree: &Tree, most: usize) -> usize
     // Of as many as there are nodes, all are counted.
     ensures all { length tree.now.cells.nodes ≤ most → (k : ℕ) → IsTrue (can_redo tree.now.cells.favourites tree.now.position k) ↔ (k ≤ result) }
 {
-    let mut at = tree.position;
-    for count in 0..most {
-        let Some(child) = tree.cells.favourite(at) else {
-            return count;
-        };
-        at = child;
-    }
-    most
+    tree.cells.below(tree.position, most)
 }
 
 /// Whether the position can go up `k` nodes.
