@@ -53,9 +53,11 @@ length-upward parents n (suc count) = ap suc (length-upward parents (parent_in p
 -- ---- down along favourites
 
 -- where there is a favourite, it is below, and then those below it
-pub downward_more : (favourites : List ℕ) (n most : ℕ) → (get_or favourites n 0 ≡ 0 → ⊥) → length (downward favourites n (suc most)) ≡ suc (length (downward favourites (get_or favourites n 0) most))
+pub downward_more : (favourites : List ℕ) (n most : ℕ) → (get_or favourites n 0 ≡ 0 → ⊥) →
+    length (downward favourites n (suc most)) ≡ suc (length (downward favourites (get_or favourites n 0) most))
 downward_more favourites n most some =
-    ap (λ (none : Bool). length (if none then [] else get_or favourites n 0 ∷ downward favourites (get_or favourites n 0) most)) (ne_eqb (get_or favourites n 0) 0 some)
+    let next = get_or favourites n 0 in
+    ap (λ (none : Bool). length (if none then [] else next ∷ downward favourites next most)) (ne_eqb next 0 some)
 
 pub downward_few : (favourites : List ℕ) (n most : ℕ) → length (downward favourites n most) ≤ most
 downward_few favourites n zero = omega arith

@@ -9,6 +9,9 @@ use Rattle.janus_meaning.specs.FormedWorld.{AreNew, declared_kind, HasRoom, Have
 use Rattle.janus_meaning.proofs.Scopes.{without_other}
 use Rattle.janus_meaning.specs.World.{Declaration, DeclareInt, DeclareArray, DeclareStack, declare, declare_one, declared_name, dropped, stacks_in, size_of}
 use Rattle.janus_meaning.specs.Limit.{live_stack_limit}
+use Rattle.janus_syntax.specs.Tree.{declaration_view, declarations_view}
+use Rattle.janus_syntax.specs.View.{plain_declaration}
+use Rattle.janus_syntax.specs.declared.tree.Declaration as Tree
 use Rattle.janus_names.specs.Numbers.{HaveOneNumber}
 use Rattle.janus_store.specs.StoreState.{StoreState, IsWhole, Declares, KeepsSight}
 use Rattle.janus_store.specs.Stores.{IsFirstOnTop, rest_of}
@@ -88,10 +91,20 @@ declared_more [] s i d l = absurd (omega arith)
 declared_more (e ∷ ds) s zero d l = refl
 declared_more (e ∷ ds) s (suc i) d l = declared_more ds (declare_one e s) i d (omega arith)
 
-pub mapped_at : {A B : Type 0} (f : A → B) (xs : List A) (i : ℕ) (d : A) (e : B) → i < length xs → get_or (map f xs) i e ≡ f (get_or xs i d)
-mapped_at f [] i d e l = absurd (omega arith)
-mapped_at f (x ∷ xs) zero d e l = refl
-mapped_at f (x ∷ xs) (suc i) d e l = mapped_at f xs i d e (omega arith)
+-- declarations as they lie in memory: one of them, and how many they are
+pub declared_at : (ys : List Tree.Declaration) (i : ℕ) (y : Tree.Declaration) (d : Declaration) → i < length ys → get_or ys i y ≡ y →
+    get_or (map plain_declaration (declarations_view ys)) i d ≡ plain_declaration (declaration_view y)
+declared_at [] i y d l e = absurd (omega arith)
+declared_at (z ∷ ys) zero y d l e = ap (λ (z : Tree.Declaration). plain_declaration (declaration_view z)) e
+declared_at (z ∷ ys) (suc i) y d l e = declared_at ys i y d (omega arith) e
+
+pub declared_count : (ys : List Tree.Declaration) → length (map plain_declaration (declarations_view ys)) ≡ length ys
+declared_count [] = refl
+declared_count (y ∷ ys) = ap suc (declared_count ys)
+
+pub none_declared : (ys : List Tree.Declaration) → map plain_declaration (declarations_view ys) ≡ [] → ys ≡ []
+none_declared [] e = refl
+none_declared (y ∷ ys) e = cc
 
 pub all_taken : {A : Type 0} (xs : List A) (n : ℕ) → length xs ≤ n → take n xs ≡ xs
 all_taken [] zero l = refl

@@ -16,7 +16,7 @@ use Rattle.janus_check.specs.Checked.{cell_in}
 use Rattle.janus_machine.specs.Places.{block_in}
 use Rattle.janus_machine.specs.declared.book.Direction.TheVariants.{Forward}
 use Rattle.kernel_runner.specs.Kinds.{kind_in}
-use Rattle.kernel_runner.specs.Program.{procedures_of, declaration_of, cell_of_program}
+use Rattle.kernel_runner.specs.Program.{tree_of, cell_of_program}
 use Rattle.kernel_runner.specs.declared.program.Program.{Program}
 use Rattle.kernel_runner.proofs.Declaring.{LendNothing}
 
@@ -125,11 +125,11 @@ taken_all [] (suc i) l = refl
 taken_all (x ∷ xs) zero l = absurd (omega arith)
 taken_all (x ∷ xs) (suc i) l = ap (λ (zs : List (Name × Kind)). x ∷ zs) (taken_all xs i (omega arith))
 
--- a program by its parts
-pub same_cell : (p : Program) (c : tree.Cell) → map declaration_of p.declarations.items ≡ (plain_cell c).declarations → cell_in p.checked ≡ c → block_in p.book Forward ≡ (plain_cell c).block → cell_of_program p ≡ plain_cell c
-same_cell p (tree.cell_of ds b ps) e t f =
-    ap (λ (l : List Declaration). record { declarations = l; procedures = procedures_of p; block = block_in p.book Forward }) e
-    ∙ ap (λ (c : tree.Cell). record { declarations = (plain_cell (tree.cell_of ds b ps)).declarations; procedures = (plain_cell c).procedures; block = block_in p.book Forward }) t
-    ∙ ap (λ (k : Blk). record { declarations = (plain_cell (tree.cell_of ds b ps)).declarations; procedures = (plain_cell (tree.cell_of ds b ps)).procedures; block = k }) f
+-- what a program runs is its tree, where its book has the tree's block
+pub same_cell : (p : Program) → block_in p.book Forward ≡ (plain_cell (tree_of p)).block → cell_of_program p ≡ plain_cell (tree_of p)
+same_cell p e = by (tree_of p) e
+  where
+    by : (c : tree.Cell) → block_in p.book Forward ≡ (plain_cell c).block → record { declarations = (plain_cell c).declarations; procedures = (plain_cell c).procedures; block = block_in p.book Forward } ≡ plain_cell c
+    by (tree.cell_of ds b ps) e = ap (λ (k : Blk). record { declarations = (plain_cell (tree.cell_of ds b ps)).declarations; procedures = (plain_cell (tree.cell_of ds b ps)).procedures; block = k }) e
 
 -- ---- kinds of parameters

@@ -5,7 +5,7 @@ use Rattle.std.specs.Result.{is_err, OnOk}
 use Rattle.std.proofs.lemmas.Option.{slice_get_within}
 use Rattle.janus_meaning.specs.Syntax.{Name, Proc}
 use Rattle.janus_meaning.specs.Store.{Store}
-use Rattle.janus_meaning.specs.World.{World, Declaration, oldest, size_of}
+use Rattle.janus_meaning.specs.World.{World, oldest, size_of}
 use Rattle.janus_names.specs.Numbers.{HaveOneNumber}
 use Rattle.janus_meaning.specs.Shape.{Shape, Heads, shape_of, heads_of}
 use Rattle.janus_meaning.specs.FormedWorld.{HaveValues}
@@ -90,15 +90,15 @@ all_kept old new e = ap (take (length old)) e ∙ all_of old
 -- ---- keeping bodies, and forgetting them
 
 -- where its names were met, all names of a cell were that is checked over the shown world
-pub cell_met : {L : Type 0} (runner : Runner L) (h : StoreState) (shown : ShownWorld) (t c : tree.Cell) (ds : List Declaration) → IsCheckedOver runner c shown → KeepsSight runner.store h → AreKnown h → t ≡ c → ds ≡ (plain_cell t).declarations →
-    AreDeclaredMet h.names ds → MeetOwn h.names (plain_cell t).procedures → MeetsLocalsOf h.names (plain_cell t).block →
+pub cell_met : {L : Type 0} (runner : Runner L) (h : StoreState) (shown : ShownWorld) (t c : tree.Cell) → IsCheckedOver runner c shown → KeepsSight runner.store h → AreKnown h → t ≡ c →
+    AreDeclaredMet h.names (plain_cell t).declarations → MeetOwn h.names (plain_cell t).procedures → MeetsLocalsOf h.names (plain_cell t).block →
     MeetsBlk h.names (plain_cell c).block × AreProceduresMet h.names (plain_cell c).procedures
-cell_met runner h shown t c ds checked kept known is same declared own locals =
+cell_met runner h shown t c checked kept known is declared own locals =
     let sight : h.sight ≡ shown.world.store = kept.sight ∙ sym (all_shown runner.store checked.is.1) ∙ checked.is.0.store in
     let grown : Define h.names runner.procedures shown.bodies shown.world.procedures = defined_grow runner.store.names h.names kept.names runner.procedures shown.bodies shown.world.procedures checked.is.0.defined in
     let met : AreMet (shape_of shown.world.store) h.names = subst (λ (s : Store). AreMet (shape_of s) h.names) sight (sight_met h (subst HaveValues (sym sight) checked.values) known) in
     let called : AreCalledMet (heads_of shown.world.procedures) h.names = defined_met h.names (kept_in runner.procedures) shown.bodies shown.world.procedures grown.bodies in
-    let declared_here = subst (λ (ds : List Declaration). AreDeclaredMet h.names ds) (same ∙ ap (λ (t : tree.Cell). (plain_cell t).declarations) is) declared in
+    let declared_here = subst (λ (t : tree.Cell). AreDeclaredMet h.names (plain_cell t).declarations) is declared in
     let own_here = subst (λ (t : tree.Cell). MeetOwn h.names (plain_cell t).procedures) is own in
     let locals_here = subst (λ (t : tree.Cell). MeetsLocalsOf h.names (plain_cell t).block) is locals in (
       all_met (shape_of shown.world.store) (heads_of shown.world.procedures) h.names c checked.formed met called declared_here own_here locals_here,

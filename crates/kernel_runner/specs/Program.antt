@@ -1,7 +1,7 @@
 -- The cell that a program is.
-use Rattle.std.specs.Prelude.{◌≡◌, ℕ, ◌+◌, ◌≤◌, List, [], ◌∷◌, ◌++◌, length, map, take, string_bytes}
+use Rattle.std.specs.Prelude.{◌≡◌, ℕ, ◌+◌, ◌≤◌, List, [], ◌∷◌, ◌++◌, length, take}
 use Rattle.janus_meaning.specs.Syntax.{Name, Proc}
-use Rattle.janus_meaning.specs.World.{Cell, Declaration, DeclareInt, DeclareArray, DeclareStack}
+use Rattle.janus_meaning.specs.World.{Cell, Declaration}
 use Rattle.janus_syntax.specs.Tree as tree
 use Rattle.janus_syntax.specs.View.{plain_cell}
 use Rattle.janus_check.specs.Checked.{cell_in}
@@ -13,19 +13,15 @@ use Rattle.janus_machine.specs.Procedure.{number_of}
 use Rattle.janus_machine.specs.declared.book.Direction.TheVariants.{Forward}
 use Rattle.janus_machine.specs.declared.procedure.Procedure.{Procedure}
 use Rattle.janus_machine.specs.declared.procedures.Procedures.{Procedures}
-use Rattle.kernel_runner.specs.declared.program.Declared.{Declared}
-use Rattle.kernel_runner.specs.declared.program.Declared.TheVariants.{Number, Array, Stack}
 use Rattle.kernel_runner.specs.declared.program.Program.{Program}
 
--- what a program declares
-abbrev pub declaration_of : Declared → Declaration
-declaration_of (Number x) = DeclareInt (string_bytes x)
-declaration_of (Array x n) = DeclareArray (string_bytes x) n
-declaration_of (Stack x) = DeclareStack (string_bytes x)
-
--- its tree, as it was checked
+-- the tree of a program, as it was checked
 abbrev pub tree_of : Program → tree.Cell
 tree_of program = cell_in program.checked
+
+-- what it declares
+abbrev pub declarations_of : Program → List Declaration
+declarations_of program = (plain_cell (tree_of program)).declarations
 
 -- what it defines
 abbrev pub procedures_of : Program → List Proc
@@ -33,7 +29,7 @@ procedures_of program = (plain_cell (tree_of program)).procedures
 
 abbrev pub cell_of_program : Program → Cell
 cell_of_program program = record {
-  declarations = map declaration_of program.declarations.items;
+  declarations = declarations_of program;
   procedures = procedures_of program;
   block = block_in program.book Forward;
 }

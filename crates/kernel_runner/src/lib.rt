@@ -16,5 +16,5 @@ mod meeting;
 mod program;
 mod runner;
 
-pub use crate::program::{Declared, Program, names_in_sight};
+pub use crate::program::{Program, names_in_sight};
 pub use crate::runner::Runner;

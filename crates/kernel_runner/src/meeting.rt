@@ -1,33 +1,27 @@
 //! The names of a cell, met in the store, so that each has its number there.
 ghost use Rattle.std.specs.Prelude.{◌≡◌, OnOk, map};
 ghost use Rattle.janus_syntax.specs.View.{stm_of, block_of};
-ghost use Rattle.janus_syntax.specs.Tree.{cell_view, parameters_view, procedure_view, procedures_view};
-ghost use Rattle.janus_syntax.specs.View.{plain_cell, plain_parameter, plain_procedure};
+ghost use Rattle.janus_syntax.specs.Tree.{cell_view, declaration_view, declarations_view, parameters_view, procedure_view, procedures_view};
+ghost use Rattle.janus_syntax.specs.View.{plain_cell, plain_declaration, plain_parameter, plain_procedure};
 ghost use Rattle.janus_meaning.specs.Syntax.{names_of};
 ghost use Rattle.janus_invert.specs.Met.{AreAllMet, MeetsLocals, MeetsLocalsOf};
 ghost use Rattle.janus_store.specs.StoreState.{KeepsSight};
 ghost use Rattle.kernel_runner.specs.Met.{AreDeclaredMet, IsDeclaredMet, MeetsOwn, MeetOwn};
-ghost use Rattle.kernel_runner.specs.Program.{declaration_of};
 
-use crate::program::Declared;
 use janus_check::parameter::name_of_parameter;
 use janus_machine::Store;
-use janus_syntax::tree::{Cell, Parameter, Procedure, Stm};
+use janus_syntax::tree::{Cell, Declaration, Parameter, Procedure, Stm};
 use std::alloc::AllocError;
 use std::sync::ledger::Ledger;
 
 /// Meets the names of a cell: those that it declares, those of its procedures, and its locals. The only error is want of memory.
-pub fn meet_cell<L: Ledger>(
-    store: &mut Store<L>,
-    declarations: &[Declared],
-    cell: &Cell,
-) -> Result<(), AllocError>
-    ensures declared { OnOk result (AreDeclaredMet store.new.names (map declaration_of declarations.now)) }
+pub fn meet_cell<L: Ledger>(store: &mut Store<L>, cell: &Cell) -> Result<(), AllocError>
+    ensures declared { OnOk result (AreDeclaredMet store.new.names (plain_cell (cell_view cell.now)).declarations) }
     ensures procedures { OnOk result (MeetOwn store.new.names (plain_cell (cell_view cell.now)).procedures) }
     ensures locals { OnOk result (MeetsLocalsOf store.new.names (plain_cell (cell_view cell.now)).block) }
     ensures kept { KeepsSight store.old store.new }
 {
-    meet_declared(store, declarations)?;
+    meet_declared(store, &cell.declarations)?;
     meet_procedures(store, &cell.procedures)?;
     meet_locals(store, &cell.statements)
 }
@@ -35,9 +29,9 @@ pub fn meet_cell<L: Ledger>(
 /// Meets the names that a cell declares. The only error is want of memory.
 fn meet_declared<L: Ledger>(
     store: &mut Store<L>,
-    declarations: &[Declared],
+    declarations: &[Declaration],
 ) -> Result<(), AllocError>
-    ensures met { OnOk result (AreDeclaredMet store.new.names (map declaration_of declarations.now)) }
+    ensures met { OnOk result (AreDeclaredMet store.new.names (map plain_declaration (declarations_view declarations.now))) }
     ensures kept { KeepsSight store.old store.new }
 {
     for i in 0..declarations.len() {
@@ -47,14 +41,14 @@ fn meet_declared<L: Ledger>(
 }
 
 /// Meets a declared name.
-fn meet_one<L: Ledger>(store: &mut Store<L>, declared: &Declared) -> Result<(), AllocError>
-    ensures met { OnOk result (IsDeclaredMet store.new.names (declaration_of declared.now)) }
+fn meet_one<L: Ledger>(store: &mut Store<L>, declaration: &Declaration) -> Result<(), AllocError>
+    ensures met { OnOk result (IsDeclaredMet store.new.names (plain_declaration (declaration_view declaration.now))) }
     ensures kept { KeepsSight store.old store.new }
 {
-    match declared {
-        Declared::Number(name) => store.meet(name.as_str()),
-        Declared::Array(name, _) => store.meet(name.as_str()),
-        Declared::Stack(name) => store.meet(name.as_str()),
+    match declaration {
+        Declaration::Int(name) => store.meet(name.text.as_str()),
+        Declaration::Array(name, _, _) => store.meet(name.text.as_str()),
+        Declaration::Stack(name) => store.meet(name.text.as_str()),
     }
 }
 

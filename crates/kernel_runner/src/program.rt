@@ -2,7 +2,7 @@
 ghost use Rattle.std.specs.Prelude.{◌≡◌, ◌+◌, ◌≤◌, [], ℕ, List, IfOk, IfErr, OnOk, OnErr, length, map};
 ghost use Rattle.janus_meaning.specs.Limit.{parameter_limit};
 ghost use Rattle.janus_meaning.specs.Shape.{AreDistinct, shape_of};
-ghost use Rattle.janus_syntax.specs.Tree.{cell_view, declaration_view, declarations_view, procedure_view, procedures_view};
+ghost use Rattle.janus_syntax.specs.Tree.{cell_view, declarations_view, procedure_view, procedures_view};
 ghost use Rattle.janus_syntax.specs.View.{plain_declaration, plain_procedure, plain_cell};
 ghost use Rattle.janus_invert.specs.Met.{MeetsProc};
 ghost use Rattle.janus_store.specs.StoreState.{KeepsSight, shown_store};
@@ -15,7 +15,7 @@ ghost use Rattle.janus_meaning.specs.FormedWorld.{HaveValues};
 ghost use Rattle.kernel_machine.specs.Language.{IsSound};
 ghost use Rattle.kernel_runner.specs.Met.{AreProceduresMet};
 ghost use Rattle.kernel_machine.specs.Text.{Accepts, Refuses};
-ghost use Rattle.kernel_runner.specs.Program.{cell_of_program, declaration_of, tree_of, procedures_of, IsReady, IsKeptBehind, AreBodiesBehind};
+ghost use Rattle.kernel_runner.specs.Program.{cell_of_program, tree_of, declarations_of, procedures_of, IsReady, IsKeptBehind, AreBodiesBehind};
 ghost use Rattle.kernel_runner.specs.Program.{KeepsOlder, KeepsDefined};
 ghost use Rattle.kernel_runner.specs.Defined.{in_a_row};
 ghost use Rattle.kernel_runner.specs.Runner.{ShownWorld, over, Is, Between, IsCheckedOver, KeepsShown, world_of};
@@ -34,21 +34,11 @@ use kernel_machine::Refusal;
 use std::alloc::{AllocError, Global};
 use std::sync::ledger::Ledger;
 
-/// A name that a cell declares.
-#[derive(Drop)]
-pub enum Declared {
-    Number(String),
-    /// An array, and how long it is.
-    Array(String, usize),
-    Stack(String),
-}
-
 /// What a cell declares and defines, and its code both ways.
 #[derive(Drop)]
 pub struct Program {
-    pub declarations: Vec<Declared>,
     pub book: Book,
-    /// The cell as it was checked. What it defines is told from it.
+    /// The cell as it was checked. What it declares and defines is told from it.
     pub checked: Checked,
     /// Where the bodies of its procedures begin among those that are kept.
     pub first: usize,
@@ -109,8 +99,7 @@ impl Program {
         ensures shown { KeepsShown runner.old runner.new }
     {
         let cell = checked.cell();
-        let declarations = all_declared(alloc, &cell.declarations)?;
-        let met = meet_cell(&mut runner.store, &declarations, cell);
+        let met = meet_cell(&mut runner.store, cell);
         let names = runner.store.names();
         met?;
         let Ok(code) = flatten(alloc, &checked, names) else {
@@ -123,7 +112,6 @@ impl Program {
             return Err(AllocError);
         }
         Ok(Program {
-            declarations,
             book,
             checked,
             first,
@@ -135,6 +123,13 @@ impl Program {
         ensures { cell_view result.now ≡ tree_of self.now }
     {
         self.checked.cell()
+    }
+
+    /// What it declares.
+    pub(crate) fn declarations(&self) -> &[Declaration]
+        ensures { map plain_declaration (declarations_view result.now) ≡ declarations_of self.now }
+    {
+        &self.checked.cell().declarations
     }
 
     /// The procedures that it defines.
@@ -210,29 +205,5 @@ fn kind_of(value: View<'_>) -> Kind
         View::Number(_) => Kind::Number,
         View::Array(_) => Kind::Array,
         View::Stack(_) => Kind::Stack,
-    }
-}
-
-/// What declarations declare, in their order.
-fn all_declared(alloc: Global, declarations: &[Declaration]) -> Result<Vec<Declared>, AllocError>
-    ensures { IfOk result (λ all. map declaration_of all.items ≡ map plain_declaration (declarations_view declarations.now)) }
-{
-    let mut all = Vec::new(alloc);
-    for declaration in declarations {
-        all.push(declared_by(declaration)?)?;
-    }
-    Ok(all)
-}
-
-fn declared_by(declaration: &Declaration) -> Result<Declared, AllocError>
-    ensures { IfOk result (λ one. declaration_of one ≡ plain_declaration (declaration_view declaration.now)) }
-{
-    match declaration {
-        Declaration::Int(name) => Ok(Declared::Number(name.text.clone()?)),
-        Declaration::Array(name, length, _) => Ok(Declared::Array(
-            name.text.clone()?,
-            *length as usize,
-        )),
-        Declaration::Stack(name) => Ok(Declared::Stack(name.text.clone()?)),
     }
 }

@@ -8,7 +8,9 @@ ghost use Rattle.janus_meaning.specs.FormedWorld.{AreNew, HaveValues};
 ghost use Rattle.janus_meaning.specs.World.{empty_world, declare as declared_in, declare_one as declared_one_in, declared_name};
 ghost use Rattle.janus_meaning.specs.Fault.{Bad, Broken};
 ghost use Rattle.kernel_runner.specs.Declarable.{HasStackRoom};
-ghost use Rattle.kernel_runner.specs.Program.{cell_of_program, declaration_of};
+ghost use Rattle.janus_syntax.specs.Tree.{declaration_view, declarations_view};
+ghost use Rattle.janus_syntax.specs.View.{plain_declaration};
+ghost use Rattle.kernel_runner.specs.Program.{cell_of_program};
 ghost use Rattle.janus_names.specs.Numbers.{GoOn};
 ghost use Rattle.janus_store.specs.StoreState.{IsWhole};
 ghost use Rattle.janus_machine.specs.Procedures.{kept_in};
@@ -17,8 +19,9 @@ ghost use Rattle.kernel_runner.specs.Runner.{ShownWorld, over, Becomes, IsDeclar
 ghost use Rattle.kernel_runner.specs.Runner.{CanEnter, CanReturn, CanLeave, Enters, EntersInverse, Runs, Turns, GoesBack, Leaves};
 ghost use Rattle.kernel_machine.specs.StepsOfSlices.{steps_on, steps_back};
 
-use crate::program::{Declared, Program};
+use crate::program::Program;
 use janus_machine::{Cursor, End, Procedures, Store, Writes, slice};
+use janus_syntax::tree::Declaration;
 use kernel_machine::Progress;
 use std::alloc::{AllocError, Global};
 use std::sync::ledger::Ledger;
@@ -55,7 +58,7 @@ impl<L: Ledger> Runner<L> {
         // Without names it takes no memory.
         ensures none { (cell_of_program program.now).declarations ≡ [] → IsOk result }
     {
-        declare(&mut self.store, &program.declarations)?;
+        declare(&mut self.store, program.declarations())?;
         self.procedures
             .define_all(program.first, program.procedures().len());
         self.cursor.enter(&program.book);
@@ -138,7 +141,7 @@ impl<L: Ledger> Runner<L> {
         ensures kept { kept_in self.new.procedures ≡ kept_in self.old.procedures }
         ensures names { GoOn self.old.store.names self.new.store.names }
     {
-        retire(&mut self.store, program.declarations.len());
+        retire(&mut self.store, program.declarations().len());
         self.procedures
             .retire_all(program.first, program.procedures().len());
     }
@@ -157,11 +160,11 @@ fn retire<L: Ledger>(store: &mut Store<L>, count: usize)
 }
 
 /// Declares new names, which are 0 or empty then. An error for want of memory leaves what is declared.
-fn declare<L: Ledger>(store: &mut Store<L>, declarations: &[Declared]) -> Result<(), AllocError>
+fn declare<L: Ledger>(store: &mut Store<L>, declarations: &[Declaration]) -> Result<(), AllocError>
     requires values { HaveValues store.old.sight }
-    requires new { AreNew (shape_of store.old.sight) (map declaration_of declarations.now) }
+    requires new { AreNew (shape_of store.old.sight) (map plain_declaration (declarations_view declarations.now)) }
     requires whole { IsWhole store.old }
-    ensures ok { OnOk result (Becomes store.old store.new (declared_in (map declaration_of declarations.now) store.old.sight)) }
+    ensures ok { OnOk result (Becomes store.old store.new (declared_in (map plain_declaration (declarations_view declarations.now)) store.old.sight)) }
     ensures err { OnErr result (Becomes store.old store.new store.old.sight) }
     ensures none { declarations.now ≡ [] → IsOk result }
 {
@@ -175,16 +178,18 @@ fn declare<L: Ledger>(store: &mut Store<L>, declarations: &[Declared]) -> Result
 }
 
 /// Declares a new name. An error for want of memory leaves what is declared.
-fn declare_one<L: Ledger>(store: &mut Store<L>, declared: &Declared) -> Result<(), AllocError>
-    requires absent { look (declared_name (declaration_of declared.now)) store.old.sight ≡ Bad Broken }
+fn declare_one<L: Ledger>(store: &mut Store<L>, declaration: &Declaration) -> Result<(), AllocError>
+    requires absent { look (declared_name (plain_declaration (declaration_view declaration.now))) store.old.sight ≡ Bad Broken }
     requires whole { IsWhole store.old }
-    requires room { HasStackRoom (declaration_of declared.now) store.old.sight }
-    ensures ok { OnOk result (Becomes store.old store.new (declared_one_in (declaration_of declared.now) store.old.sight)) }
+    requires room { HasStackRoom (plain_declaration (declaration_view declaration.now)) store.old.sight }
+    ensures ok { OnOk result (Becomes store.old store.new (declared_one_in (plain_declaration (declaration_view declaration.now)) store.old.sight)) }
     ensures err { OnErr result (Becomes store.old store.new store.old.sight) }
 {
-    match declared {
-        Declared::Number(name) => store.declare(name.as_str()),
-        Declared::Array(name, length) => store.declare_array(name.as_str(), *length),
-        Declared::Stack(name) => store.declare_stack(name.as_str()),
+    match declaration {
+        Declaration::Int(name) => store.declare(name.text.as_str()),
+        Declaration::Array(name, length, _) => {
+            store.declare_array(name.text.as_str(), *length as usize)
+        }
+        Declaration::Stack(name) => store.declare_stack(name.text.as_str()),
     }
 }

@@ -10,7 +10,9 @@ loop-count-preserved c =
     let one = c.loop-count-test.true in
     let long = at.invariant.long in
     let left : at.count < c.args.most = omega arith in
-    let more : c.args.most - at.count ≡ suc (c.args.most - (at.count + 1)) = omega arith in
-    let step : length (downward favourites at.at (c.args.most - at.count)) ≡ suc (length (downward favourites (get_or favourites at.at 0) (c.args.most - (at.count + 1)))) =
-    ap (λ (n : ℕ). length (downward favourites at.at n)) more ∙ downward_more favourites at.at (c.args.most - (at.count + 1)) c.if-at-eq0.false in
+    let rest = c.args.most - (at.count + 1) in
+    let child = get_or favourites at.at 0 in
+    let more : c.args.most - at.count ≡ suc rest = omega arith in
+    let step : length (downward favourites at.at (c.args.most - at.count)) ≡ suc (length (downward favourites child rest)) =
+    ap (λ (n : ℕ). length (downward favourites at.at n)) more ∙ downward_more favourites at.at rest c.if-at-eq0.false in
     record { known = c.requires.nodes at.at at.invariant.known; few = omega arith; long = omega arith }

@@ -1,21 +1,21 @@
 use Rattle.std.proofs.Common.{◌≡◌, ℕ, List, [], ◌<◌, length, map, take, get_or, sym, ap, ◌∙◌, subst, add-one}
-use Rattle.std.proofs.lemmas.List.{length-map}
 use Rattle.janus_meaning.specs.World.{Declaration, DeclareInt, declared_name}
 use Rattle.janus_names.specs.Numbers.{IsMet}
 use Rattle.kernel_runner.specs.Met.{AreDeclaredMet}
-use Rattle.kernel_runner.specs.Program.{declaration_of}
-use Rattle.kernel_runner.proofs.Declaring.{mapped_at}
+use Rattle.janus_syntax.specs.Tree.{declaration_view, declarations_view}
+use Rattle.janus_syntax.specs.View.{plain_declaration}
+use Rattle.kernel_runner.proofs.Declaring.{declared_at, declared_count}
 use Rattle.kernel_runner.proofs.Growing.{declared_grow}
 use Rattle.kernel_runner.proofs.NamesMet.{keeps_more, declared_one_more}
 use Rattle.kernel_runner.proofs.meeting.meet_declared.Goals as goal
 
 pub loop-i-preserved : goal.loop-i-preserved
 loop-i-preserved g c =
-    let ds : List Declaration = map declaration_of c.args.declarations.now in
+    let ds : List Declaration = map plain_declaration (declarations_view c.args.declarations.now) in
     let d : Declaration = DeclareInt [] in
-    let low : c.loop-i.i < length ds = rw length-map c.loop-i-test.true in
-    let one : get_or ds c.loop-i.i d ≡ declaration_of c.index-declarations-i.result =
-    mapped_at declaration_of c.args.declarations.now c.loop-i.i c.index-declarations-i.result d c.loop-i-test.true ∙ ap declaration_of (sym c.index-declarations-i.is) in
+    let low : c.loop-i.i < length ds = rw (declared_count c.args.declarations.now) c.loop-i-test.true in
+    let one : get_or ds c.loop-i.i d ≡ plain_declaration (declaration_view c.index-declarations-i.result) =
+    declared_at c.args.declarations.now c.loop-i.i c.index-declarations-i.result d c.loop-i-test.true (sym c.index-declarations-i.is) in
     let all = c.meet_one.new.store.names in (
       subst (λ (n : ℕ). AreDeclaredMet all (take n ds)) (sym (add-one c.loop-i.i))
           (declared_one_more all ds c.loop-i.i d low (declared_grow c.loop-i.store.names all c.in_ok-meet_one.ensures.kept.names (take c.loop-i.i ds) c.loop-i.invariant.0)

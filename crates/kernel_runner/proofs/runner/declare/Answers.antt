@@ -1,20 +1,20 @@
 use Rattle.std.proofs.Common.{◌≡◌, ℕ, List, [], ◌<◌, ◌≤◌, length, map, take, get_or, sym, ap, ◌∙◌, subst, arith, add-one}
-use Rattle.std.proofs.lemmas.List.{length-map}
 use Rattle.janus_meaning.specs.Fault.{Bad, Broken}
 use Rattle.janus_meaning.specs.Store.{Store, look}
 use Rattle.janus_meaning.specs.World.{Declaration, DeclareInt, declare, declare_one, declared_name}
 use Rattle.kernel_runner.specs.Declarable.{HasStackRoom}
-use Rattle.kernel_runner.specs.Program.{declaration_of}
-use Rattle.kernel_runner.proofs.Declaring.{new_at, room_at, values_lend_nothing, declared_more, mapped_at, all_taken, taken_count, becomes_then, becomes_same}
+use Rattle.janus_syntax.specs.Tree.{declaration_view, declarations_view}
+use Rattle.janus_syntax.specs.View.{plain_declaration}
+use Rattle.kernel_runner.proofs.Declaring.{new_at, room_at, values_lend_nothing, declared_more, declared_at, declared_count, all_taken, taken_count, becomes_then, becomes_same}
 use Rattle.kernel_runner.proofs.runner.declare.Goals as goal
 
 pub declare_one-requires : goal.declare_one-requires
 declare_one-requires g c =
-    let ds : List Declaration = map declaration_of c.args.declarations.now in
+    let ds : List Declaration = map plain_declaration (declarations_view c.args.declarations.now) in
     let d : Declaration = DeclareInt [] in
-    let low : c.loop-i.i < length ds = rw length-map c.loop-i-test.true in
-    let one : get_or ds c.loop-i.i d ≡ declaration_of c.index-declarations-i.result =
-    mapped_at declaration_of c.args.declarations.now c.loop-i.i c.index-declarations-i.result d c.loop-i-test.true ∙ ap declaration_of (sym c.index-declarations-i.is) in
+    let low : c.loop-i.i < length ds = rw (declared_count c.args.declarations.now) c.loop-i-test.true in
+    let one : get_or ds c.loop-i.i d ≡ plain_declaration (declaration_view c.index-declarations-i.result) =
+    declared_at c.args.declarations.now c.loop-i.i c.index-declarations-i.result d c.loop-i-test.true (sym c.index-declarations-i.is) in
     record {
       absent = subst (λ (x : Declaration). look (declared_name x) c.loop-i.store.sight ≡ Bad Broken) one
           (subst (λ (s : Store). look (declared_name (get_or ds c.loop-i.i d)) s ≡ Bad Broken) (sym c.loop-i.invariant.sight) (new_at ds c.args.store.now.sight c.loop-i.i d c.requires.new low));
@@ -25,27 +25,27 @@ declare_one-requires g c =
 
 pub loop-i-preserved : goal.loop-i-preserved
 loop-i-preserved g c =
-    let ds : List Declaration = map declaration_of c.args.declarations.now in
+    let ds : List Declaration = map plain_declaration (declarations_view c.args.declarations.now) in
     let d : Declaration = DeclareInt [] in
-    let low : c.loop-i.i < length ds = rw length-map c.loop-i-test.true in
-    let one : get_or ds c.loop-i.i d ≡ declaration_of c.index-declarations-i.result =
-    mapped_at declaration_of c.args.declarations.now c.loop-i.i c.index-declarations-i.result d c.loop-i-test.true ∙ ap declaration_of (sym c.index-declarations-i.is) in
+    let low : c.loop-i.i < length ds = rw (declared_count c.args.declarations.now) c.loop-i-test.true in
+    let one : get_or ds c.loop-i.i d ≡ plain_declaration (declaration_view c.index-declarations-i.result) =
+    declared_at c.args.declarations.now c.loop-i.i c.index-declarations-i.result d c.loop-i-test.true (sym c.index-declarations-i.is) in
     becomes_then _ _ _ _ _ c.loop-i.invariant
     (becomes_same _ _ _ _
-    (ap (declare_one (declaration_of c.index-declarations-i.result)) c.loop-i.invariant.sight ∙ ap (λ (x : Declaration). declare_one x (declare (take c.loop-i.i ds) c.args.store.now.sight)) (sym one)
+    (ap (declare_one (plain_declaration (declaration_view c.index-declarations-i.result))) c.loop-i.invariant.sight ∙ ap (λ (x : Declaration). declare_one x (declare (take c.loop-i.i ds) c.args.store.now.sight)) (sym one)
     ∙ sym (declared_more ds c.args.store.now.sight c.loop-i.i d low) ∙ ap (λ (n : ℕ). declare (take n ds) c.args.store.now.sight) (sym (add-one c.loop-i.i)))
     c.in_default.ensures.ok)
 
 pub returns-clause-ok : goal.returns-clause-ok
 returns-clause-ok g c =
-    let ds : List Declaration = map declaration_of c.args.declarations.now in
-    let all : length ds ≤ c.loop-i.i = rw length-map c.loop-i-test.false in
+    let ds : List Declaration = map plain_declaration (declarations_view c.args.declarations.now) in
+    let all : length ds ≤ c.loop-i.i = rw (declared_count c.args.declarations.now) c.loop-i-test.false in
     becomes_same _ _ _ _ (ap (λ (l : List Declaration). declare l c.args.store.now.sight) (all_taken ds c.loop-i.i all)) c.loop-i.invariant
 
 pub retire-requires-clause-declared : goal.retire-requires-clause-declared
 retire-requires-clause-declared g c =
-    let ds : List Declaration = map declaration_of c.args.declarations.now in
-    let low : c.loop-i.i ≤ length ds = let h : length ds ≡ length c.args.declarations.now = length-map _ _ in let g = c.loop-i-test.true in omega arith in
+    let ds : List Declaration = map plain_declaration (declarations_view c.args.declarations.now) in
+    let low : c.loop-i.i ≤ length ds = let h = declared_count c.args.declarations.now in let g = c.loop-i-test.true in omega arith in
     (c.args.store.now.sight, record { declarations = take c.loop-i.i ds; many = taken_count ds c.loop-i.i low; declared = c.in-Err.ensures.err.sight ∙ c.loop-i.invariant.sight })
 
 pub retire-requires-clause-whole : goal.retire-requires-clause-whole
@@ -53,8 +53,8 @@ retire-requires-clause-whole g c = c.in-Err.ensures.err.whole
 
 pub returns-in-Err-clause-err : goal.returns-in-Err-clause-err
 returns-in-Err-clause-err g c =
-    let ds : List Declaration = map declaration_of c.args.declarations.now in
-    let low : c.loop-i.i ≤ length ds = let h : length ds ≡ length c.args.declarations.now = length-map _ _ in let g = c.loop-i-test.true in omega arith in
+    let ds : List Declaration = map plain_declaration (declarations_view c.args.declarations.now) in
+    let low : c.loop-i.i ≤ length ds = let h = declared_count c.args.declarations.now in let g = c.loop-i-test.true in omega arith in
     becomes_then _ _ _ _ _ c.loop-i.invariant
     (becomes_then _ _ _ _ _ c.in-Err.ensures.err
     (c.retire.ensures.becomes c.args.store.now.sight (record { declarations = take c.loop-i.i ds; many = taken_count ds c.loop-i.i low; declared = c.in-Err.ensures.err.sight ∙ c.loop-i.invariant.sight })))

@@ -1,14 +1,14 @@
 use Rattle.std.proofs.Common.{◌≡◌, ℕ, List, length, map, take, refl, sym, ap, ◌∙◌, subst}
 use Rattle.janus_meaning.specs.Syntax.{Name, Proc}
 use Rattle.janus_syntax.specs.Tree as tree
-use Rattle.janus_syntax.specs.Tree.{declarations_view, procedures_view}
-use Rattle.janus_syntax.specs.View.{plain_declaration, plain_procedure, plain_cell}
+use Rattle.janus_syntax.specs.Tree.{procedures_view}
+use Rattle.janus_syntax.specs.View.{plain_procedure, plain_cell}
 use Rattle.janus_check.specs.Checked.{cell_in}
 use Rattle.janus_invert.specs.Met.{MeetsBlk}
 use Rattle.janus_machine.specs.Bodies.{AreBelow}
 use Rattle.janus_machine.specs.Procedures.{kept_in}
 use Rattle.kernel_runner.specs.Met.{AreProceduresMet}
-use Rattle.kernel_runner.specs.Program.{cell_of_program, declaration_of, tree_of}
+use Rattle.kernel_runner.specs.Program.{cell_of_program, tree_of}
 use Rattle.kernel_runner.specs.declared.program.Program.{Program}
 use Rattle.kernel_runner.proofs.Entries.{same_cell}
 use Rattle.kernel_runner.proofs.Made.{all_kept, shows_more, bodies_within, cell_met, ready_made, ok_fact}
@@ -29,17 +29,15 @@ returns-in_err-book-clause-shown g c = λ shown h.
 pub flatten-requires : goal.flatten-requires
 flatten-requires g c =
     subst (λ (xs : List Name). MeetsBlk xs (plain_cell (cell_in c.args.checked)).block) (sym c.names-names.ensures.names)
-    (cell_met c.args.runner.now c.meet_cell-met.new.store c.requires.0 _ (cell_in c.args.checked) _ c.requires.1 c.meet_cell-met.ensures.kept c.names-names.ensures.known c.cell-cell.ensures
-    (ap (λ l. map declaration_of l) c.deref-2.ensures.value ∙ c.in_ok-declarations.ensures ∙ ap (λ l. map plain_declaration (declarations_view l)) c.deref.ensures.value) c.in_ok-met.ensures.declared c.in_ok-met.ensures.procedures c.in_ok-met.ensures.locals).0
+    (cell_met c.args.runner.now c.meet_cell-met.new.store c.requires.0 _ (cell_in c.args.checked) c.requires.1 c.meet_cell-met.ensures.kept c.names-names.ensures.known c.cell-cell.ensures c.in_ok-met.ensures.declared c.in_ok-met.ensures.procedures c.in_ok-met.ensures.locals).0
 
 pub keep_all-requires : goal.keep_all-requires
 keep_all-requires g c =
-    let same : map plain_procedure (procedures_view c.deref-3.result.now) ≡ (plain_cell (cell_in c.args.checked)).procedures =
-    ap (λ l. map plain_procedure (procedures_view l)) c.deref-3.ensures.value ∙ ap (λ (t : tree.Cell). (plain_cell t).procedures) c.cell-cell.ensures in
-    subst (λ (xs : List Name). AreProceduresMet xs (map plain_procedure (procedures_view c.deref-3.result.now))) (sym c.names-names.ensures.names)
+    let same : map plain_procedure (procedures_view c.deref.result.now) ≡ (plain_cell (cell_in c.args.checked)).procedures =
+    ap (λ l. map plain_procedure (procedures_view l)) c.deref.ensures.value ∙ ap (λ (t : tree.Cell). (plain_cell t).procedures) c.cell-cell.ensures in
+    subst (λ (xs : List Name). AreProceduresMet xs (map plain_procedure (procedures_view c.deref.result.now))) (sym c.names-names.ensures.names)
     (subst (λ (ps : List Proc). AreProceduresMet c.meet_cell-met.new.store.names ps) (sym same)
-    (cell_met c.args.runner.now c.meet_cell-met.new.store c.requires.0 _ (cell_in c.args.checked) _ c.requires.1 c.meet_cell-met.ensures.kept c.names-names.ensures.known c.cell-cell.ensures
-    (ap (λ l. map declaration_of l) c.deref-2.ensures.value ∙ c.in_ok-declarations.ensures ∙ ap (λ l. map plain_declaration (declarations_view l)) c.deref.ensures.value) c.in_ok-met.ensures.declared c.in_ok-met.ensures.procedures c.in_ok-met.ensures.locals).1)
+    (cell_met c.args.runner.now c.meet_cell-met.new.store c.requires.0 _ (cell_in c.args.checked) c.requires.1 c.meet_cell-met.ensures.kept c.names-names.ensures.known c.cell-cell.ensures c.in_ok-met.ensures.declared c.in_ok-met.ensures.procedures c.in_ok-met.ensures.locals).1)
 
 pub returns-then-is_err-clause-shown : goal.returns-then-is_err-clause-shown
 returns-then-is_err-clause-shown g c = λ shown h.
@@ -52,13 +50,12 @@ returns-then-is_err-clause-shown g c = λ shown h.
 pub returns-clause-ready : goal.returns-clause-ready
 returns-clause-ready g c =
     let some = sym c.is_err.ensures.value ∙ c.if-is_err.false in
-    let program : Program = record { declarations = c.in_ok-declarations.declarations; book = c.in_ok-book.book; checked = c.args.checked; first = c.len-first.result } in
+    let program : Program = record { book = c.in_ok-book.book; checked = c.args.checked; first = c.len-first.result } in
     let meant : cell_of_program program ≡ plain_cell (tree_of program) =
-    same_cell program (cell_in c.args.checked) (c.in_ok-declarations.ensures ∙ ap (λ l. map plain_declaration (declarations_view l)) c.deref.ensures.value ∙ ap (λ (t : tree.Cell). (plain_cell t).declarations) c.cell-cell.ensures)
-    refl (c.in_ok-book.ensures.block ∙ c.in-Ok.ensures.block) in
-    ready_made c.meet_cell-met.new.store.names c.names-names.result.now c.args.runner.now.procedures c.keep_all.new.kept program c.deref-3.result.now meant c.names-names.ensures.names (c.in_ok-book.ensures.numbered _ c.in-Ok.ensures.numbered)
+    same_cell program (c.in_ok-book.ensures.block ∙ c.in-Ok.ensures.block) in
+    ready_made c.meet_cell-met.new.store.names c.names-names.result.now c.args.runner.now.procedures c.keep_all.new.kept program c.deref.result.now meant c.names-names.ensures.names (c.in_ok-book.ensures.numbered _ c.in-Ok.ensures.numbered)
     c.len-first.ensures
-    (ap (λ l. map plain_procedure (procedures_view l)) c.deref-3.ensures.value ∙ ap (λ (t : tree.Cell). (plain_cell t).procedures) c.cell-cell.ensures)
+    (ap (λ l. map plain_procedure (procedures_view l)) c.deref.ensures.value ∙ ap (λ (t : tree.Cell). (plain_cell t).procedures) c.cell-cell.ensures)
     (ok_fact _ c.keep_all.result some c.keep_all.ensures.bodies)
     (ok_fact _ c.keep_all.result some c.keep_all.ensures.count)
 

@@ -1,22 +1,22 @@
-use Rattle.std.proofs.Common.{◌≡◌, ℕ, List, length, map, arith, sym, ap, ◌∙◌, subst}
+use Rattle.std.proofs.Common.{◌≡◌, ℕ, List, length, map, sym, ap, ◌∙◌, subst}
 use Rattle.std.proofs.lemmas.List.{length-map}
-use Rattle.std.proofs.lemmas.Grind.{common_steps}
 use Rattle.janus_meaning.specs.Syntax.{Proc}
 use Rattle.janus_meaning.specs.World.{Declaration}
 use Rattle.janus_syntax.specs.Tree.{procedure_view, procedures_view}
 use Rattle.janus_syntax.specs.View.{plain_procedure}
 use Rattle.janus_machine.specs.Bodies.{AreDefined, onto}
-use Rattle.kernel_runner.specs.Program.{declaration_of, procedures_of}
+use Rattle.kernel_runner.specs.Program.{declarations_of, procedures_of}
 use Rattle.kernel_runner.specs.Runner.{ShownWorld, Becomes, CanLeave}
 use Rattle.kernel_runner.proofs.Borders.{all_shown, left_here}
+use Rattle.kernel_runner.proofs.Declaring.{declared_count}
 use Rattle.kernel_runner.proofs.runner.Runner.leave.Given as given
 use Rattle.kernel_runner.proofs.runner.Runner.leave.Goals as goal
 
 -- the names of the cell are taken back
 retired : (g : given.Over) (c : goal.After-retire_all g) (to : ShownWorld) → CanLeave c.args.self.now c.args.program.now to → Becomes c.args.self.now.store c.retire.new.store to.world.store
 retired g c to can =
-    let ds : List Declaration = map declaration_of c.args.program.now.declarations.items in
-    let many : length ds ≡ c.len.result = length-map c.args.program.now.declarations.items declaration_of ∙ grind (arith, common_steps) in
+    let ds : List Declaration = declarations_of c.args.program.now in
+    let many : length ds ≡ c.len.result = sym (ap (λ (l : List Declaration). length l) c.declarations.ensures) ∙ declared_count c.declarations.result.now ∙ sym c.len.ensures in
     c.retire.ensures.becomes to.world.store (record { declarations = ds; many = many; declared = sym (all_shown c.args.self.now.store can.is.1) ∙ can.is.0.store })
 
 pub returns-clause-leaves : goal.returns-clause-leaves
