@@ -61,7 +61,7 @@ impl Broadcast {
     ///
     /// # Errors
     ///
-    /// `TooLong` where it passes a limit of the wire, and nothing goes out; `Write` where the writer failed, and a beginning went out. None is `Memory`.
+    /// `TooLong` where it passes a limit of the wire, and nothing goes out; `Write` where the writer failed, and a beginning went out. It is never `Memory`.
     pub fn send<W: Write>(&self, writer: &mut W) -> Result<(), SendFault>
         ensures ok { OnOk result (Appends (W.contents writer.old) (W.contents writer.new) (message_octets self.now)) }
         ensures err { OnErr result (SentSome (W.contents writer.old) (W.contents writer.new) (message_octets self.now)) }

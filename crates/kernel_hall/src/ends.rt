@@ -5,7 +5,7 @@ use crate::spin::{LOOKS_FOR_END, watch};
 use std::sync::atomic::{AtomicBool, Ordering};
 use std::sync::{Condvar, MutexGuard, Wait};
 
-/// The number of places.
+/// The number of places at which frontends wait for an end.
 const PLACES: u64 = 16;
 
 /// Places to wait at, by the numbers of jobs, so that an end wakes few that wait for another.

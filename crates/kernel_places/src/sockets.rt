@@ -1,4 +1,4 @@
-//! What tells, on each of the five sockets, that somebody is there.
+//! How each of the five sockets tells whether its peer is active.
 use kernel_session::Socket;
 use kernel_sockets::MOMENT;
 

@@ -4,7 +4,7 @@ use std::time::{Clock, Duration};
 /// How long a handshake may take, from the time at which the connection was accepted.
 const HANDSHAKE_SECONDS: u64 = 10;
 
-/// How often a read or a write is begun anew that a signal interrupted.
+/// The most times that a read or a write is begun anew which a signal interrupted.
 pub(crate) const INTERRUPTIONS: u32 = 1_000;
 
 /// The time on the clock; its start where it can't be read.

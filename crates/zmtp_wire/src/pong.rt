@@ -7,7 +7,7 @@ use crate::header::COMMAND;
 /// The name of a pong, with its length.
 pub(crate) const PONG: &[u8] = b"\x04PONG";
 
-/// A ping has so many octets beside its context, in the short form of a frame: flags, size, its name with a length, and a time to live.
+/// The octets that a ping has beside its context, in the short form of a frame: flags, size, its name with a length, and a time to live.
 pub const PING_OCTETS: usize = 9;
 
 /// The longest context that a ping may have (RFC 37, "Heartbeating").
