@@ -17,7 +17,7 @@ use Rattle.kernel_machine.specs.Begins.{travel_to, Departs, Enters, TakesMove, T
 use Rattle.kernel_machine.specs.Runs.{Machine, IsRefusal, IsPost, Run, IsBegin, BeginsAt, Takes, TakesUnless, noted, end_of_begun, end_of_sliced}
 use Rattle.kernel_machine.specs.Request.{Request, RunCell, Undo, Redo, Goto, request_of, raised}
 use Rattle.machine_laws.specs.Determined.{TellsWant, StepIsDetermined, RunIsDetermined, OneWorldIsShown}
-use Rattle.kernel_machine.specs.Travel as aim
+use Rattle.kernel_machine.specs.declared.travel.Aim.TheVariants as aim
 use Rattle.kernel_machine.proofs.Trees.{meeting_same}
 use Rattle.kernel_machine.specs.declared.travel.Travel.{Travel}
 use Rattle.kernel_machine.specs.declared.turn.Why.{Why}

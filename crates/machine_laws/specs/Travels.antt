@@ -18,7 +18,7 @@ use Rattle.kernel_machine.specs.Request.{Undo, Redo}
 use Rattle.kernel_machine.specs.Runs.{Machine, IsNext, Step, Run}
 use Rattle.kernel_machine.specs.Midway.{gone}
 use Rattle.kernel_machine.specs.declared.turn.Turn.TheVariants.{GoesOn}
-use Rattle.kernel_machine.specs.Travel as aim
+use Rattle.kernel_machine.specs.declared.travel.Aim.TheVariants as aim
 use Rattle.kernel_machine.specs.declared.outcome.End.TheVariants.{All}
 use Rattle.kernel_machine.specs.declared.outcome.Outcome.TheVariants as outcome
 use Rattle.kernel_machine.specs.declared.outcome.Sliced.{Sliced}
