@@ -102,10 +102,6 @@ pub declared_count : (ys : List Tree.Declaration) → length (map plain_declarat
 declared_count [] = refl
 declared_count (y ∷ ys) = ap suc (declared_count ys)
 
-pub none_declared : (ys : List Tree.Declaration) → map plain_declaration (declarations_view ys) ≡ [] → ys ≡ []
-none_declared [] e = refl
-none_declared (y ∷ ys) e = cc
-
 pub all_taken : {A : Type 0} (xs : List A) (n : ℕ) → length xs ≤ n → take n xs ≡ xs
 all_taken [] zero l = refl
 all_taken [] (suc n) l = refl

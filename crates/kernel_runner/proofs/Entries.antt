@@ -5,14 +5,13 @@ use Rattle.std.proofs.lemmas.Bool.{cases_lt}
 use Rattle.janus_meaning.specs.Syntax.{Name, ANumber, AnArray, AStack, Blk}
 use Rattle.janus_meaning.specs.Store.{Val, Num, Arr, Stk, Lent, Store, Bare, Slot}
 use Rattle.janus_meaning.specs.Shape.{Shape, AreDistinct, shape_of, kind_at}
-use Rattle.janus_meaning.specs.World.{Declaration, size_of, listed}
+use Rattle.janus_meaning.specs.World.{size_of, listed}
 use Rattle.janus_check.specs.Names.{over}
 use Rattle.janus_check.specs.Names as names
 use Rattle.janus_check.specs.declared.env.Kind.{Kind}
 use Rattle.janus_check.specs.declared.env.Kind.TheVariants.{Number, Array, Stack}
 use Rattle.janus_syntax.specs.Tree as tree
-use Rattle.janus_syntax.specs.View.{plain_cell, plain_parameter}
-use Rattle.janus_check.specs.Checked.{cell_in}
+use Rattle.janus_syntax.specs.View.{plain_cell}
 use Rattle.janus_machine.specs.Places.{block_in}
 use Rattle.janus_machine.specs.declared.book.Direction.TheVariants.{Forward}
 use Rattle.kernel_runner.specs.Kinds.{kind_in}

@@ -16,7 +16,7 @@ use Rattle.janus_store.specs.StoreState.{Caller, IsWhole, given_back}
 use Rattle.janus_machine.specs.Open.{Agrees}
 use Rattle.janus_machine.specs.Nested.{AreOpenCalls}
 use Rattle.janus_machine.specs.Cursors.{place_of, has_ended, IsStanding}
-use Rattle.janus_machine.specs.Cursor.{calls_of, has_no_calls}
+use Rattle.janus_machine.specs.Cursor.{calls_of, are_no_calls}
 use Rattle.janus_machine.specs.Steps.{Refuses}
 use Rattle.janus_machine.specs.Law.{seen_at}
 use Rattle.janus_machine.specs.Faults.{fault_of}
@@ -36,7 +36,7 @@ use Rattle.kernel_runner.proofs.Going.{run_means, back_means, stops_at}
 
 -- ---- at an end no call is open
 
-none_called : (cs : List Call) → has_no_calls cs ≡ true → reverse cs ≡ []
+none_called : (cs : List Call) → are_no_calls cs ≡ true → reverse cs ≡ []
 none_called [] e = refl
 none_called (c ∷ cs) e = cc
 
@@ -53,7 +53,7 @@ module _ {L : Type 0} (runner : Runner L) (program : Program) (at : Place) where
   ended_callers : IsStanding runner.procedures program.book runner.cursor runner.store → has_ended runner.cursor ≡ true → runner.store.callers ≡ []
   ended_callers standing ended =
       no_callers runner.store.names runner.procedures program.book runner.cursor.direction (calls_of runner.cursor) runner.store.callers
-      (none_called runner.cursor.calls.items (second _ (has_no_calls runner.cursor.calls.items) ended)) standing.calls
+      (none_called runner.cursor.calls.items (second _ (are_no_calls runner.cursor.calls.items) ended)) standing.calls
 
   -- the world shown is what is seen at the cursor of the declared names
   world_seen : IsStanding runner.procedures program.book runner.cursor runner.store → runner.store.declared ≡ size_of (start_at at).store →

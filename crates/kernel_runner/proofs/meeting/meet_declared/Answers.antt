@@ -1,4 +1,4 @@
-use Rattle.std.proofs.Common.{◌≡◌, ℕ, List, [], ◌<◌, length, map, take, get_or, sym, ap, ◌∙◌, subst, add-one}
+use Rattle.std.proofs.Common.{◌≡◌, ℕ, List, [], ◌<◌, length, map, take, get_or, sym, subst, add-one}
 use Rattle.janus_meaning.specs.World.{Declaration, DeclareInt, declared_name}
 use Rattle.janus_names.specs.Numbers.{IsMet}
 use Rattle.kernel_runner.specs.Met.{AreDeclaredMet}

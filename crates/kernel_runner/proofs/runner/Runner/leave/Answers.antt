@@ -1,4 +1,4 @@
-use Rattle.std.proofs.Common.{◌≡◌, ℕ, List, length, map, sym, ap, ◌∙◌, subst}
+use Rattle.std.proofs.Common.{◌≡◌, ℕ, List, length, sym, ap, ◌∙◌, subst}
 use Rattle.std.proofs.lemmas.List.{length-map}
 use Rattle.janus_meaning.specs.Syntax.{Proc}
 use Rattle.janus_meaning.specs.World.{Declaration}
@@ -16,7 +16,7 @@ use Rattle.kernel_runner.proofs.runner.Runner.leave.Goals as goal
 retired : (g : given.Over) (c : goal.After-retire_all g) (to : ShownWorld) → CanLeave c.args.self.now c.args.program.now to → Becomes c.args.self.now.store c.retire.new.store to.world.store
 retired g c to can =
     let ds : List Declaration = declarations_of c.args.program.now in
-    let many : length ds ≡ c.len.result = sym (ap (λ (l : List Declaration). length l) c.declarations.ensures) ∙ declared_count c.declarations.result.now ∙ sym c.len.ensures in
+    let many : length ds ≡ length c.declarations.result.now = sym (ap (λ (l : List Declaration). length l) c.declarations.ensures) ∙ declared_count c.declarations.result.now in
     c.retire.ensures.becomes to.world.store (record { declarations = ds; many = many; declared = sym (all_shown c.args.self.now.store can.is.1) ∙ can.is.0.store })
 
 pub returns-clause-leaves : goal.returns-clause-leaves
