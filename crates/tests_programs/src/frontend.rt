@@ -193,7 +193,7 @@ impl Frontend {
     }
 
     /// Waits until the kernel is ready on this connection, for as many reads at most, and tells whether it is.
-    pub(crate) fn wait_until_ready(&mut self, rt: &impl Abort, reads: u32) -> bool {
+    pub(crate) fn becomes_ready(&mut self, rt: &impl Abort, reads: u32) -> bool {
         for _ in 0..reads {
             if self.is_ready {
                 return true;
@@ -205,7 +205,7 @@ impl Frontend {
 
     /// Waits until the kernel is ready on this connection.
     pub(crate) fn wait_until_ready(&mut self, rt: &impl Abort) {
-        assert!(rt; self.wait_until_ready(rt, READS), "the kernel is not ready");
+        assert!(rt; self.becomes_ready(rt, READS), "the kernel is not ready");
     }
 
     /// Sends a request.
