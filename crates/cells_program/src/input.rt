@@ -7,7 +7,7 @@ use crate::fault::RunFault;
 use std::alloc::Global;
 use std::io::Read;
 
-/// How many octets of an input are taken.
+/// The most octets of an input that are taken.
 const INPUT_LIMIT: usize = 16_777_216;
 
 /// The text that the reader gives to its end: at most 16,777,216 octets of UTF-8. No more than one octet past these is read,

@@ -27,4 +27,4 @@ pub use command_line::{program, without_output};
 pub use fault::{RunFault, status};
 pub use output::send_run_fault;
 pub use transcript::run;
-pub use words::steps_of;
+pub use words::{steps_of, unread_words_status, words_status};

@@ -16,7 +16,7 @@ use serde_json::Value;
 use std::alloc::Global;
 use std::io::{Read, Write};
 
-/// So often the kernel is asked what it is, until a status with its parent came.
+/// How often the kernel is asked what it is, until a status with its parent came.
 const ASKS: u32 = 100;
 
 /// The most broadcasts that are looked at for each asking, be they refused or not: in all askings more than a kernel keeps.

@@ -21,10 +21,10 @@ use std::time::Duration;
 use std::{fs, io};
 use zmtp_peer::Role;
 
-/// So long a read waits until the kernel is ready on a connection: its places may all be taken, or no kernel listens there.
+/// How long a read waits until the kernel is ready on a connection: its places may all be taken, or no kernel listens there.
 const OPENING_SECONDS: u64 = 2;
 
-/// So long a read of iopub waits while it is not known whether broadcasts come.
+/// How long a read of iopub waits while it is not known whether broadcasts come.
 const GREETING_MILLISECONDS: u64 = 20;
 
 /// The status of a program that had no memory for its words.

@@ -2,16 +2,15 @@
 //! line and the three streams.
 #![tactic(auto)]
 
-use cells_program::{RunFault, program, send_run_fault, status, without_output};
+use cells_program::{
+    RunFault, program, send_run_fault, status, unread_words_status, without_output, words_status,
+};
 use clap::error::ErrorKind;
 use kernel_text::WriteFailed;
-use program_words::{send_unread_words, unread_words_status, words_status};
+use program_words::send_unread_words;
 use std::env;
 use std::io::{self, BufWriter};
 use std::process::ExitCode;
-
-/// The exit status where there is no memory for the words.
-const NO_MEMORY: u8 = 1;
 
 fn main(rt: HostRuntime) -> anyhow::Result<ExitCode> {
     let alloc = rt.alloc();
@@ -52,7 +51,7 @@ fn refuse_unread_words(rt: &HostRuntime, kind: io::ErrorKind) -> anyhow::Result<
     } else {
         send_unread_words(&mut rt.stderr())?;
     }
-    Ok(ExitCode::from(unread_words_status(kind, NO_MEMORY)))
+    Ok(ExitCode::from(unread_words_status(kind)))
 }
 
 /// Tells why the words of the command line run nothing, and answers the program's status. A help text that can't be written
@@ -65,7 +64,7 @@ fn refuse_words(rt: &HostRuntime, error: &clap::Error) -> anyhow::Result<ExitCod
         tell(rt, RunFault::Write)?;
         return Ok(ExitCode::from(status(Err(RunFault::Write))));
     }
-    Ok(ExitCode::from(words_status(kind, NO_MEMORY)))
+    Ok(ExitCode::from(words_status(kind)))
 }
 
 /// Tells a fault on standard error.

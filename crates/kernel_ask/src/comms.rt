@@ -6,7 +6,7 @@ use std::alloc::{AllocError, Global};
 use std::collections::BTreeSet;
 use std::marker::Model;
 
-/// How many comms may be open.
+/// The most comms that may be open.
 pub const COMM_LIMIT: usize = 1024;
 
 /// The open comms by their ids. Contracts see the ids, in the order of their octets.

@@ -61,11 +61,12 @@ impl Broadcast {
     ///
     /// # Errors
     ///
-    /// `TooLong` where it passes a limit of the wire, and nothing goes out; `Write` where the writer failed, and a beginning went out. No memory is taken.
+    /// `TooLong` where it passes a limit of the wire, and nothing goes out; `Write` where the writer failed, and a beginning went out. It is never `Memory`.
     pub fn send<W: Write>(&self, writer: &mut W) -> Result<(), SendFault>
         ensures ok { OnOk result (Appends (W.contents writer.old) (W.contents writer.new) (message_octets self.now)) }
         ensures err { OnErr result (SentSome (W.contents writer.old) (W.contents writer.new) (message_octets self.now)) }
         ensures too_long { IfErr result (λ fault. fault ≡ SendFault.TooLong → ¬ (IsWithinLimits self.now)) }
+        ensures unsent { IfErr result (λ fault. fault ≡ SendFault.TooLong → writer.new ≡ writer.old) }
         ensures no_memory { IfErr result (λ fault. fault ≢ SendFault.Memory) }
     {
         let Some(octets) = self.octets() else {

@@ -1,11 +1,11 @@
 //! Where frontends wait for the ends of jobs.
 ghost use Rattle.std.specs.Prelude.{◌<◌};
 
-use crate::spin::watch;
+use crate::spin::{LOOKS_FOR_END, watch};
 use std::sync::atomic::{AtomicBool, Ordering};
 use std::sync::{Condvar, MutexGuard, Wait};
 
-/// The number of places.
+/// The number of places at which frontends wait for an end.
 const PLACES: u64 = 16;
 
 /// Places to wait at, by the numbers of jobs, so that an end wakes few that wait for another.
@@ -53,7 +53,7 @@ impl Ends {
         if self.is_watched.swap(true, Ordering::SeqCst) {
             return;
         }
-        watch(&self.places[place_of(number)], seen);
+        watch(&self.places[place_of(number)], seen, LOOKS_FOR_END);
         self.is_watched.store(false, Ordering::SeqCst);
     }
 

@@ -11,7 +11,7 @@ ghost use Rattle.kernel_audit.specs.Audit.{Audited, IsAuditFault};
 use crate::ends::Ends;
 use crate::entrance::Entrance;
 use crate::minutes::Minutes;
-use crate::spin::watch;
+use crate::spin::{LOOKS_FOR_POST, watch};
 use crate::state::State;
 use crate::turn::Turn;
 use kernel_ask::{Answer, Ask, CommChange, Comms, Done, HallFault, Wish, comm_on, judge};
@@ -148,9 +148,9 @@ impl<W: Ledger, L: Ledger> Hall<W, L> {
         self.end_of(rt, ticket.number)
     }
 
-    /// Posts a job, waits until it has ended, and answers what came of it: `post` and `wait` in one, for who keeps no ticket. The job is moved to
-    /// the kernel, and not copied. The pass comes back, and has counted it. A refused post leaves the pass, and drops the job and the
-    /// wishes; the refusal is that of the kernel that was met.
+    /// `post` and `wait` in one, for who keeps no ticket: the job is moved to the kernel, and not copied. What is answered is an end in the minutes,
+    /// without a clause on whose it is, since no ticket names the job. The pass comes back, and has counted it. A refused post leaves the pass, and
+    /// drops the job and the wishes; the refusal is that of the kernel that was met.
     pub fn run<R: Wait>(
         &self,
         rt: &R,
@@ -278,7 +278,7 @@ impl<W: Ledger, L: Ledger> Hall<W, L> {
     pub(crate) fn wait_for_work<R: Wait>(&self, rt: &R) -> bool {
         let seen = self.moved.notifications();
         if self.state.lock(rt).is_at_rest() {
-            watch(&self.moved, seen);
+            watch(&self.moved, seen, LOOKS_FOR_POST);
         }
         let mut state = self.state.lock(rt);
         for _ in rt.forever() {

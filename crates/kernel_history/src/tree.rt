@@ -83,9 +83,8 @@ pub fn below(tree: &Tree, travel: Travel) -> usize
     ensures { result ≡ below (past_of tree.now) travel }
 {
     match travel.aim {
-        Aim::Undo => tree.cells.favourite(tree.position).unwrap(),
-        Aim::Redo => tree.cells.favourite(tree.position).unwrap(),
         Aim::Goto(_) => tree.cells.next_down(travel.down),
+        _ => tree.cells.favourite(tree.position).unwrap(),
     }
 }
 

@@ -4,7 +4,7 @@ use Rattle.std.specs.Prelude.{◌≡◌, ℕ, ◌-◌, List, [], ◌∷◌, ◌+
 use Rattle.janus_meaning.specs.World.{World, empty_world, Cell}
 use Rattle.janus_meaning.specs.Syntax.{Proc}
 use Rattle.kernel_machine.specs.Language.{empty_cell, Code, Forward, Backward, start_of, CodePart, end_of}
-use Rattle.kernel_machine.specs.Travel.{Up, Down, Aim, Undo, Redo, Goto, Travel, next_way}
+use Rattle.kernel_machine.specs.Travel.{Up, Down, Aim, Goto, Travel, next_way}
 use Rattle.kernel_machine.specs.Turn.{Turn}
 
 -- a cell that ended well, with the steps that it took; or the root
@@ -75,9 +75,8 @@ ancestor nodes n (suc j) = (get_or nodes (ancestor nodes n j) root).parent
 
 -- the node to which a travel goes down next, with so many cells down still to go: towards a node the one so far above it, else the favourite
 abbrev pub below_by : Aim → Past → ℕ → ℕ
-below_by Undo s down = favourite_of s s.position
-below_by Redo s down = favourite_of s s.position
 below_by (Goto n) s down = ancestor s.nodes n (down - 1)
+below_by other s down = favourite_of s s.position
 
 abbrev pub below : Past → Travel → ℕ
 below s travel = below_by travel.aim s travel.down

@@ -145,7 +145,7 @@ impl Doors {
         }
     }
 
-    /// That of a socket.
+    /// The door of a socket.
     pub fn of(&self, socket: Socket) -> &Door {
         match socket {
             Socket::Shell => &self.shell,

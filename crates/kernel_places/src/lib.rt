@@ -27,17 +27,25 @@
 //! To the layer above this crate promises safety alone, that each place's seat is one of the bell of the hall (the type of `HallDesk`), and
 //! that nothing of a connection is counted behind its end (the type of `Allowance`): that a thread runs, a connection is served or an end
 //! comes, no contract can say.
+//!
+//! The files, in the order in which a connection passes them: `usher` accepts it and has others make room, `door` is where it waits for a place,
+//! `places` has the places and the listeners, `requests` serves it on shell, control, stdin and heartbeat, `publishing` on iopub; `arrivals`
+//! is what comes on it, `departures` what goes out, `sockets` and `time` have the rules of each socket and its times. `task` is what a thread
+//! does, `worker` runs the cells, `latch` is what all threads look at, `service` has all that they share, and `start` starts and ends them.
 #![tactic(auto)]
 
 mod arrivals;
+mod departures;
 mod door;
 mod latch;
 mod places;
 mod publishing;
 mod requests;
 mod service;
+mod sockets;
 mod start;
 mod task;
+mod time;
 mod usher;
 mod worker;
 

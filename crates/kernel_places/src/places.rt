@@ -53,7 +53,7 @@ pub struct Listeners {
 }
 
 impl Listeners {
-    /// That of a socket.
+    /// The listener of a socket.
     pub(crate) fn of(&self, socket: Socket) -> &Listener {
         match socket {
             Socket::Shell => &self.shell,

@@ -1,7 +1,9 @@
 //! The places of the iopub socket.
-use crate::arrivals::{Arrivals, Departures, milliseconds};
+use crate::arrivals::Arrivals;
+use crate::departures::Departures;
 use crate::places::share;
 use crate::service::Service;
+use crate::time::milliseconds;
 use kernel_iopub::{HangUp, serve_subscriber};
 use kernel_session::Socket;
 use kernel_sockets::{Allowance, Input};

@@ -1,7 +1,9 @@
 //! The places of the sockets on which something comes: shell, control, stdin and heartbeat.
-use crate::arrivals::{Arrivals, Departures, milliseconds};
+use crate::arrivals::Arrivals;
+use crate::departures::Departures;
 use crate::places::{Place, share};
 use crate::service::Service;
+use crate::time::milliseconds;
 use kernel_desk::{HallDesk, QuietDesk};
 use kernel_session::{Desk, Socket, serve};
 use kernel_sockets::{Allowance, Input};

@@ -30,7 +30,7 @@ impl<W: Ledger + Send + Sync, L: Ledger + Send + Sync, R: Threads + Wait + Clock
     L,
     R,
 > {
-    /// Does it, to its end.
+    /// Runs the task to its end.
     pub fn run<S: Ledger + Send + Sync>(
         self,
         rt: &R,

@@ -1,10 +1,11 @@
 //! The usher of a socket: it accepts connections, and has a stranger make room where all places are taken.
-use crate::arrivals::milliseconds;
 use crate::door::Door;
 use crate::places::{Listeners, PLACES, Place};
 use crate::service::Service;
+use crate::sockets::silence;
+use crate::time::milliseconds;
 use kernel_session::Socket;
-use kernel_sockets::{Connections, Listener, MOMENT};
+use kernel_sockets::{Connections, Listener};
 use std::net::TcpStream;
 use std::sync::Wait;
 use std::sync::ledger::Ledger;
@@ -16,18 +17,6 @@ const REST_MILLISECONDS: u64 = 20;
 
 /// How long a connection waits for a place before a further stranger has to make room.
 const WAIT_MILLISECONDS: u64 = 10;
-
-/// How long a ready connection of iopub, stdin or heartbeat may be silent before it has to make room for another one.
-const SILENCE_MILLISECONDS: u64 = 60_000;
-
-/// The milliseconds for which a ready connection of a socket on which no signed message came may be silent before it has to make room. On
-/// shell and control a signed message shows who has the key.
-fn silence(socket: Socket) -> u64 {
-    match socket {
-        Socket::Shell | Socket::Control => MOMENT,
-        Socket::Iopub | Socket::Stdin | Socket::Heartbeat => SILENCE_MILLISECONDS,
-    }
-}
 
 /// The next connection of a socket, with its number. `None` where none could be accepted, after a rest: no descriptor may be free for
 /// a while, and the usher is not to spin.

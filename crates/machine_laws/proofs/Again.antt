@@ -8,8 +8,9 @@ use Rattle.kernel_machine.specs.Request.{Undo, Redo}
 use Rattle.kernel_machine.specs.Midway.{after, gone}
 use Rattle.kernel_machine.specs.Ends.{MoveEnds, EndsUnless}
 use Rattle.machine_laws.specs.Travels.{descendant, favoured, UndoGoesUp, RedoGoesDown, GotoGoesThere, RedoGivesBack}
-use Rattle.kernel_machine.specs.Travel.{Travel, Aim}
-use Rattle.kernel_machine.specs.Travel as aim
+use Rattle.kernel_machine.specs.declared.travel.Travel.{Travel}
+use Rattle.kernel_machine.specs.declared.travel.Aim.{Aim}
+use Rattle.kernel_machine.specs.declared.travel.Aim.TheVariants as aim
 use Rattle.kernel_machine.specs.declared.outcome.End.{End}
 use Rattle.kernel_machine.specs.declared.outcome.End.TheVariants.{All}
 use Rattle.kernel_machine.specs.declared.outcome.Outcome.{Outcome}

@@ -7,7 +7,9 @@ use Rattle.janus_machine.specs.Faults.{fault_of}
 use Rattle.janus_machine.specs.declared.fault.Fault.{Fault}
 use Rattle.janus_machine.specs.declared.fault.Fault.TheVariants as fault
 use Rattle.kernel_machine.specs.Language.{Code, CodePart}
-use Rattle.kernel_machine.specs.Reached.{Reaches, Progress, Went, Ended, Stopped}
+use Rattle.kernel_machine.specs.Reached.{Reaches}
+use Rattle.kernel_machine.specs.declared.progress.Progress.{Progress}
+use Rattle.kernel_machine.specs.declared.progress.Progress.TheVariants.{Went, Ended, Stopped}
 use Rattle.kernel_machine.specs.State.{Past, Work, Posted, Move, Job as Open, Idle, Border, Inside, State, ShownAt, here, code_of, is_full}
 use Rattle.kernel_machine.specs.Legal.{can_undo, can_redo, IsLegal}
 use Rattle.kernel_machine.specs.Slices.{cells, stepped, moved, Backs, Arrives, Settles, Comes, Goes, SlicesIn, SlicesAt}
@@ -15,10 +17,13 @@ use Rattle.kernel_machine.specs.Begins.{travel_to, Departs, Enters, TakesMove, T
 use Rattle.kernel_machine.specs.Runs.{Machine, IsRefusal, IsPost, Run, IsBegin, BeginsAt, Takes, TakesUnless, noted, end_of_begun, end_of_sliced}
 use Rattle.kernel_machine.specs.Request.{Request, RunCell, Undo, Redo, Goto, request_of, raised}
 use Rattle.machine_laws.specs.Determined.{TellsWant, StepIsDetermined, RunIsDetermined, OneWorldIsShown}
-use Rattle.kernel_machine.specs.Travel as aim
+use Rattle.kernel_machine.specs.declared.travel.Aim.TheVariants as aim
 use Rattle.kernel_machine.proofs.Trees.{meeting_same}
-use Rattle.kernel_machine.specs.Travel.{Travel}
-use Rattle.kernel_machine.specs.Turn.{Why, WasAsked, Faulted, Turn, GoesOn, GoesBack}
+use Rattle.kernel_machine.specs.declared.travel.Travel.{Travel}
+use Rattle.kernel_machine.specs.declared.turn.Why.{Why}
+use Rattle.kernel_machine.specs.declared.turn.Why.TheVariants.{WasAsked, Faulted}
+use Rattle.kernel_machine.specs.declared.turn.Turn.{Turn}
+use Rattle.kernel_machine.specs.declared.turn.Turn.TheVariants.{GoesOn, GoesBack}
 use Rattle.kernel_machine.specs.declared.outcome.Refusal.{Refusal}
 use Rattle.kernel_machine.specs.declared.outcome.Refusal.TheVariants.{Memory}
 use Rattle.kernel_machine.specs.declared.outcome.Outcome.TheVariants as outcome

@@ -1,6 +1,5 @@
 -- Each job that is taken ends as its request has it, whatever other events come.
 use Rattle.std.proofs.Common.{◌≡◌, Bool, true, false, List, [], ◌∷◌, refl, sym, ap, subst}
-use Rattle.kernel_machine.specs.Reached.{Ended}
 use Rattle.kernel_machine.specs.State.{Past, Job as Open, Idle, Border, Inside, State}
 use Rattle.kernel_machine.specs.Runs.{Machine, Step, Run, IsNext, IsBegin, BeginsAt, TakesUnless}
 use Rattle.kernel_machine.specs.Request.{Request, request_of}

@@ -1,15 +1,20 @@
 -- Undo and redo of an accepted cell: no fault, and as many steps as the cell took.
 use Rattle.std.proofs.Common.{◌≡◌, ℕ, ◌+◌, ◌<◌, ◌≤◌, false, inl, inr, refl, sym, ap, subst}
 use Rattle.janus_meaning.specs.World.{World}
-use Rattle.kernel_machine.specs.Travel.{next_way, Travel, Way, Up, Down}
+use Rattle.kernel_machine.specs.Travel.{next_way}
+use Rattle.kernel_machine.specs.declared.travel.Travel.{Travel}
+use Rattle.kernel_machine.specs.declared.travel.Way.{Way}
+use Rattle.kernel_machine.specs.declared.travel.Way.TheVariants.{Up, Down}
 use Rattle.kernel_machine.specs.Language.{CodeExec}
-use Rattle.kernel_machine.specs.Reached.{Reaches, Progress, Went, Ended, Stopped}
+use Rattle.kernel_machine.specs.Reached.{Reaches}
+use Rattle.kernel_machine.specs.declared.progress.Progress.{Progress}
+use Rattle.kernel_machine.specs.declared.progress.Progress.TheVariants.{Went, Ended, Stopped}
 use Rattle.kernel_machine.specs.State.{Past, Move, State, Job as Open, Entered, Inside, here, below, code_of}
 use Rattle.kernel_machine.specs.Legal.{IsPossible, IsPossibleAt, IsInTimeAt, IsLegal}
 use Rattle.kernel_machine.specs.Slices.{Settles, Comes, SlicesAt}
 use Rattle.kernel_machine.specs.Runs.{Machine}
 use Rattle.machine_laws.specs.Travels.{steps_of, end_world, IsOnTime, SettlesOnTime, NeverFaults, IsMirrored}
-use Rattle.kernel_machine.specs.Turn.{GoesOn}
+use Rattle.kernel_machine.specs.declared.turn.Turn.TheVariants.{GoesOn}
 use Rattle.kernel_machine.specs.declared.outcome.Sliced.{Sliced}
 use Rattle.kernel_machine.proofs.LanguageLaws.{exec_inverted, part_inverted, exec_no_stop, exec_same}
 use Rattle.kernel_machine.proofs.Trees.{run_above, run_below, up_possible, next_below}

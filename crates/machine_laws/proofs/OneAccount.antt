@@ -13,8 +13,9 @@ use Rattle.kernel_machine.specs.Ends.{TravelEnds, MoveEnds, GotoEnds, BecomesNod
 use Rattle.kernel_machine.specs.Minutes.{Entry, Posted, Ended}
 use Rattle.kernel_machine.specs.LegalMinutes.{Account, MayEnd, EndsFirst, Tells, Give}
 use Rattle.machine_laws.specs.Theorems.{OneAccount}
-use Rattle.kernel_machine.specs.Travel.{Travel, Aim}
-use Rattle.kernel_machine.specs.Travel as aim
+use Rattle.kernel_machine.specs.declared.travel.Travel.{Travel}
+use Rattle.kernel_machine.specs.declared.travel.Aim.{Aim}
+use Rattle.kernel_machine.specs.declared.travel.Aim.TheVariants as aim
 use Rattle.kernel_machine.specs.declared.outcome.End.{End}
 use Rattle.kernel_machine.specs.declared.outcome.Refusal.{Refusal}
 use Rattle.kernel_machine.specs.declared.outcome.Refusal.TheVariants.{Closing}

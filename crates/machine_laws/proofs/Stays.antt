@@ -7,8 +7,8 @@ use Rattle.kernel_machine.specs.LegalState.{WasBegun, HasBegun}
 use Rattle.kernel_machine.specs.Runs.{Machine}
 use Rattle.kernel_machine.specs.Request.{Request, RunCell, Undo, Redo, Goto}
 use Rattle.machine_laws.specs.Theorems.{StaysLegal, GoesBackForItsReason}
-use Rattle.kernel_machine.specs.Turn.{Why, GoesBack}
-use Rattle.kernel_machine.specs.declared.outcome.Begun.TheVariants as begun
+use Rattle.kernel_machine.specs.declared.turn.Why.{Why}
+use Rattle.kernel_machine.specs.declared.turn.Turn.TheVariants.{GoesBack}
 use Rattle.kernel_machine.proofs.Stays.{legal_at, step_legal}
 
 pub stays_legal : StaysLegal

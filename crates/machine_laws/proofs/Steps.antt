@@ -5,12 +5,17 @@ use Rattle.std.proofs.lemmas.Bool.{cases_lt}
 use Rattle.janus_meaning.specs.World.{World}
 use Rattle.janus_machine.specs.Faults.{fault_of}
 use Rattle.kernel_machine.specs.Language.{CodePart}
-use Rattle.kernel_machine.specs.Reached.{Reaches, Progress, Went, Ended, Stopped}
+use Rattle.kernel_machine.specs.Reached.{Reaches}
+use Rattle.kernel_machine.specs.declared.progress.Progress.{Progress}
+use Rattle.kernel_machine.specs.declared.progress.Progress.TheVariants.{Went, Ended, Stopped}
 use Rattle.kernel_machine.specs.State.{Past, State, Work, Posted, Move, Job, Entered, Idle, Border, Inside, here, code_of, ShownAt}
 use Rattle.kernel_machine.specs.Legal.{IsLegal, IsPossibleAt, IsPossibleWork, IsInTimeAt, IsInTime}
 use Rattle.kernel_machine.specs.Slices.{HasEnded, Backs, Comes, SlicesIn, SlicesAt}
 use Rattle.machine_laws.specs.Travels.{end_world}
-use Rattle.kernel_machine.specs.Turn.{Why, WasAsked, Faulted, Turn, GoesOn, GoesBack}
+use Rattle.kernel_machine.specs.declared.turn.Why.{Why}
+use Rattle.kernel_machine.specs.declared.turn.Why.TheVariants.{WasAsked, Faulted}
+use Rattle.kernel_machine.specs.declared.turn.Turn.{Turn}
+use Rattle.kernel_machine.specs.declared.turn.Turn.TheVariants.{GoesOn, GoesBack}
 use Rattle.kernel_machine.specs.declared.outcome.Sliced.{Sliced}
 use Rattle.kernel_machine.specs.StepsOfSlices.{steps_on, TakesOn, TakesIn, TakesAt}
 use Rattle.machine_laws.specs.CountedSteps.{TakesOneNumber, StaysAt, AreStepsOfNode, IsDoneIn, CountsOn, CountsBack, CountsIn, StepsAreCounted}

@@ -2,10 +2,19 @@
 use Rattle.std.specs.Prelude.{IsTrue}
 use Rattle.std.proofs.Common.{◌≡◌, ◌≢◌, ℕ, ◌+◌, ◌-◌, ◌<◌, ◌≤◌, Bool, true, false, List, [], ◌∷◌, zero, suc, refl, sym, ap, ◌∙◌, subst, arith, inl, inr, ◌⊎◌}
 use Rattle.janus_meaning.specs.World.{World}
-use Rattle.kernel_machine.specs.Travel as aim
-use Rattle.kernel_machine.specs.Travel.{Travel, Way, Up, Down, next_way}
-use Rattle.kernel_machine.specs.Turn.{Why, WasAsked, Faulted, Turn, GoesOn, GoesBack}
-use Rattle.kernel_machine.specs.Reached.{Progress, Went, Ended, Stopped, Reaches}
+use Rattle.kernel_machine.specs.declared.travel.Aim.{Aim}
+use Rattle.kernel_machine.specs.declared.travel.Aim.TheVariants as aim
+use Rattle.kernel_machine.specs.Travel.{next_way}
+use Rattle.kernel_machine.specs.declared.travel.Travel.{Travel}
+use Rattle.kernel_machine.specs.declared.travel.Way.{Way}
+use Rattle.kernel_machine.specs.declared.travel.Way.TheVariants.{Up, Down}
+use Rattle.kernel_machine.specs.declared.turn.Why.{Why}
+use Rattle.kernel_machine.specs.declared.turn.Why.TheVariants.{WasAsked, Faulted}
+use Rattle.kernel_machine.specs.declared.turn.Turn.{Turn}
+use Rattle.kernel_machine.specs.declared.turn.Turn.TheVariants.{GoesOn, GoesBack}
+use Rattle.kernel_machine.specs.Reached.{Reaches}
+use Rattle.kernel_machine.specs.declared.progress.Progress.{Progress}
+use Rattle.kernel_machine.specs.declared.progress.Progress.TheVariants.{Went, Ended, Stopped}
 use Rattle.kernel_machine.specs.State.{Past, Work, Posted, Move, Job as Open, Idle, Border, Inside, State, here, code_of, is_full}
 use Rattle.kernel_machine.specs.Legal.{IsLegal, IsPossibleWork, IsPossibleAt}
 use Rattle.kernel_machine.specs.LegalState.{IsLegalState}
@@ -70,7 +79,7 @@ at_begin P a answer s new e f h x = h (subst (λ (t : Begun). StoppedBegun t s) 
 not_stopped : (t : Travel) (end : End) → (end ≡ Asked → ⊥) → WasStopped (finished t end) → ⊥
 not_stopped t end other h = by_aim t.aim h
   where
-    by_aim : (a : aim.Aim) → WasStopped (finished (record t { aim = a }) end) → ⊥
+    by_aim : (a : Aim) → WasStopped (finished (record t { aim = a }) end) → ⊥
     by_aim aim.Undo h = other h
     by_aim aim.Redo h = other h
     by_aim (aim.Goto n) h = other h

@@ -5,7 +5,8 @@ use Rattle.kernel_machine.specs.State.{Past, State, Work, Posted, Move, Entered,
 use Rattle.kernel_machine.specs.LegalState.{IsLegalState}
 use Rattle.kernel_machine.specs.Slices.{IsSlice, Settles, HasEnded}
 use Rattle.machine_laws.specs.Travels.{steps_of}
-use Rattle.kernel_machine.specs.Turn.{Turn, GoesOn, GoesBack}
+use Rattle.kernel_machine.specs.declared.turn.Turn.{Turn}
+use Rattle.kernel_machine.specs.declared.turn.Turn.TheVariants.{GoesOn, GoesBack}
 use Rattle.kernel_machine.specs.declared.outcome.Sliced.{Sliced}
 use Rattle.kernel_machine.specs.StepsOfSlices.{TakesAt}
 

@@ -6,7 +6,8 @@ use Rattle.kernel_machine.specs.LegalState.{IsLegalState}
 use Rattle.kernel_machine.specs.Request.{Request, Undo}
 use Rattle.kernel_machine.specs.Runs.{Machine, new_machine, IsNext, shut, Run}
 use Rattle.kernel_machine.specs.Midway.{count_of, IsReason}
-use Rattle.kernel_machine.specs.Turn.{Why, GoesBack}
+use Rattle.kernel_machine.specs.declared.turn.Why.{Why}
+use Rattle.kernel_machine.specs.declared.turn.Turn.TheVariants.{GoesBack}
 use Rattle.kernel_machine.specs.declared.outcome.End.TheVariants.{All, Asked}
 use Rattle.kernel_machine.specs.declared.outcome.Outcome.{Outcome}
 use Rattle.kernel_machine.specs.declared.outcome.Outcome.TheVariants as outcome

@@ -3,9 +3,12 @@ use Rattle.std.specs.Prelude.{◌≡◌, ℕ, false, ◌+◌, ◌-◌, ◌<◌, 
 use Rattle.std.specs.Prelude.{IsTrue, zero, suc, set, ◌⊎◌, ◌↔◌}
 use Rattle.janus_meaning.specs.World.{World, empty_world, Cell, entered}
 use Rattle.janus_meaning.specs.Cells.{IsGoodWorld}
-use Rattle.kernel_machine.specs.Travel.{next_way, Travel, Up, Down}
+use Rattle.kernel_machine.specs.Travel.{next_way}
+use Rattle.kernel_machine.specs.declared.travel.Travel.{Travel}
+use Rattle.kernel_machine.specs.declared.travel.Way.TheVariants.{Up, Down}
 use Rattle.kernel_machine.specs.Language.{Forward, Backward, CodePart, CodeExec}
-use Rattle.kernel_machine.specs.Reached.{Reaches, Stopped}
+use Rattle.kernel_machine.specs.Reached.{Reaches}
+use Rattle.kernel_machine.specs.declared.progress.Progress.TheVariants.{Stopped}
 use Rattle.kernel_machine.specs.State.{Node, Past, Move, Idle, Inside, State, root, node_at, world_at, here, ancestor, below, code_of}
 use Rattle.kernel_machine.specs.Legal.{can_undo, can_redo, IsPossible, IsLegal}
 use Rattle.kernel_machine.specs.LegalState.{IsLegalState}
@@ -14,8 +17,8 @@ use Rattle.kernel_machine.specs.Begins.{travel_to}
 use Rattle.kernel_machine.specs.Request.{Undo, Redo}
 use Rattle.kernel_machine.specs.Runs.{Machine, IsNext, Step, Run}
 use Rattle.kernel_machine.specs.Midway.{gone}
-use Rattle.kernel_machine.specs.Turn.{GoesOn}
-use Rattle.kernel_machine.specs.Travel as aim
+use Rattle.kernel_machine.specs.declared.turn.Turn.TheVariants.{GoesOn}
+use Rattle.kernel_machine.specs.declared.travel.Aim.TheVariants as aim
 use Rattle.kernel_machine.specs.declared.outcome.End.TheVariants.{All}
 use Rattle.kernel_machine.specs.declared.outcome.Outcome.TheVariants as outcome
 use Rattle.kernel_machine.specs.declared.outcome.Sliced.{Sliced}

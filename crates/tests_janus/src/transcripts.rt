@@ -2,8 +2,9 @@
 //! so many steps; `words` the number of steps that the words of a command line give a cell, or their status and whether it is standard error that tells
 //! them; `program` the words and, behind `|`, an input. Streams that fail are those of the module `streams`.
 use crate::streams::{Broken, Full, Unflushed};
-use cells_program::{RunFault, program, run, send_run_fault, status, steps_of};
-use program_words::{unread_words_status, words_status};
+use cells_program::{
+    RunFault, program, run, send_run_fault, status, steps_of, unread_words_status, words_status,
+};
 use std::alloc::{AllocError, Global};
 use std::io;
 use std::io::{ErrorKind, Read};
@@ -85,7 +86,7 @@ fn steps(alloc: Global, row: &str) -> Result<String, AllocError> {
     let words = words_of(alloc, row)?;
     match steps_of(alloc, &words) {
         Ok(steps) => shown(alloc, &steps),
-        Err(error) => shown(alloc, &(words_status(error.kind(), 1), error.use_stderr())),
+        Err(error) => shown(alloc, &(words_status(error.kind()), error.use_stderr())),
     }
 }
 
@@ -97,7 +98,7 @@ fn ran_by_words(alloc: Global, row: &str) -> Result<String, AllocError> {
     let mut writer = Vec::new(alloc);
     let came = match program(alloc, &words, &mut text.as_bytes(), &mut writer) {
         Ok(came) => status(came),
-        Err(error) => words_status(error.kind(), 1),
+        Err(error) => words_status(error.kind()),
     };
     let written = in_one_line(alloc, writer)?;
     format!(in alloc; "{came} {written}")
@@ -130,7 +131,7 @@ fn statuses(alloc: Global) -> Result<String, AllocError> {
     let line = in_one_line(alloc, told)?;
     let well = status(Ok(()));
     let unwritten = status(Err(RunFault::Write));
-    let wrong = unread_words_status(ErrorKind::InvalidData, 1);
-    let memory = unread_words_status(ErrorKind::OutOfMemory, 1);
+    let wrong = unread_words_status(ErrorKind::InvalidData);
+    let memory = unread_words_status(ErrorKind::OutOfMemory);
     format!(in alloc; "{line} {well} {unwritten} {wrong} {memory}")
 }

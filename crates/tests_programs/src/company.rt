@@ -121,10 +121,10 @@ fn open_and_close(rt: &impl Abort, shell: &mut Frontend) {
 
 /// Each connection was closed by the kernel.
 fn check_closed(rt: &impl Abort, company: &mut Company) {
-    assert!(rt; company.shell.is_closed(rt));
-    assert!(rt; company.stdin.is_closed(rt));
-    assert!(rt; company.all.is_closed(rt));
-    assert!(rt; company.status.is_closed(rt));
+    assert!(rt; company.shell.reads_to_end(rt));
+    assert!(rt; company.stdin.reads_to_end(rt));
+    assert!(rt; company.all.reads_to_end(rt));
+    assert!(rt; company.status.reads_to_end(rt));
 }
 
 /// Has a company work with a kernel, and then shuts the kernel while all of it is connected.

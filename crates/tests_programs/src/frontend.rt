@@ -192,8 +192,8 @@ impl Frontend {
         subscriber
     }
 
-    /// Whether the kernel is ready on this connection, for all that comes in the time that so many reads wait.
-    pub(crate) fn is_ready_within(&mut self, rt: &impl Abort, reads: u32) -> bool {
+    /// Waits until the kernel is ready on this connection, for as many reads at most, and tells whether it is.
+    pub(crate) fn becomes_ready(&mut self, rt: &impl Abort, reads: u32) -> bool {
         for _ in 0..reads {
             if self.is_ready {
                 return true;
@@ -205,7 +205,7 @@ impl Frontend {
 
     /// Waits until the kernel is ready on this connection.
     pub(crate) fn wait_until_ready(&mut self, rt: &impl Abort) {
-        assert!(rt; self.is_ready_within(rt, READS), "the kernel is not ready");
+        assert!(rt; self.becomes_ready(rt, READS), "the kernel is not ready");
     }
 
     /// Sends a request.
@@ -277,8 +277,8 @@ impl Frontend {
         panic!(rt; "no message comes")
     }
 
-    /// Whether the kernel has closed the connection, once all that came before is read.
-    pub(crate) fn is_closed(&mut self, rt: &impl Abort) -> bool {
+    /// Reads all that comes, and tells whether the kernel has closed the connection behind it.
+    pub(crate) fn reads_to_end(&mut self, rt: &impl Abort) -> bool {
         let mut room = [0u8; 4096];
         for _ in 0..READS {
             let mut stream = &self.stream;

@@ -52,7 +52,7 @@ where
         ask_on_each(rt, &mut frontends);
     }
     let mut next = Frontend::open_as(rt, alloc, port, role);
-    assert!(rt; !next.is_ready_within(rt, SILENT_READS));
+    assert!(rt; !next.becomes_ready(rt, SILENT_READS));
     drop(frontends.pop());
     next.wait_until_ready(rt);
 }
@@ -106,12 +106,12 @@ where
 {
     for port in [site.shell, site.control] {
         let mut frontend = Frontend::open(rt, alloc, port);
-        assert!(rt; frontend.is_ready_within(rt, SOON));
+        assert!(rt; frontend.becomes_ready(rt, SOON));
         frontend.send(rt, "kernel_info_request", "{}");
         let _reply = frontend.reply(rt);
     }
-    assert!(rt; Frontend::open(rt, alloc, site.stdin).is_ready_within(rt, SOON));
-    assert!(rt; Frontend::subscribe(rt, alloc, site.iopub, "").is_ready_within(rt, SOON));
+    assert!(rt; Frontend::open(rt, alloc, site.stdin).becomes_ready(rt, SOON));
+    assert!(rt; Frontend::subscribe(rt, alloc, site.iopub, "").becomes_ready(rt, SOON));
     check_beat(rt, alloc, site.heartbeat);
 }
 
@@ -179,7 +179,7 @@ where
     wait_until_ready(rt, alloc, site);
     let mut first = press(rt, alloc, site.shell);
     let mut second = press(rt, alloc, site.control);
-    assert!(rt; second.is_closed(rt) || first.is_closed(rt));
+    assert!(rt; second.reads_to_end(rt) || first.reads_to_end(rt));
     for port in [site.shell, site.control] {
         let mut frontend = Frontend::open(rt, alloc, port);
         frontend.send(rt, "kernel_info_request", "{}");

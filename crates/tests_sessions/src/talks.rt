@@ -122,7 +122,7 @@ fn check(
 }
 
 /// The question whether the comm of this id is open.
-fn is_open(rt: &impl Abort, alloc: Global, id: &str) -> Ask {
+fn question_of(rt: &impl Abort, alloc: Global, id: &str) -> Ask {
     let id = String::from_str(alloc, id).expect(rt, "an id");
     Ask::IsOpen { id }
 }
@@ -137,7 +137,7 @@ fn a_redo_on_a_comm_is_posted(rt: HostRuntime) {
         "comm_msg",
         content,
         &[Job::Redo(2)],
-        &[is_open(&rt, rt.alloc(), "c"), Ask::State],
+        &[question_of(&rt, rt.alloc(), "c"), Ask::State],
     );
 }
 
@@ -150,7 +150,7 @@ fn a_goto_on_a_comm_is_posted(rt: HostRuntime) {
         "comm_msg",
         content,
         &[Job::Goto(3)],
-        &[is_open(&rt, rt.alloc(), "c"), Ask::State],
+        &[question_of(&rt, rt.alloc(), "c"), Ask::State],
     );
 }
 
@@ -158,7 +158,7 @@ fn a_goto_on_a_comm_is_posted(rt: HostRuntime) {
 #[test]
 fn an_undo_on_another_comm_is_passed_over(rt: HostRuntime) {
     let content = "{\"comm_id\":\"d\",\"data\":{\"n\":1,\"op\":\"undo\"}}";
-    let want = [is_open(&rt, rt.alloc(), "d")];
+    let want = [question_of(&rt, rt.alloc(), "d")];
     check(&rt, rt.alloc(), "comm_msg", content, &[], &want);
 }
 
@@ -171,7 +171,7 @@ fn the_state_is_asked_for_on_a_comm(rt: HostRuntime) {
         "comm_msg",
         content,
         &[],
-        &[is_open(&rt, rt.alloc(), "c"), Ask::State],
+        &[question_of(&rt, rt.alloc(), "c"), Ask::State],
     );
 }
 

@@ -31,17 +31,17 @@ impl Runner<'_> {
         Some(self.bell.begin(&mut self.seat))
     }
 
-    fn is_asked(&mut self) -> bool {
+    fn looks_at_bell(&mut self) -> bool {
         self.bell.asked(&mut self.seat)
     }
 
     /// Begins a job, and runs it until it is asked to stop. Whether that came.
-    fn is_stopped(&mut self) -> bool {
+    fn run_until_asked(&mut self) -> bool {
         if self.begin().is_none() {
             return false;
         }
         for _ in 0..TURNS {
-            if self.is_asked() {
+            if self.looks_at_bell() {
                 return true;
             }
             thread::yield_now();
@@ -52,7 +52,7 @@ impl Runner<'_> {
     /// How many jobs, of those that are to be begun, are stopped one after another.
     fn stopped_jobs(&mut self) -> u64 {
         for stopped in 0..JOBS {
-            if !self.is_stopped() {
+            if !self.run_until_asked() {
                 return stopped;
             }
         }
@@ -101,14 +101,14 @@ impl Ringer<'_> {
 /// The runner begins the job of this serial, and is not asked to stop it.
 fn begin_unasked(rt: &impl Abort, runner: &mut Runner<'_>, serial: u64) {
     assert!(rt; runner.begin() == Some(serial));
-    assert!(rt; !runner.is_asked());
+    assert!(rt; !runner.looks_at_bell());
 }
 
 /// A ring for no job asks for nothing, and then seven jobs begin.
 fn begin_seven(rt: &impl Abort, runner: &mut Runner<'_>, ringer: &mut Ringer<'_>) {
-    assert!(rt; !runner.is_asked());
+    assert!(rt; !runner.looks_at_bell());
     assert!(rt; ringer.ring() == 0);
-    assert!(rt; !runner.is_asked());
+    assert!(rt; !runner.looks_at_bell());
     for serial in 1..8u64 {
         begin_unasked(rt, runner, serial);
     }
@@ -119,10 +119,10 @@ fn raise_late(rt: &impl Abort, runner: &mut Runner<'_>, ringer: &mut Ringer<'_>)
     assert!(rt; ringer.look() == 7);
     assert!(rt; runner.begin() == Some(8));
     assert!(rt; ringer.raise() == 7);
-    assert!(rt; !runner.is_asked());
+    assert!(rt; !runner.looks_at_bell());
     assert!(rt; ringer.ring() == 8);
-    assert!(rt; runner.is_asked());
-    assert!(rt; runner.is_asked());
+    assert!(rt; runner.looks_at_bell());
+    assert!(rt; runner.looks_at_bell());
     assert!(rt; runner.seat.serial() == 8);
     begin_unasked(rt, runner, 9);
 }

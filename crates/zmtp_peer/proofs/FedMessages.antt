@@ -14,7 +14,7 @@ use Rattle.zmtp_peer.specs.Terms.{terms_of}
 use Rattle.zmtp_peer.specs.declared.role.Role.TheVariants.{Pub}
 use Rattle.zmtp_peer.specs.Events.{Event, Message, State, Opening, Open, Refused, after, told}
 use Rattle.zmtp_peer.specs.Subscriptions.{subscriptions}
-use Rattle.zmtp_peer.specs.Reading.{Ending, EndsIn, PeerReads, IsGreeted, Standing, ending_of, IsStreaming, IsAt, Stands}
+use Rattle.zmtp_peer.specs.Reading.{Ending, EndsIn, PeerReads, IsGreeted, PeerState, ending_of, IsStreaming, IsAt, Stands}
 use Rattle.zmtp_peer.specs.Laws.{IsBetweenMessages, FedMessagesAreTold}
 use Rattle.zmtp_peer.proofs.FrameLemmas.{after-append, told-append}
 use Rattle.zmtp_peer.proofs.ReadingLemmas.{leaves-append, take-front, drop-front, at-make, at-parts, welcome_or_refused, counted_all-append}
@@ -265,7 +265,7 @@ message-next role fed given events greeting kept state rest message more is read
         (told terms (Open []) found.0, next, reads-without g found.0 found.1 found.2, stays (told terms (Open []) found.0) next)
 
 -- how a peer stands that was fed a message and what follows, and how it would stand without the message
-stands-next : (s t : Standing) (fed : List ℕ) (given events : List Event) (message : List (List ℕ)) (more : List ℕ)
+stands-next : (s t : PeerState) (fed : List ℕ) (given events : List Event) (message : List (List ℕ)) (more : List ℕ)
     → s.role ≢ Pub → t.role ≡ s.role → IsBetweenMessages s → 0 < length message → IsWithinLimits message → Stands fed given s
     → Stands (fed ++ (message_octets message ++ more)) (given ++ events) t
     → (es : List Event) × (events ≡ Message message ∷ es) × Stands (fed ++ more) (given ++ es) t

@@ -19,7 +19,7 @@ use Rattle.zmtp_peer.specs.declared.terms.Terms.{Terms}
 use Rattle.zmtp_peer.specs.Terms.{terms_of}
 use Rattle.zmtp_peer.specs.Faults.{Fault, Wire}
 use Rattle.zmtp_peer.specs.Events.{Event, State, Opening, Open, Refused, after, told}
-use Rattle.zmtp_peer.specs.Reading.{Ending, Awaiting, Failing, EndsAt, EndsIn, PeerReads, Standing, Stands}
+use Rattle.zmtp_peer.specs.Reading.{Ending, Awaiting, Failing, EndsAt, EndsIn, PeerReads, PeerState, Stands}
 use Rattle.zmtp_peer.specs.Laws.{OctetsAreRead, OctetsHaveOneReading, RefusalsStay, Run, NoCutMatters, FoldsGoOn}
 use Rattle.zmtp_peer.proofs.FrameLemmas.{after-append, told-append}
 use Rattle.zmtp_peer.proofs.ReadingLemmas.{failing-stays, counted_all-append, welcome_or_refused}
@@ -31,10 +31,10 @@ pub refusals_stay : RefusalsStay
 refusals_stay role octets more es fault h = failing-stays role octets more es fault h
 
 -- pieces behind what was fed and given
-pub cuts-from : (s t : Standing) (ps : List (List ℕ × List Event)) (fed : List ℕ) (given : List Event) → Stands fed given s → Run s ps t
+pub cuts-from : (s t : PeerState) (ps : List (List ℕ × List Event)) (fed : List ℕ) (given : List Event) → Stands fed given s → Run s ps t
     → Stands (fed ++ flat_map (λ p. p.0) ps) (given ++ flat_map (λ p. p.1) ps) t
 cuts-from s t [] fed given h run =
-    subst (λ (u : Standing). Stands (fed ++ []) (given ++ []) u) (sym run)
+    subst (λ (u : PeerState). Stands (fed ++ []) (given ++ []) u) (sym run)
     (subst (λ (o : List ℕ). Stands o (given ++ []) s) (sym (append-nil fed)) (subst (λ (es : List Event). Stands fed es s) (sym (append-nil given)) h))
 cuts-from s t (p ∷ ps) fed given h run =
     let on = cuts-from run.0 t ps (fed ++ p.0) (given ++ p.1) (run.1 fed given h) run.2 in

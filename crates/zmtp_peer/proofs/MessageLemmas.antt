@@ -11,7 +11,7 @@ use Rattle.zmtp_peer.specs.declared.role.Role.TheVariants.{Router, Pub, Rep, Dea
 use Rattle.zmtp_peer.specs.Events.{Event, Message, State, Open, after, told, message_told}
 use Rattle.zmtp_peer.specs.Intake.{IsRefusal}
 use Rattle.zmtp_peer.specs.Connection.{ReadsPiece}
-use Rattle.zmtp_peer.specs.Reading.{Standing, IsStreaming, IsAt, Stands, Brings}
+use Rattle.zmtp_peer.specs.Reading.{PeerState, IsStreaming, IsAt, Stands, Brings}
 use Rattle.zmtp_peer.specs.Laws.{IsBetweenMessages, MessagesAreTold}
 use Rattle.zmtp_peer.proofs.ReadingLemmas.{stands-read}
 use Rattle.zmtp_peer.proofs.OpeningLemmas.{nothing-partial}
@@ -51,7 +51,7 @@ pub streaming-of : (role : Role) (octets : List ℕ) (given : List Event) (greet
     → IsStreaming role octets given greeting (Open []) rest
 streaming-of role octets given greeting state rest ready at = subst (λ (s : State). IsAt role octets given greeting s rest) ready at
 
-message-brings : (s : Standing) (message : List (List ℕ)) → s.role ≢ Pub → IsBetweenMessages s → 0 < length message → IsWithinLimits message
+message-brings : (s : PeerState) (message : List (List ℕ)) → s.role ≢ Pub → IsBetweenMessages s → 0 < length message → IsWithinLimits message
     → Brings s (message_octets message) (Message message ∷ []) s
 message-brings s message other between some within fed given h =
     let streaming = streaming-of s.role fed given s.greeting s.state s.rest between.ready h.leaves in

@@ -23,7 +23,7 @@ use Rattle.zmtp_peer.specs.Connection.{ReadsPiece}
 use Rattle.zmtp_peer.specs.Pings.{ping}
 use Rattle.zmtp_peer.specs.Subscriptions.{counted_all, count_in}
 use Rattle.zmtp_peer.specs.Terms.{is_newer, terms_of}
-use Rattle.zmtp_peer.specs.Reading.{Standing, IsStreaming, IsAt, Stands, Brings}
+use Rattle.zmtp_peer.specs.Reading.{PeerState, IsStreaming, IsAt, Stands, Brings}
 use Rattle.zmtp_peer.specs.Laws.{IsBetweenFrames, PingsAreTold, BadPingsAreRefused, OldPingsArePassedOver}
 use Rattle.zmtp_peer.proofs.ReadingLemmas.{stands-on}
 
@@ -126,7 +126,7 @@ ping-piece terms held tally octets content later is small frame = record {
 }
 
 -- what it brings a peer between two frames
-ping-brings : (s : Standing) (held : List (List ℕ)) (octets content : List ℕ) (later : Later) → IsBetweenFrames s held
+ping-brings : (s : PeerState) (held : List (List ℕ)) (octets content : List ℕ) (later : Later) → IsBetweenFrames s held
     → behind_ready (terms_of s.role s.greeting) (ping content).body ≡ later → length (ping content).body ≤ octet_limit → IsFrame octets (ping content)
     → ((prefix : List ℕ) (n : ℕ) → counted_all prefix n (later_told later) ≡ n)
     → Brings s octets (later_told later) (record s { state = after_later held later })
@@ -149,7 +149,7 @@ ping-brings s held octets content later between is small frame uncounted fed giv
     (λ refusal. subst IsRefusal between.ready refusal) here (λ prefix. sym (uncounted prefix (count_in s.table prefix))) fed given h
 
 -- a peer that stands as before goes on as before
-goes-on : (s t : Standing) (held : List (List ℕ)) (octets more : List ℕ) (first es : List Event) → s.state ≡ Open held
+goes-on : (s t : PeerState) (held : List (List ℕ)) (octets more : List ℕ) (first es : List Event) → s.state ≡ Open held
     → Brings s octets first (record s { state = Open held }) → Brings s more es t → Brings s (octets ++ more) (first ++ es) t
 goes-on s t held octets more first es ready begins brings fed given h =
     let same : Stands (fed ++ octets) (given ++ first) s =

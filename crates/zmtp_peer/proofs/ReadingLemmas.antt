@@ -17,7 +17,7 @@ use Rattle.zmtp_peer.specs.Events.{Event, State, Opening, Open, Refused, after, 
 use Rattle.zmtp_peer.specs.Intake.{IsRefusal, EndsFrames}
 use Rattle.zmtp_peer.specs.Connection.{ReadsPiece}
 use Rattle.zmtp_peer.specs.Subscriptions.{subscriptions, count_in, counted, counted_all}
-use Rattle.zmtp_peer.specs.Reading.{Room, Awaiting, Failing, EndsAt, EndsIn, PeerReads, Standing, ending_of, IsGreetingBegun, IsStreaming, IsAt, Stands, Brings}
+use Rattle.zmtp_peer.specs.Reading.{Room, Awaiting, Failing, EndsAt, EndsIn, PeerReads, PeerState, ending_of, IsGreetingBegun, IsStreaming, IsAt, Stands, Brings}
 use Rattle.zmtp_peer.proofs.FrameLemmas.{after-append, told-append}
 
 -- frames behind frames
@@ -106,7 +106,7 @@ reads-more role octets greeting stream piece g frames rest behind state new even
     )
 
 -- a peer that stands so
-abbrev pub standing : Role → List ℕ → State → Rest → List (List ℕ × ℕ) → Room → Standing
+abbrev pub standing : Role → List ℕ → State → Rest → List (List ℕ × ℕ) → Room → PeerState
 standing role greeting state rest table room = record { role = role; greeting = greeting; state = state; rest = rest; table = table; room = room }
 
 clash : (fault : Fault) → Failing fault ≡ Awaiting → ⊥
@@ -172,7 +172,7 @@ counted_all-append prefix n [] fs = refl
 counted_all-append prefix n (e ∷ es) fs = counted_all-append prefix (counted prefix n e) es fs
 
 -- a peer that is refused stays so
-pub stands-refused : (s : Standing) (fault : Fault) (more : List ℕ) → s.state ≡ Refused fault → Brings s more [] s
+pub stands-refused : (s : PeerState) (fault : Fault) (more : List ℕ) → s.state ≡ Refused fault → Brings s more [] s
 stands-refused s fault more is fed given h =
     let reads : PeerReads s.role fed given (Failing fault) = subst (λ (t : State). PeerReads s.role fed given (ending_of t)) is h.reads in
     subst (λ (es : List Event). Stands (fed ++ more) es s) (sym (append-nil given)) (record {

@@ -15,7 +15,7 @@ use Rattle.zmtp_peer.specs.Faults.{Fault, BadPing}
 use Rattle.zmtp_peer.specs.Terms.{is_newer}
 use Rattle.zmtp_peer.specs.Events.{Event, Ready, Message, Subscribe, Ping, State, Open, Refused, after, told}
 use Rattle.zmtp_peer.specs.Subscriptions.{counted_all}
-use Rattle.zmtp_peer.specs.Reading.{Ending, Awaiting, Failing, PeerReads, Standing, ending_of, Stands, Brings}
+use Rattle.zmtp_peer.specs.Reading.{Ending, Awaiting, Failing, PeerReads, PeerState, ending_of, Stands, Brings}
 use Rattle.zmtp_peer.specs.Opening.{opening_of}
 use Rattle.zmtp_peer.specs.Subscribing.{subscription_frame}
 use Rattle.zmtp_peer.specs.Pings.{ping}
@@ -36,14 +36,14 @@ RefusalsStay =
     PeerReads role (octets ++ more) es (Failing fault)
 
 -- pieces are fed one after another, each with the events that it brings
-abbrev pub Run : Standing → List (List ℕ × List Event) → Standing → Type 0
+abbrev pub Run : PeerState → List (List ℕ × List Event) → PeerState → Type 0
 Run s [] t = t ≡ s
-Run s (p ∷ ps) t = (u : Standing) × Brings s p.0 p.1 u × Run u ps t
+Run s (p ∷ ps) t = (u : PeerState) × Brings s p.0 p.1 u × Run u ps t
 
 -- However the octets were cut, a new peer has told the events of all octets joined, and those alone.
 abbrev pub NoCutMatters : Type 0
 NoCutMatters =
-    (s t : Standing) (ps : List (List ℕ × List Event)) → Stands [] [] s → Run s ps t
+    (s t : PeerState) (ps : List (List ℕ × List Event)) → Stands [] [] s → Run s ps t
     → PeerReads t.role (flat_map (λ p. p.0) ps) (flat_map (λ p. p.1) ps) (ending_of t.state)
 
 -- what frames tell is told frame by frame, and so are subscriptions event by event
@@ -59,10 +59,10 @@ PartnersAreReady = (role other : Role) → is_partner role (socket_type_of other
 
 -- nothing is told before READY: the first event of a connection is Ready
 abbrev pub ReadyComesFirst : Type 0
-ReadyComesFirst = (s : Standing) (fed : List ℕ) (given : List Event) → Stands fed given s → (given ≡ []) ⊎ ((later : List Event) × (given ≡ Ready ∷ later))
+ReadyComesFirst = (s : PeerState) (fed : List ℕ) (given : List Event) → Stands fed given s → (given ≡ []) ⊎ ((later : List Event) × (given ≡ Ready ∷ later))
 
 -- a peer that was told Ready, and stands between two messages
-pub record IsBetweenMessages (s : Standing) : Type 0 where
+pub record IsBetweenMessages (s : PeerState) : Type 0 where
   pub ready : s.state ≡ Open []
   pub nothing : s.rest ≡ whole []
 
@@ -70,7 +70,7 @@ pub record IsBetweenMessages (s : Standing) : Type 0 where
 -- brings without it. A publisher is told subscriptions alone.
 abbrev pub MessagesAreTold : Type 0
 MessagesAreTold =
-    (s t : Standing) (message : List (List ℕ)) (more : List ℕ) (es : List Event)
+    (s t : PeerState) (message : List (List ℕ)) (more : List ℕ) (es : List Event)
     → s.role ≢ Pub → IsBetweenMessages s → 0 < length message → IsWithinLimits message
     → Brings s more es t → Brings s (message_octets message ++ more) (Message message ∷ es) t
 
@@ -78,7 +78,7 @@ MessagesAreTold =
 -- however cut, that message is the next event that it tells, and the others are those that what follows brings without it.
 abbrev pub FedMessagesAreTold : Type 0
 FedMessagesAreTold =
-    (s t : Standing) (ps : List (List ℕ × List Event)) (fed : List ℕ) (given : List Event) (message : List (List ℕ)) (more : List ℕ)
+    (s t : PeerState) (ps : List (List ℕ × List Event)) (fed : List ℕ) (given : List Event) (message : List (List ℕ)) (more : List ℕ)
     → Stands fed given s → s.role ≢ Pub → t.role ≡ s.role → IsBetweenMessages s → 0 < length message → IsWithinLimits message
     → Run s ps t → flat_map (λ p. p.0) ps ≡ message_octets message ++ more
     → (es : List Event) × (flat_map (λ p. p.1) ps ≡ Message message ∷ es) × Brings s more es t
@@ -87,14 +87,14 @@ FedMessagesAreTold =
 -- command by one of version 3.1 or later.
 abbrev pub SubscriptionsAreTold : Type 0
 SubscriptionsAreTold =
-    (s : Standing) (fed : List ℕ) (given : List Event) (asks : Terms) (prefix : List ℕ)
+    (s : PeerState) (fed : List ℕ) (given : List Event) (asks : Terms) (prefix : List ℕ)
     → Stands fed given s → s.role ≡ Pub → IsBetweenMessages s
     → (asks.newer ≡ true → is_newer (major_in s.greeting) (minor_in s.greeting) ≡ true)
     → length (subscription_frame asks prefix).body ≤ octet_limit
     → PeerReads s.role (fed ++ written (subscription_frame asks prefix)) (given ++ Subscribe prefix ∷ []) Awaiting
 
 -- a peer that was told Ready, and stands between two frames: behind a message, or within one of which these frames are held
-pub record IsBetweenFrames (s : Standing) (held : List (List ℕ)) : Type 0 where
+pub record IsBetweenFrames (s : PeerState) (held : List (List ℕ)) : Type 0 where
   pub ready : s.state ≡ Open held
   pub nothing : s.rest.octets ≡ []
 
@@ -102,7 +102,7 @@ pub record IsBetweenFrames (s : Standing) (held : List (List ℕ)) : Type 0 wher
 -- what it brings without it. A frame may be written in either form.
 abbrev pub PingsAreTold : Type 0
 PingsAreTold =
-    (s t : Standing) (held : List (List ℕ)) (octets time context more : List ℕ) (es : List Event)
+    (s t : PeerState) (held : List (List ℕ)) (octets time context more : List ℕ) (es : List Event)
     → IsBetweenFrames s held → is_newer (major_in s.greeting) (minor_in s.greeting) ≡ true
     → length time ≡ 2 → length context ≤ context_limit → IsFrame octets (ping (time ++ context))
     → Brings s more es t → Brings s (octets ++ more) (Ping context ∷ es) t
@@ -110,7 +110,7 @@ PingsAreTold =
 -- one with shorter or longer data refuses its partner, and tells nothing
 abbrev pub BadPingsAreRefused : Type 0
 BadPingsAreRefused =
-    (s : Standing) (held : List (List ℕ)) (octets content : List ℕ)
+    (s : PeerState) (held : List (List ℕ)) (octets content : List ℕ)
     → IsBetweenFrames s held → is_newer (major_in s.greeting) (minor_in s.greeting) ≡ true
     → (length content < 2) ⊎ (2 + context_limit < length content) → length (ping content).body ≤ octet_limit → IsFrame octets (ping content)
     → Brings s octets [] (record s { state = Refused BadPing })
@@ -118,7 +118,7 @@ BadPingsAreRefused =
 -- of a partner of an older version a ping with any data is passed over
 abbrev pub OldPingsArePassedOver : Type 0
 OldPingsArePassedOver =
-    (s t : Standing) (held : List (List ℕ)) (octets content more : List ℕ) (es : List Event)
+    (s t : PeerState) (held : List (List ℕ)) (octets content more : List ℕ) (es : List Event)
     → IsBetweenFrames s held → is_newer (major_in s.greeting) (minor_in s.greeting) ≡ false
     → length (ping content).body ≤ octet_limit → IsFrame octets (ping content)
     → Brings s more es t → Brings s (octets ++ more) es t

@@ -61,9 +61,9 @@ pub record Room : Type 0 where
   pub octets : ℕ
   pub frames : ℕ
 
--- how a peer stands: the octets of the greeting, how far the connection is, what has come of the next frame, how often
+-- what a peer is: its role, the octets of the greeting, how far the connection is, what has come of the next frame, how often
 -- each prefix is subscribed to, and for how much there is memory
-pub record Standing : Type 0 where
+pub record PeerState : Type 0 where
   pub role : Role
   pub greeting : List ℕ
   pub state : State
@@ -89,10 +89,10 @@ pub record ReservesFor (octets frames : ℕ) (old new : Room) (events : ℕ) : T
   pub told : events ≤ octets + 1
 
 -- that is so behind a piece
-abbrev pub Reserves : List ℕ → Standing → Standing → ℕ → Type 0
+abbrev pub Reserves : List ℕ → PeerState → PeerState → ℕ → Type 0
 Reserves piece old new events = ReservesFor (length old.rest.octets + length piece) (held_in old.state) old.room new.room events
 
--- what such a standing awaits
+-- what such a state awaits
 abbrev pub ending_of : State → Ending
 ending_of Opening = Awaiting
 ending_of (Open held) = Awaiting
@@ -125,12 +125,12 @@ IsAt role octets given greeting Opening rest = IsGreetingBegun octets given gree
 IsAt role octets given greeting (Open held) rest = IsStreaming role octets given greeting (Open held) rest
 
 -- A peer that was fed these octets in all, and gave these events, stands so: the events are all that the octets tell.
-pub record Stands (octets : List ℕ) (given : List Event) (s : Standing) : Type 0 where
+pub record Stands (octets : List ℕ) (given : List Event) (s : PeerState) : Type 0 where
   pub reads : PeerReads s.role octets given (ending_of s.state)
   pub leaves : IsAt s.role octets given s.greeting s.state s.rest
   pub counts : (prefix : List ℕ) → count_in s.table prefix ≡ subscriptions given prefix
 
 -- whatever came before: the octets bring these events, and lead from one standing to the other
-abbrev pub Brings : Standing → List ℕ → List Event → Standing → Type 0
+abbrev pub Brings : PeerState → List ℕ → List Event → PeerState → Type 0
 Brings s octets events t =
     (fed : List ℕ) (given : List Event) → Stands fed given s → Stands (fed ++ octets) (given ++ events) t

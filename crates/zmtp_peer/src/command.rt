@@ -6,6 +6,8 @@ ghost use Rattle.std.specs.Result.{result_ok};
 ghost use Rattle.std.specs.Str.{str_eq_ignore_ascii_case};
 ghost use Rattle.zmtp_peer.specs.Commands.{command_of, reason_of, context_of, property_at, sized, sized_by_four, announced};
 
+use zmtp_wire::CONTEXT_LIMIT;
+
 /// The data of a READY doesn't fit its lengths.
 #[derive(Drop)]
 pub(crate) struct Misfit;
@@ -40,9 +42,6 @@ pub(crate) fn reason(octets: &[u8]) -> Option<&[u8]>
 
 /// How many octets the time to live of a PING has. It isn't used.
 const TIME_TO_LIVE: usize = 2;
-
-/// How many octets the context of a PING has at most.
-const CONTEXT_LIMIT: usize = 16;
 
 /// The context that the data of a PING gives; none if it is shorter or longer than it may be.
 #[tactic(auto, unfolding(crate::specs::Commands::context_of))]

@@ -41,9 +41,9 @@ pub struct Peer {
 
 impl Model for Peer {
     ghost use Rattle.std.specs.Prelude.{take, ◌≤◌};
-    ghost use Rattle.zmtp_peer.specs.Reading.{Standing};
+    ghost use Rattle.zmtp_peer.specs.Reading.{PeerState};
 
-    ghost Value = { Standing };
+    ghost Value = { PeerState };
 
     ghost use Rattle.zmtp_peer.specs.Connection.{state_in, room_in, IsConnection};
 

@@ -1,12 +1,13 @@
--- A pong that is written is read again.
-use Rattle.std.proofs.Common.{◌≡◌, ℕ, ◌≤◌, false, List, ◌∷◌, ◌++◌, length, length-append, refl, ap, sym, ◌∙◌, arith, nat_lt, codes}
+-- A pong that is written is read again, and how many octets it and what it answers have.
+use Rattle.std.proofs.Common.{◌≡◌, ℕ, ◌+◌, ◌≤◌, Bool, true, false, List, ◌∷◌, ◌++◌, length, length-append, refl, ap, sym, ◌∙◌, arith, nat_lt, codes}
 use Rattle.zmtp_wire.specs.Header.{header_octets}
-use Rattle.zmtp_wire.specs.Frame.{IsFrame, header_of}
+use Rattle.zmtp_wire.specs.Frame.{Frame, IsFrame, header_of}
 use Rattle.zmtp_wire.specs.Tally.{octet_limit}
 use Rattle.zmtp_wire.specs.Pong.{pong, pong_octets, context_limit}
 use Rattle.zmtp_wire.specs.Laws.{PongsAreReadBack}
 use Rattle.std.proofs.lemmas.Bool.Decides.{nat_tests}
 use Rattle.zmtp_wire.proofs.Messages.{size_fits}
+use Rattle.zmtp_wire.proofs.Octets.{length-eight_octets}
 
 -- the command has five octets beside the context
 pong-small : (context : List ℕ) → length context ≤ context_limit → length (pong context).body ≤ octet_limit
@@ -48,3 +49,23 @@ pub pong-read : (octets behind body context : List ℕ) (flags size : ℕ) → o
     → body ≡ (pong context).body → length context ≤ context_limit → octets ≡ pong_octets context
 pong-read octets behind body context flags size front next command sized is short =
     front ∙ ap (λ b. flags ∷ b) next ∙ ap (λ f. f ∷ size ∷ body) command ∙ ap (λ n. 4 ∷ n ∷ body) sized ∙ ap (λ b. 4 ∷ length b ∷ b) is ∙ sym (pong-short context short)
+
+-- flags, size and name with its length are seven octets
+pub length-pong : (context : List ℕ) → length context ≤ context_limit → length (pong_octets context) ≡ 7 + length context
+length-pong context short = omega (arith, ap length (pong-short context short))
+
+-- octets that are two pongs have two contexts of one length
+pub one_length : (octets one other : List ℕ) → length one ≤ context_limit → length other ≤ context_limit → octets ≡ pong_octets one → octets ≡ pong_octets other
+    → length one ≡ length other
+one_length octets one other short small is_one is_other =
+    let a : length octets ≡ 7 + length one = ap length is_one ∙ length-pong one short in
+    let b : length octets ≡ 7 + length other = ap length is_other ∙ length-pong other small in
+    omega arith
+
+-- flags and a size stand before the body, in either form
+pub frame-octets : (octets : List ℕ) (f : Frame) → IsFrame octets f → 2 + length f.body ≤ length octets
+frame-octets octets f is = by_form is.header.long is.header.spelled
+  where
+    by_form : (long : Bool) → is.head ≡ header_octets long (header_of f) → 2 + length f.body ≤ length octets
+    by_form false e = omega (arith, ap length e, ap length is.spelled, length-append is.head f.body)
+    by_form true e = omega (arith, ap length e, ap length is.spelled, length-append is.head f.body, length-eight_octets (length f.body))

@@ -5,7 +5,7 @@ ghost use Rattle.zmtp_wire.specs.Header.{header_octets};
 use crate::fault::WireFault;
 use crate::header::Header;
 use crate::pong::PONG;
-use crate::tally::OCTET_LIMIT;
+use crate::tally::MESSAGE_OCTET_LIMIT;
 use std::alloc::{AllocError, Global};
 
 /// A frame: a part of a message, or a command.
@@ -55,7 +55,7 @@ impl Frame {
             return Err(WireFault::CommandWithMore);
         }
         let size = self.body.len() as u64;
-        if size > OCTET_LIMIT {
+        if size > MESSAGE_OCTET_LIMIT {
             return Err(WireFault::TooLong);
         }
         let header = Header {

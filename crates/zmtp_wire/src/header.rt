@@ -12,8 +12,8 @@ const MORE: u8 = 1;
 /// The flag of a size in eight octets.
 const LONG: u8 = 2;
 
-/// The flag of a command.
-pub(crate) const COMMAND: u8 = 4;
+/// The flag of a frame that is a command (RFC 23, "Framing": bit 2 of a frame's flags).
+pub const COMMAND: u8 = 4;
 
 /// The largest size that the short form holds.
 const SHORT_SIZE: u64 = 255;

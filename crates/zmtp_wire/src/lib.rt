@@ -26,9 +26,11 @@ pub use decoder::Decoder;
 pub use fault::WireFault;
 pub use frame::Frame;
 pub use greeting::{GREETING_LENGTH, Greeting, MAJOR, MINOR};
+pub use header::COMMAND;
 pub use message::{octets_of_message, write_message};
-pub use pong::{PING_OCTETS, pong_context};
+pub use pong::{CONTEXT_LIMIT, PING_OCTETS, pong_context};
 pub use sending::{SendFault, send_message, send_pong};
+pub use tally::{MESSAGE_FRAME_LIMIT, MESSAGE_OCTET_LIMIT};
 
 /// Law: each list of octets has a reading.
 pub fn every_stream_is_read_law()

@@ -7,7 +7,7 @@ ghost use Rattle.zmtp_wire.specs.Message.{bodies_of, message_octets, IsWithinLim
 use crate::fault::WireFault;
 use crate::frame::push_frame;
 use crate::header::Header;
-use crate::tally::{FRAME_LIMIT, OCTET_LIMIT};
+use crate::tally::{MESSAGE_FRAME_LIMIT, MESSAGE_OCTET_LIMIT};
 use std::alloc::{AllocError, Global};
 
 /// The octets that a frame's header has at most.
@@ -64,13 +64,13 @@ fn size_within(bodies: &[Vec<u8>]) -> Option<u64>
     ensures size { IfSome result (λ size. size ≡ sum_by length (bodies_of bodies.now)) }
     ensures none { IfNone result (¬ (IsWithinLimits (bodies_of bodies.now))) }
 {
-    if bodies.len() as u64 > FRAME_LIMIT {
+    if bodies.len() as u64 > MESSAGE_FRAME_LIMIT {
         return None;
     }
     let mut size = 0;
     for body in bodies {
         let more = body.len() as u64;
-        if more > OCTET_LIMIT - size {
+        if more > MESSAGE_OCTET_LIMIT - size {
             return None;
         }
         size += more;

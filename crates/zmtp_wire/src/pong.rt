@@ -7,11 +7,11 @@ use crate::header::COMMAND;
 /// The name of a pong, with its length.
 pub(crate) const PONG: &[u8] = b"\x04PONG";
 
-/// A ping has so many octets beside its context, in the short form of a frame: flags, size, its name with a length, and a time to live.
+/// The octets that a ping has beside its context, in the short form of a frame: flags, size, its name with a length, and a time to live.
 pub const PING_OCTETS: usize = 9;
 
-/// The longest context that a ping may have.
-const CONTEXT_LIMIT: usize = 16;
+/// The longest context that a ping may have (RFC 37, "Heartbeating").
+pub const CONTEXT_LIMIT: usize = 16;
 
 /// The context of the pong that these octets are, whole and as [`crate::send_pong`] writes it; none where they are anything else.
 pub fn pong_context(octets: &[u8]) -> Option<&[u8]>

@@ -4,11 +4,11 @@ ghost use Rattle.zmtp_wire.specs.Tally.{Fits, counted};
 
 use crate::header::Header;
 
-/// How many octets the bodies of one message may have together, and how many the body of one command.
-pub(crate) const OCTET_LIMIT: u64 = 16_777_216;
+/// The most octets that the bodies of one message may have together, and the most that the body of one command may have.
+pub const MESSAGE_OCTET_LIMIT: u64 = 16_777_216;
 
-/// How many frames one message may have.
-pub(crate) const FRAME_LIMIT: u64 = 1024;
+/// The most frames that one message may have.
+pub const MESSAGE_FRAME_LIMIT: u64 = 1024;
 
 /// The frames of a message that has begun and not ended: how many they are, and the octets of their bodies.
 #[derive(Clone, Copy, Debug, PartialEq, Eq)]
@@ -32,7 +32,7 @@ impl Tally {
     {
         let before = if header.command { Tally::NOTHING } else { self };
         let octets = before.octets.checked_add(header.size)?;
-        if octets > OCTET_LIMIT || before.frames >= FRAME_LIMIT {
+        if octets > MESSAGE_OCTET_LIMIT || before.frames >= MESSAGE_FRAME_LIMIT {
             return None;
         }
         if header.command {

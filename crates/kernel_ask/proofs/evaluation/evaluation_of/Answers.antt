@@ -97,5 +97,5 @@ returns g c =
       tree = exp_view c.in-Ok.exp;
       is_tree = c.in-Ok.ensures.read;
       formed = formed;
-      evaluated = ap (λ (e : Exp). value e c.args.store.now.sight) (sym c.in-Ok-flat_exp.ensures.tree) ∙ sym c.in-Err-value.ensures ∙ sym (ap (λ f. Bad f) c.told.ensures);
+      evaluated = ap (λ (e : Exp). value e c.args.store.now.sight) (sym c.in-Ok-flat_exp.ensures.tree) ∙ sym c.in-Err-value.ensures ∙ sym (ap (λ f. Bad f) c.from.ensures);
     }

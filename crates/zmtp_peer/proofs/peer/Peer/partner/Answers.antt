@@ -2,7 +2,7 @@ use Rattle.std.proofs.Common.{◌≡◌, ◌⊎◌, inr, ℕ, List, ◌<◌, ap,
 use Rattle.zmtp_wire.specs.declared.fault.WireFault.{WireFault}
 use Rattle.zmtp_wire.specs.declared.greeting.Greeting.{Greeting}
 use Rattle.zmtp_wire.specs.Greeting.{IsGreeting, IsGreetingFault}
-use Rattle.zmtp_peer.specs.Reading.{Standing}
+use Rattle.zmtp_peer.specs.Reading.{PeerState}
 use Rattle.zmtp_peer.proofs.peer.Peer.partner.Goals as goal
 
 -- what is said of all octets of a greeting is said of the greeting that is kept
@@ -23,7 +23,7 @@ pub returns : goal.returns
 returns c =
     let inside = c.self.inside in
     let all : take inside.greeted inside.greeting ≡ inside.greeting = take_all inside.greeted inside.greeting (omega (arith, c.welcome.ensures.size, c.if-self-lt-GREETING_LENGTH.false)) in
-    let same : inside.greeting ≡ c.args.self.now.greeting = sym all ∙ ap (λ (s : Standing). s.greeting) c.self.view_is in
+    let same : inside.greeting ≡ c.args.self.now.greeting = sym all ∙ ap (λ (s : PeerState). s.greeting) c.self.view_is in
     record {
       some = some_kept c.welcome.result inside.greeting c.args.self.now.greeting same c.welcome.ensures.some;
       whole = whole_kept c.welcome.result inside.greeting c.args.self.now.greeting same c.welcome.ensures.size;

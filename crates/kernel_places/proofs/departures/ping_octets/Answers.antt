@@ -1,6 +1,7 @@
 use Rattle.std.proofs.Common.{arith}
-use Rattle.kernel_places.proofs.Pongs.{ping_counted, one_length}
-use Rattle.kernel_places.proofs.arrivals.ping_octets.Goals as goal
+use Rattle.zmtp_wire.proofs.Pongs.{one_length}
+use Rattle.kernel_places.proofs.Pongs.{ping_counted}
+use Rattle.kernel_places.proofs.departures.ping_octets.Goals as goal
 
 pub returns-in-Some-clause-none : goal.returns-in-Some-clause-none
 returns-in-Some-clause-none c none = absurd (none c.in-Some.context.now c.in-Some.ensures.short c.in-Some.ensures.pong)
