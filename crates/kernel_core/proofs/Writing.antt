@@ -1,15 +1,20 @@
 -- The minutes as the code writes them, and the queue of their places.
 use Rattle.std.specs.Prelude.{vec_capacity, if◌then◌else◌}
 use Rattle.std.specs.Result.{is_ok, is_err}
-use Rattle.std.proofs.Common.{◌≡◌, ℕ, ◌+◌, ◌*◌, ◌<◌, ◌≤◌, Bool, false, Result, Ok, Err, List, [], ◌∷◌, ◌++◌, length, map, get_or, zero, suc, refl, sym, ap, ◌∙◌, subst, arith, length-append}
+use Rattle.std.proofs.Common.{◌≡◌, ℕ, ◌+◌, ◌*◌, ◌<◌, ◌≤◌, Bool, false, Result, Ok, Err, List, [], ◌∷◌, ◌++◌, length, map, get_or, zero, suc, refl, sym, ap, ◌∙◌, subst, arith, length-append, append-nil, Option, None, Some}
 use Rattle.std.proofs.lemmas.List.{length-map, map-append}
 use Rattle.kernel_machine.specs.State.{State}
 use Rattle.kernel_machine.specs.Request.{Request, Undo, request_of}
-use Rattle.kernel_machine.specs.Runs.{Machine, posted}
+use Rattle.kernel_machine.specs.Runs.{Machine, posted, noted, end_of_begun, end_of_sliced}
 use Rattle.kernel_machine.specs.Minutes as minutes
 use Rattle.kernel_machine.specs.Minutes.{posted_in, ended_in, minutes_limit}
 use Rattle.kernel_core.specs.Written.{entry_of, entries_in, job_in, job_at, IsPost, IsPostAt, ArePosts, HasPlaces}
 use Rattle.kernel_machine.specs.declared.outcome.Outcome.{Outcome}
+use Rattle.kernel_machine.specs.declared.outcome.Begun.{Begun}
+use Rattle.kernel_machine.specs.declared.outcome.Begun.TheVariants as begun
+use Rattle.kernel_machine.specs.declared.outcome.Sliced.{Sliced}
+use Rattle.kernel_machine.specs.declared.outcome.Sliced.TheVariants as sliced
+use Rattle.kernel_core.specs.MachineParts.{machine_with}
 use Rattle.kernel_machine.specs.declared.post.Job.{Job}
 use Rattle.kernel_core.specs.declared.minutes.Entry.{Entry}
 use Rattle.kernel_core.specs.declared.minutes.Entry.TheVariants.{Posted, Ended}
@@ -120,21 +125,56 @@ pub pushed : {T E : Type 0} (r : Result T E) (xs ys zs : List ℕ) → is_err r 
 pushed (Ok x) xs ys zs e h = h
 pushed (Err x) xs ys zs e h = absurd (cc)
 
-abbrev pub machine_with : State → List Request → ℕ → List minutes.Entry → Bool → Machine
-machine_with state queue counter entries closing = record { state = state; queue = queue; counter = counter; minutes = entries; closing = closing }
+abbrev pub machine_from : State → List Request → ℕ → List minutes.Entry → Bool → Machine
+machine_from state queue counter entries closing = record { state = state; queue = queue; counter = counter; minutes = entries; closing = closing }
 
 -- an entry is written down
 pub written_view : (es more : List minutes.Entry) (e : minutes.Entry) (state : State) (queue : List ℕ) (counter : ℕ) (closing : Bool) → more ≡ es ++ e ∷ [] → ArePosts es queue →
-    machine_with state (map (job_at more) queue) counter more closing ≡ machine_with state (map (job_at es) queue) counter (es ++ e ∷ []) closing
+    machine_from state (map (job_at more) queue) counter more closing ≡ machine_from state (map (job_at es) queue) counter (es ++ e ∷ []) closing
 written_view es more e state queue counter closing same posts =
-    subst (λ (xs : List minutes.Entry). machine_with state (map (job_at xs) queue) counter xs closing ≡ machine_with state (map (job_at es) queue) counter (es ++ e ∷ []) closing) (sym same)
-    (ap (λ (jobs : List Request). machine_with state jobs counter (es ++ e ∷ []) closing) (jobs_stay es (e ∷ []) queue posts))
+    subst (λ (xs : List minutes.Entry). machine_from state (map (job_at xs) queue) counter xs closing ≡ machine_from state (map (job_at es) queue) counter (es ++ e ∷ []) closing) (sym same)
+    (ap (λ (jobs : List Request). machine_from state jobs counter (es ++ e ∷ []) closing) (jobs_stay es (e ∷ []) queue posts))
 
 -- a job is posted
 pub posted_view : (es more : List minutes.Entry) (places queue : List ℕ) (lane : ℕ) (job : Request) (state : State) (counter : ℕ) (closing : Bool) →
     more ≡ es ++ minutes.Posted lane job ∷ [] → queue ≡ places ++ length es ∷ [] → ArePosts es places →
-    machine_with state (map (job_at more) queue) counter more closing ≡ posted (machine_with state (map (job_at es) places) counter es closing) lane job
+    machine_from state (map (job_at more) queue) counter more closing ≡ posted (machine_from state (map (job_at es) places) counter es closing) lane job
 posted_view es more places queue lane job state counter closing same behind posts =
-    subst (λ (xs : List minutes.Entry). machine_with state (map (job_at xs) queue) counter xs closing ≡ posted (machine_with state (map (job_at es) places) counter es closing) lane job) (sym same)
-    (ap (λ (jobs : List Request). machine_with state jobs counter (es ++ minutes.Posted lane job ∷ []) closing)
+    subst (λ (xs : List minutes.Entry). machine_from state (map (job_at xs) queue) counter xs closing ≡ posted (machine_from state (map (job_at es) places) counter es closing) lane job) (sym same)
+    (ap (λ (jobs : List Request). machine_from state jobs counter (es ++ minutes.Posted lane job ∷ []) closing)
     (ap (λ (q : List ℕ). map (job_at (es ++ minutes.Posted lane job ∷ [])) q) behind ∙ job_posted es places lane job posts))
+
+-- ---- the end of a job
+
+-- where nothing ended nothing is written down
+pub no_end_begun : (told : Begun) → ((o : Outcome) → told ≡ begun.Ended o → ⊥) → end_of_begun told ≡ None
+no_end_begun begun.Nothing h = refl
+no_end_begun begun.Going h = refl
+no_end_begun (begun.Ended o) h = absurd (h o refl)
+
+pub no_end_sliced : (told : Sliced) → ((o : Outcome) → told ≡ sliced.Ended o → ⊥) → end_of_sliced told ≡ None
+no_end_sliced sliced.Nothing h = refl
+no_end_sliced sliced.Going h = refl
+no_end_sliced sliced.Border h = refl
+no_end_sliced sliced.Backing h = refl
+no_end_sliced (sliced.Ended o) h = absurd (h o refl)
+
+pub unnoted : (m : Machine) (end : Option Outcome) → end ≡ None → m ≡ noted m end
+unnoted m end none =
+    subst (λ (e : Option Outcome). m ≡ noted m e) (sym none) (ap (λ (es : List minutes.Entry). machine_from m.state m.queue m.counter es m.closing) (sym (append-nil m.minutes)))
+
+-- what is written down of an end, in the machine's words
+pub end_written : (m more : Minutes) (o : Outcome) (counter node at : ℕ) → HasPlaces m → more.entries.items ≡ m.entries.items ++ Ended (suc m.ended) o counter node ∷ [] → node ≡ at →
+    entries_in more ≡ entries_in m ++ minutes.Ended (suc (ended_in (entries_in m))) o counter at ∷ []
+end_written m more o counter node at k items same =
+    one_more m.entries.items more.entries.items (Ended (suc m.ended) o counter node) items
+    ∙ ap (λ (n : ℕ). entries_in m ++ minutes.Ended (suc n) o counter node ∷ []) k.ended
+    ∙ ap (λ (n : ℕ). entries_in m ++ minutes.Ended (suc (ended_in (entries_in m))) o counter n ∷ []) same
+
+pub end_noted : (state : State) (places : List ℕ) (counter : ℕ) (closing : Bool) (m more : Minutes) (o : Outcome) →
+    entries_in more ≡ entries_in m ++ minutes.Ended (suc (ended_in (entries_in m))) o counter state.past.position ∷ [] → ArePosts (entries_in m) places →
+    machine_with state places counter more closing ≡ noted (machine_with state places counter m closing) (Some o)
+end_noted state places counter closing m more o written posts = written_view (entries_in m) (entries_in more) _ state places counter closing written posts
+
+pub end_stays : (m more : Minutes) (e : minutes.Entry) (places : List ℕ) → entries_in more ≡ entries_in m ++ e ∷ [] → ArePosts (entries_in m) places → ArePosts (entries_in more) places
+end_stays m more e places written posts = subst (λ (entries : List minutes.Entry). ArePosts entries places) (sym written) (posts_stay (entries_in m) (e ∷ []) places posts)
