@@ -12,6 +12,7 @@ use Rattle.kernel_hall.specs.LastEnds.{IsLastEnd, EndsNoNumber, last_of, number_
 
 -- what a telling leaves of one, beside what it tells
 pub record IsLeft (kept left : PendingResult) : Type 0 where
+  pub posted : left.posted ≡ kept.posted
   pub ended : left.ended ≡ kept.ended
   pub wishes : left.wishes ≡ kept.wishes
 
@@ -25,6 +26,7 @@ told es i n x left (Some d) low same rest shown values none empty = record {
   values = values;
   none_shown = none;
   no_values = empty;
+  posted = rest.posted;
   ended = rest.ended;
   wishes = rest.wishes;
   others = ap (λ (j : ℕ). slice_set es j left) same;

@@ -11,8 +11,9 @@ use Rattle.kernel_hall.specs.declared.pending_result.PendingResult.{PendingResul
 use Rattle.kernel_hall.specs.declared.turn.Turn.{Turn}
 use Rattle.kernel_hall.specs.declared.turn.Turn.TheVariants.{Cut, Began, Worn}
 
--- of a post with these wishes, which has not ended; nothing was made yet
-pub record IsNewPending (given : List Wish) (e : PendingResult) : Type 0 where
+-- of a post at this place of the minutes, with these wishes, which has not ended; nothing was made yet
+pub record IsNewPending (place : ℕ) (given : List Wish) (e : PendingResult) : Type 0 where
+  pub posted : e.posted ≡ place
   pub ended : e.ended ≡ None
   pub wishes : e.wishes.items ≡ given
   pub shown : e.shown ≡ None
@@ -27,12 +28,14 @@ pub record IsTold (old : List PendingResult) (n : ℕ) (d : Done) (new : List Pe
   pub values : d.values ≡ kept.values
   pub none_shown : left.shown ≡ None
   pub no_values : left.values.items ≡ []
+  pub posted : left.posted ≡ kept.posted
   pub ended : left.ended ≡ kept.ended
   pub wishes : left.wishes ≡ kept.wishes
   pub others : new ≡ slice_set old (n - 1) left
 
 -- the job has ended at this place of the minutes, and its wishes are spent
 pub record IsSettled (old : PendingResult) (place : ℕ) (new : PendingResult) : Type 0 where
+  pub posted : new.posted ≡ old.posted
   pub ended : new.ended ≡ Some place
   pub wishes : new.wishes.items ≡ []
 

@@ -12,10 +12,11 @@ use std::alloc::{AllocError, Global};
 use std::mem;
 use std::sync::ledger::Ledger;
 
-/// What stands beside a post, with no fact kept of it: where the minutes have its end, its wishes until it ends, and what was made as it
-/// ended until the first wait.
+/// What stands beside a post, with no fact kept of it: where the minutes have the post and its end, its wishes until it ends, and what
+/// was made as it ended until the first wait.
 #[derive(Drop)]
 pub struct PendingResult {
+    posted: usize,
     ended: Option<usize>,
     wishes: Vec<Wish>,
     shown: Option<String>,
@@ -23,12 +24,17 @@ pub struct PendingResult {
 }
 
 impl PendingResult {
-    /// For a post with these wishes. The memory for the values is taken here: the only error is want of it.
-    pub(crate) fn new(alloc: Global, wishes: Vec<Wish>) -> Result<PendingResult, AllocError>
-        ensures { IfOk result (IsNewPending wishes.items) }
+    /// For a post at this place of the minutes. The memory for the values is taken here: the only error is want of it.
+    pub(crate) fn new(
+        alloc: Global,
+        posted: usize,
+        wishes: Vec<Wish>,
+    ) -> Result<PendingResult, AllocError>
+        ensures { IfOk result (IsNewPending posted wishes.items) }
     {
         let values = Vec::with_capacity(alloc, wishes.len())?;
         Ok(PendingResult {
+            posted,
             ended: None,
             wishes,
             shown: None,
@@ -66,6 +72,7 @@ impl PendingResult {
         ensures values { IfSome result (λ d. d.values ≡ self.old.values) }
         ensures none_shown { IfSome result (λ d. self.new.shown ≡ None) }
         ensures no_values { IfSome result (λ d. self.new.values.items ≡ []) }
+        ensures posted { self.new.posted ≡ self.old.posted }
         ensures ended { self.new.ended ≡ self.old.ended }
         ensures wishes { self.new.wishes ≡ self.old.wishes }
         ensures none { IfNone result (self.new ≡ self.old) }

@@ -79,7 +79,7 @@ impl<W: Ledger, L: Ledger> State<W, L> {
         ensures pass { OnErr result (pass.new ≡ pass.old) }
         ensures comms { self.new.comms ≡ self.old.comms }
         ensures pending_result { IfOk result
-            (λ t. (e : PendingResult) × IsNewPending wishes.items e
+            (λ t. (e : PendingResult) × IsNewPending (length self.old.kernel.machine.minutes) wishes.items e
             × (self.new.pending_results.items ≡ self.old.pending_results.items ++ e ∷ [])) }
         ensures pending_results { OnErr result (self.new.pending_results.items ≡ self.old.pending_results.items) }
         ensures legal { IsLegalMachine self.old.kernel.machine }
@@ -115,7 +115,7 @@ impl<W: Ledger, L: Ledger> State<W, L> {
         ensures pass { OnErr result (pass.new ≡ pass.old) }
         ensures comms { self.new.comms ≡ self.old.comms }
         ensures pending_result { IfOk result
-            (λ n. (e : PendingResult) × IsNewPending wishes.items e
+            (λ n. (e : PendingResult) × IsNewPending (length self.old.kernel.machine.minutes) wishes.items e
             × (self.new.pending_results.items ≡ self.old.pending_results.items ++ e ∷ [])) }
         ensures pending_results { OnErr result (self.new.pending_results.items ≡ self.old.pending_results.items) }
         ensures legal { IsLegalMachine self.old.kernel.machine }
@@ -138,7 +138,7 @@ impl<W: Ledger, L: Ledger> State<W, L> {
         ensures pass { OnErr result (pass.new ≡ pass.old) }
         ensures comms { self.new.comms ≡ self.old.comms }
         ensures pending_result { IfOk result
-            (λ n. (e : PendingResult) × IsNewPending wishes.items e
+            (λ n. (e : PendingResult) × IsNewPending (length self.old.kernel.machine.minutes) wishes.items e
             × (self.new.pending_results.items ≡ self.old.pending_results.items ++ e ∷ [])) }
         ensures pending_results { OnErr result (self.new.pending_results.items ≡ self.old.pending_results.items) }
     {
@@ -149,7 +149,7 @@ impl<W: Ledger, L: Ledger> State<W, L> {
             book,
             ..
         } = self;
-        let Ok(pending_result) = PendingResult::new(*alloc, wishes) else {
+        let Ok(pending_result) = PendingResult::new(*alloc, kernel.minutes().len(), wishes) else {
             return Err(PostFault::Memory);
         };
         if pending_results.reserve(1).is_err() {

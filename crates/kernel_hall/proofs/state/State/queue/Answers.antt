@@ -1,7 +1,10 @@
-use Rattle.std.proofs.Common.{◌≡◌, ap, ◌∙◌, arith, ◌++◌, ◌∷◌, []}
+use Rattle.std.proofs.Common.{◌≡◌, ℕ, ap, ◌∙◌, sym, subst, arith, length, ◌++◌, ◌∷◌, []}
+use Rattle.std.proofs.lemmas.List.{length-map}
 use Rattle.kernel_core.specs.Request.{request_of}
 use Rattle.kernel_core.specs.Minutes.{posted_in}
 use Rattle.kernel_core.specs.Runs.{Machine}
+use Rattle.kernel_core.specs.Written.{entry_of}
+use Rattle.kernel_hall.specs.PendingResults.{IsNewPending}
 use Rattle.kernel_hall.proofs.Posts.{one_more}
 use Rattle.kernel_hall.proofs.state.State.queue.Goals as goal
 
@@ -14,8 +17,9 @@ invariant_of-self-2 g c =
 
 pub returns-clause-pending_result : goal.returns-clause-pending_result
 returns-clause-pending_result g c =
-    let e = c.in-Ok.pending_result in (
+    let e = c.in-Ok.pending_result in
+    let place : length c.minutes.result.now ≡ length c.args.self.now.kernel.machine.minutes = sym (length-map c.minutes.result.now entry_of) ∙ ap length c.minutes.ensures.entries in (
       e,
-      c.in-Ok.ensures,
+      subst (λ (n : ℕ). IsNewPending n c.args.wishes.items e) place c.in-Ok.ensures,
       c.push_reserved.ensures.items ∙ ap (λ es. es ++ e ∷ []) c.reserve.ensures.items,
     )
