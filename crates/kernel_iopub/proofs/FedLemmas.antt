@@ -8,7 +8,7 @@ use Rattle.zmtp_peer.specs.declared.fault.PeerFault.{PeerFault}
 use Rattle.zmtp_peer.specs.declared.fault.PeerFault.TheVariants as code
 use Rattle.zmtp_peer.specs.Events.{Event, Refused}
 use Rattle.zmtp_peer.specs.Faults.{fault_of, want_of_memory}
-use Rattle.zmtp_peer.specs.Reading.{Standing, Stands, Brings}
+use Rattle.zmtp_peer.specs.Reading.{PeerState, Stands, Brings}
 use Rattle.kernel_iopub.specs.Pings.{ping_in, pings_in, HasAsked}
 use Rattle.kernel_iopub.specs.Round.{WasFed}
 
@@ -36,11 +36,11 @@ is_memory code.BadPing = inr (λ e. cc)
 -- ---- the pings that wait
 
 -- a peer on whose connection nothing came
-pub new_asks : (peer : Standing) → Stands [] [] peer → HasAsked peer 0 []
+pub new_asks : (peer : PeerState) → Stands [] [] peer → HasAsked peer 0 []
 new_asks peer h = ∣ ([], [], h, record { front = []; count = refl; whole = refl }) ∣₁
 
 -- what it asks now stands behind what waited
-pub asked_more : (old new : Standing) (piece : List ℕ) (events : List Event) (taken : ℕ) (contexts more : List (List ℕ)) → Brings old piece events new
+pub asked_more : (old new : PeerState) (piece : List ℕ) (events : List Event) (taken : ℕ) (contexts more : List (List ℕ)) → Brings old piece events new
     → more ≡ pings_in events → HasAsked old taken contexts → HasAsked new taken (contexts ++ more)
 asked_more old new piece events taken contexts more brings same asked =
     ∥∥₁_map asked (λ s. (
@@ -56,12 +56,12 @@ asked_more old new piece events taken contexts more brings same asked =
     ))
 
 -- it has asked the same where a piece brings nothing
-asked_on : (old new : Standing) (piece : List ℕ) (taken : ℕ) (contexts : List (List ℕ)) → Brings old piece [] new → HasAsked old taken contexts → HasAsked new taken contexts
+asked_on : (old new : PeerState) (piece : List ℕ) (taken : ℕ) (contexts : List (List ℕ)) → Brings old piece [] new → HasAsked old taken contexts → HasAsked new taken contexts
 asked_on old new piece taken contexts brings asked =
     subst (HasAsked new taken) (append-nil contexts) (asked_more old new piece [] taken contexts [] brings refl asked)
 
 -- where all that waited was taken, none waits more
-pub asked_all : (peer : Standing) (taken : ℕ) (contexts : List (List ℕ)) → HasAsked peer taken contexts → HasAsked peer (taken + length contexts) []
+pub asked_all : (peer : PeerState) (taken : ℕ) (contexts : List (List ℕ)) → HasAsked peer taken contexts → HasAsked peer (taken + length contexts) []
 asked_all peer taken contexts asked =
     ∥∥₁_map asked (λ s. (
       s.0,
@@ -75,7 +75,7 @@ asked_all peer taken contexts asked =
     ))
 
 -- it has asked the same behind a call that brought a fault
-pub still_asked : (old new : Standing) (piece : List ℕ) (taken : ℕ) (contexts : List (List ℕ)) (fault : PeerFault)
+pub still_asked : (old new : PeerState) (piece : List ℕ) (taken : ℕ) (contexts : List (List ℕ)) (fault : PeerFault)
     → (¬ (fault_of fault ≡ want_of_memory) → Brings old piece [] new × (new.state ≡ Refused (fault_of fault)))
     → (fault_of fault ≡ want_of_memory → Brings old [] [] new)
     → HasAsked old taken contexts → HasAsked new taken contexts
@@ -86,14 +86,14 @@ still_asked old new piece taken contexts fault refused memory asked = elim (is_m
 
 -- ---- what it was fed
 
-pub new_fed : (peer : Standing) → Stands [] [] peer → WasFed peer
+pub new_fed : (peer : PeerState) → Stands [] [] peer → WasFed peer
 new_fed peer h = ∣ ([], [], h) ∣₁
 
-pub fed_on : (old new : Standing) (piece : List ℕ) (events : List Event) → Brings old piece events new → WasFed old → WasFed new
+pub fed_on : (old new : PeerState) (piece : List ℕ) (events : List Event) → Brings old piece events new → WasFed old → WasFed new
 fed_on old new piece events brings fed = ∥∥₁_map fed (λ s. (s.0 ++ piece, s.1 ++ events, brings s.0 s.1 s.2))
 
 -- also behind a call that brought a fault
-pub still_fed : (old new : Standing) (piece : List ℕ) (fault : PeerFault)
+pub still_fed : (old new : PeerState) (piece : List ℕ) (fault : PeerFault)
     → (¬ (fault_of fault ≡ want_of_memory) → Brings old piece [] new × (new.state ≡ Refused (fault_of fault)))
     → (fault_of fault ≡ want_of_memory → Brings old [] [] new)
     → WasFed old → WasFed new

@@ -7,7 +7,7 @@ use Rattle.zmtp_wire.specs.Message.{message_octets}
 use Rattle.zmtp_wire.specs.Pong.{pong_octets}
 use Rattle.zmtp_peer.specs.declared.role.Role.TheVariants.{Pub}
 use Rattle.zmtp_peer.specs.Events.{Event}
-use Rattle.zmtp_peer.specs.Reading.{Standing, Stands}
+use Rattle.zmtp_peer.specs.Reading.{PeerState, Stands}
 use Rattle.zmtp_peer.specs.Subscriptions.{IsWanted}
 use Rattle.kernel_board.specs.Frames.{Frames, topic_of}
 use Rattle.kernel_board.specs.Log.{Log, IsLog}
@@ -25,12 +25,12 @@ AreWanted events (b ∷ bs) kept =
     ⊎ (¬ (IsWanted events (topic_of b)) × AreWanted events bs kept)
 
 -- a peer was fed some octets: the first of its connection, and those that came behind them
-abbrev pub WasFed : Standing → Type 0
+abbrev pub WasFed : PeerState → Type 0
 WasFed peer = ∥ ((octets : List ℕ) × (events : List Event) × Stands octets events peer) ∥₁
 
 -- Of some broadcasts these are kept: those to which a publisher's peer had subscribed by all that it was fed, in their order.
 pub record IsChosen (broadcasts kept : List Frames) : Type 0 where
-  pub peer : Standing
+  pub peer : PeerState
   pub publishes : peer.role ≡ Pub
   pub was_fed : WasFed peer
   pub wanted : (octets : List ℕ) (events : List Event) → Stands octets events peer → AreWanted events broadcasts kept

@@ -4,7 +4,7 @@ use Rattle.zmtp_peer.specs.declared.fault.PeerFault.{PeerFault}
 use Rattle.zmtp_peer.specs.Faults.{fault_of, want_of_memory}
 use Rattle.zmtp_peer.specs.Events.{Event, State as PeerState, Opening, Open, Refused}
 use Rattle.zmtp_peer.specs.Intake.{IsRefusal}
-use Rattle.zmtp_peer.specs.Reading.{Ending, Awaiting, PeerReads, Standing, Stands, Brings, ending_of}
+use Rattle.zmtp_peer.specs.Reading.{Ending, Awaiting, PeerReads, PeerState, Stands, Brings, ending_of}
 use Rattle.zmtp_peer.specs.Laws.{OctetsHaveOneReading}
 use Rattle.kernel_message.specs.declared.stamp.Stamp.{Stamp}
 use Rattle.kernel_session.specs.declared.socket.Socket.{Socket}
@@ -38,21 +38,21 @@ too_short : 64 ≤ 0 → ⊥
 too_short p = omega arith
 
 -- a peer that was fed nothing isn't refused
-pub new_awaits : (s : Standing) → Stands [] [] s → ending_of s.state ≡ Awaiting
+pub new_awaits : (s : PeerState) → Stands [] [] s → ending_of s.state ≡ Awaiting
 new_awaits s p = elim p.reads [ inl q ↦ q.awaits | inr q ↦ elim q [ inl r ↦ absurd (too_short r.complete) | inr r ↦ absurd (too_short r.complete) ] ]
 
-pub reads_as : (socket : Socket) (input : List ℕ) (events : List Event) (s : Standing) → Stands input events s → s.role ≡ role_of socket
+pub reads_as : (socket : Socket) (input : List ℕ) (events : List Event) (s : PeerState) → Stands input events s → s.role ≡ role_of socket
     → PeerReads (role_of socket) input events (ending_of s.state)
 reads_as socket input events s p e = subst (λ r. PeerReads r input events (ending_of s.state)) e p.reads
 
 -- more is fed, which brings nothing
-pub brings_on : (a b c : Standing) (xs : List ℕ) (es : List Event) → Brings a xs es b → Brings b [] [] c → Brings a xs es c
+pub brings_on : (a b c : PeerState) (xs : List ℕ) (es : List Event) → Brings a xs es b → Brings b [] [] c → Brings a xs es c
 brings_on a b c xs es p q fed given st =
     subst₂ (λ (x : List ℕ) (y : List Event). Stands x y c) (append-nil (fed ++ xs)) (append-nil (given ++ es))
     (q (fed ++ xs) (given ++ es) (p fed given st))
 
 -- what is fed nothing tells nothing
-tells_none : OctetsHaveOneReading → (b c : Standing) (fed : List ℕ) (given es : List Event) → c.role ≡ b.role → Stands fed given b
+tells_none : OctetsHaveOneReading → (b c : PeerState) (fed : List ℕ) (given es : List Event) → c.role ≡ b.role → Stands fed given b
     → Stands (fed ++ []) (given ++ es) c → es ≡ []
 tells_none law b c fed given es role p q =
     let r : PeerReads b.role fed (given ++ es) (ending_of c.state) =
@@ -60,7 +60,7 @@ tells_none law b c fed given es role p q =
     (subst (λ (x : List ℕ). PeerReads c.role x (given ++ es) (ending_of c.state)) (append-nil fed) q.reads) in
     none_behind given es (law b.role fed given (given ++ es) (ending_of b.state) (ending_of c.state) p.reads r).0
 
-pub quiet_on : OctetsHaveOneReading → (a b c : Standing) (xs : List ℕ) (es fs : List Event) → c.role ≡ b.role → Brings a xs es b → Brings b [] fs c
+pub quiet_on : OctetsHaveOneReading → (a b c : PeerState) (xs : List ℕ) (es fs : List Event) → c.role ≡ b.role → Brings a xs es b → Brings b [] fs c
     → Brings a xs es c
 quiet_on law a b c xs es fs role p q fed given st =
     let s = p fed given st in
@@ -69,7 +69,7 @@ quiet_on law a b c xs es fs role p q fed given st =
     subst₂ (λ (x : List ℕ) (y : List Event). Stands x y c) (append-nil (fed ++ xs))
     (ap (λ (x : List Event). (given ++ es) ++ x) none ∙ append-nil (given ++ es)) t
 
-pub calm_on : OctetsHaveOneReading → (a b c : Standing) (xs : List ℕ) (es fs : List Event) → c.role ≡ b.role → Brings a xs es b → Brings b [] fs c
+pub calm_on : OctetsHaveOneReading → (a b c : PeerState) (xs : List ℕ) (es fs : List Event) → c.role ≡ b.role → Brings a xs es b → Brings b [] fs c
     → (fs ≡ [] → IsRefusal c.state → ⊥) → (fed : List ℕ) (given : List Event) → Stands fed given a → ending_of c.state ≡ Awaiting
 calm_on law a b c xs es fs role p q calm fed given st =
     let s = p fed given st in
@@ -78,7 +78,7 @@ calm_on law a b c xs es fs role p q calm fed given st =
 -- ---- one piece
 
 module _ {W D : Type 0} (contents : W → Option (List ℕ)) (leads : D → Call → D → Type 0) (socket : Socket) (key : List ℕ) (stamp stamp2 : Stamp) where
-  pub stops_first : (w : W) (d : D) (a c : Standing) (piece : List ℕ) (fault : PeerFault) (told : ServeFault)
+  pub stops_first : (w : W) (d : D) (a c : PeerState) (piece : List ℕ) (fault : PeerFault) (told : ServeFault)
       → (fault_of fault ≡ want_of_memory → Brings a [] [] c)
       → (fault_of fault ≢ want_of_memory → Brings a piece [] c × (c.state ≡ Refused (fault_of fault)))
       → ((fault_of fault ≡ want_of_memory) × (told ≡ Memory)) ⊎ ((fault_of fault ≢ want_of_memory) × (told ≡ Peer fault))
@@ -91,7 +91,7 @@ module _ {W D : Type 0} (contents : W → Option (List ℕ)) (leads : D → Call
             ([], (other p.0).0, p.0, (other p.0).1, whole_none contents leads socket key [] w w d d (going stamp) (acts_none contents leads w d))
       ]
 
-  pub stops_midway : (w w' : W) (d d' : D) (a b : Standing) (piece : List ℕ) (es : List Event) (fault : ServeFault) → IsMidway fault
+  pub stops_midway : (w w' : W) (d d' : D) (a b : PeerState) (piece : List ℕ) (es : List Event) (fault : ServeFault) → IsMidway fault
       → Brings a piece es b → Cut contents leads socket key [] w w' d d' (going stamp) es
       → stops_by contents leads socket key w w' d d' stamp stamp2 a piece b fault
   stops_midway w w' d d' a b piece es Read m p q = absurd m
@@ -100,7 +100,7 @@ module _ {W D : Type 0} (contents : W → Option (List ℕ)) (leads : D → Call
   stops_midway w w' d d' a b piece es Memory m p q = (piece, [], sym (append-nil piece), es, p, q)
 
   -- the events were taken, and the fault behind them is told
-  pub stops_behind : (w w' : W) (d d' : D) (a b c : Standing) (piece : List ℕ) (es : List Event) (fault : PeerFault) (told : ServeFault) (flow : Flow) → flow ≡ Going
+  pub stops_behind : (w w' : W) (d d' : D) (a b c : PeerState) (piece : List ℕ) (es : List Event) (fault : PeerFault) (told : ServeFault) (flow : Flow) → flow ≡ Going
       → Brings a piece es b → comes_to contents leads socket key [] w w' d d' (going stamp) stamp2 flow es
       → (fault_of fault ≡ want_of_memory → Brings b [] [] c)
       → (fault_of fault ≢ want_of_memory → Brings b [] [] c × (c.state ≡ Refused (fault_of fault)))
@@ -124,7 +124,7 @@ module _ {W D : Type 0} (contents : W → Option (List ℕ)) (leads : D → Call
 -- ---- all pieces
 
 module _ {W D : Type 0} (contents : W → Option (List ℕ)) (leads : D → Call → D → Type 0) (socket : Socket) (key : List ℕ) (before : List Action)
-    (w w1 w2 : W) (d d1 d2 : D) (s : State) (stamp stamp2 : Stamp) (peer peer2 : Standing) (input piece : List ℕ) (given : List Event)
+    (w w1 w2 : W) (d d1 d2 : D) (s : State) (stamp stamp2 : Stamp) (peer peer2 : PeerState) (input piece : List ℕ) (given : List Event)
     (so_far : comes_to contents leads socket key before w w1 d d1 s stamp Going given) (stands : Stands input given peer)
     (role : peer2.role ≡ role_of socket) where
   pub comes_by_piece : (found flow : Flow) → found ≡ flow → (es : List Event) → comes_to contents leads socket key [] w1 w2 d1 d2 (going stamp) stamp2 found es

@@ -4,7 +4,7 @@ use Rattle.std.specs.Io.KnownBytes.{IsAtEnd}
 use Rattle.kernel_message.specs.declared.stamp.Stamp.{Stamp}
 use Rattle.zmtp_peer.specs.Events.{Event, Refused}
 use Rattle.zmtp_peer.specs.Faults.{fault_of, want_of_memory}
-use Rattle.zmtp_peer.specs.Reading.{Ending, Awaiting, Failing, PeerReads, Standing, Brings}
+use Rattle.zmtp_peer.specs.Reading.{Ending, Awaiting, Failing, PeerReads, PeerState, Brings}
 use Rattle.kernel_session.specs.declared.socket.Socket.{Socket}
 use Rattle.kernel_session.specs.declared.flow.Flow.{Flow}
 use Rattle.kernel_session.specs.declared.flow.Flow.TheVariants.{Going, Closed, Worn, OutOfMemory}
@@ -86,7 +86,7 @@ module _ {W D : Type 0} (contents : W → Option (List ℕ)) (leads : D → Call
     pub start : IsStartOf done (before ++ actions ++ closing)
 
   -- how a piece that the peer sent stops a connection
-  abbrev pub stops_by : W → W → D → D → Stamp → Stamp → Standing → List ℕ → Standing → ServeFault → Type 0
+  abbrev pub stops_by : W → W → D → D → Stamp → Stamp → PeerState → List ℕ → PeerState → ServeFault → Type 0
   stops_by w w' d d' stamp stamp' peer piece peer' Read = ⊥
   stops_by w w' d d' stamp stamp' peer piece peer' Write =
       (events : List Event) × Brings peer piece events peer' × Cut [] w w' d d' (going stamp) events
