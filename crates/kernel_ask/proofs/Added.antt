@@ -1,17 +1,7 @@
 -- Names in a set are those that were put into it, in the order of their octets.
-use Rattle.std.proofs.Common.{◌≡◌, ℕ, ◌<◌, zero, suc, nat_eq, Bool, true, false, IsTrue, List, [], ◌∷◌, ◌++◌, length, get_or, map, refl, sym, ap, ◌∙◌, subst, inl, inr, ◌⊎◌, arith, String, string_bytes, Contains, if◌then◌else◌}
-use Rattle.std.specs.declared.alloc.Global.{Global}
-use Rattle.std.specs.declared.cmp.Ordering.{Ordering}
-use Rattle.std.specs.declared.cmp.Ordering.TheVariants as ordering
-use Rattle.std.specs.Ordering.{nat_cmp, is_eq, match_ordering}
-use Rattle.std.specs.Cmp.Lexicographic.{slice_cmp}
-use Rattle.std.specs.List.{starts_with, AllByRecursion}
-use Rattle.std.specs.List.Sorted.{IsStrictlySortedBy}
-use Rattle.std.specs.String.{string_cmp}
-use Rattle.std.specs.BTreeSet.{insert_key}
+use Rattle.std.proofs.Common.{◌≡◌, ℕ, nat_eq, Bool, true, false, IsTrue, List, [], ◌∷◌, ◌++◌, refl, sym, subst, inl, inr, ◌⊎◌, Contains}
+use Rattle.std.specs.List.{starts_with}
 use Rattle.std.proofs.lemmas.Bool.{false≢true}
-use Rattle.std.proofs.lemmas.Slice.Eq.{bytes_eq-Decides}
-use Rattle.std.proofs.lemmas.Map.Text.{is_eq-slice_cmp}
 use Rattle.kernel_text.specs.NameSets.{with_name}
 use Rattle.kernel_text.proofs.NameSets.{contains_first, contains_later, contains_none, contains_cases, named_from, named_kept, named_there}
 use Rattle.kernel_ask.specs.Added.{with_match, with_matches}
@@ -21,43 +11,6 @@ use Rattle.kernel_ask.specs.Added.{with_match, with_matches}
 pub with_matches_more : (prefix : List ℕ) (known names : List (List ℕ)) (name : List ℕ) → with_matches prefix known (names ++ name ∷ []) ≡ with_match prefix (with_matches prefix known names) name
 with_matches_more prefix known [] name = refl
 with_matches_more prefix known (n ∷ ns) name = with_matches_more prefix (with_match prefix known n) ns name
-
--- ---- one name more
-
-equal_octets : (xs ys : List ℕ) → slice_cmp nat_cmp xs ys ≡ ordering.Equal → xs ≡ ys
-equal_octets xs ys e = (bytes_eq-Decides xs ys).0 (sym (is_eq-slice_cmp xs ys) ∙ ap is_eq e)
-
-from_placed : (o : Ordering) (ks zs : List (List ℕ)) (y k x : List ℕ) → (Contains zs x → (k ≡ x) ⊎ Contains ks x) → Contains (match_ordering o (k ∷ y ∷ ks) (y ∷ ks) (y ∷ zs)) x → (k ≡ x) ⊎ Contains (y ∷ ks) x
-from_placed ordering.Less ks zs y k x rest h = contains_cases (y ∷ ks) k x h
-from_placed ordering.Equal ks zs y k x rest h = inr h
-from_placed ordering.Greater ks zs y k x rest h =
-    elim (contains_cases zs y x h) as (λ _. (k ≡ x) ⊎ Contains (y ∷ ks) x) [
-      | inl e ↦ inr (contains_first ks y x e)
-      | inr later ↦ elim (rest later) as (λ _. (k ≡ x) ⊎ Contains (y ∷ ks) x) [ inl e ↦ inl e | inr old ↦ inr (contains_later ks y x old) ]
-    ]
-
-named_from : (ks : List (List ℕ)) (k x : List ℕ) → Contains (with_name ks k) x → (k ≡ x) ⊎ Contains ks x
-named_from [] k x h = contains_cases [] k x h
-named_from (y ∷ ks) k x h = from_placed (slice_cmp nat_cmp k y) ks (with_name ks k) y k x (named_from ks k x) h
-
-placed_kept : (o : Ordering) (ks zs : List (List ℕ)) (y k x : List ℕ) → (Contains ks x → Contains zs x) → Contains (y ∷ ks) x → Contains (match_ordering o (k ∷ y ∷ ks) (y ∷ ks) (y ∷ zs)) x
-placed_kept ordering.Less ks zs y k x rest h = contains_later (y ∷ ks) k x h
-placed_kept ordering.Equal ks zs y k x rest h = h
-placed_kept ordering.Greater ks zs y k x rest h =
-    elim (contains_cases ks y x h) as (λ _. Contains (y ∷ zs) x) [ inl e ↦ contains_first zs y x e | inr later ↦ contains_later zs y x (rest later) ]
-
-named_kept : (ks : List (List ℕ)) (k x : List ℕ) → Contains ks x → Contains (with_name ks k) x
-named_kept [] k x h = absurd (contains_none x h)
-named_kept (y ∷ ks) k x h = placed_kept (slice_cmp nat_cmp k y) ks (with_name ks k) y k x (named_kept ks k x) h
-
-placed_there : (o : Ordering) (ks zs : List (List ℕ)) (y k : List ℕ) → slice_cmp nat_cmp k y ≡ o → Contains zs k → Contains (match_ordering o (k ∷ y ∷ ks) (y ∷ ks) (y ∷ zs)) k
-placed_there ordering.Less ks zs y k e rest = contains_first (y ∷ ks) k k refl
-placed_there ordering.Equal ks zs y k e rest = contains_first ks y k (sym (equal_octets k y e))
-placed_there ordering.Greater ks zs y k e rest = contains_later zs y k rest
-
-named_there : (ks : List (List ℕ)) (k : List ℕ) → Contains (with_name ks k) k
-named_there [] k = contains_first [] k k refl
-named_there (y ∷ ks) k = placed_there (slice_cmp nat_cmp k y) ks (with_name ks k) y k refl (named_there ks k)
 
 -- ---- the names that begin with a prefix
 
