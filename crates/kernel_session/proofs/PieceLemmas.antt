@@ -2,7 +2,7 @@
 use Rattle.std.proofs.Common.{◌≡◌, ◌≢◌, ◌≤◌, arith, ℕ, List, [], ◌∷◌, ◌++◌, Option, Err, inl, inr, ◌⊎◌, refl, sym, ap, ◌∙◌, subst, subst₂, append_assoc, append-nil}
 use Rattle.zmtp_peer.specs.declared.fault.PeerFault.{PeerFault}
 use Rattle.zmtp_peer.specs.Faults.{fault_of, want_of_memory}
-use Rattle.zmtp_peer.specs.Events.{Event, State as PeerState, Opening, Open, Refused}
+use Rattle.zmtp_peer.specs.Events.{Event, State as Stage, Opening, Open, Refused}
 use Rattle.zmtp_peer.specs.Intake.{IsRefusal}
 use Rattle.zmtp_peer.specs.Reading.{Ending, Awaiting, PeerReads, PeerState, Stands, Brings, ending_of}
 use Rattle.zmtp_peer.specs.Laws.{OctetsHaveOneReading}
@@ -29,7 +29,7 @@ none_behind : (xs ys : List Event) → xs ≡ xs ++ ys → ys ≡ []
 none_behind [] ys e = sym e
 none_behind (x ∷ xs) ys e = let h : xs ≡ xs ++ ys = cc in none_behind xs ys h
 
-pub awaiting : (s : PeerState) → (IsRefusal s → ⊥) → ending_of s ≡ Awaiting
+pub awaiting : (s : Stage) → (IsRefusal s → ⊥) → ending_of s ≡ Awaiting
 awaiting Opening n = refl
 awaiting (Open held) n = refl
 awaiting (Refused fault) n = absurd (n tt)
