@@ -1,11 +1,11 @@
 -- One more value of a user expression.
 use Rattle.std.proofs.Common.{◌≡◌, List, [], ◌∷◌, ◌++◌, string_bytes}
 use Rattle.janus_meaning.specs.Store.{Store}
-use Rattle.kernel_ask.specs.declared.done.Wish.{Wish}
+use Rattle.kernel_ask.specs.Wishes.{WishOf}
 use Rattle.kernel_ask.specs.declared.done.NamedValue.{NamedValue}
 use Rattle.kernel_ask.specs.Evaluation.{IsEvaluated, AreValues}
 
-pub values_more : (s : Store) (wishes : List Wish) (values : List NamedValue) (wish : Wish) (named : NamedValue) → AreValues s wishes values → string_bytes named.name ≡ string_bytes wish.name → IsEvaluated s (string_bytes wish.exp) named.value →
+pub values_more : (s : Store) (wishes : List WishOf) (values : List NamedValue) (wish : WishOf) (named : NamedValue) → AreValues s wishes values → string_bytes named.name ≡ wish.name → IsEvaluated s wish.exp named.value →
     AreValues s (wishes ++ wish ∷ []) (values ++ named ∷ [])
 values_more s [] [] wish named so_far name value = (name, value, tt)
 values_more s [] (n ∷ ns) wish named so_far name value = absurd so_far

@@ -19,7 +19,7 @@ use Rattle.kernel_core.specs.outcome.Outcome.{Outcome}
 use Rattle.kernel_core.specs.outcome.Outcome.TheVariants.{Ran, Failed, Interrupted, Undid, Redid, Went, Refused as Cancelled}
 use Rattle.kernel_ask.specs.declared.done.ExpFault.{ExpFault}
 use Rattle.kernel_ask.specs.declared.done.ExpFault.TheVariants.{Refused, Met}
-use Rattle.kernel_ask.specs.declared.done.Wish.{Wish}
+use Rattle.kernel_ask.specs.Wishes.{WishOf}
 use Rattle.kernel_ask.specs.declared.done.NamedValue.{NamedValue}
 
 -- the text is an expression that is well formed over the names of the store, and this is its value, or the first fault that it meets
@@ -48,15 +48,15 @@ IsEvaluated s text (Err (Refused NoNode)) = ⊥
 IsEvaluated s text (Err (Refused Closing)) = ⊥
 
 -- the answers stand under the names of the expressions, in their order
-abbrev pub AreValues : Store → List Wish → List NamedValue → Type 0
+abbrev pub AreValues : Store → List WishOf → List NamedValue → Type 0
 AreValues s [] [] = Unit {0}
 AreValues s (wish ∷ wishes) (named ∷ values) =
-    (string_bytes named.name ≡ string_bytes wish.name) × IsEvaluated s (string_bytes wish.exp) named.value × AreValues s wishes values
+    (string_bytes named.name ≡ wish.name) × IsEvaluated s wish.exp named.value × AreValues s wishes values
 AreValues s [] (named ∷ values) = ⊥
 AreValues s (wish ∷ wishes) [] = ⊥
 
 -- they are evaluated only where the cell ran, in the world of its node
-abbrev pub AreValuesAfter : Outcome → Past → List Wish → List NamedValue → Type 0
+abbrev pub AreValuesAfter : Outcome → Past → List WishOf → List NamedValue → Type 0
 AreValuesAfter (Ran node steps) s wishes values = AreValues (world_at s node).store wishes values
 AreValuesAfter (Failed fault steps) s wishes values = values ≡ []
 AreValuesAfter (Interrupted steps) s wishes values = values ≡ []

@@ -8,6 +8,7 @@ pub mod Tail
 pub mod Inspection
 pub mod Judgement
 pub mod EndedAt
+pub mod Wishes
 pub mod Evaluation
 pub mod Comms
 pub mod Completion

@@ -3,8 +3,7 @@ use Rattle.std.specs.Prelude.{◌≡◌, ◌⊎◌, ℕ, List, [], ◌∷◌, ma
 use Rattle.std.specs.List.{filter, join_with_byte}
 use Rattle.janus_meaning.specs.Store.{Store}
 use Rattle.janus_meaning.specs.World.{listed}
-use Rattle.janus_syntax.specs.Tree.{Cell, cell_view}
-use Rattle.janus_syntax.specs.declared.tree.Cell as code
+use Rattle.janus_syntax.specs.Tree.{Cell}
 use Rattle.janus_syntax.specs.Text.{HasTree}
 use Rattle.kernel_core.specs.State.{Past, world_at}
 use Rattle.kernel_core.specs.NodeTrees.{IsTreeAt, HasNoTree}
@@ -21,11 +20,6 @@ parted (text ∷ texts) = Some (join_with_byte 10 (text ∷ texts))
 -- the value texts of the names that the cell names, in the order of declaration
 abbrev pub shown_text : Store → Cell → Option (List ℕ)
 shown_text s cell = parted (map value_text (filter (λ e. in_cell e.0 cell) (listed s)))
-
--- this is the one cell of the text; or the text is no cell
-abbrev pub IsCellOf : List ℕ → Option code.Cell → Type 0
-IsCellOf text (Some cell) = HasTree text (cell_view cell) × ((tree : Cell) → HasTree text tree → cell_view cell ≡ tree)
-IsCellOf text None = (tree : Cell) → HasTree text tree → ⊥
 
 -- what is shown of the cell of a text; nothing of a text that is no cell
 abbrev pub IsShown : Store → List ℕ → Option (List ℕ) → Type 0

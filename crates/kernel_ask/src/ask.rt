@@ -10,7 +10,7 @@ ghost use Rattle.kernel_ask.specs.Completion.{IsCompletion};
 ghost use Rattle.kernel_ask.specs.Inspection.{inspection};
 ghost use Rattle.kernel_ask.specs.History.{inputs, told, input_of};
 ghost use Rattle.kernel_ask.specs.Evaluation.{IsEvaluated};
-ghost use Rattle.kernel_ask.specs.Shown.{IsShownAfter, IsShownOfNode};
+ghost use Rattle.kernel_ask.specs.Shown.{IsShownOfNode};
 ghost use Rattle.kernel_ask.specs.EndedAt.{StandsAtEnd};
 ghost use Rattle.kernel_ask.specs.State.{OfShown};
 ghost use Rattle.kernel_ask.specs.Answer.{IsContent, IsAnswer};
@@ -24,8 +24,9 @@ use crate::input_history::history_of;
 use crate::inputs::{HistoryAsk, Input};
 use crate::inspection::inspection_of;
 use crate::judgement::is_complete;
-use crate::shown::{shown_by, shown_of};
+use crate::shown::shown_of;
 use crate::standing::state;
+use janus_syntax::parse_exp;
 use kernel_core::{Kernel, Outcome};
 use std::alloc::{AllocError, Global};
 use std::sync::ledger::Ledger;
@@ -77,38 +78,13 @@ pub fn evaluate<L: Ledger>(alloc: Global, kernel: &Kernel<L>, text: &str) -> Res
     requires { kernel.now.machine.state.job ≡ Idle }
     ensures { IsEvaluated (here kernel.now.machine.state.past).store text.now result }
 {
-    evaluation_of(alloc, kernel.store(), text)
+    let read = parse_exp(alloc, text);
+    evaluation_of(alloc, kernel.store(), &read)
 }
 
-/// What is shown of a job that is over, with the text of its cell: the value texts of the declared names that the cell names, in
-/// the order of declaration and parted by LF, with their values in the world of its node, where the job is a cell that ran and names
-/// one; else nothing. No job is open, and the kernel stands at that node still. The only error is want of memory.
-pub fn shown<L: Ledger>(
-    alloc: Global,
-    kernel: &Kernel<L>,
-    outcome: &Outcome,
-    code: &str,
-) -> Result<Option<String>, AllocError>
-    requires idle { kernel.now.machine.state.job ≡ Idle }
-    requires still { StandsAtEnd outcome.now kernel.now.machine.state.past }
-    ensures { IfOk result (λ text. IsShownAfter outcome.now kernel.now.machine.state.past code.now (option_map string_bytes text)) }
-{
-    match *outcome {
-        Outcome::Ran(_, _) => {
-            let world = kernel.world();
-            shown_by(alloc, world.store(), code)
-        }
-        Outcome::Failed(_, _)
-        | Outcome::Interrupted(_)
-        | Outcome::Undid(_, _)
-        | Outcome::Redid(_, _)
-        | Outcome::Went(_, _, _)
-        | Outcome::Refused(_) => Ok(None),
-    }
-}
-
-/// What is shown of a job that is over, as [`shown`] has it, by the cell that its node keeps, so no text is read. No job is open, and the kernel
-/// stands at that node still. The only error is want of memory.
+/// What is shown of a job that is over: the value texts of the declared names that the cell names, in the order of declaration and parted by LF,
+/// with their values in the world of its node, where the job is a cell that ran and names one; else nothing. The cell is the one that its node
+/// keeps, so no text is read. No job is open, and the kernel stands at that node still. The only error is want of memory.
 pub fn shown_of_node<L: Ledger>(
     alloc: Global,
     kernel: &Kernel<L>,

@@ -1,13 +1,6 @@
 //! What is told of a job that ended.
 use kernel_core::{Fault, Outcome, Refusal};
 
-/// A user expression: the text of an expression, and the name under which its value is told.
-#[derive(Drop)]
-pub struct Wish {
-    pub name: String,
-    pub exp: String,
-}
-
 /// Why an expression has no value.
 #[derive(Clone, Copy, Debug, PartialEq, Eq)]
 pub enum ExpFault {

@@ -26,16 +26,16 @@ mod matches;
 mod shown;
 mod standing;
 mod tail;
+mod wish;
 
 pub use crate::answer::{Answer, Ask, Completion, Content, HallFault, KernelState};
-pub use crate::ask::{
-    ask_on, complete, evaluate, history, inspect, judge, shown as shown_text, shown_of_node,
-};
+pub use crate::ask::{ask_on, complete, evaluate, history, inspect, judge, shown_of_node};
 pub use crate::comm_change::{CommChange, comm_on};
 pub use crate::comms::{COMM_LIMIT, Comms};
-pub use crate::done::{Done, ExpFault, NamedValue, Wish};
+pub use crate::done::{Done, ExpFault, NamedValue};
 pub use crate::inputs::{HistoryAsk, Input};
 pub use crate::judgement::{Completeness, is_complete};
 pub use crate::lines::exp_fault_line;
 pub use crate::standing::{is_settled, stands_at_end, state};
+pub use crate::wish::Wish;
 pub use kernel_text::{SHOWN_VALUES, outcome_line, post_fault_line, value_text};

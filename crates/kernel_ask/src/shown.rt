@@ -6,13 +6,12 @@ ghost use Rattle.janus_store.specs.Values.{shown};
 ghost use Rattle.janus_syntax.specs.Tree.{cell_view};
 ghost use Rattle.janus_check.specs.Naming.{in_cell};
 ghost use Rattle.kernel_text.specs.ValueTexts.{value_text as value_text_of};
-ghost use Rattle.kernel_ask.specs.Shown.{shown_text, IsCellOf, IsShown};
+ghost use Rattle.kernel_ask.specs.Shown.{shown_text};
 ghost use Rattle.janus_store.specs.StoreState.{shown_store};
 
 use janus_check::cell_names;
 use janus_store::{Store, View};
 use janus_syntax::tree::Cell;
-use janus_syntax::{SyntaxFault, parse_cell};
 use kernel_text::value_text;
 use std::alloc::{AllocError, Global};
 use std::sync::ledger::Ledger;
@@ -79,35 +78,5 @@ pub(crate) fn shown_of<L: Ledger>(
             let text = parted(alloc, first.as_str(), rest)?;
             Ok(Some(text))
         }
-    }
-}
-
-/// The cell of a text, if it is one.
-fn cell_of(alloc: Global, code: &str) -> Result<Option<Cell>, AllocError>
-    ensures { IfOk result (IsCellOf code.now) }
-{
-    match parse_cell(alloc, code) {
-        Ok(cell) => Ok(Some(cell)),
-        Err(SyntaxFault::Memory) => Err(AllocError),
-        Err(SyntaxFault::BadToken(_)) => Ok(None),
-        Err(SyntaxFault::Expected(_, _)) => Ok(None),
-        Err(SyntaxFault::NumberTooLarge(_)) => Ok(None),
-        Err(SyntaxFault::TooNested(_)) => Ok(None),
-        Err(SyntaxFault::DelocalName(_)) => Ok(None),
-    }
-}
-
-/// What is shown of the cell of a text over a store; nothing of a text that is no cell.
-pub(crate) fn shown_by<L: Ledger>(
-    alloc: Global,
-    store: &Store<L>,
-    code: &str,
-) -> Result<Option<String>, AllocError>
-    ensures { IfOk result (λ text. IsShown (shown_store store.now) code.now (option_map string_bytes text)) }
-{
-    let found = cell_of(alloc, code)?;
-    match found {
-        Some(cell) => shown_of(alloc, store, &cell),
-        None => Ok(None),
     }
 }

@@ -1,101 +1,29 @@
-use Rattle.std.proofs.lemmas.Int.{to_z-of_z}
-use Rattle.std.proofs.Common.{◌≡◌, ℕ, ℤ, to_z, of_z, w32, arith, List, Err, sym, ap, ◌∙◌, subst}
-use Rattle.janus_meaning.specs.Syntax.{Name, Exp}
-use Rattle.janus_meaning.specs.Shape.{Shape, shape_of, AreDistinct}
-use Rattle.janus_meaning.specs.FormedWorld.{HaveValues}
+use Rattle.std.proofs.Common.{◌≡◌, ℕ, List, Result, Ok, Err, subst}
 use Rattle.janus_meaning.specs.Store.{Store}
-use Rattle.janus_meaning.specs.Formed.{IsExp}
-use Rattle.janus_meaning.specs.Fault.{Fine, Bad}
-use Rattle.janus_meaning.specs.Value.{value}
-use Rattle.janus_syntax.specs.View.{exp_of}
-use Rattle.janus_syntax.specs.Tree as tree
-use Rattle.janus_syntax.specs.Tree.{exp_view}
-use Rattle.janus_syntax.specs.Text.{HasExp}
-use Rattle.janus_check.specs.Check.{exp_faults}
-use Rattle.janus_check.specs.Fault.{IsFirst}
-use Rattle.janus_check.specs.declared.fault.CheckFault.{CheckFault}
-use Rattle.janus_check.specs.declared.fault.CheckFault.TheVariants as fault
-use Rattle.janus_invert.specs.Numbered.{HasNumbers}
-use Rattle.janus_invert.specs.Met.{MeetsExp}
-use Rattle.janus_invert.proofs.Meeting.{exp_met}
-use Rattle.janus_store.specs.StoreState.{StoreState, IsWhole, shown_store}
-use Rattle.kernel_core.proofs.Borders.{all_shown}
-use Rattle.kernel_core.proofs.NamesMet.{sight_met}
-use Rattle.kernel_core.specs.Text.{refused_by_check}
+use Rattle.janus_syntax.specs.Forms.{Whole}
+use Rattle.janus_syntax.specs.Text.{IsParsedExp, Refuses}
+use Rattle.janus_syntax.specs.declared.tree.Exp as code
+use Rattle.janus_syntax.specs.declared.fault.SyntaxFault.{SyntaxFault}
+use Rattle.janus_syntax.specs.declared.fault.SyntaxFault.TheVariants as fault
+use Rattle.kernel_core.specs.Text.{refused_by_syntax}
 use Rattle.kernel_core.specs.outcome.Refusal.{Refusal}
 use Rattle.kernel_ask.specs.declared.done.ExpFault.TheVariants.{Refused}
-use Rattle.kernel_ask.specs.Evaluation.{HasValue, IsEvaluated}
-use Rattle.kernel_ask.proofs.Sound.{not_broken}
+use Rattle.kernel_ask.specs.Evaluation.{IsEvaluated}
 use Rattle.kernel_ask.proofs.evaluation.evaluation_of.Goals as goal
 
--- no local is open: the names in sight are those declared
-declared : (h : StoreState) → IsWhole h → shape_of (shown_store h) ≡ shape_of h.sight
-declared h whole = ap shape_of (all_shown h whole)
+-- a refusal of the text is told as it is, and want of memory as such
+told : (s : Store) (text : List ℕ) (fault : SyntaxFault) (r : Refusal) → Refuses Whole text fault → r ≡ refused_by_syntax fault → IsEvaluated s text (Err (Refused r))
+told s text (fault.BadToken at) r refused is = rw is refused
+told s text (fault.Expected what at) r refused is = rw is refused
+told s text (fault.NumberTooLarge at) r refused is = rw is refused
+told s text (fault.TooNested at) r refused is = rw is refused
+told s text (fault.DelocalName at) r refused is = rw is refused
+told s text fault.Memory r refused is = rw is tt
 
-pub names_in_sight-requires-clause-values : goal.names_in_sight-requires-clause-values
-names_in_sight-requires-clause-values g c = subst HaveValues (sym (all_shown c.args.store.now c.requires.whole)) c.requires.values
+pub returns-in-Ok : goal.returns-in-Ok
+returns-in-Ok g c = λ text read.
+    c.value_of.ensures text (subst (λ (r : Result code.Exp SyntaxFault). IsParsedExp text r) c.in-Ok.is read)
 
-pub names_in_sight-requires-clause-distinct : goal.names_in_sight-requires-clause-distinct
-names_in_sight-requires-clause-distinct g c = subst AreDistinct (sym (declared c.args.store.now c.requires.whole)) c.requires.distinct
-
-pub value-requires-clause-safe : goal.value-requires-clause-safe
-value-requires-clause-safe g c = λ broken.
-    let tree : Exp = exp_of c.in-Ok.exp in
-    let formed = subst (λ (g : Shape). IsExp g tree) (c.in-Ok-names_in_sight.ensures.names ∙ declared c.args.store.now c.requires.whole) c.in-Ok-check_exp.ensures.well_formed in
-    not_broken tree c.args.store.now.sight formed (ap (λ (e : Exp). value e c.args.store.now.sight) (sym c.in-Ok-flat_exp.ensures.tree) ∙ broken)
-
-pub value-requires-clause-numbered : goal.value-requires-clause-numbered
-value-requires-clause-numbered g c =
-    subst (λ (xs : List Name). HasNumbers xs c.in-Ok-flat_exp.flat) c.names.ensures.names c.in-Ok-flat_exp.ensures.numbered
-
-pub flat_exp-requires : goal.flat_exp-requires
-flat_exp-requires g c =
-    let tree : Exp = exp_of c.in-Ok.exp in
-    let formed = subst (λ (g : Shape). IsExp g tree) (c.in-Ok-names_in_sight.ensures.names ∙ declared c.args.store.now c.requires.whole) c.in-Ok-check_exp.ensures.well_formed in
-    subst (λ (xs : List Name). MeetsExp xs tree) (sym c.names.ensures.names)
-    (exp_met (shape_of c.args.store.now.sight) c.args.store.now.names tree (sight_met c.args.store.now c.requires.values c.names.ensures.known) formed)
-
--- a fault of the check is told as it is, and want of memory as such
-told : (s : Store) (text : List ℕ) (tree : tree.Exp) (fault : CheckFault) (r : Refusal) → HasExp text tree → IsFirst fault (exp_faults (shape_of s) tree) → r ≡ refused_by_check fault →
-    IsEvaluated s text (Err (Refused r))
-told s text e (fault.Declared at) r has first is = rw is (record { tree = e; is_tree = has; first = first })
-told s text e (fault.Unknown at) r has first is = rw is (record { tree = e; is_tree = has; first = first })
-told s text e (fault.WrongKind at) r has first is = rw is (record { tree = e; is_tree = has; first = first })
-told s text e (fault.SelfUse at) r has first is = rw is (record { tree = e; is_tree = has; first = first })
-told s text e (fault.SameArgument at) r has first is = rw is (record { tree = e; is_tree = has; first = first })
-told s text e (fault.Arity at) r has first is = rw is (record { tree = e; is_tree = has; first = first })
-told s text e (fault.ChangedParameters at) r has first is = rw is (record { tree = e; is_tree = has; first = first })
-told s text e (fault.Shadow at) r has first is = rw is (record { tree = e; is_tree = has; first = first })
-told s text e (fault.TooMany at) r has first is = rw is (record { tree = e; is_tree = has; first = first })
-told s text e (fault.ArrayLength at) r has first is = rw is (record { tree = e; is_tree = has; first = first })
-told s text e fault.Memory r has first is = rw is tt
-
-pub returns-in-Err-check_exp : goal.returns-in-Err-check_exp
-returns-in-Err-check_exp g c =
-    let e = exp_view c.in-Ok.exp in
-    let first = subst (λ (g : Shape). IsFirst c.in-Err-check_exp.fault (exp_faults g e)) (c.in-Ok-names_in_sight.ensures.names ∙ declared c.args.store.now c.requires.whole) c.in-Err-check_exp.ensures.first in
-    told c.args.store.now.sight c.args.text.now e c.in-Err-check_exp.fault c.of_check.result c.in-Ok.ensures.read first c.of_check.ensures
-
-pub returns-in-Ok-value : goal.returns-in-Ok-value
-returns-in-Ok-value g c =
-    let tree : Exp = exp_of c.in-Ok.exp in
-    let formed : IsExp (shape_of c.args.store.now.sight) tree = subst (λ (g : Shape). IsExp g tree) (c.in-Ok-names_in_sight.ensures.names ∙ declared c.args.store.now c.requires.whole) c.in-Ok-check_exp.ensures.well_formed in
-    let worth : HasValue c.args.store.now.sight c.args.text.now (Fine c.in-Ok-value.number) = record {
-      tree = exp_view c.in-Ok.exp;
-      is_tree = c.in-Ok.ensures.read;
-      formed = formed;
-      evaluated = ap (λ (e : Exp). value e c.args.store.now.sight) (sym c.in-Ok-flat_exp.ensures.tree) ∙ sym c.in-Ok-value.ensures;
-    } in
-    let same : to_z w32 (of_z w32 c.in-Ok-value.number) ≡ c.in-Ok-value.number = grind (arith, to_z-of_z) in
-    subst (λ (z : ℤ). HasValue c.args.store.now.sight c.args.text.now (Fine z)) (sym same) worth
-
-pub returns : goal.returns
-returns g c =
-    let tree : Exp = exp_of c.in-Ok.exp in
-    let formed : IsExp (shape_of c.args.store.now.sight) tree = subst (λ (g : Shape). IsExp g tree) (c.in-Ok-names_in_sight.ensures.names ∙ declared c.args.store.now c.requires.whole) c.in-Ok-check_exp.ensures.well_formed in
-    record {
-      tree = exp_view c.in-Ok.exp;
-      is_tree = c.in-Ok.ensures.read;
-      formed = formed;
-      evaluated = ap (λ (e : Exp). value e c.args.store.now.sight) (sym c.in-Ok-flat_exp.ensures.tree) ∙ sym c.in-Err-value.ensures ∙ sym (ap (λ f. Bad f) c.from.ensures);
-    }
+pub returns-in-Err : goal.returns-in-Err
+returns-in-Err g c = λ text read.
+    told c.args.store.now.sight text c.in-Err.fault.now c.of_syntax.result (subst (λ (r : Result code.Exp SyntaxFault). IsParsedExp text r) c.in-Err.is read) c.of_syntax.ensures
