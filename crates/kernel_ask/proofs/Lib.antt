@@ -10,3 +10,5 @@ pub mod Sound
 pub mod Walk
 pub mod Numbers
 pub mod Rows
+pub mod SameNames
+pub mod ShownTexts

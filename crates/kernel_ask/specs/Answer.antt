@@ -17,13 +17,13 @@ use Rattle.kernel_ask.specs.declared.answer.Answer.{Answer}
 
 -- the content answers the question; comms are seen as their ids
 abbrev pub IsContent : Machine → List (List ℕ) → Ask → Content → Type 0
-IsContent m comms (ask.Complete code cursor) (content.Completion c) = OfShown m (λ w. IsCompletion w (chars (string_bytes code)) cursor c)
+IsContent m comms (ask.Complete code cursor) (content.Completion c) = OfShown m (λ w. IsCompletion w (chars code.now) cursor c)
 IsContent m comms (ask.Inspect code cursor) (content.Inspection text) = OfShown m
-    (λ w. option_map string_bytes text ≡ inspection w (word_at cursor (chars (string_bytes code))))
-IsContent m comms (ask.IsComplete code) (content.Completeness c) = IsJudged (string_bytes code) c
+    (λ w. option_map string_bytes text ≡ inspection w (word_at cursor (chars code.now)))
+IsContent m comms (ask.IsComplete code) (content.Completeness c) = IsJudged code.now c
 IsContent m comms (ask.History range) (content.History all) = map input_of all.items ≡ told range (inputs m.minutes m.counter)
 IsContent m comms ask.Comms (content.Comms ids) = map string_bytes ids.items ≡ comms
-IsContent m comms (ask.IsOpen id) (content.IsOpen is) = is ≡ is_open comms (string_bytes id)
+IsContent m comms (ask.IsOpen id) (content.IsOpen is) = is ≡ is_open comms id.now
 IsContent m comms ask.State (content.State s) = IsState m s
 IsContent m comms asked answered = ⊥
 

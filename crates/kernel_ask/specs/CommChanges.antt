@@ -10,5 +10,5 @@ use Rattle.kernel_ask.specs.declared.comm_change.CommChange.TheVariants.{Open, C
 abbrev pub IsChange : List (List ℕ) → CommChange → Result Bool HallFault → List (List ℕ) → Type 0
 IsChange old (Open id) (Ok told) new = (told ≡ can_open old (string_bytes id)) × (new ≡ opened old (string_bytes id))
 IsChange old (Open id) (Err fault) new = (fault ≡ Memory) × (new ≡ old)
-IsChange old (Close id) (Ok told) new = (told ≡ is_open old (string_bytes id)) × (new ≡ without_id old (string_bytes id))
+IsChange old (Close id) (Ok told) new = (told ≡ is_open old id.now) × (new ≡ without_id old id.now)
 IsChange old (Close id) (Err fault) new = ⊥

@@ -5,7 +5,8 @@ use Rattle.janus_meaning.specs.Store.{Store}
 use Rattle.janus_meaning.specs.World.{listed}
 use Rattle.janus_syntax.specs.Tree.{Cell}
 use Rattle.janus_syntax.specs.Text.{HasTree}
-use Rattle.kernel_core.specs.State.{Past, world_at}
+use Rattle.janus_syntax.specs.View.{plain_cell}
+use Rattle.kernel_core.specs.State.{Past, node_at, world_at}
 use Rattle.kernel_core.specs.NodeTrees.{IsTreeAt, HasNoTree}
 use Rattle.kernel_core.specs.outcome.Outcome.{Outcome}
 use Rattle.kernel_core.specs.outcome.Outcome.TheVariants.{Ran, Failed, Interrupted, Undid, Redid, Went, Refused}
@@ -47,3 +48,13 @@ IsShownOfNode (Undid cells end) s shown = shown ≡ None
 IsShownOfNode (Redid cells end) s shown = shown ≡ None
 IsShownOfNode (Went up down end) s shown = shown ≡ None
 IsShownOfNode (Refused refusal) s shown = shown ≡ None
+
+-- the cell of the node came from this text
+abbrev pub IsTextOf : Past → ℕ → List ℕ → Type 0
+IsTextOf s node text = (tree : Cell) × HasTree text tree × ((node_at s node).cell ≡ plain_cell tree)
+
+-- What is shown of a cell by the tree that its node keeps is what is shown of its text: places don't matter.
+abbrev pub ShownIsOfText : Type 0
+ShownIsOfText =
+    (s : Past) (node steps : ℕ) (text : List ℕ) (shown : Option (List ℕ)) → IsTextOf s node text → IsShownOfNode (Ran node steps) s shown
+    → IsShownAfter (Ran node steps) s text shown ⊎ (shown ≡ None)

@@ -3,21 +3,22 @@ use crate::inputs::{HistoryAsk, Input};
 use crate::judgement::Completeness;
 use thiserror::Error;
 
-/// What a frontend asks. A cursor counts Unicode code points; none is the end of the code, and so is one past it.
-#[derive(Drop)]
-pub enum Ask {
+/// What a frontend asks. A cursor counts Unicode code points; none is the end of the code, and so is one past it. Texts are lent: who asks
+/// keeps them, and nothing of them is copied.
+#[derive(Clone, Copy)]
+pub enum Ask<'a> {
     /// Which names go on with what stands in front of the cursor.
-    Complete { code: String, cursor: Option<u64> },
+    Complete { code: &'a str, cursor: Option<u64> },
     /// What is known of the name that touches the cursor.
-    Inspect { code: String, cursor: Option<u64> },
+    Inspect { code: &'a str, cursor: Option<u64> },
     /// Whether the code can be executed as it stands.
-    IsComplete { code: String },
+    IsComplete { code: &'a str },
     /// The input history.
     History(HistoryAsk),
     /// The open comms.
     Comms,
     /// Whether the comm of this id is open.
-    IsOpen { id: String },
+    IsOpen { id: &'a str },
     /// The state of the kernel.
     State,
 }

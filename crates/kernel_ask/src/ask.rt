@@ -1,6 +1,5 @@
 //! The answers over a lent kernel. None of them changes it.
-ghost use Rattle.std.specs.Prelude.{◌≡◌, ℕ, List, String, length, map, string_bytes, option_map, IfOk, IfErr};
-ghost use Rattle.std.specs.Global.{Global};
+ghost use Rattle.std.specs.Prelude.{◌≡◌, ℕ, List, length, map, string_bytes, option_map, IfOk, IfErr};
 ghost use Rattle.kernel_core.specs.Runs.{Machine};
 ghost use Rattle.kernel_ask.specs.declared.answer.Ask.TheVariants.{IsComplete};
 ghost use Rattle.std.specs.Str.{chars};
@@ -116,21 +115,21 @@ fn content_of<L: Ledger>(
     alloc: Global,
     kernel: &Kernel<L>,
     comms: &Comms,
-    ask: Ask,
+    ask: Ask<'_>,
 ) -> Result<Content, AllocError>
-    ensures { IfOk result (IsContent kernel.now.machine comms.now ask) }
+    ensures { IfOk result (IsContent kernel.now.machine comms.now ask.entry) }
 {
     match ask {
         Ask::Complete { code, cursor } => {
-            let completion = complete(alloc, kernel, code.as_str(), cursor)?;
+            let completion = complete(alloc, kernel, code, cursor)?;
             Ok(Content::Completion(completion))
         }
         Ask::Inspect { code, cursor } => {
-            let text = inspect(alloc, kernel, code.as_str(), cursor)?;
+            let text = inspect(alloc, kernel, code, cursor)?;
             Ok(Content::Inspection(text))
         }
         Ask::IsComplete { code } => {
-            let completeness = is_complete(alloc, code.as_str());
+            let completeness = is_complete(alloc, code);
             Ok(Content::Completeness(completeness))
         }
         Ask::History(ask) => {
@@ -141,7 +140,7 @@ fn content_of<L: Ledger>(
             let ids = comms.list()?;
             Ok(Content::Comms(ids))
         }
-        Ask::IsOpen { id } => Ok(Content::IsOpen(comms.is_open(id.as_str()))),
+        Ask::IsOpen { id } => Ok(Content::IsOpen(comms.is_open(id))),
         Ask::State => {
             let state = state(alloc, kernel)?;
             Ok(Content::State(state))
@@ -149,11 +148,10 @@ fn content_of<L: Ledger>(
     }
 }
 
-/// The answer to the question whether code can be executed as it stands, beside a kernel with so many minutes: the text alone tells, so no kernel
+/// The answer to the question whether code can be executed as it stands, beside a kernel with `seen` minutes: the text alone tells, so no kernel
 /// is lent.
 pub fn judge(alloc: Global, seen: usize, code: &str) -> Answer
-    ensures { (m : Machine) → (comms : List (List ℕ)) → (asked : String Global) → seen ≡ length m.minutes → string_bytes asked ≡ code.now
-        → IsAnswer m comms (IsComplete asked) result }
+    ensures { (m : Machine) → (comms : List (List ℕ)) → seen ≡ length m.minutes → IsAnswer m comms (IsComplete code.entry) result }
 {
     let completeness = is_complete(alloc, code);
     Answer {
@@ -168,9 +166,9 @@ pub fn ask_on<L: Ledger>(
     alloc: Global,
     kernel: &Kernel<L>,
     comms: &Comms,
-    ask: Ask,
+    ask: Ask<'_>,
 ) -> Result<Answer, HallFault>
-    ensures answer { IfOk result (IsAnswer kernel.now.machine comms.now ask) }
+    ensures answer { IfOk result (IsAnswer kernel.now.machine comms.now ask.entry) }
     ensures memory { IfErr result (λ fault. fault ≡ HallFault.Memory) }
 {
     match content_of(alloc, kernel, comms, ask) {

@@ -35,6 +35,7 @@ use Rattle.kernel_core.specs.contracts.kernel.Kernel as Kernel
 use Rattle.kernel_ask.specs.contracts.comms.Comms as Comms
 use Rattle.kernel_ask.specs.contracts.done.Done as Done
 use Rattle.kernel_ask.specs.contracts.done.NamedValue as NamedValue
+use Rattle.kernel_ask.specs.contracts.wish.Wish as Wish
 use Rattle.kernel_audit.specs.contracts.pass.Pass as Pass
 use Rattle.kernel_audit.specs.contracts.pass.Ticket as Ticket
 use Rattle.kernel_bell.specs.contracts.bell.Bell as Bell
@@ -109,8 +110,11 @@ RunnerSeat-send = search (crosses, seat_send, sendable) depth 60 fits 20000
 pub RingerSeat-send : IsSend (RingerSeat.the_field).row
 RingerSeat-send = search (crosses, seat_send, sendable) depth 60 fits 20000
 
+Wish-send : IsSend (Wish.the_field).row
+Wish-send = search (crosses, maps, TreeExp-send, sendable) depth 60 fits 20000
+
 PendingResult-send : IsSend (PendingResult.the_field).row
-PendingResult-send = search (crosses, maps, NamedValue-send, sendable) depth 60 fits 20000
+PendingResult-send = search (crosses, maps, NamedValue-send, Wish-send, sendable) depth 60 fits 20000
 
 Bell-sync : IsSync (Bell.the_field).row
 Bell-sync = search (crosses, table_sync, lease_sync, sendable) depth 60 fits 20000

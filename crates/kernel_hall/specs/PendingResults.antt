@@ -6,13 +6,13 @@ use Rattle.kernel_core.specs.outcome.Begun.TheVariants as begun
 use Rattle.kernel_core.specs.outcome.Sliced.{Sliced}
 use Rattle.kernel_core.specs.outcome.Sliced.TheVariants as sliced
 use Rattle.kernel_ask.specs.declared.done.Done.{Done}
-use Rattle.kernel_ask.specs.declared.done.Wish.{Wish}
+use Rattle.kernel_ask.specs.Wishes.{WishOf}
 use Rattle.kernel_hall.specs.declared.pending_result.PendingResult.{PendingResult}
 use Rattle.kernel_hall.specs.declared.turn.Turn.{Turn}
 use Rattle.kernel_hall.specs.declared.turn.Turn.TheVariants.{Cut, Began, Worn}
 
 -- of a post at this place of the minutes, with these wishes, which has not ended; nothing was made yet
-pub record IsNewPending (place : ℕ) (given : List Wish) (e : PendingResult) : Type 0 where
+pub record IsNewPending (place : ℕ) (given : List WishOf) (e : PendingResult) : Type 0 where
   pub posted : e.posted ≡ place
   pub ended : e.ended ≡ None
   pub wishes : e.wishes.items ≡ given

@@ -198,9 +198,9 @@ impl<W: Ledger, L: Ledger> Hall<W, L> {
 
     /// Answers a question: `ask_on` under the lock, of a kernel with at least as many minutes as the pass has posts, which each is that
     /// the pass's own hall has. Whether code can be executed as it stands is told with the lock free. The only refusal is `Memory`.
-    pub fn ask<R: Wait>(&self, rt: &R, pass: &Pass<L>, ask: Ask) -> Result<Answer, HallFault>
+    pub fn ask<R: Wait>(&self, rt: &R, pass: &Pass<L>, ask: Ask<'_>) -> Result<Answer, HallFault>
         ensures answer { IfOk result
-            (λ answer. (k : Machine) × (comms : List (List ℕ)) × IsLegalMachine k × (pass.now.posts ≤ length k.minutes) × IsAnswer k comms ask answer) }
+            (λ answer. (k : Machine) × (comms : List (List ℕ)) × IsLegalMachine k × (pass.now.posts ≤ length k.minutes) × IsAnswer k comms ask.entry answer) }
         ensures refusal { IfErr result (λ f. f ≡ HallFault.Memory) }
     {
         let state = self.enter_behind(rt, pass);
@@ -210,7 +210,7 @@ impl<W: Ledger, L: Ledger> Hall<W, L> {
                 let alloc = state.alloc;
                 let seen = state.seen();
                 drop(state);
-                Ok(judge(alloc, seen, code.as_str()))
+                Ok(judge(alloc, seen, code))
             }
             ask => state.ask(ask),
         }
@@ -235,7 +235,7 @@ impl<W: Ledger, L: Ledger> Hall<W, L> {
         &self,
         rt: &R,
         _pass: &Pass<L>,
-        change: CommChange,
+        change: CommChange<'_>,
     ) -> Result<bool, HallFault>
         ensures { IfErr result (λ f. f ≡ HallFault.Memory) }
     {

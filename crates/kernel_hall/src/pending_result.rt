@@ -6,7 +6,7 @@ ghost use Rattle.kernel_audit.specs.Ends.{HasEnd};
 ghost use Rattle.kernel_hall.specs.PendingResults.{IsNewPending, IsTold, IsSettled, SettlesLast};
 ghost use Rattle.kernel_hall.specs.LastEnds.{IsLastEnd, EndsNoNumber, last_of, number_in};
 
-use kernel_ask::{Done, NamedValue, Wish, evaluate, is_settled, shown_of_node, stands_at_end};
+use kernel_ask::{Done, NamedValue, Wish, is_settled, shown_of_node, stands_at_end};
 use kernel_core::{Entry, Kernel, Outcome};
 use std::alloc::{AllocError, Global};
 use std::mem;
@@ -111,9 +111,7 @@ fn add_values<W: Ledger>(
     requires { kernel.now.machine.state.job ≡ Idle }
 {
     for wish in wishes {
-        let Wish { name, exp } = wish;
-        let value = evaluate(alloc, kernel, exp.as_str());
-        let _ = values.push(NamedValue { name, value });
+        let _ = values.push(wish.evaluate(alloc, kernel));
     }
 }
 

@@ -223,8 +223,8 @@ impl<W: Ledger, L: Ledger> State<W, L> {
     }
 
     /// Answers a question: `ask_on` over the kernel and the comms.
-    pub fn ask(&self, ask: Ask) -> Result<Answer, HallFault>
-        ensures answer { IfOk result (IsAnswer self.now.kernel.machine self.now.comms ask) }
+    pub fn ask(&self, ask: Ask<'_>) -> Result<Answer, HallFault>
+        ensures answer { IfOk result (IsAnswer self.now.kernel.machine self.now.comms ask.entry) }
         ensures legal { IsLegalMachine self.now.kernel.machine }
         ensures refusal { IfErr result (λ f. f ≡ HallFault.Memory) }
     {

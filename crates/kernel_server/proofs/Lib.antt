@@ -3,3 +3,4 @@ pub mod Turns
 pub mod Ending
 pub mod Courses
 pub mod Alike
+pub mod Making

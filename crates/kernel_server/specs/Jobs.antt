@@ -10,12 +10,13 @@ use Rattle.kernel_core.specs.events.Event.TheVariants as event
 use Rattle.kernel_core.specs.events.Told.{Told}
 use Rattle.kernel_core.specs.events.Told.TheVariants as told
 use Rattle.kernel_core.specs.outcome.Outcome.{Outcome}
+use Rattle.kernel_core.specs.outcome.Outcome.TheVariants.{Ran}
 use Rattle.kernel_core.specs.outcome.Begun.TheVariants as begun
 use Rattle.kernel_core.specs.outcome.Sliced.TheVariants as sliced
-use Rattle.kernel_ask.specs.Shown.{IsShownAfter}
+use Rattle.kernel_ask.specs.Shown.{IsShownAfter, IsTextOf}
 use Rattle.kernel_ask.specs.Evaluation.{AreValuesAfter}
 use Rattle.kernel_ask.specs.declared.done.Done.{Done}
-use Rattle.kernel_ask.specs.declared.done.Wish.{Wish}
+use Rattle.kernel_ask.specs.Wishes.{WishOf}
 use Rattle.kernel_ask.specs.declared.done.NamedValue.{NamedValue}
 use Rattle.kernel_session.specs.Question.{Wishes, wishes_of}
 use Rattle.kernel_server.specs.declared.slice.Slice.{Slice}
@@ -57,9 +58,26 @@ IsShownOf s (Undo k) o shown = shown ≡ None
 IsShownOf s (Redo k) o shown = shown ≡ None
 IsShownOf s (Goto n) o shown = shown ≡ None
 
+-- a cell that ran came from this text
+abbrev pub IsMadeOf : List ℕ → Outcome → Past → Type 0
+IsMadeOf text (Ran node steps) s = IsTextOf s node text
+IsMadeOf text o s = Unit {0}
+
+-- a move makes no node
+abbrev pub MakesNone : Outcome → Type 0
+MakesNone (Ran node steps) = ⊥
+MakesNone o = Unit {0}
+
+-- the node that a job made has the cell of its text
+abbrev pub IsMadeBy : Request → Outcome → Past → Type 0
+IsMadeBy (RunCell text silent store) o s = IsMadeOf text o s
+IsMadeBy (Undo k) o s = MakesNone o
+IsMadeBy (Redo k) o s = MakesNone o
+IsMadeBy (Goto n) o s = MakesNone o
+
 -- the values of the user expressions: the room for them was made before the post
 abbrev pub AreValuesOf : Past → Wishes → Outcome → List NamedValue → Type 0
-AreValuesOf s wishes o values = (list : List Wish) × (wishes_of list ≡ wishes) × AreValuesAfter o s list values
+AreValuesOf s wishes o values = (list : List WishOf) × (wishes_of list ≡ wishes) × AreValuesAfter o s list values
 
 -- the counter and the position as the job ended, and what is seen there
 pub record IsToldOf (m : Machine) (job : Request) (wishes : Wishes) (d : Done) : Type 0 where

@@ -1,16 +1,18 @@
 //! A job, and what is told of it.
-ghost use Rattle.std.specs.Prelude.{◌≡◌, ◌≤◌, [], IfOk, IfErr, OnErr, option_map, string_bytes, vec_len, vec_capacity};
-ghost use Rattle.kernel_core.specs.Request.{request_of};
+ghost use Rattle.std.specs.Prelude.{◌≡◌, ◌⊎◌, ◌≤◌, [], None, IfOk, IfErr, OnErr, option_map, string_bytes, vec_len, vec_capacity};
+ghost use Rattle.kernel_core.specs.Request.{Request, request_of};
 ghost use Rattle.kernel_core.specs.Runs.{IsRefusal};
 ghost use Rattle.kernel_core.specs.State.{Idle};
 ghost use Rattle.kernel_ask.specs.EndedAt.{StandsAtEnd};
+ghost use Rattle.kernel_ask.specs.Shown.{IsShownOfNode};
 ghost use Rattle.kernel_session.specs.Question.{wishes_of};
-ghost use Rattle.kernel_server.specs.Jobs.{IsDone, IsToldOf, IsShownOf};
+ghost use Rattle.kernel_server.specs.Jobs.{IsDone, IsMadeBy, IsToldOf};
 
 use crate::finish::run_out;
 use crate::slice::Slice;
 use crate::values::values_after;
-use kernel_ask::{Done, NamedValue, Wish, shown_text};
+use kernel_ask::laws::shown_is_of_text_law;
+use kernel_ask::{Done, NamedValue, Wish, shown_of_node};
 use kernel_core::laws::jobs_end_law;
 use kernel_core::{Job, Kernel, Outcome, PostFault};
 use std::alloc::Global;
@@ -18,24 +20,14 @@ use std::collections::VecDeque;
 use std::sync::ledger::Ledger;
 
 /// What is shown of a job that has ended; nothing where there is no memory for it.
-fn shown_of<L: Ledger>(
-    alloc: Global,
-    kernel: &Kernel<L>,
-    outcome: &Outcome,
-    job: &Job,
-) -> Option<String>
+fn shown_of<L: Ledger>(alloc: Global, kernel: &Kernel<L>, outcome: &Outcome) -> Option<String>
     requires idle { kernel.now.machine.state.job ≡ Idle }
     requires still { StandsAtEnd outcome.now kernel.now.machine.state.past }
-    ensures { IsShownOf kernel.now.machine.state.past (request_of job.now) outcome.now (option_map string_bytes result) }
+    ensures { IsShownOfNode outcome.now kernel.now.machine.state.past (option_map string_bytes result) ⊎ (option_map string_bytes result ≡ None) }
 {
-    match job {
-        Job::Cell { code, .. } => match shown_text(alloc, kernel, outcome, code.as_str()) {
-            Ok(shown) => shown,
-            Err(_) => None,
-        },
-        Job::Undo(_) => None,
-        Job::Redo(_) => None,
-        Job::Goto(_) => None,
+    match shown_of_node(alloc, kernel, outcome) {
+        Ok(shown) => shown,
+        Err(_) => None,
     }
 }
 
@@ -45,7 +37,6 @@ fn told_of<L: Ledger>(
     kernel: &Kernel<L>,
     number: u64,
     outcome: Outcome,
-    job: &Job,
     wishes: Vec<Wish>,
     room: Vec<NamedValue>,
 ) -> Done
@@ -53,11 +44,12 @@ fn told_of<L: Ledger>(
     requires still { StandsAtEnd outcome kernel.now.machine.state.past }
     requires empty { room.items ≡ [] }
     requires room { vec_len wishes ≤ vec_capacity room }
-    ensures told { IsToldOf kernel.now.machine (request_of job.now) (wishes_of wishes.items) result }
+    ensures told { (job : Request) → IsMadeBy job outcome kernel.now.machine.state.past → IsToldOf kernel.now.machine job (wishes_of wishes.items) result }
     ensures number { result.number ≡ number }
     ensures outcome { result.outcome ≡ outcome }
 {
-    let shown = shown_of(alloc, kernel, &outcome, job);
+    shown_is_of_text_law();
+    let shown = shown_of(alloc, kernel, &outcome);
     let values = values_after(alloc, kernel, &outcome, wishes, room);
     Done {
         number,
@@ -69,7 +61,7 @@ fn told_of<L: Ledger>(
     }
 }
 
-/// Why a job is refused that finds no memory for its copy or for the values.
+/// Why a job is refused for whose values there is no memory.
 fn refusal<L: Ledger>(kernel: &Kernel<L>) -> PostFault
     ensures { IsRefusal kernel.now.machine result }
 {
@@ -98,16 +90,13 @@ pub(crate) fn run_job<L: Ledger>(
     ensures idle { kernel.new.machine.state.job ≡ Idle }
     ensures alone { kernel.new.machine.queue ≡ [] }
 {
-    let Ok(copy) = job.try_clone() else {
-        return Err(refusal(kernel));
-    };
     let Ok(room) = Vec::with_capacity(alloc, wishes.len()) else {
         return Err(refusal(kernel));
     };
-    match run_out(kernel, slices, copy) {
+    match run_out(kernel, slices, job) {
         Ok((number, outcome)) => {
             jobs_end_law();
-            Ok(told_of(alloc, kernel, number, outcome, &job, wishes, room))
+            Ok(told_of(alloc, kernel, number, outcome, wishes, room))
         }
         Err(fault) => Err(fault),
     }

@@ -4,7 +4,7 @@ ghost use Rattle.kernel_core.specs.State.{Idle, here};
 ghost use Rattle.kernel_ask.specs.EndedAt.{StandsAtEnd};
 ghost use Rattle.kernel_ask.specs.Evaluation.{AreValues, AreValuesAfter};
 
-use kernel_ask::{NamedValue, Wish, evaluate};
+use kernel_ask::{NamedValue, Wish};
 use kernel_core::{Kernel, Outcome};
 use std::alloc::Global;
 use std::sync::ledger::Ledger;
@@ -22,9 +22,8 @@ fn filled<L: Ledger>(
     ensures { AreValues (here kernel.now.machine.state.past).store wishes.items result.items }
 {
     for wish in wishes {
-        let Wish { name, exp } = wish;
-        let value = evaluate(alloc, kernel, exp.as_str());
-        values.push_reserved(NamedValue { name, value });
+        let named = wish.evaluate(alloc, kernel);
+        values.push_reserved(named);
     }
     values
 }

@@ -1,8 +1,8 @@
-use Rattle.std.proofs.Common.{◌≡◌, ◌∙◌, ℕ, ◌+◌, List, [], ◌∷◌, ◌++◌, length, refl, sym, ap, subst, append_assoc, append-nil, arith, string_bytes}
+use Rattle.std.proofs.Common.{◌≡◌, ◌∙◌, ℕ, ◌+◌, List, [], ◌∷◌, ◌++◌, length, refl, sym, ap, subst, append_assoc, append-nil, arith}
 use Rattle.std.specs.Vec.Iter.{into_iter_items}
 use Rattle.kernel_core.specs.State.{here}
-use Rattle.kernel_ask.specs.Evaluation.{AreValues, IsEvaluated}
-use Rattle.kernel_ask.specs.declared.done.Wish.{Wish}
+use Rattle.kernel_ask.specs.Evaluation.{AreValues}
+use Rattle.kernel_ask.specs.Wishes.{WishOf}
 use Rattle.kernel_ask.specs.declared.done.NamedValue.{NamedValue}
 use Rattle.kernel_ask.proofs.Named.{values_more}
 use Rattle.kernel_server.proofs.values.filled.Goals as goal
@@ -17,9 +17,8 @@ loop-wish-preserved g c =
     let at = c.loop-wish in
     let wish = c.in-Some.wish in
     let steps : into_iter_items at.wish-iterator ≡ wish ∷ into_iter_items c.next.new.self = c.in-Some.ensures.steps.0 in
-    let named : NamedValue = record { name = wish.name; value = c.evaluate-value.result } in
-    let value = subst (λ (text : List ℕ). IsEvaluated s text c.evaluate-value.result) c.as_str.ensures.value c.evaluate-value.ensures in
-    let more = values_more s at.yielded at.values.items wish named at.invariant.1 refl value in (
+    let named = c.evaluate-named.result in
+    let more = values_more s at.yielded at.values.items wish named at.invariant.1 c.evaluate-named.ensures.name c.evaluate-named.ensures.value in (
       append_assoc at.yielded (wish ∷ []) _ ∙ rw (← steps) at.invariant.0,
       subst (λ (vs : List NamedValue). AreValues s (at.yielded ++ wish ∷ []) vs) (sym c.push_reserved.ensures.items) more,
       let was = at.invariant.2 in
@@ -44,4 +43,4 @@ returns g c =
     let none = c.in-None.ensures.steps in
     let empty : into_iter_items at.wish-iterator ≡ [] = nothing_left _ (sym at.invariant.2 ∙ none.0) in
     let all = sym (append-nil at.yielded) ∙ rw empty at at.invariant.0 ∙ c.into_iter-wish-iterator.ensures.into_iter_gives.0 in
-    subst (λ (ws : List Wish). AreValues s ws at.values.items) all at.invariant.1
+    subst (λ (ws : List WishOf). AreValues s ws at.values.items) all at.invariant.1

@@ -1,4 +1,4 @@
-use Rattle.std.proofs.Common.{arith, ◌≡◌, ◌≤◌, [], length, string_bytes, sym, subst}
+use Rattle.std.proofs.Common.{arith, ◌≡◌, ◌≤◌, [], length, sym, subst}
 use Rattle.std.proofs.lemmas.Grind.{common_steps}
 use Rattle.kernel_ask.specs.Answer.{IsAnswer}
 use Rattle.kernel_ask.specs.declared.answer.Ask.{Ask}
@@ -7,11 +7,10 @@ use Rattle.kernel_hall.proofs.hall.Hall.ask.Goals as goal
 pub returns-in-IsComplete-clause-answer : goal.returns-in-IsComplete-clause-answer
 returns-in-IsComplete-clause-answer g c =
     let k = c.deref-in-IsComplete.result.now.kernel.machine in
-    let posts : c.args.pass.now.posts ≤ length k.minutes = grind (arith, common_steps) in
-    let code : string_bytes c.in-IsComplete.code ≡ c.as_str.result.now = grind (arith, common_steps) in (
+    let posts : c.args.pass.now.posts ≤ length k.minutes = grind (arith, common_steps) in (
       k,
       [],
       c.seen-seen.ensures.legal,
       posts,
-      subst (λ (a : Ask). IsAnswer k [] a c.judge.result) (sym c.in-IsComplete.is) (c.judge.ensures k [] c.in-IsComplete.code c.seen-seen.ensures.seen code),
+      subst (λ (a : Ask). IsAnswer k [] a c.judge.result) (sym c.in-IsComplete.is) (c.judge.ensures k [] c.seen-seen.ensures.seen),
     )
