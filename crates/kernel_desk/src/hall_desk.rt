@@ -144,14 +144,14 @@ impl<W: Ledger, L: Ledger, R: Wait + Clock> Desk for HallDesk<'_, W, L, R> {
         }
     }
 
-    fn ask(&mut self, ask: Ask) -> Result<Answer, HallFault> {
+    fn ask(&mut self, ask: Ask<'_>) -> Result<Answer, HallFault> {
         let Some(pass) = &self.pass else {
             unreachable!()
         };
         self.hall.ask(self.rt, pass, ask)
     }
 
-    fn comm(&mut self, change: CommChange) -> Result<bool, HallFault> {
+    fn comm(&mut self, change: CommChange<'_>) -> Result<bool, HallFault> {
         let Some(pass) = &self.pass else {
             unreachable!()
         };

@@ -19,11 +19,11 @@ impl Desk for QuietDesk {
         Err(PostFault::Closing)
     }
 
-    fn ask(&mut self, _ask: Ask) -> Result<Answer, HallFault> {
+    fn ask(&mut self, _ask: Ask<'_>) -> Result<Answer, HallFault> {
         Err(HallFault::Memory)
     }
 
-    fn comm(&mut self, _change: CommChange) -> Result<bool, HallFault> {
+    fn comm(&mut self, _change: CommChange<'_>) -> Result<bool, HallFault> {
         Err(HallFault::Memory)
     }
 

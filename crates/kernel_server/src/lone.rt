@@ -92,11 +92,11 @@ impl<L: Ledger> Desk for LoneDesk<L> {
         run_job(*alloc, kernel, slices, job, wishes)
     }
 
-    fn ask(&mut self, ask: Ask) -> Result<Answer, HallFault> {
+    fn ask(&mut self, ask: Ask<'_>) -> Result<Answer, HallFault> {
         ask_on(self.alloc, &self.kernel, &self.comms, ask)
     }
 
-    fn comm(&mut self, change: CommChange) -> Result<bool, HallFault> {
+    fn comm(&mut self, change: CommChange<'_>) -> Result<bool, HallFault> {
         comm_on(&mut self.comms, change)
     }
 

@@ -91,18 +91,6 @@ module _ {D : Type 0} (leads : D → Call → D → Type 0) (d d' : D) where
   held_heard content x e t same (Ok told) p = held_as content x e told p.0 (t p.0) (same p.0) p.1
   held_heard content x e t same (Err f) p = tt
 
-  pub held_answer : {E : Type 0} (content x : RequestContent) → content ≡ x → (t : Result Answer HallFault → Talk)
-      → ((a : Result Answer HallFault) → talk x (heard_answer a) ≡ t a)
-      → (r : Result (Option DeskReply) E) → IfOk r (λ told. (a : Result Answer HallFault) × IsHeld leads d (t a) told d') → IfOk r (StoreState content)
-  held_answer content x e t same (Ok told) p = held_as content x e told (heard_answer p.0) (t p.0) (same p.0) p.1
-  held_answer content x e t same (Err f) p = tt
-
-  pub held_change : {E : Type 0} (content x : RequestContent) → content ≡ x → (t : Result Bool HallFault → Talk)
-      → ((b : Result Bool HallFault) → talk x (heard_change b unasked) ≡ t b)
-      → (r : Result (Option DeskReply) E) → IfOk r (λ told. (b : Result Bool HallFault) × IsHeld leads d (t b) told d') → IfOk r (StoreState content)
-  held_change content x e t same (Ok told) p = held_as content x e told (heard_change p.0 unasked) (t p.0) (same p.0) p.1
-  held_change content x e t same (Err f) p = tt
-
   pub held_job : {E : Type 0} (content x : RequestContent) → content ≡ x → (t : Result Done PostFault → Result Answer HallFault → Talk)
       → ((j : Result Done PostFault) (a : Result Answer HallFault) → talk x (heard_job j a) ≡ t j a)
       → (r : Result (Option DeskReply) E) → IfOk r (λ told. (j : Result Done PostFault) × (a : Result Answer HallFault) × IsHeld leads d (t j a) told d')

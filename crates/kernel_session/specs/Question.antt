@@ -3,7 +3,7 @@ use Rattle.std.specs.Prelude.{ℕ, List, Option, map, string_bytes}
 use Rattle.kernel_ask.specs.declared.inputs.HistoryAsk.{HistoryAsk}
 use Rattle.kernel_ask.specs.declared.answer.Ask.{Ask}
 use Rattle.kernel_ask.specs.declared.answer.Ask.TheVariants as ask
-use Rattle.kernel_ask.specs.declared.done.Wish.{Wish}
+use Rattle.kernel_ask.specs.Wishes.{WishOf}
 use Rattle.kernel_ask.specs.declared.comm_change.CommChange.{CommChange}
 use Rattle.kernel_ask.specs.declared.comm_change.CommChange.TheVariants as comm
 
@@ -18,12 +18,12 @@ pub data Question : Type 0 where
   State : Question
 
 abbrev pub question_of : Ask → Question
-question_of (ask.Complete code cursor) = Complete (string_bytes code) cursor
-question_of (ask.Inspect code cursor) = Inspect (string_bytes code) cursor
-question_of (ask.IsComplete code) = IsComplete (string_bytes code)
+question_of (ask.Complete code cursor) = Complete code.now cursor
+question_of (ask.Inspect code cursor) = Inspect code.now cursor
+question_of (ask.IsComplete code) = IsComplete code.now
 question_of (ask.History range) = History range
 question_of ask.Comms = Comms
-question_of (ask.IsOpen id) = IsOpen (string_bytes id)
+question_of (ask.IsOpen id) = IsOpen id.now
 question_of ask.State = State
 
 -- a change of the open comms, by the id of one
@@ -33,11 +33,11 @@ pub data Change : Type 0 where
 
 abbrev pub change_of : CommChange → Change
 change_of (comm.Open id) = Open (string_bytes id)
-change_of (comm.Close id) = Close (string_bytes id)
+change_of (comm.Close id) = Close id.now
 
 -- user expressions, by name and text
 abbrev pub Wishes : Type 0
 Wishes = List (List ℕ × List ℕ)
 
-abbrev pub wishes_of : List Wish → Wishes
-wishes_of wishes = map (λ w. (string_bytes w.name, string_bytes w.exp)) wishes
+abbrev pub wishes_of : List WishOf → Wishes
+wishes_of wishes = map (λ w. (w.name, w.exp)) wishes

@@ -24,12 +24,12 @@ pub trait Desk {
         ensures { leads self.old (Posted (request_of job) (wishes_of wishes.items) result) self.new };
 
     /// Answers a question. An `Err` tells that there was no memory.
-    fn ask(&mut self, ask: Ask) -> Result<Answer, HallFault>
-        ensures { leads self.old (Asked (question_of ask) result) self.new };
+    fn ask(&mut self, ask: Ask<'_>) -> Result<Answer, HallFault>
+        ensures { leads self.old (Asked (question_of ask.entry) result) self.new };
 
     /// Opens or closes a comm, and tells whether it did. An `Err` tells that there was no memory.
-    fn comm(&mut self, change: CommChange) -> Result<bool, HallFault>
-        ensures { leads self.old (Changed (change_of change) result) self.new };
+    fn comm(&mut self, change: CommChange<'_>) -> Result<bool, HallFault>
+        ensures { leads self.old (Changed (change_of change.entry) result) self.new };
 
     /// Interrupts the open job.
     fn ring(&mut self)

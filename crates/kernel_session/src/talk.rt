@@ -16,7 +16,7 @@ ghost use Rattle.kernel_session.specs.Talk.{follow as follow_talk, if_open, talk
 
 use crate::desk::Desk;
 use jupyter_msg::{
-    CommAsk, CommMessage, CommOpen, CompleteRequest, ExecuteRequest, HistoryAccess, HistoryRequest,
+    CommAsk, CommOpen, CompleteRequest, ExecuteRequest, HistoryAccess, HistoryRequest,
     InspectRequest, IsCompleteRequest, RequestContent, UserExpression,
 };
 use kernel_ask::{Answer, Ask, CommChange, Content, Done, HallFault, HistoryAsk, Wish};
@@ -56,8 +56,8 @@ fn answered(answer: Result<Answer, HallFault>) -> Option<DeskReply>
 }
 
 /// Asks the desk one question.
-fn ask<D: Desk>(desk: &mut D, question: Ask) -> Option<DeskReply>
-    ensures { (a : Result Answer HallFault) × IsHeld D.leads desk.old (ask_talk (question_of question) a) result desk.new }
+fn ask<D: Desk>(desk: &mut D, question: Ask<'_>) -> Option<DeskReply>
+    ensures { (a : Result Answer HallFault) × IsHeld D.leads desk.old (ask_talk (question_of question.entry) a) result desk.new }
 {
     answered(desk.ask(question))
 }
@@ -76,15 +76,18 @@ fn post<D: Desk>(desk: &mut D, job: Job, wishes: Vec<Wish>) -> Option<DeskReply>
     }
 }
 
-/// Adds one user expression of a request.
-fn push_wish(wishes: &mut Vec<Wish>, expression: &UserExpression) -> Result<(), AllocError>
+/// Adds one user expression of a request. Its text is read here, before the desk is called.
+fn push_wish(
+    alloc: Global,
+    wishes: &mut Vec<Wish>,
+    expression: &UserExpression,
+) -> Result<(), AllocError>
     ensures { OnOk result (wishes_of wishes.new.items
         ≡ wishes_of wishes.old.items ++ expressions_of (expression.now ∷ [])) }
 {
-    wishes.push(Wish {
-        name: expression.name.clone()?,
-        exp: expression.expression.clone()?,
-    })?;
+    let name = expression.name.clone()?;
+    let text = expression.expression.clone()?;
+    wishes.push(Wish::new(alloc, name, text))?;
     Ok(())
 }
 
@@ -94,7 +97,7 @@ fn wishes(alloc: Global, expressions: &[UserExpression]) -> Result<Vec<Wish>, Al
 {
     let mut wishes = Vec::new(alloc);
     for expression in expressions {
-        push_wish(&mut wishes, expression)?;
+        push_wish(alloc, &mut wishes, expression)?;
     }
     Ok(wishes)
 }
@@ -137,9 +140,9 @@ fn history<D: Desk>(desk: &mut D, request: &HistoryRequest) -> Option<DeskReply>
     }
 }
 
-/// Opens a comm, and asks whether it is open after it. Its id is given twice, for a call takes it.
-fn open_then_ask<D: Desk>(desk: &mut D, id: String, same: String) -> Option<DeskReply>
-    requires { string_bytes same ≡ string_bytes id }
+/// Opens a comm, and asks whether it is open after it. The desk keeps its id, so it is given one of its own.
+fn open_then_ask<D: Desk>(desk: &mut D, id: String, same: &str) -> Option<DeskReply>
+    requires { same.now ≡ string_bytes id }
     ensures { (b : Result Bool HallFault) × (a : Result Answer HallFault)
         × IsHeld D.leads desk.old (open_then_ask_talk (string_bytes id) b a) result desk.new }
 {
@@ -162,22 +165,21 @@ fn open_comm<D: Desk>(desk: &mut D, request: &CommOpen) -> Result<Option<DeskRep
         × IsHeld D.leads desk.old (open_talk (string_bytes request.now.target_name) (string_bytes request.now.comm_id) h) told desk.new) }
     ensures err { OnErr result (desk.new ≡ desk.old) }
 {
-    let id = request.comm_id.clone()?;
+    let id = request.comm_id.as_str();
     if is_undo_target(request.target_name.as_str()) {
-        let same = request.comm_id.clone()?;
-        return Ok(open_then_ask(desk, id, same));
+        let kept = request.comm_id.clone()?;
+        return Ok(open_then_ask(desk, kept, id));
     }
     Ok(ask(desk, Ask::IsOpen { id }))
 }
 
 /// Closes a comm.
-fn close_comm<D: Desk>(desk: &mut D, id: &String) -> Result<Option<DeskReply>, AllocError>
-    ensures ok { IfOk result (λ told. (b : Result Bool HallFault) × IsHeld D.leads desk.old (close_talk (string_bytes id.now) b) told desk.new) }
-    ensures err { OnErr result (desk.new ≡ desk.old) }
+fn close_comm<D: Desk>(desk: &mut D, id: &str) -> Option<DeskReply>
+    ensures { (b : Result Bool HallFault) × IsHeld D.leads desk.old (close_talk id.now b) result desk.new }
 {
-    match desk.comm(CommChange::Close(id.clone()?)) {
-        Ok(_) => Ok(Some(DeskReply::Answered(no_answer()))),
-        Err(_) => Ok(None),
+    match desk.comm(CommChange::Close(id)) {
+        Ok(_) => Some(DeskReply::Answered(no_answer())),
+        Err(_) => None,
     }
 }
 
@@ -210,8 +212,8 @@ fn follow<D: Desk>(alloc: Global, desk: &mut D, asked: CommAsk) -> Option<DeskRe
 }
 
 /// Does what a message on a comm asks, if the comm of this id is open.
-fn on_comm<D: Desk>(alloc: Global, desk: &mut D, id: String, asked: CommAsk) -> Option<DeskReply>
-    ensures { (h : Heard) × IsHeld D.leads desk.old (if_open (string_bytes id) h.comm (follow_talk asked h)) result desk.new }
+fn on_comm<D: Desk>(alloc: Global, desk: &mut D, id: &str, asked: CommAsk) -> Option<DeskReply>
+    ensures { (h : Heard) × IsHeld D.leads desk.old (if_open id.now h.comm (follow_talk asked h)) result desk.new }
 {
     let open = match desk.ask(Ask::IsOpen { id }) {
         Ok(answer) => answer,
@@ -222,20 +224,6 @@ fn on_comm<D: Desk>(alloc: Global, desk: &mut D, id: String, asked: CommAsk) -> 
     } else {
         Some(DeskReply::Answered(open))
     }
-}
-
-/// Does what a message asks on its comm, if that is open.
-fn comm_message<D: Desk>(
-    alloc: Global,
-    desk: &mut D,
-    request: &CommMessage,
-) -> Result<Option<DeskReply>, AllocError>
-    ensures ok { IfOk result (λ told. (h : Heard)
-        × IsHeld D.leads desk.old (if_open (string_bytes request.now.comm_id) h.comm (follow_talk request.now.ask h)) told desk.new) }
-    ensures err { OnErr result (desk.new ≡ desk.old) }
-{
-    let id = request.comm_id.clone()?;
-    Ok(on_comm(alloc, desk, id, request.ask))
 }
 
 /// Interrupts the open job.
@@ -256,41 +244,31 @@ fn shut<D: Desk>(desk: &mut D) -> Option<DeskReply>
 }
 
 /// Asks for the completion of a name.
-fn complete<D: Desk>(
-    desk: &mut D,
-    request: &CompleteRequest,
-) -> Result<Option<DeskReply>, AllocError>
-    ensures ok { IfOk result (λ told. (a : Result Answer HallFault)
-        × IsHeld D.leads desk.old (ask_talk (Complete (string_bytes request.now.code) request.now.cursor) a) told desk.new) }
-    ensures err { OnErr result (desk.new ≡ desk.old) }
+fn complete<D: Desk>(desk: &mut D, request: &CompleteRequest) -> Option<DeskReply>
+    ensures { (a : Result Answer HallFault)
+        × IsHeld D.leads desk.old (ask_talk (Complete (string_bytes request.now.code) request.now.cursor) a) result desk.new }
 {
-    let code = request.code.clone()?;
+    let code = request.code.as_str();
     let cursor = request.cursor;
-    Ok(ask(desk, Ask::Complete { code, cursor }))
+    ask(desk, Ask::Complete { code, cursor })
 }
 
 /// Asks what is known of a name.
-fn inspect<D: Desk>(desk: &mut D, request: &InspectRequest) -> Result<Option<DeskReply>, AllocError>
-    ensures ok { IfOk result (λ told. (a : Result Answer HallFault)
-        × IsHeld D.leads desk.old (ask_talk (Inspect (string_bytes request.now.code) request.now.cursor) a) told desk.new) }
-    ensures err { OnErr result (desk.new ≡ desk.old) }
+fn inspect<D: Desk>(desk: &mut D, request: &InspectRequest) -> Option<DeskReply>
+    ensures { (a : Result Answer HallFault)
+        × IsHeld D.leads desk.old (ask_talk (Inspect (string_bytes request.now.code) request.now.cursor) a) result desk.new }
 {
-    let code = request.code.clone()?;
+    let code = request.code.as_str();
     let cursor = request.cursor;
-    Ok(ask(desk, Ask::Inspect { code, cursor }))
+    ask(desk, Ask::Inspect { code, cursor })
 }
 
 /// Asks whether code can be executed as it stands.
-fn judge<D: Desk>(
-    desk: &mut D,
-    request: &IsCompleteRequest,
-) -> Result<Option<DeskReply>, AllocError>
-    ensures ok { IfOk result (λ told. (a : Result Answer HallFault)
-        × IsHeld D.leads desk.old (ask_talk (IsComplete (string_bytes request.now.code)) a) told desk.new) }
-    ensures err { OnErr result (desk.new ≡ desk.old) }
+fn judge<D: Desk>(desk: &mut D, request: &IsCompleteRequest) -> Option<DeskReply>
+    ensures { (a : Result Answer HallFault) × IsHeld D.leads desk.old (ask_talk (IsComplete (string_bytes request.now.code)) a) result desk.new }
 {
-    let code = request.code.clone()?;
-    Ok(ask(desk, Ask::IsComplete { code }))
+    let code = request.code.as_str();
+    ask(desk, Ask::IsComplete { code })
 }
 
 /// Has the desk do what a request asks, and answers what the request is answered from; nothing where the desk found no memory. An
@@ -306,15 +284,17 @@ pub(crate) fn consult<D: Desk>(
     match content {
         RequestContent::KernelInfo => Ok(Some(DeskReply::Answered(no_answer()))),
         RequestContent::Execute(request) => execute(alloc, desk, request),
-        RequestContent::Complete(request) => complete(desk, request),
-        RequestContent::Inspect(request) => inspect(desk, request),
-        RequestContent::IsComplete(request) => judge(desk, request),
+        RequestContent::Complete(request) => Ok(complete(desk, request)),
+        RequestContent::Inspect(request) => Ok(inspect(desk, request)),
+        RequestContent::IsComplete(request) => Ok(judge(desk, request)),
         RequestContent::History(request) => Ok(history(desk, request)),
         RequestContent::CommInfo(_) => Ok(ask(desk, Ask::Comms)),
         RequestContent::Interrupt => Ok(interrupt(desk)),
         RequestContent::Shutdown(_) => Ok(shut(desk)),
         RequestContent::CommOpen(request) => open_comm(desk, request),
-        RequestContent::CommMessage(request) => comm_message(alloc, desk, request),
-        RequestContent::CommClose(request) => close_comm(desk, &request.comm_id),
+        RequestContent::CommMessage(request) => {
+            Ok(on_comm(alloc, desk, request.comm_id.as_str(), request.ask))
+        }
+        RequestContent::CommClose(request) => Ok(close_comm(desk, request.comm_id.as_str())),
     }
 }

@@ -26,4 +26,4 @@ returns-in-Ok g c = λ text read.
 
 pub returns-in-Err : goal.returns-in-Err
 returns-in-Err g c = λ text read.
-    told c.args.store.now.sight text c.in-Err.fault.now c.of_syntax.result (subst (λ (r : Result code.Exp SyntaxFault). IsParsedExp text r) c.in-Err.is read) c.of_syntax.ensures
+    told c.args.store.now.sight text c.in-Err.fault c.of_syntax.result (subst (λ (r : Result code.Exp SyntaxFault). IsParsedExp text r) c.in-Err.is read) c.of_syntax.ensures

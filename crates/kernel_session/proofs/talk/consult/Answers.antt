@@ -1,12 +1,12 @@
-use Rattle.std.proofs.Common.{[], ◌∷◌, Some, refl, ap, string_bytes}
+use Rattle.std.proofs.Common.{ℕ, List, [], ◌∷◌, Some, refl, ap, subst, string_bytes}
 use Rattle.jupyter_msg.specs.Requests.{expressions_of}
 use Rattle.jupyter_msg.specs.declared.request.RequestContent.TheVariants as request
 use Rattle.kernel_core.specs.Request.{RunCell}
 use Rattle.kernel_session.specs.declared.talk.DeskReply.TheVariants.{Answered}
 use Rattle.kernel_session.specs.Question.{Complete, Inspect, IsComplete, Comms}
 use Rattle.kernel_session.specs.Call.{Rang, Shut}
-use Rattle.kernel_session.specs.Talk.{ask, post, only, history, open_comm, close_comm, follow, if_open}
-use Rattle.kernel_session.proofs.TalkLemmas.{nobody, heard_answer, held_as, held_heard, held_answer, held_change, held_job}
+use Rattle.kernel_session.specs.Talk.{IsHeld, ask, post, only, history, open_comm, close_comm, follow, if_open}
+use Rattle.kernel_session.proofs.TalkLemmas.{nobody, unasked, heard_answer, heard_change, held_as, held_heard, held_job}
 use Rattle.kernel_session.proofs.talk.consult.Goals as goal
 
 pub returns-in-KernelInfo-clause-ok : goal.returns-in-KernelInfo-clause-ok
@@ -23,20 +23,23 @@ returns-in-Execute-clause-ok g c =
 pub returns-in-Complete-clause-ok : goal.returns-in-Complete-clause-ok
 returns-in-Complete-clause-ok g c =
     let r = c.in-Complete.request in
-    held_answer g.D.Desk.leads c.args.desk.now c.complete.new.desk c.args.content.now (request.Complete r) c.in-Complete.is
-    (ask (Complete (string_bytes r.code) r.cursor)) (λ a. refl) c.complete.result c.complete.ensures.ok
+    let p = c.complete.ensures in
+    held_as g.D.Desk.leads c.args.desk.now c.complete.new.desk c.args.content.now (request.Complete r) c.in-Complete.is c.complete.result (heard_answer p.0)
+    (ask (Complete (string_bytes r.code) r.cursor) p.0) refl p.1
 
 pub returns-in-Inspect-clause-ok : goal.returns-in-Inspect-clause-ok
 returns-in-Inspect-clause-ok g c =
     let r = c.in-Inspect.request in
-    held_answer g.D.Desk.leads c.args.desk.now c.inspect.new.desk c.args.content.now (request.Inspect r) c.in-Inspect.is
-    (ask (Inspect (string_bytes r.code) r.cursor)) (λ a. refl) c.inspect.result c.inspect.ensures.ok
+    let p = c.inspect.ensures in
+    held_as g.D.Desk.leads c.args.desk.now c.inspect.new.desk c.args.content.now (request.Inspect r) c.in-Inspect.is c.inspect.result (heard_answer p.0)
+    (ask (Inspect (string_bytes r.code) r.cursor) p.0) refl p.1
 
 pub returns-in-IsComplete-clause-ok : goal.returns-in-IsComplete-clause-ok
 returns-in-IsComplete-clause-ok g c =
     let r = c.in-IsComplete.request in
-    held_answer g.D.Desk.leads c.args.desk.now c.judge.new.desk c.args.content.now (request.IsComplete r) c.in-IsComplete.is
-    (ask (IsComplete (string_bytes r.code))) (λ a. refl) c.judge.result c.judge.ensures.ok
+    let p = c.judge.ensures in
+    held_as g.D.Desk.leads c.args.desk.now c.judge.new.desk c.args.content.now (request.IsComplete r) c.in-IsComplete.is c.judge.result (heard_answer p.0)
+    (ask (IsComplete (string_bytes r.code)) p.0) refl p.1
 
 pub returns-in-History-clause-ok : goal.returns-in-History-clause-ok
 returns-in-History-clause-ok g c =
@@ -70,11 +73,17 @@ returns-in-CommOpen-clause-ok g c =
 pub returns-in-CommMessage-clause-ok : goal.returns-in-CommMessage-clause-ok
 returns-in-CommMessage-clause-ok g c =
     let r = c.in-CommMessage.request in
-    held_heard g.D.Desk.leads c.args.desk.now c.comm_message.new.desk c.args.content.now (request.CommMessage r) c.in-CommMessage.is
-    (λ h. if_open (string_bytes r.comm_id) h.comm (follow r.ask h)) (λ h. refl) c.comm_message.result c.comm_message.ensures.ok
+    let p = c.on_comm.ensures in
+    held_as g.D.Desk.leads c.args.desk.now c.on_comm.new.desk c.args.content.now (request.CommMessage r) c.in-CommMessage.is c.on_comm.result p.0
+    (if_open (string_bytes r.comm_id) p.0.comm (follow r.ask p.0)) refl
+    (subst (λ (id : List ℕ). IsHeld g.D.Desk.leads c.args.desk.now (if_open id p.0.comm (follow r.ask p.0)) c.on_comm.result c.on_comm.new.desk)
+    c.as_str.ensures.value p.1)
 
 pub returns-in-CommClose-clause-ok : goal.returns-in-CommClose-clause-ok
 returns-in-CommClose-clause-ok g c =
     let r = c.in-CommClose.request in
-    held_change g.D.Desk.leads c.args.desk.now c.close_comm.new.desk c.args.content.now (request.CommClose r) c.in-CommClose.is
-    (close_comm (string_bytes r.comm_id)) (λ b. refl) c.close_comm.result c.close_comm.ensures.ok
+    let p = c.close_comm.ensures in
+    held_as g.D.Desk.leads c.args.desk.now c.close_comm.new.desk c.args.content.now (request.CommClose r) c.in-CommClose.is c.close_comm.result
+    (heard_change p.0 unasked) (close_comm (string_bytes r.comm_id) p.0) refl
+    (subst (λ (id : List ℕ). IsHeld g.D.Desk.leads c.args.desk.now (close_comm id p.0) c.close_comm.result c.close_comm.new.desk)
+    c.as_str-in-CommClose.ensures.value p.1)

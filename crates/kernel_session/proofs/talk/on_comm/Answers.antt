@@ -1,4 +1,4 @@
-use Rattle.std.proofs.Common.{Ok, Err, refl, sym, ap, ◌∙◌, subst, string_bytes}
+use Rattle.std.proofs.Common.{Ok, Err, refl, sym, ap, ◌∙◌, subst}
 use Rattle.kernel_session.specs.Talk.{Talk, IsHeld, follow, if_open}
 use Rattle.kernel_session.proofs.TalkLemmas.{nobody, heard_comm, follow-comm, open_held, closed_held}
 use Rattle.kernel_session.proofs.talk.on_comm.Goals as goal
@@ -6,7 +6,7 @@ use Rattle.kernel_session.proofs.talk.on_comm.Goals as goal
 pub returns-then-says_open : goal.returns-then-says_open
 returns-then-says_open g c =
     let p = c.follow.ensures in
-    let id = string_bytes c.args.id in
+    let id = c.args.id.now in
     let h = heard_comm (Ok c.in-Ok.answer) p.0 in (
       h,
       subst (λ (t : Talk). IsHeld g.D.Desk.leads c.args.desk.now (if_open id (Ok c.in-Ok.answer) t) c.follow.result c.follow.new.desk)
@@ -18,7 +18,7 @@ returns-then-says_open g c =
 
 pub returns-else-says_open : goal.returns-else-says_open
 returns-else-says_open g c =
-    let id = string_bytes c.args.id in
+    let id = c.args.id.now in
     let h = heard_comm (Ok c.in-Ok.answer) nobody in (
       h,
       closed_held g.D.Desk.leads c.args.desk.now c.ask.new.self id c.in-Ok.answer (follow c.args.asked h)

@@ -13,7 +13,7 @@ returns-clause-ok g c =
       heard_answer p.0,
       other_held g.D.Desk.leads c.args.desk.now c.ask.new.desk (string_bytes r.target_name) (string_bytes r.comm_id) p.0 c.ask.result
           (ap (λ (t : List ℕ). bytes_eq t undo_target) (sym c.as_str.ensures.value) ∙ sym c.is_undo_target.ensures ∙ c.if-is_undo_target.false)
-          (subst (λ (t : List ℕ). IsHeld g.D.Desk.leads c.args.desk.now (ask (IsOpen t) p.0) c.ask.result c.ask.new.desk) c.in_ok-id.ensures.cases p.1),
+          (subst (λ (t : List ℕ). IsHeld g.D.Desk.leads c.args.desk.now (ask (IsOpen t) p.0) c.ask.result c.ask.new.desk) c.as_str-id.ensures.value p.1),
     )
 
 pub returns-then-is_undo_target-clause-ok : goal.returns-then-is_undo_target-clause-ok
@@ -24,5 +24,8 @@ returns-then-is_undo_target-clause-ok g c =
       target_held g.D.Desk.leads c.args.desk.now c.open_then_ask.new.desk (string_bytes r.target_name) (string_bytes r.comm_id) p.0 p.1 c.open_then_ask.result
           (ap (λ (t : List ℕ). bytes_eq t undo_target) (sym c.as_str.ensures.value) ∙ sym c.is_undo_target.ensures ∙ c.if-is_undo_target.true)
           (subst (λ (t : List ℕ). IsHeld g.D.Desk.leads c.args.desk.now (open_then_ask t p.0 p.1) c.open_then_ask.result c.open_then_ask.new.desk)
-          c.in_ok-id.ensures.cases p.2),
+          c.in_ok-kept.ensures.cases p.2),
     )
+
+pub open_then_ask-requires : goal.open_then_ask-requires
+open_then_ask-requires g c = c.as_str-id.ensures.value ∙ sym c.in_ok-kept.ensures.cases
