@@ -1,7 +1,7 @@
 //! Rows of questions to a kernel. `complete` and `inspect` have a cursor (or `-`) and code, `judge` has code, `tail` a number, `range` a
-//! session, a start and a stop (or `-`); `comms` and `state` have nothing. `evaluate` has an expression. `shown` (a cell)
+//! session, a start and a stop (or `-`); `comms` and `state` have nothing. `evaluate` has an expression. `shown`
 //! is told behind a cell that ran, `unshown` behind one that was interrupted.
-use kernel_ask::{Ask, Comms, HistoryAsk, ask_on, evaluate, is_settled, shown_text};
+use kernel_ask::{Ask, Comms, HistoryAsk, ask_on, evaluate, is_settled, shown_of_node};
 use kernel_core::{Kernel, Outcome};
 use std::alloc::{AllocError, Global};
 use std::sync::ledger::Ledger;
@@ -16,11 +16,8 @@ pub(crate) fn question<L: Ledger>(
 ) -> Result<String, AllocError> {
     match word {
         "evaluate" => value(alloc, kernel, rest),
-        "shown" | "unshown" => shown_of(alloc, kernel, word == "shown", rest),
-        _ => {
-            let ask = ask_of(alloc, word, rest)?;
-            shown(alloc, &ask_on(alloc, kernel, &Comms::new(alloc), ask))
-        }
+        "shown" | "unshown" => shown_of(alloc, kernel, word == "shown"),
+        _ => shown(alloc, &ask_on(alloc, kernel, &Comms::new(alloc), ask_of(word, rest))),
     }
 }
 
@@ -30,25 +27,23 @@ fn number(word: &str) -> Option<u64> {
 }
 
 /// What is asked.
-fn ask_of(alloc: Global, word: &str, rest: &str) -> Result<Ask, AllocError> {
+fn ask_of<'a>(word: &str, rest: &'a str) -> Ask<'a> {
     let (first, second) = cut(rest);
     let cursor = number(first);
     match word {
-        "complete" => Ok(Ask::Complete {
-            code: String::from_str(alloc, second)?,
+        "complete" => Ask::Complete {
+            code: second,
             cursor,
-        }),
-        "inspect" => Ok(Ask::Inspect {
-            code: String::from_str(alloc, second)?,
+        },
+        "inspect" => Ask::Inspect {
+            code: second,
             cursor,
-        }),
-        "judge" => Ok(Ask::IsComplete {
-            code: String::from_str(alloc, rest)?,
-        }),
-        "tail" => Ok(Ask::History(HistoryAsk::Tail(cursor.unwrap_or(0)))),
-        "range" => Ok(Ask::History(range_of(first, second))),
-        "comms" => Ok(Ask::Comms),
-        _ => Ok(Ask::State),
+        },
+        "judge" => Ask::IsComplete { code: rest },
+        "tail" => Ask::History(HistoryAsk::Tail(cursor.unwrap_or(0))),
+        "range" => Ask::History(range_of(first, second)),
+        "comms" => Ask::Comms,
+        _ => Ask::State,
     }
 }
 
@@ -70,12 +65,11 @@ fn value<L: Ledger>(alloc: Global, kernel: &Kernel<L>, text: &str) -> Result<Str
     shown(alloc, &evaluate(alloc, kernel, text))
 }
 
-/// What is shown of a cell with this text, whether it ran or was interrupted.
+/// What is shown of the cell at the position, whether it ran or was interrupted.
 fn shown_of<L: Ledger>(
     alloc: Global,
     kernel: &Kernel<L>,
     ran: bool,
-    text: &str,
 ) -> Result<String, AllocError> {
     if !is_settled(kernel) {
         return String::from_str(alloc, "a job is open");
@@ -86,5 +80,5 @@ fn shown_of<L: Ledger>(
     } else {
         Outcome::Interrupted(1)
     };
-    shown(alloc, &shown_text(alloc, kernel, &outcome, text)?)
+    shown(alloc, &shown_of_node(alloc, kernel, &outcome)?)
 }

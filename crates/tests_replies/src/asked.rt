@@ -40,18 +40,16 @@ fn executed<L: Ledger>(
         silent: request.silent,
         store: request.store_history,
     };
-    let code = request.code.as_str();
-    Ok(Report::Ended(ended(alloc, kernel, job, code, &wishes, calm)?))
+    Ok(Report::Ended(ended(alloc, kernel, job, wishes, calm)?))
 }
 
 /// The user expressions of a request.
 fn wishes_of(alloc: Global, request: &ExecuteRequest) -> Result<Vec<Wish>, AllocError> {
     let mut wishes = Vec::new(alloc);
     for asked in &request.user_expressions {
-        wishes.push(Wish {
-            name: asked.name.clone()?,
-            exp: asked.expression.clone()?,
-        })?;
+        let name = asked.name.clone()?;
+        let text = asked.expression.clone()?;
+        wishes.push(Wish::new(alloc, name, text))?;
     }
     Ok(wishes)
 }
@@ -70,29 +68,29 @@ fn on_comm<L: Ledger>(
         CommAsk::Goto(node) => Job::Goto(node),
         CommAsk::State | CommAsk::Other => return answered(alloc, kernel, comms, Ask::State),
     };
-    Ok(Report::Ended(ended(alloc, kernel, job, "", &[], calm)?))
+    Ok(Report::Ended(ended(alloc, kernel, job, Vec::new(alloc), calm)?))
 }
 
 /// What is asked of the kernel, once a comm that is to be opened is open.
-fn ask_of(comms: &mut Comms, content: &RequestContent) -> Result<Ask, AllocError> {
+fn ask_of<'a>(comms: &mut Comms, content: &'a RequestContent) -> Result<Ask<'a>, AllocError> {
     match content {
         RequestContent::Complete(request) => Ok(Ask::Complete {
-            code: request.code.clone()?,
+            code: request.code.as_str(),
             cursor: request.cursor,
         }),
         RequestContent::Inspect(request) => Ok(Ask::Inspect {
-            code: request.code.clone()?,
+            code: request.code.as_str(),
             cursor: request.cursor,
         }),
         RequestContent::IsComplete(request) => Ok(Ask::IsComplete {
-            code: request.code.clone()?,
+            code: request.code.as_str(),
         }),
         RequestContent::History(request) => Ok(history_of(request)),
         RequestContent::CommInfo(_) | RequestContent::CommClose(_) => Ok(Ask::Comms),
         RequestContent::CommOpen(request) => {
             let _opened = comms.open(request.comm_id.clone()?)?;
             Ok(Ask::IsOpen {
-                id: request.comm_id.clone()?,
+                id: request.comm_id.as_str(),
             })
         }
         _ => Ok(Ask::State),
@@ -100,7 +98,7 @@ fn ask_of(comms: &mut Comms, content: &RequestContent) -> Result<Ask, AllocError
 }
 
 /// The history that is asked for; a search is none.
-fn history_of(request: &HistoryRequest) -> Ask {
+fn history_of(request: &HistoryRequest) -> Ask<'static> {
     match request.access {
         HistoryAccess::Tail => Ask::History(HistoryAsk::Tail(request.n)),
         HistoryAccess::Range => Ask::History(HistoryAsk::Range {

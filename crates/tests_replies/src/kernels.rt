@@ -1,5 +1,5 @@
 //! Jobs of a kernel, run to their ends.
-use kernel_ask::{Done, NamedValue, Wish, evaluate, is_settled, shown_text, stands_at_end};
+use kernel_ask::{Done, NamedValue, Wish, is_settled, shown_of_node, stands_at_end};
 use kernel_core::{Begun, Job, Kernel, Outcome, Sliced};
 use std::alloc::{AllocError, Global};
 use std::sync::ledger::Ledger;
@@ -7,7 +7,7 @@ use std::sync::ledger::Ledger;
 /// How many slices a job gets at most.
 pub(crate) const SLICES: usize = 10;
 
-/// Posts the job and runs it to its end in slices of 1,000 steps: its number and its outcome. Behind the first so many slices it is asked
+/// Posts the job and runs it to its end in slices of 1,000 steps: its number and its outcome. Behind its first `calm` slices it is asked
 /// to stop.
 pub(crate) fn run<L: Ledger>(
     kernel: &mut Kernel<L>,
@@ -52,14 +52,12 @@ fn slice<L: Ledger>(kernel: &mut Kernel<L>, asked: bool) -> Option<Outcome> {
     }
 }
 
-/// Posts the job and runs it to its end: what came of it, with the text of its cell and the expressions beside it. It is asked to stop
-/// behind so many slices.
+/// Posts the job and runs it to its end: what came of it, with the expressions beside it. Behind its first `calm` slices it is asked to stop.
 pub(crate) fn ended<L: Ledger>(
     alloc: Global,
     kernel: &mut Kernel<L>,
     job: Job,
-    code: &str,
-    wishes: &[Wish],
+    wishes: Vec<Wish>,
     calm: usize,
 ) -> Result<Done, AllocError> {
     let (number, outcome) = run(kernel, job, calm).unwrap_or((0, Outcome::Interrupted(0)));
@@ -68,7 +66,7 @@ pub(crate) fn ended<L: Ledger>(
         outcome,
         count: kernel.counter(),
         node: kernel.position(),
-        shown: shown_after(alloc, kernel, &outcome, code)?,
+        shown: shown_after(alloc, kernel, &outcome)?,
         values: values_after(alloc, kernel, &outcome, wishes)?,
     })
 }
@@ -78,7 +76,7 @@ fn values_after<L: Ledger>(
     alloc: Global,
     kernel: &Kernel<L>,
     outcome: &Outcome,
-    wishes: &[Wish],
+    wishes: Vec<Wish>,
 ) -> Result<Vec<NamedValue>, AllocError> {
     let mut values = Vec::new(alloc);
     let ran = matches!(outcome, Outcome::Ran(_, _));
@@ -86,9 +84,7 @@ fn values_after<L: Ledger>(
         return Ok(values);
     }
     for wish in wishes {
-        let name = wish.name.clone()?;
-        let value = evaluate(alloc, kernel, wish.exp.as_str());
-        values.push(NamedValue { name, value })?;
+        values.push(wish.evaluate(alloc, kernel))?;
     }
     Ok(values)
 }
@@ -98,10 +94,9 @@ fn shown_after<L: Ledger>(
     alloc: Global,
     kernel: &Kernel<L>,
     outcome: &Outcome,
-    code: &str,
 ) -> Result<Option<String>, AllocError> {
     if is_settled(kernel) && stands_at_end(kernel, outcome) {
-        return shown_text(alloc, kernel, outcome, code);
+        return shown_of_node(alloc, kernel, outcome);
     }
     Ok(None)
 }

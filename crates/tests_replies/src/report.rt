@@ -46,7 +46,7 @@ pub(crate) fn answered<L: Ledger>(
     alloc: Global,
     kernel: &Kernel<L>,
     comms: &Comms,
-    ask: Ask,
+    ask: Ask<'_>,
 ) -> Result<Report, MsgFault> {
     match ask_on(alloc, kernel, comms, ask) {
         Ok(answer) => Ok(Report::Answered(answer.content)),
@@ -74,7 +74,7 @@ fn unposted<L: Ledger>(
 }
 
 /// The question for the open comms or for the state.
-fn ask_of(word: &str) -> Ask {
+fn ask_of(word: &str) -> Ask<'static> {
     if word == "comms" {
         Ask::Comms
     } else {

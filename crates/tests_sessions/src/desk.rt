@@ -1,5 +1,5 @@
 //! A desk that has no kernel behind it: it judges code, takes down what it is asked, keeps what is published, and refuses jobs.
-use kernel_ask::{Answer, Ask, CommChange, Content, Done, HallFault, Wish, is_complete};
+use kernel_ask::{Answer, Ask, CommChange, Content, Done, HallFault, HistoryAsk, Wish, is_complete};
 use kernel_board::Broadcast;
 use kernel_core::{Job, PostFault};
 use kernel_message::Stamp;
@@ -14,7 +14,8 @@ pub(crate) struct NoKernel {
     pub is_rung: bool,
     /// Whether it finds no memory for an answer.
     pub is_poor: bool,
-    pub asks: Vec<Ask>,
+    /// The questions, each in a line.
+    pub asks: Vec<String>,
     pub jobs: Vec<Job>,
 }
 
@@ -38,12 +39,32 @@ fn open_comms(alloc: Global) -> Result<Vec<String>, AllocError> {
 }
 
 /// What is answered to a question.
-fn content(alloc: Global, ask: &Ask) -> Result<Content, AllocError> {
+fn content(alloc: Global, ask: Ask<'_>) -> Result<Content, AllocError> {
     match ask {
-        Ask::IsComplete { code } => Ok(Content::Completeness(is_complete(alloc, code.as_str()))),
+        Ask::IsComplete { code } => Ok(Content::Completeness(is_complete(alloc, code))),
         Ask::Comms => Ok(Content::Comms(open_comms(alloc)?)),
-        Ask::IsOpen { id } => Ok(Content::IsOpen(id.as_str() == "c")),
+        Ask::IsOpen { id } => Ok(Content::IsOpen(id == "c")),
         _ => Ok(Content::Inspection(None)),
+    }
+}
+
+/// A question in a line.
+fn line_of(alloc: Global, ask: Ask<'_>) -> Result<String, AllocError> {
+    match ask {
+        Ask::Complete { code, cursor } => format!(in alloc; "complete {code} {cursor:?}"),
+        Ask::Inspect { code, cursor } => format!(in alloc; "inspect {code} {cursor:?}"),
+        Ask::IsComplete { code } => format!(in alloc; "judge {code}"),
+        Ask::History(HistoryAsk::Tail(n)) => format!(in alloc; "tail {n}"),
+        Ask::History(
+            HistoryAsk::Range {
+                session,
+                start,
+                stop,
+            },
+        ) => format!(in alloc; "range {session} {start} {stop:?}"),
+        Ask::Comms => String::from_str(alloc, "comms"),
+        Ask::IsOpen { id } => format!(in alloc; "open {id}"),
+        Ask::State => String::from_str(alloc, "state"),
     }
 }
 
@@ -55,16 +76,18 @@ impl Desk for NoKernel {
         Err(PostFault::Closing)
     }
 
-    fn ask(&mut self, ask: Ask) -> Result<Answer, HallFault> {
-        let answer = content(self.alloc, &ask);
-        let _ = self.asks.push(ask);
+    fn ask(&mut self, ask: Ask<'_>) -> Result<Answer, HallFault> {
+        let answer = content(self.alloc, ask);
+        if let Ok(line) = line_of(self.alloc, ask) {
+            let _ = self.asks.push(line);
+        }
         match answer {
             Ok(content) if !self.is_poor => Ok(Answer { seen: 0, content }),
             _ => Err(HallFault::Memory),
         }
     }
 
-    fn comm(&mut self, _change: CommChange) -> Result<bool, HallFault> {
+    fn comm(&mut self, _change: CommChange<'_>) -> Result<bool, HallFault> {
         if self.is_poor {
             Err(HallFault::Memory)
         } else {

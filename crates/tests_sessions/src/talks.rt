@@ -2,7 +2,6 @@
 use crate::connections::served;
 use crate::desk::NoKernel;
 use crate::rows::{QUESTION, ROUTER};
-use kernel_ask::{Ask, HistoryAsk};
 use kernel_core::Job;
 use kernel_session::Socket;
 use std::alloc::Global;
@@ -70,37 +69,11 @@ fn check_jobs(rt: &impl Abort, posted: &[Job], wanted: &[Job]) {
     }
 }
 
-/// Whether two questions are the same.
-fn is_same_ask(one: &Ask, other: &Ask) -> bool {
-    match (one, other) {
-        (Ask::Comms, Ask::Comms) | (Ask::State, Ask::State) => true,
-        (Ask::IsOpen { id }, Ask::IsOpen { id: other }) => id.as_str() == other.as_str(),
-        (
-            Ask::Complete { code, cursor },
-            Ask::Complete {
-                code: text,
-                cursor: at,
-            },
-        )
-        | (
-            Ask::Inspect { code, cursor },
-            Ask::Inspect {
-                code: text,
-                cursor: at,
-            },
-        ) => { code.as_str() == text.as_str() && *cursor == *at }
-        (Ask::IsComplete { code }, Ask::IsComplete { code: text }) => code.as_str()
-            == text.as_str(),
-        (Ask::History(one), Ask::History(other)) => *one == *other,
-        _ => false,
-    }
-}
-
 /// Compares what was asked with what is wanted.
-fn check_asks(rt: &impl Abort, asked: &[Ask], wanted: &[Ask]) {
+fn check_asks(rt: &impl Abort, asked: &[String], wanted: &[&str]) {
     assert_eq!(rt; asked.len(), wanted.len());
     for (one, other) in asked.iter().zip(wanted) {
-        assert!(rt; is_same_ask(one, other));
+        assert!(rt; one.as_str() == *other);
     }
 }
 
@@ -111,7 +84,7 @@ fn check(
     msg_type: &str,
     content: &str,
     jobs: &[Job],
-    asks: &[Ask],
+    asks: &[&str],
 ) {
     let mut desk = NoKernel::new(alloc);
     let octets = asking(rt, alloc, msg_type, content);
@@ -119,12 +92,6 @@ fn check(
     assert_eq!(rt; ended, Ok(()));
     check_jobs(rt, &desk.jobs, jobs);
     check_asks(rt, &desk.asks, asks);
-}
-
-/// The question whether the comm of this id is open.
-fn question_of(rt: &impl Abort, alloc: Global, id: &str) -> Ask {
-    let id = String::from_str(alloc, id).expect(rt, "an id");
-    Ask::IsOpen { id }
 }
 
 /// A move on the open comm is posted, and where it is refused the state is asked for.
@@ -137,7 +104,7 @@ fn a_redo_on_a_comm_is_posted(rt: HostRuntime) {
         "comm_msg",
         content,
         &[Job::Redo(2)],
-        &[question_of(&rt, rt.alloc(), "c"), Ask::State],
+        &["open c", "state"],
     );
 }
 
@@ -150,7 +117,7 @@ fn a_goto_on_a_comm_is_posted(rt: HostRuntime) {
         "comm_msg",
         content,
         &[Job::Goto(3)],
-        &[question_of(&rt, rt.alloc(), "c"), Ask::State],
+        &["open c", "state"],
     );
 }
 
@@ -158,8 +125,7 @@ fn a_goto_on_a_comm_is_posted(rt: HostRuntime) {
 #[test]
 fn an_undo_on_another_comm_is_passed_over(rt: HostRuntime) {
     let content = "{\"comm_id\":\"d\",\"data\":{\"n\":1,\"op\":\"undo\"}}";
-    let want = [question_of(&rt, rt.alloc(), "d")];
-    check(&rt, rt.alloc(), "comm_msg", content, &[], &want);
+    check(&rt, rt.alloc(), "comm_msg", content, &[], &["open d"]);
 }
 
 #[test]
@@ -171,32 +137,33 @@ fn the_state_is_asked_for_on_a_comm(rt: HostRuntime) {
         "comm_msg",
         content,
         &[],
-        &[question_of(&rt, rt.alloc(), "c"), Ask::State],
+        &["open c", "state"],
     );
 }
 
 #[test]
 fn the_last_inputs_are_asked_for(rt: HostRuntime) {
     let content = "{\"hist_access_type\":\"tail\",\"n\":7}";
-    let want = [Ask::History(HistoryAsk::Tail(7))];
-    check(&rt, rt.alloc(), "history_request", content, &[], &want);
-}
-
-#[test]
-fn a_range_of_inputs_is_asked_for(rt: HostRuntime) {
-    let content = "{\"hist_access_type\":\"range\",\"start\":2,\"stop\":5}";
-    let range = HistoryAsk::Range {
-        session: 0,
-        start: 2,
-        stop: Some(5),
-    };
     check(
         &rt,
         rt.alloc(),
         "history_request",
         content,
         &[],
-        &[Ask::History(range)],
+        &["tail 7"],
+    );
+}
+
+#[test]
+fn a_range_of_inputs_is_asked_for(rt: HostRuntime) {
+    let content = "{\"hist_access_type\":\"range\",\"start\":2,\"stop\":5}";
+    check(
+        &rt,
+        rt.alloc(),
+        "history_request",
+        content,
+        &[],
+        &["range 0 2 Some(5)"],
     );
 }
 
@@ -204,18 +171,13 @@ fn a_range_of_inputs_is_asked_for(rt: HostRuntime) {
 #[test]
 fn a_range_of_an_earlier_session_is_asked_for(rt: HostRuntime) {
     let content = "{\"hist_access_type\":\"range\",\"session\":-1}";
-    let range = HistoryAsk::Range {
-        session: -1,
-        start: 1,
-        stop: None,
-    };
     check(
         &rt,
         rt.alloc(),
         "history_request",
         content,
         &[],
-        &[Ask::History(range)],
+        &["range -1 1 None"],
     );
 }
 
@@ -228,21 +190,25 @@ fn a_search_of_the_history_asks_nothing(rt: HostRuntime) {
 #[test]
 fn a_completion_is_asked_for_at_its_cursor(rt: HostRuntime) {
     let content = "{\"code\":\"x += yy\",\"cursor_pos\":6}";
-    let code = String::from_str(rt.alloc(), "x += yy").expect(&rt, "a code");
-    let want = Ask::Complete {
-        code,
-        cursor: Some(6),
-    };
-    check(&rt, rt.alloc(), "complete_request", content, &[], &[want]);
+    check(
+        &rt,
+        rt.alloc(),
+        "complete_request",
+        content,
+        &[],
+        &["complete x += yy Some(6)"],
+    );
 }
 
 #[test]
 fn an_inspection_is_asked_for_at_its_cursor(rt: HostRuntime) {
     let content = "{\"code\":\"x += yy\",\"cursor_pos\":1}";
-    let code = String::from_str(rt.alloc(), "x += yy").expect(&rt, "a code");
-    let want = Ask::Inspect {
-        code,
-        cursor: Some(1),
-    };
-    check(&rt, rt.alloc(), "inspect_request", content, &[], &[want]);
+    check(
+        &rt,
+        rt.alloc(),
+        "inspect_request",
+        content,
+        &[],
+        &["inspect x += yy Some(1)"],
+    );
 }

@@ -55,10 +55,9 @@ fn is_valued(done: &Done, name: &str, number: i32) -> bool {
 
 /// The wish for twice `x`, named `a`.
 fn wishes<R: Abort>(rt: &R, alloc: Global) -> Vec<Wish> {
-    let wish = Wish {
-        name: String::from_str(alloc, "a").expect(rt, "a name"),
-        exp: String::from_str(alloc, "x * 2").expect(rt, "an expression"),
-    };
+    let name = String::from_str(alloc, "a").expect(rt, "a name");
+    let text = String::from_str(alloc, "x * 2").expect(rt, "an expression");
+    let wish = Wish::new(alloc, name, text);
     Vec::from_array(alloc, [wish]).expect(rt, "a list")
 }
 
@@ -110,8 +109,7 @@ fn comms<W: Ledger, L: Ledger, R: Wait + Abort>(rt: &R, alloc: Global, hall: &Ha
     assert!(rt; open_comm(rt, alloc, hall, &pass) == Ok(true));
     assert!(rt; open_comm(rt, alloc, hall, &pass) == Ok(false));
     assert!(rt; is_listed(rt, hall, &pass));
-    let close = CommChange::Close(comm_id(rt, alloc));
-    assert!(rt; hall.comm(rt, &pass, close) == Ok(true));
+    assert!(rt; hall.comm(rt, &pass, CommChange::Close("k")) == Ok(true));
     assert!(rt; !is_listed(rt, hall, &pass));
 }
 
