@@ -15,7 +15,6 @@ use Rattle.kernel_ask.specs.declared.done.Done.{Done}
 use Rattle.kernel_ask.specs.declared.answer.Content.{Content}
 use Rattle.kernel_ask.specs.declared.answer.Content.TheVariants as content
 use Rattle.kernel_ask.specs.declared.answer.KernelState.{KernelState}
-use Rattle.kernel_ask.specs.Comms.{is_open}
 use Rattle.kernel_message.specs.Said.{Said, Says}
 use Rattle.kernel_message.specs.Message.{Asker, reply_message, broadcast_message}
 use Rattle.kernel_message.specs.Sent.{numbered}
@@ -164,9 +163,7 @@ module _ (asker : Asker) (stamp : Stamp) where
   comms_end name (content.IsOpen is) = alone_ends
 
   comm_open_ends : (r : CommOpen) (c : Content) → Ends (comm_open_says r c)
-  comm_open_ends r (content.Comms ids) =
-      either_ends (is_target (string_bytes r.target_name) && is_open (map string_bytes ids.items) (string_bytes r.comm_id)) status_alone (tells (comm_close (string_bytes r.comm_id)))
-      alone_ends (tells_ends (comm_close (string_bytes r.comm_id)))
+  comm_open_ends r (content.Comms ids) = alone_ends
   comm_open_ends r (content.State s) = alone_ends
   comm_open_ends r (content.Completion c) = alone_ends
   comm_open_ends r (content.Inspection known) = alone_ends

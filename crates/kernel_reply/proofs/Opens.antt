@@ -17,13 +17,6 @@ use Rattle.kernel_reply.specs.Comms.{is_target, comm_close}
 use Rattle.kernel_reply.specs.Answers.{status_alone, tells, opened_says}
 use Rattle.kernel_reply.specs.Laws.{OpensNothing, OpensPastTheLimitClose, OpensOfOpenComms, OpensForOtherTargetsClose}
 
--- the test by octets is the one that comms have
-pub open_bytes : (ids : List (String Global)) (id : List ℕ) → list_any (λ x. bytes_eq id (string_bytes x)) ids ≡ is_open (map string_bytes ids) id
-open_bytes [] id = refl
-open_bytes (x ∷ xs) id =
-    ap (λ b. b || list_any (λ y. bytes_eq id (string_bytes y)) xs) (sym (is_eq-slice_cmp id (string_bytes x)))
-    ∙ ap (λ b. is_same id (string_bytes x) || b) (open_bytes xs id)
-
 -- a comm that can't be opened is not
 unopened : (ids : List (List ℕ)) (id : List ℕ) → can_open ids id ≡ false → opened ids id ≡ ids
 unopened ids id e = ap (λ b. if b then insert_key (slice_cmp nat_cmp) ids id else ids) e
@@ -36,9 +29,6 @@ opens_nothing r ids b same is = record {
   told =
       ap (λ c. if c then status_alone else tells (comm_close (string_bytes r.comm_id)))
       (ap (λ xs. is_target (string_bytes r.target_name) && is_open xs (string_bytes r.comm_id)) same ∙ is);
-  answer = λ after e.
-      ap (λ c. if c then status_alone else tells (comm_close (string_bytes r.comm_id)))
-      (ap (λ xs. is_target (string_bytes r.target_name) && is_open xs (string_bytes r.comm_id)) (e ∙ same) ∙ is);
 }
 
 pub opens_past_the_limit_close : OpensPastTheLimitClose
@@ -53,10 +43,5 @@ opens_of_open_comms r ids is =
     let ours = is_target (string_bytes r.target_name) in
     opens_nothing r ids ours (unopened ids id (ap (λ b. nat_lt (length ids) comm_limit && not b) is ∙ and-false (nat_lt (length ids) comm_limit))) (ap (λ b. ours && b) is ∙ and-true ours)
 
-not_ours : (r : CommOpen) (is : Bool) → is_target (string_bytes r.target_name) ≡ false → opened_says r is ≡ tells (comm_close (string_bytes r.comm_id))
-not_ours r is other = ap (λ b. if b && is then status_alone else tells (comm_close (string_bytes r.comm_id))) other
-
 pub opens_for_other_targets_close : OpensForOtherTargetsClose
-opens_for_other_targets_close r (content.IsOpen is) other e = not_ours r is other
-opens_for_other_targets_close r (content.Comms ids) other e = not_ours r (is_open (map string_bytes ids.items) (string_bytes r.comm_id)) other
-opens_for_other_targets_close r _ other e = absurd cc
+opens_for_other_targets_close r is other = ap (λ b. if b && is then status_alone else tells (comm_close (string_bytes r.comm_id))) other

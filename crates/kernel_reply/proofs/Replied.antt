@@ -16,7 +16,6 @@ use Rattle.kernel_ask.specs.declared.done.Done.{Done}
 use Rattle.kernel_ask.specs.declared.done.NamedValue.{NamedValue}
 use Rattle.kernel_ask.specs.declared.answer.Content.{Content}
 use Rattle.kernel_ask.specs.declared.answer.Content.TheVariants as content
-use Rattle.kernel_ask.specs.Comms.{is_open}
 use Rattle.kernel_message.specs.Said.{Said, Says}
 use Rattle.kernel_reply.specs.Problems.{Problem, cell_problem, post_problem}
 use Rattle.kernel_reply.specs.Replies.{inspect_reply}
@@ -131,8 +130,6 @@ open_untyped false id = refl
 
 comm_open_untyped : (r : CommOpen) (c : Content) → type_of (comm_open_says r c) ≡ None
 comm_open_untyped r (content.IsOpen is) = open_untyped (is_target (string_bytes r.target_name) && is) (string_bytes r.comm_id)
-comm_open_untyped r (content.Comms ids) =
-    open_untyped (is_target (string_bytes r.target_name) && is_open (map string_bytes ids.items) (string_bytes r.comm_id)) (string_bytes r.comm_id)
 comm_open_untyped r _ = refl
 
 state_untyped : (id : List ℕ) (c : Content) → type_of (state_says id c) ≡ None

@@ -17,7 +17,6 @@ use Rattle.kernel_ask.specs.declared.done.Done.{Done}
 use Rattle.kernel_ask.specs.declared.answer.Content.{Content}
 use Rattle.kernel_ask.specs.declared.answer.Content.TheVariants as content
 use Rattle.kernel_ask.specs.declared.answer.KernelState.{KernelState}
-use Rattle.kernel_ask.specs.Comms.{is_open}
 use Rattle.kernel_message.specs.Said.{Said, Says}
 use Rattle.kernel_reply.specs.Status.{idle}
 use Rattle.kernel_reply.specs.Problems.{cell_problem, post_problem}
@@ -133,10 +132,9 @@ comms_say name _ = status_alone
 abbrev pub opened_says : CommOpen → Bool → Says
 opened_says r is = if is_target (string_bytes r.target_name) && is then status_alone else tells (comm_close (string_bytes r.comm_id))
 
--- what is told of the comms after the open: whether its comm is open, or all that are
+-- what is told after the open is whether its comm is open
 abbrev pub comm_open_says : CommOpen → Content → Says
 comm_open_says r (content.IsOpen is) = opened_says r is
-comm_open_says r (content.Comms ids) = opened_says r (is_open (map string_bytes ids.items) (string_bytes r.comm_id))
 comm_open_says r _ = status_alone
 
 abbrev pub state_says : List ℕ → Content → Says

@@ -163,13 +163,10 @@ AnswersAreReplied = (r : RequestContent) (c : Content) → is_answer_for r c ≡
 
 -- ---- comms
 
--- what an open of a comm comes to over these open comms: it opens nothing, and its answer says this, told whether its comm is open after it, or all
--- that are, however they are kept
+-- what an open of a comm comes to over these open comms: it opens nothing, and its answer says this, told whether its comm is open after it
 pub record OpensNothing (r : CommOpen) (ids : List (List ℕ)) (says : Says) : Type 0 where
   pub as_before : opened ids (string_bytes r.comm_id) ≡ ids
   pub told : ask_says (request.CommOpen r) (content.IsOpen (is_open (opened ids (string_bytes r.comm_id)) (string_bytes r.comm_id))) ≡ says
-  pub answer : (after : Vec (String Global) Global) → map string_bytes after.items ≡ opened ids (string_bytes r.comm_id) →
-      ask_says (request.CommOpen r) (content.Comms after) ≡ says
 
 -- While as many comms are open as may be, an open of a further one opens nothing and is answered by a close of it.
 abbrev pub OpensPastTheLimitClose : Type 0
@@ -181,15 +178,10 @@ abbrev pub OpensOfOpenComms : Type 0
 OpensOfOpenComms = (r : CommOpen) (ids : List (List ℕ)) → is_open ids (string_bytes r.comm_id) ≡ true
     → OpensNothing r ids (if is_target (string_bytes r.target_name) then status_alone else tells (comm_close (string_bytes r.comm_id)))
 
--- what is told of the comms: whether one is open, or all that are
-abbrev pub tells_of_comms : Content → Bool
-tells_of_comms (content.IsOpen is) = true
-tells_of_comms c = is_comms c
-
--- Whatever comms are open, an open for another target is answered by a close of its id.
+-- Whether its comm is open or not, an open for another target is answered by a close of its id.
 abbrev pub OpensForOtherTargetsClose : Type 0
-OpensForOtherTargetsClose = (r : CommOpen) (c : Content) → is_target (string_bytes r.target_name) ≡ false → tells_of_comms c ≡ true
-    → ask_says (request.CommOpen r) c ≡ tells (comm_close (string_bytes r.comm_id))
+OpensForOtherTargetsClose = (r : CommOpen) (is : Bool) → is_target (string_bytes r.target_name) ≡ false
+    → ask_says (request.CommOpen r) (content.IsOpen is) ≡ tells (comm_close (string_bytes r.comm_id))
 
 -- the names of an object's members, in order
 abbrev pub names : Members → List (List ℕ)

@@ -1,11 +1,8 @@
 //! What is said of comms (Jupyter messaging page: "Comm info", "Custom Messages").
 ghost use Rattle.std.specs.Prelude.{◌≡◌, true, false, map, IfOk, OnOk, string_bytes, option_map};
-ghost use Rattle.std.specs.List.{list_any};
-ghost use Rattle.std.specs.Str.{bytes_eq};
 ghost use Rattle.serde_json.specs.Data.{object, no_members};
 ghost use Rattle.serde_json.specs.View.{view, members_view};
 ghost use Rattle.serde_json.specs.Written.{has_float};
-ghost use Rattle.kernel_ask.specs.Comms.{is_open};
 ghost use Rattle.kernel_message.specs.Draft.{said_of};
 ghost use Rattle.kernel_reply.specs.Comms as table;
 
@@ -107,20 +104,6 @@ pub(crate) fn comm_info_reply(
         msg_type: "comm_info_reply",
         content: comm_info_content(alloc, shown)?,
     })
-}
-
-/// Whether the id is among the ids.
-fn has_id(id: &str, ids: &[String]) -> bool
-    ensures { result ≡ list_any (λ x. bytes_eq id.now (string_bytes x)) ids.now }
-{
-    ids.iter().any(|x| id == x.as_str())
-}
-
-/// Whether the comm is among the open ones.
-pub(crate) fn is_among(id: &str, ids: &[String]) -> bool
-    ensures { result ≡ is_open (map string_bytes ids.now) id.now }
-{
-    has_id(id, ids)
 }
 
 /// What is said where a comm is closed.

@@ -5,7 +5,7 @@ ghost use Rattle.kernel_message.specs.Drafts.{says_of};
 ghost use Rattle.kernel_reply.specs.Answers as table;
 ghost use Rattle.kernel_reply.specs.Moves.{move_shown, unposted_shown};
 
-use crate::comms::{comm_close, comm_info_reply, is_among, is_target, state_msg};
+use crate::comms::{comm_close, comm_info_reply, is_target, state_msg};
 use crate::execution::{error_reply, execute_broadcasts, execute_reply};
 use crate::moves::{move_msg, unposted_msg};
 use crate::problem::{cell_problem, post_problem};
@@ -277,7 +277,7 @@ fn opened_drafts(alloc: Global, request: &CommOpen, is_open: bool) -> Result<Dra
     }
 }
 
-/// What is said of an open, by what is told of the comms after it.
+/// What is said of an open, by whether its comm is told open after it.
 fn comm_open_drafts(
     alloc: Global,
     request: &CommOpen,
@@ -288,7 +288,6 @@ fn comm_open_drafts(
 {
     match content {
         Content::IsOpen(is_open) => opened_drafts(alloc, request, *is_open),
-        Content::Comms(ids) => opened_drafts(alloc, request, is_among(&request.comm_id, ids)),
         _ => status_alone(alloc),
     }
 }

@@ -1,5 +1,6 @@
 //! What is told of a request. `asked` and `stopped` are what the kernel tells of it as it asks, of a job that is asked to stop behind its
-//! first slice too. The others are told whatever it asks: `state`, `comms`, `judged` with a judgement, `outcome` with the outcome of a
+//! first slice too. The others are told whatever it asks: `state`, `comms`, `open` (whether the comm of an
+//! open is open), `judged` with a judgement, `outcome` with the outcome of a
 //! job, `values` (five values of a silent cell), and `unposted` with a refusal and the question that is answered beside it.
 use crate::asked::asked;
 use crate::kernels::SLICES;
@@ -37,6 +38,7 @@ pub(crate) fn tell<L: Ledger>(
         "outcome" => Ok(Report::Ended(done(alloc, kernel, outcome_of(rest)))),
         "values" => Ok(Report::Ended(with_values(alloc, kernel)?)),
         "judged" => Ok(Report::Answered(Content::Completeness(judgement_of(rest)))),
+        "open" => answered(alloc, kernel, comms, open_of(content)),
         _ => answered(alloc, kernel, comms, ask_of(word)),
     }
 }
@@ -79,6 +81,16 @@ fn ask_of(word: &str) -> Ask<'static> {
         Ask::Comms
     } else {
         Ask::State
+    }
+}
+
+/// The question whether the comm of an open is open; of any other request that for the state.
+fn open_of(content: &RequestContent) -> Ask<'_> {
+    match content {
+        RequestContent::CommOpen(request) => Ask::IsOpen {
+            id: request.comm_id.as_str(),
+        },
+        _ => Ask::State,
     }
 }
 
