@@ -5,10 +5,11 @@ use Rattle.std.specs.Cmp.Lexicographic.{slice_cmp}
 use Rattle.std.specs.List.{list_any}
 use Rattle.std.specs.BTreeSet.{insert_key}
 use Rattle.std.specs.Set.{remove_key}
+use Rattle.kernel_ask.specs.declared.limit.TheConstants.{COMM_LIMIT}
 
 -- how many may be open
 abbrev pub comm_limit : ℕ
-comm_limit = 1024
+comm_limit = COMM_LIMIT
 
 -- the same octets
 abbrev pub is_same : List ℕ → List ℕ → Bool

@@ -2,12 +2,10 @@
 ghost use Rattle.std.specs.Prelude.{◌≡◌, [], map, string_bytes, IfOk, OnOk, OnErr};
 ghost use Rattle.kernel_ask.specs.Comms.{is_open as is_open_of, can_open as can_open_of, opened, without_id};
 
+use crate::limit::COMM_LIMIT;
 use std::alloc::{AllocError, Global};
 use std::collections::BTreeSet;
 use std::marker::Model;
-
-/// The most comms that may be open.
-pub const COMM_LIMIT: usize = 1024;
 
 /// The open comms by their ids. Contracts see the ids, in the order of their octets.
 #[derive(Drop)]

@@ -25,19 +25,19 @@ module _ {A : Type 0} where
   ]
 
   -- all that was wanted, or all that there is
-  pub part_whole : (xs : List A) (skip start n i : ℕ) → n ≡ length xs → start ≡ min skip n → start ≤ i → i ≡ min n (start + 64)
-      → take (i - start) (drop start xs) ≡ take 64 (drop skip xs)
-  part_whole xs skip start n i len is low end = elim (dec_le n skip) [
+  pub part_whole : (xs : List A) (skip start n i most : ℕ) → n ≡ length xs → start ≡ min skip n → start ≤ i → i ≡ min n (start + most)
+      → take (i - start) (drop start xs) ≡ take most (drop skip xs)
+  part_whole xs skip start n i most len is low end = elim (dec_le n skip) [
     | yes d ↦ (
         let none : drop start xs ≡ [] = drop_of_length-le xs (omega arith) in
         let none' : drop skip xs ≡ [] = drop_of_length-le xs (omega arith) in
-        ap (take (i - start)) none ∙ take_all (i - start) [] (omega arith) ∙ sym (take_all 64 [] (omega arith)) ∙ ap (take 64) (sym none'))
+        ap (take (i - start)) none ∙ take_all (i - start) [] (omega arith) ∙ sym (take_all most [] (omega arith)) ∙ ap (take most) (sym none'))
     | no d ↦ (
         let same : start ≡ skip = omega arith in
-        elim (dec_le (skip + 64) n) [
-          | yes e ↦ (let q : i - start ≡ 64 = omega arith in λ k. take (q k) (drop (same k) xs))
+        elim (dec_le (skip + most) n) [
+          | yes e ↦ (let q : i - start ≡ most = omega arith in λ k. take (q k) (drop (same k) xs))
           | no e ↦ (
               take_all (i - start) (drop start xs) (omega (arith, length-drop start xs)) ∙ ap (λ k. drop k xs) same
-              ∙ sym (take_all 64 (drop skip xs) (omega (arith, length-drop skip xs))))
+              ∙ sym (take_all most (drop skip xs) (omega (arith, length-drop skip xs))))
         ])
   ]

@@ -4,7 +4,8 @@ use native.Mathlib.Decide.{dec_le}
 use Rattle.std.proofs.lemmas.List.{take_all, drop-drop, drop-append-le, take-append-le, length-take}
 use Rattle.kernel_board.specs.declared.log.Read.TheVariants.{Got, Lagged}
 use Rattle.kernel_board.specs.Frames.{Frames}
-use Rattle.kernel_board.specs.Log.{retained, oldest_of}
+use Rattle.kernel_board.specs.Log.{kept_limit, retained, oldest_of}
+use Rattle.kernel_board.specs.Reads.{read_limit}
 use Rattle.kernel_board.specs.Laws.{log_of, ReadersMissNothing}
 
 module _ {A : Type 0} where
@@ -36,18 +37,18 @@ module _ {A : Type 0} where
 -- what is read of the log is read of the whole list
 of_whole : (all : List Frames) (place : ℕ) → oldest_of (log_of all) ≤ place → drop (place - oldest_of (log_of all)) (retained all) ≡ drop place all
 of_whole all place le =
-    let first : oldest_of (log_of all) ≡ length all - 4096 = omega (arith, length-drop (length all - 4096) all) in
-    let e : length all - 4096 + (place - oldest_of (log_of all)) ≡ place = omega arith in
-    drop-drop (place - oldest_of (log_of all)) (length all - 4096) all ∙ ap (λ k. drop k all) e
+    let first : oldest_of (log_of all) ≡ length all - kept_limit = omega (arith, length-drop (length all - kept_limit) all) in
+    let e : length all - kept_limit + (place - oldest_of (log_of all)) ≡ place = omega arith in
+    drop-drop (place - oldest_of (log_of all)) (length all - kept_limit) all ∙ ap (λ k. drop k all) e
 
 pub reads_on : ReadersMissNothing
 reads_on all more from to bs up (Lagged oldest) is = tt
 reads_on all more from to bs up (Got v next) is =
     let whole = all ++ more in
     let at : drop to whole ≡ drop (length bs) (drop from whole) = ap (λ k. drop k whole) up.1 ∙ sym (drop-drop (length bs) from whole) in
-    let batch : v.items ≡ take 64 (drop (length bs) (drop from whole)) = is.1 ∙ ap (take 64) (of_whole whole to is.0 ∙ at) in
+    let batch : v.items ≡ take read_limit (drop (length bs) (drop from whole)) = is.1 ∙ ap (take read_limit) (of_whole whole to is.0 ∙ at) in
     let mine : v.items ≡ take (length v.items) (drop (length bs) (drop from whole)) =
-    batch ∙ take_own 64 (drop (length bs) (drop from whole)) ∙ ap (λ (l : List Frames). take (length l) (drop (length bs) (drop from whole))) (sym batch) in
+    batch ∙ take_own read_limit (drop (length bs) (drop from whole)) ∙ ap (λ (l : List Frames). take (length l) (drop (length bs) (drop from whole))) (sym batch) in
     let before = part_stays all more bs from up.0 in
     let size = length-append bs v.items in (
       (λ i. before i ++ mine i) ∙ take_add (length bs) (length v.items) (drop from whole) ∙ ap (λ k. take k (drop from whole)) (sym size),

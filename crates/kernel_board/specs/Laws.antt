@@ -3,7 +3,7 @@ use Rattle.std.specs.Prelude.{◌≡◌, ℕ, ◌+◌, ◌<◌, Bool, true, fals
 use Rattle.kernel_board.specs.declared.log.Read.{Read}
 use Rattle.kernel_board.specs.declared.log.Read.TheVariants.{Got, Lagged}
 use Rattle.kernel_board.specs.Frames.{Frames}
-use Rattle.kernel_board.specs.Log.{Log, log, retained, no_number, published}
+use Rattle.kernel_board.specs.Log.{Log, kept_limit, log, retained, no_number, published}
 use Rattle.kernel_board.specs.Reads.{IsRead}
 
 -- the log of a whole list of broadcasts: it counts them all, and retains the last
@@ -20,11 +20,11 @@ abbrev pub is_lagged : Read → Bool
 is_lagged (Got v next) = false
 is_lagged (Lagged oldest) = true
 
--- A reader is told that it lagged exactly where more than 4,096 broadcasts were published from its place on.
+-- A reader is told that it lagged exactly where more broadcasts than are retained were published from its place on.
 abbrev pub LaggedIsExact : Type 0
 LaggedIsExact =
     (all : List Frames) (place : ℕ) (read : Read) → IsRead (log_of all) place read
-    → IsTrue (is_lagged read) ↔ (place + 4096 < length all)
+    → IsTrue (is_lagged read) ↔ (place + kept_limit < length all)
 
 -- these are the broadcasts from one place up to another: none is missing, none comes twice, and they come in order
 abbrev pub ReadUp : List Frames → ℕ → List Frames → ℕ → Type 0

@@ -4,10 +4,15 @@ use Rattle.kernel_board.specs.declared.log.Read.{Read}
 use Rattle.kernel_board.specs.declared.log.Read.TheVariants.{Got, Lagged}
 use Rattle.kernel_board.specs.Frames.{Frames}
 use Rattle.kernel_board.specs.Log.{Log, oldest_of}
+use Rattle.kernel_board.specs.declared.limit.TheConstants.{BROADCASTS_OF_A_READ}
 
--- the retained broadcasts from a place on, as many as there are up to 64
+-- how many are given at most
+abbrev pub read_limit : ℕ
+read_limit = BROADCASTS_OF_A_READ
+
+-- the retained broadcasts from a place on, as many as there are up to the limit
 abbrev pub batch_from : Log → ℕ → List Frames
-batch_from k place = take 64 (drop (place - oldest_of k) k.items)
+batch_from k place = take read_limit (drop (place - oldest_of k) k.items)
 
 -- Lagged where the place is below the oldest that is retained, with that one's place. Else Got with the broadcasts from the place on,
 -- and the next place is the place plus their count.

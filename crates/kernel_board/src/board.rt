@@ -9,7 +9,7 @@ use crate::log::{BroadcastLog, Place, Read, publish_on, read_on};
 use std::alloc::{AllocError, Global};
 use std::sync::{Mutex, Wait};
 
-/// The last 4,096 broadcasts, under a lock.
+/// The last [`KEPT_BROADCASTS`](crate::KEPT_BROADCASTS) broadcasts, under a lock.
 #[derive(Drop)]
 pub struct Board {
     log: Mutex<BroadcastLog>,

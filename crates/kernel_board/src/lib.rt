@@ -21,20 +21,22 @@ mod board;
 mod broadcast;
 mod content;
 mod fault;
+mod limit;
 mod log;
 mod packing;
 
 pub use board::Board;
 pub use broadcast::Broadcast;
 pub use fault::BoardFault;
-pub use log::{BroadcastLog, KEPT, MOST, Place, Read, publish_on, read_on};
+pub use limit::{BROADCASTS_OF_A_READ, KEPT_BROADCASTS};
+pub use log::{BroadcastLog, Place, Read, publish_on, read_on};
 
 /// Law: broadcasts published one after another give the log of their whole list.
 pub fn log_is_of_all_law()
     ensures { LogIsOfAll }
 {}
 
-/// Law: a reader is told that it lagged exactly where more than 4,096 broadcasts were published from its place on.
+/// Law: a reader is told that it lagged exactly where more than [`KEPT_BROADCASTS`] broadcasts were published from its place on.
 pub fn lagged_is_exact_law()
     ensures { LaggedIsExact }
 {}

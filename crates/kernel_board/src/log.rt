@@ -1,21 +1,16 @@
 //! The log that the lock keeps, and the parts of `publish` and `read_from` over it.
 ghost use Rattle.std.specs.Prelude.{◌≡◌, ◌≤◌, [], IfOk, IsOk, OnErr, length, take, drop};
 ghost use Rattle.kernel_board.specs.Log.{log, published, oldest_of, IsLog};
-ghost use Rattle.kernel_board.specs.Reads.{IsRead, HasNews};
+ghost use Rattle.kernel_board.specs.Reads.{IsRead, HasNews, read_limit};
 
 use crate::broadcast::Broadcast;
 use crate::fault::BoardFault;
+use crate::limit::{BROADCASTS_OF_A_READ, KEPT_BROADCASTS};
 use circular_buffer::HeapCircularBuffer;
 use std::alloc::{AllocError, Global};
 use std::marker::Model;
 
-/// The most broadcasts that are kept.
-pub const KEPT: usize = 4096;
-
-/// The most that are given in one read.
-pub const MOST: usize = 64;
-
-/// The last 4,096 broadcasts, with consecutive numbers. Contracts see the number of the next broadcast, and those that are kept.
+/// The last [`KEPT_BROADCASTS`] broadcasts, with consecutive numbers. Contracts see the number of the next broadcast, and those that are kept.
 #[derive(Drop)]
 pub struct BroadcastLog {
     ring: HeapCircularBuffer<Broadcast>,
@@ -25,13 +20,13 @@ pub struct BroadcastLog {
 
 impl Model for BroadcastLog {
     ghost use Rattle.std.specs.Prelude.{◌≡◌};
-    ghost use Rattle.kernel_board.specs.Log.{Log, log, IsLog};
+    ghost use Rattle.kernel_board.specs.Log.{Log, log, IsLog, kept_limit};
 
     ghost Value = { Log };
 
     ghost view = { λ l. log l.next l.ring.items };
 
-    ghost invariant = { λ l. (l.ring.capacity ≡ 4096) × IsLog (log l.next l.ring.items) };
+    ghost invariant = { λ l. (l.ring.capacity ≡ kept_limit) × IsLog (log l.next l.ring.items) };
 }
 
 /// Where a reader stands: the number of the broadcast that it wants next.
@@ -44,7 +39,7 @@ pub struct Place {
 /// What a reader is told.
 #[derive(Drop)]
 pub enum Read {
-    /// The broadcasts from its place on, none or at most 64, and the place after them.
+    /// The broadcasts from its place on, none or at most [`BROADCASTS_OF_A_READ`], and the place after them.
     Got(Vec<Broadcast>, Place),
     /// The broadcast at its place is no longer kept. This is the place of the oldest that is.
     Lagged(Place),
@@ -59,7 +54,7 @@ impl BroadcastLog {
     pub fn new(alloc: Global) -> Result<BroadcastLog, AllocError>
         ensures { IfOk result (λ l. l ≡ log 0 []) }
     {
-        let ring = HeapCircularBuffer::with_capacity(alloc, KEPT)?;
+        let ring = HeapCircularBuffer::with_capacity(alloc, KEPT_BROADCASTS)?;
         Ok(BroadcastLog {
             ring,
             next: 0,
@@ -120,14 +115,14 @@ pub fn read_on(log: &BroadcastLog, place: Place) -> Result<Read, BoardFault>
     Ok(Read::Got(got, next))
 }
 
-/// At most 64 of the broadcasts, without the first few.
+/// At most [`BROADCASTS_OF_A_READ`] of the broadcasts, without the first few.
 fn batch(log: &BroadcastLog, skip: u64) -> Result<Vec<Broadcast>, BoardFault>
-    ensures items { IfOk result (λ v. v.items ≡ take 64 (drop skip log.now.items)) }
+    ensures items { IfOk result (λ v. v.items ≡ take read_limit (drop skip log.now.items)) }
     ensures none { length log.now.items ≤ skip → IsOk result }
 {
     let len = log.ring.len();
     let start = skip.min(len as u64) as usize;
-    let end = len.min(start + MOST);
+    let end = len.min(start + BROADCASTS_OF_A_READ);
     let mut got: Vec<Broadcast> = Vec::with_capacity(log.alloc, end - start)?;
     for index in start..end {
         let Some(broadcast) = log.ring.get(index) else {

@@ -4,7 +4,9 @@ ghost use Rattle.kernel_desk.specs.HallDesk.{AreRead};
 
 use crate::date::present_date;
 use kernel_bell::RingerSeat;
-use kernel_board::{BoardFault, Broadcast, KEPT, MOST, Place, Read};
+use kernel_board::{
+    BROADCASTS_OF_A_READ, BoardFault, Broadcast, KEPT_BROADCASTS, Place, Read,
+};
 use kernel_core::{Job, PostFault};
 use kernel_hall::{Answer, Ask, CommChange, Done, Hall, HallFault, Pass, Wish};
 use kernel_iopub::Bulletin;
@@ -112,7 +114,7 @@ fn read_all<R: Wait>(
     let mut kept: Vec<Broadcast> = Vec::new(alloc);
     let mut place = from;
     // The reads that give all that is kept at once, behind one that tells of a gap.
-    for _ in 0..KEPT / MOST + 1 {
+    for _ in 0..KEPT_BROADCASTS / BROADCASTS_OF_A_READ + 1 {
         let (is_more, next) = read_more(rt, bulletin, &mut kept, place)?;
         place = next;
         if !is_more {

@@ -6,7 +6,7 @@ use std::sync::atomic::{AtomicBool, Ordering};
 use std::sync::{Condvar, MutexGuard, Wait};
 
 /// The number of places at which frontends wait for an end.
-const PLACES: u64 = 16;
+const END_PLACES: u64 = 16;
 
 /// Places to wait at, by the numbers of jobs, so that an end wakes few that wait for another.
 #[derive(Drop)]
@@ -77,5 +77,5 @@ impl Ends {
 fn place_of(number: u64) -> usize
     ensures { result < 16 }
 {
-    (number % PLACES) as usize
+    (number % END_PLACES) as usize
 }

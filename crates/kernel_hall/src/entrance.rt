@@ -5,7 +5,7 @@ use std::sync::{Mutex, MutexGuard, Wait};
 
 /// The looks that one takes: 50 microseconds on a machine that spins fast, half a millisecond on a slow one, where a slice takes some 50. A thread that
 /// slept is awake again within that time.
-const LOOKS: u32 = 8192;
+const LOOKS_FOR_LOCK: u32 = 8192;
 
 /// How many frontends came to the lock, and how many of these have had it. The worker lets the lock go behind a slice, and would have taken it again
 /// before a thread that slept for it is awake: so it looks here first. No contract speaks of it.
@@ -40,7 +40,7 @@ impl Entrance {
     /// Waits, without the lock and for a bounded number of looks, until those have had the lock who had come by now.
     pub fn give_way(&self) {
         let came = self.came.load(Ordering::SeqCst);
-        for _ in 0..LOOKS {
+        for _ in 0..LOOKS_FOR_LOCK {
             if self.entered.load(Ordering::SeqCst) >= came {
                 return;
             }
@@ -51,7 +51,7 @@ impl Entrance {
 
 /// The lock, if it was free at one of so many looks.
 fn tried<T>(lock: &Mutex<T>) -> Option<MutexGuard<'_, T>> {
-    for _ in 0..LOOKS {
+    for _ in 0..LOOKS_FOR_LOCK {
         if let Some(guard) = lock.try_lock() {
             return Some(guard);
         }

@@ -25,4 +25,4 @@ pub use passes::{PASSES, Passes};
 pub use pending_result::PendingResult;
 pub use state::State;
 pub use turn::{Turn, turn_on};
-pub use worker::{Gate, Moment, SLICE, work};
+pub use worker::{Gate, Moment, STEPS_OF_A_SLICE, work};

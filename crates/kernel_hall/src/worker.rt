@@ -9,7 +9,7 @@ use std::sync::Wait;
 use std::sync::ledger::Ledger;
 
 /// The most steps that a slice takes.
-pub const SLICE: u64 = 4096;
+pub const STEPS_OF_A_SLICE: u64 = 4096;
 
 /// When a gate is passed.
 #[derive(Clone, Copy, PartialEq, Eq)]
@@ -40,7 +40,7 @@ pub fn work<W: Ledger, L: Ledger, R: Wait, G: Gate>(
             }
             gate.pass(Moment::BeforeBegin);
         }
-        match hall.turn(rt, &mut runner, SLICE) {
+        match hall.turn(rt, &mut runner, STEPS_OF_A_SLICE) {
             Turn::Worn => break,
             Turn::Began(begun) => is_inside = begun == Begun::Going,
             Turn::Cut(sliced) => {

@@ -10,8 +10,8 @@ use json::Writer;
 use std::alloc::{AllocError, Global};
 use std::str;
 
-/// The room that a header takes at first; one of a session's usual name takes no more.
-const ROOM: usize = 256;
+/// The octets for which a header takes memory at first; one of a session's usual name has no more.
+const HEADER_OCTETS: usize = 256;
 
 /// The name of the n-th message.
 fn msg_id(alloc: Global, stamp: &Stamp, n: u64) -> Result<String, AllocError>
@@ -55,7 +55,7 @@ pub(crate) fn header_octets(
     ensures { IfOk result (λ v. v.items ≡ compact_text (header_of stamp.now n msg_type.now)) }
 {
     let id = msg_id(alloc, stamp, n)?;
-    let mut writer = Writer::new(Vec::with_capacity(alloc, ROOM)?);
+    let mut writer = Writer::new(Vec::with_capacity(alloc, HEADER_OCTETS)?);
     writer.begin_object()?;
     write_text(&mut writer, "date", date_text(stamp))?;
     write_text(&mut writer, "msg_id", id.as_str())?;

@@ -1,20 +1,14 @@
 -- Opens of comms.
-use Rattle.std.proofs.Common.{◌≡◌, ℕ, ◌≤◌, Bool, true, false, ◌&&◌, ◌||◌, not, nat_lt, List, [], ◌∷◌, length, map, refl, sym, ap, ◌∙◌, String, string_bytes, if◌then◌else◌}
-use Rattle.std.specs.declared.alloc.Global.{Global}
-use Rattle.std.specs.Str.{bytes_eq}
-use Rattle.std.specs.List.{list_any}
+use Rattle.std.proofs.Common.{◌≡◌, ℕ, Bool, false, ◌&&◌, not, nat_lt, List, length, ap, ◌∙◌, string_bytes, if◌then◌else◌}
 use Rattle.std.specs.Ordering.{nat_cmp}
 use Rattle.std.specs.Cmp.Lexicographic.{slice_cmp}
 use Rattle.std.specs.BTreeSet.{insert_key}
 use Rattle.std.proofs.lemmas.Bool.{le-ltb}
-use Rattle.std.proofs.lemmas.Map.Text.{is_eq-slice_cmp}
 use Rattle.std.proofs.Math.Bool.{and-false, and-true}
 use Rattle.jupyter_msg.specs.declared.comm.CommOpen.{CommOpen}
-use Rattle.kernel_ask.specs.declared.answer.Content.TheVariants as content
-use Rattle.kernel_ask.specs.Comms.{comm_limit, is_same, is_open, can_open, opened}
-use Rattle.kernel_message.specs.Said.{Says}
+use Rattle.kernel_ask.specs.Comms.{comm_limit, is_open, can_open, opened}
 use Rattle.kernel_reply.specs.Comms.{is_target, comm_close}
-use Rattle.kernel_reply.specs.Answers.{status_alone, tells, opened_says}
+use Rattle.kernel_reply.specs.Answers.{status_alone, tells}
 use Rattle.kernel_reply.specs.Laws.{OpensNothing, OpensPastTheLimitClose, OpensOfOpenComms, OpensForOtherTargetsClose}
 
 -- a comm that can't be opened is not

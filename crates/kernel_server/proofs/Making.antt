@@ -1,8 +1,8 @@
 -- What a job made, and what is shown of it.
-use Rattle.std.proofs.Common.{◌≡◌, ◌⊎◌, ◌∙◌, ℕ, Bool, true, false, List, [], ◌∷◌, Option, None, inl, inr, length, refl, sym, ap, subst, ⊎_elim, Ok}
+use Rattle.std.proofs.Common.{◌≡◌, ◌⊎◌, ◌∙◌, ℕ, Bool, true, false, List, [], Option, None, inl, inr, length, refl, sym, ap, subst, ⊎_elim, Ok}
 use Rattle.std.proofs.lemmas.List.{get_or_at}
 use Rattle.janus_meaning.specs.World.{World, Cell}
-use Rattle.kernel_core.specs.State.{Past, State, Node, Idle, root, node_at, is_full, here}
+use Rattle.kernel_core.specs.State.{Past, State, Node, Idle, root, here}
 use Rattle.kernel_core.specs.Slices.{finished_by, grown}
 use Rattle.kernel_core.specs.Text.{Accepts}
 use Rattle.kernel_core.specs.Midway.{after}

@@ -2,11 +2,12 @@
 use Rattle.std.specs.Prelude.{◌≡◌, ℕ, false, List, [], ◌∷◌}
 use Rattle.kernel_core.specs.events.Event.{Event}
 use Rattle.kernel_core.specs.events.Event.TheVariants as event
+use Rattle.kernel_server.specs.declared.limit.TheConstants.{STEPS_OF_A_SLICE}
 use Rattle.kernel_server.specs.declared.slice.Slice.{Slice}
 
 -- the slice behind the end of the list
 abbrev pub unasked : Slice
-unasked = record { steps = 4096; is_asked = false }
+unasked = record { steps = STEPS_OF_A_SLICE; is_asked = false }
 
 -- the slice that is taken next
 abbrev pub next_slice : List Slice → Slice

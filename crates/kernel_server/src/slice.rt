@@ -2,6 +2,7 @@
 ghost use Rattle.std.specs.Prelude.{◌≡◌};
 ghost use Rattle.kernel_server.specs.Pace.{next_slice, behind};
 
+use crate::limit::STEPS_OF_A_SLICE;
 use std::collections::VecDeque;
 
 /// A slice of an open job.
@@ -15,11 +16,11 @@ pub struct Slice {
 
 /// The slices that come behind those that were given.
 const UNASKED: Slice = Slice {
-    steps: 4096,
+    steps: STEPS_OF_A_SLICE,
     is_asked: false,
 };
 
-/// Takes the next slice; where none is left, one of 4,096 steps that doesn't ask.
+/// Takes the next slice; where none is left, one of [`STEPS_OF_A_SLICE`] that doesn't ask.
 pub(crate) fn take_slice(slices: &mut VecDeque<Slice>) -> Slice
     ensures next { result ≡ next_slice slices.old.items }
     ensures behind { slices.new.items ≡ behind slices.old.items }

@@ -28,8 +28,8 @@ use std::io::{Read, Write};
 use zmtp_peer::{Peer, PeerFault, octets_have_one_reading_law};
 use zmtp_wire::WireFault;
 
-/// How many octets are read at once, at most.
-const ROOM: usize = 8192;
+/// The most octets that are read at once.
+const OCTETS_OF_A_READ: usize = 8192;
 
 /// Why the connection ends at a fault of the peer.
 fn stop(fault: PeerFault) -> ServeFault
@@ -215,7 +215,7 @@ pub fn serve<R: Read, W: Write, D: Desk>(
         Ok(()) => {}
         Err(fault) => return Err(fault),
     }
-    let mut room = [0u8; ROOM];
+    let mut room = [0u8; OCTETS_OF_A_READ];
     // A loop is proved to end, so this one counts its reads.
     for _ in 0..u64::MAX {
         let count = match reader.read(&mut room) {

@@ -1,5 +1,5 @@
 //! What a connection asks of the kernel behind it.
-ghost use Rattle.std.specs.Prelude.{◌≡◌, IfOk, OnErr, string_bytes};
+ghost use Rattle.std.specs.Prelude.{◌≡◌, IfOk, OnErr};
 ghost use Rattle.kernel_core.specs.Request.{request_of};
 ghost use Rattle.kernel_session.specs.Question.{question_of, change_of, wishes_of};
 ghost use Rattle.kernel_session.specs.Session.{IsDated};

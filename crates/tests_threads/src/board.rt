@@ -1,5 +1,7 @@
 //! The board of broadcasts.
-use kernel_board::{Board, BoardFault, Broadcast, KEPT, MOST, Place, Read};
+use kernel_board::{
+    BROADCASTS_OF_A_READ, Board, BoardFault, Broadcast, KEPT_BROADCASTS, Place, Read,
+};
 use std::alloc::Global;
 use std::process::Abort;
 use std::sync::Wait;
@@ -98,7 +100,7 @@ impl Account {
     fn take(&mut self, told: Result<Read, BoardFault>) -> bool {
         match told {
             Ok(Read::Got(got, next)) => {
-                let is_good = are_numbered(&got, self.place, next) && got.len() <= MOST;
+                let is_good = are_numbered(&got, self.place, next) && got.len() <= BROADCASTS_OF_A_READ;
                 self.is_good = self.is_good && is_good;
                 self.read = self.read.saturating_add(got.len() as u64);
                 self.place = next;
@@ -166,7 +168,7 @@ fn a_fault_has_its_number_and_name(rt: HostRuntime) {
     let fault = BoardFault::Memory;
     let text = format!(in rt.alloc(); "{fault}").expect(&rt, "a text");
     assert!(rt; fault.number() == 76 && fault.name() == "Memory" && text.as_str() == "Memory");
-    assert!(rt; KEPT == 4096 && MOST == 64);
+    assert!(rt; KEPT_BROADCASTS == 4096 && BROADCASTS_OF_A_READ == 64);
 }
 
 /// A clone is the same broadcast, and stands when the first is gone.

@@ -4,7 +4,7 @@ ghost use Rattle.std.specs.Prelude.{◌≡◌, ◌<◌};
 use kernel_ask::{Answer, Ask, Comms, Content, Done, Wish};
 use kernel_bell::{Bell, RingerSeat, RunnerSeat};
 use kernel_core::{Begun, Job, Kernel, Outcome, Sliced};
-use kernel_hall::{AuditFault, Gate, Hall, Pass, SLICE, Ticket, Turn, work};
+use kernel_hall::{AuditFault, Gate, Hall, Pass, STEPS_OF_A_SLICE, Ticket, Turn, work};
 use std::alloc::{AllocError, Global};
 use std::process::Abort;
 use std::sync::Wait;
@@ -37,7 +37,7 @@ impl<W: Ledger, L: Ledger> Desk<W, L> {
 
     /// Takes one turn.
     pub fn turn<R: Wait>(&mut self, rt: &R) -> Turn {
-        self.hall.turn(rt, &mut self.seat, SLICE)
+        self.hall.turn(rt, &mut self.seat, STEPS_OF_A_SLICE)
     }
 
     /// Asks the job that runs to stop.

@@ -1,4 +1,4 @@
-use Rattle.std.proofs.Common.{◌≡◌, ℕ, List, Result, Ok, Err, subst}
+use Rattle.std.proofs.Common.{◌≡◌, ℕ, List, Result, Err, subst}
 use Rattle.janus_meaning.specs.Store.{Store}
 use Rattle.janus_syntax.specs.Forms.{Whole}
 use Rattle.janus_syntax.specs.Text.{IsParsedExp, Refuses}

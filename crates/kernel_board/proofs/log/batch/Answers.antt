@@ -1,5 +1,6 @@
 use Rattle.std.proofs.Common.{◌≡◌, ◌+◌, ◌-◌, ◌≤◌, min, ◌∷◌, ◌++◌, [], take, drop, sym, ap, ◌∙◌, arith}
 use Rattle.kernel_board.specs.Log.{Log}
+use Rattle.kernel_board.specs.Reads.{read_limit}
 use Rattle.kernel_board.proofs.Batch.{part_more, part_whole, none_at}
 use Rattle.kernel_board.proofs.log.batch.Goals as goal
 use Rattle.kernel_board.proofs.log.batch.Goals.{else-loop-index-test, then-loop-index-test+in_default}
@@ -28,9 +29,9 @@ returns-clause-items c =
     let low = c.min-start.ensures in
     let end = c.min-end.ensures in
     let old = c.loop-index.invariant.got ∙ ap (λ l. take (i - start) (drop start l)) (sym same) in
-    let most : i ≤ min n (start + 64) = omega (arith, c.loop-index.auto.index-end) in
-    let least : min n (start + 64) ≤ i = elim c.loop-index-test.branch [
+    let most : i ≤ min n (start + read_limit) = omega (arith, c.loop-index.auto.index-end) in
+    let least : min n (start + read_limit) ≤ i = elim c.loop-index-test.branch [
       | else-loop-index-test w ↦ omega (arith, w.loop-index-test.false)
       | then-loop-index-test+in_default w ↦ (let gone = none_at items i (sym w.in_default.ensures) in omega arith)
     ] in
-    old ∙ part_whole items c.args.skip start n i len low c.loop-index.auto.index (omega arith) ∙ ap (λ l. take 64 (drop c.args.skip l)) same
+    old ∙ part_whole items c.args.skip start n i read_limit len low c.loop-index.auto.index (omega arith) ∙ ap (λ l. take read_limit (drop c.args.skip l)) same

@@ -1,4 +1,4 @@
-use Rattle.std.proofs.Common.{Ok, Err, refl, sym, ap, ◌∙◌, subst}
+use Rattle.std.proofs.Common.{Ok, Err, refl, sym, ◌∙◌, subst}
 use Rattle.kernel_session.specs.Talk.{Talk, IsHeld, follow, if_open}
 use Rattle.kernel_session.proofs.TalkLemmas.{nobody, heard_comm, follow-comm, open_held, closed_held}
 use Rattle.kernel_session.proofs.talk.on_comm.Goals as goal

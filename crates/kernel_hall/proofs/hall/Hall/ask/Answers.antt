@@ -1,4 +1,4 @@
-use Rattle.std.proofs.Common.{arith, ◌≡◌, ◌≤◌, [], length, sym, subst}
+use Rattle.std.proofs.Common.{arith, ◌≤◌, [], length, sym, subst}
 use Rattle.std.proofs.lemmas.Grind.{common_steps}
 use Rattle.kernel_ask.specs.Answer.{IsAnswer}
 use Rattle.kernel_ask.specs.declared.answer.Ask.{Ask}
