@@ -25,9 +25,9 @@ shown_is_of_text s node steps text shown of =
     let own = of.0 in
     ⊎_elim
     (λ at.
-        let all : shown ≡ shown_text (world_at s node).store own = at.2 ∙ shown_alike (world_at s node).store at.0 own (sym at.1.meant ∙ of.2) in
-        inl (
-          λ cell has. all ∙ ap (shown_text (world_at s node).store) (one_tree A_cell text own cell of.1 has),
-          λ none. absurd (none own of.1),
-        ))
+    let all : shown ≡ shown_text (world_at s node).store own = at.2 ∙ shown_alike (world_at s node).store at.0 own (sym at.1.meant ∙ of.2) in
+    inl (
+      λ cell has. all ∙ ap (shown_text (world_at s node).store) (one_tree A_cell text own cell of.1 has),
+      λ none. absurd (none own of.1),
+    ))
     (λ none. inr none.1)

@@ -57,7 +57,7 @@ CountedEndsAreInputs =
     (m : Machine) (number count lane : ℕ) (text : List ℕ) → HasLegalMinutes m → HasEnd m.minutes number count →
     IsNumberOf m.minutes number (record { lane = lane; job = RunCell text false true }) → Contains (inputs m.minutes m.counter) (count, text)
 
--- a counted cell has begun: a post of this text waits in the queue no more, and with it so many counted cells had begun
+-- a counted cell has begun: a post of this text waits in the queue no more, and it was the begun counted cell with this number
 pub record IsBegunCell (m : Machine) (count : ℕ) (text : List ℕ) : Type 0 where
   pub number : ℕ
   pub lane : ℕ

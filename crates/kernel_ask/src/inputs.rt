@@ -25,7 +25,7 @@ pub enum HistoryAsk {
         start: u64,
         stop: Option<u64>,
     },
-    /// The last so many.
+    /// The last ones, as many as this number.
     Tail(u64),
 }
 

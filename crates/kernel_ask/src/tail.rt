@@ -30,7 +30,7 @@ fn last_end(entries: &[Entry]) -> (u64, u64)
     (0, 0)
 }
 
-/// How many of the last posts, of so many, are counted cells.
+/// How many of the last `posts` posts are counted cells.
 fn counted_last(entries: &[Entry], posts: usize) -> u64
     ensures { let minutes = map entry_of entries.now in
         result + counted_to (posted_in minutes - posts) (posts_of minutes) ≡ counted_in minutes }

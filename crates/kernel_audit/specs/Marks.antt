@@ -24,7 +24,7 @@ abbrev pub nth_of : Kind → List Entry → ℕ → Option Entry
 nth_of kind entries zero = None
 nth_of kind entries (suc n) = slice_get (of_kind kind entries) n
 
--- so many entries of the kind stand before the place
+-- the number of the entries of the kind that stand before the place
 pub record IsMark (kind : Kind) (entries : List Entry) (m : Mark) : Type 0 where
   pub passed : m.passed ≡ length (of_kind kind (take m.place entries))
   pub within : m.place ≤ length entries

@@ -4,9 +4,7 @@ ghost use Rattle.kernel_desk.specs.HallDesk.{AreRead};
 
 use crate::date::present_date;
 use kernel_bell::RingerSeat;
-use kernel_board::{
-    BROADCASTS_OF_A_READ, BoardFault, Broadcast, KEPT_BROADCASTS, Place, Read,
-};
+use kernel_board::{BROADCASTS_OF_A_READ, BoardFault, Broadcast, KEPT_BROADCASTS, Place, Read};
 use kernel_core::{Job, PostFault};
 use kernel_hall::{Answer, Ask, CommChange, Done, Hall, HallFault, Pass, Wish};
 use kernel_iopub::Bulletin;

@@ -47,8 +47,8 @@ impl Ends {
         self.places[place_of(number)].notifications()
     }
 
-    /// Watches for a while whether those are woken who wait for the job of this number, since so many wakings. One thread does at a time, so
-    /// that many who wait keep no processors busy: another one goes on at once.
+    /// Watches for a while whether those are woken who wait for the job of this number, once more than the wakings that were seen. One
+    /// thread does at a time, so that many who wait keep no processors busy: another one goes on at once.
     pub fn watch(&self, number: u64, seen: u64) {
         if self.is_watched.swap(true, Ordering::SeqCst) {
             return;

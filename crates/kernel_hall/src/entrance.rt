@@ -49,7 +49,7 @@ impl Entrance {
     }
 }
 
-/// The lock, if it was free at one of so many looks.
+/// The lock, if it was free at one of [`LOOKS_FOR_LOCK`] looks.
 fn tried<T>(lock: &Mutex<T>) -> Option<MutexGuard<'_, T>> {
     for _ in 0..LOOKS_FOR_LOCK {
         if let Some(guard) = lock.try_lock() {

@@ -201,7 +201,7 @@ impl<W: Ledger, L: Ledger> State<W, L> {
         last_number(self.kernel.minutes())
     }
 
-    /// Whether there are at least so many minutes.
+    /// Whether there are at least as many minutes as posts.
     pub(crate) fn has_seen(&self, posts: u64) -> bool
         ensures { IsTrue result ↔ (posts ≤ length self.now.kernel.machine.minutes) }
     {

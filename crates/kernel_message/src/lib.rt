@@ -19,5 +19,5 @@ mod stamp;
 
 pub use crate::draft::Draft;
 pub use crate::members::{put_count, put_empty, put_flag, put_text, put_value};
-pub use crate::outgoing::{Broadcast, Drafts, Outgoing, broadcast_of, send};
+pub use crate::outgoing::{Drafts, Outgoing, Publication, broadcast_of, send};
 pub use crate::stamp::Stamp;

@@ -17,11 +17,11 @@ use std::marker::Model;
 /// A message for all who subscribe to its topic, before it is signed. It has one identity, which is the topic: its type. Contracts
 /// see it as the octets of its parts.
 #[derive(Drop)]
-pub struct Broadcast {
+pub struct Publication {
     message: Message,
 }
 
-impl Model for Broadcast {
+impl Model for Publication {
     ghost use Rattle.jupyter_msg.specs.Octets.{Octets, octets_of};
 
     ghost Value = { Octets };
@@ -29,7 +29,7 @@ impl Model for Broadcast {
     ghost view = { λ b. octets_of b.message };
 }
 
-impl Broadcast {
+impl Publication {
     /// The message, to be signed and sent.
     pub fn message(&self) -> &Message
         ensures { octets_of result.now ≡ self.now }
@@ -42,7 +42,7 @@ impl Broadcast {
         ensures frames { IfOk result (λ frames. octets frames.items ≡ frames_of key.now self) }
         ensures memory { IfErr result (λ e. e ≡ MsgFault.Memory) }
     {
-        let Broadcast { message } = self;
+        let Publication { message } = self;
         message.into_frames(alloc, key)
     }
 }
@@ -54,7 +54,7 @@ pub struct Outgoing {
     /// The reply to who asked, if the request has one.
     pub reply: Option<Message>,
     /// The broadcasts, in order.
-    pub broadcasts: Vec<Broadcast>,
+    pub broadcasts: Vec<Publication>,
 }
 
 /// What is said in answer to a request.
@@ -73,7 +73,7 @@ pub fn broadcast_of(
     parent: &[u8],
     stamp: &Stamp,
     draft: &Draft,
-) -> Result<Broadcast, AllocError>
+) -> Result<Publication, AllocError>
     ensures { IfOk result (λ b. b ≡ broadcast_message parent.now stamp.now stamp.now.next (said_of draft.now)) }
 {
     numbered_broadcast(alloc, parent, stamp, stamp.next, draft)
@@ -86,13 +86,13 @@ fn numbered_broadcast(
     stamp: &Stamp,
     n: u64,
     draft: &Draft,
-) -> Result<Broadcast, AllocError>
+) -> Result<Publication, AllocError>
     ensures { IfOk result (λ b. b ≡ broadcast_message parent.now stamp.now n (said_of draft.now)) }
 {
     let topic = draft.msg_type.as_bytes().to_vec(alloc)?;
     let identities = Vec::from_array(alloc, [topic])?;
     let message = message(alloc, identities, parent, stamp, n, draft)?;
-    Ok(Broadcast { message })
+    Ok(Publication { message })
 }
 
 /// Copies of the frames.
@@ -127,7 +127,7 @@ fn broadcasts(
     stamp: &Stamp,
     first: u64,
     drafts: &[Draft],
-) -> Result<Vec<Broadcast>, AllocError>
+) -> Result<Vec<Publication>, AllocError>
     requires { first + length drafts.now < 2 ^ 64 }
     ensures { IfOk result (λ v. v.items ≡ numbered parent.now stamp.now first (map said_of drafts.now)) }
 {

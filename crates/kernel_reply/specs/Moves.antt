@@ -18,7 +18,7 @@ end_name All = codes "all"
 end_name Asked = codes "asked"
 end_name NoMemory = codes "memory"
 
--- so many cells were undone, and so many redone
+-- how many cells were undone, and how many redone
 abbrev pub moved : List ℕ → ℕ → ℕ → ℕ → End → Data
 moved op node undone redone end = record_of (
     (codes "end", text (end_name end))

@@ -10,7 +10,7 @@ use crate::tables::{ask_drafts, job_drafts, refusal_drafts};
 use jupyter_msg::{Message, MsgFault, Request};
 use kernel_ask::{Answer, Done};
 use kernel_core::PostFault;
-use kernel_message::{Broadcast, Outgoing, Stamp, broadcast_of, send};
+use kernel_message::{Outgoing, Publication, Stamp, broadcast_of, send};
 use std::alloc::Global;
 
 /// The broadcast with which a request is taken: the status busy. Its parent header is the header of the message, which is that of the
@@ -19,7 +19,7 @@ use std::alloc::Global;
 /// # Errors
 ///
 /// `Memory`; the stamp is then as before.
-pub fn opening(alloc: Global, message: &Message, stamp: &mut Stamp) -> Result<Broadcast, MsgFault>
+pub fn opening(alloc: Global, message: &Message, stamp: &mut Stamp) -> Result<Publication, MsgFault>
     requires { stamp.old.next ≤ 2 ^ 64 - 16 }
     ensures sent { IfOk result (λ b. b
         ≡ broadcast_message message.now.header.items stamp.old stamp.old.next busy_said) }
@@ -40,7 +40,7 @@ pub fn opening_by_header(
     alloc: Global,
     header: &[u8],
     stamp: &mut Stamp,
-) -> Result<Broadcast, MsgFault>
+) -> Result<Publication, MsgFault>
     requires { stamp.old.next ≤ 2 ^ 64 - 16 }
     ensures sent { IfOk result (λ b. b ≡ broadcast_message header.now stamp.old stamp.old.next busy_said) }
     ensures next { OnOk result (stamp.new ≡ record stamp.old { next = stamp.old.next + 1 }) }

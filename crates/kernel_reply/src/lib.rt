@@ -23,4 +23,4 @@ mod tables;
 
 pub use crate::answering::{answer, answer_ask, opening, opening_by_header, refuse};
 pub use crate::comms::COMM_TARGET;
-pub use kernel_message::{Broadcast, Outgoing, Stamp};
+pub use kernel_message::{Outgoing, Publication, Stamp};

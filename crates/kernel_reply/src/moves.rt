@@ -63,7 +63,7 @@ fn refused(
     Ok(Value::Object(members))
 }
 
-/// A message on a comm that tells so many cells undone, and so many redone.
+/// A message on a comm that tells how many cells were undone, and how many redone.
 fn moved_msg(
     alloc: Global,
     id: &str,

@@ -20,7 +20,7 @@ use crate::send::send_message;
 use crate::talk::{DeskReply, consult};
 use jupyter_msg::{Key, Message, Request, RequestContent};
 use kernel_board::Broadcast;
-use kernel_message::{Outgoing, Stamp};
+use kernel_message::{Outgoing, Publication, Stamp};
 use kernel_reply::{answer, answer_ask, opening_by_header, refuse};
 use std::alloc::Global;
 use std::io::Write;
@@ -28,18 +28,18 @@ use std::io::Write;
 /// The greatest number that a request may begin with: its messages have numbers too.
 const LAST_NEXT: u64 = u64::MAX - 15;
 
-/// Seals a broadcast and publishes it. An `Err` tells that there was no memory; then the desk was not called.
+/// Signs a broadcast and publishes it. An `Err` tells that there was no memory; then the desk was not called.
 fn publish<D: Desk>(
     alloc: Global,
     desk: &mut D,
     key: &Key,
-    broadcast: kernel_message::Broadcast,
+    publication: Publication,
 ) -> Result<(), ServeFault>
-    ensures ok { OnOk result (Leads D.leads desk.old (Published (frames_of key.now broadcast) ∷ []) desk.new) }
+    ensures ok { OnOk result (Leads D.leads desk.old (Published (frames_of key.now publication) ∷ []) desk.new) }
     ensures err { OnErr result (desk.new ≡ desk.old) }
     ensures midway { IfErr result IsMidway }
 {
-    let Ok(frames) = broadcast.into_frames(alloc, key) else {
+    let Ok(frames) = publication.into_frames(alloc, key) else {
         return Err(ServeFault::Memory);
     };
     let Ok(broadcast) = Broadcast::new(alloc, frames) else {
@@ -54,13 +54,13 @@ fn publish_awake<D: Desk>(
     alloc: Global,
     desk: &mut D,
     key: &Key,
-    broadcast: kernel_message::Broadcast,
+    publication: Publication,
 ) -> Result<(), ServeFault>
-    ensures ok { OnOk result (Leads D.leads desk.old (Published (frames_of key.now broadcast) ∷ []) desk.new) }
+    ensures ok { OnOk result (Leads D.leads desk.old (Published (frames_of key.now publication) ∷ []) desk.new) }
     ensures err { OnErr result (desk.new ≡ desk.old) }
     ensures midway { IfErr result IsMidway }
 {
-    let published = publish(alloc, desk, key, broadcast);
+    let published = publish(alloc, desk, key, publication);
     desk.wake();
     published
 }
@@ -70,7 +70,7 @@ fn publish_each<D: Desk>(
     alloc: Global,
     desk: &mut D,
     key: &Key,
-    broadcasts: Vec<kernel_message::Broadcast>,
+    broadcasts: Vec<Publication>,
 ) -> Result<(), ServeFault>
     ensures ok { OnOk result (Leads D.leads desk.old (map (λ b. Published (frames_of key.now b)) broadcasts.items) desk.new) }
     ensures err { OnErr result (LedPart D.leads desk.old (map (λ b. Published (frames_of key.now b)) broadcasts.items) desk.new) }
@@ -87,7 +87,7 @@ fn publish_all<D: Desk>(
     alloc: Global,
     desk: &mut D,
     key: &Key,
-    broadcasts: Vec<kernel_message::Broadcast>,
+    broadcasts: Vec<Publication>,
 ) -> Result<(), ServeFault>
     ensures ok { OnOk result (Leads D.leads desk.old (map (λ b. Published (frames_of key.now b)) broadcasts.items) desk.new) }
     ensures err { OnErr result (LedPart D.leads desk.old (map (λ b. Published (frames_of key.now b)) broadcasts.items) desk.new) }

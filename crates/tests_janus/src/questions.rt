@@ -17,7 +17,10 @@ pub(crate) fn question<L: Ledger>(
     match word {
         "evaluate" => value(alloc, kernel, rest),
         "shown" | "unshown" => shown_of(alloc, kernel, word == "shown"),
-        _ => shown(alloc, &ask_on(alloc, kernel, &Comms::new(alloc), ask_of(word, rest))),
+        _ => shown(
+            alloc,
+            &ask_on(alloc, kernel, &Comms::new(alloc), ask_of(word, rest)),
+        ),
     }
 }
 
@@ -66,11 +69,7 @@ fn value<L: Ledger>(alloc: Global, kernel: &Kernel<L>, text: &str) -> Result<Str
 }
 
 /// What is shown of the cell at the position, whether it ran or was interrupted.
-fn shown_of<L: Ledger>(
-    alloc: Global,
-    kernel: &Kernel<L>,
-    ran: bool,
-) -> Result<String, AllocError> {
+fn shown_of<L: Ledger>(alloc: Global, kernel: &Kernel<L>, ran: bool) -> Result<String, AllocError> {
     if !is_settled(kernel) {
         return String::from_str(alloc, "a job is open");
     }

@@ -1,5 +1,7 @@
 //! A desk that has no kernel behind it: it judges code, takes down what it is asked, keeps what is published, and refuses jobs.
-use kernel_ask::{Answer, Ask, CommChange, Content, Done, HallFault, HistoryAsk, Wish, is_complete};
+use kernel_ask::{
+    Answer, Ask, CommChange, Content, Done, HallFault, HistoryAsk, Wish, is_complete,
+};
 use kernel_board::Broadcast;
 use kernel_core::{Job, PostFault};
 use kernel_message::Stamp;

@@ -100,7 +100,8 @@ impl Account {
     fn take(&mut self, told: Result<Read, BoardFault>) -> bool {
         match told {
             Ok(Read::Got(got, next)) => {
-                let is_good = are_numbered(&got, self.place, next) && got.len() <= BROADCASTS_OF_A_READ;
+                let is_good = are_numbered(&got, self.place, next)
+                    && got.len() <= BROADCASTS_OF_A_READ;
                 self.is_good = self.is_good && is_good;
                 self.read = self.read.saturating_add(got.len() as u64);
                 self.place = next;
