@@ -18,11 +18,13 @@ mod turn;
 mod worker;
 
 pub use hall::Hall;
-pub use kernel_ask::{Answer, Ask, CommChange, Comms, Done, HallFault, Wish, ask_on, comm_on};
+pub use kernel_ask::{
+    Answer, Ask, CommChange, Comms, Done, HallFault, STEPS_OF_A_SLICE, Wish, ask_on, comm_on,
+};
 pub use kernel_audit::{AuditFault, Pass, Ticket, audit};
 pub use minutes::Minutes;
 pub use passes::{PASSES, Passes};
 pub use pending_result::PendingResult;
 pub use state::State;
 pub use turn::{Turn, turn_on};
-pub use worker::{Gate, Moment, STEPS_OF_A_SLICE, work};
+pub use worker::{Gate, Moment, work};

@@ -3,13 +3,11 @@ ghost use Rattle.std.specs.Prelude.{◌≡◌};
 
 use crate::hall::Hall;
 use crate::turn::Turn;
+use kernel_ask::STEPS_OF_A_SLICE;
 use kernel_bell::RunnerSeat;
 use kernel_core::{Begun, Sliced};
 use std::sync::Wait;
 use std::sync::ledger::Ledger;
-
-/// The most steps that a slice takes.
-pub const STEPS_OF_A_SLICE: u64 = 4096;
 
 /// When a gate is passed.
 #[derive(Clone, Copy, PartialEq, Eq)]

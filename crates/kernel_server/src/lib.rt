@@ -12,14 +12,12 @@
 mod finish;
 mod job;
 pub mod laws;
-mod limit;
 mod lone;
 mod session;
 mod slice;
 mod values;
 
 pub use kernel_session::{Desk, ServeFault, Socket, serve};
-pub use limit::STEPS_OF_A_SLICE;
 pub use lone::LoneDesk;
 pub use session::serve_lone;
 pub use slice::Slice;
