@@ -8,8 +8,8 @@ use Rattle.janus_syntax.specs.declared.token.Sign.TheVariants as sign
 use Rattle.janus_syntax.specs.declared.token.Keyword.{Keyword}
 use Rattle.janus_syntax.specs.declared.token.Keyword.TheVariants as word
 use Rattle.janus_syntax.specs.declared.operator.Infix.{Infix}
-use Rattle.janus_syntax.specs.declared.tree.Kind.{Kind}
-use Rattle.janus_syntax.specs.declared.tree.Kind.TheVariants as kind
+use Rattle.janus_syntax.specs.declared.tree.LocalKind.{LocalKind}
+use Rattle.janus_syntax.specs.declared.tree.LocalKind.TheVariants as kind
 use Rattle.janus_meaning.proofs.Stores.{same_name_self}
 use Rattle.janus_syntax.specs.Tokens.{Token, Name, Number, Sign_of, Word_of}
 use Rattle.janus_syntax.specs.Tree.{Name as Named, named, Exp, Num, EmptyOf, TopOf, Neg, Stm, Skip, Push, Pop, If, Loop, LocalInt, LocalStack, Call, Uncall, Block, Empty, More, Declaration, StackOf}
@@ -130,7 +130,7 @@ call_behind {p} at opening closing f xs k v inner from rest d h =
     (names_are d p (λ ys. sign_then sign.Close (k (named f at) ys)) v rest (sign_behind sign.Close closing (k (named f at) xs) v from rest refl h)))
 
 -- `delocal`, a kind, a name and `=`
-delocal_behind : {p : Part} (j : Kind) (x : List ℕ) (there at_delocal at_kind place equals : Span) (f : Named → Form p) (v : Tree p) (from rest : List Token) → Spelled p (f (named x place)) v from rest →
+delocal_behind : {p : Part} (j : LocalKind) (x : List ℕ) (there at_delocal at_kind place equals : Span) (f : Named → Form p) (v : Tree p) (from rest : List Token) → Spelled p (f (named x place)) v from rest →
     Spelled p (delocal_then j (named x there) f) v (Word_of word.Delocal at_delocal ∷ Word_of (kind_word j) at_kind ∷ Name x place ∷ Sign_of sign.Equals equals ∷ from) rest
 delocal_behind j x there at_delocal at_kind place equals f v from rest h =
     let behind : List Token = Sign_of sign.Equals equals ∷ from in

@@ -8,8 +8,8 @@ use Rattle.janus_syntax.specs.declared.token.Sign.TheVariants as sign
 use Rattle.janus_syntax.specs.declared.token.Keyword.TheVariants as word
 use Rattle.janus_syntax.specs.declared.operator.Infix.{Infix}
 use Rattle.janus_syntax.specs.declared.tree.Update.{Update}
-use Rattle.janus_syntax.specs.declared.tree.Kind.{Kind}
-use Rattle.janus_syntax.specs.declared.tree.Kind.TheVariants as kind
+use Rattle.janus_syntax.specs.declared.tree.LocalKind.{LocalKind}
+use Rattle.janus_syntax.specs.declared.tree.LocalKind.TheVariants as kind
 use Rattle.janus_syntax.specs.Tokens.{Token, Name, Number, Sign_of, Word_of}
 use Rattle.janus_syntax.specs.Tree.{Name as Named, named, Exp, Num, EmptyOf, TopOf, Neg, Stm, Skip, Push, Pop, If, Loop, LocalInt, LocalStack, Call, Uncall, Block, Empty, More, Declaration, StackOf, Procedure, Cell, cell_of}
 use Rattle.janus_syntax.specs.Operators.{weakest, joined, operator_at, update_at}
@@ -495,7 +495,7 @@ head_derived k v from rest h =
     )
 
 -- `delocal`, the same kind, the same name and `=`, and what the form behind them means
-delocal_derived : {p : Part} (j : Kind) (x : List ℕ) (on : Span) (k : Named → Form p) (v : Tree p) (from rest : List Token) → Means (delocal_then j (named x on) k) v from rest →
+delocal_derived : {p : Part} (j : LocalKind) (x : List ℕ) (on : Span) (k : Named → Form p) (v : Tree p) (from rest : List Token) → Means (delocal_then j (named x on) k) v from rest →
     (at_delocal : Span) × (at_kind : Span) × (place : Span) × (equals : Span) × (behind : List Token)
     × (from ≡ Word_of word.Delocal at_delocal ∷ Word_of (kind_word j) at_kind ∷ Name x place ∷ Sign_of sign.Equals equals ∷ behind) × Means (k (named x place)) v behind rest
 delocal_derived j x on k v from rest h =

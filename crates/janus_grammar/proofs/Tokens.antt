@@ -7,8 +7,8 @@ use Rattle.janus_syntax.specs.declared.token.Sign.{Sign}
 use Rattle.janus_syntax.specs.declared.token.Sign.TheVariants as sign
 use Rattle.janus_syntax.specs.declared.token.Keyword.{Keyword}
 use Rattle.janus_syntax.specs.declared.token.Keyword.TheVariants as word
-use Rattle.janus_syntax.specs.declared.tree.Kind.{Kind}
-use Rattle.janus_syntax.specs.declared.tree.Kind.TheVariants as kind
+use Rattle.janus_syntax.specs.declared.tree.LocalKind.{LocalKind}
+use Rattle.janus_syntax.specs.declared.tree.LocalKind.TheVariants as kind
 use Rattle.janus_syntax.specs.Tree.{Name as Named, named}
 use Rattle.janus_syntax.specs.Tokens.{Token, Name, Number, Sign_of, Word_of}
 use Rattle.janus_syntax.specs.Forms.{seen, same_named, The_word, The_sign, Same_kind, Same_name}
@@ -92,7 +92,7 @@ equals_is ts (Word_of w at) s behind e is = absurd cc
 
 -- ---- kinds and names that have to be the same
 
-pub same_kind_is : (j : Kind) (ts : List Token) (t : Token) (i : Kind) (behind : List Token) → ts ≡ t ∷ behind → agreed (Same_kind j) t ≡ Some i → BeginsWithWord (kind_word j) ts behind
+pub same_kind_is : (j : LocalKind) (ts : List Token) (t : Token) (i : LocalKind) (behind : List Token) → ts ≡ t ∷ behind → agreed (Same_kind j) t ≡ Some i → BeginsWithWord (kind_word j) ts behind
 same_kind_is kind.Int ts (Word_of word.Int at) i behind e is = (at, e)
 same_kind_is kind.Int ts (Word_of _ at) i behind e is = absurd cc
 same_kind_is kind.Stack ts (Word_of word.Stack at) i behind e is = (at, e)

@@ -4,7 +4,7 @@ use Rattle.std.specs.Prelude.{nat_lt, nat_le}
 use Rattle.std.proofs.lemmas.Bool.{ltb-true, leb-true, and_parts}
 use Rattle.janus_syntax.specs.declared.token.Sign.{Sign}
 use Rattle.janus_syntax.specs.declared.token.Sign.TheVariants as sign
-use Rattle.janus_syntax.specs.declared.tree.Kind.{Kind}
+use Rattle.janus_syntax.specs.declared.tree.LocalKind.{LocalKind}
 use Rattle.janus_syntax.specs.declared.operator.Joint.{Joint}
 use Rattle.janus_syntax.specs.declared.operator.Joint.TheVariants as joint
 use Rattle.janus_syntax.specs.declared.operator.Infix.{Infix}
@@ -253,7 +253,7 @@ pub record IsDelocal {p : Part} (x : Named) (k : Named → Form p) (c : Count) (
   pub good : AreGood middle
   pub onward : Spells all p (k name) v c middle m' rest
 
-pub delocal_read : {p : Part} (j : Kind) (x : Named) (k : Named → Form p) (v : Tree p) (c : Count) (from : List Token) (m' : Count) (rest : List Token) → AreGood from → Spells all p (delocal_then j x k) v c from m' rest → IsDelocal x k c v from m' rest
+pub delocal_read : {p : Part} (j : LocalKind) (x : Named) (k : Named → Form p) (v : Tree p) (c : Count) (from : List Token) (m' : Count) (rest : List Token) → AreGood from → Spells all p (delocal_then j x k) v c from m' rest → IsDelocal x k c v from m' rest
 delocal_read j x k v c from m' rest g s =
     let a = inside s in
     let b = inside a.onward in

@@ -3,7 +3,7 @@ use Rattle.std.proofs.Common.{◌≡◌, ℕ, suc, ◌+◌, ◌-◌, ◌≤◌, 
 use Rattle.janus_syntax.specs.declared.token.Span.{Span}
 use Rattle.janus_syntax.specs.declared.token.Sign.TheVariants as sign
 use Rattle.janus_syntax.specs.declared.token.Keyword.TheVariants as word
-use Rattle.janus_syntax.specs.declared.tree.Kind.{Kind}
+use Rattle.janus_syntax.specs.declared.tree.LocalKind.{LocalKind}
 use Rattle.janus_syntax.specs.Tokens.{Token, Name, Sign_of, Word_of}
 use Rattle.janus_syntax.specs.Tree.{Name as Named, named, Exp}
 use Rattle.janus_syntax.specs.Operators.{weakest}
@@ -67,7 +67,7 @@ head_to k x v d d' at equals from t1 more end e1 e2 onward =
     (token_to (The_sign sign.Equals) (λ z. k (named x at)) tt v d d' (Sign_of sign.Equals equals) t1 more end e2 refl onward)
 
 -- `delocal`, the same kind, the same name and `=`
-pub delocal_to : {p : Part} (j : Kind) (k : Named → Form p) (x y : List ℕ) (there : Span) (v : Tree p) (d d' : ℕ) (at_delocal at_kind at equals : Span) (from t1 t2 t3 more end : List Token) →
+pub delocal_to : {p : Part} (j : LocalKind) (k : Named → Form p) (x y : List ℕ) (there : Span) (v : Tree p) (d d' : ℕ) (at_delocal at_kind at equals : Span) (from t1 t2 t3 more end : List Token) →
     from ≡ Word_of word.Delocal at_delocal ∷ t1 → t1 ≡ Word_of (kind_word j) at_kind ∷ t2 → t2 ≡ Name y at ∷ t3 → t3 ≡ Sign_of sign.Equals equals ∷ more → same_name x y ≡ true →
     SpellsTo (k (named y at)) v d more d' end → SpellsTo (delocal_then j (named x there) k) v d from d' end
 delocal_to j k x y there v d d' at_delocal at_kind at equals from t1 t2 t3 more end e1 e2 e3 e4 same onward =

@@ -5,7 +5,7 @@ use Rattle.janus_syntax.specs.declared.token.Span.{Span}
 use Rattle.janus_syntax.specs.declared.token.Sign.TheVariants as sign
 use Rattle.janus_syntax.specs.declared.token.Keyword.{Keyword}
 use Rattle.janus_syntax.specs.declared.token.Keyword.TheVariants as word
-use Rattle.janus_syntax.specs.declared.tree.Kind.TheVariants as kind
+use Rattle.janus_syntax.specs.declared.tree.LocalKind.TheVariants as kind
 use Rattle.janus_syntax.specs.declared.tree.Update.{Update}
 use Rattle.janus_syntax.specs.declared.tree.Update.TheVariants as update
 use Rattle.janus_syntax.specs.Tokens.{Token, Name, Sign_of, Word_of}

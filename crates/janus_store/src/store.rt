@@ -19,7 +19,7 @@ ghost use Rattle.janus_store.specs.declared.store.Variable.{Variable};
 ghost use Rattle.janus_store.specs.Inside.{newest_from, none_of, AreHidden, AreRow, AreBelow, HavePlaces, IsPlaceOf, IsStackOf, bounds, lent_to, stacks_of};
 
 use crate::stacks::Stacks;
-use crate::value::{Declared, Value, View};
+use crate::value::{Declared, Value, ValueView};
 use crate::writes::Writes;
 use janus_meaning::limit::NAME_LIMIT;
 use janus_names::Names;
@@ -137,7 +137,7 @@ impl<L: Ledger> Store<L> {
     }
 
     /// The value of a name, if it is declared; locals and parameters are out of this sight.
-    pub fn value(&self, name: &str) -> Option<View<'_>>
+    pub fn value(&self, name: &str) -> Option<ValueView<'_>>
         ensures { found result ≡ look name.now (shown_store self.now) }
     {
         let Some(number) = self.names.number(name) else {
@@ -151,7 +151,7 @@ impl<L: Ledger> Store<L> {
     }
 
     /// The i-th name in the order of declaration, the oldest being 0, with its value.
-    pub fn entry(&self, i: usize) -> (&str, View<'_>)
+    pub fn entry(&self, i: usize) -> (&str, ValueView<'_>)
         requires { i < size_of (shown_store self.now) }
         ensures { slice_get (listed (shown_store self.now)) i ≡ Some (result.0.now, shown result.1) }
     {

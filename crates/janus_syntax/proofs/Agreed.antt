@@ -3,8 +3,8 @@ use Rattle.std.proofs.Common.{◌≡◌, Option, Some, None, Bool, true, false, 
 use Rattle.janus_syntax.specs.declared.token.Span.{Span}
 use Rattle.janus_syntax.specs.declared.token.Keyword.{Keyword}
 use Rattle.janus_syntax.specs.declared.token.Keyword.TheVariants as word
-use Rattle.janus_syntax.specs.declared.tree.Kind.{Kind}
-use Rattle.janus_syntax.specs.declared.tree.Kind.TheVariants as kind
+use Rattle.janus_syntax.specs.declared.tree.LocalKind.{LocalKind}
+use Rattle.janus_syntax.specs.declared.tree.LocalKind.TheVariants as kind
 use Rattle.janus_syntax.specs.Tokens.{Token, Word_of}
 use Rattle.janus_syntax.specs.Forms.{Class, Seen, seen, agrees, The_word, The_sign, A_name, A_number, An_update, Same_kind, Same_name}
 
@@ -48,10 +48,10 @@ is_agreed (Same_kind j) t s is fit = is_the_one (Same_kind j) (seen (Same_kind j
 is_agreed (Same_name x) t s is fit = is_the_one (Same_name x) (seen (Same_name x) t) s is fit
 
 -- the word of a kind
-abbrev pub kind_word : Kind → Keyword
+abbrev pub kind_word : LocalKind → Keyword
 kind_word kind.Int = word.Int
 kind_word kind.Stack = word.Stack
 
-pub kind_agreed : (j : Kind) (at : Span) → agreed (Same_kind j) (Word_of (kind_word j) at) ≡ Some j
+pub kind_agreed : (j : LocalKind) (at : Span) → agreed (Same_kind j) (Word_of (kind_word j) at) ≡ Some j
 kind_agreed kind.Int at = refl
 kind_agreed kind.Stack at = refl

@@ -6,8 +6,8 @@ use Rattle.janus_syntax.specs.declared.token.Span.{Span}
 use Rattle.janus_syntax.specs.declared.token.Sign.TheVariants as sign
 use Rattle.janus_syntax.specs.declared.token.Keyword.{Keyword}
 use Rattle.janus_syntax.specs.declared.token.Keyword.TheVariants as word
-use Rattle.janus_syntax.specs.declared.tree.Kind.{Kind}
-use Rattle.janus_syntax.specs.declared.tree.Kind.TheVariants as kind
+use Rattle.janus_syntax.specs.declared.tree.LocalKind.{LocalKind}
+use Rattle.janus_syntax.specs.declared.tree.LocalKind.TheVariants as kind
 use Rattle.janus_syntax.specs.Tokens.{Token, Name, Number, Sign_of, Word_of}
 use Rattle.janus_syntax.specs.Tree.{Name as Named, named, Exp, Stm, LocalInt, LocalStack, Block}
 use Rattle.janus_syntax.specs.Forms.{Part, Body, Local, Whole, The_word, The_sign, A_name, Same_kind, Same_name, Class, Seen, seen, agrees, same_kind, word_kind, what_of, Form, done, take, part, close}
@@ -29,23 +29,23 @@ token_differs c v t rest is other g p k S m =
     ap (λ o. follow (λ n. run all rest n) (what_of c) (suc (length rest)) (taken c all o k S m)) is
     ∙ ap (λ b. follow (λ n. run all rest n) (what_of c) (suc (length rest)) (go_if b (at (k v) S m) Differs)) other
 
-pub kind_goes : (j : Kind) (w : Keyword) (place : Span) (rest : List Token) → word_kind w ≡ Some j → TokenGoes (Same_kind j) j (Word_of w place ∷ rest) rest
+pub kind_goes : (j : LocalKind) (w : Keyword) (place : Span) (rest : List Token) → word_kind w ≡ Some j → TokenGoes (Same_kind j) j (Word_of w place ∷ rest) rest
 kind_goes j w place rest e = token_goes (Same_kind j) j (Word_of w place) rest e (same_itself j)
   where
-    same_itself : (j : Kind) → same_kind j j ≡ true
+    same_itself : (j : LocalKind) → same_kind j j ≡ true
     same_itself kind.Int = refl
     same_itself kind.Stack = refl
 
-pub kind_differs : (j i : Kind) (w : Keyword) (place : Span) (rest : List Token) → word_kind w ≡ Some i → (i ≡ j → ⊥) → TokenFails (Same_kind j) (Word_of w place ∷ rest) (DelocalName (suc (length rest)))
+pub kind_differs : (j i : LocalKind) (w : Keyword) (place : Span) (rest : List Token) → word_kind w ≡ Some i → (i ≡ j → ⊥) → TokenFails (Same_kind j) (Word_of w place ∷ rest) (DelocalName (suc (length rest)))
 kind_differs j i w place rest e n = token_differs (Same_kind j) i (Word_of w place) rest e (other j i n)
   where
-    other : (j i : Kind) → (i ≡ j → ⊥) → same_kind j i ≡ false
+    other : (j i : LocalKind) → (i ≡ j → ⊥) → same_kind j i ≡ false
     other kind.Int kind.Int n = absurd (n refl)
     other kind.Int kind.Stack n = refl
     other kind.Stack kind.Int n = refl
     other kind.Stack kind.Stack n = absurd (n refl)
 
-pub no_kind : (j : Kind) (w : Keyword) (place : Span) (rest : List Token) → word_kind w ≡ None → TokenFails (Same_kind j) (Word_of w place ∷ rest) (Expected what.Kind (suc (length rest)))
+pub no_kind : (j : LocalKind) (w : Keyword) (place : Span) (rest : List Token) → word_kind w ≡ None → TokenFails (Same_kind j) (Word_of w place ∷ rest) (Expected what.Kind (suc (length rest)))
 no_kind j w place rest e = token_fails (Same_kind j) (Word_of w place) rest e
 
 pub name_goes : (x y : List ℕ) (there place : Span) (rest : List Token) → same_name x y ≡ true → TokenGoes (Same_name (named x there)) (named y place) (Name y place ∷ rest) rest
@@ -56,7 +56,7 @@ name_differs x y there place rest e = token_differs (Same_name (named x there)) 
 
 -- ---- `delocal`, a kind, a name and `=`
 
-module _ (j : Kind) (x : Named) where
+module _ (j : LocalKind) (x : Named) where
   -- the forms on the way
   abbrev delocal_kind : {p : Part} → (Named → Form p) → Form p
   delocal_kind k = take (Same_kind j) (λ i. take (Same_name x) (λ y. sign_then sign.Equals (k y)))
@@ -64,7 +64,7 @@ module _ (j : Kind) (x : Named) where
   abbrev delocal_name : {p : Part} → (Named → Form p) → Form p
   delocal_name k = take (Same_name x) (λ y. sign_then sign.Equals (k y))
 
-  pub delocal_is : {i : Kind} {y : Named} {from r1 r2 r3 rest : List Token} → TokenGoes (The_word word.Delocal) tt from r1 → TokenGoes (Same_kind j) i r1 r2 → TokenGoes (Same_name x) y r2 r3 → TokenGoes (The_sign sign.Equals) tt r3 rest →
+  pub delocal_is : {i : LocalKind} {y : Named} {from r1 r2 r3 rest : List Token} → TokenGoes (The_word word.Delocal) tt from r1 → TokenGoes (Same_kind j) i r1 r2 → TokenGoes (Same_name x) y r2 r3 → TokenGoes (The_sign sign.Equals) tt r3 rest →
       IsDelocal j x y from rest
   delocal_is {i} {y} w n m e =
       record {
@@ -82,10 +82,10 @@ module _ (j : Kind) (x : Named) where
   pub delocal_stops_kind : {from r1 : List Token} (e : Refusal) → TokenGoes (The_word word.Delocal) tt from r1 → TokenFails (Same_kind j) r1 e → FailsDelocal j x from e
   delocal_stops_kind e w f g p k S c = w.goes g p (λ v. delocal_kind k) S c ∙ f g p (λ v. delocal_name k) S c
 
-  pub delocal_stops_name : {i : Kind} {from r1 r2 : List Token} (e : Refusal) → TokenGoes (The_word word.Delocal) tt from r1 → TokenGoes (Same_kind j) i r1 r2 → TokenFails (Same_name x) r2 e → FailsDelocal j x from e
+  pub delocal_stops_name : {i : LocalKind} {from r1 r2 : List Token} (e : Refusal) → TokenGoes (The_word word.Delocal) tt from r1 → TokenGoes (Same_kind j) i r1 r2 → TokenFails (Same_name x) r2 e → FailsDelocal j x from e
   delocal_stops_name e w n f g p k S c = w.goes g p (λ v. delocal_kind k) S c ∙ n.goes g p (λ v. delocal_name k) S c ∙ f g p (λ z. sign_then sign.Equals (k z)) S c
 
-  pub delocal_stops_equals : {i : Kind} {y : Named} {from r1 r2 r3 : List Token} (e : Refusal) → TokenGoes (The_word word.Delocal) tt from r1 → TokenGoes (Same_kind j) i r1 r2 → TokenGoes (Same_name x) y r2 r3 → TokenFails (The_sign sign.Equals) r3 e →
+  pub delocal_stops_equals : {i : LocalKind} {y : Named} {from r1 r2 r3 : List Token} (e : Refusal) → TokenGoes (The_word word.Delocal) tt from r1 → TokenGoes (Same_kind j) i r1 r2 → TokenGoes (Same_name x) y r2 r3 → TokenFails (The_sign sign.Equals) r3 e →
       FailsDelocal j x from e
   delocal_stops_equals {i} {y} e w n m f g p k S c =
       w.goes g p (λ v. delocal_kind k) S c
@@ -93,10 +93,10 @@ module _ (j : Kind) (x : Named) where
       ∙ m.goes g p (λ z. sign_then sign.Equals (k z)) S c
       ∙ f g p (λ v. k y) S c
 
-delocal_moves : {p : Part} (d : ℕ) (j : Kind) (x y : Named) (k : Named → Form p) (from rest : List Token) → IsDelocal j x y from rest → Moves d (delocal_then j x k) from (k y) rest
+delocal_moves : {p : Part} (d : ℕ) (j : LocalKind) (x y : Named) (k : Named → Form p) (from rest : List Token) → IsDelocal j x y from rest → Moves d (delocal_then j x k) from (k y) rest
 delocal_moves {p} d j x y k from rest i g S u h = (u, h, i.goes g p k S (count d u))
 
-delocal_stops : {p : Part} (d : ℕ) (j : Kind) (x : Named) (k : Named → Form p) (from : List Token) (e : Refusal) → FailsDelocal j x from e → Stops d (delocal_then j x k) from e
+delocal_stops : {p : Part} (d : ℕ) (j : LocalKind) (x : Named) (k : Named → Form p) (from : List Token) (e : Refusal) → FailsDelocal j x from e → Stops d (delocal_then j x k) from e
 delocal_stops {p} d j x k from e f g S u h = f g p k S (count d u)
 
 -- ---- a local number, behind `local int`

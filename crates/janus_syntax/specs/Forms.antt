@@ -8,8 +8,8 @@ use Rattle.janus_syntax.specs.declared.token.Sign.TheVariants as sign
 use Rattle.janus_syntax.specs.declared.token.Keyword.{Keyword}
 use Rattle.janus_syntax.specs.declared.token.Keyword.TheVariants as word
 use Rattle.janus_syntax.specs.declared.tree.Update.{Update}
-use Rattle.janus_syntax.specs.declared.tree.Kind.{Kind}
-use Rattle.janus_syntax.specs.declared.tree.Kind.TheVariants as kind
+use Rattle.janus_syntax.specs.declared.tree.LocalKind.{LocalKind}
+use Rattle.janus_syntax.specs.declared.tree.LocalKind.TheVariants as kind
 use Rattle.janus_syntax.specs.declared.fault.What.{What}
 use Rattle.janus_syntax.specs.declared.fault.What.TheVariants as what
 use Rattle.janus_syntax.specs.Tokens.{Token, Name, Number, Sign_of, Word_of}
@@ -73,7 +73,7 @@ pub data Class : Type 0 where
   A_name : Class
   A_number : Class
   An_update : Class
-  Same_kind : Kind → Class  -- any kind, but it has to be this one
+  Same_kind : LocalKind → Class  -- any kind, but it has to be this one
   Same_name : Named → Class  -- any name, but it has to be this one
 
 -- what a token of a class is
@@ -83,7 +83,7 @@ Seen (The_sign s) = Unit {0}
 Seen A_name = Named
 Seen A_number = ℕ × Span
 Seen An_update = Update
-Seen (Same_kind k) = Kind
+Seen (Same_kind k) = LocalKind
 Seen (Same_name x) = Named
 
 abbrev pub word_number : Keyword → ℕ
@@ -140,14 +140,14 @@ sign_number sign.Comma = 23
 abbrev pub same_named : Named → Named → Bool
 same_named (named x at) (named y place) = same_name x y
 
-abbrev pub same_kind : Kind → Kind → Bool
+abbrev pub same_kind : LocalKind → LocalKind → Bool
 same_kind kind.Int kind.Int = true
 same_kind kind.Int kind.Stack = false
 same_kind kind.Stack kind.Int = false
 same_kind kind.Stack kind.Stack = true
 
 -- the kind of a word
-abbrev pub word_kind : Keyword → Option Kind
+abbrev pub word_kind : Keyword → Option LocalKind
 word_kind word.Int = Some kind.Int
 word_kind word.Stack = Some kind.Stack
 word_kind _ = None

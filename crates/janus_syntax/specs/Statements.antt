@@ -7,7 +7,7 @@ use Rattle.janus_syntax.specs.declared.token.Keyword.TheVariants as word
 use Rattle.janus_syntax.specs.declared.token.Sign.TheVariants as sign
 use Rattle.janus_syntax.specs.declared.token.Token as code_token
 use Rattle.janus_syntax.specs.declared.tree.Name as code_name
-use Rattle.janus_syntax.specs.declared.tree.Kind.{Kind}
+use Rattle.janus_syntax.specs.declared.tree.LocalKind.{LocalKind}
 use Rattle.janus_syntax.specs.declared.tree.Stm as code_stm
 use Rattle.janus_syntax.specs.declared.tree.Declaration as code_declaration
 use Rattle.janus_syntax.specs.Tokens.{Token, Name, Word_of, views}
@@ -139,11 +139,11 @@ FailsCall from e = (depth : ℕ) → depth ≤ depth_limit → (p : Part) (k : N
 -- ---- locals
 
 -- `delocal`, the kind j, the name x and `=` at the front, where the name has the place of y
-pub record IsDelocal (j : Kind) (x y : Named) (from rest : List Token) : Type 0 where
+pub record IsDelocal (j : LocalKind) (x y : Named) (from rest : List Token) : Type 0 where
   pub goes : (goal p : Part) (k : Named → Form p) (S : Stack goal p) (m : Count) → run all from (at (delocal_then j x k) S m) ≡ run all rest (at (k y) S m)
   pub shorter : length rest < length from
 
-abbrev pub FailsDelocal : Kind → Named → List Token → Refusal → Type 0
+abbrev pub FailsDelocal : LocalKind → Named → List Token → Refusal → Type 0
 FailsDelocal j x from e = (goal p : Part) (k : Named → Form p) (S : Stack goal p) (m : Count) → run all from (at (delocal_then j x k) S m) ≡ outcome_of e
 
 -- a local behind `local int`, and behind `local stack`

@@ -9,8 +9,8 @@ use Rattle.janus_syntax.specs.declared.token.Keyword.{Keyword}
 use Rattle.janus_syntax.specs.declared.token.Keyword.TheVariants as word
 use Rattle.janus_syntax.specs.declared.operator.Infix.{Infix}
 use Rattle.janus_syntax.specs.declared.tree.Update.{Update}
-use Rattle.janus_syntax.specs.declared.tree.Kind.{Kind}
-use Rattle.janus_syntax.specs.declared.tree.Kind.TheVariants as kind
+use Rattle.janus_syntax.specs.declared.tree.LocalKind.{LocalKind}
+use Rattle.janus_syntax.specs.declared.tree.LocalKind.TheVariants as kind
 use Rattle.janus_syntax.specs.declared.fault.What.{What}
 use Rattle.janus_syntax.specs.declared.fault.What.TheVariants as what
 use Rattle.janus_syntax.specs.Tokens.{Token, Name, Number, Sign_of, Word_of}
@@ -55,7 +55,7 @@ abbrev pub variable_and_stack_then : {p : Part} → (Named → Named → Form p)
 variable_and_stack_then k = sign_then sign.Open (take A_name (λ x. sign_then sign.Comma (take A_name (λ s. sign_then sign.Close (k x s)))))
 
 -- behind a local's statements: `delocal`, its kind, its name, `=`
-abbrev pub delocal_then : {p : Part} → Kind → Named → (Named → Form p) → Form p
+abbrev pub delocal_then : {p : Part} → LocalKind → Named → (Named → Form p) → Form p
 delocal_then j x k = word_then word.Delocal (take (Same_kind j) (λ i. take (Same_name x) (λ y. sign_then sign.Equals (k y))))
 
 -- a local behind `local int`, and behind `local stack`

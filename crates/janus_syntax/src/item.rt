@@ -12,7 +12,7 @@ use crate::fault::What;
 use crate::operator;
 use crate::problem::Problem;
 use crate::token::{Keyword, Sign, Span, Token, TokenKind};
-use crate::tree::{Kind, Name, Update};
+use crate::tree::{LocalKind, Name, Update};
 
 /// The tokens behind this sign, if it stands at the front.
 pub(crate) fn sign_at(sign: Sign, tokens: &[Token]) -> Option<&[Token]>
@@ -132,18 +132,18 @@ pub(crate) fn number(tokens: &[Token]) -> Result<(u32, Span, &[Token]), Problem>
 }
 
 /// The kind that a keyword is.
-fn kind_of(word: Keyword) -> Option<Kind>
+fn kind_of(word: Keyword) -> Option<LocalKind>
     ensures { result ≡ word_kind word }
 {
     match word {
-        Keyword::Int => Some(Kind::Int),
-        Keyword::Stack => Some(Kind::Stack),
+        Keyword::Int => Some(LocalKind::Int),
+        Keyword::Stack => Some(LocalKind::Stack),
         _ => None,
     }
 }
 
 /// Behind this kind; another one is refused as such.
-fn same_kind(kind: Kind, tokens: &[Token]) -> Result<&[Token], Problem>
+fn same_kind(kind: LocalKind, tokens: &[Token]) -> Result<&[Token], Problem>
     ensures { Reads (λ rest. TokenGoes (Same_kind kind) kind (views tokens.now) (views rest.now)) (TokenFails (Same_kind kind) (views tokens.now)) result }
 {
     let Some((first, rest)) = tokens.split_first() else {
@@ -206,7 +206,7 @@ fn same_name<'a>(name: &Name, tokens: &'a [Token]) -> Result<(Name, &'a [Token])
 
 /// `delocal`, this kind, this name and `=`: the name where it stands here, and the tokens behind them.
 pub(crate) fn behind_delocal<'a>(
-    kind: Kind,
+    kind: LocalKind,
     name: &Name,
     tokens: &'a [Token],
 ) -> Result<(Name, &'a [Token]), Problem>

@@ -19,7 +19,7 @@ use crate::item::{
 };
 use crate::problem::Problem;
 use crate::token::{Keyword, Sign, Token, TokenKind};
-use crate::tree::{Exp, Kind, Name, Stm};
+use crate::tree::{Exp, LocalKind, Name, Stm};
 use std::alloc::Global;
 
 /// A statement and the tokens behind it, if one begins here, with `depth` constructs open before it.
@@ -270,7 +270,7 @@ fn end_of_int(
         IsPart Body depth (block_view statements.items) start (views tokens.now) →
         Reads (λ x. IsLocalInt depth (stm_view x.0) from (views x.1.now)) (FailsLocalInt depth from) result }
 {
-    let (again, rest) = behind_delocal(Kind::Int, &name, tokens)?;
+    let (again, rest) = behind_delocal(LocalKind::Int, &name, tokens)?;
     let (test, rest) = whole_expression(alloc, rest, depth)?;
     Ok((Stm::LocalInt(name, exp, statements, again, test), rest))
 }
@@ -306,7 +306,7 @@ fn end_of_stack(
         IsPart Body depth (block_view statements.items) start (views tokens.now) →
         Reads (λ x. IsLocalStack depth (stm_view x.0) from (views x.1.now)) (FailsLocalStack depth from) result }
 {
-    let (again, rest) = behind_delocal(Kind::Stack, &name, tokens)?;
+    let (again, rest) = behind_delocal(LocalKind::Stack, &name, tokens)?;
     let rest = behind_word(Keyword::Nil, rest)?;
     Ok((Stm::LocalStack(name, statements, again), rest))
 }

@@ -8,7 +8,7 @@ use Rattle.cell_tree.specs.declared.node.Node.{Node}
 use Rattle.janus_meaning.specs.Syntax.{Name, Proc}
 use Rattle.janus_machine.specs.Bodies.{AreBelow, AreBodiesFrom}
 use Rattle.janus_machine.specs.Procedures.{kept_in}
-use Rattle.janus_machine.specs.declared.procedure.Procedure.{Procedure}
+use Rattle.janus_machine.specs.declared.linked_procedure.LinkedProcedure.{LinkedProcedure}
 use Rattle.janus_machine.specs.declared.procedures.Procedures.{Procedures}
 use Rattle.janus_machine.proofs.Bodies.{onto_below}
 use Rattle.janus_machine.proofs.BodiesInEffect.{bodies_from_below, bodies_from_same}
@@ -177,22 +177,22 @@ module _ (tree : Tree) (legal : IsLegal (past_of tree)) (order : AreInOrder tree
 
 -- ---- programs whose bodies stay
 
-get_taken : (n : ℕ) (xs : List Procedure) (i : ℕ) (b : Procedure) → slice_get (take n xs) i ≡ Some b → slice_get xs i ≡ Some b
-get_taken zero xs i b e = absurd (let l = slice_get_within {A = Procedure} [] i b e in omega arith)
+get_taken : (n : ℕ) (xs : List LinkedProcedure) (i : ℕ) (b : LinkedProcedure) → slice_get (take n xs) i ≡ Some b → slice_get xs i ≡ Some b
+get_taken zero xs i b e = absurd (let l = slice_get_within {A = LinkedProcedure} [] i b e in omega arith)
 get_taken (suc n) [] i b e = e
 get_taken (suc n) (x ∷ xs) zero b e = e
 get_taken (suc n) (x ∷ xs) (suc i) b e = get_taken n xs i b e
 
-bodies_of_more : (xs : List Name) (n : ℕ) (bodies : List Procedure) (first : ℕ) (ps : List Proc) → AreBodiesFrom xs (take n bodies) first ps → AreBodiesFrom xs bodies first ps
+bodies_of_more : (xs : List Name) (n : ℕ) (bodies : List LinkedProcedure) (first : ℕ) (ps : List Proc) → AreBodiesFrom xs (take n bodies) first ps → AreBodiesFrom xs bodies first ps
 bodies_of_more xs n bodies first [] h = tt
 bodies_of_more xs n bodies first (p ∷ ps) h = ((h.0.0, get_taken n bodies first h.0.0 h.0.1, h.0.2, h.0.3), bodies_of_more xs n bodies (suc first) ps h.1)
 
-taken_long : (n : ℕ) (xs : List Procedure) → length (take n xs) ≤ length xs
+taken_long : (n : ℕ) (xs : List LinkedProcedure) → length (take n xs) ≤ length xs
 taken_long zero xs = omega arith
 taken_long (suc n) [] = omega arith
 taken_long (suc n) (x ∷ xs) = let l = taken_long n xs in omega arith
 
-taken_short : (n m : ℕ) (xs : List Procedure) → m ≤ n → m ≤ length xs → m ≤ length (take n xs)
+taken_short : (n m : ℕ) (xs : List LinkedProcedure) → m ≤ n → m ≤ length xs → m ≤ length (take n xs)
 taken_short zero m xs l h = omega arith
 taken_short (suc n) zero xs l h = omega arith
 taken_short (suc n) (suc m) [] l h = h
@@ -202,13 +202,13 @@ taken_short (suc n) (suc m) (x ∷ xs) l h = let r = taken_short n m xs (omega a
 pub ready_more : (xs : List Name) (old new : Procedures) (program : Program) → take (length (kept_in old)) (kept_in new) ≡ kept_in old → IsReady xs old program → IsReady xs new program
 ready_more xs old new program e h =
     let long = taken_long (length (kept_in old)) (kept_in new) in
-    let same = ap (λ (bs : List Procedure). length bs) e in
+    let same = ap (λ (bs : List LinkedProcedure). length bs) e in
     let within = h.within in
     record {
       meant = h.meant;
       numbered = h.numbered;
       within = omega (arith, long, same, within);
-      bodies = bodies_of_more xs (length (kept_in old)) (kept_in new) program.first (procedures_of program) (subst (λ (bs : List Procedure). AreBodiesFrom xs bs program.first (procedures_of program)) (sym e) h.bodies);
+      bodies = bodies_of_more xs (length (kept_in old)) (kept_in new) program.first (procedures_of program) (subst (λ (bs : List LinkedProcedure). AreBodiesFrom xs bs program.first (procedures_of program)) (sym e) h.bodies);
     }
 
 -- those behind them were dropped
@@ -216,7 +216,7 @@ pub ready_less : (xs : List Name) (old new : Procedures) (from : ℕ) (program :
 ready_less xs old new from program low e h = record {
   meant = h.meant;
   numbered = h.numbered;
-  within = subst (λ (bs : List Procedure). program.first + length (procedures_of program) ≤ length bs) (sym e) (taken_short from (program.first + length (procedures_of program)) (kept_in old) low h.within);
+  within = subst (λ (bs : List LinkedProcedure). program.first + length (procedures_of program) ≤ length bs) (sym e) (taken_short from (program.first + length (procedures_of program)) (kept_in old) low h.within);
   bodies = bodies_from_same xs (take from (kept_in old)) (kept_in new) program.first (procedures_of program) e (bodies_from_below xs (kept_in old) from program.first (procedures_of program) low h.bodies);
 }
 
@@ -225,6 +225,6 @@ pub ready_same : (xs : List Name) (old new : Procedures) (program : Program) →
 ready_same xs old new program e h = record {
   meant = h.meant;
   numbered = h.numbered;
-  within = subst (λ (bs : List Procedure). program.first + length (procedures_of program) ≤ length bs) (sym e) h.within;
+  within = subst (λ (bs : List LinkedProcedure). program.first + length (procedures_of program) ≤ length bs) (sym e) h.within;
   bodies = bodies_from_same xs (kept_in old) (kept_in new) program.first (procedures_of program) e h.bodies;
 }

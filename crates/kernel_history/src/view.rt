@@ -15,7 +15,7 @@ use crate::defined::{all_procedures, own_procedures};
 use crate::job::Open;
 use crate::tree::Tree;
 use janus_machine::Store;
-use janus_store::View as Value;
+use janus_store::ValueView;
 use janus_syntax::tree::Procedure;
 use kernel_runner::Runner;
 use std::alloc::{AllocError, Global};
@@ -85,7 +85,7 @@ impl<'a, L: Ledger> View<'a, L> {
     }
 
     /// The i-th name in the order of declaration, the oldest being 0, with its value.
-    pub fn entry(&self, i: usize) -> (&str, Value<'_>)
+    pub fn entry(&self, i: usize) -> (&str, ValueView<'_>)
         requires { i < size_of self.now.store }
         ensures { slice_get (listed self.now.store) i ≡ Some (result.0.now, shown result.1) }
     {
@@ -93,7 +93,7 @@ impl<'a, L: Ledger> View<'a, L> {
     }
 
     /// The value of a name, if it is declared.
-    pub fn value(&self, name: &str) -> Option<Value<'_>>
+    pub fn value(&self, name: &str) -> Option<ValueView<'_>>
         ensures { found result ≡ look name.now self.now.store }
     {
         self.store.value(name)

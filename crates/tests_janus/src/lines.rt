@@ -1,6 +1,6 @@
 //! Rows of the lines in which a frontend is told outcomes, faults and values. `outcome` gives an outcome by its place in the list
 //! below, and its line; `closing`, `met` and `memory` give the lines of faults, `negative` that of a number, and `ones` that of an array of so many.
-use janus_store::View;
+use janus_store::ValueView;
 use kernel_ask::{ExpFault, exp_fault_line, outcome_line, post_fault_line, value_text};
 use kernel_core::{CheckFault, End, Fault, Outcome, PostFault, Refusal, Span};
 use std::alloc::{AllocError, Global};
@@ -23,7 +23,7 @@ fn answer(alloc: Global, call: &str) -> Result<String, AllocError> {
         "closing" => post_fault_line(alloc, PostFault::Closing),
         "met" => exp_fault_line(alloc, ExpFault::Met(Fault::DivisionByZero)),
         "memory" => exp_fault_line(alloc, ExpFault::Refused(Refusal::Memory)),
-        "negative" => value_text(alloc, "x", View::Number(-5)),
+        "negative" => value_text(alloc, "x", ValueView::Number(-5)),
         _ => ones(alloc, number(rest)),
     }
 }
@@ -56,5 +56,5 @@ fn outcome(alloc: Global, at: usize) -> Result<String, AllocError> {
 /// The line of an array of so many ones.
 fn ones(alloc: Global, count: usize) -> Result<String, AllocError> {
     let many = vec![in alloc; 1i32; count]?;
-    value_text(alloc, "a", View::Array(&many))
+    value_text(alloc, "a", ValueView::Array(&many))
 }

@@ -11,7 +11,7 @@
 //! Told are how many stops there were, how many slices they took back, behind how many steps of the way out the world was another one, how many
 //! answers and worlds were wrong, and the outcome of each stop, in which `here` stands for the count of the stop.
 use crate::schedules::{answers, world};
-use janus_store::{StackView, View};
+use janus_store::{StackView, ValueView};
 use kernel_core::{Begun, Kernel, Outcome, Sliced};
 use kernel_text::procedure_text;
 use std::alloc::{AllocError, Global};
@@ -171,11 +171,11 @@ fn procedures_shown<L: Ledger>(alloc: Global, kernel: &Kernel<L>) -> Result<Stri
 }
 
 /// Writes what kind a value is of, how many numbers it has, and the numbers.
-fn push_value(octets: &mut Vec<u8>, value: View<'_>) -> Result<(), AllocError> {
+fn push_value(octets: &mut Vec<u8>, value: ValueView<'_>) -> Result<(), AllocError> {
     match value {
-        View::Number(number) => push_numbers(octets, b'=', &[number]),
-        View::Array(numbers) => push_numbers(octets, b'[', numbers),
-        View::Stack(values) => push_stack(octets, &values),
+        ValueView::Number(number) => push_numbers(octets, b'=', &[number]),
+        ValueView::Array(numbers) => push_numbers(octets, b'[', numbers),
+        ValueView::Stack(values) => push_stack(octets, &values),
     }
 }
 
