@@ -22,9 +22,10 @@ mod running;
 mod statement;
 
 pub use crate::book::Book;
-pub use crate::cursor::{Cursor, STEP_LIMIT};
+pub use crate::cursor::Cursor;
 pub use crate::fault::Fault;
 pub use crate::machine::{End, Sliced, Stepped, slice, step};
 pub use crate::linked_procedure::LinkedProcedure;
 pub use crate::procedures::Procedures;
+pub use janus_meaning::limit::STEP_LIMIT;
 pub use janus_store::{Store, Writes};

@@ -18,6 +18,7 @@ ghost use Rattle.janus_store.specs.Stores.{IsFirstOnTop, IsNumber, IsArray, IsSt
 ghost use Rattle.janus_store.specs.declared.store.Variable.{Variable};
 ghost use Rattle.janus_store.specs.Inside.{newest_from, none_of, AreHidden, AreRow, AreBelow, HavePlaces, IsPlaceOf, IsStackOf, bounds, lent_to, stacks_of};
 
+use crate::limit::{BOUND_LIMIT, CALL_LIMIT, LOCAL_LIMIT};
 use crate::stacks::Stacks;
 use crate::value::{Declared, Value, ValueView};
 use crate::writes::Writes;
@@ -26,15 +27,6 @@ use janus_names::Names;
 use std::alloc::{AllocError, Global};
 use std::marker::{Model, PhantomData};
 use std::sync::ledger::Ledger;
-
-/// The most locals that may be open.
-const LOCAL_LIMIT: usize = 16_384;
-
-/// The most calls that may be open.
-const CALL_LIMIT: usize = 16_384;
-
-/// The most parameters that may be bound at once: 16 for each call.
-const BOUND_LIMIT: usize = 262_144;
 
 /// A name with its value.
 #[derive(Drop)]
