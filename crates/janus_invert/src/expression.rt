@@ -220,7 +220,11 @@ fn boxed_copy(alloc: Global, exp: &FlatExp) -> Result<Box<FlatExp>, AllocError>
 }
 
 /// Two expressions in memory of their own; an error for want of memory.
-pub(crate) fn two_copies(alloc: Global, first: &FlatExp, second: &FlatExp) -> Result<(FlatExp, FlatExp), AllocError>
+pub(crate) fn two_copies(
+    alloc: Global,
+    first: &FlatExp,
+    second: &FlatExp,
+) -> Result<(FlatExp, FlatExp), AllocError>
     ensures { IfOk result (λ x. IsCopy first.now x.0 × IsCopy second.now x.1) }
 {
     let first = copy(alloc, first)?;

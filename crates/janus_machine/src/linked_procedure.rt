@@ -22,7 +22,10 @@ impl LinkedProcedure {
     ghost use Rattle.janus_machine.specs.declared.book.Direction.TheVariants.{Forward};
 
     /// The procedure of flat code; an error for want of memory.
-    pub fn new(alloc: Global, flat: janus_invert::FlatProcedure) -> Result<LinkedProcedure, AllocError>
+    pub fn new(
+        alloc: Global,
+        flat: janus_invert::FlatProcedure,
+    ) -> Result<LinkedProcedure, AllocError>
         ensures name { IfOk result (λ procedure. number_of procedure ≡ flat.name.number) }
         ensures parameters { IfOk result (λ procedure. parameters_of procedure ≡ numbers_of flat.parameters.items) }
         ensures body { IfOk result (λ procedure. block_in (body_of procedure) Forward ≡ code_block flat.body) }

@@ -2,10 +2,10 @@
 use Rattle.std.specs.Prelude.{◌≡◌, ℕ, ◌<◌, ◌≤◌, List, [], ◌∷◌, ◌++◌, length, Option, Some, None, Bool, true, false}
 use Rattle.std.specs.Borrow.{Bor}
 use Rattle.janus_syntax.specs.declared.fault.What.TheVariants as what
-use Rattle.janus_syntax.specs.declared.token.Keyword.TheVariants as word
+use Rattle.janus_syntax.specs.declared.token.Keyword.TheVariants as keyword
 use Rattle.janus_syntax.specs.declared.token.Token as code_token
 use Rattle.janus_syntax.specs.declared.tree.Parameter as code_parameter
-use Rattle.janus_syntax.specs.Tokens.{Token, Word_of, views}
+use Rattle.janus_syntax.specs.Tokens.{Token, Keyword_of, views}
 use Rattle.janus_syntax.specs.Tree.{Name as Named, Parameter, Procedure, Declaration, Block, Cell, parameter_view}
 use Rattle.janus_syntax.specs.Forms.{Part, Procedures, A_procedure, Parameters, More_parameters, Brackets, Form, part}
 use Rattle.janus_syntax.specs.Table.{a_parameter, parameter, behind_name, behind_main}
@@ -17,8 +17,8 @@ use Rattle.janus_syntax.specs.Reading.{begun, count, BeginsWith, Stands, Moves, 
 
 -- whether a token begins a parameter
 abbrev pub is_parameter : Option Token → Bool
-is_parameter (Some (Word_of word.Int place)) = true
-is_parameter (Some (Word_of word.Stack place)) = true
+is_parameter (Some (Keyword_of keyword.Int place)) = true
+is_parameter (Some (Keyword_of keyword.Stack place)) = true
 is_parameter _ = false
 
 abbrev pub begin_parameter : {goal p : Part} → List Token → (Parameter → Form p) → Stack goal p → ℕ → Outcome goal
@@ -84,7 +84,7 @@ FailsBehindMain from e = (p : Part) (k : List Declaration → Block → Form p) 
 
 -- `main` at the front, where it may stand
 abbrev pub IsMain : Bool → List Token → List Token → Type 0
-IsMain true from behind = BeginsWith word.Main from behind
+IsMain true from behind = BeginsWith keyword.Main from behind
 IsMain false from behind = ⊥
 
 -- The machine stands at more procedures of a cell, of which one may be `main` or not.

@@ -11,7 +11,7 @@ use Rattle.janus_syntax.specs.declared.token.Sign.{Sign}
 use Rattle.janus_syntax.specs.declared.operator.Infix.{Infix}
 use Rattle.janus_syntax.specs.declared.problem.Problem.{Problem}
 use Rattle.janus_syntax.specs.declared.problem.Problem.TheVariants as problem
-use Rattle.janus_syntax.specs.Tokens.{Token, Sign_of, Word_of}
+use Rattle.janus_syntax.specs.Tokens.{Token, Sign_of, Keyword_of}
 use Rattle.janus_syntax.specs.Tree.{Name as Named, Exp}
 use Rattle.janus_syntax.specs.Operators.{operator_at}
 use Rattle.janus_syntax.specs.Forms.{Part, Index, Chain, Tree, Class, Seen, Form, take, part, Rule}
@@ -72,10 +72,10 @@ abbrev pub FailsVariableAndStack : List Token → Refusal → Type 0
 FailsVariableAndStack from e = (goal p : Part) (k : Named → Named → Form p) (S : Stack goal p) (m : Count) →
     run all from (at (variable_and_stack_then k) S m) ≡ outcome_of e
 
--- this word at the front
+-- this keyword at the front
 pub record BeginsWith (w : Keyword) (from behind : List Token) : Type 0 where
   pub at : Span
-  pub is : from ≡ Word_of w at ∷ behind
+  pub is : from ≡ Keyword_of w at ∷ behind
 
 -- this sign at the front
 pub record BeginsWithSign (s : Sign) (from behind : List Token) : Type 0 where
