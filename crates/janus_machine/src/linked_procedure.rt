@@ -3,7 +3,7 @@
 ghost use Rattle.std.specs.Prelude.{◌≡◌, IfOk};
 ghost use Rattle.janus_invert.specs.CodeBlock.{code_block};
 ghost use Rattle.janus_machine.specs.Bodies.{numbers_of};
-ghost use Rattle.janus_machine.specs.LinkedProcedure.{number_of, parameters_of, body_of};
+ghost use Rattle.janus_machine.specs.LinkedProcedure.{name_number_of, parameters_of, body_of};
 
 use crate::book::Book;
 use janus_invert::FlatParameter;
@@ -26,7 +26,7 @@ impl LinkedProcedure {
         alloc: Global,
         flat: janus_invert::FlatProcedure,
     ) -> Result<LinkedProcedure, AllocError>
-        ensures name { IfOk result (λ procedure. number_of procedure ≡ flat.name.number) }
+        ensures name { IfOk result (λ procedure. name_number_of procedure ≡ flat.name.number) }
         ensures parameters { IfOk result (λ procedure. parameters_of procedure ≡ numbers_of flat.parameters.items) }
         ensures body { IfOk result (λ procedure. block_in (body_of procedure) Forward ≡ code_block flat.body) }
         // Both ways the names keep their numbers.
