@@ -13,7 +13,8 @@ use Rattle.janus_syntax.specs.Reader.{Stack, waits, at, Step, Stuck, enter, skip
 use Rattle.janus_syntax.specs.declared.problem.Problem.{Problem}
 use Rattle.janus_syntax.specs.declared.token.Keyword.{Keyword}
 use Rattle.janus_syntax.specs.Reading.{Reads, BeginsWith, begun, count, IsPart, FailsPart}
-use Rattle.janus_syntax.specs.Statements.{is_statement, begin_statement, IsStm, FailsStm, followed_by, AtStatements, AreSoFar, AreStatements, IsOptional, there, FailsOptional}
+use Rattle.janus_syntax.specs.Statements.{is_statement, begin_statement, IsStm, FailsStm, followed_by, AreStatements, IsOptional, there, FailsOptional}
+use Rattle.janus_syntax.proofs.SoFar.{AtStatements, AreSoFar}
 use Rattle.janus_syntax.proofs.Agrees.{run_hands, left_behind}
 use Rattle.janus_syntax.proofs.Chains.{go_if_runs}
 use Rattle.janus_syntax.proofs.Steps.{passes_on}

@@ -12,7 +12,8 @@ use Rattle.janus_syntax.specs.Table.{rule, sign_then, call_then}
 use Rattle.janus_syntax.specs.Grammar.{all, depth_limit, operator_limit, Refusal}
 use Rattle.janus_syntax.specs.Reader.{Stack, waits, at, run, next}
 use Rattle.janus_syntax.specs.Reading.{TokenGoes, TokenFails, count, Moves, BeginsWithSign}
-use Rattle.janus_syntax.specs.Statements.{is_name, IsStm, FailsStm, AreNames, FailNames, AtNames, AreNamed, IsCall, FailsCall}
+use Rattle.janus_syntax.specs.Statements.{is_name, IsStm, FailsStm, AreNames, FailNames, IsCall, FailsCall}
+use Rattle.janus_syntax.proofs.SoFar.{AtNames, AreNamed}
 use Rattle.janus_syntax.proofs.Agrees.{run_hands, left_behind}
 use Rattle.janus_syntax.proofs.Parts.{moves_on, moves_stop, token_moves, token_stops, begins_part}
 use Rattle.janus_syntax.proofs.Operands.{begun_plain}

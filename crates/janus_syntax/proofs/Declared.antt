@@ -16,7 +16,8 @@ use Rattle.janus_syntax.specs.Table.{rule, declared, sign_then, is_bare}
 use Rattle.janus_syntax.specs.Grammar.{all, operator_limit, IsTree, Refusal, Expected}
 use Rattle.janus_syntax.specs.Reader.{Stack, bottom, waits, at, Outcome, Ended, run, start, outcome_of, next}
 use Rattle.janus_syntax.specs.Reading.{TokenGoes, TokenFails, BeginsWith, BeginsWithSign, count, Stands, Moves, Stops, IsPart, FailsPart}
-use Rattle.janus_syntax.specs.Statements.{is_declaration, begin_declaration, IsDeclaration, FailsDeclaration, IsBound, FailsBound, AtDeclarations, AreDeclared, AtEnd, Refused}
+use Rattle.janus_syntax.specs.Statements.{is_declaration, begin_declaration, IsDeclaration, FailsDeclaration, IsBound, FailsBound, AtEnd, Refused}
+use Rattle.janus_syntax.proofs.SoFar.{AtDeclarations, AreDeclared}
 use Rattle.janus_syntax.proofs.Agrees.{run_hands, left_behind}
 use Rattle.janus_syntax.proofs.LeftOut.{unbound}
 use Rattle.janus_syntax.proofs.Steps.{no_opening}

@@ -13,7 +13,8 @@ use Rattle.janus_syntax.specs.Table.{rule, sign_then, parameter}
 use Rattle.janus_syntax.specs.Grammar.{all, operator_limit, Refusal, Expected}
 use Rattle.janus_syntax.specs.Reader.{Stack, waits, at, run, next, outcome_of, Outcome}
 use Rattle.janus_syntax.specs.Reading.{TokenGoes, TokenFails, count, Moves, Stops, IsPart, FailsPart, BeginsWith, BeginsWithSign}
-use Rattle.janus_syntax.specs.Procedures.{is_parameter, begin_parameter, IsParameter, FailsParameter, IsBracketed, FailsBracketed, AtParameters, AreParameters}
+use Rattle.janus_syntax.specs.Procedures.{is_parameter, begin_parameter, IsParameter, FailsParameter, IsBracketed, FailsBracketed}
+use Rattle.janus_syntax.proofs.SoFar.{AtParameters, AreParameters}
 use Rattle.janus_syntax.proofs.Agrees.{run_hands, left_behind}
 use Rattle.janus_syntax.proofs.Steps.{no_opening}
 use Rattle.janus_syntax.proofs.LeftOut.{unbracketed}

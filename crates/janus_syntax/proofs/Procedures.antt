@@ -14,7 +14,8 @@ use Rattle.janus_syntax.specs.Grammar.{all, operator_limit, Refusal, Expected}
 use Rattle.janus_syntax.specs.Reader.{Stack, waits, at, run, next}
 use Rattle.janus_syntax.specs.Reading.{TokenGoes, TokenFails, count, Moves, IsPart, FailsPart, BeginsWith}
 use Rattle.janus_syntax.specs.Statements.{is_name}
-use Rattle.janus_syntax.specs.Procedures.{IsBehindName, FailsBehindName, IsBehindMain, FailsBehindMain, IsMain, IsNext, AreProcedures}
+use Rattle.janus_syntax.specs.Procedures.{IsBehindName, FailsBehindName, IsBehindMain, FailsBehindMain, IsMain, IsNext}
+use Rattle.janus_syntax.proofs.SoFar.{AreProcedures}
 use Rattle.janus_syntax.proofs.Agrees.{run_hands, left_behind}
 use Rattle.janus_syntax.proofs.Parts.{moves_on, moves_stop, token_moves, token_stops, begins_part}
 

@@ -1,5 +1,5 @@
 -- What the parser's functions on statements and declarations say of what they return. It serves the proofs.
-use Rattle.std.specs.Prelude.{◌≡◌, ℕ, ◌<◌, ◌≤◌, List, [], ◌∷◌, ◌++◌, length, Option, Some, None, Bool, true, false, string_bytes}
+use Rattle.std.specs.Prelude.{◌≡◌, ℕ, ◌<◌, ◌≤◌, List, [], ◌∷◌, length, Option, Some, None, Bool, true, false, string_bytes}
 use Rattle.std.specs.Borrow.{Bor}
 use Rattle.janus_syntax.specs.declared.fault.What.TheVariants as what
 use Rattle.janus_syntax.specs.declared.token.Keyword.{Keyword}
@@ -12,7 +12,7 @@ use Rattle.janus_syntax.specs.declared.tree.Stm as code_stm
 use Rattle.janus_syntax.specs.declared.tree.Declaration as code_declaration
 use Rattle.janus_syntax.specs.Tokens.{Token, Name, Keyword_of, views}
 use Rattle.janus_syntax.specs.Tree.{Name as Named, Exp, Stm, If, Loop, Block, Empty, More, Declaration, Cell, cell_of, stm_view, declaration_view}
-use Rattle.janus_syntax.specs.Forms.{Part, Body, Statements, Names, More_names, Declarations, Bound, Whole, Else_part, Do_part, Loop_part, Target_index}
+use Rattle.janus_syntax.specs.Forms.{Part, Body, Statements, Names, Declarations, Bound, Whole, Else_part, Do_part, Loop_part, Target_index}
 use Rattle.janus_syntax.specs.Forms.{A_name, The_keyword, The_sign, An_update, Form, take, part, close}
 use Rattle.janus_syntax.specs.Table.{keyword_then, call_then, delocal_then, local_int, local_stack, statement, declaration, declared, assignment, skip_block}
 use Rattle.janus_syntax.specs.Table.{is_bare}
@@ -114,21 +114,6 @@ pub record AreNames (xs : List Named) (from rest : List Token) : Type 0 where
 abbrev pub FailNames : List Token → Refusal → Type 0
 FailNames from e = (depth : ℕ) → depth ≤ depth_limit → (p : Part) (k : List Named → Form p) → Stops depth (part Names k) from e
 
--- In the midst of names: the machine stands at more of them.
-pub record AtNames (depth : ℕ) (xs : List Named) (goal : Part) (out : Outcome goal) (rest : List Token) (p : Part) (k : List Named → Form p)
-    (S : Stack goal p) : Type 0 where
-  pub other : Part
-  pub form : List Named → Form other
-  pub stack : Stack goal other
-  pub stands : Stands depth out rest (part More_names form) stack
-  pub onward : (ys : List Named) (ts : List Token) (u : ℕ) → run all ts (at (form ys) stack (count depth u)) ≡ run all ts (at (k (xs ++ ys)) S (count depth u))
-
--- names read so far
-pub record AreNamed (xs : List Named) (from rest : List Token) : Type 0 where
-  pub goes : (depth : ℕ) → depth ≤ depth_limit → (p : Part) (k : List Named → Form p) (goal : Part) (S : Stack goal p) (u : ℕ) → u ≤ operator_limit →
-      AtNames depth xs goal (run all from (at (part Names k) S (count depth u))) rest p k S
-  pub shorter : length rest ≤ length from
-
 -- a name, and behind it names in parentheses
 pub record IsCall (f : Named) (xs : List Named) (from rest : List Token) : Type 0 where
   pub goes : (depth : ℕ) → depth ≤ depth_limit → (p : Part) (k : Named → List Named → Form p) → Moves depth (call_then k) from (k f xs) rest
@@ -183,23 +168,6 @@ pub record IsStackHead (x : Named) (from rest : List Token) : Type 0 where
 abbrev pub followed_by : Block → Block → Block
 followed_by Empty b = b
 followed_by (More s a) b = More s (followed_by a b)
-
--- In the midst of statements: the machine stands at more of them.
-pub record AtStatements (depth : ℕ) (b : Block) (goal : Part) (out : Outcome goal) (rest : List Token) (p : Part) (k : Block → Form p)
-    (S : Stack goal p) : Type 0 where
-  pub other : Part
-  pub form : Block → Form other
-  pub stack : Stack goal other
-  pub stands : Stands depth out rest (part Statements form) stack
-  pub onward : (a : Block) (ts : List Token) (u : ℕ) → run all ts (at (form a) stack (count depth u)) ≡ run all ts (at (k (followed_by b a)) S (count depth u))
-
--- statements read so far, behind others
-pub record AreSoFar (depth : ℕ) (before now : Block) (from rest : List Token) : Type 0 where
-  pub block : Block
-  pub is : now ≡ followed_by before block
-  pub goes : (p : Part) (k : Block → Form p) (goal : Part) (S : Stack goal p) (u : ℕ) → u ≤ operator_limit →
-      AtStatements depth block goal (run all from (at (part Statements k) S (count depth u))) rest p k S
-  pub shorter : length rest ≤ length from
 
 -- all statements that stand here, behind others
 pub record AreStatements (depth : ℕ) (before now : Block) (from rest : List Token) : Type 0 where
@@ -263,21 +231,6 @@ pub record IsBound (x : Named) (d : Declaration) (from rest : List Token) : Type
 
 abbrev pub FailsBound : Named → List Token → Refusal → Type 0
 FailsBound x from e = (p : Part) (k : Declaration → Form p) → Stops 0 (part Bound (λ n. k (declared x n))) from e
-
--- In the midst of declarations: the machine stands at more of them.
-pub record AtDeclarations (ds : List Declaration) (goal : Part) (out : Outcome goal) (rest : List Token) (p : Part) (k : List Declaration → Form p)
-    (S : Stack goal p) : Type 0 where
-  pub other : Part
-  pub form : List Declaration → Form other
-  pub stack : Stack goal other
-  pub stands : Stands 0 out rest (part Declarations form) stack
-  pub onward : (es : List Declaration) (ts : List Token) (u : ℕ) → run all ts (at (form es) stack (count 0 u)) ≡ run all ts (at (k (ds ++ es)) S (count 0 u))
-
--- declarations read so far
-pub record AreDeclared (ds : List Declaration) (from rest : List Token) : Type 0 where
-  pub goes : (p : Part) (k : List Declaration → Form p) (goal : Part) (S : Stack goal p) (u : ℕ) → u ≤ operator_limit →
-      AtDeclarations ds goal (run all from (at (part Declarations k) S (count 0 u))) rest p k S
-  pub shorter : length rest ≤ length from
 
 -- the declarations and the statements of the cell c, which has nothing else; `main` may follow where there are none
 pub record AreFirstParts (main : Bool) (c : Cell) (from rest : List Token) : Type 0 where
