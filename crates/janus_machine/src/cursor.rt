@@ -145,7 +145,7 @@ impl Cursor {
         }
     }
 
-    /// So many steps were taken.
+    /// Counts `taken` steps more.
     pub(crate) fn add(&mut self, taken: u64)
         requires few { is_turned self.old ≡ false → count_in self.old + taken ≤ step_limit }
         ensures { (self.new ≡ with_count self.old (count_in self.new)) × (count_in self.new ≡ counted (is_turned self.old) (count_in self.old) taken) }

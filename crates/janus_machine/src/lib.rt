@@ -6,6 +6,16 @@
 //! store itself: parameters are bound to what they are called with. The meaning of statements is that of
 //! Yokoyama and Glück (2007), "A reversible programming language and its invertible self-interpreter"; `janus_meaning`
 //! defines it step by step.
+//!
+//! The modules, in the order in which a reader needs them:
+//! - `book`: the code of a cell or of a body, both ways.
+//! - `linked_procedure`, `procedures`: a procedure as it runs, and all bodies with those that are in effect.
+//! - `cursor`, `running`: a place in code with the open calls and the count of steps, and the book in whose row it stands.
+//! - `fault`: why a step is not taken.
+//! - `statement`, `local`, `act`: what a statement, a local and an instruction do to the store.
+//! - `call`: the first and the last step of a call.
+//! - `machine`: `step` and `slice`, which take the steps.
+//! - `laws`: what the definitions of `specs/` say together.
 #![tactic(auto)]
 
 mod act;

@@ -211,7 +211,7 @@ chain_read n known (suc fuel) level d used e t r u from m' rest h i is g f c run
           }
     ]
 
--- all operators of so many levels
+-- all operators of `to_come` levels
 chains_read : (n : ℕ) → LevelsMeasured n → {p : Part} (level to_come d used : ℕ) (e : Exp) (k : Exp → Form p) (v : Tree p) (from : List Token) (m' : Count) (rest : List Token) → length from ≤ n → AreGood from → FitsExp e level d → used + operators e ≤ operator_limit →
     Spells all p (chains level to_come e k) v (count d (used + operators e)) from m' rest → IsRead k (level + to_come) d used v from m' rest
 chains_read n known level zero d used e k v from m' rest h g f few s =

@@ -575,7 +575,7 @@ fn remove(newest: &mut Vec<usize>, variables: &mut Vec<Variable>) -> Variable
     }
 }
 
-/// Takes the last variables away, so many.
+/// Takes the last `count` variables away.
 fn remove_many(newest: &mut Vec<usize>, variables: &mut Vec<Variable>, count: usize)
     requires some { count ≤ vec_len variables.old }
     requires newest { (xs : List Name) × AreRow xs newest.old.items variables.old.items }

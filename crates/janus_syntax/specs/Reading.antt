@@ -85,7 +85,7 @@ pub record BeginsWithSign (s : Sign) (from behind : List Token) : Type 0 where
 abbrev pub count : ℕ → ℕ → Count
 count d u = record { depth = d; used = u }
 
--- ---- forms and parts, with so many constructs open
+-- ---- forms and parts, with `depth` constructs open
 
 -- the machine stands at a form, in front of these tokens
 abbrev pub Stands : {goal p : Part} → ℕ → Outcome goal → List Token → Form p → Stack goal p → Type 0

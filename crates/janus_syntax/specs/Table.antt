@@ -119,7 +119,7 @@ operand (Keyword_of keyword.Empty _) k = begins (stack_then (λ s. k (EmptyOf s)
 operand (Keyword_of keyword.Top _) k = begins (stack_then (λ s. k (TopOf s)))
 operand _ k = None
 
--- Behind the operand e: operators of the next level, then of the one behind it, so many levels on.
+-- Behind the operand e: operators of the level behind l, then of the one behind that, and so on for as many levels as the second number says.
 abbrev pub chains : {p : Part} → ℕ → ℕ → Exp → (Exp → Form p) → Form p
 chains l zero e k = k e
 chains l (suc n) e k = part (Chain (suc l) e) (λ f. chains (suc l) n f k)
