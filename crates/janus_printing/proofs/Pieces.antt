@@ -10,7 +10,7 @@ use Rattle.janus_syntax.specs.declared.operator.Joint.{Joint}
 use Rattle.janus_syntax.specs.declared.operator.Joint.TheVariants as joint
 use Rattle.janus_syntax.specs.Tree.{Name, named, Exp, Num, Var, Element, EmptyOf, TopOf, Neg, Bin, And, Or, Stm, Skip, Assign, AssignElement, Push, Pop, If, Loop, LocalInt, LocalStack, Call, Uncall, Block, Empty, More, Declaration, Int, Array, StackOf, Parameter, IntParameter, ArrayParameter, StackParameter, Procedure, procedure_of, Cell, cell_of}
 use Rattle.janus_syntax.specs.Operators.{weakest}
-use Rattle.janus_syntax.specs.Lexical.{IsNameText, NotReserved, largest_number}
+use Rattle.janus_syntax.specs.Lexical.{IsNameText, IsNoKeyword, largest_number}
 use Rattle.janus_syntax.specs.Printing.{Piece, A_name, A_number, A_sign, A_keyword, A_minus, An_opening, piece_text, leans, holds, Printed, with_piece, with_pieces, sign_level, if_needed, infix_pieces, exp_pieces, whole_pieces, names_pieces, more_names_pieces, stm_pieces, block_pieces, declaration_pieces, declarations_pieces, parameter_pieces, more_parameters_pieces, parameters_pieces, procedure_pieces, procedures_pieces, cell_pieces}
 use Rattle.janus_printing.proofs.Fits.{AreNames, Parenthesized, FitsInfix, FitsExp, FitsStm, FitsBlock, FitsDeclaration, FitsDeclarations, FitsParameter, FitsParameters, FitsProcedure, FitsProcedures, FitsCell}
 use Rattle.janus_printing.proofs.Measures.{joint_sign}
@@ -48,7 +48,7 @@ BeginsOperand _ = ⊥
 -- names are names, numbers are not too large, and a prefix minus stands in front of an operand
 abbrev pub AreFine : List Piece → Type 0
 AreFine [] = Unit {0}
-AreFine (A_name x ∷ ps) = (IsNameText x × NotReserved x) × AreFine ps
+AreFine (A_name x ∷ ps) = (IsNameText x × IsNoKeyword x) × AreFine ps
 AreFine (A_number n ∷ ps) = (n ≤ largest_number) × AreFine ps
 AreFine (A_sign s ∷ ps) = AreFine ps
 AreFine (A_keyword w ∷ ps) = AreFine ps

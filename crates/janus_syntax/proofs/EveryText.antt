@@ -22,11 +22,11 @@ use Rattle.janus_syntax.specs.declared.fault.SyntaxFault.TheVariants as fault
 use Rattle.janus_syntax.specs.Spelling.{sign_text, keyword_text}
 use Rattle.janus_syntax.specs.Tokens.{Token, Name, Number, Sign_of, Keyword_of}
 use Rattle.janus_syntax.specs.Forms.{Part}
-use Rattle.janus_syntax.specs.Lexical.{class_of, of_name, of_number, in_line, decimal, NotReserved, Item, Gap, A_name, A_number, A_sign, A_keyword, IsSpelled, IsToken, NoItem, AreTokens, largest_number}
+use Rattle.janus_syntax.specs.Lexical.{class_of, of_name, of_number, in_line, decimal, IsNoKeyword, Item, Gap, A_name, A_number, A_sign, A_keyword, IsSpelled, IsToken, NoItem, AreTokens, largest_number}
 use Rattle.janus_syntax.specs.Scan.{IsLongestSign, IsFrontText, IsFrontOf, IsFirstChar}
 use Rattle.janus_syntax.specs.Text.{IsRefusalOf}
 use Rattle.janus_syntax.specs.declared.token.TheConstants.{KEYWORDS}
-use Rattle.janus_syntax.proofs.Scanning.{signs, first_is_longest, no_sign, begins_with, not_reserved}
+use Rattle.janus_syntax.proofs.Scanning.{signs, first_is_longest, no_sign, begins_with, is_no_keyword}
 use Rattle.janus_syntax.proofs.Fronts.{letters_front, digits_front, space_front, comment_front, sign_front, underscore_none, other_none, letters_cut, digits_cut, space_cut, line_cut, sign_cut, slashes, no_slashes}
 use Rattle.janus_syntax.proofs.Lexing.{IsLexedTo, lexed_start, lexed_gap, lexed_one, bad_token, too_large, place}
 
@@ -71,11 +71,11 @@ one_keyword_more text k few none not_here j w h e =
           let bad : true ≡ false = sym found ∙ not_here in absurd cc
     ]
 
-keyword_or_name : (text : List ℕ) (left k : ℕ) → left + k ≡ 22 → NoKeywordOf text k → ((w : Keyword) × (text ≡ keyword_text w)) ⊎ NotReserved text
-keyword_or_name text zero k e none = inr (not_reserved text k (omega (arith, e)) none)
+keyword_or_name : (text : List ℕ) (left k : ℕ) → left + k ≡ 22 → NoKeywordOf text k → ((w : Keyword) × (text ≡ keyword_text w)) ⊎ IsNoKeyword text
+keyword_or_name text zero k e none = inr (is_no_keyword text k (omega (arith, e)) none)
 keyword_or_name text (suc left) k e none =
     let here = keyword_text (get_or KEYWORDS k keyword.Nil) in
-    elim (bytes_eq text here) as (λ b. bytes_eq text here ≡ b → ((w : Keyword) × (text ≡ keyword_text w)) ⊎ NotReserved text) [
+    elim (bytes_eq text here) as (λ b. bytes_eq text here ≡ b → ((w : Keyword) × (text ≡ keyword_text w)) ⊎ IsNoKeyword text) [
       | true ↦ λ h. inl (get_or KEYWORDS k keyword.Nil, (bytes_eq-Decides text here).0 h)
       | false ↦ λ h. keyword_or_name text left (suc k) (omega (arith, e)) (one_keyword_more text k (omega (arith, e)) none h)
     ] refl

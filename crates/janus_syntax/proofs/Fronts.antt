@@ -32,7 +32,7 @@ abbrev pub second : List ℕ → ℕ
 second [] = 0
 second (c ∷ cs) = head cs
 
--- keywords are names, but for being reserved
+-- keywords are spelled as names are
 
 pub keyword_head : (w : Keyword) → class_of (head (keyword_text w)) ≡ class.Letter
 keyword_head keyword.Call = refl

@@ -13,7 +13,7 @@ use Rattle.janus_syntax.specs.declared.token.TheConstants.{KEYWORDS}
 use Rattle.janus_syntax.specs.declared.token.Keyword.{Keyword}
 use Rattle.janus_syntax.specs.declared.token.Keyword.TheVariants as keyword
 use Rattle.janus_syntax.specs.Spelling.{sign_text, keyword_text}
-use Rattle.janus_syntax.specs.Lexical.{decimal, decimal_behind, NotReserved}
+use Rattle.janus_syntax.specs.Lexical.{decimal, decimal_behind, IsNoKeyword}
 
 pub decimal_grows : (n : ℕ) (cs : List ℕ) → n ≤ decimal_behind n cs
 decimal_grows n [] = omega arith
@@ -97,9 +97,9 @@ listed_keyword w =
     let few : keyword_index w < 22 = ltb-true (keyword_index w) 22 (keyword_in_range w) in
     (keyword_index w, few, keyword_listed w)
 
--- a text that is none of the listed keywords is not reserved
-pub not_reserved : (text : List ℕ) (n : ℕ) → 22 ≤ n → ((k : ℕ) (w : Keyword) → k < n → text ≡ keyword_text (get_or KEYWORDS k w) → ⊥) → NotReserved text
-not_reserved text n h none w e =
+-- a text that is none of the listed keywords is no keyword
+pub is_no_keyword : (text : List ℕ) (n : ℕ) → 22 ≤ n → ((k : ℕ) (w : Keyword) → k < n → text ≡ keyword_text (get_or KEYWORDS k w) → ⊥) → IsNoKeyword text
+is_no_keyword text n h none w e =
     let b = ltb-true (keyword_index w) 22 (keyword_in_range w) in
     none (keyword_index w) w (omega (arith, b, h)) (e ∙ ap keyword_text (sym (keyword_listed w)))
 

@@ -4,7 +4,7 @@ ghost use Rattle.std.specs.Prelude.{◌≡◌, ◌<◌, ◌≤◌, ℕ, List, le
 ghost use Rattle.std.specs.List.{prefix_len};
 ghost use Rattle.std.specs.Str.{IsCharBoundary};
 ghost use Rattle.janus_syntax.specs.Spelling.{keyword_text, sign_text};
-ghost use Rattle.janus_syntax.specs.Lexical.{class_of, in_line, decimal, NotReserved, NoItem, IsNumberText, AreTokens, largest_number};
+ghost use Rattle.janus_syntax.specs.Lexical.{class_of, in_line, decimal, IsNoKeyword, NoItem, IsNumberText, AreTokens, largest_number};
 ghost use Rattle.janus_syntax.specs.Scan.{goes_on, IsLongestSign, IsFrontText, IsFrontOf, IsFirstChar, IsKindOf};
 ghost use Rattle.janus_syntax.specs.Text.{IsLexed, IsOnly};
 ghost use Rattle.janus_syntax.specs.Tokens.{Token as AToken};
@@ -110,7 +110,7 @@ fn line_len(octets: &[u8]) -> usize
 
 /// The keyword that the text is.
 fn keyword_at(text: &str) -> Option<Keyword>
-    ensures { MatchOption result (NotReserved text.now) (λ w. text.now ≡ keyword_text w) }
+    ensures { MatchOption result (IsNoKeyword text.now) (λ w. text.now ≡ keyword_text w) }
 {
     for keyword in KEYWORDS {
         if keyword.text() == text {
