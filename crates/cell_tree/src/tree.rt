@@ -6,8 +6,8 @@ ghost use Rattle.cell_tree.specs.Paths.{path_of, depth, meeting_of, upward, down
 
 use crate::fault::TreeFault;
 use crate::node::Node;
+use crate::route::Route;
 use crate::walks::{above, below, find_way, meeting, parent_of, path_to};
-use crate::way::Way;
 use std::alloc::{AllocError, Global};
 use std::marker::Model;
 
@@ -208,7 +208,7 @@ impl<C: Drop> Tree<C> {
     /// # Errors
     ///
     /// `NoNode` exactly where `to` is no node. The tree stands as it was.
-    pub fn find_way(&mut self, from: usize, to: usize) -> Result<Way, TreeFault>
+    pub fn find_way(&mut self, from: usize, to: usize) -> Result<Route, TreeFault>
         requires { IsNode self.old from }
         ensures way { IfOk result (λ way. IsWay (parents_of self.old.nodes) from to way.up way.down) }
         ensures few { IfOk result (λ way. (way.up ≤ from) × (way.down ≤ to)) }

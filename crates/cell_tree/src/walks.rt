@@ -5,7 +5,7 @@ ghost use Rattle.cell_tree.specs.Paths.{path_of, depth, meeting_of, upward, down
 
 use crate::fault::TreeFault;
 use crate::node::Node;
-use crate::way::Way;
+use crate::route::Route;
 use std::alloc::Global;
 
 /// The number of the node above, and 0 for the root.
@@ -91,7 +91,7 @@ pub fn meeting<C>(nodes: &[Node<C>], first: usize, second: usize) -> usize
 }
 
 /// How far up and then down one node lies from another. The nodes that the way goes down to are written to `way`, the last one first.
-pub fn find_way<C>(nodes: &[Node<C>], way: &mut Vec<usize>, from: usize, to: usize) -> Way
+pub fn find_way<C>(nodes: &[Node<C>], way: &mut Vec<usize>, from: usize, to: usize) -> Route
     requires ordered { IsOrdered (parents_of nodes.now) }
     requires from { from ≤ length nodes.now }
     requires to { to ≤ length nodes.now }
@@ -114,7 +114,7 @@ pub fn find_way<C>(nodes: &[Node<C>], way: &mut Vec<usize>, from: usize, to: usi
             b = parent_of(nodes, b);
         }
     }
-    Way {
+    Route {
         up,
         down: way.len(),
     }

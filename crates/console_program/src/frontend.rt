@@ -6,7 +6,7 @@ ghost use Rattle.console_program.specs.Requests.{request_octets};
 
 use crate::wire::Wire;
 use console_talk::{
-    Command, ConsoleFault, Heard, Printed, comm_close_draft, comm_open_draft, comm_told,
+    ConsoleCommand, ConsoleFault, Heard, Printed, comm_close_draft, comm_open_draft, comm_told,
     complete_draft, completion_told, execute_draft, is_answer_to, is_in_session, kernel_info_draft,
     message, move_draft, run_told, state_draft, what_is_heard,
 };
@@ -359,14 +359,14 @@ impl<R: Read + Drop, W: Write + Drop> Frontend<R, W> {
     }
 
     /// Has the kernel do what the command says, and answers what is printed.
-    pub fn obey(&mut self, command: &Command) -> Result<Printed, ConsoleFault> {
+    pub fn obey(&mut self, command: &ConsoleCommand) -> Result<Printed, ConsoleFault> {
         match command {
-            Command::Run(code) => self.run(code),
-            Command::Undo(k) => self.go("undo", *k),
-            Command::Redo(k) => self.go("redo", *k),
-            Command::Goto(n) => self.go("goto", *n),
-            Command::Show => self.show(),
-            Command::Complete(text) => self.complete(text),
+            ConsoleCommand::Run(code) => self.run(code),
+            ConsoleCommand::Undo(k) => self.go("undo", *k),
+            ConsoleCommand::Redo(k) => self.go("redo", *k),
+            ConsoleCommand::Goto(n) => self.go("goto", *n),
+            ConsoleCommand::Show => self.show(),
+            ConsoleCommand::Complete(text) => self.complete(text),
         }
     }
 }

@@ -2,7 +2,7 @@
 
 /// What a console is asked to do, once.
 #[derive(Drop)]
-pub enum Command {
+pub enum ConsoleCommand {
     /// To run this text as a cell.
     Run(String),
     /// To undo so many cells.

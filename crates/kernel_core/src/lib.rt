@@ -29,7 +29,7 @@ pub use janus_syntax::SyntaxFault;
 pub use janus_syntax::token::Span;
 pub use kernel_history::View;
 pub use kernel_machine::{
-    Begun, End, Event, Extent, Job, Outcome, Phase, PostFault, Refusal, Sliced, Told,
+    Begun, TravelEnd, Event, Extent, Job, Outcome, Phase, PostFault, Refusal, Sliced, Told,
 };
 pub use kernel_runner::names_in_sight;
 pub use machine_laws::laws;

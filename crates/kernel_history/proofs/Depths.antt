@@ -11,12 +11,12 @@ use Rattle.kernel_machine.specs.State.{Past, favourite_of}
 use Rattle.kernel_machine.specs.Legal.{can_undo, can_redo, IsRun, IsChild, IsLegal}
 use Rattle.kernel_machine.proofs.Trees.{not_zero_is}
 use Rattle.kernel_history.specs.Fields.{nodes_of, past_of}
-use Rattle.kernel_history.specs.declared.tree.Tree.{Tree}
+use Rattle.kernel_history.specs.declared.tree.HistoryTree.{HistoryTree}
 use Rattle.kernel_history.proofs.Nodes.{count_of_nodes, parent_there}
 
 -- ---- up
 
-pub ordered_there : (tree : Tree) → IsLegal (past_of tree) → IsOrdered (parents_of tree.cells.nodes)
+pub ordered_there : (tree : HistoryTree) → IsLegal (past_of tree) → IsOrdered (parents_of tree.cells.nodes)
 ordered_there tree legal = record {
   root = refl;
   before = λ n some known. (
@@ -29,7 +29,7 @@ ordered_there tree legal = record {
 }
 
 -- so many nodes can be gone up exactly where as many stand above
-pub undoes : (tree : Tree) (n k : ℕ) → IsOrdered (parents_of tree.cells.nodes) → n ≤ length tree.cells.nodes →
+pub undoes : (tree : HistoryTree) (n k : ℕ) → IsOrdered (parents_of tree.cells.nodes) → n ≤ length tree.cells.nodes →
     IsTrue (can_undo (nodes_of tree) n k) ↔ (k ≤ depth (parents_of tree.cells.nodes) n)
 undoes tree n zero g l = (λ h. omega arith, λ h. refl)
 undoes tree n (suc k) g l = elim (cases_eq n 0) [

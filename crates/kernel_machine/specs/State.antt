@@ -5,7 +5,7 @@ use Rattle.janus_meaning.specs.World.{World, empty_world, Cell}
 use Rattle.janus_meaning.specs.Syntax.{Proc}
 use Rattle.kernel_machine.specs.Language.{empty_cell, Code, Forward, Backward, start_of, CodePart, end_of}
 use Rattle.kernel_machine.specs.Travel.{Up, Down, Aim, Goto, Travel, next_way}
-use Rattle.kernel_machine.specs.Turn.{Turn}
+use Rattle.kernel_machine.specs.Heading.{Heading}
 
 -- a cell that ended well, with the steps that it took; or the root
 pub record Node : Type 0 where
@@ -32,7 +32,7 @@ pub data Work : Type 0 where
 pub record Entered : Type 0 where
   pub work : Work
   pub count : ℕ
-  pub turn : Turn
+  pub heading : Heading
 
 -- no open job, or one at a border between two cells, or inside a cell
 pub data Job : Type 0 where

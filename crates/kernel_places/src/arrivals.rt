@@ -6,7 +6,7 @@ ghost use Rattle.kernel_sockets.specs.declared.shares.TheConstants.{READ_OCTETS}
 use crate::sockets::{is_answered, is_signed};
 use crate::time::{INTERRUPTIONS, clock_of, handshake_end, milliseconds};
 use kernel_session::Socket;
-use kernel_sockets::{Allowance, Input, OWN_OCTETS, Presence, READ_OCTETS, Share, Strangers};
+use kernel_sockets::{Allowance, ConnectionInput, OWN_OCTETS, Presence, READ_OCTETS, Share, Strangers};
 use std::alloc::Global;
 use std::io;
 use std::io::{ErrorKind, Read};
@@ -32,7 +32,7 @@ fn most_at_once(is_trusted: bool, room: usize) -> usize
 pub(crate) struct Arrivals<'a, R: Clock, S: Ledger> {
     rt: &'a R,
     stream: &'a TcpStream,
-    input: Input<'a>,
+    input: ConnectionInput<'a>,
     presence: &'a Presence,
     /// The peer as it is told of here, until it is ready.
     handshake: Option<Peer>,
@@ -50,7 +50,7 @@ impl<'a, R: Clock + Wait, S: Ledger> Arrivals<'a, R, S> {
         rt: &'a R,
         alloc: Global,
         stream: &'a TcpStream,
-        input: Input<'a>,
+        input: ConnectionInput<'a>,
         presence: &'a Presence,
         socket: Socket,
         strangers: &'a Strangers<S>,

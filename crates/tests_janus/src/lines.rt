@@ -2,7 +2,7 @@
 //! below, and its line; `closing`, `met` and `memory` give the lines of faults, `negative` that of a number, and `ones` that of an array of so many.
 use janus_store::View;
 use kernel_ask::{ExpFault, exp_fault_line, outcome_line, post_fault_line, value_text};
-use kernel_core::{CheckFault, End, Fault, Outcome, PostFault, Refusal, Span};
+use kernel_core::{CheckFault, TravelEnd, Fault, Outcome, PostFault, Refusal, Span};
 use std::alloc::{AllocError, Global};
 use tests_rows::{cut, number, push_answer};
 
@@ -36,9 +36,9 @@ const OUTCOMES: [Outcome; 8] = [
     Outcome::Ran(2, 3),
     Outcome::Failed(Fault::DivisionByZero, 1),
     Outcome::Interrupted(4096),
-    Outcome::Undid(1, End::All),
-    Outcome::Redid(0, End::NoMemory),
-    Outcome::Went(1, 2, End::Asked),
+    Outcome::Undid(1, TravelEnd::All),
+    Outcome::Redid(0, TravelEnd::NoMemory),
+    Outcome::Went(1, 2, TravelEnd::Asked),
     Outcome::Refused(Refusal::Check(CheckFault::SelfUse(SPAN))),
     Outcome::Refused(Refusal::TooFar),
 ];
