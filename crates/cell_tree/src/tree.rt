@@ -11,7 +11,7 @@ use crate::walks::{above, below, find_way, meeting, parent_of, path_to};
 use std::alloc::{AllocError, Global};
 use std::marker::Model;
 
-/// At most so many nodes stand beside the root.
+/// The most nodes that may stand beside the root.
 pub const NODE_LIMIT: usize = 65_536;
 
 /// A tree of nodes that are numbered as they come. Its root is the node 0, and holds nothing.
@@ -71,7 +71,8 @@ impl<C: Drop> Tree<C> {
 
     /// Whether no further node may be added.
     pub fn is_full(&self) -> bool
-        ensures { IsTrue result ↔ (length self.now.nodes ≡ node_limit) }
+        ensures full { IsTrue result ↔ (length self.now.nodes ≡ node_limit) }
+        ensures tree { IsTree self.now }
     {
         self.nodes.len() == NODE_LIMIT
     }

@@ -24,9 +24,6 @@ pub enum Entry {
     },
 }
 
-/// The most entries that there may be. A post takes two places: its own, and that of the end of its job.
-pub const MINUTES_LIMIT: usize = 1_000_000;
-
 /// The entries, how many jobs were posted, and how many of them have ended.
 #[derive(Drop)]
 pub struct MinuteBook {

@@ -14,7 +14,7 @@ use Rattle.janus_machine.proofs.Bodies.{onto_below}
 use Rattle.janus_machine.proofs.BodiesInEffect.{bodies_from_below, bodies_from_same}
 use Rattle.kernel_machine.specs.State.{root, node_at}
 use Rattle.kernel_history.specs.Fields.{node_of, past_of}
-use Rattle.kernel_history.specs.Kept.{IsCellAt, AreInOrder, bodies_over, bodies_up, bodies_at}
+use Rattle.kernel_history.specs.Bodies.{IsCellAt, AreInOrder, bodies_over, bodies_up, bodies_at}
 use Rattle.kernel_machine.specs.Legal.{IsLegal}
 use Rattle.kernel_runner.specs.Program.{procedures_of, IsReady, with_bodies}
 use Rattle.kernel_runner.specs.declared.program.Program.{Program}

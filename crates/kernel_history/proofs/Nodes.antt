@@ -18,7 +18,8 @@ use Rattle.kernel_machine.specs.declared.travel.Aim.TheVariants.{Goto}
 use Rattle.kernel_runner.specs.Program.{cell_of_program}
 use Rattle.kernel_history.specs.Fields.{node_of, nodes_of, past_of}
 use Rattle.kernel_machine.specs.Legal.{IsLegal, IsMeeting}
-use Rattle.kernel_history.specs.Kept.{IsCellAt, HasPath}
+use Rattle.kernel_history.specs.Bodies.{IsCellAt}
+use Rattle.kernel_history.specs.Kept.{HasPath}
 use Rattle.kernel_history.specs.declared.tree.EndedCell.{EndedCell}
 use Rattle.kernel_history.specs.declared.tree.HistoryTree.{HistoryTree}
 use Rattle.kernel_machine.proofs.Trees.{IsNext}

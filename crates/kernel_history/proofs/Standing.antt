@@ -30,7 +30,9 @@ use Rattle.janus_machine.proofs.BodiesInEffect.{forgotten_still_defined}
 use Rattle.janus_machine.specs.declared.procedures.Procedures.{Procedures}
 use Rattle.kernel_runner.specs.Program.{cell_of_program, IsReady, with_bodies}
 use Rattle.kernel_runner.specs.Runner.{ShownWorld, over, world_of, Becomes, Shows, Place, entry, inverse_entry, world_inside, Stands, Is, Between, IsInside, CanEnter, CanReturn, CanLeave}
-use Rattle.kernel_history.specs.Kept.{is_back, IsCellAt, IsBefore, IsBehindNodes, NodesAreReady, AreInOrder, bodies_at, bodies_in, shown_here, place_in, IsProgramOf, StandsIn, StandsAt, Kept, IsKept, HasRoom, HasPath, HasPathFor}
+use Rattle.kernel_history.specs.Bodies.{IsCellAt, IsBefore, IsBehindNodes, NodesAreReady, AreInOrder, bodies_at, bodies_in, IsProgramOf}
+use Rattle.kernel_history.specs.Standing.{is_back, shown_here, place_in, StandsIn, StandsAt}
+use Rattle.kernel_history.specs.Kept.{Kept, IsKept, HasRoom, HasPath, HasPathFor}
 use Rattle.kernel_runner.specs.declared.runner.Runner.{Runner}
 use Rattle.kernel_runner.specs.declared.program.Program.{Program}
 use Rattle.kernel_history.specs.declared.tree.EndedCell.{EndedCell}

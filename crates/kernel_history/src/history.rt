@@ -16,7 +16,9 @@ ghost use Rattle.kernel_runner.specs.Runner.{over, Becomes, Is, Between, KeepsSh
 ghost use Rattle.kernel_machine.specs.Extent.{IsExtent};
 ghost use Rattle.janus_syntax.specs.Tree.{cell_view};
 ghost use Rattle.kernel_history.specs.NodeTrees.{IsTreeAt, HasNoTree};
-ghost use Rattle.kernel_history.specs.Kept.{HasPath, NodesAreReady, AreInOrder, shown_here, Kept, IsKept, StandsAt};
+ghost use Rattle.kernel_history.specs.Bodies.{NodesAreReady, AreInOrder};
+ghost use Rattle.kernel_history.specs.Standing.{shown_here, StandsAt};
+ghost use Rattle.kernel_history.specs.Kept.{HasPath, Kept, IsKept};
 
 use crate::defined::procedures_here;
 use crate::extent::extent_of;

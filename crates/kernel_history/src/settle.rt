@@ -11,7 +11,9 @@ ghost use Rattle.kernel_machine.specs.StepsOfSlices.{steps_back, WritesOn};
 ghost use Rattle.janus_names.specs.Numbers.{GoOn};
 ghost use Rattle.janus_store.specs.StoreState.{IsWhole};
 ghost use Rattle.kernel_runner.specs.Runner.{Is, Between};
-ghost use Rattle.kernel_history.specs.Kept.{Kept, HasCome, IsProgramOf, HasPathFor, NodesAreReady, SettlesFrom, shown_here};
+ghost use Rattle.kernel_history.specs.Bodies.{IsProgramOf, NodesAreReady};
+ghost use Rattle.kernel_history.specs.Standing.{shown_here};
+ghost use Rattle.kernel_history.specs.Kept.{Kept, HasCome, HasPathFor, SettlesFrom};
 
 use crate::job::{Entered, Open, Work};
 use crate::tree::{EndedCell, HistoryTree, below};

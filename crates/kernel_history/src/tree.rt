@@ -8,7 +8,7 @@ ghost use Rattle.kernel_history.specs.Fields.{past_of, nodes_of};
 ghost use Rattle.kernel_machine.specs.Legal.{IsLegal, IsPossible, IsMeeting, can_undo, can_redo};
 ghost use Rattle.kernel_history.specs.Kept.{HasPath};
 
-use cell_tree::{NODE_LIMIT, Tree as Cells, TreeFault, Route};
+use cell_tree::{Route, Tree as Cells, TreeFault};
 use kernel_machine::{Aim, Travel};
 use kernel_runner::Program;
 
@@ -31,7 +31,7 @@ pub struct HistoryTree {
 pub fn is_full(tree: &HistoryTree) -> bool
     ensures { result ≡ is_full (past_of tree.now) }
 {
-    tree.cells.nodes() >= NODE_LIMIT
+    tree.cells.is_full()
 }
 
 /// How many nodes the position can go up, of so many at most.

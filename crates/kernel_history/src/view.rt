@@ -37,7 +37,7 @@ impl<'a, L: Ledger> Model for View<'a, L> {
     ghost use Rattle.janus_store.specs.StoreState.{shown_store};
     ghost use Rattle.kernel_history.specs.Fields.{past_of};
     ghost use Rattle.kernel_machine.specs.Legal.{IsLegal};
-    ghost use Rattle.kernel_history.specs.Kept.{over_here};
+    ghost use Rattle.kernel_history.specs.Bodies.{over_here};
 
     ghost Value = { World };
 

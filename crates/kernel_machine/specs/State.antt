@@ -3,6 +3,7 @@
 use Rattle.std.specs.Prelude.{◌≡◌, ℕ, ◌-◌, List, [], ◌∷◌, ◌++◌, length, get_or, zero, suc, Bool, nat_lt}
 use Rattle.janus_meaning.specs.World.{World, empty_world, Cell}
 use Rattle.janus_meaning.specs.Syntax.{Proc}
+use Rattle.cell_tree.specs.Tree.{node_limit}
 use Rattle.kernel_machine.specs.Language.{empty_cell, Code, Forward, Backward, start_of, CodePart, end_of}
 use Rattle.kernel_machine.specs.Travel.{Up, Down, Aim, Goto, Travel, next_way}
 use Rattle.kernel_machine.specs.Heading.{Heading}
@@ -56,11 +57,7 @@ world_at s n = get_or s.worlds n empty_world
 abbrev pub favourite_of : Past → ℕ → ℕ
 favourite_of s n = get_or s.favourites n 0
 
--- at most so many nodes stand beside the root
-abbrev pub node_limit : ℕ
-node_limit = 65536
-
--- no further node may stand in the tree
+-- no further node may stand in the tree: as many stand beside the root as `cell_tree` allows
 abbrev pub is_full : Past → Bool
 is_full s = nat_lt node_limit (length s.nodes)
 

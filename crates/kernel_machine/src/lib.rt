@@ -13,6 +13,7 @@
 mod events;
 mod extent;
 mod heading;
+mod limit;
 mod outcome;
 mod post;
 mod progress;
@@ -21,6 +22,7 @@ mod travel;
 pub use crate::events::{Event, Told};
 pub use crate::extent::Extent;
 pub use crate::heading::{Heading, Why};
+pub use crate::limit::{MINUTES_LIMIT, QUEUE_LIMIT};
 pub use crate::outcome::{Begun, Outcome, Phase, Refusal, Sliced, TravelEnd};
 pub use crate::post::{Job, PostFault};
 pub use crate::progress::Progress;

@@ -3,7 +3,8 @@ use Rattle.janus_machine.specs.Procedures.{kept_in}
 use Rattle.janus_machine.specs.Counts.{IsWritten}
 use Rattle.janus_machine.specs.declared.procedures.Procedures.{Procedures}
 use Rattle.kernel_machine.specs.StepsOfSlices.{steps_back}
-use Rattle.kernel_history.specs.Kept.{place_in, Kept}
+use Rattle.kernel_history.specs.Standing.{place_in}
+use Rattle.kernel_history.specs.Kept.{Kept}
 use Rattle.kernel_runner.specs.Runner.{Stands}
 use Rattle.kernel_machine.specs.declared.heading.Heading.TheVariants.{GoesBack}
 use Rattle.kernel_history.specs.declared.job.Open.TheVariants.{Inside}

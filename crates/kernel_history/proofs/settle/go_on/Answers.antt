@@ -3,7 +3,8 @@ use Rattle.janus_machine.specs.Procedures.{kept_in}
 use Rattle.janus_machine.specs.declared.procedures.Procedures.{Procedures}
 use Rattle.kernel_machine.specs.Language.{start_of}
 use Rattle.janus_machine.specs.Counts.{IsWritten}
-use Rattle.kernel_history.specs.Kept.{IsProgramOf, StandsIn}
+use Rattle.kernel_history.specs.Bodies.{IsProgramOf}
+use Rattle.kernel_history.specs.Standing.{StandsIn}
 use Rattle.kernel_runner.specs.declared.runner.Runner.{Runner}
 use Rattle.kernel_runner.specs.declared.program.Program.{Program}
 use Rattle.kernel_history.specs.declared.tree.HistoryTree.{HistoryTree}
