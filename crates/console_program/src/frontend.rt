@@ -16,11 +16,11 @@ use serde_json::Value;
 use std::alloc::Global;
 use std::io::{Read, Write};
 
-/// How often the kernel is asked what it is, until a status with its parent came.
-const ASKS: u32 = 100;
+/// The most times that the kernel is asked what it is, until a status with its parent came.
+const ASKING_LIMIT: u32 = 100;
 
 /// The most broadcasts that are looked at for each asking, be they refused or not: in all askings more than a kernel keeps.
-const LOOKS: u32 = 64;
+const BROADCAST_LIMIT: u32 = 64;
 
 /// A conversation with a kernel: a connection to shell, one to iopub that is subscribed to all, and the session.
 #[derive(Drop)]
@@ -129,7 +129,7 @@ impl<R: Read + Drop, W: Write + Drop> Frontend<R, W> {
 
     /// Whether a status that answers this session comes among the next broadcasts, and in the time that the reader waits.
     fn hears_status(&mut self) -> Result<bool, ConsoleFault> {
-        for _ in 0..LOOKS {
+        for _ in 0..BROADCAST_LIMIT {
             let Some(frames) = self.iopub.next()? else {
                 return Ok(false);
             };
@@ -148,7 +148,7 @@ impl<R: Read + Drop, W: Write + Drop> Frontend<R, W> {
 
     /// Asks what the kernel is, until a status with its parent came: then all later broadcasts come too.
     pub fn greet(&mut self) -> Result<(), ConsoleFault> {
-        for _ in 0..ASKS {
+        for _ in 0..ASKING_LIMIT {
             if self.try_greeting()? {
                 return Ok(());
             }

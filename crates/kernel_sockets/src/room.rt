@@ -3,7 +3,7 @@ ghost use Rattle.std.specs.Prelude.{◌≡◌, ℕ, ◌<◌, ◌≤◌, ◌↔�
 ghost use Rattle.kernel_sockets.specs.declared.room.Sight.{Sight};
 ghost use Rattle.kernel_sockets.specs.Room.{IsStranger, time_of, MayLeave, LeavesFirst, MakesRoomAmong, MakesRoom};
 
-use crate::presence::MOMENT;
+use crate::presence::STAY_MILLISECONDS;
 
 /// What was seen of a place.
 #[derive(Clone, Copy, PartialEq, Eq)]
@@ -31,7 +31,7 @@ impl Sight {
     fn time(self, silence: u64) -> u64
         ensures { result ≡ time_of silence self }
     {
-        if self.is_ready { silence } else { MOMENT }
+        if self.is_ready { silence } else { STAY_MILLISECONDS }
     }
 
     /// Whether it may have to make room: whether it is a stranger whose time is over.
