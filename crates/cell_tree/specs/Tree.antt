@@ -10,7 +10,7 @@ pub record Tree (C : Type 0) : Type 0 where
   pub favourites : List ℕ
   -- the way down that was found last: its last node first
   pub way : List ℕ
-  -- for so many more nodes the memory was taken
+  -- for how many more nodes the memory was taken
   pub room : ℕ
 
 -- the most nodes that may stand beside the root

@@ -127,7 +127,7 @@ impl<C: Drop> Tree<C> {
         parent_of(&self.nodes, node)
     }
 
-    /// How many nodes stand above a node, the root among them, of so many at most.
+    /// How many nodes stand above a node, the root among them, counted up to `most`.
     pub fn above(&self, node: usize, most: usize) -> usize
         requires { IsNode self.now node }
         ensures { result ≡ min most (depth (parents_of self.now.nodes) node) }
@@ -154,7 +154,7 @@ impl<C: Drop> Tree<C> {
         if child == 0 { None } else { Some(child) }
     }
 
-    /// How many nodes favourites lead down to from a node, of so many at most.
+    /// How many nodes favourites lead down to from a node, counted up to `most`.
     pub fn below(&self, node: usize, most: usize) -> usize
         requires { IsNode self.now node }
         ensures { result ≡ length (downward self.now.favourites node most) }

@@ -39,7 +39,7 @@ pub fn path_to<C>(alloc: Global, nodes: &[Node<C>], node: usize) -> Result<Vec<u
     Ok(path)
 }
 
-/// How many nodes stand above a node, of so many at most.
+/// How many nodes stand above a node, counted up to `most`.
 pub fn above<C>(nodes: &[Node<C>], node: usize, most: usize) -> usize
     requires ordered { IsOrdered (parents_of nodes.now) }
     requires known { node ≤ length nodes.now }
@@ -55,7 +55,7 @@ pub fn above<C>(nodes: &[Node<C>], node: usize, most: usize) -> usize
     most
 }
 
-/// How many nodes favourites lead down to from a node, of so many at most. In place of a favourite 0 stands for none.
+/// How many nodes favourites lead down to from a node, counted up to `most`. In place of a favourite 0 stands for none.
 pub fn below(favourites: &[usize], node: usize, most: usize) -> usize
     requires known { node < length favourites.now }
     requires nodes { (n : ℕ) → n < length favourites.now → slice_index favourites.now n < length favourites.now }

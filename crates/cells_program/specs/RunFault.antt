@@ -17,7 +17,7 @@ text_of Write = codes "cannot write"
 abbrev pub input_limit : ℕ
 input_limit = INPUT_LIMIT
 
--- so many octets at most were taken from what a reader has left
+-- at most n octets were taken from what a reader has left
 abbrev pub TakesAtMost : ℕ → Option (List ℕ) → Option (List ℕ) → Type 0
 TakesAtMost n old new = (octets : List ℕ) × Consumes old new octets × (length octets ≤ n)
 

@@ -145,7 +145,7 @@ below_more m n [] l h = tt
 below_more m n (i ∷ stack) l h = (let a = h.0 in omega arith, below_more m n stack l h.1)
 
 module _ (tree : HistoryTree) (legal : IsLegal (past_of tree)) (order : AreInOrder tree) where
-  -- so many bodies are below this one, where all of those nodes' are
+  -- all bodies of the nodes up to n are below this one
   abbrev AllBefore : ℕ → ℕ → Type 0
   AllBefore from n = (m : ℕ) (cell : EndedCell) → m ≤ n → IsCellAt tree m cell → cell.program.first + length (procedures_of cell.program) ≤ from
 

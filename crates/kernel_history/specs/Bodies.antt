@@ -42,7 +42,7 @@ abbrev pub bodies_over : Option (Node EndedCell) → (ℕ → List ℕ) → List
 bodies_over None above = []
 bodies_over (Some node) above = with_bodies node.content.program (above node.parent)
 
--- the bodies of the nodes on the path to a node, the newest first, where at most so many of them are told
+-- the bodies of the nodes on the path to a node, the newest first, where at most k nodes are looked at
 abbrev pub bodies_up : ℕ → HistoryTree → ℕ → List ℕ
 bodies_up zero tree n = []
 bodies_up (suc k) tree zero = []
@@ -72,7 +72,7 @@ procedures_in tree work = (start_of (code_of (past_of tree) (work_of work)) (her
 abbrev pub NodesAreReady : {L : Type 0} → HistoryTree → Runner L → Type 0
 NodesAreReady tree runner = (n : ℕ) (cell : EndedCell) → IsCellAt tree n cell → IsReady runner.store.names runner.procedures cell.program
 
--- so many bodies stand before the first of the other program
+-- the bodies of the one program stand before the first of the other
 abbrev pub IsBefore : Program → Program → Type 0
 IsBefore p q = p.first + length (procedures_of p) ≤ q.first
 

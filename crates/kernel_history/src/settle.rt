@@ -135,7 +135,7 @@ pub fn turn_back<L: Ledger>(
     go_back(tree, runner, writes, work, count, why, m)
 }
 
-/// A cell of the travel is done, which has so many left.
+/// A cell of the travel is done, and these are left.
 fn arrive(travel: Travel) -> (Open, Sliced)
     ensures { (past : Past) → Arrives (cells travel) past travel result.1 (record { past = past; job = job_of result.0 }) }
 {

@@ -34,7 +34,7 @@ pub fn is_full(tree: &HistoryTree) -> bool
     tree.cells.is_full()
 }
 
-/// How many nodes the position can go up, of so many at most.
+/// How many nodes the position can go up, counted up to `most`.
 pub fn nodes_above(tree: &HistoryTree, most: usize) -> usize
     requires { IsLegal (past_of tree.now) }
     ensures most { result ≤ most }
@@ -45,7 +45,7 @@ pub fn nodes_above(tree: &HistoryTree, most: usize) -> usize
     tree.cells.above(tree.position, most)
 }
 
-/// How many nodes the position can go down, along favourites, of so many at most.
+/// How many nodes the position can go down, along favourites, counted up to `most`.
 pub fn nodes_below(tree: &HistoryTree, most: usize) -> usize
     requires { IsLegal (past_of tree.now) }
     ensures most { result ≤ most }

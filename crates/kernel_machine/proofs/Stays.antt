@@ -60,7 +60,7 @@ part_sooner code w j i v p l =
       ]
     ]
 
--- a world is shown after so many steps of the work
+-- a world is shown after c steps of the work
 abbrev IsShownIn : Past → Work → ℕ → Type 0
 IsShownIn s work c = (w : World) × CodePart (code_of s work) (here s) c w
 

@@ -45,12 +45,12 @@ abbrev pub TakesCell : Past → List ℕ → Bool → Begun → State → Type 0
 TakesCell s text true told new = RefusesJob s HistoryFull told new
 TakesCell s text false told new = EntersCell s text told new ⊎ RefusesCell s text told new
 
--- a travel of so many cells ends at once, or enters its first cell
+-- a travel without cells ends at once, another enters its first cell
 abbrev pub Departs : ℕ → Past → Travel → Begun → State → Type 0
 Departs zero s travel told new = (told ≡ begun.Ended (finished travel All)) × (new ≡ record { past = s; job = Idle })
 Departs (suc left) s travel told new = Enters s travel told new
 
--- a new travel: so many cells up, and then so many down
+-- a new travel: `up` cells up, and then `down` cells down
 abbrev pub travel_to : Aim → ℕ → ℕ → Travel
 travel_to aim up down = record { aim = aim; up = up; down = down; went_up = 0; went_down = 0 }
 

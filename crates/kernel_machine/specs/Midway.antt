@@ -33,7 +33,7 @@ abbrev pub IsReason : Code → World → Why → Type 0
 IsReason code w (WasAsked at) = IsUnderWay code w at
 IsReason code w (Faulted fault at) = MeetsFault code w fault at
 
--- the code goes on after so many steps; or it goes back from where it turned, for this reason, and stands no further on
+-- the code goes on after c steps; or it goes back from where it turned, for this reason, and stands no further on
 abbrev pub IsAtCount : Code → World → ℕ → Heading → Type 0
 IsAtCount code w c GoesOn = IsUnderWay code w c
 IsAtCount code w c (GoesBack why) = (c ≤ count_of why) × IsReason code w why

@@ -52,7 +52,7 @@ moved s travel = elim (next_way travel) [
   | Down ↦ record s { favourites = set s.favourites s.position (below s travel); position = below s travel }
 ]
 
--- a cell of the travel is done: the job ends, or stands at a border with so many cells left
+-- a cell of the travel is done: the job ends, or stands at a border with the cells that are left
 abbrev pub Arrives : ℕ → Past → Travel → Sliced → State → Type 0
 Arrives zero s travel told new = (told ≡ sliced.Ended (finished travel All)) × (new ≡ record { past = s; job = Idle })
 Arrives (suc left) s travel told new = (told ≡ sliced.Border) × (new ≡ record { past = s; job = Border travel })

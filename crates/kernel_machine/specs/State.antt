@@ -70,7 +70,7 @@ abbrev pub ancestor : List Node → ℕ → ℕ → ℕ
 ancestor nodes n zero = n
 ancestor nodes n (suc j) = (get_or nodes (ancestor nodes n j) root).parent
 
--- the node to which a travel goes down next, with so many cells down still to go: towards a node the one so far above it, else the favourite
+-- the node to which a travel goes down next, with `down` cells down still to go: towards a node the one `down - 1` steps above it, else the favourite
 abbrev pub below_by : Aim → Past → ℕ → ℕ
 below_by (Goto n) s down = ancestor s.nodes n (down - 1)
 below_by other s down = favourite_of s s.position

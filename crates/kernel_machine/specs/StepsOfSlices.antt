@@ -22,7 +22,7 @@ steps_on c m (Stopped j fault) = j - c
 abbrev pub steps_back : ℕ → ℕ → ℕ
 steps_back c m = c - (c - m)
 
--- a slice onward takes so many steps
+-- a slice onward takes k steps
 abbrev pub TakesOn : Past → Work → ℕ → ℕ → ℕ → Type 0
 TakesOn s work c m k =
     (ran : Progress) × (w : World) × Reaches (code_of s work) (here s) (c + m) ran w × (k ≡ steps_on c m ran)

@@ -76,7 +76,7 @@ fault_back fault.StepLimit = refl
 fault_same : (f g : Fault) → fault_of f ≡ fault_of g → f ≡ g
 fault_same f g e = sym (fault_back f) ∙ ap code_fault e ∙ fault_back g
 
--- from one world, with so many steps to take, code comes thus far and no further
+-- from one world, with m steps to take, code comes thus far and no further
 pub reach_same : (code : Code) (w : World) (m : ℕ) (a b : Progress) (u v : World) → Reaches code w m a u → Reaches code w m b v → (a ≡ b) × (u ≡ v)
 reach_same code w m Went Went u v p q = (refl, part_same code w m u v p.0 q.0)
 reach_same code w m Went (Ended n) u v p q = absurd (let l : m < n = p.1 n v q.0 in let h : n ≤ m = q.1 in omega arith)

@@ -241,7 +241,7 @@ up_declares : (s : Past) (up i : ℕ) → 0 < up → Declares s (left_of aim.Und
 up_declares s zero i l d = absurd (omega arith)
 up_declares s (suc up) i l d = d
 
--- where an undo of k cells stands after j of them, it tells so many
+-- where an undo of k cells stands after j of them, it tells j
 tells_undone : (k j : ℕ) (end : TravelEnd) → j ≤ k → finished (after (travel_to aim.Undo k 0) j) end ≡ outcome.Undid j end
 tells_undone k j end l = ap (λ (t : Travel). finished t end) (after_up aim.Undo k 0 j l)
 

@@ -22,12 +22,12 @@ StaysAt s work n new = (heading : Heading) × (new ≡ record { past = s; job = 
 abbrev pub SettlesBack : Past → State → Type 0
 SettlesBack s new = new ≡ record { past = s; job = Idle }
 
--- so many steps are those that the node of an undone or a redone cell has; a posted one has no node before it is done
+-- n are the steps that the node of an undone or a redone cell has; a posted one has no node before it is done
 abbrev pub AreStepsOfNode : Past → Work → ℕ → Type 0
 AreStepsOfNode s (Posted cell) n = Unit {0}
 AreStepsOfNode s (Move travel) n = n ≡ steps_of s travel
 
--- the cell is done, after so many steps in all: they are those of its node
+-- the cell is done, after n steps in all: they are those of its node
 abbrev pub IsDoneIn : Past → Work → ℕ → Sliced → State → Type 0
 IsDoneIn s work n answer new = (w : World) × HasEnded s work n w × Settles s work n w answer new × AreStepsOfNode s work n
 

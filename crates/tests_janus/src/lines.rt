@@ -1,5 +1,5 @@
 //! Rows of the lines in which a frontend is told outcomes, faults and values. `outcome` gives an outcome by its place in the list
-//! below, and its line; `closing`, `met` and `memory` give the lines of faults, `negative` that of a number, and `ones` that of an array of so many.
+//! below, and its line; `closing`, `met` and `memory` give the lines of faults, `negative` that of a number, and `ones` that of an array of a number of them.
 use janus_store::View;
 use kernel_ask::{ExpFault, exp_fault_line, outcome_line, post_fault_line, value_text};
 use kernel_core::{CheckFault, TravelEnd, Fault, Outcome, PostFault, Refusal, Span};
@@ -53,7 +53,7 @@ fn outcome(alloc: Global, at: usize) -> Result<String, AllocError> {
     format!(in alloc; "{outcome:?} is {line}")
 }
 
-/// The line of an array of so many ones.
+/// The line of an array of a number of ones.
 fn ones(alloc: Global, count: usize) -> Result<String, AllocError> {
     let many = vec![in alloc; 1i32; count]?;
     value_text(alloc, "a", View::Array(&many))

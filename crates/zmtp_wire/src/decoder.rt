@@ -184,7 +184,7 @@ fn drop_given(buffer: &mut Vec<u8>, given: usize) -> usize
     0
 }
 
-/// Drops so many octets at the front. Where none is left, memory past what is kept for the next pieces is given back.
+/// Drops `count` octets at the front. Where none is left, memory past what is kept for the next pieces is given back.
 fn drop_front(buffer: &mut Vec<u8>, count: usize)
     requires { count ≤ vec_len buffer.old }
     ensures items { buffer.new.items ≡ drop count buffer.old.items }
