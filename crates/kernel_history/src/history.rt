@@ -29,7 +29,9 @@ use crate::view::View;
 use cell_tree::Tree as Cells;
 use janus_machine::{Store, Writes};
 use janus_syntax::tree::Cell;
-use kernel_machine::{Aim, Begun, TravelEnd, Extent, Outcome, Refusal, Sliced, Travel, Heading, Way, Why};
+use kernel_machine::{
+    Aim, Begun, Extent, Heading, Outcome, Refusal, Sliced, Travel, TravelEnd, Way, Why,
+};
 use kernel_runner::{Program, Runner};
 use std::alloc::{AllocError, Global};
 use std::marker::Model;
@@ -96,7 +98,10 @@ fn enter<L: Ledger>(tree: &HistoryTree, runner: &mut Runner<L>, travel: Travel) 
     ensures kept { IsKept tree.now runner.new result.0 }
 {
     if enter_next(tree, runner, travel).is_err() {
-        return (Open::Idle, Begun::Ended(finished(travel, TravelEnd::NoMemory)));
+        return (
+            Open::Idle,
+            Begun::Ended(finished(travel, TravelEnd::NoMemory)),
+        );
     }
     let entered = Entered {
         work: Work::Move(travel),
@@ -301,7 +306,11 @@ impl<L: Ledger> History<L> {
                 Sliced::Nothing
             }
             Open::Inside(entered) => {
-                let Entered { work, count, heading } = entered;
+                let Entered {
+                    work,
+                    count,
+                    heading,
+                } = entered;
                 let (job, told) = match heading {
                     Heading::GoesBack(why) => {
                         go_back(&self.tree, &mut self.runner, writes, work, count, why, m)

@@ -19,7 +19,7 @@ use crate::job::{Entered, Open, Work};
 use crate::tree::{EndedCell, HistoryTree, below};
 use cell_tree::Node;
 use janus_machine::Writes;
-use kernel_machine::{Aim, TravelEnd, Outcome, Progress, Sliced, Travel, Heading, Way, Why};
+use kernel_machine::{Aim, Heading, Outcome, Progress, Sliced, Travel, TravelEnd, Way, Why};
 use kernel_runner::{Program, Runner};
 use std::sync::ledger::Ledger;
 
@@ -201,7 +201,12 @@ fn settle_down<L: Ledger>(
 }
 
 /// A cell came to its end, in `n` steps.
-fn settle<L: Ledger>(tree: &mut HistoryTree, runner: &mut Runner<L>, work: Work, n: u64) -> (Open, Sliced)
+fn settle<L: Ledger>(
+    tree: &mut HistoryTree,
+    runner: &mut Runner<L>,
+    work: Work,
+    n: u64,
+) -> (Open, Sliced)
     requires { HasCome tree.old runner.old work n }
     ensures step { SettlesFrom tree.old runner.old work n result.1 (state_of tree.new result.0) }
     ensures kept { Kept tree.new runner.new result.0 }

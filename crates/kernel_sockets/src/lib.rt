@@ -28,7 +28,7 @@ pub use connections::Connections;
 pub use input::ConnectionInput;
 pub use listener::Listener;
 pub use patience::{MESSAGE_MILLISECONDS, Patience};
-pub use presence::{STAY_MILLISECONDS, Presence};
+pub use presence::{Presence, STAY_MILLISECONDS};
 pub use register::{Register, Stream};
 pub use room::{Sight, who_makes_room};
 pub use shares::{Allowance, COMMON_OCTETS, Common, OWN_OCTETS, READ_OCTETS, Share, Strangers};

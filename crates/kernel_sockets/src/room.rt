@@ -31,7 +31,11 @@ impl Sight {
     fn time(self, silence: u64) -> u64
         ensures { result ≡ time_of silence self }
     {
-        if self.is_ready { silence } else { STAY_MILLISECONDS }
+        if self.is_ready {
+            silence
+        } else {
+            STAY_MILLISECONDS
+        }
     }
 
     /// Whether it may have to make room: whether it is a stranger whose time is over.

@@ -8,7 +8,7 @@ ghost use Rattle.kernel_text.specs.Lines.{post_fault_line as post_fault_line_of,
 use crate::text::as_text;
 use crate::writing::{send_counted, send_numbered, send_pair};
 use exact_write::{WriteFailed, send};
-use kernel_core::{TravelEnd, Fault, Outcome, PostFault, Refusal, Span};
+use kernel_core::{Fault, Outcome, PostFault, Refusal, Span, TravelEnd};
 use std::alloc::{AllocError, Global};
 use std::io::Write;
 
@@ -58,7 +58,12 @@ fn send_down<W: Write>(writer: &mut W, end: TravelEnd) -> Result<(), WriteFailed
 }
 
 /// Writes how many cells a goto went up and down, and how that ended.
-fn send_way<W: Write>(writer: &mut W, up: usize, down: usize, end: TravelEnd) -> Result<(), WriteFailed>
+fn send_way<W: Write>(
+    writer: &mut W,
+    up: usize,
+    down: usize,
+    end: TravelEnd,
+) -> Result<(), WriteFailed>
     ensures ok { OnOk result (Appends (W.contents writer.old) (W.contents writer.new) (way_text up down end)) }
     ensures err { OnErr result (SentSome (W.contents writer.old) (W.contents writer.new) (way_text up down end)) }
 {

@@ -2,7 +2,7 @@
 //! below, and its line; `closing`, `met` and `memory` give the lines of faults, `negative` that of a number, and `ones` that of an array of a number of them.
 use janus_store::View;
 use kernel_ask::{ExpFault, exp_fault_line, outcome_line, post_fault_line, value_text};
-use kernel_core::{CheckFault, TravelEnd, Fault, Outcome, PostFault, Refusal, Span};
+use kernel_core::{CheckFault, Fault, Outcome, PostFault, Refusal, Span, TravelEnd};
 use std::alloc::{AllocError, Global};
 use tests_rows::{cut, number, push_answer};
 

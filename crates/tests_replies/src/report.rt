@@ -5,7 +5,7 @@ use crate::asked::asked;
 use crate::kernels::SLICES;
 use jupyter_msg::{MsgFault, RequestContent};
 use kernel_ask::{Ask, Comms, Completeness, Content, Done, NamedValue, ask_on};
-use kernel_core::{TravelEnd, Kernel, Outcome, PostFault};
+use kernel_core::{Kernel, Outcome, PostFault, TravelEnd};
 use std::alloc::{AllocError, Global};
 use std::sync::ledger::Ledger;
 use tests_rows::cut;

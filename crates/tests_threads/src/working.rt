@@ -3,7 +3,7 @@ ghost use Rattle.std.specs.Prelude.{◌≡◌, ◌<◌};
 
 use crate::desk::{Away, Desk, Worker, cell, closed, ends, is_world, pass, post};
 use kernel_ask::Done;
-use kernel_core::{TravelEnd, Job, Outcome};
+use kernel_core::{Job, Outcome, TravelEnd};
 use kernel_hall::{Gate, Hall, Moment};
 use std::alloc::Global;
 use std::marker::Brand;
