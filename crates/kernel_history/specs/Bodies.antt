@@ -23,6 +23,8 @@ use Rattle.kernel_history.specs.declared.job.Work.TheVariants.{Cell as RunCell, 
 use Rattle.kernel_history.specs.declared.job.Open.{Open}
 use Rattle.kernel_history.specs.declared.job.Open.TheVariants.{Idle, Border, Inside}
 
+-- ---- programs
+
 -- the cell of this node
 abbrev pub IsCellAt : HistoryTree → ℕ → EndedCell → Type 0
 IsCellAt tree n cell = (0 < n) × (slice_get (contents_of tree.cells) (n - 1) ≡ Some cell)
@@ -35,7 +37,7 @@ IsProgramOf tree (Move travel) p = elim (next_way travel) [
   | Down ↦ (cell : EndedCell) × IsCellAt tree (below (past_of tree) travel) cell × (p ≡ cell.program)
 ]
 
--- ---- the procedures that are defined
+-- ---- the bodies and the procedures that are defined
 
 -- the bodies of a node over those of the nodes above it
 abbrev pub bodies_over : Option (Node EndedCell) → (ℕ → List ℕ) → List ℕ
@@ -67,6 +69,8 @@ over_here own tree = define (map plain_procedure (procedures_view own)) (here (p
 -- those with which the steps of the work's code begin
 abbrev pub procedures_in : HistoryTree → Work → List Proc
 procedures_in tree work = (start_of (code_of (past_of tree) (work_of work)) (here (past_of tree))).procedures
+
+-- ---- which bodies are kept, and in which order
 
 -- each node's code has its numbers in the store, and its bodies are kept
 abbrev pub NodesAreReady : {L : Type 0} → HistoryTree → Runner L → Type 0

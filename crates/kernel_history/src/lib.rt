@@ -10,7 +10,7 @@
 //! The code, in reading order; `cell_tree` keeps the nodes, and `kernel_runner` runs a cell:
 //!
 //! - `tree`: the tree of cells with the position, and what is asked of it; `job`: the open job.
-//! - `history`: the three in one, and how jobs begin. `settle`: the parts of a slice, and what comes at the end of a cell.
+//! - `history`: the tree, the runner and the open job in one, and how jobs begin. `settle`: the parts of a slice, and what comes at the end of a cell.
 //! - `defined`: the procedures of a world; `view`: the shown world, lent; `extent`: how far an undo and a redo can go.
 //!
 //! The definitions, in specs/, in reading order:
