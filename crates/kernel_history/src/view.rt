@@ -13,7 +13,7 @@ ghost use Rattle.kernel_runner.specs.Runner.{world_of};
 
 use crate::defined::{all_procedures, own_procedures};
 use crate::job::Open;
-use crate::tree::Tree;
+use crate::tree::HistoryTree;
 use janus_machine::Store;
 use janus_store::ValueView;
 use janus_syntax::tree::Procedure;
@@ -26,7 +26,7 @@ use std::sync::ledger::Ledger;
 #[derive(Drop)]
 pub struct View<'a, L: Ledger> {
     store: &'a Store<L>,
-    tree: &'a Tree,
+    tree: &'a HistoryTree,
     /// The procedures of the open cell, over those of the position.
     own: &'a [Procedure],
 }
@@ -37,7 +37,7 @@ impl<'a, L: Ledger> Model for View<'a, L> {
     ghost use Rattle.janus_store.specs.StoreState.{shown_store};
     ghost use Rattle.kernel_history.specs.Fields.{past_of};
     ghost use Rattle.kernel_machine.specs.Legal.{IsLegal};
-    ghost use Rattle.kernel_history.specs.Kept.{over_here};
+    ghost use Rattle.kernel_history.specs.Bodies.{over_here};
 
     ghost Value = { World };
 
@@ -50,7 +50,7 @@ impl<'a, L: Ledger> Model for View<'a, L> {
 
 impl<'a, L: Ledger> View<'a, L> {
     /// The world that a runner shows, where the tree and the open job are these.
-    pub(crate) fn of(runner: &'a Runner<L>, tree: &'a Tree, job: &'a Open) -> View<'a, L>
+    pub(crate) fn of(runner: &'a Runner<L>, tree: &'a HistoryTree, job: &'a Open) -> View<'a, L>
         requires legal { IsLegal (past_of tree.now) }
         requires possible { IsPossibleAt (past_of tree.now) (job_of job.now) }
         requires path { HasPathAt tree.now job.now }

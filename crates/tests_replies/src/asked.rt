@@ -9,7 +9,7 @@ use kernel_core::{Job, Kernel};
 use std::alloc::{AllocError, Global};
 use std::sync::ledger::Ledger;
 
-/// Runs the cell or the move, or asks the question. A job is asked to stop behind so many slices.
+/// Runs the cell or the move, or asks the question. A job is asked to stop behind a number of slices.
 pub(crate) fn asked<L: Ledger>(
     alloc: Global,
     kernel: &mut Kernel<L>,

@@ -7,7 +7,7 @@ use std::sync::ledger::Ledger;
 /// How many slices a job gets at most.
 pub(crate) const SLICES: usize = 10;
 
-/// Posts the job and runs it to its end in slices of 1,000 steps: its number and its outcome. Behind the first so many slices it is asked
+/// Posts the job and runs it to its end in slices of 1,000 steps: its number and its outcome. Behind the first `calm` slices it is asked
 /// to stop.
 pub(crate) fn run<L: Ledger>(
     kernel: &mut Kernel<L>,
@@ -53,7 +53,7 @@ fn slice<L: Ledger>(kernel: &mut Kernel<L>, asked: bool) -> Option<Outcome> {
 }
 
 /// Posts the job and runs it to its end: what came of it, with the text of its cell and the expressions beside it. It is asked to stop
-/// behind so many slices.
+/// behind `calm` slices.
 pub(crate) fn ended<L: Ledger>(
     alloc: Global,
     kernel: &mut Kernel<L>,
