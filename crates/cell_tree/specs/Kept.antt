@@ -5,12 +5,12 @@ use Rattle.std.specs.Global.{Vec}
 use Rattle.cell_tree.specs.declared.node.Node.{Node}
 use Rattle.cell_tree.specs.Tree.{Tree, IsTree, node_limit}
 
--- so many more elements fit
+-- how many more elements fit
 abbrev pub spare : {X : Type 0} → Vec X → ℕ
 spare v = vec_capacity v - vec_len v
 
 module _ {C : Type 0} where
-  -- so many more nodes fit: below the limit, among the nodes and the favourites, and on a way through all of them
+  -- how many more nodes fit: below the limit, among the nodes and the favourites, and on a way through all of them
   abbrev pub room_of : Vec (Node C) → Vec ℕ → Vec ℕ → ℕ
   room_of nodes favourites way =
       min (node_limit - vec_len nodes) (min (spare nodes) (min (spare favourites) (vec_capacity way - vec_len nodes)))

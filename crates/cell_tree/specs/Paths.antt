@@ -3,7 +3,7 @@
 use Rattle.std.specs.Prelude.{◌≡◌, ℕ, ◌-◌, ◌≤◌, ◌==◌, List, [], ◌∷◌, ◌++◌, zero, suc, length, slice_index, if◌then◌else◌}
 use Rattle.cell_tree.specs.Tree.{parent_in}
 
--- The path to a node that is at most so many steps below the root: the root's is the root alone, another node's is that of its parent and
+-- The path to a node that is at most `steps` steps below the root: the root's is the root alone, another node's is that of its parent and
 -- then the node.
 abbrev pub path_within : List ℕ → ℕ → ℕ → List ℕ
 path_within parents steps zero = 0 ∷ []
@@ -28,23 +28,23 @@ last_common both (x ∷ xs) (y ∷ ys) = if x == y then last_common x xs ys else
 abbrev pub meeting_of : List ℕ → ℕ → ℕ → ℕ
 meeting_of parents a b = last_common 0 (path_of parents a) (path_of parents b)
 
--- the node so many steps above n; the root is its own parent
+-- the node `steps` steps above n; the root is its own parent
 abbrev pub ancestor : List ℕ → ℕ → ℕ → ℕ
 ancestor parents n zero = n
 ancestor parents n (suc steps) = parent_in parents (ancestor parents n steps)
 
--- so many nodes from n on upward
+-- the first `count` nodes from n on upward
 abbrev pub upward : List ℕ → ℕ → ℕ → List ℕ
 upward parents n zero = []
 upward parents n (suc count) = n ∷ upward parents (parent_in parents n) count
 
--- the nodes below n to which favourites lead, one after another, so many at most
+-- the nodes below n to which favourites lead, one after another, and of these at most the first `most`
 abbrev pub downward : List ℕ → ℕ → ℕ → List ℕ
 downward favourites n zero = []
 downward favourites n (suc most) =
     if slice_index favourites n == 0 then [] else slice_index favourites n ∷ downward favourites (slice_index favourites n) most
 
--- so many steps up, and then so many down, lead from one node to another by the node where their paths meet, and there is no shorter way
+-- `up` steps up, and then `down` steps down, lead from one node to another by the node where their paths meet, and there is no shorter way
 pub record IsWay (parents : List ℕ) (from to up down : ℕ) : Type 0 where
   pub up_there : ancestor parents from up ≡ meeting_of parents from to
   pub down_there : ancestor parents to down ≡ meeting_of parents from to

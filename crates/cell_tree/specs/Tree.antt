@@ -1,6 +1,7 @@
 -- A tree as contracts see it. Its root is the node 0, and holds nothing; the nodes after it are numbered in the order in which they came.
 use Rattle.std.specs.Prelude.{◌≡◌, ℕ, ◌+◌, ◌-◌, ◌<◌, ◌≤◌, List, [], ◌∷◌, ◌++◌, length, map, slice_index}
 use Rattle.cell_tree.specs.declared.node.Node.{Node}
+use Rattle.cell_tree.specs.declared.tree.TheConstants.{NODE_LIMIT}
 
 pub record Tree (C : Type 0) : Type 0 where
   -- the nodes without the root: the node n is at the place n - 1
@@ -9,12 +10,12 @@ pub record Tree (C : Type 0) : Type 0 where
   pub favourites : List ℕ
   -- the way down that was found last: its last node first
   pub way : List ℕ
-  -- for so many more nodes the memory was taken
+  -- for how many more nodes the memory was taken
   pub room : ℕ
 
--- at most so many nodes stand beside the root
+-- the most nodes that may stand beside the root
 abbrev pub node_limit : ℕ
-node_limit = 65536
+node_limit = NODE_LIMIT
 
 -- in a list of parents, that of a node
 abbrev pub parent_in : List ℕ → ℕ → ℕ

@@ -16,11 +16,11 @@
 mod fault;
 pub mod laws;
 mod node;
+mod route;
 mod tree;
 mod walks;
-mod way;
 
 pub use fault::TreeFault;
 pub use node::Node;
+pub use route::Route;
 pub use tree::{NODE_LIMIT, Tree};
-pub use way::Way;

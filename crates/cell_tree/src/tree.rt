@@ -6,12 +6,12 @@ ghost use Rattle.cell_tree.specs.Paths.{path_of, depth, meeting_of, upward, down
 
 use crate::fault::TreeFault;
 use crate::node::Node;
+use crate::route::Route;
 use crate::walks::{above, below, find_way, meeting, parent_of, path_to};
-use crate::way::Way;
 use std::alloc::{AllocError, Global};
 use std::marker::Model;
 
-/// At most so many nodes stand beside the root.
+/// The most nodes that may stand beside the root.
 pub const NODE_LIMIT: usize = 65_536;
 
 /// A tree of nodes that are numbered as they come. Its root is the node 0, and holds nothing.
@@ -71,7 +71,8 @@ impl<C: Drop> Tree<C> {
 
     /// Whether no further node may be added.
     pub fn is_full(&self) -> bool
-        ensures { IsTrue result ↔ (length self.now.nodes ≡ node_limit) }
+        ensures full { IsTrue result ↔ (length self.now.nodes ≡ node_limit) }
+        ensures tree { IsTree self.now }
     {
         self.nodes.len() == NODE_LIMIT
     }
@@ -126,7 +127,7 @@ impl<C: Drop> Tree<C> {
         parent_of(&self.nodes, node)
     }
 
-    /// How many nodes stand above a node, the root among them, of so many at most.
+    /// How many nodes stand above a node, the root among them, counted up to `most`.
     pub fn above(&self, node: usize, most: usize) -> usize
         requires { IsNode self.now node }
         ensures { result ≡ min most (depth (parents_of self.now.nodes) node) }
@@ -153,7 +154,7 @@ impl<C: Drop> Tree<C> {
         if child == 0 { None } else { Some(child) }
     }
 
-    /// How many nodes favourites lead down to from a node, of so many at most.
+    /// How many nodes favourites lead down to from a node, counted up to `most`.
     pub fn below(&self, node: usize, most: usize) -> usize
         requires { IsNode self.now node }
         ensures { result ≡ length (downward self.now.favourites node most) }
@@ -208,7 +209,7 @@ impl<C: Drop> Tree<C> {
     /// # Errors
     ///
     /// `NoNode` exactly where `to` is no node. The tree stands as it was.
-    pub fn find_way(&mut self, from: usize, to: usize) -> Result<Way, TreeFault>
+    pub fn find_way(&mut self, from: usize, to: usize) -> Result<Route, TreeFault>
         requires { IsNode self.old from }
         ensures way { IfOk result (λ way. IsWay (parents_of self.old.nodes) from to way.up way.down) }
         ensures few { IfOk result (λ way. (way.up ≤ from) × (way.down ≤ to)) }

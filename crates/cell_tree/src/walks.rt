@@ -5,7 +5,7 @@ ghost use Rattle.cell_tree.specs.Paths.{path_of, depth, meeting_of, upward, down
 
 use crate::fault::TreeFault;
 use crate::node::Node;
-use crate::way::Way;
+use crate::route::Route;
 use std::alloc::Global;
 
 /// The number of the node above, and 0 for the root.
@@ -39,7 +39,7 @@ pub fn path_to<C>(alloc: Global, nodes: &[Node<C>], node: usize) -> Result<Vec<u
     Ok(path)
 }
 
-/// How many nodes stand above a node, of so many at most.
+/// How many nodes stand above a node, counted up to `most`.
 pub fn above<C>(nodes: &[Node<C>], node: usize, most: usize) -> usize
     requires ordered { IsOrdered (parents_of nodes.now) }
     requires known { node ≤ length nodes.now }
@@ -55,7 +55,7 @@ pub fn above<C>(nodes: &[Node<C>], node: usize, most: usize) -> usize
     most
 }
 
-/// How many nodes favourites lead down to from a node, of so many at most. In place of a favourite 0 stands for none.
+/// How many nodes favourites lead down to from a node, counted up to `most`. In place of a favourite 0 stands for none.
 pub fn below(favourites: &[usize], node: usize, most: usize) -> usize
     requires known { node < length favourites.now }
     requires nodes { (n : ℕ) → n < length favourites.now → slice_index favourites.now n < length favourites.now }
@@ -91,7 +91,7 @@ pub fn meeting<C>(nodes: &[Node<C>], first: usize, second: usize) -> usize
 }
 
 /// How far up and then down one node lies from another. The nodes that the way goes down to are written to `way`, the last one first.
-pub fn find_way<C>(nodes: &[Node<C>], way: &mut Vec<usize>, from: usize, to: usize) -> Way
+pub fn find_way<C>(nodes: &[Node<C>], way: &mut Vec<usize>, from: usize, to: usize) -> Route
     requires ordered { IsOrdered (parents_of nodes.now) }
     requires from { from ≤ length nodes.now }
     requires to { to ≤ length nodes.now }
@@ -114,7 +114,7 @@ pub fn find_way<C>(nodes: &[Node<C>], way: &mut Vec<usize>, from: usize, to: usi
             b = parent_of(nodes, b);
         }
     }
-    Way {
+    Route {
         up,
         down: way.len(),
     }

@@ -27,7 +27,7 @@ use Rattle.kernel_core.specs.outcome.Sliced.TheVariants as sliced
 use Rattle.kernel_core.specs.outcome.Outcome.{Outcome}
 use Rattle.kernel_core.specs.outcome.Outcome.TheVariants as outcome
 use Rattle.kernel_core.specs.outcome.Refusal.TheVariants as refusal
-use Rattle.kernel_core.specs.outcome.End.TheVariants.{NoMemory}
+use Rattle.kernel_core.specs.outcome.TravelEnd.TheVariants.{NoMemory}
 use Rattle.cells_program.specs.Determined.{Holds, TellsWant}
 use Rattle.cells_program.specs.Lines.{ended_line}
 use Rattle.kernel_text.specs.Lines.{counted_text}

@@ -14,9 +14,9 @@ use Rattle.kernel_core.specs.travel.Travel.{Travel}
 use Rattle.kernel_core.specs.travel.Way.{Way}
 use Rattle.kernel_core.specs.travel.Way.TheVariants.{Up, Down}
 use Rattle.kernel_core.specs.Travel.{next_way}
-use Rattle.kernel_core.specs.turn.Why.{Why}
-use Rattle.kernel_core.specs.turn.Turn.{Turn}
-use Rattle.kernel_core.specs.turn.Turn.TheVariants.{GoesOn, GoesBack}
+use Rattle.kernel_core.specs.heading.Why.{Why}
+use Rattle.kernel_core.specs.heading.Heading.{Heading}
+use Rattle.kernel_core.specs.heading.Heading.TheVariants.{GoesOn, GoesBack}
 use Rattle.kernel_core.proofs.Trees.{way_up, way_down}
 use Rattle.kernel_core.specs.outcome.Sliced.{Sliced}
 use Rattle.kernel_core.specs.outcome.Sliced.TheVariants as sliced
@@ -26,7 +26,7 @@ use Rattle.kernel_core.proofs.Taken.{IsInside, IsBorder}
 
 -- ---- how much is left of a job
 
-abbrev turn_left : Turn → ℕ → ℕ
+abbrev turn_left : Heading → ℕ → ℕ
 turn_left GoesOn zero = step_limit + 2
 turn_left GoesOn (suc c) = step_limit + 1
 turn_left (GoesBack why) c = c
@@ -38,7 +38,7 @@ cells_left (Move travel) = cells travel
 abbrev pub left : Job → ℕ
 left Idle = 0
 left (Border travel) = cells travel * (step_limit + 4) + (step_limit + 3)
-left (Inside e) = cells_left e.work * (step_limit + 4) + turn_left e.turn e.count
+left (Inside e) = cells_left e.work * (step_limit + 4) + turn_left e.heading e.count
 
 -- what the answer of a slice inside a cell tells
 abbrev pub Nearer : Job → Sliced → Job → Type 0
@@ -61,7 +61,7 @@ backs_nearer s work why old (suc c) told new lt h =
     subst (λ t. Nearer old t new.job) (sym h.0) ((_, ap (λ x. x.job) h.1), subst (λ n. n < left old) (sym (ap (λ x. left x.job) h.1)) lt)
 
 abbrev inside : Work → ℕ → Job
-inside work c = Inside (record { work = work; count = c; turn = GoesOn })
+inside work c = Inside (record { work = work; count = c; heading = GoesOn })
 
 -- one cell less, and the step to the border, is less than what was left
 one_less : (n m t : ℕ) → n - 1 ≡ suc m → step_limit < t → suc m * (step_limit + 4) + (step_limit + 3) < n * (step_limit + 4) + t
@@ -112,14 +112,14 @@ back_less : (a c n : ℕ) → c - step_limit ≡ suc n → a + suc n < a + c
 back_less a c n e = omega arith
 
 -- backing: what is left to go back is less
-backing_nearer : (s : Past) (work : Work) (why : Why) (c n : ℕ) (told : Sliced) (new : State) → c - step_limit ≡ n → Backs s work why n told new → Nearer (Inside (record { work = work; count = c; turn = GoesBack why })) told new.job
+backing_nearer : (s : Past) (work : Work) (why : Why) (c n : ℕ) (told : Sliced) (new : State) → c - step_limit ≡ n → Backs s work why n told new → Nearer (Inside (record { work = work; count = c; heading = GoesBack why })) told new.job
 backing_nearer s work why c zero told new e h =
-    subst (λ t. Nearer (Inside (record { work = work; count = c; turn = GoesBack why })) t new.job) (sym h.0) (ap (λ x. x.job) h.1)
+    subst (λ t. Nearer (Inside (record { work = work; count = c; heading = GoesBack why })) t new.job) (sym h.0) (ap (λ x. x.job) h.1)
 backing_nearer s work why c (suc n) told new e h =
-    subst (λ t. Nearer (Inside (record { work = work; count = c; turn = GoesBack why })) t new.job) (sym h.0)
+    subst (λ t. Nearer (Inside (record { work = work; count = c; heading = GoesBack why })) t new.job) (sym h.0)
     ((_, ap (λ x. x.job) h.1), subst (λ n. n < cells_left work * (step_limit + 4) + c) (sym (ap (λ x. left x.job) h.1)) (back_less (cells_left work * (step_limit + 4)) c n e))
 
-slices_nearer : (s : Past) (work : Work) (c : ℕ) (turn : Turn) (told : Sliced) (new : State) → SlicesIn s work c turn step_limit false told new → Nearer (Inside (record { work = work; count = c; turn = turn })) told new.job
+slices_nearer : (s : Past) (work : Work) (c : ℕ) (heading : Heading) (told : Sliced) (new : State) → SlicesIn s work c heading step_limit false told new → Nearer (Inside (record { work = work; count = c; heading = heading })) told new.job
 slices_nearer s work c GoesOn told new h = comes_nearer s work c h.0 h.1 told new h.2 h.3
 slices_nearer s work c (GoesBack why) told new h = backing_nearer s work why c (c - step_limit) told new refl h
 
@@ -128,7 +128,7 @@ pub slice_nearer : (old new : Machine) (told : Sliced) → IsInside old.state.jo
 slice_nearer old new told i h =
     let at : SlicesAt old.state.past (Inside i.0) step_limit false told h.0 = subst (λ job. SlicesAt old.state.past job step_limit false told h.0) i.1 h.1 in
     subst (λ job. Nearer job told new.state.job) (sym i.1)
-    (subst (λ state. Nearer (Inside i.0) told state.job) (sym (ap (λ m. m.state) h.2)) (slices_nearer old.state.past i.0.work i.0.count i.0.turn told h.0 at))
+    (subst (λ state. Nearer (Inside i.0) told state.job) (sym (ap (λ m. m.state) h.2)) (slices_nearer old.state.past i.0.work i.0.count i.0.heading told h.0 at))
 
 -- ---- begins
 

@@ -12,10 +12,10 @@ use Rattle.kernel_core.specs.Slices.{Backs, Comes, SlicesIn, SlicesAt, turned}
 use Rattle.kernel_core.specs.Begins.{TakesCell}
 use Rattle.kernel_core.specs.Runs.{Machine, IsPost, IsBegin, IsSliceOf, BeginsAt, TakesUnless, Run, IsNext}
 use Rattle.kernel_core.specs.Request.{Request, RunCell, Undo, Redo, Goto}
-use Rattle.kernel_core.specs.turn.Why.{Why}
-use Rattle.kernel_core.specs.turn.Why.TheVariants.{WasAsked, Faulted}
-use Rattle.kernel_core.specs.turn.Turn.{Turn}
-use Rattle.kernel_core.specs.turn.Turn.TheVariants.{GoesOn, GoesBack as TurnedBack}
+use Rattle.kernel_core.specs.heading.Why.{Why}
+use Rattle.kernel_core.specs.heading.Why.TheVariants.{WasAsked, Faulted}
+use Rattle.kernel_core.specs.heading.Heading.{Heading}
+use Rattle.kernel_core.specs.heading.Heading.TheVariants.{GoesOn, GoesBack as TurnedBack}
 use Rattle.kernel_core.specs.Theorems.{EndsAs, JobsEnd, WasStopped, HasAsked, OnlyAskedSlicesStop}
 use Rattle.kernel_core.specs.Ends.{EndsUnless, JobEnds, CellEnds, TextEnds}
 use Rattle.kernel_core.specs.events.Event.{Event}
@@ -133,11 +133,11 @@ served_job_ends jobs_end steps old new r o idle alone h =
 
 -- ---- what stops a cell
 
-abbrev cell_at : Cell → ℕ → Turn → Job
-cell_at cell c turn = Inside (record { work = Posted cell; count = c; turn = turn })
+abbrev cell_at : Cell → ℕ → Heading → Job
+cell_at cell c heading = Inside (record { work = Posted cell; count = c; heading = heading })
 
 -- how a cell that is sliced back to its beginning ends
-abbrev TellsWhy : Turn → Bool → ℕ → Outcome → Type 0
+abbrev TellsWhy : Heading → Bool → ℕ → Outcome → Type 0
 TellsWhy (TurnedBack (WasAsked at)) asked c o = o ≡ outcome.Interrupted at
 TellsWhy (TurnedBack (Faulted fault at)) asked c o = o ≡ outcome.Failed fault at
 TellsWhy GoesOn true c o = o ≡ outcome.Interrupted c
@@ -156,42 +156,42 @@ backs_tell s cell why zero t new h = subst (λ t. BackTells t cell why new.job) 
 backs_tell s cell why (suc c) t new h = subst (λ t. BackTells t cell why new.job) (sym h.0) (suc c, ap (λ x. x.job) h.1)
 
 -- what a slice tells that goes back, where the code goes on only if it is asked to
-abbrev SliceTells : Turn → Bool → ℕ → Sliced → Cell → Job → Type 0
+abbrev SliceTells : Heading → Bool → ℕ → Sliced → Cell → Job → Type 0
 SliceTells (TurnedBack why) asked c t cell new = BackTells t cell why new
 SliceTells GoesOn true c t cell new = BackTells t cell (WasAsked c) new
 SliceTells GoesOn false c t cell new = Unit {0}
 
-slice_tells : (s : Past) (cell : Cell) (c : ℕ) (turn : Turn) (m : ℕ) (asked : Bool) (t : Sliced) (new : State) → SlicesIn s (Posted cell) c turn m asked t new → SliceTells turn asked c t cell new.job
+slice_tells : (s : Past) (cell : Cell) (c : ℕ) (heading : Heading) (m : ℕ) (asked : Bool) (t : Sliced) (new : State) → SlicesIn s (Posted cell) c heading m asked t new → SliceTells heading asked c t cell new.job
 slice_tells s cell c GoesOn m true t new h = backs_tell s cell (WasAsked c) (c - m) t new h
 slice_tells s cell c GoesOn m false t new h = tt
 slice_tells s cell c (TurnedBack why) m asked t new h = backs_tell s cell why (c - m) t new h
 
 -- the slice of a machine that stands in a cell
-cell_slices : (old new : Machine) (cell : Cell) (c : ℕ) (turn : Turn) (m : ℕ) (asked : Bool) (t : Sliced) → old.state.job ≡ cell_at cell c turn → IsSliceOf old m asked t new → SlicesIn old.state.past (Posted cell) c turn m asked t new.state
-cell_slices old new cell c turn m asked t e h =
-    subst (λ x. SlicesIn old.state.past (Posted cell) c turn m asked t x) (sym (ap (λ m. m.state) h.2))
+cell_slices : (old new : Machine) (cell : Cell) (c : ℕ) (heading : Heading) (m : ℕ) (asked : Bool) (t : Sliced) → old.state.job ≡ cell_at cell c heading → IsSliceOf old m asked t new → SlicesIn old.state.past (Posted cell) c heading m asked t new.state
+cell_slices old new cell c heading m asked t e h =
+    subst (λ x. SlicesIn old.state.past (Posted cell) c heading m asked t x) (sym (ap (λ m. m.state) h.2))
     (subst (λ job. SlicesAt old.state.past job m asked t h.0) e h.1)
 
-machine_tells : (old new : Machine) (cell : Cell) (c : ℕ) (turn : Turn) (m : ℕ) (asked : Bool) (t : Sliced) → old.state.job ≡ cell_at cell c turn → IsSliceOf old m asked t new → SliceTells turn asked c t cell new.state.job
-machine_tells old new cell c turn m asked t e h = slice_tells old.state.past cell c turn m asked t new.state (cell_slices old new cell c turn m asked t e h)
+machine_tells : (old new : Machine) (cell : Cell) (c : ℕ) (heading : Heading) (m : ℕ) (asked : Bool) (t : Sliced) → old.state.job ≡ cell_at cell c heading → IsSliceOf old m asked t new → SliceTells heading asked c t cell new.state.job
+machine_tells old new cell c heading m asked t e h = slice_tells old.state.past cell c heading m asked t new.state (cell_slices old new cell c heading m asked t e h)
 
-back_ends : (turn : Turn) (asked : Bool) (c : ℕ) (cell : Cell) (o : Outcome) (new : Job) → SliceTells turn asked c (sliced.Ended o) cell new → TellsWhy turn asked c o
+back_ends : (heading : Heading) (asked : Bool) (c : ℕ) (cell : Cell) (o : Outcome) (new : Job) → SliceTells heading asked c (sliced.Ended o) cell new → TellsWhy heading asked c o
 back_ends GoesOn true c cell o new h = h
 back_ends GoesOn false c cell o new h = tt
 back_ends (TurnedBack (WasAsked at)) asked c cell o new h = h
 back_ends (TurnedBack (Faulted fault at)) asked c cell o new h = h
 
-back_goes : (turn : Turn) (asked : Bool) (c : ℕ) (cell : Cell) (o : Outcome) (mid : Job) → SliceTells turn asked c sliced.Backing cell mid
-    → ((why : Why) (d : ℕ) → mid ≡ cell_at cell d (TurnedBack why) → TellsWhy (TurnedBack why) asked d o) → TellsWhy turn asked c o
+back_goes : (heading : Heading) (asked : Bool) (c : ℕ) (cell : Cell) (o : Outcome) (mid : Job) → SliceTells heading asked c sliced.Backing cell mid
+    → ((why : Why) (d : ℕ) → mid ≡ cell_at cell d (TurnedBack why) → TellsWhy (TurnedBack why) asked d o) → TellsWhy heading asked c o
 back_goes GoesOn true c cell o mid h k = k (WasAsked c) h.0 h.1
 back_goes GoesOn false c cell o mid h k = tt
 back_goes (TurnedBack (WasAsked at)) asked c cell o mid h k = k (WasAsked at) h.0 h.1
 back_goes (TurnedBack (Faulted fault at)) asked c cell o mid h k = k (Faulted fault at) h.0 h.1
 
-goes_back_tells : (asked : Bool) (old new : Machine) (o : Outcome) (cell : Cell) (c : ℕ) (turn : Turn) → old.state.job ≡ cell_at cell c turn → GoesBack asked old o new → TellsWhy turn asked c o
-goes_back_tells asked old new o cell c turn e (is_back s) = back_ends turn asked c cell o new.state.job (machine_tells old new cell c turn step_limit asked (sliced.Ended o) e s)
-goes_back_tells asked old new o cell c turn e (not_yet_back {mid = mid} s f) =
-    back_goes turn asked c cell o mid.state.job (machine_tells old mid cell c turn step_limit asked sliced.Backing e s)
+goes_back_tells : (asked : Bool) (old new : Machine) (o : Outcome) (cell : Cell) (c : ℕ) (heading : Heading) → old.state.job ≡ cell_at cell c heading → GoesBack asked old o new → TellsWhy heading asked c o
+goes_back_tells asked old new o cell c heading e (is_back s) = back_ends heading asked c cell o new.state.job (machine_tells old new cell c heading step_limit asked (sliced.Ended o) e s)
+goes_back_tells asked old new o cell c heading e (not_yet_back {mid = mid} s f) =
+    back_goes heading asked c cell o mid.state.job (machine_tells old mid cell c heading step_limit asked sliced.Backing e s)
     (λ why d h. goes_back_tells asked mid new o cell d (TurnedBack why) h f)
 
 -- what the first slice of a cell tells

@@ -33,7 +33,7 @@ pub lines_split : (xs ys : List (Name × Val)) → value_lines (xs ++ ys) ≡ va
 lines_split [] ys = refl
 lines_split (x ∷ xs) ys = ap (λ t. ended_line (value_text x) ++ t) (lines_split xs ys) ∙ sym (append_assoc (ended_line (value_text x)) (value_lines xs) (value_lines ys))
 
--- the text of the first so many names
+-- the text of the first i names
 abbrev pub first_text : ℕ → List (Name × Val) → ℕ → List ℕ
 first_text position es i = ended_line (position_line position) ++ value_lines (take i es)
 

@@ -2,6 +2,7 @@
 use Rattle.std.specs.Prelude.{ℕ, ◌<◌, ◌≤◌, ⊤, List, Option, length, codes}
 use Rattle.std.specs.Io.KnownBytes.{Consumes}
 use Rattle.std.specs.Str.{IsUtf8}
+use Rattle.cells_program.specs.declared.input.TheConstants.{INPUT_LIMIT}
 use Rattle.cells_program.specs.declared.fault.RunFault.{RunFault}
 use Rattle.cells_program.specs.declared.fault.RunFault.TheVariants.{Read, TooLong, NotText, Memory, Write}
 
@@ -12,11 +13,11 @@ text_of NotText = codes "input is not text"
 text_of Memory = codes "no memory"
 text_of Write = codes "cannot write"
 
--- how many octets of an input are taken
+-- the most octets of an input that are taken
 abbrev pub input_limit : ℕ
-input_limit = 16777216
+input_limit = INPUT_LIMIT
 
--- so many octets at most were taken from what a reader has left
+-- at most n octets were taken from what a reader has left
 abbrev pub TakesAtMost : ℕ → Option (List ℕ) → Option (List ℕ) → Type 0
 TakesAtMost n old new = (octets : List ℕ) × Consumes old new octets × (length octets ≤ n)
 

@@ -7,7 +7,7 @@ use Rattle.cells_program.specs.declared.command.Command.{Command}
 use Rattle.cells_program.specs.declared.command.Command.TheVariants.{Run, Undo, Redo, Goto, Show, Unknown}
 use Rattle.cells_program.specs.declared.command.Command.TheVariants as command
 
--- one thing that an input asks for: to run a text as a cell, to undo or redo so many cells, to go to a node, to show the
+-- one thing that an input asks for: to run a text as a cell, to undo or redo a number of cells, to go to a node, to show the
 -- world, to list the procedures, or what nobody knows
 pub data Action : Type 0 where
   RunText : (text : List ℕ) → Action

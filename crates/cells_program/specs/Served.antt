@@ -14,7 +14,7 @@ pub data GoesBack (asked : Bool) : Machine → Outcome → Machine → Type 0 wh
   not_yet_back : {old mid new : Machine} {o : Outcome}
       → IsSliceOf old step_limit asked sliced.Backing mid → GoesBack asked mid o new → GoesBack asked old o new
 
--- A cell that has been entered gets one slice of so many steps. Where it has not ended by then it is interrupted, by slices that
+-- A cell that has been entered gets one slice of `steps` steps. Where it has not ended by then it is interrupted, by slices that
 -- ask; where it met a fault it goes back unasked.
 pub data CellFinishes (steps : ℕ) : Machine → Outcome → Machine → Type 0 where
   in_time : {old new : Machine} {o : Outcome} → IsSliceOf old steps false (sliced.Ended o) new → CellFinishes steps old o new
@@ -52,7 +52,7 @@ pub data Came : Type 0 where
 abbrev pub lane : ℕ
 lane = 0
 
--- a request is posted, begun and brought to its end; if it is a cell, one that may take so many steps
+-- a request is posted, begun and brought to its end; if it is a cell, one that may take `steps` steps
 pub data Serves (steps : ℕ) : Machine → Request → Came → Machine → Type 0 where
   not_posted : {old new : Machine} {r : Request} {f : PostFault}
       → IsPost old lane r (Err f) new → Serves steps old r (NotPosted f) new

@@ -16,7 +16,7 @@ abbrev pub came_line : Came → List ℕ
 came_line (NotPosted f) = post_fault_line f
 came_line (Finished outcome) = outcome_line outcome
 
--- a request is served, with so many steps for a cell, and `out` is the line of what came of it
+-- a request is served, with `steps` steps for a cell, and `out` is the line of what came of it
 abbrev pub Answers : ℕ → Machine → Request → List ℕ → Machine → Type 0
 Answers steps old r out new = (came : Came) × Serves steps old r came new × (out ≡ ended_line (came_line came))
 
@@ -42,7 +42,7 @@ ActionsServe steps (action ∷ more) old out new =
     (mid : Machine) × (first : List ℕ) × (second : List ℕ)
     × ActionServes steps action old first mid × ActionsServe steps more mid second new × (out ≡ first ++ second)
 
--- A transcript of an input, of whose cells each may take so many steps: a new kernel serves the actions that the input asks
+-- A transcript of an input, of whose cells each may take `steps` steps: a new kernel serves the actions that the input asks
 -- for, and all that is written of them is the transcript.
 abbrev pub IsTranscript : ℕ → List ℕ → List ℕ → Type 0
 IsTranscript steps input out = (new : Machine) × ActionsServe steps (script input) new_machine out new

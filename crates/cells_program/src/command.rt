@@ -12,9 +12,9 @@ ghost use Rattle.cells_program.specs.Command.{command_of, is_count, is_short_num
 pub enum Command {
     /// To run the gathered text as a cell, also an empty one.
     Run,
-    /// To undo so many cells.
+    /// To undo this number of cells.
     Undo(u32),
-    /// To redo so many cells.
+    /// To redo this number of cells.
     Redo(u32),
     /// To go to the node of this number.
     Goto(u32),

@@ -8,7 +8,7 @@ use std::alloc::Global;
 use std::io::Read;
 
 /// The most octets of an input that are taken.
-const INPUT_LIMIT: usize = 16_777_216;
+pub const INPUT_LIMIT: usize = 16_777_216;
 
 /// The text that the reader gives to its end: at most 16,777,216 octets of UTF-8. No more than one octet past these is read,
 /// and that one only to tell that the input is too long.

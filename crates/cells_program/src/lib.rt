@@ -25,6 +25,7 @@ mod words;
 
 pub use command_line::{program, without_output};
 pub use fault::{RunFault, status};
+pub use input::INPUT_LIMIT;
 pub use output::send_run_fault;
 pub use transcript::run;
 pub use words::{steps_of, unread_words_status, words_status};

@@ -10,7 +10,7 @@ ghost use Rattle.cells_program.specs.Lines.{ended_line};
 ghost use Rattle.cells_program.specs.Shown.{position_line};
 
 use crate::fault::RunFault;
-use janus_store::View;
+use janus_store::ValueView;
 use kernel_core::{Outcome, PostFault};
 use kernel_text::{WriteFailed, send, send_counted};
 use std::io::Write;
@@ -34,7 +34,7 @@ pub fn send_post_fault<W: Write>(writer: &mut W, fault: PostFault) -> Result<(),
 }
 
 /// Writes the line of a name with its value.
-pub fn send_value<W: Write>(writer: &mut W, name: &str, value: View<'_>) -> Result<(), WriteFailed>
+pub fn send_value<W: Write>(writer: &mut W, name: &str, value: ValueView<'_>) -> Result<(), WriteFailed>
     ensures ok { OnOk result (Appends (W.contents writer.old) (W.contents writer.new) (ended_line (value_text (name.now, shown value.entry)))) }
     ensures err { OnErr result (SentSome (W.contents writer.old) (W.contents writer.new) (ended_line (value_text (name.now, shown value.entry)))) }
 {

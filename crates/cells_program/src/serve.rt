@@ -24,7 +24,7 @@ fn go_back<L: Ledger>(kernel: &mut Kernel<L>, asked: bool) -> Outcome
     }
 }
 
-/// Gives the cell that has been entered so many steps, and takes it back where it has not ended by then.
+/// Gives the cell that has been entered `steps` steps, and takes it back where it has not ended by then.
 fn finish_cell<L: Ledger>(kernel: &mut Kernel<L>, steps: u64) -> Outcome
     requires { IsInCell kernel.old.machine.state.job }
     ensures finishes { CellFinishes steps kernel.old.machine result kernel.new.machine }
@@ -61,7 +61,7 @@ fn finish<L: Ledger>(kernel: &mut Kernel<L>) -> Outcome
     }
 }
 
-/// Posts a job to a kernel without an open job, and brings it to its end. A cell that has not ended after so many steps is
+/// Posts a job to a kernel without an open job, and brings it to its end. A cell that has not ended after `steps` steps is
 /// interrupted.
 pub fn serve<L: Ledger>(kernel: &mut Kernel<L>, steps: u64, job: Job) -> Result<Outcome, PostFault>
     requires idle { kernel.old.machine.state.job ≡ Idle }

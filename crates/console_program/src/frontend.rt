@@ -6,7 +6,7 @@ ghost use Rattle.console_program.specs.Requests.{request_octets};
 
 use crate::wire::Wire;
 use console_talk::{
-    Command, ConsoleFault, Heard, Printed, comm_close_draft, comm_open_draft, comm_told,
+    ConsoleCommand, ConsoleFault, Heard, Printed, comm_close_draft, comm_open_draft, comm_told,
     complete_draft, completion_told, execute_draft, is_answer_to, is_in_session, kernel_info_draft,
     message, move_draft, run_told, state_draft, what_is_heard,
 };
@@ -16,11 +16,11 @@ use serde_json::Value;
 use std::alloc::Global;
 use std::io::{Read, Write};
 
-/// How often the kernel is asked what it is, until a status with its parent came.
-const ASKS: u32 = 100;
+/// The most times that the kernel is asked what it is, until a status with its parent came.
+const ASKING_LIMIT: u32 = 100;
 
 /// The most broadcasts that are looked at for each asking, be they refused or not: in all askings more than a kernel keeps.
-const LOOKS: u32 = 64;
+const BROADCAST_LIMIT: u32 = 64;
 
 /// A conversation with a kernel: a connection to shell, one to iopub that is subscribed to all, and the session.
 #[derive(Drop)]
@@ -129,7 +129,7 @@ impl<R: Read + Drop, W: Write + Drop> Frontend<R, W> {
 
     /// Whether a status that answers this session comes among the next broadcasts, and in the time that the reader waits.
     fn hears_status(&mut self) -> Result<bool, ConsoleFault> {
-        for _ in 0..LOOKS {
+        for _ in 0..BROADCAST_LIMIT {
             let Some(frames) = self.iopub.next()? else {
                 return Ok(false);
             };
@@ -148,7 +148,7 @@ impl<R: Read + Drop, W: Write + Drop> Frontend<R, W> {
 
     /// Asks what the kernel is, until a status with its parent came: then all later broadcasts come too.
     pub fn greet(&mut self) -> Result<(), ConsoleFault> {
-        for _ in 0..ASKS {
+        for _ in 0..ASKING_LIMIT {
             if self.try_greeting()? {
                 return Ok(());
             }
@@ -359,14 +359,14 @@ impl<R: Read + Drop, W: Write + Drop> Frontend<R, W> {
     }
 
     /// Has the kernel do what the command says, and answers what is printed.
-    pub fn obey(&mut self, command: &Command) -> Result<Printed, ConsoleFault> {
+    pub fn obey(&mut self, command: &ConsoleCommand) -> Result<Printed, ConsoleFault> {
         match command {
-            Command::Run(code) => self.run(code),
-            Command::Undo(k) => self.go("undo", *k),
-            Command::Redo(k) => self.go("redo", *k),
-            Command::Goto(n) => self.go("goto", *n),
-            Command::Show => self.show(),
-            Command::Complete(text) => self.complete(text),
+            ConsoleCommand::Run(code) => self.run(code),
+            ConsoleCommand::Undo(k) => self.go("undo", *k),
+            ConsoleCommand::Redo(k) => self.go("redo", *k),
+            ConsoleCommand::Goto(n) => self.go("goto", *n),
+            ConsoleCommand::Show => self.show(),
+            ConsoleCommand::Complete(text) => self.complete(text),
         }
     }
 }

@@ -8,8 +8,8 @@ ghost use Rattle.exact_write.specs.Sent.{SentSome};
 use crate::frontend::{Frontend, subscribe};
 use crate::output::print;
 use crate::wire::Wire;
-use console_talk::{Command, ConsoleFault, Printed, session_name};
-use console_words::{Arguments, Kind, Refused, arguments_of};
+use console_talk::{ConsoleCommand, ConsoleFault, Printed, session_name};
+use console_words::{Arguments, RefusalKind, Refused, arguments_of};
 use jupyter_msg::{Connection, Key, Setting};
 use program_words::{send_unread_words, unread_words_status};
 use std::alloc::Global;
@@ -136,7 +136,7 @@ fn open_shell(
 fn greet_and_obey(
     frontend: &mut Frontend<&TcpStream, &TcpStream>,
     broadcasts: &TcpStream,
-    command: &Command,
+    command: &ConsoleCommand,
 ) -> Result<Printed, ConsoleFault> {
     set_patience(
         broadcasts,
@@ -154,7 +154,7 @@ fn converse_over(
     broadcasts: &TcpStream,
     iopub: Wire<&TcpStream, &TcpStream>,
     requests: &TcpStream,
-    command: &Command,
+    command: &ConsoleCommand,
 ) -> Result<Printed, ConsoleFault> {
     let (shell, session) = open_shell(alloc, requests)?;
     let mut frontend = Frontend {
@@ -173,7 +173,7 @@ fn converse<R>(
     rt: &R,
     alloc: Global,
     file: Connection,
-    command: &Command,
+    command: &ConsoleCommand,
 ) -> Result<Printed, ConsoleFault>
 where
     R: Net<Listener = TcpListener, Stream = TcpStream>,
@@ -225,13 +225,13 @@ fn end<W: Write, E: Write>(came: Result<Printed, ConsoleFault>, out: &mut W, err
 /// Prints the help, or why the words ask for nothing, and answers the status.
 fn refuse<W: Write, E: Write>(refused: &Refused, out: &mut W, err: &mut E) -> u8
     ensures status { result ≡ refusal_status refused.now.kind }
-    ensures help { refused.now.kind ≡ Kind.Help → SentSome (W.contents out.old) (W.contents out.new) (string_bytes refused.now.text) }
-    ensures wrong { refused.now.kind ≡ Kind.Wrong → SentSome (E.contents err.old) (E.contents err.new) (string_bytes refused.now.text) }
+    ensures help { refused.now.kind ≡ RefusalKind.Help → SentSome (W.contents out.old) (W.contents out.new) (string_bytes refused.now.text) }
+    ensures wrong { refused.now.kind ≡ RefusalKind.Wrong → SentSome (E.contents err.old) (E.contents err.new) (string_bytes refused.now.text) }
 {
     match refused.kind {
-        Kind::Help => print(out, &refused.text),
-        Kind::Wrong => print(err, &refused.text),
-        Kind::Memory => tell(ConsoleFault::NoMemory, err),
+        RefusalKind::Help => print(out, &refused.text),
+        RefusalKind::Wrong => print(err, &refused.text),
+        RefusalKind::Memory => tell(ConsoleFault::NoMemory, err),
     }
     refused.kind.status()
 }

@@ -18,8 +18,8 @@ use std::io::{ErrorKind, Read, Write};
 use zmtp_peer::{Peer, PeerEvent, PeerFault, Role};
 use zmtp_wire::{SendFault, WireFault, send_pong, write_message};
 
-/// How many octets are read at once, at most.
-const ROOM: usize = 8192;
+/// The most octets that are read at once.
+const READ_OCTETS: usize = 8192;
 
 /// A connection to one socket of the kernel, over a reader and a writer.
 #[derive(Drop)]
@@ -87,7 +87,7 @@ impl<R: Read + Drop, W: Write + Drop> Wire<R, W> {
 
     /// Takes in the next octets. It answers false where none came in the time that the reader waits.
     fn read_once(&mut self) -> Result<bool, ConsoleFault> {
-        let mut room = [0u8; ROOM];
+        let mut room = [0u8; READ_OCTETS];
         match self.reader.read(&mut room) {
             Ok(0) => Err(ConsoleFault::NoConnection),
             Ok(count) => {

@@ -56,7 +56,7 @@ comm_msg_content id d = record_of ((codes "comm_id", text id) ∷ (codes "data",
 abbrev pub comm_msg : List ℕ → Data → Said
 comm_msg id d = says (codes "comm_msg") (comm_msg_content id d)
 
--- a move: its operation, and so many cells or the number of a node
+-- a move: its operation, and a number of cells or that of a node
 abbrev pub move_data : List ℕ → ℕ → Data
 move_data op n = record_of ((codes "n", count n) ∷ (codes "op", text op) ∷ [])
 

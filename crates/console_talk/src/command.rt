@@ -2,12 +2,12 @@
 
 /// What a console is asked to do, once.
 #[derive(Drop)]
-pub enum Command {
+pub enum ConsoleCommand {
     /// To run this text as a cell.
     Run(String),
-    /// To undo so many cells.
+    /// To undo this number of cells.
     Undo(u32),
-    /// To redo so many cells.
+    /// To redo this number of cells.
     Redo(u32),
     /// To go to the node of this number.
     Goto(u32),

@@ -1,6 +1,6 @@
 //! What a console says to a Jupyter kernel of Janus, and what it prints of the answers: values and texts, with no socket.
 //!
-//! A [`Command`] is what a console was asked to do. The functions of `request` make of it what is said ([`Draft`](kernel_message::Draft)s:
+//! A [`ConsoleCommand`] is what a console was asked to do. The functions of `request` make of it what is said ([`Draft`](kernel_message::Draft)s:
 //! the contents are those of the Jupyter messaging page, version 5.4, and for moves those of the comms with the target `janus.undo`),
 //! and [`message`] the message, under the console's session. Those of `printed` read an answer's content, as JSON, and give the lines that are printed
 //! ([`Printed`]), or say that it is no such answer; [`is_answer_to`] says whose answer a message is. [`ConsoleFault`] has the lines and statuses of
@@ -21,7 +21,7 @@ mod printed;
 mod request;
 
 pub use broadcast::{Heard, what_is_heard};
-pub use command::Command;
+pub use command::ConsoleCommand;
 pub use fault::ConsoleFault;
 pub use header::{message, session_name};
 pub use parent::{is_answer_to, is_in_session};

@@ -220,7 +220,7 @@ fn end_text(said: &Value) -> &'static str
     }
 }
 
-/// The line of so many cells, behind these words.
+/// The line of `n` cells, behind these words.
 fn cells_told(alloc: Global, words: &str, n: u64, ending: &str) -> Result<Printed, AllocError>
     ensures { IfOk result (λ told. told_of told ≡ table.well (table.line (words.now ++ decimal n ++ ending.now))) }
 {

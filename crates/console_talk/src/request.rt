@@ -101,7 +101,7 @@ fn comm_msg_draft(alloc: Global, id: &str, body: Value) -> Result<Draft, AllocEr
     })
 }
 
-/// Asks on a comm for a move: `undo` and `redo` of so many cells, and `goto` to the node of this number. The only error is want of memory.
+/// Asks on a comm for a move: `undo` and `redo` of `n` cells, and `goto` to the node `n`. The only error is want of memory.
 pub fn move_draft(alloc: Global, id: &str, op: &str, n: u32) -> Result<Draft, AllocError>
     ensures { IfOk result (λ s. said_of s ≡ table.comm_msg id.now (table.move_data op.now n)) }
 {

@@ -10,5 +10,5 @@ mod line;
 mod refused;
 mod words;
 
-pub use refused::{Kind, Refused};
+pub use refused::{RefusalKind, Refused};
 pub use words::{Arguments, arguments_of};

@@ -9,7 +9,7 @@ use std::alloc::{AllocError, Global};
 
 /// Why the words ask for nothing that the kernel is to do.
 #[derive(Clone, Copy, Debug, PartialEq, Eq)]
-pub enum Kind {
+pub enum RefusalKind {
     /// They ask for the help.
     Help,
     /// They are wrong.
@@ -18,15 +18,15 @@ pub enum Kind {
     Memory,
 }
 
-impl Kind {
+impl RefusalKind {
     /// The status with which the program ends: 0 for the help, 2 for wrong words, 3 for want of memory.
     pub fn status(self) -> u8
         ensures { result ≡ table.status_of self }
     {
         match self {
-            Kind::Help => 0,
-            Kind::Wrong => 2,
-            Kind::Memory => 3,
+            RefusalKind::Help => 0,
+            RefusalKind::Wrong => 2,
+            RefusalKind::Memory => 3,
         }
     }
 }
@@ -35,28 +35,28 @@ impl Kind {
 #[derive(Drop)]
 pub struct Refused {
     /// Why.
-    pub kind: Kind,
+    pub kind: RefusalKind,
     /// The help, or what is wrong; empty for want of memory.
     pub text: String,
 }
 
 /// Which kind an error of `clap` is of.
-fn kind_told(kind: ErrorKind) -> Kind
+fn kind_told(kind: ErrorKind) -> RefusalKind
     ensures { result ≡ table.kind_told kind }
 {
     match kind {
-        ErrorKind::DisplayHelp | ErrorKind::DisplayVersion => Kind::Help,
-        ErrorKind::OutOfMemory => Kind::Memory,
-        _ => Kind::Wrong,
+        ErrorKind::DisplayHelp | ErrorKind::DisplayVersion => RefusalKind::Help,
+        ErrorKind::OutOfMemory => RefusalKind::Memory,
+        _ => RefusalKind::Wrong,
     }
 }
 
 /// Want of memory.
 pub(crate) fn no_memory(alloc: Global) -> Refused
-    ensures { result.kind ≡ Kind.Memory }
+    ensures { result.kind ≡ RefusalKind.Memory }
 {
     Refused {
-        kind: Kind::Memory,
+        kind: RefusalKind::Memory,
         text: String::new(alloc),
     }
 }
@@ -68,7 +68,7 @@ fn text_of(alloc: Global, error: &Error) -> Result<String, AllocError> {
 
 /// What is printed of an error of `clap`. Where there is no memory for its text, want of memory.
 pub(crate) fn refused_by(alloc: Global, error: &Error) -> Refused
-    ensures { (result.kind ≡ table.kind_told (kind_of error.now)) ⊎ (result.kind ≡ Kind.Memory) }
+    ensures { (result.kind ≡ table.kind_told (kind_of error.now)) ⊎ (result.kind ≡ RefusalKind.Memory) }
 {
     let kind = kind_told(error.kind());
     match text_of(alloc, error) {

@@ -3,9 +3,9 @@ ghost use Rattle.std.specs.Prelude.{◌≡◌, ◌⊎◌, List, ℕ, map, string
 
 use crate::count::count;
 use crate::line::{CONNECT, WORD, program};
-use crate::refused::{Kind, Refused, no_memory, refused_by};
+use crate::refused::{RefusalKind, Refused, no_memory, refused_by};
 use clap::ArgMatches;
-use console_talk::Command;
+use console_talk::ConsoleCommand;
 use std::alloc::{AllocError, Global};
 use std::convert::AsStr;
 
@@ -15,7 +15,7 @@ pub struct Arguments {
     /// The path of the connection file.
     pub file: String,
     /// What the kernel is to do.
-    pub command: Command,
+    pub command: ConsoleCommand,
 }
 
 /// What is printed of an N that is no such number.
@@ -23,33 +23,33 @@ const NO_NUMBER: &str =
     "error: N is 1 to 10 digits, at most 4294967295\n\nFor more information, try '--help'.\n";
 
 /// What a command with its word asks for; none where the word should be a number and is none.
-fn asked(alloc: Global, name: &str, word: &str) -> Result<Option<Command>, AllocError> {
+fn asked(alloc: Global, name: &str, word: &str) -> Result<Option<ConsoleCommand>, AllocError> {
     if name == "run" {
-        return Ok(Some(Command::Run(String::from_str(alloc, word)?)));
+        return Ok(Some(ConsoleCommand::Run(String::from_str(alloc, word)?)));
     }
     if name == "complete" {
-        return Ok(Some(Command::Complete(String::from_str(alloc, word)?)));
+        return Ok(Some(ConsoleCommand::Complete(String::from_str(alloc, word)?)));
     }
     if name == "show" {
-        return Ok(Some(Command::Show));
+        return Ok(Some(ConsoleCommand::Show));
     }
     let Some(n) = count(word) else {
         return Ok(None);
     };
     if name == "undo" {
-        return Ok(Some(Command::Undo(n)));
+        return Ok(Some(ConsoleCommand::Undo(n)));
     }
     if name == "redo" {
-        return Ok(Some(Command::Redo(n)));
+        return Ok(Some(ConsoleCommand::Redo(n)));
     }
-    Ok(Some(Command::Goto(n)))
+    Ok(Some(ConsoleCommand::Goto(n)))
 }
 
 /// Want of memory, or that an N is no such number.
 fn refused_number(alloc: Global) -> Refused {
     match String::from_str(alloc, NO_NUMBER) {
         Ok(text) => Refused {
-            kind: Kind::Wrong,
+            kind: RefusalKind::Wrong,
             text,
         },
         Err(_) => no_memory(alloc),

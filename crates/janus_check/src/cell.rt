@@ -16,13 +16,10 @@ use crate::fault::{CheckFault, sooner};
 use crate::procedure::{bodies_fault, define_all};
 use crate::sight::{Sight, kind_declared};
 use crate::statement::block_fault;
-use janus_meaning::limit::{LIVE_STACK_LIMIT, NAME_LIMIT};
+use janus_meaning::limit::{ARRAY_LIMIT, LIVE_STACK_LIMIT, NAME_LIMIT};
 use janus_syntax::token::Span;
 use janus_syntax::tree::{Cell, Declaration, Name};
 use std::alloc::{AllocError, Global};
-
-/// The largest length of an array.
-const ARRAY_LIMIT: u32 = 65_536;
 
 /// Checks a cell over the names that are declared already and the procedures that are defined. What passes is well formed; else the answer is the fault
 /// that stands first in the text, and at one place the one with the smaller number, or want of memory.

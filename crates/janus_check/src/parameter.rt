@@ -9,11 +9,9 @@ ghost use Rattle.janus_check.specs.Check.{kinds_of, body_sight, parameter_name, 
 
 use crate::env::Kind;
 use crate::fault::{CheckFault, sooner};
+use janus_meaning::limit::PARAMETER_LIMIT;
 use janus_syntax::tree::{Name, Parameter};
 use std::alloc::{AllocError, Global};
-
-/// The most parameters that a procedure may have.
-const PARAMETER_LIMIT: usize = 16;
 
 /// The name of a parameter.
 pub fn name_of_parameter(parameter: &Parameter) -> &Name

@@ -14,12 +14,10 @@ use crate::fault::{CheckFault, sooner};
 use crate::parameter::{kinds_of, parameters_fault};
 use crate::sight::Sight;
 use crate::statement::block_fault;
+use janus_meaning::limit::PROCEDURE_LIMIT;
 use janus_syntax::token::Span;
 use janus_syntax::tree::{Name, Procedure};
 use std::alloc::{AllocError, Global};
-
-/// The most procedures that may be defined.
-const PROCEDURE_LIMIT: usize = 256;
 
 /// The first fault after the names of procedures, which are then the cell's own. Of a name given twice the first counts. The
 /// only error is want of memory.

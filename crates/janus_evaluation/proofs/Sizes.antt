@@ -1,9 +1,9 @@
 -- How large an expression is.
 use Rattle.std.specs.Prelude.{ℕ, suc, ◌+◌}
-use Rattle.janus_invert.specs.declared.code.Exp.{Exp}
-use Rattle.janus_invert.specs.declared.code.Exp.TheVariants.{Number, Variable, Element', Empty, Top, Negative', Binary', And', Or'}
+use Rattle.janus_invert.specs.declared.code.FlatExp.{FlatExp}
+use Rattle.janus_invert.specs.declared.code.FlatExp.TheVariants.{Number, Variable, Element', Empty, Top, Negative', Binary', And', Or'}
 
-abbrev pub exp_size : Exp → ℕ
+abbrev pub exp_size : FlatExp → ℕ
 exp_size (Number n) = 1
 exp_size (Variable x) = 1
 exp_size (Element' a p i) = suc (exp_size i)

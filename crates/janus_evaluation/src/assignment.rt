@@ -12,7 +12,7 @@ ghost use Rattle.janus_evaluation.specs.Results.{IsDone, IsCounted, IsWrittenOnc
 use crate::expression::value;
 use crate::fault::ValueFault;
 use crate::operator::changed;
-use janus_invert::code::{Exp, Symbol};
+use janus_invert::code::{FlatExp, Symbol};
 use janus_store::{Store, Writes};
 use janus_syntax::tree::Update;
 use std::sync::ledger::Ledger;
@@ -22,7 +22,7 @@ use std::sync::ledger::Ledger;
 pub fn assign<L: Ledger>(
     name: &Symbol,
     update: Update,
-    exp: &Exp,
+    exp: &FlatExp,
     store: &mut Store<L>,
     writes: &mut Writes<L>,
 ) -> Result<(), ValueFault>
@@ -49,9 +49,9 @@ pub fn assign<L: Ledger>(
 /// side. A fault leaves the store.
 pub fn assign_element<L: Ledger>(
     name: &Symbol,
-    index: &Exp,
+    index: &FlatExp,
     update: Update,
-    exp: &Exp,
+    exp: &FlatExp,
     store: &mut Store<L>,
     writes: &mut Writes<L>,
 ) -> Result<(), ValueFault>

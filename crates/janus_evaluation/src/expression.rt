@@ -14,13 +14,13 @@ ghost use Rattle.janus_evaluation.specs.Results.{result_of, truth_of};
 
 use crate::fault::ValueFault;
 use crate::operator::{bit_of, holds, negative, operate};
-use janus_invert::code::Exp;
+use janus_invert::code::FlatExp;
 use janus_store::Store;
 use std::sync::ledger::Ledger;
 
 /// Whether an expression is not 0, or its first fault. Its names are declared, each as what its use wants, and have their
 /// numbers.
-pub fn test<L: Ledger>(exp: &Exp, store: &Store<L>) -> Result<bool, ValueFault>
+pub fn test<L: Ledger>(exp: &FlatExp, store: &Store<L>) -> Result<bool, ValueFault>
     requires safe { test_of (exp_of exp.now) store.now.sight ≢ Bad Broken }
     requires numbered { HasNumbers store.now.names exp.now }
     ensures { truth_of result ≡ test_of (exp_of exp.now) store.now.sight }
@@ -35,13 +35,13 @@ pub fn test<L: Ledger>(exp: &Exp, store: &Store<L>) -> Result<bool, ValueFault>
 /// numbers.
 // An operator between numbers and variables is what most expressions are: it is worked out in place, with no call.
 #[inline]
-pub fn value<L: Ledger>(exp: &Exp, store: &Store<L>) -> Result<i32, ValueFault>
+pub fn value<L: Ledger>(exp: &FlatExp, store: &Store<L>) -> Result<i32, ValueFault>
     requires safe { value_of (exp_of exp.now) store.now.sight ≢ Bad Broken }
     requires numbered { HasNumbers store.now.names exp.now }
     ensures { result_of result ≡ value_of (exp_of exp.now) store.now.sight }
 {
     match exp {
-        Exp::Binary(operator, left, right) => match leaf(left, store) {
+        FlatExp::Binary(operator, left, right) => match leaf(left, store) {
             Some(first) => match leaf(right, store) {
                 Some(second) => operate(*operator, first, second),
                 None => computed(exp, store),
@@ -54,14 +54,14 @@ pub fn value<L: Ledger>(exp: &Exp, store: &Store<L>) -> Result<i32, ValueFault>
 
 /// The number of a number or a variable; none of another expression.
 #[inline(always)]
-fn leaf<L: Ledger>(exp: &Exp, store: &Store<L>) -> Option<i32>
+fn leaf<L: Ledger>(exp: &FlatExp, store: &Store<L>) -> Option<i32>
     requires safe { value_of (exp_of exp.now) store.now.sight ≢ Bad Broken }
     requires numbered { HasNumbers store.now.names exp.now }
     ensures { IfSome result (λ n. value_of (exp_of exp.now) store.now.sight ≡ Fine n) }
 {
     match exp {
-        Exp::Number(number) => Some(number.cast_signed()),
-        Exp::Variable(name) => store.get(name.number),
+        FlatExp::Number(number) => Some(number.cast_signed()),
+        FlatExp::Variable(name) => store.get(name.number),
         _ => None,
     }
 }
@@ -69,7 +69,7 @@ fn leaf<L: Ledger>(exp: &Exp, store: &Store<L>) -> Option<i32>
 /// The number of a part of an expression. One that is a number or a variable is read in place.
 #[inline(always)]
 #[cycle(computed)]
-fn operand<L: Ledger>(exp: &Exp, store: &Store<L>) -> Result<i32, ValueFault>
+fn operand<L: Ledger>(exp: &FlatExp, store: &Store<L>) -> Result<i32, ValueFault>
     requires safe { value_of (exp_of exp.now) store.now.sight ≢ Bad Broken }
     requires numbered { HasNumbers store.now.names exp.now }
     ensures { result_of result ≡ value_of (exp_of exp.now) store.now.sight }
@@ -82,35 +82,35 @@ fn operand<L: Ledger>(exp: &Exp, store: &Store<L>) -> Result<i32, ValueFault>
 
 /// The number of an expression, as `value` has it.
 #[cycle(computed)]
-fn computed<L: Ledger>(exp: &Exp, store: &Store<L>) -> Result<i32, ValueFault>
+fn computed<L: Ledger>(exp: &FlatExp, store: &Store<L>) -> Result<i32, ValueFault>
     requires safe { value_of (exp_of exp.now) store.now.sight ≢ Bad Broken }
     requires numbered { HasNumbers store.now.names exp.now }
     ensures { result_of result ≡ value_of (exp_of exp.now) store.now.sight }
 {
     match exp {
-        Exp::Number(number) => Ok(number.cast_signed()),
-        Exp::Variable(name) => match store.get(name.number) {
+        FlatExp::Number(number) => Ok(number.cast_signed()),
+        FlatExp::Variable(name) => match store.get(name.number) {
             Some(number) => Ok(number),
             None => unreachable!(),
         },
-        Exp::Element(name, index) => match operand(index, store) {
+        FlatExp::Element(name, index) => match operand(index, store) {
             Ok(index) => element(name.number, index, store),
             Err(fault) => Err(fault),
         },
-        Exp::Empty(name) => Ok(bit_of(store.is_empty(name.number))),
-        Exp::Top(name) => top(name.number, store),
-        Exp::Negative(positive) => match operand(positive, store) {
+        FlatExp::Empty(name) => Ok(bit_of(store.is_empty(name.number))),
+        FlatExp::Top(name) => top(name.number, store),
+        FlatExp::Negative(positive) => match operand(positive, store) {
             Ok(number) => Ok(negative(number)),
             Err(fault) => Err(fault),
         },
-        Exp::Binary(operator, left, right) => match operand(left, store) {
+        FlatExp::Binary(operator, left, right) => match operand(left, store) {
             Ok(left) => match operand(right, store) {
                 Ok(right) => operate(*operator, left, right),
                 Err(fault) => Err(fault),
             },
             Err(fault) => Err(fault),
         },
-        Exp::And(left, right) => match operand(left, store) {
+        FlatExp::And(left, right) => match operand(left, store) {
             Ok(left) => {
                 if holds(left) {
                     as_bit(operand(right, store))
@@ -120,7 +120,7 @@ fn computed<L: Ledger>(exp: &Exp, store: &Store<L>) -> Result<i32, ValueFault>
             }
             Err(fault) => Err(fault),
         },
-        Exp::Or(left, right) => match operand(left, store) {
+        FlatExp::Or(left, right) => match operand(left, store) {
             Ok(left) => {
                 if holds(left) {
                     Ok(1)

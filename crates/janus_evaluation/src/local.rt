@@ -12,14 +12,14 @@ ghost use Rattle.janus_evaluation.specs.Results.{IsDone};
 
 use crate::expression::value;
 use crate::fault::ValueFault;
-use janus_invert::code::{Exp, Symbol};
+use janus_invert::code::{FlatExp, Symbol};
 use janus_store::Store;
 use std::sync::ledger::Ledger;
 
 /// Opens a local number, which has the value of its expression then. Names have their numbers. A fault leaves the store.
 pub fn open_number<L: Ledger>(
     name: &Symbol,
-    first: &Exp,
+    first: &FlatExp,
     store: &mut Store<L>,
 ) -> Result<(), ValueFault>
     requires safe { value_of (exp_of first.now) store.old.sight ≢ Bad Broken }
@@ -42,7 +42,7 @@ pub fn open_number<L: Ledger>(
 /// a fault. A fault leaves the store.
 pub fn close_number<L: Ledger>(
     name: &Symbol,
-    last: &Exp,
+    last: &FlatExp,
     store: &mut Store<L>,
 ) -> Result<(), ValueFault>
     requires safe { drop_int (string_bytes name.now.text) (exp_of last.now) store.old.sight ≢ Bad Broken }

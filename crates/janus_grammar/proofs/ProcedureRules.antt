@@ -2,8 +2,8 @@
 use Rattle.std.proofs.Common.{◌≡◌, List, [], ◌∷◌, ◌++◌, Some, Bool, true, false, refl, sym, subst, append_assoc}
 use Rattle.std.proofs.lemmas.List.{append-nil}
 use Rattle.janus_syntax.specs.declared.token.Sign.TheVariants as sign
-use Rattle.janus_syntax.specs.declared.token.Keyword.TheVariants as word
-use Rattle.janus_syntax.specs.Tokens.{Token, Name, Sign_of, Word_of}
+use Rattle.janus_syntax.specs.declared.token.Keyword.TheVariants as keyword
+use Rattle.janus_syntax.specs.Tokens.{Token, Name, Sign_of, Keyword_of}
 use Rattle.janus_syntax.specs.Tree.{named, Block, Empty, Declaration, Parameter, StackParameter, Procedure, procedure_of, Cell, cell_of}
 use Rattle.janus_syntax.specs.Forms.{Part, A_cell, Declarations, Procedures, A_procedure, Parameters, More_parameters, A_parameter, Brackets, Body, Statements, Tree, A_name, Form, done, take, part, Rule}
 use Rattle.janus_syntax.specs.Table.{nothing, parameter, with_procedure, with_main, is_bare, sign_then, a_parameter, behind_name, behind_main}
@@ -18,7 +18,7 @@ use Rattle.janus_grammar.proofs.Rules.{Spelled, IsPart, nothing_more, taken, beg
 takes : {x : Parameter} {from middle : List Token} → IsParameter x from middle → (p : Part) (k : Parameter → Form p) (v : Tree p) (last : List Token) → Spelled p (k x) v middle last →
     (t : Token) × (behind : List Token) × (r : Rule p) × (from ≡ t ∷ behind) × (a_parameter t k ≡ Some r) × Spelled p r.form v behind last
 takes (IsParameter.number {at_int = at_int} {at = at} {x = x} {rest = rest}) = λ p k v last h. (
-  Word_of word.Int at_int,
+  Keyword_of keyword.Int at_int,
   Name x at ∷ rest,
   record { opens = 0; counts = 0; is_whole = false; form = take A_name (λ x. part Brackets (λ b. k (parameter x b))) },
   refl,
@@ -26,7 +26,7 @@ takes (IsParameter.number {at_int = at_int} {at = at} {x = x} {rest = rest}) = �
   taken {c = A_name} (λ x. part Brackets (λ b. k (parameter x b))) (named x at) v (Name x at) rest last refl (absent Brackets false rest refl p (λ b. k (parameter (named x at) b)) v last h),
 )
 takes (IsParameter.array {at_int = at_int} {at = at} {opening = opening} {closing = closing} {x = x} {rest = rest}) = λ p k v last h. (
-  Word_of word.Int at_int,
+  Keyword_of keyword.Int at_int,
   Name x at ∷ Sign_of sign.OpenIndex opening ∷ Sign_of sign.CloseIndex closing ∷ rest,
   record { opens = 0; counts = 0; is_whole = false; form = take A_name (λ x. part Brackets (λ b. k (parameter x b))) },
   refl,
@@ -37,7 +37,7 @@ takes (IsParameter.array {at_int = at_int} {at = at} {opening = opening} {closin
       p (λ b. k (parameter (named x at) b)) v last h),
 )
 takes (IsParameter.stack {at_stack = at_stack} {at = at} {s = x} {rest = rest}) = λ p k v last h. (
-  Word_of word.Stack at_stack,
+  Keyword_of keyword.Stack at_stack,
   Name x at ∷ rest,
   record { opens = 0; counts = 0; is_whole = false; form = take A_name (λ s. k (StackParameter s)) },
   refl,
@@ -77,7 +77,7 @@ procedure_is (IsProcedure.procedure {at_procedure = at_procedure} {at = at} {ope
     (body_is is_body (A_procedure main c) (λ e. k (procedure_of (named f at) xs e)) d rest
     (next (A_procedure main c) done d rest (nothing_more (A_procedure main c) d rest))))) in
     let named_part = begun (A_procedure main c) (Name f at) (record { opens = 0; counts = 0; is_whole = false; form = behind_name (named f at) (λ p. part (Procedures main (with_procedure c p)) done) }) d (Sign_of sign.Open opening ∷ from) rest refl inner in
-    begun (Procedures main c) (Word_of word.Procedure at_procedure) (record { opens = 0; counts = 0; is_whole = false; form = part (A_procedure main c) done }) d (Name f at ∷ Sign_of sign.Open opening ∷ from) rest refl
+    begun (Procedures main c) (Keyword_of keyword.Procedure at_procedure) (record { opens = 0; counts = 0; is_whole = false; form = part (A_procedure main c) done }) d (Name f at ∷ Sign_of sign.Open opening ∷ from) rest refl
     (named_part (Procedures main c) done d rest (nothing_more (Procedures main c) d rest))
 
 -- `main`
@@ -90,8 +90,8 @@ main_is (IsMain.main {at_procedure = at_procedure} {at = at} {opening = opening}
     (declarations_are a (A_procedure true c) (λ es. part Statements (λ e. k es e)) d rest
     (statements_are s (A_procedure true c) (λ e. k ds e) d rest
     (next (A_procedure true c) done d rest (nothing_more (A_procedure true c) d rest))))) in
-    let main_part = begun (A_procedure true c) (Word_of word.Main at) (record { opens = 0; counts = 0; is_whole = false; form = behind_main (λ ds b. part (Procedures false (with_main ds b c)) done) }) d (Sign_of sign.Open opening ∷ Sign_of sign.Close closing ∷ from) rest refl inner in
-    begun (Procedures true c) (Word_of word.Procedure at_procedure) (record { opens = 0; counts = 0; is_whole = false; form = part (A_procedure true c) done }) d (Word_of word.Main at ∷ Sign_of sign.Open opening ∷ Sign_of sign.Close closing ∷ from) rest refl
+    let main_part = begun (A_procedure true c) (Keyword_of keyword.Main at) (record { opens = 0; counts = 0; is_whole = false; form = behind_main (λ ds b. part (Procedures false (with_main ds b c)) done) }) d (Sign_of sign.Open opening ∷ Sign_of sign.Close closing ∷ from) rest refl inner in
+    begun (Procedures true c) (Keyword_of keyword.Procedure at_procedure) (record { opens = 0; counts = 0; is_whole = false; form = part (A_procedure true c) done }) d (Keyword_of keyword.Main at ∷ Sign_of sign.Open opening ∷ Sign_of sign.Close closing ∷ from) rest refl
     (main_part (Procedures true c) done d rest (nothing_more (Procedures true c) d rest))
 
 procedures_are : {qs : List Procedure} {from middle : List Token} → AreProcedures qs from middle → (main : Bool) (c d : Cell) (rest : List Token) → IsPart (Procedures main (grown c qs)) d middle rest → IsPart (Procedures main c) d from rest

@@ -3,8 +3,8 @@ use Rattle.std.proofs.Common.{◌≡◌, ℕ, List, [], ◌∷◌, ◌++◌, Som
 use Rattle.std.proofs.lemmas.List.{append-nil}
 use Rattle.janus_syntax.specs.declared.token.Span.{Span}
 use Rattle.janus_syntax.specs.declared.token.Sign.TheVariants as sign
-use Rattle.janus_syntax.specs.declared.token.Keyword.TheVariants as word
-use Rattle.janus_syntax.specs.Tokens.{Token, Name, Number, Sign_of, Word_of}
+use Rattle.janus_syntax.specs.declared.token.Keyword.TheVariants as keyword
+use Rattle.janus_syntax.specs.Tokens.{Token, Name, Number, Sign_of, Keyword_of}
 use Rattle.janus_syntax.specs.Tree.{named, Block, Declaration, Parameter, StackParameter, Procedure, procedure_of, Cell, cell_of}
 use Rattle.janus_syntax.specs.Forms.{Part, Procedures, A_procedure, More_parameters, A_parameter, Brackets, Tree, A_name, Form, done, take, part, Rule}
 use Rattle.janus_syntax.specs.Table.{rule, parameter, with_procedure, with_main, is_bare, sign_then, a_parameter, behind_name, behind_main}
@@ -25,16 +25,16 @@ brackets_derived (Sign_of sign.OpenIndex at) r b from rest is h =
 brackets_derived (Sign_of _ at) r b from rest is h = absurd cc
 brackets_derived (Name x at) r b from rest is h = absurd cc
 brackets_derived (Number n at) r b from rest is h = absurd cc
-brackets_derived (Word_of w at) r b from rest is h = absurd cc
+brackets_derived (Keyword_of w at) r b from rest is h = absurd cc
 
-bracketed : (at : Span) (x : List ℕ) (place : Span) (b : Bool) (behind rest : List Token) → AreBrackets b behind rest → IsParameter (parameter (named x place) b) (Word_of word.Int at ∷ Name x place ∷ behind) rest
+bracketed : (at : Span) (x : List ℕ) (place : Span) (b : Bool) (behind rest : List Token) → AreBrackets b behind rest → IsParameter (parameter (named x place) b) (Keyword_of keyword.Int at ∷ Name x place ∷ behind) rest
 bracketed at x place b behind rest no_brackets = IsParameter.number
 bracketed at x place b behind rest brackets = IsParameter.array
 
 -- a parameter, and what the form behind it means
 pub parameter_derived : {p : Part} (t : Token) (k : Parameter → Form p) (r : Rule p) (v : Tree p) (from rest : List Token) → a_parameter t k ≡ Some r → Means r.form v from rest →
     (x : Parameter) × (middle : List Token) × IsParameter x (t ∷ from) middle × Means (k x) v middle rest
-parameter_derived {p} (Word_of word.Int at) k r v from rest is h =
+parameter_derived {p} (Keyword_of keyword.Int at) k r v from rest is h =
     let a : Rule p = record { opens = 0; counts = 0; is_whole = false; form = take A_name (λ x. part Brackets (λ b. k (parameter x b))) } in
     let (t, x, behind, whole, names, h1) = form_as a r v from rest is h in
     let (b, middle, d, more) = h1 in
@@ -42,22 +42,22 @@ parameter_derived {p} (Word_of word.Int at) k r v from rest is h =
     let front : from ≡ Name n.0 n.1 ∷ behind = whole ∙ ap (λ t. t ∷ behind) n.2 in (
       parameter x b,
       middle,
-      subst (λ y. IsParameter (parameter y b) (Word_of word.Int at ∷ from) middle) n.3
-          (subst (λ ts. IsParameter (parameter (named n.0 n.1) b) (Word_of word.Int at ∷ ts) middle) (sym front) (bracketed at n.0 n.1 b behind middle d)),
+      subst (λ y. IsParameter (parameter y b) (Keyword_of keyword.Int at ∷ from) middle) n.3
+          (subst (λ ts. IsParameter (parameter (named n.0 n.1) b) (Keyword_of keyword.Int at ∷ ts) middle) (sym front) (bracketed at n.0 n.1 b behind middle d)),
       more,
     )
-parameter_derived {p} (Word_of word.Stack at) k r v from rest is h =
+parameter_derived {p} (Keyword_of keyword.Stack at) k r v from rest is h =
     let a : Rule p = record { opens = 0; counts = 0; is_whole = false; form = take A_name (λ s. k (StackParameter s)) } in
     let (t, s, behind, whole, names, more) = form_as a r v from rest is h in
     let n = name_is t s names in
     let front : from ≡ Name n.0 n.1 ∷ behind = whole ∙ ap (λ t. t ∷ behind) n.2 in (
       StackParameter s,
       behind,
-      subst (λ y. IsParameter (StackParameter y) (Word_of word.Stack at ∷ from) behind) n.3
-          (subst (λ ts. IsParameter (StackParameter (named n.0 n.1)) (Word_of word.Stack at ∷ ts) behind) (sym front) IsParameter.stack),
+      subst (λ y. IsParameter (StackParameter y) (Keyword_of keyword.Stack at ∷ from) behind) n.3
+          (subst (λ ts. IsParameter (StackParameter (named n.0 n.1)) (Keyword_of keyword.Stack at ∷ ts) behind) (sym front) IsParameter.stack),
       more,
     )
-parameter_derived (Word_of _ at) k r v from rest is h = absurd cc
+parameter_derived (Keyword_of _ at) k r v from rest is h = absurd cc
 parameter_derived (Name x at) k r v from rest is h = absurd cc
 parameter_derived (Sign_of s at) k r v from rest is h = absurd cc
 parameter_derived (Number n at) k r v from rest is h = absurd cc
@@ -71,7 +71,7 @@ more_parameters_derived (Sign_of sign.Comma at) r xs from rest is h =
 more_parameters_derived (Sign_of _ at) r xs from rest is h = absurd cc
 more_parameters_derived (Name x at) r xs from rest is h = absurd cc
 more_parameters_derived (Number n at) r xs from rest is h = absurd cc
-more_parameters_derived (Word_of w at) r xs from rest is h = absurd cc
+more_parameters_derived (Keyword_of w at) r xs from rest is h = absurd cc
 
 -- ---- procedures behind a cell
 
@@ -88,18 +88,18 @@ main_grown (cell_of es e os) d ds b from middle rest a (by_procedures {qs = qs} 
     subst (λ rs. Grows true (cell_of es e os) (cell_of ds b (rs ++ qs)) from rest) (append-nil os) (by_program AreProcedures.none a others)
 
 pub procedures_derived : (main : Bool) (c : Cell) (t : Token) (r : Rule (Procedures main c)) (d : Cell) (from rest : List Token) → rule (Procedures main c) t ≡ Some r → Means r.form d from rest → Grows main c d (t ∷ from) rest
-procedures_derived main c (Word_of word.Procedure at) r d from rest is h =
+procedures_derived main c (Keyword_of keyword.Procedure at) r d from rest is h =
     let a : Rule (Procedures main c) = record { opens = 0; counts = 0; is_whole = false; form = part (A_procedure main c) done } in
     let (e, middle, grows, end) = form_as a r d from rest is h in
-    subst (λ x. Grows main c x (Word_of word.Procedure at ∷ from) rest) (sym end.0) (subst (λ ts. Grows main c e (Word_of word.Procedure at ∷ from) ts) (sym end.1) (grows at))
-procedures_derived main c (Word_of _ at) r d from rest is h = absurd cc
+    subst (λ x. Grows main c x (Keyword_of keyword.Procedure at ∷ from) rest) (sym end.0) (subst (λ ts. Grows main c e (Keyword_of keyword.Procedure at ∷ from) ts) (sym end.1) (grows at))
+procedures_derived main c (Keyword_of _ at) r d from rest is h = absurd cc
 procedures_derived main c (Name x at) r d from rest is h = absurd cc
 procedures_derived main c (Number n at) r d from rest is h = absurd cc
 procedures_derived main c (Sign_of s at) r d from rest is h = absurd cc
 
 -- a procedure behind its name, and what the form behind it means
 name_derived : {p : Part} (f : List ℕ) (place at : Span) (k : Procedure → Form p) (v : Tree p) (from rest : List Token) → Means (behind_name (named f place) k) v from rest →
-    (q : Procedure) × (middle : List Token) × IsProcedure q (Word_of word.Procedure at ∷ Name f place ∷ from) middle × Means (k q) v middle rest
+    (q : Procedure) × (middle : List Token) × IsProcedure q (Keyword_of keyword.Procedure at ∷ Name f place ∷ from) middle × Means (k q) v middle rest
 name_derived f place at k v from rest h =
     let (t1, u1, b1, w1, is1, h1) = h in
     let (xs, m1, d1, h2) = h1 in
@@ -109,13 +109,13 @@ name_derived f place at k v from rest h =
     let c = close_is m1 t2 u2 b2 w2 is2 in (
       procedure_of (named f place) xs b,
       m2,
-      subst (λ ts. IsProcedure (procedure_of (named f place) xs b) (Word_of word.Procedure at ∷ Name f place ∷ ts) m2) (sym o.1) (procedure (subst (λ ts. AreParameters xs b1 ts) c.1 d1) d2),
+      subst (λ ts. IsProcedure (procedure_of (named f place) xs b) (Keyword_of keyword.Procedure at ∷ Name f place ∷ ts) m2) (sym o.1) (procedure (subst (λ ts. AreParameters xs b1 ts) c.1 d1) d2),
       more,
     )
 
 -- `main` behind its name, and what the form behind it means
 main_derived : {p : Part} (place at : Span) (k : List Declaration → Block → Form p) (v : Tree p) (from rest : List Token) → Means (behind_main k) v from rest →
-    (ds : List Declaration) × (b : Block) × (middle : List Token) × IsMain ds b (Word_of word.Procedure at ∷ Word_of word.Main place ∷ from) middle × Means (k ds b) v middle rest
+    (ds : List Declaration) × (b : Block) × (middle : List Token) × IsMain ds b (Keyword_of keyword.Procedure at ∷ Keyword_of keyword.Main place ∷ from) middle × Means (k ds b) v middle rest
 main_derived place at k v from rest h =
     let (t1, u1, b1, w1, is1, h1) = h in
     let (t2, u2, b2, w2, is2, h2) = h1 in
@@ -124,23 +124,23 @@ main_derived place at k v from rest h =
     let o = open_is from t1 u1 b1 w1 is1 in
     let c = close_is b1 t2 u2 b2 w2 is2 in
     let front : from ≡ Sign_of sign.Open o.0 ∷ Sign_of sign.Close c.0 ∷ b2 = o.1 ∙ ap (λ ts. Sign_of sign.Open o.0 ∷ ts) c.1 in
-    (ds, b, m2, subst (λ ts. IsMain ds b (Word_of word.Procedure at ∷ Word_of word.Main place ∷ ts) m2) (sym front) (is_main d1 d2), more)
+    (ds, b, m2, subst (λ ts. IsMain ds b (Keyword_of keyword.Procedure at ∷ Keyword_of keyword.Main place ∷ ts) m2) (sym front) (is_main d1 d2), more)
 
-pub procedure_derived : (main : Bool) (c : Cell) (t : Token) (r : Rule (A_procedure main c)) (d : Cell) (from rest : List Token) → rule (A_procedure main c) t ≡ Some r → Means r.form d from rest → (at : Span) → Grows main c d (Word_of word.Procedure at ∷ t ∷ from) rest
+pub procedure_derived : (main : Bool) (c : Cell) (t : Token) (r : Rule (A_procedure main c)) (d : Cell) (from rest : List Token) → rule (A_procedure main c) t ≡ Some r → Means r.form d from rest → (at : Span) → Grows main c d (Keyword_of keyword.Procedure at ∷ t ∷ from) rest
 procedure_derived main c (Name f place) r d from rest is h at =
     let a : Rule (A_procedure main c) = record { opens = 0; counts = 0; is_whole = false; form = behind_name (named f place) (λ p. part (Procedures main (with_procedure c p)) done) } in
     let (p, m1, is_p, h1) = name_derived {p = A_procedure main c} f place at (λ p. part (Procedures main (with_procedure c p)) done) d from rest (form_as a r d from rest is h) in
     let (e, m2, grows, end) = h1 in
-    one_grown main c d p (Word_of word.Procedure at ∷ Name f place ∷ from) m1 rest is_p
+    one_grown main c d p (Keyword_of keyword.Procedure at ∷ Name f place ∷ from) m1 rest is_p
     (subst (λ x. Grows main (with_procedure c p) x m1 rest) (sym end.0) (subst (λ ts. Grows main (with_procedure c p) e m1 ts) (sym end.1) grows))
-procedure_derived true c (Word_of word.Main place) r d from rest is h at =
+procedure_derived true c (Keyword_of keyword.Main place) r d from rest is h at =
     let a : Rule (A_procedure true c) = record { opens = 0; counts = 0; is_whole = false; form = behind_main (λ ds b. part (Procedures false (with_main ds b c)) done) } in
     let (ds, b, m1, is_m, h1) = main_derived {p = A_procedure true c} place at (λ ds b. part (Procedures false (with_main ds b c)) done) d from rest (form_as a r d from rest is h) in
     let (e, m2, grows, end) = h1 in
-    main_grown c d ds b (Word_of word.Procedure at ∷ Word_of word.Main place ∷ from) m1 rest is_m
+    main_grown c d ds b (Keyword_of keyword.Procedure at ∷ Keyword_of keyword.Main place ∷ from) m1 rest is_m
     (subst (λ x. Grows false (with_main ds b c) x m1 rest) (sym end.0) (subst (λ ts. Grows false (with_main ds b c) e m1 ts) (sym end.1) grows))
-procedure_derived true c (Word_of _ place) r d from rest is h at = absurd cc
-procedure_derived false c (Word_of w place) r d from rest is h at = absurd cc
+procedure_derived true c (Keyword_of _ place) r d from rest is h at = absurd cc
+procedure_derived false c (Keyword_of w place) r d from rest is h at = absurd cc
 procedure_derived main c (Number n place) r d from rest is h at = absurd cc
 procedure_derived main c (Sign_of s place) r d from rest is h at = absurd cc
 

@@ -6,19 +6,19 @@ use Rattle.janus_syntax.specs.declared.token.Span.{Span}
 use Rattle.janus_syntax.specs.declared.token.Sign.{Sign}
 use Rattle.janus_syntax.specs.declared.token.Sign.TheVariants as sign
 use Rattle.janus_syntax.specs.declared.token.Keyword.{Keyword}
-use Rattle.janus_syntax.specs.declared.token.Keyword.TheVariants as word
+use Rattle.janus_syntax.specs.declared.token.Keyword.TheVariants as keyword
 use Rattle.janus_syntax.specs.declared.operator.Infix.{Infix}
-use Rattle.janus_syntax.specs.declared.tree.Kind.{Kind}
-use Rattle.janus_syntax.specs.declared.tree.Kind.TheVariants as kind
+use Rattle.janus_syntax.specs.declared.tree.LocalKind.{LocalKind}
+use Rattle.janus_syntax.specs.declared.tree.LocalKind.TheVariants as kind
 use Rattle.janus_meaning.proofs.Stores.{same_name_self}
-use Rattle.janus_syntax.specs.Tokens.{Token, Name, Number, Sign_of, Word_of}
+use Rattle.janus_syntax.specs.Tokens.{Token, Name, Number, Sign_of, Keyword_of}
 use Rattle.janus_syntax.specs.Tree.{Name as Named, named, Exp, Num, EmptyOf, TopOf, Neg, Stm, Skip, Push, Pop, If, Loop, LocalInt, LocalStack, Call, Uncall, Block, Empty, More, Declaration, StackOf}
 use Rattle.janus_syntax.specs.Operators.{weakest, joined, sign_infix, operator_at}
-use Rattle.janus_syntax.specs.Forms.{Part, Declarations, Bound, Body, Statements, Else_part, Do_part, Loop_part, Local, Names, More_names, Target_index, Whole, Level, Chain, Index, Tree, Class, Seen, seen, The_word, The_sign, A_name, A_number, An_update, Same_kind, Same_name, Form, done, take, part, close, Rule}
-use Rattle.janus_syntax.specs.Table.{rule, left_out, variable, assignment, declared, skip_block, sign_then, word_then, stack_then, variable_and_stack_then, call_then, delocal_then, local_int, local_stack, whole, operand, chains, chain_rule, statement, declaration}
+use Rattle.janus_syntax.specs.Forms.{Part, Declarations, Bound, Body, Statements, Else_part, Do_part, Loop_part, Local, Names, More_names, Target_index, Whole, Level, Chain, Index, Tree, Class, Seen, seen, The_keyword, The_sign, A_name, A_number, An_update, Same_kind, Same_name, Form, done, take, part, close, Rule}
+use Rattle.janus_syntax.specs.Table.{rule, left_out, variable, assignment, declared, skip_block, sign_then, keyword_then, stack_then, variable_and_stack_then, call_then, delocal_then, local_int, local_stack, whole, operand, chains, chain_rule, statement, declaration}
 use Rattle.janus_syntax.specs.Grammar
 use Rattle.janus_syntax.specs.Grammar.{Count, but_limits, entered, closed, Spells}
-use Rattle.janus_syntax.proofs.Agreed.{agreed, agreed_is, is_agreed, kind_word, kind_agreed}
+use Rattle.janus_syntax.proofs.Agreed.{agreed, agreed_is, is_agreed, kind_keyword, kind_agreed}
 use Rattle.janus_grammar.specs.Derivation
 use Rattle.janus_grammar.specs.Derivation.{IsExpression, AreNames, AreMoreNames, IsStatement, AreStatements, IsBody, IsOptional, IsDeclaration, AreDeclarations}
 
@@ -88,8 +88,8 @@ whole_is {e} {from} {rest} h =
 pub sign_behind : {p : Part} (s : Sign) (at : Span) (f : Form p) (v : Tree p) (from rest : List Token) → seen (The_sign s) (Sign_of s at) ≡ Some tt → Spelled p f v from rest → Spelled p (sign_then s f) v (Sign_of s at ∷ from) rest
 sign_behind s at f v from rest is h = taken (λ x. f) tt v (Sign_of s at) from rest is h
 
-pub word_behind : {p : Part} (w : Keyword) (at : Span) (f : Form p) (v : Tree p) (from rest : List Token) → seen (The_word w) (Word_of w at) ≡ Some tt → Spelled p f v from rest → Spelled p (word_then w f) v (Word_of w at ∷ from) rest
-word_behind w at f v from rest is h = taken (λ x. f) tt v (Word_of w at) from rest is h
+pub keyword_behind : {p : Part} (w : Keyword) (at : Span) (f : Form p) (v : Tree p) (from rest : List Token) → seen (The_keyword w) (Keyword_of w at) ≡ Some tt → Spelled p f v from rest → Spelled p (keyword_then w f) v (Keyword_of w at ∷ from) rest
+keyword_behind w at f v from rest is h = taken (λ x. f) tt v (Keyword_of w at) from rest is h
 
 -- names in parentheses
 
@@ -130,12 +130,12 @@ call_behind {p} at opening closing f xs k v inner from rest d h =
     (names_are d p (λ ys. sign_then sign.Close (k (named f at) ys)) v rest (sign_behind sign.Close closing (k (named f at) xs) v from rest refl h)))
 
 -- `delocal`, a kind, a name and `=`
-delocal_behind : {p : Part} (j : Kind) (x : List ℕ) (there at_delocal at_kind place equals : Span) (f : Named → Form p) (v : Tree p) (from rest : List Token) → Spelled p (f (named x place)) v from rest →
-    Spelled p (delocal_then j (named x there) f) v (Word_of word.Delocal at_delocal ∷ Word_of (kind_word j) at_kind ∷ Name x place ∷ Sign_of sign.Equals equals ∷ from) rest
+delocal_behind : {p : Part} (j : LocalKind) (x : List ℕ) (there at_delocal at_kind place equals : Span) (f : Named → Form p) (v : Tree p) (from rest : List Token) → Spelled p (f (named x place)) v from rest →
+    Spelled p (delocal_then j (named x there) f) v (Keyword_of keyword.Delocal at_delocal ∷ Keyword_of (kind_keyword j) at_kind ∷ Name x place ∷ Sign_of sign.Equals equals ∷ from) rest
 delocal_behind j x there at_delocal at_kind place equals f v from rest h =
     let behind : List Token = Sign_of sign.Equals equals ∷ from in
-    word_behind word.Delocal at_delocal (take (Same_kind j) (λ i. take (Same_name (named x there)) (λ y. sign_then sign.Equals (f y)))) v (Word_of (kind_word j) at_kind ∷ Name x place ∷ behind) rest refl
-    (taken {c = Same_kind j} (λ i. take (Same_name (named x there)) (λ y. sign_then sign.Equals (f y))) j v (Word_of (kind_word j) at_kind) (Name x place ∷ behind) rest (kind_agreed j at_kind)
+    keyword_behind keyword.Delocal at_delocal (take (Same_kind j) (λ i. take (Same_name (named x there)) (λ y. sign_then sign.Equals (f y)))) v (Keyword_of (kind_keyword j) at_kind ∷ Name x place ∷ behind) rest refl
+    (taken {c = Same_kind j} (λ i. take (Same_name (named x there)) (λ y. sign_then sign.Equals (f y))) j v (Keyword_of (kind_keyword j) at_kind) (Name x place ∷ behind) rest (kind_agreed j at_kind)
     (taken {c = Same_name (named x there)} (λ y. sign_then sign.Equals (f y)) (named x place) v (Name x place) behind rest (is_agreed (Same_name (named x there)) (Name x place) (named x place) refl (same_name_self x))
     (sign_behind sign.Equals equals (f (named x place)) v from rest refl h)))
 
@@ -157,7 +157,7 @@ tokens_have : (t : Token) → has_level (operator_at t) ≡ true
 tokens_have (Sign_of s at) = signs_have s
 tokens_have (Name x at) = refl
 tokens_have (Number n at) = refl
-tokens_have (Word_of w at) = refl
+tokens_have (Keyword_of w at) = refl
 
 not_zero : (t : Token) (o : Infix) → operator_at t ≡ Some o → 0 < o.level
 not_zero t o is = ltb-true 0 o.level (subst (λ x. has_level x ≡ true) is (tokens_have t))
@@ -185,7 +185,7 @@ leads (Derivation.element {x = x} {at = at} {opening = opening} {closing = closi
     operand_leads (λ l p k v last h. (Name x at, Sign_of sign.OpenIndex opening ∷ from, record { opens = 0; counts = 0; is_whole = false; form = part Index (λ i. chains 0 l (variable (named x at) i) k) }, refl, refl, index p (λ i. chains 0 l (variable (named x at) i) k) v last h))
 leads (Derivation.emptiness {at_empty = at_empty} {opening = opening} {at = at} {closing = closing} {s = x} {rest = rest}) =
     operand_leads (λ l p k v last h. (
-      Word_of word.Empty at_empty,
+      Keyword_of keyword.Empty at_empty,
       Sign_of sign.Open opening ∷ Name x at ∷ Sign_of sign.Close closing ∷ rest,
       record { opens = 0; counts = 0; is_whole = false; form = stack_then (λ s. chains 0 l (EmptyOf s) k) },
       refl,
@@ -194,7 +194,7 @@ leads (Derivation.emptiness {at_empty = at_empty} {opening = opening} {at = at} 
     ))
 leads (Derivation.top {at_top = at_top} {opening = opening} {at = at} {closing = closing} {s = x} {rest = rest}) =
     operand_leads (λ l p k v last h. (
-      Word_of word.Top at_top,
+      Keyword_of keyword.Top at_top,
       Sign_of sign.Open opening ∷ Name x at ∷ Sign_of sign.Close closing ∷ rest,
       record { opens = 0; counts = 0; is_whole = false; form = stack_then (λ s. chains 0 l (TopOf s) k) },
       refl,
@@ -225,16 +225,16 @@ abbrev Begins : Stm → List Token → List Token → Type 0
 Begins s from middle = (p : Part) (k : Stm → Form p) (v : Tree p) (last : List Token) → Spelled p (k s) v middle last →
     (t : Token) × (behind : List Token) × (r : Rule p) × (from ≡ t ∷ behind) × (statement t k ≡ Some r) × Spelled p r.form v behind last
 
--- which part a body behind this word is
-abbrev Behind_word : Keyword → Block → List Token → List Token → Type 0
-Behind_word word.Else b from rest = IsPart Else_part b from rest
-Behind_word word.Do b from rest = IsPart Do_part b from rest
-Behind_word word.Loop b from rest = IsPart Loop_part b from rest
-Behind_word _ b from rest = Unit {0}
+-- which part a body behind this keyword is
+abbrev Behind_keyword : Keyword → Block → List Token → List Token → Type 0
+Behind_keyword keyword.Else b from rest = IsPart Else_part b from rest
+Behind_keyword keyword.Do b from rest = IsPart Do_part b from rest
+Behind_keyword keyword.Loop b from rest = IsPart Loop_part b from rest
+Behind_keyword _ b from rest = Unit {0}
 
 mutual
   pub begins : {s : Stm} {from rest : List Token} → IsStatement s from rest → Begins s from rest
-  begins (IsStatement.skip {at = at} {rest = rest}) = λ p k v last h. (Word_of word.Skip at, rest, record { opens = 0; counts = 0; is_whole = false; form = k Skip }, refl, refl, h)
+  begins (IsStatement.skip {at = at} {rest = rest}) = λ p k v last h. (Keyword_of keyword.Skip at, rest, record { opens = 0; counts = 0; is_whole = false; form = k Skip }, refl, refl, h)
   begins (IsStatement.assignment {x = x} {at = at} {t = t} {u = u} {e = e} {from = from} {rest = rest} is d) = λ p k v last h. (
     Name x at,
     t ∷ from,
@@ -255,7 +255,7 @@ mutual
             (taken (λ u. part Whole (λ e. k (assignment (named x at) (Some i) u e))) u v t behind last is (whole_is (leads d) p (λ e. k (assignment (named x at) (Some i) u e)) v last h)),
       )
   begins (IsStatement.push {at_push = at_push} {opening = opening} {at = at} {comma = comma} {place = place} {closing = closing} {x = x} {s = y} {rest = rest}) = λ p k v last h. (
-    Word_of word.Push at_push,
+    Keyword_of keyword.Push at_push,
     Sign_of sign.Open opening ∷ Name x at ∷ Sign_of sign.Comma comma ∷ Name y place ∷ Sign_of sign.Close closing ∷ rest,
     record { opens = 0; counts = 0; is_whole = false; form = variable_and_stack_then (λ z s. k (Push z s)) },
     refl,
@@ -263,7 +263,7 @@ mutual
     pair_behind opening at comma place closing x y (λ z s. k (Push z s)) v rest last h,
   )
   begins (IsStatement.call {at_call = at_call} {at = at} {opening = opening} {closing = closing} {f = f} {xs = xs} {from = from} {rest = rest} d) = λ p k v last h. (
-    Word_of word.Call at_call,
+    Keyword_of keyword.Call at_call,
     Name f at ∷ Sign_of sign.Open opening ∷ from,
     record { opens = 0; counts = 0; is_whole = false; form = call_then (λ g ys. k (Call g ys)) },
     refl,
@@ -271,7 +271,7 @@ mutual
     call_behind at opening closing f xs (λ g ys. k (Call g ys)) v from rest last d h,
   )
   begins (IsStatement.inverse_call {at_uncall = at_uncall} {at = at} {opening = opening} {closing = closing} {f = f} {xs = xs} {from = from} {rest = rest} d) = λ p k v last h. (
-    Word_of word.Uncall at_uncall,
+    Keyword_of keyword.Uncall at_uncall,
     Name f at ∷ Sign_of sign.Open opening ∷ from,
     record { opens = 0; counts = 0; is_whole = false; form = call_then (λ g ys. k (Uncall g ys)) },
     refl,
@@ -279,7 +279,7 @@ mutual
     call_behind at opening closing f xs (λ g ys. k (Uncall g ys)) v from rest last d h,
   )
   begins (IsStatement.pop {at_pop = at_pop} {opening = opening} {at = at} {comma = comma} {place = place} {closing = closing} {x = x} {s = y} {rest = rest}) = λ p k v last h. (
-    Word_of word.Pop at_pop,
+    Keyword_of keyword.Pop at_pop,
     Sign_of sign.Open opening ∷ Name x at ∷ Sign_of sign.Comma comma ∷ Name y place ∷ Sign_of sign.Close closing ∷ rest,
     record { opens = 0; counts = 0; is_whole = false; form = variable_and_stack_then (λ z s. k (Pop z s)) },
     refl,
@@ -287,28 +287,28 @@ mutual
     pair_behind opening at comma place closing x y (λ z s. k (Pop z s)) v rest last h,
   )
   begins (IsStatement.branch {at_if = at_if} {at_then = at_then} {at_fi = at_fi} {test = e} {assertion = f} {a = s} {b = t} {from = from} {then = then} {others = others} {last = end} {rest = rest} d a b g) = λ p k v last h. (
-    Word_of word.If at_if,
+    Keyword_of keyword.If at_if,
     from,
-    record { opens = 1; counts = 0; is_whole = false; form = part Whole (λ e. word_then word.Then (part Body (λ s. part Else_part (λ t. word_then word.Fi (part Whole (λ f. close (k (If e s t f)))))))) },
+    record { opens = 1; counts = 0; is_whole = false; form = part Whole (λ e. keyword_then keyword.Then (part Body (λ s. part Else_part (λ t. keyword_then keyword.Fi (part Whole (λ f. close (k (If e s t f)))))))) },
     refl,
     refl,
-    whole_is (leads d) p (λ e. word_then word.Then (part Body (λ s. part Else_part (λ t. word_then word.Fi (part Whole (λ f. close (k (If e s t f)))))))) v last
-        (word_behind word.Then at_then (part Body (λ s. part Else_part (λ t. word_then word.Fi (part Whole (λ f. close (k (If e s t f))))))) v then last refl
-        (body_is a p (λ s. part Else_part (λ t. word_then word.Fi (part Whole (λ f. close (k (If e s t f)))))) v last
-        (optional_is word.Else b p (λ t. word_then word.Fi (part Whole (λ f. close (k (If e s t f))))) v last
-        (word_behind word.Fi at_fi (part Whole (λ f. close (k (If e s t f)))) v end last refl
+    whole_is (leads d) p (λ e. keyword_then keyword.Then (part Body (λ s. part Else_part (λ t. keyword_then keyword.Fi (part Whole (λ f. close (k (If e s t f)))))))) v last
+        (keyword_behind keyword.Then at_then (part Body (λ s. part Else_part (λ t. keyword_then keyword.Fi (part Whole (λ f. close (k (If e s t f))))))) v then last refl
+        (body_is a p (λ s. part Else_part (λ t. keyword_then keyword.Fi (part Whole (λ f. close (k (If e s t f)))))) v last
+        (optional_is keyword.Else b p (λ t. keyword_then keyword.Fi (part Whole (λ f. close (k (If e s t f))))) v last
+        (keyword_behind keyword.Fi at_fi (part Whole (λ f. close (k (If e s t f)))) v end last refl
         (whole_is (leads g) p (λ f. close (k (If e s t f))) v last (closes (k (If e s t f)) v rest last h)))))),
   )
   begins (IsStatement.repetition {at_from = at_from} {at_until = at_until} {assertion = e} {test = f} {a = s} {b = t} {from = from} {first = first} {second = second} {last = end} {rest = rest} d a b g) = λ p k v last h. (
-    Word_of word.From at_from,
+    Keyword_of keyword.From at_from,
     from,
-    record { opens = 1; counts = 0; is_whole = false; form = part Whole (λ e. part Do_part (λ s. part Loop_part (λ t. word_then word.Until (part Whole (λ f. close (k (Loop e s t f))))))) },
+    record { opens = 1; counts = 0; is_whole = false; form = part Whole (λ e. part Do_part (λ s. part Loop_part (λ t. keyword_then keyword.Until (part Whole (λ f. close (k (Loop e s t f))))))) },
     refl,
     refl,
-    whole_is (leads d) p (λ e. part Do_part (λ s. part Loop_part (λ t. word_then word.Until (part Whole (λ f. close (k (Loop e s t f))))))) v last
-        (optional_is word.Do a p (λ s. part Loop_part (λ t. word_then word.Until (part Whole (λ f. close (k (Loop e s t f)))))) v last
-        (optional_is word.Loop b p (λ t. word_then word.Until (part Whole (λ f. close (k (Loop e s t f))))) v last
-        (word_behind word.Until at_until (part Whole (λ f. close (k (Loop e s t f)))) v end last refl
+    whole_is (leads d) p (λ e. part Do_part (λ s. part Loop_part (λ t. keyword_then keyword.Until (part Whole (λ f. close (k (Loop e s t f))))))) v last
+        (optional_is keyword.Do a p (λ s. part Loop_part (λ t. keyword_then keyword.Until (part Whole (λ f. close (k (Loop e s t f)))))) v last
+        (optional_is keyword.Loop b p (λ t. keyword_then keyword.Until (part Whole (λ f. close (k (Loop e s t f))))) v last
+        (keyword_behind keyword.Until at_until (part Whole (λ f. close (k (Loop e s t f)))) v end last refl
         (whole_is (leads g) p (λ f. close (k (Loop e s t f))) v last (closes (k (Loop e s t f)) v rest last h))))),
   )
   begins (IsStatement.local_number {at_local = at_local} {at_int = at_int} {at = at} {equals = equals} {at_delocal = at_delocal} {at_kind = at_kind} {place = place} {equals_again = again} {x = x} {first = e} {test = f} {b = b} {from = from} {behind = behind} {last = end} {rest = rest} d a g) = λ p k v last h.
@@ -320,28 +320,28 @@ mutual
       (body_is a Local (λ b. delocal_then kind.Int (named x at) (λ z. part Whole (λ f. done (LocalInt (named x at) e b z f)))) s rest
       (delocal_behind kind.Int x at at_delocal at_kind place again (λ z. part Whole (λ f. done (LocalInt (named x at) e b z f))) s end rest
       (whole_is (leads g) Local (λ f. done (LocalInt (named x at) e b (named x place) f)) s rest (nothing_more Local s rest))))) in (
-        Word_of word.Local at_local,
-        Word_of word.Int at_int ∷ Name x at ∷ Sign_of sign.Equals equals ∷ from,
+        Keyword_of keyword.Local at_local,
+        Keyword_of keyword.Int at_int ∷ Name x at ∷ Sign_of sign.Equals equals ∷ from,
         record { opens = 1; counts = 0; is_whole = false; form = part Local (λ s. close (k s)) },
         refl,
         refl,
-        begun Local (Word_of word.Int at_int) (record { opens = 0; counts = 0; is_whole = false; form = local_int done }) s (Name x at ∷ Sign_of sign.Equals equals ∷ from) rest refl inner p (λ s. close (k s)) v last (closes (k s) v rest last h),
+        begun Local (Keyword_of keyword.Int at_int) (record { opens = 0; counts = 0; is_whole = false; form = local_int done }) s (Name x at ∷ Sign_of sign.Equals equals ∷ from) rest refl inner p (λ s. close (k s)) v last (closes (k s) v rest last h),
       )
   begins (IsStatement.local_stack {at_local = at_local} {at_stack = at_stack} {at = at} {equals = equals} {at_nil = at_nil} {at_delocal = at_delocal} {at_kind = at_kind} {place = place} {equals_again = again} {nil_again = nil_again} {x = x} {b = b} {from = from} {rest = rest} a) = λ p k v last h.
       let s : Stm = LocalStack (named x at) b (named x place) in
-      let form : Named → Form Local = λ y. word_then word.Nil (part Body (λ b. delocal_then kind.Stack y (λ z. word_then word.Nil (done (LocalStack y b z))))) in
-      let inner : Spelled Local (local_stack done) s (Name x at ∷ Sign_of sign.Equals equals ∷ Word_of word.Nil at_nil ∷ from) rest =
-      head_behind x at equals form s (Word_of word.Nil at_nil ∷ from) rest
-      (word_behind word.Nil at_nil (part Body (λ b. delocal_then kind.Stack (named x at) (λ z. word_then word.Nil (done (LocalStack (named x at) b z))))) s from rest refl
-      (body_is a Local (λ b. delocal_then kind.Stack (named x at) (λ z. word_then word.Nil (done (LocalStack (named x at) b z)))) s rest
-      (delocal_behind kind.Stack x at at_delocal at_kind place again (λ z. word_then word.Nil (done (LocalStack (named x at) b z))) s (Word_of word.Nil nil_again ∷ rest) rest
-      (word_behind word.Nil nil_again (done s) s rest rest refl (nothing_more Local s rest))))) in (
-        Word_of word.Local at_local,
-        Word_of word.Stack at_stack ∷ Name x at ∷ Sign_of sign.Equals equals ∷ Word_of word.Nil at_nil ∷ from,
+      let form : Named → Form Local = λ y. keyword_then keyword.Nil (part Body (λ b. delocal_then kind.Stack y (λ z. keyword_then keyword.Nil (done (LocalStack y b z))))) in
+      let inner : Spelled Local (local_stack done) s (Name x at ∷ Sign_of sign.Equals equals ∷ Keyword_of keyword.Nil at_nil ∷ from) rest =
+      head_behind x at equals form s (Keyword_of keyword.Nil at_nil ∷ from) rest
+      (keyword_behind keyword.Nil at_nil (part Body (λ b. delocal_then kind.Stack (named x at) (λ z. keyword_then keyword.Nil (done (LocalStack (named x at) b z))))) s from rest refl
+      (body_is a Local (λ b. delocal_then kind.Stack (named x at) (λ z. keyword_then keyword.Nil (done (LocalStack (named x at) b z)))) s rest
+      (delocal_behind kind.Stack x at at_delocal at_kind place again (λ z. keyword_then keyword.Nil (done (LocalStack (named x at) b z))) s (Keyword_of keyword.Nil nil_again ∷ rest) rest
+      (keyword_behind keyword.Nil nil_again (done s) s rest rest refl (nothing_more Local s rest))))) in (
+        Keyword_of keyword.Local at_local,
+        Keyword_of keyword.Stack at_stack ∷ Name x at ∷ Sign_of sign.Equals equals ∷ Keyword_of keyword.Nil at_nil ∷ from,
         record { opens = 1; counts = 0; is_whole = false; form = part Local (λ s. close (k s)) },
         refl,
         refl,
-        begun Local (Word_of word.Stack at_stack) (record { opens = 0; counts = 0; is_whole = false; form = local_stack done }) s (Name x at ∷ Sign_of sign.Equals equals ∷ Word_of word.Nil at_nil ∷ from) rest refl inner p (λ s. close (k s)) v last (closes (k s) v rest last h),
+        begun Local (Keyword_of keyword.Stack at_stack) (record { opens = 0; counts = 0; is_whole = false; form = local_stack done }) s (Name x at ∷ Sign_of sign.Equals equals ∷ Keyword_of keyword.Nil at_nil ∷ from) rest refl inner p (λ s. close (k s)) v last (closes (k s) v rest last h),
       )
 
   pub statements_are : {b : Block} {from rest : List Token} → AreStatements b from rest → IsPart Statements b from rest
@@ -355,13 +355,13 @@ mutual
       let y = begins d Body (λ s. part Statements (λ b. done (More s b))) (More s b) rest (statements_are ds Body (λ b. done (More s b)) (More s b) rest (nothing_more Body (More s b) rest)) in
       subst (λ ts. IsPart Body (More s b) ts rest) (sym y.3) (begun Body y.0 y.2 (More s b) y.1 rest y.4 y.5)
 
-  optional_is : (w : Keyword) {b : Block} {from rest : List Token} → IsOptional w b from rest → Behind_word w b from rest
-  optional_is word.Else (IsOptional.there {at = at} {b = b} {from = from} {rest = rest} d) = begun Else_part (Word_of word.Else at) (record { opens = 0; counts = 0; is_whole = false; form = part Body done }) b from rest refl (body_is d Else_part done b rest (nothing_more Else_part b rest))
-  optional_is word.Else (IsOptional.left_out {rest = rest}) = absent Else_part skip_block rest refl
-  optional_is word.Do (IsOptional.there {at = at} {b = b} {from = from} {rest = rest} d) = begun Do_part (Word_of word.Do at) (record { opens = 0; counts = 0; is_whole = false; form = part Body done }) b from rest refl (body_is d Do_part done b rest (nothing_more Do_part b rest))
-  optional_is word.Do (IsOptional.left_out {rest = rest}) = absent Do_part skip_block rest refl
-  optional_is word.Loop (IsOptional.there {at = at} {b = b} {from = from} {rest = rest} d) = begun Loop_part (Word_of word.Loop at) (record { opens = 0; counts = 0; is_whole = false; form = part Body done }) b from rest refl (body_is d Loop_part done b rest (nothing_more Loop_part b rest))
-  optional_is word.Loop (IsOptional.left_out {rest = rest}) = absent Loop_part skip_block rest refl
+  optional_is : (w : Keyword) {b : Block} {from rest : List Token} → IsOptional w b from rest → Behind_keyword w b from rest
+  optional_is keyword.Else (IsOptional.there {at = at} {b = b} {from = from} {rest = rest} d) = begun Else_part (Keyword_of keyword.Else at) (record { opens = 0; counts = 0; is_whole = false; form = part Body done }) b from rest refl (body_is d Else_part done b rest (nothing_more Else_part b rest))
+  optional_is keyword.Else (IsOptional.left_out {rest = rest}) = absent Else_part skip_block rest refl
+  optional_is keyword.Do (IsOptional.there {at = at} {b = b} {from = from} {rest = rest} d) = begun Do_part (Keyword_of keyword.Do at) (record { opens = 0; counts = 0; is_whole = false; form = part Body done }) b from rest refl (body_is d Do_part done b rest (nothing_more Do_part b rest))
+  optional_is keyword.Do (IsOptional.left_out {rest = rest}) = absent Do_part skip_block rest refl
+  optional_is keyword.Loop (IsOptional.there {at = at} {b = b} {from = from} {rest = rest} d) = begun Loop_part (Keyword_of keyword.Loop at) (record { opens = 0; counts = 0; is_whole = false; form = part Body done }) b from rest refl (body_is d Loop_part done b rest (nothing_more Loop_part b rest))
+  optional_is keyword.Loop (IsOptional.left_out {rest = rest}) = absent Loop_part skip_block rest refl
   optional_is _ d = tt
 
 -- ---- declarations
@@ -370,7 +370,7 @@ mutual
 pub declares : {d : Declaration} {from middle : List Token} → IsDeclaration d from middle → (p : Part) (k : Declaration → Form p) (v : Tree p) (last : List Token) → Spelled p (k d) v middle last →
     (t : Token) × (behind : List Token) × (r : Rule p) × (from ≡ t ∷ behind) × (declaration t k ≡ Some r) × Spelled p r.form v behind last
 declares (IsDeclaration.number {at_int = at_int} {at = at} {x = x} {rest = rest}) = λ p k v last h. (
-  Word_of word.Int at_int,
+  Keyword_of keyword.Int at_int,
   Name x at ∷ rest,
   record { opens = 0; counts = 0; is_whole = false; form = take A_name (λ x. part Bound (λ n. k (declared x n))) },
   refl,
@@ -378,7 +378,7 @@ declares (IsDeclaration.number {at_int = at_int} {at = at} {x = x} {rest = rest}
   taken {c = A_name} (λ x. part Bound (λ n. k (declared x n))) (named x at) v (Name x at) rest last refl (absent Bound None rest refl p (λ n. k (declared (named x at) n)) v last h),
 )
 declares (IsDeclaration.array {at_int = at_int} {at = at} {opening = opening} {place = place} {closing = closing} {x = x} {n = n} {rest = rest}) = λ p k v last h. (
-  Word_of word.Int at_int,
+  Keyword_of keyword.Int at_int,
   Name x at ∷ Sign_of sign.OpenIndex opening ∷ Number n place ∷ Sign_of sign.CloseIndex closing ∷ rest,
   record { opens = 0; counts = 0; is_whole = false; form = take A_name (λ x. part Bound (λ n. k (declared x n))) },
   refl,
@@ -390,7 +390,7 @@ declares (IsDeclaration.array {at_int = at_int} {at = at} {opening = opening} {p
       p (λ n. k (declared (named x at) n)) v last h),
 )
 declares (IsDeclaration.stack {at_stack = at_stack} {at = at} {s = x} {rest = rest}) = λ p k v last h. (
-  Word_of word.Stack at_stack,
+  Keyword_of keyword.Stack at_stack,
   Name x at ∷ rest,
   record { opens = 0; counts = 0; is_whole = false; form = take A_name (λ s. k (StackOf s)) },
   refl,

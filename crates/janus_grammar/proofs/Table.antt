@@ -5,19 +5,19 @@ use Rattle.std.proofs.lemmas.Bool.{eqb-true}
 use Rattle.std.proofs.lemmas.List.{append-nil}
 use Rattle.janus_syntax.specs.declared.token.Span.{Span}
 use Rattle.janus_syntax.specs.declared.token.Sign.TheVariants as sign
-use Rattle.janus_syntax.specs.declared.token.Keyword.TheVariants as word
+use Rattle.janus_syntax.specs.declared.token.Keyword.TheVariants as keyword
 use Rattle.janus_syntax.specs.declared.operator.Infix.{Infix}
 use Rattle.janus_syntax.specs.declared.tree.Update.{Update}
-use Rattle.janus_syntax.specs.declared.tree.Kind.{Kind}
-use Rattle.janus_syntax.specs.declared.tree.Kind.TheVariants as kind
-use Rattle.janus_syntax.specs.Tokens.{Token, Name, Number, Sign_of, Word_of}
+use Rattle.janus_syntax.specs.declared.tree.LocalKind.{LocalKind}
+use Rattle.janus_syntax.specs.declared.tree.LocalKind.TheVariants as kind
+use Rattle.janus_syntax.specs.Tokens.{Token, Name, Number, Sign_of, Keyword_of}
 use Rattle.janus_syntax.specs.Tree.{Name as Named, named, Exp, Num, EmptyOf, TopOf, Neg, Stm, Skip, Push, Pop, If, Loop, LocalInt, LocalStack, Call, Uncall, Block, Empty, More, Declaration, StackOf, Procedure, Cell, cell_of}
 use Rattle.janus_syntax.specs.Operators.{weakest, joined, operator_at, update_at}
 use Rattle.janus_syntax.specs.Forms.{Part, A_cell, Declarations, Bound, Procedures, A_procedure, Parameters, More_parameters, A_parameter, Brackets, Body, Statements, Else_part, Do_part, Loop_part, Local, Names, More_names, Target_index, Whole, Level, Chain, Index, Tree, Seen, seen, The_sign, A_name, A_number, An_update, Form, done, take, part, close, Rule}
-use Rattle.janus_syntax.specs.Table.{rule, left_out, variable, assignment, declared, with_main, nothing, skip_block, word_then, sign_then, stack_then, variable_and_stack_then, call_then, delocal_then, local_int, local_stack, whole, operand, chains, chain_rule, statement, declaration}
+use Rattle.janus_syntax.specs.Table.{rule, left_out, variable, assignment, declared, with_main, nothing, skip_block, keyword_then, sign_then, stack_then, variable_and_stack_then, call_then, delocal_then, local_int, local_stack, whole, operand, chains, chain_rule, statement, declaration}
 use Rattle.janus_grammar.specs.Derivation
-use Rattle.janus_grammar.specs.Derivation.{IsExpression, AreNames, AreMoreNames, IsStatement, AreStatements, IsBody, IsOptional, IsDeclaration, AreDeclarations, IsParameter, AreMoreParameters, AreParameters, AreProcedures, IsMain, IsCell, there, left_out as no_words, cell, body}
-use Rattle.janus_syntax.proofs.Agreed.{agreed, kind_word}
+use Rattle.janus_grammar.specs.Derivation.{IsExpression, AreNames, AreMoreNames, IsStatement, AreStatements, IsBody, IsOptional, IsDeclaration, AreDeclarations, IsParameter, AreMoreParameters, AreParameters, AreProcedures, IsMain, IsCell, there, left_out as no_keyword, cell, body}
+use Rattle.janus_syntax.proofs.Agreed.{agreed, kind_keyword}
 use Rattle.janus_grammar.proofs.Tokens.{delocal_is, equals_is, nil_is, same_kind_is, same_name_is, then_is, fi_is, until_is, open_is, comma_is, close_is, close_index_is}
 
 -- behind a name: an index, if there is one
@@ -53,17 +53,17 @@ Derived A_cell c from rest = IsCell c from rest
 Derived Declarations ds from rest = AreDeclarations ds from rest
 Derived Bound n from rest = IsBounded n from rest
 Derived (Procedures main c) d from rest = Grows main c d from rest
-Derived (A_procedure main c) d from rest = (at : Span) → Grows main c d (Word_of word.Procedure at ∷ from) rest
+Derived (A_procedure main c) d from rest = (at : Span) → Grows main c d (Keyword_of keyword.Procedure at ∷ from) rest
 Derived Parameters xs from rest = AreParameters xs from rest
 Derived More_parameters xs from rest = AreMoreParameters xs from rest
 Derived A_parameter x from rest = IsParameter x from rest
 Derived Brackets b from rest = AreBrackets b from rest
 Derived Body b from rest = IsBody b from rest
 Derived Statements b from rest = AreStatements b from rest
-Derived Else_part b from rest = IsOptional word.Else b from rest
-Derived Do_part b from rest = IsOptional word.Do b from rest
-Derived Loop_part b from rest = IsOptional word.Loop b from rest
-Derived Local s from rest = (at : Span) → IsStatement s (Word_of word.Local at ∷ from) rest
+Derived Else_part b from rest = IsOptional keyword.Else b from rest
+Derived Do_part b from rest = IsOptional keyword.Do b from rest
+Derived Loop_part b from rest = IsOptional keyword.Loop b from rest
+Derived Local s from rest = (at : Span) → IsStatement s (Keyword_of keyword.Local at ∷ from) rest
 Derived Names xs from rest = AreNames xs from rest
 Derived More_names xs from rest = AreMoreNames xs from rest
 Derived Target_index i from rest = IsIndexed i from rest
@@ -99,9 +99,9 @@ left_out_derived A_parameter u ts e = absurd cc
 left_out_derived Brackets u ts e = let same : false ≡ u = cc in subst (λ b. AreBrackets b ts ts) same no_brackets
 left_out_derived Body u ts e = absurd cc
 left_out_derived Statements u ts e = let same : Empty ≡ u = cc in subst (λ b. AreStatements b ts ts) same AreStatements.none
-left_out_derived Else_part u ts e = let same : skip_block ≡ u = cc in subst (λ b. IsOptional word.Else b ts ts) same no_words
-left_out_derived Do_part u ts e = let same : skip_block ≡ u = cc in subst (λ b. IsOptional word.Do b ts ts) same no_words
-left_out_derived Loop_part u ts e = let same : skip_block ≡ u = cc in subst (λ b. IsOptional word.Loop b ts ts) same no_words
+left_out_derived Else_part u ts e = let same : skip_block ≡ u = cc in subst (λ b. IsOptional keyword.Else b ts ts) same no_keyword
+left_out_derived Do_part u ts e = let same : skip_block ≡ u = cc in subst (λ b. IsOptional keyword.Do b ts ts) same no_keyword
+left_out_derived Loop_part u ts e = let same : skip_block ≡ u = cc in subst (λ b. IsOptional keyword.Loop b ts ts) same no_keyword
 left_out_derived Local u ts e = absurd cc
 left_out_derived Names u ts e = let same : [] ≡ u = cc in subst (λ xs. AreNames xs ts ts) same AreNames.no_names
 left_out_derived More_names u ts e = let same : [] ≡ u = cc in subst (λ xs. AreMoreNames xs ts ts) same AreMoreNames.none
@@ -117,7 +117,7 @@ pub name_is : (t : Token) (s : Named) → seen A_name t ≡ Some s → (x : List
 name_is (Name x at) s e = (x, at, refl, cc)
 name_is (Number n at) s e = absurd cc
 name_is (Sign_of r at) s e = absurd cc
-name_is (Word_of w at) s e = absurd cc
+name_is (Keyword_of w at) s e = absurd cc
 
 -- a stack, and what the form behind it means
 stack_derived : {p : Part} (k : Named → Form p) (v : Tree p) (from rest : List Token) → Means (stack_then k) v from rest →
@@ -220,15 +220,15 @@ operand_derived {p} (Sign_of sign.Minus at) k r v from rest is h =
     let (e, middle, d, more) = form_as a r v from rest is h in
     (Neg e, middle, Derivation.minus d, more)
 operand_derived (Sign_of _ at) k r v from rest is h = absurd cc
-operand_derived {p} (Word_of word.Empty at) k r v from rest is h =
+operand_derived {p} (Keyword_of keyword.Empty at) k r v from rest is h =
     let a : Rule p = record { opens = 0; counts = 0; is_whole = false; form = stack_then (λ s. k (EmptyOf s)) } in
     let (opening, x, place, closing, behind, whole, more) = stack_derived (λ s. k (EmptyOf s)) v from rest (form_as a r v from rest is h) in
-    (EmptyOf (named x place), behind, subst (λ ts. IsExpression 0 (EmptyOf (named x place)) (Word_of word.Empty at ∷ ts) behind) (sym whole) Derivation.emptiness, more)
-operand_derived {p} (Word_of word.Top at) k r v from rest is h =
+    (EmptyOf (named x place), behind, subst (λ ts. IsExpression 0 (EmptyOf (named x place)) (Keyword_of keyword.Empty at ∷ ts) behind) (sym whole) Derivation.emptiness, more)
+operand_derived {p} (Keyword_of keyword.Top at) k r v from rest is h =
     let a : Rule p = record { opens = 0; counts = 0; is_whole = false; form = stack_then (λ s. k (TopOf s)) } in
     let (opening, x, place, closing, behind, whole, more) = stack_derived (λ s. k (TopOf s)) v from rest (form_as a r v from rest is h) in
-    (TopOf (named x place), behind, subst (λ ts. IsExpression 0 (TopOf (named x place)) (Word_of word.Top at ∷ ts) behind) (sym whole) Derivation.top, more)
-operand_derived (Word_of _ at) k r v from rest is h = absurd cc
+    (TopOf (named x place), behind, subst (λ ts. IsExpression 0 (TopOf (named x place)) (Keyword_of keyword.Top at ∷ ts) behind) (sym whole) Derivation.top, more)
+operand_derived (Keyword_of _ at) k r v from rest is h = absurd cc
 
 chains_derived : {p : Part} (l n : ℕ) (e : Exp) (k : Exp → Form p) (v : Tree p) (start from rest : List Token) → IsExpression l e start from → Means (chains l n e k) v from rest → Front (l + n) k v start rest
 chains_derived l zero e k v start from rest d h = (e, from, subst (λ (i : ℕ). IsExpression i e start from) (omega arith) d, h)
@@ -285,7 +285,7 @@ abbrev Stated : {p : Part} → (Stm → Form p) → Tree p → List Token → Li
 Stated k v from rest = (s : Stm) × (middle : List Token) × IsStatement s from middle × Means (k s) v middle rest
 
 if_derived : {p : Part} (at : Span) (k : Stm → Form p) (v : Tree p) (from rest : List Token) →
-    Means (part Whole (λ e. word_then word.Then (part Body (λ s. part Else_part (λ t. word_then word.Fi (part Whole (λ f. close (k (If e s t f))))))))) v from rest → Stated k v (Word_of word.If at ∷ from) rest
+    Means (part Whole (λ e. keyword_then keyword.Then (part Body (λ s. part Else_part (λ t. keyword_then keyword.Fi (part Whole (λ f. close (k (If e s t f))))))))) v from rest → Stated k v (Keyword_of keyword.If at ∷ from) rest
 if_derived at k v from rest h =
     let (e, m1, d1, h1) = h in
     let (t1, u1, b1, w1, is1, h2) = h1 in
@@ -295,10 +295,10 @@ if_derived at k v from rest h =
     let (f, m4, d4, h6) = h5 in
     let then = then_is m1 t1 u1 b1 w1 is1 in
     let fi = fi_is m3 t2 u2 b2 w2 is2 in
-    (If e s t f, m4, IsStatement.branch (subst (λ ts. IsExpression weakest e from ts) then.1 d1) d2 (subst (λ ts. IsOptional word.Else t m2 ts) fi.1 d3) d4, h6)
+    (If e s t f, m4, IsStatement.branch (subst (λ ts. IsExpression weakest e from ts) then.1 d1) d2 (subst (λ ts. IsOptional keyword.Else t m2 ts) fi.1 d3) d4, h6)
 
 loop_derived : {p : Part} (at : Span) (k : Stm → Form p) (v : Tree p) (from rest : List Token) →
-    Means (part Whole (λ e. part Do_part (λ s. part Loop_part (λ t. word_then word.Until (part Whole (λ f. close (k (Loop e s t f)))))))) v from rest → Stated k v (Word_of word.From at ∷ from) rest
+    Means (part Whole (λ e. part Do_part (λ s. part Loop_part (λ t. keyword_then keyword.Until (part Whole (λ f. close (k (Loop e s t f)))))))) v from rest → Stated k v (Keyword_of keyword.From at ∷ from) rest
 loop_derived at k v from rest h =
     let (e, m1, d1, h1) = h in
     let (s, m2, d2, h2) = h1 in
@@ -306,7 +306,7 @@ loop_derived at k v from rest h =
     let (t1, u1, b1, w1, is1, h4) = h3 in
     let (f, m4, d4, h5) = h4 in
     let until = until_is m3 t1 u1 b1 w1 is1 in
-    (Loop e s t f, m4, IsStatement.repetition d1 d2 (subst (λ ts. IsOptional word.Loop t m2 ts) until.1 d3) d4, h5)
+    (Loop e s t f, m4, IsStatement.repetition d1 d2 (subst (λ ts. IsOptional keyword.Loop t m2 ts) until.1 d3) d4, h5)
 
 pub statement_derived : {p : Part} (t : Token) (k : Stm → Form p) (r : Rule p) (v : Tree p) (from rest : List Token) → statement t k ≡ Some r → Means r.form v from rest → Stated k v (t ∷ from) rest
 statement_derived {p} (Name x at) k r v from rest is h =
@@ -315,36 +315,36 @@ statement_derived {p} (Name x at) k r v from rest is h =
     let (t, u, behind, whole, updates, h2) = h1 in
     let (e, m2, d2, h3) = h2 in
     (assignment (named x at) i u e, m2, assignment_derived x at i t u e from m1 behind m2 d1 whole updates d2, h3)
-statement_derived {p} (Word_of word.If at) k r v from rest is h =
-    let a : Rule p = record { opens = 1; counts = 0; is_whole = false; form = part Whole (λ e. word_then word.Then (part Body (λ s. part Else_part (λ t. word_then word.Fi (part Whole (λ f. close (k (If e s t f)))))))) } in
+statement_derived {p} (Keyword_of keyword.If at) k r v from rest is h =
+    let a : Rule p = record { opens = 1; counts = 0; is_whole = false; form = part Whole (λ e. keyword_then keyword.Then (part Body (λ s. part Else_part (λ t. keyword_then keyword.Fi (part Whole (λ f. close (k (If e s t f)))))))) } in
     if_derived at k v from rest (form_as a r v from rest is h)
-statement_derived {p} (Word_of word.From at) k r v from rest is h =
-    let a : Rule p = record { opens = 1; counts = 0; is_whole = false; form = part Whole (λ e. part Do_part (λ s. part Loop_part (λ t. word_then word.Until (part Whole (λ f. close (k (Loop e s t f))))))) } in
+statement_derived {p} (Keyword_of keyword.From at) k r v from rest is h =
+    let a : Rule p = record { opens = 1; counts = 0; is_whole = false; form = part Whole (λ e. part Do_part (λ s. part Loop_part (λ t. keyword_then keyword.Until (part Whole (λ f. close (k (Loop e s t f))))))) } in
     loop_derived at k v from rest (form_as a r v from rest is h)
-statement_derived {p} (Word_of word.Local at) k r v from rest is h =
+statement_derived {p} (Keyword_of keyword.Local at) k r v from rest is h =
     let a : Rule p = record { opens = 1; counts = 0; is_whole = false; form = part Local (λ s. close (k s)) } in
     let (s, middle, d, more) = form_as a r v from rest is h in
     (s, middle, d at, more)
-statement_derived {p} (Word_of word.Skip at) k r v from rest is h =
+statement_derived {p} (Keyword_of keyword.Skip at) k r v from rest is h =
     let a : Rule p = record { opens = 0; counts = 0; is_whole = false; form = k Skip } in
     (Skip, from, IsStatement.skip, form_as a r v from rest is h)
-statement_derived {p} (Word_of word.Push at) k r v from rest is h =
+statement_derived {p} (Keyword_of keyword.Push at) k r v from rest is h =
     let a : Rule p = record { opens = 0; counts = 0; is_whole = false; form = variable_and_stack_then (λ x s. k (Push x s)) } in
     let (opening, x, on, comma, y, place, closing, behind, whole, more) = pair_derived (λ x s. k (Push x s)) v from rest (form_as a r v from rest is h) in
-    (Push (named x on) (named y place), behind, subst (λ ts. IsStatement (Push (named x on) (named y place)) (Word_of word.Push at ∷ ts) behind) (sym whole) IsStatement.push, more)
-statement_derived {p} (Word_of word.Pop at) k r v from rest is h =
+    (Push (named x on) (named y place), behind, subst (λ ts. IsStatement (Push (named x on) (named y place)) (Keyword_of keyword.Push at ∷ ts) behind) (sym whole) IsStatement.push, more)
+statement_derived {p} (Keyword_of keyword.Pop at) k r v from rest is h =
     let a : Rule p = record { opens = 0; counts = 0; is_whole = false; form = variable_and_stack_then (λ x s. k (Pop x s)) } in
     let (opening, x, on, comma, y, place, closing, behind, whole, more) = pair_derived (λ x s. k (Pop x s)) v from rest (form_as a r v from rest is h) in
-    (Pop (named x on) (named y place), behind, subst (λ ts. IsStatement (Pop (named x on) (named y place)) (Word_of word.Pop at ∷ ts) behind) (sym whole) IsStatement.pop, more)
-statement_derived {p} (Word_of word.Call at) k r v from rest is h =
+    (Pop (named x on) (named y place), behind, subst (λ ts. IsStatement (Pop (named x on) (named y place)) (Keyword_of keyword.Pop at ∷ ts) behind) (sym whole) IsStatement.pop, more)
+statement_derived {p} (Keyword_of keyword.Call at) k r v from rest is h =
     let a : Rule p = record { opens = 0; counts = 0; is_whole = false; form = call_then (λ f xs. k (Call f xs)) } in
     let (f, on, opening, xs, closing, inner, behind, whole, d, more) = call_derived (λ f xs. k (Call f xs)) v from rest (form_as a r v from rest is h) in
-    (Call (named f on) xs, behind, subst (λ ts. IsStatement (Call (named f on) xs) (Word_of word.Call at ∷ ts) behind) (sym whole) (IsStatement.call d), more)
-statement_derived {p} (Word_of word.Uncall at) k r v from rest is h =
+    (Call (named f on) xs, behind, subst (λ ts. IsStatement (Call (named f on) xs) (Keyword_of keyword.Call at ∷ ts) behind) (sym whole) (IsStatement.call d), more)
+statement_derived {p} (Keyword_of keyword.Uncall at) k r v from rest is h =
     let a : Rule p = record { opens = 0; counts = 0; is_whole = false; form = call_then (λ f xs. k (Uncall f xs)) } in
     let (f, on, opening, xs, closing, inner, behind, whole, d, more) = call_derived (λ f xs. k (Uncall f xs)) v from rest (form_as a r v from rest is h) in
-    (Uncall (named f on) xs, behind, subst (λ ts. IsStatement (Uncall (named f on) xs) (Word_of word.Uncall at ∷ ts) behind) (sym whole) (IsStatement.inverse_call d), more)
-statement_derived (Word_of _ at) k r v from rest is h = absurd cc
+    (Uncall (named f on) xs, behind, subst (λ ts. IsStatement (Uncall (named f on) xs) (Keyword_of keyword.Uncall at ∷ ts) behind) (sym whole) (IsStatement.inverse_call d), more)
+statement_derived (Keyword_of _ at) k r v from rest is h = absurd cc
 statement_derived (Sign_of s at) k r v from rest is h = absurd cc
 statement_derived (Number n at) k r v from rest is h = absurd cc
 
@@ -366,7 +366,7 @@ bounded_as at (Number m place) i n from behind last rest is w closing c e f =
     (subst (λ ts. IsBounded (Some (m, place)) (Sign_of sign.OpenIndex at ∷ Number m place ∷ Sign_of sign.CloseIndex closing ∷ last) ts) (sym f) bounded))
 bounded_as at (Name x place) i n from behind last rest is w closing c e f = absurd cc
 bounded_as at (Sign_of s place) i n from behind last rest is w closing c e f = absurd cc
-bounded_as at (Word_of w' place) i n from behind last rest is w closing c e f = absurd cc
+bounded_as at (Keyword_of w' place) i n from behind last rest is w closing c e f = absurd cc
 
 pub bound_derived : (t : Token) (r : Rule Bound) (n : Option (ℕ × Span)) (from rest : List Token) → rule Bound t ≡ Some r → Means r.form n from rest → IsBounded n (t ∷ from) rest
 bound_derived (Sign_of sign.OpenIndex at) r n from rest is h =
@@ -378,38 +378,38 @@ bound_derived (Sign_of sign.OpenIndex at) r n from rest is h =
 bound_derived (Sign_of _ at) r n from rest is h = absurd cc
 bound_derived (Name x at) r n from rest is h = absurd cc
 bound_derived (Number i at) r n from rest is h = absurd cc
-bound_derived (Word_of w at) r n from rest is h = absurd cc
+bound_derived (Keyword_of w at) r n from rest is h = absurd cc
 
-declares : (at : Span) (x : List ℕ) (place : Span) (n : Option (ℕ × Span)) (behind rest : List Token) → IsBounded n behind rest → IsDeclaration (declared (named x place) n) (Word_of word.Int at ∷ Name x place ∷ behind) rest
+declares : (at : Span) (x : List ℕ) (place : Span) (n : Option (ℕ × Span)) (behind rest : List Token) → IsBounded n behind rest → IsDeclaration (declared (named x place) n) (Keyword_of keyword.Int at ∷ Name x place ∷ behind) rest
 declares at x place n behind rest unbounded = IsDeclaration.number
 declares at x place n behind rest bounded = IsDeclaration.array
 
-declared_derived : (at : Span) (t : Token) (x : Named) (n : Option (ℕ × Span)) (from behind rest : List Token) → seen A_name t ≡ Some x → from ≡ t ∷ behind → IsBounded n behind rest → IsDeclaration (declared x n) (Word_of word.Int at ∷ from) rest
+declared_derived : (at : Span) (t : Token) (x : Named) (n : Option (ℕ × Span)) (from behind rest : List Token) → seen A_name t ≡ Some x → from ≡ t ∷ behind → IsBounded n behind rest → IsDeclaration (declared x n) (Keyword_of keyword.Int at ∷ from) rest
 declared_derived at (Name y place) x n from behind rest is w b =
     let same : named y place ≡ x = cc in
-    subst (λ z. IsDeclaration (declared z n) (Word_of word.Int at ∷ from) rest) same (subst (λ ts. IsDeclaration (declared (named y place) n) (Word_of word.Int at ∷ ts) rest) (sym w) (declares at y place n behind rest b))
+    subst (λ z. IsDeclaration (declared z n) (Keyword_of keyword.Int at ∷ from) rest) same (subst (λ ts. IsDeclaration (declared (named y place) n) (Keyword_of keyword.Int at ∷ ts) rest) (sym w) (declares at y place n behind rest b))
 declared_derived at (Number i place) x n from behind rest is w b = absurd cc
 declared_derived at (Sign_of s place) x n from behind rest is w b = absurd cc
-declared_derived at (Word_of w' place) x n from behind rest is w b = absurd cc
+declared_derived at (Keyword_of w' place) x n from behind rest is w b = absurd cc
 
-stack_declared : (at : Span) (t : Token) (s : Named) (from behind : List Token) → seen A_name t ≡ Some s → from ≡ t ∷ behind → IsDeclaration (StackOf s) (Word_of word.Stack at ∷ from) behind
+stack_declared : (at : Span) (t : Token) (s : Named) (from behind : List Token) → seen A_name t ≡ Some s → from ≡ t ∷ behind → IsDeclaration (StackOf s) (Keyword_of keyword.Stack at ∷ from) behind
 stack_declared at t s from behind is w =
     let n = name_is t s is in
-    subst (λ y. IsDeclaration (StackOf y) (Word_of word.Stack at ∷ from) behind) n.3
-    (subst (λ ts. IsDeclaration (StackOf (named n.0 n.1)) (Word_of word.Stack at ∷ ts) behind) (sym (w ∙ ap (λ x. x ∷ behind) n.2)) IsDeclaration.stack)
+    subst (λ y. IsDeclaration (StackOf y) (Keyword_of keyword.Stack at ∷ from) behind) n.3
+    (subst (λ ts. IsDeclaration (StackOf (named n.0 n.1)) (Keyword_of keyword.Stack at ∷ ts) behind) (sym (w ∙ ap (λ x. x ∷ behind) n.2)) IsDeclaration.stack)
 
 pub declaration_derived : {p : Part} (t : Token) (k : Declaration → Form p) (r : Rule p) (v : Tree p) (from rest : List Token) → declaration t k ≡ Some r → Means r.form v from rest →
     (d : Declaration) × (middle : List Token) × IsDeclaration d (t ∷ from) middle × Means (k d) v middle rest
-declaration_derived {p} (Word_of word.Int at) k r v from rest is h =
+declaration_derived {p} (Keyword_of keyword.Int at) k r v from rest is h =
     let a : Rule p = record { opens = 0; counts = 0; is_whole = false; form = take A_name (λ x. part Bound (λ n. k (declared x n))) } in
     let (t, x, behind, whole, names, h1) = form_as a r v from rest is h in
     let (n, middle, b, more) = h1 in
     (declared x n, middle, declared_derived at t x n from behind middle names whole b, more)
-declaration_derived {p} (Word_of word.Stack at) k r v from rest is h =
+declaration_derived {p} (Keyword_of keyword.Stack at) k r v from rest is h =
     let a : Rule p = record { opens = 0; counts = 0; is_whole = false; form = take A_name (λ s. k (StackOf s)) } in
     let (t, s, behind, whole, names, more) = form_as a r v from rest is h in
     (StackOf s, behind, stack_declared at t s from behind names whole, more)
-declaration_derived (Word_of _ at) k r v from rest is h = absurd cc
+declaration_derived (Keyword_of _ at) k r v from rest is h = absurd cc
 declaration_derived (Name x at) k r v from rest is h = absurd cc
 declaration_derived (Sign_of s at) k r v from rest is h = absurd cc
 declaration_derived (Number n at) k r v from rest is h = absurd cc
@@ -430,7 +430,7 @@ target_derived (Sign_of sign.OpenIndex at) r i from rest is h =
 target_derived (Sign_of _ at) r i from rest is h = absurd cc
 target_derived (Name x at) r i from rest is h = absurd cc
 target_derived (Number n at) r i from rest is h = absurd cc
-target_derived (Word_of w at) r i from rest is h = absurd cc
+target_derived (Keyword_of w at) r i from rest is h = absurd cc
 
 pub index_derived : (t : Token) (r : Rule Index) (i : Option Exp) (from rest : List Token) → rule Index t ≡ Some r → Means r.form i from rest → IsIndexed i (t ∷ from) rest
 index_derived (Sign_of sign.OpenIndex at) r i from rest is h =
@@ -441,37 +441,37 @@ index_derived (Sign_of sign.OpenIndex at) r i from rest is h =
 index_derived (Sign_of _ at) r i from rest is h = absurd cc
 index_derived (Name x at) r i from rest is h = absurd cc
 index_derived (Number n at) r i from rest is h = absurd cc
-index_derived (Word_of w at) r i from rest is h = absurd cc
+index_derived (Keyword_of w at) r i from rest is h = absurd cc
 
-pub else_derived : (t : Token) (r : Rule Else_part) (b : Block) (from rest : List Token) → rule Else_part t ≡ Some r → Means r.form b from rest → IsOptional word.Else b (t ∷ from) rest
-else_derived (Word_of word.Else at) r b from rest is h =
+pub else_derived : (t : Token) (r : Rule Else_part) (b : Block) (from rest : List Token) → rule Else_part t ≡ Some r → Means r.form b from rest → IsOptional keyword.Else b (t ∷ from) rest
+else_derived (Keyword_of keyword.Else at) r b from rest is h =
     let a : Rule Else_part = record { opens = 0; counts = 0; is_whole = false; form = part Body done } in
     let (s, last, d, h1) = form_as a r b from rest is h in
     let (e, f) = h1 in
-    subst (λ x. IsOptional word.Else x (Word_of word.Else at ∷ from) rest) (sym e) (subst (λ ts. IsOptional word.Else s (Word_of word.Else at ∷ from) ts) (sym f) (there d))
-else_derived (Word_of _ at) r b from rest is h = absurd cc
+    subst (λ x. IsOptional keyword.Else x (Keyword_of keyword.Else at ∷ from) rest) (sym e) (subst (λ ts. IsOptional keyword.Else s (Keyword_of keyword.Else at ∷ from) ts) (sym f) (there d))
+else_derived (Keyword_of _ at) r b from rest is h = absurd cc
 else_derived (Sign_of s at) r b from rest is h = absurd cc
 else_derived (Name x at) r b from rest is h = absurd cc
 else_derived (Number n at) r b from rest is h = absurd cc
 
-pub do_derived : (t : Token) (r : Rule Do_part) (b : Block) (from rest : List Token) → rule Do_part t ≡ Some r → Means r.form b from rest → IsOptional word.Do b (t ∷ from) rest
-do_derived (Word_of word.Do at) r b from rest is h =
+pub do_derived : (t : Token) (r : Rule Do_part) (b : Block) (from rest : List Token) → rule Do_part t ≡ Some r → Means r.form b from rest → IsOptional keyword.Do b (t ∷ from) rest
+do_derived (Keyword_of keyword.Do at) r b from rest is h =
     let a : Rule Do_part = record { opens = 0; counts = 0; is_whole = false; form = part Body done } in
     let (s, last, d, h1) = form_as a r b from rest is h in
     let (e, f) = h1 in
-    subst (λ x. IsOptional word.Do x (Word_of word.Do at ∷ from) rest) (sym e) (subst (λ ts. IsOptional word.Do s (Word_of word.Do at ∷ from) ts) (sym f) (there d))
-do_derived (Word_of _ at) r b from rest is h = absurd cc
+    subst (λ x. IsOptional keyword.Do x (Keyword_of keyword.Do at ∷ from) rest) (sym e) (subst (λ ts. IsOptional keyword.Do s (Keyword_of keyword.Do at ∷ from) ts) (sym f) (there d))
+do_derived (Keyword_of _ at) r b from rest is h = absurd cc
 do_derived (Sign_of s at) r b from rest is h = absurd cc
 do_derived (Name x at) r b from rest is h = absurd cc
 do_derived (Number n at) r b from rest is h = absurd cc
 
-pub loop_part_derived : (t : Token) (r : Rule Loop_part) (b : Block) (from rest : List Token) → rule Loop_part t ≡ Some r → Means r.form b from rest → IsOptional word.Loop b (t ∷ from) rest
-loop_part_derived (Word_of word.Loop at) r b from rest is h =
+pub loop_part_derived : (t : Token) (r : Rule Loop_part) (b : Block) (from rest : List Token) → rule Loop_part t ≡ Some r → Means r.form b from rest → IsOptional keyword.Loop b (t ∷ from) rest
+loop_part_derived (Keyword_of keyword.Loop at) r b from rest is h =
     let a : Rule Loop_part = record { opens = 0; counts = 0; is_whole = false; form = part Body done } in
     let (s, last, d, h1) = form_as a r b from rest is h in
     let (e, f) = h1 in
-    subst (λ x. IsOptional word.Loop x (Word_of word.Loop at ∷ from) rest) (sym e) (subst (λ ts. IsOptional word.Loop s (Word_of word.Loop at ∷ from) ts) (sym f) (there d))
-loop_part_derived (Word_of _ at) r b from rest is h = absurd cc
+    subst (λ x. IsOptional keyword.Loop x (Keyword_of keyword.Loop at ∷ from) rest) (sym e) (subst (λ ts. IsOptional keyword.Loop s (Keyword_of keyword.Loop at ∷ from) ts) (sym f) (there d))
+loop_part_derived (Keyword_of _ at) r b from rest is h = absurd cc
 loop_part_derived (Sign_of s at) r b from rest is h = absurd cc
 loop_part_derived (Name x at) r b from rest is h = absurd cc
 loop_part_derived (Number n at) r b from rest is h = absurd cc
@@ -495,9 +495,9 @@ head_derived k v from rest h =
     )
 
 -- `delocal`, the same kind, the same name and `=`, and what the form behind them means
-delocal_derived : {p : Part} (j : Kind) (x : List ℕ) (on : Span) (k : Named → Form p) (v : Tree p) (from rest : List Token) → Means (delocal_then j (named x on) k) v from rest →
+delocal_derived : {p : Part} (j : LocalKind) (x : List ℕ) (on : Span) (k : Named → Form p) (v : Tree p) (from rest : List Token) → Means (delocal_then j (named x on) k) v from rest →
     (at_delocal : Span) × (at_kind : Span) × (place : Span) × (equals : Span) × (behind : List Token)
-    × (from ≡ Word_of word.Delocal at_delocal ∷ Word_of (kind_word j) at_kind ∷ Name x place ∷ Sign_of sign.Equals equals ∷ behind) × Means (k (named x place)) v behind rest
+    × (from ≡ Keyword_of keyword.Delocal at_delocal ∷ Keyword_of (kind_keyword j) at_kind ∷ Name x place ∷ Sign_of sign.Equals equals ∷ behind) × Means (k (named x place)) v behind rest
 delocal_derived j x on k v from rest h =
     let (t1, u1, b1, w1, is1, h1) = h in
     let (t2, i, b2, w2, is2, h2) = h1 in
@@ -513,46 +513,46 @@ delocal_derived j x on k v from rest h =
       n.0,
       q.0,
       b4,
-      d.1 ∙ ap (λ ts. Word_of word.Delocal d.0 ∷ ts) (l.1 ∙ ap (λ ts. Word_of (kind_word j) l.0 ∷ ts) behind_kind),
+      d.1 ∙ ap (λ ts. Keyword_of keyword.Delocal d.0 ∷ ts) (l.1 ∙ ap (λ ts. Keyword_of (kind_keyword j) l.0 ∷ ts) behind_kind),
       subst (λ z. Means (k z) v b4 rest) (sym n.2) more,
     )
 
-int_derived : (at_int : Span) (s : Stm) (from rest : List Token) → Means (local_int {p = Local} done) s from rest → (at : Span) → IsStatement s (Word_of word.Local at ∷ Word_of word.Int at_int ∷ from) rest
+int_derived : (at_int : Span) (s : Stm) (from rest : List Token) → Means (local_int {p = Local} done) s from rest → (at : Span) → IsStatement s (Keyword_of keyword.Local at ∷ Keyword_of keyword.Int at_int ∷ from) rest
 int_derived at_int s from rest h at =
     let (x, on, equals, b1, w1, h1) = head_derived {p = Local} (λ x. part Whole (λ e. part Body (λ b. delocal_then kind.Int x (λ y. part Whole (λ f. done (LocalInt x e b y f)))))) s from rest h in
     let (e, m1, d1, h2) = h1 in
     let (b, m2, d2, h3) = h2 in
     let (at_delocal, at_kind, place, again, b2, w2, h4) = delocal_derived {p = Local} kind.Int x on (λ y. part Whole (λ f. done (LocalInt (named x on) e b y f))) s m2 rest h3 in
     let (f, m3, d3, h5) = h4 in
-    subst (λ ts. IsStatement s (Word_of word.Local at ∷ Word_of word.Int at_int ∷ ts) rest) (sym w1)
-    (subst (λ z. IsStatement z (Word_of word.Local at ∷ Word_of word.Int at_int ∷ Name x on ∷ Sign_of sign.Equals equals ∷ b1) rest) (sym h5.0)
-    (subst (λ ts. IsStatement (LocalInt (named x on) e b (named x place) f) (Word_of word.Local at ∷ Word_of word.Int at_int ∷ Name x on ∷ Sign_of sign.Equals equals ∷ b1) ts) (sym h5.1)
+    subst (λ ts. IsStatement s (Keyword_of keyword.Local at ∷ Keyword_of keyword.Int at_int ∷ ts) rest) (sym w1)
+    (subst (λ z. IsStatement z (Keyword_of keyword.Local at ∷ Keyword_of keyword.Int at_int ∷ Name x on ∷ Sign_of sign.Equals equals ∷ b1) rest) (sym h5.0)
+    (subst (λ ts. IsStatement (LocalInt (named x on) e b (named x place) f) (Keyword_of keyword.Local at ∷ Keyword_of keyword.Int at_int ∷ Name x on ∷ Sign_of sign.Equals equals ∷ b1) ts) (sym h5.1)
     (IsStatement.local_number d1 (subst (λ ts. IsBody b m1 ts) w2 d2) d3)))
 
-stack_local_derived : (at_stack : Span) (s : Stm) (from rest : List Token) → Means (local_stack {p = Local} done) s from rest → (at : Span) → IsStatement s (Word_of word.Local at ∷ Word_of word.Stack at_stack ∷ from) rest
+stack_local_derived : (at_stack : Span) (s : Stm) (from rest : List Token) → Means (local_stack {p = Local} done) s from rest → (at : Span) → IsStatement s (Keyword_of keyword.Local at ∷ Keyword_of keyword.Stack at_stack ∷ from) rest
 stack_local_derived at_stack s from rest h at =
-    let (x, on, equals, b1, w1, h1) = head_derived {p = Local} (λ x. word_then word.Nil (part Body (λ b. delocal_then kind.Stack x (λ y. word_then word.Nil (done (LocalStack x b y)))))) s from rest h in
+    let (x, on, equals, b1, w1, h1) = head_derived {p = Local} (λ x. keyword_then keyword.Nil (part Body (λ b. delocal_then kind.Stack x (λ y. keyword_then keyword.Nil (done (LocalStack x b y)))))) s from rest h in
     let (t1, u1, b2, w2, is1, h2) = h1 in
     let (b, m1, d1, h3) = h2 in
-    let (at_delocal, at_kind, place, again, b3, w3, h4) = delocal_derived {p = Local} kind.Stack x on (λ y. word_then word.Nil (done (LocalStack (named x on) b y))) s m1 rest h3 in
+    let (at_delocal, at_kind, place, again, b3, w3, h4) = delocal_derived {p = Local} kind.Stack x on (λ y. keyword_then keyword.Nil (done (LocalStack (named x on) b y))) s m1 rest h3 in
     let (t2, u2, b4, w4, is2, h5) = h4 in
     let n = nil_is b1 t1 u1 b2 w2 is1 in
     let o = nil_is b3 t2 u2 b4 w4 is2 in
-    let front : from ≡ Name x on ∷ Sign_of sign.Equals equals ∷ Word_of word.Nil n.0 ∷ b2 = w1 ∙ ap (λ ts. Name x on ∷ Sign_of sign.Equals equals ∷ ts) n.1 in
-    let back : m1 ≡ Word_of word.Delocal at_delocal ∷ Word_of word.Stack at_kind ∷ Name x place ∷ Sign_of sign.Equals again ∷ Word_of word.Nil o.0 ∷ b4 = w3 ∙ ap (λ ts. Word_of word.Delocal at_delocal ∷ Word_of word.Stack at_kind ∷ Name x place ∷ Sign_of sign.Equals again ∷ ts) o.1 in
-    subst (λ ts. IsStatement s (Word_of word.Local at ∷ Word_of word.Stack at_stack ∷ ts) rest) (sym front)
-    (subst (λ z. IsStatement z (Word_of word.Local at ∷ Word_of word.Stack at_stack ∷ Name x on ∷ Sign_of sign.Equals equals ∷ Word_of word.Nil n.0 ∷ b2) rest) (sym h5.0)
-    (subst (λ ts. IsStatement (LocalStack (named x on) b (named x place)) (Word_of word.Local at ∷ Word_of word.Stack at_stack ∷ Name x on ∷ Sign_of sign.Equals equals ∷ Word_of word.Nil n.0 ∷ b2) ts) (sym h5.1)
+    let front : from ≡ Name x on ∷ Sign_of sign.Equals equals ∷ Keyword_of keyword.Nil n.0 ∷ b2 = w1 ∙ ap (λ ts. Name x on ∷ Sign_of sign.Equals equals ∷ ts) n.1 in
+    let back : m1 ≡ Keyword_of keyword.Delocal at_delocal ∷ Keyword_of keyword.Stack at_kind ∷ Name x place ∷ Sign_of sign.Equals again ∷ Keyword_of keyword.Nil o.0 ∷ b4 = w3 ∙ ap (λ ts. Keyword_of keyword.Delocal at_delocal ∷ Keyword_of keyword.Stack at_kind ∷ Name x place ∷ Sign_of sign.Equals again ∷ ts) o.1 in
+    subst (λ ts. IsStatement s (Keyword_of keyword.Local at ∷ Keyword_of keyword.Stack at_stack ∷ ts) rest) (sym front)
+    (subst (λ z. IsStatement z (Keyword_of keyword.Local at ∷ Keyword_of keyword.Stack at_stack ∷ Name x on ∷ Sign_of sign.Equals equals ∷ Keyword_of keyword.Nil n.0 ∷ b2) rest) (sym h5.0)
+    (subst (λ ts. IsStatement (LocalStack (named x on) b (named x place)) (Keyword_of keyword.Local at ∷ Keyword_of keyword.Stack at_stack ∷ Name x on ∷ Sign_of sign.Equals equals ∷ Keyword_of keyword.Nil n.0 ∷ b2) ts) (sym h5.1)
     (IsStatement.local_stack (subst (λ ts. IsBody b b2 ts) back d1))))
 
-pub local_derived : (t : Token) (r : Rule Local) (s : Stm) (from rest : List Token) → rule Local t ≡ Some r → Means r.form s from rest → (at : Span) → IsStatement s (Word_of word.Local at ∷ t ∷ from) rest
-local_derived (Word_of word.Int at_int) r s from rest is h =
+pub local_derived : (t : Token) (r : Rule Local) (s : Stm) (from rest : List Token) → rule Local t ≡ Some r → Means r.form s from rest → (at : Span) → IsStatement s (Keyword_of keyword.Local at ∷ t ∷ from) rest
+local_derived (Keyword_of keyword.Int at_int) r s from rest is h =
     let a : Rule Local = record { opens = 0; counts = 0; is_whole = false; form = local_int done } in
     int_derived at_int s from rest (form_as a r s from rest is h)
-local_derived (Word_of word.Stack at_stack) r s from rest is h =
+local_derived (Keyword_of keyword.Stack at_stack) r s from rest is h =
     let a : Rule Local = record { opens = 0; counts = 0; is_whole = false; form = local_stack done } in
     stack_local_derived at_stack s from rest (form_as a r s from rest is h)
-local_derived (Word_of _ at) r s from rest is h = absurd cc
+local_derived (Keyword_of _ at) r s from rest is h = absurd cc
 local_derived (Sign_of o at) r s from rest is h = absurd cc
 local_derived (Name x at) r s from rest is h = absurd cc
 local_derived (Number n at) r s from rest is h = absurd cc
@@ -562,7 +562,7 @@ names_derived (Name x at) r xs from rest is h =
     let a : Rule Names = record { opens = 0; counts = 0; is_whole = false; form = part More_names (λ ys. done (named x at ∷ ys)) } in
     let (ys, m, d, end) = form_as a r xs from rest is h in
     subst (λ zs. AreNames zs (Name x at ∷ from) rest) (sym end.0) (subst (λ ts. AreNames (named x at ∷ ys) (Name x at ∷ from) ts) (sym end.1) (AreNames.names d))
-names_derived (Word_of w at) r xs from rest is h = absurd cc
+names_derived (Keyword_of w at) r xs from rest is h = absurd cc
 names_derived (Sign_of s at) r xs from rest is h = absurd cc
 names_derived (Number n at) r xs from rest is h = absurd cc
 
@@ -578,6 +578,6 @@ more_names_derived (Sign_of sign.Comma at) r xs from rest is h =
     (subst (λ ts. AreMoreNames (named n.0 n.1 ∷ ys) (Sign_of sign.Comma at ∷ ts) rest) (sym whole)
     (subst (λ ts. AreMoreNames (named n.0 n.1 ∷ ys) (Sign_of sign.Comma at ∷ Name n.0 n.1 ∷ b) ts) (sym end.1) (AreMoreNames.more d)))
 more_names_derived (Sign_of _ at) r xs from rest is h = absurd cc
-more_names_derived (Word_of w at) r xs from rest is h = absurd cc
+more_names_derived (Keyword_of w at) r xs from rest is h = absurd cc
 more_names_derived (Name x at) r xs from rest is h = absurd cc
 more_names_derived (Number n at) r xs from rest is h = absurd cc

@@ -3,10 +3,10 @@ use Rattle.std.specs.Prelude.{◌≡◌, ℕ, suc, ◌-◌, List, [], ◌∷◌,
 use Rattle.janus_syntax.specs.declared.token.Span.{Span}
 use Rattle.janus_syntax.specs.declared.token.Sign.TheVariants as sign
 use Rattle.janus_syntax.specs.declared.token.Keyword.{Keyword}
-use Rattle.janus_syntax.specs.declared.token.Keyword.TheVariants as word
+use Rattle.janus_syntax.specs.declared.token.Keyword.TheVariants as keyword
 use Rattle.janus_syntax.specs.declared.operator.Infix.{Infix}
 use Rattle.janus_syntax.specs.declared.tree.Update.{Update}
-use Rattle.janus_syntax.specs.Tokens.{Token, Name, Number, Sign_of, Word_of}
+use Rattle.janus_syntax.specs.Tokens.{Token, Name, Number, Sign_of, Keyword_of}
 use Rattle.janus_syntax.specs.Tree.{Name as Named, named, Exp, Num, Var, Element, EmptyOf, TopOf, Neg, Stm, Skip, Assign, AssignElement, Push, Pop, If}
 use Rattle.janus_syntax.specs.Tree.{Loop, LocalInt, LocalStack, Call, Uncall, Block, Empty, More, Declaration, Int, Array, StackOf, Parameter, IntParameter}
 use Rattle.janus_syntax.specs.Tree.{ArrayParameter, StackParameter, Procedure, procedure_of, Cell, cell_of}
@@ -25,9 +25,9 @@ pub data IsExpression : ℕ → Exp → List Token → List Token → Type 0 whe
       IsExpression weakest i from (Sign_of sign.CloseIndex closing ∷ rest) →
       IsExpression 0 (Element (named x at) i) (Name x at ∷ Sign_of sign.OpenIndex opening ∷ from) rest
   emptiness : {at_empty opening at closing : Span} {s : List ℕ} {rest : List Token} →
-      IsExpression 0 (EmptyOf (named s at)) (Word_of word.Empty at_empty ∷ Sign_of sign.Open opening ∷ Name s at ∷ Sign_of sign.Close closing ∷ rest) rest
+      IsExpression 0 (EmptyOf (named s at)) (Keyword_of keyword.Empty at_empty ∷ Sign_of sign.Open opening ∷ Name s at ∷ Sign_of sign.Close closing ∷ rest) rest
   top : {at_top opening at closing : Span} {s : List ℕ} {rest : List Token} →
-      IsExpression 0 (TopOf (named s at)) (Word_of word.Top at_top ∷ Sign_of sign.Open opening ∷ Name s at ∷ Sign_of sign.Close closing ∷ rest) rest
+      IsExpression 0 (TopOf (named s at)) (Keyword_of keyword.Top at_top ∷ Sign_of sign.Open opening ∷ Name s at ∷ Sign_of sign.Close closing ∷ rest) rest
   minus : {at : Span} {e : Exp} {from rest : List Token} → IsExpression 0 e from rest → IsExpression 0 (Neg e) (Sign_of sign.Minus at ∷ from) rest
   parentheses : {opening closing : Span} {e : Exp} {from rest : List Token} →
       IsExpression weakest e from (Sign_of sign.Close closing ∷ rest) → IsExpression 0 e (Sign_of sign.Open opening ∷ from) rest
@@ -51,7 +51,7 @@ pub data AreNames : List Named → List Token → List Token → Type 0 where
 mutual
   -- a statement
   pub data IsStatement : Stm → List Token → List Token → Type 0 where
-    skip : {at : Span} {rest : List Token} → IsStatement Skip (Word_of word.Skip at ∷ rest) rest
+    skip : {at : Span} {rest : List Token} → IsStatement Skip (Keyword_of keyword.Skip at ∷ rest) rest
     assignment : {x : List ℕ} {at : Span} {t : Token} {u : Update} {e : Exp} {from rest : List Token} → update_at t ≡ Some u →
         IsExpression weakest e from rest → IsStatement (Assign (named x at) u e) (Name x at ∷ t ∷ from) rest
     element_assignment : {x : List ℕ} {at opening closing : Span} {t : Token} {u : Update} {i e : Exp} {from behind rest : List Token} → update_at t ≡ Some u →
@@ -59,39 +59,41 @@ mutual
         IsStatement (AssignElement (named x at) i u e) (Name x at ∷ Sign_of sign.OpenIndex opening ∷ from) rest
     push : {at_push opening at comma place closing : Span} {x s : List ℕ} {rest : List Token} →
         IsStatement (Push (named x at) (named s place))
-        (Word_of word.Push at_push ∷ Sign_of sign.Open opening ∷ Name x at ∷ Sign_of sign.Comma comma ∷ Name s place ∷ Sign_of sign.Close closing
+        (Keyword_of keyword.Push at_push ∷ Sign_of sign.Open opening ∷ Name x at ∷ Sign_of sign.Comma comma ∷ Name s place ∷ Sign_of sign.Close closing
         ∷ rest) rest
     pop : {at_pop opening at comma place closing : Span} {x s : List ℕ} {rest : List Token} →
         IsStatement (Pop (named x at) (named s place))
-        (Word_of word.Pop at_pop ∷ Sign_of sign.Open opening ∷ Name x at ∷ Sign_of sign.Comma comma ∷ Name s place ∷ Sign_of sign.Close closing ∷ rest) rest
+        (Keyword_of keyword.Pop at_pop ∷ Sign_of sign.Open opening ∷ Name x at ∷ Sign_of sign.Comma comma ∷ Name s place ∷ Sign_of sign.Close closing
+        ∷ rest) rest
     branch : {at_if at_then at_fi : Span} {test assertion : Exp} {a b : Block} {from then others last rest : List Token} →
-        IsExpression weakest test from (Word_of word.Then at_then ∷ then) → IsBody a then others →
-        IsOptional word.Else b others (Word_of word.Fi at_fi ∷ last) → IsExpression weakest assertion last rest →
-        IsStatement (If test a b assertion) (Word_of word.If at_if ∷ from) rest
+        IsExpression weakest test from (Keyword_of keyword.Then at_then ∷ then) → IsBody a then others →
+        IsOptional keyword.Else b others (Keyword_of keyword.Fi at_fi ∷ last) → IsExpression weakest assertion last rest →
+        IsStatement (If test a b assertion) (Keyword_of keyword.If at_if ∷ from) rest
     repetition : {at_from at_until : Span} {assertion test : Exp} {a b : Block} {from first second last rest : List Token} →
-        IsExpression weakest assertion from first → IsOptional word.Do a first second →
-        IsOptional word.Loop b second (Word_of word.Until at_until ∷ last) → IsExpression weakest test last rest →
-        IsStatement (Loop assertion a b test) (Word_of word.From at_from ∷ from) rest
+        IsExpression weakest assertion from first → IsOptional keyword.Do a first second →
+        IsOptional keyword.Loop b second (Keyword_of keyword.Until at_until ∷ last) → IsExpression weakest test last rest →
+        IsStatement (Loop assertion a b test) (Keyword_of keyword.From at_from ∷ from) rest
     local_number : {at_local at_int at equals at_delocal at_kind place equals_again : Span} {x : List ℕ} {first test : Exp} {b : Block}
         {from behind last rest : List Token} →
         IsExpression weakest first from behind →
-        IsBody b behind (Word_of word.Delocal at_delocal ∷ Word_of word.Int at_kind ∷ Name x place ∷ Sign_of sign.Equals equals_again ∷ last) →
+        IsBody b behind (Keyword_of keyword.Delocal at_delocal ∷ Keyword_of keyword.Int at_kind ∷ Name x place ∷ Sign_of sign.Equals equals_again ∷ last) →
         IsExpression weakest test last rest →
         IsStatement (LocalInt (named x at) first b (named x place) test)
-        (Word_of word.Local at_local ∷ Word_of word.Int at_int ∷ Name x at ∷ Sign_of sign.Equals equals ∷ from) rest
+        (Keyword_of keyword.Local at_local ∷ Keyword_of keyword.Int at_int ∷ Name x at ∷ Sign_of sign.Equals equals ∷ from) rest
     local_stack : {at_local at_stack at equals at_nil at_delocal at_kind place equals_again nil_again : Span} {x : List ℕ} {b : Block}
         {from rest : List Token} →
         IsBody b from
-        (Word_of word.Delocal at_delocal ∷ Word_of word.Stack at_kind ∷ Name x place ∷ Sign_of sign.Equals equals_again ∷ Word_of word.Nil nil_again
-        ∷ rest) →
+        (Keyword_of keyword.Delocal at_delocal ∷ Keyword_of keyword.Stack at_kind ∷ Name x place ∷ Sign_of sign.Equals equals_again
+        ∷ Keyword_of keyword.Nil nil_again ∷ rest) →
         IsStatement (LocalStack (named x at) b (named x place))
-        (Word_of word.Local at_local ∷ Word_of word.Stack at_stack ∷ Name x at ∷ Sign_of sign.Equals equals ∷ Word_of word.Nil at_nil ∷ from) rest
+        (Keyword_of keyword.Local at_local ∷ Keyword_of keyword.Stack at_stack ∷ Name x at ∷ Sign_of sign.Equals equals
+        ∷ Keyword_of keyword.Nil at_nil ∷ from) rest
     call : {at_call at opening closing : Span} {f : List ℕ} {xs : List Named} {from rest : List Token} →
         AreNames xs from (Sign_of sign.Close closing ∷ rest) →
-        IsStatement (Call (named f at) xs) (Word_of word.Call at_call ∷ Name f at ∷ Sign_of sign.Open opening ∷ from) rest
+        IsStatement (Call (named f at) xs) (Keyword_of keyword.Call at_call ∷ Name f at ∷ Sign_of sign.Open opening ∷ from) rest
     inverse_call : {at_uncall at opening closing : Span} {f : List ℕ} {xs : List Named} {from rest : List Token} →
         AreNames xs from (Sign_of sign.Close closing ∷ rest) →
-        IsStatement (Uncall (named f at) xs) (Word_of word.Uncall at_uncall ∷ Name f at ∷ Sign_of sign.Open opening ∷ from) rest
+        IsStatement (Uncall (named f at) xs) (Keyword_of keyword.Uncall at_uncall ∷ Name f at ∷ Sign_of sign.Open opening ∷ from) rest
 
   -- none or more
   pub data AreStatements : Block → List Token → List Token → Type 0 where
@@ -102,20 +104,21 @@ mutual
   pub data IsBody : Block → List Token → List Token → Type 0 where
     body : {s : Stm} {b : Block} {from behind rest : List Token} → IsStatement s from behind → AreStatements b behind rest → IsBody (More s b) from rest
 
-  -- a word and its body; where it is left out, the body is one `skip`
+  -- a keyword and its body; where it is left out, the body is one `skip`
   pub data IsOptional : Keyword → Block → List Token → List Token → Type 0 where
-    there : {w : Keyword} {at : Span} {b : Block} {from rest : List Token} → IsBody b from rest → IsOptional w b (Word_of w at ∷ from) rest
+    there : {w : Keyword} {at : Span} {b : Block} {from rest : List Token} → IsBody b from rest → IsOptional w b (Keyword_of w at ∷ from) rest
     left_out : {w : Keyword} {rest : List Token} → IsOptional w skip_block rest rest
 
 -- ---- declarations
 
 -- a declaration
 pub data IsDeclaration : Declaration → List Token → List Token → Type 0 where
-  number : {at_int at : Span} {x : List ℕ} {rest : List Token} → IsDeclaration (Int (named x at)) (Word_of word.Int at_int ∷ Name x at ∷ rest) rest
+  number : {at_int at : Span} {x : List ℕ} {rest : List Token} → IsDeclaration (Int (named x at)) (Keyword_of keyword.Int at_int ∷ Name x at ∷ rest) rest
   array : {at_int at opening place closing : Span} {x : List ℕ} {n : ℕ} {rest : List Token} →
       IsDeclaration (Array (named x at) n place)
-      (Word_of word.Int at_int ∷ Name x at ∷ Sign_of sign.OpenIndex opening ∷ Number n place ∷ Sign_of sign.CloseIndex closing ∷ rest) rest
-  stack : {at_stack at : Span} {s : List ℕ} {rest : List Token} → IsDeclaration (StackOf (named s at)) (Word_of word.Stack at_stack ∷ Name s at ∷ rest) rest
+      (Keyword_of keyword.Int at_int ∷ Name x at ∷ Sign_of sign.OpenIndex opening ∷ Number n place ∷ Sign_of sign.CloseIndex closing ∷ rest) rest
+  stack : {at_stack at : Span} {s : List ℕ} {rest : List Token} →
+      IsDeclaration (StackOf (named s at)) (Keyword_of keyword.Stack at_stack ∷ Name s at ∷ rest) rest
 
 -- none or more
 pub data AreDeclarations : List Declaration → List Token → List Token → Type 0 where
@@ -127,12 +130,12 @@ pub data AreDeclarations : List Declaration → List Token → List Token → Ty
 
 -- a parameter: a number, an array, or a stack
 pub data IsParameter : Parameter → List Token → List Token → Type 0 where
-  number : {at_int at : Span} {x : List ℕ} {rest : List Token} → IsParameter (IntParameter (named x at)) (Word_of word.Int at_int ∷ Name x at ∷ rest) rest
+  number : {at_int at : Span} {x : List ℕ} {rest : List Token} → IsParameter (IntParameter (named x at)) (Keyword_of keyword.Int at_int ∷ Name x at ∷ rest) rest
   array : {at_int at opening closing : Span} {x : List ℕ} {rest : List Token} →
       IsParameter (ArrayParameter (named x at))
-      (Word_of word.Int at_int ∷ Name x at ∷ Sign_of sign.OpenIndex opening ∷ Sign_of sign.CloseIndex closing ∷ rest) rest
+      (Keyword_of keyword.Int at_int ∷ Name x at ∷ Sign_of sign.OpenIndex opening ∷ Sign_of sign.CloseIndex closing ∷ rest) rest
   stack : {at_stack at : Span} {s : List ℕ} {rest : List Token} →
-      IsParameter (StackParameter (named s at)) (Word_of word.Stack at_stack ∷ Name s at ∷ rest) rest
+      IsParameter (StackParameter (named s at)) (Keyword_of keyword.Stack at_stack ∷ Name s at ∷ rest) rest
 
 -- behind a parameter: a comma and a parameter, none or more times
 pub data AreMoreParameters : List Parameter → List Token → List Token → Type 0 where
@@ -150,7 +153,7 @@ pub data AreParameters : List Parameter → List Token → List Token → Type 0
 pub data IsProcedure : Procedure → List Token → List Token → Type 0 where
   procedure : {at_procedure at opening closing : Span} {f : List ℕ} {xs : List Parameter} {b : Block} {from behind rest : List Token} →
       AreParameters xs from (Sign_of sign.Close closing ∷ behind) → IsBody b behind rest →
-      IsProcedure (procedure_of (named f at) xs b) (Word_of word.Procedure at_procedure ∷ Name f at ∷ Sign_of sign.Open opening ∷ from) rest
+      IsProcedure (procedure_of (named f at) xs b) (Keyword_of keyword.Procedure at_procedure ∷ Name f at ∷ Sign_of sign.Open opening ∷ from) rest
 
 -- none or more
 pub data AreProcedures : List Procedure → List Token → List Token → Type 0 where
@@ -164,7 +167,7 @@ pub data AreProcedures : List Procedure → List Token → List Token → Type 0
 pub data IsMain : List Declaration → Block → List Token → List Token → Type 0 where
   main : {at_procedure at opening closing : Span} {ds : List Declaration} {b : Block} {from middle rest : List Token} →
       AreDeclarations ds from middle → AreStatements b middle rest →
-      IsMain ds b (Word_of word.Procedure at_procedure ∷ Word_of word.Main at ∷ Sign_of sign.Open opening ∷ Sign_of sign.Close closing ∷ from) rest
+      IsMain ds b (Keyword_of keyword.Procedure at_procedure ∷ Keyword_of keyword.Main at ∷ Sign_of sign.Open opening ∷ Sign_of sign.Close closing ∷ from) rest
 
 -- declarations, then statements, then procedures; or procedures of which one is `main`, which gives the declarations and the statements
 pub data IsCell : Cell → List Token → List Token → Type 0 where

@@ -2,7 +2,7 @@
 use Rattle.std.proofs.Common.{List, [], ◌∷◌, ◌++◌}
 use Rattle.janus_meaning.specs.Syntax.{Name}
 use Rattle.janus_invert.specs.declared.code.Symbol.{Symbol}
-use Rattle.janus_invert.specs.declared.code.Parameter.{Parameter}
+use Rattle.janus_invert.specs.declared.code.FlatParameter.{FlatParameter}
 use Rattle.janus_invert.specs.Numbered.{HasItsNumber, HaveTheirNumbers, IsSame, AreSame}
 use Rattle.janus_invert.specs.Procedures.{ParametersHaveNumbers}
 
@@ -15,6 +15,6 @@ pub numbers_more : (xs : List Name) (ys : List Symbol) (y : Symbol) → HaveThei
 numbers_more xs [] y h e = (e, tt)
 numbers_more xs (z ∷ ys) y h e = (h.0, numbers_more xs ys y h.1 e)
 
-pub parameters_more : (xs : List Name) (ys : List Parameter) (y : Parameter) → ParametersHaveNumbers xs ys → HasItsNumber xs y.name → ParametersHaveNumbers xs (ys ++ y ∷ [])
+pub parameters_more : (xs : List Name) (ys : List FlatParameter) (y : FlatParameter) → ParametersHaveNumbers xs ys → HasItsNumber xs y.name → ParametersHaveNumbers xs (ys ++ y ∷ [])
 parameters_more xs [] y h e = (e, tt)
 parameters_more xs (z ∷ ys) y h e = (h.0, parameters_more xs ys y h.1 e)

@@ -3,7 +3,7 @@ use Rattle.std.proofs.Common.{◌≡◌, ℕ, ◌-◌, List, [], ◌∷◌, ◌+
 use Rattle.janus_syntax.specs.declared.token.Sign.{Sign}
 use Rattle.janus_syntax.specs.declared.token.Sign.TheVariants as sign
 use Rattle.janus_syntax.specs.declared.token.Keyword.{Keyword}
-use Rattle.janus_syntax.specs.declared.token.Keyword.TheVariants as word
+use Rattle.janus_syntax.specs.declared.token.Keyword.TheVariants as keyword
 use Rattle.janus_syntax.specs.declared.tree.Operator.{Operator}
 use Rattle.janus_syntax.specs.declared.tree.Operator.TheVariants as operator
 use Rattle.janus_syntax.specs.declared.tree.Update.{Update}
@@ -11,7 +11,7 @@ use Rattle.janus_syntax.specs.declared.tree.Update.TheVariants as update
 use Rattle.janus_syntax.specs.Tree.{Name, named, Exp, Num, Var, Element, EmptyOf, TopOf, Neg, Bin, And, Or, Stm, Skip, Assign, AssignElement, Push, Pop, If, Loop, LocalInt, LocalStack, Call, Uncall, Block, Empty, More, Parameter, IntParameter, ArrayParameter, StackParameter, Procedure, procedure_of}
 use Rattle.janus_syntax.specs.View.{text_of, operator_of, update_of, plain_exp, plain_stm, plain_block, plain_parameter, plain_procedure}
 use Rattle.janus_syntax.specs.Operators.{weakest}
-use Rattle.janus_syntax.specs.Printing.{Piece, A_name, A_sign, A_word, A_minus, An_opening, with_pieces, no_text, operator_sign, sign_level, if_needed, infix_pieces, binding_pieces, more_names_pieces, names_pieces, call_pieces, exp_pieces, update_sign, whole_pieces, stm_pieces, block_pieces, parameter_pieces, more_parameters_pieces, parameters_pieces, procedure_pieces, printed_procedure}
+use Rattle.janus_syntax.specs.Printing.{Piece, A_name, A_sign, A_keyword, A_minus, An_opening, with_pieces, no_text, operator_sign, sign_level, if_needed, infix_pieces, binding_pieces, more_names_pieces, names_pieces, call_pieces, exp_pieces, update_sign, whole_pieces, stm_pieces, block_pieces, parameter_pieces, more_parameters_pieces, parameters_pieces, procedure_pieces, printed_procedure}
 use Rattle.janus_invert.specs.Closed.{closed_stm, closed_block, closed_procedure}
 use Rattle.janus_invert.specs.ProcedureTrees.{name_tree, operator_tree, update_tree, exp_tree, stm_tree, block_tree, parameter_tree, procedure_tree}
 
@@ -72,7 +72,7 @@ names_same [] = refl
 names_same (named x at ∷ xs) = ap (λ (ps : List Piece). A_name x ∷ ps) (more_names_same xs)
 
 call_same : (w : Keyword) (f : List ℕ) (xs : List Name) → call_pieces w f xs ≡ call_pieces w f (map name_tree (map text_of xs))
-call_same w f xs = ap (λ (ps : List Piece). A_word w ∷ A_name f ∷ An_opening ∷ (ps ++ A_sign sign.Close ∷ [])) (names_same xs)
+call_same w f xs = ap (λ (ps : List Piece). A_keyword w ∷ A_name f ∷ An_opening ∷ (ps ++ A_sign sign.Close ∷ [])) (names_same xs)
 
 -- ---- statements
 
@@ -83,9 +83,9 @@ told_whole e = told_exp e weakest
 abbrev told_block : Block → List Piece
 told_block b = block_pieces (block_tree (plain_block b))
 
--- four parts, each behind a word
+-- four parts, each behind a keyword
 abbrev four : Keyword → Keyword → Keyword → Keyword → List Piece → List Piece → List Piece → List Piece → List Piece
-four v w x y a b c d = A_word v ∷ (a ++ A_word w ∷ (b ++ A_word x ∷ (c ++ A_word y ∷ d)))
+four v w x y a b c d = A_keyword v ∷ (a ++ A_keyword w ∷ (b ++ A_keyword x ∷ (c ++ A_keyword y ∷ d)))
 
 four_same : (v w x y : Keyword) (a b c d e f g h : List Piece) → a ≡ e → b ≡ f → c ≡ g → d ≡ h → four v w x y a b c d ≡ four v w x y e f g h
 four_same v w x y a b c d e f g h i j k l =
@@ -105,19 +105,19 @@ mutual
   stm_same (Push (named x at) (named y to)) = refl
   stm_same (Pop (named x at) (named y to)) = refl
   stm_same (If e s t f) =
-      four_same word.If word.Then word.Else word.Fi (whole_pieces e) (block_pieces (closed_block s)) (block_pieces (closed_block t)) (whole_pieces f) (told_whole e) (told_block s) (told_block t) (told_whole f)
+      four_same keyword.If keyword.Then keyword.Else keyword.Fi (whole_pieces e) (block_pieces (closed_block s)) (block_pieces (closed_block t)) (whole_pieces f) (told_whole e) (told_block s) (told_block t) (told_whole f)
       (exp_same e weakest) (block_same s) (block_same t) (exp_same f weakest)
   stm_same (Loop e s t f) =
-      four_same word.From word.Do word.Loop word.Until (whole_pieces e) (block_pieces (closed_block s)) (block_pieces (closed_block t)) (whole_pieces f) (told_whole e) (told_block s) (told_block t) (told_whole f)
+      four_same keyword.From keyword.Do keyword.Loop keyword.Until (whole_pieces e) (block_pieces (closed_block s)) (block_pieces (closed_block t)) (whole_pieces f) (told_whole e) (told_block s) (told_block t) (told_whole f)
       (exp_same e weakest) (block_same s) (block_same t) (exp_same f weakest)
   stm_same (LocalInt (named x at) e s y f) =
-      ap (λ (ps : List Piece). binding_pieces word.Local word.Int x ++ (ps ++ (block_pieces (closed_block s) ++ (binding_pieces word.Delocal word.Int x ++ whole_pieces f)))) (exp_same e weakest)
-      ∙ ap (λ (ps : List Piece). binding_pieces word.Local word.Int x ++ (told_whole e ++ (ps ++ (binding_pieces word.Delocal word.Int x ++ whole_pieces f)))) (block_same s)
-      ∙ ap (λ (ps : List Piece). binding_pieces word.Local word.Int x ++ (told_whole e ++ (told_block s ++ (binding_pieces word.Delocal word.Int x ++ ps)))) (exp_same f weakest)
+      ap (λ (ps : List Piece). binding_pieces keyword.Local keyword.Int x ++ (ps ++ (block_pieces (closed_block s) ++ (binding_pieces keyword.Delocal keyword.Int x ++ whole_pieces f)))) (exp_same e weakest)
+      ∙ ap (λ (ps : List Piece). binding_pieces keyword.Local keyword.Int x ++ (told_whole e ++ (ps ++ (binding_pieces keyword.Delocal keyword.Int x ++ whole_pieces f)))) (block_same s)
+      ∙ ap (λ (ps : List Piece). binding_pieces keyword.Local keyword.Int x ++ (told_whole e ++ (told_block s ++ (binding_pieces keyword.Delocal keyword.Int x ++ ps)))) (exp_same f weakest)
   stm_same (LocalStack (named x at) s y) =
-      ap (λ (ps : List Piece). binding_pieces word.Local word.Stack x ++ A_word word.Nil ∷ (ps ++ (binding_pieces word.Delocal word.Stack x ++ A_word word.Nil ∷ []))) (block_same s)
-  stm_same (Call (named f at) xs) = call_same word.Call f xs
-  stm_same (Uncall (named f at) xs) = call_same word.Uncall f xs
+      ap (λ (ps : List Piece). binding_pieces keyword.Local keyword.Stack x ++ A_keyword keyword.Nil ∷ (ps ++ (binding_pieces keyword.Delocal keyword.Stack x ++ A_keyword keyword.Nil ∷ []))) (block_same s)
+  stm_same (Call (named f at) xs) = call_same keyword.Call f xs
+  stm_same (Uncall (named f at) xs) = call_same keyword.Uncall f xs
 
   block_same : (b : Block) → block_pieces (closed_block b) ≡ told_block b
   block_same Empty = refl
@@ -147,8 +147,8 @@ parameters_same (x ∷ xs) =
 
 procedure_same : (q : Procedure) → procedure_pieces (closed_procedure q) ≡ procedure_pieces (procedure_tree (plain_procedure q))
 procedure_same (procedure_of (named f at) xs b) =
-    ap (λ (ps : List Piece). A_word word.Procedure ∷ A_name f ∷ An_opening ∷ (ps ++ A_sign sign.Close ∷ block_pieces (closed_block b))) (parameters_same xs)
-    ∙ ap (λ (ps : List Piece). A_word word.Procedure ∷ A_name f ∷ An_opening ∷ (parameters_pieces (told_parameters xs) ++ A_sign sign.Close ∷ ps)) (block_same b)
+    ap (λ (ps : List Piece). A_keyword keyword.Procedure ∷ A_name f ∷ An_opening ∷ (ps ++ A_sign sign.Close ∷ block_pieces (closed_block b))) (parameters_same xs)
+    ∙ ap (λ (ps : List Piece). A_keyword keyword.Procedure ∷ A_name f ∷ An_opening ∷ (parameters_pieces (told_parameters xs) ++ A_sign sign.Close ∷ ps)) (block_same b)
 
 -- a closed tree has the print of the tree of its procedure
 pub one_print : (q : Procedure) → printed_procedure (procedure_tree (plain_procedure q)) ≡ printed_procedure (closed_procedure q)

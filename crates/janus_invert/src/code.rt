@@ -30,18 +30,18 @@ impl Symbol {
 
 /// An expression. The right sides of `And` and `Or` are read only where they are needed.
 #[derive(Drop)]
-pub enum Exp {
+pub enum FlatExp {
     Number(u32),
     Variable(Symbol),
-    Element(Symbol, Box<Exp>),
+    Element(Symbol, Box<FlatExp>),
     /// Whether a stack has no value.
     Empty(Symbol),
     /// The newest value of a stack.
     Top(Symbol),
-    Negative(Box<Exp>),
-    Binary(Operator, Box<Exp>, Box<Exp>),
-    And(Box<Exp>, Box<Exp>),
-    Or(Box<Exp>, Box<Exp>),
+    Negative(Box<FlatExp>),
+    Binary(Operator, Box<FlatExp>, Box<FlatExp>),
+    And(Box<FlatExp>, Box<FlatExp>),
+    Or(Box<FlatExp>, Box<FlatExp>),
 }
 
 /// A block: the statements whose numbers stand in `Code::members` from `start` up to, and without, `end`.
@@ -56,19 +56,19 @@ pub struct Block {
 pub enum Statement {
     Skip,
     /// A variable, and what it is changed by.
-    Assign(Symbol, Update, Exp),
+    Assign(Symbol, Update, FlatExp),
     /// An array, the index of the element, and what that is changed by.
-    AssignElement(Symbol, Exp, Update, Exp),
+    AssignElement(Symbol, FlatExp, Update, FlatExp),
     /// A variable, whose number goes onto the stack.
     Push(Symbol, Symbol),
     /// A variable, which takes the newest value of the stack.
     Pop(Symbol, Symbol),
     /// The first test, the parts after `then` and `else`, and the test after `fi`.
-    If(Exp, Block, Block, Exp),
+    If(FlatExp, Block, Block, FlatExp),
     /// The test after `from`, the parts after `do` and `loop`, and the test after `until`.
-    Loop(Exp, Block, Block, Exp),
+    Loop(FlatExp, Block, Block, FlatExp),
     /// A local number: what it begins with, the block in which it stands, and what it ends with.
-    LocalInt(Symbol, Exp, Block, Exp),
+    LocalInt(Symbol, FlatExp, Block, FlatExp),
     /// A local stack, empty at both ends, and the block in which it stands.
     LocalStack(Symbol, Block),
     /// A call: the procedure's name, and the arguments.
@@ -91,15 +91,15 @@ pub struct Code {
 
 /// A parameter of a procedure, and what it stands for.
 #[derive(Drop)]
-pub struct Parameter {
+pub struct FlatParameter {
     pub name: Symbol,
     pub kind: Kind,
 }
 
 /// A procedure: its name, its parameters, and the code of its body.
 #[derive(Drop)]
-pub struct Procedure {
+pub struct FlatProcedure {
     pub name: Symbol,
-    pub parameters: Vec<Parameter>,
+    pub parameters: Vec<FlatParameter>,
     pub body: Code,
 }

@@ -8,7 +8,7 @@ ghost use Rattle.janus_invert.specs.Expressions.{exp_of};
 ghost use Rattle.janus_invert.specs.Numbered.{HasItsNumber, HaveTheirNumbers, HasNumbers, IsSame, AreSame, IsCopy, texts_of};
 ghost use Rattle.janus_invert.specs.Met.{AreAllMet, MeetsExp};
 
-use crate::code::{Exp, Symbol};
+use crate::code::{FlatExp, Symbol};
 use janus_names::Names;
 use janus_syntax::tree;
 use std::alloc::{AllocError, Global};
@@ -112,44 +112,44 @@ pub(crate) fn call_copies(
 
 /// An expression whose names were met, with their numbers; an error for want of memory.
 #[cycle(flat_exp)]
-pub fn flat_exp(alloc: Global, exp: &tree::Exp, names: &Names) -> Result<Exp, AllocError>
+pub fn flat_exp(alloc: Global, exp: &tree::Exp, names: &Names) -> Result<FlatExp, AllocError>
     requires { MeetsExp names.now (plain exp.now) }
     ensures tree { IfOk result (λ flat. exp_of flat ≡ plain exp.now) }
     ensures numbered { IfOk result (λ flat. HasNumbers names.now flat) }
 {
     match exp {
-        tree::Exp::Number(number, _) => Ok(Exp::Number(*number)),
-        tree::Exp::Variable(name) => Ok(Exp::Variable(symbol(names, name)?)),
+        tree::Exp::Number(number, _) => Ok(FlatExp::Number(*number)),
+        tree::Exp::Variable(name) => Ok(FlatExp::Variable(symbol(names, name)?)),
         tree::Exp::Element(name, index) => {
             let index = boxed_flat_exp(alloc, index, names)?;
-            Ok(Exp::Element(symbol(names, name)?, index))
+            Ok(FlatExp::Element(symbol(names, name)?, index))
         }
-        tree::Exp::Empty(name) => Ok(Exp::Empty(symbol(names, name)?)),
-        tree::Exp::Top(name) => Ok(Exp::Top(symbol(names, name)?)),
+        tree::Exp::Empty(name) => Ok(FlatExp::Empty(symbol(names, name)?)),
+        tree::Exp::Top(name) => Ok(FlatExp::Top(symbol(names, name)?)),
         tree::Exp::Negative(operand) => {
-            Ok(Exp::Negative(boxed_flat_exp(alloc, operand, names)?))
+            Ok(FlatExp::Negative(boxed_flat_exp(alloc, operand, names)?))
         }
         tree::Exp::Binary(operator, left, right) => {
             let left = boxed_flat_exp(alloc, left, names)?;
             let right = boxed_flat_exp(alloc, right, names)?;
-            Ok(Exp::Binary(*operator, left, right))
+            Ok(FlatExp::Binary(*operator, left, right))
         }
         tree::Exp::And(left, right) => {
             let left = boxed_flat_exp(alloc, left, names)?;
             let right = boxed_flat_exp(alloc, right, names)?;
-            Ok(Exp::And(left, right))
+            Ok(FlatExp::And(left, right))
         }
         tree::Exp::Or(left, right) => {
             let left = boxed_flat_exp(alloc, left, names)?;
             let right = boxed_flat_exp(alloc, right, names)?;
-            Ok(Exp::Or(left, right))
+            Ok(FlatExp::Or(left, right))
         }
     }
 }
 
 /// The flat form of a part.
 #[cycle(flat_exp)]
-fn boxed_flat_exp(alloc: Global, exp: &tree::Exp, names: &Names) -> Result<Box<Exp>, AllocError>
+fn boxed_flat_exp(alloc: Global, exp: &tree::Exp, names: &Names) -> Result<Box<FlatExp>, AllocError>
     requires { MeetsExp names.now (plain exp.now) }
     ensures tree { IfOk result (λ flat. exp_of flat.value ≡ plain exp.now) }
     ensures numbered { IfOk result (λ flat. HasNumbers names.now flat.value) }
@@ -164,7 +164,7 @@ pub(crate) fn two_flat_exps(
     first: &tree::Exp,
     second: &tree::Exp,
     names: &Names,
-) -> Result<(Exp, Exp), AllocError>
+) -> Result<(FlatExp, FlatExp), AllocError>
     requires first { MeetsExp names.now (plain first.now) }
     requires second { MeetsExp names.now (plain second.now) }
     ensures trees { IfOk result (λ x. (exp_of x.0 ≡ plain first.now) × (exp_of x.1 ≡ plain second.now)) }
@@ -176,43 +176,43 @@ pub(crate) fn two_flat_exps(
 
 /// The same expression in memory of its own; an error for want of memory.
 #[cycle(copy)]
-pub(crate) fn copy(alloc: Global, exp: &Exp) -> Result<Exp, AllocError>
+pub(crate) fn copy(alloc: Global, exp: &FlatExp) -> Result<FlatExp, AllocError>
     ensures { IfOk result (λ copy. IsCopy exp.now copy) }
 {
     match exp {
-        Exp::Number(number) => Ok(Exp::Number(*number)),
-        Exp::Variable(name) => Ok(Exp::Variable(name.copy()?)),
-        Exp::Element(name, index) => {
+        FlatExp::Number(number) => Ok(FlatExp::Number(*number)),
+        FlatExp::Variable(name) => Ok(FlatExp::Variable(name.copy()?)),
+        FlatExp::Element(name, index) => {
             let index = boxed_copy(alloc, index)?;
-            Ok(Exp::Element(name.copy()?, index))
+            Ok(FlatExp::Element(name.copy()?, index))
         }
-        Exp::Empty(name) => Ok(Exp::Empty(name.copy()?)),
-        Exp::Top(name) => Ok(Exp::Top(name.copy()?)),
-        Exp::Negative(operand) => {
+        FlatExp::Empty(name) => Ok(FlatExp::Empty(name.copy()?)),
+        FlatExp::Top(name) => Ok(FlatExp::Top(name.copy()?)),
+        FlatExp::Negative(operand) => {
             let operand = boxed_copy(alloc, operand)?;
-            Ok(Exp::Negative(operand))
+            Ok(FlatExp::Negative(operand))
         }
-        Exp::Binary(operator, left, right) => {
+        FlatExp::Binary(operator, left, right) => {
             let left = boxed_copy(alloc, left)?;
             let right = boxed_copy(alloc, right)?;
-            Ok(Exp::Binary(*operator, left, right))
+            Ok(FlatExp::Binary(*operator, left, right))
         }
-        Exp::And(left, right) => {
+        FlatExp::And(left, right) => {
             let left = boxed_copy(alloc, left)?;
             let right = boxed_copy(alloc, right)?;
-            Ok(Exp::And(left, right))
+            Ok(FlatExp::And(left, right))
         }
-        Exp::Or(left, right) => {
+        FlatExp::Or(left, right) => {
             let left = boxed_copy(alloc, left)?;
             let right = boxed_copy(alloc, right)?;
-            Ok(Exp::Or(left, right))
+            Ok(FlatExp::Or(left, right))
         }
     }
 }
 
 /// The copy of a part.
 #[cycle(copy)]
-fn boxed_copy(alloc: Global, exp: &Exp) -> Result<Box<Exp>, AllocError>
+fn boxed_copy(alloc: Global, exp: &FlatExp) -> Result<Box<FlatExp>, AllocError>
     ensures { IfOk result (λ copy. IsCopy exp.now copy.value) }
 {
     let copy = copy(alloc, exp)?;
@@ -220,7 +220,11 @@ fn boxed_copy(alloc: Global, exp: &Exp) -> Result<Box<Exp>, AllocError>
 }
 
 /// Two expressions in memory of their own; an error for want of memory.
-pub(crate) fn two_copies(alloc: Global, first: &Exp, second: &Exp) -> Result<(Exp, Exp), AllocError>
+pub(crate) fn two_copies(
+    alloc: Global,
+    first: &FlatExp,
+    second: &FlatExp,
+) -> Result<(FlatExp, FlatExp), AllocError>
     ensures { IfOk result (λ x. IsCopy first.now x.0 × IsCopy second.now x.1) }
 {
     let first = copy(alloc, first)?;

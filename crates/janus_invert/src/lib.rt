@@ -22,7 +22,7 @@ mod inverse;
 mod procedure;
 mod turned;
 
-pub use crate::code::{Block, Code, Exp, Parameter, Procedure, Statement, Symbol};
+pub use crate::code::{Block, Code, FlatExp, FlatParameter, FlatProcedure, Statement, Symbol};
 pub use crate::expression::flat_exp;
 pub use crate::fault::InvertFault;
 pub use crate::flat::flatten;

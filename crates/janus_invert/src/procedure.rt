@@ -9,7 +9,7 @@ ghost use Rattle.janus_invert.specs.Met.{AreAllMet, MeetsProc};
 ghost use Rattle.janus_invert.specs.Numbered.{HasItsNumber};
 ghost use Rattle.janus_invert.specs.Procedures.{param_of, params_of, proc_of, ParametersHaveNumbers, ProcedureHasNumbers};
 
-use crate::code::{Parameter, Procedure};
+use crate::code::{FlatParameter, FlatProcedure};
 use crate::expression::symbol;
 use crate::fault::InvertFault;
 use crate::flat::flat_code;
@@ -24,7 +24,7 @@ pub fn flatten_procedure(
     alloc: Global,
     procedure: &tree::Procedure,
     names: &Names,
-) -> Result<Procedure, InvertFault>
+) -> Result<FlatProcedure, InvertFault>
     requires { MeetsProc names.now (plain_procedure (procedure_view procedure.now)) }
     ensures procedure { IfOk result (λ flat. proc_of flat ≡ plain_procedure (procedure_view procedure.now)) }
     ensures numbered { IfOk result (λ flat. ProcedureHasNumbers names.now flat) }
@@ -32,7 +32,7 @@ pub fn flatten_procedure(
     let name = symbol(names, &procedure.name)?;
     let parameters = flat_parameters(alloc, &procedure.parameters, names)?;
     let body = flat_code(alloc, &procedure.body, names)?;
-    Ok(Procedure {
+    Ok(FlatProcedure {
         name,
         parameters,
         body,
@@ -44,7 +44,7 @@ fn flat_parameters(
     alloc: Global,
     parameters: &[tree::Parameter],
     names: &Names,
-) -> Result<Vec<Parameter>, AllocError>
+) -> Result<Vec<FlatParameter>, AllocError>
     requires { AreAllMet names.now (names_of (map plain_parameter (parameters_view parameters.now))) }
     ensures parameters { IfOk result (λ flat. params_of flat.items ≡ map plain_parameter (parameters_view parameters.now)) }
     ensures numbered { IfOk result (λ flat. ParametersHaveNumbers names.now flat.items) }
@@ -57,12 +57,12 @@ fn flat_parameters(
 }
 
 /// A parameter that was met with its number; an error for want of memory.
-fn flat_parameter(parameter: &tree::Parameter, names: &Names) -> Result<Parameter, AllocError>
+fn flat_parameter(parameter: &tree::Parameter, names: &Names) -> Result<FlatParameter, AllocError>
     requires { IsMet names.now (plain_parameter (parameter_view parameter.now)).0 }
     ensures parameter { IfOk result (λ flat. param_of flat ≡ plain_parameter (parameter_view parameter.now)) }
     ensures numbered { IfOk result (λ flat. HasItsNumber names.now flat.name) }
 {
-    Ok(Parameter {
+    Ok(FlatParameter {
         name: symbol(names, name_of_parameter(parameter))?,
         kind: kind_of(parameter),
     })

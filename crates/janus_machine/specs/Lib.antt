@@ -4,7 +4,7 @@ pub mod Acts
 pub mod Places
 pub mod Mirrored
 pub mod Turns
-pub mod Procedure
+pub mod LinkedProcedure
 pub mod Procedures
 pub mod Bodies
 pub mod Nested

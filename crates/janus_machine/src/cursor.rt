@@ -5,18 +5,15 @@ ghost use Rattle.janus_meaning.specs.Stepping.{BeforeBlock as Before};
 ghost use Rattle.janus_meaning.specs.Limit.{step_limit};
 ghost use Rattle.janus_invert.specs.CodeBlock.{code_block};
 ghost use Rattle.janus_linear.specs.Layout.{block_size};
+ghost use Rattle.janus_store.specs.StoreState.{call_limit};
 
 use crate::book::{Book, Direction};
 use crate::procedures::Procedures;
 use crate::running::running;
 use janus_linear::Linear;
+use janus_meaning::limit::STEP_LIMIT;
+use janus_store::CALL_LIMIT;
 use std::alloc::{AllocError, Global};
-
-/// The most steps that a cell may take.
-pub const STEP_LIMIT: u64 = 1_000_000_000_000;
-
-/// The most calls that may be open: each has two frames, its own and that of its body.
-const CALL_LIMIT: usize = 8192;
 
 /// The last place of code.
 pub(crate) fn last(linear: &Linear) -> usize
@@ -52,7 +49,7 @@ pub struct Cursor {
     pub(crate) count: u64,
     /// It was turned round: its steps take those back that it had taken.
     pub(crate) turned: bool,
-    pub ghost room: { 8192 ≤ vec_capacity calls },
+    pub ghost room: { call_limit ≤ vec_capacity calls },
 }
 
 impl Cursor {
@@ -148,7 +145,7 @@ impl Cursor {
         }
     }
 
-    /// So many steps were taken.
+    /// Counts `taken` steps more.
     pub(crate) fn add(&mut self, taken: u64)
         requires few { is_turned self.old ≡ false → count_in self.old + taken ≤ step_limit }
         ensures { (self.new ≡ with_count self.old (count_in self.new)) × (count_in self.new ≡ counted (is_turned self.old) (count_in self.old) taken) }

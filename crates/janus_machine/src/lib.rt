@@ -6,6 +6,16 @@
 //! store itself: parameters are bound to what they are called with. The meaning of statements is that of
 //! Yokoyama and Glück (2007), "A reversible programming language and its invertible self-interpreter"; `janus_meaning`
 //! defines it step by step.
+//!
+//! The modules, in the order in which a reader needs them:
+//! - `book`: the code of a cell or of a body, both ways.
+//! - `linked_procedure`, `procedures`: a procedure as it runs, and all bodies with those that are in effect.
+//! - `cursor`, `running`: a place in code with the open calls and the count of steps, and the book in whose row it stands.
+//! - `fault`: why a step is not taken.
+//! - `statement`, `local`, `act`: what a statement, a local and an instruction do to the store.
+//! - `call`: the first and the last step of a call.
+//! - `machine`: `step` and `slice`, which take the steps.
+//! - `laws`: what the definitions of `specs/` say together.
 #![tactic(auto)]
 
 mod act;
@@ -14,17 +24,18 @@ mod call;
 mod cursor;
 mod fault;
 pub mod laws;
+mod linked_procedure;
 mod local;
 mod machine;
-mod procedure;
 mod procedures;
 mod running;
 mod statement;
 
 pub use crate::book::Book;
-pub use crate::cursor::{Cursor, STEP_LIMIT};
+pub use crate::cursor::Cursor;
 pub use crate::fault::Fault;
+pub use crate::linked_procedure::LinkedProcedure;
 pub use crate::machine::{End, Sliced, Stepped, slice, step};
-pub use crate::procedure::Procedure;
 pub use crate::procedures::Procedures;
+pub use janus_meaning::limit::STEP_LIMIT;
 pub use janus_store::{Store, Writes};

@@ -4,13 +4,13 @@ ghost use Rattle.std.specs.Prelude.{◌≡◌, ◌+◌, ◌<◌, ◌≤◌, ℕ,
 ghost use Rattle.std.specs.Prelude.{Some, None, IfOk, OnOk, OnErr};
 ghost use Rattle.janus_machine.specs.declared.procedures.Body.{Body};
 
-use crate::procedure::Procedure;
+use crate::linked_procedure::LinkedProcedure;
 use std::alloc::{AllocError, Global};
 
 /// A body, and what it hides while it is in effect.
 #[derive(Drop)]
 pub(crate) struct Body {
-    pub(crate) procedure: Procedure,
+    pub(crate) procedure: LinkedProcedure,
     /// The place behind the body that it hides, or 0.
     pub(crate) hidden: usize,
 }
@@ -49,7 +49,7 @@ impl Procedures {
     }
 
     /// The body in effect of the name of a number.
-    pub fn body(&self, name: usize) -> Option<&Procedure>
+    pub fn body(&self, name: usize) -> Option<&LinkedProcedure>
         ensures { in_effect result ≡ body_at self.now name }
     {
         let behind = match self.newest.get(name) {
@@ -67,7 +67,7 @@ impl Procedures {
 
     /// Keeps a body behind the others, not in effect, and answers its index; an error for want of memory leaves what is kept
     /// and what is in effect.
-    pub fn add(&mut self, procedure: Procedure) -> Result<usize, AllocError>
+    pub fn add(&mut self, procedure: LinkedProcedure) -> Result<usize, AllocError>
         ensures index { IfOk result (λ index. index ≡ length (kept_in self.old)) }
         ensures kept { OnOk result (kept_in self.new ≡ kept_in self.old ++ procedure ∷ []) }
         ensures err { OnErr result (kept_in self.new ≡ kept_in self.old) }

@@ -46,7 +46,7 @@ store_at ps (To p s) other = shown ps p s
 store_at ps End other = other
 store_at ps (Halt f) other = other
 
--- the store after n steps of a block in a world, or the old one where there are not so many
+-- the store after n steps of a block in a world, or the old one where it has fewer
 unfoldable pub store_after : World → Blk → ℕ → Store
 store_after w b n = store_at w.procedures (steps (around w) n (BeforeBlock b []) w.store) w.store
 

@@ -1,11 +1,11 @@
 -- The statements of a text's tree fit: each of their constructs was entered within the limits.
 use Rattle.std.proofs.Common.{◌≡◌, ℕ, ◌+◌, ◌<◌, ◌≤◌, List, length, Some, false, ap, sym, subst, inl, inr, arith}
 use Rattle.janus_syntax.specs.declared.token.Keyword.{Keyword}
-use Rattle.janus_syntax.specs.declared.token.Keyword.TheVariants as word
-use Rattle.janus_syntax.specs.Tokens.{Token, Name, Number, Sign_of, Word_of}
+use Rattle.janus_syntax.specs.declared.token.Keyword.TheVariants as keyword
+use Rattle.janus_syntax.specs.Tokens.{Token, Name, Number, Sign_of, Keyword_of}
 use Rattle.janus_syntax.specs.Tree.{Stm, Block, Empty}
 use Rattle.janus_syntax.specs.Forms.{Part, Body, Statements, Else_part, Do_part, Loop_part, Tree, Form, done, part, Rule}
-use Rattle.janus_syntax.specs.Table.{rule, left_out, word_then, skip_block}
+use Rattle.janus_syntax.specs.Table.{rule, left_out, keyword_then, skip_block}
 use Rattle.janus_syntax.specs.Grammar.{Count, all, Spells}
 use Rattle.janus_syntax.specs.Reading.{count}
 use Rattle.janus_printing.proofs.Inside.{inside}
@@ -58,9 +58,9 @@ pub record BlocksMeasured (n : ℕ) : Type 0 where
   pub body : (d used : ℕ) (t : Token) (r : Rule Body) (b : Block) (from : List Token) (m' : Count) (rest : List Token) → length from < n → IsGood t → AreGood from → rule Body t ≡ Some r → Runs r (count d used) b from m' rest → IsMeasured d b from m' rest
   pub statements : (d used : ℕ) (t : Token) (r : Rule Statements) (b : Block) (from : List Token) (m' : Count) (rest : List Token) → length from < n → IsGood t → AreGood from → rule Statements t ≡ Some r → Runs r (count d used) b from m' rest → IsMeasured d b from m' rest
 
-pub word_behind : {p : Part} (w : Keyword) (f : Form p) (v : Tree p) (c : Count) (from : List Token) (m' : Count) (rest : List Token) → AreGood from → Spells all p (word_then w f) v c from m' rest →
+pub keyword_behind : {p : Part} (w : Keyword) (f : Form p) (v : Tree p) (c : Count) (from : List Token) (m' : Count) (rest : List Token) → AreGood from → Spells all p (keyword_then w f) v c from m' rest →
     (middle : List Token) × (length middle ≤ length from) × AreGood middle × Spells all p f v c middle m' rest
-word_behind w f v c from m' rest g s =
+keyword_behind w f v c from m' rest g s =
     let t = inside s in
     let less = shorter_behind from t.behind t.token t.whole in
     (t.behind, omega (arith, less), (good_behind from t.behind t.token t.whole g).1, t.onward)
@@ -116,22 +116,22 @@ statements_read n known {p} d used k v from m' rest h g s =
 -- ---- the parts of `if` and loops that may be left out
 
 pub else_rule : (t : Token) (r : Rule Else_part) → rule Else_part t ≡ Some r → Some (record { opens = 0; counts = 0; is_whole = false; form = part Body done }) ≡ Some r
-else_rule (Word_of word.Else at) r e = e
-else_rule (Word_of _ at) r e = absurd cc
+else_rule (Keyword_of keyword.Else at) r e = e
+else_rule (Keyword_of _ at) r e = absurd cc
 else_rule (Name x at) r e = absurd cc
 else_rule (Number n at) r e = absurd cc
 else_rule (Sign_of s at) r e = absurd cc
 
 pub do_rule : (t : Token) (r : Rule Do_part) → rule Do_part t ≡ Some r → Some (record { opens = 0; counts = 0; is_whole = false; form = part Body done }) ≡ Some r
-do_rule (Word_of word.Do at) r e = e
-do_rule (Word_of _ at) r e = absurd cc
+do_rule (Keyword_of keyword.Do at) r e = e
+do_rule (Keyword_of _ at) r e = absurd cc
 do_rule (Name x at) r e = absurd cc
 do_rule (Number n at) r e = absurd cc
 do_rule (Sign_of s at) r e = absurd cc
 
 pub loop_rule : (t : Token) (r : Rule Loop_part) → rule Loop_part t ≡ Some r → Some (record { opens = 0; counts = 0; is_whole = false; form = part Body done }) ≡ Some r
-loop_rule (Word_of word.Loop at) r e = e
-loop_rule (Word_of _ at) r e = absurd cc
+loop_rule (Keyword_of keyword.Loop at) r e = e
+loop_rule (Keyword_of _ at) r e = absurd cc
 loop_rule (Name x at) r e = absurd cc
 loop_rule (Number n at) r e = absurd cc
 loop_rule (Sign_of s at) r e = absurd cc

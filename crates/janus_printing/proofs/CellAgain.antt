@@ -1,8 +1,8 @@
 -- The tokens that spell the print of a cell spell that cell, places aside.
 use Rattle.std.proofs.Common.{◌≡◌, ℕ, List, [], ◌∷◌, ◌++◌, Some, None, true, map, refl, ap, sym, subst, ◌∙◌, arith}
 use Rattle.janus_syntax.specs.declared.token.Sign.TheVariants as sign
-use Rattle.janus_syntax.specs.declared.token.Keyword.TheVariants as word
-use Rattle.janus_syntax.specs.Tokens.{Token, Name, Number, Sign_of, Word_of}
+use Rattle.janus_syntax.specs.declared.token.Keyword.TheVariants as keyword
+use Rattle.janus_syntax.specs.Tokens.{Token, Name, Number, Sign_of, Keyword_of}
 use Rattle.janus_syntax.specs.Tree.{named, Exp, Declaration, Int, Array, StackOf, Empty, Procedure, Cell, cell_of}
 use Rattle.janus_syntax.specs.Forms.{Part, A_cell, Declarations, Bound, Procedures, Statements, Whole, Tree, A_name, A_number, The_sign, Form, done, take, part}
 use Rattle.janus_syntax.specs.Table.{rule, declared, nothing, is_bare, sign_then, declaration}
@@ -31,7 +31,7 @@ declaration_again (Int (named x place)) ts rest (at, t1, e1, (at2, t2, e2, s)) =
       again = Int (named x at2);
       same = refl;
       starts = λ {p} k v d' end onward.
-          begins_to (λ t. declaration t k) (take A_name (λ y. part Bound (λ n. k (declared y n)))) v 0 d' (Word_of word.Int at) ts t1 end e1 refl (omega arith)
+          begins_to (λ t. declaration t k) (take A_name (λ y. part Bound (λ n. k (declared y n)))) v 0 d' (Keyword_of keyword.Int at) ts t1 end e1 refl (omega arith)
           (token_to A_name (λ y. part Bound (λ n. k (declared y n))) (named x at2) v 0 d' (Name x at2) t1 t2 end e2 refl
           (subst (λ l. SpellsTo (part Bound (λ n. k (declared (named x at2) n))) v 0 l d' end) (sym s) (left_to {q = Bound} (λ n. k (declared (named x at2) n)) None v 0 d' rest end refl onward)));
     }
@@ -40,7 +40,7 @@ declaration_again (Array (named x place) n at) ts rest (at1, t1, e1, (at2, t2, e
       again = Array (named x at2) n at4;
       same = refl;
       starts = λ {p} k v d' end onward.
-          begins_to (λ t. declaration t k) (take A_name (λ y. part Bound (λ n. k (declared y n)))) v 0 d' (Word_of word.Int at1) ts t1 end e1 refl (omega arith)
+          begins_to (λ t. declaration t k) (take A_name (λ y. part Bound (λ n. k (declared y n)))) v 0 d' (Keyword_of keyword.Int at1) ts t1 end e1 refl (omega arith)
           (token_to A_name (λ y. part Bound (λ n. k (declared y n))) (named x at2) v 0 d' (Name x at2) t1 t2 end e2 refl
           (part_to {q = Bound} (λ n. k (declared (named x at2) n)) (Some (n, at4)) v 0 0 d' t2 rest end
           (begins_to (rule Bound) (take A_number (λ m. sign_then sign.CloseIndex (done (Some m)))) (Some (n, at4)) 0 0 (Sign_of sign.OpenIndex opened) t2 t3 rest e3 refl (omega arith)
@@ -54,7 +54,7 @@ declaration_again (StackOf (named x place)) ts rest (at, t1, e1, (at2, t2, e2, s
       again = StackOf (named x at2);
       same = refl;
       starts = λ {p} k v d' end onward.
-          begins_to (λ t. declaration t k) (take A_name (λ y. k (StackOf y))) v 0 d' (Word_of word.Stack at) ts t1 end e1 refl (omega arith)
+          begins_to (λ t. declaration t k) (take A_name (λ y. k (StackOf y))) v 0 d' (Keyword_of keyword.Stack at) ts t1 end e1 refl (omega arith)
           (token_to A_name (λ y. k (StackOf y)) (named x at2) v 0 d' (Name x at2) t1 rest end (e2 ∙ ap (λ l. Name x at2 ∷ l) s) refl onward);
     }
 

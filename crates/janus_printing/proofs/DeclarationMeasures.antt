@@ -2,8 +2,8 @@
 use Rattle.std.proofs.Common.{◌≡◌, ℕ, zero, suc, ◌+◌, ◌<◌, ◌≤◌, List, [], ◌∷◌, length, Option, Some, None, false, ap, sym, subst, ◌∙◌, inl, inr, arith}
 use Rattle.janus_syntax.specs.declared.token.Span.{Span}
 use Rattle.janus_syntax.specs.declared.token.Sign.TheVariants as sign
-use Rattle.janus_syntax.specs.declared.token.Keyword.TheVariants as word
-use Rattle.janus_syntax.specs.Tokens.{Token, Name, Number, Sign_of, Word_of}
+use Rattle.janus_syntax.specs.declared.token.Keyword.TheVariants as keyword
+use Rattle.janus_syntax.specs.Tokens.{Token, Name, Number, Sign_of, Keyword_of}
 use Rattle.janus_syntax.specs.Tree.{Name as Named, named, Declaration, StackOf}
 use Rattle.janus_syntax.specs.Forms.{Part, Declarations, Bound, Tree, A_name, A_number, seen, Form, done, take, part, Rule}
 use Rattle.janus_syntax.specs.Table.{rule, declared, sign_then, declaration}
@@ -25,13 +25,13 @@ declared_fits (Name y at) x None e g f = let same : named y at ≡ x = cc in sub
 declared_fits (Name y at) x (Some n) e g f = let same : named y at ≡ x = cc in subst (λ z. FitsDeclaration (declared z (Some n))) same (g, f)
 declared_fits (Number m at) x n e g f = absurd cc
 declared_fits (Sign_of s at) x n e g f = absurd cc
-declared_fits (Word_of w at) x n e g f = absurd cc
+declared_fits (Keyword_of w at) x n e g f = absurd cc
 
 number_fits : (t : Token) (n : ℕ × Span) → seen A_number t ≡ Some n → IsGood t → n.0 ≤ largest_number
 number_fits (Number m at) n e g = let same : (m, at) ≡ n = cc in subst (λ (x : ℕ × Span). x.0 ≤ largest_number) same g
 number_fits (Name y at) n e g = absurd cc
 number_fits (Sign_of s at) n e g = absurd cc
-number_fits (Word_of w at) n e g = absurd cc
+number_fits (Keyword_of w at) n e g = absurd cc
 
 -- a length
 record IsBound (d : ℕ) (n : Option (ℕ × Span)) (from : List Token) (m' : Count) (rest : List Token) : Type 0 where
@@ -63,7 +63,7 @@ bound_read d used (Sign_of sign.OpenIndex at) r n from m' rest g is run =
 bound_read d used (Sign_of _ at) r n from m' rest g is run = absurd cc
 bound_read d used (Name x at) r n from m' rest g is run = absurd cc
 bound_read d used (Number i at) r n from m' rest g is run = absurd cc
-bound_read d used (Word_of w at) r n from m' rest g is run = absurd cc
+bound_read d used (Keyword_of w at) r n from m' rest g is run = absurd cc
 
 -- a declaration was read
 record IsDeclared {p : Part} (k : Declaration → Form p) (d : ℕ) (v : Tree p) (from : List Token) (m' : Count) (rest : List Token) : Type 0 where
@@ -100,7 +100,7 @@ bounded {p} t x d used k v from m' rest is name g s =
     ]
 
 declaration_read : {p : Part} (d used : ℕ) (k : Declaration → Form p) (v : Tree p) (t : Token) (r : Rule p) (from : List Token) (m' : Count) (rest : List Token) → AreGood from → declaration t k ≡ Some r → Runs r (count d used) v from m' rest → IsDeclared k d v from m' rest
-declaration_read {p} d used k v (Word_of word.Int at) r from m' rest g e run =
+declaration_read {p} d used k v (Keyword_of keyword.Int at) r from m' rest g e run =
     let a : Rule p = record { opens = 0; counts = 0; is_whole = false; form = take A_name (λ x. part Bound (λ n. k (declared x n))) } in
     let here = runs_as a r (count d used) v from m' rest e run in
     let name = inside here.1 in
@@ -109,14 +109,14 @@ declaration_read {p} d used k v (Word_of word.Int at) r from m' rest g e run =
     let b = bounded name.token name.value d used k v name.behind m' rest name.is good.0 good.1 (recount (d + 0) d (used + 0) used (omega arith) (omega arith) name.onward) in
     let less' = b.shorter in
     record { tree = b.tree; total = b.total; middle = b.middle; fits = b.fits; shorter = omega (arith, less, less'); good = b.good; onward = b.onward }
-declaration_read {p} d used k v (Word_of word.Stack at) r from m' rest g e run =
+declaration_read {p} d used k v (Keyword_of keyword.Stack at) r from m' rest g e run =
     let a : Rule p = record { opens = 0; counts = 0; is_whole = false; form = take A_name (λ s. k (StackOf s)) } in
     let here = runs_as a r (count d used) v from m' rest e run in
     let name = inside here.1 in
     let less = shorter_behind from name.behind name.token name.whole in
     let good = good_behind from name.behind name.token name.whole g in
     record { tree = StackOf name.value; total = used; middle = name.behind; fits = name_fits name.token name.value name.is good.0; shorter = omega (arith, less); good = good.1; onward = recount (d + 0) d (used + 0) used (omega arith) (omega arith) name.onward }
-declaration_read d used k v (Word_of _ at) r from m' rest g e run = absurd cc
+declaration_read d used k v (Keyword_of _ at) r from m' rest g e run = absurd cc
 declaration_read d used k v (Name x at) r from m' rest g e run = absurd cc
 declaration_read d used k v (Number i at) r from m' rest g e run = absurd cc
 declaration_read d used k v (Sign_of s at) r from m' rest g e run = absurd cc

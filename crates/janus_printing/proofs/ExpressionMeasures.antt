@@ -3,9 +3,9 @@ use Rattle.std.proofs.Common.{◌≡◌, ℕ, zero, suc, ◌+◌, ◌-◌, ◌<�
 use Rattle.std.specs.Prelude.{nat_eq}
 use Rattle.janus_syntax.specs.declared.token.Span.{Span}
 use Rattle.janus_syntax.specs.declared.token.Sign.TheVariants as sign
-use Rattle.janus_syntax.specs.declared.token.Keyword.TheVariants as word
+use Rattle.janus_syntax.specs.declared.token.Keyword.TheVariants as keyword
 use Rattle.janus_syntax.specs.declared.operator.Infix.{Infix}
-use Rattle.janus_syntax.specs.Tokens.{Token, Name, Number, Sign_of, Word_of}
+use Rattle.janus_syntax.specs.Tokens.{Token, Name, Number, Sign_of, Keyword_of}
 use Rattle.janus_syntax.specs.Tree.{named, Exp, Num, Var, Element, EmptyOf, TopOf, Neg}
 use Rattle.janus_syntax.specs.Operators.{weakest, joined, operator_at}
 use Rattle.janus_syntax.specs.Forms.{Part, Chain, Level, Index, Whole, Tree, Form, done, part, close, Rule}
@@ -46,7 +46,7 @@ index_read n known {p} x at d used k v (Sign_of sign.OpenIndex place) r i behind
 index_read n known x at d used k v (Sign_of _ place) r i behind between middle m' rest h name g is run onward = absurd cc
 index_read n known x at d used k v (Name y place) r i behind between middle m' rest h name g is run onward = absurd cc
 index_read n known x at d used k v (Number y place) r i behind between middle m' rest h name g is run onward = absurd cc
-index_read n known x at d used k v (Word_of y place) r i behind between middle m' rest h name g is run onward = absurd cc
+index_read n known x at d used k v (Keyword_of y place) r i behind between middle m' rest h name g is run onward = absurd cc
 
 -- behind a name
 name_read : (n : ℕ) → LevelsMeasured n → {p : Part} (x : List ℕ) (at : Span) (d used : ℕ) (k : Exp → Form p) (v : Tree p) (from : List Token) (m' : Count) (rest : List Token) → length from ≤ n → IsGood (Name x at) → AreGood from → used ≤ operator_limit →
@@ -125,7 +125,7 @@ operand_read n known {p} d used k v (Sign_of sign.Minus at) r from m' rest h is 
       onward = recount (d + 1 - 1) d (used + 1 + operators inner.tree) (used + suc (operators inner.tree)) (omega arith) (omega arith) (inside inner.onward);
     }
 operand_read n known d used k v (Sign_of _ at) r from m' rest h is g e run = absurd cc
-operand_read n known {p} d used k v (Word_of word.Empty at) r from m' rest h is g e run =
+operand_read n known {p} d used k v (Keyword_of keyword.Empty at) r from m' rest h is g e run =
     let a : Rule p = record { opens = 0; counts = 0; is_whole = false; form = stack_then (λ s. k (EmptyOf s)) } in
     let here = runs_as a r (count d used) v from m' rest e run in
     let few = few_of (d + 0) (used + 0) here.0 in
@@ -139,7 +139,7 @@ operand_read n known {p} d used k v (Word_of word.Empty at) r from m' rest h is 
       good = s.good;
       onward = recount (d + 0) d (used + 0) (used + 0) (omega arith) refl s.onward;
     }
-operand_read n known {p} d used k v (Word_of word.Top at) r from m' rest h is g e run =
+operand_read n known {p} d used k v (Keyword_of keyword.Top at) r from m' rest h is g e run =
     let a : Rule p = record { opens = 0; counts = 0; is_whole = false; form = stack_then (λ s. k (TopOf s)) } in
     let here = runs_as a r (count d used) v from m' rest e run in
     let few = few_of (d + 0) (used + 0) here.0 in
@@ -153,7 +153,7 @@ operand_read n known {p} d used k v (Word_of word.Top at) r from m' rest h is g 
       good = s.good;
       onward = recount (d + 0) d (used + 0) (used + 0) (omega arith) refl s.onward;
     }
-operand_read n known d used k v (Word_of _ at) r from m' rest h is g e run = absurd cc
+operand_read n known d used k v (Keyword_of _ at) r from m' rest h is g e run = absurd cc
 
 -- ---- operators
 
@@ -211,7 +211,7 @@ chain_read n known (suc fuel) level d used e t r u from m' rest h i is g f c run
           }
     ]
 
--- all operators of so many levels
+-- all operators of `to_come` levels
 chains_read : (n : ℕ) → LevelsMeasured n → {p : Part} (level to_come d used : ℕ) (e : Exp) (k : Exp → Form p) (v : Tree p) (from : List Token) (m' : Count) (rest : List Token) → length from ≤ n → AreGood from → FitsExp e level d → used + operators e ≤ operator_limit →
     Spells all p (chains level to_come e k) v (count d (used + operators e)) from m' rest → IsRead k (level + to_come) d used v from m' rest
 chains_read n known level zero d used e k v from m' rest h g f few s =

@@ -5,11 +5,11 @@ use Rattle.std.proofs.lemmas.Bool.{ltb-false, eq-eqb}
 use Rattle.janus_meaning.specs.Syntax as plain
 use Rattle.janus_syntax.specs.declared.token.Span.{Span}
 use Rattle.janus_syntax.specs.declared.token.Sign.TheVariants as sign
-use Rattle.janus_syntax.specs.declared.token.Keyword.TheVariants as word
+use Rattle.janus_syntax.specs.declared.token.Keyword.TheVariants as keyword
 use Rattle.janus_syntax.specs.declared.tree.Operator.TheVariants as operator
 use Rattle.janus_syntax.specs.declared.operator.Joint.{Joint}
 use Rattle.janus_syntax.specs.declared.operator.Joint.TheVariants as joint
-use Rattle.janus_syntax.specs.Tokens.{Token, Name, Number, Sign_of, Word_of}
+use Rattle.janus_syntax.specs.Tokens.{Token, Name, Number, Sign_of, Keyword_of}
 use Rattle.janus_syntax.specs.Tree.{named, Exp, Num, Var, Element, EmptyOf, TopOf, Neg, Bin, And, Or}
 use Rattle.janus_syntax.specs.Operators.{weakest, joined, sign_infix}
 use Rattle.janus_syntax.specs.Forms.{Part, Chain, Level, Index, Tree, Form, done, part, close, Rule}
@@ -110,7 +110,7 @@ element_again x i place at opened shut level d ts t1 t2 t3 rest h e1 e2 inner e3
       };
 }
 
-empty_again : (x : List ℕ) (place on opened at shut : Span) (level d : ℕ) (ts t1 t2 t3 rest : List Token) → d ≤ depth_limit → ts ≡ Word_of word.Empty on ∷ t1 → t1 ≡ Sign_of sign.Open opened ∷ t2 → t2 ≡ Name x at ∷ t3 → t3 ≡ Sign_of sign.Close shut ∷ rest →
+empty_again : (x : List ℕ) (place on opened at shut : Span) (level d : ℕ) (ts t1 t2 t3 rest : List Token) → d ≤ depth_limit → ts ≡ Keyword_of keyword.Empty on ∷ t1 → t1 ≡ Sign_of sign.Open opened ∷ t2 → t2 ≡ Name x at ∷ t3 → t3 ≡ Sign_of sign.Close shut ∷ rest →
     IsReadAgain (EmptyOf (named x place)) level d ts rest
 empty_again x place on opened at shut level d ts t1 t2 t3 rest h e1 e2 e3 e4 = record {
   again = EmptyOf (named x at);
@@ -118,7 +118,7 @@ empty_again x place on opened at shut level d ts t1 t2 t3 rest h e1 e2 e3 e4 = r
   starts = λ {p} n u k v m' end weaker few s.
       let after = recount d (d + 0) (u + 0) (u + 0) (omega arith) refl (to_operators level n (EmptyOf (named x at)) k v _ m' rest end weaker s) in
       record {
-        token = Word_of word.Empty on;
+        token = Keyword_of keyword.Empty on;
         behind = t1;
         rule_of = record { opens = 0; counts = 0; is_whole = false; form = stack_then (λ y. chains 0 n (EmptyOf y) k) };
         whole = e1;
@@ -127,7 +127,7 @@ empty_again x place on opened at shut level d ts t1 t2 t3 rest h e1 e2 e3 e4 = r
       };
 }
 
-top_again : (x : List ℕ) (place on opened at shut : Span) (level d : ℕ) (ts t1 t2 t3 rest : List Token) → d ≤ depth_limit → ts ≡ Word_of word.Top on ∷ t1 → t1 ≡ Sign_of sign.Open opened ∷ t2 → t2 ≡ Name x at ∷ t3 → t3 ≡ Sign_of sign.Close shut ∷ rest →
+top_again : (x : List ℕ) (place on opened at shut : Span) (level d : ℕ) (ts t1 t2 t3 rest : List Token) → d ≤ depth_limit → ts ≡ Keyword_of keyword.Top on ∷ t1 → t1 ≡ Sign_of sign.Open opened ∷ t2 → t2 ≡ Name x at ∷ t3 → t3 ≡ Sign_of sign.Close shut ∷ rest →
     IsReadAgain (TopOf (named x place)) level d ts rest
 top_again x place on opened at shut level d ts t1 t2 t3 rest h e1 e2 e3 e4 = record {
   again = TopOf (named x at);
@@ -135,7 +135,7 @@ top_again x place on opened at shut level d ts t1 t2 t3 rest h e1 e2 e3 e4 = rec
   starts = λ {p} n u k v m' end weaker few s.
       let after = recount d (d + 0) (u + 0) (u + 0) (omega arith) refl (to_operators level n (TopOf (named x at)) k v _ m' rest end weaker s) in
       record {
-        token = Word_of word.Top on;
+        token = Keyword_of keyword.Top on;
         behind = t1;
         rule_of = record { opens = 0; counts = 0; is_whole = false; form = stack_then (λ y. chains 0 n (TopOf y) k) };
         whole = e1;

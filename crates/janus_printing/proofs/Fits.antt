@@ -8,12 +8,12 @@ use Rattle.janus_syntax.specs.declared.token.Sign.TheVariants as sign
 use Rattle.janus_syntax.specs.Tree.{Name, named, Exp, Num, Var, Element, EmptyOf, TopOf, Neg, Bin, And, Or, Stm, Skip, Assign, AssignElement, Push, Pop, If, Loop, LocalInt, LocalStack, Call, Uncall, Block, Empty, More, Declaration, Int, Array, StackOf, Parameter, IntParameter, ArrayParameter, StackParameter, Procedure, procedure_of, Cell, cell_of}
 use Rattle.janus_syntax.specs.Operators.{weakest}
 use Rattle.janus_syntax.specs.Forms.{same_named}
-use Rattle.janus_syntax.specs.Lexical.{IsNameText, NotReserved, largest_number}
+use Rattle.janus_syntax.specs.Lexical.{IsNameText, IsNoKeyword, largest_number}
 use Rattle.janus_syntax.specs.Grammar.{depth_limit, operator_limit}
 use Rattle.janus_syntax.specs.Printing.{operator_sign, sign_level}
 
 abbrev pub IsName : Name → Type 0
-IsName (named x at) = IsNameText x × NotReserved x
+IsName (named x at) = IsNameText x × IsNoKeyword x
 
 abbrev pub AreNames : List Name → Type 0
 AreNames [] = Unit {0}

@@ -5,21 +5,21 @@ use Rattle.std.proofs.lemmas.Bool.{eqb-true}
 use Rattle.janus_syntax.specs.declared.token.Span.{Span}
 use Rattle.janus_syntax.specs.declared.token.Sign.{Sign}
 use Rattle.janus_syntax.specs.declared.token.Sign.TheVariants as sign
-use Rattle.janus_syntax.specs.declared.token.Keyword.TheVariants as word
+use Rattle.janus_syntax.specs.declared.token.Keyword.TheVariants as keyword
 use Rattle.janus_syntax.specs.Spelling.{sign_text}
 use Rattle.janus_syntax.specs.Tokens.{Token}
 use Rattle.janus_syntax.specs.Lexical
 use Rattle.janus_syntax.specs.Lexical.{goes_on_name, of_name, of_number, IsNameText, IsNumberText, Item, IsSpelled, NoLonger, IsFront, IsToken, between, Lexes}
-use Rattle.janus_syntax.specs.Printing.{Piece, A_name, A_number, A_sign, A_word, A_minus, An_opening, piece_text, leans, holds}
+use Rattle.janus_syntax.specs.Printing.{Piece, A_name, A_number, A_sign, A_keyword, A_minus, An_opening, piece_text, leans, holds}
 use Rattle.janus_syntax.proofs.Fronts.{StopsAt}
-use Rattle.janus_syntax.proofs.Longest.{name_longest, word_longest, number_longest, space_spelled, one_space, extends, sign_longest, open_longest, open_index_longest, minus_longest}
+use Rattle.janus_syntax.proofs.Longest.{name_longest, keyword_longest, number_longest, space_spelled, one_space, extends, sign_longest, open_longest, open_index_longest, minus_longest}
 use Rattle.janus_printing.proofs.Spelled.{placed, Spelled}
 use Rattle.janus_printing.proofs.Pieces.{tail, BeginsOperand, AreFine}
 use Rattle.janus_printing.proofs.Digits.{decimal_stands}
 
 -- ---- what stands behind a piece
 
--- it makes no name, number, word or sign longer
+-- it makes no name, number, keyword or sign longer
 record Apart (rest : List ℕ) : Type 0 where
   name : StopsAt of_name rest
   number : StopsAt of_number rest
@@ -59,7 +59,7 @@ apart [] = record { name = tt; number = tt; sign = tt }
 apart (A_name x ∷ ps) = apart_at 32 _ refl refl refl
 apart (A_number n ∷ ps) = apart_at 32 _ refl refl refl
 apart (A_sign s ∷ ps) = apart_sign s ps
-apart (A_word w ∷ ps) = apart_at 32 _ refl refl refl
+apart (A_keyword w ∷ ps) = apart_at 32 _ refl refl refl
 apart (A_minus ∷ ps) = apart_at 32 _ refl refl refl
 apart (An_opening ∷ ps) = apart_at 40 _ refl refl refl
 
@@ -87,9 +87,9 @@ operand_no_equals (A_name x ∷ ps) f b = name_no_equals x _ f.0.0
 operand_no_equals (A_number n ∷ ps) f b = let few = f.0 in number_no_equals (fmt.decimal n) _ (decimal_stands n (omega (arith, few))).0
 operand_no_equals (A_sign sign.Open ∷ ps) f b = refl
 operand_no_equals (A_sign _ ∷ ps) f b = absurd b
-operand_no_equals (A_word word.Empty ∷ ps) f b = refl
-operand_no_equals (A_word word.Top ∷ ps) f b = refl
-operand_no_equals (A_word _ ∷ ps) f b = absurd b
+operand_no_equals (A_keyword keyword.Empty ∷ ps) f b = refl
+operand_no_equals (A_keyword keyword.Top ∷ ps) f b = refl
+operand_no_equals (A_keyword _ ∷ ps) f b = absurd b
 operand_no_equals (A_minus ∷ ps) f b = refl
 operand_no_equals (An_opening ∷ ps) f b = absurd b
 
@@ -98,7 +98,7 @@ abbrev item : Piece → Item
 item (A_name x) = Lexical.A_name x
 item (A_number n) = Lexical.A_number n
 item (A_sign s) = Lexical.A_sign s
-item (A_word w) = Lexical.A_word w
+item (A_keyword w) = Lexical.A_keyword w
 item A_minus = Lexical.A_sign sign.Minus
 item An_opening = Lexical.A_sign sign.Open
 
@@ -140,7 +140,7 @@ first (A_number n) ps (few, f) =
     let digits = decimal_stands n (omega (arith, few)) in
     record { spelled = (sym digits.1, digits.0); longest = number_longest (fmt.decimal n) _ digits.0 (apart ps).number; token = λ at. (few, refl) }
 first (A_sign s) ps f = record { spelled = refl; longest = first_sign s ps; token = λ at. refl }
-first (A_word w) ps f = record { spelled = refl; longest = word_longest w _ (apart ps).name; token = λ at. refl }
+first (A_keyword w) ps f = record { spelled = refl; longest = keyword_longest w _ (apart ps).name; token = λ at. refl }
 first A_minus ps (b, f) = record { spelled = refl; longest = minus_longest _ (operand_no_equals ps f b); token = λ at. refl }
 first An_opening ps f = record { spelled = refl; longest = open_longest _; token = λ at. refl }
 
@@ -148,7 +148,7 @@ others_fine : (p : Piece) (ps : List Piece) → AreFine (p ∷ ps) → AreFine p
 others_fine (A_name x) ps f = f.1
 others_fine (A_number n) ps f = f.1
 others_fine (A_sign s) ps f = f
-others_fine (A_word w) ps f = f
+others_fine (A_keyword w) ps f = f
 others_fine A_minus ps f = f.1
 others_fine An_opening ps f = f
 

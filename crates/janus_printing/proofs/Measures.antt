@@ -4,11 +4,11 @@ use Rattle.std.specs.Prelude.{nat_lt, nat_le}
 use Rattle.std.proofs.lemmas.Bool.{ltb-true, leb-true, and_parts}
 use Rattle.janus_syntax.specs.declared.token.Sign.{Sign}
 use Rattle.janus_syntax.specs.declared.token.Sign.TheVariants as sign
-use Rattle.janus_syntax.specs.declared.tree.Kind.{Kind}
+use Rattle.janus_syntax.specs.declared.tree.LocalKind.{LocalKind}
 use Rattle.janus_syntax.specs.declared.operator.Joint.{Joint}
 use Rattle.janus_syntax.specs.declared.operator.Joint.TheVariants as joint
 use Rattle.janus_syntax.specs.declared.operator.Infix.{Infix}
-use Rattle.janus_syntax.specs.Tokens.{Token, Name, Number, Sign_of, Word_of}
+use Rattle.janus_syntax.specs.Tokens.{Token, Name, Number, Sign_of, Keyword_of}
 use Rattle.janus_syntax.specs.Tree.{Name as Named, named, Exp}
 use Rattle.janus_syntax.specs.Operators.{joined, sign_infix, operator_at}
 use Rattle.janus_syntax.specs.Forms.{Part, Level, Tree, A_name, seen, Same_name, Form, take, part, close, Rule}
@@ -75,7 +75,7 @@ pub joint_level : (t : Token) (op : Infix) → operator_at t ≡ Some op → sig
 joint_level (Sign_of s at) op e = let j = joint_of_sign s op e in ap sign_level j.0 ∙ j.1
 joint_level (Name x at) op e = absurd cc
 joint_level (Number n at) op e = absurd cc
-joint_level (Word_of w at) op e = absurd cc
+joint_level (Keyword_of w at) op e = absurd cc
 
 pub joined_operators : (j : Joint) (l r : Exp) → operators (joined j l r) ≡ suc (operators l + operators r)
 joined_operators (joint.Binary op) l r = refl
@@ -162,7 +162,7 @@ pub name_fits : (t : Token) (x : Named) → seen A_name t ≡ Some x → IsGood 
 name_fits (Name y at) x e g = let same : named y at ≡ x = cc in subst IsName same g
 name_fits (Number n at) x e g = absurd cc
 name_fits (Sign_of s at) x e g = absurd cc
-name_fits (Word_of w at) x e g = absurd cc
+name_fits (Keyword_of w at) x e g = absurd cc
 
 -- a stack was read
 pub record IsStack {p : Part} (k : Named → Form p) (c : Count) (v : Tree p) (from : List Token) (m' : Count) (rest : List Token) : Type 0 where
@@ -231,7 +231,7 @@ same_name_fits : (t : Token) (x y : Named) → seen (Same_name x) t ≡ Some y �
 same_name_fits (Name z at) x y e g = let same : named z at ≡ y = cc in subst IsName same g
 same_name_fits (Number n at) x y e g = absurd cc
 same_name_fits (Sign_of s at) x y e g = absurd cc
-same_name_fits (Word_of w at) x y e g = absurd cc
+same_name_fits (Keyword_of w at) x y e g = absurd cc
 
 -- the name of a local and `=` were read
 pub head_read : {p : Part} (k : Named → Form p) (v : Tree p) (c : Count) (from : List Token) (m' : Count) (rest : List Token) → AreGood from → Spells all p (take A_name (λ x. sign_then sign.Equals (k x))) v c from m' rest → IsStack k c v from m' rest
@@ -253,7 +253,7 @@ pub record IsDelocal {p : Part} (x : Named) (k : Named → Form p) (c : Count) (
   pub good : AreGood middle
   pub onward : Spells all p (k name) v c middle m' rest
 
-pub delocal_read : {p : Part} (j : Kind) (x : Named) (k : Named → Form p) (v : Tree p) (c : Count) (from : List Token) (m' : Count) (rest : List Token) → AreGood from → Spells all p (delocal_then j x k) v c from m' rest → IsDelocal x k c v from m' rest
+pub delocal_read : {p : Part} (j : LocalKind) (x : Named) (k : Named → Form p) (v : Tree p) (c : Count) (from : List Token) (m' : Count) (rest : List Token) → AreGood from → Spells all p (delocal_then j x k) v c from m' rest → IsDelocal x k c v from m' rest
 delocal_read j x k v c from m' rest g s =
     let a = inside s in
     let b = inside a.onward in

@@ -1,7 +1,7 @@
 -- Names parted by commas that were read: they are names, and this is left.
 use Rattle.std.proofs.Common.{◌≡◌, ℕ, zero, suc, ◌+◌, ◌≤◌, List, [], ◌∷◌, length, Some, false, ap, sym, subst, inl, inr, arith}
 use Rattle.janus_syntax.specs.declared.token.Sign.TheVariants as sign
-use Rattle.janus_syntax.specs.Tokens.{Token, Name, Number, Sign_of, Word_of}
+use Rattle.janus_syntax.specs.Tokens.{Token, Name, Number, Sign_of, Keyword_of}
 use Rattle.janus_syntax.specs.Tree.{Name as Named, named}
 use Rattle.janus_syntax.specs.Forms.{Part, Names, More_names, Tree, A_name, Form, done, take, part, Rule}
 use Rattle.janus_syntax.specs.Table.{rule, sign_then, call_then}
@@ -54,7 +54,7 @@ more_measured n known d used (Sign_of sign.Comma at) r xs from m' rest h g is ru
       good = subst AreGood (sym end.rests) more.good;
     }
 more_measured n known d used (Sign_of _ at) r xs from m' rest h g is run = absurd cc
-more_measured n known d used (Word_of w at) r xs from m' rest h g is run = absurd cc
+more_measured n known d used (Keyword_of w at) r xs from m' rest h g is run = absurd cc
 more_measured n known d used (Name x at) r xs from m' rest h g is run = absurd cc
 more_measured n known d used (Number i at) r xs from m' rest h g is run = absurd cc
 
@@ -97,7 +97,7 @@ names_measured d used (Name x at) r xs from m' rest is_good g is run =
       good = subst AreGood (sym end.rests) more.good;
     }
 names_measured d used (Sign_of s at) r xs from m' rest is_good g is run = absurd cc
-names_measured d used (Word_of w at) r xs from m' rest is_good g is run = absurd cc
+names_measured d used (Keyword_of w at) r xs from m' rest is_good g is run = absurd cc
 names_measured d used (Number i at) r xs from m' rest is_good g is run = absurd cc
 
 names_read : {p : Part} (d used : ℕ) (k : List Named → Form p) (v : Tree p) (from : List Token) (m' : Count) (rest : List Token) → AreGood from → Spells all p (part Names k) v (count d used) from m' rest → AreRead k d used v from m' rest

@@ -2,12 +2,12 @@
 use Rattle.std.proofs.Common.{◌≡◌, ℕ, suc, ◌+◌, ◌-◌, ◌≤◌, List, ◌∷◌, Option, Some, Bool, true, false, cond, refl, ap, sym, subst, arith}
 use Rattle.janus_syntax.specs.declared.token.Span.{Span}
 use Rattle.janus_syntax.specs.declared.token.Sign.TheVariants as sign
-use Rattle.janus_syntax.specs.declared.token.Keyword.TheVariants as word
-use Rattle.janus_syntax.specs.declared.tree.Kind.{Kind}
-use Rattle.janus_syntax.specs.Tokens.{Token, Name, Sign_of, Word_of}
+use Rattle.janus_syntax.specs.declared.token.Keyword.TheVariants as keyword
+use Rattle.janus_syntax.specs.declared.tree.LocalKind.{LocalKind}
+use Rattle.janus_syntax.specs.Tokens.{Token, Name, Sign_of, Keyword_of}
 use Rattle.janus_syntax.specs.Tree.{Name as Named, named, Exp}
 use Rattle.janus_syntax.specs.Operators.{weakest}
-use Rattle.janus_syntax.specs.Forms.{Part, Whole, Tree, Class, The_word, The_sign, A_name, Same_kind, Same_name, Seen, Form, done, take, part, close, Rule}
+use Rattle.janus_syntax.specs.Forms.{Part, Whole, Tree, Class, The_keyword, The_sign, A_name, Same_kind, Same_name, Seen, Form, done, take, part, close, Rule}
 use Rattle.janus_syntax.specs.Table.{rule, left_out, sign_then, variable_and_stack_then, delocal_then, whole, chains}
 use Rattle.janus_syntax.specs.Grammar
 use Rattle.janus_syntax.specs.Grammar.{Count, all, entered, closed, fits, depth_limit, operator_limit, Spells}
@@ -15,7 +15,7 @@ use Rattle.janus_syntax.specs.Reading.{count}
 use Rattle.janus_syntax.specs.Printing.{whole_pieces}
 use Rattle.janus_syntax.specs.View.{plain_exp}
 use Rattle.janus_meaning.specs.Store.{same_name}
-use Rattle.janus_syntax.proofs.Agreed.{agreed, agreed_is, is_agreed, kind_word, kind_agreed}
+use Rattle.janus_syntax.proofs.Agreed.{agreed, agreed_is, is_agreed, kind_keyword, kind_agreed}
 use Rattle.janus_syntax.proofs.Chains.{fits_count}
 use Rattle.janus_printing.proofs.Fits.{operators, FitsWhole}
 use Rattle.janus_printing.proofs.Measures.{recount, Runs}
@@ -67,12 +67,12 @@ head_to k x v d d' at equals from t1 more end e1 e2 onward =
     (token_to (The_sign sign.Equals) (λ z. k (named x at)) tt v d d' (Sign_of sign.Equals equals) t1 more end e2 refl onward)
 
 -- `delocal`, the same kind, the same name and `=`
-pub delocal_to : {p : Part} (j : Kind) (k : Named → Form p) (x y : List ℕ) (there : Span) (v : Tree p) (d d' : ℕ) (at_delocal at_kind at equals : Span) (from t1 t2 t3 more end : List Token) →
-    from ≡ Word_of word.Delocal at_delocal ∷ t1 → t1 ≡ Word_of (kind_word j) at_kind ∷ t2 → t2 ≡ Name y at ∷ t3 → t3 ≡ Sign_of sign.Equals equals ∷ more → same_name x y ≡ true →
+pub delocal_to : {p : Part} (j : LocalKind) (k : Named → Form p) (x y : List ℕ) (there : Span) (v : Tree p) (d d' : ℕ) (at_delocal at_kind at equals : Span) (from t1 t2 t3 more end : List Token) →
+    from ≡ Keyword_of keyword.Delocal at_delocal ∷ t1 → t1 ≡ Keyword_of (kind_keyword j) at_kind ∷ t2 → t2 ≡ Name y at ∷ t3 → t3 ≡ Sign_of sign.Equals equals ∷ more → same_name x y ≡ true →
     SpellsTo (k (named y at)) v d more d' end → SpellsTo (delocal_then j (named x there) k) v d from d' end
 delocal_to j k x y there v d d' at_delocal at_kind at equals from t1 t2 t3 more end e1 e2 e3 e4 same onward =
-    token_to (The_word word.Delocal) (λ z. take (Same_kind j) (λ i. take (Same_name (named x there)) (λ b. sign_then sign.Equals (k b)))) tt v d d' (Word_of word.Delocal at_delocal) from t1 end e1 refl
-    (token_to (Same_kind j) (λ i. take (Same_name (named x there)) (λ b. sign_then sign.Equals (k b))) j v d d' (Word_of (kind_word j) at_kind) t1 t2 end e2 (kind_agreed j at_kind)
+    token_to (The_keyword keyword.Delocal) (λ z. take (Same_kind j) (λ i. take (Same_name (named x there)) (λ b. sign_then sign.Equals (k b)))) tt v d d' (Keyword_of keyword.Delocal at_delocal) from t1 end e1 refl
+    (token_to (Same_kind j) (λ i. take (Same_name (named x there)) (λ b. sign_then sign.Equals (k b))) j v d d' (Keyword_of (kind_keyword j) at_kind) t1 t2 end e2 (kind_agreed j at_kind)
     (token_to (Same_name (named x there)) (λ b. sign_then sign.Equals (k b)) (named y at) v d d' (Name y at) t2 t3 end e3 (is_agreed (Same_name (named x there)) (Name y at) (named y at) refl same)
     (token_to (The_sign sign.Equals) (λ z. k (named y at)) tt v d d' (Sign_of sign.Equals equals) t3 more end e4 refl onward)))
 

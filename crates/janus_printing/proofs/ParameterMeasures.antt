@@ -1,8 +1,8 @@
 -- Parameters that were read: they fit, and this is left.
 use Rattle.std.proofs.Common.{◌≡◌, ℕ, zero, suc, ◌+◌, ◌≤◌, List, [], ◌∷◌, length, Some, Bool, true, false, ap, sym, subst, inl, inr, arith}
 use Rattle.janus_syntax.specs.declared.token.Sign.TheVariants as sign
-use Rattle.janus_syntax.specs.declared.token.Keyword.TheVariants as word
-use Rattle.janus_syntax.specs.Tokens.{Token, Name, Number, Sign_of, Word_of}
+use Rattle.janus_syntax.specs.declared.token.Keyword.TheVariants as keyword
+use Rattle.janus_syntax.specs.Tokens.{Token, Name, Number, Sign_of, Keyword_of}
 use Rattle.janus_syntax.specs.Tree.{Name as Named, Parameter, StackParameter}
 use Rattle.janus_syntax.specs.Forms.{Part, Parameters, More_parameters, A_parameter, Brackets, Tree, A_name, Form, done, take, part, Rule}
 use Rattle.janus_syntax.specs.Table.{rule, left_out, parameter, sign_then, a_parameter}
@@ -47,7 +47,7 @@ brackets_read d used (Sign_of sign.OpenIndex at) r b from m' rest g is run =
 brackets_read d used (Sign_of _ at) r b from m' rest g is run = absurd cc
 brackets_read d used (Name x at) r b from m' rest g is run = absurd cc
 brackets_read d used (Number i at) r b from m' rest g is run = absurd cc
-brackets_read d used (Word_of w at) r b from m' rest g is run = absurd cc
+brackets_read d used (Keyword_of w at) r b from m' rest g is run = absurd cc
 
 -- behind the name of an `int` parameter
 bracketed : {p : Part} (x : Named) (d used : ℕ) (k : Parameter → Form p) (v : Tree p) (from : List Token) (m' : Count) (rest : List Token) → IsName x → AreGood from →
@@ -71,7 +71,7 @@ bracketed {p} x d used k v from m' rest name g s =
     ]
 
 parameter_read : {p : Part} (d used : ℕ) (k : Parameter → Form p) (v : Tree p) (t : Token) (r : Rule p) (from : List Token) (m' : Count) (rest : List Token) → AreGood from → a_parameter t k ≡ Some r → Runs r (count d used) v from m' rest → IsParameter k d used v from m' rest
-parameter_read {p} d used k v (Word_of word.Int at) r from m' rest g e run =
+parameter_read {p} d used k v (Keyword_of keyword.Int at) r from m' rest g e run =
     let a : Rule p = record { opens = 0; counts = 0; is_whole = false; form = take A_name (λ x. part Brackets (λ b. k (parameter x b))) } in
     let here = runs_as a r (count d used) v from m' rest e run in
     let name = inside (recount (d + 0) d (used + 0) used (omega arith) (omega arith) here.1) in
@@ -80,14 +80,14 @@ parameter_read {p} d used k v (Word_of word.Int at) r from m' rest g e run =
     let b = bracketed name.value d used k v name.behind m' rest (name_fits name.token name.value name.is good.0) good.1 name.onward in
     let less' = b.shorter in
     record { tree = b.tree; middle = b.middle; fits = b.fits; shorter = omega (arith, less, less'); good = b.good; onward = b.onward }
-parameter_read {p} d used k v (Word_of word.Stack at) r from m' rest g e run =
+parameter_read {p} d used k v (Keyword_of keyword.Stack at) r from m' rest g e run =
     let a : Rule p = record { opens = 0; counts = 0; is_whole = false; form = take A_name (λ s. k (StackParameter s)) } in
     let here = runs_as a r (count d used) v from m' rest e run in
     let name = inside (recount (d + 0) d (used + 0) used (omega arith) (omega arith) here.1) in
     let less = shorter_behind from name.behind name.token name.whole in
     let good = good_behind from name.behind name.token name.whole g in
     record { tree = StackParameter name.value; middle = name.behind; fits = name_fits name.token name.value name.is good.0; shorter = omega (arith, less); good = good.1; onward = name.onward }
-parameter_read d used k v (Word_of _ at) r from m' rest g e run = absurd cc
+parameter_read d used k v (Keyword_of _ at) r from m' rest g e run = absurd cc
 parameter_read d used k v (Name x at) r from m' rest g e run = absurd cc
 parameter_read d used k v (Number i at) r from m' rest g e run = absurd cc
 parameter_read d used k v (Sign_of s at) r from m' rest g e run = absurd cc
@@ -160,7 +160,7 @@ more_measured n known d used (Sign_of sign.Comma at) r xs from m' rest h g is ru
       good = subst AreGood (sym end.rests) more.good;
     }
 more_measured n known d used (Sign_of _ at) r xs from m' rest h g is run = absurd cc
-more_measured n known d used (Word_of w at) r xs from m' rest h g is run = absurd cc
+more_measured n known d used (Keyword_of w at) r xs from m' rest h g is run = absurd cc
 more_measured n known d used (Name x at) r xs from m' rest h g is run = absurd cc
 more_measured n known d used (Number i at) r xs from m' rest h g is run = absurd cc
 

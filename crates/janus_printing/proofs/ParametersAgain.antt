@@ -1,8 +1,8 @@
 -- The tokens that spell the print of parameters are read as those parameters, places aside.
 use Rattle.std.proofs.Common.{◌≡◌, ℕ, List, [], ◌∷◌, true, false, map, refl, sym, subst, ◌∙◌, ap, arith}
 use Rattle.janus_syntax.specs.declared.token.Sign.TheVariants as sign
-use Rattle.janus_syntax.specs.declared.token.Keyword.TheVariants as word
-use Rattle.janus_syntax.specs.Tokens.{Token, Name, Sign_of, Word_of}
+use Rattle.janus_syntax.specs.declared.token.Keyword.TheVariants as keyword
+use Rattle.janus_syntax.specs.Tokens.{Token, Name, Sign_of, Keyword_of}
 use Rattle.janus_syntax.specs.Tree.{named, Parameter, IntParameter, ArrayParameter, StackParameter}
 use Rattle.janus_syntax.specs.Forms.{Part, Parameters, More_parameters, A_parameter, Brackets, Tree, A_name, The_sign, Form, done, take, part}
 use Rattle.janus_syntax.specs.Table.{rule, parameter, sign_then, a_parameter}
@@ -35,7 +35,7 @@ parameter_again (IntParameter (named x place)) ts rest (at, t1, e1, (at2, t2, e2
       again = IntParameter (named x at2);
       same = refl;
       starts = λ {p} k v d' end onward.
-          begins_to (λ t. a_parameter t k) (take A_name (λ y. part Brackets (λ b. k (parameter y b)))) v 0 d' (Word_of word.Int at) ts t1 end e1 refl (omega arith)
+          begins_to (λ t. a_parameter t k) (take A_name (λ y. part Brackets (λ b. k (parameter y b)))) v 0 d' (Keyword_of keyword.Int at) ts t1 end e1 refl (omega arith)
           (token_to A_name (λ y. part Brackets (λ b. k (parameter y b))) (named x at2) v 0 d' (Name x at2) t1 t2 end e2 refl
           (subst (λ l. SpellsTo (part Brackets (λ b. k (parameter (named x at2) b))) v 0 l d' end) (sym s) (left_to {q = Brackets} (λ b. k (parameter (named x at2) b)) false v 0 d' rest end refl onward)));
     }
@@ -44,7 +44,7 @@ parameter_again (ArrayParameter (named x place)) ts rest (at1, t1, e1, (at2, t2,
       again = ArrayParameter (named x at2);
       same = refl;
       starts = λ {p} k v d' end onward.
-          begins_to (λ t. a_parameter t k) (take A_name (λ y. part Brackets (λ b. k (parameter y b)))) v 0 d' (Word_of word.Int at1) ts t1 end e1 refl (omega arith)
+          begins_to (λ t. a_parameter t k) (take A_name (λ y. part Brackets (λ b. k (parameter y b)))) v 0 d' (Keyword_of keyword.Int at1) ts t1 end e1 refl (omega arith)
           (token_to A_name (λ y. part Brackets (λ b. k (parameter y b))) (named x at2) v 0 d' (Name x at2) t1 t2 end e2 refl
           (part_to {q = Brackets} (λ b. k (parameter (named x at2) b)) true v 0 0 d' t2 rest end
           (begins_to (rule Brackets) (sign_then sign.CloseIndex (done true)) true 0 0 (Sign_of sign.OpenIndex opened) t2 t3 rest e3 refl (omega arith)
@@ -57,7 +57,7 @@ parameter_again (StackParameter (named x place)) ts rest (at, t1, e1, (at2, t2, 
       again = StackParameter (named x at2);
       same = refl;
       starts = λ {p} k v d' end onward.
-          begins_to (λ t. a_parameter t k) (take A_name (λ y. k (StackParameter y))) v 0 d' (Word_of word.Stack at) ts t1 end e1 refl (omega arith)
+          begins_to (λ t. a_parameter t k) (take A_name (λ y. k (StackParameter y))) v 0 d' (Keyword_of keyword.Stack at) ts t1 end e1 refl (omega arith)
           (token_to A_name (λ y. k (StackParameter y)) (named x at2) v 0 d' (Name x at2) t1 rest end (e2 ∙ ap (λ l. Name x at2 ∷ l) s) refl onward);
     }
 

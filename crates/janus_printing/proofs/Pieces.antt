@@ -5,13 +5,13 @@ use Rattle.std.proofs.lemmas.Bool.{lt-ltb}
 use Rattle.std.proofs.lemmas.List.{append-nil}
 use Rattle.janus_syntax.specs.declared.token.Sign.{Sign}
 use Rattle.janus_syntax.specs.declared.token.Sign.TheVariants as sign
-use Rattle.janus_syntax.specs.declared.token.Keyword.TheVariants as word
+use Rattle.janus_syntax.specs.declared.token.Keyword.TheVariants as keyword
 use Rattle.janus_syntax.specs.declared.operator.Joint.{Joint}
 use Rattle.janus_syntax.specs.declared.operator.Joint.TheVariants as joint
 use Rattle.janus_syntax.specs.Tree.{Name, named, Exp, Num, Var, Element, EmptyOf, TopOf, Neg, Bin, And, Or, Stm, Skip, Assign, AssignElement, Push, Pop, If, Loop, LocalInt, LocalStack, Call, Uncall, Block, Empty, More, Declaration, Int, Array, StackOf, Parameter, IntParameter, ArrayParameter, StackParameter, Procedure, procedure_of, Cell, cell_of}
 use Rattle.janus_syntax.specs.Operators.{weakest}
-use Rattle.janus_syntax.specs.Lexical.{IsNameText, NotReserved, largest_number}
-use Rattle.janus_syntax.specs.Printing.{Piece, A_name, A_number, A_sign, A_word, A_minus, An_opening, piece_text, leans, holds, Printed, with_piece, with_pieces, sign_level, if_needed, infix_pieces, exp_pieces, whole_pieces, names_pieces, more_names_pieces, stm_pieces, block_pieces, declaration_pieces, declarations_pieces, parameter_pieces, more_parameters_pieces, parameters_pieces, procedure_pieces, procedures_pieces, cell_pieces}
+use Rattle.janus_syntax.specs.Lexical.{IsNameText, IsNoKeyword, largest_number}
+use Rattle.janus_syntax.specs.Printing.{Piece, A_name, A_number, A_sign, A_keyword, A_minus, An_opening, piece_text, leans, holds, Printed, with_piece, with_pieces, sign_level, if_needed, infix_pieces, exp_pieces, whole_pieces, names_pieces, more_names_pieces, stm_pieces, block_pieces, declaration_pieces, declarations_pieces, parameter_pieces, more_parameters_pieces, parameters_pieces, procedure_pieces, procedures_pieces, cell_pieces}
 use Rattle.janus_printing.proofs.Fits.{AreNames, Parenthesized, FitsInfix, FitsExp, FitsStm, FitsBlock, FitsDeclaration, FitsDeclarations, FitsParameter, FitsParameters, FitsProcedure, FitsProcedures, FitsCell}
 use Rattle.janus_printing.proofs.Measures.{joint_sign}
 use Rattle.janus_printing.proofs.Expressions.{operator_is}
@@ -41,17 +41,17 @@ BeginsOperand (A_name x ∷ ps) = Unit {0}
 BeginsOperand (A_number n ∷ ps) = Unit {0}
 BeginsOperand (A_sign sign.Open ∷ ps) = Unit {0}
 BeginsOperand (A_minus ∷ ps) = Unit {0}
-BeginsOperand (A_word word.Empty ∷ ps) = Unit {0}
-BeginsOperand (A_word word.Top ∷ ps) = Unit {0}
+BeginsOperand (A_keyword keyword.Empty ∷ ps) = Unit {0}
+BeginsOperand (A_keyword keyword.Top ∷ ps) = Unit {0}
 BeginsOperand _ = ⊥
 
 -- names are names, numbers are not too large, and a prefix minus stands in front of an operand
 abbrev pub AreFine : List Piece → Type 0
 AreFine [] = Unit {0}
-AreFine (A_name x ∷ ps) = (IsNameText x × NotReserved x) × AreFine ps
+AreFine (A_name x ∷ ps) = (IsNameText x × IsNoKeyword x) × AreFine ps
 AreFine (A_number n ∷ ps) = (n ≤ largest_number) × AreFine ps
 AreFine (A_sign s ∷ ps) = AreFine ps
-AreFine (A_word w ∷ ps) = AreFine ps
+AreFine (A_keyword w ∷ ps) = AreFine ps
 AreFine (A_minus ∷ ps) = BeginsOperand ps × AreFine ps
 AreFine (An_opening ∷ ps) = AreFine ps
 
@@ -61,9 +61,9 @@ begins_both (A_name x ∷ a) b h = tt
 begins_both (A_number n ∷ a) b h = tt
 begins_both (A_sign sign.Open ∷ a) b h = tt
 begins_both (A_sign _ ∷ a) b h = absurd h
-begins_both (A_word word.Empty ∷ a) b h = tt
-begins_both (A_word word.Top ∷ a) b h = tt
-begins_both (A_word _ ∷ a) b h = absurd h
+begins_both (A_keyword keyword.Empty ∷ a) b h = tt
+begins_both (A_keyword keyword.Top ∷ a) b h = tt
+begins_both (A_keyword _ ∷ a) b h = absurd h
 begins_both (A_minus ∷ a) b h = tt
 begins_both (An_opening ∷ a) b h = absurd h
 
@@ -72,7 +72,7 @@ fine_both [] b f g = g
 fine_both (A_name x ∷ a) b (n, f) g = (n, fine_both a b f g)
 fine_both (A_number n ∷ a) b (h, f) g = (h, fine_both a b f g)
 fine_both (A_sign s ∷ a) b f g = fine_both a b f g
-fine_both (A_word w ∷ a) b f g = fine_both a b f g
+fine_both (A_keyword w ∷ a) b f g = fine_both a b f g
 fine_both (A_minus ∷ a) b (h, f) g = (begins_both a b h, fine_both a b f g)
 fine_both (An_opening ∷ a) b f g = fine_both a b f g
 

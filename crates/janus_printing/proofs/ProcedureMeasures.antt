@@ -2,8 +2,8 @@
 use Rattle.std.proofs.Common.{◌≡◌, ℕ, zero, suc, ◌+◌, ◌<◌, ◌≤◌, List, [], ◌∷◌, ◌++◌, length, Some, Bool, true, false, ap, sym, subst, ◌∙◌, inl, inr, arith}
 use Rattle.janus_syntax.specs.declared.token.Sign.{Sign}
 use Rattle.janus_syntax.specs.declared.token.Sign.TheVariants as sign
-use Rattle.janus_syntax.specs.declared.token.Keyword.TheVariants as word
-use Rattle.janus_syntax.specs.Tokens.{Token, Name, Number, Sign_of, Word_of}
+use Rattle.janus_syntax.specs.declared.token.Keyword.TheVariants as keyword
+use Rattle.janus_syntax.specs.Tokens.{Token, Name, Number, Sign_of, Keyword_of}
 use Rattle.janus_syntax.specs.Tree.{Name as Named, named, Block, Declaration, Procedure, procedure_of, Cell, cell_of}
 use Rattle.janus_syntax.specs.Forms.{Part, Declarations, Procedures, A_procedure, Parameters, Body, Statements, Tree, Form, done, part, Rule}
 use Rattle.janus_syntax.specs.Table.{rule, left_out, with_procedure, with_main, sign_then, behind_name, behind_main}
@@ -130,7 +130,7 @@ procedure_measured n known main c used (Name f at) r d from m' rest h name g fit
     let end = inside more.onward in
     let rests = ap length end.rests in
     record { total = more.total; fits = subst FitsCell (sym end.tree) more.fits; counts = end.counts; shorter = omega (arith, less, less', rests); good = subst AreGood (sym end.rests) more.good }
-procedure_measured n known true c used (Word_of word.Main at) r d from m' rest h name g fits is run =
+procedure_measured n known true c used (Keyword_of keyword.Main at) r d from m' rest h name g fits is run =
     let a : Rule (A_procedure true c) = record { opens = 0; counts = 0; is_whole = false; form = behind_main (λ ds b. part (Procedures false (with_main ds b c)) done) } in
     let here = runs_as a r (count 0 used) d from m' rest is run in
     let q = main_read {p = A_procedure true c} used (λ ds b. part (Procedures false (with_main ds b c)) done) d from m' rest g (recount (0 + 0) 0 (used + 0) used (omega arith) (omega arith) here.1) in
@@ -140,8 +140,8 @@ procedure_measured n known true c used (Word_of word.Main at) r d from m' rest h
     let end = inside more.onward in
     let rests = ap length end.rests in
     record { total = more.total; fits = subst FitsCell (sym end.tree) more.fits; counts = end.counts; shorter = omega (arith, less, less', rests); good = subst AreGood (sym end.rests) more.good }
-procedure_measured n known true c used (Word_of _ at) r d from m' rest h name g fits is run = absurd cc
-procedure_measured n known false c used (Word_of w at) r d from m' rest h name g fits is run = absurd cc
+procedure_measured n known true c used (Keyword_of _ at) r d from m' rest h name g fits is run = absurd cc
+procedure_measured n known false c used (Keyword_of w at) r d from m' rest h name g fits is run = absurd cc
 procedure_measured n known main c used (Number i at) r d from m' rest h name g fits is run = absurd cc
 procedure_measured n known main c used (Sign_of s at) r d from m' rest h name g fits is run = absurd cc
 
@@ -150,7 +150,7 @@ no_procedure main c d h = cc
 
 procedures_measured : (n : ℕ) → ProceduresRead n → (main : Bool) (c : Cell) (used : ℕ) (t : Token) (r : Rule (Procedures main c)) (d : Cell) (from : List Token) (m' : Count) (rest : List Token) → length from ≤ n → AreGood from → FitsCell c → rule (Procedures main c) t ≡ Some r →
     Runs r (count 0 used) d from m' rest → IsMeasured d from m' rest
-procedures_measured n known main c used (Word_of word.Procedure at) r d from m' rest h g fits is run =
+procedures_measured n known main c used (Keyword_of keyword.Procedure at) r d from m' rest h g fits is run =
     let a : Rule (Procedures main c) = record { opens = 0; counts = 0; is_whole = false; form = part (A_procedure main c) done } in
     let here = runs_as a r (count 0 used) d from m' rest is run in
     elim (inside (recount (0 + 0) 0 (used + 0) used (omega arith) (omega arith) here.1)) [
@@ -164,7 +164,7 @@ procedures_measured n known main c used (Word_of word.Procedure at) r d from m' 
           let rests = ap length end.rests in
           record { total = is.total; fits = subst FitsCell (sym end.tree) is.fits; counts = end.counts ∙ is.counts; shorter = omega (arith, less, less', rests); good = subst AreGood (sym end.rests) is.good }
     ]
-procedures_measured n known main c used (Word_of _ at) r d from m' rest h g fits is run = absurd cc
+procedures_measured n known main c used (Keyword_of _ at) r d from m' rest h g fits is run = absurd cc
 procedures_measured n known main c used (Name x at) r d from m' rest h g fits is run = absurd cc
 procedures_measured n known main c used (Number i at) r d from m' rest h g fits is run = absurd cc
 procedures_measured n known main c used (Sign_of s at) r d from m' rest h g fits is run = absurd cc

@@ -2,8 +2,8 @@
 use Rattle.std.proofs.Common.{◌≡◌, ℕ, List, [], ◌∷◌, ◌++◌, Bool, map, refl, sym, subst, arith, append_assoc}
 use Rattle.std.proofs.lemmas.List.{append-nil}
 use Rattle.janus_syntax.specs.declared.token.Sign.TheVariants as sign
-use Rattle.janus_syntax.specs.declared.token.Keyword.TheVariants as word
-use Rattle.janus_syntax.specs.Tokens.{Token, Name, Sign_of, Word_of}
+use Rattle.janus_syntax.specs.declared.token.Keyword.TheVariants as keyword
+use Rattle.janus_syntax.specs.Tokens.{Token, Name, Sign_of, Keyword_of}
 use Rattle.janus_syntax.specs.Tree.{named, Block, Declaration, Procedure, procedure_of, Cell, cell_of}
 use Rattle.janus_syntax.specs.Forms.{Part, Procedures, A_procedure, Parameters, Body, Tree, The_sign, Form, done, part}
 use Rattle.janus_syntax.specs.Table.{rule, with_procedure, sign_then, behind_name}
@@ -42,7 +42,7 @@ procedure_again (procedure_of (named f place) xs b) ts rest (name, fits_xs, fits
       same = (λ n. record { name = f; params = ys.same n; body = body.same n });
       goes = λ main c d end next p k v d' behind onward.
           part_to {q = Procedures main c} k d v 0 0 d' ts end behind
-          (begins_to (rule (Procedures main c)) (part (A_procedure main c) done) d 0 0 (Word_of word.Procedure on) ts t1 end e1 refl (omega arith)
+          (begins_to (rule (Procedures main c)) (part (A_procedure main c) done) d 0 0 (Keyword_of keyword.Procedure on) ts t1 end e1 refl (omega arith)
           (part_to {p = Procedures main c} {q = A_procedure main c} done d d 0 0 0 t1 end end
           (begins_to (rule (A_procedure main c)) (behind_name (named f at) (λ q. part (Procedures main (with_procedure c q)) done)) d 0 0 (Name f at) t1 t2 end e2 refl (omega arith)
           (token_to {p = A_procedure main c} (The_sign sign.Open) (λ z. part Parameters (λ zs. sign_then sign.Close (part Body (λ e. part (Procedures main (with_procedure c (procedure_of (named f at) zs e))) done)))) tt d 0 0 (Sign_of sign.Open opened) t2 t3 end e3 refl

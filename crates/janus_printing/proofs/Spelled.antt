@@ -5,13 +5,13 @@ use Rattle.janus_syntax.specs.declared.token.Span.{Span}
 use Rattle.janus_syntax.specs.declared.token.Sign.{Sign}
 use Rattle.janus_syntax.specs.declared.token.Sign.TheVariants as sign
 use Rattle.janus_syntax.specs.declared.token.Keyword.{Keyword}
-use Rattle.janus_syntax.specs.Tokens.{Token, Name, Number, Sign_of, Word_of}
+use Rattle.janus_syntax.specs.Tokens.{Token, Name, Number, Sign_of, Keyword_of}
 use Rattle.janus_syntax.specs.Tree.{Name as Named, named, Exp}
-use Rattle.janus_syntax.specs.Forms.{Part, Tree, The_word, The_sign, A_name as Name_class, seen, Form, take, part, Rule}
-use Rattle.janus_syntax.specs.Table.{rule, chains, word_then, sign_then, stack_then}
+use Rattle.janus_syntax.specs.Forms.{Part, Tree, The_keyword, The_sign, A_name as Name_class, seen, Form, take, part, Rule}
+use Rattle.janus_syntax.specs.Table.{rule, chains, keyword_then, sign_then, stack_then}
 use Rattle.janus_syntax.specs.Grammar
 use Rattle.janus_syntax.specs.Grammar.{Count, all, Spells}
-use Rattle.janus_syntax.specs.Printing.{Piece, A_name, A_number, A_sign, A_word, A_minus, An_opening}
+use Rattle.janus_syntax.specs.Printing.{Piece, A_name, A_number, A_sign, A_keyword, A_minus, An_opening}
 use Rattle.janus_printing.proofs.Measures.{Runs}
 
 -- a piece as a token at a place
@@ -19,7 +19,7 @@ abbrev pub placed : Piece → Span → Token
 placed (A_name x) at = Name x at
 placed (A_number n) at = Number n at
 placed (A_sign s) at = Sign_of s at
-placed (A_word w) at = Word_of w at
+placed (A_keyword w) at = Keyword_of w at
 placed A_minus at = Sign_of sign.Minus at
 placed An_opening at = Sign_of sign.Open at
 
@@ -46,8 +46,8 @@ pub record Starts {p : Part} (rules : Token → Option (Rule p)) (v : Tree p) (c
 pub part_there : {p q : Part} (k : Tree q → Form p) (u : Tree q) (v : Tree p) (c between m' : Count) (from middle rest : List Token) → Starts (rule q) u c from between middle → Spells all p (k u) v between middle m' rest → Spells all p (part q k) v c from m' rest
 part_there {p} {q} k u v c between m' from middle rest s onward = subst (λ ts. Spells all p (part q k) v c ts m' rest) (sym s.whole) (Grammar.a_part s.is s.runs.0 s.runs.1 onward)
 
-pub word_there : {p : Part} (w : Keyword) (f : Form p) (v : Tree p) (c m' : Count) (at : Span) (from more rest : List Token) → from ≡ Word_of w at ∷ more → seen (The_word w) (Word_of w at) ≡ Some tt → Spells all p f v c more m' rest → Spells all p (word_then w f) v c from m' rest
-word_there {p} w f v c m' at from more rest e is s = subst (λ ts. Spells all p (word_then w f) v c ts m' rest) (sym e) (Grammar.token is refl s)
+pub keyword_there : {p : Part} (w : Keyword) (f : Form p) (v : Tree p) (c m' : Count) (at : Span) (from more rest : List Token) → from ≡ Keyword_of w at ∷ more → seen (The_keyword w) (Keyword_of w at) ≡ Some tt → Spells all p f v c more m' rest → Spells all p (keyword_then w f) v c from m' rest
+keyword_there {p} w f v c m' at from more rest e is s = subst (λ ts. Spells all p (keyword_then w f) v c ts m' rest) (sym e) (Grammar.token is refl s)
 
 pub sign_there : {p : Part} (r : Sign) (f : Form p) (v : Tree p) (c m' : Count) (at : Span) (from more rest : List Token) → from ≡ Sign_of r at ∷ more → seen (The_sign r) (Sign_of r at) ≡ Some tt → Spells all p f v c more m' rest → Spells all p (sign_then r f) v c from m' rest
 sign_there {p} r f v c m' at from more rest e is s = subst (λ ts. Spells all p (sign_then r f) v c ts m' rest) (sym e) (Grammar.token is refl s)

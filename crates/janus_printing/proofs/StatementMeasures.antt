@@ -2,13 +2,13 @@
 use Rattle.std.proofs.Common.{◌≡◌, ℕ, zero, suc, ◌+◌, ◌-◌, ◌≤◌, List, length, Option, Some, None, false, refl, ap, sym, subst, inl, inr, arith}
 use Rattle.janus_syntax.specs.declared.token.Span.{Span}
 use Rattle.janus_syntax.specs.declared.token.Sign.TheVariants as sign
-use Rattle.janus_syntax.specs.declared.token.Keyword.TheVariants as word
-use Rattle.janus_syntax.specs.declared.tree.Kind.TheVariants as kind
+use Rattle.janus_syntax.specs.declared.token.Keyword.TheVariants as keyword
+use Rattle.janus_syntax.specs.declared.tree.LocalKind.TheVariants as kind
 use Rattle.janus_syntax.specs.declared.tree.Update.{Update}
-use Rattle.janus_syntax.specs.Tokens.{Token, Name, Number, Sign_of, Word_of}
+use Rattle.janus_syntax.specs.Tokens.{Token, Name, Number, Sign_of, Keyword_of}
 use Rattle.janus_syntax.specs.Tree.{named, Exp, Stm, Skip, Push, Pop, If, Loop, LocalInt, LocalStack, Call, Uncall, Block, More}
 use Rattle.janus_syntax.specs.Forms.{Part, Body, Statements, Else_part, Do_part, Loop_part, Local, Target_index, Whole, Tree, An_update, Form, done, take, part, close, Rule}
-use Rattle.janus_syntax.specs.Table.{rule, left_out, assignment, word_then, sign_then, variable_and_stack_then, call_then, delocal_then, local_int, local_stack, statement}
+use Rattle.janus_syntax.specs.Table.{rule, left_out, assignment, keyword_then, sign_then, variable_and_stack_then, call_then, delocal_then, local_int, local_stack, statement}
 use Rattle.janus_syntax.specs.Grammar.{Count, all, depth_limit, Spells}
 use Rattle.janus_syntax.specs.Reading.{count}
 use Rattle.janus_printing.proofs.Inside.{inside}
@@ -17,7 +17,7 @@ use Rattle.janus_printing.proofs.Good.{IsGood, AreGood}
 use Rattle.janus_printing.proofs.Measures.{recount, Runs, runs_as, few_of, good_behind, shorter_behind, close_behind, pair_read, head_read, delocal_read}
 use Rattle.janus_printing.proofs.ExpressionMeasures.{whole_read}
 use Rattle.janus_printing.proofs.NameMeasures.{call_read}
-use Rattle.janus_printing.proofs.BlockMeasures.{IsStm, IsMeasured, BlocksMeasured, word_behind, body_read, statements_read, else_is, do_is, loop_is, optional_read}
+use Rattle.janus_printing.proofs.BlockMeasures.{IsStm, IsMeasured, BlocksMeasured, keyword_behind, body_read, statements_read, else_is, do_is, loop_is, optional_read}
 
 -- ---- assignments
 
@@ -63,7 +63,7 @@ target_read d used (Sign_of sign.OpenIndex at) r i from m' rest g is run =
 target_read d used (Sign_of _ at) r i from m' rest g is run = absurd cc
 target_read d used (Name x at) r i from m' rest g is run = absurd cc
 target_read d used (Number n at) r i from m' rest g is run = absurd cc
-target_read d used (Word_of w at) r i from m' rest g is run = absurd cc
+target_read d used (Keyword_of w at) r i from m' rest g is run = absurd cc
 
 assignment_read : {p : Part} (x : List ℕ) (at : Span) (d used : ℕ) (k : Stm → Form p) (v : Tree p) (from : List Token) (m' : Count) (rest : List Token) → AreGood from → IsGood (Name x at) →
     Spells all p (part Target_index (λ i. take An_update (λ u. part Whole (λ e. k (assignment (named x at) i u e))))) v (count d used) from m' rest → IsStm k d v from m' rest
@@ -85,17 +85,17 @@ assignment_read {p} x at d used k v from m' rest g name s =
 -- ---- statements
 
 if_read : (n : ℕ) → BlocksMeasured n → {p : Part} (d used : ℕ) (k : Stm → Form p) (v : Tree p) (from : List Token) (m' : Count) (rest : List Token) → length from ≤ n → AreGood from → suc d ≤ depth_limit →
-    Spells all p (part Whole (λ e. word_then word.Then (part Body (λ s. part Else_part (λ t. word_then word.Fi (part Whole (λ f. close (k (If e s t f))))))))) v (count (suc d) used) from m' rest → IsStm k d v from m' rest
+    Spells all p (part Whole (λ e. keyword_then keyword.Then (part Body (λ s. part Else_part (λ t. keyword_then keyword.Fi (part Whole (λ f. close (k (If e s t f))))))))) v (count (suc d) used) from m' rest → IsStm k d v from m' rest
 if_read n known d used k v from m' rest h g few s =
     let e = whole_read (suc d) used _ v from m' rest g s in
     let less = e.shorter in
-    let w = word_behind word.Then _ v _ e.middle m' rest e.good e.onward in
+    let w = keyword_behind keyword.Then _ v _ e.middle m' rest e.good e.onward in
     let less' = w.1 in
     let b = body_read n known (suc d) e.total _ v w.0 m' rest (omega (arith, h, less, less')) w.2 w.3 in
     let less2 = b.shorter in
     let c = optional_read n known Else_part else_is (suc d) b.total _ v b.middle m' rest (omega (arith, h, less, less', less2)) b.good b.onward in
     let less3 = c.shorter in
-    let w2 = word_behind word.Fi _ v _ c.middle m' rest c.good c.onward in
+    let w2 = keyword_behind keyword.Fi _ v _ c.middle m' rest c.good c.onward in
     let less4 = w2.1 in
     let f = whole_read (suc d) c.total (λ f. close (k (If e.tree b.tree c.tree f))) v w2.0 m' rest w2.2 w2.3 in
     let less5 = f.shorter in
@@ -110,7 +110,7 @@ if_read n known d used k v from m' rest h g few s =
     }
 
 loop_read : (n : ℕ) → BlocksMeasured n → {p : Part} (d used : ℕ) (k : Stm → Form p) (v : Tree p) (from : List Token) (m' : Count) (rest : List Token) → length from ≤ n → AreGood from → suc d ≤ depth_limit →
-    Spells all p (part Whole (λ e. part Do_part (λ s. part Loop_part (λ t. word_then word.Until (part Whole (λ f. close (k (Loop e s t f)))))))) v (count (suc d) used) from m' rest → IsStm k d v from m' rest
+    Spells all p (part Whole (λ e. part Do_part (λ s. part Loop_part (λ t. keyword_then keyword.Until (part Whole (λ f. close (k (Loop e s t f)))))))) v (count (suc d) used) from m' rest → IsStm k d v from m' rest
 loop_read n known d used k v from m' rest h g few s =
     let e = whole_read (suc d) used _ v from m' rest g s in
     let less = e.shorter in
@@ -118,7 +118,7 @@ loop_read n known d used k v from m' rest h g few s =
     let less2 = b.shorter in
     let c = optional_read n known Loop_part loop_is (suc d) b.total _ v b.middle m' rest (omega (arith, h, less, less2)) b.good b.onward in
     let less3 = c.shorter in
-    let w2 = word_behind word.Until _ v _ c.middle m' rest c.good c.onward in
+    let w2 = keyword_behind keyword.Until _ v _ c.middle m' rest c.good c.onward in
     let less4 = w2.1 in
     let f = whole_read (suc d) c.total (λ f. close (k (Loop e.tree b.tree c.tree f))) v w2.0 m' rest w2.2 w2.3 in
     let less5 = f.shorter in
@@ -166,15 +166,15 @@ int_read n known d used s from m' rest h g few derivation =
 
 stack_read : (n : ℕ) → BlocksMeasured n → (d used : ℕ) (s : Stm) (from : List Token) (m' : Count) (rest : List Token) → length from ≤ n → AreGood from → suc d ≤ depth_limit → Spells all Local (local_stack done) s (count (suc d) used) from m' rest → IsLocal d s from m' rest
 stack_read n known d used s from m' rest h g few derivation =
-    let x = head_read {p = Local} (λ x. word_then word.Nil (part Body (λ b. delocal_then kind.Stack x (λ y. word_then word.Nil (done (LocalStack x b y)))))) s (count (suc d) used) from m' rest g derivation in
+    let x = head_read {p = Local} (λ x. keyword_then keyword.Nil (part Body (λ b. delocal_then kind.Stack x (λ y. keyword_then keyword.Nil (done (LocalStack x b y)))))) s (count (suc d) used) from m' rest g derivation in
     let less1 = x.shorter in
-    let nil = word_behind {p = Local} word.Nil (part Body (λ b. delocal_then kind.Stack x.name (λ y. word_then word.Nil (done (LocalStack x.name b y))))) s (count (suc d) used) x.middle m' rest x.good x.onward in
+    let nil = keyword_behind {p = Local} keyword.Nil (part Body (λ b. delocal_then kind.Stack x.name (λ y. keyword_then keyword.Nil (done (LocalStack x.name b y))))) s (count (suc d) used) x.middle m' rest x.good x.onward in
     let less2 = nil.1 in
-    let b = body_read n known {p = Local} (suc d) used (λ b. delocal_then kind.Stack x.name (λ y. word_then word.Nil (done (LocalStack x.name b y)))) s nil.0 m' rest (omega (arith, h, less1, less2)) nil.2 nil.3 in
+    let b = body_read n known {p = Local} (suc d) used (λ b. delocal_then kind.Stack x.name (λ y. keyword_then keyword.Nil (done (LocalStack x.name b y)))) s nil.0 m' rest (omega (arith, h, less1, less2)) nil.2 nil.3 in
     let less3 = b.shorter in
-    let y = delocal_read {p = Local} kind.Stack x.name (λ y. word_then word.Nil (done (LocalStack x.name b.tree y))) s (count (suc d) b.total) b.middle m' rest b.good b.onward in
+    let y = delocal_read {p = Local} kind.Stack x.name (λ y. keyword_then keyword.Nil (done (LocalStack x.name b.tree y))) s (count (suc d) b.total) b.middle m' rest b.good b.onward in
     let less4 = y.shorter in
-    let last = word_behind {p = Local} word.Nil (done (LocalStack x.name b.tree y.name)) s (count (suc d) b.total) y.middle m' rest y.good y.onward in
+    let last = keyword_behind {p = Local} keyword.Nil (done (LocalStack x.name b.tree y.name)) s (count (suc d) b.total) y.middle m' rest y.good y.onward in
     let less5 = last.1 in
     let end = inside last.3 in
     let rests = ap length end.rests in
@@ -188,15 +188,15 @@ stack_read n known d used s from m' rest h g few derivation =
 
 local_measured : (n : ℕ) → BlocksMeasured n → (d used : ℕ) (t : Token) (r : Rule Local) (s : Stm) (from : List Token) (m' : Count) (rest : List Token) → length from ≤ n → AreGood from → suc d ≤ depth_limit → rule Local t ≡ Some r →
     Runs r (count (suc d) used) s from m' rest → IsLocal d s from m' rest
-local_measured n known d used (Word_of word.Int at) r s from m' rest h g few is run =
+local_measured n known d used (Keyword_of keyword.Int at) r s from m' rest h g few is run =
     let a : Rule Local = record { opens = 0; counts = 0; is_whole = false; form = local_int done } in
     let here = runs_as a r (count (suc d) used) s from m' rest is run in
     int_read n known d used s from m' rest h g few (recount (suc d + 0) (suc d) (used + 0) used (omega arith) (omega arith) here.1)
-local_measured n known d used (Word_of word.Stack at) r s from m' rest h g few is run =
+local_measured n known d used (Keyword_of keyword.Stack at) r s from m' rest h g few is run =
     let a : Rule Local = record { opens = 0; counts = 0; is_whole = false; form = local_stack done } in
     let here = runs_as a r (count (suc d) used) s from m' rest is run in
     stack_read n known d used s from m' rest h g few (recount (suc d + 0) (suc d) (used + 0) used (omega arith) (omega arith) here.1)
-local_measured n known d used (Word_of _ at) r s from m' rest h g few is run = absurd cc
+local_measured n known d used (Keyword_of _ at) r s from m' rest h g few is run = absurd cc
 local_measured n known d used (Name x at) r s from m' rest h g few is run = absurd cc
 local_measured n known d used (Number i at) r s from m' rest h g few is run = absurd cc
 local_measured n known d used (Sign_of o at) r s from m' rest h g few is run = absurd cc
@@ -233,46 +233,46 @@ stm_read n known {p} d used k v (Name x at) r from m' rest h is g e run =
     let a : Rule p = record { opens = 0; counts = 0; is_whole = false; form = part Target_index (λ i. take An_update (λ u. part Whole (λ e. k (assignment (named x at) i u e)))) } in
     let here = runs_as a r (count d used) v from m' rest e run in
     assignment_read x at d used k v from m' rest g is (recount (d + 0) d (used + 0) used (omega arith) (omega arith) here.1)
-stm_read n known {p} d used k v (Word_of word.If at) r from m' rest h is g e run =
-    let a : Rule p = record { opens = 1; counts = 0; is_whole = false; form = part Whole (λ e. word_then word.Then (part Body (λ s. part Else_part (λ t. word_then word.Fi (part Whole (λ f. close (k (If e s t f)))))))) } in
+stm_read n known {p} d used k v (Keyword_of keyword.If at) r from m' rest h is g e run =
+    let a : Rule p = record { opens = 1; counts = 0; is_whole = false; form = part Whole (λ e. keyword_then keyword.Then (part Body (λ s. part Else_part (λ t. keyword_then keyword.Fi (part Whole (λ f. close (k (If e s t f)))))))) } in
     let here = runs_as a r (count d used) v from m' rest e run in
     let few = few_of (d + 1) (used + 0) here.0 in
     if_read n known d used k v from m' rest h g (omega (arith, few.0)) (recount (d + 1) (suc d) (used + 0) used (omega arith) (omega arith) here.1)
-stm_read n known {p} d used k v (Word_of word.From at) r from m' rest h is g e run =
-    let a : Rule p = record { opens = 1; counts = 0; is_whole = false; form = part Whole (λ e. part Do_part (λ s. part Loop_part (λ t. word_then word.Until (part Whole (λ f. close (k (Loop e s t f))))))) } in
+stm_read n known {p} d used k v (Keyword_of keyword.From at) r from m' rest h is g e run =
+    let a : Rule p = record { opens = 1; counts = 0; is_whole = false; form = part Whole (λ e. part Do_part (λ s. part Loop_part (λ t. keyword_then keyword.Until (part Whole (λ f. close (k (Loop e s t f))))))) } in
     let here = runs_as a r (count d used) v from m' rest e run in
     let few = few_of (d + 1) (used + 0) here.0 in
     loop_read n known d used k v from m' rest h g (omega (arith, few.0)) (recount (d + 1) (suc d) (used + 0) used (omega arith) (omega arith) here.1)
-stm_read n known {p} d used k v (Word_of word.Local at) r from m' rest h is g e run =
+stm_read n known {p} d used k v (Keyword_of keyword.Local at) r from m' rest h is g e run =
     let a : Rule p = record { opens = 1; counts = 0; is_whole = false; form = part Local (λ s. close (k s)) } in
     let here = runs_as a r (count d used) v from m' rest e run in
     let few = few_of (d + 1) (used + 0) here.0 in
     local_read n known d used k v from m' rest h g (omega (arith, few.0)) (recount (d + 1) (suc d) (used + 0) used (omega arith) (omega arith) here.1)
-stm_read n known {p} d used k v (Word_of word.Skip at) r from m' rest h is g e run =
+stm_read n known {p} d used k v (Keyword_of keyword.Skip at) r from m' rest h is g e run =
     let a : Rule p = record { opens = 0; counts = 0; is_whole = false; form = k Skip } in
     let here = runs_as a r (count d used) v from m' rest e run in
     record { tree = Skip; total = used; middle = from; fits = tt; shorter = omega arith; good = g; onward = recount (d + 0) d (used + 0) used (omega arith) (omega arith) here.1 }
-stm_read n known {p} d used k v (Word_of word.Push at) r from m' rest h is g e run =
+stm_read n known {p} d used k v (Keyword_of keyword.Push at) r from m' rest h is g e run =
     let a : Rule p = record { opens = 0; counts = 0; is_whole = false; form = variable_and_stack_then (λ x s. k (Push x s)) } in
     let here = runs_as a r (count d used) v from m' rest e run in
     let s = pair_read (λ x y. k (Push x y)) v (count (d + 0) (used + 0)) from m' rest g here.1 in
     record { tree = Push s.variable s.stack; total = used; middle = s.middle; fits = (s.variable_fits, s.stack_fits); shorter = s.shorter; good = s.good; onward = recount (d + 0) d (used + 0) used (omega arith) (omega arith) s.onward }
-stm_read n known {p} d used k v (Word_of word.Pop at) r from m' rest h is g e run =
+stm_read n known {p} d used k v (Keyword_of keyword.Pop at) r from m' rest h is g e run =
     let a : Rule p = record { opens = 0; counts = 0; is_whole = false; form = variable_and_stack_then (λ x s. k (Pop x s)) } in
     let here = runs_as a r (count d used) v from m' rest e run in
     let s = pair_read (λ x y. k (Pop x y)) v (count (d + 0) (used + 0)) from m' rest g here.1 in
     record { tree = Pop s.variable s.stack; total = used; middle = s.middle; fits = (s.variable_fits, s.stack_fits); shorter = s.shorter; good = s.good; onward = recount (d + 0) d (used + 0) used (omega arith) (omega arith) s.onward }
-stm_read n known {p} d used k v (Word_of word.Call at) r from m' rest h is g e run =
+stm_read n known {p} d used k v (Keyword_of keyword.Call at) r from m' rest h is g e run =
     let a : Rule p = record { opens = 0; counts = 0; is_whole = false; form = call_then (λ f xs. k (Call f xs)) } in
     let here = runs_as a r (count d used) v from m' rest e run in
     let s = call_read d used (λ f xs. k (Call f xs)) v from m' rest g (recount (d + 0) d (used + 0) used (omega arith) (omega arith) here.1) in
     record { tree = Call s.procedure s.arguments; total = used; middle = s.middle; fits = (s.procedure_fits, s.arguments_fit); shorter = s.shorter; good = s.good; onward = s.onward }
-stm_read n known {p} d used k v (Word_of word.Uncall at) r from m' rest h is g e run =
+stm_read n known {p} d used k v (Keyword_of keyword.Uncall at) r from m' rest h is g e run =
     let a : Rule p = record { opens = 0; counts = 0; is_whole = false; form = call_then (λ f xs. k (Uncall f xs)) } in
     let here = runs_as a r (count d used) v from m' rest e run in
     let s = call_read d used (λ f xs. k (Uncall f xs)) v from m' rest g (recount (d + 0) d (used + 0) used (omega arith) (omega arith) here.1) in
     record { tree = Uncall s.procedure s.arguments; total = used; middle = s.middle; fits = (s.procedure_fits, s.arguments_fit); shorter = s.shorter; good = s.good; onward = s.onward }
-stm_read n known d used k v (Word_of _ at) r from m' rest h is g e run = absurd cc
+stm_read n known d used k v (Keyword_of _ at) r from m' rest h is g e run = absurd cc
 stm_read n known d used k v (Number i at) r from m' rest h is g e run = absurd cc
 stm_read n known d used k v (Sign_of s at) r from m' rest h is g e run = absurd cc
 

@@ -4,16 +4,16 @@ use Rattle.janus_meaning.specs.Syntax as plain
 use Rattle.janus_syntax.specs.declared.token.Span.{Span}
 use Rattle.janus_syntax.specs.declared.token.Sign.TheVariants as sign
 use Rattle.janus_syntax.specs.declared.token.Keyword.{Keyword}
-use Rattle.janus_syntax.specs.declared.token.Keyword.TheVariants as word
-use Rattle.janus_syntax.specs.declared.tree.Kind.TheVariants as kind
+use Rattle.janus_syntax.specs.declared.token.Keyword.TheVariants as keyword
+use Rattle.janus_syntax.specs.declared.tree.LocalKind.TheVariants as kind
 use Rattle.janus_syntax.specs.declared.tree.Update.{Update}
 use Rattle.janus_syntax.specs.declared.tree.Update.TheVariants as update
-use Rattle.janus_syntax.specs.Tokens.{Token, Name, Sign_of, Word_of}
+use Rattle.janus_syntax.specs.Tokens.{Token, Name, Sign_of, Keyword_of}
 use Rattle.janus_syntax.specs.Tree.{Name as Named, named, Exp, Stm, Skip, Assign, AssignElement, Push, Pop, If, Loop, LocalInt, LocalStack, Call, Uncall, Block, Empty, More}
-use Rattle.janus_syntax.specs.Forms.{Part, Body, Statements, Else_part, Do_part, Loop_part, Local, Target_index, Whole, Tree, The_word, The_sign, An_update, seen, Form, done, take, part, close}
-use Rattle.janus_syntax.specs.Table.{rule, assignment, word_then, sign_then, variable_and_stack_then, call_then, delocal_then, local_int, local_stack, statement}
+use Rattle.janus_syntax.specs.Forms.{Part, Body, Statements, Else_part, Do_part, Loop_part, Local, Target_index, Whole, Tree, The_keyword, The_sign, An_update, seen, Form, done, take, part, close}
+use Rattle.janus_syntax.specs.Table.{rule, assignment, keyword_then, sign_then, variable_and_stack_then, call_then, delocal_then, local_int, local_stack, statement}
 use Rattle.janus_syntax.specs.Grammar.{depth_limit}
-use Rattle.janus_syntax.specs.Printing.{A_sign, A_word, update_sign, binding_pieces, whole_pieces, stm_pieces, block_pieces}
+use Rattle.janus_syntax.specs.Printing.{A_sign, A_keyword, update_sign, binding_pieces, whole_pieces, stm_pieces, block_pieces}
 use Rattle.janus_syntax.specs.View.{plain_stm, plain_block, update_of}
 use Rattle.janus_printing.proofs.Fits.{FitsWhole, FitsStm, FitsBlock, IsBody}
 use Rattle.janus_printing.proofs.Spelled.{Spelled, in_two}
@@ -76,12 +76,12 @@ assign_element_again x place i u e d ts rest h few fits_i fits_e (at, t1, e1, (o
 
 -- ---- the parts of `if` and loops
 
--- a body behind a word
-optional_to : {p q : Part} (w : Keyword) (at : Span) (from_block : Block → Tree q) (k : Tree q → Form p) (b : Block) (d d' : ℕ) (v : Tree p) (ts t1 rest end : List Token) → d ≤ depth_limit → ts ≡ Word_of w at ∷ t1 →
-    rule q (Word_of w at) ≡ Some (record { opens = 0; counts = 0; is_whole = false; form = part Body (λ c. done (from_block c)) }) → IsBody b → (r : BlockAgain b d t1 rest) → SpellsTo (k (from_block r.again)) v d rest d' end → SpellsTo (part q k) v d ts d' end
+-- a body behind a keyword
+optional_to : {p q : Part} (w : Keyword) (at : Span) (from_block : Block → Tree q) (k : Tree q → Form p) (b : Block) (d d' : ℕ) (v : Tree p) (ts t1 rest end : List Token) → d ≤ depth_limit → ts ≡ Keyword_of w at ∷ t1 →
+    rule q (Keyword_of w at) ≡ Some (record { opens = 0; counts = 0; is_whole = false; form = part Body (λ c. done (from_block c)) }) → IsBody b → (r : BlockAgain b d t1 rest) → SpellsTo (k (from_block r.again)) v d rest d' end → SpellsTo (part q k) v d ts d' end
 optional_to {p} {q} w at from_block k b d d' v ts t1 rest end h e is body r onward =
     part_to k (from_block r.again) v d d d' ts rest end
-    (begins_to (rule q) (part Body (λ c. done (from_block c))) (from_block r.again) d d (Word_of w at) ts t1 rest e is h
+    (begins_to (rule q) (part Body (λ c. done (from_block c))) (from_block r.again) d d (Keyword_of w at) ts t1 rest e is h
     (r.body body {p = q} (λ c. done (from_block c)) (from_block r.again) d rest (done_to {p = q} (from_block r.again) d rest)))
     onward
 
@@ -91,11 +91,11 @@ BlockReads b = (d : ℕ) (ts rest : List Token) → d ≤ depth_limit → FitsBl
 
 if_again : (e : Exp) (s t : Block) (f : Exp) → BlockReads s → BlockReads t → (d : ℕ) (ts rest : List Token) → d ≤ depth_limit → FitsStm (If e s t f) d → Spelled (stm_pieces (If e s t f)) ts rest → StmAgain (If e s t f) d ts rest
 if_again e s t f reads_s reads_t d ts rest h (few, fits_e, fits_s, fits_t, fits_f) (at, t1, e1, p1) =
-    let c1 = in_two (whole_pieces e) (A_word word.Then ∷ (block_pieces s ++ A_word word.Else ∷ (block_pieces t ++ A_word word.Fi ∷ whole_pieces f))) t1 rest p1 in
+    let c1 = in_two (whole_pieces e) (A_keyword keyword.Then ∷ (block_pieces s ++ A_keyword keyword.Else ∷ (block_pieces t ++ A_keyword keyword.Fi ∷ whole_pieces f))) t1 rest p1 in
     let then_at = c1.2 in
-    let c2 = in_two (block_pieces s) (A_word word.Else ∷ (block_pieces t ++ A_word word.Fi ∷ whole_pieces f)) then_at.1 rest then_at.3 in
+    let c2 = in_two (block_pieces s) (A_keyword keyword.Else ∷ (block_pieces t ++ A_keyword keyword.Fi ∷ whole_pieces f)) then_at.1 rest then_at.3 in
     let else_at = c2.2 in
-    let c3 = in_two (block_pieces t) (A_word word.Fi ∷ whole_pieces f) else_at.1 rest else_at.3 in
+    let c3 = in_two (block_pieces t) (A_keyword keyword.Fi ∷ whole_pieces f) else_at.1 rest else_at.3 in
     let fi_at = c3.2 in
     let re = whole_again e (suc d) t1 c1.0 few fits_e c1.1 in
     let rs = reads_s (suc d) then_at.1 c2.0 few fits_s.1 c2.1 in
@@ -105,22 +105,22 @@ if_again e s t f reads_s reads_t d ts rest h (few, fits_e, fits_s, fits_t, fits_
       again = If re.again rs.again rt.again rf.again;
       same = (λ n. plain.If (re.same n) (rs.same n) (rt.same n) (rf.same n));
       starts = λ {p} k v d' end onward.
-          opens_to (λ x. statement x k) (part Whole (λ a. word_then word.Then (part Body (λ b. part Else_part (λ c. word_then word.Fi (part Whole (λ g. close (k (If a b c g))))))))) v d d' (Word_of word.If at) ts t1 end e1 refl few
-          (re.spells (λ a. word_then word.Then (part Body (λ b. part Else_part (λ c. word_then word.Fi (part Whole (λ g. close (k (If a b c g)))))))) v d' end
-          (token_to (The_word word.Then) (λ z. part Body (λ b. part Else_part (λ c. word_then word.Fi (part Whole (λ g. close (k (If re.again b c g))))))) tt v (suc d) d' (Word_of word.Then then_at.0) c1.0 then_at.1 end then_at.2 refl
-          (rs.body fits_s.0 (λ b. part Else_part (λ c. word_then word.Fi (part Whole (λ g. close (k (If re.again b c g)))))) v d' end
-          (optional_to {q = Else_part} word.Else else_at.0 (λ b. b) (λ c. word_then word.Fi (part Whole (λ g. close (k (If re.again rs.again c g))))) t (suc d) d' v c2.0 else_at.1 c3.0 end few else_at.2 refl fits_t.0 rt
-          (token_to (The_word word.Fi) (λ z. part Whole (λ g. close (k (If re.again rs.again rt.again g)))) tt v (suc d) d' (Word_of word.Fi fi_at.0) c3.0 fi_at.1 end fi_at.2 refl
+          opens_to (λ x. statement x k) (part Whole (λ a. keyword_then keyword.Then (part Body (λ b. part Else_part (λ c. keyword_then keyword.Fi (part Whole (λ g. close (k (If a b c g))))))))) v d d' (Keyword_of keyword.If at) ts t1 end e1 refl few
+          (re.spells (λ a. keyword_then keyword.Then (part Body (λ b. part Else_part (λ c. keyword_then keyword.Fi (part Whole (λ g. close (k (If a b c g)))))))) v d' end
+          (token_to (The_keyword keyword.Then) (λ z. part Body (λ b. part Else_part (λ c. keyword_then keyword.Fi (part Whole (λ g. close (k (If re.again b c g))))))) tt v (suc d) d' (Keyword_of keyword.Then then_at.0) c1.0 then_at.1 end then_at.2 refl
+          (rs.body fits_s.0 (λ b. part Else_part (λ c. keyword_then keyword.Fi (part Whole (λ g. close (k (If re.again b c g)))))) v d' end
+          (optional_to {q = Else_part} keyword.Else else_at.0 (λ b. b) (λ c. keyword_then keyword.Fi (part Whole (λ g. close (k (If re.again rs.again c g))))) t (suc d) d' v c2.0 else_at.1 c3.0 end few else_at.2 refl fits_t.0 rt
+          (token_to (The_keyword keyword.Fi) (λ z. part Whole (λ g. close (k (If re.again rs.again rt.again g)))) tt v (suc d) d' (Keyword_of keyword.Fi fi_at.0) c3.0 fi_at.1 end fi_at.2 refl
           (rf.spells (λ g. close (k (If re.again rs.again rt.again g))) v d' end (close_to (k (If re.again rs.again rt.again rf.again)) v d d' rest end onward)))))));
     }
 
 loop_again : (e : Exp) (s t : Block) (f : Exp) → BlockReads s → BlockReads t → (d : ℕ) (ts rest : List Token) → d ≤ depth_limit → FitsStm (Loop e s t f) d → Spelled (stm_pieces (Loop e s t f)) ts rest → StmAgain (Loop e s t f) d ts rest
 loop_again e s t f reads_s reads_t d ts rest h (few, fits_e, fits_s, fits_t, fits_f) (at, t1, e1, p1) =
-    let c1 = in_two (whole_pieces e) (A_word word.Do ∷ (block_pieces s ++ A_word word.Loop ∷ (block_pieces t ++ A_word word.Until ∷ whole_pieces f))) t1 rest p1 in
+    let c1 = in_two (whole_pieces e) (A_keyword keyword.Do ∷ (block_pieces s ++ A_keyword keyword.Loop ∷ (block_pieces t ++ A_keyword keyword.Until ∷ whole_pieces f))) t1 rest p1 in
     let do_at = c1.2 in
-    let c2 = in_two (block_pieces s) (A_word word.Loop ∷ (block_pieces t ++ A_word word.Until ∷ whole_pieces f)) do_at.1 rest do_at.3 in
+    let c2 = in_two (block_pieces s) (A_keyword keyword.Loop ∷ (block_pieces t ++ A_keyword keyword.Until ∷ whole_pieces f)) do_at.1 rest do_at.3 in
     let loop_at = c2.2 in
-    let c3 = in_two (block_pieces t) (A_word word.Until ∷ whole_pieces f) loop_at.1 rest loop_at.3 in
+    let c3 = in_two (block_pieces t) (A_keyword keyword.Until ∷ whole_pieces f) loop_at.1 rest loop_at.3 in
     let until_at = c3.2 in
     let re = whole_again e (suc d) t1 c1.0 few fits_e c1.1 in
     let rs = reads_s (suc d) do_at.1 c2.0 few fits_s.1 c2.1 in
@@ -130,19 +130,19 @@ loop_again e s t f reads_s reads_t d ts rest h (few, fits_e, fits_s, fits_t, fit
       again = Loop re.again rs.again rt.again rf.again;
       same = (λ n. plain.From (re.same n) (rs.same n) (rt.same n) (rf.same n));
       starts = λ {p} k v d' end onward.
-          opens_to (λ x. statement x k) (part Whole (λ a. part Do_part (λ b. part Loop_part (λ c. word_then word.Until (part Whole (λ g. close (k (Loop a b c g)))))))) v d d' (Word_of word.From at) ts t1 end e1 refl few
-          (re.spells (λ a. part Do_part (λ b. part Loop_part (λ c. word_then word.Until (part Whole (λ g. close (k (Loop a b c g))))))) v d' end
-          (optional_to {q = Do_part} word.Do do_at.0 (λ b. b) (λ b. part Loop_part (λ c. word_then word.Until (part Whole (λ g. close (k (Loop re.again b c g)))))) s (suc d) d' v c1.0 do_at.1 c2.0 end few do_at.2 refl fits_s.0 rs
-          (optional_to {q = Loop_part} word.Loop loop_at.0 (λ b. b) (λ c. word_then word.Until (part Whole (λ g. close (k (Loop re.again rs.again c g))))) t (suc d) d' v c2.0 loop_at.1 c3.0 end few loop_at.2 refl fits_t.0 rt
-          (token_to (The_word word.Until) (λ z. part Whole (λ g. close (k (Loop re.again rs.again rt.again g)))) tt v (suc d) d' (Word_of word.Until until_at.0) c3.0 until_at.1 end until_at.2 refl
+          opens_to (λ x. statement x k) (part Whole (λ a. part Do_part (λ b. part Loop_part (λ c. keyword_then keyword.Until (part Whole (λ g. close (k (Loop a b c g)))))))) v d d' (Keyword_of keyword.From at) ts t1 end e1 refl few
+          (re.spells (λ a. part Do_part (λ b. part Loop_part (λ c. keyword_then keyword.Until (part Whole (λ g. close (k (Loop a b c g))))))) v d' end
+          (optional_to {q = Do_part} keyword.Do do_at.0 (λ b. b) (λ b. part Loop_part (λ c. keyword_then keyword.Until (part Whole (λ g. close (k (Loop re.again b c g)))))) s (suc d) d' v c1.0 do_at.1 c2.0 end few do_at.2 refl fits_s.0 rs
+          (optional_to {q = Loop_part} keyword.Loop loop_at.0 (λ b. b) (λ c. keyword_then keyword.Until (part Whole (λ g. close (k (Loop re.again rs.again c g))))) t (suc d) d' v c2.0 loop_at.1 c3.0 end few loop_at.2 refl fits_t.0 rt
+          (token_to (The_keyword keyword.Until) (λ z. part Whole (λ g. close (k (Loop re.again rs.again rt.again g)))) tt v (suc d) d' (Keyword_of keyword.Until until_at.0) c3.0 until_at.1 end until_at.2 refl
           (rf.spells (λ g. close (k (Loop re.again rs.again rt.again g))) v d' end (close_to (k (Loop re.again rs.again rt.again rf.again)) v d d' rest end onward))))));
     }
 
 local_int_again : (x : List ℕ) (place : Span) (e : Exp) (s : Block) (y : List ℕ) (at : Span) (f : Exp) → BlockReads s → (d : ℕ) (ts rest : List Token) → FitsStm (LocalInt (named x place) e s (named y at) f) d →
     Spelled (stm_pieces (LocalInt (named x place) e s (named y at) f)) ts rest → StmAgain (LocalInt (named x place) e s (named y at) f) d ts rest
 local_int_again x place e s y at f reads_s d ts rest (few, name, fits_e, fits_s, again_y, fits_f) (on, t1, e1, (on_kind, t2, e2, (of_x, t3, e3, (equals, t4, e4, p1)))) =
-    let c1 = in_two (whole_pieces e) (block_pieces s ++ (binding_pieces word.Delocal word.Int y ++ whole_pieces f)) t4 rest p1 in
-    let c2 = in_two (block_pieces s) (binding_pieces word.Delocal word.Int y ++ whole_pieces f) c1.0 rest c1.2 in
+    let c1 = in_two (whole_pieces e) (block_pieces s ++ (binding_pieces keyword.Delocal keyword.Int y ++ whole_pieces f)) t4 rest p1 in
+    let c2 = in_two (block_pieces s) (binding_pieces keyword.Delocal keyword.Int y ++ whole_pieces f) c1.0 rest c1.2 in
     let (off, t5, e5, q1) = c2.2 in
     let (off_kind, t6, e6, q2) = q1 in
     let (of_y, t7, e7, q3) = q2 in
@@ -155,9 +155,9 @@ local_int_again x place e s y at f reads_s d ts rest (few, name, fits_e, fits_s,
       again = w;
       same = (λ n. plain.LocalInt x (re.same n) (rs.same n) (rf.same n));
       starts = λ {p} k v d' end onward.
-          opens_to (λ t. statement t k) (part Local (λ b. close (k b))) v d d' (Word_of word.Local on) ts t1 end e1 refl few
+          opens_to (λ t. statement t k) (part Local (λ b. close (k b))) v d d' (Keyword_of keyword.Local on) ts t1 end e1 refl few
           (part_to {q = Local} (λ b. close (k b)) w v (suc d) (suc d) d' t1 rest end
-          (begins_to (rule Local) (local_int done) w (suc d) (suc d) (Word_of word.Int on_kind) t1 t2 rest e2 refl few
+          (begins_to (rule Local) (local_int done) w (suc d) (suc d) (Keyword_of keyword.Int on_kind) t1 t2 rest e2 refl few
           (head_to {p = Local} (λ a. part Whole (λ b. part Body (λ c. delocal_then kind.Int a (λ z. part Whole (λ g. done (LocalInt a b c z g)))))) x w (suc d) (suc d) of_x equals t2 t3 t4 rest e3 e4
           (re.spells {p = Local} (λ b. part Body (λ c. delocal_then kind.Int (named x of_x) (λ z. part Whole (λ g. done (LocalInt (named x of_x) b c z g))))) w (suc d) rest
           (rs.body fits_s.0 {p = Local} (λ c. delocal_then kind.Int (named x of_x) (λ z. part Whole (λ g. done (LocalInt (named x of_x) re.again c z g)))) w (suc d) rest
@@ -169,7 +169,7 @@ local_int_again x place e s y at f reads_s d ts rest (few, name, fits_e, fits_s,
 local_stack_again : (x : List ℕ) (place : Span) (s : Block) (y : List ℕ) (at : Span) → BlockReads s → (d : ℕ) (ts rest : List Token) → FitsStm (LocalStack (named x place) s (named y at)) d →
     Spelled (stm_pieces (LocalStack (named x place) s (named y at))) ts rest → StmAgain (LocalStack (named x place) s (named y at)) d ts rest
 local_stack_again x place s y at reads_s d ts rest (few, name, fits_s, again_y) (on, t1, e1, (on_kind, t2, e2, (of_x, t3, e3, (equals, t4, e4, (on_nil, t5, e5, p1))))) =
-    let c = in_two (block_pieces s) (binding_pieces word.Delocal word.Stack y ++ A_word word.Nil ∷ []) t5 rest p1 in
+    let c = in_two (block_pieces s) (binding_pieces keyword.Delocal keyword.Stack y ++ A_keyword keyword.Nil ∷ []) t5 rest p1 in
     let (off, t6, e6, q1) = c.2 in
     let (off_kind, t7, e7, q2) = q1 in
     let (of_y, t8, e8, q3) = q2 in
@@ -181,14 +181,14 @@ local_stack_again x place s y at reads_s d ts rest (few, name, fits_s, again_y) 
       again = w;
       same = (λ n. plain.LocalStack x (rs.same n));
       starts = λ {p} k v d' end onward.
-          opens_to (λ t. statement t k) (part Local (λ b. close (k b))) v d d' (Word_of word.Local on) ts t1 end e1 refl few
+          opens_to (λ t. statement t k) (part Local (λ b. close (k b))) v d d' (Keyword_of keyword.Local on) ts t1 end e1 refl few
           (part_to {q = Local} (λ b. close (k b)) w v (suc d) (suc d) d' t1 rest end
-          (begins_to (rule Local) (local_stack done) w (suc d) (suc d) (Word_of word.Stack on_kind) t1 t2 rest e2 refl few
-          (head_to {p = Local} (λ a. word_then word.Nil (part Body (λ b. delocal_then kind.Stack a (λ z. word_then word.Nil (done (LocalStack a b z)))))) x w (suc d) (suc d) of_x equals t2 t3 t4 rest e3 e4
-          (token_to {p = Local} (The_word word.Nil) (λ u. part Body (λ b. delocal_then kind.Stack (named x of_x) (λ z. word_then word.Nil (done (LocalStack (named x of_x) b z))))) tt w (suc d) (suc d) (Word_of word.Nil on_nil) t4 t5 rest e5 refl
-          (rs.body fits_s.0 {p = Local} (λ b. delocal_then kind.Stack (named x of_x) (λ z. word_then word.Nil (done (LocalStack (named x of_x) b z)))) w (suc d) rest
-          (delocal_to {p = Local} kind.Stack (λ z. word_then word.Nil (done (LocalStack (named x of_x) rs.again z))) x y of_x w (suc d) (suc d) off off_kind of_y equals_again c.0 t6 t7 t8 t9 rest e6 e7 e8 e9 again_y.1
-          (token_to {p = Local} (The_word word.Nil) (λ u. done w) tt w (suc d) (suc d) (Word_of word.Nil off_nil) t9 rest rest (e10 ∙ ap (λ l. Word_of word.Nil off_nil ∷ l) last) refl (done_to {p = Local} w (suc d) rest)))))))
+          (begins_to (rule Local) (local_stack done) w (suc d) (suc d) (Keyword_of keyword.Stack on_kind) t1 t2 rest e2 refl few
+          (head_to {p = Local} (λ a. keyword_then keyword.Nil (part Body (λ b. delocal_then kind.Stack a (λ z. keyword_then keyword.Nil (done (LocalStack a b z)))))) x w (suc d) (suc d) of_x equals t2 t3 t4 rest e3 e4
+          (token_to {p = Local} (The_keyword keyword.Nil) (λ u. part Body (λ b. delocal_then kind.Stack (named x of_x) (λ z. keyword_then keyword.Nil (done (LocalStack (named x of_x) b z))))) tt w (suc d) (suc d) (Keyword_of keyword.Nil on_nil) t4 t5 rest e5 refl
+          (rs.body fits_s.0 {p = Local} (λ b. delocal_then kind.Stack (named x of_x) (λ z. keyword_then keyword.Nil (done (LocalStack (named x of_x) b z)))) w (suc d) rest
+          (delocal_to {p = Local} kind.Stack (λ z. keyword_then keyword.Nil (done (LocalStack (named x of_x) rs.again z))) x y of_x w (suc d) (suc d) off off_kind of_y equals_again c.0 t6 t7 t8 t9 rest e6 e7 e8 e9 again_y.1
+          (token_to {p = Local} (The_keyword keyword.Nil) (λ u. done w) tt w (suc d) (suc d) (Keyword_of keyword.Nil off_nil) t9 rest rest (e10 ∙ ap (λ l. Keyword_of keyword.Nil off_nil ∷ l) last) refl (done_to {p = Local} w (suc d) rest)))))))
           (close_to (k w) v d d' rest end onward));
     }
 
@@ -198,7 +198,7 @@ skip_again : (d : ℕ) (ts rest : List Token) → d ≤ depth_limit → Spelled 
 skip_again d ts rest h (at, more, e, s) = record {
   again = Skip;
   same = refl;
-  starts = λ {p} k v d' end onward. begins_to (λ t. statement t k) (k Skip) v d d' (Word_of word.Skip at) ts rest end (e ∙ ap (λ x. Word_of word.Skip at ∷ x) s) refl h onward;
+  starts = λ {p} k v d' end onward. begins_to (λ t. statement t k) (k Skip) v d d' (Keyword_of keyword.Skip at) ts rest end (e ∙ ap (λ x. Keyword_of keyword.Skip at ∷ x) s) refl h onward;
 }
 
 push_again : (x s : List ℕ) (at place : Span) (d : ℕ) (ts rest : List Token) → d ≤ depth_limit → Spelled (stm_pieces (Push (named x at) (named s place))) ts rest → StmAgain (Push (named x at) (named s place)) d ts rest
@@ -206,7 +206,7 @@ push_again x s at place d ts rest h (on, t1, e1, (opened, t2, e2, (of_x, t3, e3,
   again = Push (named x of_x) (named s of_s);
   same = refl;
   starts = λ {p} k v d' end onward.
-      begins_to (λ t. statement t k) (variable_and_stack_then (λ a b. k (Push a b))) v d d' (Word_of word.Push on) ts t1 end e1 refl h
+      begins_to (λ t. statement t k) (variable_and_stack_then (λ a b. k (Push a b))) v d d' (Keyword_of keyword.Push on) ts t1 end e1 refl h
       (pair_to (λ a b. k (Push a b)) x s v d d' opened of_x comma of_s shut t1 t2 t3 t4 t5 rest end e2 e3 e4 e5 (e6 ∙ ap (λ l. Sign_of sign.Close shut ∷ l) last) onward);
 }
 
@@ -215,7 +215,7 @@ pop_again x s at place d ts rest h (on, t1, e1, (opened, t2, e2, (of_x, t3, e3, 
   again = Pop (named x of_x) (named s of_s);
   same = refl;
   starts = λ {p} k v d' end onward.
-      begins_to (λ t. statement t k) (variable_and_stack_then (λ a b. k (Pop a b))) v d d' (Word_of word.Pop on) ts t1 end e1 refl h
+      begins_to (λ t. statement t k) (variable_and_stack_then (λ a b. k (Pop a b))) v d d' (Keyword_of keyword.Pop on) ts t1 end e1 refl h
       (pair_to (λ a b. k (Pop a b)) x s v d d' opened of_x comma of_s shut t1 t2 t3 t4 t5 rest end e2 e3 e4 e5 (e6 ∙ ap (λ l. Sign_of sign.Close shut ∷ l) last) onward);
 }
 
@@ -226,7 +226,7 @@ calls_again f at xs d ts rest h (on, t1, e1, s) =
       again = Call (named f r.place) r.again;
       same = ap (plain.Call f) r.same;
       starts = λ {p} k v d' end onward.
-          begins_to (λ t. statement t k) (call_then (λ g ys. k (Call g ys))) v d d' (Word_of word.Call on) ts t1 end e1 refl h
+          begins_to (λ t. statement t k) (call_then (λ g ys. k (Call g ys))) v d d' (Keyword_of keyword.Call on) ts t1 end e1 refl h
           (r.spells (λ g ys. k (Call g ys)) v d' end onward);
     }
 
@@ -237,7 +237,7 @@ uncalls_again f at xs d ts rest h (on, t1, e1, s) =
       again = Uncall (named f r.place) r.again;
       same = ap (plain.Uncall f) r.same;
       starts = λ {p} k v d' end onward.
-          begins_to (λ t. statement t k) (call_then (λ g ys. k (Uncall g ys))) v d d' (Word_of word.Uncall on) ts t1 end e1 refl h
+          begins_to (λ t. statement t k) (call_then (λ g ys. k (Uncall g ys))) v d d' (Keyword_of keyword.Uncall on) ts t1 end e1 refl h
           (r.spells (λ g ys. k (Uncall g ys)) v d' end onward);
     }
 

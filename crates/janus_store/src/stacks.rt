@@ -7,16 +7,11 @@ ghost use Rattle.janus_meaning.specs.Limit.{live_stack_limit, stack_limit};
 ghost use Rattle.janus_meaning.specs.Store.{cleared_val};
 ghost use Rattle.janus_store.specs.Stacks.{list_of, AreFresh};
 
+use crate::limit::CELL_LIMIT;
 use cell_pool::{Pool, Values};
-use janus_meaning::limit::LIVE_STACK_LIMIT;
+use janus_meaning::limit::{LIVE_STACK_LIMIT, STACK_VALUE_LIMIT};
 use std::alloc::{AllocError, Global};
 use std::marker::Model;
-
-/// The most values on one stack.
-pub(crate) const STACK_VALUE_LIMIT: usize = 4096;
-
-/// The most values on all stacks together.
-const CELL_LIMIT: u32 = 262_144;
 
 /// The stacks by their numbers in one pool of cells. Contracts see the values of each, and the numbers that no name has: those are empty.
 #[derive(Drop)]

@@ -18,23 +18,15 @@ ghost use Rattle.janus_store.specs.Stores.{IsFirstOnTop, IsNumber, IsArray, IsSt
 ghost use Rattle.janus_store.specs.declared.store.Variable.{Variable};
 ghost use Rattle.janus_store.specs.Inside.{newest_from, none_of, AreHidden, AreRow, AreBelow, HavePlaces, IsPlaceOf, IsStackOf, bounds, lent_to, stacks_of};
 
+use crate::limit::{BOUND_LIMIT, CALL_LIMIT, LOCAL_LIMIT};
 use crate::stacks::Stacks;
-use crate::value::{Declared, Value, View};
+use crate::value::{Declared, Value, ValueView};
 use crate::writes::Writes;
 use janus_meaning::limit::NAME_LIMIT;
 use janus_names::Names;
 use std::alloc::{AllocError, Global};
 use std::marker::{Model, PhantomData};
 use std::sync::ledger::Ledger;
-
-/// The most locals that may be open.
-const LOCAL_LIMIT: usize = 16_384;
-
-/// The most calls that may be open.
-const CALL_LIMIT: usize = 16_384;
-
-/// The most parameters that may be bound at once: 16 for each call.
-const BOUND_LIMIT: usize = 262_144;
 
 /// A name with its value.
 #[derive(Drop)]
@@ -137,7 +129,7 @@ impl<L: Ledger> Store<L> {
     }
 
     /// The value of a name, if it is declared; locals and parameters are out of this sight.
-    pub fn value(&self, name: &str) -> Option<View<'_>>
+    pub fn value(&self, name: &str) -> Option<ValueView<'_>>
         ensures { found result ≡ look name.now (shown_store self.now) }
     {
         let Some(number) = self.names.number(name) else {
@@ -151,7 +143,7 @@ impl<L: Ledger> Store<L> {
     }
 
     /// The i-th name in the order of declaration, the oldest being 0, with its value.
-    pub fn entry(&self, i: usize) -> (&str, View<'_>)
+    pub fn entry(&self, i: usize) -> (&str, ValueView<'_>)
         requires { i < size_of (shown_store self.now) }
         ensures { slice_get (listed (shown_store self.now)) i ≡ Some (result.0.now, shown result.1) }
     {
@@ -583,7 +575,7 @@ fn remove(newest: &mut Vec<usize>, variables: &mut Vec<Variable>) -> Variable
     }
 }
 
-/// Takes the last variables away, so many.
+/// Takes the last `count` variables away.
 fn remove_many(newest: &mut Vec<usize>, variables: &mut Vec<Variable>, count: usize)
     requires some { count ≤ vec_len variables.old }
     requires newest { (xs : List Name) × AreRow xs newest.old.items variables.old.items }

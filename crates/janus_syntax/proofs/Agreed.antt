@@ -2,11 +2,11 @@
 use Rattle.std.proofs.Common.{◌≡◌, Option, Some, None, Bool, true, false, cond, refl, ap, subst, ◌∙◌}
 use Rattle.janus_syntax.specs.declared.token.Span.{Span}
 use Rattle.janus_syntax.specs.declared.token.Keyword.{Keyword}
-use Rattle.janus_syntax.specs.declared.token.Keyword.TheVariants as word
-use Rattle.janus_syntax.specs.declared.tree.Kind.{Kind}
-use Rattle.janus_syntax.specs.declared.tree.Kind.TheVariants as kind
-use Rattle.janus_syntax.specs.Tokens.{Token, Word_of}
-use Rattle.janus_syntax.specs.Forms.{Class, Seen, seen, agrees, The_word, The_sign, A_name, A_number, An_update, Same_kind, Same_name}
+use Rattle.janus_syntax.specs.declared.token.Keyword.TheVariants as keyword
+use Rattle.janus_syntax.specs.declared.tree.LocalKind.{LocalKind}
+use Rattle.janus_syntax.specs.declared.tree.LocalKind.TheVariants as kind
+use Rattle.janus_syntax.specs.Tokens.{Token, Keyword_of}
+use Rattle.janus_syntax.specs.Forms.{Class, Seen, seen, agrees, The_keyword, The_sign, A_name, A_number, An_update, Same_kind, Same_name}
 
 abbrev pub the_one : (c : Class) → Option (Seen c) → Option (Seen c)
 the_one c None = None
@@ -27,7 +27,7 @@ one_of c None s e = absurd cc
 one_of c (Some v) s e = one_tested c v s (agrees c v) refl e
 
 pub agreed_is : (c : Class) (t : Token) (s : Seen c) → agreed c t ≡ Some s → (seen c t ≡ Some s) × (agrees c s ≡ true)
-agreed_is (The_word w) t s e = (e, refl)
+agreed_is (The_keyword w) t s e = (e, refl)
 agreed_is (The_sign r) t s e = (e, refl)
 agreed_is A_name t s e = (e, refl)
 agreed_is A_number t s e = (e, refl)
@@ -39,7 +39,7 @@ is_the_one : (c : Class) (o : Option (Seen c)) (s : Seen c) → o ≡ Some s →
 is_the_one c o s is fit = ap (the_one c) is ∙ ap (λ b. cond b (Some s) None) fit
 
 pub is_agreed : (c : Class) (t : Token) (s : Seen c) → seen c t ≡ Some s → agrees c s ≡ true → agreed c t ≡ Some s
-is_agreed (The_word w) t s is fit = is
+is_agreed (The_keyword w) t s is fit = is
 is_agreed (The_sign r) t s is fit = is
 is_agreed A_name t s is fit = is
 is_agreed A_number t s is fit = is
@@ -47,11 +47,11 @@ is_agreed An_update t s is fit = is
 is_agreed (Same_kind j) t s is fit = is_the_one (Same_kind j) (seen (Same_kind j) t) s is fit
 is_agreed (Same_name x) t s is fit = is_the_one (Same_name x) (seen (Same_name x) t) s is fit
 
--- the word of a kind
-abbrev pub kind_word : Kind → Keyword
-kind_word kind.Int = word.Int
-kind_word kind.Stack = word.Stack
+-- the keyword of a kind
+abbrev pub kind_keyword : LocalKind → Keyword
+kind_keyword kind.Int = keyword.Int
+kind_keyword kind.Stack = keyword.Stack
 
-pub kind_agreed : (j : Kind) (at : Span) → agreed (Same_kind j) (Word_of (kind_word j) at) ≡ Some j
+pub kind_agreed : (j : LocalKind) (at : Span) → agreed (Same_kind j) (Keyword_of (kind_keyword j) at) ≡ Some j
 kind_agreed kind.Int at = refl
 kind_agreed kind.Stack at = refl

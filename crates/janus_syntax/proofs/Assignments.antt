@@ -2,9 +2,9 @@
 use Rattle.std.proofs.Common.{◌≡◌, ℕ, suc, ◌+◌, ◌<◌, ◌≤◌, List, ◌∷◌, length, Option, Some, None, refl, ap, sym, subst, ◌∙◌, arith}
 use Rattle.janus_syntax.specs.declared.token.Span.{Span}
 use Rattle.janus_syntax.specs.declared.token.Sign.TheVariants as sign
-use Rattle.janus_syntax.specs.declared.token.Keyword.TheVariants as word
+use Rattle.janus_syntax.specs.declared.token.Keyword.TheVariants as keyword
 use Rattle.janus_syntax.specs.declared.tree.Update.{Update}
-use Rattle.janus_syntax.specs.Tokens.{Token, Name, Sign_of, Word_of}
+use Rattle.janus_syntax.specs.Tokens.{Token, Name, Sign_of, Keyword_of}
 use Rattle.janus_syntax.specs.Tree.{Name as Named, named, Exp, Stm, Skip, Assign, AssignElement, Push, Pop}
 use Rattle.janus_syntax.specs.Forms.{Part, Target_index, Whole, The_sign, An_update, Form, done, take, part, close}
 use Rattle.janus_syntax.specs.Table.{sign_then, variable_and_stack_then, assignment}
@@ -132,10 +132,10 @@ name_begins x place {d} {s} {rest} {after} room i =
 pub name_stops : (x : List ℕ) (place : Span) (d : ℕ) (rest : List Token) (r : Refusal) → d ≤ depth_limit → FailsAssignment d (named x place) rest r → FailsStm d (Name x place ∷ rest) r
 name_stops x place d rest r room f = record { begins = refl; stops = λ g p k S u h. begun_plain (assignment_form (named x place) k) S d u rest room h ∙ f p k g S u h }
 
-pub skip_is : (place : Span) (d : ℕ) (rest : List Token) → d ≤ depth_limit → IsStm d Skip (Word_of word.Skip place ∷ rest) rest
+pub skip_is : (place : Span) (d : ℕ) (rest : List Token) → d ≤ depth_limit → IsStm d Skip (Keyword_of keyword.Skip place ∷ rest) rest
 skip_is place d rest room = record { begins = refl; goes = λ g p k S u h. (u, h, begun_plain (k Skip) S d u rest room h); shorter = omega arith }
 
-pub push_is : (place : Span) (d : ℕ) {x s : Named} {rest after : List Token} → d ≤ depth_limit → IsVariableAndStack x s rest after → IsStm d (Push x s) (Word_of word.Push place ∷ rest) after
+pub push_is : (place : Span) (d : ℕ) {x s : Named} {rest after : List Token} → d ≤ depth_limit → IsVariableAndStack x s rest after → IsStm d (Push x s) (Keyword_of keyword.Push place ∷ rest) after
 push_is place d {x} {s} {rest} room i =
     record {
       begins = refl;
@@ -143,11 +143,11 @@ push_is place d {x} {s} {rest} room i =
       shorter = let y = i.shorter in omega (arith, y);
     }
 
-pub push_stops : (place : Span) (d : ℕ) (rest : List Token) (r : Refusal) → d ≤ depth_limit → FailsVariableAndStack rest r → FailsStm d (Word_of word.Push place ∷ rest) r
+pub push_stops : (place : Span) (d : ℕ) (rest : List Token) (r : Refusal) → d ≤ depth_limit → FailsVariableAndStack rest r → FailsStm d (Keyword_of keyword.Push place ∷ rest) r
 push_stops place d rest r room f =
     record { begins = refl; stops = λ g p k S u h. begun_plain (variable_and_stack_then (λ y t. k (Push y t))) S d u rest room h ∙ f g p (λ y t. k (Push y t)) S (count d u) }
 
-pub pop_is : (place : Span) (d : ℕ) {x s : Named} {rest after : List Token} → d ≤ depth_limit → IsVariableAndStack x s rest after → IsStm d (Pop x s) (Word_of word.Pop place ∷ rest) after
+pub pop_is : (place : Span) (d : ℕ) {x s : Named} {rest after : List Token} → d ≤ depth_limit → IsVariableAndStack x s rest after → IsStm d (Pop x s) (Keyword_of keyword.Pop place ∷ rest) after
 pop_is place d {x} {s} {rest} room i =
     record {
       begins = refl;
@@ -155,11 +155,11 @@ pop_is place d {x} {s} {rest} room i =
       shorter = let y = i.shorter in omega (arith, y);
     }
 
-pub pop_stops : (place : Span) (d : ℕ) (rest : List Token) (r : Refusal) → d ≤ depth_limit → FailsVariableAndStack rest r → FailsStm d (Word_of word.Pop place ∷ rest) r
+pub pop_stops : (place : Span) (d : ℕ) (rest : List Token) (r : Refusal) → d ≤ depth_limit → FailsVariableAndStack rest r → FailsStm d (Keyword_of keyword.Pop place ∷ rest) r
 pop_stops place d rest r room f =
     record { begins = refl; stops = λ g p k S u h. begun_plain (variable_and_stack_then (λ y t. k (Pop y t))) S d u rest room h ∙ f g p (λ y t. k (Pop y t)) S (count d u) }
 
-pub if_begins : (place : Span) {d : ℕ} {s : Stm} {rest after : List Token} → d < depth_limit → IsIf (d + 1) s rest after → IsStm d s (Word_of word.If place ∷ rest) after
+pub if_begins : (place : Span) {d : ℕ} {s : Stm} {rest after : List Token} → d < depth_limit → IsIf (d + 1) s rest after → IsStm d s (Keyword_of keyword.If place ∷ rest) after
 if_begins place {d} {s} {rest} {after} room i =
     record {
       begins = refl;
@@ -167,13 +167,13 @@ if_begins place {d} {s} {rest} {after} room i =
       shorter = let y = i.shorter in omega (arith, y);
     }
 
-pub if_stops : (place : Span) (d : ℕ) (rest : List Token) (r : Refusal) → d < depth_limit → FailsIf (d + 1) rest r → FailsStm d (Word_of word.If place ∷ rest) r
+pub if_stops : (place : Span) (d : ℕ) (rest : List Token) (r : Refusal) → d < depth_limit → FailsIf (d + 1) rest r → FailsStm d (Keyword_of keyword.If place ∷ rest) r
 if_stops place d rest r room f = record { begins = refl; stops = λ g p k S u h. begun_opens (if_form k) S d u rest room h ∙ f p k g S u h }
 
-pub if_too_deep : (place : Span) (d : ℕ) (rest : List Token) → d ≡ depth_limit → FailsStm d (Word_of word.If place ∷ rest) (TooNested (suc (length rest)))
+pub if_too_deep : (place : Span) (d : ℕ) (rest : List Token) → d ≡ depth_limit → FailsStm d (Keyword_of keyword.If place ∷ rest) (TooNested (suc (length rest)))
 if_too_deep place d rest deep = record { begins = refl; stops = λ g p k S u h. begun_deep 0 (if_form k) S d u rest deep }
 
-pub from_begins : (place : Span) {d : ℕ} {s : Stm} {rest after : List Token} → d < depth_limit → IsLoop (d + 1) s rest after → IsStm d s (Word_of word.From place ∷ rest) after
+pub from_begins : (place : Span) {d : ℕ} {s : Stm} {rest after : List Token} → d < depth_limit → IsLoop (d + 1) s rest after → IsStm d s (Keyword_of keyword.From place ∷ rest) after
 from_begins place {d} {s} {rest} {after} room i =
     record {
       begins = refl;
@@ -181,8 +181,8 @@ from_begins place {d} {s} {rest} {after} room i =
       shorter = let y = i.shorter in omega (arith, y);
     }
 
-pub from_stops : (place : Span) (d : ℕ) (rest : List Token) (r : Refusal) → d < depth_limit → FailsLoop (d + 1) rest r → FailsStm d (Word_of word.From place ∷ rest) r
+pub from_stops : (place : Span) (d : ℕ) (rest : List Token) (r : Refusal) → d < depth_limit → FailsLoop (d + 1) rest r → FailsStm d (Keyword_of keyword.From place ∷ rest) r
 from_stops place d rest r room f = record { begins = refl; stops = λ g p k S u h. begun_opens (from_form k) S d u rest room h ∙ f p k g S u h }
 
-pub from_too_deep : (place : Span) (d : ℕ) (rest : List Token) → d ≡ depth_limit → FailsStm d (Word_of word.From place ∷ rest) (TooNested (suc (length rest)))
+pub from_too_deep : (place : Span) (d : ℕ) (rest : List Token) → d ≡ depth_limit → FailsStm d (Keyword_of keyword.From place ∷ rest) (TooNested (suc (length rest)))
 from_too_deep place d rest deep = record { begins = refl; stops = λ g p k S u h. begun_deep 0 (from_form k) S d u rest deep }

@@ -2,9 +2,9 @@
 use Rattle.std.proofs.Common.{◌≡◌, ℕ, suc, List, [], ◌∷◌, ◌++◌, length, Option, Some, None, true, false, Result, Ok, Err, refl, ap, sym, subst, ◌∙◌, arith}
 use Rattle.janus_syntax.specs.declared.fault.What.{What}
 use Rattle.janus_syntax.specs.declared.fault.What.TheVariants as what
-use Rattle.janus_syntax.specs.declared.token.Keyword.TheVariants as word
+use Rattle.janus_syntax.specs.declared.token.Keyword.TheVariants as keyword
 use Rattle.janus_syntax.specs.declared.tree.Stm as code_stm
-use Rattle.janus_syntax.specs.Tokens.{Token, Name, Number, Sign_of, Word_of}
+use Rattle.janus_syntax.specs.Tokens.{Token, Name, Number, Sign_of, Keyword_of}
 use Rattle.janus_syntax.specs.Tree.{Stm, Block, Empty, More, stm_view, block_view}
 use Rattle.janus_syntax.specs.Forms.{Part, Body, Statements, Tree, Form, done, part, Rule}
 use Rattle.janus_syntax.specs.Table.{rule, statement}
@@ -13,7 +13,8 @@ use Rattle.janus_syntax.specs.Reader.{Stack, waits, at, Step, Stuck, enter, skip
 use Rattle.janus_syntax.specs.declared.problem.Problem.{Problem}
 use Rattle.janus_syntax.specs.declared.token.Keyword.{Keyword}
 use Rattle.janus_syntax.specs.Reading.{Reads, BeginsWith, begun, count, IsPart, FailsPart}
-use Rattle.janus_syntax.specs.Statements.{is_statement, begin_statement, IsStm, FailsStm, followed_by, AtStatements, AreSoFar, AreStatements, IsOptional, there, FailsOptional}
+use Rattle.janus_syntax.specs.Statements.{is_statement, begin_statement, IsStm, FailsStm, followed_by, AreStatements, IsOptional, there, FailsOptional}
+use Rattle.janus_syntax.proofs.SoFar.{AtStatements, AreSoFar}
 use Rattle.janus_syntax.proofs.Agrees.{run_hands, left_behind}
 use Rattle.janus_syntax.proofs.Chains.{go_if_runs}
 use Rattle.janus_syntax.proofs.Steps.{passes_on}
@@ -38,29 +39,29 @@ a_statement : {p : Part} (t : Token) (k : Stm → Form p) → is_statement (Some
 a_statement (Name x place) k h = (_, refl)
 a_statement (Number n place) k h = absurd cc
 a_statement (Sign_of s place) k h = absurd cc
-a_statement (Word_of word.If place) k h = (_, refl)
-a_statement (Word_of word.From place) k h = (_, refl)
-a_statement (Word_of word.Local place) k h = (_, refl)
-a_statement (Word_of word.Skip place) k h = (_, refl)
-a_statement (Word_of word.Push place) k h = (_, refl)
-a_statement (Word_of word.Pop place) k h = (_, refl)
-a_statement (Word_of word.Call place) k h = (_, refl)
-a_statement (Word_of word.Uncall place) k h = (_, refl)
-a_statement (Word_of _ place) k h = absurd cc
+a_statement (Keyword_of keyword.If place) k h = (_, refl)
+a_statement (Keyword_of keyword.From place) k h = (_, refl)
+a_statement (Keyword_of keyword.Local place) k h = (_, refl)
+a_statement (Keyword_of keyword.Skip place) k h = (_, refl)
+a_statement (Keyword_of keyword.Push place) k h = (_, refl)
+a_statement (Keyword_of keyword.Pop place) k h = (_, refl)
+a_statement (Keyword_of keyword.Call place) k h = (_, refl)
+a_statement (Keyword_of keyword.Uncall place) k h = (_, refl)
+a_statement (Keyword_of _ place) k h = absurd cc
 
 no_statement : {p : Part} (t : Token) (k : Stm → Form p) → is_statement (Some t) ≡ false → statement t k ≡ None
 no_statement (Name x place) k h = absurd cc
 no_statement (Number n place) k h = refl
 no_statement (Sign_of s place) k h = refl
-no_statement (Word_of word.If place) k h = absurd cc
-no_statement (Word_of word.From place) k h = absurd cc
-no_statement (Word_of word.Local place) k h = absurd cc
-no_statement (Word_of word.Skip place) k h = absurd cc
-no_statement (Word_of word.Push place) k h = absurd cc
-no_statement (Word_of word.Pop place) k h = absurd cc
-no_statement (Word_of word.Call place) k h = absurd cc
-no_statement (Word_of word.Uncall place) k h = absurd cc
-no_statement (Word_of _ place) k h = refl
+no_statement (Keyword_of keyword.If place) k h = absurd cc
+no_statement (Keyword_of keyword.From place) k h = absurd cc
+no_statement (Keyword_of keyword.Local place) k h = absurd cc
+no_statement (Keyword_of keyword.Skip place) k h = absurd cc
+no_statement (Keyword_of keyword.Push place) k h = absurd cc
+no_statement (Keyword_of keyword.Pop place) k h = absurd cc
+no_statement (Keyword_of keyword.Call place) k h = absurd cc
+no_statement (Keyword_of keyword.Uncall place) k h = absurd cc
+no_statement (Keyword_of _ place) k h = refl
 
 no_statements : (rest : List Token) → is_statement (next rest) ≡ false → (t : Token) → next rest ≡ Some t → rule Statements t ≡ None
 no_statements [] h t e = absurd cc

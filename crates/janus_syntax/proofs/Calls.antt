@@ -3,16 +3,17 @@ use Rattle.std.proofs.Common.{◌≡◌, ℕ, ◌≤◌, List, [], ◌∷◌, �
 use Rattle.std.proofs.lemmas.List.{append-nil, map-append}
 use Rattle.janus_syntax.specs.declared.token.Span.{Span}
 use Rattle.janus_syntax.specs.declared.token.Sign.TheVariants as sign
-use Rattle.janus_syntax.specs.declared.token.Keyword.TheVariants as word
+use Rattle.janus_syntax.specs.declared.token.Keyword.TheVariants as keyword
 use Rattle.janus_syntax.specs.declared.tree.Name as code_name
-use Rattle.janus_syntax.specs.Tokens.{Token, Name, Number, Sign_of, Word_of}
+use Rattle.janus_syntax.specs.Tokens.{Token, Name, Number, Sign_of, Keyword_of}
 use Rattle.janus_syntax.specs.Tree.{Name as Named, named, Call, Uncall, name_view, names_view}
 use Rattle.janus_syntax.specs.Forms.{Part, Names, More_names, The_sign, A_name, Form, done, take, part}
 use Rattle.janus_syntax.specs.Table.{rule, sign_then, call_then}
 use Rattle.janus_syntax.specs.Grammar.{all, depth_limit, operator_limit, Refusal}
 use Rattle.janus_syntax.specs.Reader.{Stack, waits, at, run, next}
 use Rattle.janus_syntax.specs.Reading.{TokenGoes, TokenFails, count, Moves, BeginsWithSign}
-use Rattle.janus_syntax.specs.Statements.{is_name, IsStm, FailsStm, AreNames, FailNames, AtNames, AreNamed, IsCall, FailsCall}
+use Rattle.janus_syntax.specs.Statements.{is_name, IsStm, FailsStm, AreNames, FailNames, IsCall, FailsCall}
+use Rattle.janus_syntax.proofs.SoFar.{AtNames, AreNamed}
 use Rattle.janus_syntax.proofs.Agrees.{run_hands, left_behind}
 use Rattle.janus_syntax.proofs.Parts.{moves_on, moves_stop, token_moves, token_stops, begins_part}
 use Rattle.janus_syntax.proofs.Operands.{begun_plain}
@@ -27,7 +28,7 @@ no_names [] h t e = absurd cc
 no_names (Name x place ∷ rest) h t e = absurd cc
 no_names (Number n place ∷ rest) h t e = let same : Number n place ≡ t = cc in subst (λ x. rule Names x ≡ None) same refl
 no_names (Sign_of s place ∷ rest) h t e = let same : Sign_of s place ≡ t = cc in subst (λ x. rule Names x ≡ None) same refl
-no_names (Word_of w place ∷ rest) h t e = let same : Word_of w place ≡ t = cc in subst (λ x. rule Names x ≡ None) same refl
+no_names (Keyword_of w place ∷ rest) h t e = let same : Keyword_of w place ≡ t = cc in subst (λ x. rule Names x ≡ None) same refl
 
 abbrev NoComma : List Token → Type 0
 NoComma from = (behind : List Token) → BeginsWithSign sign.Comma from behind → ⊥
@@ -38,7 +39,7 @@ no_comma (Sign_of sign.Comma place ∷ rest) h t e = absurd (h rest (record { at
 no_comma (Sign_of s place ∷ rest) h t e = let same : Sign_of s place ≡ t = cc in subst (λ x. rule More_names x ≡ None) same refl
 no_comma (Name x place ∷ rest) h t e = let same : Name x place ≡ t = cc in subst (λ x. rule More_names x ≡ None) same refl
 no_comma (Number n place ∷ rest) h t e = let same : Number n place ≡ t = cc in subst (λ x. rule More_names x ≡ None) same refl
-no_comma (Word_of w place ∷ rest) h t e = let same : Word_of w place ≡ t = cc in subst (λ x. rule More_names x ≡ None) same refl
+no_comma (Keyword_of w place ∷ rest) h t e = let same : Keyword_of w place ≡ t = cc in subst (λ x. rule More_names x ≡ None) same refl
 
 pub no_name : (from : List Token) → is_name (next from) ≡ false → AreNames [] from from
 no_name from n = record { goes = λ d room p k g S u h. (u, h, left_behind Names k S (count d u) [] from refl (no_names from n)); shorter = omega arith }
@@ -109,7 +110,7 @@ named_ends {xs} {from} {rest} a n =
       shorter = a.shorter;
     }
 
--- ---- a call, behind its word
+-- ---- a call, behind its keyword
 
 abbrev to_open : {p : Part} → (Named → List Named → Form p) → Named → Form p
 to_open k f = sign_then sign.Open (part Names (λ xs. sign_then sign.Close (k f xs)))
@@ -148,7 +149,7 @@ call_stops_name from e x d room p k = token_stops d A_name (to_open k) from e x
 
 -- ---- calls as statements
 
-pub call_begins : (place : Span) (d : ℕ) {f : Named} {xs : List Named} {rest after : List Token} → d ≤ depth_limit → IsCall f xs rest after → IsStm d (Call f xs) (Word_of word.Call place ∷ rest) after
+pub call_begins : (place : Span) (d : ℕ) {f : Named} {xs : List Named} {rest after : List Token} → d ≤ depth_limit → IsCall f xs rest after → IsStm d (Call f xs) (Keyword_of keyword.Call place ∷ rest) after
 call_begins place d {rest = rest} room i =
     record {
       begins = refl;
@@ -156,11 +157,11 @@ call_begins place d {rest = rest} room i =
       shorter = let y = i.shorter in omega (arith, y);
     }
 
-pub call_stops : (place : Span) (d : ℕ) (rest : List Token) (e : Refusal) → d ≤ depth_limit → FailsCall rest e → FailsStm d (Word_of word.Call place ∷ rest) e
+pub call_stops : (place : Span) (d : ℕ) (rest : List Token) (e : Refusal) → d ≤ depth_limit → FailsCall rest e → FailsStm d (Keyword_of keyword.Call place ∷ rest) e
 call_stops place d rest e room x =
     record { begins = refl; stops = λ g p k S u h. begun_plain (call_then (λ f xs. k (Call f xs))) S d u rest room h ∙ x d room p (λ f xs. k (Call f xs)) g S u h }
 
-pub uncall_begins : (place : Span) (d : ℕ) {f : Named} {xs : List Named} {rest after : List Token} → d ≤ depth_limit → IsCall f xs rest after → IsStm d (Uncall f xs) (Word_of word.Uncall place ∷ rest) after
+pub uncall_begins : (place : Span) (d : ℕ) {f : Named} {xs : List Named} {rest after : List Token} → d ≤ depth_limit → IsCall f xs rest after → IsStm d (Uncall f xs) (Keyword_of keyword.Uncall place ∷ rest) after
 uncall_begins place d {rest = rest} room i =
     record {
       begins = refl;
@@ -168,6 +169,6 @@ uncall_begins place d {rest = rest} room i =
       shorter = let y = i.shorter in omega (arith, y);
     }
 
-pub uncall_stops : (place : Span) (d : ℕ) (rest : List Token) (e : Refusal) → d ≤ depth_limit → FailsCall rest e → FailsStm d (Word_of word.Uncall place ∷ rest) e
+pub uncall_stops : (place : Span) (d : ℕ) (rest : List Token) (e : Refusal) → d ≤ depth_limit → FailsCall rest e → FailsStm d (Keyword_of keyword.Uncall place ∷ rest) e
 uncall_stops place d rest e room x =
     record { begins = refl; stops = λ g p k S u h. begun_plain (call_then (λ f xs. k (Uncall f xs))) S d u rest room h ∙ x d room p (λ f xs. k (Uncall f xs)) g S u h }

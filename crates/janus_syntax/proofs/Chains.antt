@@ -12,7 +12,8 @@ use Rattle.janus_syntax.specs.Forms.{Part, Level, Chain, Form, done, part, Rule}
 use Rattle.janus_syntax.specs.Table.{rule, operand, chains, chain_rule}
 use Rattle.janus_syntax.specs.Grammar.{Count, all, entered, fits, depth_limit, operator_limit, Refusal, TooNested}
 use Rattle.janus_syntax.specs.Reader.{Stack, waits, State, at, Stuck, TooMany, go_if, enter, at_form, hand, follow, run, wanted, next, Nested}
-use Rattle.janus_syntax.specs.Reading.{begun, begin, count, IsExp, FailsExp, seen_operator, IsOperator, IsSoFar, IsChain}
+use Rattle.janus_syntax.specs.Reading.{begun, begin, count, IsExp, FailsExp, seen_operator, IsOperator}
+use Rattle.janus_syntax.proofs.SoFar.{IsSoFar, IsChain}
 use Rattle.janus_syntax.proofs.Agrees.{run_hands, run_alike, steps_over, wants_behind}
 
 pub go_if_runs : {goal : Part} (b : Bool) (s : State goal) (rest : List Token) (w : What) → follow (λ n. run all rest n) w (suc (length rest)) (go_if b s TooMany) ≡ cond b (run all rest s) (Nested (suc (length rest)))

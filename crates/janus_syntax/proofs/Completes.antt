@@ -5,13 +5,13 @@ use Rattle.std.specs.Prelude.{nat_le, nat_eq}
 use Rattle.std.proofs.lemmas.Bool.{eq-eqb, leb-true, le-leb, and_parts, and_from}
 use Rattle.janus_syntax.specs.declared.token.Span.{Span}
 use Rattle.janus_syntax.specs.declared.token.Sign.TheVariants as sign
-use Rattle.janus_syntax.specs.declared.token.Keyword.TheVariants as word
-use Rattle.janus_syntax.specs.declared.tree.Kind.TheVariants as kind
+use Rattle.janus_syntax.specs.declared.token.Keyword.TheVariants as keyword
+use Rattle.janus_syntax.specs.declared.tree.LocalKind.TheVariants as kind
 use Rattle.janus_syntax.specs.declared.tree.Update.TheVariants as update
-use Rattle.janus_syntax.specs.Tokens.{Token, Name, Number, Sign_of, Word_of}
+use Rattle.janus_syntax.specs.Tokens.{Token, Name, Number, Sign_of, Keyword_of}
 use Rattle.janus_syntax.specs.Tree.{named, Exp, Num}
 use Rattle.janus_syntax.specs.Operators.{weakest}
-use Rattle.janus_syntax.specs.Forms.{Part, Procedures, A_procedure, Parameters, A_parameter, Body, Statements, Local, Whole, Level, Chain, Tree, Class, The_word, The_sign, A_name, A_number, An_update, Same_kind, Same_name, Seen, seen, agrees, word_number, sign_number, Form, done, take, part, close, Rule}
+use Rattle.janus_syntax.specs.Forms.{Part, Procedures, A_procedure, Parameters, A_parameter, Body, Statements, Local, Whole, Level, Chain, Tree, Class, The_keyword, The_sign, A_name, A_number, An_update, Same_kind, Same_name, Seen, seen, agrees, keyword_number, sign_number, Form, done, take, part, close, Rule}
 use Rattle.janus_syntax.specs.Table.{rule, left_out, chains}
 use Rattle.janus_syntax.specs.Grammar
 use Rattle.janus_syntax.specs.Grammar.{Count, zero_count, entered, closed, fits, depth_limit, operator_limit, Demands, met, Spells, text_form, IsTree}
@@ -73,13 +73,13 @@ equal_some n = ap (λ b. cond b some_unit None) (eq-eqb n n refl)
 
 sample : (c : Class) → Sample c
 unfolding no_span
-sample (The_word w) = record { token = Word_of w no_span; value = tt; is = equal_some (word_number w); fit = refl }
+sample (The_keyword w) = record { token = Keyword_of w no_span; value = tt; is = equal_some (keyword_number w); fit = refl }
 sample (The_sign s) = record { token = Sign_of s no_span; value = tt; is = equal_some (sign_number s); fit = refl }
 sample A_name = record { token = Name (120 ∷ []) no_span; value = named (120 ∷ []) no_span; is = refl; fit = refl }
 sample A_number = record { token = Number 0 no_span; value = (0, no_span); is = refl; fit = refl }
 sample An_update = record { token = Sign_of sign.PlusEquals no_span; value = update.Add; is = refl; fit = refl }
-sample (Same_kind kind.Int) = record { token = Word_of word.Int no_span; value = kind.Int; is = refl; fit = refl }
-sample (Same_kind kind.Stack) = record { token = Word_of word.Stack no_span; value = kind.Stack; is = refl; fit = refl }
+sample (Same_kind kind.Int) = record { token = Keyword_of keyword.Int no_span; value = kind.Int; is = refl; fit = refl }
+sample (Same_kind kind.Stack) = record { token = Keyword_of keyword.Stack no_span; value = kind.Stack; is = refl; fit = refl }
 sample (Same_name (named x place)) = record { token = Name x no_span; value = named x no_span; is = refl; fit = same_name_self x }
 
 met_true : (b x : Bool) → x ≡ true → met b x ≡ true
@@ -122,14 +122,14 @@ completes_part d p q k m l h more =
 
 least_body : (d : Demands) (m : Count) → Least d Body m
 unfolding no_span
-least_body d m = record { token = Word_of word.Skip no_span; begun = _; is = refl; low = refl; few = refl; completes = λ n h. completes_over d Body Statements _ n _ refl (completes_done d Body _ n h) }
+least_body d m = record { token = Keyword_of keyword.Skip no_span; begun = _; is = refl; low = refl; few = refl; completes = λ n h. completes_over d Body Statements _ n _ refl (completes_done d Body _ n h) }
 
 least : (d : Demands) (q : Part) (m : Count) → left_out q ≡ None → Least d q m
 unfolding no_span
 least d Whole m e = record { token = Number 0 no_span; begun = _; is = refl; low = refl; few = refl; completes = λ n h. completes_chains d Whole 0 weakest (Num 0 no_span) done n (λ f. completes_done d Whole f n h) }
 least d (Level l) m e = record { token = Number 0 no_span; begun = _; is = refl; low = refl; few = refl; completes = λ n h. completes_chains d (Level l) 0 l (Num 0 no_span) done n (λ f. completes_done d (Level l) f n h) }
 least d Body m e = least_body d m
-least d A_parameter m e = record { token = Word_of word.Stack no_span; begun = _; is = refl; low = refl; few = refl; completes = λ n h. completes_take d A_parameter A_name _ n (λ x. completes_done d A_parameter _ n h) }
+least d A_parameter m e = record { token = Keyword_of keyword.Stack no_span; begun = _; is = refl; low = refl; few = refl; completes = λ n h. completes_take d A_parameter A_name _ n (λ x. completes_done d A_parameter _ n h) }
 least d (A_procedure main b) m e =
     record {
       token = Name (120 ∷ []) no_span;
@@ -144,16 +144,16 @@ least d (A_procedure main b) m e =
     }
 least d Local m e =
     record {
-      token = Word_of word.Stack no_span;
+      token = Keyword_of keyword.Stack no_span;
       begun = _;
       is = refl;
       low = refl;
       few = refl;
       completes = λ n h.
-          completes_take d Local A_name _ n (λ x. completes_take d Local (The_sign sign.Equals) _ n (λ a. completes_take d Local (The_word word.Nil) _ n (λ b.
+          completes_take d Local A_name _ n (λ x. completes_take d Local (The_sign sign.Equals) _ n (λ a. completes_take d Local (The_keyword keyword.Nil) _ n (λ b.
           completes_part d Local Body _ n (least_body d n) h (λ u i j.
-          completes_take d Local (The_word word.Delocal) _ i (λ a. completes_take d Local (Same_kind kind.Stack) _ i (λ k. completes_take d Local (Same_name x) _ i (λ y.
-          completes_take d Local (The_sign sign.Equals) _ i (λ b. completes_take d Local (The_word word.Nil) _ i (λ c. completes_done d Local _ i j)))))))));
+          completes_take d Local (The_keyword keyword.Delocal) _ i (λ a. completes_take d Local (Same_kind kind.Stack) _ i (λ k. completes_take d Local (Same_name x) _ i (λ y.
+          completes_take d Local (The_sign sign.Equals) _ i (λ b. completes_take d Local (The_keyword keyword.Nil) _ i (λ c. completes_done d Local _ i j)))))))));
     }
 least d _ m e = absurd cc
 

@@ -4,19 +4,20 @@ use Rattle.std.proofs.lemmas.Bool.{eqb-true, ne_eqb}
 use Rattle.std.proofs.lemmas.List.{append-nil}
 use Rattle.janus_syntax.specs.declared.token.Span.{Span}
 use Rattle.janus_syntax.specs.declared.token.Sign.TheVariants as sign
-use Rattle.janus_syntax.specs.declared.token.Keyword.TheVariants as word
+use Rattle.janus_syntax.specs.declared.token.Keyword.TheVariants as keyword
 use Rattle.janus_syntax.specs.declared.token.Token as code_token
 use Rattle.janus_syntax.specs.declared.fault.What.TheVariants as what
 use Rattle.janus_syntax.specs.declared.tree.Declaration as code_declaration
 use Rattle.janus_syntax.specs.declared.tree.Stm as code_stm
-use Rattle.janus_syntax.specs.Tokens.{Token, Name, Number, Sign_of, Word_of, views}
+use Rattle.janus_syntax.specs.Tokens.{Token, Name, Number, Sign_of, Keyword_of, views}
 use Rattle.janus_syntax.specs.Tree.{Name as Named, Exp, Block, Declaration, Int, Array, StackOf, Cell, cell_of, declaration_view, declarations_view, block_view}
 use Rattle.janus_syntax.specs.Forms.{Part, A_cell, Declarations, Statements, Procedures, Bound, Whole, Tree, The_sign, A_name, A_number, Form, done, take, part}
 use Rattle.janus_syntax.specs.Table.{rule, declared, sign_then, is_bare}
 use Rattle.janus_syntax.specs.Grammar.{all, operator_limit, IsTree, Refusal, Expected}
 use Rattle.janus_syntax.specs.Reader.{Stack, bottom, waits, at, Outcome, Ended, run, start, outcome_of, next}
 use Rattle.janus_syntax.specs.Reading.{TokenGoes, TokenFails, BeginsWith, BeginsWithSign, count, Stands, Moves, Stops, IsPart, FailsPart}
-use Rattle.janus_syntax.specs.Statements.{is_declaration, begin_declaration, IsDeclaration, FailsDeclaration, IsBound, FailsBound, AtDeclarations, AreDeclared, AtEnd, Refused}
+use Rattle.janus_syntax.specs.Statements.{is_declaration, begin_declaration, IsDeclaration, FailsDeclaration, IsBound, FailsBound, AtEnd, Refused}
+use Rattle.janus_syntax.proofs.SoFar.{AtDeclarations, AreDeclared}
 use Rattle.janus_syntax.proofs.Agrees.{run_hands, left_behind}
 use Rattle.janus_syntax.proofs.LeftOut.{unbound}
 use Rattle.janus_syntax.proofs.Steps.{no_opening}
@@ -74,10 +75,10 @@ array_stops_close x {n} {from} {behind} e b i f p k =
 abbrev named_form : {p : Part} → (Declaration → Form p) → Form p
 named_form k = take A_name (λ x. part Bound (λ n. k (declared x n)))
 
-int_begins : {goal p : Part} (k : Declaration → Form p) (S : Stack goal p) (u : ℕ) (place : Span) (behind : List Token) → u ≤ operator_limit → begin_declaration (Word_of word.Int place ∷ behind) k S u ≡ run all behind (at (named_form k) S (count 0 u))
+int_begins : {goal p : Part} (k : Declaration → Form p) (S : Stack goal p) (u : ℕ) (place : Span) (behind : List Token) → u ≤ operator_limit → begin_declaration (Keyword_of keyword.Int place ∷ behind) k S u ≡ run all behind (at (named_form k) S (count 0 u))
 int_begins k S u place behind h = begun_plain (named_form k) S 0 u behind (omega arith) h
 
-pub declaration_is : {x : Named} {d : Declaration} {from behind middle rest : List Token} → BeginsWith word.Int from behind → TokenGoes A_name x behind middle → IsBound x d middle rest → IsDeclaration d from rest
+pub declaration_is : {x : Named} {d : Declaration} {from behind middle rest : List Token} → BeginsWith keyword.Int from behind → TokenGoes A_name x behind middle → IsBound x d middle rest → IsDeclaration d from rest
 declaration_is {x} {d} {from} {behind} {middle} {rest} b i j =
     subst (λ ts. IsDeclaration d ts rest) (sym b.is)
     (record {
@@ -88,12 +89,12 @@ declaration_is {x} {d} {from} {behind} {middle} {rest} b i j =
       shorter = let s1 = i.shorter in let s2 = j.shorter in omega (arith, s1, s2);
     })
 
-pub declaration_stops_name : {from behind : List Token} (e : Refusal) → BeginsWith word.Int from behind → TokenFails A_name behind e → FailsDeclaration from e
+pub declaration_stops_name : {from behind : List Token} (e : Refusal) → BeginsWith keyword.Int from behind → TokenFails A_name behind e → FailsDeclaration from e
 declaration_stops_name {from} {behind} e b f =
     subst (λ ts. FailsDeclaration ts e) (sym b.is)
     (record { begins = refl; stops = λ g p k S u h. int_begins k S u b.at behind h ∙ f g p (λ y. part Bound (λ n. k (declared y n))) S (count 0 u) })
 
-pub declaration_stops_bound : {x : Named} {from behind middle : List Token} (e : Refusal) → BeginsWith word.Int from behind → TokenGoes A_name x behind middle → FailsBound x middle e → FailsDeclaration from e
+pub declaration_stops_bound : {x : Named} {from behind middle : List Token} (e : Refusal) → BeginsWith keyword.Int from behind → TokenGoes A_name x behind middle → FailsBound x middle e → FailsDeclaration from e
 declaration_stops_bound {x} {from} {behind} e b i f =
     subst (λ ts. FailsDeclaration ts e) (sym b.is)
     (record { begins = refl; stops = λ g p k S u h. int_begins k S u b.at behind h ∙ i.goes g p (λ y. part Bound (λ n. k (declared y n))) S (count 0 u) ∙ f p k g S u h })
@@ -102,10 +103,10 @@ declaration_stops_bound {x} {from} {behind} e b i f =
 abbrev stack_form : {p : Part} → (Declaration → Form p) → Form p
 stack_form k = take A_name (λ s. k (StackOf s))
 
-stack_begins : {goal p : Part} (k : Declaration → Form p) (S : Stack goal p) (u : ℕ) (place : Span) (behind : List Token) → u ≤ operator_limit → begin_declaration (Word_of word.Stack place ∷ behind) k S u ≡ run all behind (at (stack_form k) S (count 0 u))
+stack_begins : {goal p : Part} (k : Declaration → Form p) (S : Stack goal p) (u : ℕ) (place : Span) (behind : List Token) → u ≤ operator_limit → begin_declaration (Keyword_of keyword.Stack place ∷ behind) k S u ≡ run all behind (at (stack_form k) S (count 0 u))
 stack_begins k S u place behind h = begun_plain (stack_form k) S 0 u behind (omega arith) h
 
-pub stack_is : {s : Named} {from behind rest : List Token} → BeginsWith word.Stack from behind → TokenGoes A_name s behind rest → IsDeclaration (StackOf s) from rest
+pub stack_is : {s : Named} {from behind rest : List Token} → BeginsWith keyword.Stack from behind → TokenGoes A_name s behind rest → IsDeclaration (StackOf s) from rest
 stack_is {s} {from} {behind} {rest} b i =
     subst (λ ts. IsDeclaration (StackOf s) ts rest) (sym b.is)
     (record {
@@ -114,18 +115,18 @@ stack_is {s} {from} {behind} {rest} b i =
       shorter = let l = i.shorter in omega (arith, l);
     })
 
-pub stack_stops : {from behind : List Token} (e : Refusal) → BeginsWith word.Stack from behind → TokenFails A_name behind e → FailsDeclaration from e
+pub stack_stops : {from behind : List Token} (e : Refusal) → BeginsWith keyword.Stack from behind → TokenFails A_name behind e → FailsDeclaration from e
 stack_stops {from} {behind} e b f =
     subst (λ ts. FailsDeclaration ts e) (sym b.is) (record { begins = refl; stops = λ g p k S u h. stack_begins k S u b.at behind h ∙ f g p (λ y. k (StackOf y)) S (count 0 u) })
 
-pub other_begins : (from : List Token) → ((behind : List Token) → BeginsWith word.Int from behind → ⊥) → ((behind : List Token) → BeginsWith word.Stack from behind → ⊥) → is_declaration (next from) ≡ false
+pub other_begins : (from : List Token) → ((behind : List Token) → BeginsWith keyword.Int from behind → ⊥) → ((behind : List Token) → BeginsWith keyword.Stack from behind → ⊥) → is_declaration (next from) ≡ false
 other_begins [] h i = refl
 other_begins (Name x place ∷ rest) h i = refl
 other_begins (Number n place ∷ rest) h i = refl
 other_begins (Sign_of s place ∷ rest) h i = refl
-other_begins (Word_of word.Int place ∷ rest) h i = absurd (h rest (record { at = place; is = refl }))
-other_begins (Word_of word.Stack place ∷ rest) h i = absurd (i rest (record { at = place; is = refl }))
-other_begins (Word_of _ place ∷ rest) h i = refl
+other_begins (Keyword_of keyword.Int place ∷ rest) h i = absurd (h rest (record { at = place; is = refl }))
+other_begins (Keyword_of keyword.Stack place ∷ rest) h i = absurd (i rest (record { at = place; is = refl }))
+other_begins (Keyword_of _ place ∷ rest) h i = refl
 
 -- ---- declarations
 
@@ -137,9 +138,9 @@ no_declaration [] h t e = absurd cc
 no_declaration (Name x place ∷ rest) h t e = let same : Name x place ≡ t = cc in subst (λ y. rule Declarations y ≡ None) same refl
 no_declaration (Number n place ∷ rest) h t e = let same : Number n place ≡ t = cc in subst (λ y. rule Declarations y ≡ None) same refl
 no_declaration (Sign_of s place ∷ rest) h t e = let same : Sign_of s place ≡ t = cc in subst (λ y. rule Declarations y ≡ None) same refl
-no_declaration (Word_of word.Int place ∷ rest) h t e = absurd cc
-no_declaration (Word_of word.Stack place ∷ rest) h t e = absurd cc
-no_declaration (Word_of w place ∷ rest) h t e = let same : Word_of w place ≡ t = cc in subst (λ y. rule Declarations y ≡ None) same refl
+no_declaration (Keyword_of keyword.Int place ∷ rest) h t e = absurd cc
+no_declaration (Keyword_of keyword.Stack place ∷ rest) h t e = absurd cc
+no_declaration (Keyword_of w place ∷ rest) h t e = let same : Keyword_of w place ≡ t = cc in subst (λ y. rule Declarations y ≡ None) same refl
 
 declarations_begin : {goal p : Part} (k : List Declaration → Form p) (S : Stack goal p) (u : ℕ) (from : List Token) → u ≤ operator_limit → is_declaration (next from) ≡ true →
     run all from (at (part Declarations k) S (count 0 u)) ≡ begin_declaration from one_more_form (waits {q = Declarations} k S) u
@@ -147,13 +148,13 @@ declarations_begin k S u [] i h = absurd cc
 declarations_begin k S u (Name x place ∷ rest) i h = absurd cc
 declarations_begin k S u (Number n place ∷ rest) i h = absurd cc
 declarations_begin k S u (Sign_of s place ∷ rest) i h = absurd cc
-declarations_begin k S u (Word_of word.Int place ∷ rest) i h =
-    begins_part Declarations k S 0 u (Word_of word.Int place) rest (named_form one_more_form) refl (omega arith) i
+declarations_begin k S u (Keyword_of keyword.Int place ∷ rest) i h =
+    begins_part Declarations k S 0 u (Keyword_of keyword.Int place) rest (named_form one_more_form) refl (omega arith) i
     ∙ sym (int_begins one_more_form (waits {q = Declarations} k S) u place rest i)
-declarations_begin k S u (Word_of word.Stack place ∷ rest) i h =
-    begins_part Declarations k S 0 u (Word_of word.Stack place) rest (stack_form one_more_form) refl (omega arith) i
+declarations_begin k S u (Keyword_of keyword.Stack place ∷ rest) i h =
+    begins_part Declarations k S 0 u (Keyword_of keyword.Stack place) rest (stack_form one_more_form) refl (omega arith) i
     ∙ sym (stack_begins one_more_form (waits {q = Declarations} k S) u place rest i)
-declarations_begin k S u (Word_of _ place ∷ rest) i h = absurd cc
+declarations_begin k S u (Keyword_of _ place ∷ rest) i h = absurd cc
 
 pub view_push : (ds : List code_declaration.Declaration) (d : code_declaration.Declaration) → declarations_view (ds ++ d ∷ []) ≡ declarations_view ds ++ declaration_view d ∷ []
 view_push [] d = refl

@@ -12,21 +12,21 @@ use Rattle.janus_syntax.specs.declared.token.Span.{Span}
 use Rattle.janus_syntax.specs.declared.token.Sign.{Sign}
 use Rattle.janus_syntax.specs.declared.token.Sign.TheVariants as sign
 use Rattle.janus_syntax.specs.declared.token.Keyword.{Keyword}
-use Rattle.janus_syntax.specs.declared.token.Keyword.TheVariants as word
+use Rattle.janus_syntax.specs.declared.token.Keyword.TheVariants as keyword
 use Rattle.janus_syntax.specs.declared.lexer.Class.{Class}
 use Rattle.janus_syntax.specs.declared.lexer.Class.TheVariants as class
 use Rattle.janus_syntax.specs.declared.lexer.Front.{Front}
 use Rattle.janus_syntax.specs.declared.lexer.Front.TheVariants as front
 use Rattle.janus_syntax.specs.declared.fault.SyntaxFault.{SyntaxFault}
 use Rattle.janus_syntax.specs.declared.fault.SyntaxFault.TheVariants as fault
-use Rattle.janus_syntax.specs.Spelling.{sign_text, word_text}
-use Rattle.janus_syntax.specs.Tokens.{Token, Name, Number, Sign_of, Word_of}
+use Rattle.janus_syntax.specs.Spelling.{sign_text, keyword_text}
+use Rattle.janus_syntax.specs.Tokens.{Token, Name, Number, Sign_of, Keyword_of}
 use Rattle.janus_syntax.specs.Forms.{Part}
-use Rattle.janus_syntax.specs.Lexical.{class_of, of_name, of_number, in_line, decimal, NotReserved, Item, Gap, A_name, A_number, A_sign, A_word, IsSpelled, IsToken, NoItem, AreTokens, largest_number}
+use Rattle.janus_syntax.specs.Lexical.{class_of, of_name, of_number, in_line, decimal, IsNoKeyword, Item, Gap, A_name, A_number, A_sign, A_keyword, IsSpelled, IsToken, NoItem, AreTokens, largest_number}
 use Rattle.janus_syntax.specs.Scan.{IsLongestSign, IsFrontText, IsFrontOf, IsFirstChar}
 use Rattle.janus_syntax.specs.Text.{IsRefusalOf}
 use Rattle.janus_syntax.specs.declared.token.TheConstants.{KEYWORDS}
-use Rattle.janus_syntax.proofs.Scanning.{signs, first_is_longest, no_sign, begins_with, not_reserved}
+use Rattle.janus_syntax.proofs.Scanning.{signs, first_is_longest, no_sign, begins_with, is_no_keyword}
 use Rattle.janus_syntax.proofs.Fronts.{letters_front, digits_front, space_front, comment_front, sign_front, underscore_none, other_none, letters_cut, digits_cut, space_cut, line_cut, sign_cut, slashes, no_slashes}
 use Rattle.janus_syntax.proofs.Lexing.{IsLexedTo, lexed_start, lexed_gap, lexed_one, bad_token, too_large, place}
 
@@ -57,27 +57,27 @@ longest_sign text (suc left) k e none =
     ] refl
 
 -- the text is none of the first k keywords
-abbrev NoWordOf : List ℕ → ℕ → Type 0
-NoWordOf text k = (j : ℕ) (w : Keyword) → j < k → text ≡ word_text (get_or KEYWORDS j w) → ⊥
+abbrev NoKeywordOf : List ℕ → ℕ → Type 0
+NoKeywordOf text k = (j : ℕ) (w : Keyword) → j < k → text ≡ keyword_text (get_or KEYWORDS j w) → ⊥
 
-one_word_more : (text : List ℕ) (k : ℕ) → k < 22 → NoWordOf text k → bytes_eq text (word_text (get_or KEYWORDS k word.Nil)) ≡ false → NoWordOf text (suc k)
-one_word_more text k few none not_here j w h e =
+one_keyword_more : (text : List ℕ) (k : ℕ) → k < 22 → NoKeywordOf text k → bytes_eq text (keyword_text (get_or KEYWORDS k keyword.Nil)) ≡ false → NoKeywordOf text (suc k)
+one_keyword_more text k few none not_here j w h e =
     elim (order j k) [
       | inl before ↦ none j w before e
       | inr behind ↦
           let same : j ≡ k = omega (arith, h, behind) in
-          let listed : get_or KEYWORDS j w ≡ get_or KEYWORDS k word.Nil = ap (λ i. get_or KEYWORDS i w) same ∙ get_or_default KEYWORDS k w word.Nil few in
-          let found = (bytes_eq-Decides text (word_text (get_or KEYWORDS k word.Nil))).1 (e ∙ ap word_text listed) in
+          let listed : get_or KEYWORDS j w ≡ get_or KEYWORDS k keyword.Nil = ap (λ i. get_or KEYWORDS i w) same ∙ get_or_default KEYWORDS k w keyword.Nil few in
+          let found = (bytes_eq-Decides text (keyword_text (get_or KEYWORDS k keyword.Nil))).1 (e ∙ ap keyword_text listed) in
           let bad : true ≡ false = sym found ∙ not_here in absurd cc
     ]
 
-word_or_name : (text : List ℕ) (left k : ℕ) → left + k ≡ 22 → NoWordOf text k → ((w : Keyword) × (text ≡ word_text w)) ⊎ NotReserved text
-word_or_name text zero k e none = inr (not_reserved text k (omega (arith, e)) none)
-word_or_name text (suc left) k e none =
-    let here = word_text (get_or KEYWORDS k word.Nil) in
-    elim (bytes_eq text here) as (λ b. bytes_eq text here ≡ b → ((w : Keyword) × (text ≡ word_text w)) ⊎ NotReserved text) [
-      | true ↦ λ h. inl (get_or KEYWORDS k word.Nil, (bytes_eq-Decides text here).0 h)
-      | false ↦ λ h. word_or_name text left (suc k) (omega (arith, e)) (one_word_more text k (omega (arith, e)) none h)
+keyword_or_name : (text : List ℕ) (left k : ℕ) → left + k ≡ 22 → NoKeywordOf text k → ((w : Keyword) × (text ≡ keyword_text w)) ⊎ IsNoKeyword text
+keyword_or_name text zero k e none = inr (is_no_keyword text k (omega (arith, e)) none)
+keyword_or_name text (suc left) k e none =
+    let here = keyword_text (get_or KEYWORDS k keyword.Nil) in
+    elim (bytes_eq text here) as (λ b. bytes_eq text here ≡ b → ((w : Keyword) × (text ≡ keyword_text w)) ⊎ IsNoKeyword text) [
+      | true ↦ λ h. inl (get_or KEYWORDS k keyword.Nil, (bytes_eq-Decides text here).0 h)
+      | false ↦ λ h. keyword_or_name text left (suc k) (omega (arith, e)) (one_keyword_more text k (omega (arith, e)) none h)
     ] refl
 
 -- how many octets the front of a text has, and what they are
@@ -121,8 +121,8 @@ begins xs u some class.Other e = other_or_comment xs u e
 item_of : (f : Front) (text : List ℕ) → IsFrontText f text → (i : Item) × IsSpelled i text
 item_of front.Gap text h = (Gap, h)
 item_of front.Letters text h =
-    elim (word_or_name text 22 0 refl (λ j w l _. absurd (omega (arith, l)))) [
-      | inl (w, e) ↦ (A_word w, e)
+    elim (keyword_or_name text 22 0 refl (λ j w l _. absurd (omega (arith, l)))) [
+      | inl (w, e) ↦ (A_keyword w, e)
       | inr n ↦ (A_name text, (refl, h, n))
     ]
 item_of front.Digits text h = (A_number (decimal text), (refl, h))
@@ -170,9 +170,9 @@ one_item goal text ts rest start left k le b (A_number n) s go =
 one_item goal text ts rest start left k le b (A_sign x) s go =
     go (ts ++ Sign_of x (place start (start + b.size)) ∷ []) (drop b.size rest) (start + b.size) (shorter rest b.size left b.front_of.nonempty le)
     (lexed_one text ts (Sign_of x (place start (start + b.size))) rest (take b.size rest) (drop b.size rest) start b.size b.kind (A_sign x) k b.front_of b.cut refl refl s refl)
-one_item goal text ts rest start left k le b (A_word x) s go =
-    go (ts ++ Word_of x (place start (start + b.size)) ∷ []) (drop b.size rest) (start + b.size) (shorter rest b.size left b.front_of.nonempty le)
-    (lexed_one text ts (Word_of x (place start (start + b.size))) rest (take b.size rest) (drop b.size rest) start b.size b.kind (A_word x) k b.front_of b.cut refl refl s refl)
+one_item goal text ts rest start left k le b (A_keyword x) s go =
+    go (ts ++ Keyword_of x (place start (start + b.size)) ∷ []) (drop b.size rest) (start + b.size) (shorter rest b.size left b.front_of.nonempty le)
+    (lexed_one text ts (Keyword_of x (place start (start + b.size))) rest (take b.size rest) (drop b.size rest) start b.size b.kind (A_keyword x) k b.front_of b.cut refl refl s refl)
 
 lexed_from : (goal : Part) (text : List ℕ) (left : ℕ) → GoesOn goal text left
 lexed_from goal text left ts [] start le k = inl (ts, k.lexes)

@@ -5,18 +5,18 @@ use Rattle.std.specs.Prelude.{nat_lt, nat_eq, ◌||◌, ◌&&◌}
 use Rattle.janus_syntax.specs.declared.token.Sign.{Sign}
 use Rattle.janus_syntax.specs.declared.token.Sign.TheVariants as sign
 use Rattle.janus_syntax.specs.declared.token.Keyword.{Keyword}
-use Rattle.janus_syntax.specs.declared.token.Keyword.TheVariants as word
+use Rattle.janus_syntax.specs.declared.token.Keyword.TheVariants as keyword
 use Rattle.janus_syntax.specs.declared.operator.Infix.{Infix}
-use Rattle.janus_syntax.specs.Tokens.{Token, Name, Sign_of, Word_of}
+use Rattle.janus_syntax.specs.Tokens.{Token, Name, Sign_of, Keyword_of}
 use Rattle.janus_syntax.specs.Operators.{weakest, operator_at}
-use Rattle.janus_syntax.specs.Forms.{Part, A_cell, Declarations, Bound, Procedures, A_procedure, Parameters, More_parameters, A_parameter, Brackets, Body, Statements, Else_part, Do_part, Loop_part, Local, Names, More_names, Target_index, Whole, Level, Chain, Index, Tree, Seen, seen, word_number, sign_number, Form, done, take, part, close, Rule}
+use Rattle.janus_syntax.specs.Forms.{Part, A_cell, Declarations, Bound, Procedures, A_procedure, Parameters, More_parameters, A_parameter, Brackets, Body, Statements, Else_part, Do_part, Loop_part, Local, Names, More_names, Target_index, Whole, Level, Chain, Index, Tree, Seen, seen, keyword_number, sign_number, Form, done, take, part, close, Rule}
 use Rattle.janus_syntax.specs.Table.{rule, left_out}
 
 -- Tests of tokens.
 
-abbrev pub is_word : Keyword → Token → Bool
-is_word w (Word_of v _) = nat_eq (word_number w) (word_number v)
-is_word w _ = false
+abbrev pub is_keyword : Keyword → Token → Bool
+is_keyword w (Keyword_of v _) = nat_eq (keyword_number w) (keyword_number v)
+is_keyword w _ = false
 
 abbrev pub is_sign : Sign → Token → Bool
 is_sign s (Sign_of r _) = nat_eq (sign_number s) (sign_number r)
@@ -34,30 +34,30 @@ weaker_than n (Some op) = nat_lt n op.level
 abbrev pub ends_at : ℕ → Token → Bool
 ends_at n t = no_index t && weaker_than n (operator_at t)
 
--- a statement, or a word
+-- a statement, or a keyword
 abbrev pub after_statement : Token → Bool
 after_statement (Name x at) = true
-after_statement (Word_of w at) = true
+after_statement (Keyword_of w at) = true
 after_statement _ = false
 
 abbrev pub ends_body : Keyword → Bool
-ends_body word.Else = true
-ends_body word.Fi = true
-ends_body word.Loop = true
-ends_body word.Until = true
-ends_body word.Delocal = true
-ends_body word.Procedure = true
+ends_body keyword.Else = true
+ends_body keyword.Fi = true
+ends_body keyword.Loop = true
+ends_body keyword.Until = true
+ends_body keyword.Delocal = true
+ends_body keyword.Procedure = true
 ends_body _ = false
 
 abbrev pub after_body : Token → Bool
-after_body (Word_of w at) = ends_body w
+after_body (Keyword_of w at) = ends_body w
 after_body _ = false
 
 abbrev pub after_declarations : Token → Bool
 after_declarations (Name x at) = true
-after_declarations (Word_of word.Int at) = false
-after_declarations (Word_of word.Stack at) = false
-after_declarations (Word_of _ at) = true
+after_declarations (Keyword_of keyword.Int at) = false
+after_declarations (Keyword_of keyword.Stack at) = false
+after_declarations (Keyword_of _ at) = true
 after_declarations _ = false
 
 abbrev pub after_parameter : Token → Bool
@@ -78,9 +78,9 @@ may_follow A_parameter t = after_parameter t
 may_follow Brackets t = after_parameter t
 may_follow Body t = after_body t
 may_follow Statements t = after_body t
-may_follow Else_part t = is_word word.Fi t
-may_follow Do_part t = is_word word.Loop t || is_word word.Until t
-may_follow Loop_part t = is_word word.Until t
+may_follow Else_part t = is_keyword keyword.Fi t
+may_follow Do_part t = is_keyword keyword.Loop t || is_keyword keyword.Until t
+may_follow Loop_part t = is_keyword keyword.Until t
 may_follow Local t = after_statement t
 may_follow Names t = is_sign sign.Close t
 may_follow More_names t = is_sign sign.Close t

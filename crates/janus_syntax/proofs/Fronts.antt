@@ -15,12 +15,12 @@ use Rattle.std.proofs.lemmas.Str.{IsCharBoundary-after_ascii, IsCharBoundary-bef
 use Rattle.janus_syntax.specs.declared.token.Sign.{Sign}
 use Rattle.janus_syntax.specs.declared.token.Sign.TheVariants as sign
 use Rattle.janus_syntax.specs.declared.token.Keyword.{Keyword}
-use Rattle.janus_syntax.specs.declared.token.Keyword.TheVariants as word
+use Rattle.janus_syntax.specs.declared.token.Keyword.TheVariants as keyword
 use Rattle.janus_syntax.specs.declared.lexer.Class.{Class}
 use Rattle.janus_syntax.specs.declared.lexer.Class.TheVariants as class
 use Rattle.janus_syntax.specs.declared.lexer.Front.TheVariants as front
-use Rattle.janus_syntax.specs.Spelling.{sign_text, word_text}
-use Rattle.janus_syntax.specs.Lexical.{class_of, goes_on_name, goes_on_number, AllPass, of_name, of_number, in_line, Item, Gap, A_name, A_number, A_sign, A_word, IsSpelled, NoLonger, NoItem}
+use Rattle.janus_syntax.specs.Spelling.{sign_text, keyword_text}
+use Rattle.janus_syntax.specs.Lexical.{class_of, goes_on_name, goes_on_number, AllPass, of_name, of_number, in_line, Item, Gap, A_name, A_number, A_sign, A_keyword, IsSpelled, NoLonger, NoItem}
 use Rattle.janus_syntax.specs.Scan.{IsLongestSign, IsFrontText, IsFrontOf}
 
 -- the first octet
@@ -32,55 +32,55 @@ abbrev pub second : List ℕ → ℕ
 second [] = 0
 second (c ∷ cs) = head cs
 
--- words are names, but for being reserved
+-- keywords are spelled as names are
 
-pub word_head : (w : Keyword) → class_of (head (word_text w)) ≡ class.Letter
-word_head word.Call = refl
-word_head word.Delocal = refl
-word_head word.Do = refl
-word_head word.Else = refl
-word_head word.Empty = refl
-word_head word.Fi = refl
-word_head word.From = refl
-word_head word.If = refl
-word_head word.Int = refl
-word_head word.Local = refl
-word_head word.Loop = refl
-word_head word.Main = refl
-word_head word.Nil = refl
-word_head word.Pop = refl
-word_head word.Procedure = refl
-word_head word.Push = refl
-word_head word.Skip = refl
-word_head word.Stack = refl
-word_head word.Then = refl
-word_head word.Top = refl
-word_head word.Uncall = refl
-word_head word.Until = refl
+pub keyword_head : (w : Keyword) → class_of (head (keyword_text w)) ≡ class.Letter
+keyword_head keyword.Call = refl
+keyword_head keyword.Delocal = refl
+keyword_head keyword.Do = refl
+keyword_head keyword.Else = refl
+keyword_head keyword.Empty = refl
+keyword_head keyword.Fi = refl
+keyword_head keyword.From = refl
+keyword_head keyword.If = refl
+keyword_head keyword.Int = refl
+keyword_head keyword.Local = refl
+keyword_head keyword.Loop = refl
+keyword_head keyword.Main = refl
+keyword_head keyword.Nil = refl
+keyword_head keyword.Pop = refl
+keyword_head keyword.Procedure = refl
+keyword_head keyword.Push = refl
+keyword_head keyword.Skip = refl
+keyword_head keyword.Stack = refl
+keyword_head keyword.Then = refl
+keyword_head keyword.Top = refl
+keyword_head keyword.Uncall = refl
+keyword_head keyword.Until = refl
 
-pub word_passes : (w : Keyword) → AllPass of_name (word_text w)
-word_passes word.Call = (refl, (refl, (refl, (refl, tt))))
-word_passes word.Delocal = (refl, (refl, (refl, (refl, (refl, (refl, (refl, tt)))))))
-word_passes word.Do = (refl, (refl, tt))
-word_passes word.Else = (refl, (refl, (refl, (refl, tt))))
-word_passes word.Empty = (refl, (refl, (refl, (refl, (refl, tt)))))
-word_passes word.Fi = (refl, (refl, tt))
-word_passes word.From = (refl, (refl, (refl, (refl, tt))))
-word_passes word.If = (refl, (refl, tt))
-word_passes word.Int = (refl, (refl, (refl, tt)))
-word_passes word.Local = (refl, (refl, (refl, (refl, (refl, tt)))))
-word_passes word.Loop = (refl, (refl, (refl, (refl, tt))))
-word_passes word.Main = (refl, (refl, (refl, (refl, tt))))
-word_passes word.Nil = (refl, (refl, (refl, tt)))
-word_passes word.Pop = (refl, (refl, (refl, tt)))
-word_passes word.Procedure = (refl, (refl, (refl, (refl, (refl, (refl, (refl, (refl, (refl, tt)))))))))
-word_passes word.Push = (refl, (refl, (refl, (refl, tt))))
-word_passes word.Skip = (refl, (refl, (refl, (refl, tt))))
-word_passes word.Stack = (refl, (refl, (refl, (refl, (refl, tt)))))
-word_passes word.Then = (refl, (refl, (refl, (refl, tt))))
-word_passes word.Top = (refl, (refl, (refl, tt)))
-word_passes word.Uncall = (refl, (refl, (refl, (refl, (refl, (refl, tt))))))
-word_passes word.Until = (refl, (refl, (refl, (refl, (refl, tt)))))
+pub keyword_passes : (w : Keyword) → AllPass of_name (keyword_text w)
+keyword_passes keyword.Call = (refl, (refl, (refl, (refl, tt))))
+keyword_passes keyword.Delocal = (refl, (refl, (refl, (refl, (refl, (refl, (refl, tt)))))))
+keyword_passes keyword.Do = (refl, (refl, tt))
+keyword_passes keyword.Else = (refl, (refl, (refl, (refl, tt))))
+keyword_passes keyword.Empty = (refl, (refl, (refl, (refl, (refl, tt)))))
+keyword_passes keyword.Fi = (refl, (refl, tt))
+keyword_passes keyword.From = (refl, (refl, (refl, (refl, tt))))
+keyword_passes keyword.If = (refl, (refl, tt))
+keyword_passes keyword.Int = (refl, (refl, (refl, tt)))
+keyword_passes keyword.Local = (refl, (refl, (refl, (refl, (refl, tt)))))
+keyword_passes keyword.Loop = (refl, (refl, (refl, (refl, tt))))
+keyword_passes keyword.Main = (refl, (refl, (refl, (refl, tt))))
+keyword_passes keyword.Nil = (refl, (refl, (refl, tt)))
+keyword_passes keyword.Pop = (refl, (refl, (refl, tt)))
+keyword_passes keyword.Procedure = (refl, (refl, (refl, (refl, (refl, (refl, (refl, (refl, (refl, tt)))))))))
+keyword_passes keyword.Push = (refl, (refl, (refl, (refl, tt))))
+keyword_passes keyword.Skip = (refl, (refl, (refl, (refl, tt))))
+keyword_passes keyword.Stack = (refl, (refl, (refl, (refl, (refl, tt)))))
+keyword_passes keyword.Then = (refl, (refl, (refl, (refl, tt))))
+keyword_passes keyword.Top = (refl, (refl, (refl, tt)))
+keyword_passes keyword.Uncall = (refl, (refl, (refl, (refl, (refl, (refl, tt))))))
+keyword_passes keyword.Until = (refl, (refl, (refl, (refl, (refl, tt)))))
 
 -- signs
 
@@ -195,7 +195,7 @@ HeadIs Gap c = (class_of c ≡ class.Space) ⊎ (class_of c ≡ class.Other)
 HeadIs (A_name x) c = class_of c ≡ class.Letter
 HeadIs (A_number n) c = class_of c ≡ class.Digit
 HeadIs (A_sign s) c = class_of c ≡ class.Other
-HeadIs (A_word w) c = class_of c ≡ class.Letter
+HeadIs (A_keyword w) c = class_of c ≡ class.Letter
 
 digit_class : (k : Class) → goes_on_number k ≡ true → k ≡ class.Digit
 digit_class class.Letter e = absurd cc
@@ -204,8 +204,8 @@ digit_class class.Underscore e = absurd cc
 digit_class class.Space e = absurd cc
 digit_class class.Other e = absurd cc
 
-word_spelled : (w : Keyword) (c : ℕ) (cs : List ℕ) → c ∷ cs ≡ word_text w → class_of c ≡ class.Letter
-word_spelled w c cs e = ap (λ l. class_of (head l)) e ∙ word_head w
+keyword_spelled : (w : Keyword) (c : ℕ) (cs : List ℕ) → c ∷ cs ≡ keyword_text w → class_of c ≡ class.Letter
+keyword_spelled w c cs e = ap (λ l. class_of (head l)) e ∙ keyword_head w
 
 sign_is_head : (s : Sign) (c : ℕ) (cs : List ℕ) → c ∷ cs ≡ sign_text s → class_of c ≡ class.Other
 sign_is_head s c cs e = ap (λ l. class_of (head (l ++ []))) e ∙ sign_head s []
@@ -216,11 +216,11 @@ head_is Gap c cs (inr (ds, e, k)) = inr (ap (λ l. class_of (head l)) e)
 head_is (A_name x) c cs (e, (k, h), n) = k
 head_is (A_number n) c cs (e, (k, h)) = digit_class (class_of c) k
 head_is (A_sign s) c cs e = sign_is_head s c cs e
-head_is (A_word w) c cs e = word_spelled w c cs e
+head_is (A_keyword w) c cs e = keyword_spelled w c cs e
 
 -- an item has octets
-empty_word : (w : Keyword) → [] ≡ word_text w → ⊥
-empty_word w e = let h = ap (λ l. class_of (head l)) e ∙ word_head w in absurd cc
+empty_keyword : (w : Keyword) → [] ≡ keyword_text w → ⊥
+empty_keyword w e = let h = ap (λ l. class_of (head l)) e ∙ keyword_head w in absurd cc
 
 empty_sign : (s : Sign) → [] ≡ sign_text s → ⊥
 empty_sign s e = let h = ltb-true 0 (length (sign_text s)) (sign_some s) in absurd (omega (arith, h, ap length e))
@@ -231,7 +231,7 @@ some_octets Gap (inr (ds, e, k)) = absurd cc
 some_octets (A_name x) (e, k, n) = k
 some_octets (A_number n) (e, k) = k
 some_octets (A_sign s) e = empty_sign s e
-some_octets (A_word w) e = empty_word w e
+some_octets (A_keyword w) e = empty_keyword w e
 
 -- how an item goes on behind its first octet
 tail_of : (p : ℕ → Bool) (c : ℕ) (cs l : List ℕ) → c ∷ cs ≡ l → AllPass p l → AllPass p cs
@@ -242,14 +242,14 @@ letters_go_on Gap c cs k s = elim (head_is Gap c cs s) [ inl h ↦ absurd cc | i
 letters_go_on (A_name x) c cs k (e, (q, h), n) = h
 letters_go_on (A_number n) c cs k s = let h = head_is (A_number n) c cs s in absurd cc
 letters_go_on (A_sign t) c cs k s = let h = head_is (A_sign t) c cs s in absurd cc
-letters_go_on (A_word w) c cs k e = tail_of of_name c cs (word_text w) e (word_passes w)
+letters_go_on (A_keyword w) c cs k e = tail_of of_name c cs (keyword_text w) e (keyword_passes w)
 
 digits_go_on : (i : Item) (c : ℕ) (cs : List ℕ) → class_of c ≡ class.Digit → IsSpelled i (c ∷ cs) → AllPass of_number cs
 digits_go_on Gap c cs k s = elim (head_is Gap c cs s) [ inl h ↦ absurd cc | inr h ↦ absurd cc ]
 digits_go_on (A_name x) c cs k s = let h = head_is (A_name x) c cs s in absurd cc
 digits_go_on (A_number n) c cs k (e, (q, h)) = h
 digits_go_on (A_sign t) c cs k s = let h = head_is (A_sign t) c cs s in absurd cc
-digits_go_on (A_word w) c cs k s = let h = head_is (A_word w) c cs s in absurd cc
+digits_go_on (A_keyword w) c cs k s = let h = head_is (A_keyword w) c cs s in absurd cc
 
 space_ends : (i : Item) (c : ℕ) (cs : List ℕ) → class_of c ≡ class.Space → IsSpelled i (c ∷ cs) → cs ≡ []
 space_ends Gap c cs k (inl (d, e, q)) = cc
@@ -257,7 +257,7 @@ space_ends Gap c cs k (inr (ds, e, q)) = let h = ap (λ l. class_of (head l)) e 
 space_ends (A_name x) c cs k s = let h = head_is (A_name x) c cs s in absurd cc
 space_ends (A_number n) c cs k s = let h = head_is (A_number n) c cs s in absurd cc
 space_ends (A_sign t) c cs k s = let h = head_is (A_sign t) c cs s in absurd cc
-space_ends (A_word w) c cs k s = let h = head_is (A_word w) c cs s in absurd cc
+space_ends (A_keyword w) c cs k s = let h = head_is (A_keyword w) c cs s in absurd cc
 
 slash : class_of 47 ≡ class.Other
 slash = refl
@@ -268,7 +268,7 @@ comment_goes_on Gap cs (inr (ds, e, q)) = let same : ds ≡ cs = cc in subst (λ
 comment_goes_on (A_name x) cs s = let h = head_is (A_name x) 47 (47 ∷ cs) s in let k = slash in absurd cc
 comment_goes_on (A_number n) cs s = let h = head_is (A_number n) 47 (47 ∷ cs) s in let k = slash in absurd cc
 comment_goes_on (A_sign t) cs e = absurd (no_comment t (ap (λ l. head l == 47) (sym e)) (ap (λ l. second l == 47) (sym e)))
-comment_goes_on (A_word w) cs s = let h = head_is (A_word w) 47 (47 ∷ cs) s in let k = slash in absurd cc
+comment_goes_on (A_keyword w) cs s = let h = head_is (A_keyword w) 47 (47 ∷ cs) s in let k = slash in absurd cc
 
 -- the first octet behind a run does not pass
 abbrev pub StopsAt : (ℕ → Bool) → List ℕ → Type 0
@@ -395,7 +395,7 @@ other_is Gap c cs k (inr (ds, e, q)) = inr (ds, e)
 other_is (A_name x) c cs k s = let h = head_is (A_name x) c cs s in absurd cc
 other_is (A_number n) c cs k s = let h = head_is (A_number n) c cs s in absurd cc
 other_is (A_sign t) c cs k s = inl (t, s)
-other_is (A_word w) c cs k s = let h = head_is (A_word w) c cs s in absurd cc
+other_is (A_keyword w) c cs k s = let h = head_is (A_keyword w) c cs s in absurd cc
 
 none_left : (more : List ℕ) → length more ≤ 0 → more ≡ []
 none_left [] h = refl
@@ -423,7 +423,7 @@ underscore_none xs k Gap (c ∷ cs) rest e s = let q = sym k ∙ ap (λ l. class
 underscore_none xs k (A_name x) (c ∷ cs) rest e s = let q = sym k ∙ ap (λ l. class_of (get_or l 0 0)) e in let h = head_is (A_name x) c cs s in absurd cc
 underscore_none xs k (A_number n) (c ∷ cs) rest e s = let q = sym k ∙ ap (λ l. class_of (get_or l 0 0)) e in let h = head_is (A_number n) c cs s in absurd cc
 underscore_none xs k (A_sign t) (c ∷ cs) rest e s = let q = sym k ∙ ap (λ l. class_of (get_or l 0 0)) e in let h = head_is (A_sign t) c cs s in absurd cc
-underscore_none xs k (A_word w) (c ∷ cs) rest e s = let q = sym k ∙ ap (λ l. class_of (get_or l 0 0)) e in let h = head_is (A_word w) c cs s in absurd cc
+underscore_none xs k (A_keyword w) (c ∷ cs) rest e s = let q = sym k ∙ ap (λ l. class_of (get_or l 0 0)) e in let h = head_is (A_keyword w) c cs s in absurd cc
 
 pub other_none : (xs : List ℕ) → class_of (get_or xs 0 0) ≡ class.Other → IsLongestSign xs None → ((ds : List ℕ) → xs ≡ 47 ∷ 47 ∷ ds → ⊥) → NoItem xs
 other_none xs k none apart i [] rest e s = some_octets i s

@@ -6,12 +6,12 @@ use Rattle.janus_syntax.specs.declared.token.Sign.{Sign}
 use Rattle.janus_syntax.specs.declared.token.Sign.TheVariants as sign
 use Rattle.janus_syntax.specs.declared.token.Keyword.{Keyword}
 use Rattle.janus_syntax.specs.declared.operator.Infix.{Infix}
-use Rattle.janus_syntax.specs.Tokens.{Token, Name, Number, Sign_of, Word_of}
+use Rattle.janus_syntax.specs.Tokens.{Token, Name, Number, Sign_of, Keyword_of}
 use Rattle.janus_syntax.specs.Tree.{Exp}
 use Rattle.janus_syntax.specs.Operators.{weakest, sign_infix, operator_at}
-use Rattle.janus_syntax.specs.Forms.{Part, Chain, The_word, The_sign, seen, word_number, sign_number, Form, Rule}
+use Rattle.janus_syntax.specs.Forms.{Part, Chain, The_keyword, The_sign, seen, keyword_number, sign_number, Form, Rule}
 use Rattle.janus_syntax.specs.Table.{rule, chains, chain_rule}
-use Rattle.janus_syntax.proofs.Follow.{is_word, is_sign, no_index, weaker_than, ends_at, after_statement, May, Proper}
+use Rattle.janus_syntax.proofs.Follow.{is_keyword, is_sign, no_index, weaker_than, ends_at, after_statement, May, Proper}
 
 -- From a fixed token's class to the token's test.
 
@@ -19,45 +19,45 @@ pub cond_some : {A : Type 0} (b : Bool) (u s : A) → cond b (Some u) None ≡ S
 cond_some true u s e = refl
 cond_some false u s e = absurd cc
 
-pub seen_word : (w : Keyword) (t : Token) (s : Unit {0}) → seen (The_word w) t ≡ Some s → is_word w t ≡ true
-seen_word w (Word_of v at) s e = cond_some (nat_eq (word_number w) (word_number v)) tt s e
-seen_word w (Name x at) s e = absurd cc
-seen_word w (Number n at) s e = absurd cc
-seen_word w (Sign_of r at) s e = absurd cc
+pub seen_keyword : (w : Keyword) (t : Token) (s : Unit {0}) → seen (The_keyword w) t ≡ Some s → is_keyword w t ≡ true
+seen_keyword w (Keyword_of v at) s e = cond_some (nat_eq (keyword_number w) (keyword_number v)) tt s e
+seen_keyword w (Name x at) s e = absurd cc
+seen_keyword w (Number n at) s e = absurd cc
+seen_keyword w (Sign_of r at) s e = absurd cc
 
 pub seen_sign : (r : Sign) (t : Token) (s : Unit {0}) → seen (The_sign r) t ≡ Some s → is_sign r t ≡ true
 seen_sign r (Sign_of v at) s e = cond_some (nat_eq (sign_number r) (sign_number v)) tt s e
 seen_sign r (Name x at) s e = absurd cc
 seen_sign r (Number n at) s e = absurd cc
-seen_sign r (Word_of w at) s e = absurd cc
+seen_sign r (Keyword_of w at) s e = absurd cc
 
 -- What may stand behind a whole expression, for the tokens that do.
 
 pub ends_statement : (t : Token) → after_statement t ≡ true → ends_at weakest t ≡ true
 ends_statement (Name x at) e = refl
-ends_statement (Word_of w at) e = refl
+ends_statement (Keyword_of w at) e = refl
 ends_statement (Number n at) e = absurd cc
 ends_statement (Sign_of s at) e = absurd cc
 
-pub word_after : (w : Keyword) (t : Token) → is_word w t ≡ true → after_statement t ≡ true
-word_after w (Word_of v at) e = refl
-word_after w (Name x at) e = absurd cc
-word_after w (Number n at) e = absurd cc
-word_after w (Sign_of s at) e = absurd cc
+pub keyword_after : (w : Keyword) (t : Token) → is_keyword w t ≡ true → after_statement t ≡ true
+keyword_after w (Keyword_of v at) e = refl
+keyword_after w (Name x at) e = absurd cc
+keyword_after w (Number n at) e = absurd cc
+keyword_after w (Sign_of s at) e = absurd cc
 
 pub ends_close : (t : Token) → is_sign sign.Close t ≡ true → ends_at weakest t ≡ true
 ends_close (Sign_of sign.Close at) e = refl
 ends_close (Sign_of _ at) e = absurd cc
 ends_close (Name x at) e = absurd cc
 ends_close (Number n at) e = absurd cc
-ends_close (Word_of w at) e = absurd cc
+ends_close (Keyword_of w at) e = absurd cc
 
 pub ends_close_index : (t : Token) → is_sign sign.CloseIndex t ≡ true → ends_at weakest t ≡ true
 ends_close_index (Sign_of sign.CloseIndex at) e = refl
 ends_close_index (Sign_of _ at) e = absurd cc
 ends_close_index (Name x at) e = absurd cc
 ends_close_index (Number n at) e = absurd cc
-ends_close_index (Word_of w at) e = absurd cc
+ends_close_index (Keyword_of w at) e = absurd cc
 
 -- Expressions.
 
@@ -77,7 +77,7 @@ chain_level (Some op) n e r h = (op, refl, eqb-true op.level n (cond_some (nat_e
 pub operator_no_index : (t : Token) (op : Infix) → operator_at t ≡ Some op → no_index t ≡ true
 operator_no_index (Name x at) op e = refl
 operator_no_index (Number n at) op e = refl
-operator_no_index (Word_of w at) op e = refl
+operator_no_index (Keyword_of w at) op e = refl
 operator_no_index (Sign_of sign.OpenIndex at) op e = absurd cc
 operator_no_index (Sign_of _ at) op e = refl
 
@@ -114,5 +114,5 @@ sign_positive _ = refl
 pub operator_positive : (t : Token) → positive (operator_at t) ≡ true
 operator_positive (Name x at) = refl
 operator_positive (Number n at) = refl
-operator_positive (Word_of w at) = refl
+operator_positive (Keyword_of w at) = refl
 operator_positive (Sign_of s at) = sign_positive s

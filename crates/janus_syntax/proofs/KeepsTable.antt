@@ -3,16 +3,16 @@ use Rattle.std.proofs.Common.{◌≡◌, [], Bool, ℕ, ◌+◌, ◌-◌, ◌<�
 use Rattle.std.specs.Prelude.{nat_eq}
 use Rattle.std.proofs.lemmas.Bool.{ltb-true, eqb-true}
 use Rattle.janus_syntax.specs.declared.token.Sign.TheVariants as sign
-use Rattle.janus_syntax.specs.declared.token.Keyword.TheVariants as word
+use Rattle.janus_syntax.specs.declared.token.Keyword.TheVariants as keyword
 use Rattle.janus_syntax.specs.declared.operator.Infix.{Infix}
-use Rattle.janus_syntax.specs.Tokens.{Token, Name, Number, Sign_of, Word_of}
+use Rattle.janus_syntax.specs.Tokens.{Token, Name, Number, Sign_of, Keyword_of}
 use Rattle.janus_syntax.specs.Tree.{named, Exp, Block, Cell, cell_of}
 use Rattle.janus_syntax.specs.Operators.{weakest, joined, operator_at}
 use Rattle.janus_syntax.specs.Forms.{Part, A_cell, Declarations, Bound, Procedures, A_procedure, Parameters, More_parameters, A_parameter, Brackets, Body, Statements, Else_part, Do_part, Loop_part, Local, Names, More_names, Target_index, Whole, Level, Chain, Index, Tree, done, part, Rule}
 use Rattle.janus_syntax.specs.Grammar.{text_form}
 use Rattle.janus_syntax.specs.Table.{rule, whole, operand, counts, chain_rule, with_procedure, with_main, is_bare}
 use Rattle.janus_syntax.proofs.Follow.{ends_at, after_body, after_declarations, may_follow, May, Proper, AllProper}
-use Rattle.janus_syntax.proofs.Keeps.{seen_word, seen_sign, ends_statement, ends_close_index, ends_weaker, ends_chain, proper_chains, may_chains, positive, operator_positive}
+use Rattle.janus_syntax.proofs.Keeps.{seen_keyword, seen_sign, ends_statement, ends_close_index, ends_weaker, ends_chain, proper_chains, may_chains, positive, operator_positive}
 use Rattle.janus_syntax.proofs.KeepsTokens.{procedure_body, close_parameter, comma_parameter, body_declarations, delocal_body, begins_statement, begins_declaration, body_after, declarations_after, statement_declarations, fi_body, until_body, loop_or_until_body}
 use Rattle.janus_syntax.proofs.KeepsForms.{proper_operand, proper_statement, proper_declaration, proper_parameter, proper_behind_name}
 
@@ -65,20 +65,20 @@ proper_rule Bound (Sign_of sign.OpenIndex at) = λ n z. tt
 proper_rule Bound (Sign_of _ at) = tt
 proper_rule Bound (Name x at) = tt
 proper_rule Bound (Number n at) = tt
-proper_rule Bound (Word_of w at) = tt
-proper_rule (Procedures main c) (Word_of word.Procedure at) = λ u. (tt, λ t m. m)
-proper_rule (Procedures main c) (Word_of _ at) = tt
+proper_rule Bound (Keyword_of w at) = tt
+proper_rule (Procedures main c) (Keyword_of keyword.Procedure at) = λ u. (tt, λ t m. m)
+proper_rule (Procedures main c) (Keyword_of _ at) = tt
 proper_rule (Procedures main c) (Name x at) = tt
 proper_rule (Procedures main c) (Number n at) = tt
 proper_rule (Procedures main c) (Sign_of s at) = tt
 proper_rule (A_procedure main c) (Name f at) =
     proper_behind_name {p = A_procedure main c} (named f at) (λ p. part (Procedures main (with_procedure c p)) done) (λ p. proper_procedures (A_procedure main c) never_more main (with_procedure c p) (λ d. d))
     (λ p t m. may_procedures (A_procedure main c) never_more main (with_procedure c p) (λ d. d) t m)
-proper_rule (A_procedure true c) (Word_of word.Main at) =
+proper_rule (A_procedure true c) (Keyword_of keyword.Main at) =
     λ a b ds. (proper_statements (A_procedure true c) never_more (λ b. false) (λ b. with_main ds b c) (λ d. d), λ t m. may_statements (A_procedure true c) never_more (λ b. false) (λ b. with_main ds b c) (λ d. d) t m)
-proper_rule (A_procedure false c) (Word_of word.Main at) = tt
-proper_rule (A_procedure true c) (Word_of _ at) = tt
-proper_rule (A_procedure false c) (Word_of _ at) = tt
+proper_rule (A_procedure false c) (Keyword_of keyword.Main at) = tt
+proper_rule (A_procedure true c) (Keyword_of _ at) = tt
+proper_rule (A_procedure false c) (Keyword_of _ at) = tt
 proper_rule (A_procedure main c) (Number n at) = tt
 proper_rule (A_procedure main c) (Sign_of s at) = tt
 proper_rule Parameters t = proper_parameter t _ (λ x xs. (tt, λ t m. m)) (λ x t m. elim m [ inl (r, is) ↦ comma_parameter t r is | inr (u, is, m) ↦ close_parameter t m ])
@@ -86,50 +86,50 @@ proper_rule More_parameters (Sign_of sign.Comma at) = λ x. ((λ xs. (tt, λ t m
 proper_rule More_parameters (Sign_of _ at) = tt
 proper_rule More_parameters (Name x at) = tt
 proper_rule More_parameters (Number n at) = tt
-proper_rule More_parameters (Word_of w at) = tt
+proper_rule More_parameters (Keyword_of w at) = tt
 proper_rule A_parameter t = proper_parameter t done (λ x. tt) (λ x t m. m)
 proper_rule Brackets (Sign_of sign.OpenIndex at) = λ z. tt
 proper_rule Brackets (Sign_of _ at) = tt
 proper_rule Brackets (Name x at) = tt
 proper_rule Brackets (Number n at) = tt
-proper_rule Brackets (Word_of w at) = tt
+proper_rule Brackets (Keyword_of w at) = tt
 proper_rule Body t = proper_statement t _ (λ s b. (tt, λ t m. m)) (λ s t m. elim m [ inl (r, is) ↦ begins_statement t _ r is | inr (u, is, m) ↦ body_after t m ])
 proper_rule Statements t = proper_statement t _ (λ s b. (tt, λ t m. m)) (λ s t m. elim m [ inl (r, is) ↦ begins_statement t _ r is | inr (u, is, m) ↦ body_after t m ])
-proper_rule Else_part (Word_of word.Else at) = λ b. (tt, λ t m. fi_body t m)
-proper_rule Else_part (Word_of _ at) = tt
+proper_rule Else_part (Keyword_of keyword.Else at) = λ b. (tt, λ t m. fi_body t m)
+proper_rule Else_part (Keyword_of _ at) = tt
 proper_rule Else_part (Name x at) = tt
 proper_rule Else_part (Number n at) = tt
 proper_rule Else_part (Sign_of s at) = tt
-proper_rule Do_part (Word_of word.Do at) = λ b. (tt, λ t m. loop_or_until_body t m)
-proper_rule Do_part (Word_of _ at) = tt
+proper_rule Do_part (Keyword_of keyword.Do at) = λ b. (tt, λ t m. loop_or_until_body t m)
+proper_rule Do_part (Keyword_of _ at) = tt
 proper_rule Do_part (Name x at) = tt
 proper_rule Do_part (Number n at) = tt
 proper_rule Do_part (Sign_of s at) = tt
-proper_rule Loop_part (Word_of word.Loop at) = λ b. (tt, λ t m. until_body t m)
-proper_rule Loop_part (Word_of _ at) = tt
+proper_rule Loop_part (Keyword_of keyword.Loop at) = λ b. (tt, λ t m. until_body t m)
+proper_rule Loop_part (Keyword_of _ at) = tt
 proper_rule Loop_part (Name x at) = tt
 proper_rule Loop_part (Number n at) = tt
 proper_rule Loop_part (Sign_of s at) = tt
-proper_rule Local (Word_of word.Int at) = λ x a e. ((λ b. ((λ c j y d f. (tt, λ t m. ends_statement t m)), λ t m. delocal_body t (seen_word word.Delocal t m.0 m.1))), λ t m. elim m [ inl (r, is) ↦ ends_statement t (begins_statement t _ r is) | inr (u, is, m) ↦ absurd cc ])
-proper_rule Local (Word_of word.Stack at) = λ x a c b. ((λ d j y f g. tt), λ t m. delocal_body t (seen_word word.Delocal t m.0 m.1))
-proper_rule Local (Word_of _ at) = tt
+proper_rule Local (Keyword_of keyword.Int at) = λ x a e. ((λ b. ((λ c j y d f. (tt, λ t m. ends_statement t m)), λ t m. delocal_body t (seen_keyword keyword.Delocal t m.0 m.1))), λ t m. elim m [ inl (r, is) ↦ ends_statement t (begins_statement t _ r is) | inr (u, is, m) ↦ absurd cc ])
+proper_rule Local (Keyword_of keyword.Stack at) = λ x a c b. ((λ d j y f g. tt), λ t m. delocal_body t (seen_keyword keyword.Delocal t m.0 m.1))
+proper_rule Local (Keyword_of _ at) = tt
 proper_rule Local (Name x at) = tt
 proper_rule Local (Number n at) = tt
 proper_rule Local (Sign_of s at) = tt
 proper_rule Names (Name x at) = λ xs. (tt, λ t m. m)
-proper_rule Names (Word_of w at) = tt
+proper_rule Names (Keyword_of w at) = tt
 proper_rule Names (Number n at) = tt
 proper_rule Names (Sign_of s at) = tt
 proper_rule More_names (Sign_of sign.Comma at) = λ x xs. (tt, λ t m. m)
 proper_rule More_names (Sign_of _ at) = tt
 proper_rule More_names (Name x at) = tt
 proper_rule More_names (Number n at) = tt
-proper_rule More_names (Word_of w at) = tt
+proper_rule More_names (Keyword_of w at) = tt
 proper_rule Target_index (Sign_of sign.OpenIndex at) = λ e. ((λ z. tt), λ t m. ends_close_index t (seen_sign sign.CloseIndex t m.0 m.1))
 proper_rule Target_index (Sign_of _ at) = tt
 proper_rule Target_index (Name x at) = tt
 proper_rule Target_index (Number n at) = tt
-proper_rule Target_index (Word_of w at) = tt
+proper_rule Target_index (Keyword_of w at) = tt
 proper_rule Whole t = whole_proper (operand t _) (proper_operand t _ (λ e. proper_chains {p = Whole} 0 weakest e done (λ f. tt) (λ f t m. m)) (λ e t m. may_chains {p = Whole} 0 weakest e done (λ f t m. m) t m))
 proper_rule (Level n) t = proper_operand t _ (λ e. proper_chains {p = Level n} 0 n e done (λ f. tt) (λ f t m. up n t m)) (λ e t m. may_chains {p = Level n} 0 n e done (λ f t m. up n t m) t m)
 proper_rule (Chain n e) t = chain_proper (operator_at t) n e (operator_positive t)
@@ -137,4 +137,4 @@ proper_rule Index (Sign_of sign.OpenIndex at) = λ e. ((λ z. tt), λ t m. ends_
 proper_rule Index (Sign_of _ at) = tt
 proper_rule Index (Name x at) = tt
 proper_rule Index (Number n at) = tt
-proper_rule Index (Word_of w at) = tt
+proper_rule Index (Keyword_of w at) = tt

@@ -3,45 +3,45 @@ use Rattle.std.proofs.Common.{◌≡◌, ℕ, ◌-◌, ◌<◌, Option, Some, No
 use Rattle.std.specs.Prelude.{◌||◌}
 use Rattle.std.proofs.lemmas.Bool.{ltb-true, ne_eqb, and_parts}
 use Rattle.janus_syntax.specs.declared.token.Sign.TheVariants as sign
-use Rattle.janus_syntax.specs.declared.token.Keyword.TheVariants as word
+use Rattle.janus_syntax.specs.declared.token.Keyword.TheVariants as keyword
 use Rattle.janus_syntax.specs.declared.operator.Infix.{Infix}
-use Rattle.janus_syntax.specs.Tokens.{Token, Name, Number, Sign_of, Word_of}
+use Rattle.janus_syntax.specs.Tokens.{Token, Name, Number, Sign_of, Keyword_of}
 use Rattle.janus_syntax.specs.Tree.{Exp, Stm, Declaration, Parameter}
 use Rattle.janus_syntax.specs.Operators.{joined, operator_at}
 use Rattle.janus_syntax.specs.Forms.{Part, A_cell, Declarations, Bound, Procedures, A_procedure, Parameters, More_parameters, A_parameter, Brackets, Body, Statements, Else_part, Do_part, Loop_part, Local, Names, More_names, Target_index, Whole, Level, Chain, Index, Tree, Form, done, part}
 use Rattle.janus_syntax.specs.Table.{rule, left_out, counts, chain_rule, statement, declaration, a_parameter}
-use Rattle.janus_syntax.proofs.Follow.{is_word, is_sign, no_index, weaker_than, after_statement, after_body, after_declarations, after_parameter, may_follow}
+use Rattle.janus_syntax.proofs.Follow.{is_keyword, is_sign, no_index, weaker_than, after_statement, after_body, after_declarations, after_parameter, may_follow}
 
 no_statement : {p : Part} → (t : Token) (k : Stm → Form p) → after_body t ≡ true → statement t k ≡ None
-no_statement (Word_of word.If at) k e = absurd cc
-no_statement (Word_of word.From at) k e = absurd cc
-no_statement (Word_of word.Skip at) k e = absurd cc
-no_statement (Word_of word.Local at) k e = absurd cc
-no_statement (Word_of word.Push at) k e = absurd cc
-no_statement (Word_of word.Pop at) k e = absurd cc
-no_statement (Word_of word.Call at) k e = absurd cc
-no_statement (Word_of word.Uncall at) k e = absurd cc
-no_statement (Word_of _ at) k e = refl
+no_statement (Keyword_of keyword.If at) k e = absurd cc
+no_statement (Keyword_of keyword.From at) k e = absurd cc
+no_statement (Keyword_of keyword.Skip at) k e = absurd cc
+no_statement (Keyword_of keyword.Local at) k e = absurd cc
+no_statement (Keyword_of keyword.Push at) k e = absurd cc
+no_statement (Keyword_of keyword.Pop at) k e = absurd cc
+no_statement (Keyword_of keyword.Call at) k e = absurd cc
+no_statement (Keyword_of keyword.Uncall at) k e = absurd cc
+no_statement (Keyword_of _ at) k e = refl
 no_statement (Name x at) k e = absurd cc
 no_statement (Number n at) k e = refl
 no_statement (Sign_of s at) k e = refl
 
 no_declaration : {p : Part} → (t : Token) (k : Declaration → Form p) → after_declarations t ≡ true → declaration t k ≡ None
-no_declaration (Word_of word.Int at) k e = absurd cc
-no_declaration (Word_of word.Stack at) k e = absurd cc
-no_declaration (Word_of _ at) k e = refl
+no_declaration (Keyword_of keyword.Int at) k e = absurd cc
+no_declaration (Keyword_of keyword.Stack at) k e = absurd cc
+no_declaration (Keyword_of _ at) k e = refl
 no_declaration (Name x at) k e = refl
 no_declaration (Number n at) k e = refl
 no_declaration (Sign_of s at) k e = refl
 
 no_parameter : {p : Part} → (t : Token) (k : Parameter → Form p) → is_sign sign.Close t ≡ true → a_parameter t k ≡ None
-no_parameter (Word_of w at) k e = absurd cc
+no_parameter (Keyword_of w at) k e = absurd cc
 no_parameter (Name x at) k e = refl
 no_parameter (Number n at) k e = refl
 no_parameter (Sign_of s at) k e = refl
 
 no_more_parameters : (t : Token) → is_sign sign.Close t ≡ true → rule More_parameters t ≡ None
-no_more_parameters (Word_of w at) e = refl
+no_more_parameters (Keyword_of w at) e = refl
 no_more_parameters (Name x at) e = refl
 no_more_parameters (Number n at) e = refl
 no_more_parameters (Sign_of sign.Comma at) e = absurd cc
@@ -50,7 +50,7 @@ no_more_parameters (Sign_of _ at) e = refl
 no_brackets : (t : Token) → after_parameter t ≡ true → rule Brackets t ≡ None
 no_brackets (Sign_of sign.OpenIndex at) e = absurd cc
 no_brackets (Sign_of _ at) e = refl
-no_brackets (Word_of w at) e = refl
+no_brackets (Keyword_of w at) e = refl
 no_brackets (Name x at) e = refl
 no_brackets (Number n at) e = refl
 
@@ -62,39 +62,39 @@ no_chain (Some op) n e h =
 
 no_bound : (t : Token) → after_statement t ≡ true → rule Bound t ≡ None
 no_bound (Sign_of s at) e = absurd cc
-no_bound (Word_of w at) e = refl
+no_bound (Keyword_of w at) e = refl
 no_bound (Name x at) e = refl
 no_bound (Number n at) e = refl
 
-no_else : (t : Token) → is_word word.Fi t ≡ true → rule Else_part t ≡ None
-no_else (Word_of word.Else at) e = absurd cc
-no_else (Word_of _ at) e = refl
+no_else : (t : Token) → is_keyword keyword.Fi t ≡ true → rule Else_part t ≡ None
+no_else (Keyword_of keyword.Else at) e = absurd cc
+no_else (Keyword_of _ at) e = refl
 no_else (Sign_of s at) e = refl
 no_else (Name x at) e = refl
 no_else (Number n at) e = refl
 
-no_do : (t : Token) → (is_word word.Loop t || is_word word.Until t) ≡ true → rule Do_part t ≡ None
-no_do (Word_of word.Do at) e = absurd cc
-no_do (Word_of _ at) e = refl
+no_do : (t : Token) → (is_keyword keyword.Loop t || is_keyword keyword.Until t) ≡ true → rule Do_part t ≡ None
+no_do (Keyword_of keyword.Do at) e = absurd cc
+no_do (Keyword_of _ at) e = refl
 no_do (Sign_of s at) e = refl
 no_do (Name x at) e = refl
 no_do (Number n at) e = refl
 
-no_loop : (t : Token) → is_word word.Until t ≡ true → rule Loop_part t ≡ None
-no_loop (Word_of word.Loop at) e = absurd cc
-no_loop (Word_of _ at) e = refl
+no_loop : (t : Token) → is_keyword keyword.Until t ≡ true → rule Loop_part t ≡ None
+no_loop (Keyword_of keyword.Loop at) e = absurd cc
+no_loop (Keyword_of _ at) e = refl
 no_loop (Sign_of s at) e = refl
 no_loop (Name x at) e = refl
 no_loop (Number n at) e = refl
 
 no_names : (t : Token) → is_sign sign.Close t ≡ true → rule Names t ≡ None
 no_names (Name x at) e = absurd cc
-no_names (Word_of w at) e = refl
+no_names (Keyword_of w at) e = refl
 no_names (Sign_of s at) e = refl
 no_names (Number n at) e = refl
 
 no_more_names : (t : Token) → is_sign sign.Close t ≡ true → rule More_names t ≡ None
-no_more_names (Word_of w at) e = refl
+no_more_names (Keyword_of w at) e = refl
 no_more_names (Name x at) e = refl
 no_more_names (Number n at) e = refl
 no_more_names (Sign_of sign.Comma at) e = absurd cc
@@ -103,28 +103,28 @@ no_more_names (Sign_of _ at) e = refl
 pub no_target : (t : Token) → no_index t ≡ true → rule Target_index t ≡ None
 no_target (Sign_of sign.OpenIndex at) e = absurd cc
 no_target (Sign_of _ at) e = refl
-no_target (Word_of w at) e = refl
+no_target (Keyword_of w at) e = refl
 no_target (Name x at) e = refl
 no_target (Number n at) e = refl
 
 pub not_index : (t : Token) → no_index t ≡ true → rule Index t ≡ None
 not_index (Sign_of sign.OpenIndex at) e = absurd cc
 not_index (Sign_of _ at) e = refl
-not_index (Word_of w at) e = refl
+not_index (Keyword_of w at) e = refl
 not_index (Name x at) e = refl
 not_index (Number n at) e = refl
 
 pub unbound : (t : Token) → no_index t ≡ true → rule Bound t ≡ None
 unbound (Sign_of sign.OpenIndex at) e = absurd cc
 unbound (Sign_of _ at) e = refl
-unbound (Word_of w at) e = refl
+unbound (Keyword_of w at) e = refl
 unbound (Name x at) e = refl
 unbound (Number n at) e = refl
 
 pub unbracketed : (t : Token) → no_index t ≡ true → rule Brackets t ≡ None
 unbracketed (Sign_of sign.OpenIndex at) e = absurd cc
 unbracketed (Sign_of _ at) e = refl
-unbracketed (Word_of w at) e = refl
+unbracketed (Keyword_of w at) e = refl
 unbracketed (Name x at) e = refl
 unbracketed (Number n at) e = refl
 

@@ -38,5 +38,6 @@ pub mod Refusals
 pub mod Determined
 pub mod Examples
 pub mod Steps
+pub mod SoFar
 pub mod Chains
 pub mod Operands

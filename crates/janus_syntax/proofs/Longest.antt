@@ -4,20 +4,20 @@ use Rattle.janus_syntax.specs.declared.token.Sign.{Sign}
 use Rattle.janus_syntax.specs.declared.token.Sign.TheVariants as sign
 use Rattle.janus_syntax.specs.declared.token.Keyword.{Keyword}
 use Rattle.janus_syntax.specs.declared.lexer.Class.TheVariants as class
-use Rattle.janus_syntax.specs.Spelling.{sign_text, word_text}
-use Rattle.janus_syntax.specs.Lexical.{class_of, goes_on_number, of_name, of_number, IsNameText, IsNumberText, Item, Gap, A_name, A_number, A_sign, A_word, IsSpelled, NoLonger}
-use Rattle.janus_syntax.proofs.Fronts.{head, second, head_is, word_head, StopsAt, letters_longest, digits_longest, space_longest}
+use Rattle.janus_syntax.specs.Spelling.{sign_text, keyword_text}
+use Rattle.janus_syntax.specs.Lexical.{class_of, goes_on_number, of_name, of_number, IsNameText, IsNumberText, Item, Gap, A_name, A_number, A_sign, A_keyword, IsSpelled, NoLonger}
+use Rattle.janus_syntax.proofs.Fronts.{head, second, head_is, keyword_head, StopsAt, letters_longest, digits_longest, space_longest}
 
 pub name_longest : (x rest : List ℕ) → IsNameText x → StopsAt of_name rest → NoLonger x rest
 name_longest [] rest h stops = absurd h
 name_longest (c ∷ cs) rest (k, h) stops = letters_longest c cs rest k stops
 
-letters_of_word : (text rest : List ℕ) → class_of (head text) ≡ class.Letter → StopsAt of_name rest → NoLonger text rest
-letters_of_word [] rest k stops = absurd cc
-letters_of_word (c ∷ cs) rest k stops = letters_longest c cs rest k stops
+letters_of_text : (text rest : List ℕ) → class_of (head text) ≡ class.Letter → StopsAt of_name rest → NoLonger text rest
+letters_of_text [] rest k stops = absurd cc
+letters_of_text (c ∷ cs) rest k stops = letters_longest c cs rest k stops
 
-pub word_longest : (w : Keyword) (rest : List ℕ) → StopsAt of_name rest → NoLonger (word_text w) rest
-word_longest w rest stops = letters_of_word (word_text w) rest (word_head w) stops
+pub keyword_longest : (w : Keyword) (rest : List ℕ) → StopsAt of_name rest → NoLonger (keyword_text w) rest
+keyword_longest w rest stops = letters_of_text (keyword_text w) rest (keyword_head w) stops
 
 digit_of : (k : _) → goes_on_number k ≡ true → k ≡ class.Digit
 digit_of class.Letter e = absurd cc
@@ -70,7 +70,7 @@ sign_goes_on Gap a b cs k (inl (d, e, q)) = absurd cc
 sign_goes_on Gap a b cs k (inr (ds, e, q)) = inr (ap (λ l. head l == 47) e, ap (λ l. second l == 47) e)
 sign_goes_on (A_name x) a b cs k s = let h = head_is (A_name x) a (b ∷ cs) s in absurd cc
 sign_goes_on (A_number n) a b cs k s = let h = head_is (A_number n) a (b ∷ cs) s in absurd cc
-sign_goes_on (A_word w) a b cs k s = let h = head_is (A_word w) a (b ∷ cs) s in absurd cc
+sign_goes_on (A_keyword w) a b cs k s = let h = head_is (A_keyword w) a (b ∷ cs) s in absurd cc
 sign_goes_on (A_sign t) a b cs k e = inl (two_octets t a b cs e)
 
 slash_extends : (c : ℕ) → (c == 47) ≡ true → extends c ≡ true

@@ -8,63 +8,63 @@ use Rattle.janus_syntax.specs.declared.token.Span.{Span}
 use Rattle.janus_syntax.specs.declared.token.Sign.{Sign}
 use Rattle.janus_syntax.specs.declared.token.Sign.TheVariants as sign
 use Rattle.janus_syntax.specs.declared.token.Keyword.{Keyword}
-use Rattle.janus_syntax.specs.declared.token.Keyword.TheVariants as word
-use Rattle.janus_syntax.specs.Spelling.{sign_text, word_text}
+use Rattle.janus_syntax.specs.declared.token.Keyword.TheVariants as keyword
+use Rattle.janus_syntax.specs.Spelling.{sign_text, keyword_text}
 use Rattle.janus_syntax.specs.Tokens.{Token}
-use Rattle.janus_syntax.specs.Lexical.{class_of, Item, Gap, A_name, A_number, A_sign, A_word, IsSpelled, IsFront, IsToken, between, Lexes, none, gap, token, AreTokens, NoItem, IsBadToken, IsTooLarge, largest_number}
+use Rattle.janus_syntax.specs.Lexical.{class_of, Item, Gap, A_name, A_number, A_sign, A_keyword, IsSpelled, IsFront, IsToken, between, Lexes, none, gap, token, AreTokens, NoItem, IsBadToken, IsTooLarge, largest_number}
 use Rattle.janus_syntax.proofs.Fronts.{head, second, head_is, some_octets, no_comment}
 
-abbrev word_from : List ℕ → Keyword
-word_from l =
-    cond (bytes_eq l (word_text word.Call)) word.Call (
-    cond (bytes_eq l (word_text word.Delocal)) word.Delocal (
-    cond (bytes_eq l (word_text word.Do)) word.Do (
-    cond (bytes_eq l (word_text word.Else)) word.Else (
-    cond (bytes_eq l (word_text word.Empty)) word.Empty (
-    cond (bytes_eq l (word_text word.Fi)) word.Fi (
-    cond (bytes_eq l (word_text word.From)) word.From (
-    cond (bytes_eq l (word_text word.If)) word.If (
-    cond (bytes_eq l (word_text word.Int)) word.Int (
-    cond (bytes_eq l (word_text word.Local)) word.Local (
-    cond (bytes_eq l (word_text word.Loop)) word.Loop (
-    cond (bytes_eq l (word_text word.Main)) word.Main (
-    cond (bytes_eq l (word_text word.Nil)) word.Nil (
-    cond (bytes_eq l (word_text word.Pop)) word.Pop (
-    cond (bytes_eq l (word_text word.Procedure)) word.Procedure (
-    cond (bytes_eq l (word_text word.Push)) word.Push (
-    cond (bytes_eq l (word_text word.Skip)) word.Skip (
-    cond (bytes_eq l (word_text word.Stack)) word.Stack (
-    cond (bytes_eq l (word_text word.Then)) word.Then (
-    cond (bytes_eq l (word_text word.Top)) word.Top (
-    cond (bytes_eq l (word_text word.Uncall)) word.Uncall (
-    word.Until)))))))))))))))))))))
+abbrev keyword_from : List ℕ → Keyword
+keyword_from l =
+    cond (bytes_eq l (keyword_text keyword.Call)) keyword.Call (
+    cond (bytes_eq l (keyword_text keyword.Delocal)) keyword.Delocal (
+    cond (bytes_eq l (keyword_text keyword.Do)) keyword.Do (
+    cond (bytes_eq l (keyword_text keyword.Else)) keyword.Else (
+    cond (bytes_eq l (keyword_text keyword.Empty)) keyword.Empty (
+    cond (bytes_eq l (keyword_text keyword.Fi)) keyword.Fi (
+    cond (bytes_eq l (keyword_text keyword.From)) keyword.From (
+    cond (bytes_eq l (keyword_text keyword.If)) keyword.If (
+    cond (bytes_eq l (keyword_text keyword.Int)) keyword.Int (
+    cond (bytes_eq l (keyword_text keyword.Local)) keyword.Local (
+    cond (bytes_eq l (keyword_text keyword.Loop)) keyword.Loop (
+    cond (bytes_eq l (keyword_text keyword.Main)) keyword.Main (
+    cond (bytes_eq l (keyword_text keyword.Nil)) keyword.Nil (
+    cond (bytes_eq l (keyword_text keyword.Pop)) keyword.Pop (
+    cond (bytes_eq l (keyword_text keyword.Procedure)) keyword.Procedure (
+    cond (bytes_eq l (keyword_text keyword.Push)) keyword.Push (
+    cond (bytes_eq l (keyword_text keyword.Skip)) keyword.Skip (
+    cond (bytes_eq l (keyword_text keyword.Stack)) keyword.Stack (
+    cond (bytes_eq l (keyword_text keyword.Then)) keyword.Then (
+    cond (bytes_eq l (keyword_text keyword.Top)) keyword.Top (
+    cond (bytes_eq l (keyword_text keyword.Uncall)) keyword.Uncall (
+    keyword.Until)))))))))))))))))))))
 
-word_decodes : (w : Keyword) → word_from (word_text w) ≡ w
-word_decodes word.Call = refl
-word_decodes word.Delocal = refl
-word_decodes word.Do = refl
-word_decodes word.Else = refl
-word_decodes word.Empty = refl
-word_decodes word.Fi = refl
-word_decodes word.From = refl
-word_decodes word.If = refl
-word_decodes word.Int = refl
-word_decodes word.Local = refl
-word_decodes word.Loop = refl
-word_decodes word.Main = refl
-word_decodes word.Nil = refl
-word_decodes word.Pop = refl
-word_decodes word.Procedure = refl
-word_decodes word.Push = refl
-word_decodes word.Skip = refl
-word_decodes word.Stack = refl
-word_decodes word.Then = refl
-word_decodes word.Top = refl
-word_decodes word.Uncall = refl
-word_decodes word.Until = refl
+keyword_decodes : (w : Keyword) → keyword_from (keyword_text w) ≡ w
+keyword_decodes keyword.Call = refl
+keyword_decodes keyword.Delocal = refl
+keyword_decodes keyword.Do = refl
+keyword_decodes keyword.Else = refl
+keyword_decodes keyword.Empty = refl
+keyword_decodes keyword.Fi = refl
+keyword_decodes keyword.From = refl
+keyword_decodes keyword.If = refl
+keyword_decodes keyword.Int = refl
+keyword_decodes keyword.Local = refl
+keyword_decodes keyword.Loop = refl
+keyword_decodes keyword.Main = refl
+keyword_decodes keyword.Nil = refl
+keyword_decodes keyword.Pop = refl
+keyword_decodes keyword.Procedure = refl
+keyword_decodes keyword.Push = refl
+keyword_decodes keyword.Skip = refl
+keyword_decodes keyword.Stack = refl
+keyword_decodes keyword.Then = refl
+keyword_decodes keyword.Top = refl
+keyword_decodes keyword.Uncall = refl
+keyword_decodes keyword.Until = refl
 
-same_word : (w v : Keyword) → word_text w ≡ word_text v → w ≡ v
-same_word w v e = sym (word_decodes w) ∙ ap word_from e ∙ word_decodes v
+same_keyword : (w v : Keyword) → keyword_text w ≡ keyword_text v → w ≡ v
+same_keyword w v e = sym (keyword_decodes w) ∙ ap keyword_from e ∙ keyword_decodes v
 
 abbrev sign_from : List ℕ → Sign
 sign_from l =
@@ -134,27 +134,27 @@ same_item Gap Gap c cs p q = refl
 same_item Gap (A_name y) c cs p q = let h = head_is (A_name y) c cs q in elim (head_is Gap c cs p) [ inl k ↦ absurd cc | inr k ↦ absurd cc ]
 same_item Gap (A_number n) c cs p q = let h = head_is (A_number n) c cs q in elim (head_is Gap c cs p) [ inl k ↦ absurd cc | inr k ↦ absurd cc ]
 same_item Gap (A_sign t) c cs p q = absurd (gap_sign t c cs p q)
-same_item Gap (A_word w) c cs p q = let h = head_is (A_word w) c cs q in elim (head_is Gap c cs p) [ inl k ↦ absurd cc | inr k ↦ absurd cc ]
+same_item Gap (A_keyword w) c cs p q = let h = head_is (A_keyword w) c cs q in elim (head_is Gap c cs p) [ inl k ↦ absurd cc | inr k ↦ absurd cc ]
 same_item (A_name x) Gap c cs p q = let h = head_is (A_name x) c cs p in elim (head_is Gap c cs q) [ inl k ↦ absurd cc | inr k ↦ absurd cc ]
 same_item (A_name x) (A_name y) c cs p q = ap A_name (p.0 ∙ sym q.0)
 same_item (A_name x) (A_number n) c cs p q = let h = head_is (A_name x) c cs p in let k = head_is (A_number n) c cs q in absurd cc
 same_item (A_name x) (A_sign t) c cs p q = let h = head_is (A_name x) c cs p in let k = head_is (A_sign t) c cs q in absurd cc
-same_item (A_name x) (A_word w) c cs p q = absurd (p.2 w q)
+same_item (A_name x) (A_keyword w) c cs p q = absurd (p.2 w q)
 same_item (A_number m) Gap c cs p q = let h = head_is (A_number m) c cs p in elim (head_is Gap c cs q) [ inl k ↦ absurd cc | inr k ↦ absurd cc ]
 same_item (A_number m) (A_name y) c cs p q = let h = head_is (A_number m) c cs p in let k = head_is (A_name y) c cs q in absurd cc
 same_item (A_number m) (A_number n) c cs p q = ap A_number (p.0 ∙ sym q.0)
 same_item (A_number m) (A_sign t) c cs p q = let h = head_is (A_number m) c cs p in let k = head_is (A_sign t) c cs q in absurd cc
-same_item (A_number m) (A_word w) c cs p q = let h = head_is (A_number m) c cs p in let k = head_is (A_word w) c cs q in absurd cc
+same_item (A_number m) (A_keyword w) c cs p q = let h = head_is (A_number m) c cs p in let k = head_is (A_keyword w) c cs q in absurd cc
 same_item (A_sign s) Gap c cs p q = absurd (gap_sign s c cs q p)
 same_item (A_sign s) (A_name y) c cs p q = let h = head_is (A_sign s) c cs p in let k = head_is (A_name y) c cs q in absurd cc
 same_item (A_sign s) (A_number n) c cs p q = let h = head_is (A_sign s) c cs p in let k = head_is (A_number n) c cs q in absurd cc
 same_item (A_sign s) (A_sign t) c cs p q = ap A_sign (same_sign s t (sym p ∙ q))
-same_item (A_sign s) (A_word w) c cs p q = let h = head_is (A_sign s) c cs p in let k = head_is (A_word w) c cs q in absurd cc
-same_item (A_word v) Gap c cs p q = let h = head_is (A_word v) c cs p in elim (head_is Gap c cs q) [ inl k ↦ absurd cc | inr k ↦ absurd cc ]
-same_item (A_word v) (A_name y) c cs p q = absurd (q.2 v p)
-same_item (A_word v) (A_number n) c cs p q = let h = head_is (A_word v) c cs p in let k = head_is (A_number n) c cs q in absurd cc
-same_item (A_word v) (A_sign t) c cs p q = let h = head_is (A_word v) c cs p in let k = head_is (A_sign t) c cs q in absurd cc
-same_item (A_word v) (A_word w) c cs p q = ap A_word (same_word v w (sym p ∙ q))
+same_item (A_sign s) (A_keyword w) c cs p q = let h = head_is (A_sign s) c cs p in let k = head_is (A_keyword w) c cs q in absurd cc
+same_item (A_keyword v) Gap c cs p q = let h = head_is (A_keyword v) c cs p in elim (head_is Gap c cs q) [ inl k ↦ absurd cc | inr k ↦ absurd cc ]
+same_item (A_keyword v) (A_name y) c cs p q = absurd (q.2 v p)
+same_item (A_keyword v) (A_number n) c cs p q = let h = head_is (A_keyword v) c cs p in let k = head_is (A_number n) c cs q in absurd cc
+same_item (A_keyword v) (A_sign t) c cs p q = let h = head_is (A_keyword v) c cs p in let k = head_is (A_sign t) c cs q in absurd cc
+same_item (A_keyword v) (A_keyword w) c cs p q = ap A_keyword (same_keyword v w (sym p ∙ q))
 
 same_item_of : (i j : Item) (text : List ℕ) → IsSpelled i text → IsSpelled j text → i ≡ j
 same_item_of i j [] p q = absurd (some_octets i p)
@@ -165,7 +165,7 @@ same_token Gap at t u p q = absurd p
 same_token (A_name x) at t u p q = p ∙ sym q
 same_token (A_number n) at t u p q = p.1 ∙ sym q.1
 same_token (A_sign s) at t u p q = p ∙ sym q
-same_token (A_word w) at t u p q = p ∙ sym q
+same_token (A_keyword w) at t u p q = p ∙ sym q
 
 -- of two fronts of a list one begins the other
 pub two_fronts : {A : Type 0} (a b r s : List A) → a ++ r ≡ b ++ s → ((more : List A) × (b ≡ a ++ more) × (r ≡ more ++ s)) ⊎ ((more : List A) × (a ≡ b ++ more) × (s ≡ more ++ r))

@@ -4,9 +4,9 @@ use Rattle.std.specs.Prelude.{nat_le}
 use Rattle.std.proofs.lemmas.Bool.{lt-leb, and_right, and_left}
 use Rattle.janus_syntax.specs.declared.token.Span.{Span}
 use Rattle.janus_syntax.specs.declared.token.Sign.TheVariants as sign
-use Rattle.janus_syntax.specs.declared.token.Keyword.TheVariants as word
+use Rattle.janus_syntax.specs.declared.token.Keyword.TheVariants as keyword
 use Rattle.janus_syntax.specs.declared.fault.What.TheVariants as what
-use Rattle.janus_syntax.specs.Tokens.{Token, Name, Number, Sign_of, Word_of}
+use Rattle.janus_syntax.specs.Tokens.{Token, Name, Number, Sign_of, Keyword_of}
 use Rattle.janus_syntax.specs.Tree.{Name as Named, named, Exp, Num, Var, Element, EmptyOf, TopOf, Neg}
 use Rattle.janus_syntax.specs.Operators.{weakest}
 use Rattle.janus_syntax.specs.Forms.{Part, Level, Index, The_sign, Form, done, part, close}
@@ -54,16 +54,16 @@ begun_opens f S d u rest h k =
 pub number_is : (n : ℕ) (place : Span) (d u : ℕ) (rest : List Token) → d ≤ depth_limit → u ≤ operator_limit → IsExp 0 d u (Num n place) u (Number n place ∷ rest) rest
 number_is n place d u rest h k = record { goes = λ g p j S. begun_plain (j (Num n place)) S d u rest h k; within = k; shorter = omega arith }
 
-pub empty_is : (place : Span) (d u : ℕ) {s : Named} {rest after : List Token} → d ≤ depth_limit → u ≤ operator_limit → IsStack s rest after → IsExp 0 d u (EmptyOf s) u (Word_of word.Empty place ∷ rest) after
+pub empty_is : (place : Span) (d u : ℕ) {s : Named} {rest after : List Token} → d ≤ depth_limit → u ≤ operator_limit → IsStack s rest after → IsExp 0 d u (EmptyOf s) u (Keyword_of keyword.Empty place ∷ rest) after
 empty_is place d u {rest = rest} h k i = record { goes = λ g p j S. begun_plain (stack_then (λ y. j (EmptyOf y))) S d u rest h k ∙ i.goes g p (λ y. j (EmptyOf y)) S (count d u); within = k; shorter = let y = i.shorter in omega (arith, y) }
 
-pub empty_fails : (place : Span) (d u : ℕ) (rest : List Token) (out : Refusal) → d ≤ depth_limit → u ≤ operator_limit → FailsStack rest out → FailsExp 0 d u (Word_of word.Empty place ∷ rest) out
+pub empty_fails : (place : Span) (d u : ℕ) (rest : List Token) (out : Refusal) → d ≤ depth_limit → u ≤ operator_limit → FailsStack rest out → FailsExp 0 d u (Keyword_of keyword.Empty place ∷ rest) out
 empty_fails place d u rest out h k f g p j S = begun_plain (stack_then (λ y. j (EmptyOf y))) S d u rest h k ∙ f g p (λ y. j (EmptyOf y)) S (count d u)
 
-pub top_is : (place : Span) (d u : ℕ) {s : Named} {rest after : List Token} → d ≤ depth_limit → u ≤ operator_limit → IsStack s rest after → IsExp 0 d u (TopOf s) u (Word_of word.Top place ∷ rest) after
+pub top_is : (place : Span) (d u : ℕ) {s : Named} {rest after : List Token} → d ≤ depth_limit → u ≤ operator_limit → IsStack s rest after → IsExp 0 d u (TopOf s) u (Keyword_of keyword.Top place ∷ rest) after
 top_is place d u {rest = rest} h k i = record { goes = λ g p j S. begun_plain (stack_then (λ y. j (TopOf y))) S d u rest h k ∙ i.goes g p (λ y. j (TopOf y)) S (count d u); within = k; shorter = let y = i.shorter in omega (arith, y) }
 
-pub top_fails : (place : Span) (d u : ℕ) (rest : List Token) (out : Refusal) → d ≤ depth_limit → u ≤ operator_limit → FailsStack rest out → FailsExp 0 d u (Word_of word.Top place ∷ rest) out
+pub top_fails : (place : Span) (d u : ℕ) (rest : List Token) (out : Refusal) → d ≤ depth_limit → u ≤ operator_limit → FailsStack rest out → FailsExp 0 d u (Keyword_of keyword.Top place ∷ rest) out
 top_fails place d u rest out h k f g p j S = begun_plain (stack_then (λ y. j (TopOf y))) S d u rest h k ∙ f g p (λ y. j (TopOf y)) S (count d u)
 
 pub name_is : (x : List ℕ) (place : Span) (d u : ℕ) {e : Exp} {total : ℕ} {rest after : List Token} → d ≤ depth_limit → u ≤ operator_limit → IsIndexed d u (named x place) e total rest after → IsExp 0 d u e total (Name x place ∷ rest) after

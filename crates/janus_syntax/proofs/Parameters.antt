@@ -3,17 +3,18 @@ use Rattle.std.proofs.Common.{◌≡◌, ℕ, ◌≤◌, List, [], ◌∷◌, �
 use Rattle.std.proofs.lemmas.List.{append-nil, map-append}
 use Rattle.janus_syntax.specs.declared.token.Span.{Span}
 use Rattle.janus_syntax.specs.declared.token.Sign.TheVariants as sign
-use Rattle.janus_syntax.specs.declared.token.Keyword.TheVariants as word
+use Rattle.janus_syntax.specs.declared.token.Keyword.TheVariants as keyword
 use Rattle.janus_syntax.specs.declared.fault.What.TheVariants as what
 use Rattle.janus_syntax.specs.declared.tree.Parameter as code_parameter
-use Rattle.janus_syntax.specs.Tokens.{Token, Name, Number, Sign_of, Word_of}
+use Rattle.janus_syntax.specs.Tokens.{Token, Name, Number, Sign_of, Keyword_of}
 use Rattle.janus_syntax.specs.Tree.{Name as Named, Parameter, IntParameter, ArrayParameter, StackParameter, parameter_view, parameters_view}
 use Rattle.janus_syntax.specs.Forms.{Part, Parameters, More_parameters, A_parameter, Brackets, The_sign, A_name, Form, done, take, part}
 use Rattle.janus_syntax.specs.Table.{rule, sign_then, parameter}
 use Rattle.janus_syntax.specs.Grammar.{all, operator_limit, Refusal, Expected}
 use Rattle.janus_syntax.specs.Reader.{Stack, waits, at, run, next, outcome_of, Outcome}
 use Rattle.janus_syntax.specs.Reading.{TokenGoes, TokenFails, count, Moves, Stops, IsPart, FailsPart, BeginsWith, BeginsWithSign}
-use Rattle.janus_syntax.specs.Procedures.{is_parameter, begin_parameter, IsParameter, FailsParameter, IsBracketed, FailsBracketed, AtParameters, AreParameters}
+use Rattle.janus_syntax.specs.Procedures.{is_parameter, begin_parameter, IsParameter, FailsParameter, IsBracketed, FailsBracketed}
+use Rattle.janus_syntax.proofs.SoFar.{AtParameters, AreParameters}
 use Rattle.janus_syntax.proofs.Agrees.{run_hands, left_behind}
 use Rattle.janus_syntax.proofs.Steps.{no_opening}
 use Rattle.janus_syntax.proofs.LeftOut.{unbracketed}
@@ -60,13 +61,13 @@ int_form k = take A_name (λ x. part Brackets (λ b. k (parameter x b)))
 abbrev stack_form : {p : Part} → (Parameter → Form p) → Form p
 stack_form k = take A_name (λ s. k (StackParameter s))
 
-int_begins : {goal p : Part} (k : Parameter → Form p) (S : Stack goal p) (u : ℕ) (place : Span) (behind : List Token) → u ≤ operator_limit → begin_parameter (Word_of word.Int place ∷ behind) k S u ≡ run all behind (at (int_form k) S (count 0 u))
+int_begins : {goal p : Part} (k : Parameter → Form p) (S : Stack goal p) (u : ℕ) (place : Span) (behind : List Token) → u ≤ operator_limit → begin_parameter (Keyword_of keyword.Int place ∷ behind) k S u ≡ run all behind (at (int_form k) S (count 0 u))
 int_begins k S u place behind h = begun_plain (int_form k) S 0 u behind (omega arith) h
 
-stack_begins : {goal p : Part} (k : Parameter → Form p) (S : Stack goal p) (u : ℕ) (place : Span) (behind : List Token) → u ≤ operator_limit → begin_parameter (Word_of word.Stack place ∷ behind) k S u ≡ run all behind (at (stack_form k) S (count 0 u))
+stack_begins : {goal p : Part} (k : Parameter → Form p) (S : Stack goal p) (u : ℕ) (place : Span) (behind : List Token) → u ≤ operator_limit → begin_parameter (Keyword_of keyword.Stack place ∷ behind) k S u ≡ run all behind (at (stack_form k) S (count 0 u))
 stack_begins k S u place behind h = begun_plain (stack_form k) S 0 u behind (omega arith) h
 
-pub parameter_is : {x : Named} {y : Parameter} {from behind middle rest : List Token} → BeginsWith word.Int from behind → TokenGoes A_name x behind middle → IsBracketed x y middle rest → IsParameter y from rest
+pub parameter_is : {x : Named} {y : Parameter} {from behind middle rest : List Token} → BeginsWith keyword.Int from behind → TokenGoes A_name x behind middle → IsBracketed x y middle rest → IsParameter y from rest
 parameter_is {x} {y} {from} {behind} {middle} {rest} b i j =
     subst (λ ts. IsParameter y ts rest) (sym b.is)
     (record {
@@ -77,17 +78,17 @@ parameter_is {x} {y} {from} {behind} {middle} {rest} b i j =
       shorter = let s1 = i.shorter in let s2 = j.shorter in omega (arith, s1, s2);
     })
 
-pub parameter_stops_name : {from behind : List Token} (e : Refusal) → BeginsWith word.Int from behind → TokenFails A_name behind e → FailsParameter from e
+pub parameter_stops_name : {from behind : List Token} (e : Refusal) → BeginsWith keyword.Int from behind → TokenFails A_name behind e → FailsParameter from e
 parameter_stops_name {from} {behind} e b f =
     subst (λ ts. FailsParameter ts e) (sym b.is)
     (record { begins = refl; stops = λ g p k S u h. int_begins k S u b.at behind h ∙ f g p (λ z. part Brackets (λ n. k (parameter z n))) S (count 0 u) })
 
-pub parameter_stops_brackets : {x : Named} {from behind middle : List Token} (e : Refusal) → BeginsWith word.Int from behind → TokenGoes A_name x behind middle → FailsBracketed x middle e → FailsParameter from e
+pub parameter_stops_brackets : {x : Named} {from behind middle : List Token} (e : Refusal) → BeginsWith keyword.Int from behind → TokenGoes A_name x behind middle → FailsBracketed x middle e → FailsParameter from e
 parameter_stops_brackets {x} {from} {behind} e b i f =
     subst (λ ts. FailsParameter ts e) (sym b.is)
     (record { begins = refl; stops = λ g p k S u h. int_begins k S u b.at behind h ∙ i.goes g p (λ z. part Brackets (λ n. k (parameter z n))) S (count 0 u) ∙ f p k g S u h })
 
-pub stack_is : {s : Named} {from behind rest : List Token} → BeginsWith word.Stack from behind → TokenGoes A_name s behind rest → IsParameter (StackParameter s) from rest
+pub stack_is : {s : Named} {from behind rest : List Token} → BeginsWith keyword.Stack from behind → TokenGoes A_name s behind rest → IsParameter (StackParameter s) from rest
 stack_is {s} {from} {behind} {rest} b i =
     subst (λ ts. IsParameter (StackParameter s) ts rest) (sym b.is)
     (record {
@@ -96,18 +97,18 @@ stack_is {s} {from} {behind} {rest} b i =
       shorter = let l = i.shorter in omega (arith, l);
     })
 
-pub stack_stops : {from behind : List Token} (e : Refusal) → BeginsWith word.Stack from behind → TokenFails A_name behind e → FailsParameter from e
+pub stack_stops : {from behind : List Token} (e : Refusal) → BeginsWith keyword.Stack from behind → TokenFails A_name behind e → FailsParameter from e
 stack_stops {from} {behind} e b f =
     subst (λ ts. FailsParameter ts e) (sym b.is) (record { begins = refl; stops = λ g p k S u h. stack_begins k S u b.at behind h ∙ f g p (λ y. k (StackParameter y)) S (count 0 u) })
 
-pub other_begins : (from : List Token) → ((behind : List Token) → BeginsWith word.Int from behind → ⊥) → ((behind : List Token) → BeginsWith word.Stack from behind → ⊥) → is_parameter (next from) ≡ false
+pub other_begins : (from : List Token) → ((behind : List Token) → BeginsWith keyword.Int from behind → ⊥) → ((behind : List Token) → BeginsWith keyword.Stack from behind → ⊥) → is_parameter (next from) ≡ false
 other_begins [] h i = refl
 other_begins (Name x place ∷ rest) h i = refl
 other_begins (Number n place ∷ rest) h i = refl
 other_begins (Sign_of s place ∷ rest) h i = refl
-other_begins (Word_of word.Int place ∷ rest) h i = absurd (h rest (record { at = place; is = refl }))
-other_begins (Word_of word.Stack place ∷ rest) h i = absurd (i rest (record { at = place; is = refl }))
-other_begins (Word_of _ place ∷ rest) h i = refl
+other_begins (Keyword_of keyword.Int place ∷ rest) h i = absurd (h rest (record { at = place; is = refl }))
+other_begins (Keyword_of keyword.Stack place ∷ rest) h i = absurd (i rest (record { at = place; is = refl }))
+other_begins (Keyword_of _ place ∷ rest) h i = refl
 
 -- ---- parameters parted by commas
 
@@ -126,11 +127,11 @@ parameters_begin k S u [] i h = absurd cc
 parameters_begin k S u (Name x place ∷ rest) i h = absurd cc
 parameters_begin k S u (Number n place ∷ rest) i h = absurd cc
 parameters_begin k S u (Sign_of s place ∷ rest) i h = absurd cc
-parameters_begin k S u (Word_of word.Int place ∷ rest) i h =
-    begins_part Parameters k S 0 u (Word_of word.Int place) rest (int_form first_form) refl (omega arith) i ∙ sym (int_begins first_form (waits {q = Parameters} k S) u place rest i)
-parameters_begin k S u (Word_of word.Stack place ∷ rest) i h =
-    begins_part Parameters k S 0 u (Word_of word.Stack place) rest (stack_form first_form) refl (omega arith) i ∙ sym (stack_begins first_form (waits {q = Parameters} k S) u place rest i)
-parameters_begin k S u (Word_of _ place ∷ rest) i h = absurd cc
+parameters_begin k S u (Keyword_of keyword.Int place ∷ rest) i h =
+    begins_part Parameters k S 0 u (Keyword_of keyword.Int place) rest (int_form first_form) refl (omega arith) i ∙ sym (int_begins first_form (waits {q = Parameters} k S) u place rest i)
+parameters_begin k S u (Keyword_of keyword.Stack place ∷ rest) i h =
+    begins_part Parameters k S 0 u (Keyword_of keyword.Stack place) rest (stack_form first_form) refl (omega arith) i ∙ sym (stack_begins first_form (waits {q = Parameters} k S) u place rest i)
+parameters_begin k S u (Keyword_of _ place ∷ rest) i h = absurd cc
 
 one_begins : {goal p : Part} (k : Parameter → Form p) (S : Stack goal p) (u : ℕ) (from : List Token) → u ≤ operator_limit → is_parameter (next from) ≡ true →
     run all from (at (part A_parameter k) S (count 0 u)) ≡ begin_parameter from done (waits {q = A_parameter} k S) u
@@ -138,11 +139,11 @@ one_begins k S u [] i h = absurd cc
 one_begins k S u (Name x place ∷ rest) i h = absurd cc
 one_begins k S u (Number n place ∷ rest) i h = absurd cc
 one_begins k S u (Sign_of s place ∷ rest) i h = absurd cc
-one_begins k S u (Word_of word.Int place ∷ rest) i h =
-    begins_part A_parameter k S 0 u (Word_of word.Int place) rest (int_form done) refl (omega arith) i ∙ sym (int_begins {p = A_parameter} done (waits {q = A_parameter} k S) u place rest i)
-one_begins k S u (Word_of word.Stack place ∷ rest) i h =
-    begins_part A_parameter k S 0 u (Word_of word.Stack place) rest (stack_form done) refl (omega arith) i ∙ sym (stack_begins {p = A_parameter} done (waits {q = A_parameter} k S) u place rest i)
-one_begins k S u (Word_of _ place ∷ rest) i h = absurd cc
+one_begins k S u (Keyword_of keyword.Int place ∷ rest) i h =
+    begins_part A_parameter k S 0 u (Keyword_of keyword.Int place) rest (int_form done) refl (omega arith) i ∙ sym (int_begins {p = A_parameter} done (waits {q = A_parameter} k S) u place rest i)
+one_begins k S u (Keyword_of keyword.Stack place ∷ rest) i h =
+    begins_part A_parameter k S 0 u (Keyword_of keyword.Stack place) rest (stack_form done) refl (omega arith) i ∙ sym (stack_begins {p = A_parameter} done (waits {q = A_parameter} k S) u place rest i)
+one_begins k S u (Keyword_of _ place ∷ rest) i h = absurd cc
 
 -- no parameter behind a comma
 one_is_wanted : {goal p : Part} (k : Parameter → Form p) (S : Stack goal p) (u : ℕ) (from : List Token) → is_parameter (next from) ≡ false → run all from (at (part A_parameter k) S (count 0 u)) ≡ outcome_of (Expected what.Kind (length from))
@@ -150,18 +151,18 @@ one_is_wanted k S u [] h = refl
 one_is_wanted k S u (Name x place ∷ rest) h = refl
 one_is_wanted k S u (Number n place ∷ rest) h = refl
 one_is_wanted k S u (Sign_of s place ∷ rest) h = refl
-one_is_wanted k S u (Word_of word.Int place ∷ rest) h = absurd cc
-one_is_wanted k S u (Word_of word.Stack place ∷ rest) h = absurd cc
-one_is_wanted k S u (Word_of _ place ∷ rest) h = refl
+one_is_wanted k S u (Keyword_of keyword.Int place ∷ rest) h = absurd cc
+one_is_wanted k S u (Keyword_of keyword.Stack place ∷ rest) h = absurd cc
+one_is_wanted k S u (Keyword_of _ place ∷ rest) h = refl
 
 no_parameters : (from : List Token) → is_parameter (next from) ≡ false → (t : Token) → next from ≡ Some t → rule Parameters t ≡ None
 no_parameters [] h t e = absurd cc
 no_parameters (Name x place ∷ rest) h t e = let same : Name x place ≡ t = cc in subst (λ x. rule Parameters x ≡ None) same refl
 no_parameters (Number n place ∷ rest) h t e = let same : Number n place ≡ t = cc in subst (λ x. rule Parameters x ≡ None) same refl
 no_parameters (Sign_of s place ∷ rest) h t e = let same : Sign_of s place ≡ t = cc in subst (λ x. rule Parameters x ≡ None) same refl
-no_parameters (Word_of word.Int place ∷ rest) h t e = absurd cc
-no_parameters (Word_of word.Stack place ∷ rest) h t e = absurd cc
-no_parameters (Word_of w place ∷ rest) h t e = let same : Word_of w place ≡ t = cc in subst (λ x. rule Parameters x ≡ None) same refl
+no_parameters (Keyword_of keyword.Int place ∷ rest) h t e = absurd cc
+no_parameters (Keyword_of keyword.Stack place ∷ rest) h t e = absurd cc
+no_parameters (Keyword_of w place ∷ rest) h t e = let same : Keyword_of w place ≡ t = cc in subst (λ x. rule Parameters x ≡ None) same refl
 
 abbrev NoComma : List Token → Type 0
 NoComma from = (behind : List Token) → BeginsWithSign sign.Comma from behind → ⊥
@@ -172,7 +173,7 @@ no_comma (Sign_of sign.Comma place ∷ rest) h t e = absurd (h rest (record { at
 no_comma (Sign_of s place ∷ rest) h t e = let same : Sign_of s place ≡ t = cc in subst (λ x. rule More_parameters x ≡ None) same refl
 no_comma (Name x place ∷ rest) h t e = let same : Name x place ≡ t = cc in subst (λ x. rule More_parameters x ≡ None) same refl
 no_comma (Number n place ∷ rest) h t e = let same : Number n place ≡ t = cc in subst (λ x. rule More_parameters x ≡ None) same refl
-no_comma (Word_of w place ∷ rest) h t e = let same : Word_of w place ≡ t = cc in subst (λ x. rule More_parameters x ≡ None) same refl
+no_comma (Keyword_of w place ∷ rest) h t e = let same : Keyword_of w place ≡ t = cc in subst (λ x. rule More_parameters x ≡ None) same refl
 
 pub none_is : (from : List Token) → is_parameter (next from) ≡ false → IsPart Parameters 0 [] from from
 none_is from n = record { goes = λ p k g S u h. (u, h, left_behind Parameters k S (count 0 u) [] from refl (no_parameters from n)); shorter = omega arith }

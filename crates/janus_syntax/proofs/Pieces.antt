@@ -26,10 +26,10 @@ behind a rest l0 l1 l2 e f = f ∙ ap (λ l. with_pieces l rest) e ∙ sym (piec
 pub piece_behind : (p : Piece) (rest : List Piece) (l0 l1 l2 : Printed) → l1 ≡ with_piece l0 p → l2 ≡ with_pieces l1 rest → l2 ≡ with_pieces l0 (p ∷ rest)
 piece_behind p rest l0 l1 l2 e f = f ∙ ap (λ l. with_pieces l rest) e
 
--- four words with what stands behind each
-pub four_words : (v w x y : Piece) (a b c d : List Piece) (l0 l1 l2 l3 l4 l5 l6 l7 l8 : Printed) → l1 ≡ with_piece l0 v → l2 ≡ with_pieces l1 a → l3 ≡ with_piece l2 w → l4 ≡ with_pieces l3 b → l5 ≡ with_piece l4 x → l6 ≡ with_pieces l5 c →
+-- four keywords with what stands behind each
+pub four_keywords : (v w x y : Piece) (a b c d : List Piece) (l0 l1 l2 l3 l4 l5 l6 l7 l8 : Printed) → l1 ≡ with_piece l0 v → l2 ≡ with_pieces l1 a → l3 ≡ with_piece l2 w → l4 ≡ with_pieces l3 b → l5 ≡ with_piece l4 x → l6 ≡ with_pieces l5 c →
     l7 ≡ with_piece l6 y → l8 ≡ with_pieces l7 d → l8 ≡ with_pieces l0 (v ∷ (a ++ w ∷ (b ++ x ∷ (c ++ y ∷ d))))
-four_words v w x y a b c d l0 l1 l2 l3 l4 l5 l6 l7 l8 e1 e2 e3 e4 e5 e6 e7 e8 =
+four_keywords v w x y a b c d l0 l1 l2 l3 l4 l5 l6 l7 l8 e1 e2 e3 e4 e5 e6 e7 e8 =
     piece_behind v (a ++ w ∷ (b ++ x ∷ (c ++ y ∷ d))) l0 l1 l8 e1 (behind a (w ∷ (b ++ x ∷ (c ++ y ∷ d))) l1 l2 l8 e2
     (piece_behind w (b ++ x ∷ (c ++ y ∷ d)) l2 l3 l8 e3 (behind b (x ∷ (c ++ y ∷ d)) l3 l4 l8 e4
     (piece_behind x (c ++ y ∷ d) l4 l5 l8 e5 (behind c (y ∷ d) l5 l6 l8 e6 (piece_behind y d l6 l7 l8 e7 e8))))))
@@ -45,7 +45,7 @@ pub local_row : (h a b g c : List Piece) (l0 l1 l2 l3 l4 l5 : Printed) → l1 �
 local_row h a b g c l0 l1 l2 l3 l4 l5 e1 e2 e3 e4 e5 =
     behind h (a ++ (b ++ (g ++ c))) l0 l1 l5 e1 (behind a (b ++ (g ++ c)) l1 l2 l5 e2 (behind b (g ++ c) l2 l3 l5 e3 (behind g c l3 l4 l5 e4 e5)))
 
--- a word, a name, and names in parentheses
+-- a keyword, a name, and names in parentheses
 pub call_row : (v x o z : Piece) (a : List Piece) (l0 l1 l2 l3 l4 l5 : Printed) → l1 ≡ with_piece l0 v → l2 ≡ with_piece l1 x → l3 ≡ with_piece l2 o → l4 ≡ with_pieces l3 a → l5 ≡ with_piece l4 z → l5 ≡ with_pieces l0 (v ∷ x ∷ o ∷ (a ++ z ∷ []))
 call_row v x o z a l0 l1 l2 l3 l4 l5 e1 e2 e3 e4 e5 = piece_behind v (x ∷ o ∷ (a ++ z ∷ [])) l0 l1 l5 e1 (element_row x o z a l1 l2 l3 l4 l5 e2 e3 e4 e5)
 

@@ -3,10 +3,10 @@ use Rattle.std.proofs.Common.{◌≡◌, ℕ, ◌≤◌, List, [], ◌∷◌, �
 use Rattle.std.proofs.lemmas.List.{map-append}
 use Rattle.janus_syntax.specs.declared.token.Span.{Span}
 use Rattle.janus_syntax.specs.declared.token.Sign.TheVariants as sign
-use Rattle.janus_syntax.specs.declared.token.Keyword.TheVariants as word
+use Rattle.janus_syntax.specs.declared.token.Keyword.TheVariants as keyword
 use Rattle.janus_syntax.specs.declared.fault.What.TheVariants as what
 use Rattle.janus_syntax.specs.declared.tree.Procedure as code_procedure
-use Rattle.janus_syntax.specs.Tokens.{Token, Name, Number, Sign_of, Word_of}
+use Rattle.janus_syntax.specs.Tokens.{Token, Name, Number, Sign_of, Keyword_of}
 use Rattle.janus_syntax.specs.Tree.{Name as Named, named, Parameter, Procedure, procedure_of, Declaration, Block, Cell, procedure_view, procedures_view}
 use Rattle.janus_syntax.specs.Forms.{Part, Procedures, A_procedure, Parameters, Declarations, Statements, Body, The_sign, Form, done, part}
 use Rattle.janus_syntax.specs.Table.{rule, sign_then, behind_name, behind_main, with_procedure, with_main}
@@ -14,7 +14,8 @@ use Rattle.janus_syntax.specs.Grammar.{all, operator_limit, Refusal, Expected}
 use Rattle.janus_syntax.specs.Reader.{Stack, waits, at, run, next}
 use Rattle.janus_syntax.specs.Reading.{TokenGoes, TokenFails, count, Moves, IsPart, FailsPart, BeginsWith}
 use Rattle.janus_syntax.specs.Statements.{is_name}
-use Rattle.janus_syntax.specs.Procedures.{IsBehindName, FailsBehindName, IsBehindMain, FailsBehindMain, IsMain, IsNext, AreProcedures}
+use Rattle.janus_syntax.specs.Procedures.{IsBehindName, FailsBehindName, IsBehindMain, FailsBehindMain, IsMain, IsNext}
+use Rattle.janus_syntax.proofs.SoFar.{AreProcedures}
 use Rattle.janus_syntax.proofs.Agrees.{run_hands, left_behind}
 use Rattle.janus_syntax.proofs.Parts.{moves_on, moves_stop, token_moves, token_stops, begins_part}
 
@@ -134,8 +135,8 @@ named_stops main c {f} {place} {from} {behind} e w x =
     (λ p k g S u h. name_begins main c f place behind k S u h ∙ x (A_procedure main c) (more_named main c) g (waits {q = A_procedure main c} k S) u h)
 
 main_begins : {goal p : Part} (c : Cell) (place : Span) (behind : List Token) (k : Cell → Form p) (S : Stack goal p) (u : ℕ) → u ≤ operator_limit →
-    run all (Word_of word.Main place ∷ behind) (at (part (A_procedure true c) k) S (count 0 u)) ≡ run all behind (at (behind_main (more_main c)) (waits {q = A_procedure true c} k S) (count 0 u))
-main_begins c place behind k S u h = begins_part (A_procedure true c) k S 0 u (Word_of word.Main place) behind (behind_main (more_main c)) refl (omega arith) h
+    run all (Keyword_of keyword.Main place ∷ behind) (at (part (A_procedure true c) k) S (count 0 u)) ≡ run all behind (at (behind_main (more_main c)) (waits {q = A_procedure true c} k S) (count 0 u))
+main_begins c place behind k S u h = begins_part (A_procedure true c) k S 0 u (Keyword_of keyword.Main place) behind (behind_main (more_main c)) refl (omega arith) h
 
 pub main_next : (main : Bool) (c : Cell) {ds : List Declaration} {b : Block} (from behind : List Token) {rest : List Token} → IsMain main from behind → IsBehindMain ds b behind rest → IsNext main c false (with_main ds b c) from rest
 main_next true c {ds} {b} from behind {rest} m i =
@@ -166,25 +167,25 @@ name_is_wanted main c [] m n p k g S u h = refl
 name_is_wanted main c (Name x place ∷ rest) m n p k g S u h = absurd cc
 name_is_wanted main c (Number i place ∷ rest) m n p k g S u h = refl
 name_is_wanted main c (Sign_of s place ∷ rest) m n p k g S u h = refl
-name_is_wanted true c (Word_of word.Main place ∷ rest) m n p k g S u h = absurd (m rest (record { at = place; is = refl }))
-name_is_wanted true c (Word_of _ place ∷ rest) m n p k g S u h = refl
-name_is_wanted false c (Word_of w place ∷ rest) m n p k g S u h = refl
+name_is_wanted true c (Keyword_of keyword.Main place ∷ rest) m n p k g S u h = absurd (m rest (record { at = place; is = refl }))
+name_is_wanted true c (Keyword_of _ place ∷ rest) m n p k g S u h = refl
+name_is_wanted false c (Keyword_of w place ∷ rest) m n p k g S u h = refl
 
 -- ---- procedures
 
 pub view_push : (ps : List code_procedure.Procedure) (p : code_procedure.Procedure) → procedures_view (ps ++ p ∷ []) ≡ procedures_view ps ++ procedure_view p ∷ []
 view_push ps p = map-append procedure_view ps (p ∷ [])
 
-word_begins : {goal p : Part} (main : Bool) (c : Cell) (k : Cell → Form p) (S : Stack goal p) (u : ℕ) {rest behind : List Token} → u ≤ operator_limit → BeginsWith word.Procedure rest behind →
+keyword_begins : {goal p : Part} (main : Bool) (c : Cell) (k : Cell → Form p) (S : Stack goal p) (u : ℕ) {rest behind : List Token} → u ≤ operator_limit → BeginsWith keyword.Procedure rest behind →
     run all rest (at (part (Procedures main c) k) S (count 0 u)) ≡ run all behind (at (part (A_procedure main c) done) (waits {q = Procedures main c} k S) (count 0 u))
-word_begins main c k S u {rest} {behind} h b =
+keyword_begins main c k S u {rest} {behind} h b =
     subst (λ ts. run all ts (at (part (Procedures main c) k) S (count 0 u)) ≡ run all behind (at (part (A_procedure main c) done) (waits {q = Procedures main c} k S) (count 0 u))) (sym b.is)
-    (begins_part (Procedures main c) k S 0 u (Word_of word.Procedure b.at) behind (part (A_procedure main c) done) refl (omega arith) h)
+    (begins_part (Procedures main c) k S 0 u (Keyword_of keyword.Procedure b.at) behind (part (A_procedure main c) done) refl (omega arith) h)
 
 pub procedures_begin : (main : Bool) (c : Cell) (from : List Token) → AreProcedures main c main c from from
 procedures_begin main c from = record { goes = λ p k goal S u h. record { other = p; form = k; stack = S; stands = (u, h, refl); onward = λ d ts v. refl }; shorter = omega arith }
 
-pub procedures_go_on : {main more after : Bool} {c d e : Cell} {from rest behind last : List Token} → AreProcedures main c more d from rest → BeginsWith word.Procedure rest behind → IsNext more d after e behind last → AreProcedures main c after e from last
+pub procedures_go_on : {main more after : Bool} {c d e : Cell} {from rest behind last : List Token} → AreProcedures main c more d from rest → BeginsWith keyword.Procedure rest behind → IsNext more d after e behind last → AreProcedures main c after e from last
 procedures_go_on {main} {more} {after} {c} {d} {e} a b i =
     record {
       goes = λ p k goal S u h.
@@ -195,26 +196,26 @@ procedures_go_on {main} {more} {after} {c} {d} {e} a b i =
             other = y.other;
             form = y.form;
             stack = y.stack;
-            stands = (y.stands.0, y.stands.1, x.stands.2 ∙ word_begins more d x.form x.stack x.stands.0 x.stands.1 b ∙ y.stands.2);
+            stands = (y.stands.0, y.stands.1, x.stands.2 ∙ keyword_begins more d x.form x.stack x.stands.0 x.stands.1 b ∙ y.stands.2);
             onward = λ f ts v. y.onward f ts v ∙ run_hands all (Procedures more d) x.form x.stack (count 0 v) f ts ∙ x.onward f ts v;
           };
       shorter = let s0 = a.shorter in let s1 = ap length b.is in let s2 = i.shorter in omega (arith, s0, s1, s2);
     }
 
-pub procedures_fail : {main more : Bool} {c d : Cell} {from rest behind : List Token} (e : Refusal) → AreProcedures main c more d from rest → BeginsWith word.Procedure rest behind → FailsPart (A_procedure more d) 0 behind e → FailsPart (Procedures main c) 0 from e
+pub procedures_fail : {main more : Bool} {c d : Cell} {from rest behind : List Token} (e : Refusal) → AreProcedures main c more d from rest → BeginsWith keyword.Procedure rest behind → FailsPart (A_procedure more d) 0 behind e → FailsPart (Procedures main c) 0 from e
 procedures_fail {main} {more} {c} {d} e a b f p k goal S u h =
     let x = a.goes p k goal S u h in
-    x.stands.2 ∙ word_begins more d x.form x.stack x.stands.0 x.stands.1 b ∙ f (Procedures more d) done goal (waits {q = Procedures more d} x.form x.stack) x.stands.0 x.stands.1
+    x.stands.2 ∙ keyword_begins more d x.form x.stack x.stands.0 x.stands.1 b ∙ f (Procedures more d) done goal (waits {q = Procedures more d} x.form x.stack) x.stands.0 x.stands.1
 
-no_procedure : (main : Bool) (c : Cell) (from : List Token) → ((behind : List Token) → BeginsWith word.Procedure from behind → ⊥) → (t : Token) → next from ≡ Some t → rule (Procedures main c) t ≡ None
+no_procedure : (main : Bool) (c : Cell) (from : List Token) → ((behind : List Token) → BeginsWith keyword.Procedure from behind → ⊥) → (t : Token) → next from ≡ Some t → rule (Procedures main c) t ≡ None
 no_procedure main c [] h t e = absurd cc
-no_procedure main c (Word_of word.Procedure place ∷ rest) h t e = absurd (h rest (record { at = place; is = refl }))
-no_procedure main c (Word_of w place ∷ rest) h t e = let same : Word_of w place ≡ t = cc in subst (λ x. rule (Procedures main c) x ≡ None) same refl
+no_procedure main c (Keyword_of keyword.Procedure place ∷ rest) h t e = absurd (h rest (record { at = place; is = refl }))
+no_procedure main c (Keyword_of w place ∷ rest) h t e = let same : Keyword_of w place ≡ t = cc in subst (λ x. rule (Procedures main c) x ≡ None) same refl
 no_procedure main c (Name x place ∷ rest) h t e = let same : Name x place ≡ t = cc in subst (λ x. rule (Procedures main c) x ≡ None) same refl
 no_procedure main c (Number n place ∷ rest) h t e = let same : Number n place ≡ t = cc in subst (λ x. rule (Procedures main c) x ≡ None) same refl
 no_procedure main c (Sign_of s place ∷ rest) h t e = let same : Sign_of s place ≡ t = cc in subst (λ x. rule (Procedures main c) x ≡ None) same refl
 
-pub procedures_end : {main more : Bool} {c d : Cell} {from rest : List Token} → AreProcedures main c more d from rest → ((behind : List Token) → BeginsWith word.Procedure rest behind → ⊥) → IsPart (Procedures main c) 0 d from rest
+pub procedures_end : {main more : Bool} {c d : Cell} {from rest : List Token} → AreProcedures main c more d from rest → ((behind : List Token) → BeginsWith keyword.Procedure rest behind → ⊥) → IsPart (Procedures main c) 0 d from rest
 procedures_end {main} {more} {c} {d} {from} {rest} a n =
     record {
       goes = λ p k goal S u h.

@@ -1,4 +1,4 @@
--- Words, signs and numbers as the lexer finds them.
+-- Keywords, signs and numbers as the lexer finds them.
 use Rattle.std.proofs.Common.{◌≡◌, ℕ, ◌+◌, ◌*◌, ◌-◌, ◌<◌, ◌≤◌, ◌⊎◌, inl, inr, List, [], ◌∷◌, ◌++◌, length, get_or, drop, drop-cons, suc, Bool, true, refl, ap, sym, ◌∙◌, arith}
 use Rattle.std.specs.Prelude.{nat_lt, nat_eq}
 use Rattle.std.proofs.lemmas.Bool.{ltb-true, eqb-true, agree_below_at}
@@ -11,97 +11,97 @@ use Rattle.janus_syntax.specs.declared.token.Sign.{Sign}
 use Rattle.janus_syntax.specs.declared.token.Sign.TheVariants as sign
 use Rattle.janus_syntax.specs.declared.token.TheConstants.{KEYWORDS}
 use Rattle.janus_syntax.specs.declared.token.Keyword.{Keyword}
-use Rattle.janus_syntax.specs.declared.token.Keyword.TheVariants as word
-use Rattle.janus_syntax.specs.Spelling.{sign_text, word_text}
-use Rattle.janus_syntax.specs.Lexical.{decimal, decimal_behind, NotReserved}
+use Rattle.janus_syntax.specs.declared.token.Keyword.TheVariants as keyword
+use Rattle.janus_syntax.specs.Spelling.{sign_text, keyword_text}
+use Rattle.janus_syntax.specs.Lexical.{decimal, decimal_behind, IsNoKeyword}
 
 pub decimal_grows : (n : ℕ) (cs : List ℕ) → n ≤ decimal_behind n cs
 decimal_grows n [] = omega arith
 decimal_grows n (c ∷ cs) = omega (arith, decimal_grows (n * 10 + (c - 48)) cs)
 
-abbrev word_index : Keyword → ℕ
-word_index word.Call = 0
-word_index word.Delocal = 1
-word_index word.Do = 2
-word_index word.Else = 3
-word_index word.Empty = 4
-word_index word.Fi = 5
-word_index word.From = 6
-word_index word.If = 7
-word_index word.Int = 8
-word_index word.Local = 9
-word_index word.Loop = 10
-word_index word.Main = 11
-word_index word.Nil = 12
-word_index word.Pop = 13
-word_index word.Procedure = 14
-word_index word.Push = 15
-word_index word.Skip = 16
-word_index word.Stack = 17
-word_index word.Then = 18
-word_index word.Top = 19
-word_index word.Uncall = 20
-word_index word.Until = 21
+abbrev keyword_index : Keyword → ℕ
+keyword_index keyword.Call = 0
+keyword_index keyword.Delocal = 1
+keyword_index keyword.Do = 2
+keyword_index keyword.Else = 3
+keyword_index keyword.Empty = 4
+keyword_index keyword.Fi = 5
+keyword_index keyword.From = 6
+keyword_index keyword.If = 7
+keyword_index keyword.Int = 8
+keyword_index keyword.Local = 9
+keyword_index keyword.Loop = 10
+keyword_index keyword.Main = 11
+keyword_index keyword.Nil = 12
+keyword_index keyword.Pop = 13
+keyword_index keyword.Procedure = 14
+keyword_index keyword.Push = 15
+keyword_index keyword.Skip = 16
+keyword_index keyword.Stack = 17
+keyword_index keyword.Then = 18
+keyword_index keyword.Top = 19
+keyword_index keyword.Uncall = 20
+keyword_index keyword.Until = 21
 
-word_listed : (w : Keyword) → get_or KEYWORDS (word_index w) w ≡ w
-word_listed word.Call = refl
-word_listed word.Delocal = refl
-word_listed word.Do = refl
-word_listed word.Else = refl
-word_listed word.Empty = refl
-word_listed word.Fi = refl
-word_listed word.From = refl
-word_listed word.If = refl
-word_listed word.Int = refl
-word_listed word.Local = refl
-word_listed word.Loop = refl
-word_listed word.Main = refl
-word_listed word.Nil = refl
-word_listed word.Pop = refl
-word_listed word.Procedure = refl
-word_listed word.Push = refl
-word_listed word.Skip = refl
-word_listed word.Stack = refl
-word_listed word.Then = refl
-word_listed word.Top = refl
-word_listed word.Uncall = refl
-word_listed word.Until = refl
+keyword_listed : (w : Keyword) → get_or KEYWORDS (keyword_index w) w ≡ w
+keyword_listed keyword.Call = refl
+keyword_listed keyword.Delocal = refl
+keyword_listed keyword.Do = refl
+keyword_listed keyword.Else = refl
+keyword_listed keyword.Empty = refl
+keyword_listed keyword.Fi = refl
+keyword_listed keyword.From = refl
+keyword_listed keyword.If = refl
+keyword_listed keyword.Int = refl
+keyword_listed keyword.Local = refl
+keyword_listed keyword.Loop = refl
+keyword_listed keyword.Main = refl
+keyword_listed keyword.Nil = refl
+keyword_listed keyword.Pop = refl
+keyword_listed keyword.Procedure = refl
+keyword_listed keyword.Push = refl
+keyword_listed keyword.Skip = refl
+keyword_listed keyword.Stack = refl
+keyword_listed keyword.Then = refl
+keyword_listed keyword.Top = refl
+keyword_listed keyword.Uncall = refl
+keyword_listed keyword.Until = refl
 
-word_in_range : (w : Keyword) → nat_lt (word_index w) 22 ≡ true
-word_in_range word.Call = refl
-word_in_range word.Delocal = refl
-word_in_range word.Do = refl
-word_in_range word.Else = refl
-word_in_range word.Empty = refl
-word_in_range word.Fi = refl
-word_in_range word.From = refl
-word_in_range word.If = refl
-word_in_range word.Int = refl
-word_in_range word.Local = refl
-word_in_range word.Loop = refl
-word_in_range word.Main = refl
-word_in_range word.Nil = refl
-word_in_range word.Pop = refl
-word_in_range word.Procedure = refl
-word_in_range word.Push = refl
-word_in_range word.Skip = refl
-word_in_range word.Stack = refl
-word_in_range word.Then = refl
-word_in_range word.Top = refl
-word_in_range word.Uncall = refl
-word_in_range word.Until = refl
+keyword_in_range : (w : Keyword) → nat_lt (keyword_index w) 22 ≡ true
+keyword_in_range keyword.Call = refl
+keyword_in_range keyword.Delocal = refl
+keyword_in_range keyword.Do = refl
+keyword_in_range keyword.Else = refl
+keyword_in_range keyword.Empty = refl
+keyword_in_range keyword.Fi = refl
+keyword_in_range keyword.From = refl
+keyword_in_range keyword.If = refl
+keyword_in_range keyword.Int = refl
+keyword_in_range keyword.Local = refl
+keyword_in_range keyword.Loop = refl
+keyword_in_range keyword.Main = refl
+keyword_in_range keyword.Nil = refl
+keyword_in_range keyword.Pop = refl
+keyword_in_range keyword.Procedure = refl
+keyword_in_range keyword.Push = refl
+keyword_in_range keyword.Skip = refl
+keyword_in_range keyword.Stack = refl
+keyword_in_range keyword.Then = refl
+keyword_in_range keyword.Top = refl
+keyword_in_range keyword.Uncall = refl
+keyword_in_range keyword.Until = refl
 
 -- each keyword is listed
-pub listed_word : (w : Keyword) → Contains KEYWORDS w
-listed_word w =
-    let few : word_index w < 22 = ltb-true (word_index w) 22 (word_in_range w) in
-    (word_index w, few, word_listed w)
+pub listed_keyword : (w : Keyword) → Contains KEYWORDS w
+listed_keyword w =
+    let few : keyword_index w < 22 = ltb-true (keyword_index w) 22 (keyword_in_range w) in
+    (keyword_index w, few, keyword_listed w)
 
--- a text that is none of the listed keywords is not reserved
-pub not_reserved : (text : List ℕ) (n : ℕ) → 22 ≤ n → ((k : ℕ) (w : Keyword) → k < n → text ≡ word_text (get_or KEYWORDS k w) → ⊥) → NotReserved text
-not_reserved text n h none w e =
-    let b = ltb-true (word_index w) 22 (word_in_range w) in
-    none (word_index w) w (omega (arith, b, h)) (e ∙ ap word_text (sym (word_listed w)))
+-- a text that is none of the listed keywords is no keyword
+pub is_no_keyword : (text : List ℕ) (n : ℕ) → 22 ≤ n → ((k : ℕ) (w : Keyword) → k < n → text ≡ keyword_text (get_or KEYWORDS k w) → ⊥) → IsNoKeyword text
+is_no_keyword text n h none w e =
+    let b = ltb-true (keyword_index w) 22 (keyword_in_range w) in
+    none (keyword_index w) w (omega (arith, b, h)) (e ∙ ap keyword_text (sym (keyword_listed w)))
 
 abbrev pub signs : List Sign
 signs = sign.PlusEquals ∷ sign.MinusEquals ∷ sign.XorEquals ∷ sign.And ∷ sign.Or ∷ sign.Differs ∷ sign.AtMost ∷ sign.AtLeast ∷ sign.Plus ∷ sign.Minus ∷ sign.Times ∷ sign.Divide ∷ sign.Remainder ∷ sign.Xor ∷ sign.BitAnd ∷ sign.BitOr ∷ sign.Equals ∷ sign.Less ∷ sign.Greater ∷ sign.Open ∷ sign.Close ∷ sign.OpenIndex ∷ sign.CloseIndex ∷ sign.Comma ∷ []
@@ -274,7 +274,7 @@ past_largest digits n i largest h e over =
     let next = ap (decimal_behind n) (drop-cons digits i 0 h) in
     omega (arith, decimal_grows (n * 10 + (get_or digits i 0 - 48)) (drop (suc i) digits), e, next)
 
-pub begins_with : (text needle word : List ℕ) (r : Bool) → needle ≡ word → r ≡ starts_with nat_eq text needle → r ≡ true → (rest : List ℕ) × (text ≡ word ++ rest)
-begins_with text needle word r e is holds =
+pub begins_with : (text needle keyword : List ℕ) (r : Bool) → needle ≡ keyword → r ≡ starts_with nat_eq text needle → r ≡ true → (rest : List ℕ) × (text ≡ keyword ++ rest)
+begins_with text needle keyword r e is holds =
     let s = starts_is Decides-eqb text needle r is in
     (drop (length needle) text, s.0 holds ∙ ap (λ w. w ++ drop (length needle) text) e)

@@ -5,7 +5,7 @@ use Rattle.janus_syntax.specs.declared.fault.What.{What}
 use Rattle.janus_syntax.specs.declared.fault.What.TheVariants as what
 use Rattle.janus_syntax.specs.declared.fault.SyntaxFault.{SyntaxFault}
 use Rattle.janus_syntax.specs.declared.fault.SyntaxFault.TheVariants as fault
-use Rattle.janus_syntax.specs.Spelling.{word_text, sign_text}
+use Rattle.janus_syntax.specs.Spelling.{keyword_text, sign_text}
 
 abbrev pub what_text : What → List ℕ
 what_text what.Statement = codes "statement"
@@ -15,7 +15,7 @@ what_text what.Number = codes "number"
 what_text what.Kind = codes "kind"
 what_text what.Operator = codes "operator"
 what_text what.End = codes "end"
-what_text (what.Keyword w) = word_text w
+what_text (what.Keyword w) = keyword_text w
 what_text (what.Sign s) = sign_text s
 
 abbrev pub fault_number : SyntaxFault → ℕ

@@ -6,13 +6,13 @@ use Rattle.janus_syntax.specs.declared.token.Span.{Span}
 use Rattle.janus_syntax.specs.declared.token.Sign.{Sign}
 use Rattle.janus_syntax.specs.declared.token.Sign.TheVariants as sign
 use Rattle.janus_syntax.specs.declared.token.Keyword.{Keyword}
-use Rattle.janus_syntax.specs.declared.token.Keyword.TheVariants as word
+use Rattle.janus_syntax.specs.declared.token.Keyword.TheVariants as keyword
 use Rattle.janus_syntax.specs.declared.tree.Update.{Update}
-use Rattle.janus_syntax.specs.declared.tree.Kind.{Kind}
-use Rattle.janus_syntax.specs.declared.tree.Kind.TheVariants as kind
+use Rattle.janus_syntax.specs.declared.tree.LocalKind.{LocalKind}
+use Rattle.janus_syntax.specs.declared.tree.LocalKind.TheVariants as kind
 use Rattle.janus_syntax.specs.declared.fault.What.{What}
 use Rattle.janus_syntax.specs.declared.fault.What.TheVariants as what
-use Rattle.janus_syntax.specs.Tokens.{Token, Name, Number, Sign_of, Word_of}
+use Rattle.janus_syntax.specs.Tokens.{Token, Name, Number, Sign_of, Keyword_of}
 use Rattle.janus_syntax.specs.Tree.{Name as Named, named, Exp, Stm, Block, Declaration, Parameter, Cell}
 use Rattle.janus_syntax.specs.Operators.{update_at}
 
@@ -68,47 +68,47 @@ Tree Index = Option Exp
 
 -- the classes of tokens
 pub data Class : Type 0 where
-  The_word : Keyword → Class
+  The_keyword : Keyword → Class
   The_sign : Sign → Class
   A_name : Class
   A_number : Class
   An_update : Class
-  Same_kind : Kind → Class  -- any kind, but it has to be this one
+  Same_kind : LocalKind → Class  -- any kind, but it has to be this one
   Same_name : Named → Class  -- any name, but it has to be this one
 
 -- what a token of a class is
 abbrev pub Seen : Class → Type 0
-Seen (The_word w) = Unit {0}
+Seen (The_keyword w) = Unit {0}
 Seen (The_sign s) = Unit {0}
 Seen A_name = Named
 Seen A_number = ℕ × Span
 Seen An_update = Update
-Seen (Same_kind k) = Kind
+Seen (Same_kind k) = LocalKind
 Seen (Same_name x) = Named
 
-abbrev pub word_number : Keyword → ℕ
-word_number word.Call = 0
-word_number word.Delocal = 1
-word_number word.Do = 2
-word_number word.Else = 3
-word_number word.Empty = 4
-word_number word.Fi = 5
-word_number word.From = 6
-word_number word.If = 7
-word_number word.Int = 8
-word_number word.Local = 9
-word_number word.Loop = 10
-word_number word.Main = 11
-word_number word.Nil = 12
-word_number word.Pop = 13
-word_number word.Procedure = 14
-word_number word.Push = 15
-word_number word.Skip = 16
-word_number word.Stack = 17
-word_number word.Then = 18
-word_number word.Top = 19
-word_number word.Uncall = 20
-word_number word.Until = 21
+abbrev pub keyword_number : Keyword → ℕ
+keyword_number keyword.Call = 0
+keyword_number keyword.Delocal = 1
+keyword_number keyword.Do = 2
+keyword_number keyword.Else = 3
+keyword_number keyword.Empty = 4
+keyword_number keyword.Fi = 5
+keyword_number keyword.From = 6
+keyword_number keyword.If = 7
+keyword_number keyword.Int = 8
+keyword_number keyword.Local = 9
+keyword_number keyword.Loop = 10
+keyword_number keyword.Main = 11
+keyword_number keyword.Nil = 12
+keyword_number keyword.Pop = 13
+keyword_number keyword.Procedure = 14
+keyword_number keyword.Push = 15
+keyword_number keyword.Skip = 16
+keyword_number keyword.Stack = 17
+keyword_number keyword.Then = 18
+keyword_number keyword.Top = 19
+keyword_number keyword.Uncall = 20
+keyword_number keyword.Until = 21
 
 abbrev pub sign_number : Sign → ℕ
 sign_number sign.PlusEquals = 0
@@ -140,22 +140,22 @@ sign_number sign.Comma = 23
 abbrev pub same_named : Named → Named → Bool
 same_named (named x at) (named y place) = same_name x y
 
-abbrev pub same_kind : Kind → Kind → Bool
+abbrev pub same_kind : LocalKind → LocalKind → Bool
 same_kind kind.Int kind.Int = true
 same_kind kind.Int kind.Stack = false
 same_kind kind.Stack kind.Int = false
 same_kind kind.Stack kind.Stack = true
 
--- the kind of a word
-abbrev pub word_kind : Keyword → Option Kind
-word_kind word.Int = Some kind.Int
-word_kind word.Stack = Some kind.Stack
-word_kind _ = None
+-- the kind of a keyword
+abbrev pub keyword_kind : Keyword → Option LocalKind
+keyword_kind keyword.Int = Some kind.Int
+keyword_kind keyword.Stack = Some kind.Stack
+keyword_kind _ = None
 
 -- a token as one of a class
 abbrev pub seen : (c : Class) → Token → Option (Seen c)
-seen (The_word w) (Word_of v _) = cond (nat_eq (word_number w) (word_number v)) (Some tt) None
-seen (The_word w) _ = None
+seen (The_keyword w) (Keyword_of v _) = cond (nat_eq (keyword_number w) (keyword_number v)) (Some tt) None
+seen (The_keyword w) _ = None
 seen (The_sign s) (Sign_of r _) = cond (nat_eq (sign_number s) (sign_number r)) (Some tt) None
 seen (The_sign s) _ = None
 seen A_name (Name x at) = Some (named x at)
@@ -163,7 +163,7 @@ seen A_name _ = None
 seen A_number (Number n at) = Some (n, at)
 seen A_number _ = None
 seen An_update t = update_at t
-seen (Same_kind k) (Word_of v _) = word_kind v
+seen (Same_kind k) (Keyword_of v _) = keyword_kind v
 seen (Same_kind k) _ = None
 seen (Same_name x) (Name y at) = Some (named y at)
 seen (Same_name x) _ = None
@@ -176,7 +176,7 @@ agrees _ v = true
 
 -- how a class is told
 abbrev pub what_of : Class → What
-what_of (The_word w) = what.Keyword w
+what_of (The_keyword w) = what.Keyword w
 what_of (The_sign s) = what.Sign s
 what_of A_name = what.Name
 what_of A_number = what.Number

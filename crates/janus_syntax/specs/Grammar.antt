@@ -1,6 +1,7 @@
 -- What the grammar's table means: which tokens spell which tree; what has to come next behind the beginning of a
 -- text; and where tokens are refused. What a text is to be is the part `goal`: a cell, or an expression.
 use Rattle.std.specs.Prelude.{◌≡◌, ℕ, suc, ◌+◌, ◌-◌, List, [], ◌∷◌, ◌++◌, length, Option, Some, None, Bool, true, false, cond, nat_le, ◌&&◌}
+use Rattle.janus_syntax.specs.declared.expression.TheConstants.{DEPTH_LIMIT, OPERATOR_LIMIT}
 use Rattle.janus_syntax.specs.declared.fault.What.{What}
 use Rattle.janus_syntax.specs.declared.fault.What.TheVariants as what
 use Rattle.janus_syntax.specs.Tokens.{Token}
@@ -25,11 +26,13 @@ entered r m = record { depth = m.depth + r.opens; used = cond r.is_whole 0 m.use
 abbrev pub closed : Count → Count
 closed m = record { depth = m.depth - 1; used = m.used }
 
+-- the most constructs that may be open at once
 abbrev pub depth_limit : ℕ
-depth_limit = 64
+depth_limit = DEPTH_LIMIT
 
+-- the most operators that one whole expression may have
 abbrev pub operator_limit : ℕ
-operator_limit = 256
+operator_limit = OPERATOR_LIMIT
 
 abbrev pub fits : Count → Bool
 fits m = nat_le m.depth depth_limit && nat_le m.used operator_limit

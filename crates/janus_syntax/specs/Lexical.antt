@@ -7,8 +7,9 @@ use Rattle.janus_syntax.specs.declared.token.Sign.{Sign}
 use Rattle.janus_syntax.specs.declared.token.Keyword.{Keyword}
 use Rattle.janus_syntax.specs.declared.lexer.Class.{Class}
 use Rattle.janus_syntax.specs.declared.lexer.Class.TheVariants as class
-use Rattle.janus_syntax.specs.Spelling.{sign_text, word_text}
-use Rattle.janus_syntax.specs.Tokens.{Token, Name, Number, Sign_of, Word_of}
+use Rattle.janus_syntax.specs.declared.lexer.TheConstants.{LARGEST_NUMBER}
+use Rattle.janus_syntax.specs.Spelling.{sign_text, keyword_text}
+use Rattle.janus_syntax.specs.Tokens.{Token, Name, Number, Sign_of, Keyword_of}
 
 -- the kinds of octets
 abbrev pub class_of : ℕ → Class
@@ -75,18 +76,19 @@ pub data Item : Type 0 where
   A_name : List ℕ → Item
   A_number : ℕ → Item
   A_sign : Sign → Item
-  A_word : Keyword → Item
+  A_keyword : Keyword → Item
 
-abbrev pub NotReserved : List ℕ → Type 0
-NotReserved text = (w : Keyword) → text ≡ word_text w → ⊥
+-- the text is no keyword
+abbrev pub IsNoKeyword : List ℕ → Type 0
+IsNoKeyword text = (w : Keyword) → text ≡ keyword_text w → ⊥
 
 -- the octets spell the item
 abbrev pub IsSpelled : Item → List ℕ → Type 0
 IsSpelled Gap text = IsSeparator text ⊎ IsComment text
-IsSpelled (A_name x) text = (x ≡ text) × IsNameText text × NotReserved text
+IsSpelled (A_name x) text = (x ≡ text) × IsNameText text × IsNoKeyword text
 IsSpelled (A_number n) text = (n ≡ decimal text) × IsNumberText text
 IsSpelled (A_sign s) text = text ≡ sign_text s
-IsSpelled (A_word w) text = text ≡ word_text w
+IsSpelled (A_keyword w) text = text ≡ keyword_text w
 
 -- no item that begins so takes any of what follows
 abbrev pub NoLonger : List ℕ → List ℕ → Type 0
@@ -98,8 +100,9 @@ pub record IsFront (i : Item) (from text rest : List ℕ) : Type 0 where
   pub spelled : IsSpelled i text
   pub longest : NoLonger text rest
 
+-- the largest number of a text
 abbrev pub largest_number : ℕ
-largest_number = 2147483647
+largest_number = LARGEST_NUMBER
 
 -- the token that an item is
 abbrev pub IsToken : Item → Span → Token → Type 0
@@ -107,7 +110,7 @@ IsToken Gap at t = ⊥
 IsToken (A_name x) at t = t ≡ Name x at
 IsToken (A_number n) at t = (n ≤ largest_number) × (t ≡ Number n at)
 IsToken (A_sign s) at t = t ≡ Sign_of s at
-IsToken (A_word w) at t = t ≡ Word_of w at
+IsToken (A_keyword w) at t = t ≡ Keyword_of w at
 
 -- the octets of a text between two of its ends
 abbrev pub between : List ℕ → List ℕ → List ℕ → Span

@@ -7,10 +7,10 @@ use Rattle.janus_syntax.specs.declared.operator.Infix.{Infix}
 use Rattle.janus_syntax.specs.declared.tree.Operator.{Operator}
 use Rattle.janus_syntax.specs.declared.tree.Operator.TheVariants as operator
 use Rattle.janus_syntax.specs.declared.token.Keyword.{Keyword}
-use Rattle.janus_syntax.specs.declared.token.Keyword.TheVariants as word
+use Rattle.janus_syntax.specs.declared.token.Keyword.TheVariants as keyword
 use Rattle.janus_syntax.specs.declared.tree.Update.{Update}
 use Rattle.janus_syntax.specs.declared.tree.Update.TheVariants as update
-use Rattle.janus_syntax.specs.Spelling.{sign_text, word_text}
+use Rattle.janus_syntax.specs.Spelling.{sign_text, keyword_text}
 use Rattle.janus_syntax.specs.Tree.{Name, named, Exp, Num, Var, Element, EmptyOf, TopOf, Neg, Bin, And, Or, Stm, Skip, Assign, AssignElement, Push, Pop, If}
 use Rattle.janus_syntax.specs.Tree.{Loop, LocalInt, LocalStack, Call, Uncall, Block, Empty, More, Declaration, Int, Array, StackOf, Parameter, IntParameter}
 use Rattle.janus_syntax.specs.Tree.{ArrayParameter, StackParameter, Procedure, procedure_of, Cell, cell_of}
@@ -21,15 +21,15 @@ pub data Piece : Type 0 where
   A_name : List ℕ → Piece
   A_number : ℕ → Piece
   A_sign : Sign → Piece
-  A_word : Keyword → Piece
+  A_keyword : Keyword → Piece
   A_minus : Piece  -- prefix minus
-  An_opening : Piece  -- the `(` behind a word or a name, before names
+  An_opening : Piece  -- the `(` behind a keyword or a name, before names
 
 abbrev pub piece_text : Piece → List ℕ
 piece_text (A_name x) = x
 piece_text (A_number n) = decimal n
 piece_text (A_sign s) = sign_text s
-piece_text (A_word w) = word_text w
+piece_text (A_keyword w) = keyword_text w
 piece_text A_minus = codes "-"
 piece_text An_opening = sign_text sign.Open
 
@@ -100,16 +100,16 @@ infix_pieces level s left right =
     let weaker = nat_lt level (sign_level s) in
     if_needed weaker sign.Open ++ (left (sign_level s) ++ A_sign s ∷ (right (sign_level s - 1) ++ if_needed weaker sign.Close))
 
--- a word, and behind it the names of a stack, or of a variable and a stack, in parentheses
+-- a keyword, and behind it the names of a stack, or of a variable and a stack, in parentheses
 abbrev pub read_pieces : Keyword → List ℕ → List Piece
-read_pieces w s = A_word w ∷ An_opening ∷ A_name s ∷ A_sign sign.Close ∷ []
+read_pieces w s = A_keyword w ∷ An_opening ∷ A_name s ∷ A_sign sign.Close ∷ []
 
 abbrev pub transfer_pieces : Keyword → List ℕ → List ℕ → List Piece
-transfer_pieces w x s = A_word w ∷ An_opening ∷ A_name x ∷ A_sign sign.Comma ∷ A_name s ∷ A_sign sign.Close ∷ []
+transfer_pieces w x s = A_keyword w ∷ An_opening ∷ A_name x ∷ A_sign sign.Comma ∷ A_name s ∷ A_sign sign.Close ∷ []
 
 -- `local` or `delocal`, a kind, a name and `=`
 abbrev pub binding_pieces : Keyword → Keyword → List ℕ → List Piece
-binding_pieces v w x = A_word v ∷ A_word w ∷ A_name x ∷ A_sign sign.Equals ∷ []
+binding_pieces v w x = A_keyword v ∷ A_keyword w ∷ A_name x ∷ A_sign sign.Equals ∷ []
 
 -- names parted by commas
 abbrev pub more_names_pieces : List Name → List Piece
@@ -122,15 +122,15 @@ names_pieces (named x at ∷ xs) = A_name x ∷ more_names_pieces xs
 
 -- `call` or `uncall`, a name, and names in parentheses
 abbrev pub call_pieces : Keyword → List ℕ → List Name → List Piece
-call_pieces w f xs = A_word w ∷ A_name f ∷ An_opening ∷ (names_pieces xs ++ A_sign sign.Close ∷ [])
+call_pieces w f xs = A_keyword w ∷ A_name f ∷ An_opening ∷ (names_pieces xs ++ A_sign sign.Close ∷ [])
 
 -- an expression in a place for operators of at most that level
 abbrev pub exp_pieces : Exp → ℕ → List Piece
 exp_pieces (Num n place) level = A_number n ∷ []
 exp_pieces (Var (named x place)) level = A_name x ∷ []
 exp_pieces (Element (named x place) i) level = A_name x ∷ A_sign sign.OpenIndex ∷ (exp_pieces i weakest ++ A_sign sign.CloseIndex ∷ [])
-exp_pieces (EmptyOf (named x place)) level = read_pieces word.Empty x
-exp_pieces (TopOf (named x place)) level = read_pieces word.Top x
+exp_pieces (EmptyOf (named x place)) level = read_pieces keyword.Empty x
+exp_pieces (TopOf (named x place)) level = read_pieces keyword.Top x
 exp_pieces (Neg e) level = A_minus ∷ exp_pieces e 0
 exp_pieces (Bin op l r) level = infix_pieces level (operator_sign op) (exp_pieces l) (exp_pieces r)
 exp_pieces (And l r) level = infix_pieces level sign.And (exp_pieces l) (exp_pieces r)
@@ -149,31 +149,31 @@ whole_pieces e = exp_pieces e weakest
 -- statements, all parts told
 abbrev mutual
   pub stm_pieces : Stm → List Piece
-  stm_pieces Skip = A_word word.Skip ∷ []
+  stm_pieces Skip = A_keyword keyword.Skip ∷ []
   stm_pieces (Assign (named x place) u e) = A_name x ∷ A_sign (update_sign u) ∷ whole_pieces e
   stm_pieces (AssignElement (named x place) i u e) = A_name x ∷ A_sign sign.OpenIndex
       ∷ (whole_pieces i ++ A_sign sign.CloseIndex ∷ A_sign (update_sign u) ∷ whole_pieces e)
-  stm_pieces (Push (named x place) (named y at)) = transfer_pieces word.Push x y
-  stm_pieces (Pop (named x place) (named y at)) = transfer_pieces word.Pop x y
-  stm_pieces (If e s t f) = A_word word.If
-      ∷ (whole_pieces e ++ A_word word.Then ∷ (block_pieces s ++ A_word word.Else ∷ (block_pieces t ++ A_word word.Fi ∷ whole_pieces f)))
-  stm_pieces (Loop e s t f) = A_word word.From
-      ∷ (whole_pieces e ++ A_word word.Do ∷ (block_pieces s ++ A_word word.Loop ∷ (block_pieces t ++ A_word word.Until ∷ whole_pieces f)))
-  stm_pieces (LocalInt (named x place) e s (named y at) f) = binding_pieces word.Local word.Int x
-      ++ (whole_pieces e ++ (block_pieces s ++ (binding_pieces word.Delocal word.Int y ++ whole_pieces f)))
-  stm_pieces (LocalStack (named x place) s (named y at)) = binding_pieces word.Local word.Stack x ++ A_word word.Nil
-      ∷ (block_pieces s ++ (binding_pieces word.Delocal word.Stack y ++ A_word word.Nil ∷ []))
-  stm_pieces (Call (named f place) xs) = call_pieces word.Call f xs
-  stm_pieces (Uncall (named f place) xs) = call_pieces word.Uncall f xs
+  stm_pieces (Push (named x place) (named y at)) = transfer_pieces keyword.Push x y
+  stm_pieces (Pop (named x place) (named y at)) = transfer_pieces keyword.Pop x y
+  stm_pieces (If e s t f) = A_keyword keyword.If
+      ∷ (whole_pieces e ++ A_keyword keyword.Then ∷ (block_pieces s ++ A_keyword keyword.Else ∷ (block_pieces t ++ A_keyword keyword.Fi ∷ whole_pieces f)))
+  stm_pieces (Loop e s t f) = A_keyword keyword.From
+      ∷ (whole_pieces e ++ A_keyword keyword.Do ∷ (block_pieces s ++ A_keyword keyword.Loop ∷ (block_pieces t ++ A_keyword keyword.Until ∷ whole_pieces f)))
+  stm_pieces (LocalInt (named x place) e s (named y at) f) = binding_pieces keyword.Local keyword.Int x
+      ++ (whole_pieces e ++ (block_pieces s ++ (binding_pieces keyword.Delocal keyword.Int y ++ whole_pieces f)))
+  stm_pieces (LocalStack (named x place) s (named y at)) = binding_pieces keyword.Local keyword.Stack x ++ A_keyword keyword.Nil
+      ∷ (block_pieces s ++ (binding_pieces keyword.Delocal keyword.Stack y ++ A_keyword keyword.Nil ∷ []))
+  stm_pieces (Call (named f place) xs) = call_pieces keyword.Call f xs
+  stm_pieces (Uncall (named f place) xs) = call_pieces keyword.Uncall f xs
 
   pub block_pieces : Block → List Piece
   block_pieces Empty = []
   block_pieces (More s b) = stm_pieces s ++ block_pieces b
 
 abbrev pub declaration_pieces : Declaration → List Piece
-declaration_pieces (Int (named x place)) = A_word word.Int ∷ A_name x ∷ []
-declaration_pieces (Array (named x place) n at) = A_word word.Int ∷ A_name x ∷ A_sign sign.OpenIndex ∷ A_number n ∷ A_sign sign.CloseIndex ∷ []
-declaration_pieces (StackOf (named x place)) = A_word word.Stack ∷ A_name x ∷ []
+declaration_pieces (Int (named x place)) = A_keyword keyword.Int ∷ A_name x ∷ []
+declaration_pieces (Array (named x place) n at) = A_keyword keyword.Int ∷ A_name x ∷ A_sign sign.OpenIndex ∷ A_number n ∷ A_sign sign.CloseIndex ∷ []
+declaration_pieces (StackOf (named x place)) = A_keyword keyword.Stack ∷ A_name x ∷ []
 
 abbrev pub declarations_pieces : List Declaration → List Piece
 declarations_pieces [] = []
@@ -181,9 +181,9 @@ declarations_pieces (d ∷ ds) = declaration_pieces d ++ declarations_pieces ds
 
 -- parameters parted by commas
 abbrev pub parameter_pieces : Parameter → List Piece
-parameter_pieces (IntParameter (named x place)) = A_word word.Int ∷ A_name x ∷ []
-parameter_pieces (ArrayParameter (named x place)) = A_word word.Int ∷ A_name x ∷ A_sign sign.OpenIndex ∷ A_sign sign.CloseIndex ∷ []
-parameter_pieces (StackParameter (named x place)) = A_word word.Stack ∷ A_name x ∷ []
+parameter_pieces (IntParameter (named x place)) = A_keyword keyword.Int ∷ A_name x ∷ []
+parameter_pieces (ArrayParameter (named x place)) = A_keyword keyword.Int ∷ A_name x ∷ A_sign sign.OpenIndex ∷ A_sign sign.CloseIndex ∷ []
+parameter_pieces (StackParameter (named x place)) = A_keyword keyword.Stack ∷ A_name x ∷ []
 
 abbrev pub more_parameters_pieces : List Parameter → List Piece
 more_parameters_pieces [] = []
@@ -194,7 +194,7 @@ parameters_pieces [] = []
 parameters_pieces (x ∷ xs) = parameter_pieces x ++ more_parameters_pieces xs
 
 abbrev pub procedure_pieces : Procedure → List Piece
-procedure_pieces (procedure_of (named f place) xs b) = A_word word.Procedure ∷ A_name f ∷ An_opening
+procedure_pieces (procedure_of (named f place) xs b) = A_keyword keyword.Procedure ∷ A_name f ∷ An_opening
     ∷ (parameters_pieces xs ++ A_sign sign.Close ∷ block_pieces b)
 
 abbrev pub procedures_pieces : List Procedure → List Piece

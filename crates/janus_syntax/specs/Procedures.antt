@@ -1,13 +1,13 @@
 -- What the parser's functions on procedures say of what they return. It serves the proofs.
-use Rattle.std.specs.Prelude.{◌≡◌, ℕ, ◌<◌, ◌≤◌, List, [], ◌∷◌, ◌++◌, length, Option, Some, None, Bool, true, false}
+use Rattle.std.specs.Prelude.{◌≡◌, ℕ, ◌<◌, ◌≤◌, List, [], ◌∷◌, length, Option, Some, None, Bool, true, false}
 use Rattle.std.specs.Borrow.{Bor}
 use Rattle.janus_syntax.specs.declared.fault.What.TheVariants as what
-use Rattle.janus_syntax.specs.declared.token.Keyword.TheVariants as word
+use Rattle.janus_syntax.specs.declared.token.Keyword.TheVariants as keyword
 use Rattle.janus_syntax.specs.declared.token.Token as code_token
 use Rattle.janus_syntax.specs.declared.tree.Parameter as code_parameter
-use Rattle.janus_syntax.specs.Tokens.{Token, Word_of, views}
+use Rattle.janus_syntax.specs.Tokens.{Token, Keyword_of, views}
 use Rattle.janus_syntax.specs.Tree.{Name as Named, Parameter, Procedure, Declaration, Block, Cell, parameter_view}
-use Rattle.janus_syntax.specs.Forms.{Part, Procedures, A_procedure, Parameters, More_parameters, Brackets, Form, part}
+use Rattle.janus_syntax.specs.Forms.{Part, Procedures, A_procedure, Brackets, Form, part}
 use Rattle.janus_syntax.specs.Table.{a_parameter, parameter, behind_name, behind_main}
 use Rattle.janus_syntax.specs.Grammar.{all, operator_limit, Refusal}
 use Rattle.janus_syntax.specs.Reader.{Stack, at, run, Outcome, Ended, outcome_of, next}
@@ -17,8 +17,8 @@ use Rattle.janus_syntax.specs.Reading.{begun, count, BeginsWith, Stands, Moves, 
 
 -- whether a token begins a parameter
 abbrev pub is_parameter : Option Token → Bool
-is_parameter (Some (Word_of word.Int place)) = true
-is_parameter (Some (Word_of word.Stack place)) = true
+is_parameter (Some (Keyword_of keyword.Int place)) = true
+is_parameter (Some (Keyword_of keyword.Stack place)) = true
 is_parameter _ = false
 
 abbrev pub begin_parameter : {goal p : Part} → List Token → (Parameter → Form p) → Stack goal p → ℕ → Outcome goal
@@ -49,21 +49,6 @@ pub record IsBracketed (x : Named) (y : Parameter) (from rest : List Token) : Ty
 abbrev pub FailsBracketed : Named → List Token → Refusal → Type 0
 FailsBracketed x from e = (p : Part) (k : Parameter → Form p) → Stops 0 (part Brackets (λ b. k (parameter x b))) from e
 
--- In the midst of parameters: the machine stands at more of them.
-pub record AtParameters (xs : List Parameter) (goal : Part) (out : Outcome goal) (rest : List Token) (p : Part) (k : List Parameter → Form p)
-    (S : Stack goal p) : Type 0 where
-  pub other : Part
-  pub form : List Parameter → Form other
-  pub stack : Stack goal other
-  pub stands : Stands 0 out rest (part More_parameters form) stack
-  pub onward : (ys : List Parameter) (ts : List Token) (u : ℕ) → run all ts (at (form ys) stack (count 0 u)) ≡ run all ts (at (k (xs ++ ys)) S (count 0 u))
-
--- parameters read so far
-pub record AreParameters (xs : List Parameter) (from rest : List Token) : Type 0 where
-  pub goes : (p : Part) (k : List Parameter → Form p) (goal : Part) (S : Stack goal p) (u : ℕ) → u ≤ operator_limit →
-      AtParameters xs goal (run all from (at (part Parameters k) S (count 0 u))) rest p k S
-  pub shorter : length rest ≤ length from
-
 -- ---- procedures
 
 -- a procedure behind its name f
@@ -84,7 +69,7 @@ FailsBehindMain from e = (p : Part) (k : List Declaration → Block → Form p) 
 
 -- `main` at the front, where it may stand
 abbrev pub IsMain : Bool → List Token → List Token → Type 0
-IsMain true from behind = BeginsWith word.Main from behind
+IsMain true from behind = BeginsWith keyword.Main from behind
 IsMain false from behind = ⊥
 
 -- The machine stands at more procedures of a cell, of which one may be `main` or not.
@@ -100,10 +85,4 @@ pub record AtProcedures (main : Bool) (c : Cell) (goal : Part) (out : Outcome go
 pub record IsNext (main : Bool) (c : Cell) (more : Bool) (d : Cell) (from rest : List Token) : Type 0 where
   pub goes : (p : Part) (k : Cell → Form p) (goal : Part) (S : Stack goal p) (u : ℕ) → u ≤ operator_limit →
       AtProcedures more d goal (run all from (at (part (A_procedure main c) k) S (count 0 u))) rest p k S
-  pub shorter : length rest ≤ length from
-
--- procedures read so far behind the cell c: with them it is d
-pub record AreProcedures (main : Bool) (c : Cell) (more : Bool) (d : Cell) (from rest : List Token) : Type 0 where
-  pub goes : (p : Part) (k : Cell → Form p) (goal : Part) (S : Stack goal p) (u : ℕ) → u ≤ operator_limit →
-      AtProcedures more d goal (run all from (at (part (Procedures main c) k) S (count 0 u))) rest p k S
   pub shorter : length rest ≤ length from

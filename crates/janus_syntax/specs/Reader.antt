@@ -68,7 +68,7 @@ wanted_behind (waits k S) (Complete v) = wanted_behind S (required (k v))
 abbrev pub wanted : {goal : Part} → State goal → What
 wanted (at f S m) = wanted_behind S (required f)
 
--- how a reading ends: at the end of the tokens, with a tree or without; or earlier, with so many tokens left
+-- how a reading ends: at the end of the tokens, with a tree or without; or earlier, with how many tokens are left
 pub data Outcome (goal : Part) : Type 0 where
   Ended : Option (Tree goal) → What → Outcome goal
   Failed : What → ℕ → Outcome goal

@@ -1,6 +1,6 @@
 -- What the parser's functions say of what they return: where the machine stands behind a part, or how it is
 -- refused in it, in each place where the part may stand. It serves the proofs.
-use Rattle.std.specs.Prelude.{◌≡◌, ℕ, suc, ◌+◌, ◌-◌, ◌<◌, ◌≤◌, List, [], ◌∷◌, length, Option, Some, None, Result, Ok, Err, cond, drop}
+use Rattle.std.specs.Prelude.{◌≡◌, ℕ, suc, ◌-◌, ◌<◌, ◌≤◌, List, [], ◌∷◌, length, Option, Some, None, Result, Ok, Err, cond, drop}
 use Rattle.janus_syntax.specs.declared.fault.What.{What}
 use Rattle.janus_syntax.specs.declared.fault.What.TheVariants as what
 use Rattle.janus_syntax.specs.declared.fault.SyntaxFault.{SyntaxFault}
@@ -11,10 +11,10 @@ use Rattle.janus_syntax.specs.declared.token.Sign.{Sign}
 use Rattle.janus_syntax.specs.declared.operator.Infix.{Infix}
 use Rattle.janus_syntax.specs.declared.problem.Problem.{Problem}
 use Rattle.janus_syntax.specs.declared.problem.Problem.TheVariants as problem
-use Rattle.janus_syntax.specs.Tokens.{Token, Sign_of, Word_of}
+use Rattle.janus_syntax.specs.Tokens.{Token, Sign_of, Keyword_of}
 use Rattle.janus_syntax.specs.Tree.{Name as Named, Exp}
 use Rattle.janus_syntax.specs.Operators.{operator_at}
-use Rattle.janus_syntax.specs.Forms.{Part, Index, Chain, Tree, Class, Seen, Form, take, part, Rule}
+use Rattle.janus_syntax.specs.Forms.{Part, Index, Tree, Class, Seen, Form, take, part, Rule}
 use Rattle.janus_syntax.specs.Table.{stack_then, variable_and_stack_then, operand, chains, variable}
 use Rattle.janus_syntax.specs.Grammar.{Count, all, entered, fits, operator_limit, Refusal, Expected, TooNested, DelocalName}
 use Rattle.janus_syntax.specs.Text.{place_before}
@@ -72,10 +72,10 @@ abbrev pub FailsVariableAndStack : List Token → Refusal → Type 0
 FailsVariableAndStack from e = (goal p : Part) (k : Named → Named → Form p) (S : Stack goal p) (m : Count) →
     run all from (at (variable_and_stack_then k) S m) ≡ outcome_of e
 
--- this word at the front
+-- this keyword at the front
 pub record BeginsWith (w : Keyword) (from behind : List Token) : Type 0 where
   pub at : Span
-  pub is : from ≡ Word_of w at ∷ behind
+  pub is : from ≡ Keyword_of w at ∷ behind
 
 -- this sign at the front
 pub record BeginsWithSign (s : Sign) (from behind : List Token) : Type 0 where
@@ -85,7 +85,7 @@ pub record BeginsWithSign (s : Sign) (from behind : List Token) : Type 0 where
 abbrev pub count : ℕ → ℕ → Count
 count d u = record { depth = d; used = u }
 
--- ---- forms and parts, with so many constructs open
+-- ---- forms and parts, with `depth` constructs open
 
 -- the machine stands at a form, in front of these tokens
 abbrev pub Stands : {goal p : Part} → ℕ → Outcome goal → List Token → Form p → Stack goal p → Type 0
@@ -150,30 +150,3 @@ pub record IsIndexed (depth used : ℕ) (x : Named) (e : Exp) (total : ℕ) (fro
 abbrev pub FailsIndexed : ℕ → ℕ → Named → List Token → Refusal → Type 0
 FailsIndexed depth used x from e = (goal p : Part) (k : Exp → Form p) (S : Stack goal p) →
     run all from (at (part Index (λ i. k (variable x i))) S (count depth used)) ≡ outcome_of e
-
--- Behind e, operators of the level behind `level` may stand: the expression so far, with n levels to come.
-pub record IsSoFar (level weakest depth used : ℕ) (e : Exp) (total : ℕ) (from rest : List Token) : Type 0 where
-  pub to_come : ℕ
-  pub levels : level + to_come ≡ weakest
-  pub goes : (goal p : Part) (k : Exp → Form p) (S : Stack goal p) →
-      begin from (λ x. chains 0 weakest x k) S (count depth used) ≡ run all rest (at (chains level to_come e k) S (count depth total))
-  pub within : total ≤ operator_limit
-  pub shorter : length rest < length from
-
--- the machine stands at the chain of a level; behind it, it goes on as k has it
-pub record AtChain (level to_come : ℕ) (e : Exp) (c : Count) (goal : Part) (out : Outcome goal) (rest : List Token) (p : Part) (k : Exp → Form p)
-    (S : Stack goal p) : Type 0 where
-  pub other : Part
-  pub form : Exp → Form other
-  pub stack : Stack goal other
-  pub stands : out ≡ run all rest (at (part (Chain (suc level) e) form) stack c)
-  pub onward : (f : Exp) (ts : List Token) (m : Count) → run all ts (at (form f) stack m) ≡ run all ts (at (chains (suc level) to_come f k) S m)
-
--- in the midst of the operators of the level behind `level`
-pub record IsChain (level weakest depth used : ℕ) (e : Exp) (total : ℕ) (from rest : List Token) : Type 0 where
-  pub to_come : ℕ
-  pub levels : level + suc to_come ≡ weakest
-  pub goes : (goal p : Part) (k : Exp → Form p) (S : Stack goal p) →
-      AtChain level to_come e (count depth total) goal (begin from (λ x. chains 0 weakest x k) S (count depth used)) rest p k S
-  pub within : total ≤ operator_limit
-  pub shorter : length rest < length from

@@ -3,7 +3,7 @@ use Rattle.std.specs.Prelude.{ℕ, List, codes}
 use Rattle.janus_syntax.specs.declared.token.Sign.{Sign}
 use Rattle.janus_syntax.specs.declared.token.Sign.TheVariants as sign
 use Rattle.janus_syntax.specs.declared.token.Keyword.{Keyword}
-use Rattle.janus_syntax.specs.declared.token.Keyword.TheVariants as word
+use Rattle.janus_syntax.specs.declared.token.Keyword.TheVariants as keyword
 
 abbrev pub sign_text : Sign → List ℕ
 sign_text sign.PlusEquals = codes "+="
@@ -31,26 +31,26 @@ sign_text sign.OpenIndex = codes "["
 sign_text sign.CloseIndex = codes "]"
 sign_text sign.Comma = codes ","
 
-abbrev pub word_text : Keyword → List ℕ
-word_text word.Call = codes "call"
-word_text word.Delocal = codes "delocal"
-word_text word.Do = codes "do"
-word_text word.Else = codes "else"
-word_text word.Empty = codes "empty"
-word_text word.Fi = codes "fi"
-word_text word.From = codes "from"
-word_text word.If = codes "if"
-word_text word.Int = codes "int"
-word_text word.Local = codes "local"
-word_text word.Loop = codes "loop"
-word_text word.Main = codes "main"
-word_text word.Nil = codes "nil"
-word_text word.Pop = codes "pop"
-word_text word.Procedure = codes "procedure"
-word_text word.Push = codes "push"
-word_text word.Skip = codes "skip"
-word_text word.Stack = codes "stack"
-word_text word.Then = codes "then"
-word_text word.Top = codes "top"
-word_text word.Uncall = codes "uncall"
-word_text word.Until = codes "until"
+abbrev pub keyword_text : Keyword → List ℕ
+keyword_text keyword.Call = codes "call"
+keyword_text keyword.Delocal = codes "delocal"
+keyword_text keyword.Do = codes "do"
+keyword_text keyword.Else = codes "else"
+keyword_text keyword.Empty = codes "empty"
+keyword_text keyword.Fi = codes "fi"
+keyword_text keyword.From = codes "from"
+keyword_text keyword.If = codes "if"
+keyword_text keyword.Int = codes "int"
+keyword_text keyword.Local = codes "local"
+keyword_text keyword.Loop = codes "loop"
+keyword_text keyword.Main = codes "main"
+keyword_text keyword.Nil = codes "nil"
+keyword_text keyword.Pop = codes "pop"
+keyword_text keyword.Procedure = codes "procedure"
+keyword_text keyword.Push = codes "push"
+keyword_text keyword.Skip = codes "skip"
+keyword_text keyword.Stack = codes "stack"
+keyword_text keyword.Then = codes "then"
+keyword_text keyword.Top = codes "top"
+keyword_text keyword.Uncall = codes "uncall"
+keyword_text keyword.Until = codes "until"

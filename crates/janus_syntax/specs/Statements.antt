@@ -1,20 +1,20 @@
 -- What the parser's functions on statements and declarations say of what they return. It serves the proofs.
-use Rattle.std.specs.Prelude.{◌≡◌, ℕ, ◌<◌, ◌≤◌, List, [], ◌∷◌, ◌++◌, length, Option, Some, None, Bool, true, false, string_bytes}
+use Rattle.std.specs.Prelude.{◌≡◌, ℕ, ◌<◌, ◌≤◌, List, [], ◌∷◌, length, Option, Some, None, Bool, true, false, string_bytes}
 use Rattle.std.specs.Borrow.{Bor}
 use Rattle.janus_syntax.specs.declared.fault.What.TheVariants as what
 use Rattle.janus_syntax.specs.declared.token.Keyword.{Keyword}
-use Rattle.janus_syntax.specs.declared.token.Keyword.TheVariants as word
+use Rattle.janus_syntax.specs.declared.token.Keyword.TheVariants as keyword
 use Rattle.janus_syntax.specs.declared.token.Sign.TheVariants as sign
 use Rattle.janus_syntax.specs.declared.token.Token as code_token
 use Rattle.janus_syntax.specs.declared.tree.Name as code_name
-use Rattle.janus_syntax.specs.declared.tree.Kind.{Kind}
+use Rattle.janus_syntax.specs.declared.tree.LocalKind.{LocalKind}
 use Rattle.janus_syntax.specs.declared.tree.Stm as code_stm
 use Rattle.janus_syntax.specs.declared.tree.Declaration as code_declaration
-use Rattle.janus_syntax.specs.Tokens.{Token, Name, Word_of, views}
+use Rattle.janus_syntax.specs.Tokens.{Token, Name, Keyword_of, views}
 use Rattle.janus_syntax.specs.Tree.{Name as Named, Exp, Stm, If, Loop, Block, Empty, More, Declaration, Cell, cell_of, stm_view, declaration_view}
-use Rattle.janus_syntax.specs.Forms.{Part, Body, Statements, Names, More_names, Declarations, Bound, Whole, Else_part, Do_part, Loop_part, Target_index}
-use Rattle.janus_syntax.specs.Forms.{A_name, The_word, The_sign, An_update, Form, take, part, close}
-use Rattle.janus_syntax.specs.Table.{word_then, call_then, delocal_then, local_int, local_stack, statement, declaration, declared, assignment, skip_block}
+use Rattle.janus_syntax.specs.Forms.{Part, Body, Statements, Names, Declarations, Bound, Whole, Else_part, Do_part, Loop_part, Target_index}
+use Rattle.janus_syntax.specs.Forms.{A_name, The_keyword, The_sign, An_update, Form, take, part, close}
+use Rattle.janus_syntax.specs.Table.{keyword_then, call_then, delocal_then, local_int, local_stack, statement, declaration, declared, assignment, skip_block}
 use Rattle.janus_syntax.specs.Table.{is_bare}
 use Rattle.janus_syntax.specs.Grammar.{Count, all, depth_limit, operator_limit, Refusal, Expected}
 use Rattle.janus_syntax.specs.Reader.{Stack, at, run, start, Outcome, Ended, outcome_of, next}
@@ -25,14 +25,14 @@ use Rattle.janus_syntax.specs.Reading.{begun, count, BeginsWith, TokenGoes, Stan
 -- whether a token begins a statement
 abbrev pub is_statement : Option Token → Bool
 is_statement (Some (Name x place)) = true
-is_statement (Some (Word_of word.If place)) = true
-is_statement (Some (Word_of word.From place)) = true
-is_statement (Some (Word_of word.Local place)) = true
-is_statement (Some (Word_of word.Skip place)) = true
-is_statement (Some (Word_of word.Push place)) = true
-is_statement (Some (Word_of word.Pop place)) = true
-is_statement (Some (Word_of word.Call place)) = true
-is_statement (Some (Word_of word.Uncall place)) = true
+is_statement (Some (Keyword_of keyword.If place)) = true
+is_statement (Some (Keyword_of keyword.From place)) = true
+is_statement (Some (Keyword_of keyword.Local place)) = true
+is_statement (Some (Keyword_of keyword.Skip place)) = true
+is_statement (Some (Keyword_of keyword.Push place)) = true
+is_statement (Some (Keyword_of keyword.Pop place)) = true
+is_statement (Some (Keyword_of keyword.Call place)) = true
+is_statement (Some (Keyword_of keyword.Uncall place)) = true
 is_statement _ = false
 
 abbrev pub begin_statement : {goal p : Part} → List Token → (Stm → Form p) → Stack goal p → ℕ → ℕ → Outcome goal
@@ -55,19 +55,20 @@ abbrev pub IsStmOrOther : ℕ → List Token → Option (code_stm.Stm × Bor (Li
 IsStmOrOther depth from None = is_statement (next from) ≡ false
 IsStmOrOther depth from (Some x) = IsStm depth (stm_view x.0) from (views x.1.now)
 
--- whether a word begins a construct
+-- whether a keyword begins a construct
 abbrev pub opens_construct : Keyword → Bool
-opens_construct word.If = true
-opens_construct word.From = true
-opens_construct word.Local = true
+opens_construct keyword.If = true
+opens_construct keyword.From = true
+opens_construct keyword.Local = true
 opens_construct _ = false
 
--- what an `if` and a loop are behind their first word, but for the end of the construct
+-- what an `if` and a loop are behind their first keyword, but for the end of the construct
 abbrev pub if_form : {p : Part} → (Stm → Form p) → Form p
-if_form k = part Whole (λ e. word_then word.Then (part Body (λ s. part Else_part (λ t. word_then word.Fi (part Whole (λ f. close (k (If e s t f))))))))
+if_form k =
+    part Whole (λ e. keyword_then keyword.Then (part Body (λ s. part Else_part (λ t. keyword_then keyword.Fi (part Whole (λ f. close (k (If e s t f))))))))
 
 abbrev pub from_form : {p : Part} → (Stm → Form p) → Form p
-from_form k = part Whole (λ e. part Do_part (λ s. part Loop_part (λ t. word_then word.Until (part Whole (λ f. close (k (Loop e s t f)))))))
+from_form k = part Whole (λ e. part Do_part (λ s. part Loop_part (λ t. keyword_then keyword.Until (part Whole (λ f. close (k (Loop e s t f)))))))
 
 -- the same of an assignment behind its name
 abbrev pub assignment_form : {p : Part} → Named → (Stm → Form p) → Form p
@@ -113,21 +114,6 @@ pub record AreNames (xs : List Named) (from rest : List Token) : Type 0 where
 abbrev pub FailNames : List Token → Refusal → Type 0
 FailNames from e = (depth : ℕ) → depth ≤ depth_limit → (p : Part) (k : List Named → Form p) → Stops depth (part Names k) from e
 
--- In the midst of names: the machine stands at more of them.
-pub record AtNames (depth : ℕ) (xs : List Named) (goal : Part) (out : Outcome goal) (rest : List Token) (p : Part) (k : List Named → Form p)
-    (S : Stack goal p) : Type 0 where
-  pub other : Part
-  pub form : List Named → Form other
-  pub stack : Stack goal other
-  pub stands : Stands depth out rest (part More_names form) stack
-  pub onward : (ys : List Named) (ts : List Token) (u : ℕ) → run all ts (at (form ys) stack (count depth u)) ≡ run all ts (at (k (xs ++ ys)) S (count depth u))
-
--- names read so far
-pub record AreNamed (xs : List Named) (from rest : List Token) : Type 0 where
-  pub goes : (depth : ℕ) → depth ≤ depth_limit → (p : Part) (k : List Named → Form p) (goal : Part) (S : Stack goal p) (u : ℕ) → u ≤ operator_limit →
-      AtNames depth xs goal (run all from (at (part Names k) S (count depth u))) rest p k S
-  pub shorter : length rest ≤ length from
-
 -- a name, and behind it names in parentheses
 pub record IsCall (f : Named) (xs : List Named) (from rest : List Token) : Type 0 where
   pub goes : (depth : ℕ) → depth ≤ depth_limit → (p : Part) (k : Named → List Named → Form p) → Moves depth (call_then k) from (k f xs) rest
@@ -139,11 +125,11 @@ FailsCall from e = (depth : ℕ) → depth ≤ depth_limit → (p : Part) (k : N
 -- ---- locals
 
 -- `delocal`, the kind j, the name x and `=` at the front, where the name has the place of y
-pub record IsDelocal (j : Kind) (x y : Named) (from rest : List Token) : Type 0 where
+pub record IsDelocal (j : LocalKind) (x y : Named) (from rest : List Token) : Type 0 where
   pub goes : (goal p : Part) (k : Named → Form p) (S : Stack goal p) (m : Count) → run all from (at (delocal_then j x k) S m) ≡ run all rest (at (k y) S m)
   pub shorter : length rest < length from
 
-abbrev pub FailsDelocal : Kind → Named → List Token → Refusal → Type 0
+abbrev pub FailsDelocal : LocalKind → Named → List Token → Refusal → Type 0
 FailsDelocal j x from e = (goal p : Part) (k : Named → Form p) (S : Stack goal p) (m : Count) → run all from (at (delocal_then j x k) S m) ≡ outcome_of e
 
 -- a local behind `local int`, and behind `local stack`
@@ -174,7 +160,7 @@ pub record IsStackHead (x : Named) (from rest : List Token) : Type 0 where
   pub behind_sign : List Token
   pub name : TokenGoes A_name x from behind_name
   pub equals : TokenGoes (The_sign sign.Equals) tt behind_name behind_sign
-  pub empty : TokenGoes (The_word word.Nil) tt behind_sign rest
+  pub empty : TokenGoes (The_keyword keyword.Nil) tt behind_sign rest
 
 -- ---- blocks
 
@@ -183,30 +169,13 @@ abbrev pub followed_by : Block → Block → Block
 followed_by Empty b = b
 followed_by (More s a) b = More s (followed_by a b)
 
--- In the midst of statements: the machine stands at more of them.
-pub record AtStatements (depth : ℕ) (b : Block) (goal : Part) (out : Outcome goal) (rest : List Token) (p : Part) (k : Block → Form p)
-    (S : Stack goal p) : Type 0 where
-  pub other : Part
-  pub form : Block → Form other
-  pub stack : Stack goal other
-  pub stands : Stands depth out rest (part Statements form) stack
-  pub onward : (a : Block) (ts : List Token) (u : ℕ) → run all ts (at (form a) stack (count depth u)) ≡ run all ts (at (k (followed_by b a)) S (count depth u))
-
--- statements read so far, behind others
-pub record AreSoFar (depth : ℕ) (before now : Block) (from rest : List Token) : Type 0 where
-  pub block : Block
-  pub is : now ≡ followed_by before block
-  pub goes : (p : Part) (k : Block → Form p) (goal : Part) (S : Stack goal p) (u : ℕ) → u ≤ operator_limit →
-      AtStatements depth block goal (run all from (at (part Statements k) S (count depth u))) rest p k S
-  pub shorter : length rest ≤ length from
-
 -- all statements that stand here, behind others
 pub record AreStatements (depth : ℕ) (before now : Block) (from rest : List Token) : Type 0 where
   pub block : Block
   pub is : now ≡ followed_by before block
   pub part : IsPart Statements depth block from rest
 
--- a word and a body, or another word and nothing
+-- a keyword and a body, or another keyword and nothing
 pub data IsOptional (w : Keyword) (depth : ℕ) : Block → List Token → List Token → Type 0 where
   there : {b : Block} {from behind rest : List Token} → BeginsWith w from behind → IsPart Body depth b behind rest → IsOptional w depth b from rest
   left : {from : List Token} → ((behind : List Token) → BeginsWith w from behind → ⊥) → IsOptional w depth skip_block from from
@@ -220,22 +189,22 @@ pub record IsIfBegun (depth : ℕ) (e : Exp) (s t : Block) (from rest : List Tok
   pub behind_then : List Token
   pub behind_part : List Token
   pub test : IsPart Whole depth e from behind_test
-  pub then_word : TokenGoes (The_word word.Then) tt behind_test behind_then
+  pub then_keyword : TokenGoes (The_keyword keyword.Then) tt behind_test behind_then
   pub then_part : IsPart Body depth s behind_then behind_part
-  pub else_part : IsOptional word.Else depth t behind_part rest
+  pub else_part : IsOptional keyword.Else depth t behind_part rest
 
 pub record IsLoopBegun (depth : ℕ) (e : Exp) (s t : Block) (from rest : List Token) : Type 0 where
   pub behind_test : List Token
   pub behind_part : List Token
   pub assertion : IsPart Whole depth e from behind_test
-  pub do_part : IsOptional word.Do depth s behind_test behind_part
-  pub loop_part : IsOptional word.Loop depth t behind_part rest
+  pub do_part : IsOptional keyword.Do depth s behind_test behind_part
+  pub loop_part : IsOptional keyword.Loop depth t behind_part rest
 
 -- ---- declarations
 
 abbrev pub is_declaration : Option Token → Bool
-is_declaration (Some (Word_of word.Int place)) = true
-is_declaration (Some (Word_of word.Stack place)) = true
+is_declaration (Some (Keyword_of keyword.Int place)) = true
+is_declaration (Some (Keyword_of keyword.Stack place)) = true
 is_declaration _ = false
 
 abbrev pub begin_declaration : {goal p : Part} → List Token → (Declaration → Form p) → Stack goal p → ℕ → Outcome goal
@@ -262,21 +231,6 @@ pub record IsBound (x : Named) (d : Declaration) (from rest : List Token) : Type
 
 abbrev pub FailsBound : Named → List Token → Refusal → Type 0
 FailsBound x from e = (p : Part) (k : Declaration → Form p) → Stops 0 (part Bound (λ n. k (declared x n))) from e
-
--- In the midst of declarations: the machine stands at more of them.
-pub record AtDeclarations (ds : List Declaration) (goal : Part) (out : Outcome goal) (rest : List Token) (p : Part) (k : List Declaration → Form p)
-    (S : Stack goal p) : Type 0 where
-  pub other : Part
-  pub form : List Declaration → Form other
-  pub stack : Stack goal other
-  pub stands : Stands 0 out rest (part Declarations form) stack
-  pub onward : (es : List Declaration) (ts : List Token) (u : ℕ) → run all ts (at (form es) stack (count 0 u)) ≡ run all ts (at (k (ds ++ es)) S (count 0 u))
-
--- declarations read so far
-pub record AreDeclared (ds : List Declaration) (from rest : List Token) : Type 0 where
-  pub goes : (p : Part) (k : List Declaration → Form p) (goal : Part) (S : Stack goal p) (u : ℕ) → u ≤ operator_limit →
-      AtDeclarations ds goal (run all from (at (part Declarations k) S (count 0 u))) rest p k S
-  pub shorter : length rest ≤ length from
 
 -- the declarations and the statements of the cell c, which has nothing else; `main` may follow where there are none
 pub record AreFirstParts (main : Bool) (c : Cell) (from rest : List Token) : Type 0 where

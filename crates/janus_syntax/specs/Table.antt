@@ -6,21 +6,21 @@ use Rattle.janus_syntax.specs.declared.token.Span.{Span}
 use Rattle.janus_syntax.specs.declared.token.Sign.{Sign}
 use Rattle.janus_syntax.specs.declared.token.Sign.TheVariants as sign
 use Rattle.janus_syntax.specs.declared.token.Keyword.{Keyword}
-use Rattle.janus_syntax.specs.declared.token.Keyword.TheVariants as word
+use Rattle.janus_syntax.specs.declared.token.Keyword.TheVariants as keyword
 use Rattle.janus_syntax.specs.declared.operator.Infix.{Infix}
 use Rattle.janus_syntax.specs.declared.tree.Update.{Update}
-use Rattle.janus_syntax.specs.declared.tree.Kind.{Kind}
-use Rattle.janus_syntax.specs.declared.tree.Kind.TheVariants as kind
+use Rattle.janus_syntax.specs.declared.tree.LocalKind.{LocalKind}
+use Rattle.janus_syntax.specs.declared.tree.LocalKind.TheVariants as kind
 use Rattle.janus_syntax.specs.declared.fault.What.{What}
 use Rattle.janus_syntax.specs.declared.fault.What.TheVariants as what
-use Rattle.janus_syntax.specs.Tokens.{Token, Name, Number, Sign_of, Word_of}
+use Rattle.janus_syntax.specs.Tokens.{Token, Name, Number, Sign_of, Keyword_of}
 use Rattle.janus_syntax.specs.Tree.{Name as Named, named, Exp, Num, Var, Element, EmptyOf, TopOf, Neg, Stm, Skip, Assign, AssignElement, Push, Pop, If}
 use Rattle.janus_syntax.specs.Tree.{Loop, LocalInt, LocalStack, Call, Uncall, Block, Empty, More, Declaration, Int, Array, StackOf, Parameter, IntParameter}
 use Rattle.janus_syntax.specs.Tree.{ArrayParameter, StackParameter, Procedure, procedure_of, Cell, cell_of}
 use Rattle.janus_syntax.specs.Operators.{weakest, joined, operator_at}
 use Rattle.janus_syntax.specs.Forms.{Part, A_cell, Declarations, Bound, Procedures, A_procedure, Parameters, More_parameters, A_parameter, Brackets, Body}
 use Rattle.janus_syntax.specs.Forms.{Statements, Else_part, Do_part, Loop_part, Local, Names, More_names, Target_index, Whole, Level, Chain, Index, Tree}
-use Rattle.janus_syntax.specs.Forms.{The_word, The_sign, A_name, A_number, An_update, Same_kind, Same_name, Form, done, take, part, close, Rule}
+use Rattle.janus_syntax.specs.Forms.{The_keyword, The_sign, A_name, A_number, An_update, Same_kind, Same_name, Form, done, take, part, close, Rule}
 
 -- rules with and without marks
 abbrev pub marked : {p : Part} → ℕ → ℕ → Form p → Option (Rule p)
@@ -41,8 +41,8 @@ whole (Some r) = Some (record { opens = r.opens; counts = r.counts; is_whole = t
 whole None = None
 
 -- fixed tokens in a row
-abbrev pub word_then : {p : Part} → Keyword → Form p → Form p
-word_then w f = take (The_word w) (λ v. f)
+abbrev pub keyword_then : {p : Part} → Keyword → Form p → Form p
+keyword_then w f = take (The_keyword w) (λ v. f)
 
 abbrev pub sign_then : {p : Part} → Sign → Form p → Form p
 sign_then s f = take (The_sign s) (λ v. f)
@@ -55,8 +55,8 @@ abbrev pub variable_and_stack_then : {p : Part} → (Named → Named → Form p)
 variable_and_stack_then k = sign_then sign.Open (take A_name (λ x. sign_then sign.Comma (take A_name (λ s. sign_then sign.Close (k x s)))))
 
 -- behind a local's statements: `delocal`, its kind, its name, `=`
-abbrev pub delocal_then : {p : Part} → Kind → Named → (Named → Form p) → Form p
-delocal_then j x k = word_then word.Delocal (take (Same_kind j) (λ i. take (Same_name x) (λ y. sign_then sign.Equals (k y))))
+abbrev pub delocal_then : {p : Part} → LocalKind → Named → (Named → Form p) → Form p
+delocal_then j x k = keyword_then keyword.Delocal (take (Same_kind j) (λ i. take (Same_name x) (λ y. sign_then sign.Equals (k y))))
 
 -- a local behind `local int`, and behind `local stack`
 abbrev pub local_int : {p : Part} → (Stm → Form p) → Form p
@@ -65,7 +65,7 @@ local_int k = take A_name
 
 abbrev pub local_stack : {p : Part} → (Stm → Form p) → Form p
 local_stack k = take A_name
-    (λ x. sign_then sign.Equals (word_then word.Nil (part Body (λ s. delocal_then kind.Stack x (λ y. word_then word.Nil (k (LocalStack x s y)))))))
+    (λ x. sign_then sign.Equals (keyword_then keyword.Nil (part Body (λ s. delocal_then kind.Stack x (λ y. keyword_then keyword.Nil (k (LocalStack x s y)))))))
 
 -- a name, and behind it names in parentheses
 abbrev pub call_then : {p : Part} → (Named → List Named → Form p) → Form p
@@ -115,11 +115,11 @@ operand (Number n at) k = begins (k (Num n at))
 operand (Name x at) k = begins (part Index (λ i. k (variable (named x at) i)))
 operand (Sign_of sign.Open _) k = opens (part (Level weakest) (λ e. sign_then sign.Close (close (k e))))
 operand (Sign_of sign.Minus _) k = marked 1 1 (part (Level 0) (λ e. close (k (Neg e))))
-operand (Word_of word.Empty _) k = begins (stack_then (λ s. k (EmptyOf s)))
-operand (Word_of word.Top _) k = begins (stack_then (λ s. k (TopOf s)))
+operand (Keyword_of keyword.Empty _) k = begins (stack_then (λ s. k (EmptyOf s)))
+operand (Keyword_of keyword.Top _) k = begins (stack_then (λ s. k (TopOf s)))
 operand _ k = None
 
--- Behind the operand e: operators of the next level, then of the one behind it, so many levels on.
+-- Behind the operand e: operators of the level behind l, then of the one behind that, and so on for as many levels as the second number says.
 abbrev pub chains : {p : Part} → ℕ → ℕ → Exp → (Exp → Form p) → Form p
 chains l zero e k = k e
 chains l (suc n) e k = part (Chain (suc l) e) (λ f. chains (suc l) n f k)
@@ -132,26 +132,26 @@ chain_rule (Some op) n e = cond (nat_eq op.level n) (counts (part (Level (n - 1)
 -- A statement, by its first token.
 abbrev pub statement : {p : Part} → Token → (Stm → Form p) → Option (Rule p)
 statement (Name x at) k = begins (part Target_index (λ i. take An_update (λ u. part Whole (λ e. k (assignment (named x at) i u e)))))
-statement (Word_of word.If _) k = opens
-    (part Whole (λ e. word_then word.Then (part Body (λ s. part Else_part (λ t. word_then word.Fi (part Whole (λ f. close (k (If e s t f)))))))))
-statement (Word_of word.From _) k = opens
-    (part Whole (λ e. part Do_part (λ s. part Loop_part (λ t. word_then word.Until (part Whole (λ f. close (k (Loop e s t f))))))))
-statement (Word_of word.Local _) k = opens (part Local (λ s. close (k s)))
-statement (Word_of word.Call _) k = begins (call_then (λ f xs. k (Call f xs)))
-statement (Word_of word.Uncall _) k = begins (call_then (λ f xs. k (Uncall f xs)))
-statement (Word_of word.Skip _) k = begins (k Skip)
-statement (Word_of word.Push _) k = begins (variable_and_stack_then (λ x s. k (Push x s)))
-statement (Word_of word.Pop _) k = begins (variable_and_stack_then (λ x s. k (Pop x s)))
+statement (Keyword_of keyword.If _) k = opens
+    (part Whole (λ e. keyword_then keyword.Then (part Body (λ s. part Else_part (λ t. keyword_then keyword.Fi (part Whole (λ f. close (k (If e s t f)))))))))
+statement (Keyword_of keyword.From _) k = opens
+    (part Whole (λ e. part Do_part (λ s. part Loop_part (λ t. keyword_then keyword.Until (part Whole (λ f. close (k (Loop e s t f))))))))
+statement (Keyword_of keyword.Local _) k = opens (part Local (λ s. close (k s)))
+statement (Keyword_of keyword.Call _) k = begins (call_then (λ f xs. k (Call f xs)))
+statement (Keyword_of keyword.Uncall _) k = begins (call_then (λ f xs. k (Uncall f xs)))
+statement (Keyword_of keyword.Skip _) k = begins (k Skip)
+statement (Keyword_of keyword.Push _) k = begins (variable_and_stack_then (λ x s. k (Push x s)))
+statement (Keyword_of keyword.Pop _) k = begins (variable_and_stack_then (λ x s. k (Pop x s)))
 statement _ k = None
 
 abbrev pub declaration : {p : Part} → Token → (Declaration → Form p) → Option (Rule p)
-declaration (Word_of word.Int _) k = begins (take A_name (λ x. part Bound (λ n. k (declared x n))))
-declaration (Word_of word.Stack _) k = begins (take A_name (λ s. k (StackOf s)))
+declaration (Keyword_of keyword.Int _) k = begins (take A_name (λ x. part Bound (λ n. k (declared x n))))
+declaration (Keyword_of keyword.Stack _) k = begins (take A_name (λ s. k (StackOf s)))
 declaration _ k = None
 
 abbrev pub a_parameter : {p : Part} → Token → (Parameter → Form p) → Option (Rule p)
-a_parameter (Word_of word.Int _) k = begins (take A_name (λ x. part Brackets (λ b. k (parameter x b))))
-a_parameter (Word_of word.Stack _) k = begins (take A_name (λ s. k (StackParameter s)))
+a_parameter (Keyword_of keyword.Int _) k = begins (take A_name (λ x. part Brackets (λ b. k (parameter x b))))
+a_parameter (Keyword_of keyword.Stack _) k = begins (take A_name (λ s. k (StackParameter s)))
 a_parameter _ k = None
 
 -- a procedure behind its name
@@ -168,10 +168,10 @@ rule A_cell t = None
 rule Declarations t = declaration t (λ d. part Declarations (λ ds. done (d ∷ ds)))
 rule Bound (Sign_of sign.OpenIndex _) = begins (take A_number (λ n. sign_then sign.CloseIndex (done (Some n))))
 rule Bound _ = None
-rule (Procedures main c) (Word_of word.Procedure _) = begins (part (A_procedure main c) done)
+rule (Procedures main c) (Keyword_of keyword.Procedure _) = begins (part (A_procedure main c) done)
 rule (Procedures main c) _ = None
 rule (A_procedure main c) (Name f at) = begins (behind_name (named f at) (λ p. part (Procedures main (with_procedure c p)) done))
-rule (A_procedure true c) (Word_of word.Main _) = begins (behind_main (λ ds b. part (Procedures false (with_main ds b c)) done))
+rule (A_procedure true c) (Keyword_of keyword.Main _) = begins (behind_main (λ ds b. part (Procedures false (with_main ds b c)) done))
 rule (A_procedure main c) _ = None
 rule Parameters t = a_parameter t (λ x. part More_parameters (λ xs. done (x ∷ xs)))
 rule More_parameters (Sign_of sign.Comma _) = begins (part A_parameter (λ x. part More_parameters (λ xs. done (x ∷ xs))))
@@ -181,14 +181,14 @@ rule Brackets (Sign_of sign.OpenIndex _) = begins (sign_then sign.CloseIndex (do
 rule Brackets _ = None
 rule Body t = statement t (λ s. part Statements (λ b. done (More s b)))
 rule Statements t = statement t (λ s. part Statements (λ b. done (More s b)))
-rule Else_part (Word_of word.Else _) = begins (part Body done)
+rule Else_part (Keyword_of keyword.Else _) = begins (part Body done)
 rule Else_part _ = None
-rule Do_part (Word_of word.Do _) = begins (part Body done)
+rule Do_part (Keyword_of keyword.Do _) = begins (part Body done)
 rule Do_part _ = None
-rule Loop_part (Word_of word.Loop _) = begins (part Body done)
+rule Loop_part (Keyword_of keyword.Loop _) = begins (part Body done)
 rule Loop_part _ = None
-rule Local (Word_of word.Int _) = begins (local_int done)
-rule Local (Word_of word.Stack _) = begins (local_stack done)
+rule Local (Keyword_of keyword.Int _) = begins (local_int done)
+rule Local (Keyword_of keyword.Stack _) = begins (local_stack done)
 rule Local _ = None
 rule Names (Name x at) = begins (part More_names (λ xs. done (named x at ∷ xs)))
 rule Names _ = None

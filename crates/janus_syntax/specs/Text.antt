@@ -7,7 +7,7 @@ use Rattle.janus_syntax.specs.declared.tree.Exp as code_exp
 use Rattle.janus_syntax.specs.declared.fault.What.{What}
 use Rattle.janus_syntax.specs.declared.fault.SyntaxFault.{SyntaxFault}
 use Rattle.janus_syntax.specs.declared.fault.SyntaxFault.TheVariants as fault
-use Rattle.janus_syntax.specs.Tokens.{Token, Name, Number, Sign_of, Word_of, views}
+use Rattle.janus_syntax.specs.Tokens.{Token, Name, Number, Sign_of, Keyword_of, views}
 use Rattle.janus_syntax.specs.Tree.{Exp, Cell, exp_view, cell_view}
 use Rattle.janus_syntax.specs.Lexical.{AreTokens, IsBadToken, IsTooLarge}
 use Rattle.janus_syntax.specs.Forms.{Part, A_cell, Whole}
@@ -32,7 +32,7 @@ abbrev pub span_of : Token → Span
 span_of (Name x at) = at
 span_of (Number n at) = at
 span_of (Sign_of s at) = at
-span_of (Word_of w at) = at
+span_of (Keyword_of w at) = at
 
 -- the place in front of these tokens: their first token, or the end of the text
 abbrev pub place_before : ℕ → List Token → Span

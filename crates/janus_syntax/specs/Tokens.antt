@@ -11,13 +11,13 @@ pub data Token : Type 0 where
   Name : List ℕ → Span → Token
   Number : ℕ → Span → Token
   Sign_of : Sign → Span → Token
-  Word_of : Keyword → Span → Token
+  Keyword_of : Keyword → Span → Token
 
 abbrev pub token_of : TokenKind → Span → Token
 token_of (kinds.Name s) at = Name (string_bytes s) at
 token_of (kinds.Number n) at = Number n at
 token_of (kinds.Sign s) at = Sign_of s at
-token_of (kinds.Keyword w) at = Word_of w at
+token_of (kinds.Keyword w) at = Keyword_of w at
 
 abbrev pub token_view : code_token.Token → Token
 token_view t = token_of t.kind t.span

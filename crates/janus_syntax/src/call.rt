@@ -1,4 +1,4 @@
-//! Calls, behind their word.
+//! Calls, behind their keyword.
 
 ghost use Rattle.std.specs.Prelude.{IfOk};
 ghost use Rattle.janus_syntax.specs.Tree.{name_view, names_view};

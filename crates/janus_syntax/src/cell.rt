@@ -11,7 +11,7 @@ ghost use Rattle.janus_syntax.specs.Statements.{IsDeclarationOrOther, FailsDecla
 
 use crate::expression::whole_expression;
 use crate::fault::What;
-use crate::item::{behind_sign, name, number, sign_at, word_at};
+use crate::item::{behind_sign, keyword_at, name, number, sign_at};
 use crate::problem::Problem;
 use crate::procedure::procedures;
 use crate::statement::statements;
@@ -23,12 +23,12 @@ use std::alloc::Global;
 fn declaration(tokens: &[Token]) -> Result<Option<(Declaration, &[Token])>, Problem>
     ensures { Reads (IsDeclarationOrOther (views tokens.now)) (FailsDeclaration (views tokens.now)) result }
 {
-    if let Some(rest) = word_at(Keyword::Int, tokens) {
+    if let Some(rest) = keyword_at(Keyword::Int, tokens) {
         let (name, rest) = name(rest)?;
         let (declaration, rest) = bound(name, rest)?;
         return Ok(Some((declaration, rest)));
     }
-    let Some(rest) = word_at(Keyword::Stack, tokens) else {
+    let Some(rest) = keyword_at(Keyword::Stack, tokens) else {
         return Ok(None);
     };
     let (stack, rest) = name(rest)?;

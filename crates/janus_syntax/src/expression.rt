@@ -88,7 +88,7 @@ fn operand(
                 left: tokens.len(),
             }),
         },
-        TokenKind::Keyword(word) => match word {
+        TokenKind::Keyword(keyword) => match keyword {
             Keyword::Empty => {
                 let (stack, rest) = stack(rest)?;
                 Ok((Exp::Empty(stack), used, rest))

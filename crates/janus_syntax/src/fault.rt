@@ -36,7 +36,7 @@ impl What {
             What::Kind => "kind",
             What::Operator => "operator",
             What::End => "end",
-            What::Keyword(word) => word.text(),
+            What::Keyword(keyword) => keyword.text(),
             What::Sign(sign) => sign.text(),
         }
     }

@@ -3,7 +3,7 @@
 ghost use Rattle.std.specs.Prelude.{◌≡◌, List, IfSome, IfNone};
 ghost use Rattle.janus_syntax.specs.Tree.{name_view};
 ghost use Rattle.janus_syntax.specs.Tokens.{Token as AToken, views};
-ghost use Rattle.janus_syntax.specs.Forms.{The_word, The_sign, A_name, A_number, An_update, Same_kind, Same_name, word_kind};
+ghost use Rattle.janus_syntax.specs.Forms.{The_keyword, The_sign, A_name, A_number, An_update, Same_kind, Same_name, keyword_kind};
 ghost use Rattle.janus_syntax.specs.Statements.{IsDelocal, FailsDelocal};
 ghost use Rattle.janus_syntax.specs.Reading.{Reads, TokenGoes, TokenFails, IsStack, FailsStack, IsVariableAndStack, FailsVariableAndStack, BeginsWith};
 ghost use Rattle.janus_syntax.specs.Reading.{BeginsWithSign};
@@ -12,7 +12,7 @@ use crate::fault::What;
 use crate::operator;
 use crate::problem::Problem;
 use crate::token::{Keyword, Sign, Span, Token, TokenKind};
-use crate::tree::{Kind, Name, Update};
+use crate::tree::{LocalKind, Name, Update};
 
 /// The tokens behind this sign, if it stands at the front.
 pub(crate) fn sign_at(sign: Sign, tokens: &[Token]) -> Option<&[Token]>
@@ -39,26 +39,27 @@ pub(crate) fn behind_sign(sign: Sign, tokens: &[Token]) -> Result<&[Token], Prob
     }
 }
 
-/// The tokens behind this word, if it stands at the front.
-pub(crate) fn word_at(word: Keyword, tokens: &[Token]) -> Option<&[Token]>
-    ensures found { IfSome result (λ rest. BeginsWith word (views tokens.now) (views rest.now)) }
-    ensures none { IfNone result ((behind : List AToken) → BeginsWith word (views tokens.now) behind → ⊥) }
+/// The tokens behind this keyword, if it stands at the front.
+pub(crate) fn keyword_at(keyword: Keyword, tokens: &[Token]) -> Option<&[Token]>
+    ensures found { IfSome result (λ rest. BeginsWith keyword (views tokens.now) (views rest.now)) }
+    ensures none { IfNone result ((behind : List AToken) → BeginsWith keyword (views tokens.now) behind → ⊥) }
 {
     let (first, rest) = tokens.split_first()?;
     match &first.kind {
-        TokenKind::Keyword(found) => { if *found == word { Some(rest) } else { None } }
+        TokenKind::Keyword(found) => { if *found == keyword { Some(rest) } else { None } }
         _ => None,
     }
 }
 
-/// Behind this word.
-pub(crate) fn behind_word(word: Keyword, tokens: &[Token]) -> Result<&[Token], Problem>
-    ensures { Reads (λ rest. TokenGoes (The_word word) tt (views tokens.now) (views rest.now)) (TokenFails (The_word word) (views tokens.now)) result }
+/// Behind this keyword.
+pub(crate) fn behind_keyword(keyword: Keyword, tokens: &[Token]) -> Result<&[Token], Problem>
+    ensures { Reads (λ rest. TokenGoes (The_keyword keyword) tt (views tokens.now) (views rest.now))
+        (TokenFails (The_keyword keyword) (views tokens.now)) result }
 {
-    match word_at(word, tokens) {
+    match keyword_at(keyword, tokens) {
         Some(rest) => Ok(rest),
         None => Err(Problem::Expected {
-            what: What::Keyword(word),
+            what: What::Keyword(keyword),
             left: tokens.len(),
         }),
     }
@@ -132,18 +133,18 @@ pub(crate) fn number(tokens: &[Token]) -> Result<(u32, Span, &[Token]), Problem>
 }
 
 /// The kind that a keyword is.
-fn kind_of(word: Keyword) -> Option<Kind>
-    ensures { result ≡ word_kind word }
+fn kind_of(keyword: Keyword) -> Option<LocalKind>
+    ensures { result ≡ keyword_kind keyword }
 {
-    match word {
-        Keyword::Int => Some(Kind::Int),
-        Keyword::Stack => Some(Kind::Stack),
+    match keyword {
+        Keyword::Int => Some(LocalKind::Int),
+        Keyword::Stack => Some(LocalKind::Stack),
         _ => None,
     }
 }
 
 /// Behind this kind; another one is refused as such.
-fn same_kind(kind: Kind, tokens: &[Token]) -> Result<&[Token], Problem>
+fn same_kind(kind: LocalKind, tokens: &[Token]) -> Result<&[Token], Problem>
     ensures { Reads (λ rest. TokenGoes (Same_kind kind) kind (views tokens.now) (views rest.now)) (TokenFails (Same_kind kind) (views tokens.now)) result }
 {
     let Some((first, rest)) = tokens.split_first() else {
@@ -153,7 +154,7 @@ fn same_kind(kind: Kind, tokens: &[Token]) -> Result<&[Token], Problem>
         });
     };
     let found = match &first.kind {
-        TokenKind::Keyword(word) => kind_of(*word),
+        TokenKind::Keyword(keyword) => kind_of(*keyword),
         _ => None,
     };
     match found {
@@ -206,14 +207,14 @@ fn same_name<'a>(name: &Name, tokens: &'a [Token]) -> Result<(Name, &'a [Token])
 
 /// `delocal`, this kind, this name and `=`: the name where it stands here, and the tokens behind them.
 pub(crate) fn behind_delocal<'a>(
-    kind: Kind,
+    kind: LocalKind,
     name: &Name,
     tokens: &'a [Token],
 ) -> Result<(Name, &'a [Token]), Problem>
     ensures { Reads (λ x. IsDelocal kind (name_view name.now) (name_view x.0) (views tokens.now) (views x.1.now))
         (FailsDelocal kind (name_view name.now) (views tokens.now)) result }
 {
-    let rest = behind_word(Keyword::Delocal, tokens)?;
+    let rest = behind_keyword(Keyword::Delocal, tokens)?;
     let rest = same_kind(kind, rest)?;
     let (again, rest) = same_name(name, rest)?;
     let rest = behind_sign(Sign::Equals, rest)?;

@@ -3,8 +3,8 @@
 ghost use Rattle.std.specs.Prelude.{◌≡◌, ◌<◌, ◌≤◌, ℕ, List, length, IfSome, IfNone, MatchOption, take, drop};
 ghost use Rattle.std.specs.List.{prefix_len};
 ghost use Rattle.std.specs.Str.{IsCharBoundary};
-ghost use Rattle.janus_syntax.specs.Spelling.{word_text, sign_text};
-ghost use Rattle.janus_syntax.specs.Lexical.{class_of, in_line, decimal, NotReserved, NoItem, IsNumberText, AreTokens, largest_number};
+ghost use Rattle.janus_syntax.specs.Spelling.{keyword_text, sign_text};
+ghost use Rattle.janus_syntax.specs.Lexical.{class_of, in_line, decimal, IsNoKeyword, NoItem, IsNumberText, AreTokens, largest_number};
 ghost use Rattle.janus_syntax.specs.Scan.{goes_on, IsLongestSign, IsFrontText, IsFrontOf, IsFirstChar, IsKindOf};
 ghost use Rattle.janus_syntax.specs.Text.{IsLexed, IsOnly};
 ghost use Rattle.janus_syntax.specs.Tokens.{Token as AToken};
@@ -109,12 +109,12 @@ fn line_len(octets: &[u8]) -> usize
 }
 
 /// The keyword that the text is.
-fn word_at(text: &str) -> Option<Keyword>
-    ensures { MatchOption result (NotReserved text.now) (λ w. text.now ≡ word_text w) }
+fn keyword_at(text: &str) -> Option<Keyword>
+    ensures { MatchOption result (IsNoKeyword text.now) (λ w. text.now ≡ keyword_text w) }
 {
-    for word in KEYWORDS {
-        if word.text() == text {
-            return Some(word);
+    for keyword in KEYWORDS {
+        if keyword.text() == text {
+            return Some(keyword);
         }
     }
     None
@@ -195,8 +195,8 @@ fn token_kind(
 {
     match front {
         Front::Gap => Ok(None),
-        Front::Letters => match word_at(text) {
-            Some(word) => Ok(Some(TokenKind::Keyword(word))),
+        Front::Letters => match keyword_at(text) {
+            Some(keyword) => Ok(Some(TokenKind::Keyword(keyword))),
             None => Ok(Some(TokenKind::Name(String::from_str(alloc, text)?))),
         },
         Front::Digits => match number(text.as_bytes()) {

@@ -17,10 +17,10 @@
 //! - `Exp::copy`, `Name::copy`: the same tree at the same places.
 //!
 //! The definitions are in specs/, to be read in this order: `Spelling`, `Lexical` (tokens of a text), `Tree`, `Operators`,
-//! `Forms` (four words in which the grammar is written), `Table` (the grammar, a line for each form), `Grammar` (which tokens
+//! `Forms` (of what the forms of the grammar are made), `Table` (the grammar, a line for each form), `Grammar` (which tokens
 //! spell which tree, what is wanted behind a beginning, where tokens are refused), `Text` (tokens and text together), `Laws`, `Printing`,
 //! `View` (the trees as trees of the meaning), and `Fault` (what is shown of a refusal). No contract of a public function
-//! names `Reader`, `Reading`, `Statements`, `Printed` or `Scan`: they serve the proofs.
+//! names `Reader`, `Reading`, `Statements`, `Procedures`, `Printed` or `Scan`: they serve the proofs.
 //!
 //! A cell here has declarations of numbers, arrays and stacks, then assignments, `push`, `pop`, `if`, loops, locals, `call`,
 //! `uncall` and `skip`, and then procedures; or it is a program of procedures, one of which is `main`.

@@ -4,7 +4,7 @@ ghost use Rattle.std.specs.Prelude.{◌≡◌, IfOk, string_bytes, [], ◌∷◌
 ghost use Rattle.janus_syntax.specs.Tree.{names_view, exp_view, stm_view, block_view, declaration_view, declarations_view, parameter_view, parameters_view};
 ghost use Rattle.janus_syntax.specs.Tree.{procedure_view, procedures_view, cell_view};
 ghost use Rattle.janus_syntax.specs.Printed.{line_view};
-ghost use Rattle.janus_syntax.specs.Printing.{A_name, A_number, A_sign, A_word, An_opening, read_pieces, transfer_pieces, binding_pieces};
+ghost use Rattle.janus_syntax.specs.Printing.{A_name, A_number, A_sign, A_keyword, An_opening, read_pieces, transfer_pieces, binding_pieces};
 ghost use Rattle.janus_syntax.specs.Printing.{more_names_pieces, names_pieces, call_pieces, with_text, with_piece, with_pieces, if_needed, operator_sign};
 ghost use Rattle.janus_syntax.specs.Printing.{sign_level, exp_pieces, update_sign, whole_pieces, stm_pieces, block_pieces, declaration_pieces};
 ghost use Rattle.janus_syntax.specs.Printing.{declarations_pieces, parameter_pieces, more_parameters_pieces, parameters_pieces, procedure_pieces};
@@ -54,11 +54,11 @@ fn put_if(line: &mut Line, needed: bool, sign: Sign) -> Result<(), AllocError>
     if needed { put_sign(line, sign) } else { Ok(()) }
 }
 
-/// One word more.
-fn put_word(line: &mut Line, word: Keyword) -> Result<(), AllocError>
-    ensures { IfOk result (λ u. line_view line.new ≡ with_piece (line_view line.old) (A_word word)) }
+/// One keyword more.
+fn put_keyword(line: &mut Line, keyword: Keyword) -> Result<(), AllocError>
+    ensures { IfOk result (λ u. line_view line.new ≡ with_piece (line_view line.old) (A_keyword keyword)) }
 {
-    put(line, false, word.text(), false)
+    put(line, false, keyword.text(), false)
 }
 
 /// One name more.
@@ -83,19 +83,19 @@ fn put_opening(line: &mut Line) -> Result<(), AllocError>
     put(line, true, Sign::Open.text(), true)
 }
 
-/// A word, and behind it `(`.
-fn put_head(line: &mut Line, word: Keyword) -> Result<(), AllocError>
-    ensures { IfOk result (λ u. line_view line.new ≡ with_pieces (line_view line.old) (A_word word ∷ An_opening ∷ [])) }
+/// A keyword, and behind it `(`.
+fn put_head(line: &mut Line, keyword: Keyword) -> Result<(), AllocError>
+    ensures { IfOk result (λ u. line_view line.new ≡ with_pieces (line_view line.old) (A_keyword keyword ∷ An_opening ∷ [])) }
 {
-    put_word(line, word)?;
+    put_keyword(line, keyword)?;
     put_opening(line)
 }
 
 /// What is read of a stack: a keyword, and behind it the stack's name in parentheses.
-fn put_read(line: &mut Line, word: Keyword, stack: &Name) -> Result<(), AllocError>
-    ensures { IfOk result (λ u. line_view line.new ≡ with_pieces (line_view line.old) (read_pieces word (string_bytes stack.now.text))) }
+fn put_read(line: &mut Line, keyword: Keyword, stack: &Name) -> Result<(), AllocError>
+    ensures { IfOk result (λ u. line_view line.new ≡ with_pieces (line_view line.old) (read_pieces keyword (string_bytes stack.now.text))) }
 {
-    put_head(line, word)?;
+    put_head(line, keyword)?;
     put_name(line, stack)?;
     put_sign(line, Sign::Close)
 }
@@ -103,14 +103,14 @@ fn put_read(line: &mut Line, word: Keyword, stack: &Name) -> Result<(), AllocErr
 /// What goes between a variable and a stack: a keyword, and behind it both names in parentheses.
 fn put_transfer(
     line: &mut Line,
-    word: Keyword,
+    keyword: Keyword,
     variable: &Name,
     stack: &Name,
 ) -> Result<(), AllocError>
     ensures { IfOk result
-        (λ u. line_view line.new ≡ with_pieces (line_view line.old) (transfer_pieces word (string_bytes variable.now.text) (string_bytes stack.now.text))) }
+        (λ u. line_view line.new ≡ with_pieces (line_view line.old) (transfer_pieces keyword (string_bytes variable.now.text) (string_bytes stack.now.text))) }
 {
-    put_head(line, word)?;
+    put_head(line, keyword)?;
     put_name(line, variable)?;
     put_sign(line, Sign::Comma)?;
     put_name(line, stack)?;
@@ -118,11 +118,16 @@ fn put_transfer(
 }
 
 /// `local` or `delocal`, a kind, a name and `=`.
-fn put_binding(line: &mut Line, word: Keyword, kind: Keyword, name: &Name) -> Result<(), AllocError>
-    ensures { IfOk result (λ u. line_view line.new ≡ with_pieces (line_view line.old) (binding_pieces word kind (string_bytes name.now.text))) }
+fn put_binding(
+    line: &mut Line,
+    keyword: Keyword,
+    kind: Keyword,
+    name: &Name,
+) -> Result<(), AllocError>
+    ensures { IfOk result (λ u. line_view line.new ≡ with_pieces (line_view line.old) (binding_pieces keyword kind (string_bytes name.now.text))) }
 {
-    put_word(line, word)?;
-    put_word(line, kind)?;
+    put_keyword(line, keyword)?;
+    put_keyword(line, kind)?;
     put_name(line, name)?;
     put_sign(line, Sign::Equals)
 }
@@ -152,14 +157,14 @@ fn put_names(line: &mut Line, names: &[Name]) -> Result<(), AllocError>
 /// `call` or `uncall`, a name, and names in parentheses.
 fn put_call(
     line: &mut Line,
-    word: Keyword,
+    keyword: Keyword,
     procedure: &Name,
     arguments: &[Name],
 ) -> Result<(), AllocError>
     ensures { IfOk result
-        (λ u. line_view line.new ≡ with_pieces (line_view line.old) (call_pieces word (string_bytes procedure.now.text) (names_view arguments.now))) }
+        (λ u. line_view line.new ≡ with_pieces (line_view line.old) (call_pieces keyword (string_bytes procedure.now.text) (names_view arguments.now))) }
 {
-    put_word(line, word)?;
+    put_keyword(line, keyword)?;
     put_name(line, procedure)?;
     put_opening(line)?;
     put_names(line, arguments)?;
@@ -272,7 +277,7 @@ fn put_stm(alloc: Global, line: &mut Line, statement: &Stm) -> Result<(), AllocE
     ensures { IfOk result (λ u. line_view line.new ≡ with_pieces (line_view line.old) (stm_pieces (stm_view statement.now))) }
 {
     match statement {
-        Stm::Skip => put_word(line, Keyword::Skip),
+        Stm::Skip => put_keyword(line, Keyword::Skip),
         Stm::Assign(name, update, exp) => {
             put_name(line, name)?;
             put_sign(line, sign_of_update(*update))?;
@@ -290,24 +295,24 @@ fn put_stm(alloc: Global, line: &mut Line, statement: &Stm) -> Result<(), AllocE
         Stm::Push(variable, stack) => put_transfer(line, Keyword::Push, variable, stack),
         Stm::Pop(variable, stack) => put_transfer(line, Keyword::Pop, variable, stack),
         Stm::If(test, then_part, else_part, assertion) => {
-            put_word(line, Keyword::If)?;
+            put_keyword(line, Keyword::If)?;
             put_whole(alloc, line, test)?;
-            put_word(line, Keyword::Then)?;
+            put_keyword(line, Keyword::Then)?;
             put_block(alloc, line, then_part)?;
-            put_word(line, Keyword::Else)?;
+            put_keyword(line, Keyword::Else)?;
             put_block(alloc, line, else_part)?;
-            put_word(line, Keyword::Fi)?;
+            put_keyword(line, Keyword::Fi)?;
             put_whole(alloc, line, assertion)?;
             Ok(())
         }
         Stm::Loop(assertion, do_part, loop_part, test) => {
-            put_word(line, Keyword::From)?;
+            put_keyword(line, Keyword::From)?;
             put_whole(alloc, line, assertion)?;
-            put_word(line, Keyword::Do)?;
+            put_keyword(line, Keyword::Do)?;
             put_block(alloc, line, do_part)?;
-            put_word(line, Keyword::Loop)?;
+            put_keyword(line, Keyword::Loop)?;
             put_block(alloc, line, loop_part)?;
-            put_word(line, Keyword::Until)?;
+            put_keyword(line, Keyword::Until)?;
             put_whole(alloc, line, test)?;
             Ok(())
         }
@@ -321,10 +326,10 @@ fn put_stm(alloc: Global, line: &mut Line, statement: &Stm) -> Result<(), AllocE
         }
         Stm::LocalStack(name, body, again) => {
             put_binding(line, Keyword::Local, Keyword::Stack, name)?;
-            put_word(line, Keyword::Nil)?;
+            put_keyword(line, Keyword::Nil)?;
             put_block(alloc, line, body)?;
             put_binding(line, Keyword::Delocal, Keyword::Stack, again)?;
-            put_word(line, Keyword::Nil)?;
+            put_keyword(line, Keyword::Nil)?;
             Ok(())
         }
         Stm::Call(procedure, arguments) => put_call(line, Keyword::Call, procedure, arguments),
@@ -355,18 +360,18 @@ fn put_declaration(
 {
     match declaration {
         Declaration::Int(name) => {
-            put_word(line, Keyword::Int)?;
+            put_keyword(line, Keyword::Int)?;
             put_name(line, name)
         }
         Declaration::Array(name, length, _) => {
-            put_word(line, Keyword::Int)?;
+            put_keyword(line, Keyword::Int)?;
             put_name(line, name)?;
             put_sign(line, Sign::OpenIndex)?;
             put_number(alloc, line, *length)?;
             put_sign(line, Sign::CloseIndex)
         }
         Declaration::Stack(name) => {
-            put_word(line, Keyword::Stack)?;
+            put_keyword(line, Keyword::Stack)?;
             put_name(line, name)
         }
     }
@@ -394,17 +399,17 @@ fn put_parameter(line: &mut Line, parameter: &Parameter) -> Result<(), AllocErro
 {
     match parameter {
         Parameter::Int(name) => {
-            put_word(line, Keyword::Int)?;
+            put_keyword(line, Keyword::Int)?;
             put_name(line, name)
         }
         Parameter::Array(name) => {
-            put_word(line, Keyword::Int)?;
+            put_keyword(line, Keyword::Int)?;
             put_name(line, name)?;
             put_sign(line, Sign::OpenIndex)?;
             put_sign(line, Sign::CloseIndex)
         }
         Parameter::Stack(name) => {
-            put_word(line, Keyword::Stack)?;
+            put_keyword(line, Keyword::Stack)?;
             put_name(line, name)
         }
     }
@@ -437,7 +442,7 @@ fn put_parameters(line: &mut Line, parameters: &[Parameter]) -> Result<(), Alloc
 fn put_procedure(alloc: Global, line: &mut Line, procedure: &Procedure) -> Result<(), AllocError>
     ensures { IfOk result (λ u. line_view line.new ≡ with_pieces (line_view line.old) (procedure_pieces (procedure_view procedure.now))) }
 {
-    put_word(line, Keyword::Procedure)?;
+    put_keyword(line, Keyword::Procedure)?;
     put_name(line, &procedure.name)?;
     put_opening(line)?;
     put_parameters(line, &procedure.parameters)?;

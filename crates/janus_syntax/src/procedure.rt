@@ -13,7 +13,7 @@ ghost use Rattle.janus_syntax.specs.Procedures.{IsBehindMain, FailsBehindMain, I
 use crate::call::name_at;
 use crate::cell::declarations;
 use crate::fault::What;
-use crate::item::{behind_sign, name, sign_at, word_at};
+use crate::item::{behind_sign, keyword_at, name, sign_at};
 use crate::problem::Problem;
 use crate::statement::{body, statements};
 use crate::token::{Keyword, Sign, Token};
@@ -24,12 +24,12 @@ use std::alloc::Global;
 fn parameter(tokens: &[Token]) -> Result<Option<(Parameter, &[Token])>, Problem>
     ensures { Reads (IsParameterOrOther (views tokens.now)) (FailsParameter (views tokens.now)) result }
 {
-    if let Some(rest) = word_at(Keyword::Int, tokens) {
+    if let Some(rest) = keyword_at(Keyword::Int, tokens) {
         let (name, rest) = name(rest)?;
         let (parameter, rest) = brackets(name, rest)?;
         return Ok(Some((parameter, rest)));
     }
-    let Some(rest) = word_at(Keyword::Stack, tokens) else {
+    let Some(rest) = keyword_at(Keyword::Stack, tokens) else {
         return Ok(None);
     };
     let (stack, rest) = name(rest)?;
@@ -124,7 +124,7 @@ fn named_procedure(alloc: Global, tokens: &[Token]) -> Result<(Procedure, &[Toke
     Ok((procedure, rest))
 }
 
-/// The declarations and the statements of `main`, behind that word, and the tokens behind them.
+/// The declarations and the statements of `main`, behind that keyword, and the tokens behind them.
 fn behind_main(
     alloc: Global,
     tokens: &[Token],
@@ -145,13 +145,13 @@ fn main_at(main: bool, tokens: &[Token]) -> Option<&[Token]>
     ensures none { IfNone result ((behind : List AToken) → IsMain main (views tokens.now) behind → ⊥) }
 {
     if main {
-        word_at(Keyword::Main, tokens)
+        keyword_at(Keyword::Main, tokens)
     } else {
         None
     }
 }
 
-/// The cell with the procedure or with `main` that stands behind the word `procedure`, whether `main` may still follow, and
+/// The cell with the procedure or with `main` that stands behind the keyword `procedure`, whether `main` may still follow, and
 /// the tokens behind them.
 fn next_procedure(
     alloc: Global,
@@ -190,7 +190,7 @@ pub(crate) fn procedures(
     let mut whole = cell;
     let mut may = main;
     let mut rest = tokens;
-    'procedures: while let Some(behind) = word_at(Keyword::Procedure, rest) {
+    'procedures: while let Some(behind) = keyword_at(Keyword::Procedure, rest) {
         let (next, more, after) = next_procedure(alloc, whole, may, behind)?;
         whole = next;
         may = more;

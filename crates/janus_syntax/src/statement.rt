@@ -3,7 +3,7 @@
 ghost use Rattle.std.specs.Prelude.{◌≡◌, ◌<◌, ◌≤◌, ℕ, List, ◌∷◌, true, false};
 ghost use Rattle.janus_syntax.specs.declared.token.Span.{Span};
 ghost use Rattle.janus_syntax.specs.Tree.{name_view, exp_view, stm_view, block_view};
-ghost use Rattle.janus_syntax.specs.Tokens.{Token as AToken, Word_of, views};
+ghost use Rattle.janus_syntax.specs.Tokens.{Token as AToken, Keyword_of, views};
 ghost use Rattle.janus_syntax.specs.Forms.{Body, Local, Statements};
 ghost use Rattle.janus_syntax.specs.Grammar.{depth_limit};
 ghost use Rattle.janus_syntax.specs.Reading.{Reads, IsPart, FailsPart};
@@ -15,11 +15,12 @@ use crate::call::call;
 use crate::expression::{DEPTH_LIMIT, whole_expression};
 use crate::fault::What;
 use crate::item::{
-    behind_delocal, behind_sign, behind_word, name, sign_at, update, variable_and_stack, word_at,
+    behind_delocal, behind_keyword, behind_sign, keyword_at, name, sign_at, update,
+    variable_and_stack,
 };
 use crate::problem::Problem;
 use crate::token::{Keyword, Sign, Token, TokenKind};
-use crate::tree::{Exp, Kind, Name, Stm};
+use crate::tree::{Exp, LocalKind, Name, Stm};
 use std::alloc::Global;
 
 /// A statement and the tokens behind it, if one begins here, with `depth` constructs open before it.
@@ -44,15 +45,15 @@ fn statement(
             let (stm, rest) = assignment(alloc, name, rest, depth)?;
             Ok(Some((stm, rest)))
         }
-        TokenKind::Keyword(word) => {
-            if opens_construct(*word) {
+        TokenKind::Keyword(keyword) => {
+            if opens_construct(*keyword) {
                 if depth == DEPTH_LIMIT {
                     return Err(Problem::TooNested { left: tokens.len() });
                 }
-                let (stm, rest) = construct(alloc, *word, rest, depth)?;
+                let (stm, rest) = construct(alloc, *keyword, rest, depth)?;
                 Ok(Some((stm, rest)))
             } else {
-                plain_statement(alloc, *word, rest)
+                plain_statement(alloc, *keyword, rest)
             }
         }
         _ => Ok(None),
@@ -60,47 +61,47 @@ fn statement(
 }
 
 /// Whether a keyword begins a construct.
-fn opens_construct(word: Keyword) -> bool
-    ensures { result ≡ opens_construct word }
+fn opens_construct(keyword: Keyword) -> bool
+    ensures { result ≡ opens_construct keyword }
 {
-    match word {
+    match keyword {
         Keyword::If | Keyword::From | Keyword::Local => true,
         _ => false,
     }
 }
 
-/// The construct that this word begins, behind that word, with `depth` constructs open before it, and the tokens behind it.
+/// The construct that this keyword begins, behind that keyword, with `depth` constructs open before it, and the tokens behind it.
 #[cycle(statement)]
 fn construct(
     alloc: Global,
-    word: Keyword,
+    keyword: Keyword,
     tokens: &[Token],
     depth: usize,
 ) -> Result<(Stm, &[Token]), Problem>
-    requires opens { opens_construct word ≡ true }
+    requires opens { opens_construct keyword ≡ true }
     requires room { depth < depth_limit }
     ensures { (place : Span) →
-        Reads (λ x. IsStm depth (stm_view x.0) (Word_of word place ∷ views tokens.now) (views x.1.now))
-        (FailsStm depth (Word_of word place ∷ views tokens.now)) result }
+        Reads (λ x. IsStm depth (stm_view x.0) (Keyword_of keyword place ∷ views tokens.now) (views x.1.now))
+        (FailsStm depth (Keyword_of keyword place ∷ views tokens.now)) result }
 {
-    match word {
+    match keyword {
         Keyword::If => behind_if(alloc, tokens, depth + 1),
         Keyword::From => behind_from(alloc, tokens, depth + 1),
         _ => behind_local(alloc, tokens, depth + 1),
     }
 }
 
-/// The statement that this word begins, behind that word, and the tokens behind it, where it is no construct; or none begins.
+/// The statement that this keyword begins, behind that keyword, and the tokens behind it, where it is no construct; or none begins.
 fn plain_statement(
     alloc: Global,
-    word: Keyword,
+    keyword: Keyword,
     tokens: &[Token],
 ) -> Result<Option<(Stm, &[Token])>, Problem>
-    requires { opens_construct word ≡ false }
+    requires { opens_construct keyword ≡ false }
     ensures { (depth : ℕ) (place : Span) → depth ≤ depth_limit →
-        Reads (IsStmOrOther depth (Word_of word place ∷ views tokens.now)) (FailsStm depth (Word_of word place ∷ views tokens.now)) result }
+        Reads (IsStmOrOther depth (Keyword_of keyword place ∷ views tokens.now)) (FailsStm depth (Keyword_of keyword place ∷ views tokens.now)) result }
 {
-    match word {
+    match keyword {
         Keyword::Skip => Ok(Some((Stm::Skip, tokens))),
         Keyword::Push => {
             let (variable, stack, rest) = variable_and_stack(tokens)?;
@@ -148,14 +149,14 @@ fn assignment(
     Ok((Stm::AssignElement(name, index, update, exp), rest))
 }
 
-/// An `if`, behind that word, and the tokens behind it. It is one of the `depth` open constructs.
+/// An `if`, behind that keyword, and the tokens behind it. It is one of the `depth` open constructs.
 #[cycle(statement)]
 fn behind_if(alloc: Global, tokens: &[Token], depth: usize) -> Result<(Stm, &[Token]), Problem>
     requires { depth ≤ depth_limit }
     ensures { Reads (λ x. IsIf depth (stm_view x.0) (views tokens.now) (views x.1.now)) (FailsIf depth (views tokens.now)) result }
 {
     let (test, rest) = whole_expression(alloc, tokens, depth)?;
-    let rest = behind_word(Keyword::Then, rest)?;
+    let rest = behind_keyword(Keyword::Then, rest)?;
     let (then_part, rest) = body(alloc, rest, depth)?;
     let (else_part, rest) = optional_body(alloc, Keyword::Else, rest, depth)?;
     end_of_if(alloc, test, then_part, else_part, rest, depth)
@@ -174,12 +175,12 @@ fn end_of_if(
     ensures { (from : List AToken) → IsIfBegun depth (exp_view test) (block_view then_part.items) (block_view else_part.items) from (views tokens.now) →
         Reads (λ x. IsIf depth (stm_view x.0) from (views x.1.now)) (FailsIf depth from) result }
 {
-    let rest = behind_word(Keyword::Fi, tokens)?;
+    let rest = behind_keyword(Keyword::Fi, tokens)?;
     let (assertion, rest) = whole_expression(alloc, rest, depth)?;
     Ok((Stm::If(test, then_part, else_part, assertion), rest))
 }
 
-/// A loop, behind the word `from`, and the tokens behind it. It is one of the `depth` open constructs.
+/// A loop, behind the keyword `from`, and the tokens behind it. It is one of the `depth` open constructs.
 #[cycle(statement)]
 fn behind_from(alloc: Global, tokens: &[Token], depth: usize) -> Result<(Stm, &[Token]), Problem>
     requires { depth ≤ depth_limit }
@@ -205,22 +206,22 @@ fn end_of_loop(
         IsLoopBegun depth (exp_view assertion) (block_view do_part.items) (block_view loop_part.items) from (views tokens.now) →
         Reads (λ x. IsLoop depth (stm_view x.0) from (views x.1.now)) (FailsLoop depth from) result }
 {
-    let rest = behind_word(Keyword::Until, tokens)?;
+    let rest = behind_keyword(Keyword::Until, tokens)?;
     let (test, rest) = whole_expression(alloc, rest, depth)?;
     Ok((Stm::Loop(assertion, do_part, loop_part, test), rest))
 }
 
-/// A local, behind the word `local`, and the tokens behind it. It is one of the `depth` open constructs.
+/// A local, behind the keyword `local`, and the tokens behind it. It is one of the `depth` open constructs.
 #[cycle(statement)]
 fn behind_local(alloc: Global, tokens: &[Token], depth: usize) -> Result<(Stm, &[Token]), Problem>
     requires { depth ≤ depth_limit }
     ensures { Reads (λ x. IsPart Local depth (stm_view x.0) (views tokens.now) (views x.1.now)) (FailsPart Local depth (views tokens.now)) result }
 {
-    if let Some(rest) = word_at(Keyword::Int, tokens) {
+    if let Some(rest) = keyword_at(Keyword::Int, tokens) {
         let (stm, rest) = local_int(alloc, rest, depth)?;
         return Ok((stm, rest));
     }
-    let Some(rest) = word_at(Keyword::Stack, tokens) else {
+    let Some(rest) = keyword_at(Keyword::Stack, tokens) else {
         return Err(Problem::Expected {
             what: What::Kind,
             left: tokens.len(),
@@ -270,7 +271,7 @@ fn end_of_int(
         IsPart Body depth (block_view statements.items) start (views tokens.now) →
         Reads (λ x. IsLocalInt depth (stm_view x.0) from (views x.1.now)) (FailsLocalInt depth from) result }
 {
-    let (again, rest) = behind_delocal(Kind::Int, &name, tokens)?;
+    let (again, rest) = behind_delocal(LocalKind::Int, &name, tokens)?;
     let (test, rest) = whole_expression(alloc, rest, depth)?;
     Ok((Stm::LocalInt(name, exp, statements, again, test), rest))
 }
@@ -292,7 +293,7 @@ fn head_of_stack(tokens: &[Token]) -> Result<(Name, &[Token]), Problem>
 {
     let (name, rest) = name(tokens)?;
     let rest = behind_sign(Sign::Equals, rest)?;
-    let rest = behind_word(Keyword::Nil, rest)?;
+    let rest = behind_keyword(Keyword::Nil, rest)?;
     Ok((name, rest))
 }
 
@@ -306,24 +307,24 @@ fn end_of_stack(
         IsPart Body depth (block_view statements.items) start (views tokens.now) →
         Reads (λ x. IsLocalStack depth (stm_view x.0) from (views x.1.now)) (FailsLocalStack depth from) result }
 {
-    let (again, rest) = behind_delocal(Kind::Stack, &name, tokens)?;
-    let rest = behind_word(Keyword::Nil, rest)?;
+    let (again, rest) = behind_delocal(LocalKind::Stack, &name, tokens)?;
+    let rest = behind_keyword(Keyword::Nil, rest)?;
     Ok((Stm::LocalStack(name, statements, again), rest))
 }
 
-/// The body behind this word, if it stands here; else the block with one `skip`.
+/// The body behind this keyword, if it stands here; else the block with one `skip`.
 #[cycle(statement)]
 fn optional_body(
     alloc: Global,
-    word: Keyword,
+    keyword: Keyword,
     tokens: &[Token],
     depth: usize,
 ) -> Result<(Vec<Stm>, &[Token]), Problem>
     requires { depth ≤ depth_limit }
-    ensures { Reads (λ x. IsOptional word depth (block_view x.0.items) (views tokens.now) (views x.1.now))
-        (FailsOptional word depth (views tokens.now)) result }
+    ensures { Reads (λ x. IsOptional keyword depth (block_view x.0.items) (views tokens.now) (views x.1.now))
+        (FailsOptional keyword depth (views tokens.now)) result }
 {
-    let Some(rest) = word_at(word, tokens) else {
+    let Some(rest) = keyword_at(keyword, tokens) else {
         let mut left_out = Vec::new(alloc);
         left_out.push(Stm::Skip)?;
         return Ok((left_out, tokens));

@@ -1,7 +1,7 @@
 //! Tokens and the places where they stand.
 
 ghost use Rattle.std.specs.Prelude.{◌≡◌};
-ghost use Rattle.janus_syntax.specs.Spelling.{sign_text, word_text};
+ghost use Rattle.janus_syntax.specs.Spelling.{sign_text, keyword_text};
 
 /// The octets of a text from `start` up to, and without, `end`.
 #[derive(Clone, Copy, PartialEq, Eq, Debug)]
@@ -103,7 +103,7 @@ pub enum Keyword {
 impl Keyword {
     /// The keyword as it is written.
     pub fn text(self) -> &'static str
-        ensures { result.now ≡ word_text self }
+        ensures { result.now ≡ keyword_text self }
     {
         match self {
             Keyword::Call => "call",

@@ -115,7 +115,7 @@ pub enum Update {
 
 /// What a local is: a number or a stack.
 #[derive(Clone, Copy, PartialEq, Eq, Debug)]
-pub enum Kind {
+pub enum LocalKind {
     Int,
     Stack,
 }

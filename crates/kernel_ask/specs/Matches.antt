@@ -7,7 +7,7 @@ use Rattle.std.specs.List.Sorted.{IsStrictlySortedBy}
 use Rattle.janus_meaning.specs.Syntax.{Name}
 use Rattle.janus_meaning.specs.Store.{Store}
 use Rattle.janus_meaning.specs.World.{World, listed}
-use Rattle.janus_syntax.specs.Spelling.{word_text}
+use Rattle.janus_syntax.specs.Spelling.{keyword_text}
 use Rattle.janus_syntax.specs.declared.token.Keyword.{Keyword}
 use Rattle.kernel_text.specs.Procedures.{procedure_names}
 
@@ -16,7 +16,7 @@ abbrev pub names_of : Store → List Name
 names_of s = map (λ e. e.0) (listed s)
 
 abbrev pub IsReserved : List ℕ → Type 0
-IsReserved x = (word : Keyword) × (word_text word ≡ x)
+IsReserved x = (word : Keyword) × (keyword_text word ≡ x)
 
 -- a declared name, a procedure, or a keyword
 abbrev pub IsKnown : World → List ℕ → Type 0

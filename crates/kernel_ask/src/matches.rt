@@ -3,7 +3,7 @@ ghost use Rattle.std.specs.Prelude.{◌≡◌, [], nat_eq, map, string_bytes, If
 ghost use Rattle.std.specs.List.{starts_with};
 ghost use Rattle.std.specs.List.Sorted.{IsStrictlySortedBy};
 ghost use Rattle.std.specs.String.{string_cmp};
-ghost use Rattle.janus_syntax.specs.Spelling.{word_text};
+ghost use Rattle.janus_syntax.specs.Spelling.{keyword_text};
 ghost use Rattle.kernel_text.specs.NameSets.{with_name};
 ghost use Rattle.kernel_ask.specs.Added.{with_match, with_matches};
 ghost use Rattle.kernel_text.specs.Procedures.{procedure_names};
@@ -92,7 +92,7 @@ fn add_words(
     prefix: &str,
 ) -> Result<(), AllocError>
     ensures { OnOk result (map string_bytes names.new.keys
-        ≡ with_matches prefix.now (map string_bytes names.old.keys) (map word_text words.now)) }
+        ≡ with_matches prefix.now (map string_bytes names.old.keys) (map keyword_text words.now)) }
 {
     for word in words {
         add_match(alloc, names, word.text(), prefix)?;

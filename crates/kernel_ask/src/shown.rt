@@ -10,7 +10,7 @@ ghost use Rattle.kernel_ask.specs.Shown.{shown_text};
 ghost use Rattle.janus_store.specs.StoreState.{shown_store};
 
 use janus_check::cell_names;
-use janus_store::{Store, View};
+use janus_store::{Store, ValueView};
 use janus_syntax::tree::Cell;
 use kernel_text::value_text;
 use std::alloc::{AllocError, Global};
@@ -21,7 +21,7 @@ fn push_named(
     alloc: Global,
     texts: &mut Vec<String>,
     name: &str,
-    value: View<'_>,
+    value: ValueView<'_>,
     cell: &Cell,
 ) -> Result<(), AllocError>
     ensures { OnOk result (map string_bytes texts.new.items

@@ -4,8 +4,8 @@ use mathlib.Core.Option.{none, some}
 use lib.ListN.{get_elem?}
 use Rattle.atomic_table.specs.Table.{step, keeps, Allows, Splits}
 use Rattle.atomic_table.proofs.Lists.{set_again}
-use Rattle.kernel_bell.specs.declared.view.View.{View}
-use Rattle.kernel_bell.specs.declared.view.View.TheVariants.{Runner, Ringer}
+use Rattle.kernel_bell.specs.declared.view.SeatView.{SeatView}
+use Rattle.kernel_bell.specs.declared.view.SeatView.TheVariants.{Runner, Ringer}
 use Rattle.kernel_bell.specs.Views.{new_ringer, after_begin, after_hearing, after_look, after_raise}
 use Rattle.kernel_bell.specs.Rule.{IsRuled, current_of, bell_of}
 use Rattle.kernel_bell.specs.Steps.{changed}
@@ -62,7 +62,7 @@ raises slots id me k e is s h _ at _ =
       ap (λ (m : Seated). let p : Seated = (Ringer (after_raise g), m.1) in p) e,
     )
 
-pub splits : (id : ℕ) (v : View) → Splits IsRuled id v v (Ringer new_ringer)
+pub splits : (id : ℕ) (v : SeatView) → Splits IsRuled id v v (Ringer new_ringer)
 splits id v s h at =
-    let P : List View → Type 0 = λ vs. IsRuled record { words = s.words; homes = s.homes; views = vs ++ Ringer new_ringer ∷ [] } in
+    let P : List SeatView → Type 0 = λ vs. IsRuled record { words = s.words; homes = s.homes; views = vs ++ Ringer new_ringer ∷ [] } in
     subst P (sym (set_again s.views id v at)) (seat_keeps s h)

@@ -4,7 +4,7 @@ use Rattle.std.proofs.lemmas.Bool.Decides.{nat_tests}
 use lib.ListN.{get_elem?}
 use Rattle.kernel_bell.specs.declared.view.RunnerView.{RunnerView}
 use Rattle.kernel_bell.specs.declared.view.RingerView.{RingerView}
-use Rattle.kernel_bell.specs.declared.view.View.TheVariants.{Runner}
+use Rattle.kernel_bell.specs.declared.view.SeatView.TheVariants.{Runner}
 use Rattle.kernel_bell.specs.Rule.{BellState, IsRuled, bell_of}
 use Rattle.kernel_bell.specs.Steps.{Knows, begins, hears, looks, raises, sits}
 use Rattle.kernel_bell.specs.Seats.{HasRung, WasRung, IsNeverLater}

@@ -7,7 +7,7 @@ use lib.Seq.{map-set}
 use Rattle.std.proofs.lemmas.List.Elements.{All-set, All-append, All-cons, All-nil}
 use Rattle.kernel_bell.specs.declared.view.RunnerView.{RunnerView}
 use Rattle.kernel_bell.specs.declared.view.RingerView.{RingerView}
-use Rattle.kernel_bell.specs.declared.view.View.TheVariants.{Runner, Ringer}
+use Rattle.kernel_bell.specs.declared.view.SeatView.TheVariants.{Runner, Ringer}
 use Rattle.kernel_bell.specs.Views.{new_ringer, after_begin, after_hearing, after_look, after_raise}
 use Rattle.kernel_bell.specs.Rule.{BellState, current_of, bell_of, highest_rung, IsBehind, IsRuled}
 use Rattle.kernel_bell.specs.Steps.{Knows, changed}

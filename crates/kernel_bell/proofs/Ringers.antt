@@ -5,8 +5,8 @@ use lib.ListN.{get_elem?}
 use native.Mathlib.Decide.{dec_le}
 use Rattle.kernel_bell.specs.declared.view.RunnerView.{RunnerView}
 use Rattle.kernel_bell.specs.declared.view.RingerView.{RingerView}
-use Rattle.kernel_bell.specs.declared.view.View.{View}
-use Rattle.kernel_bell.specs.declared.view.View.TheVariants.{Runner, Ringer}
+use Rattle.kernel_bell.specs.declared.view.SeatView.{SeatView}
+use Rattle.kernel_bell.specs.declared.view.SeatView.TheVariants.{Runner, Ringer}
 use Rattle.kernel_bell.specs.Views.{new_ringer}
 use Rattle.kernel_bell.specs.Plays.{runner_of, ringer_of}
 use Rattle.kernel_bell.specs.Rule.{highest_rung, IsBehind}
@@ -53,7 +53,7 @@ highest_is_rung (x ∷ xs) n one e = elim (dec_le (highest_rung xs) x.rung) [
 differ : (q : RunnerView) (g : RingerView) → Runner q ≡ Ringer g → ⊥
 differ q g e = cc
 
-from_map : (gs : List RingerView) (k : ℕ) (v : View) → get_elem? (map Ringer gs) k ≡ some v → (g : RingerView) × (get_elem? gs k ≡ some g) × (v ≡ Ringer g)
+from_map : (gs : List RingerView) (k : ℕ) (v : SeatView) → get_elem? (map Ringer gs) k ≡ some v → (g : RingerView) × (get_elem? gs k ≡ some g) × (v ≡ Ringer g)
 from_map [] k v at = absurd (some-ne-none v (sym at))
 from_map (x ∷ xs) zero v at = (x, refl, sym (some-injective (Ringer x) v at))
 from_map (x ∷ xs) (suc k) v at = from_map xs k v at

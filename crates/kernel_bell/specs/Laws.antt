@@ -1,7 +1,7 @@
 -- What the rule comes to, in the words of its use.
 use Rattle.std.specs.Prelude.{ℕ, ◌<◌, ◌≤◌, IsTrue, ◌↔◌}
 use Rattle.kernel_bell.specs.declared.view.RunnerView.{RunnerView}
-use Rattle.kernel_bell.specs.declared.view.View.TheVariants.{Runner}
+use Rattle.kernel_bell.specs.declared.view.SeatView.TheVariants.{Runner}
 use Rattle.kernel_bell.specs.Views.{after_hearing}
 use Rattle.kernel_bell.specs.Rule.{BellState, IsRuled, bell_of}
 use Rattle.kernel_bell.specs.Steps.{Knows, IsStep}

@@ -4,19 +4,19 @@ use Rattle.std.specs.Prelude.{◌≡◌, ℕ, ◌≤◌, []}
 use Rattle.atomic_table.specs.Table.{Me, Step}
 use Rattle.kernel_bell.specs.declared.view.RunnerView.{RunnerView}
 use Rattle.kernel_bell.specs.declared.view.RingerView.{RingerView}
-use Rattle.kernel_bell.specs.declared.view.View.{View}
-use Rattle.kernel_bell.specs.declared.view.View.TheVariants.{Runner, Ringer}
+use Rattle.kernel_bell.specs.declared.view.SeatView.{SeatView}
+use Rattle.kernel_bell.specs.declared.view.SeatView.TheVariants.{Runner, Ringer}
 use Rattle.kernel_bell.specs.Views.{new_runner, new_ringer, after_begin, after_hearing, after_look, after_raise}
 
 -- a seat's view, with no slots, since the bell has none
 abbrev pub Seated : Type 0
-Seated = Me (Unit {0}) View
+Seated = Me (Unit {0}) SeatView
 
-abbrev pub runner_of : View → RunnerView
+abbrev pub runner_of : SeatView → RunnerView
 runner_of (Runner r) = r
 runner_of (Ringer g) = new_runner
 
-abbrev pub ringer_of : View → RingerView
+abbrev pub ringer_of : SeatView → RingerView
 ringer_of (Runner r) = new_ringer
 ringer_of (Ringer g) = g
 
@@ -41,8 +41,8 @@ abbrev pub Raises : Step (Unit {0}) → Seated → ℕ → Seated → Type 0
 Raises st old n new = new ≡ seated_ringer (after_raise (ringer_of old.0))
 
 -- a ringer's seat is made beside the runner's
-abbrev pub same_view : View → View
+abbrev pub same_view : SeatView → SeatView
 same_view v = v
 
-abbrev pub as_ringer : View → View
+abbrev pub as_ringer : SeatView → SeatView
 as_ringer v = Ringer new_ringer

@@ -5,12 +5,12 @@ use Rattle.std.specs.Prelude.{◌≡◌, ℕ, ◌≤◌, List, [], ◌∷◌, ma
 use Rattle.atomic_table.specs.Table.{State}
 use Rattle.kernel_bell.specs.declared.view.RunnerView.{RunnerView}
 use Rattle.kernel_bell.specs.declared.view.RingerView.{RingerView}
-use Rattle.kernel_bell.specs.declared.view.View.{View}
-use Rattle.kernel_bell.specs.declared.view.View.TheVariants.{Runner, Ringer}
+use Rattle.kernel_bell.specs.declared.view.SeatView.{SeatView}
+use Rattle.kernel_bell.specs.declared.view.SeatView.TheVariants.{Runner, Ringer}
 
 -- the two words, and what the holder of each seat knows: seat 0 is the runner's, all others are ringers'
 abbrev pub BellState : Type 0
-BellState = State (Unit {0}) View
+BellState = State (Unit {0}) SeatView
 
 abbrev pub current_of : BellState → ℕ
 current_of s = slice_index s.words 0

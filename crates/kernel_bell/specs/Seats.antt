@@ -3,7 +3,7 @@ use Rattle.std.specs.Prelude.{◌≡◌, ℕ, ◌≤◌, Bool, ◌&&◌, nat_le}
 use Rattle.atomic_table.specs.Seated.{TableId}
 use Rattle.kernel_bell.specs.declared.view.RunnerView.{RunnerView}
 use Rattle.kernel_bell.specs.declared.view.RingerView.{RingerView}
-use Rattle.kernel_bell.specs.declared.view.View.TheVariants.{Runner, Ringer}
+use Rattle.kernel_bell.specs.declared.view.SeatView.TheVariants.{Runner, Ringer}
 use Rattle.kernel_bell.specs.Rule.{BellState, IsRuled, current_of, bell_of}
 use Rattle.kernel_bell.specs.Steps.{Knows}
 

@@ -4,17 +4,17 @@ use mathlib.Core.Option.{some}
 use lib.ListN.{get_elem?}
 use Rattle.kernel_bell.specs.declared.view.RunnerView.{RunnerView}
 use Rattle.kernel_bell.specs.declared.view.RingerView.{RingerView}
-use Rattle.kernel_bell.specs.declared.view.View.{View}
-use Rattle.kernel_bell.specs.declared.view.View.TheVariants.{Runner, Ringer}
+use Rattle.kernel_bell.specs.declared.view.SeatView.{SeatView}
+use Rattle.kernel_bell.specs.declared.view.SeatView.TheVariants.{Runner, Ringer}
 use Rattle.kernel_bell.specs.Views.{new_ringer, after_begin, after_hearing, after_look, after_raise}
 use Rattle.kernel_bell.specs.Rule.{BellState, current_of, bell_of}
 
 -- in this state, the holder of the seat knows this
-abbrev pub Knows : BellState → ℕ → View → Type 0
+abbrev pub Knows : BellState → ℕ → SeatView → Type 0
 Knows s seat v = get_elem? s.views seat ≡ some v
 
 -- the state with other words, and with another view of one seat
-abbrev pub changed : BellState → List ℕ → ℕ → View → BellState
+abbrev pub changed : BellState → List ℕ → ℕ → SeatView → BellState
 changed s words seat v = record { words = words; homes = s.homes; views = slice_set s.views seat v }
 
 -- The four kinds of step, and the making of a seat. There is no other.

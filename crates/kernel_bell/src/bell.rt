@@ -5,7 +5,7 @@ ghost use Rattle.kernel_bell.specs.Seats.{runner_seat, ringer_seat, is_asked, Wa
 
 use crate::rule::{Begin, BellRule, Hear, Look, Raise, Sit};
 use crate::seats::{RingerSeat, RunnerSeat};
-use crate::view::View;
+use crate::view::SeatView;
 use atomic_table::{Seat, Table};
 use std::alloc::{AllocError, Global};
 use std::marker::Model;
@@ -22,7 +22,7 @@ const BELL: usize = 1;
 /// The bell: its two words. Contracts see it as which bell it is.
 #[derive(Drop)]
 pub struct Bell {
-    table: Table<(), View, (), BellRule, Global>,
+    table: Table<(), SeatView, (), BellRule, Global>,
 }
 
 impl Model for Bell {

@@ -21,7 +21,7 @@ mod view;
 pub use bell::{Bell, RINGERS};
 pub use rule::BellRule;
 pub use seats::{RingerSeat, RunnerSeat};
-pub use view::{RingerView, RunnerView, View};
+pub use view::{RingerView, RunnerView, SeatView};
 
 /// Law: each kind of step keeps the rule.
 pub fn steps_keep_the_rule_law()

@@ -1,14 +1,14 @@
 //! The rule of the two words, and what each kind of step tells the holder of the seat.
-use crate::view::View;
+use crate::view::SeatView;
 use atomic_table::{Play, Split, TableRule};
 
 /// The rule of the bell's two words, for the base.
 pub struct BellRule;
 
-impl TableRule<(), View, ()> for BellRule {
+impl TableRule<(), SeatView, ()> for BellRule {
     ghost use Rattle.kernel_bell.specs.Views.{new_runner};
     ghost use Rattle.kernel_bell.specs.Rule.{IsRuled};
-    ghost use Rattle.kernel_bell.specs.declared.view.View.TheVariants.{Runner};
+    ghost use Rattle.kernel_bell.specs.declared.view.SeatView.TheVariants.{Runner};
 
     ghost holds = { λ _. IsRuled };
 
@@ -18,7 +18,7 @@ impl TableRule<(), View, ()> for BellRule {
 /// The runner stores `current`.
 pub(crate) struct Begin;
 
-impl Play<(), View> for Begin {
+impl Play<(), SeatView> for Begin {
     ghost use Rattle.kernel_bell.specs.Plays.{Begins};
 
     ghost then = { Begins };
@@ -27,7 +27,7 @@ impl Play<(), View> for Begin {
 /// The runner loads `bell`.
 pub(crate) struct Hear;
 
-impl Play<(), View> for Hear {
+impl Play<(), SeatView> for Hear {
     ghost use Rattle.kernel_bell.specs.Plays.{Hears};
 
     ghost then = { Hears };
@@ -36,7 +36,7 @@ impl Play<(), View> for Hear {
 /// A ringer loads `current`.
 pub(crate) struct Look;
 
-impl Play<(), View> for Look {
+impl Play<(), SeatView> for Look {
     ghost use Rattle.kernel_bell.specs.Plays.{Looks};
 
     ghost then = { Looks };
@@ -45,7 +45,7 @@ impl Play<(), View> for Look {
 /// A ringer raises `bell` to what it has seen.
 pub(crate) struct Raise;
 
-impl Play<(), View> for Raise {
+impl Play<(), SeatView> for Raise {
     ghost use Rattle.kernel_bell.specs.Plays.{Raises};
 
     ghost then = { Raises };
@@ -54,7 +54,7 @@ impl Play<(), View> for Raise {
 /// One more ringer's seat is made beside the runner's.
 pub(crate) struct Sit;
 
-impl Split<View> for Sit {
+impl Split<SeatView> for Sit {
     ghost use Rattle.kernel_bell.specs.Plays.{same_view, as_ringer};
 
     ghost left = { same_view };

@@ -1,7 +1,7 @@
 //! The seats. Each belongs to one bell, and is the right to step at it. At run time it is one number.
 ghost use Rattle.std.specs.Prelude.{◌≡◌};
 
-use crate::view::View;
+use crate::view::SeatView;
 use atomic_table::Seat;
 use std::marker::Model;
 
@@ -9,7 +9,7 @@ use std::marker::Model;
 #[derive(Drop)]
 pub struct RunnerSeat {
     pub(crate) serial: u64,
-    pub(crate) seat: Seat<(), View>,
+    pub(crate) seat: Seat<(), SeatView>,
 }
 
 impl Model for RunnerSeat {
@@ -28,7 +28,7 @@ impl Model for RunnerSeat {
 #[derive(Drop)]
 pub struct RingerSeat {
     pub(crate) seen: u64,
-    pub(crate) seat: Seat<(), View>,
+    pub(crate) seat: Seat<(), SeatView>,
 }
 
 impl Model for RingerSeat {

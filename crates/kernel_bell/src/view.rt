@@ -25,7 +25,7 @@ pub struct RingerView {
 }
 
 /// What the holder of a seat knows.
-pub enum View {
+pub enum SeatView {
     /// The runner's.
     Runner(RunnerView),
     /// A ringer's.

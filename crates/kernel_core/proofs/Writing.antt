@@ -18,7 +18,7 @@ use Rattle.kernel_core.specs.MachineParts.{machine_with}
 use Rattle.kernel_machine.specs.declared.post.Job.{Job}
 use Rattle.kernel_core.specs.declared.minutes.Entry.{Entry}
 use Rattle.kernel_core.specs.declared.minutes.Entry.TheVariants.{Posted, Ended}
-use Rattle.kernel_core.specs.declared.minutes.Minutes.{Minutes}
+use Rattle.kernel_core.specs.declared.minutes.MinuteBook.{MinuteBook}
 use Rattle.kernel_machine.proofs.Posts.{posted-append, ended-append, entry_count}
 
 -- ---- entries
@@ -87,7 +87,7 @@ job_posted xs places lane job h =
 -- ---- what the minutes keep
 
 -- each entry is a post or an end
-pub size_of : (m : Minutes) → HasPlaces m → length m.entries.items ≡ m.posted + m.ended
+pub size_of : (m : MinuteBook) → HasPlaces m → length m.entries.items ≡ m.posted + m.ended
 size_of m k =
     let size = length-map m.entries.items entry_of in
     let count = entry_count (entries_in m) in
@@ -95,7 +95,7 @@ size_of m k =
     let ended = k.ended in
     omega arith
 
-pub posted_kept : (m more : Minutes) (lane : ℕ) (job : Job) → HasPlaces m → 2 * suc m.posted ≤ vec_capacity m.entries → 2 * suc m.posted ≤ minutes_limit → more.entries.items ≡ m.entries.items ++ Posted lane job ∷ [] →
+pub posted_kept : (m more : MinuteBook) (lane : ℕ) (job : Job) → HasPlaces m → 2 * suc m.posted ≤ vec_capacity m.entries → 2 * suc m.posted ≤ minutes_limit → more.entries.items ≡ m.entries.items ++ Posted lane job ∷ [] →
     more.posted ≡ m.posted + 1 → more.ended ≡ m.ended → vec_capacity more.entries ≡ vec_capacity m.entries → HasPlaces more
 posted_kept m more lane job k room within items one same capacity =
     let entries : entries_in more ≡ entries_in m ++ minutes.Posted lane (request_of job) ∷ [] = one_more m.entries.items more.entries.items (Posted lane job) items in
@@ -106,7 +106,7 @@ posted_kept m more lane job k room within items one same capacity =
     let order = k.order in
     record { posted = omega arith; ended = omega arith; order = omega arith; room = omega arith; within = omega arith }
 
-pub ended_kept : (m more : Minutes) (number : ℕ) (o : Outcome) (count node : ℕ) → HasPlaces m → m.ended < m.posted → more.entries.items ≡ m.entries.items ++ Ended number o count node ∷ [] →
+pub ended_kept : (m more : MinuteBook) (number : ℕ) (o : Outcome) (count node : ℕ) → HasPlaces m → m.ended < m.posted → more.entries.items ≡ m.entries.items ++ Ended number o count node ∷ [] →
     more.posted ≡ m.posted → more.ended ≡ m.ended + 1 → vec_capacity more.entries ≡ vec_capacity m.entries → HasPlaces more
 ended_kept m more number o count node k some items same one capacity =
     let entries : entries_in more ≡ entries_in m ++ minutes.Ended number o count node ∷ [] = one_more m.entries.items more.entries.items (Ended number o count node) items in
@@ -164,17 +164,17 @@ unnoted m end none =
     subst (λ (e : Option Outcome). m ≡ noted m e) (sym none) (ap (λ (es : List minutes.Entry). machine_from m.state m.queue m.counter es m.closing) (sym (append-nil m.minutes)))
 
 -- what is written down of an end, in the machine's words
-pub end_written : (m more : Minutes) (o : Outcome) (counter node at : ℕ) → HasPlaces m → more.entries.items ≡ m.entries.items ++ Ended (suc m.ended) o counter node ∷ [] → node ≡ at →
+pub end_written : (m more : MinuteBook) (o : Outcome) (counter node at : ℕ) → HasPlaces m → more.entries.items ≡ m.entries.items ++ Ended (suc m.ended) o counter node ∷ [] → node ≡ at →
     entries_in more ≡ entries_in m ++ minutes.Ended (suc (ended_in (entries_in m))) o counter at ∷ []
 end_written m more o counter node at k items same =
     one_more m.entries.items more.entries.items (Ended (suc m.ended) o counter node) items
     ∙ ap (λ (n : ℕ). entries_in m ++ minutes.Ended (suc n) o counter node ∷ []) k.ended
     ∙ ap (λ (n : ℕ). entries_in m ++ minutes.Ended (suc (ended_in (entries_in m))) o counter n ∷ []) same
 
-pub end_noted : (state : State) (places : List ℕ) (counter : ℕ) (closing : Bool) (m more : Minutes) (o : Outcome) →
+pub end_noted : (state : State) (places : List ℕ) (counter : ℕ) (closing : Bool) (m more : MinuteBook) (o : Outcome) →
     entries_in more ≡ entries_in m ++ minutes.Ended (suc (ended_in (entries_in m))) o counter state.past.position ∷ [] → ArePosts (entries_in m) places →
     machine_with state places counter more closing ≡ noted (machine_with state places counter m closing) (Some o)
 end_noted state places counter closing m more o written posts = written_view (entries_in m) (entries_in more) _ state places counter closing written posts
 
-pub end_stays : (m more : Minutes) (e : minutes.Entry) (places : List ℕ) → entries_in more ≡ entries_in m ++ e ∷ [] → ArePosts (entries_in m) places → ArePosts (entries_in more) places
+pub end_stays : (m more : MinuteBook) (e : minutes.Entry) (places : List ℕ) → entries_in more ≡ entries_in m ++ e ∷ [] → ArePosts (entries_in m) places → ArePosts (entries_in more) places
 end_stays m more e places written posts = subst (λ (entries : List minutes.Entry). ArePosts entries places) (sym written) (posts_stay (entries_in m) (e ∷ []) places posts)

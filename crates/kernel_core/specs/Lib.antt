@@ -6,7 +6,7 @@ pub use Rattle.kernel_machine.specs.Reached
 pub use Rattle.kernel_machine.specs.Text
 pub use Rattle.kernel_machine.specs.Refusal
 pub use Rattle.kernel_machine.specs.Travel
-pub use Rattle.kernel_machine.specs.Turn
+pub use Rattle.kernel_machine.specs.Heading
 pub use Rattle.kernel_machine.specs.State
 pub use Rattle.kernel_machine.specs.Legal
 pub use Rattle.kernel_machine.specs.Slices
@@ -35,7 +35,7 @@ pub use Rattle.kernel_machine.specs.declared.outcome
 pub use Rattle.kernel_machine.specs.declared.post
 pub use Rattle.kernel_machine.specs.declared.progress
 pub use Rattle.kernel_machine.specs.declared.travel
-pub use Rattle.kernel_machine.specs.declared.turn
+pub use Rattle.kernel_machine.specs.declared.heading
 pub use Rattle.kernel_machine.specs.contracts.outcome as contracts_of_outcome
 pub use Rattle.kernel_machine.specs.contracts.post as contracts_of_post
 -- Procedures that are lent, and the view of the shown world; and the trees of nodes.

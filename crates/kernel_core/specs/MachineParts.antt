@@ -4,11 +4,11 @@ use Rattle.kernel_machine.specs.State.{State}
 use Rattle.kernel_machine.specs.Runs.{Machine, Seen}
 use Rattle.kernel_machine.specs.LegalMinutes.{IsLegalMachine}
 use Rattle.kernel_core.specs.Written.{entries_in, job_at, ArePosts, HasPlaces}
-use Rattle.kernel_core.specs.declared.minutes.Minutes.{Minutes}
+use Rattle.kernel_core.specs.declared.minutes.MinuteBook.{MinuteBook}
 use Rattle.kernel_core.specs.declared.kernel.Kernel.TheInside.{Inside}
 
 -- the queue is kept as the places of the posts in the minutes
-abbrev pub machine_with : State → List ℕ → ℕ → Minutes → Bool → Machine
+abbrev pub machine_with : State → List ℕ → ℕ → MinuteBook → Bool → Machine
 machine_with state places counter minutes closing = record {
   state = state;
   queue = map (job_at (entries_in minutes)) places;

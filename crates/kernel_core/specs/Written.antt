@@ -5,13 +5,13 @@ use Rattle.kernel_machine.specs.Minutes as minutes
 use Rattle.kernel_machine.specs.Minutes.{posted_in, ended_in, minutes_limit}
 use Rattle.kernel_core.specs.declared.minutes.Entry.{Entry}
 use Rattle.kernel_core.specs.declared.minutes.Entry.TheVariants.{Posted, Ended}
-use Rattle.kernel_core.specs.declared.minutes.Minutes.{Minutes}
+use Rattle.kernel_core.specs.declared.minutes.MinuteBook.{MinuteBook}
 
 abbrev pub entry_of : Entry → minutes.Entry
 entry_of (Posted lane job) = minutes.Posted lane (request_of job)
 entry_of (Ended number outcome count node) = minutes.Ended number outcome count node
 
-abbrev pub entries_in : Minutes → List minutes.Entry
+abbrev pub entries_in : MinuteBook → List minutes.Entry
 entries_in m = map entry_of m.entries.items
 
 -- the job of a post
@@ -37,7 +37,7 @@ ArePosts entries [] = Unit {0}
 ArePosts entries (place ∷ places) = IsPostAt entries place × ArePosts entries places
 
 -- the counts are those of the entries, and each post has its two places: the room for the end of a job is taken with its post
-pub record HasPlaces (m : Minutes) : Type 0 where
+pub record HasPlaces (m : MinuteBook) : Type 0 where
   pub posted : m.posted ≡ posted_in (entries_in m)
   pub ended : m.ended ≡ ended_in (entries_in m)
   pub order : m.ended ≤ m.posted

@@ -21,15 +21,16 @@ mod kernel;
 mod minutes;
 
 pub use crate::events::run_events;
-pub use crate::kernel::{Kernel, QUEUE_LIMIT};
-pub use crate::minutes::{Entry, MINUTES_LIMIT};
+pub use crate::kernel::Kernel;
+pub use crate::minutes::Entry;
 pub use janus_check::CheckFault;
 pub use janus_machine::{Fault, STEP_LIMIT};
 pub use janus_syntax::SyntaxFault;
 pub use janus_syntax::token::Span;
 pub use kernel_history::View;
 pub use kernel_machine::{
-    Begun, End, Event, Extent, Job, Outcome, Phase, PostFault, Refusal, Sliced, Told,
+    Begun, Event, Extent, Job, MINUTES_LIMIT, Outcome, Phase, PostFault, QUEUE_LIMIT, Refusal,
+    Sliced, Told, TravelEnd,
 };
 pub use kernel_runner::names_in_sight;
 pub use machine_laws::laws;

@@ -24,24 +24,21 @@ pub enum Entry {
     },
 }
 
-/// The most entries that there may be. A post takes two places: its own, and that of the end of its job.
-pub const MINUTES_LIMIT: usize = 1_000_000;
-
 /// The entries, how many jobs were posted, and how many of them have ended.
 #[derive(Drop)]
-pub struct Minutes {
+pub struct MinuteBook {
     pub entries: Vec<Entry>,
     pub posted: usize,
     pub ended: usize,
 }
 
-impl Minutes {
+impl MinuteBook {
     /// No entries. It takes no memory.
-    pub fn new(alloc: Global) -> Minutes
+    pub fn new(alloc: Global) -> MinuteBook
         ensures kept { HasPlaces result }
         ensures none { entries_in result ≡ [] }
     {
-        Minutes {
+        MinuteBook {
             entries: Vec::new(alloc),
             posted: 0,
             ended: 0,

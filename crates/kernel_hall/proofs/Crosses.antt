@@ -20,8 +20,8 @@ use Rattle.janus_syntax.specs.contracts.tree.Procedure as TreeProcedure
 use Rattle.janus_syntax.specs.contracts.tree.Cell as TreeCell
 use Rattle.janus_check.specs.contracts.checked.Checked as Checked
 use Rattle.janus_machine.specs.contracts.procedures.Procedures as Procedures
-use Rattle.janus_invert.specs.contracts.code.Exp as Exp
-use Rattle.janus_invert.proofs.code.Exp.TheLaws.TheKnot.{crosses as exp_crosses}
+use Rattle.janus_invert.specs.contracts.code.FlatExp as FlatExp
+use Rattle.janus_invert.proofs.code.FlatExp.TheLaws.TheKnot.{crosses as exp_crosses}
 use Rattle.janus_invert.specs.contracts.code.Statement as Statement
 use Rattle.janus_invert.specs.contracts.code.Code as Code
 use Rattle.janus_linear.specs.contracts.code.Linear as Linear
@@ -50,17 +50,17 @@ use Rattle.kernel_hall.specs.contracts.hall.Hall as Hall
 Names-send : IsSend (Names.the_field).row
 Names-send = search (crosses, maps, sendable) depth 60 fits 20000
 
-Exp-send : IsSend (Exp.the_field).row
-Exp-send = search (crosses, exp_crosses, sendable) depth 60 fits 20000
+FlatExp-send : IsSend (FlatExp.the_field).row
+FlatExp-send = search (crosses, exp_crosses, sendable) depth 60 fits 20000
 
 Statement-send : IsSend (Statement.the_field).row
-Statement-send = search (crosses, maps, Exp-send, sendable) depth 60 fits 20000
+Statement-send = search (crosses, maps, FlatExp-send, sendable) depth 60 fits 20000
 
 Code-send : IsSend (Code.the_field).row
 Code-send = search (crosses, Statement-send, sendable) depth 60 fits 20000
 
 Linear-send : IsSend (Linear.the_field).row
-Linear-send = search (crosses, maps, Exp-send, Code-send, sendable) depth 60 fits 20000
+Linear-send = search (crosses, maps, FlatExp-send, Code-send, sendable) depth 60 fits 20000
 
 Book-send : IsSend (Book.the_field).row
 Book-send = search (crosses, Linear-send, sendable) depth 60 fits 20000

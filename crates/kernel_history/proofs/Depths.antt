@@ -1,5 +1,5 @@
 -- How deep the position stands, and how far favourites lead down from it: so far an undo and a redo can go.
-use Rattle.std.proofs.Common.{◌≡◌, ◌≢◌, Bool, ℕ, ◌+◌, ◌<◌, ◌≤◌, ◌==◌, zero, suc, true, false, refl, IsTrue, List, length, get_or, sym, ap, ◌∙◌, arith, inl, inr, ◌↔◌}
+use Rattle.std.proofs.Common.{◌≡◌, ◌≢◌, Bool, ℕ, ◌+◌, ◌<◌, ◌≤◌, ◌==◌, zero, suc, true, false, refl, IsTrue, List, length, get_or, nat_lt, sym, ap, ◌∙◌, arith, inl, inr, ◌↔◌}
 use Rattle.std.proofs.lemmas.Bool.{cases_eq, false≢true}
 use Rattle.std.proofs.lemmas.Bool.Decides.{nat_tests}
 use Rattle.cell_tree.specs.Tree.{parent_in, parents_of, IsOrdered}
@@ -11,12 +11,12 @@ use Rattle.kernel_machine.specs.State.{Past, favourite_of}
 use Rattle.kernel_machine.specs.Legal.{can_undo, can_redo, IsRun, IsChild, IsLegal}
 use Rattle.kernel_machine.proofs.Trees.{not_zero_is}
 use Rattle.kernel_history.specs.Fields.{nodes_of, past_of}
-use Rattle.kernel_history.specs.declared.tree.Tree.{Tree}
+use Rattle.kernel_history.specs.declared.tree.HistoryTree.{HistoryTree}
 use Rattle.kernel_history.proofs.Nodes.{count_of_nodes, parent_there}
 
 -- ---- up
 
-pub ordered_there : (tree : Tree) → IsLegal (past_of tree) → IsOrdered (parents_of tree.cells.nodes)
+pub ordered_there : (tree : HistoryTree) → IsLegal (past_of tree) → IsOrdered (parents_of tree.cells.nodes)
 ordered_there tree legal = record {
   root = refl;
   before = λ n some known. (
@@ -28,8 +28,8 @@ ordered_there tree legal = record {
       omega arith);
 }
 
--- so many nodes can be gone up exactly where as many stand above
-pub undoes : (tree : Tree) (n k : ℕ) → IsOrdered (parents_of tree.cells.nodes) → n ≤ length tree.cells.nodes →
+-- k nodes can be gone up exactly where as many stand above
+pub undoes : (tree : HistoryTree) (n k : ℕ) → IsOrdered (parents_of tree.cells.nodes) → n ≤ length tree.cells.nodes →
     IsTrue (can_undo (nodes_of tree) n k) ↔ (k ≤ depth (parents_of tree.cells.nodes) n)
 undoes tree n zero g l = (λ h. omega arith, λ h. refl)
 undoes tree n (suc k) g l = elim (cases_eq n 0) [
@@ -53,7 +53,7 @@ undoes tree n (suc k) g l = elim (cases_eq n 0) [
 
 -- ---- down
 
--- of so many at most, so many can be gone down exactly where favourites lead to as many
+-- of k at most, k can be gone down exactly where favourites lead to as many
 pub redoes : (favourites : List ℕ) (n most k : ℕ) → k ≤ most → IsTrue (can_redo favourites n k) ↔ (k ≤ length (downward favourites n most))
 redoes favourites n most zero l = (λ h. omega arith, λ h. refl)
 redoes favourites n zero (suc k) l = absurd (omega arith)
@@ -94,7 +94,7 @@ redo_few s n (suc k) g l h = elim (cases_eq (get_or s.favourites n 0) 0) [
       omega arith)
 ]
 
--- all of so many can be gone exactly where as many are counted
+-- all k can be gone exactly where k are counted
 pub reaches_all : (can : Bool) (k r : ℕ) → r ≤ k → IsTrue can ↔ (k ≤ r) → (r == k) ≡ can
 reaches_all true k r l h =
     let low : k ≤ r = h.0 refl in
@@ -102,4 +102,20 @@ reaches_all true k r l h =
     grind (arith, nat_tests)
 reaches_all false k r l h =
     let other : r ≢ k = λ same. false≢true (h.1 (omega (arith, same))) in
+    grind (arith, nat_tests)
+
+-- ---- whether the tree is full
+
+-- the nodes with the root are more than the limit exactly where as many as that stand beside the root, since there are no more
+pub fills : (full : Bool) (n limit count : ℕ) → n ≤ limit → count ≡ n + 1 → IsTrue full ↔ (n ≡ limit) → full ≡ nat_lt limit count
+fills true n limit count few e h =
+    let all : n ≡ limit = h.0 refl in
+    let over : limit < count = omega (arith, all, e) in
+    grind (arith, nat_tests)
+fills false n limit count few e h =
+    let other : n ≢ limit = λ same. false≢true (h.1 same) in
+    let within : count ≤ limit = elim (cases_eq n limit) [
+      | inl same ↦ absurd (other same)
+      | inr different ↦ omega (arith, few, e, different)
+    ] in
     grind (arith, nat_tests)

@@ -5,14 +5,14 @@ use Rattle.kernel_machine.specs.State.{procedures_at}
 use Rattle.kernel_machine.specs.Slices.{IsSlice}
 use Rattle.kernel_runner.specs.Runner.{world_of}
 use Rattle.kernel_history.specs.Kept.{Kept, IsKept}
-use Rattle.kernel_history.specs.declared.tree.Tree.{Tree}
+use Rattle.kernel_history.specs.declared.tree.HistoryTree.{HistoryTree}
 use Rattle.kernel_runner.specs.declared.runner.Runner.{Runner}
 use Rattle.kernel_history.specs.declared.job.Open.{Open}
 use Rattle.kernel_machine.specs.declared.outcome.Sliced.{Sliced}
 use Rattle.kernel_history.proofs.Standing.{shown_by}
 use Rattle.kernel_machine.proofs.Stays.{slice_fit}
 
-pub slice_kept : {L : Type 0} (tree moved-to : Tree) (runner at : Runner L) (old new : Open) (m : ℕ) (asked : Bool) (told : Sliced) → IsKept tree runner old → Kept moved-to at new →
+pub slice_kept : {L : Type 0} (tree moved-to : HistoryTree) (runner at : Runner L) (old new : Open) (m : ℕ) (asked : Bool) (told : Sliced) → IsKept tree runner old → Kept moved-to at new →
     IsSlice (state_of tree old) m asked told (state_of moved-to new) → IsKept moved-to at new
 slice_kept tree moved-to runner at old new m asked told k n s =
     let kept = k.kept in

@@ -10,7 +10,7 @@ use Rattle.janus_syntax.specs.Tree.{procedure_view, procedures_view}
 use Rattle.janus_syntax.specs.View.{plain_procedure}
 use Rattle.janus_syntax.specs.declared.tree.Procedure.{Procedure}
 use Rattle.janus_machine.specs.Bodies.{AreBodies}
-use Rattle.janus_machine.specs.declared.procedure.Procedure as kept
+use Rattle.janus_machine.specs.declared.linked_procedure.LinkedProcedure as kept
 use Rattle.kernel_runner.specs.Defined.{in_a_row}
 use Rattle.kernel_runner.specs.Runner.{ShownWorld, Shows, world_of}
 use Rattle.kernel_runner.specs.declared.runner.Runner.{Runner}
@@ -69,7 +69,7 @@ started_down s work travel e way = rw e (rw (way, code_of) refl)
 -- ---- where no body is kept
 
 -- there is no procedure
-pub none_kept : (xs : List Name) (bodies : List kept.Procedure) (stack : List ℕ) (ps : List Proc) → length bodies ≡ 0 → AreBodies xs bodies stack ps → ps ≡ []
+pub none_kept : (xs : List Name) (bodies : List kept.LinkedProcedure) (stack : List ℕ) (ps : List Proc) → length bodies ≡ 0 → AreBodies xs bodies stack ps → ps ≡ []
 none_kept xs bodies [] [] e h = refl
 none_kept xs bodies [] (p ∷ ps) e h = absurd h
 none_kept xs bodies (i ∷ stack) [] e h = absurd h

@@ -30,17 +30,19 @@ use Rattle.janus_machine.proofs.BodiesInEffect.{forgotten_still_defined}
 use Rattle.janus_machine.specs.declared.procedures.Procedures.{Procedures}
 use Rattle.kernel_runner.specs.Program.{cell_of_program, IsReady, with_bodies}
 use Rattle.kernel_runner.specs.Runner.{ShownWorld, over, world_of, Becomes, Shows, Place, entry, inverse_entry, world_inside, Stands, Is, Between, IsInside, CanEnter, CanReturn, CanLeave}
-use Rattle.kernel_history.specs.Kept.{is_back, IsCellAt, IsBefore, IsBehindNodes, NodesAreReady, AreInOrder, bodies_at, bodies_in, shown_here, place_in, IsProgramOf, StandsIn, StandsAt, Kept, IsKept, HasRoom, HasPath, HasPathFor}
+use Rattle.kernel_history.specs.Bodies.{IsCellAt, IsBefore, IsBehindNodes, NodesAreReady, AreInOrder, bodies_at, bodies_in, IsProgramOf}
+use Rattle.kernel_history.specs.Standing.{is_back, shown_here, place_in, StandsIn, StandsAt}
+use Rattle.kernel_history.specs.Kept.{Kept, IsKept, HasRoom, HasPath, HasPathFor}
 use Rattle.kernel_runner.specs.declared.runner.Runner.{Runner}
 use Rattle.kernel_runner.specs.declared.program.Program.{Program}
-use Rattle.kernel_history.specs.declared.tree.Cell.{Cell}
-use Rattle.kernel_history.specs.declared.tree.Tree.{Tree}
+use Rattle.kernel_history.specs.declared.tree.EndedCell.{EndedCell}
+use Rattle.kernel_history.specs.declared.tree.HistoryTree.{HistoryTree}
 use Rattle.kernel_machine.specs.declared.outcome.Sliced.{Sliced}
 use Rattle.kernel_history.specs.declared.job.Work.{Work}
 use Rattle.kernel_history.specs.declared.job.Work.TheVariants.{Cell as RunCell, Move}
-use Rattle.kernel_machine.specs.declared.turn.Why.{Why}
-use Rattle.kernel_machine.specs.declared.turn.Turn.{Turn}
-use Rattle.kernel_machine.specs.declared.turn.Turn.TheVariants.{GoesOn, GoesBack}
+use Rattle.kernel_machine.specs.declared.heading.Why.{Why}
+use Rattle.kernel_machine.specs.declared.heading.Heading.{Heading}
+use Rattle.kernel_machine.specs.declared.heading.Heading.TheVariants.{GoesOn, GoesBack}
 use Rattle.kernel_history.specs.declared.job.Open.{Open}
 use Rattle.kernel_history.specs.declared.job.Open.TheVariants.{Idle, Border, Inside}
 use Rattle.kernel_machine.proofs.LanguageLaws.{part_none_forward, part_none_backward, exec_end, exec_some}
@@ -52,7 +54,7 @@ use Rattle.kernel_history.proofs.Nodes.{count_of_nodes, cell_there, one_cell, ce
 use Rattle.kernel_machine.proofs.Trees.{worlds-more, legal_up, legal_down, legal_grown, undone_world, redone_world, run_here, parent_sound, IsNext, formed_below, next_below, up_possible, down_possible, way_up, way_down, new_legal, new_worlds}
 
 -- the shown world is the runner's
-pub shown_by : {L : Type 0} (tree : Tree) (job : Open) (runner : Runner L) → StandsAt tree job runner → ShownAt (past_of tree) (job_of job) (world_of (procedures_at (past_of tree) (job_of job)) runner)
+pub shown_by : {L : Type 0} (tree : HistoryTree) (job : Open) (runner : Runner L) → StandsAt tree job runner → ShownAt (past_of tree) (job_of job) (world_of (procedures_at (past_of tree) (job_of job)) runner)
 shown_by tree Idle runner h = ap (λ s. record { store = s; procedures = (here (past_of tree)).procedures }) h.0.store
 shown_by tree (Border travel) runner h = ap (λ s. record { store = s; procedures = (here (past_of tree)).procedures }) h.0.store
 shown_by tree (Inside e) runner h = stands_part _ _ _ _ h.stands
@@ -64,13 +66,13 @@ stands_shows runner program at is_turned h = record { store = refl; one_number =
 -- ---- the nodes stay ready
 
 -- the names that nodes have numbers for only grow, and their bodies stay kept
-pub nodes_ready : {L : Type 0} (tree : Tree) (runner at : Runner L) → GoOn runner.store.names at.store.names → kept_in at.procedures ≡ kept_in runner.procedures → NodesAreReady tree runner → NodesAreReady tree at
+pub nodes_ready : {L : Type 0} (tree : HistoryTree) (runner at : Runner L) → GoOn runner.store.names at.store.names → kept_in at.procedures ≡ kept_in runner.procedures → NodesAreReady tree runner → NodesAreReady tree at
 nodes_ready tree runner at more same h = λ n cell is.
     ready_same at.store.names runner.procedures at.procedures cell.program same (ready_grows runner.store.names at.store.names more runner.procedures cell.program (h n cell is))
 
-pub kept_inside : {L : Type 0} (tree : Tree) (work : Work) (count c : ℕ) (turn to : Turn) (runner at : Runner L) → Kept tree runner (Inside (record { work = work; count = count; turn = turn })) → GoOn runner.store.names at.store.names →
-    kept_in at.procedures ≡ kept_in runner.procedures → StandsIn tree work c (is_back to) at → Kept tree at (Inside (record { work = work; count = c; turn = to }))
-kept_inside tree work count c turn to runner at k more same p = record {
+pub kept_inside : {L : Type 0} (tree : HistoryTree) (work : Work) (count c : ℕ) (heading to : Heading) (runner at : Runner L) → Kept tree runner (Inside (record { work = work; count = count; heading = heading })) → GoOn runner.store.names at.store.names →
+    kept_in at.procedures ≡ kept_in runner.procedures → StandsIn tree work c (is_back to) at → Kept tree at (Inside (record { work = work; count = c; heading = to }))
+kept_inside tree work count c heading to runner at k more same p = record {
   legal = k.legal;
   possible = k.possible;
   counted = k.counted;
@@ -82,7 +84,7 @@ kept_inside tree work count c turn to runner at k more same p = record {
   behind = k.behind;
 }
 
-pub kept_idle : {L : Type 0} (tree : Tree) (job : Open) (runner at : Runner L) → Kept tree runner job → NodesAreReady tree at → IsWhole at.store → Shows at (shown_here tree) → Kept tree at Idle
+pub kept_idle : {L : Type 0} (tree : HistoryTree) (job : Open) (runner at : Runner L) → Kept tree runner job → NodesAreReady tree at → IsWhole at.store → Shows at (shown_here tree) → Kept tree at Idle
 kept_idle tree job runner at k ready whole shows = record {
   legal = k.legal;
   possible = tt;
@@ -104,57 +106,57 @@ shows_still runner at shown whole h same shows = record {
 }
 
 -- no cell could be entered
-pub kept_refused : {L : Type 0} (tree : Tree) (job : Open) (runner at : Runner L) → Kept tree runner job → IsWhole runner.store → Shows runner (shown_here tree) → Becomes runner.store at.store runner.store.sight → at.procedures ≡ runner.procedures → Kept tree at Idle
+pub kept_refused : {L : Type 0} (tree : HistoryTree) (job : Open) (runner at : Runner L) → Kept tree runner job → IsWhole runner.store → Shows runner (shown_here tree) → Becomes runner.store at.store runner.store.sight → at.procedures ≡ runner.procedures → Kept tree at Idle
 kept_refused tree job runner at k whole shows h same =
     kept_idle tree job runner at k (nodes_ready tree runner at h.names (ap kept_in same) k.ready) h.whole (shows_still runner at (shown_here tree) whole h same shows)
 
 -- ---- what is kept of the nodes alone
 
-pub placed_nodes : {L : Type 0} (tree other : Tree) (runner : Runner L) → other.cells.nodes ≡ tree.cells.nodes → NodesAreReady tree runner → NodesAreReady other runner
-placed_nodes tree other runner e h = subst (λ (nodes : List (Node Cell)). NodesAreReady (record other { cells = record other.cells { nodes = nodes } }) runner) (sym e) h
+pub placed_nodes : {L : Type 0} (tree other : HistoryTree) (runner : Runner L) → other.cells.nodes ≡ tree.cells.nodes → NodesAreReady tree runner → NodesAreReady other runner
+placed_nodes tree other runner e h = subst (λ (nodes : List (Node EndedCell)). NodesAreReady (record other { cells = record other.cells { nodes = nodes } }) runner) (sym e) h
 
-pub ordered_nodes : (tree other : Tree) → other.cells.nodes ≡ tree.cells.nodes → AreInOrder tree → AreInOrder other
-ordered_nodes tree other e h = subst (λ (nodes : List (Node Cell)). AreInOrder (record other { cells = record other.cells { nodes = nodes } })) (sym e) h
+pub ordered_nodes : (tree other : HistoryTree) → other.cells.nodes ≡ tree.cells.nodes → AreInOrder tree → AreInOrder other
+ordered_nodes tree other e h = subst (λ (nodes : List (Node EndedCell)). AreInOrder (record other { cells = record other.cells { nodes = nodes } })) (sym e) h
 
-no_cell : (tree : Tree) (n : ℕ) (cell : Cell) → past_of tree ≡ new_state.past → IsCellAt tree n cell → ⊥
+no_cell : (tree : HistoryTree) (n : ℕ) (cell : EndedCell) → past_of tree ≡ new_state.past → IsCellAt tree n cell → ⊥
 no_cell tree n cell e at =
     let size = count_of_nodes tree in
     let one : length (nodes_of tree) ≡ 1 = ap (λ (s : Past). length s.nodes) e in
-    let count : length (contents_of tree.cells) ≡ length tree.cells.nodes = length-map tree.cells.nodes (λ (node : Node Cell). node.content) in
+    let count : length (contents_of tree.cells) ≡ length tree.cells.nodes = length-map tree.cells.nodes (λ (node : Node EndedCell). node.content) in
     let place = slice_get_within (contents_of tree.cells) (n - 1) cell at.1 in
     omega arith
 
-placed_none : {L : Type 0} (tree : Tree) (runner : Runner L) → past_of tree ≡ new_state.past → NodesAreReady tree runner
+placed_none : {L : Type 0} (tree : HistoryTree) (runner : Runner L) → past_of tree ≡ new_state.past → NodesAreReady tree runner
 placed_none tree runner e = λ n cell at. absurd (no_cell tree n cell e at)
 
-ordered_none : (tree : Tree) → past_of tree ≡ new_state.past → AreInOrder tree
+ordered_none : (tree : HistoryTree) → past_of tree ≡ new_state.past → AreInOrder tree
 ordered_none tree e = λ m n c d l at other. absurd (no_cell tree m c e at)
 
-placed_grown : {L : Type 0} (tree larger : Tree) (node : Node Cell) (runner : Runner L) → larger.cells.nodes ≡ tree.cells.nodes ++ node ∷ [] →
+placed_grown : {L : Type 0} (tree larger : HistoryTree) (node : Node EndedCell) (runner : Runner L) → larger.cells.nodes ≡ tree.cells.nodes ++ node ∷ [] →
     NodesAreReady tree runner → IsReady runner.store.names runner.procedures node.content.program → NodesAreReady larger runner
 placed_grown tree larger node runner nodes ready new = λ n cell at.
     elim (cases_lt (length tree.cells.nodes) n) [
       | inl high ↦
           (let last = cell_added tree larger node n cell nodes at high in
-          subst (λ (c : Cell). IsReady runner.store.names runner.procedures c.program) last.1 new)
+          subst (λ (c : EndedCell). IsReady runner.store.names runner.procedures c.program) last.1 new)
       | inr low ↦ ready n cell (cell_kept tree larger node n cell nodes at low)
     ]
 
-ordered_grown : (tree larger : Tree) (node : Node Cell) → larger.cells.nodes ≡ tree.cells.nodes ++ node ∷ [] → AreInOrder tree →
-    ((n : ℕ) (cell : Cell) → IsCellAt tree n cell → IsBefore cell.program node.content.program) → AreInOrder larger
+ordered_grown : (tree larger : HistoryTree) (node : Node EndedCell) → larger.cells.nodes ≡ tree.cells.nodes ++ node ∷ [] → AreInOrder tree →
+    ((n : ℕ) (cell : EndedCell) → IsCellAt tree n cell → IsBefore cell.program node.content.program) → AreInOrder larger
 ordered_grown tree larger node nodes order behind = λ m n c d l at other.
     let size = count_of_nodes tree in
     elim (cases_lt (length tree.cells.nodes) n) [
       | inl high ↦
           (let last = cell_added tree larger node n d nodes other high in
           let low : m ≤ length tree.cells.nodes = let a = last.0 in omega arith in
-          subst (λ (x : Cell). IsBefore c.program x.program) last.1 (behind m c (cell_kept tree larger node m c nodes at low)))
+          subst (λ (x : EndedCell). IsBefore c.program x.program) last.1 (behind m c (cell_kept tree larger node m c nodes at low)))
       | inr low ↦ order m n c d l (cell_kept tree larger node m c nodes at (omega arith)) (cell_kept tree larger node n d nodes other low)
     ]
 
 -- ---- a new node
 
-pub state_grown : (tree larger : Tree) (program : ACell) (n : ℕ) (w : World) →
+pub state_grown : (tree larger : HistoryTree) (program : ACell) (n : ℕ) (w : World) →
     nodes_of larger ≡ nodes_of tree ++ record { parent = tree.position; cell = program; steps = n } ∷ [] →
     larger.cells.favourites ≡ set tree.cells.favourites tree.position (length (nodes_of tree)) ++ 0 ∷ [] →
     larger.position ≡ length (nodes_of tree) →
@@ -165,7 +167,7 @@ state_grown tree larger program n w nodes favourites position ran =
     let more = worlds-more [] (nodes_of tree) (record { parent = tree.position; cell = program; steps = n }) in
     rw (nodes, favourites, position, more, last) refl
 
-pub kept_grown : {L : Type 0} (tree larger : Tree) (program : ACell) (n : ℕ) (runner : Runner L) (v : World) →
+pub kept_grown : {L : Type 0} (tree larger : HistoryTree) (program : ACell) (n : ℕ) (runner : Runner L) (v : World) →
     nodes_of larger ≡ nodes_of tree ++ record { parent = tree.position; cell = program; steps = n } ∷ [] →
     larger.cells.favourites ≡ set tree.cells.favourites tree.position (length (nodes_of tree)) ++ 0 ∷ [] →
     larger.position ≡ length (nodes_of tree) →
@@ -202,7 +204,7 @@ border_job Idle travel e = cc
 border_job (Border t) travel e = (t, refl, cc)
 border_job (Inside x) travel e = cc
 
-pub kept_arrived : {L : Type 0} (left : ℕ) (moved-to : Tree) (travel : Travel) (told : Sliced) (job : Open) (runner : Runner L) → left ≡ cells travel →
+pub kept_arrived : {L : Type 0} (left : ℕ) (moved-to : HistoryTree) (travel : Travel) (told : Sliced) (job : Open) (runner : Runner L) → left ≡ cells travel →
     IsLegal (past_of moved-to) → Shows runner (shown_here moved-to) → IsWhole runner.store → CanGo travel.aim (nodes_of moved-to) moved-to.cells.favourites moved-to.position travel.up travel.down → IsCounted travel →
     HasPath travel.aim moved-to travel.down → NodesAreReady moved-to runner → AreInOrder moved-to → Arrives left (past_of moved-to) travel told (state_of moved-to job) → Kept moved-to runner job
 kept_arrived zero tree travel told job runner size legal shown whole can small path ready order a =
@@ -224,17 +226,17 @@ kept_arrived (suc left) tree travel told job runner size legal shown whole can s
     })
 
 -- a path is kept for a way that is one node shorter
-pub path_shorter : (a : Aim) (tree : Tree) (down : ℕ) → HasPath a tree down → HasPath a tree (down - 1)
+pub path_shorter : (a : Aim) (tree : HistoryTree) (down : ℕ) → HasPath a tree down → HasPath a tree (down - 1)
 path_shorter Undo tree down h = tt
 path_shorter Redo tree down h = tt
 path_shorter (Goto n) tree down h = (let l = h.0 in omega arith, λ i l. h.1 i (omega arith))
 
-path_of : (a : Aim) (tree other : Tree) (down : ℕ) → other.cells.nodes ≡ tree.cells.nodes → other.cells.way ≡ tree.cells.way → HasPath a tree down → HasPath a other down
+path_of : (a : Aim) (tree other : HistoryTree) (down : ℕ) → other.cells.nodes ≡ tree.cells.nodes → other.cells.way ≡ tree.cells.way → HasPath a tree down → HasPath a other down
 path_of Undo tree other down e f h = tt
 path_of Redo tree other down e f h = tt
 path_of (Goto n) tree other down e f h = rw (e, f) h
 
-pub kept_up : {L : Type 0} (tree : Tree) (p : ℕ) (travel : Travel) (runner : Runner L) (told : Sliced) (job : Open) → next_way travel ≡ Up → IsLegal (past_of tree) →
+pub kept_up : {L : Type 0} (tree : HistoryTree) (p : ℕ) (travel : Travel) (runner : Runner L) (told : Sliced) (job : Open) → next_way travel ≡ Up → IsLegal (past_of tree) →
     IsPossible (nodes_of tree) tree.cells.favourites tree.position travel → IsCounted travel → HasPath travel.aim tree travel.down → NodesAreReady tree runner → AreInOrder tree → IsWhole runner.store →
     p ≡ (node_at (past_of tree) tree.position).parent → Shows runner (over (bodies_at tree (node_at (past_of tree) tree.position).parent) (world_at (past_of tree) (node_at (past_of tree) tree.position).parent)) →
     Arrives (cells (stepped travel)) (past_of (record tree { position = p })) (stepped travel) told (state_of (record tree { position = p }) job) → Kept (record tree { position = p }) runner job
@@ -243,7 +245,7 @@ kept_up tree p travel runner told job way legal possible small path ready order 
     let some = possible.some in
     let first = small.0 in
     let up = way_up travel.up way in
-    let above : Tree = record tree { position = p } in
+    let above : HistoryTree = record tree { position = p } in
     let on : Travel = record travel { up = travel.up - 1; went_up = travel.went_up + 1 } in
     let e : stepped travel ≡ on = rw (way, stepped) refl in
     kept_arrived (cells on) above on told job runner refl (rw to (legal_up (past_of tree) legal))
@@ -253,7 +255,7 @@ kept_up tree p travel runner told job way legal possible small path ready order 
     (path_of travel.aim tree above travel.down refl refl path) (placed_nodes tree above runner refl ready) (ordered_nodes tree above refl order)
     (subst (λ (t : Travel). Arrives (cells t) (past_of above) t told (state_of above job)) e a)
 
-pub kept_down : {L : Type 0} (tree moved-to : Tree) (c : ℕ) (travel : Travel) (runner : Runner L) (told : Sliced) (job : Open) → next_way travel ≡ Down → IsLegal (past_of tree) →
+pub kept_down : {L : Type 0} (tree moved-to : HistoryTree) (c : ℕ) (travel : Travel) (runner : Runner L) (told : Sliced) (job : Open) → next_way travel ≡ Down → IsLegal (past_of tree) →
     IsPossible (nodes_of tree) tree.cells.favourites tree.position travel → IsCounted travel → HasPath travel.aim tree travel.down → NodesAreReady tree runner → AreInOrder tree → IsWhole runner.store →
     c ≡ below (past_of tree) travel → moved-to.cells.nodes ≡ tree.cells.nodes → moved-to.cells.favourites ≡ set tree.cells.favourites tree.position c → moved-to.position ≡ c → moved-to.cells.way ≡ tree.cells.way →
     Shows runner (over (bodies_at tree (below (past_of tree) travel)) (world_at (past_of tree) (below (past_of tree) travel))) →
@@ -291,35 +293,35 @@ ended_down s travel n v way legal possible e = redone_world s (below s travel) n
 -- ---- the program of the open job
 
 -- the work has one program
-same_up : (tree : Tree) (travel : Travel) (way : Way) (p q : Program) → next_way travel ≡ way → IsProgramOf tree (Move travel) p → IsProgramOf tree (Move travel) q → p ≡ q
+same_up : (tree : HistoryTree) (travel : Travel) (way : Way) (p q : Program) → next_way travel ≡ way → IsProgramOf tree (Move travel) p → IsProgramOf tree (Move travel) q → p ≡ q
 same_up tree travel Up p q way a b =
     let c = rw (way, IsProgramOf) at a in
     let d = rw (way, IsProgramOf) at b in
-    c.2 ∙ ap (λ (x : Cell). x.program) (one_cell tree tree.position c.0 d.0 c.1 d.1) ∙ sym d.2
+    c.2 ∙ ap (λ (x : EndedCell). x.program) (one_cell tree tree.position c.0 d.0 c.1 d.1) ∙ sym d.2
 same_up tree travel Down p q way a b =
     let c = rw (way, IsProgramOf) at a in
     let d = rw (way, IsProgramOf) at b in
-    c.2 ∙ ap (λ (x : Cell). x.program) (one_cell tree _ c.0 d.0 c.1 d.1) ∙ sym d.2
+    c.2 ∙ ap (λ (x : EndedCell). x.program) (one_cell tree _ c.0 d.0 c.1 d.1) ∙ sym d.2
 
-pub same_program : (tree : Tree) (work : Work) (p q : Program) → IsProgramOf tree work p → IsProgramOf tree work q → p ≡ q
+pub same_program : (tree : HistoryTree) (work : Work) (p q : Program) → IsProgramOf tree work p → IsProgramOf tree work q → p ≡ q
 same_program tree (RunCell program) p q a b = a ∙ sym b
 same_program tree (Move travel) p q a b = same_up tree travel (next_way travel) p q refl a b
 
 -- where a runner stands, for the program that was found
-pub stands_with : {L : Type 0} (tree : Tree) (work : Work) (count : ℕ) (back : Bool) (runner : Runner L) (p : Program) → IsProgramOf tree work p → StandsIn tree work count back runner →
+pub stands_with : {L : Type 0} (tree : HistoryTree) (work : Work) (count : ℕ) (back : Bool) (runner : Runner L) (p : Program) → IsProgramOf tree work p → StandsIn tree work count back runner →
     Stands runner p (place_in tree work p count) back
 stands_with tree work count back runner p of h =
     subst (λ (x : Program). Stands runner x (place_in tree work x count) back) (same_program tree work h.program p h.of_work of) h.stands
 
 -- the position is a node
-pub position_known : (tree : Tree) → IsLegal (past_of tree) → tree.position ≤ length tree.cells.nodes
+pub position_known : (tree : HistoryTree) → IsLegal (past_of tree) → tree.position ≤ length tree.cells.nodes
 position_known tree g =
     let size = count_of_nodes tree in
     let low : tree.position < length (nodes_of tree) = g.position in
     omega arith
 
 -- a posted cell that ended becomes a node, whose code runs as it stands, behind those of the others
-module _ {L : Type 0} (tree larger : Tree) (program : Program) (n : ℕ) (runner : Runner L) (k : Kept tree runner (Inside (record { work = RunCell program; count = n; turn = GoesOn }))) (nodes : larger.cells.nodes ≡ tree.cells.nodes ++ record { parent = tree.position; content = record { program = program; steps = n } } ∷ []) where
+module _ {L : Type 0} (tree larger : HistoryTree) (program : Program) (n : ℕ) (runner : Runner L) (k : Kept tree runner (Inside (record { work = RunCell program; count = n; heading = GoesOn }))) (nodes : larger.cells.nodes ≡ tree.cells.nodes ++ record { parent = tree.position; content = record { program = program; steps = n } } ∷ []) where
   pub placed_more : NodesAreReady larger runner
   placed_more =
       placed_grown tree larger (record { parent = tree.position; content = record { program = program; steps = n } }) runner nodes k.ready (stands_with tree (RunCell program) n false runner program refl k.stands).ready
@@ -340,8 +342,8 @@ module _ {L : Type 0} (tree larger : Tree) (program : Program) (n : ℕ) (runner
 
 -- ---- begins
 
-pub kept_entered : {L : Type 0} (tree : Tree) (runner at : Runner L) (travel : Travel) → Kept tree runner (Border travel) → GoOn runner.store.names at.store.names → kept_in at.procedures ≡ kept_in runner.procedures → StandsIn tree (Move travel) 0 false at →
-    IsKept tree at (Inside (record { work = Move travel; count = 0; turn = GoesOn }))
+pub kept_entered : {L : Type 0} (tree : HistoryTree) (runner at : Runner L) (travel : Travel) → Kept tree runner (Border travel) → GoOn runner.store.names at.store.names → kept_in at.procedures ≡ kept_in runner.procedures → StandsIn tree (Move travel) 0 false at →
+    IsKept tree at (Inside (record { work = Move travel; count = 0; heading = GoesOn }))
 kept_entered tree runner at travel k more same stands = record {
   kept = record {
     legal = k.legal;
@@ -358,14 +360,14 @@ kept_entered tree runner at travel k more same stands = record {
 }
 
 -- with no open job nothing is due
-pub idle_in_time : {L : Type 0} (tree : Tree) (runner : Runner L) → Kept tree runner Idle → IsKept tree runner Idle
+pub idle_in_time : {L : Type 0} (tree : HistoryTree) (runner : Runner L) → Kept tree runner Idle → IsKept tree runner Idle
 idle_in_time tree runner k = record { kept = k; in_time = tt }
 
-behind_nodes : (tree other : Tree) (program : Program) → other.cells.nodes ≡ tree.cells.nodes → IsBehindNodes tree (RunCell program) → IsBehindNodes other (RunCell program)
-behind_nodes tree other program e h = subst (λ (nodes : List (Node Cell)). IsBehindNodes (record other { cells = record other.cells { nodes = nodes } }) (RunCell program)) (sym e) h
+behind_nodes : (tree other : HistoryTree) (program : Program) → other.cells.nodes ≡ tree.cells.nodes → IsBehindNodes tree (RunCell program) → IsBehindNodes other (RunCell program)
+behind_nodes tree other program e h = subst (λ (nodes : List (Node EndedCell)). IsBehindNodes (record other { cells = record other.cells { nodes = nodes } }) (RunCell program)) (sym e) h
 
-pub kept_begun : {L : Type 0} (tree made : Tree) (runner at : Runner L) (program : Program) → Kept tree runner Idle → NodesAreReady tree at → IsBehindNodes tree (RunCell program) → past_of made ≡ past_of tree → made.cells.nodes ≡ tree.cells.nodes → made.position ≡ tree.position → HasRoom made → IsFormed (cell_of_program program) (here (past_of tree)) →
-    Stands at program (entry program (shown_here tree)) false → IsKept made at (Inside (record { work = RunCell program; count = 0; turn = GoesOn }))
+pub kept_begun : {L : Type 0} (tree made : HistoryTree) (runner at : Runner L) (program : Program) → Kept tree runner Idle → NodesAreReady tree at → IsBehindNodes tree (RunCell program) → past_of made ≡ past_of tree → made.cells.nodes ≡ tree.cells.nodes → made.position ≡ tree.position → HasRoom made → IsFormed (cell_of_program program) (here (past_of tree)) →
+    Stands at program (entry program (shown_here tree)) false → IsKept made at (Inside (record { work = RunCell program; count = 0; heading = GoesOn }))
 kept_begun tree made runner at program k ready behind same nodes position room formed stands =
     let stack : bodies_at made made.position ≡ bodies_at tree tree.position = bodies_same tree made made.position nodes ∙ ap (bodies_at tree) position in
     record {
@@ -389,7 +391,7 @@ kept_begun tree made runner at program k ready behind same nodes position room f
     }
 
 -- a tree with room for a node more is the same tree
-pub kept_with_room : {L : Type 0} (tree made : Tree) (runner : Runner L) → Kept tree runner Idle → past_of made ≡ past_of tree → made.cells.nodes ≡ tree.cells.nodes → made.position ≡ tree.position → Kept made runner Idle
+pub kept_with_room : {L : Type 0} (tree made : HistoryTree) (runner : Runner L) → Kept tree runner Idle → past_of made ≡ past_of tree → made.cells.nodes ≡ tree.cells.nodes → made.position ≡ tree.position → Kept made runner Idle
 kept_with_room tree made runner k same nodes position =
     let stack : bodies_at made made.position ≡ bodies_at tree tree.position = bodies_same tree made made.position nodes ∙ ap (bodies_at tree) position in
     record {
@@ -414,16 +416,16 @@ err_fact P (Err x) e h = h
 
 -- ---- back at the count 0
 
-pub began_cell : (tree : Tree) (work : Work) (program : Program) (v : World) → work ≡ RunCell program → CodePart (code_of (past_of tree) (work_of work)) (here (past_of tree)) 0 v → v ≡ entered (cell_of_program program) (here (past_of tree))
+pub began_cell : (tree : HistoryTree) (work : Work) (program : Program) (v : World) → work ≡ RunCell program → CodePart (code_of (past_of tree) (work_of work)) (here (past_of tree)) 0 v → v ≡ entered (cell_of_program program) (here (past_of tree))
 began_cell tree work program v e p = part_none_forward (cell_of_program program) (here (past_of tree)) v (rw e at p)
 
-pub began_up : (tree : Tree) (work : Work) (travel : Travel) (v : World) → work ≡ Move travel → next_way travel ≡ Up → CodePart (code_of (past_of tree) (work_of work)) (here (past_of tree)) 0 v → v ≡ here (past_of tree)
+pub began_up : (tree : HistoryTree) (work : Work) (travel : Travel) (v : World) → work ≡ Move travel → next_way travel ≡ Up → CodePart (code_of (past_of tree) (work_of work)) (here (past_of tree)) 0 v → v ≡ here (past_of tree)
 began_up tree work travel v e way p =
     let s : Past = past_of tree in
     let q : CodePart (code_of (past_of tree) (state.Move travel)) (here (past_of tree)) 0 v = rw e at p in
     part_none_backward (node_at (past_of tree) tree.position).cell (here (past_of tree)) v (rw (way, code_of) at q)
 
-pub began_down : (tree : Tree) (work : Work) (travel : Travel) (v : World) (cell : Cell) → work ≡ Move travel → next_way travel ≡ Down → IsCellAt tree (below (past_of tree) travel) cell →
+pub began_down : (tree : HistoryTree) (work : Work) (travel : Travel) (v : World) (cell : EndedCell) → work ≡ Move travel → next_way travel ≡ Down → IsCellAt tree (below (past_of tree) travel) cell →
     CodePart (code_of (past_of tree) (work_of work)) (here (past_of tree)) 0 v → v ≡ entered (cell_of_program cell.program) (here (past_of tree))
 began_down tree work travel v cell e way at p =
     let q : CodePart (code_of (past_of tree) (state.Move travel)) (here (past_of tree)) 0 v = rw e at p in
@@ -434,10 +436,10 @@ began_down tree work travel v cell e way at p =
 pub work_possible : (s : Past) (work : state.Work) (travel : Travel) → work ≡ state.Move travel → IsPossibleWork s work → IsPossible s.nodes s.favourites s.position travel
 work_possible s work travel e p = rw e at p
 
-pub work_path : (tree : Tree) (work : Work) (travel : Travel) → work ≡ Move travel → HasPathFor tree work → HasPath travel.aim tree travel.down
+pub work_path : (tree : HistoryTree) (work : Work) (travel : Travel) → work ≡ Move travel → HasPathFor tree work → HasPath travel.aim tree travel.down
 work_path tree work travel e p = rw e at p
 
-pub below_there : (tree : Tree) (travel : Travel) (i : ℕ) → IsLegal (past_of tree) → next_way travel ≡ Down → IsPossible (nodes_of tree) tree.cells.favourites tree.position travel → i ≡ below (past_of tree) travel →
+pub below_there : (tree : HistoryTree) (travel : Travel) (i : ℕ) → IsLegal (past_of tree) → next_way travel ≡ Down → IsPossible (nodes_of tree) tree.cells.favourites tree.position travel → i ≡ below (past_of tree) travel →
     (0 < i) × (i ≤ length tree.cells.nodes)
 below_there tree travel i legal way possible e =
     let next = next_below (past_of tree) travel legal way possible in
@@ -457,22 +459,22 @@ up_work s work travel e way p =
     let q : IsPossible s.nodes s.favourites s.position travel = rw e at p in
     (up_possible s travel way q).0
 
-pub cell_below : (tree : Tree) (travel : Travel) (cell : Cell) (i : ℕ) → IsNext (past_of tree) (below (past_of tree) travel) → i ≡ below (past_of tree) travel →
+pub cell_below : (tree : HistoryTree) (travel : Travel) (cell : EndedCell) (i : ℕ) → IsNext (past_of tree) (below (past_of tree) travel) → i ≡ below (past_of tree) travel →
     slice_get (contents_of tree.cells) (i - 1) ≡ Some cell → IsCellAt tree (below (past_of tree) travel) cell
 cell_below tree travel cell i next e read = (next.some, rw e at read)
 
 -- at the end of an undo, its names are the newest
-pub up_names : (tree : Tree) (travel : Travel) (n : ℕ) (v : World) (cell : Cell) → next_way travel ≡ Up → IsLegal (past_of tree) → IsPossible (nodes_of tree) tree.cells.favourites tree.position travel → HasEnded (past_of tree) (state.Move travel) n v →
+pub up_names : (tree : HistoryTree) (travel : Travel) (n : ℕ) (v : World) (cell : EndedCell) → next_way travel ≡ Up → IsLegal (past_of tree) → IsPossible (nodes_of tree) tree.cells.favourites tree.position travel → HasEnded (past_of tree) (state.Move travel) n v →
     IsCellAt tree tree.position cell → v ≡ entered (cell_of_program cell.program) (world_at (past_of tree) (node_at (past_of tree) tree.position).parent)
 up_names tree travel n v cell way legal possible ended at =
     ended_up (past_of tree) travel n v way legal possible ended
     ∙ ap (λ (c : ACell). entered c (world_at (past_of tree) (node_at (past_of tree) tree.position).parent)) (sym (cell_there tree tree.position cell at))
 
 -- a tree of the root alone
-pub new_past : (tree : Tree) → tree.cells ≡ root_alone tree.cells.room → tree.position ≡ 0 → past_of tree ≡ new_state.past
+pub new_past : (tree : HistoryTree) → tree.cells ≡ root_alone tree.cells.room → tree.position ≡ 0 → past_of tree ≡ new_state.past
 new_past tree alone position = rw (alone, position, new_worlds) refl
 
-pub kept_new : {L : Type 0} (tree : Tree) (runner : Runner L) → past_of tree ≡ new_state.past → tree.position ≡ 0 → Is runner (Between (over [] empty_world)) → Kept tree runner Idle
+pub kept_new : {L : Type 0} (tree : HistoryTree) (runner : Runner L) → past_of tree ≡ new_state.past → tree.position ≡ 0 → Is runner (Between (over [] empty_world)) → Kept tree runner Idle
 kept_new tree runner e position is = record {
   legal = subst (λ (s : Past). IsLegal s) (sym e) new_legal;
   possible = tt;
@@ -486,46 +488,46 @@ kept_new tree runner e position is = record {
 }
 
 -- the program of an undo and of a redo, as it is read
-up_is : (tree : Tree) (travel : Travel) (p : Program) → next_way travel ≡ Up → (cell : Cell) × IsCellAt tree tree.position cell × (p ≡ cell.program) → IsProgramOf tree (Move travel) p
+up_is : (tree : HistoryTree) (travel : Travel) (p : Program) → next_way travel ≡ Up → (cell : EndedCell) × IsCellAt tree tree.position cell × (p ≡ cell.program) → IsProgramOf tree (Move travel) p
 up_is tree travel p way h = rw (way, IsProgramOf) h
 
-down_is : (tree : Tree) (travel : Travel) (p : Program) → next_way travel ≡ Down → (cell : Cell) × IsCellAt tree (below (past_of tree) travel) cell × (p ≡ cell.program) → IsProgramOf tree (Move travel) p
+down_is : (tree : HistoryTree) (travel : Travel) (p : Program) → next_way travel ≡ Down → (cell : EndedCell) × IsCellAt tree (below (past_of tree) travel) cell × (p ≡ cell.program) → IsProgramOf tree (Move travel) p
 down_is tree travel p way h = rw (way, IsProgramOf) h
 
-pub cell_of_up : (tree : Tree) (work : Work) (travel : Travel) (cell : Cell) → IsLegal (past_of tree) → IsPossibleWork (past_of tree) (work_of work) → work ≡ Move travel → next_way travel ≡ Up →
+pub cell_of_up : (tree : HistoryTree) (work : Work) (travel : Travel) (cell : EndedCell) → IsLegal (past_of tree) → IsPossibleWork (past_of tree) (work_of work) → work ≡ Move travel → next_way travel ≡ Up →
     slice_get (contents_of tree.cells) (tree.position - 1) ≡ Some cell → IsCellAt tree tree.position cell
 cell_of_up tree work travel cell legal possible e way read =
     (up_work (past_of tree) (work_of work) travel (ap work_of e) way possible, read)
 
-pub cell_of_down : (tree : Tree) (work : Work) (travel : Travel) (cell : Cell) (i : ℕ) → IsLegal (past_of tree) → IsPossibleWork (past_of tree) (work_of work) → work ≡ Move travel → next_way travel ≡ Down →
+pub cell_of_down : (tree : HistoryTree) (work : Work) (travel : Travel) (cell : EndedCell) (i : ℕ) → IsLegal (past_of tree) → IsPossibleWork (past_of tree) (work_of work) → work ≡ Move travel → next_way travel ≡ Down →
     i ≡ below (past_of tree) travel → slice_get (contents_of tree.cells) (i - 1) ≡ Some cell → IsCellAt tree (below (past_of tree) travel) cell
 cell_of_down tree work travel cell i legal possible e way at read =
     cell_below tree travel cell i (down_work (past_of tree) (work_of work) travel (ap work_of e) way legal possible) at read
 
-pub program_up : (tree : Tree) (work : Work) (travel : Travel) (cell : Cell) → work ≡ Move travel → next_way travel ≡ Up → IsCellAt tree tree.position cell → IsProgramOf tree work cell.program
+pub program_up : (tree : HistoryTree) (work : Work) (travel : Travel) (cell : EndedCell) → work ≡ Move travel → next_way travel ≡ Up → IsCellAt tree tree.position cell → IsProgramOf tree work cell.program
 program_up tree work travel cell e way at = rw e (up_is tree travel cell.program way (cell, at, refl))
 
-pub program_down : (tree : Tree) (work : Work) (travel : Travel) (cell : Cell) → work ≡ Move travel → next_way travel ≡ Down → IsCellAt tree (below (past_of tree) travel) cell → IsProgramOf tree work cell.program
+pub program_down : (tree : HistoryTree) (work : Work) (travel : Travel) (cell : EndedCell) → work ≡ Move travel → next_way travel ≡ Down → IsCellAt tree (below (past_of tree) travel) cell → IsProgramOf tree work cell.program
 program_down tree work travel cell e way at = rw e (down_is tree travel cell.program way (cell, at, refl))
 
 -- the runner has gone on, or back, in the work's program
-pub kept_at : {L : Type 0} (tree : Tree) (work : Work) (count c : ℕ) (turn to : Turn) (runner at : Runner L) (p : Program) → Kept tree runner (Inside (record { work = work; count = count; turn = turn })) → GoOn runner.store.names at.store.names → kept_in at.procedures ≡ kept_in runner.procedures →
-    IsProgramOf tree work p → Stands at p (place_in tree work p c) (is_back to) → Kept tree at (Inside (record { work = work; count = c; turn = to }))
-kept_at tree work count c turn to runner at p k more same of stands =
-    kept_inside tree work count c turn to runner at k more same (record { program = p; of_work = of; stands = stands })
+pub kept_at : {L : Type 0} (tree : HistoryTree) (work : Work) (count c : ℕ) (heading to : Heading) (runner at : Runner L) (p : Program) → Kept tree runner (Inside (record { work = work; count = count; heading = heading })) → GoOn runner.store.names at.store.names → kept_in at.procedures ≡ kept_in runner.procedures →
+    IsProgramOf tree work p → Stands at p (place_in tree work p c) (is_back to) → Kept tree at (Inside (record { work = work; count = c; heading = to }))
+kept_at tree work count c heading to runner at p k more same of stands =
+    kept_inside tree work count c heading to runner at k more same (record { program = p; of_work = of; stands = stands })
 
 -- in the form in which the calls of the runner ask for it
-pub inside_with : {L : Type 0} (tree : Tree) (work : Work) (count : ℕ) (turn : Turn) (runner : Runner L) (p : Program) → Kept tree runner (Inside (record { work = work; count = count; turn = turn })) → IsProgramOf tree work p → IsInside runner p (is_back turn)
-inside_with tree work count turn runner p k of = (place_in tree work p count, stands_with tree work count (is_back turn) runner p of k.stands)
+pub inside_with : {L : Type 0} (tree : HistoryTree) (work : Work) (count : ℕ) (heading : Heading) (runner : Runner L) (p : Program) → Kept tree runner (Inside (record { work = work; count = count; heading = heading })) → IsProgramOf tree work p → IsInside runner p (is_back heading)
+inside_with tree work count heading runner p k of = (place_in tree work p count, stands_with tree work count (is_back heading) runner p of k.stands)
 
 -- a cell of a travel settles
-pub settled_up : (tree : Tree) (p : ℕ) (travel : Travel) (n : ℕ) (w : World) (told : Sliced) (new : State) → next_way travel ≡ Up → p ≡ (node_at (past_of tree) tree.position).parent →
+pub settled_up : (tree : HistoryTree) (p : ℕ) (travel : Travel) (n : ℕ) (w : World) (told : Sliced) (new : State) → next_way travel ≡ Up → p ≡ (node_at (past_of tree) tree.position).parent →
     Arrives (cells (stepped travel)) (past_of (record tree { position = p })) (stepped travel) told new → Settles (past_of tree) (state.Move travel) n w told new
 settled_up tree p travel n w told new way to a =
     let e : past_of (record tree { position = p }) ≡ moved (past_of tree) travel = rw (way, moved, to) refl in
     subst (λ (s : Past). Arrives (cells (stepped travel)) s (stepped travel) told new) e a
 
-pub settled_down : (tree moved-to : Tree) (c : ℕ) (travel : Travel) (n : ℕ) (w : World) (told : Sliced) (new : State) → next_way travel ≡ Down → c ≡ below (past_of tree) travel →
+pub settled_down : (tree moved-to : HistoryTree) (c : ℕ) (travel : Travel) (n : ℕ) (w : World) (told : Sliced) (new : State) → next_way travel ≡ Down → c ≡ below (past_of tree) travel →
     moved-to.cells.nodes ≡ tree.cells.nodes → moved-to.cells.favourites ≡ set tree.cells.favourites tree.position c → moved-to.position ≡ c →
     Arrives (cells (stepped travel)) (past_of moved-to) (stepped travel) told new → Settles (past_of tree) (state.Move travel) n w told new
 settled_down tree moved-to c travel n w told new way to nodes favourites position a =
@@ -534,29 +536,29 @@ settled_down tree moved-to c travel n w told new way to nodes favourites positio
 
 -- ---- the next cell of a travel, where the runner stands at a border
 
-pub here_sound : (tree : Tree) → IsLegal (past_of tree) → IsSound (here (past_of tree))
+pub here_sound : (tree : HistoryTree) → IsLegal (past_of tree) → IsSound (here (past_of tree))
 here_sound tree legal = legal.sound tree.position legal.position
 
-pub next_down : (tree : Tree) (travel : Travel) (cell : Cell) (i : ℕ) → next_way travel ≡ Down → IsLegal (past_of tree) → IsPossible (nodes_of tree) tree.cells.favourites tree.position travel →
+pub next_down : (tree : HistoryTree) (travel : Travel) (cell : EndedCell) (i : ℕ) → next_way travel ≡ Down → IsLegal (past_of tree) → IsPossible (nodes_of tree) tree.cells.favourites tree.position travel →
     i ≡ below (past_of tree) travel → slice_get (contents_of tree.cells) (i - 1) ≡ Some cell → IsCellAt tree (below (past_of tree) travel) cell
 next_down tree travel cell i way legal possible at read =
     cell_below tree travel cell i (next_below (past_of tree) travel legal way possible) at read
 
-pub formed_next : (tree : Tree) (travel : Travel) (cell : Cell) → next_way travel ≡ Down → IsLegal (past_of tree) → IsPossible (nodes_of tree) tree.cells.favourites tree.position travel →
+pub formed_next : (tree : HistoryTree) (travel : Travel) (cell : EndedCell) → next_way travel ≡ Down → IsLegal (past_of tree) → IsPossible (nodes_of tree) tree.cells.favourites tree.position travel →
     IsCellAt tree (below (past_of tree) travel) cell → IsFormed (cell_of_program cell.program) (here (past_of tree))
 formed_next tree travel cell way legal possible at =
     let next = next_below (past_of tree) travel legal way possible in
     subst (λ (c : ACell). IsFormed c (here (past_of tree))) (sym (cell_there tree _ cell at)) (formed_below (past_of tree) (below (past_of tree) travel) legal next)
 
 -- the position stands before the node below
-before_below : (tree : Tree) (travel : Travel) → next_way travel ≡ Down → IsLegal (past_of tree) → IsPossible (nodes_of tree) tree.cells.favourites tree.position travel → tree.position < below (past_of tree) travel
+before_below : (tree : HistoryTree) (travel : Travel) → next_way travel ≡ Down → IsLegal (past_of tree) → IsPossible (nodes_of tree) tree.cells.favourites tree.position travel → tree.position < below (past_of tree) travel
 before_below tree travel way legal possible =
     let next = next_below (past_of tree) travel legal way possible in
     let parent = (legal.ran (below (past_of tree) travel) next.some next.known).parent in
     let same = next.parent in
     omega arith
 
-pub can_go_down_to : {L : Type 0} (tree : Tree) (travel : Travel) (cell : Cell) (runner : Runner L) → next_way travel ≡ Down → IsLegal (past_of tree) → IsPossible (nodes_of tree) tree.cells.favourites tree.position travel →
+pub can_go_down_to : {L : Type 0} (tree : HistoryTree) (travel : Travel) (cell : EndedCell) (runner : Runner L) → next_way travel ≡ Down → IsLegal (past_of tree) → IsPossible (nodes_of tree) tree.cells.favourites tree.position travel →
     IsCellAt tree (below (past_of tree) travel) cell → Is runner (Between (shown_here tree)) → NodesAreReady tree runner → AreInOrder tree → CanEnter runner cell.program (shown_here tree)
 can_go_down_to tree travel cell runner way legal possible at is ready order = record {
   is = is;
@@ -566,7 +568,7 @@ can_go_down_to tree travel cell runner way legal possible at is ready order = re
   behind = cell_behind tree legal order tree.position (below (past_of tree) travel) cell (before_below tree travel way legal possible) at;
 }
 
-pub stands_next_down : {L : Type 0} (tree : Tree) (travel : Travel) (cell : Cell) (at : Runner L) → next_way travel ≡ Down → IsCellAt tree (below (past_of tree) travel) cell →
+pub stands_next_down : {L : Type 0} (tree : HistoryTree) (travel : Travel) (cell : EndedCell) (at : Runner L) → next_way travel ≡ Down → IsCellAt tree (below (past_of tree) travel) cell →
     Stands at cell.program (entry cell.program (shown_here tree)) false → StandsIn tree (Move travel) 0 false at
 stands_next_down tree travel cell at way is stands =
     let same = cell_there tree _ cell is in
@@ -579,12 +581,12 @@ stands_next_down tree travel cell at way is stands =
           (subst (λ (l : List ℕ). Stands at cell.program (record { bodies = l; code = Forward (cell_of_program cell.program); world = here (past_of tree); count = 0 }) false) stack stands);
     }
 
-pub next_up : (tree : Tree) (travel : Travel) (cell : Cell) → next_way travel ≡ Up → IsLegal (past_of tree) → IsPossible (nodes_of tree) tree.cells.favourites tree.position travel →
+pub next_up : (tree : HistoryTree) (travel : Travel) (cell : EndedCell) → next_way travel ≡ Up → IsLegal (past_of tree) → IsPossible (nodes_of tree) tree.cells.favourites tree.position travel →
     slice_get (contents_of tree.cells) (tree.position - 1) ≡ Some cell → IsCellAt tree tree.position cell
 next_up tree travel cell way legal possible read =
     ((up_possible (past_of tree) travel way possible).0, read)
 
-pub can_go_up_from : {L : Type 0} (tree : Tree) (travel : Travel) (cell : Cell) (runner : Runner L) → next_way travel ≡ Up → IsLegal (past_of tree) → IsPossible (nodes_of tree) tree.cells.favourites tree.position travel →
+pub can_go_up_from : {L : Type 0} (tree : HistoryTree) (travel : Travel) (cell : EndedCell) (runner : Runner L) → next_way travel ≡ Up → IsLegal (past_of tree) → IsPossible (nodes_of tree) tree.cells.favourites tree.position travel →
     IsCellAt tree tree.position cell → Is runner (Between (shown_here tree)) → NodesAreReady tree runner → CanReturn runner cell.program (shown_here tree)
 can_go_up_from tree travel cell runner way legal possible at is ready =
     let some = (up_possible (past_of tree) travel way possible).0 in
@@ -599,7 +601,7 @@ can_go_up_from tree travel cell runner way legal possible at is ready =
       ready = ready _ cell at;
     }
 
-pub stands_next_up : {L : Type 0} (tree : Tree) (travel : Travel) (cell : Cell) (at : Runner L) → next_way travel ≡ Up → IsCellAt tree tree.position cell →
+pub stands_next_up : {L : Type 0} (tree : HistoryTree) (travel : Travel) (cell : EndedCell) (at : Runner L) → next_way travel ≡ Up → IsCellAt tree tree.position cell →
     Stands at cell.program (inverse_entry cell.program (shown_here tree)) false → StandsIn tree (Move travel) 0 false at
 stands_next_up tree travel cell at way is stands =
     let same = cell_there tree _ cell is in
@@ -616,7 +618,7 @@ not_ok : (A E : Type 0) (x : E) → IsOk {T = A} {E = E} (Err x) → ⊥
 not_ok A E x h = cc
 
 -- only a cell with declarations may find no memory
-pub declares_next : (A E : Type 0) (tree : Tree) (travel : Travel) (cell : Cell) (r : Result A E) → next_way travel ≡ Down → IsCellAt tree (below (past_of tree) travel) cell →
+pub declares_next : (A E : Type 0) (tree : HistoryTree) (travel : Travel) (cell : EndedCell) (r : Result A E) → next_way travel ≡ Down → IsCellAt tree (below (past_of tree) travel) cell →
     ((cell_of_program cell.program).declarations ≡ [] → IsOk r) → OnErr r (Declares (past_of tree) travel)
 declares_next A E tree travel cell (Ok x) way is none = tt
 declares_next A E tree travel cell (Err x) way is none =
@@ -629,7 +631,7 @@ ok_map (Err x) f h = tt
 
 -- ---- between two jobs
 
-pub idle_store : {L : Type 0} (tree : Tree) (runner : Runner L) (job : Open) → StandsAt tree job runner → job_of job ≡ state.Idle →
+pub idle_store : {L : Type 0} (tree : HistoryTree) (runner : Runner L) (job : Open) → StandsAt tree job runner → job_of job ≡ state.Idle →
     (runner.store.sight ≡ (here (past_of tree)).store) × IsWhole runner.store
 idle_store tree runner Idle stands e = (sym (all_shown runner.store stands.1) ∙ stands.0.store, stands.1)
 idle_store tree runner (Border travel) stands e = absurd (cc e)
@@ -637,7 +639,7 @@ idle_store tree runner (Inside i) stands e = absurd (cc e)
 
 -- ---- what a runner leaves, from where it stands
 
-module _ {L : Type 0} (tree : Tree) (runner : Runner L) (cell : Cell) (n : ℕ) (at : IsCellAt tree tree.position cell) (legal : IsLegal (past_of tree)) where
+module _ {L : Type 0} (tree : HistoryTree) (runner : Runner L) (cell : EndedCell) (n : ℕ) (at : IsCellAt tree tree.position cell) (legal : IsLegal (past_of tree)) where
   -- the cell of the position is undone: what it declared and defined is left to be taken back
   pub can_leave_up : (travel : Travel) (back : Bool) → next_way travel ≡ Up → StandsIn tree (Move travel) n back runner → IsWhole runner.store → IsReady runner.store.names runner.procedures cell.program →
       world_of (start_of (code_of (past_of tree) (state.Move travel)) (here (past_of tree))).procedures runner ≡ entered (cell_of_program cell.program) (world_at (past_of tree) (node_at (past_of tree) tree.position).parent) →
@@ -657,7 +659,7 @@ module _ {L : Type 0} (tree : Tree) (runner : Runner L) (cell : Cell) (n : ℕ) 
       }
 
 -- a redone cell has ended: its bodies are defined over those of the position, and are those of its node
-pub shows_down : {L : Type 0} (tree : Tree) (runner : Runner L) (travel : Travel) (n : ℕ) → Kept tree runner (Inside (record { work = Move travel; count = n; turn = GoesOn })) → next_way travel ≡ Down →
+pub shows_down : {L : Type 0} (tree : HistoryTree) (runner : Runner L) (travel : Travel) (n : ℕ) → Kept tree runner (Inside (record { work = Move travel; count = n; heading = GoesOn })) → next_way travel ≡ Down →
     HasEnded (past_of tree) (state.Move travel) n (world_of (start_of (code_of (past_of tree) (state.Move travel)) (here (past_of tree))).procedures runner) →
     Shows runner (over (bodies_at tree (below (past_of tree) travel)) (world_at (past_of tree) (below (past_of tree) travel)))
 shows_down tree runner travel n k way ended =
@@ -672,18 +674,18 @@ shows_down tree runner travel n k way ended =
     (subst (λ (w : World). Shows runner (over (bodies_in tree (Move travel) p) w)) world (stands_shows runner p (place_in tree (Move travel) p n) false k.stands.stands))
 
 -- a cell is posted: its bodies are kept behind those of all nodes
-pub posted_behind : {L : Type 0} (tree : Tree) (runner : Runner L) (program : Program) → NodesAreReady tree runner → program.first ≡ length (kept_in runner.procedures) → IsBehindNodes tree (RunCell program)
+pub posted_behind : {L : Type 0} (tree : HistoryTree) (runner : Runner L) (program : Program) → NodesAreReady tree runner → program.first ≡ length (kept_in runner.procedures) → IsBehindNodes tree (RunCell program)
 posted_behind tree runner program ready first = λ n cell is. let within = (ready n cell is).within in omega (arith, within, first)
 
-pub nodes_more : {L : Type 0} (tree : Tree) (runner at : Runner L) → GoOn runner.store.names at.store.names → take (length (kept_in runner.procedures)) (kept_in at.procedures) ≡ kept_in runner.procedures → NodesAreReady tree runner → NodesAreReady tree at
+pub nodes_more : {L : Type 0} (tree : HistoryTree) (runner at : Runner L) → GoOn runner.store.names at.store.names → take (length (kept_in runner.procedures)) (kept_in at.procedures) ≡ kept_in runner.procedures → NodesAreReady tree runner → NodesAreReady tree at
 nodes_more tree runner at more older h = λ n cell is.
     ready_more at.store.names runner.procedures at.procedures cell.program older (ready_grows runner.store.names at.store.names more runner.procedures cell.program (h n cell is))
 
-pub behind_stack : (tree : Tree) (program : Program) → IsLegal (past_of tree) → AreInOrder tree → IsBehindNodes tree (RunCell program) → AreBelow program.first (bodies_at tree tree.position)
+pub behind_stack : (tree : HistoryTree) (program : Program) → IsLegal (past_of tree) → AreInOrder tree → IsBehindNodes tree (RunCell program) → AreBelow program.first (bodies_at tree tree.position)
 behind_stack tree program legal order behind = bodies_below tree legal order program.first tree.position (λ m cell low there. behind m cell there)
 
 -- back at the count 0 what a cell declared and defined is left to be taken back
-module _ {L : Type 0} (tree : Tree) (runner : Runner L) (work : Work) (why : Why) (k : Kept tree runner (Inside (record { work = work; count = 0; turn = GoesBack why }))) where
+module _ {L : Type 0} (tree : HistoryTree) (runner : Runner L) (work : Work) (why : Why) (k : Kept tree runner (Inside (record { work = work; count = 0; heading = GoesBack why }))) where
   abbrev start : World
   start = start_of (code_of (past_of tree) (work_of work)) (here (past_of tree))
 
@@ -704,7 +706,7 @@ module _ {L : Type 0} (tree : Tree) (runner : Runner L) (work : Work) (why : Why
       let is : bodies_in tree work program ≡ with_bodies program (bodies_at tree tree.position) = rw e refl in
       record { is = (shows_back program _ _ of is (began_cell tree work program (world_of start.procedures runner) e part_back), whole); ready = (stands_back program of).ready }
 
-  pub can_leave_down : (travel : Travel) (cell : Cell) → work ≡ Move travel → next_way travel ≡ Down → IsCellAt tree (below (past_of tree) travel) cell → IsWhole runner.store → CanLeave runner cell.program (shown_here tree)
+  pub can_leave_down : (travel : Travel) (cell : EndedCell) → work ≡ Move travel → next_way travel ≡ Down → IsCellAt tree (below (past_of tree) travel) cell → IsWhole runner.store → CanLeave runner cell.program (shown_here tree)
   can_leave_down travel cell e way at whole =
       let of : IsProgramOf tree work cell.program = program_down tree work travel cell e way at in
       let is : bodies_in tree work cell.program ≡ with_bodies cell.program (bodies_at tree tree.position) = rw (e, bodies_in) (rw way refl) in
@@ -738,7 +740,7 @@ shows_forgotten old new from shown same shows low kept defined = record {
 -- ---- a posted cell that could not be entered
 
 -- its text was read, and what it declares and defines is not in effect
-pub record IsUnentered {L : Type 0} (tree : Tree) (old : Runner L) (made : Tree) (at : Runner L) (job : Open) : Type 0 where
+pub record IsUnentered {L : Type 0} (tree : HistoryTree) (old : Runner L) (made : HistoryTree) (at : Runner L) (job : Open) : Type 0 where
   pub past : past_of made ≡ past_of tree
   pub nodes : made.cells.nodes ≡ tree.cells.nodes
   pub position : made.position ≡ tree.position
@@ -749,7 +751,7 @@ pub record IsUnentered {L : Type 0} (tree : Tree) (old : Runner L) (made : Tree)
   pub idle : job ≡ Idle
 
 -- its bodies are dropped
-pub kept_dropped : {L : Type 0} (tree made : Tree) (old at new : Runner L) (job : Open) (first : ℕ) → Kept tree old Idle → IsUnentered tree old made at job → first ≡ length (kept_in old.procedures) → AreBelow first (bodies_at tree tree.position) →
+pub kept_dropped : {L : Type 0} (tree made : HistoryTree) (old at new : Runner L) (job : Open) (first : ℕ) → Kept tree old Idle → IsUnentered tree old made at job → first ≡ length (kept_in old.procedures) → AreBelow first (bodies_at tree tree.position) →
     new.store ≡ at.store → kept_in new.procedures ≡ take first (kept_in at.procedures) → ((stack : List ℕ) → AreDefined at.procedures stack → AreBelow first stack → AreDefined new.procedures stack) → IsKept made new job
 kept_dropped tree made old at new job first k un is low store kept defined =
     let same : kept_in new.procedures ≡ kept_in old.procedures = kept ∙ ap (λ (n : ℕ). take n (kept_in at.procedures)) is ∙ un.older in

@@ -4,8 +4,8 @@ use Rattle.kernel_runner.specs.Program.{cell_of_program}
 use Rattle.kernel_machine.specs.State as state
 use Rattle.kernel_machine.specs.State.{Past, State, worlds_from}
 use Rattle.cell_tree.specs.declared.node.Node.{Node}
-use Rattle.kernel_history.specs.declared.tree.Cell.{Cell}
-use Rattle.kernel_history.specs.declared.tree.Tree.{Tree}
+use Rattle.kernel_history.specs.declared.tree.EndedCell.{EndedCell}
+use Rattle.kernel_history.specs.declared.tree.HistoryTree.{HistoryTree}
 use Rattle.kernel_history.specs.declared.job.Stage.{Stage}
 use Rattle.kernel_history.specs.declared.job.Stage.TheVariants as stage
 use Rattle.kernel_history.specs.declared.job.Work.{Work}
@@ -13,11 +13,11 @@ use Rattle.kernel_history.specs.declared.job.Work.TheVariants.{Cell as RunCell, 
 use Rattle.kernel_history.specs.declared.job.Open.{Open}
 use Rattle.kernel_history.specs.declared.job.Open.TheVariants.{Idle, Border, Inside}
 
-abbrev pub node_of : Node Cell → state.Node
+abbrev pub node_of : Node EndedCell → state.Node
 node_of node = record { parent = node.parent; cell = cell_of_program node.content.program; steps = node.content.steps }
 
 -- the root, and behind it the nodes
-abbrev pub nodes_of : Tree → List state.Node
+abbrev pub nodes_of : HistoryTree → List state.Node
 nodes_of tree = state.root ∷ map node_of tree.cells.nodes
 
 abbrev pub work_of : Work → state.Work
@@ -27,10 +27,10 @@ work_of (Move t) = state.Move t
 abbrev pub job_of : Open → state.Job
 job_of Idle = state.Idle
 job_of (Border t) = state.Border t
-job_of (Inside e) = state.Inside (record { work = work_of e.work; count = e.count; turn = e.turn })
+job_of (Inside e) = state.Inside (record { work = work_of e.work; count = e.count; heading = e.heading })
 
 -- the worlds are not kept: they are computed from the nodes
-abbrev pub past_of : Tree → Past
+abbrev pub past_of : HistoryTree → Past
 past_of tree = record {
   nodes = nodes_of tree;
   worlds = worlds_from [] (nodes_of tree);
@@ -38,7 +38,7 @@ past_of tree = record {
   position = tree.position;
 }
 
-abbrev pub state_of : Tree → Open → State
+abbrev pub state_of : HistoryTree → Open → State
 state_of tree job = record { past = past_of tree; job = job_of job }
 
 -- where the open job stands

@@ -2,4 +2,6 @@
 
 pub mod Fields
 pub mod NodeTrees
+pub mod Bodies
+pub mod Standing
 pub mod Kept

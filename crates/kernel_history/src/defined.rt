@@ -5,13 +5,14 @@ ghost use Rattle.janus_syntax.specs.Tree.{procedures_view};
 ghost use Rattle.janus_syntax.specs.View.{plain_procedure};
 ghost use Rattle.kernel_runner.specs.Defined.{in_a_row};
 ghost use Rattle.kernel_history.specs.Fields.{past_of, job_of, work_of};
-ghost use Rattle.kernel_history.specs.Kept.{HasPathAt, HasPathFor, over_here, procedures_in};
+ghost use Rattle.kernel_history.specs.Bodies.{over_here, procedures_in};
+ghost use Rattle.kernel_history.specs.Kept.{HasPathAt, HasPathFor};
 ghost use Rattle.kernel_runner.specs.Runner.{over, Is, Between};
 ghost use Rattle.kernel_machine.specs.Legal.{IsLegal, IsPossibleAt, IsPossibleWork};
 ghost use Rattle.kernel_machine.specs.State.{here, procedures_at};
 
 use crate::job::{Open, Work};
-use crate::tree::{Tree, below};
+use crate::tree::{HistoryTree, below};
 use janus_syntax::tree::Procedure;
 use kernel_machine::Way;
 use kernel_runner::Runner;
@@ -19,7 +20,7 @@ use std::alloc::{AllocError, Global};
 use std::sync::ledger::Ledger;
 
 /// The procedures of the cell that is open, which its steps began with; none between two cells, and none of a cell that is undone.
-pub fn own_procedures<'a>(tree: &'a Tree, job: &'a Open) -> &'a [Procedure]
+pub fn own_procedures<'a>(tree: &'a HistoryTree, job: &'a Open) -> &'a [Procedure]
     requires legal { IsLegal (past_of tree.now) }
     requires possible { IsPossibleAt (past_of tree.now) (job_of job.now) }
     requires path { HasPathAt tree.now job.now }
@@ -32,7 +33,7 @@ pub fn own_procedures<'a>(tree: &'a Tree, job: &'a Open) -> &'a [Procedure]
 }
 
 /// The procedures that the work's cell defines as it begins.
-fn procedures_of<'a>(tree: &'a Tree, work: &'a Work) -> &'a [Procedure]
+fn procedures_of<'a>(tree: &'a HistoryTree, work: &'a Work) -> &'a [Procedure]
     requires legal { IsLegal (past_of tree.now) }
     requires possible { IsPossibleWork (past_of tree.now) (work_of work.now) }
     requires path { HasPathFor tree.now work.now }
@@ -55,7 +56,7 @@ fn procedures_of<'a>(tree: &'a Tree, work: &'a Work) -> &'a [Procedure]
 /// stands behind it. The only error is want of memory.
 pub fn all_procedures<'a>(
     alloc: Global,
-    tree: &'a Tree,
+    tree: &'a HistoryTree,
     own: &'a [Procedure],
 ) -> Result<Vec<&'a Procedure>, AllocError>
     requires { IsLegal (past_of tree.now) }
@@ -75,7 +76,7 @@ pub fn all_procedures<'a>(
 /// walked over. The only error is want of memory.
 pub fn procedures_here<'a, L: Ledger>(
     alloc: Global,
-    tree: &'a Tree,
+    tree: &'a HistoryTree,
     runner: &Runner<L>,
 ) -> Result<Vec<&'a Procedure>, AllocError>
     requires legal { IsLegal (past_of tree.now) }

@@ -3,11 +3,11 @@ ghost use Rattle.kernel_history.specs.Fields.{past_of};
 ghost use Rattle.kernel_machine.specs.Legal.{IsLegal};
 ghost use Rattle.kernel_machine.specs.Extent.{IsExtent};
 
-use crate::tree::{Tree, nodes_above, nodes_below};
+use crate::tree::{HistoryTree, nodes_above, nodes_below};
 use kernel_machine::Extent;
 
 /// How far an undo and a redo can go, and how many nodes there are.
-pub fn extent_of(tree: &Tree) -> Extent
+pub fn extent_of(tree: &HistoryTree) -> Extent
     requires { IsLegal (past_of tree.now) }
     ensures { IsExtent (past_of tree.now) result }
 {

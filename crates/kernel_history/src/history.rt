@@ -16,18 +16,22 @@ ghost use Rattle.kernel_runner.specs.Runner.{over, Becomes, Is, Between, KeepsSh
 ghost use Rattle.kernel_machine.specs.Extent.{IsExtent};
 ghost use Rattle.janus_syntax.specs.Tree.{cell_view};
 ghost use Rattle.kernel_history.specs.NodeTrees.{IsTreeAt, HasNoTree};
-ghost use Rattle.kernel_history.specs.Kept.{HasPath, NodesAreReady, AreInOrder, shown_here, Kept, IsKept, StandsAt};
+ghost use Rattle.kernel_history.specs.Bodies.{NodesAreReady, AreInOrder};
+ghost use Rattle.kernel_history.specs.Standing.{shown_here, StandsAt};
+ghost use Rattle.kernel_history.specs.Kept.{HasPath, Kept, IsKept};
 
 use crate::defined::procedures_here;
 use crate::extent::extent_of;
 use crate::job::{Entered, Open, Stage, Work};
 use crate::settle::{finished, go_back, go_on, turn_back};
-use crate::tree::{Tree, below, can_go_down, can_go_up, find_way, is_full};
+use crate::tree::{HistoryTree, below, can_go_down, can_go_up, find_way, is_full};
 use crate::view::View;
 use cell_tree::Tree as Cells;
 use janus_machine::{Store, Writes};
 use janus_syntax::tree::Cell;
-use kernel_machine::{Aim, Begun, End, Extent, Outcome, Refusal, Sliced, Travel, Turn, Way, Why};
+use kernel_machine::{
+    Aim, Begun, Extent, Heading, Outcome, Refusal, Sliced, Travel, TravelEnd, Way, Why,
+};
 use kernel_runner::{Program, Runner};
 use std::alloc::{AllocError, Global};
 use std::marker::Model;
@@ -38,7 +42,7 @@ use std::sync::ledger::Ledger;
 /// Contracts see a state of the machine, with the worlds of all nodes. None of them is kept here.
 #[derive(Drop)]
 pub struct History<L: Ledger> {
-    tree: Tree,
+    tree: HistoryTree,
     runner: Runner<L>,
     job: Open,
 }
@@ -61,7 +65,7 @@ impl<L: Ledger> Model for History<L> {
 
 /// Enters the next cell of a travel: an undone one takes no memory.
 fn enter_next<L: Ledger>(
-    tree: &Tree,
+    tree: &HistoryTree,
     runner: &mut Runner<L>,
     travel: Travel,
 ) -> Result<(), AllocError>
@@ -71,7 +75,7 @@ fn enter_next<L: Ledger>(
     requires is { Is runner.old (Between (shown_here tree.now)) }
     requires ready { NodesAreReady tree.now runner.old }
     requires order { AreInOrder tree.now }
-    ensures ok { OnOk result (StandsAt tree.now (Open.Inside (record { work = Work.Move travel; count = 0; turn = Turn.GoesOn })) runner.new) }
+    ensures ok { OnOk result (StandsAt tree.now (Open.Inside (record { work = Work.Move travel; count = 0; heading = Heading.GoesOn })) runner.new) }
     ensures err { OnErr result (Becomes runner.old.store runner.new.store runner.old.store.sight) }
     ensures same { OnErr result (runner.new.procedures ≡ runner.old.procedures) }
     ensures bodies { kept_in runner.new.procedures ≡ kept_in runner.old.procedures }
@@ -88,24 +92,27 @@ fn enter_next<L: Ledger>(
 }
 
 /// Enters the next cell of a travel, or ends it for want of memory.
-fn enter<L: Ledger>(tree: &Tree, runner: &mut Runner<L>, travel: Travel) -> (Open, Begun)
+fn enter<L: Ledger>(tree: &HistoryTree, runner: &mut Runner<L>, travel: Travel) -> (Open, Begun)
     requires { Kept tree.now runner.old (Open.Border travel) }
     ensures step { Enters (past_of tree.now) travel result.1 (state_of tree.now result.0) }
     ensures kept { IsKept tree.now runner.new result.0 }
 {
     if enter_next(tree, runner, travel).is_err() {
-        return (Open::Idle, Begun::Ended(finished(travel, End::NoMemory)));
+        return (
+            Open::Idle,
+            Begun::Ended(finished(travel, TravelEnd::NoMemory)),
+        );
     }
     let entered = Entered {
         work: Work::Move(travel),
         count: 0,
-        turn: Turn::GoesOn,
+        heading: Heading::GoesOn,
     };
     (Open::Inside(entered), Begun::Going)
 }
 
 /// Ends a travel without cells at once, or enters its first cell.
-fn depart<L: Ledger>(tree: &Tree, runner: &mut Runner<L>, travel: Travel) -> (Open, Begun)
+fn depart<L: Ledger>(tree: &HistoryTree, runner: &mut Runner<L>, travel: Travel) -> (Open, Begun)
     requires idle { Kept tree.now runner.old Open.Idle }
     requires way { CanGo travel.aim (nodes_of tree.now) tree.now.cells.favourites tree.now.position travel.up travel.down }
     requires counted { IsCounted travel }
@@ -114,7 +121,7 @@ fn depart<L: Ledger>(tree: &Tree, runner: &mut Runner<L>, travel: Travel) -> (Op
     ensures kept { IsKept tree.now runner.new result.0 }
 {
     if travel.is_over() {
-        return (Open::Idle, Begun::Ended(finished(travel, End::All)));
+        return (Open::Idle, Begun::Ended(finished(travel, TravelEnd::All)));
     }
     enter(tree, runner, travel)
 }
@@ -123,7 +130,7 @@ fn depart<L: Ledger>(tree: &Tree, runner: &mut Runner<L>, travel: Travel) -> (Op
 fn prepare<L: Ledger>(
     alloc: Global,
     text: &str,
-    tree: &Tree,
+    tree: &HistoryTree,
     runner: &mut Runner<L>,
 ) -> Result<Program, Refusal>
     requires legal { IsLegal (past_of tree.now) }
@@ -151,7 +158,7 @@ impl<L: Ledger> History<L> {
         let cells = Cells::new(alloc)?;
         let runner = Runner::new(alloc)?;
         Ok(History {
-            tree: Tree { cells, position: 0 },
+            tree: HistoryTree { cells, position: 0 },
             runner,
             job: Open::Idle,
         })
@@ -218,7 +225,7 @@ impl<L: Ledger> History<L> {
         self.job = Open::Inside(Entered {
             work: Work::Cell(program),
             count: 0,
-            turn: Turn::GoesOn,
+            heading: Heading::GoesOn,
         });
         Begun::Going
     }
@@ -299,16 +306,20 @@ impl<L: Ledger> History<L> {
                 Sliced::Nothing
             }
             Open::Inside(entered) => {
-                let Entered { work, count, turn } = entered;
-                let (job, told) = match turn {
-                    Turn::GoesBack(why) => {
+                let Entered {
+                    work,
+                    count,
+                    heading,
+                } = entered;
+                let (job, told) = match heading {
+                    Heading::GoesBack(why) => {
                         go_back(&self.tree, &mut self.runner, writes, work, count, why, m)
                     }
-                    Turn::GoesOn if asked => {
+                    Heading::GoesOn if asked => {
                         let why = Why::WasAsked(count);
                         turn_back(&self.tree, &mut self.runner, writes, work, count, why, m)
                     }
-                    Turn::GoesOn => {
+                    Heading::GoesOn => {
                         go_on(&mut self.tree, &mut self.runner, writes, work, count, m)
                     }
                 };

@@ -1,5 +1,5 @@
 //! The open job: what it does, and how far it is.
-use kernel_machine::{Travel, Turn};
+use kernel_machine::{Heading, Travel};
 use kernel_runner::Program;
 
 /// What runs inside a cell: a posted cell, or the next cell of a travel.
@@ -14,7 +14,7 @@ pub enum Work {
 pub struct Entered {
     pub work: Work,
     pub count: u64,
-    pub turn: Turn,
+    pub heading: Heading,
 }
 
 /// The open job, if there is one.

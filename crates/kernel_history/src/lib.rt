@@ -7,9 +7,17 @@
 //! kept. `begin_cell`, `begin_undo`, `begin_redo`, `begin_goto` and `enter` are the machine's begins, `slice` is its slice, and takes no memory.
 //! `world` lends the world that is shown, `cell` the tree of a node's cell.
 //!
-//! `settle` has the parts of a slice, `tree` what is asked of the nodes that `cell_tree` keeps, and `kernel_runner` runs a cell. The definitions
-//! are in specs/: `Fields` (the types of the code read as the machine's), `NodeTrees` (the tree of a node's cell) and `Kept` (what a history keeps of
-//! its fields).
+//! The code, in reading order; `cell_tree` keeps the nodes, and `kernel_runner` runs a cell:
+//!
+//! - `tree`: the tree of cells with the position, and what is asked of it; `job`: the open job.
+//! - `history`: the tree, the runner and the open job in one, and how jobs begin. `settle`: the parts of a slice, and what comes at the end of a cell.
+//! - `defined`: the procedures of a world; `view`: the shown world, lent; `extent`: how far an undo and a redo can go.
+//!
+//! The definitions, in specs/, in reading order:
+//!
+//! - `Fields`: the types of the code read as the machine's. `NodeTrees`: the tree of a node's cell.
+//! - `Bodies`: which program a node has and a job runs, and which bodies are defined where. `Standing`: where the runner stands.
+//! - `Kept`: what a history keeps of its fields, with a map of it, and where a cell has come to its end.
 #![tactic(auto)]
 
 mod defined;

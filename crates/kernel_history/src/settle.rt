@@ -11,18 +11,20 @@ ghost use Rattle.kernel_machine.specs.StepsOfSlices.{steps_back, WritesOn};
 ghost use Rattle.janus_names.specs.Numbers.{GoOn};
 ghost use Rattle.janus_store.specs.StoreState.{IsWhole};
 ghost use Rattle.kernel_runner.specs.Runner.{Is, Between};
-ghost use Rattle.kernel_history.specs.Kept.{Kept, HasCome, IsProgramOf, HasPathFor, NodesAreReady, SettlesFrom, shown_here};
+ghost use Rattle.kernel_history.specs.Bodies.{IsProgramOf, NodesAreReady};
+ghost use Rattle.kernel_history.specs.Standing.{shown_here};
+ghost use Rattle.kernel_history.specs.Kept.{Kept, HasCome, HasPathFor, SettlesFrom};
 
 use crate::job::{Entered, Open, Work};
-use crate::tree::{Cell, Tree, below};
+use crate::tree::{EndedCell, HistoryTree, below};
 use cell_tree::Node;
 use janus_machine::Writes;
-use kernel_machine::{Aim, End, Outcome, Progress, Sliced, Travel, Turn, Way, Why};
+use kernel_machine::{Aim, Heading, Outcome, Progress, Sliced, Travel, TravelEnd, Way, Why};
 use kernel_runner::{Program, Runner};
 use std::sync::ledger::Ledger;
 
 /// The program that the work runs: forward, or for an undo backward.
-fn program_of<'a>(tree: &'a Tree, work: &'a Work) -> &'a Program
+fn program_of<'a>(tree: &'a HistoryTree, work: &'a Work) -> &'a Program
     requires legal { IsLegal (past_of tree.now) }
     requires possible { IsPossibleWork (past_of tree.now) (work_of work.now) }
     requires path { HasPathFor tree.now work.now }
@@ -37,7 +39,7 @@ fn program_of<'a>(tree: &'a Tree, work: &'a Work) -> &'a Program
     }
 }
 
-pub fn finished(travel: Travel, end: End) -> Outcome
+pub fn finished(travel: Travel, end: TravelEnd) -> Outcome
     ensures { result ≡ the_finished travel end }
 {
     match travel.aim {
@@ -55,14 +57,14 @@ fn turned(work: &Work, why: Why) -> Outcome
             Why::WasAsked(at) => Outcome::Interrupted(at),
             Why::Faulted(fault, at) => Outcome::Failed(fault, at),
         },
-        Work::Move(travel) => finished(*travel, End::Asked),
+        Work::Move(travel) => finished(*travel, TravelEnd::Asked),
     }
 }
 
 /// Back at the count 0: the names that were declared at the begin and the procedures that were defined are taken back, and those of a
 /// posted cell are forgotten.
-fn settle_back<L: Ledger>(tree: &Tree, runner: &mut Runner<L>, work: &Work)
-    requires kept { (why : Why) × Kept tree.now runner.old (Open.Inside (record { work = work.now; count = 0; turn = Turn.GoesBack why })) }
+fn settle_back<L: Ledger>(tree: &HistoryTree, runner: &mut Runner<L>, work: &Work)
+    requires kept { (why : Why) × Kept tree.now runner.old (Open.Inside (record { work = work.now; count = 0; heading = Heading.GoesBack why })) }
     requires whole { IsWhole runner.old.store }
     ensures is { Is runner.new (Between (shown_here tree.now)) }
     ensures ready { NodesAreReady tree.now runner.new }
@@ -82,7 +84,7 @@ fn settle_back<L: Ledger>(tree: &Tree, runner: &mut Runner<L>, work: &Work)
 
 /// Goes back `m` steps, and settles as not done at the count 0.
 pub fn go_back<L: Ledger>(
-    tree: &Tree,
+    tree: &HistoryTree,
     runner: &mut Runner<L>,
     writes: &mut Writes<L>,
     work: Work,
@@ -90,7 +92,7 @@ pub fn go_back<L: Ledger>(
     why: Why,
     m: u64,
 ) -> (Open, Sliced)
-    requires { Kept tree.now runner.old (Open.Inside (record { work = work; count = count; turn = Turn.GoesBack why })) }
+    requires { Kept tree.now runner.old (Open.Inside (record { work = work; count = count; heading = Heading.GoesBack why })) }
     ensures step { Backs (past_of tree.now) (work_of work) why (count - m) result.1 (state_of tree.now result.0) }
     ensures kept { Kept tree.now runner.new result.0 }
     ensures written { IsWritten (steps_back count m) writes.old writes.new }
@@ -102,12 +104,12 @@ pub fn go_back<L: Ledger>(
         let outcome = turned(&work, why);
         (Open::Idle, Sliced::Ended(outcome))
     } else {
-        let turn = Turn::GoesBack(why);
+        let heading = Heading::GoesBack(why);
         (
             Open::Inside(Entered {
                 work,
                 count: left,
-                turn,
+                heading,
             }),
             Sliced::Backing,
         )
@@ -116,7 +118,7 @@ pub fn go_back<L: Ledger>(
 
 /// Turns to going back, and goes back `m` steps.
 pub fn turn_back<L: Ledger>(
-    tree: &Tree,
+    tree: &HistoryTree,
     runner: &mut Runner<L>,
     writes: &mut Writes<L>,
     work: Work,
@@ -124,7 +126,7 @@ pub fn turn_back<L: Ledger>(
     why: Why,
     m: u64,
 ) -> (Open, Sliced)
-    requires { Kept tree.now runner.old (Open.Inside (record { work = work; count = count; turn = Turn.GoesOn })) }
+    requires { Kept tree.now runner.old (Open.Inside (record { work = work; count = count; heading = Heading.GoesOn })) }
     ensures step { Backs (past_of tree.now) (work_of work) why (count - m) result.1 (state_of tree.now result.0) }
     ensures kept { Kept tree.now runner.new result.0 }
     ensures written { IsWritten (steps_back count m) writes.old writes.new }
@@ -133,12 +135,12 @@ pub fn turn_back<L: Ledger>(
     go_back(tree, runner, writes, work, count, why, m)
 }
 
-/// A cell of the travel is done, which has so many left.
+/// A cell of the travel is done, and these are left.
 fn arrive(travel: Travel) -> (Open, Sliced)
     ensures { (past : Past) → Arrives (cells travel) past travel result.1 (record { past = past; job = job_of result.0 }) }
 {
     if travel.is_over() {
-        (Open::Idle, Sliced::Ended(finished(travel, End::All)))
+        (Open::Idle, Sliced::Ended(finished(travel, TravelEnd::All)))
     } else {
         (Open::Border(travel), Sliced::Border)
     }
@@ -146,7 +148,7 @@ fn arrive(travel: Travel) -> (Open, Sliced)
 
 /// A posted cell came to its end, in `n` steps: it becomes a node. The room for it was made before.
 fn settle_cell<L: Ledger>(
-    tree: &mut Tree,
+    tree: &mut HistoryTree,
     runner: &Runner<L>,
     program: Program,
     n: u64,
@@ -156,7 +158,7 @@ fn settle_cell<L: Ledger>(
     ensures kept { Kept tree.new runner.now result.0 }
 {
     let parent = tree.position;
-    let content = Cell { program, steps: n };
+    let content = EndedCell { program, steps: n };
     let number = tree.cells.add(Node { parent, content });
     tree.cells.set_favourite(parent, number);
     tree.position = number;
@@ -165,7 +167,7 @@ fn settle_cell<L: Ledger>(
 
 /// A cell on the way up came to the end of its inverse: its names are zero, and are taken back.
 fn settle_up<L: Ledger>(
-    tree: &mut Tree,
+    tree: &mut HistoryTree,
     runner: &mut Runner<L>,
     travel: Travel,
     n: u64,
@@ -182,7 +184,7 @@ fn settle_up<L: Ledger>(
 
 /// A cell on the way down came to its end: it is the favourite of the one above it.
 fn settle_down<L: Ledger>(
-    tree: &mut Tree,
+    tree: &mut HistoryTree,
     runner: &Runner<L>,
     travel: Travel,
     n: u64,
@@ -199,7 +201,12 @@ fn settle_down<L: Ledger>(
 }
 
 /// A cell came to its end, in `n` steps.
-fn settle<L: Ledger>(tree: &mut Tree, runner: &mut Runner<L>, work: Work, n: u64) -> (Open, Sliced)
+fn settle<L: Ledger>(
+    tree: &mut HistoryTree,
+    runner: &mut Runner<L>,
+    work: Work,
+    n: u64,
+) -> (Open, Sliced)
     requires { HasCome tree.old runner.old work n }
     ensures step { SettlesFrom tree.old runner.old work n result.1 (state_of tree.new result.0) }
     ensures kept { Kept tree.new runner.new result.0 }
@@ -215,14 +222,14 @@ fn settle<L: Ledger>(tree: &mut Tree, runner: &mut Runner<L>, work: Work, n: u64
 
 /// Goes on for `m` steps, or to the end of the cell, or to its stop.
 pub fn go_on<L: Ledger>(
-    tree: &mut Tree,
+    tree: &mut HistoryTree,
     runner: &mut Runner<L>,
     writes: &mut Writes<L>,
     work: Work,
     count: u64,
     m: u64,
 ) -> (Open, Sliced)
-    requires { Kept tree.old runner.old (Open.Inside (record { work = work; count = count; turn = Turn.GoesOn })) }
+    requires { Kept tree.old runner.old (Open.Inside (record { work = work; count = count; heading = Heading.GoesOn })) }
     ensures step { Goes (past_of tree.old) (work_of work) count m result.1 (state_of tree.new result.0) }
     ensures kept { Kept tree.new runner.new result.0 }
     ensures written { WritesOn (past_of tree.old) (work_of work) count m writes.old writes.new }
@@ -232,7 +239,7 @@ pub fn go_on<L: Ledger>(
             Open::Inside(Entered {
                 work,
                 count: runner.count(),
-                turn: Turn::GoesOn,
+                heading: Heading::GoesOn,
             }),
             Sliced::Going,
         ),

@@ -8,34 +8,34 @@ ghost use Rattle.kernel_history.specs.Fields.{past_of, nodes_of};
 ghost use Rattle.kernel_machine.specs.Legal.{IsLegal, IsPossible, IsMeeting, can_undo, can_redo};
 ghost use Rattle.kernel_history.specs.Kept.{HasPath};
 
-use cell_tree::{NODE_LIMIT, Tree as Cells, TreeFault, Way};
+use cell_tree::{Route, Tree as Cells, TreeFault};
 use kernel_machine::{Aim, Travel};
 use kernel_runner::Program;
 
 /// A cell that ended well, with the steps that it took: what a node of the tree holds.
 #[derive(Drop)]
-pub struct Cell {
+pub struct EndedCell {
     pub program: Program,
     pub steps: u64,
 }
 
 /// The tree of cells, and the position in it. The root has no cell.
 #[derive(Drop)]
-pub struct Tree {
-    pub cells: Cells<Cell>,
+pub struct HistoryTree {
+    pub cells: Cells<EndedCell>,
     /// The number of the node at which the kernel stands.
     pub position: usize,
 }
 
 /// Whether no further node may be added.
-pub fn is_full(tree: &Tree) -> bool
+pub fn is_full(tree: &HistoryTree) -> bool
     ensures { result ≡ is_full (past_of tree.now) }
 {
-    tree.cells.nodes() >= NODE_LIMIT
+    tree.cells.is_full()
 }
 
-/// How many nodes the position can go up, of so many at most.
-pub fn nodes_above(tree: &Tree, most: usize) -> usize
+/// How many nodes the position can go up, counted up to `most`.
+pub fn nodes_above(tree: &HistoryTree, most: usize) -> usize
     requires { IsLegal (past_of tree.now) }
     ensures most { result ≤ most }
     ensures within { (k : ℕ) → k ≤ most → IsTrue (can_undo (nodes_of tree.now) tree.now.position k) ↔ (k ≤ result) }
@@ -45,8 +45,8 @@ pub fn nodes_above(tree: &Tree, most: usize) -> usize
     tree.cells.above(tree.position, most)
 }
 
-/// How many nodes the position can go down, along favourites, of so many at most.
-pub fn nodes_below(tree: &Tree, most: usize) -> usize
+/// How many nodes the position can go down, along favourites, counted up to `most`.
+pub fn nodes_below(tree: &HistoryTree, most: usize) -> usize
     requires { IsLegal (past_of tree.now) }
     ensures most { result ≤ most }
     ensures within { (k : ℕ) → k ≤ most → IsTrue (can_redo tree.now.cells.favourites tree.now.position k) ↔ (k ≤ result) }
@@ -57,7 +57,7 @@ pub fn nodes_below(tree: &Tree, most: usize) -> usize
 }
 
 /// Whether the position can go up `k` nodes.
-pub fn can_go_up(tree: &Tree, k: u32) -> bool
+pub fn can_go_up(tree: &HistoryTree, k: u32) -> bool
     requires { IsLegal (past_of tree.now) }
     ensures { result ≡ can_undo (nodes_of tree.now) tree.now.position k }
 {
@@ -66,7 +66,7 @@ pub fn can_go_up(tree: &Tree, k: u32) -> bool
 }
 
 /// Whether the position can go down `k` nodes, along favourites.
-pub fn can_go_down(tree: &Tree, k: u32) -> bool
+pub fn can_go_down(tree: &HistoryTree, k: u32) -> bool
     requires { IsLegal (past_of tree.now) }
     ensures { result ≡ can_redo tree.now.cells.favourites tree.now.position k }
 {
@@ -75,7 +75,7 @@ pub fn can_go_down(tree: &Tree, k: u32) -> bool
 }
 
 /// The node to which the travel goes down next.
-pub fn below(tree: &Tree, travel: Travel) -> usize
+pub fn below(tree: &HistoryTree, travel: Travel) -> usize
     requires legal { IsLegal (past_of tree.now) }
     requires possible { IsPossible (nodes_of tree.now) tree.now.cells.favourites tree.now.position travel }
     requires way { next_way travel ≡ Down }
@@ -90,7 +90,7 @@ pub fn below(tree: &Tree, travel: Travel) -> usize
 
 /// The way from the position to a node: up to where the paths meet, and down along the way that the tree keeps. An error where there is no
 /// such node.
-pub fn find_way(tree: &mut Tree, target: usize) -> Result<Way, TreeFault>
+pub fn find_way(tree: &mut HistoryTree, target: usize) -> Result<Route, TreeFault>
     requires { IsLegal (past_of tree.old) }
     ensures same { past_of tree.new ≡ past_of tree.old }
     ensures nodes { tree.new.cells.nodes ≡ tree.old.cells.nodes }

@@ -13,9 +13,9 @@ ghost use Rattle.kernel_runner.specs.Runner.{world_of};
 
 use crate::defined::{all_procedures, own_procedures};
 use crate::job::Open;
-use crate::tree::Tree;
+use crate::tree::HistoryTree;
 use janus_machine::Store;
-use janus_store::View as Value;
+use janus_store::ValueView;
 use janus_syntax::tree::Procedure;
 use kernel_runner::Runner;
 use std::alloc::{AllocError, Global};
@@ -26,7 +26,7 @@ use std::sync::ledger::Ledger;
 #[derive(Drop)]
 pub struct View<'a, L: Ledger> {
     store: &'a Store<L>,
-    tree: &'a Tree,
+    tree: &'a HistoryTree,
     /// The procedures of the open cell, over those of the position.
     own: &'a [Procedure],
 }
@@ -37,7 +37,7 @@ impl<'a, L: Ledger> Model for View<'a, L> {
     ghost use Rattle.janus_store.specs.StoreState.{shown_store};
     ghost use Rattle.kernel_history.specs.Fields.{past_of};
     ghost use Rattle.kernel_machine.specs.Legal.{IsLegal};
-    ghost use Rattle.kernel_history.specs.Kept.{over_here};
+    ghost use Rattle.kernel_history.specs.Bodies.{over_here};
 
     ghost Value = { World };
 
@@ -50,7 +50,7 @@ impl<'a, L: Ledger> Model for View<'a, L> {
 
 impl<'a, L: Ledger> View<'a, L> {
     /// The world that a runner shows, where the tree and the open job are these.
-    pub(crate) fn of(runner: &'a Runner<L>, tree: &'a Tree, job: &'a Open) -> View<'a, L>
+    pub(crate) fn of(runner: &'a Runner<L>, tree: &'a HistoryTree, job: &'a Open) -> View<'a, L>
         requires legal { IsLegal (past_of tree.now) }
         requires possible { IsPossibleAt (past_of tree.now) (job_of job.now) }
         requires path { HasPathAt tree.now job.now }
@@ -85,7 +85,7 @@ impl<'a, L: Ledger> View<'a, L> {
     }
 
     /// The i-th name in the order of declaration, the oldest being 0, with its value.
-    pub fn entry(&self, i: usize) -> (&str, Value<'_>)
+    pub fn entry(&self, i: usize) -> (&str, ValueView<'_>)
         requires { i < size_of self.now.store }
         ensures { slice_get (listed self.now.store) i ≡ Some (result.0.now, shown result.1) }
     {
@@ -93,7 +93,7 @@ impl<'a, L: Ledger> View<'a, L> {
     }
 
     /// The value of a name, if it is declared.
-    pub fn value(&self, name: &str) -> Option<Value<'_>>
+    pub fn value(&self, name: &str) -> Option<ValueView<'_>>
         ensures { found result ≡ look name.now self.now.store }
     {
         self.store.value(name)

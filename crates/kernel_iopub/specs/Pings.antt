@@ -16,13 +16,13 @@ ping_in (Cancel prefix) = []
 abbrev pub pings_in : List Event → List (List ℕ)
 pings_in events = flat_map ping_in events
 
--- of all pings so many were taken, the first ones, and these are all the others
+-- of all pings the first `taken` were taken, and these are all the others
 pub record AreLeft (taken : ℕ) (contexts all : List (List ℕ)) : Type 0 where
   pub front : List (List ℕ)
   pub count : length front ≡ taken
   pub whole : all ≡ front ++ contexts
 
--- a peer was fed some octets from the first of its connection on; of the pings that they told so many were taken, and these are all the others
+-- a peer was fed some octets from the first of its connection on; of the pings that they told `taken` were taken, and these are all the others
 abbrev pub HasAsked : PeerState → ℕ → List (List ℕ) → Type 0
 HasAsked peer taken contexts = ∥ ((octets : List ℕ) × (events : List Event) × Stands octets events peer × AreLeft taken contexts (pings_in events)) ∥₁
 
@@ -30,7 +30,7 @@ HasAsked peer taken contexts = ∥ ((octets : List ℕ) × (events : List Event)
 abbrev pub WereAsked : ℕ → List (List ℕ) → Type 0
 WereAsked taken contexts = (peer : PeerState) × HasAsked peer taken contexts
 
--- What a piece brings of pings: their contexts stand behind those that waited, in their order, none left out, and so many are told.
+-- What a piece brings of pings: their contexts stand behind those that waited, in their order, none left out, and their number is told.
 pub record BringsPings (old : PeerState) (piece : List ℕ) (new : PeerState) (before after : List (List ℕ)) (told : ℕ) : Type 0 where
   pub events : List Event
   pub brings : Brings old piece events new

@@ -62,7 +62,7 @@ outgoing_octets (Shown frames) = message_octets frames
 outgoing_octets (Pong context) = pong_octets context
 
 -- These broadcasts in turn. Before each of them go the answers to all pings that some peer had asked by behind and that were not taken before, in their
--- order: so many were taken before the first one, and so many behind the last.
+-- order: `taken` were taken before the first one, and `behind` behind the last.
 abbrev pub AreTold : ℕ → List Frames → List Outgoing → ℕ → Type 0
 AreTold taken [] out behind = (out ≡ []) × (behind ≡ taken)
 AreTold taken (b ∷ bs) out behind =
@@ -99,8 +99,8 @@ AreAnsweredInPart taken old new =
 
 -- ---- all that goes out
 
--- Turns one after another: rounds, each from the place where the one before ended, and behind them answers to pings. So many pings were taken before
--- the first turn, and so many behind the last: each turn goes on with the count where the one before ended. Answers go out before messages and behind
+-- Turns one after another: rounds, each from the place where the one before ended, and behind them answers to pings. `taken` pings were taken before
+-- the first turn, and `behind` behind the last: each turn goes on with the count where the one before ended. Answers go out before messages and behind
 -- them, and none within one.
 pub data AreTurns : ℕ → Option ℕ → ℕ → List Outgoing → Type 0 where
   none : (taken : ℕ) → AreTurns taken None taken []

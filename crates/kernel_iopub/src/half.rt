@@ -17,12 +17,12 @@ use std::io::{Read, Write};
 use std::sync::ledger::{Ledger, Share};
 use std::sync::{Mutex, Wait};
 
-/// How many octets are read at once, at most.
-const ROOM: usize = 512;
+/// The most octets that are read at once.
+const READ_OCTETS: usize = 512;
 
 /// The octets that a subscriber may send over its life beside pings, of which nothing is kept once they are answered: each prefix that it may subscribe
 /// to, once to subscribe and once to cancel, by messages or by commands.
-const HEARD: usize = 2_359_296;
+const HEARD_OCTET_LIMIT: usize = 2_359_296;
 
 /// Feeds the peer all that comes, up to the end of the input.
 fn hear_all<L: Ledger, R: Wait, I: Read>(
@@ -31,7 +31,7 @@ fn hear_all<L: Ledger, R: Wait, I: Read>(
     shared: &Mutex<Subscriber<L>>,
     reader: &mut I,
 ) -> Result<(), SubscriberFault> {
-    let mut room = [0u8; ROOM];
+    let mut room = [0u8; READ_OCTETS];
     let mut heard: usize = 0;
     for _ in 0..u64::MAX {
         let count = match reader.read(&mut room) {
@@ -40,7 +40,7 @@ fn hear_all<L: Ledger, R: Wait, I: Read>(
             Err(_) => return Err(SubscriberFault::Read),
         };
         heard = heard.saturating_add(count);
-        if heard > HEARD {
+        if heard > HEARD_OCTET_LIMIT {
             return Err(SubscriberFault::TooMuch);
         }
         let news = take(rt, bulletin, shared, &room[..count])?;

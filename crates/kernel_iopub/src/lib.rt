@@ -11,7 +11,7 @@
 //! Its promise is that of the writing half ([`speak`], by specs/Round.antt). It goes in rounds, each of them one read of the board, from the place
 //! where the round before ended. What goes out of a round are exactly the broadcasts of its read to which the peer had subscribed by all that it was
 //! fed until it was asked, in their order and each whole. Before each of them, and behind a round, go the answers of one look at the pings, each whole and
-//! in their order: all that a peer sent behind the first so many, and a share of a ledger, which the writing half keeps, counts how many were taken. So no
+//! in their order: all that a peer sent behind those that were taken, which a share of a ledger counts that the writing half keeps. So no
 //! more answers go out than it counts. Where a turn fails all those before it are out whole, and of it nothing or a beginning. Board and peer lie under
 //! locks, and no clause can name what lies there as a call takes it: so each round speaks of some log that the board's type allows, and each look at the
 //! pings of some peer that its type allows, maybe another one at each look. So a look that finds none is allowed too. Of a subscriber that is lent it is

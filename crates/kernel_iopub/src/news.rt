@@ -33,13 +33,13 @@ impl News {
         pings: 0,
     };
 
-    /// Counts a prefix of so many octets.
+    /// Counts a prefix of this length.
     fn subscribe(&mut self, octets: usize) {
         self.prefixes = self.prefixes.saturating_add(1);
         self.prefix_octets = self.prefix_octets.saturating_add(octets);
     }
 
-    /// Counts the octets of a ping with a context of so many.
+    /// Counts the octets of a ping whose context has this length.
     fn ping(&mut self, octets: usize) {
         self.ping_octets = self
             .ping_octets

@@ -18,14 +18,14 @@ use std::sync::{Mutex, Wait};
 use zmtp_peer::{Peer, PeerFault, Role};
 use zmtp_wire::WireFault;
 
-/// The prefixes that a connection may subscribe to over its life: each is kept, and whoever connects may have no key.
-const PREFIXES: u32 = 4096;
+/// The most prefixes that a connection may subscribe to over its life: each is kept, and whoever connects may have no key.
+const PREFIX_LIMIT: u32 = 4096;
 
-/// The octets that those prefixes may have together.
-const PREFIX_OCTETS: usize = 1_048_576;
+/// The most octets that those prefixes may have together.
+const PREFIX_OCTET_LIMIT: usize = 1_048_576;
 
-/// The number of unanswered pings at which a connection ends: the one that makes them so many ends it.
-const UNANSWERED: usize = 64;
+/// The number of unanswered pings at which a connection ends.
+const UNANSWERED_PING_LIMIT: usize = 64;
 
 /// The peer, and how far it is. Its type keeps that the peer is a publisher's, and stands as some octets from the first of a connection on have it.
 #[derive(Drop)]
@@ -97,16 +97,16 @@ impl<L: Ledger> Subscriber<L> {
     /// `TooMuch` where a limit of the prefixes or of the pings without an answer is passed, and else none.
     fn count(&mut self, news: News) -> Result<(), SubscriberFault>
         ensures same { (self.new.peer ≡ self.old.peer) × (self.new.pings ≡ self.old.pings) }
-        ensures unanswered { OnOk result ((self.new.unanswered ≡ self.old.unanswered + news.pings) × (self.new.unanswered < 64)) }
-        ensures too_much { OnErr result ((64 ≤ self.old.unanswered + news.pings)
-            ⊎ ((4096 < self.old.prefixes + news.prefixes) ⊎ (1048576 < self.old.prefix_octets + news.prefix_octets))) }
+        ensures unanswered { OnOk result ((self.new.unanswered ≡ self.old.unanswered + news.pings) × (self.new.unanswered < UNANSWERED_PING_LIMIT)) }
+        ensures too_much { OnErr result ((UNANSWERED_PING_LIMIT ≤ self.old.unanswered + news.pings)
+            ⊎ ((PREFIX_LIMIT < self.old.prefixes + news.prefixes) ⊎ (PREFIX_OCTET_LIMIT < self.old.prefix_octets + news.prefix_octets))) }
     {
         self.prefixes = self.prefixes.saturating_add(news.prefixes);
         self.prefix_octets = self.prefix_octets.saturating_add(news.prefix_octets);
         self.unanswered = self.unanswered.saturating_add(news.pings);
-        if self.prefixes > PREFIXES
-            || self.prefix_octets > PREFIX_OCTETS
-            || self.unanswered >= UNANSWERED
+        if self.prefixes > PREFIX_LIMIT
+            || self.prefix_octets > PREFIX_OCTET_LIMIT
+            || self.unanswered >= UNANSWERED_PING_LIMIT
         {
             return Err(SubscriberFault::TooMuch);
         }

@@ -16,9 +16,9 @@ use Rattle.kernel_machine.specs.Ends.{TravelEnds, MoveEnds, GotoEnds, CellEnds, 
 use Rattle.kernel_machine.proofs.Trees.{stepped_cells}
 use Rattle.kernel_machine.specs.Travel as aim
 use Rattle.kernel_machine.specs.Travel.{Travel}
-use Rattle.kernel_machine.specs.Turn.{Why, WasAsked, Faulted, Turn, GoesOn, GoesBack}
-use Rattle.kernel_machine.specs.declared.outcome.End.{End}
-use Rattle.kernel_machine.specs.declared.outcome.End.TheVariants.{All, Asked, NoMemory}
+use Rattle.kernel_machine.specs.Heading.{Why, WasAsked, Faulted, Heading, GoesOn, GoesBack}
+use Rattle.kernel_machine.specs.declared.outcome.TravelEnd.{TravelEnd}
+use Rattle.kernel_machine.specs.declared.outcome.TravelEnd.TheVariants.{All, Asked, NoMemory}
 use Rattle.kernel_machine.specs.declared.outcome.Refusal.TheVariants.{HistoryFull, TooFar, NoNode}
 use Rattle.kernel_machine.specs.declared.outcome.Outcome.{Outcome}
 use Rattle.kernel_machine.specs.declared.outcome.Outcome.TheVariants as outcome
@@ -72,7 +72,7 @@ pub begun_at : (keeps : State → Type 0) (ends : Outcome → State → Type 0) 
 begun_at keeps ends a told s new e f h = rw (e, f) h
 
 -- a job that ends at this border, not having done all
-ends_here : (p : Past) (whole : Travel) (s : Past) (t : Travel) (end : End) → IsStage p whole s t → (end ≡ All → ⊥) → (end ≡ NoMemory → Declares s t) →
+ends_here : (p : Past) (whole : Travel) (s : Past) (t : Travel) (end : TravelEnd) → IsStage p whole s t → (end ≡ All → ⊥) → (end ≡ NoMemory → Declares s t) →
     TravelEnds p whole (finished t end) (record { past = s; job = Idle })
 ends_here p whole s t end i not_all short =
     let count = i.count in
@@ -93,7 +93,7 @@ backs_move : (p : Past) (whole : Travel) (s : Past) (t : Travel) (why : Why) (c 
 backs_move p whole s t why zero told new i l r b =
     sliced_at _ _ (sliced.Ended (finished t Asked)) told (record { past = s; job = Idle }) new b.0 b.1 (ends_here p whole s t Asked i (λ e. cc) (λ e. absurd (cc)))
 backs_move p whole s t why (suc c) told new i l r b =
-    sliced_at _ _ sliced.Backing told (record { past = s; job = Inside (record { work = Move t; count = suc c; turn = GoesBack why }) }) new b.0 b.1 (i, (l, r))
+    sliced_at _ _ sliced.Backing told (record { past = s; job = Inside (record { work = Move t; count = suc c; heading = GoesBack why }) }) new b.0 b.1 (i, (l, r))
 
 -- one cell further
 further : (p : Past) (whole : Travel) (done : ℕ) (s : Past) (t : Travel) → s ≡ gone p whole done → t ≡ after whole done → moved s t ≡ gone p whole (suc done)
@@ -125,28 +125,28 @@ arrives_move p whole (suc left) s t told new i l a =
 comes_move : (p : Past) (whole : Travel) (s : Past) (t : Travel) (c : ℕ) (ran : Progress) (w : World) (told : Sliced) (new : State) → IsStage p whole s t →
     Reaches (code_of s (Move t)) (here s) c ran w → Comes s (Move t) c ran w told new → Sliced-move p whole told new
 comes_move p whole s t c Went w told new i r a =
-    sliced_at _ _ sliced.Going told (record { past = s; job = Inside (record { work = Move t; count = c; turn = GoesOn }) }) new a.0 a.1 (i, (w, r.0, r.1))
+    sliced_at _ _ sliced.Going told (record { past = s; job = Inside (record { work = Move t; count = c; heading = GoesOn }) }) new a.0 a.1 (i, (w, r.0, r.1))
 comes_move p whole s t c (Ended n) w told new i r a = arrives_move p whole (cells (stepped t)) s t told new i refl a
 comes_move p whole s t c (Stopped j f) w told new i r a = backs_move p whole s t (Faulted f j) j told new i (omega arith) (w, r.0, r.1) a
 
-slices_move : (p : Past) (whole : Travel) (s : Past) (t : Travel) (c : ℕ) (turn : Turn) (m : ℕ) (asked : Bool) (told : Sliced) (new : State) → IsStage p whole s t → IsAtCount (code_of s (Move t)) (here s) c turn →
-    SlicesIn s (Move t) c turn m asked told new → Sliced-move p whole told new
+slices_move : (p : Past) (whole : Travel) (s : Past) (t : Travel) (c : ℕ) (heading : Heading) (m : ℕ) (asked : Bool) (told : Sliced) (new : State) → IsStage p whole s t → IsAtCount (code_of s (Move t)) (here s) c heading →
+    SlicesIn s (Move t) c heading m asked told new → Sliced-move p whole told new
 slices_move p whole s t c GoesOn m false told new i at a = comes_move p whole s t (c + m) a.0 a.1 told new i a.2 a.3
 slices_move p whole s t c GoesOn m true told new i at a = backs_move p whole s t (WasAsked c) (c - m) told new i (omega arith) at a
 slices_move p whole s t c (GoesBack why) m asked told new i at a = backs_move p whole s t why (c - m) told new i (let l : c ≤ count_of why = at.0 in omega arith) at.1 a
 
-slice_in_move : (p : Past) (whole : Travel) (s : Past) (work : Work) (c : ℕ) (turn : Turn) (m : ℕ) (asked : Bool) (told : Sliced) (new : State) → KeepsIn p whole s work c turn → SlicesIn s work c turn m asked told new → Sliced-move p whole told new
-slice_in_move p whole s (Posted program) c turn m asked told new i a = absurd i
-slice_in_move p whole s (Move t) c turn m asked told new i a = slices_move p whole s t c turn m asked told new i.0 i.1 a
+slice_in_move : (p : Past) (whole : Travel) (s : Past) (work : Work) (c : ℕ) (heading : Heading) (m : ℕ) (asked : Bool) (told : Sliced) (new : State) → KeepsIn p whole s work c heading → SlicesIn s work c heading m asked told new → Sliced-move p whole told new
+slice_in_move p whole s (Posted program) c heading m asked told new i a = absurd i
+slice_in_move p whole s (Move t) c heading m asked told new i a = slices_move p whole s t c heading m asked told new i.0 i.1 a
 
 slice_at_move : (p : Past) (whole : Travel) (s : Past) (job : Open) (m : ℕ) (asked : Bool) (told : Sliced) (new : State) → KeepsAt p whole s job → SlicesAt s job m asked told new → Sliced-move p whole told new
 slice_at_move p whole s Idle m asked told new i a = absurd i
 slice_at_move p whole s (Border t) m asked told new i a = sliced_at _ _ sliced.Nothing told (record { past = s; job = Border t }) new a.0 a.1 i
-slice_at_move p whole s (Inside e) m asked told new i a = slice_in_move p whole s e.work e.count e.turn m asked told new i a
+slice_at_move p whole s (Inside e) m asked told new i a = slice_in_move p whole s e.work e.count e.heading m asked told new i a
 
 enters_move : (p : Past) (whole : Travel) (s : Past) (t : Travel) (answer : Begun) (new : State) → IsStage p whole s t → Enters s t answer new → ThenBegun (Keeps p whole) (TravelEnds p whole) answer new
 enters_move p whole s t answer new i a = elim a [
-  | inl b ↦ begun_at _ _ begun.Going answer (record { past = s; job = Inside (record { work = Move t; count = 0; turn = GoesOn }) }) new b.0 b.1 (i, under_way (code_of s (Move t)) (here s))
+  | inl b ↦ begun_at _ _ begun.Going answer (record { past = s; job = Inside (record { work = Move t; count = 0; heading = GoesOn }) }) new b.0 b.1 (i, under_way (code_of s (Move t)) (here s))
   | inr b ↦ begun_at _ _ (begun.Ended (finished t NoMemory)) answer (record { past = s; job = Idle }) new b.0 b.2 (ends_here p whole s t NoMemory i (λ e. cc) (λ e. b.1))
 ]
 
@@ -171,35 +171,35 @@ backs_cell : (p : Past) (text : List ℕ) (cell : Cell) (why : Why) (c : ℕ) (t
 backs_cell p text cell why zero told new i l t b =
     sliced_at _ _ (sliced.Ended (turned (Posted cell) why)) told (record { past = p; job = Idle }) new b.0 b.1 (inr (refl, no_node p text cell why i.accepted t))
 backs_cell p text cell why (suc c) told new i l t b =
-    sliced_at _ _ sliced.Backing told (record { past = p; job = Inside (record { work = Posted cell; count = suc c; turn = GoesBack why }) }) new b.0 b.1 (i, (l, t))
+    sliced_at _ _ sliced.Backing told (record { past = p; job = Inside (record { work = Posted cell; count = suc c; heading = GoesBack why }) }) new b.0 b.1 (i, (l, t))
 
 comes_cell : (p : Past) (text : List ℕ) (cell : Cell) (c : ℕ) (ran : Progress) (w : World) (told : Sliced) (new : State) → IsCell p text cell p →
     Reaches (Forward cell) (here p) c ran w → Comes p (Posted cell) c ran w told new → Sliced-cell p text told new
-comes_cell p text cell c Went w told new i r a = sliced_at _ _ sliced.Going told (record { past = p; job = Inside (record { work = Posted cell; count = c; turn = GoesOn }) }) new a.0 a.1 (i, (w, r.0, r.1))
+comes_cell p text cell c Went w told new i r a = sliced_at _ _ sliced.Going told (record { past = p; job = Inside (record { work = Posted cell; count = c; heading = GoesOn }) }) new a.0 a.1 (i, (w, r.0, r.1))
 comes_cell p text cell c (Ended n) w told new i r a =
     sliced_at _ _ (sliced.Ended (outcome.Ran (length p.nodes) n)) told (record { past = grown p cell n w; job = Idle }) new a.0 a.1
     (inl (cell, n, w, i.accepted, refl, r.0, refl))
 comes_cell p text cell c (Stopped j f) w told new i r a = backs_cell p text cell (Faulted f j) j told new i (omega arith) (w, r.0, r.1) a
 
-slices_cell : (p : Past) (text : List ℕ) (cell : Cell) (c : ℕ) (turn : Turn) (m : ℕ) (asked : Bool) (told : Sliced) (new : State) → IsCell p text cell p → IsAtCount (Forward cell) (here p) c turn →
-    SlicesIn p (Posted cell) c turn m asked told new → Sliced-cell p text told new
+slices_cell : (p : Past) (text : List ℕ) (cell : Cell) (c : ℕ) (heading : Heading) (m : ℕ) (asked : Bool) (told : Sliced) (new : State) → IsCell p text cell p → IsAtCount (Forward cell) (here p) c heading →
+    SlicesIn p (Posted cell) c heading m asked told new → Sliced-cell p text told new
 slices_cell p text cell c GoesOn m false told new i t a = comes_cell p text cell (c + m) a.0 a.1 told new i a.2 a.3
 slices_cell p text cell c GoesOn m true told new i t a = backs_cell p text cell (WasAsked c) (c - m) told new i (omega arith) t a
 slices_cell p text cell c (GoesBack why) m asked told new i t a = backs_cell p text cell why (c - m) told new i (let l : c ≤ count_of why = t.0 in omega arith) t.1 a
 
-slice_in_cell : (p : Past) (text : List ℕ) (s : Past) (work : Work) (c : ℕ) (turn : Turn) (m : ℕ) (asked : Bool) (told : Sliced) (new : State) → CellIn p text s work c turn → SlicesIn s work c turn m asked told new → Sliced-cell p text told new
-slice_in_cell p text s (Move t) c turn m asked told new i a = absurd i
-slice_in_cell p text s (Posted cell) c turn m asked told new i a =
-    slices_cell p text cell c turn m asked told new (record { accepted = i.0.accepted; same = refl }) i.1 (subst (λ (x : Past). SlicesIn x (Posted cell) c turn m asked told new) i.0.same a)
+slice_in_cell : (p : Past) (text : List ℕ) (s : Past) (work : Work) (c : ℕ) (heading : Heading) (m : ℕ) (asked : Bool) (told : Sliced) (new : State) → CellIn p text s work c heading → SlicesIn s work c heading m asked told new → Sliced-cell p text told new
+slice_in_cell p text s (Move t) c heading m asked told new i a = absurd i
+slice_in_cell p text s (Posted cell) c heading m asked told new i a =
+    slices_cell p text cell c heading m asked told new (record { accepted = i.0.accepted; same = refl }) i.1 (subst (λ (x : Past). SlicesIn x (Posted cell) c heading m asked told new) i.0.same a)
 
 slice_at_cell : (p : Past) (text : List ℕ) (s : Past) (job : Open) (m : ℕ) (asked : Bool) (told : Sliced) (new : State) → CellAt p text s job → SlicesAt s job m asked told new → Sliced-cell p text told new
 slice_at_cell p text s Idle m asked told new i a = absurd i
 slice_at_cell p text s (Border t) m asked told new i a = absurd i
-slice_at_cell p text s (Inside e) m asked told new i a = slice_in_cell p text s e.work e.count e.turn m asked told new i a
+slice_at_cell p text s (Inside e) m asked told new i a = slice_in_cell p text s e.work e.count e.heading m asked told new i a
 
 takes_text : (s : Past) (text : List ℕ) (answer : Begun) (new : State) → TakesCell s text false answer new → ThenBegun (CellKeeps s text) (TextEnds s text) answer new
 takes_text s text answer new a = elim a [
-  | inl b ↦ begun_at _ _ begun.Going answer (record { past = s; job = Inside (record { work = Posted b.0; count = 0; turn = GoesOn }) }) new b.2 b.3 (record { accepted = b.1; same = refl }, under_way (Forward b.0) (here s))
+  | inl b ↦ begun_at _ _ begun.Going answer (record { past = s; job = Inside (record { work = Posted b.0; count = 0; heading = GoesOn }) }) new b.2 b.3 (record { accepted = b.1; same = refl }, under_way (Forward b.0) (here s))
   | inr b ↦ begun_at _ _ (begun.Ended (outcome.Refused b.0)) answer (record { past = s; job = Idle }) new b.2 b.3 (inr (refl, b.1))
 ]
 

@@ -19,7 +19,7 @@ use Rattle.kernel_machine.specs.Request.{Request, RunCell, Undo, Redo, Goto, req
 use Rattle.kernel_machine.specs.Ends.{JobEnds}
 use Rattle.kernel_machine.specs.Travel as aim
 use Rattle.kernel_machine.specs.Travel.{Travel}
-use Rattle.kernel_machine.specs.Turn.{Why, WasAsked, Faulted, Turn, GoesOn, GoesBack}
+use Rattle.kernel_machine.specs.Heading.{Why, WasAsked, Faulted, Heading, GoesOn, GoesBack}
 use Rattle.kernel_machine.specs.declared.outcome.Begun.{Begun}
 use Rattle.kernel_machine.specs.declared.outcome.Begun.TheVariants as begun
 use Rattle.kernel_machine.specs.declared.outcome.Sliced.{Sliced}
@@ -60,7 +60,7 @@ part_sooner code w j i v p l =
       ]
     ]
 
--- a world is shown after so many steps of the work
+-- a world is shown after c steps of the work
 abbrev IsShownIn : Past → Work → ℕ → Type 0
 IsShownIn s work c = (w : World) × CodePart (code_of s work) (here s) c w
 
@@ -80,8 +80,8 @@ fit_at s new e g = subst (λ (x : State). IsFit x) (sym e) g
 fit_idle : (s : Past) (new : State) → IsLegal s → new ≡ record { past = s; job = Idle } → IsFit new
 fit_idle s new g e = fit_at (record { past = s; job = Idle }) new e (record { legal = g; possible = tt; in_time = tt; shown = (here s, refl) })
 
-fit_inside : (s : Past) (work : Work) (c : ℕ) (turn : Turn) (new : State) → IsLegal s → IsPossibleWork s work → IsInTime s work c turn → IsShownIn s work c → new ≡ record { past = s; job = Inside (record { work = work; count = c; turn = turn }) } → IsFit new
-fit_inside s work c turn new g p t w e = fit_at (record { past = s; job = Inside (record { work = work; count = c; turn = turn }) }) new e (record { legal = g; possible = p; in_time = t; shown = w })
+fit_inside : (s : Past) (work : Work) (c : ℕ) (heading : Heading) (new : State) → IsLegal s → IsPossibleWork s work → IsInTime s work c heading → IsShownIn s work c → new ≡ record { past = s; job = Inside (record { work = work; count = c; heading = heading }) } → IsFit new
+fit_inside s work c heading new g p t w e = fit_at (record { past = s; job = Inside (record { work = work; count = c; heading = heading }) }) new e (record { legal = g; possible = p; in_time = t; shown = w })
 
 -- ---- slices
 
@@ -106,7 +106,7 @@ comes_fit s work c Went w told new g p r a = fit_inside s work c GoesOn new g p 
 comes_fit s work c (Ended n) w told new g p r a = settles_fit s work n w told new g p r.0 a
 comes_fit s work c (Stopped j f) w told new g p r a = backs_fit s work (Faulted f j) j j told new g p (w, r.0) (omega arith) a
 
-slices_fit : (s : Past) (work : Work) (c : ℕ) (turn : Turn) (m : ℕ) (asked : Bool) (told : Sliced) (new : State) → IsLegal s → IsPossibleWork s work → IsShownIn s work c → SlicesIn s work c turn m asked told new → IsFit new
+slices_fit : (s : Past) (work : Work) (c : ℕ) (heading : Heading) (m : ℕ) (asked : Bool) (told : Sliced) (new : State) → IsLegal s → IsPossibleWork s work → IsShownIn s work c → SlicesIn s work c heading m asked told new → IsFit new
 slices_fit s work c GoesOn m false told new g p w a = comes_fit s work (c + m) a.0 a.1 told new g p a.2 a.3
 slices_fit s work c GoesOn m true told new g p w a = backs_fit s work (WasAsked c) (c - m) c told new g p w (omega arith) a
 slices_fit s work c (GoesBack why) m asked told new g p w a = backs_fit s work why (c - m) c told new g p w (omega arith) a
@@ -114,7 +114,7 @@ slices_fit s work c (GoesBack why) m asked told new g p w a = backs_fit s work w
 pub slice_fit : (s : Past) (job : Open) (m : ℕ) (asked : Bool) (told : Sliced) (new : State) → IsLegal s → IsPossibleAt s job → (w : World) × ShownAt s job w → SlicesAt s job m asked told new → IsFit new
 slice_fit s Idle m asked told new g p w a = fit_idle s new g a.1
 slice_fit s (Border t) m asked told new g p w a = fit_at (record { past = s; job = Border t }) new a.1 (record { legal = g; possible = p; in_time = tt; shown = (here s, refl) })
-slice_fit s (Inside e) m asked told new g p w a = slices_fit s e.work e.count e.turn m asked told new g p w a
+slice_fit s (Inside e) m asked told new g p w a = slices_fit s e.work e.count e.heading m asked told new g p w a
 
 -- ---- begins
 

@@ -6,8 +6,8 @@ use Rattle.kernel_machine.specs.State.{Past, State, Posted, Move, Idle, Inside, 
 use Rattle.kernel_machine.specs.Slices.{finished, cells}
 use Rattle.kernel_machine.specs.Legal.{IsMeeting}
 use Rattle.kernel_machine.specs.Text.{Accepts, Refuses}
-use Rattle.kernel_machine.specs.Turn.{GoesOn}
-use Rattle.kernel_machine.specs.declared.outcome.End.TheVariants.{All, NoMemory}
+use Rattle.kernel_machine.specs.Heading.{GoesOn}
+use Rattle.kernel_machine.specs.declared.outcome.TravelEnd.TheVariants.{All, NoMemory}
 use Rattle.kernel_machine.specs.declared.outcome.Refusal.{Refusal}
 use Rattle.kernel_machine.specs.declared.outcome.Refusal.TheVariants.{HistoryFull, TooFar, NoNode}
 use Rattle.kernel_machine.specs.declared.outcome.Outcome.TheVariants as outcome
@@ -21,14 +21,14 @@ Declares s travel = elim (next_way travel) [ Up ↦ ⊥ | Down ↦ (node_at s (b
 -- a travel enters its next cell; one that declares names may find no memory for them
 abbrev pub Enters : Past → Travel → Begun → State → Type 0
 Enters s travel told new =
-    ((told ≡ begun.Going) × (new ≡ record { past = s; job = Inside (record { work = Move travel; count = 0; turn = GoesOn }) }))
+    ((told ≡ begun.Going) × (new ≡ record { past = s; job = Inside (record { work = Move travel; count = 0; heading = GoesOn }) }))
     ⊎ ((told ≡ begun.Ended (finished travel NoMemory)) × Declares s travel × (new ≡ record { past = s; job = Idle }))
 
 -- the cell is entered
 abbrev pub EntersCell : Past → List ℕ → Begun → State → Type 0
 EntersCell s text told new =
     (cell : Cell) × Accepts (here s) text cell × (told ≡ begun.Going)
-    × (new ≡ record { past = s; job = Inside (record { work = Posted cell; count = 0; turn = GoesOn }) })
+    × (new ≡ record { past = s; job = Inside (record { work = Posted cell; count = 0; heading = GoesOn }) })
 
 -- the cell is refused, and all is as before
 abbrev pub RefusesCell : Past → List ℕ → Begun → State → Type 0
@@ -45,12 +45,12 @@ abbrev pub TakesCell : Past → List ℕ → Bool → Begun → State → Type 0
 TakesCell s text true told new = RefusesJob s HistoryFull told new
 TakesCell s text false told new = EntersCell s text told new ⊎ RefusesCell s text told new
 
--- a travel of so many cells ends at once, or enters its first cell
+-- a travel without cells ends at once, another enters its first cell
 abbrev pub Departs : ℕ → Past → Travel → Begun → State → Type 0
 Departs zero s travel told new = (told ≡ begun.Ended (finished travel All)) × (new ≡ record { past = s; job = Idle })
 Departs (suc left) s travel told new = Enters s travel told new
 
--- a new travel: so many cells up, and then so many down
+-- a new travel: `up` cells up, and then `down` cells down
 abbrev pub travel_to : Aim → ℕ → ℕ → Travel
 travel_to aim up down = record { aim = aim; up = up; down = down; went_up = 0; went_down = 0 }
 

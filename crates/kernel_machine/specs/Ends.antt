@@ -12,8 +12,8 @@ use Rattle.kernel_machine.specs.Begins.{Declares, travel_to}
 use Rattle.kernel_machine.specs.Request.{Request, RunCell, Undo, Redo, Goto}
 use Rattle.kernel_machine.specs.Midway.{after, gone}
 use Rattle.kernel_machine.specs.Travel as aim
-use Rattle.kernel_machine.specs.declared.outcome.End.{End}
-use Rattle.kernel_machine.specs.declared.outcome.End.TheVariants.{All, NoMemory}
+use Rattle.kernel_machine.specs.declared.outcome.TravelEnd.{TravelEnd}
+use Rattle.kernel_machine.specs.declared.outcome.TravelEnd.TheVariants.{All, NoMemory}
 use Rattle.kernel_machine.specs.declared.outcome.Refusal.{Refusal}
 use Rattle.kernel_machine.specs.declared.outcome.Refusal.TheVariants.{HistoryFull, TooFar, NoNode, Closing}
 use Rattle.kernel_machine.specs.declared.outcome.Outcome.{Outcome}
@@ -21,7 +21,7 @@ use Rattle.kernel_machine.specs.declared.outcome.Outcome.TheVariants as outcome
 
 -- A travel ends after j of its cells, for this reason. It tells All exactly where these are all, and want of memory only in front of a cell
 -- that declares names, so on the way down.
-pub record EndsAfter (s : Past) (travel : Travel) (j : ℕ) (end : End) (o : Outcome) (new : State) : Type 0 where
+pub record EndsAfter (s : Past) (travel : Travel) (j : ℕ) (end : TravelEnd) (o : Outcome) (new : State) : Type 0 where
   pub tells : o ≡ finished (after travel j) end
   pub stands : new ≡ record { past = gone s travel j; job = Idle }
   pub within : j ≤ cells travel
@@ -29,7 +29,7 @@ pub record EndsAfter (s : Past) (travel : Travel) (j : ℕ) (end : End) (o : Out
   pub no_memory : end ≡ NoMemory → Declares (gone s travel j) (after travel j)
 
 abbrev pub TravelEnds : Past → Travel → Outcome → State → Type 0
-TravelEnds s travel o new = (j : ℕ) × (end : End) × EndsAfter s travel j end o new
+TravelEnds s travel o new = (j : ℕ) × (end : TravelEnd) × EndsAfter s travel j end o new
 
 -- refused, and all is as before
 abbrev pub IsRefused : Past → Refusal → Outcome → State → Type 0

@@ -4,7 +4,7 @@ use Rattle.kernel_machine.specs.State.{Past}
 use Rattle.kernel_machine.specs.Legal.{can_undo, can_redo}
 use Rattle.kernel_machine.specs.declared.extent.Extent.{Extent}
 
--- so many cells can be undone, and so many redone, and no more; and the nodes are counted without the root
+-- `e.undo` cells can be undone, and `e.redo` redone, and no more; and the nodes are counted without the root
 pub record IsExtent (s : Past) (e : Extent) : Type 0 where
   pub undo : (k : ℕ) → IsTrue (can_undo s.nodes s.position k) ↔ (k ≤ e.undo)
   pub redo : (k : ℕ) → IsTrue (can_redo s.favourites s.position k) ↔ (k ≤ e.redo)

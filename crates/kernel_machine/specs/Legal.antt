@@ -6,7 +6,7 @@ use Rattle.kernel_machine.specs.Language.{Forward, CodeExec, IsFormed, IsSound}
 use Rattle.kernel_machine.specs.State.{Past, Node, Work, Posted, Move, Job, Idle, Border, Inside}
 use Rattle.kernel_machine.specs.State.{root, ancestor, node_at, world_at, here, favourite_of, code_of}
 use Rattle.kernel_machine.specs.Travel.{Aim, Undo, Redo, Goto, Travel}
-use Rattle.kernel_machine.specs.Turn.{Turn, GoesOn, GoesBack}
+use Rattle.kernel_machine.specs.Heading.{Heading, GoesOn, GoesBack}
 
 -- the node can go up k times
 abbrev pub can_undo : List Node → ℕ → ℕ → Bool
@@ -77,14 +77,14 @@ IsPossibleAt s (Border travel) = IsPossible s.nodes s.favourites s.position trav
 IsPossibleAt s (Inside e) = IsPossibleWork s e.work
 
 -- a job inside a cell has steps to take: while it goes on, the end of the code is ahead; while it goes back, the count is not 0 yet
-abbrev pub IsInTime : Past → Work → ℕ → Turn → Type 0
+abbrev pub IsInTime : Past → Work → ℕ → Heading → Type 0
 IsInTime s work count GoesOn = (n : ℕ) (w : World) → CodeExec (code_of s work) (here s) n w → count < n
 IsInTime s work count (GoesBack why) = 0 < count
 
 abbrev pub IsInTimeAt : Past → Job → Type 0
 IsInTimeAt s Idle = Unit {0}
 IsInTimeAt s (Border travel) = Unit {0}
-IsInTimeAt s (Inside e) = IsInTime s e.work e.count e.turn
+IsInTimeAt s (Inside e) = IsInTime s e.work e.count e.heading
 
 -- ---- the way to a node
 

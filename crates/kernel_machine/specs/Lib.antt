@@ -5,10 +5,10 @@ pub mod Language
 pub mod Reached
 pub mod Text
 pub mod Refusal
--- The machine, in reading order: travels and turns, its states, which of them are legal, its slices and begins, its minutes and runs, how
+-- The machine, in reading order: travels and headings, its states, which of them are legal, its slices and begins, its minutes and runs, how
 -- many steps a slice takes, how jobs may end, and what minutes tell.
 pub mod Travel
-pub mod Turn
+pub mod Heading
 pub mod State
 pub mod Legal
 pub mod Slices

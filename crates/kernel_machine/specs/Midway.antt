@@ -6,7 +6,7 @@ use Rattle.kernel_machine.specs.Reached.{IsUnderWay, MeetsFault}
 use Rattle.kernel_machine.specs.Text.{Accepts}
 use Rattle.kernel_machine.specs.Travel as aim
 use Rattle.kernel_machine.specs.Travel.{Travel}
-use Rattle.kernel_machine.specs.Turn.{Why, WasAsked, Faulted, Turn, GoesOn, GoesBack}
+use Rattle.kernel_machine.specs.Heading.{Why, WasAsked, Faulted, Heading, GoesOn, GoesBack}
 use Rattle.kernel_machine.specs.State.{Past, Work, Posted, Move, Job as Open, Idle, Border, Inside, State, here, code_of, is_full}
 use Rattle.kernel_machine.specs.Legal.{can_undo, can_redo, IsMeeting}
 use Rattle.kernel_machine.specs.Slices.{cells, stepped, moved}
@@ -33,8 +33,8 @@ abbrev pub IsReason : Code → World → Why → Type 0
 IsReason code w (WasAsked at) = IsUnderWay code w at
 IsReason code w (Faulted fault at) = MeetsFault code w fault at
 
--- the code goes on after so many steps; or it goes back from where it turned, for this reason, and stands no further on
-abbrev pub IsAtCount : Code → World → ℕ → Turn → Type 0
+-- the code goes on after c steps; or it goes back from where it turned, for this reason, and stands no further on
+abbrev pub IsAtCount : Code → World → ℕ → Heading → Type 0
 IsAtCount code w c GoesOn = IsUnderWay code w c
 IsAtCount code w c (GoesBack why) = (c ≤ count_of why) × IsReason code w why
 
@@ -47,15 +47,15 @@ pub record IsStage (p : Past) (whole : Travel) (s : Past) (t : Travel) : Type 0 
   pub some : 0 < cells t
 
 -- inside a cell that is the travel's next one
-abbrev pub KeepsIn : Past → Travel → Past → Work → ℕ → Turn → Type 0
-KeepsIn p whole s (Posted cell) c turn = ⊥
-KeepsIn p whole s (Move t) c turn = IsStage p whole s t × IsAtCount (code_of s (Move t)) (here s) c turn
+abbrev pub KeepsIn : Past → Travel → Past → Work → ℕ → Heading → Type 0
+KeepsIn p whole s (Posted cell) c heading = ⊥
+KeepsIn p whole s (Move t) c heading = IsStage p whole s t × IsAtCount (code_of s (Move t)) (here s) c heading
 
 -- between two of its cells, or inside one
 abbrev pub KeepsAt : Past → Travel → Past → Open → Type 0
 KeepsAt p whole s Idle = ⊥
 KeepsAt p whole s (Border t) = IsStage p whole s t
-KeepsAt p whole s (Inside e) = KeepsIn p whole s e.work e.count e.turn
+KeepsAt p whole s (Inside e) = KeepsIn p whole s e.work e.count e.heading
 
 -- the open job is this travel, which was begun in the past p
 abbrev pub Keeps : Past → Travel → State → Type 0
@@ -67,15 +67,15 @@ pub record IsCell (p : Past) (text : List ℕ) (cell : Cell) (s : Past) : Type 0
   pub same : s ≡ p
 
 -- the open job runs this cell
-abbrev pub CellIn : Past → List ℕ → Past → Work → ℕ → Turn → Type 0
-CellIn p text s (Posted cell) c turn = IsCell p text cell s × IsAtCount (Forward cell) (here p) c turn
-CellIn p text s (Move t) c turn = ⊥
+abbrev pub CellIn : Past → List ℕ → Past → Work → ℕ → Heading → Type 0
+CellIn p text s (Posted cell) c heading = IsCell p text cell s × IsAtCount (Forward cell) (here p) c heading
+CellIn p text s (Move t) c heading = ⊥
 
 -- it is inside a cell, never between two
 abbrev pub CellAt : Past → List ℕ → Past → Open → Type 0
 CellAt p text s Idle = ⊥
 CellAt p text s (Border t) = ⊥
-CellAt p text s (Inside e) = CellIn p text s e.work e.count e.turn
+CellAt p text s (Inside e) = CellIn p text s e.work e.count e.heading
 
 -- the open job is the cell of this text, which was begun in the past p
 abbrev pub CellKeeps : Past → List ℕ → State → Type 0

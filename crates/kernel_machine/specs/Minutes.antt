@@ -1,6 +1,7 @@
 -- The minutes: what is written down of each post, and of the end of each job.
 use Rattle.std.specs.Prelude.{◌≡◌, ℕ, ◌*◌, ◌≤◌, List, [], ◌∷◌, ◌++◌, length, suc}
 use Rattle.kernel_machine.specs.Request.{Request}
+use Rattle.kernel_machine.specs.declared.limit.TheConstants.{MINUTES_LIMIT}
 use Rattle.kernel_machine.specs.declared.outcome.Outcome.{Outcome}
 
 -- a post; or the end of the job with this number: what came of it, and the counter and the position as it ended
@@ -34,9 +35,9 @@ abbrev pub IsNumberOf : List Entry → ℕ → Post → Type 0
 IsNumberOf entries number post =
     (before : List Post) × (after : List Post) × (posts_of entries ≡ before ++ post ∷ after) × (number ≡ suc (length before))
 
--- how many entries there may be
+-- the most entries that there may be
 abbrev pub minutes_limit : ℕ
-minutes_limit = 1000000
+minutes_limit = MINUTES_LIMIT
 
 -- there are places for one more post: each takes two, its own and that of the end of its job
 abbrev pub HavePlaces : List Entry → Type 0

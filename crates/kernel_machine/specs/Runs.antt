@@ -8,6 +8,7 @@ use Rattle.kernel_machine.specs.Begins.{Enters, TakesCell, TakesMove, TakesGoto,
 use Rattle.kernel_machine.specs.Travel as aim
 use Rattle.kernel_machine.specs.Request.{Request, RunCell, Undo, Redo, Goto, request_of, raised}
 use Rattle.kernel_machine.specs.Minutes.{Entry, Posted, Ended, posted_in, ended_in, HavePlaces}
+use Rattle.kernel_machine.specs.declared.limit.TheConstants.{QUEUE_LIMIT}
 use Rattle.kernel_machine.specs.declared.outcome.Refusal.TheVariants as refusal
 use Rattle.kernel_machine.specs.declared.outcome.Outcome.{Outcome}
 use Rattle.kernel_machine.specs.declared.outcome.Outcome.TheVariants as outcome
@@ -40,9 +41,9 @@ new_machine = record { state = new_state; queue = []; counter = 0; minutes = [];
 
 -- ---- posts
 
--- how many posted jobs may wait to be begun
+-- the most posted jobs that may wait to be begun
 abbrev pub queue_limit : ℕ
-queue_limit = 1024
+queue_limit = QUEUE_LIMIT
 
 -- a job may be posted, if there is memory for it
 pub record IsReady (m : Machine) : Type 0 where

@@ -3,9 +3,10 @@
 use Rattle.std.specs.Prelude.{◌≡◌, ℕ, ◌-◌, List, [], ◌∷◌, ◌++◌, length, get_or, zero, suc, Bool, nat_lt}
 use Rattle.janus_meaning.specs.World.{World, empty_world, Cell}
 use Rattle.janus_meaning.specs.Syntax.{Proc}
+use Rattle.cell_tree.specs.Tree.{node_limit}
 use Rattle.kernel_machine.specs.Language.{empty_cell, Code, Forward, Backward, start_of, CodePart, end_of}
 use Rattle.kernel_machine.specs.Travel.{Up, Down, Aim, Goto, Travel, next_way}
-use Rattle.kernel_machine.specs.Turn.{Turn}
+use Rattle.kernel_machine.specs.Heading.{Heading}
 
 -- a cell that ended well, with the steps that it took; or the root
 pub record Node : Type 0 where
@@ -32,7 +33,7 @@ pub data Work : Type 0 where
 pub record Entered : Type 0 where
   pub work : Work
   pub count : ℕ
-  pub turn : Turn
+  pub heading : Heading
 
 -- no open job, or one at a border between two cells, or inside a cell
 pub data Job : Type 0 where
@@ -56,11 +57,7 @@ world_at s n = get_or s.worlds n empty_world
 abbrev pub favourite_of : Past → ℕ → ℕ
 favourite_of s n = get_or s.favourites n 0
 
--- at most so many nodes stand beside the root
-abbrev pub node_limit : ℕ
-node_limit = 65536
-
--- no further node may stand in the tree
+-- no further node may stand in the tree: as many stand beside the root as `cell_tree` allows
 abbrev pub is_full : Past → Bool
 is_full s = nat_lt node_limit (length s.nodes)
 
@@ -73,7 +70,7 @@ abbrev pub ancestor : List Node → ℕ → ℕ → ℕ
 ancestor nodes n zero = n
 ancestor nodes n (suc j) = (get_or nodes (ancestor nodes n j) root).parent
 
--- the node to which a travel goes down next, with so many cells down still to go: towards a node the one so far above it, else the favourite
+-- the node to which a travel goes down next, with `down` cells down still to go: towards a node the one `down - 1` steps above it, else the favourite
 abbrev pub below_by : Aim → Past → ℕ → ℕ
 below_by (Goto n) s down = ancestor s.nodes n (down - 1)
 below_by other s down = favourite_of s s.position

@@ -6,9 +6,9 @@ use Rattle.janus_meaning.specs.World.{World, Cell}
 use Rattle.janus_meaning.specs.Codes.{cell_code, world_code}
 use Rattle.kernel_machine.specs.State.{Node, Past, Work, Posted, Move, Entered, Job, Idle, Border, Inside, State}
 use Rattle.kernel_machine.specs.Travel.{Travel}
-use Rattle.kernel_machine.specs.Turn.{Turn}
+use Rattle.kernel_machine.specs.Heading.{Heading}
 use Rattle.kernel_machine.specs.contracts.travel.Travel.{the_row as travel_row}
-use Rattle.kernel_machine.specs.contracts.turn.Turn.{the_row as turn_row}
+use Rattle.kernel_machine.specs.contracts.heading.Heading.{the_row as heading_row}
 
 abbrev node_code : Coded Node
 node_code =
@@ -39,8 +39,8 @@ work_code = code_by (Cell ⊎ Travel) (coded⊎ cell_code travel_row.coded) work
 
 abbrev entered_code : Coded Entered
 entered_code =
-    code_by (Work × (ℕ × Turn)) (coded× work_code (coded× coded_ℕ turn_row.coded))
-    (λ e. (e.work, (e.count, e.turn))) (λ p. record { work = p.0; count = p.1.0; turn = p.1.1 }) (λ _. refl)
+    code_by (Work × (ℕ × Heading)) (coded× work_code (coded× coded_ℕ heading_row.coded))
+    (λ e. (e.work, (e.count, e.heading))) (λ p. record { work = p.0; count = p.1.0; heading = p.1.1 }) (λ _. refl)
 
 abbrev job_parts : Job → ℕ ⊎ (Travel ⊎ Entered)
 job_parts Idle = inl 0

@@ -4,7 +4,7 @@ use Rattle.janus_meaning.specs.World.{World}
 use Rattle.janus_machine.specs.Counts.{IsWritten}
 use Rattle.kernel_machine.specs.Reached.{Reaches, Progress, Went, Ended, Stopped}
 use Rattle.kernel_machine.specs.State.{Past, State, Work, Job, Idle, Border, Inside, here, code_of}
-use Rattle.kernel_machine.specs.Turn.{Turn, GoesOn, GoesBack}
+use Rattle.kernel_machine.specs.Heading.{Heading, GoesOn, GoesBack}
 use Rattle.kernel_machine.specs.Runs.{Machine, Step, Seen}
 use Rattle.kernel_machine.specs.declared.events.Event.{Event}
 use Rattle.kernel_machine.specs.declared.events.Event.TheVariants as event
@@ -22,13 +22,13 @@ steps_on c m (Stopped j fault) = j - c
 abbrev pub steps_back : ℕ → ℕ → ℕ
 steps_back c m = c - (c - m)
 
--- a slice onward takes so many steps
+-- a slice onward takes k steps
 abbrev pub TakesOn : Past → Work → ℕ → ℕ → ℕ → Type 0
 TakesOn s work c m k =
     (ran : Progress) × (w : World) × Reaches (code_of s work) (here s) (c + m) ran w × (k ≡ steps_on c m ran)
 
 -- one inside a cell; one that is asked turns first, and all its steps go back
-abbrev pub TakesIn : Past → Work → ℕ → Turn → ℕ → Bool → ℕ → Type 0
+abbrev pub TakesIn : Past → Work → ℕ → Heading → ℕ → Bool → ℕ → Type 0
 TakesIn s work c GoesOn m false k = TakesOn s work c m k
 TakesIn s work c GoesOn m true k = k ≡ steps_back c m
 TakesIn s work c (GoesBack why) m asked k = k ≡ steps_back c m
@@ -37,7 +37,7 @@ TakesIn s work c (GoesBack why) m asked k = k ≡ steps_back c m
 abbrev pub TakesAt : Past → Job → ℕ → Bool → ℕ → Type 0
 TakesAt s Idle m asked k = k ≡ 0
 TakesAt s (Border travel) m asked k = k ≡ 0
-TakesAt s (Inside e) m asked k = TakesIn s e.work e.count e.turn m asked k
+TakesAt s (Inside e) m asked k = TakesIn s e.work e.count e.heading m asked k
 
 -- ---- writes
 

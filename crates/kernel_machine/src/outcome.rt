@@ -11,7 +11,7 @@ use thiserror::Error;
 
 /// How a travel ended.
 #[derive(Clone, Copy, Debug, PartialEq, Eq)]
-pub enum End {
+pub enum TravelEnd {
     /// All its cells are done.
     All,
     /// It was asked to stop, and went back to the border before the cell in which it stood.
@@ -123,11 +123,11 @@ pub enum Outcome {
     /// The cell was asked to stop and was taken back: how many steps it had taken.
     Interrupted(u64),
     /// An undo: how many cells were undone, and why it ended there.
-    Undid(usize, End),
+    Undid(usize, TravelEnd),
     /// A redo: how many cells were redone, and why it ended there.
-    Redid(usize, End),
+    Redid(usize, TravelEnd),
     /// A goto: how many cells were undone, how many were redone then, and why it ended there.
-    Went(usize, usize, End),
+    Went(usize, usize, TravelEnd),
     /// The job was not begun, for this reason.
     Refused(Refusal),
 }

@@ -31,7 +31,7 @@ pub struct Travel {
 }
 
 impl Travel {
-    /// A travel of so many cells up, and then so many down.
+    /// A travel of `up` cells up, and then `down` cells down.
     pub fn new(aim: Aim, up: usize, down: usize) -> Travel
         ensures { result ≡ travel_to aim up down }
     {

@@ -6,7 +6,9 @@ ghost use Rattle.kernel_sockets.specs.declared.shares.TheConstants.{READ_OCTETS}
 use crate::sockets::{is_answered, is_signed};
 use crate::time::{INTERRUPTIONS, clock_of, handshake_end, milliseconds};
 use kernel_session::Socket;
-use kernel_sockets::{Allowance, Input, OWN_OCTETS, Presence, READ_OCTETS, Share, Strangers};
+use kernel_sockets::{
+    Allowance, ConnectionInput, OWN_OCTETS, Presence, READ_OCTETS, Share, Strangers,
+};
 use std::alloc::Global;
 use std::io;
 use std::io::{ErrorKind, Read};
@@ -16,7 +18,7 @@ use std::sync::ledger::Ledger;
 use std::time::{Clock, Duration};
 use zmtp_peer::{Peer, PeerEvent};
 
-/// How many octets are read at once, of so many for which there is room: of a stranger no more than its messages may take lists for.
+/// How many octets are read at once where there is room for `room`: of a stranger no more than its messages may take lists for.
 fn most_at_once(is_trusted: bool, room: usize) -> usize
     ensures { result ≡ (if is_trusted then room else min room READ_OCTETS) }
 {
@@ -32,7 +34,7 @@ fn most_at_once(is_trusted: bool, room: usize) -> usize
 pub(crate) struct Arrivals<'a, R: Clock, S: Ledger> {
     rt: &'a R,
     stream: &'a TcpStream,
-    input: Input<'a>,
+    input: ConnectionInput<'a>,
     presence: &'a Presence,
     /// The peer as it is told of here, until it is ready.
     handshake: Option<Peer>,
@@ -50,7 +52,7 @@ impl<'a, R: Clock + Wait, S: Ledger> Arrivals<'a, R, S> {
         rt: &'a R,
         alloc: Global,
         stream: &'a TcpStream,
-        input: Input<'a>,
+        input: ConnectionInput<'a>,
         presence: &'a Presence,
         socket: Socket,
         strangers: &'a Strangers<S>,
@@ -85,7 +87,7 @@ impl<'a, R: Clock + Wait, S: Ledger> Arrivals<'a, R, S> {
         strangers.end(rt, share)
     }
 
-    /// Counts so many octets more, if it may bring them; false if it may not. An answered connection has its own share alone, since nobody
+    /// Counts `count` octets more, if it may bring them; false if it may not. An answered connection has its own share alone, since nobody
     /// needs more for a heartbeat.
     fn bring(&mut self, count: u64) -> bool
         ensures brought { IsTrue result → self.new.share.brought ≡ self.old.share.brought + count }
@@ -98,7 +100,7 @@ impl<'a, R: Clock + Wait, S: Ledger> Arrivals<'a, R, S> {
         }
     }
 
-    /// Counts no longer what was answered: all that came, or so many octets of it.
+    /// Counts no longer what was answered: all that came, or `answered` octets of it.
     fn let_go(&mut self, is_all: bool, answered: u64)
         ensures { self.new.share.brought ≡ (if is_all then 0 else self.old.share.brought - answered) }
     {
@@ -110,7 +112,7 @@ impl<'a, R: Clock + Wait, S: Ledger> Arrivals<'a, R, S> {
     }
 
     /// Counts octets that came, and tells whether they may be kept. Nothing is counted of who showed the key, and what was answered no longer is: all that
-    /// came before, or so many octets of it.
+    /// came before, or `answered` octets of it.
     fn count_of(&mut self, is_trusted: bool, was_answered: bool, answered: u64, count: u64) -> bool
         ensures trusted { IsTrue is_trusted → IsTrue result × (self.new.share.brought ≡ 0) }
         ensures brought { is_trusted ≡ false → IsTrue result

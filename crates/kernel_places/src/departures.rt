@@ -75,7 +75,7 @@ impl<'a, R: Clock> Departures<'a, R> {
         let _ = self.stream.shutdown(Shutdown::Both);
     }
 
-    /// The answer that was on its way is out: so many octets as its ping had are no longer counted, once.
+    /// The answer that was on its way is out: the octets of its ping are no longer counted, once.
     fn end_answer(&mut self)
         ensures { self.new.answers ≡ 0 }
     {

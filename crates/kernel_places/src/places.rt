@@ -33,7 +33,7 @@ impl Place {
         Place { socket, index }
     }
 
-    /// The place that is so many behind this one.
+    /// The place that is `count` behind this one.
     pub fn behind(self, count: usize) -> Place {
         Place {
             socket: self.socket,

@@ -6,7 +6,7 @@ use crate::service::Service;
 use crate::time::milliseconds;
 use kernel_iopub::{HangUp, serve_subscriber};
 use kernel_session::Socket;
-use kernel_sockets::{Allowance, Input};
+use kernel_sockets::{Allowance, ConnectionInput};
 use std::net::TcpStream;
 use std::sync::Wait;
 use std::sync::ledger::Ledger;
@@ -30,7 +30,7 @@ fn supply<W: Ledger + Sync, L: Ledger + Sync, S: Ledger + Sync, R: Threads + Wai
     let Some(presence) = service.subscribers.presence(index) else {
         return allowance;
     };
-    let input = Input::new(stream, &service.subscribers);
+    let input = ConnectionInput::new(stream, &service.subscribers);
     let mut arrivals = Arrivals::new(
         rt,
         service.alloc,

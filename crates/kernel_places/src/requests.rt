@@ -6,7 +6,7 @@ use crate::service::Service;
 use crate::time::milliseconds;
 use kernel_desk::{HallDesk, QuietDesk};
 use kernel_session::{Desk, Socket, serve};
-use kernel_sockets::{Allowance, Input};
+use kernel_sockets::{Allowance, ConnectionInput};
 use std::net::TcpStream;
 use std::sync::Wait;
 use std::sync::ledger::Ledger;
@@ -28,7 +28,7 @@ fn converse<W: Ledger, L: Ledger, S: Ledger, D: Desk, R: Wait + Clock>(
     let Some(presence) = service.callers.presence(place.index) else {
         return allowance;
     };
-    let input = Input::new(stream, &service.callers);
+    let input = ConnectionInput::new(stream, &service.callers);
     let mut arrivals = Arrivals::new(
         rt,
         service.alloc,

@@ -1,6 +1,6 @@
 //! How each of the five sockets tells whether its peer is active.
 use kernel_session::Socket;
-use kernel_sockets::MOMENT;
+use kernel_sockets::STAY_MILLISECONDS;
 
 /// How long a ready connection of iopub, stdin or heartbeat may be silent before it has to make room for another one.
 const SILENCE_MILLISECONDS: u64 = 60_000;
@@ -9,7 +9,7 @@ const SILENCE_MILLISECONDS: u64 = 60_000;
 /// shell and control a signed message shows who has the key.
 pub(crate) fn silence(socket: Socket) -> u64 {
     match socket {
-        Socket::Shell | Socket::Control => MOMENT,
+        Socket::Shell | Socket::Control => STAY_MILLISECONDS,
         Socket::Iopub | Socket::Stdin | Socket::Heartbeat => SILENCE_MILLISECONDS,
     }
 }

@@ -5,21 +5,21 @@ use Rattle.jupyter_msg.specs.declared.comm.CommAsk.{CommAsk}
 use Rattle.jupyter_msg.specs.declared.comm.CommAsk.TheVariants.{Undo, Redo, Goto, State, Other}
 use Rattle.kernel_core.specs.Refusal as refusal
 use Rattle.kernel_core.specs.PostFault as post_fault
-use Rattle.kernel_core.specs.outcome.End.{End}
-use Rattle.kernel_core.specs.outcome.End.TheVariants.{All, Asked, NoMemory}
+use Rattle.kernel_core.specs.outcome.TravelEnd.{TravelEnd}
+use Rattle.kernel_core.specs.outcome.TravelEnd.TheVariants.{All, Asked, NoMemory}
 use Rattle.kernel_core.specs.outcome.Outcome.{Outcome}
 use Rattle.kernel_core.specs.outcome.Outcome.TheVariants.{Ran, Failed, Interrupted, Undid, Redid, Went, Refused}
 use Rattle.kernel_core.specs.post.PostFault.{PostFault}
 use Rattle.kernel_message.specs.Json.{record_of, text, count}
 use Rattle.kernel_reply.specs.Status.{ok}
 
-abbrev pub end_name : End → List ℕ
+abbrev pub end_name : TravelEnd → List ℕ
 end_name All = codes "all"
 end_name Asked = codes "asked"
 end_name NoMemory = codes "memory"
 
 -- how many cells were undone, and how many redone
-abbrev pub moved : List ℕ → ℕ → ℕ → ℕ → End → Data
+abbrev pub moved : List ℕ → ℕ → ℕ → ℕ → TravelEnd → Data
 moved op node undone redone end = record_of (
     (codes "end", text (end_name end))
     ∷ (codes "node", count node)

@@ -7,19 +7,19 @@ ghost use Rattle.kernel_reply.specs.Moves as table;
 
 use crate::comms::comm_msg;
 use jupyter_msg::CommAsk;
-use kernel_core::{End, Outcome, PostFault};
+use kernel_core::{Outcome, PostFault, TravelEnd};
 use kernel_message::{Draft, put_count, put_text};
 use serde_json::{Map, Value};
 use std::alloc::{AllocError, Global};
 
 /// How a move ended.
-fn end_name(end: End) -> &'static str
+fn end_name(end: TravelEnd) -> &'static str
     ensures { result.now ≡ table.end_name end }
 {
     match end {
-        End::All => "all",
-        End::Asked => "asked",
-        End::NoMemory => "memory",
+        TravelEnd::All => "all",
+        TravelEnd::Asked => "asked",
+        TravelEnd::NoMemory => "memory",
     }
 }
 
@@ -30,7 +30,7 @@ fn moved(
     node: usize,
     undone: usize,
     redone: usize,
-    end: End,
+    end: TravelEnd,
 ) -> Result<Value, AllocError>
     ensures { IfOk result (λ v. view v ≡ table.moved op.now node undone redone end) }
 {
@@ -71,7 +71,7 @@ fn moved_msg(
     node: usize,
     undone: usize,
     redone: usize,
-    end: End,
+    end: TravelEnd,
 ) -> Result<Option<Draft>, AllocError>
     ensures { IfOk result (λ o. option_map said_of o
         ≡ Some (comm_msg_of id.now (table.moved op.now node undone redone end))) }

@@ -7,8 +7,8 @@ use Rattle.janus_meaning.specs.Syntax.{Name, Stm, Blk, Skip, Set, SetAt, Push, P
 use Rattle.janus_meaning.specs.World.{Declaration, declared_name}
 use Rattle.janus_names.specs.Numbers.{IsNumbered, IsMet, GoOn}
 use Rattle.janus_invert.specs.declared.code.Symbol.{Symbol}
-use Rattle.janus_invert.specs.declared.code.Exp.{Exp}
-use Rattle.janus_invert.specs.declared.code.Exp.TheVariants as exp
+use Rattle.janus_invert.specs.declared.code.FlatExp.{FlatExp}
+use Rattle.janus_invert.specs.declared.code.FlatExp.TheVariants as exp
 use Rattle.janus_invert.specs.declared.code.Statement.{Statement}
 use Rattle.janus_invert.specs.declared.code.Statement.TheVariants as statement
 use Rattle.janus_invert.specs.Numbered.{HasItsNumber, HaveTheirNumbers, HasNumbers, StatementHasNumbers, HaveNumbers}
@@ -57,7 +57,7 @@ module _ (xs ys : List Name) (g : GoOn xs ys) where
   symbols_grow [] h = tt
   symbols_grow (z ∷ zs) h = (symbol_grows z h.0, symbols_grow zs h.1)
 
-  exp_grows : (e : Exp) → HasNumbers xs e → HasNumbers ys e
+  exp_grows : (e : FlatExp) → HasNumbers xs e → HasNumbers ys e
   exp_grows (exp.Number n) h = tt
   exp_grows (exp.Variable x) h = symbol_grows x h
   exp_grows (exp.Element' a p i) h = (symbol_grows a h.0, exp_grows i h.1)

@@ -21,7 +21,7 @@ use Rattle.janus_store.specs.StoreState.{StoreState, Caller, AreKnown, KeepsSigh
 use Rattle.janus_machine.specs.Bodies.{AreBelow, AreBodies, AreBodiesFrom, AreDefined, Define}
 use Rattle.janus_machine.specs.Procedures.{kept_in}
 use Rattle.janus_machine.specs.Places.{BookHasNumbers}
-use Rattle.janus_machine.specs.declared.procedure.Procedure.{Procedure}
+use Rattle.janus_machine.specs.declared.linked_procedure.LinkedProcedure.{LinkedProcedure}
 use Rattle.janus_machine.specs.declared.procedures.Procedures.{Procedures}
 use Rattle.kernel_runner.specs.Known.{FindTheSame}
 use Rattle.kernel_runner.specs.Met.{AreDeclaredMet, MeetOwn, AreProceduresMet}
@@ -36,20 +36,20 @@ use Rattle.kernel_runner.proofs.NamesMet.{sight_met, defined_met, all_met, all_p
 -- ---- indices of bodies
 
 -- the bodies that are defined are kept
-pub bodies_within : (xs : List Name) (bodies : List Procedure) (stack : List ℕ) (ps : List Proc) → AreBodies xs bodies stack ps → AreBelow (length bodies) stack
+pub bodies_within : (xs : List Name) (bodies : List LinkedProcedure) (stack : List ℕ) (ps : List Proc) → AreBodies xs bodies stack ps → AreBelow (length bodies) stack
 bodies_within xs bodies [] [] h = tt
 bodies_within xs bodies [] (p ∷ ps) h = absurd h
 bodies_within xs bodies (i ∷ stack) [] h = absurd h
 bodies_within xs bodies (i ∷ stack) (p ∷ ps) h = (slice_get_within bodies i h.0.0 h.0.1, bodies_within xs bodies stack ps h.1)
 
-get_taken : (n : ℕ) (xs : List Procedure) (i : ℕ) (b : Procedure) → slice_get (take n xs) i ≡ Some b → slice_get xs i ≡ Some b
-get_taken zero xs i b e = absurd (let l = slice_get_within {A = Procedure} [] i b e in omega arith)
+get_taken : (n : ℕ) (xs : List LinkedProcedure) (i : ℕ) (b : LinkedProcedure) → slice_get (take n xs) i ≡ Some b → slice_get xs i ≡ Some b
+get_taken zero xs i b e = absurd (let l = slice_get_within {A = LinkedProcedure} [] i b e in omega arith)
 get_taken (suc n) [] i b e = e
 get_taken (suc n) (x ∷ xs) zero b e = e
 get_taken (suc n) (x ∷ xs) (suc i) b e = get_taken n xs i b e
 
 -- they are at their indices among more
-bodies_of_more : (xs : List Name) (n : ℕ) (bodies : List Procedure) (stack : List ℕ) (ps : List Proc) → AreBodies xs (take n bodies) stack ps → AreBodies xs bodies stack ps
+bodies_of_more : (xs : List Name) (n : ℕ) (bodies : List LinkedProcedure) (stack : List ℕ) (ps : List Proc) → AreBodies xs (take n bodies) stack ps → AreBodies xs bodies stack ps
 bodies_of_more xs n bodies [] [] h = tt
 bodies_of_more xs n bodies [] (p ∷ ps) h = absurd h
 bodies_of_more xs n bodies (i ∷ stack) [] h = absurd h
@@ -74,16 +74,16 @@ shows_more old new shown sight one kept still is =
       one_number = one;
       defined = record {
         defined = still h.defined.defined;
-        bodies = bodies_of_more new.store.names (length (kept_in old.procedures)) (kept_in new.procedures) shown.bodies shown.world.procedures (subst (λ (bs : List Procedure). AreBodies new.store.names bs shown.bodies shown.world.procedures) (sym kept) grown.bodies);
+        bodies = bodies_of_more new.store.names (length (kept_in old.procedures)) (kept_in new.procedures) shown.bodies shown.world.procedures (subst (λ (bs : List LinkedProcedure). AreBodies new.store.names bs shown.bodies shown.world.procedures) (sym kept) grown.bodies);
       };
     } in
     (shows, record { declared = sight.declared ∙ is.1.declared ∙ sym (ap size_of sight.sight); callers = sight.callers ∙ is.1.callers })
 
 -- the same bodies are all of them
-pub all_kept : (old new : List Procedure) → new ≡ old → take (length old) new ≡ old
+pub all_kept : (old new : List LinkedProcedure) → new ≡ old → take (length old) new ≡ old
 all_kept old new e = ap (take (length old)) e ∙ all_of old
   where
-    all_of : (xs : List Procedure) → take (length xs) xs ≡ xs
+    all_of : (xs : List LinkedProcedure) → take (length xs) xs ≡ xs
     all_of [] = refl
     all_of (x ∷ xs) = ap (λ ys. x ∷ ys) (all_of xs)
 

@@ -10,7 +10,7 @@ use Rattle.janus_meaning.specs.FormedWorld.{HaveValues, with_declared, with_head
 use Rattle.janus_meaning.specs.Formed.{AreProcs}
 use Rattle.janus_meaning.proofs.Stores.{same_name_true}
 use Rattle.janus_machine.specs.Bodies.{AreBodies}
-use Rattle.janus_machine.specs.declared.procedure.Procedure as Kept
+use Rattle.janus_machine.specs.declared.linked_procedure.LinkedProcedure as Kept
 use Rattle.janus_names.specs.Numbers.{IsMet, GoOn}
 use Rattle.janus_syntax.specs.Tree as tree
 use Rattle.janus_syntax.specs.View.{plain_cell, plain_parameter, plain_procedure, plain_stm, stm_of, block_of}
@@ -70,7 +70,7 @@ called_met hs [] xs m own = m
 called_met hs (p ∷ ps) xs m own = called_met (head_of p ∷ hs) ps xs (called_more p.name (kinds_in p.params) hs xs m own.0.name) own.1
 
 -- the procedures that are defined were met
-pub defined_met : (xs : List Name) (bodies : List Kept.Procedure) (stack : List ℕ) (ps : List Proc) → AreBodies xs bodies stack ps → AreCalledMet (heads_of ps) xs
+pub defined_met : (xs : List Name) (bodies : List Kept.LinkedProcedure) (stack : List ℕ) (ps : List Proc) → AreBodies xs bodies stack ps → AreCalledMet (heads_of ps) xs
 defined_met xs bodies [] [] h = λ f cs e. cc
 defined_met xs bodies [] (p ∷ ps) h = absurd h
 defined_met xs bodies (i ∷ stack) [] h = absurd h

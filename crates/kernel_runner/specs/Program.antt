@@ -9,9 +9,9 @@ use Rattle.janus_machine.specs.Places.{block_in, BookHasNumbers}
 use Rattle.janus_names.specs.Numbers.{IsNumbered}
 use Rattle.janus_machine.specs.Bodies.{AreDefined, AreBodiesFrom, IsBody, onto}
 use Rattle.janus_machine.specs.Procedures.{kept_in}
-use Rattle.janus_machine.specs.Procedure.{number_of}
+use Rattle.janus_machine.specs.LinkedProcedure.{name_number_of}
 use Rattle.janus_machine.specs.declared.book.Direction.TheVariants.{Forward}
-use Rattle.janus_machine.specs.declared.procedure.Procedure.{Procedure}
+use Rattle.janus_machine.specs.declared.linked_procedure.LinkedProcedure.{LinkedProcedure}
 use Rattle.janus_machine.specs.declared.procedures.Procedures.{Procedures}
 use Rattle.kernel_runner.specs.declared.program.Program.{Program}
 
@@ -50,9 +50,9 @@ with_bodies program bodies = onto program.first (length (procedures_of program))
 
 -- the body of this procedure is kept behind the others
 pub record IsKeptBehind (names : List Name) (old new : Procedures) (p : Proc) : Type 0 where
-  pub body : Procedure
+  pub body : LinkedProcedure
   pub kept : kept_in new ≡ kept_in old ++ body ∷ []
-  pub name : IsNumbered names (number_of body) p.name
+  pub name : IsNumbered names (name_number_of body) p.name
   pub of_procedure : IsBody names body p
 
 -- and the bodies of these, in order

@@ -54,7 +54,7 @@ pub record Becomes (old new : StoreState) (s : Store) : Type 0 where
   pub names : GoOn old.names new.names
   pub one_number : HaveOneNumber old.names → HaveOneNumber new.names
 
--- so many names, with the values that they were declared with, stand above this store
+-- `count` names, with the values that they were declared with, stand above this store
 pub record IsDeclaredOver (h : StoreState) (count : ℕ) (before : Store) : Type 0 where
   pub declarations : List Declaration
   pub many : length declarations ≡ count
@@ -73,7 +73,7 @@ pub record Place : Type 0 where
   -- how many of its steps are taken, and not taken back
   pub count : ℕ
 
--- the place where so many steps are taken
+-- the place at this count of steps
 abbrev pub at_count : ℕ → Place → Place
 at_count count at = record { bodies = at.bodies; code = at.code; world = at.world; count = count }
 
@@ -97,7 +97,7 @@ world_inside at runner = world_of (start_at at).procedures runner
 abbrev pub count_of : {L : Type 0} → Runner L → ℕ
 count_of runner = cursors.count_in runner.cursor
 
--- So many steps of the block from the world w have led to the cursor and the store; or the cursor has turned round, and come back to there.
+-- `count` steps of the block from the world w have led to the cursor and the store; or the cursor has turned round, and come back to there.
 abbrev pub Faces : {L : Type 0} → Bool → Runner L → Program → Blk → World → ℕ → Type 0
 Faces false runner program b w count =
     HasRun w.procedures (stacks_in w.store) b w.store count runner.procedures program.book runner.cursor runner.store
@@ -184,7 +184,7 @@ Enters program old new = (from : ShownWorld) → CanEnter old program from → I
 abbrev pub EntersInverse : {L : Type 0} → Program → Runner L → Runner L → Type 0
 EntersInverse program old new = (from : ShownWorld) → CanReturn old program from → Is new (Inside program (inverse_entry program from) false)
 
--- how many steps are taken, of at most so many
+-- how many steps are taken in all, where there were m at most
 abbrev pub count_after : ℕ → Progress → ℕ
 count_after m Went = m
 count_after m (Ended n) = n

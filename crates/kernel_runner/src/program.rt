@@ -27,7 +27,7 @@ use janus_check::{Checked, Env, Kind, check};
 use janus_invert::{flatten, flatten_procedure};
 use janus_machine::{Book, Procedures, Store};
 use janus_names::Names;
-use janus_store::View;
+use janus_store::ValueView;
 use janus_syntax::parse_cell;
 use janus_syntax::tree::{Cell, Declaration, Procedure};
 use kernel_machine::Refusal;
@@ -176,7 +176,7 @@ fn keep(
     let Ok(flat) = flatten_procedure(alloc, procedure, names) else {
         return Err(AllocError);
     };
-    let body = janus_machine::Procedure::new(alloc, flat)?;
+    let body = janus_machine::LinkedProcedure::new(alloc, flat)?;
     let _index = kept.add(body)?;
     Ok(())
 }
@@ -198,12 +198,12 @@ pub fn names_in_sight<L: Ledger>(alloc: Global, store: &Store<L>) -> Result<Env,
 }
 
 /// The kind of a value.
-fn kind_of(value: View<'_>) -> Kind
+fn kind_of(value: ValueView<'_>) -> Kind
     ensures { result ≡ kind_in (shown value.entry) }
 {
     match value {
-        View::Number(_) => Kind::Number,
-        View::Array(_) => Kind::Array,
-        View::Stack(_) => Kind::Stack,
+        ValueView::Number(_) => Kind::Number,
+        ValueView::Array(_) => Kind::Array,
+        ValueView::Stack(_) => Kind::Stack,
     }
 }

@@ -13,7 +13,7 @@ use Rattle.kernel_core.specs.Theorems.{JobsEnd}
 use Rattle.kernel_core.specs.Ends.{EndsUnless, JobEnds, CellEnds, TextEnds, MoveEnds, GotoEnds, TravelEnds, IsNoNode}
 use Rattle.kernel_core.specs.events.Event.TheVariants as event
 use Rattle.kernel_core.specs.events.Told.TheVariants as told
-use Rattle.kernel_core.specs.outcome.End.{End}
+use Rattle.kernel_core.specs.outcome.TravelEnd.{TravelEnd}
 use Rattle.kernel_core.specs.outcome.Outcome.{Outcome}
 use Rattle.kernel_core.specs.outcome.Outcome.TheVariants as outcome
 use Rattle.kernel_core.specs.outcome.Begun.TheVariants as begun
@@ -78,7 +78,7 @@ no_ran s (outcome.Redid cells end) text t h = tt
 no_ran s (outcome.Went up down end) text t h = tt
 no_ran s (outcome.Refused refusal) text t h = tt
 
-moved_stands : (a : Aim) (up down : ℕ) (end : End) (t : Past) → StandsAtEnd (finished_by a up down end) t
+moved_stands : (a : Aim) (up down : ℕ) (end : TravelEnd) (t : Past) → StandsAtEnd (finished_by a up down end) t
 moved_stands aim.Undo up down end t = tt
 moved_stands aim.Redo up down end t = tt
 moved_stands (aim.Goto n) up down end t = tt

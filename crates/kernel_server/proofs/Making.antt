@@ -14,7 +14,7 @@ use Rattle.kernel_core.specs.travel.Aim.{Aim}
 use Rattle.kernel_core.specs.travel.Travel.{Travel}
 use Rattle.kernel_core.specs.Theorems.{JobsEnd}
 use Rattle.kernel_core.specs.Ends.{EndsUnless, JobEnds, CellEnds, TextEnds, MoveEnds, GotoEnds, TravelEnds, BecomesNode, IsNoNode}
-use Rattle.kernel_core.specs.outcome.End.{End}
+use Rattle.kernel_core.specs.outcome.TravelEnd.{TravelEnd}
 use Rattle.kernel_core.specs.outcome.Refusal.{Refusal}
 use Rattle.kernel_core.specs.outcome.Outcome.{Outcome}
 use Rattle.kernel_core.specs.outcome.Outcome.TheVariants as outcome
@@ -52,7 +52,7 @@ cell_made : (s : Past) (text : List ℕ) (full : Bool) (o : Outcome) (new : Stat
 cell_made s text true o new h = subst (λ (x : Outcome). IsMadeOf text x new.past) (sym h.0) tt
 cell_made s text false o new h = text_made s text o new h
 
-finished_none : (a : Aim) (up down : ℕ) (end : End) → MakesNone (finished_by a up down end)
+finished_none : (a : Aim) (up down : ℕ) (end : TravelEnd) → MakesNone (finished_by a up down end)
 finished_none aim.Undo up down end = tt
 finished_none aim.Redo up down end = tt
 finished_none (aim.Goto n) up down end = tt

@@ -14,10 +14,10 @@ use Rattle.kernel_core.specs.travel.Travel.{Travel}
 use Rattle.kernel_core.specs.travel.Way.{Way}
 use Rattle.kernel_core.specs.travel.Way.TheVariants.{Up, Down}
 use Rattle.kernel_core.specs.Travel.{next_way}
-use Rattle.kernel_core.specs.turn.Why.{Why}
-use Rattle.kernel_core.specs.turn.Why.TheVariants.{WasAsked}
-use Rattle.kernel_core.specs.turn.Turn.{Turn}
-use Rattle.kernel_core.specs.turn.Turn.TheVariants.{GoesOn, GoesBack}
+use Rattle.kernel_core.specs.heading.Why.{Why}
+use Rattle.kernel_core.specs.heading.Why.TheVariants.{WasAsked}
+use Rattle.kernel_core.specs.heading.Heading.{Heading}
+use Rattle.kernel_core.specs.heading.Heading.TheVariants.{GoesOn, GoesBack}
 use Rattle.kernel_core.proofs.Trees.{way_up, way_down}
 use Rattle.kernel_core.specs.outcome.Sliced.{Sliced}
 use Rattle.kernel_core.specs.outcome.Sliced.TheVariants as sliced
@@ -31,7 +31,7 @@ use Rattle.kernel_core.proofs.Taken.{IsInside, IsBorder}
 abbrev on_left : ℕ → ℕ → ℕ
 on_left limit c = (limit - c) + (c - limit) + limit + 2
 
-abbrev turn_left : Turn → ℕ → ℕ
+abbrev turn_left : Heading → ℕ → ℕ
 turn_left GoesOn c = on_left step_limit c
 turn_left (GoesBack why) c = c
 
@@ -46,7 +46,7 @@ in_all n t = n * (step_limit + step_limit + 4) + t
 abbrev pub left : Job → ℕ
 left Idle = 0
 left (Border travel) = in_all (cells travel) (step_limit + step_limit + 3)
-left (Inside e) = in_all (cells_left e.work) (turn_left e.turn e.count)
+left (Inside e) = in_all (cells_left e.work) (turn_left e.heading e.count)
 
 -- no more is left, and less where there were steps
 abbrev pub IsNearer : ℕ → ℕ → ℕ → Type 0
@@ -97,8 +97,8 @@ backs_nearer m s work why old (suc c) told new near h =
     subst (λ t. Nearer m old t new.job) (sym h.0)
     ((_, ap (λ x. x.job) h.1), subst (λ n. IsNearer m (left old) n) (sym (ap (λ x. left x.job) h.1)) (near c refl))
 
-abbrev inside : Work → ℕ → Turn → Job
-inside work c turn = Inside (record { work = work; count = c; turn = turn })
+abbrev inside : Work → ℕ → Heading → Job
+inside work c heading = Inside (record { work = work; count = c; heading = heading })
 
 stepped_left : (t : Travel) (way : Way) → next_way t ≡ way → cells (stepped t) ≡ cells t - 1
 stepped_left t Up way = (let some = way_up t.up way in rw (way, stepped) (omega arith))
@@ -136,7 +136,7 @@ comes_nearer m s work c (Stopped j fault) w told new r h =
     backs_nearer m s work _ (inside work c GoesOn) j told new
     (λ n e. less_is_nearer m _ _ (in_all_less (cells_left work) (suc n) (turn_left GoesOn c) (on_is_more step_limit c (suc n) (subst (λ k. k ≤ step_limit) e le)))) h
 
-slices_nearer : (m : ℕ) (asked : Bool) (s : Past) (work : Work) (c : ℕ) (turn : Turn) (told : Sliced) (new : State) → SlicesIn s work c turn m asked told new → Nearer m (inside work c turn) told new.job
+slices_nearer : (m : ℕ) (asked : Bool) (s : Past) (work : Work) (c : ℕ) (heading : Heading) (told : Sliced) (new : State) → SlicesIn s work c heading m asked told new → Nearer m (inside work c heading) told new.job
 slices_nearer m false s work c GoesOn told new h = comes_nearer m s work c h.0 h.1 told new h.2 h.3
 slices_nearer m true s work c GoesOn told new h =
     backs_nearer m s work (WasAsked c) (inside work c GoesOn) (c - m) told new
@@ -150,7 +150,7 @@ pub slice_nearer : (old new : Machine) (m : ℕ) (asked : Bool) (told : Sliced) 
 slice_nearer old new m asked told i h =
     let at : SlicesAt old.state.past (Inside i.0) m asked told h.0 = subst (λ job. SlicesAt old.state.past job m asked told h.0) i.1 h.1 in
     subst (λ job. Nearer m job told new.state.job) (sym i.1)
-    (subst (λ state. Nearer m (Inside i.0) told state.job) (sym (ap (λ m. m.state) h.2)) (slices_nearer m asked old.state.past i.0.work i.0.count i.0.turn told h.0 at))
+    (subst (λ state. Nearer m (Inside i.0) told state.job) (sym (ap (λ m. m.state) h.2)) (slices_nearer m asked old.state.past i.0.work i.0.count i.0.heading told h.0 at))
 
 -- ---- begins at a border
 

@@ -1,15 +1,15 @@
 -- Who makes room where all places of a socket are taken and another connection waits.
 use Rattle.std.specs.Prelude.{◌≡◌, ℕ, ◌+◌, ◌<◌, ◌≤◌, false, IsTrue, List, length, slice_get, Option, Some, None, if◌then◌else◌}
 use Rattle.kernel_sockets.specs.declared.room.Sight.{Sight}
-use Rattle.kernel_sockets.specs.declared.presence.TheConstants.{MOMENT}
+use Rattle.kernel_sockets.specs.declared.presence.TheConstants.{STAY_MILLISECONDS}
 
 -- a connection on which no message with a valid signature came
 abbrev pub IsStranger : Sight → Type 0
 IsStranger s = IsTrue s.is_taken × (s.is_trusted ≡ false)
 
--- so long it stays at least from when it was heard: a moment while its handshake is not over, and then as long as it may be silent
+-- how many milliseconds it stays at least from when it was heard: while its handshake is ahead the same for all, and then as long as it may be silent
 abbrev pub time_of : ℕ → Sight → ℕ
-time_of silence s = if s.is_ready then silence else MOMENT
+time_of silence s = if s.is_ready then silence else STAY_MILLISECONDS
 
 -- who may have to make room: a stranger whose time is over
 abbrev pub MayLeave : ℕ → ℕ → Sight → Type 0

@@ -19,7 +19,7 @@ pub struct Connections {
 }
 
 impl Connections {
-    /// No connections, at so many places.
+    /// No connections, at a number of places.
     ///
     /// # Errors
     ///
@@ -63,7 +63,7 @@ impl Connections {
         self.left.notify_all();
     }
 
-    /// Ends a stranger at one of so many places from the first on, if there is one that has to make room, by what is seen of the places under the lock:
+    /// Ends a stranger at one of `count` places from `first` on, if there is one that has to make room, by what is seen of the places under the lock:
     /// what `Register::make_room` does of the register there. It takes no memory.
     pub fn make_room<R: Wait>(&self, rt: &R, first: usize, count: usize, now: u64, silence: u64) {
         let mut register = self.register.lock(rt);
@@ -87,7 +87,7 @@ impl Connections {
     }
 }
 
-/// What is known at so many places, where no connection has been yet.
+/// What is known at a number of places, where no connection has been yet.
 fn presences_of(alloc: Global, places: usize) -> Result<Vec<Presence>, AllocError> {
     let mut presences = Vec::with_capacity(alloc, places)?;
     for _ in 0..places {

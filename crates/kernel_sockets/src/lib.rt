@@ -3,7 +3,7 @@
 //!
 //! A [`Listener`] hands out connections with no delay by Nagle's algorithm, on which a write waits ten seconds at most. [`Connections`] are
 //! those that are served at a number of places: who serves one enters it and leaves again, and who ends the kernel closes them all, so that
-//! no more come in, and reads from those that are there come to their end ([`Input`]). Of the connection at each place a [`Presence`] tells
+//! no more come in, and reads from those that are there come to their end ([`ConnectionInput`]). Of the connection at each place a [`Presence`] tells
 //! whether it is ready, whether it is trusted and when it was heard, so that a stranger makes room where all places are taken. Who that is
 //! [`who_makes_room`] answers, by specs/Room.antt: of the strangers whose time is over one that is not ready, and else the one that was heard longest
 //! ago; nobody who showed the key. What strangers bring is counted by [`Strangers`]: each has its own share, and past their shares they bring no more
@@ -25,10 +25,10 @@ mod room;
 mod shares;
 
 pub use connections::Connections;
-pub use input::Input;
+pub use input::ConnectionInput;
 pub use listener::Listener;
 pub use patience::{MESSAGE_MILLISECONDS, Patience};
-pub use presence::{MOMENT, Presence};
+pub use presence::{Presence, STAY_MILLISECONDS};
 pub use register::{Register, Stream};
 pub use room::{Sight, who_makes_room};
 pub use shares::{Allowance, COMMON_OCTETS, Common, OWN_OCTETS, READ_OCTETS, Share, Strangers};

@@ -5,7 +5,7 @@ use crate::room::Sight;
 use std::sync::atomic::{AtomicBool, AtomicU64, Ordering};
 
 /// The milliseconds that a connection has at least before it has to make room: who comes with the key shows it sooner.
-pub const MOMENT: u64 = 200;
+pub const STAY_MILLISECONDS: u64 = 200;
 
 /// What is known of the connection at a place, for all who look, without a lock.
 #[derive(Drop)]

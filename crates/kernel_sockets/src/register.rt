@@ -24,7 +24,7 @@ pub struct Register {
 }
 
 impl Register {
-    /// No connections, at so many places.
+    /// No connections, at a number of places.
     pub fn new(alloc: Global, places: usize) -> Result<Register, AllocError>
         ensures open { IfOk result (λ r. r.is_closed ≡ false) }
         ensures places { IfOk result (λ r. length r.streams.items ≡ places) }
@@ -109,8 +109,8 @@ impl Register {
         }
     }
 
-    /// Looks at all places, and shuts the connection that has to make room among so many of them from the first on: whom `who_makes_room` answers. The
-    /// answer is its place, counted from the first. None where no connection has to, or where there are not so many places. It takes no memory.
+    /// Looks at all places, and shuts the connection that has to make room among `count` of them from `first` on: whom `who_makes_room` answers. The
+    /// answer is its place, counted from the first. None where no connection has to, or where there are fewer places. It takes no memory.
     pub fn make_room(
         &mut self,
         presences: &[Presence],

@@ -3,7 +3,7 @@ ghost use Rattle.std.specs.Prelude.{◌≡◌, ℕ, ◌<◌, ◌≤◌, ◌↔�
 ghost use Rattle.kernel_sockets.specs.declared.room.Sight.{Sight};
 ghost use Rattle.kernel_sockets.specs.Room.{IsStranger, time_of, MayLeave, LeavesFirst, MakesRoomAmong, MakesRoom};
 
-use crate::presence::MOMENT;
+use crate::presence::STAY_MILLISECONDS;
 
 /// What was seen of a place.
 #[derive(Clone, Copy, PartialEq, Eq)]
@@ -31,7 +31,11 @@ impl Sight {
     fn time(self, silence: u64) -> u64
         ensures { result ≡ time_of silence self }
     {
-        if self.is_ready { silence } else { MOMENT }
+        if self.is_ready {
+            silence
+        } else {
+            STAY_MILLISECONDS
+        }
     }
 
     /// Whether it may have to make room: whether it is a stranger whose time is over.
@@ -66,8 +70,8 @@ fn is_before(sights: &[Sight], sight: Sight, found: Option<usize>) -> bool
 }
 
 /// Who makes room at these places: of the connections on which no message with a valid signature came and whose time is over the one that leaves first. One
-/// whose handshake is not over goes before one that is ready, and else the one that was heard longest ago; a ready one may be silent for so many
-/// milliseconds. None where none has to. So who showed the key stays, whoever else is there, and one that came just now has its moment.
+/// whose handshake is not over goes before one that is ready, and else the one that was heard longest ago; a ready one may be silent for `silence`
+/// milliseconds. None where none has to. So who showed the key stays, whoever else is there, and one that came just now has its time.
 pub fn who_makes_room(sights: &[Sight], now: u64, silence: u64) -> Option<usize>
     ensures rule { MakesRoom now silence sights.now result }
     ensures stranger { IfSome result (λ place. (s : Sight) × (slice_get sights.now place ≡ Some s) × IsStranger s) }

@@ -63,7 +63,7 @@ impl<S: Ledger> Share<S> {
         Share { brought: 0, part }
     }
 
-    /// Brings so many octets more where that stays within its own share; whether it does. Nothing changes where it doesn't.
+    /// Brings `count` octets more where that stays within its own share; whether it does. Nothing changes where it doesn't.
     pub fn bring_own(&mut self, count: u64) -> bool
         ensures own { IsTrue result ↔ self.old.brought + count ≤ OWN_OCTETS }
         ensures brought { IsTrue result → self.new.brought ≡ self.old.brought + count }
@@ -93,7 +93,7 @@ impl<S: Ledger> Share<S> {
 }
 
 impl<S: Ledger> Common<S> {
-    /// Nobody holds anything, and so many places may have an allowance.
+    /// Nobody holds anything, and each of `places` places may have an allowance.
     pub fn new(blank: Blank, places: u64) -> Common<S>
         requires name { blank.name ≡ S.name }
         requires parts { (blank.parts ≡ S.parts) × (blank.parts ≡ places) }
@@ -123,7 +123,7 @@ impl<S: Ledger> Common<S> {
         Some(Allowance { part })
     }
 
-    /// A stranger brings so many octets more. False, and nothing changes, where strangers would hold too much together by that.
+    /// A stranger brings `count` octets more. False, and nothing changes, where strangers would hold too much together by that.
     pub fn bring(&mut self, share: &mut Share<S>, count: u64) -> bool
         ensures brought { IsTrue result → share.new.brought ≡ share.old.brought + count }
         ensures counted { self.new.held + common_of share.old.brought ≡ self.old.held + common_of share.new.brought }
@@ -171,7 +171,7 @@ impl<S: Ledger> Common<S> {
         *brought = 0;
     }
 
-    /// A stranger lets go of so many octets of what it brought, or of all where it brought fewer: these were answered, and are no longer kept.
+    /// A stranger lets go of `count` octets of what it brought, or of all where it brought fewer: these were answered, and are no longer kept.
     pub fn give_back(&mut self, share: &mut Share<S>, count: u64)
         ensures less { share.new.brought ≡ share.old.brought - count }
         ensures counted { self.new.held + common_of share.old.brought ≡ self.old.held + common_of share.new.brought }
@@ -194,7 +194,7 @@ pub struct Strangers<S: Ledger> {
 }
 
 impl<S: Ledger> Strangers<S> {
-    /// Nobody holds anything, and so many places may have an allowance.
+    /// Nobody holds anything, and each of `places` places may have an allowance.
     pub fn new(blank: Blank, places: u64) -> Strangers<S>
         requires name { blank.name ≡ S.name }
         requires parts { (blank.parts ≡ S.parts) × (blank.parts ≡ places) }
@@ -210,7 +210,7 @@ impl<S: Ledger> Strangers<S> {
         common.allowance()
     }
 
-    /// A stranger brings so many octets more: what `Common::bring` answers of what strangers hold as it is under the lock. No lock is taken for what
+    /// A stranger brings `count` octets more: what `Common::bring` answers of what strangers hold as it is under the lock. No lock is taken for what
     /// stays within its own share.
     pub fn bring<R: Wait>(&self, rt: &R, share: &mut Share<S>, count: u64) -> bool
         ensures own { share.old.brought + count ≤ OWN_OCTETS → IsTrue result }
@@ -236,7 +236,7 @@ impl<S: Ledger> Strangers<S> {
         common.settle(share);
     }
 
-    /// A stranger lets go of so many octets of what it brought, without a lock where all that was within its own share.
+    /// A stranger lets go of `count` octets of what it brought, without a lock where all that was within its own share.
     pub fn give_back<R: Wait>(&self, rt: &R, share: &mut Share<S>, count: u64)
         ensures { share.new.brought ≡ share.old.brought - count }
     {

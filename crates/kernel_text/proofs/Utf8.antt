@@ -18,8 +18,8 @@ use Rattle.janus_check.specs.Fault as check
 use Rattle.janus_check.specs.declared.fault.CheckFault.{CheckFault}
 use Rattle.janus_check.specs.declared.fault.CheckFault.TheVariants as c
 use Rattle.kernel_core.specs.Refusal as refusal
-use Rattle.kernel_core.specs.outcome.End.{End}
-use Rattle.kernel_core.specs.outcome.End.TheVariants.{All, Asked, NoMemory}
+use Rattle.kernel_core.specs.outcome.TravelEnd.{TravelEnd}
+use Rattle.kernel_core.specs.outcome.TravelEnd.TheVariants.{All, Asked, NoMemory}
 use Rattle.kernel_core.specs.outcome.Outcome.{Outcome}
 use Rattle.kernel_core.specs.outcome.Outcome.TheVariants.{Ran, Failed, Interrupted, Undid, Redid, Went, Refused}
 use Rattle.kernel_core.specs.outcome.Refusal.{Refusal}
@@ -135,7 +135,7 @@ place_utf8 (Some span) =
     IsUtf8-append (counted_text (codes " at ") span.start) (counted_text (codes "..") span.end)
     (counted_utf8 (codes " at ") span.start (literal (codes " at ") refl)) (counted_utf8 (codes "..") span.end (literal (codes "..") refl))
 
-end_utf8 : (end : End) → IsUtf8 (end_text end)
+end_utf8 : (end : TravelEnd) → IsUtf8 (end_text end)
 end_utf8 All = IsUtf8-nil
 end_utf8 Asked = IsUtf8-nil
 end_utf8 NoMemory = literal (codes " then no memory") refl

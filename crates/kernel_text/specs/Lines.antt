@@ -5,8 +5,8 @@ use Rattle.janus_machine.specs.declared.fault.Fault.{Fault}
 use Rattle.janus_syntax.specs.declared.token.Span.{Span}
 use Rattle.kernel_core.specs.Refusal as refusal
 use Rattle.kernel_core.specs.PostFault as post_fault
-use Rattle.kernel_core.specs.outcome.End.{End}
-use Rattle.kernel_core.specs.outcome.End.TheVariants.{All, Asked, NoMemory}
+use Rattle.kernel_core.specs.outcome.TravelEnd.{TravelEnd}
+use Rattle.kernel_core.specs.outcome.TravelEnd.TheVariants.{All, Asked, NoMemory}
 use Rattle.kernel_core.specs.outcome.Outcome.{Outcome}
 use Rattle.kernel_core.specs.outcome.Outcome.TheVariants.{Ran, Failed, Interrupted, Undid, Redid, Went, Refused}
 use Rattle.kernel_core.specs.outcome.Refusal.{Refusal}
@@ -30,13 +30,13 @@ place_text None = []
 place_text (Some span) = counted_text (codes " at ") span.start ++ counted_text (codes "..") span.end
 
 -- how an undo, a redo or a goto ended, where memory ran out
-abbrev pub end_text : End → List ℕ
+abbrev pub end_text : TravelEnd → List ℕ
 end_text All = []
 end_text Asked = []
 end_text NoMemory = codes " then no memory"
 
 -- how many cells a goto went up and down, and how it ended
-abbrev pub way_text : ℕ → ℕ → End → List ℕ
+abbrev pub way_text : ℕ → ℕ → TravelEnd → List ℕ
 way_text up down end =
     (counted_text (codes "went ") up ++ counted_text (codes " up ") down) ++ (codes " down" ++ end_text end)
 

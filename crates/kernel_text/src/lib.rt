@@ -5,7 +5,8 @@
 //! as a text of its own, which is UTF-8 (`outcome_line`, `post_fault_line`, `fault_line`, `refusal_line`, `value_text`, `procedure_text`). A line
 //! stands without its LF.
 //! Programs that write lines and messages that tell errors say the same words, since both take them from here (specs/: `Lines`,
-//! `ValueTexts`, `ProcedureTexts`, `Procedures`, and `NameSets`, the order of names that are told). [`laws`] says that a procedure has one text, however its tree is placed.
+//! `ValueTexts`, `ProcedureTexts`, `Procedures`, and `NameSets`, the order of names that are told). [`laws`] says that a procedure has one text,
+//! however its tree is placed.
 #![tactic(auto)]
 
 pub mod laws;

@@ -8,7 +8,7 @@ ghost use Rattle.kernel_text.specs.Lines.{post_fault_line as post_fault_line_of,
 use crate::text::as_text;
 use crate::writing::{send_counted, send_numbered, send_pair};
 use exact_write::{WriteFailed, send};
-use kernel_core::{End, Fault, Outcome, PostFault, Refusal, Span};
+use kernel_core::{Fault, Outcome, PostFault, Refusal, Span, TravelEnd};
 use std::alloc::{AllocError, Global};
 use std::io::Write;
 
@@ -24,13 +24,13 @@ fn send_place<W: Write>(writer: &mut W, place: Option<Span>) -> Result<(), Write
 }
 
 /// Writes how an undo, a redo or a goto ended, if memory ran out.
-fn send_end<W: Write>(writer: &mut W, end: End) -> Result<(), WriteFailed>
+fn send_end<W: Write>(writer: &mut W, end: TravelEnd) -> Result<(), WriteFailed>
     ensures ok { OnOk result (Appends (W.contents writer.old) (W.contents writer.new) (end_text end)) }
     ensures err { OnErr result (SentSome (W.contents writer.old) (W.contents writer.new) (end_text end)) }
 {
     match end {
-        End::All | End::Asked => Ok(()),
-        End::NoMemory => send(writer, b" then no memory"),
+        TravelEnd::All | TravelEnd::Asked => Ok(()),
+        TravelEnd::NoMemory => send(writer, b" then no memory"),
     }
 }
 
@@ -39,7 +39,7 @@ fn send_cells<W: Write>(
     writer: &mut W,
     words: &str,
     cells: usize,
-    end: End,
+    end: TravelEnd,
 ) -> Result<(), WriteFailed>
     ensures ok { OnOk result (Appends (W.contents writer.old) (W.contents writer.new) (counted_text words.now cells ++ end_text end)) }
     ensures err { OnErr result (SentSome (W.contents writer.old) (W.contents writer.new) (counted_text words.now cells ++ end_text end)) }
@@ -49,7 +49,7 @@ fn send_cells<W: Write>(
 }
 
 /// Writes the word behind the cells that a goto went down, and how that ended.
-fn send_down<W: Write>(writer: &mut W, end: End) -> Result<(), WriteFailed>
+fn send_down<W: Write>(writer: &mut W, end: TravelEnd) -> Result<(), WriteFailed>
     ensures ok { OnOk result (Appends (W.contents writer.old) (W.contents writer.new) (codes " down" ++ end_text end)) }
     ensures err { OnErr result (SentSome (W.contents writer.old) (W.contents writer.new) (codes " down" ++ end_text end)) }
 {
@@ -58,7 +58,12 @@ fn send_down<W: Write>(writer: &mut W, end: End) -> Result<(), WriteFailed>
 }
 
 /// Writes how many cells a goto went up and down, and how that ended.
-fn send_way<W: Write>(writer: &mut W, up: usize, down: usize, end: End) -> Result<(), WriteFailed>
+fn send_way<W: Write>(
+    writer: &mut W,
+    up: usize,
+    down: usize,
+    end: TravelEnd,
+) -> Result<(), WriteFailed>
     ensures ok { OnOk result (Appends (W.contents writer.old) (W.contents writer.new) (way_text up down end)) }
     ensures err { OnErr result (SentSome (W.contents writer.old) (W.contents writer.new) (way_text up down end)) }
 {

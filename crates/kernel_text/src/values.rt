@@ -12,7 +12,7 @@ use crate::text::as_text;
 use crate::writing::send_counted;
 use exact_write::{WriteFailed, send};
 use itoa::Buffer;
-use janus_store::{StackView, View};
+use janus_store::{StackView, ValueView};
 use std::alloc::{AllocError, Global};
 use std::io::Write;
 
@@ -134,14 +134,14 @@ fn send_stack<W: Write>(writer: &mut W, values: &StackView<'_>) -> Result<(), Wr
 }
 
 /// Writes what stands behind a name: its value.
-fn send_told<W: Write>(writer: &mut W, value: View<'_>) -> Result<(), WriteFailed>
+fn send_told<W: Write>(writer: &mut W, value: ValueView<'_>) -> Result<(), WriteFailed>
     ensures ok { OnOk result (Appends (W.contents writer.old) (W.contents writer.new) (told_text (shown value.entry))) }
     ensures err { OnErr result (SentSome (W.contents writer.old) (W.contents writer.new) (told_text (shown value.entry))) }
 {
     match value {
-        View::Number(number) => send_equated(writer, number),
-        View::Array(numbers) => send_array(writer, numbers),
-        View::Stack(values) => send_stack(writer, &values),
+        ValueView::Number(number) => send_equated(writer, number),
+        ValueView::Array(numbers) => send_array(writer, numbers),
+        ValueView::Stack(values) => send_stack(writer, &values),
     }
 }
 
@@ -150,7 +150,7 @@ fn send_told<W: Write>(writer: &mut W, value: View<'_>) -> Result<(), WriteFaile
 ///
 /// # Errors
 /// The writer failed, and a beginning of the text went out.
-pub fn send_value<W: Write>(writer: &mut W, name: &str, value: View<'_>) -> Result<(), WriteFailed>
+pub fn send_value<W: Write>(writer: &mut W, name: &str, value: ValueView<'_>) -> Result<(), WriteFailed>
     ensures ok { OnOk result (Appends (W.contents writer.old) (W.contents writer.new) (value_text_of (name.now, shown value.entry))) }
     ensures err { OnErr result (SentSome (W.contents writer.old) (W.contents writer.new) (value_text_of (name.now, shown value.entry))) }
 {
@@ -159,7 +159,7 @@ pub fn send_value<W: Write>(writer: &mut W, name: &str, value: View<'_>) -> Resu
 }
 
 /// The value text of a name and its value, as [`send_value`] writes it. The only error is want of memory.
-pub fn value_text(alloc: Global, name: &str, value: View<'_>) -> Result<String, AllocError>
+pub fn value_text(alloc: Global, name: &str, value: ValueView<'_>) -> Result<String, AllocError>
     ensures { IfOk result (λ text. string_bytes text ≡ value_text_of (name.now, shown value.entry)) }
 {
     let mut octets = Vec::new(alloc);

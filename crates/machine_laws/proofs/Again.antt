@@ -11,8 +11,8 @@ use Rattle.machine_laws.specs.Travels.{descendant, favoured, UndoGoesUp, RedoGoe
 use Rattle.kernel_machine.specs.declared.travel.Travel.{Travel}
 use Rattle.kernel_machine.specs.declared.travel.Aim.{Aim}
 use Rattle.kernel_machine.specs.declared.travel.Aim.TheVariants as aim
-use Rattle.kernel_machine.specs.declared.outcome.End.{End}
-use Rattle.kernel_machine.specs.declared.outcome.End.TheVariants.{All}
+use Rattle.kernel_machine.specs.declared.outcome.TravelEnd.{TravelEnd}
+use Rattle.kernel_machine.specs.declared.outcome.TravelEnd.TheVariants.{All}
 use Rattle.kernel_machine.specs.declared.outcome.Outcome.{Outcome}
 use Rattle.kernel_machine.specs.declared.outcome.Outcome.TheVariants as outcome
 use Rattle.kernel_machine.proofs.Trees.{all_above, set_back}
@@ -137,7 +137,7 @@ there_and_back s k g can =
     ∙ ap (λ (n : ℕ). record s { position = n }) (back_down s k g (λ j l. all_above s.nodes s.position k j can l))
 
 -- a whole undo, and a whole redo
-undid_all : (s : Past) (t : Travel) (k : ℕ) (can : Bool) (new : State) → cells t ≡ k → MoveEnds s t can (outcome.Undid k All) new → ((j : ℕ) (end : End) → finished (after t j) end ≡ outcome.Undid k All → end ≡ All) →
+undid_all : (s : Past) (t : Travel) (k : ℕ) (can : Bool) (new : State) → cells t ≡ k → MoveEnds s t can (outcome.Undid k All) new → ((j : ℕ) (end : TravelEnd) → finished (after t j) end ≡ outcome.Undid k All → end ≡ All) →
     (new ≡ record { past = gone s t k; job = Idle }) × (can ≡ true)
 undid_all s t k false new size m only = absurd (let e = m.0 in cc)
 undid_all s t k true new size m only =
@@ -145,7 +145,7 @@ undid_all s t k true new size m only =
     let j : m.0 ≡ k = m.2.all.0 end ∙ size in
     (m.2.stands ∙ ap (λ (n : ℕ). record { past = gone s t n; job = Idle }) j, refl)
 
-redid_all : (s : Past) (t : Travel) (k : ℕ) (can : Bool) (new : State) → cells t ≡ k → MoveEnds s t can (outcome.Redid k All) new → ((j : ℕ) (end : End) → finished (after t j) end ≡ outcome.Redid k All → end ≡ All) →
+redid_all : (s : Past) (t : Travel) (k : ℕ) (can : Bool) (new : State) → cells t ≡ k → MoveEnds s t can (outcome.Redid k All) new → ((j : ℕ) (end : TravelEnd) → finished (after t j) end ≡ outcome.Redid k All → end ≡ All) →
     new ≡ record { past = gone s t k; job = Idle }
 redid_all s t k false new size m only = absurd (let e = m.0 in cc)
 redid_all s t k true new size m only =
@@ -153,17 +153,17 @@ redid_all s t k true new size m only =
     let j : m.0 ≡ k = m.2.all.0 end ∙ size in
     m.2.stands ∙ ap (λ (n : ℕ). record { past = gone s t n; job = Idle }) j
 
-end_of_outcome : Outcome → End
+end_of_outcome : Outcome → TravelEnd
 end_of_outcome (outcome.Undid j end) = end
 end_of_outcome (outcome.Redid j end) = end
 end_of_outcome (outcome.Went i j end) = end
 end_of_outcome o = All
 
-end_told : (t : Travel) (end : End) → end_of_outcome (finished t end) ≡ end
+end_told : (t : Travel) (end : TravelEnd) → end_of_outcome (finished t end) ≡ end
 unfolding end_of_outcome
 end_told t end = by_aim t.aim t.went_up t.went_down end
   where
-    by_aim : (a : Aim) (i j : ℕ) (end : End) → end_of_outcome (finished_by a i j end) ≡ end
+    by_aim : (a : Aim) (i j : ℕ) (end : TravelEnd) → end_of_outcome (finished_by a i j end) ≡ end
     by_aim aim.Undo i j end = refl
     by_aim aim.Redo i j end = refl
     by_aim (aim.Goto n) i j end = refl

@@ -20,10 +20,10 @@ use Rattle.machine_laws.specs.Determined.{TellsWant, StepIsDetermined, RunIsDete
 use Rattle.kernel_machine.specs.declared.travel.Aim.TheVariants as aim
 use Rattle.kernel_machine.proofs.Trees.{meeting_same}
 use Rattle.kernel_machine.specs.declared.travel.Travel.{Travel}
-use Rattle.kernel_machine.specs.declared.turn.Why.{Why}
-use Rattle.kernel_machine.specs.declared.turn.Why.TheVariants.{WasAsked, Faulted}
-use Rattle.kernel_machine.specs.declared.turn.Turn.{Turn}
-use Rattle.kernel_machine.specs.declared.turn.Turn.TheVariants.{GoesOn, GoesBack}
+use Rattle.kernel_machine.specs.declared.heading.Why.{Why}
+use Rattle.kernel_machine.specs.declared.heading.Why.TheVariants.{WasAsked, Faulted}
+use Rattle.kernel_machine.specs.declared.heading.Heading.{Heading}
+use Rattle.kernel_machine.specs.declared.heading.Heading.TheVariants.{GoesOn, GoesBack}
 use Rattle.kernel_machine.specs.declared.outcome.Refusal.{Refusal}
 use Rattle.kernel_machine.specs.declared.outcome.Refusal.TheVariants.{Memory}
 use Rattle.kernel_machine.specs.declared.outcome.Outcome.TheVariants as outcome
@@ -76,7 +76,7 @@ fault_back fault.StepLimit = refl
 fault_same : (f g : Fault) → fault_of f ≡ fault_of g → f ≡ g
 fault_same f g e = sym (fault_back f) ∙ ap code_fault e ∙ fault_back g
 
--- from one world, with so many steps to take, code comes thus far and no further
+-- from one world, with m steps to take, code comes thus far and no further
 pub reach_same : (code : Code) (w : World) (m : ℕ) (a b : Progress) (u v : World) → Reaches code w m a u → Reaches code w m b v → (a ≡ b) × (u ≡ v)
 reach_same code w m Went Went u v p q = (refl, part_same code w m u v p.0 q.0)
 reach_same code w m Went (Ended n) u v p q = absurd (let l : m < n = p.1 n v q.0 in let h : n ≤ m = q.1 in omega arith)
@@ -117,7 +117,7 @@ goes_same s work c m t u new other a b =
     comes_same s work (c + m) a.0 a.1 t u new other a.3
     (subst (λ (x : Progress). Comes s work (c + m) x a.1 u other) (sym same.0) (subst (λ (x : World). Comes s work (c + m) b.0 x u other) (sym same.1) b.3))
 
-slice_in_same : (s : Past) (work : Work) (c : ℕ) (turn : Turn) (m : ℕ) (asked : Bool) (t u : Sliced) (new other : State) → SlicesIn s work c turn m asked t new → SlicesIn s work c turn m asked u other → (t ≡ u) × (new ≡ other)
+slice_in_same : (s : Past) (work : Work) (c : ℕ) (heading : Heading) (m : ℕ) (asked : Bool) (t u : Sliced) (new other : State) → SlicesIn s work c heading m asked t new → SlicesIn s work c heading m asked u other → (t ≡ u) × (new ≡ other)
 slice_in_same s work c GoesOn m false t u new other a b = goes_same s work c m t u new other a b
 slice_in_same s work c GoesOn m true t u new other a b = backs_same s work (WasAsked c) (c - m) t u new other a b
 slice_in_same s work c (GoesBack why) m asked t u new other a b = backs_same s work why (c - m) t u new other a b
@@ -125,7 +125,7 @@ slice_in_same s work c (GoesBack why) m asked t u new other a b = backs_same s w
 slice_same : (s : Past) (job : Open) (m : ℕ) (asked : Bool) (t u : Sliced) (new other : State) → SlicesAt s job m asked t new → SlicesAt s job m asked u other → (t ≡ u) × (new ≡ other)
 slice_same s Idle m asked t u new other a b = (a.0 ∙ sym b.0, a.1 ∙ sym b.1)
 slice_same s (Border travel) m asked t u new other a b = (a.0 ∙ sym b.0, a.1 ∙ sym b.1)
-slice_same s (Inside e) m asked t u new other a b = slice_in_same s e.work e.count e.turn m asked t u new other a b
+slice_same s (Inside e) m asked t u new other a b = slice_in_same s e.work e.count e.heading m asked t u new other a b
 
 -- ---- begins
 
@@ -165,7 +165,7 @@ takes_cell_same s text false t u new other g a ample b enough = elim a [
   | inl x ↦ elim b [
     | inl y ↦
         (let same : x.0 ≡ y.0 = one_cell (here s) text x.0 y.0 x.1 y.1 in
-        (x.2 ∙ sym y.2, x.3 ∙ ap (λ (c : Cell). record { past = s; job = Inside (record { work = Posted c; count = 0; turn = GoesOn }) }) same ∙ sym y.3))
+        (x.2 ∙ sym y.2, x.3 ∙ ap (λ (c : Cell). record { past = s; job = Inside (record { work = Posted c; count = 0; heading = GoesOn }) }) same ∙ sym y.3))
     | inr y ↦ absurd (not_both (here s) text x.0 y.0 (g.sound s.position g.position) x.1 y.1 (real u y.0 enough y.2))
   ]
   | inr x ↦ elim b [

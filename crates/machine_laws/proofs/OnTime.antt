@@ -14,7 +14,7 @@ use Rattle.kernel_machine.specs.Legal.{IsPossible, IsPossibleAt, IsInTimeAt, IsL
 use Rattle.kernel_machine.specs.Slices.{Settles, Comes, SlicesAt}
 use Rattle.kernel_machine.specs.Runs.{Machine}
 use Rattle.machine_laws.specs.Travels.{steps_of, end_world, IsOnTime, SettlesOnTime, NeverFaults, IsMirrored}
-use Rattle.kernel_machine.specs.declared.turn.Turn.TheVariants.{GoesOn}
+use Rattle.kernel_machine.specs.declared.heading.Heading.TheVariants.{GoesOn}
 use Rattle.kernel_machine.specs.declared.outcome.Sliced.{Sliced}
 use Rattle.kernel_machine.proofs.LanguageLaws.{exec_inverted, part_inverted, exec_no_stop, exec_same}
 use Rattle.kernel_machine.proofs.Trees.{run_above, run_below, up_possible, next_below}
@@ -47,10 +47,10 @@ comes_on_time s travel c m (Ended n) w told new g p r a =
     )
 comes_on_time s travel c m (Stopped j fault) w told new g p r a = absurd (never_faults s travel (c + m) j fault w g p r)
 
-slice_on_time : (s : State) (travel : Travel) (c m : ℕ) (job : Open) (told : Sliced) (new : State) → job ≡ Inside (record { work = Move travel; count = c; turn = GoesOn }) → IsLegal s.past → IsPossibleAt s.past job → IsInTimeAt s.past job →
+slice_on_time : (s : State) (travel : Travel) (c m : ℕ) (job : Open) (told : Sliced) (new : State) → job ≡ Inside (record { work = Move travel; count = c; heading = GoesOn }) → IsLegal s.past → IsPossibleAt s.past job → IsInTimeAt s.past job →
     SlicesAt s.past job m false told new → (c < steps_of s.past travel) × IsOnTime s.past travel c m told new
 slice_on_time s travel c m job told new e g p t a =
-    let inside : Entered = record { work = Move travel; count = c; turn = GoesOn } in
+    let inside : Entered = record { work = Move travel; count = c; heading = GoesOn } in
     let goes : SlicesAt s.past (Inside inside) m false told new = subst (λ (j : Open). SlicesAt s.past j m false told new) e a in
     let possible : IsPossibleAt s.past (Inside inside) = subst (λ (j : Open). IsPossibleAt s.past j) e p in
     let in_time : IsInTimeAt s.past (Inside inside) = subst (λ (j : Open). IsInTimeAt s.past j) e t in

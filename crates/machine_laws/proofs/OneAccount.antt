@@ -16,7 +16,7 @@ use Rattle.machine_laws.specs.Theorems.{OneAccount}
 use Rattle.kernel_machine.specs.declared.travel.Travel.{Travel}
 use Rattle.kernel_machine.specs.declared.travel.Aim.{Aim}
 use Rattle.kernel_machine.specs.declared.travel.Aim.TheVariants as aim
-use Rattle.kernel_machine.specs.declared.outcome.End.{End}
+use Rattle.kernel_machine.specs.declared.outcome.TravelEnd.{TravelEnd}
 use Rattle.kernel_machine.specs.declared.outcome.Refusal.{Refusal}
 use Rattle.kernel_machine.specs.declared.outcome.Refusal.TheVariants.{Closing}
 use Rattle.kernel_machine.specs.declared.outcome.Outcome.{Outcome}
@@ -57,15 +57,15 @@ aim_stays : (t : Travel) (j : ℕ) → (after t j).aim ≡ t.aim
 aim_stays t zero = refl
 aim_stays t (suc j) = (let t' = after t j in step_aim t'.aim t'.up t'.down t'.went_up t'.went_down ∙ aim_stays t j)
 
-undo_tells : (k j : ℕ) (end : End) → j ≤ k → told_cells (finished (after (travel_to aim.Undo k 0) j) end) ≡ j
+undo_tells : (k j : ℕ) (end : TravelEnd) → j ≤ k → told_cells (finished (after (travel_to aim.Undo k 0) j) end) ≡ j
 undo_tells k j end l = ap (λ (t : Travel). told_cells (finished t end)) (after_up aim.Undo k 0 j l)
 
-redo_tells : (k j : ℕ) (end : End) → j ≤ k → told_cells (finished (after (travel_to aim.Redo 0 k) j) end) ≡ j
+redo_tells : (k j : ℕ) (end : TravelEnd) → j ≤ k → told_cells (finished (after (travel_to aim.Redo 0 k) j) end) ≡ j
 redo_tells k j end l =
     let e : 0 + j ≡ j = omega arith in
     subst (λ (i : ℕ). told_cells (finished (after (travel_to aim.Redo 0 k) i) end) ≡ j) e (ap (λ (t : Travel). told_cells (finished t end)) (after_down aim.Redo 0 k j l))
 
-goto_tells : (n up down j : ℕ) (end : End) → told_cells (finished (after (travel_to (aim.Goto n) up down) j) end) ≡ j
+goto_tells : (n up down j : ℕ) (end : TravelEnd) → told_cells (finished (after (travel_to (aim.Goto n) up down) j) end) ≡ j
 goto_tells n up down j end =
     let t = after (travel_to (aim.Goto n) up down) j in
     let all = gone_counts (travel_to (aim.Goto n) up down) j in
@@ -73,14 +73,14 @@ goto_tells n up down j end =
 
 -- ---- how a job ends
 
-travel_same : (s : Past) (t : Travel) (o : Outcome) (x y : State) → ((j : ℕ) (end : End) → j ≤ cells t → told_cells (finished (after t j) end) ≡ j) → TravelEnds s t o x → TravelEnds s t o y → x ≡ y
+travel_same : (s : Past) (t : Travel) (o : Outcome) (x y : State) → ((j : ℕ) (end : TravelEnd) → j ≤ cells t → told_cells (finished (after t j) end) ≡ j) → TravelEnds s t o x → TravelEnds s t o y → x ≡ y
 travel_same s t o x y tells a b =
     let e = a.2 in
     let f = b.2 in
     let same : a.0 ≡ b.0 = sym (tells a.0 a.1 e.within) ∙ ap told_cells (sym e.tells ∙ f.tells) ∙ tells b.0 b.1 f.within in
     e.stands ∙ ap (λ (j : ℕ). record { past = gone s t j; job = Idle }) same ∙ sym f.stands
 
-move_same : (s : Past) (t : Travel) (can : Bool) (o : Outcome) (x y : State) → ((j : ℕ) (end : End) → j ≤ cells t → told_cells (finished (after t j) end) ≡ j) → MoveEnds s t can o x → MoveEnds s t can o y → x ≡ y
+move_same : (s : Past) (t : Travel) (can : Bool) (o : Outcome) (x y : State) → ((j : ℕ) (end : TravelEnd) → j ≤ cells t → told_cells (finished (after t j) end) ≡ j) → MoveEnds s t can o x → MoveEnds s t can o y → x ≡ y
 move_same s t false o x y tells a b = a.1 ∙ sym b.1
 move_same s t true o x y tells a b = travel_same s t o x y tells a b
 
@@ -122,7 +122,7 @@ job_same s (Goto n) o x y a b = goto_same s n (nat_lt n (length s.nodes)) o x y 
 
 -- ---- a refused job leaves the past
 
-not_finished : (a : Aim) (i j : ℕ) (end : End) (r : Refusal) → outcome.Refused r ≡ finished_by a i j end → ⊥
+not_finished : (a : Aim) (i j : ℕ) (end : TravelEnd) (r : Refusal) → outcome.Refused r ≡ finished_by a i j end → ⊥
 not_finished aim.Undo i j end r e = cc
 not_finished aim.Redo i j end r e = cc
 not_finished (aim.Goto n) i j end r e = cc

@@ -12,10 +12,10 @@ use Rattle.kernel_machine.specs.State.{Past, State, Work, Posted, Move, Job, Ent
 use Rattle.kernel_machine.specs.Legal.{IsLegal, IsPossibleAt, IsPossibleWork, IsInTimeAt, IsInTime}
 use Rattle.kernel_machine.specs.Slices.{HasEnded, Backs, Comes, SlicesIn, SlicesAt}
 use Rattle.machine_laws.specs.Travels.{end_world}
-use Rattle.kernel_machine.specs.declared.turn.Why.{Why}
-use Rattle.kernel_machine.specs.declared.turn.Why.TheVariants.{WasAsked, Faulted}
-use Rattle.kernel_machine.specs.declared.turn.Turn.{Turn}
-use Rattle.kernel_machine.specs.declared.turn.Turn.TheVariants.{GoesOn, GoesBack}
+use Rattle.kernel_machine.specs.declared.heading.Why.{Why}
+use Rattle.kernel_machine.specs.declared.heading.Why.TheVariants.{WasAsked, Faulted}
+use Rattle.kernel_machine.specs.declared.heading.Heading.{Heading}
+use Rattle.kernel_machine.specs.declared.heading.Heading.TheVariants.{GoesOn, GoesBack}
 use Rattle.kernel_machine.specs.declared.outcome.Sliced.{Sliced}
 use Rattle.kernel_machine.specs.StepsOfSlices.{steps_on, TakesOn, TakesIn, TakesAt}
 use Rattle.machine_laws.specs.CountedSteps.{TakesOneNumber, StaysAt, AreStepsOfNode, IsDoneIn, CountsOn, CountsBack, CountsIn, StepsAreCounted}
@@ -30,7 +30,7 @@ takes_on_same s work c m k j a b =
     let same = reach_same (code_of s work) (here s) (c + m) a.0 b.0 a.1 b.1 a.2 b.2 in
     a.3 ∙ ap (λ (ran : Progress). steps_on c m ran) same.0 ∙ sym b.3
 
-takes_in_same : (s : Past) (work : Work) (c : ℕ) (turn : Turn) (m k j : ℕ) (asked : Bool) → TakesIn s work c turn m asked k → TakesIn s work c turn m asked j → k ≡ j
+takes_in_same : (s : Past) (work : Work) (c : ℕ) (heading : Heading) (m k j : ℕ) (asked : Bool) → TakesIn s work c heading m asked k → TakesIn s work c heading m asked j → k ≡ j
 takes_in_same s work c GoesOn m k j false a b = takes_on_same s work c m k j a b
 takes_in_same s work c GoesOn m k j true a b = a ∙ sym b
 takes_in_same s work c (GoesBack why) m k j asked a b = a ∙ sym b
@@ -38,7 +38,7 @@ takes_in_same s work c (GoesBack why) m k j asked a b = a ∙ sym b
 takes_same : (s : Past) (job : Job) (m k j : ℕ) (asked : Bool) → TakesAt s job m asked k → TakesAt s job m asked j → k ≡ j
 takes_same s Idle m k j asked a b = a ∙ sym b
 takes_same s (Border travel) m k j asked a b = a ∙ sym b
-takes_same s (Inside e) m k j asked a b = takes_in_same s e.work e.count e.turn m k j asked a b
+takes_same s (Inside e) m k j asked a b = takes_in_same s e.work e.count e.heading m k j asked a b
 
 pub takes_one_number : TakesOneNumber
 takes_one_number s m k j asked a b = takes_same s.past s.job m k j asked a b
@@ -79,8 +79,8 @@ comes_counts s work c m k (Ended n) w told new g p t v e r a =
 comes_counts s work c m k (Stopped j fault) w told new g p t v e r a =
     stop_counts s work c j k (Faulted fault j) told new (no_earlier s work c (c + m) j w fault t v r) e a
 
-in_counts : (s : Past) (work : Work) (c : ℕ) (turn : Turn) (m k : ℕ) (asked : Bool) (told : Sliced) (new : State) → IsLegal s → IsPossibleWork s work → IsInTime s work c turn → (v : World) × CodePart (code_of s work) (here s) c v →
-    SlicesIn s work c turn m asked told new → TakesIn s work c turn m asked k → CountsIn s work c turn asked k told new
+in_counts : (s : Past) (work : Work) (c : ℕ) (heading : Heading) (m k : ℕ) (asked : Bool) (told : Sliced) (new : State) → IsLegal s → IsPossibleWork s work → IsInTime s work c heading → (v : World) × CodePart (code_of s work) (here s) c v →
+    SlicesIn s work c heading m asked told new → TakesIn s work c heading m asked k → CountsIn s work c heading asked k told new
 in_counts s work c GoesOn m k false told new g p t v a b =
     let same = reach_same (code_of s work) (here s) (c + m) a.0 b.0 a.1 b.1 a.2 b.2 in
     comes_counts s work c m k a.0 a.1 told new g p t v (b.3 ∙ ap (λ (ran : Progress). steps_on c m ran) (sym same.0)) a.2 a.3
@@ -88,9 +88,9 @@ in_counts s work c GoesOn m k true told new g p t v a b = back_counts s work (Wa
 in_counts s work c (GoesBack why) m k asked told new g p t v a b = back_counts s work why c (c - m) k told new (omega arith) b a
 
 at_counts : (s : Past) (job : Job) (e : Entered) (m k : ℕ) (asked : Bool) (told : Sliced) (new : State) → job ≡ Inside e → IsLegal s → IsPossibleAt s job → IsInTimeAt s job → (v : World) × ShownAt s job v →
-    SlicesAt s job m asked told new → TakesAt s job m asked k → CountsIn s e.work e.count e.turn asked k told new
+    SlicesAt s job m asked told new → TakesAt s job m asked k → CountsIn s e.work e.count e.heading asked k told new
 at_counts s job e m k asked told new f g p t v a b =
-    in_counts s e.work e.count e.turn m k asked told new g (subst (λ (j : Job). IsPossibleAt s j) f p) (subst (λ (j : Job). IsInTimeAt s j) f t)
+    in_counts s e.work e.count e.heading m k asked told new g (subst (λ (j : Job). IsPossibleAt s j) f p) (subst (λ (j : Job). IsInTimeAt s j) f t)
     (subst (λ (j : Job). (w : World) × ShownAt s j w) f v) (subst (λ (j : Job). SlicesAt s j m asked told new) f a) (subst (λ (j : Job). TakesAt s j m asked k) f b)
 
 pub steps_are_counted : StepsAreCounted

@@ -8,10 +8,10 @@ use Rattle.kernel_machine.specs.Travel.{next_way}
 use Rattle.kernel_machine.specs.declared.travel.Travel.{Travel}
 use Rattle.kernel_machine.specs.declared.travel.Way.{Way}
 use Rattle.kernel_machine.specs.declared.travel.Way.TheVariants.{Up, Down}
-use Rattle.kernel_machine.specs.declared.turn.Why.{Why}
-use Rattle.kernel_machine.specs.declared.turn.Why.TheVariants.{WasAsked, Faulted}
-use Rattle.kernel_machine.specs.declared.turn.Turn.{Turn}
-use Rattle.kernel_machine.specs.declared.turn.Turn.TheVariants.{GoesOn, GoesBack}
+use Rattle.kernel_machine.specs.declared.heading.Why.{Why}
+use Rattle.kernel_machine.specs.declared.heading.Why.TheVariants.{WasAsked, Faulted}
+use Rattle.kernel_machine.specs.declared.heading.Heading.{Heading}
+use Rattle.kernel_machine.specs.declared.heading.Heading.TheVariants.{GoesOn, GoesBack}
 use Rattle.kernel_machine.specs.Reached.{Reaches}
 use Rattle.kernel_machine.specs.declared.progress.Progress.{Progress}
 use Rattle.kernel_machine.specs.declared.progress.Progress.TheVariants.{Went, Ended, Stopped}
@@ -25,8 +25,8 @@ use Rattle.kernel_machine.specs.Request.{Request, RunCell, Undo, Redo, Goto, req
 use Rattle.kernel_machine.specs.Midway.{after, gone}
 use Rattle.machine_laws.specs.Theorems.{EndsAs, WasStopped, HasAsked, OnlyAskedSlicesStop, UndoesAll}
 use Rattle.kernel_machine.specs.Ends.{EndsAfter, TravelEnds, MoveEnds, JobEnds, EndsUnless}
-use Rattle.kernel_machine.specs.declared.outcome.End.{End}
-use Rattle.kernel_machine.specs.declared.outcome.End.TheVariants.{All, Asked, NoMemory}
+use Rattle.kernel_machine.specs.declared.outcome.TravelEnd.{TravelEnd}
+use Rattle.kernel_machine.specs.declared.outcome.TravelEnd.TheVariants.{All, Asked, NoMemory}
 use Rattle.kernel_machine.specs.declared.outcome.Outcome.{Outcome}
 use Rattle.kernel_machine.specs.declared.outcome.Outcome.TheVariants as outcome
 use Rattle.kernel_machine.specs.declared.outcome.Begun.{Begun}
@@ -44,7 +44,7 @@ use Rattle.kernel_machine.proofs.Jobs.{post_keeps}
 use Rattle.machine_laws.proofs.Jobs.{jobs_end}
 
 -- the job goes back since a slice was asked: no fault turns a travel
-abbrev StopsIn : Work → Turn → Type 0
+abbrev StopsIn : Work → Heading → Type 0
 StopsIn work GoesOn = ⊥
 StopsIn (Posted cell) (GoesBack (WasAsked at)) = Unit {0}
 StopsIn (Posted cell) (GoesBack (Faulted fault at)) = ⊥
@@ -53,7 +53,7 @@ StopsIn (Move travel) (GoesBack why) = Unit {0}
 abbrev Stops : Open → Type 0
 Stops Idle = ⊥
 Stops (Border travel) = ⊥
-Stops (Inside e) = StopsIn e.work e.turn
+Stops (Inside e) = StopsIn e.work e.heading
 
 -- after an answer the job has been stopped, or is on its way back for that
 abbrev StoppedSliced : Sliced → State → Type 0
@@ -76,7 +76,7 @@ at_begin : (P : Type 0) (a answer : Begun) (s new : State) → answer ≡ a → 
 at_begin P a answer s new e f h x = h (subst (λ (t : Begun). StoppedBegun t s) e (subst (λ (y : State). StoppedBegun answer y) f x))
 
 -- a travel that ends otherwise was not stopped
-not_stopped : (t : Travel) (end : End) → (end ≡ Asked → ⊥) → WasStopped (finished t end) → ⊥
+not_stopped : (t : Travel) (end : TravelEnd) → (end ≡ Asked → ⊥) → WasStopped (finished t end) → ⊥
 not_stopped t end other h = by_aim t.aim h
   where
     by_aim : (a : Aim) → WasStopped (finished (record t { aim = a }) end) → ⊥
@@ -92,7 +92,7 @@ backs_stops s (Move travel) why c answer new b x = tt
 backs_stops s (Posted cell) (Faulted f j) zero answer new b x =
     at_slice ⊥ (sliced.Ended (outcome.Failed f j)) answer (record { past = s; job = Idle }) new b.0 b.1 (λ h. h) x
 backs_stops s (Posted cell) (Faulted f j) (suc c) answer new b x =
-    at_slice ⊥ sliced.Backing answer (record { past = s; job = Inside (record { work = Posted cell; count = suc c; turn = GoesBack (Faulted f j) }) }) new b.0 b.1 (λ h. h) x
+    at_slice ⊥ sliced.Backing answer (record { past = s; job = Inside (record { work = Posted cell; count = suc c; heading = GoesBack (Faulted f j) }) }) new b.0 b.1 (λ h. h) x
 
 arrives_stops : (left : ℕ) (s : Past) (t : Travel) (answer : Sliced) (new : State) → Arrives left s t answer new → StoppedSliced answer new → ⊥
 arrives_stops zero s t answer new a x = at_slice ⊥ (sliced.Ended (finished t All)) answer (record { past = s; job = Idle }) new a.0 a.1 (not_stopped t All (λ e. cc)) x
@@ -108,14 +108,14 @@ comes_stops s work c (Ended n) w answer new g p r a x = settles_stops s work n w
 comes_stops s (Posted cell) c (Stopped j f) w answer new g p r a x = backs_stops s (Posted cell) (Faulted f j) j answer new a x
 comes_stops s (Move travel) c (Stopped j f) w answer new g p r a x = never_faults s travel c j f w g p r
 
-slices_stops : (s : Past) (work : Work) (c : ℕ) (turn : Turn) (m : ℕ) (answer : Sliced) (new : State) → IsLegal s → IsPossibleWork s work → SlicesIn s work c turn m false answer new → StoppedSliced answer new → StopsIn work turn
+slices_stops : (s : Past) (work : Work) (c : ℕ) (heading : Heading) (m : ℕ) (answer : Sliced) (new : State) → IsLegal s → IsPossibleWork s work → SlicesIn s work c heading m false answer new → StoppedSliced answer new → StopsIn work heading
 slices_stops s work c GoesOn m answer new g p a x = comes_stops s work (c + m) a.0 a.1 answer new g p a.2 a.3 x
 slices_stops s work c (GoesBack why) m answer new g p a x = backs_stops s work why (c - m) answer new a x
 
 slice_stops : (s : Past) (job : Open) (m : ℕ) (answer : Sliced) (new : State) → IsLegal s → IsPossibleAt s job → SlicesAt s job m false answer new → StoppedSliced answer new → Stops job
 slice_stops s Idle m answer new g p a x = at_slice ⊥ sliced.Nothing answer (record { past = s; job = Idle }) new a.0 a.1 (λ h. h) x
 slice_stops s (Border t) m answer new g p a x = at_slice ⊥ sliced.Nothing answer (record { past = s; job = Border t }) new a.0 a.1 (λ h. h) x
-slice_stops s (Inside e) m answer new g p a x = slices_stops s e.work e.count e.turn m answer new g p a x
+slice_stops s (Inside e) m answer new g p a x = slices_stops s e.work e.count e.heading m answer new g p a x
 
 -- ---- a begin
 
@@ -241,11 +241,11 @@ up_declares : (s : Past) (up i : ℕ) → 0 < up → Declares s (left_of aim.Und
 up_declares s zero i l d = absurd (omega arith)
 up_declares s (suc up) i l d = d
 
--- where an undo of k cells stands after j of them, it tells so many
-tells_undone : (k j : ℕ) (end : End) → j ≤ k → finished (after (travel_to aim.Undo k 0) j) end ≡ outcome.Undid j end
+-- where an undo of k cells stands after j of them, it tells j
+tells_undone : (k j : ℕ) (end : TravelEnd) → j ≤ k → finished (after (travel_to aim.Undo k 0) j) end ≡ outcome.Undid j end
 tells_undone k j end l = ap (λ (t : Travel). finished t end) (after_up aim.Undo k 0 j l)
 
-all_undone : (s : Past) (k j : ℕ) (end : End) (o : Outcome) (new : State) → EndsAfter s (travel_to aim.Undo k 0) j end o new → (WasStopped o → ⊥) → o ≡ outcome.Undid k All
+all_undone : (s : Past) (k j : ℕ) (end : TravelEnd) (o : Outcome) (new : State) → EndsAfter s (travel_to aim.Undo k 0) j end o new → (WasStopped o → ⊥) → o ≡ outcome.Undid k All
 all_undone s k j All o new e none =
     let all = e.all.0 refl in
     let same : j ≡ k = omega arith in

@@ -5,8 +5,8 @@ use Rattle.kernel_machine.specs.State.{Past, State, Work, Posted, Move, Entered,
 use Rattle.kernel_machine.specs.LegalState.{IsLegalState}
 use Rattle.kernel_machine.specs.Slices.{IsSlice, Settles, HasEnded}
 use Rattle.machine_laws.specs.Travels.{steps_of}
-use Rattle.kernel_machine.specs.declared.turn.Turn.{Turn}
-use Rattle.kernel_machine.specs.declared.turn.Turn.TheVariants.{GoesOn, GoesBack}
+use Rattle.kernel_machine.specs.declared.heading.Heading.{Heading}
+use Rattle.kernel_machine.specs.declared.heading.Heading.TheVariants.{GoesOn, GoesBack}
 use Rattle.kernel_machine.specs.declared.outcome.Sliced.{Sliced}
 use Rattle.kernel_machine.specs.StepsOfSlices.{TakesAt}
 
@@ -16,18 +16,18 @@ TakesOneNumber = (s : State) (m k j : ℕ) (asked : Bool) → TakesAt s.past s.j
 
 -- the job stays inside the cell, at this count
 abbrev pub StaysAt : Past → Work → ℕ → State → Type 0
-StaysAt s work n new = (turn : Turn) × (new ≡ record { past = s; job = Inside (record { work = work; count = n; turn = turn }) })
+StaysAt s work n new = (heading : Heading) × (new ≡ record { past = s; job = Inside (record { work = work; count = n; heading = heading }) })
 
 -- the job settles back: it ends, and all is as before it
 abbrev pub SettlesBack : Past → State → Type 0
 SettlesBack s new = new ≡ record { past = s; job = Idle }
 
--- so many steps are those that the node of an undone or a redone cell has; a posted one has no node before it is done
+-- n are the steps that the node of an undone or a redone cell has; a posted one has no node before it is done
 abbrev pub AreStepsOfNode : Past → Work → ℕ → Type 0
 AreStepsOfNode s (Posted cell) n = Unit {0}
 AreStepsOfNode s (Move travel) n = n ≡ steps_of s travel
 
--- the cell is done, after so many steps in all: they are those of its node
+-- the cell is done, after n steps in all: they are those of its node
 abbrev pub IsDoneIn : Past → Work → ℕ → Sliced → State → Type 0
 IsDoneIn s work n answer new = (w : World) × HasEnded s work n w × Settles s work n w answer new × AreStepsOfNode s work n
 
@@ -42,7 +42,7 @@ abbrev pub CountsBack : Past → Work → ℕ → ℕ → State → Type 0
 CountsBack s work c k new = ((left : ℕ) × (c ≡ left + k) × StaysAt s work left new) ⊎ (SettlesBack s new × (k ≡ c))
 
 -- an asked slice goes back, as one of a job that goes back already
-abbrev pub CountsIn : Past → Work → ℕ → Turn → Bool → ℕ → Sliced → State → Type 0
+abbrev pub CountsIn : Past → Work → ℕ → Heading → Bool → ℕ → Sliced → State → Type 0
 CountsIn s work c GoesOn false k answer new = CountsOn s work c k answer new
 CountsIn s work c GoesOn true k answer new = CountsBack s work c k new
 CountsIn s work c (GoesBack why) asked k answer new = CountsBack s work c k new
@@ -52,4 +52,4 @@ abbrev pub StepsAreCounted : Type 0
 StepsAreCounted =
     (s new : State) (e : Entered) (m k : ℕ) (asked : Bool) (answer : Sliced) →
     IsLegalState s → s.job ≡ Inside e → IsSlice s m asked answer new → TakesAt s.past s.job m asked k →
-    CountsIn s.past e.work e.count e.turn asked k answer new
+    CountsIn s.past e.work e.count e.heading asked k answer new

@@ -6,7 +6,7 @@ use Rattle.kernel_machine.specs.LegalState.{IsLegalState}
 use Rattle.kernel_machine.specs.Runs.{Machine, Step, Run}
 use Rattle.kernel_machine.specs.Slices.{finished}
 use Rattle.kernel_machine.specs.declared.travel.Travel.{Travel}
-use Rattle.kernel_machine.specs.declared.outcome.End.TheVariants.{NoMemory}
+use Rattle.kernel_machine.specs.declared.outcome.TravelEnd.TheVariants.{NoMemory}
 use Rattle.kernel_machine.specs.declared.outcome.Refusal.TheVariants.{Memory}
 use Rattle.kernel_machine.specs.declared.outcome.Outcome.TheVariants.{Refused}
 use Rattle.kernel_machine.specs.declared.outcome.Begun.TheVariants.{Ended}

@@ -6,9 +6,9 @@ use Rattle.kernel_machine.specs.LegalState.{IsLegalState}
 use Rattle.kernel_machine.specs.Request.{Request, Undo}
 use Rattle.kernel_machine.specs.Runs.{Machine, new_machine, IsNext, shut, Run}
 use Rattle.kernel_machine.specs.Midway.{count_of, IsReason}
-use Rattle.kernel_machine.specs.declared.turn.Why.{Why}
-use Rattle.kernel_machine.specs.declared.turn.Turn.TheVariants.{GoesBack}
-use Rattle.kernel_machine.specs.declared.outcome.End.TheVariants.{All, Asked}
+use Rattle.kernel_machine.specs.declared.heading.Why.{Why}
+use Rattle.kernel_machine.specs.declared.heading.Heading.TheVariants.{GoesBack}
+use Rattle.kernel_machine.specs.declared.outcome.TravelEnd.TheVariants.{All, Asked}
 use Rattle.kernel_machine.specs.declared.outcome.Outcome.{Outcome}
 use Rattle.kernel_machine.specs.declared.outcome.Outcome.TheVariants as outcome
 use Rattle.kernel_machine.specs.declared.outcome.Begun.TheVariants as begun
@@ -40,7 +40,7 @@ StaysLegal =
 abbrev pub GoesBackForItsReason : Type 0
 GoesBackForItsReason =
     (s : State) (work : Work) (c : ℕ) (why : Why) →
-    IsLegalState s → s.job ≡ Inside (record { work = work; count = c; turn = GoesBack why }) →
+    IsLegalState s → s.job ≡ Inside (record { work = work; count = c; heading = GoesBack why }) →
     (c ≤ count_of why) × IsReason (code_of s.past work) (here s.past) why
 
 -- ---- jobs, from their begin to their end

@@ -17,9 +17,9 @@ use Rattle.kernel_machine.specs.Begins.{travel_to}
 use Rattle.kernel_machine.specs.Request.{Undo, Redo}
 use Rattle.kernel_machine.specs.Runs.{Machine, IsNext, Step, Run}
 use Rattle.kernel_machine.specs.Midway.{gone}
-use Rattle.kernel_machine.specs.declared.turn.Turn.TheVariants.{GoesOn}
+use Rattle.kernel_machine.specs.declared.heading.Heading.TheVariants.{GoesOn}
 use Rattle.kernel_machine.specs.declared.travel.Aim.TheVariants as aim
-use Rattle.kernel_machine.specs.declared.outcome.End.TheVariants.{All}
+use Rattle.kernel_machine.specs.declared.outcome.TravelEnd.TheVariants.{All}
 use Rattle.kernel_machine.specs.declared.outcome.Outcome.TheVariants as outcome
 use Rattle.kernel_machine.specs.declared.outcome.Sliced.{Sliced}
 use Rattle.kernel_machine.specs.declared.outcome.Sliced.TheVariants as sliced
@@ -90,7 +90,7 @@ end_world s travel = elim (next_way travel) [
 abbrev pub SettlesAtLastStep : Past → Travel → ℕ → ℕ → Sliced → State → Type 0
 SettlesAtLastStep s travel c m told new =
     ((c + m < steps_of s travel) × (told ≡ sliced.Going)
-    × (new ≡ record { past = s; job = Inside (record { work = Move travel; count = c + m; turn = GoesOn }) }))
+    × (new ≡ record { past = s; job = Inside (record { work = Move travel; count = c + m; heading = GoesOn }) }))
     ⊎ ((steps_of s travel ≤ c + m) × Settles s (Move travel) (steps_of s travel) (end_world s travel) told new)
 
 -- The code leads there in those steps, and the cell settles with the last of them.
@@ -103,7 +103,7 @@ IsOnTime s travel c m told new =
 abbrev pub SettlesOnTime : Type 0
 SettlesOnTime =
     (old new : Machine) (travel : Travel) (c m : ℕ) (answer : Sliced) →
-    IsLegalState old.state → old.state.job ≡ Inside (record { work = Move travel; count = c; turn = GoesOn }) →
+    IsLegalState old.state → old.state.job ≡ Inside (record { work = Move travel; count = c; heading = GoesOn }) →
     Step old (event.Slice m false) (told.Slice answer) new →
     (c < steps_of old.state.past travel) × IsOnTime old.state.past travel c m answer new.state
 

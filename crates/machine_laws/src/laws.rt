@@ -38,7 +38,7 @@ pub fn only_asked_slices_stop_law()
     ensures { OnlyAskedSlicesStop }
 {}
 
-/// An undo of `k` cells that is taken where there are so many, and before a shutdown, ends as `Undid(k, All)` unless some slice since its begin was asked.
+/// An undo of `k` cells that is taken where there are as many, and before a shutdown, ends as `Undid(k, All)` unless some slice since its begin was asked.
 pub fn undoes_all_law()
     ensures { UndoesAll }
 {}

@@ -1,6 +1,6 @@
 //! Conversations of a console over memory, with a kernel that says what was written down by hand.
 use console_program::{Frontend, Wire, subscribe};
-use console_talk::{Command, ConsoleFault, Printed, session_name};
+use console_talk::{ConsoleCommand, ConsoleFault, Printed, session_name};
 use jupyter_msg::{Key, Message, open, seal};
 use std::alloc::Global;
 use std::io::{ErrorKind, Read};
@@ -218,7 +218,7 @@ fn frontend(
 /// Greets the kernel and obeys a command.
 fn obey(
     frontend: &mut Frontend<Slow, Vec<u8>>,
-    command: &Command,
+    command: &ConsoleCommand,
 ) -> Result<Printed, ConsoleFault> {
     frontend.greet()?;
     frontend.obey(command)
@@ -247,7 +247,7 @@ fn converse_over(
     minor: u8,
     shell: &[Said],
     broadcasts: Slow,
-    command: &Command,
+    command: &ConsoleCommand,
 ) -> Conversation {
     let replies = stream(rt, alloc, Role::Router, minor, shell);
     let mut frontend = frontend(rt, alloc, replies, broadcasts);
@@ -276,7 +276,7 @@ fn check_at(
     minor: u8,
     shell: &[Said],
     iopub: &[Said],
-    command: &Command,
+    command: &ConsoleCommand,
     want: (&str, u8, &str),
 ) {
     let (lines, status, asked) = want;
@@ -292,7 +292,7 @@ fn check(
     alloc: Global,
     shell: &[Said],
     iopub: &[Said],
-    command: &Command,
+    command: &ConsoleCommand,
     want: (&str, u8, &str),
 ) {
     for minor in MINORS {
@@ -303,7 +303,7 @@ fn check(
 #[test]
 fn runs_a_cell(rt: HostRuntime) {
     let alloc = rt.alloc();
-    let code = Command::Run(string(&rt, alloc, "int x x += 5"));
+    let code = ConsoleCommand::Run(string(&rt, alloc, "int x x += 5"));
     check(
         &rt,
         alloc,
@@ -348,7 +348,7 @@ fn runs_a_cell(rt: HostRuntime) {
 #[test]
 fn tells_the_fault_of_a_cell(rt: HostRuntime) {
     let alloc = rt.alloc();
-    let code = Command::Run(string(&rt, alloc, "x += 1 / 0"));
+    let code = ConsoleCommand::Run(string(&rt, alloc, "x += 1 / 0"));
     check(
         &rt,
         alloc,
@@ -387,7 +387,7 @@ fn completes(rt: HostRuntime) {
             r#"{"cursor_end":4,"cursor_start":2,"matches":["call","cat"],"metadata":{},"status":"ok"}"#,
         )],
         &[("status", 0, BUSY)],
-        &Command::Complete(string(&rt, alloc, "ä ca")),
+        &ConsoleCommand::Complete(string(&rt, alloc, "ä ca")),
         (
             "call\ncat\n",
             0,
@@ -406,12 +406,12 @@ enum Wanted {
 }
 
 /// The command that asks for it.
-fn command_of(wanted: Wanted) -> Command {
+fn command_of(wanted: Wanted) -> ConsoleCommand {
     match wanted {
-        Wanted::Undo(k) => Command::Undo(k),
-        Wanted::Redo(k) => Command::Redo(k),
-        Wanted::Goto(node) => Command::Goto(node),
-        Wanted::Show => Command::Show,
+        Wanted::Undo(k) => ConsoleCommand::Undo(k),
+        Wanted::Redo(k) => ConsoleCommand::Redo(k),
+        Wanted::Goto(node) => ConsoleCommand::Goto(node),
+        Wanted::Show => ConsoleCommand::Show,
     }
 }
 
@@ -518,7 +518,7 @@ fn asked_until(
     broadcasts: Slow,
     fault: ConsoleFault,
 ) -> String {
-    let (came, text) = converse_over(rt, alloc, minor, &[], broadcasts, &Command::Show);
+    let (came, text) = converse_over(rt, alloc, minor, &[], broadcasts, &ConsoleCommand::Show);
     assert_eq!(rt; came, Err(fault));
     text
 }

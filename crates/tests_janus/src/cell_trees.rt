@@ -71,7 +71,7 @@ fn way(alloc: Global, tree: &mut Tree<char>, from: usize, to: usize) -> Result<S
     }
 }
 
-/// Writes the nodes on the way down, of which there are so many.
+/// Writes the nodes on the way down, whose number is `down`.
 fn push_nodes_down(
     alloc: Global,
     text: &mut String,

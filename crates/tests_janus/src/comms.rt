@@ -1,4 +1,4 @@
-//! Rows of the open comms: `open` and `close` with an id, `list`, and `fill` with so many ids besides.
+//! Rows of the open comms: `open` and `close` with an id, `list`, and `fill` with a number of further ids.
 use kernel_ask::Comms;
 use std::alloc::{AllocError, Global};
 use tests_rows::{cut, number, push_answer, shown};
@@ -24,7 +24,7 @@ fn answer(alloc: Global, comms: &mut Comms, call: &str) -> Result<String, AllocE
     }
 }
 
-/// Opens so many comms, and tells the first that wasn't opened.
+/// Opens a number of comms, and tells the first that wasn't opened.
 fn fill(alloc: Global, comms: &mut Comms, count: usize) -> Result<Option<usize>, AllocError> {
     for i in 0..count {
         if !comms.open(shown(alloc, &i)?)? {

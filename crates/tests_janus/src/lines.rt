@@ -1,8 +1,9 @@
 //! Rows of the lines in which a frontend is told outcomes, faults and values. `outcome` gives an outcome by its place in the list
-//! below, and its line; `closing`, `met` and `memory` give the lines of faults, `negative` that of a number, and `ones` that of an array of so many.
-use janus_store::View;
+//! below, and its line; `closing`, `met` and `memory` give the lines of faults, `negative` that of a number, and `ones` that of an array of a number of
+//! them.
+use janus_store::ValueView;
 use kernel_ask::{ExpFault, exp_fault_line, outcome_line, post_fault_line, value_text};
-use kernel_core::{CheckFault, End, Fault, Outcome, PostFault, Refusal, Span};
+use kernel_core::{CheckFault, Fault, Outcome, PostFault, Refusal, Span, TravelEnd};
 use std::alloc::{AllocError, Global};
 use tests_rows::{cut, number, push_answer};
 
@@ -23,7 +24,7 @@ fn answer(alloc: Global, call: &str) -> Result<String, AllocError> {
         "closing" => post_fault_line(alloc, PostFault::Closing),
         "met" => exp_fault_line(alloc, ExpFault::Met(Fault::DivisionByZero)),
         "memory" => exp_fault_line(alloc, ExpFault::Refused(Refusal::Memory)),
-        "negative" => value_text(alloc, "x", View::Number(-5)),
+        "negative" => value_text(alloc, "x", ValueView::Number(-5)),
         _ => ones(alloc, number(rest)),
     }
 }
@@ -36,9 +37,9 @@ const OUTCOMES: [Outcome; 8] = [
     Outcome::Ran(2, 3),
     Outcome::Failed(Fault::DivisionByZero, 1),
     Outcome::Interrupted(4096),
-    Outcome::Undid(1, End::All),
-    Outcome::Redid(0, End::NoMemory),
-    Outcome::Went(1, 2, End::Asked),
+    Outcome::Undid(1, TravelEnd::All),
+    Outcome::Redid(0, TravelEnd::NoMemory),
+    Outcome::Went(1, 2, TravelEnd::Asked),
     Outcome::Refused(Refusal::Check(CheckFault::SelfUse(SPAN))),
     Outcome::Refused(Refusal::TooFar),
 ];
@@ -53,8 +54,8 @@ fn outcome(alloc: Global, at: usize) -> Result<String, AllocError> {
     format!(in alloc; "{outcome:?} is {line}")
 }
 
-/// The line of an array of so many ones.
+/// The line of an array of a number of ones.
 fn ones(alloc: Global, count: usize) -> Result<String, AllocError> {
     let many = vec![in alloc; 1i32; count]?;
-    value_text(alloc, "a", View::Array(&many))
+    value_text(alloc, "a", ValueView::Array(&many))
 }

@@ -118,7 +118,7 @@ fn begin<L: Ledger>(alloc: Global, kernel: &mut Kernel<L>) -> Result<String, All
     shown(alloc, &kernel.begin())
 }
 
-/// Takes so many steps, asked to stop or not.
+/// Takes a number of steps, asked to stop or not.
 fn slice<L: Ledger>(
     alloc: Global,
     kernel: &mut Kernel<L>,

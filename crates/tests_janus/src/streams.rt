@@ -42,14 +42,14 @@ impl Write for Unflushed {
     }
 }
 
-/// Takes so many octets, and then fails.
+/// Takes a number of octets, and then fails.
 #[derive(Drop)]
 pub(crate) struct Full {
     room: usize,
 }
 
 impl Full {
-    /// Takes so many.
+    /// Takes this number.
     pub fn new(room: usize) -> Full {
         Full { room }
     }

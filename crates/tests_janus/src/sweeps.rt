@@ -2,8 +2,8 @@
 //! back to where it was begun. Each has a number of steps, and calls with a semicolon between them behind which the cell is begun.
 //!
 //! `sweep` tries each count below that number: the cell goes so far in one slice, and is then asked to stop by slices of 1, of 2, of 7
-//! and of all steps; of 2 and of 7 every other slice alone asks. `fault` has a cell that meets a fault behind so many steps: from each count up to that number it goes on to the fault,
-//! and then goes back by such slices, without being asked. Where a slash and a further number stand behind the number of steps, the counts that
+//! and of all steps; of 2 and of 7 every other slice alone asks. `fault` has a cell that meets a fault behind a number of steps: from each
+//! count up to that one it goes on to the fault, and then goes back by such slices, without being asked. Where a slash and a further number stand behind the number of steps, the counts that
 //! are tried stand so far apart, and the last one is tried too. The position and the world behind each slice, its values and the texts of its
 //! procedures, are compared with those that were met at that count on the way out, by single steps, and those at the end with those before the begin,
 //! with the extent of the tree.
@@ -11,7 +11,7 @@
 //! Told are how many stops there were, how many slices they took back, behind how many steps of the way out the world was another one, how many
 //! answers and worlds were wrong, and the outcome of each stop, in which `here` stands for the count of the stop.
 use crate::schedules::{answers, world};
-use janus_store::{StackView, View};
+use janus_store::{StackView, ValueView};
 use kernel_core::{Begun, Kernel, Outcome, Sliced};
 use kernel_text::procedure_text;
 use std::alloc::{AllocError, Global};
@@ -99,7 +99,7 @@ pub(crate) fn swept<L: Ledger>(
     told(alloc, &tally, changes(&way.met))
 }
 
-/// What is told of a sweep with so many changes on its way out.
+/// What is told of a sweep with this number of changes on its way out.
 fn told(alloc: Global, tally: &Tally, changes: usize) -> Result<String, AllocError> {
     let Tally {
         stops,
@@ -110,7 +110,7 @@ fn told(alloc: Global, tally: &Tally, changes: usize) -> Result<String, AllocErr
     format!(in alloc; "{stops} stops, {slices} slices, {changes} changes, {wrong} wrong, {outcome}")
 }
 
-/// Begins the cell behind these calls, takes so many single steps, and then takes them back. Gives what was met.
+/// Begins the cell behind these calls, takes a number of single steps, and then takes them back. Gives what was met.
 fn way_out<'a, L: Ledger>(
     alloc: Global,
     kernel: &mut Kernel<L>,
@@ -131,7 +131,7 @@ fn way_out<'a, L: Ledger>(
     })
 }
 
-/// The world inside a cell as it stands, and behind each of so many single steps.
+/// The world inside a cell as it stands, and behind each of a number of single steps.
 fn met_by_steps<L: Ledger>(
     alloc: Global,
     kernel: &mut Kernel<L>,
@@ -171,11 +171,11 @@ fn procedures_shown<L: Ledger>(alloc: Global, kernel: &Kernel<L>) -> Result<Stri
 }
 
 /// Writes what kind a value is of, how many numbers it has, and the numbers.
-fn push_value(octets: &mut Vec<u8>, value: View<'_>) -> Result<(), AllocError> {
+fn push_value(octets: &mut Vec<u8>, value: ValueView<'_>) -> Result<(), AllocError> {
     match value {
-        View::Number(number) => push_numbers(octets, b'=', &[number]),
-        View::Array(numbers) => push_numbers(octets, b'[', numbers),
-        View::Stack(values) => push_stack(octets, &values),
+        ValueView::Number(number) => push_numbers(octets, b'=', &[number]),
+        ValueView::Array(numbers) => push_numbers(octets, b'[', numbers),
+        ValueView::Stack(values) => push_stack(octets, &values),
     }
 }
 
@@ -220,7 +220,7 @@ fn changes(met: &[Vec<u8>]) -> usize {
     count
 }
 
-/// Stops the cell at each count that is tried, and takes it back by slices of so many steps.
+/// Stops the cell at each count that is tried, and takes it back by slices of this size.
 fn sweep<L: Ledger>(
     alloc: Global,
     kernel: &mut Kernel<L>,
@@ -237,7 +237,7 @@ fn sweep<L: Ledger>(
     Ok(())
 }
 
-/// Stops the cell at a count, and takes it back by slices of so many steps.
+/// Stops the cell at a count, and takes it back by slices of this size.
 fn stop_at<L: Ledger>(
     alloc: Global,
     kernel: &mut Kernel<L>,
@@ -294,7 +294,7 @@ fn meet_fault<L: Ledger>(
     }
 }
 
-/// Takes slices of so many steps until the job ends, from this count, and looks behind each. Where it is to be asked, each slice of one step asks it
+/// Takes slices of this size until the job ends, from this count, and looks behind each. Where it is to be asked, each slice of one step asks it
 /// again, and every other one of those of more steps.
 fn go_back<L: Ledger>(
     alloc: Global,

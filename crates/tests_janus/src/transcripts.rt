@@ -1,5 +1,5 @@
 //! Rows of the program `janus-cells`, over memory. `;` stands for the end of a line. `run` gives what is written for an input, where each cell may take
-//! so many steps; `words` the number of steps that the words of a command line give a cell, or their status and whether it is standard error that tells
+//! this number of steps; `words` the number of steps that the words of a command line give a cell, or their status and whether it is standard error that tells
 //! them; `program` the words and, behind `|`, an input. Streams that fail are those of the module `streams`.
 use crate::streams::{Broken, Full, Unflushed};
 use cells_program::{

@@ -1,14 +1,14 @@
 //! Values of names as texts.
-use janus_store::{StackView, View};
+use janus_store::{StackView, ValueView};
 use std::alloc::{AllocError, Global};
 use tests_rows::{push_both, shown};
 
 /// The number of a number, the numbers of an array, or those of a stack from the bottom.
-pub(crate) fn value_shown(alloc: Global, value: View<'_>) -> Result<String, AllocError> {
+pub(crate) fn value_shown(alloc: Global, value: ValueView<'_>) -> Result<String, AllocError> {
     match value {
-        View::Number(number) => shown(alloc, &number),
-        View::Array(numbers) => format!(in alloc; "{numbers:?}"),
-        View::Stack(values) => stack_shown(alloc, &values),
+        ValueView::Number(number) => shown(alloc, &number),
+        ValueView::Array(numbers) => format!(in alloc; "{numbers:?}"),
+        ValueView::Stack(values) => stack_shown(alloc, &values),
     }
 }
 

@@ -67,7 +67,7 @@ pub(crate) fn push_message(rt: &impl Abort, octets: &mut Vec<u8>, frames: &[Vec<
     write_message(octets, frames).expect(rt, "the octets of a message");
 }
 
-/// A frame of so many octets but for its last one.
+/// A frame of this size but for its last octet.
 pub(crate) fn begun_frame(rt: &impl Abort, alloc: Global, size: u64) -> Vec<u8> {
     let mut octets = vec![in alloc; 2u8].expect(rt, "a flag");
     octets

@@ -23,7 +23,7 @@ fn interrupted(rt: &impl Abort, shell: &mut Frontend, control: &mut Frontend) ->
             return reply;
         }
     }
-    panic!(rt; "the cell goes on behind so many interrupts")
+    panic!(rt; "the cell goes on behind all interrupts")
 }
 
 /// Runs an endless cell, of which a subscriber hears the status while it runs, and interrupts it: the reply.

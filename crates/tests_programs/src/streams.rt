@@ -13,7 +13,7 @@ const PATIENCE_SECONDS: u64 = 5;
 /// The reads that wait for what has to come.
 const READS: u32 = 1_000;
 
-/// The next octets of a stream, so many.
+/// The next octets of a stream, as many as are asked for.
 fn read_from(rt: &impl Abort, alloc: Global, stream: &TcpStream, count: usize) -> Vec<u8> {
     let mut reader = stream;
     let mut octets = vec![in alloc; 0u8; count].expect(rt, "room for octets");

@@ -18,7 +18,7 @@ const TOO_MANY: u32 = 4_097;
 /// One octet more than a reader takes in all frames of a message, less those of the topic.
 const TOO_LONG: usize = 16_777_211;
 
-/// The frames of a broadcast of this topic, with so many octets behind it.
+/// The frames of a broadcast of this topic, with a number of octets behind it.
 fn frames_of(rt: &impl Abort, alloc: Global, topic: &str, octets: usize) -> Vec<Vec<u8>> {
     let topic = topic.as_bytes().to_vec(alloc).expect(rt, "a topic");
     let rest = vec![in alloc; 0u8; octets].expect(rt, "octets");
@@ -208,7 +208,7 @@ fn pings(rt: &impl Abort, alloc: Global, minor: u8, times: u8) -> Vec<u8> {
     octets
 }
 
-/// The answers to so many pings.
+/// The answers to a number of pings.
 fn pongs(rt: &impl Abort, alloc: Global, times: u8) -> Vec<u8> {
     let mut octets = Vec::new(alloc);
     for number in 0..times {
@@ -264,7 +264,7 @@ fn answer_again<L: Ledger, R: Wait + Abort>(
     heard_more
 }
 
-/// How a connection ends of which so many pings wait.
+/// How a connection ends of which a number of pings wait.
 fn ping_often<L: Ledger, R: Wait + Abort>(
     rt: &R,
     alloc: Global,
@@ -280,7 +280,7 @@ fn ping_often<L: Ledger, R: Wait + Abort>(
     connected.ended
 }
 
-/// A subscriber of 3.1 that takes an octet at each write, and pings once it has so many.
+/// A subscriber of 3.1 that takes an octet at each write, and pings once it has this number.
 #[derive(Drop)]
 struct Pinging<'a, L: Ledger, R> {
     rt: &'a R,
@@ -309,7 +309,7 @@ impl<L: Ledger, R: Wait> Write for Pinging<'_, L, R> {
     }
 }
 
-/// What is written of two broadcasts to a subscriber that pings once it has so many octets of the first.
+/// What is written of two broadcasts to a subscriber that pings once it has this number of octets of the first.
 fn written_around<L: Ledger, R: Wait + Abort>(
     rt: &R,
     alloc: Global,

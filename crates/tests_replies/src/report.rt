@@ -6,7 +6,7 @@ use crate::asked::asked;
 use crate::kernels::SLICES;
 use jupyter_msg::{MsgFault, RequestContent};
 use kernel_ask::{Ask, Comms, Completeness, Content, Done, NamedValue, ask_on};
-use kernel_core::{End, Kernel, Outcome, PostFault};
+use kernel_core::{Kernel, Outcome, PostFault, TravelEnd};
 use std::alloc::{AllocError, Global};
 use std::sync::ledger::Ledger;
 use tests_rows::cut;
@@ -107,10 +107,10 @@ fn judgement_of(word: &str) -> Completeness {
 /// An outcome by its line.
 fn outcome_of(words: &str) -> Outcome {
     match words {
-        "undid 1" => Outcome::Undid(1, End::All),
-        "undid 0" => Outcome::Undid(0, End::All),
-        "redid 0" => Outcome::Redid(0, End::All),
-        _ => Outcome::Redid(0, End::NoMemory),
+        "undid 1" => Outcome::Undid(1, TravelEnd::All),
+        "undid 0" => Outcome::Undid(0, TravelEnd::All),
+        "redid 0" => Outcome::Redid(0, TravelEnd::All),
+        _ => Outcome::Redid(0, TravelEnd::NoMemory),
     }
 }
 

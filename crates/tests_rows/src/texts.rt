@@ -29,7 +29,7 @@ fn cut_repeated(i: usize, part: &str) -> (&str, &str) {
     part.split_once('}').unwrap_or((part, ""))
 }
 
-/// Writes a part so many times as the number before its `|` says.
+/// Writes a part as often as the number before its `|` says.
 fn push_repeated(alloc: Global, text: &mut String, part: &str) -> Result<(), AllocError> {
     let (times, part) = part.split_once('|').unwrap_or(("", ""));
     for turn in 0..number(times) {

@@ -27,7 +27,7 @@ pub(crate) fn stamp(alloc: Global, connection: u64, next: u64) -> Result<Stamp, 
     })
 }
 
-/// Serves a connection over this reader, with so many writes before the writer fails, and with this number next.
+/// Serves a connection over this reader, with a number of writes before the writer fails, and with this number next.
 fn served_over(
     rt: &impl Abort,
     desk: &mut NoKernel,
@@ -54,7 +54,7 @@ fn served_over(
     (ended, writer.octets)
 }
 
-/// Serves a connection in pieces of a size, with so many reads and writes before the streams fail.
+/// Serves a connection in pieces of a size, with a number of reads and of writes before the streams fail.
 pub(crate) fn served(
     rt: &impl Abort,
     desk: &mut NoKernel,
@@ -251,7 +251,7 @@ fn a_fault_behind_a_message_ends_the_connection(rt: HostRuntime) {
     );
 }
 
-/// Serves the question with a reader that fails behind so many reads.
+/// Serves the question with a reader that fails behind a number of reads.
 fn check_reader(rt: &impl Abort, alloc: Global, reads: u64) {
     let mut desk = NoKernel::new(alloc);
     let (ended, written) = served(rt, &mut desk, Socket::Shell, QUESTION, 50, reads, 10000);
@@ -271,7 +271,7 @@ fn a_reader_that_fails_leaves_a_beginning(rt: HostRuntime) {
     }
 }
 
-/// Serves the question with a writer that fails behind so many writes, and compares how many broadcasts were published.
+/// Serves the question with a writer that fails behind a number of writes, and compares how many broadcasts were published.
 fn check_writer(rt: &impl Abort, alloc: Global, writes: u64, published: usize) {
     let mut desk = NoKernel::new(alloc);
     let (ended, written) = served(rt, &mut desk, Socket::Shell, QUESTION, 50, 10000, writes);

@@ -148,7 +148,7 @@ fn reached(first: usize, second: usize, length: usize) -> usize
     }
 }
 
-/// A reader that gives so many octets at each read and fails at one of them: what was read whole has run and is answered, and nothing else went out.
+/// A reader that gives a number of octets at each read and fails at one of them: what was read whole has run and is answered, and nothing else went out.
 fn check_reader(rt: &impl Abort, alloc: Global, wanted: &[Seen; 3], size: usize, reads: u64) {
     let octets = cells(rt, alloc, &[FIRST, SECOND]);
     let reader = Pieces {
@@ -188,7 +188,7 @@ fn a_reader_that_fails_leaves_what_was_answered(rt: HostRuntime) {
     }
 }
 
-/// A writer that takes so many octets at each write, and at one of them nothing, or fails: a beginning went out, and the kernel is as after the job whose
+/// A writer that takes a number of octets at each write, and at one of them nothing, or fails: a beginning went out, and the kernel is as after the job whose
 /// reply it was.
 fn check_writer(
     rt: &impl Abort,

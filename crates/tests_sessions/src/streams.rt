@@ -3,7 +3,7 @@ use std::io;
 use std::io::{ErrorKind, Read, Write};
 use std::sync::atomic::{AtomicUsize, Ordering};
 
-/// Gives its octets a few at a time, and fails behind so many reads.
+/// Gives its octets a few at a time, and fails behind a number of reads.
 #[derive(Drop)]
 pub(crate) struct Pieces<'a> {
     pub octets: &'a [u8],
@@ -24,7 +24,7 @@ impl Read for Pieces<'_> {
     }
 }
 
-/// Takes octets, and fails behind so many writes.
+/// Takes octets, and fails behind a number of writes.
 #[derive(Drop)]
 pub(crate) struct Taken {
     pub octets: Vec<u8>,
@@ -46,7 +46,7 @@ impl Write for Taken {
     }
 }
 
-/// Takes so many octets at each write, and behind so many writes nothing, or fails.
+/// Takes a number of octets at each write, and behind a number of writes nothing, or fails.
 #[derive(Drop)]
 pub(crate) struct Sparing {
     pub octets: Vec<u8>,

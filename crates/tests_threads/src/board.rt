@@ -91,7 +91,7 @@ impl Account {
         }
     }
 
-    /// Whether it stands at this place, after so many broadcasts read and so many missed, and all was good.
+    /// Whether it stands at this place, after `read` broadcasts read and `missed` missed, and all was good.
     fn is(&self, place: u64, read: u64, missed: u64) -> bool {
         self.is_good && self.place.number == place && self.read == read && self.missed == missed
     }

@@ -58,7 +58,7 @@ impl<W: Ledger, L: Ledger> Desk<W, L> {
         None
     }
 
-    /// Runs so many jobs.
+    /// Runs a number of jobs.
     pub fn run_all<R: Wait>(&mut self, rt: &R, jobs: u32) {
         for _ in 0..jobs {
             let _outcome = self.run(rt);
@@ -166,7 +166,7 @@ pub(crate) fn is_one(texts: &[String], text: &str) -> bool {
     }
 }
 
-/// Whether the hall answers, with so many minutes, that its world is this line.
+/// Whether the hall answers, with this number of minutes, that its world is this line.
 pub(crate) fn is_world<W: Ledger, L: Ledger, R: Wait>(
     rt: &R,
     hall: &Hall<W, L>,

@@ -1,6 +1,6 @@
 //! Tests of the crates that threads share: calls with answers worked out by hand, and runs of bell, board and hall on threads. These threads end by
 //! themselves, after bounded turns or once the jobs that they wait for have ended, and the tests hold under any schedule in which nobody waits
-//! for so many turns.
+//! for a number of turns.
 #![tactic(auto)]
 
 #[cfg(test)]

@@ -34,7 +34,7 @@ fn put<L: Ledger, R: Wait + Abort>(rt: &R, all: &Mutex<Away<L>>, ticket: Ticket,
     away.dones.push(done).expect(rt, "room for what came of it");
 }
 
-/// Posts a cell for a new pass and waits for it, so many times. All that it comes away with is added.
+/// Posts a cell for a new pass and waits for it, a number of times. All that it comes away with is added.
 fn post_and_wait<W: Ledger, L: Ledger, R: Wait + Abort>(
     rt: &R,
     alloc: Global,

@@ -3,7 +3,7 @@ ghost use Rattle.std.specs.Prelude.{◌≡◌, ◌<◌};
 
 use crate::desk::{Away, Desk, Worker, cell, closed, ends, is_world, pass, post};
 use kernel_ask::Done;
-use kernel_core::{End, Job, Outcome};
+use kernel_core::{Job, Outcome, TravelEnd};
 use kernel_hall::{Gate, Hall, Moment};
 use std::alloc::Global;
 use std::marker::Brand;
@@ -91,7 +91,7 @@ fn are_three(dones: &[Done]) -> bool {
         [looped, added, undone] => {
             looped.outcome == Outcome::Ran(1, 39_999)
                 && added.outcome == Outcome::Ran(2, 3)
-                && undone.outcome == Outcome::Undid(1, End::All)
+                && undone.outcome == Outcome::Undid(1, TravelEnd::All)
         }
         _ => false,
     }

@@ -55,7 +55,7 @@ fn is_beginning(left: &str, whole: &str) -> bool {
     is_whole && (fault.is_empty() || fault == end)
 }
 
-/// What octets tell a role, cut after so many of them, the rest in pieces of this length and then an empty piece.
+/// What octets tell a role, cut after a number of them, the rest in pieces of this length and then an empty piece.
 fn told(
     alloc: Global,
     role: Role,
@@ -69,7 +69,7 @@ fn told(
     told_text(alloc, &events, fault)
 }
 
-/// Feeds octets, cut after so many of them, the rest in pieces of this length and then an empty piece, and keeps the events. Gives
+/// Feeds octets, cut after a number of them, the rest in pieces of this length and then an empty piece, and keeps the events. Gives
 /// the fault, if any and if it is told again.
 fn feed_all(
     peer: &mut Peer,

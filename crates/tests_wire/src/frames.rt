@@ -1,5 +1,5 @@
 //! Rows of greetings and frames. `reads` gives the frames that octets are read as, in any cut, and the fault behind them; `counts`
-//! their number. `writes` gives what stands before the body in a frame with a body of this length, and whether it is read back; `message` (so many
+//! their number. `writes` gives what stands before the body in a frame with a body of this length, and whether it is read back; `message` (a number of
 //! bodies of this length) whether a message is written and read back; `bodies` the octets of one. `pong` gives the octets of the
 //! answer to a ping with this context. `greeting` gives the octets of a greeting, and `greets`
 //! the greeting of octets.
@@ -42,7 +42,7 @@ fn pong(alloc: Global, context: &[u8]) -> Result<String, WireFault> {
     Ok(hex_of(alloc, &pong.write(alloc)?)?)
 }
 
-/// A body of so many octets.
+/// A body of this length.
 fn body(alloc: Global, length: usize) -> Result<Vec<u8>, AllocError> {
     vec![in alloc; 0x61u8; length]
 }
@@ -78,7 +78,7 @@ fn same_bodies(alloc: Global, count: usize, length: usize) -> Result<Vec<Vec<u8>
     Ok(bodies)
 }
 
-/// Writes a message with so many bodies of this length behind an octet; where it is refused nothing is written.
+/// Writes a message with a number of bodies of this length behind an octet; where it is refused nothing is written.
 fn message(alloc: Global, count: usize, length: usize) -> Result<String, WireFault> {
     let bodies = same_bodies(alloc, count, length)?;
     if bodies.is_empty() {

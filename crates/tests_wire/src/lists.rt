@@ -30,7 +30,7 @@ fn keep(frames: &mut Vec<Frame>, frame: Frame) -> Result<(), AllocError> {
     Ok(())
 }
 
-/// The frames of octets that are cut after so many, the rest in pieces of this length and then an empty piece, and the fault behind
+/// The frames of octets that are cut after the first `first`, the rest in pieces of this length and then an empty piece, and the fault behind
 /// them.
 fn read(
     alloc: Global,

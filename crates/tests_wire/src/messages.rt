@@ -1,6 +1,6 @@
 //! Rows of messages. `hmac` (a key and a text in hexadecimal) gives the keyed hash. The others have a key and frames behind it, with ` ~ `
 //! between them, each as text or behind `hex:` in hexadecimal: `open` gives what is read of a message, `changed` what becomes of it where
-//! one octet behind the delimiter is changed, and `sign` the signature of four parts. `nested` opens a content with so many lists inside one another.
+//! one octet behind the delimiter is changed, and `sign` the signature of four parts. `nested` opens a content with a number of lists inside one another.
 ghost use Rattle.jupyter_msg.specs.Opened.{IsRead};
 
 use crate::octets::hex_of;
@@ -124,7 +124,7 @@ fn signature(alloc: Global, key: &Key, frames: &[Vec<u8>]) -> Result<String, Msg
     }
 }
 
-/// Opens a content with so many lists inside one another.
+/// Opens a content with a number of lists inside one another.
 fn nested(alloc: Global, lists: usize) -> Result<String, MsgFault> {
     let (before, behind) = ("[".repeat(alloc, lists)?, "]".repeat(alloc, lists)?);
     let row = format!(in alloc; "<IDS|MSG> ~  ~ {{}} ~ {{}} ~ {{}} ~ {{\"a\":{before}{behind}}}")?;

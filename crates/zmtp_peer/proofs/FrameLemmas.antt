@@ -15,7 +15,7 @@ use Rattle.zmtp_peer.specs.declared.fault.PeerFault.{PeerFault}
 use Rattle.zmtp_peer.specs.declared.intake.Stage.{Stage}
 use Rattle.zmtp_peer.specs.declared.intake.Stage.TheVariants as stage
 use Rattle.zmtp_peer.specs.declared.brought.Brought as code
-use Rattle.zmtp_peer.specs.Brought.{Brought, Whole, Told, brought_of, first_of}
+use Rattle.zmtp_peer.specs.Brought.{Brought, Whole, OfCommand, brought_of, first_of}
 use Rattle.zmtp_peer.specs.Intake.{state_at, state_of, told_by, Keeps, IsRefusal, TakesFrames}
 
 -- frames are taken, and nothing ends them yet
@@ -65,17 +65,17 @@ keeps-append xs ys n h = (omega (arith, length-append xs ys), take-append-le n x
 pub keeps-held : (brought : List Brought) (held more : List (List ℕ)) → Keeps (first_of brought held) (first_of brought (held ++ more))
 keeps-held [] held more = keeps-append held more
 keeps-held (Whole message ∷ others) held more = keeps-same message
-keeps-held (Told event ∷ others) held more = keeps-held others held more
+keeps-held (OfCommand event ∷ others) held more = keeps-held others held more
 
 pub keeps-whole : (brought : List Brought) (held left : List (List ℕ)) → Keeps (first_of brought held) (first_of (brought ++ Whole held ∷ []) left)
 keeps-whole [] held left = keeps-same held
 keeps-whole (Whole message ∷ others) held left = keeps-same message
-keeps-whole (Told event ∷ others) held left = keeps-whole others held left
+keeps-whole (OfCommand event ∷ others) held left = keeps-whole others held left
 
-pub keeps-told : (brought : List Brought) (held : List (List ℕ)) (event : Event) → Keeps (first_of brought held) (first_of (brought ++ Told event ∷ []) held)
+pub keeps-told : (brought : List Brought) (held : List (List ℕ)) (event : Event) → Keeps (first_of brought held) (first_of (brought ++ OfCommand event ∷ []) held)
 keeps-told [] held event = keeps-same held
 keeps-told (Whole message ∷ others) held event = keeps-same message
-keeps-told (Told first ∷ others) held event = keeps-told others held event
+keeps-told (OfCommand first ∷ others) held event = keeps-told others held event
 
 keeps-nothing : (ys : List (List ℕ)) → Keeps [] ys
 keeps-nothing ys zero h = (omega arith, refl)
@@ -86,7 +86,7 @@ pub keeps-alone : (brought : List Brought) (item : Brought) (held : List (Vec �
     → Keeps (first_of brought (bodies held)) (first_of (brought ++ item ∷ []) (bodies held))
 keeps-alone [] item [] none = keeps-nothing (first_of (item ∷ []) [])
 keeps-alone (Whole message ∷ others) item [] none = keeps-same message
-keeps-alone (Told event ∷ others) item [] none = keeps-alone others item [] none
+keeps-alone (OfCommand event ∷ others) item [] none = keeps-alone others item [] none
 keeps-alone brought item (frame ∷ held) none = absurd (omega arith)
 
 -- the front where one more is brought, or where there was no memory for it

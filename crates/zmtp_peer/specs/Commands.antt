@@ -14,7 +14,7 @@ o >>= f = option_and_then f o
 abbrev pub cut : ℕ → List ℕ → Option (List ℕ × List ℕ)
 cut n octets = if nat_le n (length octets) then Some (take n octets, drop n octets) else None
 
--- an octet with a length, so many octets, and those behind them
+-- what an octet with a length counts off, and what is behind it
 abbrev pub sized : List ℕ → Option (List ℕ × List ℕ)
 sized [] = None
 sized (n ∷ octets) = cut n octets

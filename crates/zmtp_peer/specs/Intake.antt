@@ -46,7 +46,7 @@ IsFreshAt (stage.Refused fault) intake = Unit {0}
 abbrev pub IsFresh : Intake → Type 0
 IsFresh intake = IsFreshAt intake.stage intake
 
--- At most so many messages and events were brought, and at most so many frames are held on top; there is memory for what there was, or for
+-- At most n messages and events were brought, and at most n frames are held on top; there is memory for what there was, or for
 -- twice the frames.
 pub record GrowsBy (n : ℕ) (old new : Intake) : Type 0 where
   pub brought : vec_len new.brought ≤ vec_len old.brought + n

@@ -6,5 +6,5 @@ use Rattle.zmtp_peer.specs.Events.{Later, Passed, Telling, Refusal, event_of}
 
 abbrev pub later_of : code.Later → Later
 later_of variant.Passed = Passed
-later_of (variant.Told event) = Telling (event_of event)
+later_of (variant.Event event) = Telling (event_of event)
 later_of (variant.Refused fault) = Refusal (fault_of fault)

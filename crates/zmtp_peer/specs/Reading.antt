@@ -81,7 +81,7 @@ held_in Opening = 0
 held_in (Open held) = length held
 held_in (Refused fault) = 0
 
--- Behind so many octets that were not given before, and so many frames that were held, there is memory for what there was, or by
+-- Behind the octets that were not given before, and the frames that were held, there is memory for what there was, or by
 -- their number: for four times the octets, for twice the frames and octets, and for an event an octet and one more.
 pub record ReservesFor (octets frames : ℕ) (old new : Room) (events : ℕ) : Type 0 where
   pub stream : new.octets ≤ max old.octets (4 * octets)

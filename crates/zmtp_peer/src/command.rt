@@ -12,7 +12,7 @@ use zmtp_wire::CONTEXT_LIMIT;
 #[derive(Drop)]
 pub(crate) struct Misfit;
 
-/// An octet with a length, so many octets, and those behind them.
+/// What an octet with a length counts off, and what is behind it.
 fn sized(octets: &[u8]) -> Option<(&[u8], &[u8])>
     ensures read { option_map (λ x. (x.0.now, x.1.now)) result ≡ sized octets.now }
     ensures short { IfSome result (λ x. length x.0.now ≤ 255) }
@@ -56,7 +56,7 @@ pub(crate) fn context(octets: &[u8]) -> Option<&[u8]>
     }
 }
 
-/// Four octets with a length, so many octets, and those behind them.
+/// What four octets with a length count off, and what is behind it.
 fn sized_by_four(octets: &[u8]) -> Option<(&[u8], &[u8])>
     ensures read { option_map (λ x. (x.0.now, x.1.now)) result ≡ sized_by_four octets.now }
     ensures less { IfSome result (λ x. length x.1.now < length octets.now) }

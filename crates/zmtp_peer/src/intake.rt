@@ -2,7 +2,7 @@
 ghost use Rattle.std.specs.Prelude.{◌≡◌, ◌++◌, ◌∷◌, [], ℕ, ◌+◌, ◌*◌, ◌≤◌, ◌≢◌, OnOk, OnErr, length, map, max, true, false, vec_len, vec_capacity};
 ghost use Rattle.zmtp_wire.specs.Frame.{frame_of};
 ghost use Rattle.zmtp_peer.specs.Events.{after_frame, frame_told, after_later, behind_ready, later_told, bodies, event_of};
-ghost use Rattle.zmtp_peer.specs.Brought.{Whole, Told, brought_of, first_of};
+ghost use Rattle.zmtp_peer.specs.Brought.{Whole, OfCommand, brought_of, first_of};
 ghost use Rattle.zmtp_peer.specs.Intake.{state_of, told_by, front_of, brought_in, Keeps, IsFresh, GrowsBy, TakesFrames};
 
 use crate::brought::Brought;
@@ -112,7 +112,7 @@ fn take_command(
 {
     match behind_ready(alloc, terms, body)? {
         Later::Passed => Ok(()),
-        Later::Told(event) => add_event(&mut intake.brought, event),
+        Later::Event(event) => add_event(&mut intake.brought, event),
         Later::Refused(fault) => {
             intake.stage = Stage::Refused(fault);
             Ok(())
@@ -122,7 +122,7 @@ fn take_command(
 
 /// Adds the event of a command.
 fn add_event(brought: &mut Vec<Brought>, event: PeerEvent) -> Result<(), AllocError>
-    ensures ok { OnOk result (map brought_of brought.new.items ≡ map brought_of brought.old.items ++ Told (event_of event) ∷ []) }
+    ensures ok { OnOk result (map brought_of brought.new.items ≡ map brought_of brought.old.items ++ OfCommand (event_of event) ∷ []) }
     ensures err { OnErr result (brought.new.items ≡ brought.old.items) }
     ensures length { OnOk result (vec_len brought.new ≡ vec_len brought.old + 1) }
 {

@@ -23,7 +23,7 @@ pub(crate) enum Later {
     /// It is passed over.
     Passed,
     /// It is told as this event.
-    Told(PeerEvent),
+    Event(PeerEvent),
     /// It ends the connection.
     Refused(PeerFault),
 }
@@ -56,10 +56,10 @@ fn newer(alloc: Global, role: Role, name: &[u8], octets: &[u8]) -> Result<Later,
         return ping(alloc, octets);
     }
     if publishes(role) && name == SUBSCRIBE {
-        return Ok(Later::Told(PeerEvent::Subscribe(Vec::from_slice(alloc, octets)?)));
+        return Ok(Later::Event(PeerEvent::Subscribe(Vec::from_slice(alloc, octets)?)));
     }
     if publishes(role) && name == CANCEL {
-        return Ok(Later::Told(PeerEvent::Cancel(Vec::from_slice(alloc, octets)?)));
+        return Ok(Later::Event(PeerEvent::Cancel(Vec::from_slice(alloc, octets)?)));
     }
     Ok(Later::Passed)
 }
@@ -81,6 +81,6 @@ fn ping(alloc: Global, octets: &[u8]) -> Result<Later, AllocError>
 {
     match command::context(octets) {
         None => Ok(Later::Refused(PeerFault::BadPing)),
-        Some(context) => Ok(Later::Told(PeerEvent::Ping(Vec::from_slice(alloc, context)?))),
+        Some(context) => Ok(Later::Event(PeerEvent::Ping(Vec::from_slice(alloc, context)?))),
     }
 }

@@ -13,7 +13,7 @@ pub record Decoding : Type 0 where
   pub before : Rest
   pub room : ℕ
 
--- of so many octets that are kept nothing was given yet, or less than half
+-- of `kept` octets nothing was given yet, or less than half
 abbrev pub IsMostlyLeft : ℕ → ℕ → Type 0
 IsMostlyLeft given kept = (given ≡ 0) ⊎ (given + given < kept)
 

@@ -1,6 +1,7 @@
 -- The answer to a PING: the command PONG with the context of the ping (RFC 37, "Heartbeating").
 use Rattle.std.specs.Prelude.{ℕ, true, false, List, ◌∷◌, ◌++◌, codes}
 use Rattle.zmtp_wire.specs.Frame.{Frame, written}
+use Rattle.zmtp_wire.specs.declared.pong.TheConstants.{CONTEXT_LIMIT}
 
 -- the command: its name with a length, and the context
 abbrev pub pong : List ℕ → Frame
@@ -12,4 +13,4 @@ pong_octets context = written (pong context)
 
 -- the longest context that a ping may have
 abbrev pub context_limit : ℕ
-context_limit = 16
+context_limit = CONTEXT_LIMIT

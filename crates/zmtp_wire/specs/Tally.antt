@@ -3,12 +3,13 @@
 use Rattle.std.specs.Prelude.{ℕ, ◌+◌, ◌<◌, ◌≤◌, if◌then◌else◌}
 use Rattle.zmtp_wire.specs.declared.header.Header.{Header}
 use Rattle.zmtp_wire.specs.declared.tally.Tally.{Tally}
+use Rattle.zmtp_wire.specs.declared.tally.TheConstants.{MESSAGE_OCTET_LIMIT, MESSAGE_FRAME_LIMIT}
 
 abbrev pub octet_limit : ℕ
-octet_limit = 16777216
+octet_limit = MESSAGE_OCTET_LIMIT
 
 abbrev pub frame_limit : ℕ
-frame_limit = 1024
+frame_limit = MESSAGE_FRAME_LIMIT
 
 -- between two messages
 abbrev pub nothing_counted : Tally

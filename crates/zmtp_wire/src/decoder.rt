@@ -12,8 +12,8 @@ use crate::tally::Tally;
 use std::alloc::{AllocError, Global};
 use std::marker::Model;
 
-/// How many octets of memory are kept for the next pieces.
-const ROOM: usize = 131_072;
+/// The octets of memory that are kept for the next pieces.
+const KEPT_OCTETS: usize = 131_072;
 
 /// How far a stream is read.
 #[derive(Clone, Copy)]
@@ -90,7 +90,7 @@ impl Decoder {
 
         // There is memory for what there was, or for four times what came and isn't given; a size that is told takes none.
         ensures room { OnOk result (self.new.room ≤ max self.old.room (4 * (length self.old.rest.octets + length piece.now))) }
-        ensures given_back { OnOk result (self.old.rest.octets ≡ [] → self.new.room ≤ max ROOM (4 * length piece.now)) }
+        ensures given_back { OnOk result (self.old.rest.octets ≡ [] → self.new.room ≤ max KEPT_OCTETS (4 * length piece.now)) }
     {
         self.position.at = drop_given(&mut self.buffer, self.position.at);
         self.length_before = self.buffer.len();
@@ -104,7 +104,7 @@ impl Decoder {
         ensures rest { self.new.rest ≡ self.old.rest }
         ensures before { self.new.before ≡ self.old.rest }
         ensures room { self.new.room ≤ self.old.room }
-        ensures given_back { self.old.rest.octets ≡ [] → self.new.room ≤ ROOM }
+        ensures given_back { self.old.rest.octets ≡ [] → self.new.room ≤ KEPT_OCTETS }
     {
         self.position.at = drop_given(&mut self.buffer, self.position.at);
         self.length_before = self.buffer.len();
@@ -175,7 +175,7 @@ fn drop_given(buffer: &mut Vec<u8>, given: usize) -> usize
     ensures within { result ≤ vec_len buffer.new }
     ensures mostly { IsMostlyLeft result (vec_len buffer.new) }
     ensures room { vec_capacity buffer.new ≤ vec_capacity buffer.old }
-    ensures given_back { drop given buffer.old.items ≡ [] → vec_capacity buffer.new ≤ ROOM }
+    ensures given_back { drop given buffer.old.items ≡ [] → vec_capacity buffer.new ≤ KEPT_OCTETS }
 {
     if given < buffer.len() - given {
         return given;
@@ -184,17 +184,17 @@ fn drop_given(buffer: &mut Vec<u8>, given: usize) -> usize
     0
 }
 
-/// Drops so many octets at the front. Where none is left, memory past what is kept for the next pieces is given back.
+/// Drops `count` octets at the front. Where none is left, memory past what is kept for the next pieces is given back.
 fn drop_front(buffer: &mut Vec<u8>, count: usize)
     requires { count ≤ vec_len buffer.old }
     ensures items { buffer.new.items ≡ drop count buffer.old.items }
-    ensures given_back { buffer.new.items ≡ [] → vec_capacity buffer.new ≤ ROOM }
+    ensures given_back { buffer.new.items ≡ [] → vec_capacity buffer.new ≤ KEPT_OCTETS }
     ensures room { vec_capacity buffer.new ≤ vec_capacity buffer.old }
 {
     let rest = buffer.len() - count;
     if rest == 0 {
         buffer.clear();
-        if buffer.capacity() > ROOM {
+        if buffer.capacity() > KEPT_OCTETS {
             buffer.shrink_to_fit();
         }
         return;

@@ -3,7 +3,7 @@ use Rattle.std.proofs.lemmas.List.{map-append}
 use Rattle.janus_syntax.specs.Tree.{parameter_view, parameters_view}
 use Rattle.janus_syntax.specs.View.{plain_parameter}
 use Rattle.janus_check.proofs.DropLemmas.{taken}
-use Rattle.janus_invert.specs.declared.code.Parameter.{Parameter}
+use Rattle.janus_invert.specs.declared.code.FlatParameter.{FlatParameter}
 use Rattle.janus_invert.specs.Procedures.{param_of, params_of, ParametersHaveNumbers}
 use Rattle.janus_invert.proofs.Lists.{parameters_more}
 use Rattle.janus_invert.proofs.Meeting.{one_parameter_met}
@@ -24,5 +24,5 @@ loop-i-preserved c =
       ap params_of c.in_ok-push.ensures.items ∙ map-append param_of ys (y ∷ [])
           ∙ (λ j. v.0 j ++ c.in_ok-flat_parameter.ensures.parameter j ∷ [])
           ∙ sym (ap (λ xs. map plain_parameter (parameters_view xs)) (taken xs i x c.index-parameters-i.is c.loop-i-test.true) ∙ ap (map plain_parameter) (map-append parameter_view (take i xs) (x ∷ [])) ∙ map-append plain_parameter (parameters_view (take i xs)) (parameter_view x ∷ [])),
-      subst (λ (ys : List Parameter). ParametersHaveNumbers c.args.names.now ys) (sym c.in_ok-push.ensures.items) (parameters_more c.args.names.now ys y v.1 c.in_ok-flat_parameter.ensures.numbered),
+      subst (λ (ys : List FlatParameter). ParametersHaveNumbers c.args.names.now ys) (sym c.in_ok-push.ensures.items) (parameters_more c.args.names.now ys y v.1 c.in_ok-flat_parameter.ensures.numbered),
     )

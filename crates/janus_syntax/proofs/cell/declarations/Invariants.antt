@@ -1,7 +1,7 @@
 use Rattle.std.proofs.Common.{length}
 use Rattle.janus_syntax.specs.Tree.{declarations_view}
 use Rattle.janus_syntax.specs.Tokens.{views}
-use Rattle.janus_syntax.specs.Statements.{AreDeclared}
+use Rattle.janus_syntax.proofs.SoFar.{AreDeclared}
 use Rattle.janus_syntax.proofs.cell.declarations.Given as goal
 
 abbrev pub invariant-declarations : goal.invariant-declarations

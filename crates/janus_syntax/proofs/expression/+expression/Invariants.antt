@@ -2,7 +2,7 @@
 use Rattle.std.proofs.Common.{◌-◌, ◌+◌, ◌*◌, length}
 use Rattle.janus_syntax.specs.Tree.{exp_view}
 use Rattle.janus_syntax.specs.Tokens.{views}
-use Rattle.janus_syntax.specs.Reading.{IsSoFar, IsChain}
+use Rattle.janus_syntax.proofs.SoFar.{IsSoFar, IsChain}
 use Rattle.janus_syntax.proofs.expression.+expression.Given as goal
 
 abbrev pub decreases-expression : goal.decreases-expression

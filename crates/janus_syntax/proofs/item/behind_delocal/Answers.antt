@@ -2,13 +2,13 @@ use Rattle.std.proofs.lemmas.Result.{err_from_is_err_and}
 use Rattle.janus_syntax.specs.Tree.{name_view}
 use Rattle.janus_syntax.specs.Tokens.{views}
 use Rattle.janus_syntax.proofs.Steps.{passes_on}
-use Rattle.janus_syntax.proofs.Locals.{delocal_is, delocal_stops_word, delocal_stops_kind, delocal_stops_name, delocal_stops_equals}
+use Rattle.janus_syntax.proofs.Locals.{delocal_is, delocal_stops_keyword, delocal_stops_kind, delocal_stops_name, delocal_stops_equals}
 use Rattle.janus_syntax.proofs.item.behind_delocal.Goals as goal
 
 pub returns-in_err-rest : goal.returns-in_err-rest
 returns-in_err-rest c =
     let p = err_from_is_err_and c.from_residual.result c.from_residual.ensures.1 in
-    rw (p.1, p.2) (passes_on _ _ c.in_err-rest.field-0.0 c.in_err-rest.ensures (λ out f. delocal_stops_word c.args.kind (name_view c.args.name.now) (views c.args.tokens.now) out f))
+    rw (p.1, p.2) (passes_on _ _ c.in_err-rest.field-0.0 c.in_err-rest.ensures (λ out f. delocal_stops_keyword c.args.kind (name_view c.args.name.now) (views c.args.tokens.now) out f))
 
 pub returns-in_err-rest-2 : goal.returns-in_err-rest-2
 returns-in_err-rest-2 c =

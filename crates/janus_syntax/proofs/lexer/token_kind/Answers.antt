@@ -1,11 +1,11 @@
 use Rattle.std.proofs.Common.{subst, ap, ◌∙◌, refl}
 use Rattle.janus_syntax.specs.Tokens.{Name}
-use Rattle.janus_syntax.specs.Lexical.{A_word, A_name, A_number, A_sign, decimal}
+use Rattle.janus_syntax.specs.Lexical.{A_keyword, A_name, A_number, A_sign, decimal}
 use Rattle.janus_syntax.specs.Scan.{IsFrontText}
 use Rattle.janus_syntax.proofs.lexer.token_kind.Goals as goal
 
 pub returns-in-Some : goal.returns-in-Some
-returns-in-Some c = (A_word c.in-Some.word, c.in-Some.ensures, refl)
+returns-in-Some c = (A_keyword c.in-Some.keyword, c.in-Some.ensures, refl)
 
 pub returns-in_ok-from_str-in-None : goal.returns-in_ok-from_str-in-None
 returns-in_ok-from_str-in-None c =

@@ -17,13 +17,13 @@ returns-in_err-parameter c =
 pub returns-in-Some : goal.returns-in-Some
 returns-in-Some c = parameter_is c.in-Some.ensures.found c.in_ok-name.ensures c.in_ok-parameter.ensures
 
-pub returns-in_default-word_at : goal.returns-in_default-word_at
-returns-in_default-word_at c = other_begins (views c.args.tokens.now) c.in_default.ensures.none c.in_default-word_at.ensures.none
+pub returns-in_default-keyword_at : goal.returns-in_default-keyword_at
+returns-in_default-keyword_at c = other_begins (views c.args.tokens.now) c.in_default.ensures.none c.in_default-keyword_at.ensures.none
 
 pub returns-in_err-stack : goal.returns-in_err-stack
 returns-in_err-stack c =
     let p = err_from_is_err_and c.from_residual-in_err-stack.result c.from_residual-in_err-stack.ensures.1 in
-    rw (p.1, p.2) (passes_on _ _ c.in_err-stack.field-0.0 c.in_err-stack.ensures (λ out f. stack_stops out c.in-Some-word_at.ensures.found f))
+    rw (p.1, p.2) (passes_on _ _ c.in_err-stack.field-0.0 c.in_err-stack.ensures (λ out f. stack_stops out c.in-Some-keyword_at.ensures.found f))
 
 pub returns : goal.returns
-returns c = stack_is c.in-Some-word_at.ensures.found c.in_ok-stack.ensures
+returns c = stack_is c.in-Some-keyword_at.ensures.found c.in_ok-stack.ensures

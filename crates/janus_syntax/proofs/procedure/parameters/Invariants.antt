@@ -1,7 +1,7 @@
 use Rattle.std.proofs.Common.{length}
 use Rattle.janus_syntax.specs.Tree.{parameters_view}
 use Rattle.janus_syntax.specs.Tokens.{views}
-use Rattle.janus_syntax.specs.Procedures.{AreParameters}
+use Rattle.janus_syntax.proofs.SoFar.{AreParameters}
 use Rattle.janus_syntax.proofs.procedure.parameters.Given as goal
 
 abbrev pub invariant-parameters : goal.invariant-parameters

@@ -35,7 +35,7 @@ behind_if-returns-in_err-else_part t c =
 pub behind_if-returns : goal.behind_if-returns
 behind_if-returns t c =
     c.end_of_if.ensures (views c.args.tokens.now)
-    (record { behind_test = _; behind_then = _; behind_part = _; test = c.in_ok-test.ensures; then_word = c.in_ok-rest.ensures; then_part = c.in_ok-then_part.ensures; else_part = c.in_ok-else_part.ensures })
+    (record { behind_test = _; behind_then = _; behind_part = _; test = c.in_ok-test.ensures; then_keyword = c.in_ok-rest.ensures; then_part = c.in_ok-then_part.ensures; else_part = c.in_ok-else_part.ensures })
 
 pub behind_from-returns-in_err-do_part : goal.behind_from-returns-in_err-do_part
 behind_from-returns-in_err-do_part t c =
@@ -91,16 +91,16 @@ behind_local-returns-in_err-stm t c =
 pub behind_local-returns-in-Some : goal.behind_local-returns-in-Some
 behind_local-returns-in-Some t c = local_int_is c.requires c.in-Some.ensures.found c.in_ok-stm.ensures
 
-pub behind_local-returns-in_default-word_at : goal.behind_local-returns-in_default-word_at
-behind_local-returns-in_default-word_at t c = subst (λ n. FailsPart Local c.args.depth (views c.args.tokens.now) (Expected what.Kind n)) (length-map c.args.tokens.now token_view) (kind_is_wanted c.args.depth (views c.args.tokens.now) c.in_default.ensures.none c.in_default-word_at.ensures.none)
+pub behind_local-returns-in_default-keyword_at : goal.behind_local-returns-in_default-keyword_at
+behind_local-returns-in_default-keyword_at t c = subst (λ n. FailsPart Local c.args.depth (views c.args.tokens.now) (Expected what.Kind n)) (length-map c.args.tokens.now token_view) (kind_is_wanted c.args.depth (views c.args.tokens.now) c.in_default.ensures.none c.in_default-keyword_at.ensures.none)
 
 pub behind_local-returns-in_err-stm-2 : goal.behind_local-returns-in_err-stm-2
 behind_local-returns-in_err-stm-2 t c =
     let p = err_from_is_err_and c.from_residual-in_err-stm-2.result c.from_residual-in_err-stm-2.ensures.1 in
-    rw (p.1, p.2) (passes_on _ _ c.in_err-stm-2.field-0.0 c.in_err-stm-2.ensures (λ out f. local_stack_stops out c.requires c.in-Some-word_at.ensures.found f))
+    rw (p.1, p.2) (passes_on _ _ c.in_err-stm-2.field-0.0 c.in_err-stm-2.ensures (λ out f. local_stack_stops out c.requires c.in-Some-keyword_at.ensures.found f))
 
 pub behind_local-returns : goal.behind_local-returns
-behind_local-returns t c = local_stack_is c.requires c.in-Some-word_at.ensures.found c.in_ok-stm-2.ensures
+behind_local-returns t c = local_stack_is c.requires c.in-Some-keyword_at.ensures.found c.in_ok-stm-2.ensures
 
 pub body-returns-in_err-first : goal.body-returns-in_err-first
 body-returns-in_err-first t c =
@@ -116,7 +116,7 @@ pub optional_body-returns-in_default : goal.optional_body-returns-in_default
 optional_body-returns-in_default t c = rw (c.in_ok-push.ensures.items, c.new-left_out.ensures.items) (left c.in_default.ensures.none)
 
 pub optional_body-returns : goal.optional_body-returns
-optional_body-returns t c = optional_result c.args.word c.args.depth (views c.args.tokens.now) (views c.in-Some.rest.now) (λ x. block_view x.0.items) (λ x. views x.1.now) c.body.result c.in-Some.ensures.found c.body.ensures
+optional_body-returns t c = optional_result c.args.keyword c.args.depth (views c.args.tokens.now) (views c.in-Some.rest.now) (λ x. block_view x.0.items) (λ x. views x.1.now) c.body.result c.in-Some.ensures.found c.body.ensures
 
 pub statement-returns-in_err-stm-in-Name : goal.statement-returns-in_err-stm-in-Name
 statement-returns-in_err-stm-in-Name t c =
@@ -133,17 +133,17 @@ statement-returns-in_ok-stm-in-Name t c =
 pub statement-returns-in_err-stm-in-Keyword : goal.statement-returns-in_err-stm-in-Keyword
 statement-returns-in_err-stm-in-Keyword t c =
     let p = err_from_is_err_and c.from_residual-in_err-stm-in-Keyword.result c.from_residual-in_err-stm-in-Keyword.ensures.1 in
-    let e = first_token c.args.tokens.now c.in-Some.rest.now c.in-Some.first.now (kinds.Keyword c.in-Keyword.word) c.in-Some.ensures.cases c.in-Keyword.is in
+    let e = first_token c.args.tokens.now c.in-Some.rest.now c.in-Some.first.now (kinds.Keyword c.in-Keyword.keyword) c.in-Some.ensures.cases c.in-Keyword.is in
     rw (p.1, p.2, e) (c.in_err-stm-in-Keyword.ensures c.in-Some.first.now.span)
 
 pub statement-returns-in_ok-stm-in-Keyword : goal.statement-returns-in_ok-stm-in-Keyword
 statement-returns-in_ok-stm-in-Keyword t c =
-    let e = first_token c.args.tokens.now c.in-Some.rest.now c.in-Some.first.now (kinds.Keyword c.in-Keyword.word) c.in-Some.ensures.cases c.in-Keyword.is in
+    let e = first_token c.args.tokens.now c.in-Some.rest.now c.in-Some.first.now (kinds.Keyword c.in-Keyword.keyword) c.in-Some.ensures.cases c.in-Keyword.is in
     rw e (c.in_ok-stm-in-Keyword.ensures c.in-Some.first.now.span)
 
 pub statement-returns-else-opens_construct : goal.statement-returns-else-opens_construct
 statement-returns-else-opens_construct t c =
-    let e = first_token c.args.tokens.now c.in-Some.rest.now c.in-Some.first.now (kinds.Keyword c.in-Keyword.word) c.in-Some.ensures.cases c.in-Keyword.is in
+    let e = first_token c.args.tokens.now c.in-Some.rest.now c.in-Some.first.now (kinds.Keyword c.in-Keyword.keyword) c.in-Some.ensures.cases c.in-Keyword.is in
     rw e (c.plain_statement.ensures c.args.depth c.in-Some.first.now.span c.requires)
 
 pub statements_behind-statements-init : goal.statements_behind-statements-init
@@ -170,4 +170,4 @@ construct-returns-in-From t c = λ place. rw c.in-From.is (from_result place c.a
 
 pub construct-returns-in_default : goal.construct-returns-in_default
 construct-returns-in_default t c =
-    λ place. rw (is_local c.args.word c.requires.opens c.in_default.not-If c.in_default.not-From) (local_result place c.args.depth c.requires.room (views c.args.tokens.now) (λ x. stm_view x.0) (λ x. views x.1.now) c.behind_local.result c.behind_local.ensures)
+    λ place. rw (is_local c.args.keyword c.requires.opens c.in_default.not-If c.in_default.not-From) (local_result place c.args.depth c.requires.room (views c.args.tokens.now) (λ x. stm_view x.0) (λ x. views x.1.now) c.behind_local.result c.behind_local.ensures)

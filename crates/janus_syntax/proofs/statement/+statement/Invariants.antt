@@ -2,7 +2,7 @@
 use Rattle.std.proofs.Common.{◌+◌, ◌*◌, length}
 use Rattle.janus_syntax.specs.Tree.{block_view}
 use Rattle.janus_syntax.specs.Tokens.{views}
-use Rattle.janus_syntax.specs.Statements.{AreSoFar}
+use Rattle.janus_syntax.proofs.SoFar.{AreSoFar}
 use Rattle.janus_syntax.proofs.statement.+statement.Given as goal
 
 abbrev pub decreases-statement : goal.decreases-statement

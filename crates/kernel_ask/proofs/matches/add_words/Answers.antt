@@ -1,6 +1,6 @@
 use Rattle.std.proofs.Common.{[], ◌∷◌, ◌++◌, take, map, sym, ap, ◌∙◌, string_bytes}
 use Rattle.std.proofs.lemmas.List.{map_more}
-use Rattle.janus_syntax.specs.Spelling.{word_text}
+use Rattle.janus_syntax.specs.Spelling.{keyword_text}
 use Rattle.janus_syntax.specs.declared.token.Keyword.TheVariants as word
 use Rattle.kernel_ask.specs.Added.{with_match, with_matches}
 use Rattle.kernel_ask.proofs.Added.{with_matches_more}
@@ -15,6 +15,6 @@ loop-word-preserved c =
     let i = c.loop-word.word-index in
     c.in_ok-add_match.ensures
     ∙ ap (λ ks. with_match prefix ks name) c.loop-word.invariant
-    ∙ sym (with_matches_more prefix first (map word_text (take i words)) name)
-    ∙ ap (λ n. with_matches prefix first (map word_text (take i words) ++ n ∷ [])) c.text.ensures
-    ∙ ap (with_matches prefix first) (sym (map_more word_text words i word.Call c.loop-word-test.true))
+    ∙ sym (with_matches_more prefix first (map keyword_text (take i words)) name)
+    ∙ ap (λ n. with_matches prefix first (map keyword_text (take i words) ++ n ∷ [])) c.text.ensures
+    ∙ ap (with_matches prefix first) (sym (map_more keyword_text words i word.Call c.loop-word-test.true))

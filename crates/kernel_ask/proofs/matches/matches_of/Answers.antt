@@ -5,7 +5,7 @@ use Rattle.std.specs.declared.alloc.Global.{Global}
 use Rattle.std.specs.declared.alloc.AllocError.{AllocError}
 use Rattle.std.specs.List.Sorted.{IsStrictlySortedBy}
 use Rattle.std.specs.String.{string_cmp}
-use Rattle.janus_syntax.specs.Spelling.{word_text}
+use Rattle.janus_syntax.specs.Spelling.{keyword_text}
 use Rattle.janus_syntax.specs.declared.token.TheConstants.{KEYWORDS}
 use Rattle.janus_store.specs.StoreState.{shown_store}
 use Rattle.kernel_ask.specs.Added.{with_matches}
@@ -25,7 +25,7 @@ listed (Err e) ks w prefix same sorted all = tt
 pub returns : goal.returns
 returns g c =
     let prefix = c.args.prefix.now in
-    let words = map word_text KEYWORDS in
+    let words = map keyword_text KEYWORDS in
     let w : World = record { store = shown_store c.args.store.now; procedures = in_a_row c.args.procedures.now } in
     let all : map string_bytes c.add_words.new.names.keys ≡ all_matches w prefix =
     c.in_ok-add_words.ensures

@@ -1,5 +1,5 @@
 use Rattle.std.proofs.Common.{sym, ◌∙◌, ap}
-use Rattle.kernel_history.specs.Kept.{shown_here}
+use Rattle.kernel_history.specs.Standing.{shown_here}
 use Rattle.janus_store.specs.StoreState.{StoreState}
 use Rattle.janus_machine.specs.Procedures.{kept_in}
 use Rattle.janus_machine.specs.declared.procedures.Procedures.{Procedures}

@@ -3,9 +3,10 @@ use Rattle.janus_machine.specs.Procedures.{kept_in}
 use Rattle.janus_machine.specs.Counts.{IsWritten}
 use Rattle.janus_machine.specs.declared.procedures.Procedures.{Procedures}
 use Rattle.kernel_machine.specs.StepsOfSlices.{steps_back}
-use Rattle.kernel_history.specs.Kept.{place_in, Kept}
+use Rattle.kernel_history.specs.Standing.{place_in}
+use Rattle.kernel_history.specs.Kept.{Kept}
 use Rattle.kernel_runner.specs.Runner.{Stands}
-use Rattle.kernel_machine.specs.declared.turn.Turn.TheVariants.{GoesBack}
+use Rattle.kernel_machine.specs.declared.heading.Heading.TheVariants.{GoesBack}
 use Rattle.kernel_history.specs.declared.job.Open.TheVariants.{Inside}
 use Rattle.kernel_runner.proofs.Growing.{same_more}
 use Rattle.kernel_runner.proofs.Running.{whole_at_start}
@@ -20,7 +21,7 @@ settle_back-requires-clause-kept g c =
     let e : c.args.count - c.args.m ≡ 0 = sym c.saturating_sub-left.ensures ∙ c.if-left-eq0.true in
     let stands = c.back.ensures.goes _ (stands_with c.args.tree.now c.args.work c.args.count true c.args.runner.now c.program_of.result.now c.program_of.ensures c.requires.stands) in (
       c.args.why,
-      subst (λ (n : ℕ). Kept c.args.tree.now c.back.new.self (Inside (record { work = c.args.work; count = n; turn = GoesBack c.args.why }))) e
+      subst (λ (n : ℕ). Kept c.args.tree.now c.back.new.self (Inside (record { work = c.args.work; count = n; heading = GoesBack c.args.why }))) e
           (kept_at c.args.tree.now c.args.work c.args.count (c.args.count - c.args.m) (GoesBack c.args.why) (GoesBack c.args.why) c.args.runner.now c.back.new.self c.program_of.result.now c.requires (same_more c.args.runner.now.store.names c.back.new.self.store.names c.back.ensures.names)
           (ap (λ (t : Procedures). kept_in t) c.back.ensures.procedures) c.program_of.ensures stands),
     )

@@ -3,22 +3,23 @@ use Rattle.janus_machine.specs.Procedures.{kept_in}
 use Rattle.janus_machine.specs.declared.procedures.Procedures.{Procedures}
 use Rattle.kernel_machine.specs.Language.{start_of}
 use Rattle.janus_machine.specs.Counts.{IsWritten}
-use Rattle.kernel_history.specs.Kept.{IsProgramOf, StandsIn}
+use Rattle.kernel_history.specs.Bodies.{IsProgramOf}
+use Rattle.kernel_history.specs.Standing.{StandsIn}
 use Rattle.kernel_runner.specs.declared.runner.Runner.{Runner}
 use Rattle.kernel_runner.specs.declared.program.Program.{Program}
-use Rattle.kernel_history.specs.declared.tree.Tree.{Tree}
+use Rattle.kernel_history.specs.declared.tree.HistoryTree.{HistoryTree}
 use Rattle.kernel_history.specs.declared.job.Work.{Work}
 use Rattle.kernel_machine.specs.State as state
 use Rattle.kernel_machine.specs.State.{here, code_of}
-use Rattle.kernel_machine.specs.declared.turn.Turn.TheVariants.{GoesOn}
-use Rattle.kernel_machine.specs.declared.turn.Why.TheVariants.{Faulted}
+use Rattle.kernel_machine.specs.declared.heading.Heading.TheVariants.{GoesOn}
+use Rattle.kernel_machine.specs.declared.heading.Why.TheVariants.{Faulted}
 use Rattle.kernel_history.specs.Kept.{Kept}
 use Rattle.kernel_history.specs.declared.job.Open.TheVariants.{Inside}
 use Rattle.kernel_history.specs.Fields.{past_of, work_of, state_of}
 use Rattle.kernel_machine.specs.Slices.{Backs}
 use Rattle.kernel_runner.specs.Runner.{world_of}
 use Rattle.kernel_machine.specs.declared.progress.Progress.TheVariants.{Went, Stopped, Ended}
-use Rattle.kernel_machine.specs.declared.turn.Turn.TheVariants.{GoesOn}
+use Rattle.kernel_machine.specs.declared.heading.Heading.TheVariants.{GoesOn}
 use Rattle.kernel_runner.proofs.Growing.{same_more}
 use Rattle.kernel_history.proofs.Standing.{stands_with, inside_with, kept_at}
 use Rattle.kernel_history.proofs.settle.go_on.Given as given
@@ -53,11 +54,11 @@ went g c =
 pub returns-in-Went-clause-step : goal.returns-in-Went-clause-step
 returns-in-Went-clause-step g c =
     let reaches = (c.in-Went.ensures.runs _ (stands_with c.args.tree.now c.args.work c.args.count false c.args.runner.now c.program_of.result.now c.program_of.ensures c.requires.stands)).reaches in
-    (Went, world_of (start_of (code_of (past_of c.args.tree.now) (work_of c.args.work)) (here (past_of c.args.tree.now))).procedures c.run.new.self, reaches, (refl, ap (λ (n : ℕ). record { past = past_of c.args.tree.now; job = state.Inside (record { work = work_of c.args.work; count = n; turn = GoesOn }) }) (went g c)))
+    (Went, world_of (start_of (code_of (past_of c.args.tree.now) (work_of c.args.work)) (here (past_of c.args.tree.now))).procedures c.run.new.self, reaches, (refl, ap (λ (n : ℕ). record { past = past_of c.args.tree.now; job = state.Inside (record { work = work_of c.args.work; count = n; heading = GoesOn }) }) (went g c)))
 
 pub returns-in-Went-clause-kept : goal.returns-in-Went-clause-kept
 returns-in-Went-clause-kept g c =
-    subst (λ (n : ℕ). Kept c.args.tree.now c.run.new.self (Inside (record { work = c.args.work; count = n; turn = GoesOn }))) (sym (went g c))
+    subst (λ (n : ℕ). Kept c.args.tree.now c.run.new.self (Inside (record { work = c.args.work; count = n; heading = GoesOn }))) (sym (went g c))
     (kept_at c.args.tree.now c.args.work c.args.count (c.args.count + c.args.m) GoesOn GoesOn c.args.runner.now c.run.new.self c.program_of.result.now c.requires (same_more c.args.runner.now.store.names c.run.new.self.store.names c.run.ensures.names) (ap (λ (t : Procedures). kept_in t) c.run.ensures.procedures) c.program_of.ensures
     ((c.in-Went.ensures.runs _ (stands_with c.args.tree.now c.args.work c.args.count false c.args.runner.now c.program_of.result.now c.program_of.ensures c.requires.stands)).is))
 
@@ -77,7 +78,7 @@ returns-in-Stopped-clause-step g c =
     )
 
 -- the runner's count is that of the work
-counted : {L : Type 0} (tree : Tree) (work : Work) (count : ℕ) (runner : Runner L) (program : Program) → IsProgramOf tree work program → StandsIn tree work count false runner → runner.cursor.count ≡ count
+counted : {L : Type 0} (tree : HistoryTree) (work : Work) (count : ℕ) (runner : Runner L) (program : Program) → IsProgramOf tree work program → StandsIn tree work count false runner → runner.cursor.count ≡ count
 counted tree work count runner program p s = (stands_with tree work count false runner program p s).counted
 
 pub returns-in-Went-clause-written : goal.returns-in-Went-clause-written

@@ -3,7 +3,7 @@ use Rattle.kernel_machine.specs.State as state
 use Rattle.kernel_machine.specs.State.{Past, here}
 use Rattle.kernel_machine.specs.Language.{Forward, start_of}
 use Rattle.kernel_history.specs.Fields.{past_of}
-use Rattle.kernel_history.specs.declared.tree.Tree.{Tree}
+use Rattle.kernel_history.specs.declared.tree.HistoryTree.{HistoryTree}
 use Rattle.kernel_runner.specs.Program.{cell_of_program}
 use Rattle.kernel_runner.specs.Runner.{world_of}
 use Rattle.kernel_machine.specs.declared.outcome.Outcome.TheVariants as outcome
@@ -30,7 +30,7 @@ returns-clause-kept g c =
     let nodes = nodes_added c.args.tree.now c.add-number.new.self c.set_favourite.new.self _ c.add-number.result c.add-number.ensures.added c.set_favourite.ensures in
     let favourites = favourites_added c.args.tree.now c.add-number.new.self c.set_favourite.new.self _ c.add-number.result c.requires.kept.legal c.add-number.ensures.added c.add-number.ensures.number c.set_favourite.ensures in
     let more = one_more c.args.tree.now (record { cells = c.set_favourite.new.self; position = c.add-number.result }) _ nodes in
-    let larger : Tree = record { cells = c.set_favourite.new.self; position = c.add-number.result } in
+    let larger : HistoryTree = record { cells = c.set_favourite.new.self; position = c.add-number.result } in
     kept_grown c.args.tree.now larger (cell_of_program c.args.program) c.args.n c.args.runner.now (world_of (start_of (Forward (cell_of_program c.args.program)) (here (past_of c.args.tree.now))).procedures c.args.runner.now) more favourites number c.requires.kept.legal c.requires.kept.possible c.requires.ended
     (shown_more c.args.tree.now larger c.args.program c.args.n c.args.runner.now c.requires.kept nodes number) c.requires.whole
     (placed_more c.args.tree.now larger c.args.program c.args.n c.args.runner.now c.requires.kept nodes) (ordered_more c.args.tree.now larger c.args.program c.args.n c.args.runner.now c.requires.kept nodes)

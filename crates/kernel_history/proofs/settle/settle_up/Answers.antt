@@ -4,7 +4,7 @@ use Rattle.kernel_machine.specs.State as state
 use Rattle.kernel_machine.specs.State.{here, code_of, node_at, world_at}
 use Rattle.kernel_machine.specs.Language.{start_of}
 use Rattle.kernel_history.specs.Fields.{past_of, state_of}
-use Rattle.kernel_history.specs.Kept.{IsCellAt}
+use Rattle.kernel_history.specs.Bodies.{IsCellAt}
 use Rattle.kernel_machine.specs.Slices.{Arrives, cells}
 use Rattle.kernel_machine.specs.declared.travel.Travel.{Travel}
 use Rattle.kernel_runner.specs.Runner.{world_of}

@@ -3,7 +3,7 @@ use Rattle.std.specs.Prelude.{slice_get, Some}
 use Rattle.std.proofs.lemmas.List.{length-map}
 use Rattle.std.proofs.lemmas.Option.{slice_get_read, get_or_from_slice_get, same_Some}
 use Rattle.janus_machine.specs.declared.procedures.Body.{Body}
-use Rattle.janus_machine.specs.declared.procedure.Procedure.{Procedure}
+use Rattle.janus_machine.specs.declared.linked_procedure.LinkedProcedure.{LinkedProcedure}
 use Rattle.janus_machine.proofs.Bodies.{kept_same, define_puts, define_defines}
 use Rattle.janus_machine.proofs.procedures.Procedures.define.Goals as goal
 
@@ -24,7 +24,7 @@ hidden c = sym (get_or_from_slice_get c.args.self.now.newest.items c.index.resul
 
 bodies : (c : goal.After-self-3-1) → slice_set c.args.self.now.bodies.items c.args.index (record { procedure = c.index_mut.result.now.procedure; hidden = c.index-2.result.now }) ≡ slice_set c.args.self.now.bodies.items c.args.index (record { procedure = c.index.result.now.procedure; hidden = get_or c.args.self.now.newest.items c.index.result.now.procedure.name 0 })
 bodies c =
-    ap (λ (p : Procedure). slice_set c.args.self.now.bodies.items c.args.index (record { procedure = p; hidden = c.index-2.result.now })) (ap (λ (b : Body). b.procedure) (same c))
+    ap (λ (p : LinkedProcedure). slice_set c.args.self.now.bodies.items c.args.index (record { procedure = p; hidden = c.index-2.result.now })) (ap (λ (b : Body). b.procedure) (same c))
     ∙ ap (λ (h : ℕ). slice_set c.args.self.now.bodies.items c.args.index (record { procedure = c.index.result.now.procedure; hidden = h })) (hidden c)
 
 newest : (c : goal.After-self-3-1) → slice_set c.args.self.now.newest.items c.index.result.now.procedure.name (c.args.index + 1) ≡ slice_set c.args.self.now.newest.items c.index.result.now.procedure.name (suc c.args.index)

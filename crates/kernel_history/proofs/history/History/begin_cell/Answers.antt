@@ -4,14 +4,15 @@ use Rattle.kernel_machine.specs.State as state
 use Rattle.kernel_machine.specs.State.{State}
 use Rattle.cell_tree.specs.Tree as cells
 use Rattle.kernel_history.specs.Fields.{past_of}
-use Rattle.kernel_history.specs.declared.tree.Cell.{Cell as TreeCell}
-use Rattle.kernel_history.specs.declared.tree.Tree.{Tree}
+use Rattle.kernel_history.specs.declared.tree.EndedCell.{EndedCell}
+use Rattle.kernel_history.specs.declared.tree.HistoryTree.{HistoryTree}
 use Rattle.kernel_machine.specs.Begins.{TakesCell}
-use Rattle.kernel_machine.specs.declared.turn.Turn.TheVariants.{GoesOn}
+use Rattle.kernel_machine.specs.declared.heading.Heading.TheVariants.{GoesOn}
 use Rattle.kernel_machine.specs.declared.outcome.Begun.TheVariants as begun
 use Rattle.kernel_runner.specs.Program.{cell_of_program}
 use Rattle.kernel_runner.specs.Runner.{CanEnter}
-use Rattle.kernel_history.specs.Kept.{Kept, IsKept, shown_here}
+use Rattle.kernel_history.specs.Standing.{shown_here}
+use Rattle.kernel_history.specs.Kept.{Kept, IsKept}
 use Rattle.kernel_history.specs.declared.job.Open.{Open}
 use Rattle.kernel_history.specs.declared.job.Open.TheVariants.{Idle}
 use Rattle.kernel_machine.proofs.Texts.{accepted_formed}
@@ -73,8 +74,8 @@ invariant_of-self-2 g c =
     let behind = posted_behind tree old c.in-Ok.program kept.ready c.in-Ok.ensures.behind in
     let low = behind_stack tree c.in-Ok.program kept.legal kept.order behind in
     let room = ok_fact _ c.room.result (sym c.is_err.ensures.value ∙ c.if-is_err.false) c.room.ensures.ok in
-    let same = ap (λ (t : cells.Tree TreeCell). past_of (record { cells = t; position = tree.position })) c.room.ensures.same in
-    let nodes = ap (λ (t : cells.Tree TreeCell). t.nodes) c.room.ensures.same in
+    let same = ap (λ (t : cells.Tree EndedCell). past_of (record { cells = t; position = tree.position })) c.room.ensures.same in
+    let nodes = ap (λ (t : cells.Tree EndedCell). t.nodes) c.room.ensures.same in
     let stands = ok_fact _ c.enter.result (sym c.is_err-else-is_err.ensures.value ∙ c.if-is_err-2.false) c.enter.ensures.ok in
     let formed = accepted_formed _ _ _ c.in-Ok.ensures.accepts in
     let can : CanEnter met c.in-Ok.program shown = record { is = is; sound = here_sound tree kept.legal; formed = formed; ready = c.in-Ok.ensures.ready; behind = low } in
@@ -107,8 +108,8 @@ invariant_of-self-then-is_err g c =
     let is = c.prepare.ensures.shown shown kept.stands in
     let behind = posted_behind tree old c.in-Ok.program kept.ready c.in-Ok.ensures.behind in
     let low = behind_stack tree c.in-Ok.program kept.legal kept.order behind in
-    let past = ap (λ (t : cells.Tree TreeCell). past_of (record { cells = t; position = tree.position })) c.room.ensures.same in
-    let nodes = ap (λ (t : cells.Tree TreeCell). t.nodes) c.room.ensures.same in
+    let past = ap (λ (t : cells.Tree EndedCell). past_of (record { cells = t; position = tree.position })) c.room.ensures.same in
+    let nodes = ap (λ (t : cells.Tree EndedCell). t.nodes) c.room.ensures.same in
     let left = c.then-is_err.self-inside in
     let unentered : IsUnentered tree old left.tree left.runner left.job = elim c.then-is_err.branch [
       | then-is_err-via-then-is_err w ↦ rw w.self-inside-is (record {
@@ -143,9 +144,9 @@ returns g c =
     let idle : c.self.inside.job ≡ Idle = idle_job c.self.inside.job (subst (λ (s : State). s.job ≡ state.Idle) (sym c.self.view_is) c.requires) in
     let kept : Kept c.self.inside.tree c.self.inside.runner Idle = subst (λ (j : Open). Kept c.self.inside.tree c.self.inside.runner j) idle c.self.invariant.kept in
     let cell : Cell = cell_of_program c.in-Ok.program in
-    let job : state.Job = state.Inside (record { work = state.Posted (cell_of_program c.in-Ok.program); count = 0; turn = GoesOn }) in
-    let made : Tree = record { cells = c.room.new.self; position = c.self.inside.tree.position } in
-    let same = ap (λ (t : cells.Tree TreeCell). past_of (record { cells = t; position = c.self.inside.tree.position })) c.room.ensures.same in
+    let job : state.Job = state.Inside (record { work = state.Posted (cell_of_program c.in-Ok.program); count = 0; heading = GoesOn }) in
+    let made : HistoryTree = record { cells = c.room.new.self; position = c.self.inside.tree.position } in
+    let same = ap (λ (t : cells.Tree EndedCell). past_of (record { cells = t; position = c.self.inside.tree.position })) c.room.ensures.same in
     let room : state.is_full (past_of c.self.inside.tree) ≡ false = sym c.is_full.ensures ∙ c.if-is_full.false in
     subst (λ (s : State). TakesCell s.past c.args.text.now (state.is_full s.past) begun.Going (record { past = past_of made; job = job })) c.self.view_is
     (subst (λ (full : Bool). TakesCell (past_of c.self.inside.tree) c.args.text.now full begun.Going (record { past = past_of made; job = job })) (sym room)

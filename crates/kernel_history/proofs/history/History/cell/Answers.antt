@@ -3,7 +3,7 @@ use Rattle.janus_syntax.specs.Tree as tree
 use Rattle.janus_syntax.specs.Tree.{cell_view}
 use Rattle.janus_syntax.specs.View.{plain_cell}
 use Rattle.kernel_machine.specs.State.{State}
-use Rattle.kernel_history.specs.Kept.{IsCellAt}
+use Rattle.kernel_history.specs.Bodies.{IsCellAt}
 use Rattle.kernel_history.specs.NodeTrees.{IsTreeAt}
 use Rattle.kernel_history.proofs.Nodes.{count_of_nodes, cell_there}
 use Rattle.kernel_history.proofs.history.History.cell.Goals as goal

@@ -5,5 +5,5 @@ use Rattle.kernel_history.proofs.history.History.stage.Goals as goal
 
 pub returns-in-Inside : goal.returns-in-Inside
 returns-in-Inside g c =
-    let e : state.Entered = record { work = work_of c.in-Inside.field-0.work; count = c.in-Inside.field-0.count; turn = c.in-Inside.field-0.turn } in
+    let e : state.Entered = record { work = work_of c.in-Inside.field-0.work; count = c.in-Inside.field-0.count; heading = c.in-Inside.field-0.heading } in
     (e, subst (λ (s : state.State). s.job ≡ state.Inside e) c.self.view_is (ap job_of c.in-Inside.is))

@@ -12,7 +12,7 @@ pub enum Why {
 
 /// Whether the steps of the cell are taken, or taken back.
 #[derive(Clone, Copy)]
-pub enum Turn {
+pub enum Heading {
     GoesOn,
     GoesBack(Why),
 }

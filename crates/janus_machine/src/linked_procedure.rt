@@ -3,27 +3,30 @@
 ghost use Rattle.std.specs.Prelude.{◌≡◌, IfOk};
 ghost use Rattle.janus_invert.specs.CodeBlock.{code_block};
 ghost use Rattle.janus_machine.specs.Bodies.{numbers_of};
-ghost use Rattle.janus_machine.specs.Procedure.{number_of, parameters_of, body_of};
+ghost use Rattle.janus_machine.specs.LinkedProcedure.{name_number_of, parameters_of, body_of};
 
 use crate::book::Book;
-use janus_invert::Parameter;
+use janus_invert::FlatParameter;
 use std::alloc::{AllocError, Global};
 
 /// The numbers of a procedure's name and of its parameters' names, and its body both ways.
 #[derive(Drop)]
-pub struct Procedure {
+pub struct LinkedProcedure {
     pub(crate) name: usize,
     pub(crate) parameters: Vec<usize>,
     pub(crate) book: Book,
 }
 
-impl Procedure {
+impl LinkedProcedure {
     ghost use Rattle.janus_machine.specs.Places.{block_in, KeepsNumbers};
     ghost use Rattle.janus_machine.specs.declared.book.Direction.TheVariants.{Forward};
 
     /// The procedure of flat code; an error for want of memory.
-    pub fn new(alloc: Global, flat: janus_invert::Procedure) -> Result<Procedure, AllocError>
-        ensures name { IfOk result (λ procedure. number_of procedure ≡ flat.name.number) }
+    pub fn new(
+        alloc: Global,
+        flat: janus_invert::FlatProcedure,
+    ) -> Result<LinkedProcedure, AllocError>
+        ensures name { IfOk result (λ procedure. name_number_of procedure ≡ flat.name.number) }
         ensures parameters { IfOk result (λ procedure. parameters_of procedure ≡ numbers_of flat.parameters.items) }
         ensures body { IfOk result (λ procedure. block_in (body_of procedure) Forward ≡ code_block flat.body) }
         // Both ways the names keep their numbers.
@@ -32,7 +35,7 @@ impl Procedure {
         let name = flat.name.number;
         let parameters = numbers(alloc, &flat.parameters)?;
         let book = Book::new(alloc, flat.body)?;
-        Ok(Procedure {
+        Ok(LinkedProcedure {
             name,
             parameters,
             book,
@@ -41,7 +44,7 @@ impl Procedure {
 }
 
 /// The numbers of parameters' names; an error for want of memory.
-fn numbers(alloc: Global, parameters: &[Parameter]) -> Result<Vec<usize>, AllocError>
+fn numbers(alloc: Global, parameters: &[FlatParameter]) -> Result<Vec<usize>, AllocError>
     ensures { IfOk result (λ numbers. numbers.items ≡ numbers_of parameters.now) }
 {
     let mut numbers = Vec::new(alloc);

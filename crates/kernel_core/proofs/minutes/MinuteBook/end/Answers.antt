@@ -1,6 +1,6 @@
 use Rattle.std.proofs.Common.{◌+◌, arith, refl}
 use Rattle.kernel_core.proofs.Writing.{size_of, ended_kept}
-use Rattle.kernel_core.proofs.minutes.Minutes.end.Goals as goal
+use Rattle.kernel_core.proofs.minutes.MinuteBook.end.Goals as goal
 
 pub push_reserved-requires : goal.push_reserved-requires
 push_reserved-requires c = omega (arith, size_of c.args.self.now c.requires.kept, c.requires.some, c.requires.kept.room, c.args.self.now.entries.ok.0)

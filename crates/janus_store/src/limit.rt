@@ -1,0 +1,15 @@
+//! Limits of a store, whose memory is taken with it.
+
+use janus_meaning::limit::{LIVE_STACK_LIMIT, PARAMETER_LIMIT, STACK_VALUE_LIMIT};
+
+/// The most locals that may be open.
+pub(crate) const LOCAL_LIMIT: usize = 16_384;
+
+/// The most calls that may be open: each takes two of the frames that may be open, its own and that of its body.
+pub const CALL_LIMIT: usize = 8_192;
+
+/// The most parameters that may be bound at once: as many as a procedure may have, for each call.
+pub(crate) const BOUND_LIMIT: usize = CALL_LIMIT * PARAMETER_LIMIT;
+
+/// The most values on all stacks together.
+pub(crate) const CELL_LIMIT: u32 = (LIVE_STACK_LIMIT * STACK_VALUE_LIMIT) as u32;
