@@ -34,7 +34,11 @@ pub fn send_post_fault<W: Write>(writer: &mut W, fault: PostFault) -> Result<(),
 }
 
 /// Writes the line of a name with its value.
-pub fn send_value<W: Write>(writer: &mut W, name: &str, value: ValueView<'_>) -> Result<(), WriteFailed>
+pub fn send_value<W: Write>(
+    writer: &mut W,
+    name: &str,
+    value: ValueView<'_>,
+) -> Result<(), WriteFailed>
     ensures ok { OnOk result (Appends (W.contents writer.old) (W.contents writer.new) (ended_line (value_text (name.now, shown value.entry)))) }
     ensures err { OnErr result (SentSome (W.contents writer.old) (W.contents writer.new) (ended_line (value_text (name.now, shown value.entry)))) }
 {

@@ -1,5 +1,5 @@
 //! The program over any reader and writer.
-ghost use Rattle.std.specs.Prelude.{◌≡◌, ◌≢◌, ◌==◌, ◌+◌, ℕ, false, true, List, [], length, IfErr, IfSome, MatchResult, OnOk, OnErr};
+ghost use Rattle.std.specs.Prelude.{◌≡◌, ◌≢◌, ◌==◌, ◌+◌, ℕ, false, true, List, [], length, string_bytes, IfErr, IfSome, MatchResult, OnOk, OnErr};
 ghost use Rattle.std.specs.List.{position_or_len};
 ghost use Rattle.std.specs.Io.KnownBytes.{Appends, Keeps};
 ghost use Rattle.kernel_core.specs.Runs.{Machine, IsRefusal};
@@ -24,7 +24,7 @@ use crate::lines::{is_command_line, split_line};
 use crate::listing::list_text;
 use crate::output::{send_outcome, send_position, send_post_fault, send_value};
 use crate::serve::serve;
-use kernel_core::{Job, Kernel, PostFault};
+use kernel_core::{CellText, Job, Kernel, PostFault};
 use kernel_text::{WriteFailed, send};
 use std::alloc::Global;
 use std::io::{Read, Write};
@@ -249,7 +249,7 @@ fn run_cell<L: Ledger, W: Write>(
         (came : Came) × Serves steps kernel.old.machine (RunCell text false true) came kernel.new.machine
         × SentSome (W.contents writer.old) (W.contents writer.new) (ended_line (came_line came))) }
 {
-    match gathered.take(alloc) {
+    match shared_text(alloc, gathered) {
         Some(code) => run_job(
             steps,
             kernel,
@@ -262,6 +262,16 @@ fn run_cell<L: Ledger, W: Write>(
         ),
         None => send_post_fault(writer, lost_text(kernel)),
     }
+}
+
+/// The gathered text, for a job and the minutes to share; `None` where there was no memory for it. It is gathered no longer.
+fn shared_text(alloc: Global, gathered: &mut Gathered) -> Option<CellText>
+    ensures taken { IsGathered gathered.new [] }
+    ensures kept { IfSome result (λ text. gathered.old.lost ≡ false) }
+    ensures text { IfSome result (λ text. text ≡ string_bytes gathered.old.text) }
+{
+    let text = gathered.take(alloc)?;
+    CellText::new(alloc, text).ok()
 }
 
 /// Why a cell is not posted for whose text there was no memory: that, unless any post is refused now.

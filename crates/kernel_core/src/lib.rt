@@ -29,8 +29,8 @@ pub use janus_syntax::SyntaxFault;
 pub use janus_syntax::token::Span;
 pub use kernel_history::View;
 pub use kernel_machine::{
-    Begun, Event, Extent, Job, MINUTES_LIMIT, Outcome, Phase, PostFault, QUEUE_LIMIT, Refusal,
-    Sliced, Told, TravelEnd,
+    Begun, CellText, Event, Extent, Job, MINUTES_LIMIT, Outcome, Phase, PostFault, QUEUE_LIMIT,
+    Refusal, Sliced, Told, TravelEnd,
 };
 pub use kernel_runner::names_in_sight;
 pub use machine_laws::laws;

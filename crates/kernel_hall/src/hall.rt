@@ -148,8 +148,8 @@ impl<W: Ledger, L: Ledger> Hall<W, L> {
         self.end_of(rt, ticket.number)
     }
 
-    /// `post` and `wait` in one, for who keeps no ticket: the job is moved to the kernel, and not copied. What is answered is an end in the minutes,
-    /// without a clause on whose it is, since no ticket names the job. The pass comes back, and has counted it. A refused post leaves the pass, and
+    /// `post` and `wait` in one, for who keeps no ticket. What is answered is an end in the minutes, without a clause on whose it is, since no
+    /// ticket names the job. The pass comes back, and has counted it. A refused post leaves the pass, and
     /// drops the job and the wishes; the refusal is that of the kernel that was met.
     pub fn run<R: Wait>(
         &self,

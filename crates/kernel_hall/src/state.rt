@@ -64,7 +64,7 @@ impl<W: Ledger, L: Ledger> State<W, L> {
     }
 
     /// Posts a job for a pass, which counts it. The wishes stand beside it until it ends. A refused post drops the job and the wishes. The job
-    /// is in the ticket too, so it is copied: [`State::take`] makes no ticket and no copy.
+    /// is in the ticket too, which shares the text of a cell with it: [`State::take`] makes no ticket.
     pub fn post(
         &mut self,
         pass: &mut Pass<L>,
@@ -100,7 +100,7 @@ impl<W: Ledger, L: Ledger> State<W, L> {
         })
     }
 
-    /// Posts a job for a pass as [`State::post`] does, and answers its number alone: the job is moved to the kernel, and not copied.
+    /// Posts a job for a pass as [`State::post`] does, and answers its number alone.
     pub fn take(
         &mut self,
         pass: &mut Pass<L>,

@@ -1,5 +1,5 @@
 -- What a frontend asks for.
-use Rattle.std.specs.Prelude.{ℕ, ◌+◌, Bool, false, ◌&&◌, not, List, string_bytes, if◌then◌else◌}
+use Rattle.std.specs.Prelude.{ℕ, ◌+◌, Bool, false, ◌&&◌, not, List, if◌then◌else◌}
 use Rattle.kernel_machine.specs.declared.post.Job.{Job}
 use Rattle.kernel_machine.specs.declared.post.Job.TheVariants as job
 
@@ -11,7 +11,7 @@ pub data Request : Type 0 where
   Goto : (n : ℕ) → Request
 
 abbrev pub request_of : Job → Request
-request_of (job.Cell code silent store) = RunCell (string_bytes code) silent store
+request_of (job.Cell code silent store) = RunCell code silent store
 request_of (job.Undo k) = Undo k
 request_of (job.Redo k) = Redo k
 request_of (job.Goto n) = Goto n

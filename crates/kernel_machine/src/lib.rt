@@ -10,6 +10,7 @@
 //! The layer above proves that its code runs this machine. The laws of its runs are those of `machine_laws`.
 #![tactic(auto)]
 
+mod cell_text;
 mod events;
 mod extent;
 mod heading;
@@ -19,6 +20,7 @@ mod post;
 mod progress;
 mod travel;
 
+pub use crate::cell_text::CellText;
 pub use crate::events::{Event, Told};
 pub use crate::extent::Extent;
 pub use crate::heading::{Heading, Why};

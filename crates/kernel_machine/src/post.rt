@@ -2,6 +2,7 @@
 ghost use Rattle.std.specs.Prelude.{◌≡◌, IfOk};
 ghost use Rattle.kernel_machine.specs.Request.{request_of, is_counted};
 
+use crate::cell_text::CellText;
 use std::alloc::AllocError;
 use thiserror::Error;
 
@@ -10,7 +11,7 @@ use thiserror::Error;
 pub enum Job {
     /// The text of a cell. One that is not silent and is to be stored raises the execution counter as it is begun.
     Cell {
-        code: String,
+        code: CellText,
         silent: bool,
         store: bool,
     },
@@ -23,7 +24,7 @@ pub enum Job {
 }
 
 impl Job {
-    /// The same job, in memory of its own. The only error is want of memory.
+    /// The same job: the text of a cell is shared. The only error is want of memory.
     pub fn try_clone(&self) -> Result<Job, AllocError>
         ensures { IfOk result (λ job. request_of job ≡ request_of self.now) }
     {

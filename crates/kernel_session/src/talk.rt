@@ -20,7 +20,7 @@ use jupyter_msg::{
     InspectRequest, IsCompleteRequest, RequestContent, UserExpression,
 };
 use kernel_ask::{Answer, Ask, CommChange, Content, Done, HallFault, HistoryAsk, Wish};
-use kernel_core::{Job, PostFault};
+use kernel_core::{CellText, Job, PostFault};
 use kernel_reply::COMM_TARGET;
 use std::alloc::{AllocError, Global};
 
@@ -115,7 +115,7 @@ fn execute<D: Desk>(
 {
     let wishes = wishes(alloc, &request.user_expressions)?;
     let job = Job::Cell {
-        code: request.code.clone()?,
+        code: CellText::new(alloc, request.code.clone()?)?,
         silent: request.silent,
         store: request.store_history,
     };

@@ -7,7 +7,7 @@ ghost use Rattle.std.specs.Prelude.{◌≡◌, ◌<◌};
 use crate::questions::question;
 use crate::sweeps::swept;
 use crate::values::value_shown;
-use kernel_core::{Event, Job, Kernel, run_events};
+use kernel_core::{CellText, Event, Job, Kernel, run_events};
 use std::alloc::{AllocError, Global};
 use std::marker::Brand;
 use std::sync::ledger::{Blank, Ledger};
@@ -167,7 +167,7 @@ fn job_of(alloc: Global, word: &str, rest: &str) -> Result<Job, AllocError> {
         "redo" => Ok(Job::Redo(number)),
         "goto" => Ok(Job::Goto(number)),
         _ => Ok(Job::Cell {
-            code: written(alloc, rest)?,
+            code: CellText::new(alloc, written(alloc, rest)?)?,
             silent: word == "silent",
             store: word != "unstored",
         }),

@@ -5,7 +5,7 @@ use jupyter_msg::{
     CommAsk, ExecuteRequest, HistoryAccess, HistoryRequest, MsgFault, RequestContent,
 };
 use kernel_ask::{Ask, Comms, HistoryAsk, Wish};
-use kernel_core::{Job, Kernel};
+use kernel_core::{CellText, Job, Kernel};
 use std::alloc::{AllocError, Global};
 use std::sync::ledger::Ledger;
 
@@ -36,7 +36,7 @@ fn executed<L: Ledger>(
 ) -> Result<Report, AllocError> {
     let wishes = wishes_of(alloc, request)?;
     let job = Job::Cell {
-        code: request.code.clone()?,
+        code: CellText::new(alloc, request.code.clone()?)?,
         silent: request.silent,
         store: request.store_history,
     };

@@ -3,7 +3,7 @@
 use crate::kernels::{SLICES, post, run};
 use jupyter_msg::MsgFault;
 use kernel_ask::Comms;
-use kernel_core::{Job, Kernel, Outcome, Refusal};
+use kernel_core::{CellText, Job, Kernel, Outcome, Refusal};
 use std::alloc::{AllocError, Global};
 use std::sync::ledger::Ledger;
 use tests_rows::{cut, unescaped};
@@ -54,7 +54,7 @@ fn run_job<L: Ledger>(kernel: &mut Kernel<L>, job: Job) -> Result<(), MsgFault> 
 /// A cell that is counted.
 fn cell(alloc: Global, code: &str) -> Result<Job, AllocError> {
     Ok(Job::Cell {
-        code: String::from_str(alloc, code)?,
+        code: CellText::new(alloc, String::from_str(alloc, code)?)?,
         silent: false,
         store: true,
     })

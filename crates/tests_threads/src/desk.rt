@@ -3,7 +3,7 @@ ghost use Rattle.std.specs.Prelude.{◌≡◌, ◌<◌};
 
 use kernel_ask::{Answer, Ask, Comms, Content, Done, Wish};
 use kernel_bell::{Bell, RingerSeat, RunnerSeat};
-use kernel_core::{Begun, Job, Kernel, Outcome, Sliced};
+use kernel_core::{Begun, CellText, Job, Kernel, Outcome, Sliced};
 use kernel_hall::{AuditFault, Gate, Hall, Pass, STEPS_OF_A_SLICE, Ticket, Turn, work};
 use std::alloc::{AllocError, Global};
 use std::process::Abort;
@@ -135,8 +135,9 @@ pub(crate) fn post<W: Ledger, L: Ledger, R: Wait + Abort>(
 
 /// A cell that is counted.
 pub(crate) fn cell<R: Abort>(rt: &R, alloc: Global, code: &str) -> Job {
+    let code = String::from_str(alloc, code).expect(rt, "the code of a cell");
     Job::Cell {
-        code: String::from_str(alloc, code).expect(rt, "the code of a cell"),
+        code: CellText::new(alloc, code).expect(rt, "a text to share"),
         silent: false,
         store: true,
     }
