@@ -39,7 +39,7 @@ name_faults g x at = fault_if (is_in x g) (Declared at) ++ fault_if (is_full g) 
 abbrev pub has_all_stacks : Shape → Bool
 has_all_stacks g = nat_le live_stack_limit (stack_count g)
 
--- an array may be so long
+-- an array may have this length
 abbrev pub is_array_length : ℕ → Bool
 is_array_length n = nat_lt 0 n && nat_le n array_limit
 

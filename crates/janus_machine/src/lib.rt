@@ -16,6 +16,14 @@
 //! - `call`: the first and the last step of a call.
 //! - `machine`: `step` and `slice`, which take the steps.
 //! - `laws`: what the definitions of `specs/` say together.
+//!
+//! The definitions, in specs/, in reading order:
+//!
+//! - `Faults`, `Statements`, `Acts`: faults, and what statements and instructions do to a store.
+//! - `LinkedProcedure`, `Procedures`, `Bodies`: what contracts see of bodies, and which of them are in effect.
+//! - `Cursor`, `Counts`, `Places`, `Nested`, `Cursors`: a cursor's fields and its count, and which place of the meaning it is.
+//! - `Mirrored`, `Turns`: the other code, and what turning a cursor round does. `Open`: which locals stand in the store at a cursor.
+//! - `Moved`, `Calls`, `Steps`, `Law`: a step within a row, a call's steps, steps and slices, and the laws.
 #![tactic(auto)]
 
 mod act;

@@ -6,7 +6,7 @@ use Rattle.janus_syntax.specs.Tokens.{Token}
 use Rattle.janus_syntax.specs.Forms.{Part, Tree}
 use Rattle.janus_syntax.specs.Grammar.{Demands, all, none, but_limits, but_agreement, zero_count, IsTree, IsOpen, Wants, Refusal, Expected, TooNested, DelocalName, IsRefused, expected, expected_at_end, too_nested, delocal_name}
 use Rattle.janus_syntax.specs.Reader.{State, Step, Go, Accept, Stuck, TooMany, Differs, step, wanted, Outcome, Ended, Failed, Nested, Unlike, outcome_of, at_end, follow, run, start}
-use Rattle.janus_syntax.specs.Laws.{OneTree, OneRefusal, NotBoth, OneWanted, WantsIfOpen, OpenIfWants}
+use Rattle.janus_syntax.specs.Laws.{OneWanted, WantsIfOpen, OpenIfWants}
 use Rattle.janus_syntax.proofs.Agrees.{reads_cell}
 use Rattle.janus_syntax.proofs.Completes.{Within}
 use Rattle.janus_syntax.proofs.Judged.{Raw, Enters, Takes, Accepts, Dead, judge, raw, judged}
@@ -113,16 +113,19 @@ module _ {goal : Part} where
   wants_ending d front out (at_a_token {s'} f t behind whole w n) (more, c, is) =
       absurd (not_open d t w n (behind ++ more, c, subst (λ ts. IsTree goal d c ts) (ap (λ ts. ts ++ more) whole ∙ sym (parts_append f behind more t)) is))
 
-pub one_refusal : OneRefusal
+-- Tokens have one refusal at most.
+pub one_refusal : (goal : Part) (tokens : List Token) (e f : Refusal) → IsRefused goal tokens e → IsRefused goal tokens f → e ≡ f
 one_refusal goal tokens e f p q = same_refusal {goal = goal} e f (sym (determined tokens e p) ∙ determined tokens f q)
 
-pub not_both : NotBoth
+-- They do not have a tree and a refusal.
+pub not_both : (goal : Part) (tokens : List Token) (v : Tree goal) (e : Refusal) → IsTree goal all v tokens → IsRefused goal tokens e → ⊥
 not_both goal tokens v e p q = no_read {goal = goal} e v what.End (sym (determined tokens e q) ∙ reads_cell all v tokens p)
 
 pub same_tree : {goal : Part} (v u : Tree goal) (x y : What) → Ended (Some v) x ≡ Ended (Some u) y → v ≡ u
 same_tree v u x y h = cc
 
-pub one_tree : OneTree
+-- They have one tree at most, also where no demands are made.
+pub one_tree : (goal : Part) (d : Demands) (tokens : List Token) (v u : Tree goal) → IsTree goal d v tokens → IsTree goal d u tokens → v ≡ u
 one_tree goal d tokens v u p q = same_tree v u what.End what.End (sym (reads_cell d v tokens p) ∙ reads_cell d u tokens q)
 
 pub one_wanted : OneWanted

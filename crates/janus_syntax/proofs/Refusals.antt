@@ -6,7 +6,6 @@ use Rattle.janus_syntax.specs.Tokens.{Token}
 use Rattle.janus_syntax.specs.Forms.{Part, Tree}
 use Rattle.janus_syntax.specs.Grammar.{Demands, all, none, but_limits, but_agreement, zero_count, IsTree, IsOpen, Refusal, Expected, TooNested, DelocalName, IsRefused, expected, expected_at_end, too_nested, delocal_name}
 use Rattle.janus_syntax.specs.Reader.{State, Step, Go, Accept, Stuck, TooMany, Differs, step, wanted, Outcome, Ended, at_end, follow, run, start}
-use Rattle.janus_syntax.specs.Laws.{TreeOrRefusal}
 use Rattle.janus_syntax.proofs.Agrees.{reads_cell}
 use Rattle.janus_syntax.proofs.Back.{end}
 use Rattle.janus_syntax.proofs.Completes.{Within, Spelled, NotBegun, IsEnd, complete_state, spelled_cell, not_begun_back}
@@ -92,6 +91,6 @@ module _ {goal : Part} where
   answer_ending tokens out (at_the_end {s'} w) = answer_end s' tokens (step all s' None) w refl
   answer_ending tokens out (at_a_token {s'} front t behind whole w n) = answer_token s' front t behind tokens (raw s' (Some t)) whole w refl n
 
-pub tree_or_refusal : TreeOrRefusal
+pub tree_or_refusal : (goal : Part) (tokens : List Token) → ((v : Tree goal) × IsTree goal all v tokens) ⊎ ((e : Refusal) × IsRefused goal tokens e)
 unfolding Answer
 tree_or_refusal goal tokens = answer_ending {goal = goal} tokens (run all tokens (start goal)) (ending all tokens (start goal))

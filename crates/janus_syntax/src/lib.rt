@@ -16,11 +16,21 @@
 //!   `janus_printing`.
 //! - `Exp::copy`, `Name::copy`: the same tree at the same places.
 //!
-//! The definitions are in specs/, to be read in this order: `Spelling`, `Lexical` (tokens of a text), `Tree`, `Operators`,
-//! `Forms` (of what the forms of the grammar are made), `Table` (the grammar, a line for each form), `Grammar` (which tokens
-//! spell which tree, what is wanted behind a beginning, where tokens are refused), `Text` (tokens and text together), `Laws`, `Printing`,
-//! `View` (the trees as trees of the meaning), and `Fault` (what is shown of a refusal). No contract of a public function
-//! names `Reader`, `Reading`, `Statements`, `Procedures`, `Printed` or `Scan`: they serve the proofs.
+//! The code, in reading order:
+//!
+//! - `token`, `lexer`: tokens, and how they are found in a text. `tree`, `operator`: what is read, and the levels of operators.
+//! - `fault`, `problem`: why a text is refused, and why the reading of its tokens stops.
+//! - `item`: single tokens. `expression`, `call`, `statement`, `procedure`, `cell`: how each is read. `parser`: whole texts.
+//! - `printer`: from a tree to its text. `laws`: the laws, each as the contract of a function that does nothing.
+//!
+//! The definitions, in specs/, in reading order:
+//!
+//! - `Spelling`, `Lexical`: tokens of a text. `Tokens`, `Tree`, `Operators`: tokens, trees and operators as contracts see them.
+//! - `Forms`, `Table`: of what the forms of the grammar are made, and the grammar, a line for each form.
+//! - `Grammar`: which tokens spell which tree, what is wanted behind a beginning, where tokens are refused.
+//! - `Text`, `Laws`: tokens and text together, and the laws of both. `Fault`: what is shown of a refusal.
+//! - `Printing`: the text of a tree. `View`: the trees as trees of the meaning.
+//! - `Scan`, `Reader`, `Reading`, `Statements`, `Procedures`, `Printed` serve the proofs: no contract of a public function names them.
 //!
 //! A cell here has declarations of numbers, arrays and stacks, then assignments, `push`, `pop`, `if`, loops, locals, `call`,
 //! `uncall` and `skip`, and then procedures; or it is a program of procedures, one of which is `main`.
