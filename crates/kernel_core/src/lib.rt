@@ -30,7 +30,7 @@ pub use janus_syntax::token::Span;
 pub use kernel_history::View;
 pub use kernel_machine::{
     Begun, CellText, Event, Extent, Job, MINUTES_LIMIT, Outcome, Phase, PostFault, QUEUE_LIMIT,
-    Refusal, Sliced, Told, TravelEnd,
+    Refusal, STEPS_OF_A_SLICE, Sliced, Told, TravelEnd,
 };
 pub use kernel_runner::names_in_sight;
 pub use machine_laws::laws;
