@@ -2,7 +2,7 @@
 use Rattle.std.proofs.Common.{◌≡◌, ℕ, ◌+◌, ◌-◌, ◌<◌, ◌≤◌, List, [], ◌∷◌, ◌++◌, length, get_or, if◌then◌else◌, Bool, zero, suc, refl, sym, ap, ◌∙◌, subst, arith, inl, inr, length-append}
 use Rattle.std.proofs.lemmas.Bool.{cases_eq, ne_eqb}
 use Rattle.cell_tree.specs.Tree.{parent_in, IsOrdered}
-use Rattle.cell_tree.specs.Paths.{meeting_of, ancestor, upward, downward, IsWay}
+use Rattle.cell_tree.specs.Paths.{meeting_of, ancestor, upward, downward, IsRoute}
 use Rattle.cell_tree.specs.Laws.{UpwardAreAncestors, WayLeadsDown}
 use Rattle.cell_tree.proofs.Paths.{parent_falls, meeting_up, meeting_up_second, meeting_same}
 
@@ -156,7 +156,7 @@ nears_down parents start end from to up way g l h n over =
       meets = meeting_up_second parents from to g known over ∙ n.meets;
     }
 
-pub nears_end : (parents : List ℕ) (start end from to up : ℕ) (way : List ℕ) → IsOrdered parents → start < length parents → Nears parents start end from to up way → from ≡ to → IsWay parents start end up (length way)
+pub nears_end : (parents : List ℕ) (start end from to up : ℕ) (way : List ℕ) → IsOrdered parents → start < length parents → Nears parents start end from to up way → from ≡ to → IsRoute parents start end up (length way)
 nears_end parents start end from to up way g l n e =
     let few = n.few_up in
     let there : from ≡ meeting_of parents start end = sym (meeting_same parents from g (omega arith)) ∙ ap (λ (k : ℕ). meeting_of parents from k) e ∙ n.meets in
@@ -171,7 +171,7 @@ root_stays parents n i (suc d) g e =
     let same : i + suc d ≡ suc (i + d) = omega arith in
     rw same (ap (λ (k : ℕ). parent_in parents k) (root_stays parents n i d g e) ∙ g.root)
 
-below_root : (parents : List ℕ) (from to up down i : ℕ) → IsOrdered parents → IsWay parents from to up down → i < down → 0 < ancestor parents to i
+below_root : (parents : List ℕ) (from to up down i : ℕ) → IsOrdered parents → IsRoute parents from to up down → i < down → 0 < ancestor parents to i
 below_root parents from to up down i g w l = elim (cases_eq (ancestor parents to i) 0) [
   | inl root ↦ absurd (
       let same : i + (down - i) ≡ down = omega arith in

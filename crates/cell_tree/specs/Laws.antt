@@ -2,7 +2,7 @@
 use Rattle.std.specs.Prelude.{◌≡◌, ℕ, ◌+◌, ◌-◌, ◌<◌, List, [], ◌∷◌, ◌++◌, length, slice_index, ◌↔◌}
 use Rattle.std.specs.List.{Contains}
 use Rattle.cell_tree.specs.Tree.{parent_in, IsOrdered}
-use Rattle.cell_tree.specs.Paths.{path_of, meeting_of, ancestor, upward, IsWay}
+use Rattle.cell_tree.specs.Paths.{path_of, meeting_of, ancestor, upward, IsRoute}
 
 -- the path of the root is the root alone; that of another node is its parent's, and then the node
 abbrev pub PathGoesOn : Type 0
@@ -45,7 +45,7 @@ pub record LeadsDown (parents : List ℕ) (above : ℕ) (way : List ℕ) (end : 
 -- what is kept of a way leads down from the node where the paths meet
 abbrev pub WayLeadsDown : Type 0
 WayLeadsDown =
-    (parents : List ℕ) (from to up down : ℕ) → IsOrdered parents → IsWay parents from to up down
+    (parents : List ℕ) (from to up down : ℕ) → IsOrdered parents → IsRoute parents from to up down
     → LeadsDown parents (meeting_of parents from to) (upward parents to down) to
 
 -- the nodes from n on upward are its ancestors, one step up at each place

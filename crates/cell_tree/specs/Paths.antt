@@ -45,7 +45,7 @@ downward favourites n (suc most) =
     if slice_index favourites n == 0 then [] else slice_index favourites n ∷ downward favourites (slice_index favourites n) most
 
 -- `up` steps up, and then `down` steps down, lead from one node to another by the node where their paths meet, and there is no shorter way
-pub record IsWay (parents : List ℕ) (from to up down : ℕ) : Type 0 where
+pub record IsRoute (parents : List ℕ) (from to up down : ℕ) : Type 0 where
   pub up_there : ancestor parents from up ≡ meeting_of parents from to
   pub down_there : ancestor parents to down ≡ meeting_of parents from to
   pub shortest : (i j : ℕ) → ancestor parents from i ≡ ancestor parents to j → (up ≤ i) × (down ≤ j)

@@ -2,7 +2,7 @@
 ghost use Rattle.std.specs.Prelude.{◌≡◌, ◌≢◌, ◌+◌, ◌-◌, ◌<◌, ◌≤◌, ◌↔◌, ◌⊎◌, IsTrue, IsErr, IsErrOf, OnOk, OnErr, IfOk, IfErr, IfSome, MatchOption, length, min};
 ghost use Rattle.std.specs.Prelude.{slice_get, slice_set, slice_index, Some};
 ghost use Rattle.cell_tree.specs.Tree.{node_limit, parent_in, parents_of, contents_of, IsNode, IsChild, IsTree, favourite_of, root_alone, grown};
-ghost use Rattle.cell_tree.specs.Paths.{path_of, depth, meeting_of, upward, downward, IsWay};
+ghost use Rattle.cell_tree.specs.Paths.{path_of, depth, meeting_of, upward, downward, IsRoute};
 
 use crate::fault::TreeFault;
 use crate::node::Node;
@@ -211,7 +211,7 @@ impl<C: Drop> Tree<C> {
     /// `NoNode` exactly where `to` is no node. The tree stands as it was.
     pub fn find_way(&mut self, from: usize, to: usize) -> Result<Route, TreeFault>
         requires { IsNode self.old from }
-        ensures way { IfOk result (λ way. IsWay (parents_of self.old.nodes) from to way.up way.down) }
+        ensures way { IfOk result (λ way. IsRoute (parents_of self.old.nodes) from to way.up way.down) }
         ensures few { IfOk result (λ way. (way.up ≤ from) × (way.down ≤ to)) }
         ensures kept { IfOk result (λ way. self.new ≡ record self.old { way = upward (parents_of self.old.nodes) to way.down }) }
         ensures no_node { IsErr result ↔ (length self.old.nodes < to) }

@@ -1,7 +1,7 @@
 //! Ways along a list of nodes: from a node up to the root or down along favourites, and from one node to another.
 ghost use Rattle.std.specs.Prelude.{◌≡◌, ◌<◌, ◌≤◌, ℕ, IfOk, IfErr, length, min, slice_index, vec_capacity};
 ghost use Rattle.cell_tree.specs.Tree.{parent_in, parents_of, IsOrdered};
-ghost use Rattle.cell_tree.specs.Paths.{path_of, depth, meeting_of, upward, downward, IsWay};
+ghost use Rattle.cell_tree.specs.Paths.{path_of, depth, meeting_of, upward, downward, IsRoute};
 
 use crate::fault::TreeFault;
 use crate::node::Node;
@@ -96,7 +96,7 @@ pub fn find_way<C>(nodes: &[Node<C>], way: &mut Vec<usize>, from: usize, to: usi
     requires from { from ≤ length nodes.now }
     requires to { to ≤ length nodes.now }
     requires room { length nodes.now ≤ vec_capacity way.old }
-    ensures way { IsWay (parents_of nodes.now) from to result.up result.down }
+    ensures way { IsRoute (parents_of nodes.now) from to result.up result.down }
     ensures kept { way.new.items ≡ upward (parents_of nodes.now) to result.down }
     ensures few { (result.up ≤ from) × (result.down ≤ to) }
     ensures room { vec_capacity way.new ≡ vec_capacity way.old }

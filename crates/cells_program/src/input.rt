@@ -10,6 +10,9 @@ use std::io::Read;
 /// The most octets of an input that are taken.
 pub const INPUT_LIMIT: usize = 16_777_216;
 
+/// The most octets that are read at once.
+const READ_OCTETS: usize = 8192;
+
 /// The text that the reader gives to its end: at most 16,777,216 octets of UTF-8. No more than one octet past these is read,
 /// and that one only to tell that the input is too long.
 pub fn read_text<R: Read>(alloc: Global, reader: &mut R) -> Result<String, RunFault>
@@ -38,7 +41,7 @@ fn read_octets<R: Read>(alloc: Global, reader: &mut R) -> Result<Vec<u8>, RunFau
         (λ fault. fault ≢ RunFault.TooLong → TakesAtMost input_limit (R.remaining reader.old) (R.remaining reader.new)) }
 {
     let mut octets = Vec::new(alloc);
-    let mut room = [0u8; 8192];
+    let mut room = [0u8; READ_OCTETS];
     // Each read but the last gives an octet at least.
     for _read in 0..u64::MAX {
         // One octet past the limit tells that the input is too long.

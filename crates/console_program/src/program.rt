@@ -78,7 +78,7 @@ where
     }
 }
 
-/// Lets a read of the stream wait so long, or for ever.
+/// Lets a read of the stream wait this long, or for ever.
 fn set_patience(stream: &TcpStream, patience: Option<Duration>) -> Result<(), ConsoleFault> {
     match stream.set_read_timeout(patience) {
         Ok(()) => Ok(()),

@@ -36,7 +36,7 @@ pub use crate::comms::Comms;
 pub use crate::done::{Done, ExpFault, NamedValue};
 pub use crate::inputs::{HistoryAsk, Input};
 pub use crate::judgement::{Completeness, is_complete};
-pub use crate::limit::{COMM_LIMIT, STEPS_OF_A_SLICE};
+pub use crate::limit::COMM_LIMIT;
 pub use crate::lines::exp_fault_line;
 pub use crate::standing::{is_settled, stands_at_end, state};
 pub use crate::wish::Wish;

@@ -13,7 +13,8 @@
 //! - `laws` of `machine_laws`: what this says of undo and redo over any schedule, and that want of memory aside each answer is the only one.
 //!
 //! It has the queue, the minutes and the counter; the tree, the store and the open job are `kernel_history`'s. The names of these crates and
-//! of `kernel_machine` and `machine_laws` are passed on, types and laws here and definitions in specs/, so that layers above cite this crate alone.
+//! of `kernel_machine` and `machine_laws` are passed on, types and laws here and definitions in specs/, so that layers above cite this crate alone:
+//! a path `kernel_core.specs.X` that is not in the folder is found through `specs/Lib.antt`, which gives the definitions of the crates below again.
 #![tactic(auto)]
 
 mod events;
@@ -30,7 +31,7 @@ pub use janus_syntax::token::Span;
 pub use kernel_history::View;
 pub use kernel_machine::{
     Begun, CellText, Event, Extent, Job, MINUTES_LIMIT, Outcome, Phase, PostFault, QUEUE_LIMIT,
-    Refusal, Sliced, Told, TravelEnd,
+    Refusal, STEPS_OF_A_SLICE, Sliced, Told, TravelEnd,
 };
 pub use kernel_runner::names_in_sight;
 pub use machine_laws::laws;

@@ -18,10 +18,9 @@ mod turn;
 mod worker;
 
 pub use hall::Hall;
-pub use kernel_ask::{
-    Answer, Ask, CommChange, Comms, Done, HallFault, STEPS_OF_A_SLICE, Wish, ask_on, comm_on,
-};
+pub use kernel_ask::{Answer, Ask, CommChange, Comms, Done, HallFault, Wish, ask_on, comm_on};
 pub use kernel_audit::{AuditFault, Pass, Ticket, audit};
+pub use kernel_core::STEPS_OF_A_SLICE;
 pub use minutes::Minutes;
 pub use passes::{PASSES, Passes};
 pub use pending_result::PendingResult;

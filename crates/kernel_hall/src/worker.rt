@@ -3,9 +3,8 @@ ghost use Rattle.std.specs.Prelude.{◌≡◌};
 
 use crate::hall::Hall;
 use crate::turn::Turn;
-use kernel_ask::STEPS_OF_A_SLICE;
 use kernel_bell::RunnerSeat;
-use kernel_core::{Begun, Sliced};
+use kernel_core::{Begun, STEPS_OF_A_SLICE, Sliced};
 use std::sync::Wait;
 use std::sync::ledger::Ledger;
 

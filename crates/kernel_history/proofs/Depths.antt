@@ -8,7 +8,7 @@ use Rattle.cell_tree.proofs.Trees.{count_of_parents}
 use Rattle.cell_tree.proofs.Paths.{depth_more}
 use Rattle.cell_tree.proofs.Ways.{downward_more}
 use Rattle.kernel_machine.specs.State.{Past, favourite_of}
-use Rattle.kernel_machine.specs.Legal.{can_undo, can_redo, IsRun, IsChild, IsLegal}
+use Rattle.kernel_machine.specs.Legal.{can_undo, can_redo, IsRun, HasFavouriteChild, IsLegal}
 use Rattle.kernel_machine.proofs.Trees.{not_zero_is}
 use Rattle.kernel_history.specs.Fields.{nodes_of, past_of}
 use Rattle.kernel_history.specs.declared.tree.HistoryTree.{HistoryTree}
@@ -72,7 +72,7 @@ redoes favourites n (suc most) (suc k) l = elim (cases_eq (get_or favourites n 0
 -- a favourite stands behind its parent
 pub favourite_behind : (s : Past) (n : ℕ) → IsLegal s → n < length s.nodes → 0 < favourite_of s n → n < favourite_of s n
 favourite_behind s n g l some =
-    let child : IsChild s.nodes s.favourites n = g.children n l some in
+    let child : HasFavouriteChild s.nodes s.favourites n = g.children n l some in
     let known = child.known in
     let run : IsRun s.nodes s.worlds (favourite_of s n) = g.ran (favourite_of s n) some known in
     let low = run.parent in
@@ -87,7 +87,7 @@ redo_few s n (suc k) g l h = elim (cases_eq (get_or s.favourites n 0) 0) [
       let stop : can_redo s.favourites n (suc k) ≡ false = rw none refl in
       false≢true (sym stop ∙ h))
   | inr some ↦
-      (let child : IsChild s.nodes s.favourites n = g.children n l (omega (arith, some)) in
+      (let child : HasFavouriteChild s.nodes s.favourites n = g.children n l (omega (arith, some)) in
       let known = child.known in
       let behind = favourite_behind s n g l (omega (arith, some)) in
       let rest = redo_few s (get_or s.favourites n 0) k g known (sym (not_zero_is (get_or s.favourites n 0) _ some) ∙ h) in

@@ -9,7 +9,7 @@ use Rattle.cell_tree.specs.declared.fault.TreeFault.{TreeFault}
 use Rattle.cell_tree.specs.Tree as cells
 use Rattle.cell_tree.specs.Tree.{parent_in, parents_of, contents_of}
 use Rattle.cell_tree.specs.Paths as ways
-use Rattle.cell_tree.specs.Paths.{upward, IsWay}
+use Rattle.cell_tree.specs.Paths.{upward, IsRoute}
 use Rattle.cell_tree.proofs.Trees.{count_of_parents, parents_more}
 use Rattle.cell_tree.proofs.Ways.{length-upward, upward_are_ancestors}
 use Rattle.kernel_machine.specs.State as state
@@ -66,7 +66,7 @@ one_cell tree n a b p q =
 
 -- ---- the way to a node
 
-pub meeting_there : (tree : HistoryTree) (from to up down : ℕ) → IsWay (parents_of tree.cells.nodes) from to up down → IsMeeting (nodes_of tree) from to up down
+pub meeting_there : (tree : HistoryTree) (from to up down : ℕ) → IsRoute (parents_of tree.cells.nodes) from to up down → IsMeeting (nodes_of tree) from to up down
 meeting_there tree from to up down w = record {
   same = ancestors_there tree from up ∙ w.up_there ∙ sym w.down_there ∙ sym (ancestors_there tree to down);
   least = λ i j e. w.shortest i j (sym (ancestors_there tree from i) ∙ e ∙ ancestors_there tree to j);
@@ -81,7 +81,7 @@ path_there tree n down e =
 
 -- what a search for the way comes to
 pub way_found : (tree : HistoryTree) (new : cells.Tree EndedCell) (target : ℕ) (r : Result Route TreeFault) →
-    IfOk r (λ way. IsWay (parents_of tree.cells.nodes) tree.position target way.up way.down) →
+    IfOk r (λ way. IsRoute (parents_of tree.cells.nodes) tree.position target way.up way.down) →
     IfOk r (λ way. new ≡ record tree.cells { way = upward (parents_of tree.cells.nodes) target way.down }) →
     IfOk r (λ way. IsMeeting (nodes_of (record tree { cells = new })) tree.position target way.up way.down)
 way_found tree new target (Ok way) w kept =

@@ -10,7 +10,10 @@ ghost use Rattle.kernel_iopub.specs.Round.{AreToldTo, AreToldInPart, IsSent, IsS
 use crate::bulletin::Bulletin;
 use crate::fault::SubscriberFault;
 use crate::send::{send_broadcast, send_pong};
-use crate::subscriber::{Subscriber, fall_silent, look, note_answered, take, take_pings, wanted};
+use crate::subscriber::{
+    PREFIX_LIMIT, PREFIX_OCTET_LIMIT, Subscriber, fall_silent, look, note_answered, take,
+    take_pings, wanted,
+};
 use kernel_board::{Broadcast, Place, Read as BoardRead};
 use std::alloc::Global;
 use std::io::{Read, Write};
@@ -20,9 +23,12 @@ use std::sync::{Mutex, Wait};
 /// The most octets that are read at once.
 const READ_OCTETS: usize = 512;
 
+/// The octets that a frame has at most beside the prefix that it subscribes to or cancels: flags, a size, and the name of a command with its length.
+const FRAME_OCTETS: usize = 32;
+
 /// The octets that a subscriber may send over its life beside pings, of which nothing is kept once they are answered: each prefix that it may subscribe
 /// to, once to subscribe and once to cancel, by messages or by commands.
-const HEARD_OCTET_LIMIT: usize = 2_359_296;
+const HEARD_OCTET_LIMIT: usize = 2 * (PREFIX_OCTET_LIMIT + FRAME_OCTETS * (PREFIX_LIMIT as usize));
 
 /// Feeds the peer all that comes, up to the end of the input.
 fn hear_all<L: Ledger, R: Wait, I: Read>(

@@ -7,7 +7,7 @@ use Rattle.janus_meaning.specs.World.{World, empty_world, Cell, entered}
 use Rattle.kernel_machine.specs.Travel.{way_from, next_way, Way, Up, Down, Aim, Undo, Redo, Goto, Travel}
 use Rattle.kernel_machine.specs.Language.{Forward, Backward, CodeExec, IsFormed, IsSound, end_of}
 use Rattle.kernel_machine.specs.State.{Past, Node, new_state, root, ancestor, node_at, world_at, here, favourite_of, below_by, below, worlds_from}
-use Rattle.kernel_machine.specs.Legal.{can_undo, can_redo, IsRun, IsChild, IsLegal, IsWayTo, CanGo, IsPossible, IsMeeting}
+use Rattle.kernel_machine.specs.Legal.{can_undo, can_redo, IsRun, HasFavouriteChild, IsLegal, IsWayTo, CanGo, IsPossible, IsMeeting}
 use Rattle.kernel_machine.specs.Slices.{cells, stepped, moved, grown}
 use Rattle.kernel_machine.proofs.LanguageLaws.{sound_good, exec_sound, exec_same, exec_inverted, end_of_root, empty_sound}
 
@@ -86,14 +86,14 @@ legal_up s g =
           ∙ sym (ancestor_of_parent s.nodes s.position j);
     }
 
-child_set : (s : Past) (c i : ℕ) → IsLegal s → IsNext s c → i < length s.nodes → 0 < get_or (set s.favourites s.position c) i 0 → IsChild s.nodes (set s.favourites s.position c) i
+child_set : (s : Past) (c i : ℕ) → IsLegal s → IsNext s c → i < length s.nodes → 0 < get_or (set s.favourites s.position c) i 0 → HasFavouriteChild s.nodes (set s.favourites s.position c) i
 child_set s c i g next l above = elim (cases_eq i s.position) [
   | inl same ↦
       (let it : get_or (set s.favourites s.position c) i 0 ≡ c = rw same (get_or-set_same s.favourites s.position c 0 (rw g.favourites g.position)) in
       record { known = rw it next.known; parent = rw it (next.parent ∙ sym same) })
   | inr other ↦
       (let it : get_or (set s.favourites s.position c) i 0 ≡ get_or s.favourites i 0 = get_or-set_other s.favourites s.position i c 0 other in
-      let child : IsChild s.nodes s.favourites i = g.children i l (omega arith) in
+      let child : HasFavouriteChild s.nodes s.favourites i = g.children i l (omega arith) in
       record { known = rw it child.known; parent = rw it child.parent })
 ]
 
@@ -159,7 +159,7 @@ child_none s i g same =
     get_or_at (set s.favourites s.position (length s.nodes)) 0 [] 0 i (length-set s.favourites s.position (length s.nodes) ∙ g.favourites ∙ sym same)
 
 child_kept : (s : Past) (new : Node) (i : ℕ) → IsLegal s → new.parent ≡ s.position → i < length s.nodes → 0 < get_or (set s.favourites s.position (length s.nodes) ++ 0 ∷ []) i 0 →
-    IsChild (s.nodes ++ new ∷ []) (set s.favourites s.position (length s.nodes) ++ 0 ∷ []) i
+    HasFavouriteChild (s.nodes ++ new ∷ []) (set s.favourites s.position (length s.nodes) ++ 0 ∷ []) i
 child_kept s new i g from l above =
     let size : length (s.nodes ++ new ∷ []) ≡ length s.nodes + 1 = length-append s.nodes (new ∷ []) in
     let low : i < length (set s.favourites s.position (length s.nodes)) = rw (length-set s.favourites s.position (length s.nodes), g.favourites) l in
@@ -171,7 +171,7 @@ child_kept s new i g from l above =
           record { known = omega arith; parent = rw (it, node) (from ∙ sym same) })
       | inr other ↦
           (let it : get_or (set s.favourites s.position (length s.nodes) ++ 0 ∷ []) i 0 ≡ get_or s.favourites i 0 = here ∙ get_or-set_other s.favourites s.position i (length s.nodes) 0 other in
-          let child : IsChild s.nodes s.favourites i = g.children i l (omega arith) in
+          let child : HasFavouriteChild s.nodes s.favourites i = g.children i l (omega arith) in
           let node : get_or (s.nodes ++ new ∷ []) (get_or s.favourites i 0) root ≡ get_or s.nodes (get_or s.favourites i 0) root = get_or_append_left s.nodes (new ∷ []) root _ child.known in
           record { known = (let k = child.known in omega arith); parent = rw (it, node) child.parent })
     ]

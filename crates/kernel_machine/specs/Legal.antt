@@ -27,7 +27,7 @@ pub record IsRun (nodes : List Node) (worlds : List World) (n : ℕ) : Type 0 wh
       (get_or worlds n empty_world)
 
 -- the favourite of the node n is a child of it
-pub record IsChild (nodes : List Node) (favourites : List ℕ) (n : ℕ) : Type 0 where
+pub record HasFavouriteChild (nodes : List Node) (favourites : List ℕ) (n : ℕ) : Type 0 where
   pub known : get_or favourites n 0 < length nodes
   pub parent : (get_or nodes (get_or favourites n 0) root).parent ≡ n
 
@@ -40,7 +40,7 @@ pub record IsLegal (s : Past) : Type 0 where
   pub favourites : length s.favourites ≡ length s.nodes
   pub ran : (n : ℕ) → 0 < n → n < length s.nodes → IsRun s.nodes s.worlds n
   pub sound : (n : ℕ) → n < length s.nodes → IsSound (world_at s n)
-  pub children : (n : ℕ) → n < length s.nodes → 0 < favourite_of s n → IsChild s.nodes s.favourites n
+  pub children : (n : ℕ) → n < length s.nodes → 0 < favourite_of s n → HasFavouriteChild s.nodes s.favourites n
   pub position : s.position < length s.nodes
   pub root_parent : (node_at s 0).parent ≡ 0
   -- the favourites lead from each node above the position to it

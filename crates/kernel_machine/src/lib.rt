@@ -24,7 +24,7 @@ pub use crate::cell_text::CellText;
 pub use crate::events::{Event, Told};
 pub use crate::extent::Extent;
 pub use crate::heading::{Heading, Why};
-pub use crate::limit::{MINUTES_LIMIT, QUEUE_LIMIT};
+pub use crate::limit::{MINUTES_LIMIT, QUEUE_LIMIT, STEPS_OF_A_SLICE};
 pub use crate::outcome::{Begun, Outcome, Phase, Refusal, Sliced, TravelEnd};
 pub use crate::post::{Job, PostFault};
 pub use crate::progress::Progress;

@@ -73,7 +73,7 @@ pub enum PostFault {
     /// As many jobs as may wait are posted and not begun.
     #[error("QueueFull")]
     QueueFull,
-    /// There was no memory for the queue and the minutes, or for a copy of the job.
+    /// There was no memory for the queue and the minutes, or for the job.
     #[error("Memory")]
     Memory,
 }

@@ -104,7 +104,7 @@ impl Door {
         is_awaited
     }
 
-    /// Waits until no connection waits for a place, or for so long, and tells whether none does.
+    /// Waits until no connection waits for a place, at most this long, and tells whether none does.
     pub fn wait_until_free<R: Wait + Clock>(&self, rt: &R, most: Duration) -> bool {
         let entrance = self.entrance.lock(rt);
         let (entrance, _) = self

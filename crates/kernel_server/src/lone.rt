@@ -44,7 +44,7 @@ impl<L: Ledger> Model for LoneDesk<L> {
 
 impl<L: Ledger> LoneDesk<L> {
     /// The desk of a kernel without an open job, which is to be given these slices, and behind them slices of
-    /// [`STEPS_OF_A_SLICE`](kernel_ask::STEPS_OF_A_SLICE). It takes no memory.
+    /// [`STEPS_OF_A_SLICE`](kernel_core::STEPS_OF_A_SLICE). It takes no memory.
     pub fn new(alloc: Global, kernel: Kernel<L>, comms: Comms, slices: Vec<Slice>) -> LoneDesk<L>
         requires idle { kernel.machine.state.job ≡ Idle }
         requires alone { kernel.machine.queue ≡ [] }

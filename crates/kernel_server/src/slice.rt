@@ -2,7 +2,7 @@
 ghost use Rattle.std.specs.Prelude.{◌≡◌};
 ghost use Rattle.kernel_server.specs.Pace.{next_slice, behind};
 
-use kernel_ask::STEPS_OF_A_SLICE;
+use kernel_core::STEPS_OF_A_SLICE;
 use std::collections::VecDeque;
 
 /// A slice of an open job.

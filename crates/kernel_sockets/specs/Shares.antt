@@ -2,6 +2,6 @@
 use Rattle.std.specs.Prelude.{ℕ, ◌-◌}
 use Rattle.kernel_sockets.specs.declared.shares.TheConstants.{OWN_OCTETS}
 
--- so much of what a stranger brought lies past its own share
+-- how much of what a stranger brought lies past its own share
 abbrev pub common_of : ℕ → ℕ
 common_of brought = brought - OWN_OCTETS

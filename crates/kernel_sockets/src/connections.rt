@@ -77,7 +77,7 @@ impl Connections {
         register.close(how);
     }
 
-    /// Waits until none is there, or for so long.
+    /// Waits until none is there, at most this long.
     pub fn wait_until_empty<R: Wait + Clock>(&self, rt: &R, most: Duration) {
         let register = self.register.lock(rt);
         drop(

@@ -76,7 +76,7 @@ impl<S: Ledger> Share<S> {
         true
     }
 
-    /// So much of it lies past its own share.
+    /// How much of it lies past its own share.
     fn common(&self) -> u64
         ensures { result ≡ common_of self.now.brought }
     {
@@ -145,7 +145,7 @@ impl<S: Ledger> Common<S> {
         true
     }
 
-    /// Counts so much more that is held by a part of the ledger.
+    /// Counts `more` that is held by a part of the ledger.
     fn hold(&mut self, part: &mut Part<S>, more: u64)
         requires room { self.old.held + more ≤ COMMON_OCTETS }
         requires part { part.old.parts ≡ 1 }

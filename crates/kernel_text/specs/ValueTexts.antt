@@ -4,10 +4,11 @@ use Rattle.std.specs.Fmt.{signed_decimal}
 use Rattle.janus_meaning.specs.Syntax.{Name}
 use Rattle.janus_meaning.specs.Store.{Val, Num, Arr, Stk, Lent}
 use Rattle.kernel_text.specs.Lines.{counted_text}
+use Rattle.kernel_text.specs.declared.values.TheConstants.{SHOWN_VALUES}
 
--- how many values of one name are written
+-- the most values of one name that are written
 abbrev pub shown_values : ℕ
-shown_values = 32
+shown_values = SHOWN_VALUES
 
 -- an equals sign between spaces, and then a number
 abbrev pub equated_text : ℤ → List ℕ

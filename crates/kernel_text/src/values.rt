@@ -150,7 +150,11 @@ fn send_told<W: Write>(writer: &mut W, value: ValueView<'_>) -> Result<(), Write
 ///
 /// # Errors
 /// The writer failed, and a beginning of the text went out.
-pub fn send_value<W: Write>(writer: &mut W, name: &str, value: ValueView<'_>) -> Result<(), WriteFailed>
+pub fn send_value<W: Write>(
+    writer: &mut W,
+    name: &str,
+    value: ValueView<'_>,
+) -> Result<(), WriteFailed>
     ensures ok { OnOk result (Appends (W.contents writer.old) (W.contents writer.new) (value_text_of (name.now, shown value.entry))) }
     ensures err { OnErr result (SentSome (W.contents writer.old) (W.contents writer.new) (value_text_of (name.now, shown value.entry))) }
 {

@@ -3,7 +3,7 @@ use Rattle.std.proofs.Common.{◌≡◌, ℕ, ◌+◌, ◌-◌, ◌<◌, ◌≤�
 use Rattle.std.proofs.lemmas.Bool.{cases_eq}
 use Rattle.janus_meaning.specs.World.{Cell}
 use Rattle.kernel_machine.specs.State.{Past, Node, root, favourite_of, node_at}
-use Rattle.kernel_machine.specs.Legal.{can_undo, can_redo, IsRun, IsChild, IsLegal}
+use Rattle.kernel_machine.specs.Legal.{can_undo, can_redo, IsRun, HasFavouriteChild, IsLegal}
 use Rattle.machine_laws.specs.Travels.{IsPath, AreFavourites, UndoGoesUpThePath, RedoGoesDownFavourites}
 use Rattle.kernel_machine.proofs.Trees.{undo_above, redo_below, not_zero_is}
 
@@ -53,7 +53,7 @@ chain s (suc f) n g l few = elim (cases_eq (favourite_of s n) 0) [
   | inl e ↦ ([], e)
   | inr other ↦
       (let some : 0 < favourite_of s n = omega (arith, other) in
-      let child : IsChild s.nodes s.favourites n = g.children n l some in
+      let child : HasFavouriteChild s.nodes s.favourites n = g.children n l some in
       let known = child.known in
       let run : IsRun s.nodes s.worlds (favourite_of s n) = g.ran (favourite_of s n) some known in
       let low : (node_at s (favourite_of s n)).parent < favourite_of s n = run.parent in

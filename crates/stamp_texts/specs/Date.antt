@@ -3,7 +3,7 @@ use Rattle.std.specs.Prelude.{◌≡◌, ◌≤ℤ◌, ℕ, ◌+◌, ◌/◌, �
 use Rattle.jiff.specs.Words.{civil_nanos}
 use Rattle.jiff_core.specs.declared.civil.datetime.DateTime.{DateTime}
 
--- what a clock in UTC shows, so many nanoseconds after 1970-01-01T00:00:00Z
+-- what a clock in UTC shows at an instant, which is told in nanoseconds after 1970-01-01T00:00:00Z
 abbrev pub Shows : ℤ → DateTime → Type 0
 Shows instant shown = civil_nanos shown ≡ instant
 

@@ -13,7 +13,7 @@ use zmtp_wire::{Frame, write_message};
 /// The key under which the messages of a kernel and its frontends are signed.
 pub(crate) const KEY: &str = "the key of the tests";
 
-/// So long a read waits.
+/// How long a read waits.
 const PATIENCE_MILLISECONDS: u64 = 5;
 
 /// The reads that wait for what has to come.

@@ -16,10 +16,10 @@ use zmtp_peer::Role;
 /// The address of the loopback.
 pub(crate) const LOOPBACK: &str = "127.0.0.1";
 
-/// A connection is tried so often, until the kernel listens.
+/// The most times that a connection is tried, until the kernel listens.
 const TRIES: u32 = 500;
 
-/// So long it is waited before the next try.
+/// How long it is waited before the next try.
 const PAUSE_MILLISECONDS: u64 = 10;
 
 /// Where a kernel listens.

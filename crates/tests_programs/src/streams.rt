@@ -7,7 +7,7 @@ use std::process::Abort;
 use std::time::Duration;
 use zmtp_peer::Role;
 
-/// So long a read waits.
+/// How long a read waits.
 const PATIENCE_SECONDS: u64 = 5;
 
 /// The reads that wait for what has to come.

@@ -1,5 +1,6 @@
 -- What all octets of a connection tell, from its first octet on.
 use Rattle.std.specs.Prelude.{◌≡◌, ℕ, ◌<◌, ◌≤◌, ◌+◌, ◌*◌, List, [], ◌++◌, length, take, drop, max, ◌⊎◌}
+use Rattle.zmtp_wire.specs.declared.decoder.TheConstants.{KEPT_BUFFER_OCTETS}
 use Rattle.zmtp_wire.specs.declared.fault.WireFault.{WireFault}
 use Rattle.zmtp_wire.specs.declared.greeting.Greeting.{Greeting}
 use Rattle.zmtp_wire.specs.Greeting.{IsGreeting, IsGreetingFault}
@@ -71,9 +72,9 @@ pub record PeerState : Type 0 where
   pub table : List (List ℕ × ℕ)
   pub room : Room
 
--- where nothing of the stream is left, a large memory was given back: there is some for 131,072 octets at most
+-- where nothing of the stream is left, a large memory was given back: there is some for the octets at most that a decoder keeps
 abbrev pub GivesBack : Rest → ℕ → Type 0
-GivesBack rest room = rest.octets ≡ [] → room ≤ 131_072
+GivesBack rest room = rest.octets ≡ [] → room ≤ KEPT_BUFFER_OCTETS
 
 -- how many frames of a message are held
 abbrev pub held_in : State → ℕ

@@ -7,7 +7,13 @@
 //!
 //! The definitions, in specs/, are those of RFC 23 (ZMTP 3.0): its grammar of commands and metadata, "The NULL Security
 //! Mechanism", and its rules for publishers and subscribers; and of RFC 37 (ZMTP 3.1): subscriptions by command, and PING. Greetings, frames and
-//! their limits are those of `zmtp_wire`.
+//! their limits are those of `zmtp_wire`. In reading order:
+//!
+//! - who stands there, and what a frame says: `Roles`, `Terms` (which side this end takes, and what its partner speaks), `Commands`, `Faults`,
+//!   `Handshake` (the first command), `Events` (what frames bring, by role), `Subscriptions`;
+//! - what all octets tell: `Reading`, and its laws in `Laws`;
+//! - what this end sends: `Opening`, `Subscribing`; `Pings`, as a partner sends them;
+//! - how the code keeps it: `Table` (counts of subscriptions), `Later` (a command), `Brought` and `Intake` (what frames of a piece bring), `Connection`.
 #![tactic(auto)]
 
 ghost use Rattle.zmtp_peer.specs.Laws.{OctetsAreRead, OctetsHaveOneReading, RefusalsStay, NoCutMatters, FoldsGoOn, PartnersAreReady, ReadyComesFirst};

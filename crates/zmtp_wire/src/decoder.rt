@@ -12,8 +12,8 @@ use crate::tally::Tally;
 use std::alloc::{AllocError, Global};
 use std::marker::Model;
 
-/// The octets of memory that are kept for the next pieces.
-const KEPT_OCTETS: usize = 131_072;
+/// The most octets of memory that a decoder keeps for the next pieces, where nothing of the stream is left.
+pub const KEPT_BUFFER_OCTETS: usize = 131_072;
 
 /// How far a stream is read.
 #[derive(Clone, Copy)]
@@ -90,7 +90,7 @@ impl Decoder {
 
         // There is memory for what there was, or for four times what came and isn't given; a size that is told takes none.
         ensures room { OnOk result (self.new.room ≤ max self.old.room (4 * (length self.old.rest.octets + length piece.now))) }
-        ensures given_back { OnOk result (self.old.rest.octets ≡ [] → self.new.room ≤ max KEPT_OCTETS (4 * length piece.now)) }
+        ensures given_back { OnOk result (self.old.rest.octets ≡ [] → self.new.room ≤ max KEPT_BUFFER_OCTETS (4 * length piece.now)) }
     {
         self.position.at = drop_given(&mut self.buffer, self.position.at);
         self.length_before = self.buffer.len();
@@ -104,7 +104,7 @@ impl Decoder {
         ensures rest { self.new.rest ≡ self.old.rest }
         ensures before { self.new.before ≡ self.old.rest }
         ensures room { self.new.room ≤ self.old.room }
-        ensures given_back { self.old.rest.octets ≡ [] → self.new.room ≤ KEPT_OCTETS }
+        ensures given_back { self.old.rest.octets ≡ [] → self.new.room ≤ KEPT_BUFFER_OCTETS }
     {
         self.position.at = drop_given(&mut self.buffer, self.position.at);
         self.length_before = self.buffer.len();
@@ -175,7 +175,7 @@ fn drop_given(buffer: &mut Vec<u8>, given: usize) -> usize
     ensures within { result ≤ vec_len buffer.new }
     ensures mostly { IsMostlyLeft result (vec_len buffer.new) }
     ensures room { vec_capacity buffer.new ≤ vec_capacity buffer.old }
-    ensures given_back { drop given buffer.old.items ≡ [] → vec_capacity buffer.new ≤ KEPT_OCTETS }
+    ensures given_back { drop given buffer.old.items ≡ [] → vec_capacity buffer.new ≤ KEPT_BUFFER_OCTETS }
 {
     if given < buffer.len() - given {
         return given;
@@ -188,13 +188,13 @@ fn drop_given(buffer: &mut Vec<u8>, given: usize) -> usize
 fn drop_front(buffer: &mut Vec<u8>, count: usize)
     requires { count ≤ vec_len buffer.old }
     ensures items { buffer.new.items ≡ drop count buffer.old.items }
-    ensures given_back { buffer.new.items ≡ [] → vec_capacity buffer.new ≤ KEPT_OCTETS }
+    ensures given_back { buffer.new.items ≡ [] → vec_capacity buffer.new ≤ KEPT_BUFFER_OCTETS }
     ensures room { vec_capacity buffer.new ≤ vec_capacity buffer.old }
 {
     let rest = buffer.len() - count;
     if rest == 0 {
         buffer.clear();
-        if buffer.capacity() > KEPT_OCTETS {
+        if buffer.capacity() > KEPT_BUFFER_OCTETS {
             buffer.shrink_to_fit();
         }
         return;

@@ -22,7 +22,7 @@ mod pong;
 mod sending;
 mod tally;
 
-pub use decoder::Decoder;
+pub use decoder::{Decoder, KEPT_BUFFER_OCTETS};
 pub use fault::WireFault;
 pub use frame::Frame;
 pub use greeting::{GREETING_LENGTH, Greeting, MAJOR, MINOR};

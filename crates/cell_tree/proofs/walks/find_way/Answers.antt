@@ -1,6 +1,6 @@
 use Rattle.std.proofs.Common.{ℕ, List, ◌+◌, ◌<◌, sym, subst, ◌∙◌, arith}
 use Rattle.cell_tree.specs.Tree.{parent_in, parents_of}
-use Rattle.cell_tree.specs.Paths.{IsWay}
+use Rattle.cell_tree.specs.Paths.{IsRoute}
 use Rattle.cell_tree.proofs.Trees.{count_of_parents}
 use Rattle.cell_tree.proofs.Ways.{Nears, nears_up, nears_down, nears_end}
 use Rattle.cell_tree.proofs.walks.find_way.Goals as goal
@@ -38,5 +38,5 @@ returns-clause-way g c =
     let at = c.loop-a in
     let count = count_of_parents c.args.nodes.now in
     let size = c.len.ensures in
-    subst (λ (k : ℕ). IsWay parents c.args.from c.args.to at.up k) (omega arith)
+    subst (λ (k : ℕ). IsRoute parents c.args.from c.args.to at.up k) (omega arith)
     (nears_end parents c.args.from c.args.to at.a at.b at.up at.way.items c.requires.ordered (omega arith) at.invariant.nears c.loop-a-test.false)

@@ -2,7 +2,7 @@ use Rattle.std.proofs.Common.{arith, ap, length, ◌∙◌}
 use Rattle.std.proofs.lemmas.List.{length-drop}
 use Rattle.zmtp_wire.specs.Decoding.{Decoding}
 use Rattle.std.proofs.lemmas.Grind.{common_steps}
-use Rattle.zmtp_wire.specs.declared.decoder.TheConstants.{KEPT_OCTETS}
+use Rattle.zmtp_wire.specs.declared.decoder.TheConstants.{KEPT_BUFFER_OCTETS}
 use Rattle.zmtp_wire.proofs.Decodings.{given_longer, most-room, least-room}
 use Rattle.zmtp_wire.proofs.decoder.Decoder.feed.Goals as goal
 
@@ -25,6 +25,6 @@ returns-clause-given_back c = λ none.
     let mid = c.drop_given-self-inside.new.buffer in
     let given = ap (λ (d : Decoding). d.rest.octets) c.self.view_is ∙ none in
     let left = ap length (c.drop_given-self-inside.ensures.rest ∙ given) in
-    least-room c.drop_given-self-inside.result mid.len (length c.args.piece.now) KEPT_OCTETS mid.cap c.append.new.buffer.cap
+    least-room c.drop_given-self-inside.result mid.len (length c.args.piece.now) KEPT_BUFFER_OCTETS mid.cap c.append.new.buffer.cap
     c.drop_given-self-inside.ensures.mostly (omega (arith, mid.ok.0, left, length-drop c.drop_given-self-inside.result mid.items)) c.drop_given-self-inside.ensures.within
     (c.drop_given-self-inside.ensures.given_back given) c.in_ok-append.ensures.room
