@@ -9,6 +9,7 @@
 mod ends;
 mod entrance;
 mod hall;
+mod limit;
 mod minutes;
 mod passes;
 mod pending_result;
@@ -22,8 +23,9 @@ pub use kernel_ask::{
     Answer, Ask, CommChange, Comms, Done, HallFault, STEPS_OF_A_SLICE, Wish, ask_on, comm_on,
 };
 pub use kernel_audit::{AuditFault, Pass, Ticket, audit};
+pub use limit::{PARTS_OF_POSTS, PASSES};
 pub use minutes::Minutes;
-pub use passes::{PASSES, Passes};
+pub use passes::Passes;
 pub use pending_result::PendingResult;
 pub use state::State;
 pub use turn::{Turn, turn_on};
