@@ -14,9 +14,9 @@ use std::alloc::Global;
 /// What a comm message asks.
 #[derive(Clone, Copy, Debug, PartialEq, Eq)]
 pub enum CommAsk {
-    /// Undo so many cells.
+    /// Undo this number of cells.
     Undo(u32),
-    /// Redo so many cells.
+    /// Redo this number of cells.
     Redo(u32),
     /// Go to the node of this number.
     Goto(u32),

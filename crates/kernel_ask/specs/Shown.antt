@@ -1,5 +1,5 @@
 -- What is shown of a cell that ran (Jupyter messaging page, "Execution results").
-use Rattle.std.specs.Prelude.{◌≡◌, ◌⊎◌, ℕ, List, [], ◌∷◌, map, Option, Some, None}
+use Rattle.std.specs.Prelude.{◌≡◌, ◌⊎◌, ℕ, ◌<◌, List, [], ◌∷◌, length, map, Option, Some, None}
 use Rattle.std.specs.List.{filter, join_with_byte}
 use Rattle.janus_meaning.specs.Store.{Store}
 use Rattle.janus_meaning.specs.World.{listed}
@@ -49,12 +49,16 @@ IsShownOfNode (Redid cells end) s shown = shown ≡ None
 IsShownOfNode (Went up down end) s shown = shown ≡ None
 IsShownOfNode (Refused refusal) s shown = shown ≡ None
 
--- the cell of the node came from this text
-abbrev pub IsTextOf : Past → ℕ → List ℕ → Type 0
-IsTextOf s node text = (tree : Cell) × HasTree text tree × ((node_at s node).cell ≡ plain_cell tree)
+-- the node has a cell, which came from this text
+pub record IsTextOf (s : Past) (node : ℕ) (text : List ℕ) : Type 0 where
+  pub below_root : 0 < node
+  pub known : node < length s.nodes
+  pub tree : Cell
+  pub is_tree : HasTree text tree
+  pub meant : (node_at s node).cell ≡ plain_cell tree
 
 -- What is shown of a cell by the tree that its node keeps is what is shown of its text: places don't matter.
 abbrev pub ShownIsOfText : Type 0
 ShownIsOfText =
     (s : Past) (node steps : ℕ) (text : List ℕ) (shown : Option (List ℕ)) → IsTextOf s node text → IsShownOfNode (Ran node steps) s shown
-    → IsShownAfter (Ran node steps) s text shown ⊎ (shown ≡ None)
+    → IsShownAfter (Ran node steps) s text shown

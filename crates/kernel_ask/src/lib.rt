@@ -6,6 +6,10 @@
 //!
 //! The questions and their answers are those of the page "Messaging in Jupyter": complete, inspect, is_complete, history, comm_info, and the
 //! user expressions of an execute request.
+//!
+//! In reading order: `answer` (questions and answers), `ask` (the answers over a lent kernel), and each of them: `cursor`, `matches` and
+//! `completion`, `inspection`, `judgement`, `inputs`, `tail` and `input_history`, `standing` (the state). Then what is told of a job that ended:
+//! `done`, `shown`, `wish` and `evaluation`, `lines`. `comms` and `comm_change` are the open comms, `limit` what several crates test, `laws` the laws.
 #![tactic(auto)]
 
 mod answer;

@@ -85,17 +85,17 @@ fn add_procedures(
 }
 
 /// Adds those of the keywords that begin with the prefix.
-fn add_words(
+fn add_keywords(
     alloc: Global,
     names: &mut BTreeSet<String>,
-    words: &[Keyword],
+    keywords: &[Keyword],
     prefix: &str,
 ) -> Result<(), AllocError>
     ensures { OnOk result (map string_bytes names.new.keys
-        ≡ with_matches prefix.now (map string_bytes names.old.keys) (map keyword_text words.now)) }
+        ≡ with_matches prefix.now (map string_bytes names.old.keys) (map keyword_text keywords.now)) }
 {
-    for word in words {
-        add_match(alloc, names, word.text(), prefix)?;
+    for keyword in keywords {
+        add_match(alloc, names, keyword.text(), prefix)?;
     }
     Ok(())
 }
@@ -121,6 +121,6 @@ pub(crate) fn matches_of<L: Ledger>(
     let mut names = BTreeSet::new(alloc);
     add_declared(alloc, &mut names, store, prefix)?;
     add_procedures(alloc, &mut names, procedures, prefix)?;
-    add_words(alloc, &mut names, &KEYWORDS, prefix)?;
+    add_keywords(alloc, &mut names, &KEYWORDS, prefix)?;
     in_order(alloc, names)
 }

@@ -14,7 +14,8 @@ use std::marker::Model;
 use std::sync::ledger::Ledger;
 
 /// A user expression: the name under which its value is told, and its text, which is read as the wish is made: so nothing is read as a
-/// cell ends. Contracts see the name and the text; the type keeps that what was read is what the text is.
+/// cell ends. Contracts see the name and the text; the type keeps that what was read is what the text is. The text is kept for that alone: no
+/// tree tells it.
 #[derive(Drop)]
 pub struct Wish {
     name: String,

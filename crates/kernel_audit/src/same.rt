@@ -59,7 +59,7 @@ fn same_what(a: What, b: What) -> bool
     ensures { IsTrue result ↔ (a ≡ b) }
 {
     match (a, b) {
-        (What::Keyword(a), What::Keyword(b)) => same_word(a, b),
+        (What::Keyword(a), What::Keyword(b)) => same_keyword(a, b),
         (What::Sign(a), What::Sign(b)) => same_sign(a, b),
         (What::Statement, What::Statement)
         | (What::Expression, What::Expression)
@@ -72,7 +72,7 @@ fn same_what(a: What, b: What) -> bool
     }
 }
 
-fn same_word(a: Keyword, b: Keyword) -> bool
+fn same_keyword(a: Keyword, b: Keyword) -> bool
     ensures { IsTrue result ↔ (a ≡ b) }
 {
     a == b

@@ -1,17 +1,18 @@
 //! Where frontends wait for the ends of jobs.
 ghost use Rattle.std.specs.Prelude.{◌<◌};
+ghost use Rattle.kernel_hall.specs.declared.ends.TheConstants.{END_PLACES};
 
 use crate::spin::{LOOKS_FOR_END, watch};
 use std::sync::atomic::{AtomicBool, Ordering};
 use std::sync::{Condvar, MutexGuard, Wait};
 
 /// The number of places at which frontends wait for an end.
-const END_PLACES: u64 = 16;
+const END_PLACES: usize = 16;
 
 /// Places to wait at, by the numbers of jobs, so that an end wakes few that wait for another.
 #[derive(Drop)]
 pub(crate) struct Ends {
-    places: [Condvar; 16],
+    places: [Condvar; END_PLACES],
     /// Whether a thread watches one of them.
     is_watched: AtomicBool,
 }
@@ -75,7 +76,7 @@ impl Ends {
 
 /// The place of a number.
 fn place_of(number: u64) -> usize
-    ensures { result < 16 }
+    ensures { result < END_PLACES }
 {
-    (number % END_PLACES) as usize
+    (number % END_PLACES as u64) as usize
 }

@@ -5,6 +5,7 @@ ghost use Rattle.kernel_core.specs.LegalMinutes.{IsLegalMachine};
 ghost use Rattle.kernel_ask.specs.Answer.{IsAnswer};
 ghost use Rattle.kernel_audit.specs.Passes.{pass_of, ticket_of};
 ghost use Rattle.kernel_hall.specs.Turns.{IsTurn};
+ghost use Rattle.kernel_hall.specs.declared.limit.TheConstants.{PASSES, PARTS_OF_POSTS};
 ghost use Rattle.kernel_audit.specs.Ends.{HasEnd};
 ghost use Rattle.kernel_audit.specs.Audit.{Audited, IsAuditFault};
 
@@ -56,7 +57,7 @@ impl<W: Ledger, L: Ledger> Hall<W, L> {
         bell: Bell,
     ) -> Hall<W, L>
         requires name { blank.name ≡ L.name }
-        requires parts { (blank.parts ≡ 65537) × (blank.parts ≡ L.parts) }
+        requires parts { (blank.parts ≡ PARTS_OF_POSTS) × (blank.parts ≡ L.parts) }
         requires fresh { kernel.machine.minutes ≡ [] }
         ensures { result ≡ bell }
     {
@@ -81,7 +82,7 @@ impl<W: Ledger, L: Ledger> Hall<W, L> {
     /// A new pass, with no posts. It takes no memory, and is refused as `NoPass` once [`PASSES`](crate::PASSES) are given.
     pub fn pass<R: Wait>(&self, rt: &R) -> Result<Pass<L>, HallFault>
         ensures new { IfOk result (λ p. p.posts ≡ 0) }
-        ensures lane { IfOk result (λ p. (1 ≤ p.lane) × (p.lane ≤ 65536)) }
+        ensures lane { IfOk result (λ p. (1 ≤ p.lane) × (p.lane ≤ PASSES)) }
         ensures refusal { IfErr result (λ f. f ≡ HallFault.NoPass) }
     {
         match self.entrance.enter(rt, &self.state).passes.next() {

@@ -9,6 +9,7 @@
 mod ends;
 mod entrance;
 mod hall;
+mod limit;
 mod minutes;
 mod passes;
 mod pending_result;
@@ -21,8 +22,9 @@ pub use hall::Hall;
 pub use kernel_ask::{Answer, Ask, CommChange, Comms, Done, HallFault, Wish, ask_on, comm_on};
 pub use kernel_audit::{AuditFault, Pass, Ticket, audit};
 pub use kernel_core::STEPS_OF_A_SLICE;
+pub use limit::{PARTS_OF_POSTS, PASSES};
 pub use minutes::Minutes;
-pub use passes::{PASSES, Passes};
+pub use passes::Passes;
 pub use pending_result::PendingResult;
 pub use state::State;
 pub use turn::{Turn, turn_on};

@@ -1,13 +1,12 @@
 //! The passes that are still to be given.
 ghost use Rattle.std.specs.Prelude.{◌≡◌, ◌+◌, ◌≤◌, IfSome, IfNone};
 ghost use Rattle.kernel_audit.specs.Passes.{pass_of};
+ghost use Rattle.kernel_hall.specs.declared.limit.TheConstants.{PASSES, PARTS_OF_POSTS};
 
+use crate::limit::PASSES;
 use kernel_audit::Pass;
 use std::marker::Model;
 use std::sync::ledger::{Ledger, Share};
-
-/// The most passes that a hall gives.
-pub const PASSES: u32 = 65_536;
 
 /// How many passes were given, and the parts of the ledger that none of them has. Contracts see their number.
 #[derive(Drop)]
@@ -18,18 +17,19 @@ pub struct Passes<L: Ledger> {
 
 impl<L: Ledger> Model for Passes<L> {
     ghost use Rattle.std.specs.Prelude.{◌≡◌, ◌+◌, ◌≤◌, ℕ};
+    ghost use Rattle.kernel_hall.specs.declared.limit.TheConstants.{PASSES, PARTS_OF_POSTS};
 
     ghost Value = { ℕ };
 
     ghost view = { λ p. p.given };
 
-    ghost invariant = { λ p. (p.rest.parts + p.given ≡ 65537) × (p.rest.amount ≡ 0) × (p.given ≤ 65536) };
+    ghost invariant = { λ p. (p.rest.parts + p.given ≡ PARTS_OF_POSTS) × (p.rest.amount ≡ 0) × (p.given ≤ PASSES) };
 }
 
 impl<L: Ledger> Passes<L> {
     /// No pass is given.
     pub(crate) fn new(rest: Share<L>) -> Passes<L>
-        requires parts { rest.parts ≡ 65537 }
+        requires parts { rest.parts ≡ PARTS_OF_POSTS }
         requires amount { rest.amount ≡ 0 }
         ensures { result ≡ 0 }
     {
@@ -39,9 +39,9 @@ impl<L: Ledger> Passes<L> {
     /// One more pass, with no posts, on the next lane; `None` where all are given.
     pub fn next(&mut self) -> Option<Pass<L>>
         ensures pass { IfSome result (λ p. p ≡ pass_of (self.old + 1) 0) }
-        ensures lane { IfSome result (λ p. (1 ≤ p.lane) × (p.lane ≤ 65536)) }
+        ensures lane { IfSome result (λ p. (1 ≤ p.lane) × (p.lane ≤ PASSES)) }
         ensures some { IfSome result (λ p. self.new ≡ self.old + 1) }
-        ensures none { IfNone result ((self.old ≡ 65536) × (self.new ≡ self.old)) }
+        ensures none { IfNone result ((self.old ≡ PASSES) × (self.new ≡ self.old)) }
     {
         if self.given >= PASSES {
             return None;

@@ -10,6 +10,7 @@ ghost use Rattle.kernel_audit.specs.Passes.{pass_of, ticket_of};
 ghost use Rattle.kernel_hall.specs.Turns.{IsTurn};
 ghost use Rattle.kernel_hall.specs.PendingResults.{IsNewPending, IsTold, SettlesLast, ends_job};
 ghost use Rattle.kernel_hall.specs.LastEnds.{last_of, number_in};
+ghost use Rattle.kernel_hall.specs.declared.limit.TheConstants.{PARTS_OF_POSTS};
 ghost use Rattle.kernel_hall.specs.declared.pending_result.PendingResult.{PendingResult};
 ghost use Rattle.kernel_audit.specs.Ends.{HasEnd};
 ghost use Rattle.kernel_audit.specs.Audit.{Audited, IsAuditFault};
@@ -48,7 +49,7 @@ impl<W: Ledger, L: Ledger> State<W, L> {
     ) -> State<W, L>
         requires fresh { kernel.machine.minutes ≡ [] }
         requires book { book.total ≡ 0 }
-        requires parts { rest.parts ≡ 65537 }
+        requires parts { rest.parts ≡ PARTS_OF_POSTS }
         requires amount { rest.amount ≡ 0 }
         ensures kernel { result.kernel ≡ kernel }
         ensures comms { result.comms ≡ comms }

@@ -2,6 +2,7 @@
 ghost use Rattle.std.specs.Prelude.{◌≡◌, ◌≢◌, ◌<◌, IfOk, All};
 ghost use Rattle.clap.specs.Values.{kind_of};
 ghost use Rattle.program_words.specs.Status.{status_of};
+ghost use Rattle.kernel_hall.specs.declared.limit.TheConstants.{PARTS_OF_POSTS};
 
 use crate::fault::ProgramFault;
 use crate::opening::{connection_of, listeners_of};
@@ -12,7 +13,7 @@ use jupyter_msg::Key;
 use kernel_ask::Comms;
 use kernel_bell::{Bell, RINGERS};
 use kernel_core::Kernel;
-use kernel_hall::Hall;
+use kernel_hall::{Hall, PARTS_OF_POSTS};
 use kernel_places::{ALL_PLACES, Listeners, PLACES, Seats, Service, serve_all};
 use program_words::{send_unread_words, unread_words_status, words_status};
 use rand::make_rng;
@@ -52,7 +53,7 @@ fn new_hall<W: Ledger, L: Ledger>(
     posts: Blank,
 ) -> Result<(Hall<W, L>, Seats), AllocError>
     requires writes { (writes.name ≡ W.name) × (writes.parts ≡ W.parts) × (0 < W.parts) }
-    requires posts { (posts.name ≡ L.name) × (posts.parts ≡ 65537) × (posts.parts ≡ L.parts) }
+    requires posts { (posts.name ≡ L.name) × (posts.parts ≡ PARTS_OF_POSTS) × (posts.parts ≡ L.parts) }
     ensures runner { IfOk result (λ made. made.1.runner.bell ≡ made.0) }
     ensures ringers { IfOk result (λ made. All (λ seat. seat.bell ≡ made.0) made.1.ringers.items) }
 {
@@ -72,7 +73,7 @@ fn new_service<W: Ledger, L: Ledger, S: Ledger, R: RandomSource>(
     key: Key,
 ) -> Result<(Service<W, L, S>, Seats), ProgramFault>
     requires writes { (writes.name ≡ W.name) × (writes.parts ≡ W.parts) × (0 < W.parts) }
-    requires posts { (posts.name ≡ L.name) × (posts.parts ≡ 65537) × (posts.parts ≡ L.parts) }
+    requires posts { (posts.name ≡ L.name) × (posts.parts ≡ PARTS_OF_POSTS) × (posts.parts ≡ L.parts) }
     requires strangers { (strangers.name ≡ S.name) × (strangers.parts ≡ S.parts) × (strangers.parts ≡ 160) }
     ensures runner { IfOk result (λ made. made.1.runner.bell ≡ made.0.hall) }
     ensures ringers { IfOk result (λ made. All (λ seat. seat.bell ≡ made.0.hall) made.1.ringers.items) }
@@ -103,7 +104,7 @@ fn serve_new_kernel<
 where
     R: RandomSource + Threads + Wait + Clock + Sync,
     requires writes { (writes.name ≡ W.name) × (writes.parts ≡ W.parts) × (0 < W.parts) }
-    requires posts { (posts.name ≡ L.name) × (posts.parts ≡ 65537) × (posts.parts ≡ L.parts) }
+    requires posts { (posts.name ≡ L.name) × (posts.parts ≡ PARTS_OF_POSTS) × (posts.parts ≡ L.parts) }
     requires strangers { (strangers.name ≡ S.name) × (strangers.parts ≡ S.parts) × (strangers.parts ≡ 160) }
 {
     let (service, seats) = new_service::<W, L, S, R>(rt, alloc, writes, posts, strangers, key)?;
@@ -152,7 +153,7 @@ where
         rt,
         alloc,
         Blank::new(1),
-        Blank::new(65_537),
+        Blank::new(PARTS_OF_POSTS),
         Blank::new(ALL_PLACES),
         &listeners,
         key,

@@ -132,8 +132,8 @@ is_refusal_for (request.CommInfo r) c = false
 is_refusal_for request.Interrupt c = false
 is_refusal_for (request.Shutdown r) c = false
 
--- An answer to the request holds this. What asks no question takes any answer; so do messages on comms. A request to execute is never answered
--- at once.
+-- An answer to the request holds this. What asks no question takes any answer. Of messages on comms, which have no reply, each answer is meant. A
+-- request to execute is never answered at once.
 abbrev pub is_answer_for : RequestContent → Content → Bool
 is_answer_for request.KernelInfo c = true
 is_answer_for (request.Execute r) c = false

@@ -19,6 +19,7 @@ use Rattle.kernel_ask.specs.declared.done.Done.{Done}
 use Rattle.kernel_ask.specs.Wishes.{WishOf}
 use Rattle.kernel_ask.specs.declared.done.NamedValue.{NamedValue}
 use Rattle.kernel_session.specs.Question.{Wishes, wishes_of}
+use Rattle.kernel_server.specs.declared.lane.TheConstants.{LANE}
 use Rattle.kernel_server.specs.declared.slice.Slice.{Slice}
 use Rattle.kernel_server.specs.Pace.{ArePaced}
 
@@ -90,7 +91,7 @@ pub record IsToldOf (m : Machine) (job : Request) (wishes : Wishes) (d : Done) :
 
 -- the lane of the one frontend
 abbrev pub lane : ℕ
-lane = 0
+lane = LANE
 
 -- a job is posted, comes to its end, and is told
 pub record IsDone (old : Machine) (slices : List Slice) (request : Request) (wishes : Wishes) (d : Done) (new : Machine) (left : List Slice) : Type 0 where

@@ -5,13 +5,11 @@ ghost use Rattle.kernel_core.specs.Runs.{Machine, IsPost, IsRefusal};
 ghost use Rattle.kernel_core.specs.State.{Idle, Inside, Entered};
 ghost use Rattle.kernel_server.specs.Jobs.{lane, Finishes, RunsOut};
 
+use crate::lane::LANE;
 use crate::slice::{Slice, take_slice};
 use kernel_core::{Begun, Job, Kernel, Outcome, PostFault, Sliced};
 use std::collections::VecDeque;
 use std::sync::ledger::Ledger;
-
-/// The lane of the one frontend.
-const LANE: u32 = 0;
 
 /// Slices the job that stands inside a cell until it has ended, and begins its next cells.
 fn finish<L: Ledger>(kernel: &mut Kernel<L>, slices: &mut VecDeque<Slice>) -> Outcome

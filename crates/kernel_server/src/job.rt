@@ -93,6 +93,8 @@ pub(crate) fn run_job<L: Ledger>(
     let Ok(room) = Vec::with_capacity(alloc, wishes.len()) else {
         return Err(refusal(kernel));
     };
+    // It is looked at for its contract alone: the state is legal, so the node that a job makes is not the root.
+    let _ = kernel.world();
     match run_out(kernel, slices, job) {
         Ok((number, outcome)) => {
             jobs_end_law();

@@ -7,10 +7,14 @@
 //! answered of this kernel. [`serve_lone`] is a connection to it: what is written is the session of what was read, in which each answer is
 //! the kernel's own, and the kernel ran on by whole jobs (`Course`). `laws` says of these definitions how jobs end, that the kernel
 //! and the slices alone decide what comes of one, where memory is ample, and that the broadcasts that are told are all that there were.
+//!
+//! In reading order: `slice` and `lane` (what a lone kernel is given), `finish` (a job from its post to its end), `values` (of user expressions),
+//! `job` (a job with what is told of it), `lone` (the desk), `session` (a connection to it), `laws`.
 #![tactic(auto)]
 
 mod finish;
 mod job;
+mod lane;
 pub mod laws;
 mod lone;
 mod session;

@@ -25,10 +25,10 @@ listed (Err e) ks w prefix same sorted all = tt
 pub returns : goal.returns
 returns g c =
     let prefix = c.args.prefix.now in
-    let words = map keyword_text KEYWORDS in
+    let keywords = map keyword_text KEYWORDS in
     let w : World = record { store = shown_store c.args.store.now; procedures = in_a_row c.args.procedures.now } in
-    let all : map string_bytes c.add_words.new.names.keys ≡ all_matches w prefix =
-    c.in_ok-add_words.ensures
-    ∙ ap (λ ks. with_matches prefix ks words) (c.in_ok-add_procedures.ensures ∙ ap (λ ks. with_matches prefix ks (procedure_names w.procedures)) (c.in_ok-add_declared.ensures
+    let all : map string_bytes c.add_keywords.new.names.keys ≡ all_matches w prefix =
+    c.in_ok-add_keywords.ensures
+    ∙ ap (λ ks. with_matches prefix ks keywords) (c.in_ok-add_procedures.ensures ∙ ap (λ ks. with_matches prefix ks (procedure_names w.procedures)) (c.in_ok-add_declared.ensures
     ∙ ap (λ ks. with_matches prefix (map string_bytes ks) (names_of w.store)) c.new-names.ensures.empty)) in
-    listed c.in_order.result c.add_words.new.names.keys w prefix c.in_order.ensures.items c.in_order.ensures.ordered all
+    listed c.in_order.result c.add_keywords.new.names.keys w prefix c.in_order.ensures.items c.in_order.ensures.ordered all

@@ -26,5 +26,5 @@ returns-in-Ok-run_out-clause-ok g c =
       is_posted = subst (λ (n : ℕ). IsPost old lane (request_of c.args.job) (Ok n) p.0) (sym c.told_of.ensures.number) p.1;
       runs = subst (λ (o : Outcome). RunsOut p.0 given o new left) (sym c.told_of.ensures.outcome) p.2;
       told = c.told_of.ensures.told (request_of c.args.job)
-          (run_made c.jobs_end_law.ensures old p.0 new given left (request_of c.args.job) _ _ c.requires.idle c.requires.alone p.1 p.2);
+          (run_made c.jobs_end_law.ensures old p.0 new given left (request_of c.args.job) _ _ c.world.ensures.legal.legal.rooted c.requires.idle c.requires.alone p.1 p.2);
     }

@@ -1,7 +1,7 @@
 use Rattle.std.proofs.Common.{rules, sym, ◌∙◌}
 use denote.Enum.Bare.{same_true, true_same}
 use Rattle.janus_syntax.specs.contracts.token.Keyword.{the_type}
-use Rattle.kernel_audit.proofs.same.same_word.Goals as goal
+use Rattle.kernel_audit.proofs.same.same_keyword.Goals as goal
 
 pub returns : goal.returns
 returns c = (λ y. same_true the_type (search rules) _ _ (sym c.eq.ensures ∙ y), λ y. c.eq.ensures ∙ true_same the_type _ _ y)

@@ -1,0 +1,4 @@
+//! The lane of a lone kernel.
+
+/// The lane of the one frontend.
+pub(crate) const LANE: u32 = 0;
