@@ -41,4 +41,4 @@ pub use event_count::EventCount;
 pub use fault::SubscriberFault;
 pub use half::{hear, speak};
 pub use serve::{HangUp, serve_subscriber};
-pub use subscriber::Subscriber;
+pub use subscriber::{PREFIX_LIMIT, PREFIX_OCTET_LIMIT, Subscriber};

@@ -19,10 +19,10 @@ use zmtp_peer::{Peer, PeerFault, Role};
 use zmtp_wire::WireFault;
 
 /// The most prefixes that a connection may subscribe to over its life: each is kept, and whoever connects may have no key.
-pub(crate) const PREFIX_LIMIT: u32 = 4096;
+pub const PREFIX_LIMIT: u32 = 4096;
 
 /// The most octets that those prefixes may have together.
-pub(crate) const PREFIX_OCTET_LIMIT: usize = 1_048_576;
+pub const PREFIX_OCTET_LIMIT: usize = 1_048_576;
 
 /// The number of unanswered pings at which a connection ends.
 const UNANSWERED_PING_LIMIT: usize = 64;

@@ -9,6 +9,7 @@
 mod cell_trees;
 mod checks;
 mod comms;
+mod limits;
 mod lines;
 mod outlines;
 mod questions;
@@ -51,6 +52,7 @@ fn tell(alloc: Global, subject: &str, calls: &str, out: &mut String) -> Result<(
         "tree" => cell_trees::tell(alloc, calls, out),
         "stores" => stores::tell(alloc, calls, out),
         "lines" => lines::tell(alloc, calls, out),
+        "limits" => limits::tell(alloc, calls, out),
         "comms" => comms::tell(alloc, calls, out),
         "transcripts" => transcripts::tell(alloc, calls, out),
         _ => schedules::tell(alloc, calls, out),

@@ -3,7 +3,9 @@ ghost use Rattle.std.specs.Prelude.{◌≡◌, ◌<◌};
 
 use crate::octets::{MINORS, message, opening, ping, pong, subscription};
 use kernel_board::Broadcast;
-use kernel_iopub::{Bulletin, Subscriber, SubscriberFault, hear, speak};
+use kernel_iopub::{
+    Bulletin, PREFIX_LIMIT, PREFIX_OCTET_LIMIT, Subscriber, SubscriberFault, hear, speak,
+};
 use std::alloc::Global;
 use std::io;
 use std::io::{ErrorKind, Write};
@@ -411,6 +413,12 @@ fn a_subscriber_that_lags_is_told_so(rt: HostRuntime) {
         let ended = tried(&rt, rt.alloc(), minor, Trial::Lag);
         assert!(rt; matches!(ended, Err(SubscriberFault::Lagged)));
     }
+}
+
+#[test]
+fn prefixes_have_these_limits(rt: HostRuntime) {
+    assert!(rt; PREFIX_LIMIT == 4_096);
+    assert!(rt; PREFIX_OCTET_LIMIT == 1_048_576);
 }
 
 #[test]
