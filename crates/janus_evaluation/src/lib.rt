@@ -17,6 +17,6 @@ mod transfer;
 pub use crate::assignment::{assign, assign_element};
 pub use crate::expression::{test, value};
 pub use crate::fault::ValueFault;
-pub use crate::operator::{bit_of, changed, holds, negative, operate};
 pub use crate::local::{close_number, close_stack, open_number, open_stack};
+pub use crate::operator::{bit_of, changed, holds, negative, operate};
 pub use crate::transfer::{pop, push};
