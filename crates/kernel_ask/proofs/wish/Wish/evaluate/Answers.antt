@@ -1,4 +1,5 @@
 use Rattle.std.proofs.Common.{◌≡◌, ℕ, List, ap, subst, string_bytes}
+use Rattle.janus_meaning.specs.Store.{Store}
 use Rattle.kernel_core.specs.State.{here}
 use Rattle.kernel_ask.specs.Wishes.{WishOf}
 use Rattle.kernel_ask.specs.Evaluation.{IsEvaluated}
@@ -10,5 +11,6 @@ returns-clause-name g c = ap (λ (w : WishOf). w.name) c.self.view_is
 pub returns-clause-value : goal.returns-clause-value
 returns-clause-value g c =
     let text : string_bytes c.self.inside.text ≡ c.args.self.exp = ap (λ (w : WishOf). w.exp) c.self.view_is in
+    let value = c.evaluation_of-value.ensures (string_bytes c.self.inside.text) c.self.invariant in
     subst (λ (t : List ℕ). IsEvaluated (here c.args.kernel.now.machine.state.past).store t c.evaluation_of-value.result) text
-    (c.evaluation_of-value.ensures (string_bytes c.self.inside.text) c.self.invariant)
+    (subst (λ (s : Store). IsEvaluated s (string_bytes c.self.inside.text) c.evaluation_of-value.result) c.store.ensures.sight value)
